@@ -1,0 +1,4 @@
+pub mod Name
+pub mod Uid
+pub mod Value
+pub mod Tree

@@ -1,0 +1,2 @@
+//! Definitions of Cedar's expressions: names, uids and their text, values and bare trees.
+#![tactic(auto)]

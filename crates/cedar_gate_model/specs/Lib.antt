@@ -1,0 +1,5 @@
+pub mod Acceptance
+pub mod Slice
+pub mod Transcript
+pub mod Bundle
+pub mod Lines

@@ -1,0 +1,2 @@
+//! Definitions of acceptance, runs, bundles and the lines that the program prints.
+#![tactic(auto)]

@@ -1,0 +1,4 @@
+pub mod Declarations
+pub mod Types
+pub mod Environment
+pub mod Conforming

@@ -1,0 +1,2 @@
+//! Definitions of declarations, types, environments and conforming requests.
+#![tactic(auto)]

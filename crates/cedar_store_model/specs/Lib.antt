@@ -1,0 +1,6 @@
+pub mod Outcome
+pub mod World
+pub mod Meaning
+pub mod Looks
+pub mod Policy
+pub mod Answer

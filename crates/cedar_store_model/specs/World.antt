@@ -1,0 +1,21 @@
+-- What an expression is evaluated in: a request and a store.
+use Rattle.std.specs.Prelude.{Bool}
+use Rattle.cedar_expr_model.specs.Uid.{Uid}
+use Rattle.cedar_expr_model.specs.Tree.{Var, principal, action, resource}
+
+-- the three uids of a request
+pub record Request : Type 0 where
+  pub principal : Uid
+  pub action : Uid
+  pub resource : Uid
+
+-- A request, and a store as a function from uid: whether it holds the entity.
+pub record World : Type 0 where
+  pub request : Request
+  pub holds : Uid → Bool
+
+-- what a variable of the scope stands for
+abbrev pub bound : Request → Var → Uid
+bound r principal = r.principal
+bound r action = r.action
+bound r resource = r.resource

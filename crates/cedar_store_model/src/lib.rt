@@ -1,0 +1,2 @@
+//! Definitions of worlds, the meaning of expressions, policies and answers.
+#![tactic(auto)]

@@ -1,0 +1,5 @@
+pub mod Facts
+pub mod Rules
+pub mod Typing
+pub mod ScopeRules
+pub mod Verdicts

@@ -1,0 +1,2 @@
+//! Definitions of typing, the scope rules and the verdicts on a policy.
+#![tactic(auto)]
