@@ -1,0 +1,3 @@
+mod Splitting
+mod Reading
+mod Writing
