@@ -186,6 +186,11 @@ impl Display for EntityUID {
     ghost output = { λ u. Some (uid_text (uid_of u)) };
 
     fn fmt<W: Write>(&self, f: &mut Formatter<W>) -> fmt::Result {
-        write!(f, "{}::{}", self.entity_type, Quoted::new(self.eid.as_str()))
+        write!(
+            f,
+            "{}::{}",
+            self.entity_type,
+            Quoted::new(self.eid.as_str())
+        )
     }
 }

@@ -16,3 +16,6 @@ pub use internal_name::InternalName;
 pub use loc::Loc;
 pub use name::{Name, RawName};
 pub use quoted::Quoted;
+
+#[cfg(test)]
+mod tests;
