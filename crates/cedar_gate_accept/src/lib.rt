@@ -1,0 +1,10 @@
+//! The gate: what it accepts, and why it refuses the rest.
+#![tactic(auto)]
+
+pub mod distinct;
+pub mod nesting;
+pub mod schema;
+pub mod scope;
+pub mod typing;
+
+pub use schema::{ValidatorActionId, ValidatorSchema};
