@@ -2,3 +2,4 @@ pub mod Declarations
 pub mod Types
 pub mod Environment
 pub mod Conforming
+pub mod Laws

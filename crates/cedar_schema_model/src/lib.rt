@@ -1,2 +1,4 @@
 //! Definitions of declarations, types, environments and conforming requests.
 #![tactic(auto)]
+
+pub mod laws;

@@ -1,2 +1,4 @@
 //! Definitions of worlds, the meaning of expressions, policies and answers.
 #![tactic(auto)]
+
+pub mod laws;
