@@ -1,2 +1,4 @@
 //! Definitions of typing, the scope rules and the verdicts on a policy.
 #![tactic(auto)]
+
+pub mod laws;

@@ -1,0 +1,1 @@
+-- Typing is sound.

@@ -1,0 +1,1 @@
+-- The values of types, through each operation.
