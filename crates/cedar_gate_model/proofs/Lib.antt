@@ -1,0 +1,4 @@
+pub mod Acceptance
+pub mod Policies
+pub mod Runs
+pub mod Lines
