@@ -1,5 +1,5 @@
 -- Lists: what they contain, and tests, filters and maps of them.
-use Rattle.std.proofs.Common.{◌≡◌, ℕ, zero, suc, ◌<◌, List, [], ◌∷◌, ◌++◌, Bool, true, false, cond, ◌&&◌, ◌||◌, map, length, refl, sym, ap, ◌∙◌, subst, ⊎_elim, arith}
+use Rattle.std.proofs.Common.{◌≡◌, ℕ, zero, suc, ◌<◌, List, [], ◌∷◌, Bool, true, false, cond, ◌&&◌, ◌||◌, map, length, refl, sym, ap, ◌∙◌, subst, ⊎_elim, arith}
 use Rattle.std.specs.Prelude.{Contains, slice_index_or}
 use Rattle.std.specs.Bool.{Decides}
 use Rattle.std.specs.List.{list_all, list_any, flat_map, filter}
@@ -52,6 +52,7 @@ filter_has {X} p (y ∷ xs) x h e = contains_cases (Contains (filter p (y ∷ xs
     here q =
         let t : p y ≡ true = ap p q ∙ e in
         subst (λ l. Contains l x) (filter_step p y xs true t) (subst (λ z. Contains (z ∷ filter p xs) x) (sym q) (contains_head x (filter p xs)))
+
     there : (t : Bool) → p y ≡ t → Contains (filter p xs) x → Contains (filter p (y ∷ xs)) x
     there true t k = subst (λ l. Contains l x) (filter_step p y xs true t) (contains_tail y (filter p xs) x k)
     there false t k = subst (λ l. Contains l x) (filter_step p y xs false t) k
@@ -66,8 +67,8 @@ kept_later p y xs x k = (contains_tail y xs x k.0, k.1)
 filter_case : {X : Type 0} (p : X → Bool) (y : X) (xs : List X) (x : X) (t : Bool) → p y ≡ t → (Contains (filter p xs) x → IsKept p xs x) → Contains (cond t (y ∷ filter p xs) (filter p xs)) x → IsKept p (y ∷ xs) x
 filter_case p y xs x true e rest h =
     contains_cases (IsKept p (y ∷ xs) x) y (filter p xs) x h
-      (λ q. (subst (λ z. Contains (z ∷ xs) x) (sym q) (contains_head x xs), ap p (sym q) ∙ e))
-      (λ k. kept_later p y xs x (rest k))
+    (λ q. (subst (λ z. Contains (z ∷ xs) x) (sym q) (contains_head x xs), ap p (sym q) ∙ e))
+    (λ k. kept_later p y xs x (rest k))
 filter_case p y xs x false e rest h = kept_later p y xs x (rest h)
 
 pub filter_only : {X : Type 0} (p : X → Bool) (xs : List X) (x : X) → Contains (filter p xs) x → Contains xs x × (p x ≡ true)
@@ -121,8 +122,8 @@ pub flat_has : {X Y : Type 0} (f : X → List Y) (xs : List X) (x : X) (y : Y) �
 flat_has f [] x y h k = absurd (contains_none x h)
 flat_has f (z ∷ xs) x y h k =
     contains_cases (Contains (flat_map f (z ∷ xs)) y) z xs x h
-      (λ q. subst (λ l. Contains l y) (sym (flat_map-cons f z xs)) (Contains-append_left (f z) (flat_map f xs) y (subst (λ v. Contains (f v) y) (sym q) k)))
-      (λ m. subst (λ l. Contains l y) (sym (flat_map-cons f z xs)) (Contains-append_right (f z) (flat_map f xs) y (flat_has f xs x y m k)))
+    (λ q. subst (λ l. Contains l y) (sym (flat_map-cons f z xs)) (Contains-append_left (f z) (flat_map f xs) y (subst (λ v. Contains (f v) y) (sym q) k)))
+    (λ m. subst (λ l. Contains l y) (sym (flat_map-cons f z xs)) (Contains-append_right (f z) (flat_map f xs) y (flat_has f xs x y m k)))
 
 pub flat_from : {X Y : Type 0} (f : X → List Y) (xs : List X) (y : Y) → Contains (flat_map f xs) y → (x : X) × Contains xs x × Contains (f x) y
 flat_from f [] y h = absurd (contains_none y h)

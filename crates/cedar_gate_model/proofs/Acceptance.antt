@@ -1,8 +1,8 @@
 -- The test of a submission decides whether it is accepted.
-use Rattle.std.proofs.Common.{◌≡◌, Bool, true, false, ◌&&◌, refl, sym, ap, ◌∙◌, subst}
+use Rattle.std.proofs.Common.{◌≡◌, Bool, true, false, ◌&&◌, refl}
 use Rattle.std.specs.Bool.{Decides}
 use Rattle.cedar_expr_model.proofs.Lists.{both_hold, hold_both}
-use Rattle.cedar_schema_model.specs.Declarations.{SchemaFault, duplicate_entity_type, duplicate_action, undeclared_type, action_as_entity_type, reserved_name}
+use Rattle.cedar_schema_model.specs.Declarations.{duplicate_entity_type, duplicate_action, undeclared_type, action_as_entity_type, reserved_name}
 use Rattle.cedar_gate_model.specs.Acceptance.{Submission, Cause, schema, repeated_policy, nests_too_deep, unknown_entity_type, unknown_action, ill_typed, is_clear_of, IsAccepted, HasFault, admits}
 
 pub accepted_admits : (s : Submission) → IsAccepted s → admits s ≡ true

@@ -1,9 +1,9 @@
 -- What may be printed.
-use Rattle.std.proofs.Common.{◌≡◌, ◌≢◌, Bool, true, false, ◌++◌, Option, Some, None, refl, sym, ap, ◌∙◌, subst}
+use Rattle.std.proofs.Common.{◌≡◌, ◌≢◌, Bool, true, false, ◌++◌, Option, Some, None, refl, sym, ◌∙◌}
 use Rattle.cedar_expr_model.specs.Name.{Text}
 use Rattle.cedar_store_model.specs.Answer.{answer_of}
 use Rattle.cedar_schema_model.specs.Conforming.{conforms}
-use Rattle.cedar_gate_model.specs.Acceptance.{Submission, Cause, HasFault, IsAccepted, admits, number_of}
+use Rattle.cedar_gate_model.specs.Acceptance.{IsAccepted, admits, number_of}
 use Rattle.cedar_gate_model.specs.Bundle.{Bundle, bundle_world}
 use Rattle.cedar_gate_model.specs.Lines.{Status, answered, refused, unreadable, stopped, Prints, unreadable_line, refused_line, run_lines, answer_lines, not_conforming_line}
 use Rattle.cedar_gate_model.proofs.Acceptance.{faults_exclude, admitted_accepted, refusal_has_fault}
@@ -19,6 +19,7 @@ some_text (Some b) = by_gate (admits b.submission) refl
     by_request : IsAccepted b.submission → (t : Bool) → conforms b.submission.declarations b.request ≡ t → Shown (Some b)
     by_request a true e = (answered, run_lines b ++ answer_lines (answer_of (bundle_world b) b.submission.policies), (a, e, refl))
     by_request a false e = (stopped, run_lines b ++ not_conforming_line, (a, e, refl))
+
     by_gate : (t : Bool) → admits b.submission ≡ t → Shown (Some b)
     by_gate true e = by_request (admitted_accepted b.submission e) (conforms b.submission.declarations b.request) refl
     by_gate false e = let r = refusal_has_fault b.submission e in (refused, refused_line (number_of r.0), (r.0, r.1, refl))

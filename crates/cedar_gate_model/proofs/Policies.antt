@@ -1,21 +1,19 @@
 -- What acceptance promises of the answer.
-use Rattle.std.proofs.Common.{◌≡◌, List, [], ◌∷◌, ◌++◌, Bool, true, false, not, ◌&&◌, map, refl, sym, ap, ◌∙◌, subst}
+use Rattle.std.proofs.Common.{◌≡◌, List, [], ◌∷◌, ◌++◌, Bool, true, false, not, ◌&&◌, refl, sym, ap, ◌∙◌, subst}
 use Rattle.std.specs.Prelude.{Contains}
-use Rattle.std.specs.Bool.{Decides}
 use Rattle.std.specs.Str.{bytes_eq}
 use Rattle.std.specs.List.{list_any, flat_map, filter}
 use Rattle.std.proofs.lemmas.List.Concat.{flat_map-cons}
 use Rattle.std.proofs.lemmas.Slice.Eq.{bytes_eq-Decides}
 use Rattle.cedar_expr_model.specs.Name.{Text}
-use Rattle.cedar_expr_model.specs.Value.{V}
 use Rattle.cedar_expr_model.proofs.Lists.{both_hold, contains_head, contains_tail, contains_none, contains_cases, any_has, all_each, filter_only, map_has, map_from}
-use Rattle.cedar_store_model.specs.Outcome.{Res, val, err}
+use Rattle.cedar_store_model.specs.Outcome.{val}
 use Rattle.cedar_store_model.specs.World.{World}
 use Rattle.cedar_store_model.specs.Meaning.{outcome_of, truth_value}
 use Rattle.cedar_store_model.specs.Policy.{Policy, condition, IsSatisfied}
-use Rattle.cedar_store_model.specs.Answer.{PolicyError, permits, satisfied, satisfied_permits, satisfied_forbids, determining, ids, error_of, errors_of, reasons_of}
+use Rattle.cedar_store_model.specs.Answer.{permits, satisfied, satisfied_permits, satisfied_forbids, determining, ids, error_of, errors_of, reasons_of}
 use Rattle.cedar_store_model.proofs.Meaning.{means_outcome, satisfied-Decides}
-use Rattle.cedar_schema_model.specs.Declarations.{Declarations, are_distinct}
+use Rattle.cedar_schema_model.specs.Declarations.{are_distinct}
 use Rattle.cedar_schema_model.specs.Conforming.{Conforms}
 use Rattle.cedar_typechecker_model.specs.Verdicts.{passes, impossible}
 use Rattle.cedar_typechecker_model.proofs.Verdicts.{passes-Decides, impossible-Decides}
@@ -51,8 +49,8 @@ one_of_id [] d p q h k e = absurd (contains_none p h)
 one_of_id (x ∷ xs) d p q h k e =
     let b = both_hold (not (list_any (bytes_eq x.id) (ids xs))) (are_distinct bytes_eq (ids xs)) d in
     contains_cases (p ≡ q) x xs p h
-      (λ f. contains_cases (p ≡ q) x xs q k (λ g. sym f ∙ g) (λ m. absurd (apart x xs b.0 q m (ap (λ (y : Policy). y.id) f ∙ e))))
-      (λ m. contains_cases (p ≡ q) x xs q k (λ g. absurd (apart x xs b.0 p m (ap (λ (y : Policy). y.id) g ∙ sym e))) (λ n. one_of_id xs b.1 p q m n e))
+    (λ f. contains_cases (p ≡ q) x xs q k (λ g. sym f ∙ g) (λ m. absurd (apart x xs b.0 q m (ap (λ (y : Policy). y.id) f ∙ e))))
+    (λ m. contains_cases (p ≡ q) x xs q k (λ g. absurd (apart x xs b.0 p m (ap (λ (y : Policy). y.id) g ∙ sym e))) (λ n. one_of_id xs b.1 p q m n e))
 
 -- the policies that determine the answer are satisfied
 pub determining_satisfied : (w : World) (ps : List Policy) (p : Policy) → Contains (determining (satisfied_permits w ps) (satisfied_forbids w ps)) p → Contains ps p × IsSatisfied w p
@@ -62,10 +60,12 @@ determining_satisfied w ps p h = go (satisfied_permits w ps) (satisfied_forbids 
     permitting k =
         let r = filter_only (λ (q : Policy). permits q.effect && satisfied w q) ps p k in
         (r.0, (satisfied-Decides w p).0 (both_hold (permits p.effect) (satisfied w p) r.1).1)
+
     forbidding : Contains (satisfied_forbids w ps) p → Contains ps p × IsSatisfied w p
     forbidding k =
         let r = filter_only (λ (q : Policy). not (permits q.effect) && satisfied w q) ps p k in
         (r.0, (satisfied-Decides w p).0 (both_hold (not (permits p.effect)) (satisfied w p) r.1).1)
+
     go : (ps' fs : List Policy) → (Contains ps' p → Contains ps p × IsSatisfied w p) → (Contains fs p → Contains ps p × IsSatisfied w p) → Contains (determining ps' fs) p → Contains ps p × IsSatisfied w p
     go ps' [] f g k = f k
     go ps' (x ∷ fs) f g k = g k

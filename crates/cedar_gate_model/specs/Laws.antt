@@ -1,5 +1,5 @@
 -- What the laws of this crate say.
-use Rattle.std.specs.Prelude.{◌≡◌, ◌≢◌, List, [], Option, Some, Contains, true, false}
+use Rattle.std.specs.Prelude.{◌≡◌, ◌≢◌, List, [], Option, Some, Contains, false}
 use Rattle.std.specs.Bool.{Decides}
 use Rattle.cedar_expr_model.specs.Name.{Text}
 use Rattle.cedar_expr_model.specs.Uid.{Uid}

@@ -1,8 +1,8 @@
 -- The test of declarations decides whether they are well-formed.
-use Rattle.std.proofs.Common.{◌≡◌, Bool, true, false, ◌&&◌, refl}
+use Rattle.std.proofs.Common.{◌≡◌, Bool, true, ◌&&◌}
 use Rattle.std.specs.Bool.{Decides}
 use Rattle.cedar_expr_model.proofs.Lists.{both_hold, hold_both}
-use Rattle.cedar_schema_model.specs.Declarations.{Declarations, IsWellFormed, well_formed, SchemaFault, duplicate_entity_type, duplicate_action, undeclared_type, action_as_entity_type, reserved_name, is_free_of}
+use Rattle.cedar_schema_model.specs.Declarations.{Declarations, IsWellFormed, well_formed, duplicate_entity_type, duplicate_action, undeclared_type, action_as_entity_type, reserved_name, is_free_of}
 
 -- five tests that hold together
 pub five_hold : (a b c d e : Bool) → (a && (b && (c && (d && e)))) ≡ true → (a ≡ true) × (b ≡ true) × (c ≡ true) × (d ≡ true) × (e ≡ true)
@@ -17,7 +17,8 @@ pub hold_five : (a b c d e : Bool) → a ≡ true → b ≡ true → c ≡ true 
 hold_five a b c d e p q r s t = hold_both a _ p (hold_both b _ q (hold_both c _ r (hold_both d e s t)))
 
 pub well_formed-Decides : (d : Declarations) → Decides (well_formed d) (IsWellFormed d)
-well_formed-Decides d =
-    (λ h. let p = five_hold (is_free_of duplicate_entity_type d) (is_free_of duplicate_action d) (is_free_of undeclared_type d) (is_free_of action_as_entity_type d) (is_free_of reserved_name d) h in
+well_formed-Decides d = (
+  λ h. let p = five_hold (is_free_of duplicate_entity_type d) (is_free_of duplicate_action d) (is_free_of undeclared_type d) (is_free_of action_as_entity_type d) (is_free_of reserved_name d) h in
       record { types_once = p.0; actions_once = p.1; declared = p.2; no_action_type = p.3; not_reserved = p.4 },
-     λ h. hold_five (is_free_of duplicate_entity_type d) (is_free_of duplicate_action d) (is_free_of undeclared_type d) (is_free_of action_as_entity_type d) (is_free_of reserved_name d) h.types_once h.actions_once h.declared h.no_action_type h.not_reserved)
+  λ h. hold_five (is_free_of duplicate_entity_type d) (is_free_of duplicate_action d) (is_free_of undeclared_type d) (is_free_of action_as_entity_type d) (is_free_of reserved_name d) h.types_once h.actions_once h.declared h.no_action_type h.not_reserved,
+)

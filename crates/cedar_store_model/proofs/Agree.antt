@@ -1,8 +1,7 @@
 -- A relation on outcomes and the one outcome that it gives, through each combinator.
-use Rattle.std.proofs.Common.{◌≡◌, Bool, true, false, refl, sym, ap, ◌∙◌, subst, arith, inl, inr}
+use Rattle.std.proofs.Common.{◌≡◌, Bool, true, false, refl, sym, ap, ◌∙◌, subst, inl, inr}
 use Rattle.std.specs.Bool.{Decides}
 use Rattle.cedar_store_model.specs.Outcome.{Res, val, err, Fault, Then, Is, bind}
-use Rattle.cedar_expr_model.specs.Value.{V, prim, truth}
 use Rattle.cedar_store_model.specs.Meaning.{Says, truth_value}
 
 -- The relation holds of this outcome and of no other.
@@ -40,13 +39,13 @@ err_only first next e f (err x) h = elim h [ inl k ↦ (let q = f (err x) k in c
 
 pub agree_then : {A B : Type 0} (first : Res A → Type 0) (next : A → Res B → Type 0) (r : Res A) (step : A → Res B) → Agree first r → ((v : A) → Agree (next v) (step v)) → Agree (Then first next) (bind r step)
 agree_then first next (val v) step f n = record {
-    only = val_only first next v (step v) f.only (n v).only;
-    gives = then_next first next v (step v) f.gives (n v).gives
-  }
+  only = val_only first next v (step v) f.only (n v).only;
+  gives = then_next first next v (step v) f.gives (n v).gives;
+}
 agree_then first next (err e) step f n = record {
-    only = err_only first next e f.only;
-    gives = inl f.gives
-  }
+  only = err_only first next e f.only;
+  gives = inl f.gives;
+}
 
 same_truth : (a b : Bool) → (a ≡ true → b ≡ true) → (b ≡ true → a ≡ true) → a ≡ b
 same_truth true b f g = sym (f refl)
@@ -55,6 +54,6 @@ same_truth false false f g = refl
 
 pub agree_says : (fact : Type 0) (b : Bool) → Decides b fact → Agree (Says fact) (val (truth_value b))
 agree_says fact b d = record {
-    only = λ o h. h.1 ∙ ap (λ (t : Bool). val (truth_value t)) (same_truth h.0 b (λ k. d.1 (h.2.0 k)) (λ k. h.2.1 (d.0 k)));
-    gives = (b, refl, (d.0, d.1))
-  }
+  only = λ o h. h.1 ∙ ap (λ (t : Bool). val (truth_value t)) (same_truth h.0 b (λ k. d.1 (h.2.0 k)) (λ k. h.2.1 (d.0 k)));
+  gives = (b, refl, (d.0, d.1));
+}

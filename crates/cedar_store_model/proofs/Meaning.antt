@@ -1,12 +1,12 @@
 -- The meaning of an expression is the outcome of the function, and no other.
-use Rattle.std.proofs.Common.{◌≡◌, ◌↔◌, ℤ, ◌<ℤ◌, Bool, true, false, not, T, refl, sym, ap, ◌∙◌, subst, ⊎_elim, arith}
+use Rattle.std.proofs.Common.{◌≡◌, ◌↔◌, ℤ, ◌<ℤ◌, Bool, true, false, not, T, refl, sym, ap, ◌∙◌, subst, ⊎_elim}
 use Rattle.std.specs.Prelude.{int_lt}
 use Rattle.std.specs.Bool.{Decides}
 use Rattle.cedar_expr_model.specs.Uid.{Uid}
 use Rattle.cedar_expr_model.specs.Value.{V, prim, truth, long, entity, value_eq}
 use Rattle.cedar_expr_model.specs.Tree.{Tree, lit, var, both, unary, binary, UnaryOp, negation, BinaryOp, equal, less}
 use Rattle.cedar_expr_model.proofs.Equality.{value_eq-Decides}
-use Rattle.cedar_store_model.specs.Outcome.{Res, val, err, wrong_type, Then, Is, bind}
+use Rattle.cedar_store_model.specs.Outcome.{Res, val, err, wrong_type, Then, bind}
 use Rattle.cedar_store_model.specs.World.{World, bound}
 use Rattle.cedar_store_model.specs.Meaning.{Means, Truth, AndThen, Applied, Compared, truth_value, truth_of, and_then, applied, compared, outcome_of}
 use Rattle.cedar_store_model.specs.Looks.{Looks}

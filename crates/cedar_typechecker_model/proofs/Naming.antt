@@ -1,12 +1,12 @@
 -- The test of each uid that a policy writes.
-use Rattle.std.proofs.Common.{◌≡◌, Bool, true, false, ◌&&◌, refl, sym, ap, ◌∙◌, subst, inl, inr, ⊎_elim}
-use Rattle.std.specs.Bool.{Decides, IsTrue}
+use Rattle.std.proofs.Common.{◌≡◌, Bool, true, refl, ap, ◌∙◌, inl, inr, ⊎_elim}
+use Rattle.std.specs.Bool.{Decides}
 use Rattle.cedar_expr_model.specs.Uid.{Uid}
 use Rattle.cedar_expr_model.specs.Value.{truth, long, entity}
 use Rattle.cedar_expr_model.specs.Tree.{Tree, lit, var, both, unary, binary}
 use Rattle.cedar_expr_model.proofs.Lists.{both_hold, hold_both}
 use Rattle.cedar_store_model.specs.Policy.{Policy, Scope, any, exactly}
-use Rattle.cedar_typechecker_model.specs.ScopeRules.{Names, ScopeNames, PolicyNames, EachNamed, each_uid, scope_passes, each_named}
+use Rattle.cedar_typechecker_model.specs.ScopeRules.{Names, ScopeNames, EachNamed, each_uid, scope_passes, each_named}
 
 pub names_pass : (test : Uid → Bool) (t : Tree) → each_uid test t ≡ true → (u : Uid) → Names t u → test u ≡ true
 names_pass test (lit (entity v)) h u n = ap test n ∙ h
@@ -47,6 +47,7 @@ each_named-Decides test p = (forward, back)
         let b = both_hold (scope_passes test p.action) _ a.1 in
         let c = both_hold (scope_passes test p.resource) (each_uid test p.body) b.1 in
         ⊎_elim (scope_names_pass test p.principal a.0 u) (⊎_elim (scope_names_pass test p.action b.0 u) (⊎_elim (scope_names_pass test p.resource c.0 u) (names_pass test p.body c.1 u))) n
+
     back : EachNamed test p → each_named test p ≡ true
     back h =
         hold_both (scope_passes test p.principal) _ (pass_scope_names test p.principal (λ u n. h u (inl n)))

@@ -1,15 +1,15 @@
 -- An expression that has a type means a value of it.
-use Rattle.std.proofs.Common.{◌≡◌, Bool, true, false, ◌||◌, Option, Some, None, refl, sym, ap, ◌∙◌, subst}
+use Rattle.std.proofs.Common.{◌≡◌, Bool, true, ◌||◌, refl, sym, ap, ◌∙◌, subst}
 use Rattle.cedar_expr_model.specs.Uid.{Uid}
 use Rattle.cedar_expr_model.specs.Value.{V, Literal, prim, truth, long, entity}
 use Rattle.cedar_expr_model.specs.Tree.{Tree, lit, var, both, unary, binary, Var, principal, action, resource}
-use Rattle.cedar_store_model.specs.Outcome.{Res, val, err}
+use Rattle.cedar_store_model.specs.Outcome.{val}
 use Rattle.cedar_store_model.specs.World.{World, bound}
 use Rattle.cedar_store_model.specs.Meaning.{Means, truth_value, outcome_of}
 use Rattle.cedar_store_model.specs.Policy.{Policy, condition, IsSatisfied}
 use Rattle.cedar_store_model.proofs.Meaning.{outcome_means, means_outcome}
 use Rattle.cedar_schema_model.specs.Declarations.{Declarations, declares_type, declares_action}
-use Rattle.cedar_schema_model.specs.Types.{Ty, bool_type, long_type, entity_type, BoolType, only_true, only_false, any_bool}
+use Rattle.cedar_schema_model.specs.Types.{Ty, bool_type, entity_type, BoolType, only_false}
 use Rattle.cedar_schema_model.specs.Environment.{Environment}
 use Rattle.cedar_schema_model.specs.Conforming.{Conforms}
 use Rattle.cedar_schema_model.specs.Laws.{environment_of}

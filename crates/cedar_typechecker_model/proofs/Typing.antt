@@ -1,5 +1,5 @@
 -- The typing relation and the function give the same.
-use Rattle.std.proofs.Common.{◌≡◌, ◌↔◌, Option, Some, None, refl, sym, ap, ◌∙◌, subst}
+use Rattle.std.proofs.Common.{◌≡◌, ◌↔◌, Option, Some, None, sym, ap, ◌∙◌}
 use Rattle.std.specs.Prelude.{option_map, option_and_then}
 use Rattle.cedar_expr_model.specs.Tree.{Tree, lit, var, both, unary, binary}
 use Rattle.cedar_schema_model.specs.Types.{Ty, bool_type, long_type, entity_type, BoolType, only_true, only_false, any_bool}
@@ -26,12 +26,12 @@ exact s known (lit p) = exact_plain (literal_type s p)
 exact s known (var x) = exact_plain (Some (var_type s x))
 exact s known (both a b) =
     exact_sub (Types s known a) (AndTyped (λ f. Types s (union known f) b)) (judgement s known a) (and_judged (λ f. judgement s (union known f) b)) (exact s known a)
-      (exact_and (λ f. Types s (union known f) b) (λ f. judgement s (union known f) b) (λ f. exact s (union known f) b))
+    (exact_and (λ f. Types s (union known f) b) (λ f. judgement s (union known f) b) (λ f. exact s (union known f) b))
 exact s known (unary o a) = exact_sub (Types s known a) (λ t f. Plain (unary_type o t)) (judgement s known a) (λ t f. plain (unary_type o t)) (exact s known a) (λ t f. exact_plain (unary_type o t))
 exact s known (binary o a b) =
     exact_sub (Types s known a) (λ t f. Sub (Types s known b) (λ u g. Plain (binary_type s o a b t u))) (judgement s known a)
-      (λ t f. option_and_then (λ k. plain (binary_type s o a b t k.type)) (judgement s known b)) (exact s known a)
-      (λ t f. exact_sub (Types s known b) (λ u g. Plain (binary_type s o a b t u)) (judgement s known b) (λ u g. plain (binary_type s o a b t u)) (exact s known b) (λ u g. exact_plain (binary_type s o a b t u)))
+    (λ t f. option_and_then (λ k. plain (binary_type s o a b t k.type)) (judgement s known b)) (exact s known a)
+    (λ t f. exact_sub (Types s known b) (λ u g. Plain (binary_type s o a b t u)) (judgement s known b) (λ u g. plain (binary_type s o a b t u)) (exact s known b) (λ u g. exact_plain (binary_type s o a b t u)))
 
 pub typing_is_a_function : (s : Setting) (known : Facts) (t : Tree) (ty : Ty) (out : Facts) → Types s known t ty out ↔ (judgement s known t ≡ Some (record { type = ty; facts = out }))
 typing_is_a_function s known t ty out = ((exact s known t).only ty out, (exact s known t).gives ty out)

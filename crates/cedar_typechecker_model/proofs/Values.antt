@@ -4,7 +4,7 @@ use Rattle.std.specs.Prelude.{option_map}
 use Rattle.std.specs.Str.{bytes_eq}
 use Rattle.cedar_expr_model.specs.Name.{Name, name_eq}
 use Rattle.cedar_expr_model.specs.Uid.{Uid, uid_eq}
-use Rattle.cedar_expr_model.specs.Value.{V, prim, truth, long, entity, value_eq}
+use Rattle.cedar_expr_model.specs.Value.{V, prim, truth, long, entity}
 use Rattle.cedar_expr_model.specs.Tree.{Tree, UnaryOp, negation, BinaryOp, equal, less}
 use Rattle.cedar_store_model.specs.Outcome.{Res, val, err, bind}
 use Rattle.cedar_store_model.specs.Meaning.{truth_value, truth_of, and_then, applied, compared}

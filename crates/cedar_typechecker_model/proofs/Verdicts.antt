@@ -1,5 +1,5 @@
 -- The tests of a policy over all environments decide the verdicts.
-use Rattle.std.proofs.Common.{◌≡◌, Bool, true, false, Option, Some, None, refl, sym, ap, ◌∙◌, subst}
+use Rattle.std.proofs.Common.{◌≡◌, true, Option, Some, None, refl, ap}
 use Rattle.std.specs.Bool.{Decides}
 use Rattle.cedar_expr_model.proofs.Lists.{all-Decides}
 use Rattle.cedar_expr_model.specs.Tree.{Tree}
@@ -35,14 +35,16 @@ abbrev HasFalse : Setting → Tree → Type 0
 HasFalse s t = (f : Facts) × Types s no_facts t (bool_type only_false) f
 
 is_bool-Decides : (s : Setting) (t : Tree) → Decides (is_bool (type_of s t)) (HasBool s t)
-is_bool-Decides s t =
-    (λ h. let r = bool_there (type_of s t) h in let k = has_type s t (bool_type r.0) r.1 in (r.0, k.0, k.1),
-     λ h. ap is_bool (type_is s t (bool_type h.0) h.1 h.2))
+is_bool-Decides s t = (
+  λ h. let r = bool_there (type_of s t) h in let k = has_type s t (bool_type r.0) r.1 in (r.0, k.0, k.1),
+  λ h. ap is_bool (type_is s t (bool_type h.0) h.1 h.2),
+)
 
 is_false-Decides : (s : Setting) (t : Tree) → Decides (is_false (type_of s t)) (HasFalse s t)
-is_false-Decides s t =
-    (λ h. has_type s t (bool_type only_false) (false_there (type_of s t) h),
-     λ h. ap is_false (type_is s t (bool_type only_false) h.0 h.1))
+is_false-Decides s t = (
+  λ h. has_type s t (bool_type only_false) (false_there (type_of s t) h),
+  λ h. ap is_false (type_is s t (bool_type only_false) h.0 h.1),
+)
 
 pub passes-Decides : (d : Declarations) (p : Policy) → Decides (passes d p) (Passes d p)
 passes-Decides d p = all-Decides (λ (e : Environment). is_bool (type_of (setting d e) (condition p))) (λ e. HasBool (setting d e) (condition p)) (λ e. is_bool-Decides (setting d e) (condition p)) (environments d)
