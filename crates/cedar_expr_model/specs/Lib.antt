@@ -3,3 +3,4 @@ pub mod Uid
 pub mod Value
 pub mod Tree
 pub mod Laws
+pub mod Worked

@@ -5,3 +5,4 @@ pub mod Looks
 pub mod Policy
 pub mod Answer
 pub mod Laws
+pub mod Worked
