@@ -3,3 +3,4 @@ pub mod Types
 pub mod Environment
 pub mod Conforming
 pub mod Laws
+pub mod Worked

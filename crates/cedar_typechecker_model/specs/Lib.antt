@@ -5,3 +5,4 @@ pub mod ScopeRules
 pub mod Verdicts
 pub mod Laws
 pub mod Soundness
+pub mod Worked
