@@ -2,3 +2,4 @@ pub mod Acceptance
 pub mod Policies
 pub mod Runs
 pub mod Lines
+pub mod Computed

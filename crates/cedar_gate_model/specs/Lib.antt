@@ -4,3 +4,4 @@ pub mod Transcript
 pub mod Bundle
 pub mod Lines
 pub mod Laws
+pub mod Worked
