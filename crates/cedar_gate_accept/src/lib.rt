@@ -2,9 +2,11 @@
 #![tactic(auto)]
 
 pub mod distinct;
+pub mod err;
 pub mod nesting;
 pub mod schema;
 pub mod scope;
 pub mod typing;
 
+pub use err::{GateFault, SchemaError};
 pub use schema::{ValidatorActionId, ValidatorSchema};
