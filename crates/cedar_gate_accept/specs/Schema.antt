@@ -1,5 +1,7 @@
 -- What the code's schema is as the model's declarations.
-use Rattle.std.specs.Prelude.{List, map, Bool}
+use Rattle.std.specs.Prelude.{List, map, Bool, None}
+use Rattle.cedar_gate_types.specs.declared.json_schema.NamespaceDefinition.{NamespaceDefinition}
+use Rattle.cedar_gate_types.specs.Schemas.{type_declaration, action_declaration}
 use Rattle.cedar_expr_names.specs.Views.{name_of, uid_of}
 use Rattle.cedar_expr_model.specs.Uid.{Uid}
 use Rattle.cedar_schema_model.specs.Declarations.{Declarations, ActionDeclaration, TypeDeclaration}
@@ -25,3 +27,7 @@ schema_of s = record { types = map type_declaration_of s.entity_types.items; act
 abbrev pub rule_passes : ScopeRule → Declarations → Uid → Bool
 rule_passes KnownType = has_known_type
 rule_passes KnownAction = is_no_unknown_action
+
+-- what a namespace without a name declares
+abbrev pub declared_in : NamespaceDefinition → Declarations
+declared_in n = record { types = map (type_declaration None) n.entity_types.items; actions = map (action_declaration None) n.actions.items }

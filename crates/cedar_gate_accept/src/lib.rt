@@ -1,6 +1,7 @@
 //! The gate: what it accepts, and why it refuses the rest.
 #![tactic(auto)]
 
+pub mod declared;
 pub mod distinct;
 pub mod err;
 pub mod nesting;

@@ -22,6 +22,21 @@ impl ValidatorActionId {
     ghost use Rattle.cedar_expr_names.specs.Views.{uid_of, name_of};
     ghost use Rattle.cedar_gate_accept.specs.Schema.{action_of};
 
+    /// The action of this uid, for principals and resources of these types.
+    pub fn new(
+        name: EntityUID,
+        principals: Vec<InternalName>,
+        resources: Vec<InternalName>,
+    ) -> ValidatorActionId
+        ensures { action_of result ≡ record { uid = uid_of name; principals = map name_of principals.items; resources = map name_of resources.items } }
+    {
+        ValidatorActionId {
+            name,
+            principals,
+            resources,
+        }
+    }
+
     /// The action's uid.
     pub fn name(&self) -> &EntityUID
         ensures { uid_of result.now ≡ (action_of self.now).uid }
