@@ -3,7 +3,10 @@ use Rattle.std.proofs.Common.{◌≡◌, ℕ, ◌+◌, ◌<◌, ◌≤◌, refl,
 use Rattle.std.specs.Prelude.{map, not, ◌||◌, ◌&&◌}
 use Rattle.std.specs.List.{list_any, list_all}
 use Rattle.std.proofs.lemmas.List.{drop_all}
-use Rattle.cedar_schema_model.specs.Declarations.{are_distinct}
+use Rattle.std.specs.Str.{bytes_eq}
+use Rattle.cedar_expr_model.specs.Name.{Text, name_eq}
+use Rattle.cedar_expr_model.specs.Uid.{uid_eq}
+use Rattle.cedar_schema_model.specs.Declarations.{are_distinct, action_word}
 
 -- none of the items is remembered
 abbrev pub none : {K : Type 0} → (K → Bool) → List K → Bool
@@ -85,3 +88,22 @@ not_false {b = false} h = cc
 pub not_true : {b : Bool} → not b ≡ true → b ≡ false
 not_true {b = true} h = cc
 not_true {b = false} h = refl
+
+-- distinct texts are distinct names without a path
+pub texts_as_names : {X : Type 0} (f : X → Text) (ts : List X) → are_distinct bytes_eq (map f ts) ≡ are_distinct name_eq (map (λ t. record { path = []; base = f t }) ts)
+texts_as_names {X} f ts =
+    let both : X → X → Bool = λ s t. bytes_eq (f s) (f t) in
+    sym (are_distinct_along both bytes_eq f (λ s t. refl) ts)
+    ∙ are_distinct_along both name_eq (λ t. record { path = []; base = f t }) (λ s t. refl) ts
+
+-- distinct texts are distinct actions of the empty namespace
+pub texts_as_actions : {X : Type 0} (f : X → Text) (ts : List X) → are_distinct bytes_eq (map f ts) ≡ are_distinct uid_eq (map (λ t. record { kind = record { path = []; base = action_word }; id = f t }) ts)
+texts_as_actions {X} f ts =
+    let both : X → X → Bool = λ s t. bytes_eq (f s) (f t) in
+    sym (are_distinct_along both bytes_eq f (λ s t. refl) ts)
+    ∙ are_distinct_along both uid_eq (λ t. record { kind = record { path = []; base = action_word }; id = f t }) (λ s t. refl) ts
+
+-- a function after a function
+pub map_after : {X Y Z : Type 0} (g : Y → Z) (f : X → Y) (xs : List X) → map g (map f xs) ≡ map (λ x. g (f x)) xs
+map_after g f [] = refl
+map_after g f (x ∷ xs) = ap (λ zs. g (f x) ∷ zs) (map_after g f xs)

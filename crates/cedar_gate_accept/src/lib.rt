@@ -8,6 +8,7 @@ pub mod nesting;
 pub mod schema;
 pub mod scope;
 pub mod typing;
+pub mod well_formed;
 
 pub use err::{GateFault, SchemaError};
 pub use schema::{ValidatorActionId, ValidatorSchema};

@@ -63,7 +63,14 @@ impl ValidatorSchema {
     ghost use Rattle.std.specs.Prelude.{◌≡◌, map};
     ghost use Rattle.cedar_expr_names.specs.Views.{uid_of, name_of};
     ghost use Rattle.cedar_schema_model.specs.Declarations.{declares_type, declares_action, is_action_type};
-    ghost use Rattle.cedar_gate_accept.specs.Schema.{schema_of, action_of};
+    ghost use Rattle.cedar_gate_accept.specs.Schema.{schema_of, action_of, type_declaration_of};
+
+    /// The names of the declared entity types.
+    pub fn entity_types(&self) -> &[InternalName]
+        ensures { map type_declaration_of result.now ≡ (schema_of self.now).types }
+    {
+        self.entity_types.as_slice()
+    }
 
     /// The declared actions.
     pub fn actions(&self) -> &[ValidatorActionId]
