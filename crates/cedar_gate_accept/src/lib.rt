@@ -1,6 +1,7 @@
 //! The gate: what it accepts, and why it refuses the rest.
 #![tactic(auto)]
 
+pub mod conformance;
 pub mod declared;
 pub mod distinct;
 pub mod err;
@@ -8,6 +9,7 @@ pub mod nesting;
 pub mod schema;
 pub mod scope;
 pub mod typing;
+pub mod verdict;
 pub mod well_formed;
 
 pub use err::{GateFault, SchemaError};
