@@ -7,23 +7,24 @@ use Rattle.std.specs.Char.{is_ascii_digit}
 use mathlib.Core.List.{append_assoc, append-nil}
 use Rattle.cedar_expr_model.specs.Name.{Text, Name, colons, joined, name_text, parts, with_byte, name_of_parts, name_read, starts_identifier, continues_identifier, is_word, is_identifier, is_well_formed}
 
-and_left : (a b : Bool) → (a && b) ≡ true → a ≡ true
+pub and_left : (a b : Bool) → (a && b) ≡ true → a ≡ true
 and_left true b h = refl
 and_left false b h = h
 
-and_right : (a b : Bool) → (a && b) ≡ true → b ≡ true
+pub and_right : (a b : Bool) → (a && b) ≡ true → b ≡ true
 and_right true b h = h
 and_right false b h = absurd (false≢true h)
 
-or_left : (a b : Bool) → a ≡ true → (a && b) ≡ b
+pub or_left : (a b : Bool) → a ≡ true → (a && b) ≡ b
 or_left a b h = ap (λ t. t && b) h
 
 -- a byte of an identifier is no colon
 no_colon : (b : ℕ) → continues_identifier b ≡ true → eqb b 58 ≡ false
 no_colon b h =
-    elim (eqb b 58) as (λ t. eqb b 58 ≡ t → t ≡ false)
-    [ true ↦ λ e. let q : b ≡ 58 = grind (arith, nat_tests) in absurd (false≢true (subst (λ x. continues_identifier x ≡ true) q h))
-    | false ↦ λ e. refl ] refl
+    elim (eqb b 58) as (λ t. eqb b 58 ≡ t → t ≡ false) [
+      | true ↦ λ e. let q : b ≡ 58 = grind (arith, nat_tests) in absurd (false≢true (subst (λ x. continues_identifier x ≡ true) q h))
+      | false ↦ λ e. refl
+    ] refl
 
 word_continues : (p : Text) → is_word p ≡ true → list_all continues_identifier p ≡ true
 word_continues [] h = refl
