@@ -73,9 +73,10 @@ impl InternalName {
         InternalName::new(alloc, base, path, None).map_err(|_| NameError::OutOfMemory)
     }
 
-    /// The name's text.
+    /// The name's text, from which it is read back.
     pub fn as_str(&self) -> &str
-        ensures { result.now ≡ name_text (name_of self.now) }
+        ensures value { result.now ≡ name_text (name_of self.now) }
+        ensures reads_back { name_read result.now ≡ Some (name_of self.now) }
     {
         self.text.as_str()
     }
