@@ -2,3 +2,4 @@ pub mod Schema
 pub mod Typing
 pub mod Faults
 pub mod Verdict
+pub mod Gates

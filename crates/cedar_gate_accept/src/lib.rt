@@ -5,6 +5,7 @@ pub mod conformance;
 pub mod declared;
 pub mod distinct;
 pub mod err;
+pub mod gate;
 pub mod nesting;
 pub mod schema;
 pub mod scope;
