@@ -1,3 +1,5 @@
 pub mod Agree
 pub mod Meaning
 pub mod Answers
+pub mod Conditions
+pub mod Reports
