@@ -1,6 +1,7 @@
 //! Laws of the definitions. Each function's contract is the theorem; its body does nothing.
 
 ghost use Rattle.cedar_typechecker_model.specs.Laws.{TypingIsAFunction, OneJudgement, PassingDecides, ImpossibleDecides, NamingDecides};
+ghost use Rattle.cedar_typechecker_model.specs.Parts.{LiteralsAreTyped, VariablesAreTyped, ConjunctionsAreTyped, UnaryAreTyped, BinaryAreTyped, NoFactsArise};
 ghost use Rattle.cedar_typechecker_model.specs.Soundness.{TypesAreSound, PassingIsSound, ImpossibleIsSound};
 
 /// An expression has a type with facts exactly where the function gives them: so it has one type at most.
@@ -8,6 +9,17 @@ pub fn typing_is_a_function()
     ensures computed { TypingIsAFunction }
     ensures at_most_one { OneJudgement }
 {}
+
+/// The type of an expression, by the types of its parts. Expressions of today's kinds give no facts, so what is known before doesn't matter.
+pub fn types_come_from_parts()
+    ensures literals { LiteralsAreTyped }
+    ensures variables { VariablesAreTyped }
+    ensures conjunctions { ConjunctionsAreTyped }
+    ensures unary { UnaryAreTyped }
+    ensures binary { BinaryAreTyped }
+    ensures no_facts { NoFactsArise }
+{
+}
 
 /// The tests of a policy decide whether it passes, whether it is impossible, and whether each uid that it writes passes.
 pub fn verdicts_are_decided()
