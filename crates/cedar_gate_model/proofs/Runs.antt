@@ -1,14 +1,14 @@
 -- Runs are legal, and what they ask for is in the slice.
-use Rattle.std.proofs.Common.{◌≡◌, ℕ, List, [], ◌∷◌, ◌++◌, Some, None, refl, subst, ⊎_elim}
+use Rattle.std.proofs.Common.{◌≡◌, ℕ, List, [], ◌∷◌, ◌++◌, Some, None, refl, subst, ⊎_elim, ◌↔◌, suc, false, inl}
 use Rattle.std.specs.Prelude.{Contains}
 use Rattle.std.proofs.lemmas.List.Elements.{Contains-append_cases}
 use Rattle.cedar_expr_model.specs.Uid.{Uid}
 use Rattle.cedar_expr_model.proofs.Lists.{contains_head, contains_none}
 use Rattle.cedar_store_model.specs.World.{World}
 use Rattle.cedar_store_model.specs.Answer.{Decision, decision_of, answer_of}
-use Rattle.cedar_schema_model.specs.Declarations.{Declarations}
+use Rattle.cedar_schema_model.specs.Declarations.{Declarations, declares_action}
 use Rattle.cedar_gate_model.specs.Acceptance.{Submission}
-use Rattle.cedar_gate_model.specs.Slice.{InSlice}
+use Rattle.cedar_gate_model.specs.Slice.{InSlice, IsRoot}
 use Rattle.cedar_gate_model.specs.Transcript.{Step, load, decide, Entry, round, decided, IsLegal, AreLegal, asked_in, decisions_for}
 
 pub decisions_are_legal : (s : Submission) (w : World) (asked : List Uid) (steps : List Step) → AreLegal s w asked (decisions_for steps (decision_of w s.policies))
@@ -43,3 +43,6 @@ no_items (u ∷ us) h = absurd (h u (contains_head u us))
 
 pub nothing_below : (s : Submission) (w : World) (entries : List Entry) → s.level ≡ 0 → AreLegal s w [] entries → asked_in entries ≡ []
 nothing_below s w entries e h = no_items (asked_in entries) (λ u k. slice_is_empty s.declarations w u (subst (λ (n : ℕ). InSlice s.declarations n w u) e (asked_in_slice s w entries u h k)))
+
+pub slice_is_roots : (d : Declarations) (n : ℕ) (w : World) (u : Uid) → InSlice d (suc n) w u ↔ (IsRoot w u × (declares_action d u ≡ false))
+slice_is_roots d n w u = (λ h. (⊎_elim (λ k. k) (λ k. absurd k.2) h.0, h.1), λ h. (inl h.0, h.1))
