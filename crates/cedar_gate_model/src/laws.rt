@@ -1,5 +1,6 @@
 //! Laws of the definitions. Each function's contract is the theorem; its body does nothing.
 
+ghost use Rattle.cedar_gate_model.specs.Order.{OrderHidesNoFault};
 ghost use Rattle.cedar_gate_model.specs.Laws.{AcceptanceDecides, FaultsExclude, RefusalHasFault, PoliciesDontErr, WarnedIsNoReason, RunsAreLegal, NothingIsAsked, SliceIsEmpty, AskedIsInSlice, NothingBelow, OneStatus, OneText, SomeText, SliceIsRoots, WarnedAreImpossible, RefusalsAreFaults};
 
 /// The test of a submission is true exactly where it is accepted.
@@ -54,3 +55,9 @@ pub fn printing_is_determined()
     ensures one_text { OneText }
     ensures refusals { RefusalsAreFaults }
 {}
+
+/// A submission has the same faults in whichever order its declarations and its policies stand.
+pub fn order_hides_no_fault()
+    ensures { OrderHidesNoFault }
+{
+}

@@ -5,3 +5,4 @@ pub mod Naming
 pub mod Values
 pub mod Soundness
 pub mod Parts
+pub mod Order

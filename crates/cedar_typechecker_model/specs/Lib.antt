@@ -7,3 +7,4 @@ pub mod Laws
 pub mod Soundness
 pub mod Worked
 pub mod Parts
+pub mod Order

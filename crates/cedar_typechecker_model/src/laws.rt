@@ -1,5 +1,6 @@
 //! Laws of the definitions. Each function's contract is the theorem; its body does nothing.
 
+ghost use Rattle.cedar_typechecker_model.specs.Order.{OrderKeepsTypes, OrderKeepsPassing, OrderKeepsImpossible, OrderKeepsKnownTypes, OrderKeepsKnownActions};
 ghost use Rattle.cedar_typechecker_model.specs.Laws.{TypingIsAFunction, OneJudgement, PassingDecides, ImpossibleDecides, NamingDecides};
 ghost use Rattle.cedar_typechecker_model.specs.Parts.{LiteralsAreTyped, VariablesAreTyped, ConjunctionsAreTyped, UnaryAreTyped, BinaryAreTyped, NoFactsArise};
 ghost use Rattle.cedar_typechecker_model.specs.Soundness.{TypesAreSound, PassingIsSound, ImpossibleIsSound};
@@ -42,3 +43,13 @@ pub fn passing_policies_never_err()
 pub fn impossible_policies_are_never_satisfied()
     ensures { ImpossibleIsSound }
 {}
+
+/// Under declarations in another order an expression has the same type, and a policy the same verdicts.
+pub fn order_of_declarations_is_free()
+    ensures types { OrderKeepsTypes }
+    ensures passing { OrderKeepsPassing }
+    ensures impossible { OrderKeepsImpossible }
+    ensures known_types { OrderKeepsKnownTypes }
+    ensures known_actions { OrderKeepsKnownActions }
+{
+}
