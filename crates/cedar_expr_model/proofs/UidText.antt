@@ -1,12 +1,12 @@
 -- Names, and uids, with the same text are the same.
-use Rattle.std.proofs.Common.{◌≡◌, ◌≢◌, ℕ, List, [], ◌∷◌, ◌++◌, Bool, true, false, ◌&&◌, Some, refl, sym, ap, ◌∙◌, subst, append_assoc}
+use Rattle.std.proofs.Common.{◌≡◌, ◌≢◌, ℕ, List, [], ◌∷◌, ◌++◌, true, refl, sym, ap, ◌∙◌, subst, append_assoc}
 use Rattle.std.specs.List.{list_all, flat_map}
 use Rattle.std.specs.Str.{chars, IsUtf8}
 use Rattle.std.proofs.lemmas.Str.{encodes-chars, scalars-chars}
 use Rattle.std.specs.Str.{encode_utf8_all}
 use Rattle.std.proofs.lemmas.List.{append_cancel_right}
-use Rattle.cedar_expr_model.specs.Name.{Text, Name, Writes, joined, name_text, colons, is_identifier, is_word, starts_identifier, continues_identifier, is_well_formed}
-use Rattle.cedar_expr_model.specs.Uid.{Uid, uid_text, quoted, escaped}
+use Rattle.cedar_expr_model.specs.Name.{Text, Name, joined, name_text, colons, is_identifier, is_word, starts_identifier, continues_identifier, is_well_formed}
+use Rattle.cedar_expr_model.specs.Uid.{Uid, uid_text, escaped}
 use Rattle.cedar_expr_model.proofs.Lists.{both_hold}
 use Rattle.cedar_expr_model.proofs.Reading.{writes_read}
 use Rattle.cedar_expr_model.proofs.Escapes.{Lacks, Lacks-append, split_at, same_characters, apart_from}

@@ -30,5 +30,4 @@ pub fn names_are_read()
 pub fn texts_tell_apart()
     ensures names { NamesHaveTheirText }
     ensures uids { UidsHaveTheirText }
-{
-}
+{}

@@ -80,8 +80,9 @@ warned_is_no_reason s w id a c h k =
     impossible_is_sound s.declarations x.0 w ((impossible-Decides s.declarations x.0).0 y.1) c (subst (IsSatisfied w) (sym e) q.1)
 
 pub warned_are_impossible : (s : Submission) (id : Text) → Contains (warnings_of s) id ↔ ((p : Policy) × Contains s.policies p × IsImpossible s.declarations p × (p.id ≡ id))
-warned_are_impossible s id =
-    (λ h. let x = map_from (λ (p : Policy). p.id) (filter (impossible s.declarations) s.policies) id h in
+warned_are_impossible s id = (
+  λ h. let x = map_from (λ (p : Policy). p.id) (filter (impossible s.declarations) s.policies) id h in
       let y = filter_only (impossible s.declarations) s.policies x.0 x.1 in
       (x.0, y.0, (impossible-Decides s.declarations x.0).0 y.1, x.2),
-     λ h. subst (Contains (warnings_of s)) h.3 (map_has (λ (p : Policy). p.id) (filter (impossible s.declarations) s.policies) h.0 (filter_has (impossible s.declarations) s.policies h.0 h.1 ((impossible-Decides s.declarations h.0).1 h.2))))
+  λ h. subst (Contains (warnings_of s)) h.3 (map_has (λ (p : Policy). p.id) (filter (impossible s.declarations) s.policies) h.0 (filter_has (impossible s.declarations) s.policies h.0 h.1 ((impossible-Decides s.declarations h.0).1 h.2))),
+)

@@ -30,14 +30,12 @@ pub fn runs_are_legal()
 /// The warnings are the ids of the policies that are impossible.
 pub fn warned_policies_are_impossible()
     ensures { WarnedAreImpossible }
-{
-}
+{}
 
 /// The slice at a level above 0 is the principal and the resource, less the declared actions: a store of uids alone leads no further.
 pub fn the_slice_is_the_roots()
     ensures { SliceIsRoots }
-{
-}
+{}
 
 /// At level 0 nothing is in the slice, so a legal transcript asks for nothing;
 /// at any level what a legal transcript asks for is in the slice.
@@ -59,5 +57,4 @@ pub fn printing_is_determined()
 /// A submission has the same faults in whichever order its declarations and its policies stand.
 pub fn order_hides_no_fault()
     ensures { OrderHidesNoFault }
-{
-}
+{}

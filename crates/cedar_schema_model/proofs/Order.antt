@@ -1,8 +1,8 @@
 -- The order of declarations doesn't matter.
-use Rattle.std.proofs.Common.{◌≡◌, ◌↔◌, ℕ, ◌+◌, ◌≤◌, List, [], ◌∷◌, Bool, true, false, not, cond, ◌&&◌, ◌||◌, map, refl, sym, ap, ◌∙◌, subst, arith}
+use Rattle.std.proofs.Common.{◌≡◌, ◌↔◌, ℕ, ◌+◌, ◌≤◌, List, [], ◌∷◌, Bool, true, false, not, cond, ◌||◌, map, refl, sym, ap, ◌∙◌, subst, arith}
 use Rattle.std.specs.Prelude.{Contains}
 use Rattle.std.specs.Str.{bytes_eq}
-use Rattle.std.specs.List.{list_all, list_any, sum_by, flat_map}
+use Rattle.std.specs.List.{list_all, list_any, sum_by}
 use Rattle.std.specs.List.Sorted.{IsPermutation}
 use Rattle.std.proofs.lemmas.List.Sorted.{IsPermutation-sym, sum_by-IsPermutation, Contains-permutation}
 use Rattle.std.proofs.lemmas.List.Sums.{sum_by-cons}
@@ -83,8 +83,8 @@ counted_once eq exact key [] h a = omega arith
 counted_once eq exact key (x ∷ xs) h a =
     let p = both_hold (not (list_any (eq (key x)) (map key xs))) (are_distinct eq (map key xs)) h in
     once_step (eq a (key x)) (count eq key a xs)
-      (λ e. absent eq key a xs (subst (λ k. list_any (eq k) (map key xs) ≡ false) (sym (exact a (key x) e)) (is_not (list_any (eq (key x)) (map key xs)) p.0)))
-      (counted_once eq exact key xs p.1 a)
+    (λ e. absent eq key a xs (subst (λ k. list_any (eq k) (map key xs) ≡ false) (sym (exact a (key x) e)) (is_not (list_any (eq (key x)) (map key xs)) p.0)))
+    (counted_once eq exact key xs p.1 a)
 
 not_is : (b : Bool) → b ≡ false → not b ≡ true
 not_is true e = cc
@@ -103,7 +103,7 @@ distinct_where eq same key [] h = refl
 distinct_where eq same key (x ∷ xs) h =
     let none = counted_none (eq (key x) (key x)) (count eq key (key x) xs) (same (key x)) (h (key x)) in
     hold_both (not (list_any (eq (key x)) (map key xs))) (are_distinct eq (map key xs)) (not_is (list_any (eq (key x)) (map key xs)) (none_counted eq key (key x) xs none))
-      (distinct_where eq same key xs (λ a. fewer (eq a (key x)) (count eq key a xs) (h a)))
+    (distinct_where eq same key xs (λ a. fewer (eq a (key x)) (count eq key a xs) (h a)))
 
 distinct_moved : {X K : Type 0} (eq : K → K → Bool) → ((a b : K) → eq a b ≡ true → a ≡ b) → ((a : K) → eq a a ≡ true) → (key : X → K) (xs ys : List X) → IsPermutation xs ys → are_distinct eq (map key xs) ≡ true → are_distinct eq (map key ys) ≡ true
 distinct_moved eq exact same key xs ys m h =

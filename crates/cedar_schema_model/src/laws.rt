@@ -28,5 +28,4 @@ pub fn order_of_declarations_is_free()
     ensures faults { OrderHidesNoFault }
     ensures requests { OrderKeepsRequests }
     ensures environments { OrderKeepsEnvironments }
-{
-}
+{}

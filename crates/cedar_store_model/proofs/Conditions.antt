@@ -1,15 +1,14 @@
 -- What the condition of a policy says of its parts.
-use Rattle.std.proofs.Common.{◌≡◌, ◌↔◌, Bool, true, false, ◌&&◌, refl, sym, ap, ◌∙◌, subst}
+use Rattle.std.proofs.Common.{◌≡◌, ◌↔◌, Bool, true, false, ◌&&◌, refl, sym, ap, ◌∙◌}
 use Rattle.std.specs.Bool.{Decides}
-use Rattle.cedar_expr_model.specs.Uid.{Uid, uid_eq}
 use Rattle.cedar_expr_model.specs.Value.{V, prim, truth, long, entity}
-use Rattle.cedar_expr_model.specs.Tree.{Tree, lit, var, both, Var, principal, action, resource, conjunction}
+use Rattle.cedar_expr_model.specs.Tree.{Tree, lit, both, Var, principal, action, resource, conjunction}
 use Rattle.cedar_expr_model.proofs.Equality.{uid_eq-Decides}
 use Rattle.cedar_expr_model.proofs.Lists.{both_hold, hold_both}
 use Rattle.cedar_store_model.specs.Outcome.{Res, val, err, bind}
 use Rattle.cedar_store_model.specs.World.{World, bound}
 use Rattle.cedar_store_model.specs.Meaning.{Means, truth_value, truth_of, and_then, outcome_of}
-use Rattle.cedar_store_model.specs.Policy.{Policy, Scope, any, exactly, scope_tree, condition, IsSatisfied}
+use Rattle.cedar_store_model.specs.Policy.{Policy, Scope, any, exactly, scope_tree, IsSatisfied}
 use Rattle.cedar_store_model.specs.Answer.{is_true, satisfied}
 use Rattle.cedar_store_model.specs.Laws.{Matches}
 use Rattle.cedar_store_model.proofs.Meaning.{outcome_means, means_outcome, true_outcome, satisfied-Decides}
@@ -21,9 +20,10 @@ conjunction_outcome w (lit (truth false)) (lit (truth b)) = refl
 conjunction_outcome w a b = refl
 
 pub conjunction_is_both : (w : World) (a b : Tree) (r : Res V) → Means w (conjunction a b) r ↔ Means w (both a b) r
-conjunction_is_both w a b r =
-    (λ h. outcome_means w (both a b) r (sym (conjunction_outcome w a b) ∙ means_outcome w (conjunction a b) r h),
-     λ h. outcome_means w (conjunction a b) r (conjunction_outcome w a b ∙ means_outcome w (both a b) r h))
+conjunction_is_both w a b r = (
+  λ h. outcome_means w (both a b) r (sym (conjunction_outcome w a b) ∙ means_outcome w (conjunction a b) r h),
+  λ h. outcome_means w (conjunction a b) r (conjunction_outcome w a b ∙ means_outcome w (both a b) r h),
+)
 
 true_truth : (r : Res V) → is_true (bind r truth_of) ≡ is_true r
 true_truth (err f) = refl
@@ -70,9 +70,10 @@ satisfied_by_parts w p = (forward, back)
         let b = both_hold (holds_in w (scope_tree action p.action)) _ a.1 in
         let c = both_hold (holds_in w (scope_tree resource p.resource)) (holds_in w p.body) b.1 in
         ((scope-Decides w principal p.principal).0 a.0, (scope-Decides w action p.action).0 b.0, (scope-Decides w resource p.resource).0 c.0, (holds-Decides w p.body).0 c.1)
+
     back : Matches p.principal w.request.principal × Matches p.action w.request.action × Matches p.resource w.request.resource × Means w p.body (val (truth_value true)) → IsSatisfied w p
     back h =
         (satisfied-Decides w p).0 (satisfied_parts w p ∙
-          hold_both (holds_in w (scope_tree principal p.principal)) _ ((scope-Decides w principal p.principal).1 h.0)
-          (hold_both (holds_in w (scope_tree action p.action)) _ ((scope-Decides w action p.action).1 h.1)
-          (hold_both (holds_in w (scope_tree resource p.resource)) (holds_in w p.body) ((scope-Decides w resource p.resource).1 h.2) ((holds-Decides w p.body).1 h.3))))
+        hold_both (holds_in w (scope_tree principal p.principal)) _ ((scope-Decides w principal p.principal).1 h.0)
+        (hold_both (holds_in w (scope_tree action p.action)) _ ((scope-Decides w action p.action).1 h.1)
+        (hold_both (holds_in w (scope_tree resource p.resource)) (holds_in w p.body) ((scope-Decides w resource p.resource).1 h.2) ((holds-Decides w p.body).1 h.3))))

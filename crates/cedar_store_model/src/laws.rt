@@ -17,14 +17,12 @@ pub fn satisfaction_is_decided()
 /// A policy is satisfied exactly where each part of its scope matches the request and its body means true.
 pub fn satisfied_policies_match()
     ensures { SatisfiedByParts }
-{
-}
+{}
 
 /// The conjunction that is built means what the conjunction of the two sides means.
 pub fn built_conjunctions_mean_the_same()
     ensures { ConjunctionIsBoth }
-{
-}
+{}
 
 /// Expressions of today's kinds look nothing up.
 pub fn nothing_is_looked_up()
@@ -39,17 +37,14 @@ pub fn allow_is_earned()
 /// The reasons are the ids of the satisfied policies of the effect that decided: permits for Allow, forbids for Deny.
 pub fn reasons_are_those_that_decided()
     ensures { ReasonsAreThose }
-{
-}
+{}
 
 /// The errors are those of the policies whose condition errs, each with its id and the kind of its error.
 pub fn errors_are_those_that_err()
     ensures { ErrorsAreThose }
-{
-}
+{}
 
 /// The decision doesn't depend on the order of the policies, nor on how often one stands among them.
 pub fn order_is_free()
     ensures { OrderIsFree }
-{
-}
+{}

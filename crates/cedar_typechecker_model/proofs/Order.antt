@@ -1,19 +1,19 @@
 -- The order of declarations says nothing of types and verdicts.
-use Rattle.std.proofs.Common.{◌≡◌, ◌↔◌, List, Bool, true, false, not, cond, ◌&&◌, ◌||◌, Option, Some, None, refl, sym, ap, ◌∙◌, subst}
+use Rattle.std.proofs.Common.{◌≡◌, ◌↔◌, List, Bool, cond, ◌||◌, Option, Some, None, refl, sym, ap, ◌∙◌}
 use Rattle.std.specs.Prelude.{option_and_then, Contains}
 use Rattle.std.specs.List.{list_all}
 use Rattle.cedar_expr_model.specs.Name.{name_eq}
 use Rattle.cedar_expr_model.specs.Uid.{Uid}
 use Rattle.cedar_expr_model.specs.Value.{Literal, truth, long, entity}
-use Rattle.cedar_expr_model.specs.Tree.{Tree, lit, var, both, unary, binary, Var, principal, action, resource, UnaryOp, BinaryOp, equal, less}
+use Rattle.cedar_expr_model.specs.Tree.{Tree, lit, var, both, unary, binary, Var, principal, action, resource, BinaryOp, equal, less}
 use Rattle.cedar_expr_model.proofs.Lists.{all_each, all_from}
 use Rattle.cedar_store_model.specs.Policy.{Policy, Scope, any, exactly, condition}
-use Rattle.cedar_schema_model.specs.Declarations.{Declarations, declares_type, declares_action, is_action_type}
-use Rattle.cedar_schema_model.specs.Types.{Ty, bool_type, long_type, entity_type, BoolType, only_false}
+use Rattle.cedar_schema_model.specs.Declarations.{Declarations, declares_type, declares_action}
+use Rattle.cedar_schema_model.specs.Types.{Ty, bool_type, long_type, entity_type, only_false}
 use Rattle.cedar_schema_model.specs.Environment.{Environment, environments}
 use Rattle.cedar_schema_model.specs.Order.{IsReordered}
 use Rattle.cedar_schema_model.proofs.Order.{same_truth, all_agree, same_declared_types, same_declared_actions, same_action_types, same_environments}
-use Rattle.cedar_typechecker_model.specs.Rules.{Setting, literal_type, var_type, unary_type, literal_uid, written_equal, equal_type, binary_type}
+use Rattle.cedar_typechecker_model.specs.Rules.{literal_type, var_type, unary_type, literal_uid, written_equal, equal_type, binary_type}
 use Rattle.cedar_typechecker_model.specs.Typing.{type_of}
 use Rattle.cedar_typechecker_model.specs.ScopeRules.{each_uid, scope_passes, each_named, has_known_type, is_no_unknown_action}
 use Rattle.cedar_typechecker_model.specs.Verdicts.{setting, is_bool, is_false, passes, impossible}

@@ -19,8 +19,7 @@ pub fn types_come_from_parts()
     ensures unary { UnaryAreTyped }
     ensures binary { BinaryAreTyped }
     ensures no_facts { NoFactsArise }
-{
-}
+{}
 
 /// The tests of a policy decide whether it passes, whether it is impossible, and whether each uid that it writes passes.
 pub fn verdicts_are_decided()
@@ -51,5 +50,4 @@ pub fn order_of_declarations_is_free()
     ensures impossible { OrderKeepsImpossible }
     ensures known_types { OrderKeepsKnownTypes }
     ensures known_actions { OrderKeepsKnownActions }
-{
-}
+{}
