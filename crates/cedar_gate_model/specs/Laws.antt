@@ -1,5 +1,5 @@
 -- What the laws of this crate say.
-use Rattle.std.specs.Prelude.{◌≡◌, ◌≢◌, List, [], Option, Some, Contains, false, ◌↔◌, ℕ, suc}
+use Rattle.std.specs.Prelude.{◌≡◌, ◌≢◌, List, [], Option, Some, Contains, false, ◌↔◌, ℕ, suc, ◌∷◌, ◌++◌}
 use Rattle.std.specs.Bool.{Decides}
 use Rattle.cedar_expr_model.specs.Name.{Text}
 use Rattle.cedar_expr_model.specs.Uid.{Uid}
@@ -11,7 +11,7 @@ use Rattle.cedar_typechecker_model.specs.Verdicts.{IsImpossible}
 use Rattle.cedar_schema_model.specs.Conforming.{Conforms}
 use Rattle.cedar_gate_model.specs.Acceptance.{Submission, Cause, IsAccepted, HasFault, admits, warnings_of}
 use Rattle.cedar_gate_model.specs.Slice.{InSlice, IsRoot}
-use Rattle.cedar_gate_model.specs.Transcript.{Step, Entry, IsLegal, AreLegal, asked_in, decisions_for}
+use Rattle.cedar_gate_model.specs.Transcript.{Step, Entry, round, decided, IsLegal, AreLegal, asked_in, decisions_for}
 use Rattle.cedar_gate_model.specs.Bundle.{Bundle}
 use Rattle.cedar_gate_model.specs.Lines.{Status, refused, Prints}
 
@@ -81,3 +81,12 @@ SliceIsRoots = (d : Declarations) (n : ℕ) (w : World) (u : Uid) → InSlice d 
 -- a refusal may be printed exactly where a submission isn't accepted
 abbrev pub RefusalsAreFaults : Type 0
 RefusalsAreFaults = (b : Bundle) → ((text : Text) × Prints (Some b) refused text) ↔ (IsAccepted b.submission → ⊥)
+
+-- each decision that a legal transcript gives is that of the answer
+abbrev pub DecisionsAreFinal : Type 0
+DecisionsAreFinal = (s : Submission) (w : World) (entries : List Entry) (d : Decision) → AreLegal s w [] entries → Contains entries (decided (Some d)) → d ≡ decision_of w s.policies
+
+-- no uid stands in two rounds of a legal transcript
+abbrev pub AskedOnce : Type 0
+AskedOnce = (s : Submission) (w : World) (before after : List Entry) (uids : List Uid) (u : Uid) → AreLegal s w [] (before ++ round uids ∷ after)
+    → Contains (asked_in before) u → Contains uids u → ⊥

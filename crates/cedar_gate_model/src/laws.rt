@@ -1,7 +1,7 @@
 //! Laws of the definitions. Each function's contract is the theorem; its body does nothing.
 
 ghost use Rattle.cedar_gate_model.specs.Order.{OrderHidesNoFault};
-ghost use Rattle.cedar_gate_model.specs.Laws.{AcceptanceDecides, FaultsExclude, RefusalHasFault, PoliciesDontErr, WarnedIsNoReason, RunsAreLegal, NothingIsAsked, SliceIsEmpty, AskedIsInSlice, NothingBelow, OneStatus, OneText, SomeText, SliceIsRoots, WarnedAreImpossible, RefusalsAreFaults};
+ghost use Rattle.cedar_gate_model.specs.Laws.{AcceptanceDecides, FaultsExclude, RefusalHasFault, PoliciesDontErr, WarnedIsNoReason, RunsAreLegal, NothingIsAsked, SliceIsEmpty, AskedIsInSlice, NothingBelow, OneStatus, OneText, SomeText, SliceIsRoots, WarnedAreImpossible, RefusalsAreFaults, DecisionsAreFinal, AskedOnce};
 
 /// The test of a submission is true exactly where it is accepted.
 /// A fault excludes acceptance, and a submission that the test refuses has a fault.
@@ -43,6 +43,12 @@ pub fn what_is_asked_is_in_the_slice()
     ensures empty { SliceIsEmpty }
     ensures within { AskedIsInSlice }
     ensures nothing { NothingBelow }
+{}
+
+/// Each decision that a legal transcript gives is that of the answer, and no uid stands in two of its rounds.
+pub fn legal_transcripts_are_consistent()
+    ensures final_decisions { DecisionsAreFinal }
+    ensures once { AskedOnce }
 {}
 
 /// For each input something may be printed, with one status alone; and where that isn't a refusal, one text alone.

@@ -1,5 +1,5 @@
 -- What the reasons and the errors of an answer are.
-use Rattle.std.proofs.Common.{◌≡◌, ◌↔◌, List, [], ◌∷◌, true, not, ◌&&◌, refl, sym, ap, subst}
+use Rattle.std.proofs.Common.{◌≡◌, ◌↔◌, List, [], ◌∷◌, not, ◌&&◌, refl, sym, ap, subst}
 use Rattle.std.specs.Prelude.{Contains}
 use Rattle.cedar_expr_model.specs.Name.{Text}
 use Rattle.cedar_expr_model.specs.Value.{V}
@@ -11,15 +11,7 @@ use Rattle.cedar_store_model.specs.Policy.{Policy, Effect, permit, forbid, condi
 use Rattle.cedar_store_model.specs.Answer.{Decision, allow, deny, PolicyError, permits, satisfied, satisfied_permits, satisfied_forbids, decided, determining, error_of, decision_of, reasons_of, errors_of}
 use Rattle.cedar_store_model.specs.Laws.{deciding}
 use Rattle.cedar_store_model.proofs.Meaning.{outcome_means, means_outcome, satisfied-Decides}
-use Rattle.cedar_store_model.proofs.Answers.{allow_is_earned}
-
-is_permit : (e : Effect) → permits e ≡ true → e ≡ permit
-is_permit permit h = refl
-is_permit forbid h = cc
-
-is_forbid : (e : Effect) → not (permits e) ≡ true → e ≡ forbid
-is_forbid permit h = cc
-is_forbid forbid h = refl
+use Rattle.cedar_store_model.proofs.Answers.{is_permit, is_forbid, allow_is_earned}
 
 -- one of these policies, of this effect, is satisfied
 abbrev pub IsSatisfiedAs : World → List Policy → Effect → Policy → Type 0
