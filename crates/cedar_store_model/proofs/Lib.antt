@@ -3,3 +3,4 @@ pub mod Meaning
 pub mod Answers
 pub mod Conditions
 pub mod Reports
+pub mod Store

@@ -10,7 +10,7 @@ use Rattle.cedar_store_model.specs.World.{World}
 use Rattle.cedar_store_model.specs.Meaning.{Means, truth_value, outcome_of}
 use Rattle.cedar_store_model.specs.Looks.{Looks}
 use Rattle.cedar_store_model.specs.Policy.{Policy, Effect, Scope, any, exactly, condition, IsSatisfied, permit, forbid}
-use Rattle.cedar_store_model.specs.Answer.{Decision, allow, deny, PolicyError, satisfied, decision_of, reasons_of, errors_of}
+use Rattle.cedar_store_model.specs.Answer.{Decision, allow, deny, PolicyError, satisfied, decision_of, reasons_of, errors_of, answer_of}
 
 -- an outcome is what an expression means exactly where the function gives it
 abbrev pub MeaningIsAFunction : Type 0
@@ -76,3 +76,7 @@ ErrorsAreThose = (w : World) (ps : List Policy) (e : PolicyError) → Contains (
 -- lists of the same policies give the same decision
 abbrev pub OrderIsFree : Type 0
 OrderIsFree = (w : World) (ps qs : List Policy) → ((p : Policy) → Contains ps p ↔ Contains qs p) → decision_of w ps ≡ decision_of w qs
+
+-- worlds of one request give the same answer, whatever their stores hold
+abbrev pub StoreIsNotRead : Type 0
+StoreIsNotRead = (w v : World) (ps : List Policy) → w.request ≡ v.request → answer_of w ps ≡ answer_of v ps

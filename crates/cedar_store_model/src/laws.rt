@@ -1,6 +1,6 @@
 //! Laws of the definitions. Each function's contract is the theorem; its body does nothing.
 
-ghost use Rattle.cedar_store_model.specs.Laws.{MeaningIsAFunction, OneOutcome, AnOutcome, SatisfactionDecides, SatisfiedByParts, ConjunctionIsBoth, NothingIsLookedUp, AllowIsEarned, ReasonsAreThose, ErrorsAreThose, OrderIsFree};
+ghost use Rattle.cedar_store_model.specs.Laws.{MeaningIsAFunction, OneOutcome, AnOutcome, SatisfactionDecides, SatisfiedByParts, ConjunctionIsBoth, NothingIsLookedUp, AllowIsEarned, ReasonsAreThose, ErrorsAreThose, OrderIsFree, StoreIsNotRead};
 
 /// An expression means an outcome in a world exactly where the function gives it: so it has one outcome, and one alone.
 pub fn meaning_is_a_function()
@@ -47,4 +47,9 @@ pub fn errors_are_those_that_err()
 /// The decision doesn't depend on the order of the policies, nor on how often one stands among them.
 pub fn order_is_free()
     ensures { OrderIsFree }
+{}
+
+/// Under today's kinds the answer depends on the request alone and not on the store, so it may be given before anything is loaded.
+pub fn the_store_is_not_read()
+    ensures { StoreIsNotRead }
 {}
