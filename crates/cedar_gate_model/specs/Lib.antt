@@ -5,3 +5,4 @@ pub mod Bundle
 pub mod Lines
 pub mod Laws
 pub mod Worked
+pub mod Order
