@@ -3,3 +3,4 @@ pub mod Typing
 pub mod Faults
 pub mod Verdict
 pub mod Gates
+pub mod Candidates

@@ -1,12 +1,14 @@
 //! The gate: what it accepts, and why it refuses the rest.
 #![tactic(auto)]
 
+pub mod candidate;
 pub mod conformance;
 pub mod declared;
 pub mod distinct;
 pub mod err;
-pub mod gate;
+pub mod each;
 pub mod nesting;
+pub mod policies;
 pub mod schema;
 pub mod scope;
 pub mod typing;

@@ -1,31 +1,16 @@
-//! The gate: what it accepts.
+//! The ids and the conditions of policies.
 
-ghost use Rattle.std.specs.Prelude.{◌≡◌, ◌&&◌, ◌==◌, IfOk, IfErr, OnOk, map, true};
-ghost use Rattle.std.specs.List.{list_all, filter};
+ghost use Rattle.std.specs.Prelude.{◌≡◌, IfOk, map};
 ghost use Rattle.std.specs.Str.{bytes_eq};
-ghost use Rattle.cedar_expr_model.specs.Tree.{nesting};
 ghost use Rattle.cedar_expr.specs.Trees.{tree_of};
-ghost use Rattle.cedar_expr.specs.Table.{all_typed};
 ghost use Rattle.cedar_store_model.specs.Policy.{condition};
 ghost use Rattle.cedar_store_model.specs.Answer.{ids};
 ghost use Rattle.cedar_schema_model.specs.Declarations as declared_model;
-ghost use Rattle.cedar_gate_model.specs.Acceptance as acceptance;
-ghost use Rattle.cedar_gate_model.specs.Acceptance.{IsAccepted, admits, warnings_of};
-ghost use Rattle.cedar_gate_types.specs.Limit.{levels_of};
-ghost use Rattle.cedar_gate_types.specs.Policies.{policies_of, policy_of, id_text};
-ghost use Rattle.cedar_gate_types.specs.Schemas.{declarations_of, is_first_path};
-ghost use Rattle.cedar_gate_accept.specs.Schema.{schema_of};
-ghost use Rattle.cedar_gate_accept.specs.Faults.{GateFaultIsThere};
-ghost use Rattle.cedar_gate_accept.specs.Gates.{submission};
+ghost use Rattle.cedar_gate_types.specs.Policies.{policies_of, policy_of};
 
 use crate::distinct::are_distinct;
-use crate::err::GateFault;
-use crate::nesting::nests_within;
-use crate::schema::ValidatorSchema;
-use crate::scope::ScopeRule;
-use crate::verdict::Verdict;
-use cedar_expr::{Expr, ExtTable};
-use cedar_gate_types::{Fragment, NestLimit, Policy, PolicyID};
+use cedar_expr::Expr;
+use cedar_gate_types::Policy;
 use std::alloc::{AllocError, Global};
 
 /// The texts of the policies' ids. Fails only for want of memory.
@@ -40,7 +25,7 @@ fn id_texts(alloc: Global, policies: &[Policy]) -> Result<Vec<&str>, AllocError>
 }
 
 /// Whether no two policies have one id. Fails only for want of memory.
-fn ids_are_distinct(alloc: Global, policies: &[Policy]) -> Result<bool, AllocError>
+pub fn ids_are_distinct(alloc: Global, policies: &[Policy]) -> Result<bool, AllocError>
     ensures { IfOk result (λ b. b ≡ declared_model.are_distinct bytes_eq (ids (policies_of policies.now))) }
 {
     let texts = id_texts(alloc, policies)?;
@@ -49,7 +34,7 @@ fn ids_are_distinct(alloc: Global, policies: &[Policy]) -> Result<bool, AllocErr
 }
 
 /// The policies' conditions. Fails only for want of memory.
-fn conditions_of(alloc: Global, policies: &[Policy]) -> Result<Vec<Expr>, AllocError>
+pub fn conditions_of(alloc: Global, policies: &[Policy]) -> Result<Vec<Expr>, AllocError>
     ensures { IfOk result (λ v. map tree_of v.items ≡ map (λ p. condition (policy_of p)) policies.now) }
 {
     let mut conditions = Vec::new(alloc);

@@ -4,7 +4,7 @@ use Rattle.std.specs.Str.{bytes_eq}
 use Rattle.cedar_schema_model.specs.Declarations.{are_distinct}
 use Rattle.cedar_gate_types.specs.Policies.{policy_of}
 use Rattle.cedar_gate_accept.proofs.Fresh.{map_after}
-use Rattle.cedar_gate_accept.proofs.gate.ids_are_distinct.Goals as goal
+use Rattle.cedar_gate_accept.proofs.policies.ids_are_distinct.Goals as goal
 
 pub returns : goal.returns
 returns c =
