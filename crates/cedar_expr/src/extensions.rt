@@ -27,10 +27,13 @@ pub struct ExtensionFunction {
 
 impl ExtensionFunction {
     ghost use Rattle.std.specs.Prelude.{◌≡◌};
-    ghost use Rattle.cedar_expr.specs.Table.{has_result_type};
+    ghost use Rattle.cedar_expr_names.specs.Views.{plain_name_of};
+    ghost use Rattle.cedar_expr.specs.Table.{has_result_type, function_name};
 
     /// The name of the function.
-    pub fn name(&self) -> &Name {
+    pub fn name(&self) -> &Name
+        ensures { plain_name_of result.now ≡ function_name self.now }
+    {
         &self.name
     }
 

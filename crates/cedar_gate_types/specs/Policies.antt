@@ -41,12 +41,13 @@ body_tree (Some e) = tree_of e
 
 abbrev pub policy_of : Policy → model.Policy
 policy_of p = record {
-    id = id_text p.id;
-    effect = effect_of p.effect;
-    principal = scope_of p.principal_constraint.constraint;
-    action = action_scope_of p.action_constraint;
-    resource = scope_of p.resource_constraint.constraint;
-    body = body_tree p.body }
+  id = id_text p.id;
+  effect = effect_of p.effect;
+  principal = scope_of p.principal_constraint.constraint;
+  action = action_scope_of p.action_constraint;
+  resource = scope_of p.resource_constraint.constraint;
+  body = body_tree p.body;
+}
 
 abbrev pub policies_of : List Policy → List model.Policy
 policies_of ps = map policy_of ps

@@ -24,6 +24,7 @@ error_of (PolicyEvaluationError id error) = record { id = id_text id; fault = fa
 -- a response as an answer
 abbrev pub response_of : Response → answer.Answer
 response_of r = record {
-    decision = decision_of r.decision;
-    reasons = map id_text r.diagnostics.reason.items;
-    errors = map error_of r.diagnostics.errors.items }
+  decision = decision_of r.decision;
+  reasons = map id_text r.diagnostics.reason.items;
+  errors = map error_of r.diagnostics.errors.items;
+}

@@ -17,7 +17,6 @@ use Rattle.cedar_gate_types.specs.declared.json_schema.EntityType.TheVariants.{S
 use Rattle.cedar_gate_types.specs.declared.json_schema.ActionType.{ActionType}
 use Rattle.cedar_gate_types.specs.declared.json_schema.RecordType.{RecordType, out-RecordType}
 
-
 -- a name in a namespace, or in the empty one
 abbrev pub qualified : Option InternalName → Text → model.Name
 qualified None base = record { path = []; base = base }
@@ -28,9 +27,10 @@ type_declaration namespace t = record { name = qualified namespace (id_text t.0)
 
 abbrev pub action_declaration : Option InternalName → RcStr Global × ActionType → ActionDeclaration
 action_declaration namespace a = record {
-    uid = record { kind = qualified namespace action_word; id = rc_str_bytes a.0 };
-    principals = map raw_name_of a.1.applies_to.principal_types.items;
-    resources = map raw_name_of a.1.applies_to.resource_types.items }
+  uid = record { kind = qualified namespace action_word; id = rc_str_bytes a.0 };
+  principals = map raw_name_of a.1.applies_to.principal_types.items;
+  resources = map raw_name_of a.1.applies_to.resource_types.items;
+}
 
 abbrev pub namespace_types : Option InternalName × NamespaceDefinition → List TypeDeclaration
 namespace_types n = map (type_declaration n.0) n.1.entity_types.items
@@ -41,8 +41,9 @@ namespace_actions n = map (action_declaration n.0) n.1.actions.items
 -- what the fragments declare, as one bag
 abbrev pub declarations_of : List Fragment → Declarations
 declarations_of fs = record {
-    types = flat_map (λ f. flat_map namespace_types f.namespaces.items) fs;
-    actions = flat_map (λ f. flat_map namespace_actions f.namespaces.items) fs }
+  types = flat_map (λ f. flat_map namespace_types f.namespaces.items) fs;
+  actions = flat_map (λ f. flat_map namespace_actions f.namespaces.items) fs;
+}
 
 -- the list has one item, which passes
 abbrev pub has_one : {X : Type 0} → (X → Bool) → List X → Bool

@@ -158,8 +158,13 @@ impl Policy {
         body: Option<Expr>,
     ) -> Policy
         ensures { policy_of result ≡ record {
-            id = id_text id; effect = effect_of effect; principal = scope_of principal_constraint.constraint;
-            action = action_scope_of action_constraint; resource = scope_of resource_constraint.constraint; body = body_tree body } }
+          id = id_text id;
+          effect = effect_of effect;
+          principal = scope_of principal_constraint.constraint;
+          action = action_scope_of action_constraint;
+          resource = scope_of resource_constraint.constraint;
+          body = body_tree body;
+        } }
     {
         Policy {
             id,
@@ -215,11 +220,17 @@ impl Policy {
             None => Expr::val(Literal::Bool(true)),
             Some(body) => body.clone()?,
         };
-        let resource = self.resource_constraint.constraint.as_expr(alloc, Var::Resource)?;
+        let resource = self
+            .resource_constraint
+            .constraint
+            .as_expr(alloc, Var::Resource)?;
         let resource_and_body = Expr::and(alloc, resource, body)?;
         let action = self.action_constraint.as_expr(alloc)?;
         let action_and_rest = Expr::and(alloc, action, resource_and_body)?;
-        let principal = self.principal_constraint.constraint.as_expr(alloc, Var::Principal)?;
+        let principal = self
+            .principal_constraint
+            .constraint
+            .as_expr(alloc, Var::Principal)?;
         Expr::and(alloc, principal, action_and_rest)
     }
 }
