@@ -10,6 +10,7 @@ use Rattle.cedar_expr_names.specs.declared.loc.Loc.{Loc}
 use Rattle.cedar_expr_names.specs.declared.name.Name.{Name}
 use Rattle.cedar_expr_names.specs.declared.name.RawName.{RawName}
 use Rattle.cedar_expr_names.specs.declared.err.ReservedNameError.{ReservedNameError}
+use Rattle.cedar_expr_names.specs.declared.quoted.Quoted.{Quoted}
 use Rattle.cedar_expr_names.specs.declared.entity.EntityType.{EntityType}
 use Rattle.cedar_expr_names.specs.declared.entity.Eid.{Eid}
 use Rattle.cedar_expr_names.specs.declared.entity.EntityUID.{EntityUID}
@@ -58,3 +59,7 @@ uid_loc u = u.loc
 -- the name that was refused as reserved
 abbrev pub refused_name_of : ReservedNameError → model.Name
 refused_name_of e = name_of e.name
+
+-- the text that is shown in quotes
+abbrev pub quoted_text : Quoted → Text
+quoted_text q = q.0.now

@@ -1,13 +1,14 @@
 //! Entity types, ids and uids.
 
 ghost use Rattle.std.specs.Prelude.{◌≡◌, false, IfOk, IfErr, Some, None};
+ghost use Rattle.std.specs.Str.{bytes_eq};
 ghost use Rattle.std.specs.Rc.{rc_str_bytes};
-ghost use Rattle.cedar_expr_model.specs.Name.{name_read, name_text, is_reserved};
-ghost use Rattle.cedar_expr_model.specs.Uid.{uid_text, quoted};
+ghost use Rattle.cedar_expr_model.specs.Name.{name_read, name_text, name_eq, is_reserved};
+ghost use Rattle.cedar_expr_model.specs.Uid.{uid_eq, uid_text, quoted};
 ghost use Rattle.cedar_expr_names.specs.Views.{plain_name_of, plain_name_loc, type_name_of, type_loc, eid_text, uid_of, uid_loc};
 ghost use Rattle.cedar_expr_names.specs.Refusals.{RefusesPlainText};
 
-use crate::{Loc, Name, NameError};
+use crate::{Loc, Name, NameError, Quoted};
 use std::alloc::{AllocError, Global};
 use std::fmt;
 use std::fmt::{Display, Formatter, Write};
@@ -37,6 +38,13 @@ impl EntityType {
         Ok(EntityType(name))
     }
 
+    /// Whether this is the same type as the other: what `==` answers, which doesn't look at places.
+    pub fn same(&self, other: &EntityType) -> bool
+        ensures { result ≡ name_eq (type_name_of self.now) (type_name_of other.now) }
+    {
+        self == other
+    }
+
     /// The type's name.
     pub fn name(&self) -> &Name
         ensures value { plain_name_of result.now ≡ type_name_of self.now }
@@ -52,6 +60,14 @@ impl Clone for EntityType {
     fn clone(&self) -> Result<EntityType, AllocError> {
         let name = self.0.clone()?;
         Ok(EntityType(name))
+    }
+}
+
+impl Display for EntityType {
+    ghost output = { λ t. Some (name_text (type_name_of t)) };
+
+    fn fmt<W: Write>(&self, f: &mut Formatter<W>) -> fmt::Result {
+        Display::fmt(&self.0, f)
     }
 }
 
@@ -73,6 +89,13 @@ impl Eid {
     {
         let text = RcStr::from_str(alloc, text)?;
         Ok(Eid(text))
+    }
+
+    /// Whether this is the same id as the other: what `==` answers, which doesn't look at places.
+    pub fn same(&self, other: &Eid) -> bool
+        ensures { result ≡ bytes_eq (eid_text self.now) (eid_text other.now) }
+    {
+        self == other
     }
 
     /// The id's text.
@@ -116,6 +139,13 @@ impl EntityUID {
         }
     }
 
+    /// Whether this is the same entity as the other: what `==` answers, which doesn't look at places.
+    pub fn same(&self, other: &EntityUID) -> bool
+        ensures { result ≡ uid_eq (uid_of self.now) (uid_of other.now) }
+    {
+        self == other
+    }
+
     /// The entity's type.
     pub fn entity_type(&self) -> &EntityType
         ensures { type_name_of result.now ≡ (uid_of self.now).kind }
@@ -149,5 +179,18 @@ impl Clone for EntityUID {
             eid,
             loc: self.loc,
         })
+    }
+}
+
+impl Display for EntityUID {
+    ghost output = { λ u. Some (uid_text (uid_of u)) };
+
+    fn fmt<W: Write>(&self, f: &mut Formatter<W>) -> fmt::Result {
+        write!(
+            f,
+            "{}::{}",
+            self.entity_type,
+            Quoted::new(self.eid.as_str())
+        )
     }
 }

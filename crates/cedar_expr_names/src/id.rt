@@ -36,6 +36,13 @@ impl Id {
         Ok(Id { text })
     }
 
+    /// Whether this is the same identifier as the other: what `==` answers, which doesn't look at places.
+    pub fn same(&self, other: &Id) -> bool
+        ensures { result ≡ bytes_eq (id_text self.now) (id_text other.now) }
+    {
+        self == other
+    }
+
     /// The identifier's text.
     pub fn as_str(&self) -> &str
         ensures value { result.now ≡ id_text self.now }

@@ -2,7 +2,7 @@
 
 ghost use Rattle.std.specs.Prelude.{◌≡◌, ◌++◌, [], ◌∷◌, map, length, nat_eq, true, IfOk, IfErr, Some, None, MatchOption, ◌<◌};
 ghost use Rattle.cedar_expr_model.specs.Name as model;
-ghost use Rattle.cedar_expr_model.specs.Name.{name_read, name_text, is_identifier, is_reserved, reserved, parts};
+ghost use Rattle.cedar_expr_model.specs.Name.{name_read, name_text, name_eq, is_identifier, is_reserved, reserved, parts};
 ghost use Rattle.std.specs.List.{list_any};
 ghost use Rattle.std.specs.Str.{bytes_eq};
 ghost use Rattle.cedar_expr_names.specs.Views.{id_text, name_of, name_loc};
@@ -79,6 +79,13 @@ impl InternalName {
         ensures { result ≡ is_reserved (name_of self.now) }
     {
         any_reserved(self.path.as_slice()) || self.id.is_reserved()
+    }
+
+    /// Whether this is the same name as the other: what `==` answers, which doesn't look at places.
+    pub fn same(&self, other: &InternalName) -> bool
+        ensures { result ≡ name_eq (name_of self.now) (name_of other.now) }
+    {
+        self == other
     }
 
     /// The name's place.

@@ -7,6 +7,7 @@ mod id;
 mod internal_name;
 mod loc;
 mod name;
+mod quoted;
 
 pub use entity::{Eid, EntityType, EntityUID};
 pub use err::{NameError, ReservedNameError};
@@ -14,3 +15,7 @@ pub use id::{Id, is_normalized_ident};
 pub use internal_name::InternalName;
 pub use loc::Loc;
 pub use name::{Name, RawName};
+pub use quoted::Quoted;
+
+#[cfg(test)]
+mod tests;

@@ -18,7 +18,7 @@ pub struct Name {
 
 impl Name {
     ghost use Rattle.std.specs.Prelude.{true, IfOk, IfErr, Some, None};
-    ghost use Rattle.cedar_expr_model.specs.Name.{name_read};
+    ghost use Rattle.cedar_expr_model.specs.Name.{name_eq, name_read};
     ghost use Rattle.cedar_expr_names.specs.Views.{name_loc, plain_name_of, refused_name_of, plain_name_loc};
     ghost use Rattle.cedar_expr_names.specs.Refusals.{RefusesPlainText};
 
@@ -45,6 +45,13 @@ impl Name {
             return Err(ReservedNameError::new(internal));
         }
         Ok(Name { internal })
+    }
+
+    /// Whether this is the same name as the other: what `==` answers, which doesn't look at places.
+    pub fn same(&self, other: &Name) -> bool
+        ensures { result ≡ name_eq (plain_name_of self.now) (plain_name_of other.now) }
+    {
+        self == other
     }
 
     /// The name as one of any kind.
@@ -86,7 +93,7 @@ pub struct RawName(InternalName);
 
 impl RawName {
     ghost use Rattle.std.specs.Prelude.{[], ◌∷◌, map, IfOk, IfErr, Some, None};
-    ghost use Rattle.cedar_expr_model.specs.Name.{name_read};
+    ghost use Rattle.cedar_expr_model.specs.Name.{name_eq, name_read};
     ghost use Rattle.cedar_expr_names.specs.Views.{id_text, name_loc, raw_name_of, raw_name_loc};
     ghost use Rattle.cedar_expr_names.specs.Refusals.{RefusesText};
 
@@ -110,6 +117,13 @@ impl RawName {
         Ok(RawName(internal))
     }
 
+    /// Whether this is the same raw name as the other: what `==` answers, which doesn't look at places.
+    pub fn same(&self, other: &RawName) -> bool
+        ensures { result ≡ name_eq (raw_name_of self.now) (raw_name_of other.now) }
+    {
+        self == other
+    }
+
     /// The raw name as one of any kind.
     pub fn as_internal(&self) -> &InternalName
         ensures value { name_of result.now ≡ raw_name_of self.now }
@@ -127,5 +141,17 @@ impl Clone for RawName {
     fn clone(&self) -> Result<RawName, AllocError> {
         let internal = self.0.clone()?;
         Ok(RawName(internal))
+    }
+}
+
+impl Display for RawName {
+    ghost use Rattle.std.specs.Prelude.{Some};
+    ghost use Rattle.cedar_expr_model.specs.Name.{name_text};
+    ghost use Rattle.cedar_expr_names.specs.Views.{raw_name_of};
+
+    ghost output = { λ n. Some (name_text (raw_name_of n)) };
+
+    fn fmt<W: Write>(&self, f: &mut Formatter<W>) -> fmt::Result {
+        Display::fmt(&self.0, f)
     }
 }
