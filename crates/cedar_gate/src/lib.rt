@@ -1,0 +1,6 @@
+//! The gate's sessions and runs: evaluation of conditions, the answer, what is asked of a host, the lines that are
+//! printed, and the service that reads a bundle and prints them.
+#![tactic(auto)]
+
+mod evaluator;
+
