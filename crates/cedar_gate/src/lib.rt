@@ -2,5 +2,5 @@
 //! printed, and the service that reads a bundle and prints them.
 #![tactic(auto)]
 
+mod answers;
 mod evaluator;
-
