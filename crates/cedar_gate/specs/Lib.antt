@@ -1,2 +1,4 @@
 pub mod Values
 pub mod Answers
+pub mod Transcripts
+pub mod Printing

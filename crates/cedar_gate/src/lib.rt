@@ -4,3 +4,5 @@
 
 mod answers;
 mod evaluator;
+mod lines;
+pub mod transcript;
