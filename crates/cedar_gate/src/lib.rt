@@ -5,4 +5,5 @@
 mod answers;
 mod evaluator;
 mod lines;
+mod output;
 pub mod transcript;

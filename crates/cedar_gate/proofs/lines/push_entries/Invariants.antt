@@ -6,6 +6,7 @@ use Rattle.cedar_gate.proofs.lines.push_entries.Given as goal
 
 abbrev pub invariant-loop-entry : goal.invariant-loop-entry
 invariant-loop-entry l = record {
-    counted : l.rounds ≤ l.entry-index;
-    written : string_bytes l.out ++ entry_lines (l.rounds + 1) (entries_of (drop l.entry-index l.entries))
-        ≡ string_bytes l.initial.out ++ entry_lines 1 (entries_of l.entries) }
+  counted : l.rounds ≤ l.entry-index;
+  written : string_bytes l.out ++ entry_lines (l.rounds + 1) (entries_of (drop l.entry-index l.entries))
+      ≡ string_bytes l.initial.out ++ entry_lines 1 (entries_of l.entries);
+}
