@@ -3,3 +3,5 @@ pub mod Slice
 pub mod Transcript
 pub mod Bundle
 pub mod Lines
+pub mod Laws
+pub mod Worked

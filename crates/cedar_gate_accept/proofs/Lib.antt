@@ -1,0 +1,5 @@
+pub mod Lists
+pub mod Depth
+pub mod Fresh
+pub mod Types
+pub mod Declaring

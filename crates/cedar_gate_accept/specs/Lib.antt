@@ -1,0 +1,4 @@
+pub mod Schema
+pub mod Typing
+pub mod Faults
+pub mod Verdict
