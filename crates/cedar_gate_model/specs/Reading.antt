@@ -34,7 +34,7 @@ may_be key test d = unwrap_or (option_map test (get key d)) true
 -- each key is one of these
 abbrev pub are_among : List Text → Members → Bool
 are_among keys no_members = true
-are_among keys (member k d ms) = list_any (bytes_eq k) keys && are_among keys ms
+are_among keys (member k d ms) = list_any (λ key. bytes_eq key k) keys && are_among keys ms
 
 -- an object that has no other key than these
 abbrev pub has_only : List Text → Data → Bool
