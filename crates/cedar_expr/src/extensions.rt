@@ -1,0 +1,71 @@
+//! The table of extension functions.
+
+ghost use Rattle.std.specs.Prelude.{◌≡◌};
+
+use cedar_expr_names::{EntityType, Name};
+
+/// The core type of a value.
+#[derive(Drop)]
+pub enum Type {
+    /// Truth values.
+    Bool,
+    /// Whole numbers.
+    Long,
+    /// Entities of one type.
+    Entity {
+        /// The type of the entities.
+        ty: EntityType,
+    },
+}
+
+/// A function of the table. It has a result type, or none where that is open.
+#[derive(Drop)]
+pub struct ExtensionFunction {
+    name: Name,
+    return_type: Option<Type>,
+}
+
+impl ExtensionFunction {
+    ghost use Rattle.std.specs.Prelude.{◌≡◌};
+    ghost use Rattle.cedar_expr.specs.Table.{has_result_type};
+
+    /// The name of the function.
+    pub fn name(&self) -> &Name {
+        &self.name
+    }
+
+    /// Whether the function has a result type.
+    pub fn is_typed(&self) -> bool
+        ensures { result ≡ has_result_type self.now }
+    {
+        self.return_type.is_some()
+    }
+}
+
+/// A table of extension functions. It borrows them.
+#[derive(Clone, Copy)]
+pub struct Extensions<'a> {
+    functions: &'a [ExtensionFunction],
+}
+
+/// The table under its other name.
+pub type ExtTable<'a> = Extensions<'a>;
+
+impl<'a> Extensions<'a> {
+    ghost use Rattle.std.specs.Prelude.{◌≡◌, []};
+    ghost use Rattle.cedar_expr.specs.Table.{functions_of, all_typed};
+
+    /// The empty table.
+    pub fn none() -> Extensions<'a>
+        ensures { functions_of result ≡ [] }
+    {
+        Extensions { functions: &[] }
+    }
+
+    /// Whether each function of the table has a result type. It is so of the empty table.
+    pub fn all_typed(&self) -> bool
+        ensures { result ≡ all_typed self.now }
+    {
+        self.functions.iter().all(|f| f.is_typed())
+    }
+}

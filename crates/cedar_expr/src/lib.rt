@@ -1,0 +1,13 @@
+//! Cedar's expressions: trees with places and data, their constructors, and the table of extension functions.
+#![tactic(auto)]
+
+pub mod expr;
+pub mod extensions;
+pub mod literal;
+pub mod ops;
+
+pub use cedar_expr_names::{Eid, EntityType, EntityUID, Id, InternalName, Loc, Name, RawName};
+pub use expr::{Expr, ExprKind, Var};
+pub use extensions::{ExtTable, ExtensionFunction, Extensions, Type};
+pub use literal::Literal;
+pub use ops::{BinaryOp, UnaryOp};

@@ -1,0 +1,5 @@
+pub mod Limit
+pub mod Requests
+pub mod Policies
+pub mod Schemas
+pub mod Responses

@@ -1,0 +1,32 @@
+-- What the code's requests, entities and steps are as the model's.
+use Rattle.std.specs.Prelude.{List, map}
+use Rattle.cedar_expr_names.specs.Views.{uid_of}
+use Rattle.cedar_expr_model.specs.Uid.{Uid}
+use Rattle.cedar_store_model.specs.World as model
+use Rattle.cedar_gate_model.specs.Transcript as run
+use Rattle.cedar_gate_types.specs.declared.entities.Entity.{Entity}
+use Rattle.cedar_gate_types.specs.declared.request.EntityUIDEntry.{EntityUIDEntry}
+use Rattle.cedar_gate_types.specs.declared.request.EntityUIDEntry.TheVariants.{Known}
+use Rattle.cedar_gate_types.specs.declared.request.Request.{Request}
+use Rattle.cedar_gate_types.specs.declared.step.Step.{Step}
+use Rattle.cedar_gate_types.specs.declared.step.Step.TheVariants.{Load, Decide}
+
+abbrev pub entity_uid : Entity → Uid
+entity_uid e = uid_of e.uid
+
+-- the uids of a list of entities
+abbrev pub entity_uids : List Entity → List Uid
+entity_uids es = map entity_uid es
+
+abbrev pub entry_uid : EntityUIDEntry → Uid
+entry_uid (Known euid loc) = uid_of euid.value
+
+abbrev pub request_of : Request → model.Request
+request_of r = record { principal = entry_uid r.principal; action = entry_uid r.action; resource = entry_uid r.resource }
+
+abbrev pub step_of : Step → run.Step
+step_of Load = run.load
+step_of Decide = run.decide
+
+abbrev pub steps_of : List Step → List run.Step
+steps_of steps = map step_of steps

@@ -1,0 +1,21 @@
+//! The types that the gate's calls name: policies, declarations, requests, entities, steps and responses.
+#![tactic(auto)]
+
+pub mod entities;
+pub mod json_schema;
+pub mod nest_limit;
+pub mod policy;
+pub mod request;
+pub mod response;
+pub mod step;
+
+pub use entities::Entity;
+pub use json_schema::Fragment;
+pub use nest_limit::NestLimit;
+pub use policy::{
+    ActionConstraint, Effect, EntityReference, Policy, PolicyID, PrincipalConstraint,
+    PrincipalOrResourceConstraint, ResourceConstraint,
+};
+pub use request::{EntityUIDEntry, Request};
+pub use response::{AuthorizationError, Decision, Diagnostics, EvaluationError, Response};
+pub use step::Step;

@@ -1,0 +1,10 @@
+//! The steps of a run.
+
+/// A step of a run.
+#[derive(Clone, Copy, Debug, PartialEq, Eq)]
+pub enum Step {
+    /// Load what is wanted.
+    Load,
+    /// Ask for a decision.
+    Decide,
+}
