@@ -71,9 +71,9 @@ abbrev pub members_of : {A : Type 0} → (Text → Data → Option A) → Data �
 members_of read d = given (as_object d) (each_member read)
 
 -- a whole number of 64 bits with its sign
-abbrev pub long_of : Data → Option ℤ
-long_of d = option_and_then as_i64 (as_number d)
+abbrev pub long_read : Data → Option ℤ
+long_read d = option_and_then as_i64 (as_number d)
 
 -- a whole number that is not negative
-abbrev pub count_of : Data → Option ℕ
-count_of d = option_and_then as_u64 (as_number d)
+abbrev pub count_read : Data → Option ℕ
+count_read d = option_and_then as_u64 (as_number d)

@@ -10,16 +10,20 @@ use Rattle.cedar_expr_model.specs.Tree.{Tree, lit, var, unary, binary, Var, prin
 use Rattle.cedar_gate_model.specs.Reading.{given}
 
 -- a name of the grammar
-abbrev pub name_of : Data → Option Name
-name_of d = given (as_str d) name_read
+abbrev pub any_name_read : Data → Option Name
+any_name_read d = given (as_str d) name_read
 
 -- the name, unless it is reserved
 abbrev pub unless_reserved : Name → Option Name
 unless_reserved n = if is_reserved n then None else Some n
 
--- the uid of this type and this id: outside a schema a reserved name is no type
+-- a type outside a schema, where a reserved name is none
+abbrev pub type_name_read : Data → Option Name
+type_name_read d = given (any_name_read d) unless_reserved
+
+-- the uid of this type and this id
 abbrev pub uid_from : Data → Data → Option Uid
-uid_from kind id = given (given (name_of kind) unless_reserved) (λ n. option_map (λ text. record { kind = n; id = text }) (as_str id))
+uid_from kind id = given (type_name_read kind) (λ n. option_map (λ text. record { kind = n; id = text }) (as_str id))
 
 -- a list of a type and an id
 abbrev pub uid_in : Items → Option Uid
@@ -28,8 +32,8 @@ uid_in (item kind (item id (item d ds))) = None
 uid_in (item kind no_items) = None
 uid_in no_items = None
 
-abbrev pub uid_of : Data → Option Uid
-uid_of d = given (as_array d) uid_in
+abbrev pub uid_read : Data → Option Uid
+uid_read d = given (as_array d) uid_in
 
 -- the variable of this name
 abbrev pub var_named : Text → Option Var
@@ -51,37 +55,42 @@ with_one x word =
     else (if bytes_eq word (codes "not") then option_map (unary negation) x.tree
     else None)
 
+-- how the word joins two expressions
+abbrev pub joint_named : Text → Option (Tree → Tree → Tree)
+joint_named word =
+    if bytes_eq word (codes "and") then Some conjunction
+    else (if bytes_eq word (codes "eq") then Some (binary equal)
+    else (if bytes_eq word (codes "less") then Some (binary less)
+    else None))
+
 -- two expressions joined, if both are there
-abbrev pub both_by : (Tree → Tree → Tree) → Part → Part → Option Tree
-both_by join x y = given x.tree (λ left. option_map (join left) y.tree)
+abbrev pub both_by : Part → Part → (Tree → Tree → Tree) → Option Tree
+both_by x y join = given x.tree (λ left. option_map (join left) y.tree)
 
 -- a word with two parts
 abbrev pub with_two : Part → Part → Text → Option Tree
 with_two x y word =
     if bytes_eq word (codes "uid") then option_map (λ u. lit (entity u)) (uid_from x.json y.json)
-    else (if bytes_eq word (codes "and") then both_by conjunction x y
-    else (if bytes_eq word (codes "eq") then both_by (binary equal) x y
-    else (if bytes_eq word (codes "less") then both_by (binary less) x y
-    else None)))
+    else given (joint_named word) (both_by x y)
 
 -- a list that begins with a word
-abbrev pub form_of : List Part → Option Tree
-form_of [] = None
-form_of (w ∷ []) = None
-form_of (w ∷ x ∷ []) = given (as_str w.json) (with_one x)
-form_of (w ∷ x ∷ y ∷ []) = given (as_str w.json) (with_two x y)
-form_of (w ∷ x ∷ y ∷ z ∷ more) = None
+abbrev pub form_read : List Part → Option Tree
+form_read [] = None
+form_read (w ∷ []) = None
+form_read (w ∷ x ∷ []) = given (as_str w.json) (with_one x)
+form_read (w ∷ x ∷ y ∷ []) = given (as_str w.json) (with_two x y)
+form_read (w ∷ x ∷ y ∷ z ∷ more) = None
 
 -- An expression: a truth value, a whole number, or a list that begins with a word. A text is none.
 abbrev mutual
-  pub expression_of : Data → Option Tree
-  expression_of null = None
-  expression_of (boolean b) = Some (lit (truth b))
-  expression_of (number n) = option_map (λ z. lit (long z)) (as_i64 n)
-  expression_of (string s) = None
-  expression_of (array ds) = form_of (parts_in ds)
-  expression_of (object ms) = None
+  pub expression_read : Data → Option Tree
+  expression_read null = None
+  expression_read (boolean b) = Some (lit (truth b))
+  expression_read (number n) = option_map (λ z. lit (long z)) (as_i64 n)
+  expression_read (string s) = None
+  expression_read (array ds) = form_read (parts_in ds)
+  expression_read (object ms) = None
 
   pub parts_in : Items → List Part
   parts_in no_items = []
-  parts_in (item d ds) = record { json = d; tree = expression_of d } ∷ parts_in ds
+  parts_in (item d ds) = record { json = d; tree = expression_read d } ∷ parts_in ds

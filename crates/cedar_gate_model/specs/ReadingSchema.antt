@@ -6,7 +6,7 @@ use Rattle.cedar_expr_model.specs.Name.{Text, Name, is_identifier}
 use Rattle.cedar_expr_model.specs.Uid.{Uid}
 use Rattle.cedar_schema_model.specs.Declarations.{Declarations, TypeDeclaration, ActionDeclaration, action_word}
 use Rattle.cedar_gate_model.specs.Reading.{given, required, optional, has_at, may_be, has_only, is_empty_object, is_empty_list, list_of, members_of}
-use Rattle.cedar_gate_model.specs.ReadingExpression.{name_of}
+use Rattle.cedar_gate_model.specs.ReadingExpression.{any_name_read}
 
 -- a name without a path
 abbrev pub plain : Text → Name
@@ -20,8 +20,8 @@ abbrev pub is_bare_type : Data → Bool
 is_bare_type d = has_only type_keys d && (may_be (codes "parents") is_empty_list d && may_be (codes "attrs") is_empty_object d)
 
 -- A declared entity type. Its key is one identifier.
-abbrev pub entity_type_of : Text → Data → Option TypeDeclaration
-entity_type_of key d = if is_identifier key && is_bare_type d then Some (record { name = plain key }) else None
+abbrev pub entity_type_read : Text → Data → Option TypeDeclaration
+entity_type_read key d = if is_identifier key && is_bare_type d then Some (record { name = plain key }) else None
 
 -- the type of records without fields
 abbrev pub is_empty_record : Data → Bool
@@ -39,27 +39,27 @@ abbrev pub action_uid : Text → Uid
 action_uid id = record { kind = plain action_word; id = id }
 
 -- a declared action
-abbrev pub action_of : Text → Data → Option ActionDeclaration
-action_of id d =
-    if is_bare_action d then given (optional (codes "principals") (list_of name_of) [] d) (λ principals.
+abbrev pub action_read : Text → Data → Option ActionDeclaration
+action_read id d =
+    if is_bare_action d then given (optional (codes "principals") (list_of any_name_read) [] d) (λ principals.
     option_map (λ resources. record { uid = action_uid id; principals = principals; resources = resources })
-    (optional (codes "resources") (list_of name_of) [] d))
+    (optional (codes "resources") (list_of any_name_read) [] d))
     else None
 
 abbrev pub namespace_keys : List Text
 namespace_keys = codes "commonTypes" ∷ codes "entityTypes" ∷ codes "actions" ∷ []
 
 -- what a namespace declares: entity types and actions
-abbrev pub namespace_of : Data → Option Declarations
-namespace_of d =
+abbrev pub namespace_read : Data → Option Declarations
+namespace_read d =
     if has_only namespace_keys d && may_be (codes "commonTypes") is_empty_object d then
-    given (optional (codes "entityTypes") (members_of entity_type_of) [] d) (λ types.
-    option_map (λ actions. record { types = types; actions = actions }) (optional (codes "actions") (members_of action_of) [] d))
+    given (optional (codes "entityTypes") (members_of entity_type_read) [] d) (λ types.
+    option_map (λ actions. record { types = types; actions = actions }) (optional (codes "actions") (members_of action_read) [] d))
     else None
 
 -- a fragment, which has the empty namespace alone
-abbrev pub fragment_of : Data → Option Declarations
-fragment_of d = if has_only ([] ∷ []) d then required [] namespace_of d else None
+abbrev pub fragment_read : Data → Option Declarations
+fragment_read d = if has_only ([] ∷ []) d then required [] namespace_read d else None
 
 -- the one item
 abbrev pub only_item : Items → Option Data
@@ -68,5 +68,5 @@ only_item (item d no_items) = Some d
 only_item (item d (item e ds)) = None
 
 -- a schema, which is one fragment
-abbrev pub schema_of : Data → Option Declarations
-schema_of d = given (given (as_array d) only_item) fragment_of
+abbrev pub schema_read : Data → Option Declarations
+schema_read d = given (given (as_array d) only_item) fragment_read
