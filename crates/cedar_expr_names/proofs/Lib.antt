@@ -1,0 +1,4 @@
+pub mod Equality
+mod Splitting
+mod Reading
+mod Writing

@@ -1,0 +1,24 @@
+-- What a refusal of a text or a name says.
+use Rattle.std.specs.Prelude.{◌≡◌, true, false, Option, Some, None}
+use Rattle.cedar_expr_model.specs.Name.{Text, name_read, is_identifier, is_reserved}
+use Rattle.cedar_expr_names.specs.declared.err.NameError.{NameError}
+use Rattle.cedar_expr_names.specs.declared.err.NameError.TheVariants.{OutOfMemory, NotNormalized, Reserved}
+use Rattle.cedar_expr_names.specs.Views.{refused_name_of}
+
+-- The fault is there where the text is read as an identifier. Want of memory says nothing.
+abbrev pub RefusesIdentifier : Text → NameError → Type 0
+RefusesIdentifier text OutOfMemory = Unit {0}
+RefusesIdentifier text NotNormalized = is_identifier text ≡ false
+RefusesIdentifier text (Reserved e) = ⊥
+
+-- The fault is there where the text is read as any name.
+abbrev pub RefusesText : Text → NameError → Type 0
+RefusesText text OutOfMemory = Unit {0}
+RefusesText text NotNormalized = name_read text ≡ None
+RefusesText text (Reserved e) = ⊥
+
+-- The fault is there where the text is read as a name that is not reserved.
+abbrev pub RefusesPlainText : Text → NameError → Type 0
+RefusesPlainText text OutOfMemory = Unit {0}
+RefusesPlainText text NotNormalized = name_read text ≡ None
+RefusesPlainText text (Reserved e) = (name_read text ≡ Some (refused_name_of e)) × (is_reserved (refused_name_of e) ≡ true)

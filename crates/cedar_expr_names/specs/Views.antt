@@ -1,0 +1,65 @@
+-- What the types of this crate hold, as the model's texts, names and uids.
+pub use Rattle.cedar_expr_names.specs.Parts.{id_text, name_of, name_loc}
+use Rattle.std.specs.Prelude.{ℕ, Option}
+use Rattle.std.specs.Rc.{rc_str_bytes}
+use Rattle.cedar_expr_model.specs.Name as model
+use Rattle.cedar_expr_model.specs.Name.{Text}
+use Rattle.cedar_expr_model.specs.Uid.{Uid}
+use Rattle.cedar_expr_names.specs.Parts.{name_of, name_loc}
+use Rattle.cedar_expr_names.specs.declared.loc.Loc.{Loc}
+use Rattle.cedar_expr_names.specs.declared.name.Name.{Name}
+use Rattle.cedar_expr_names.specs.declared.name.RawName.{RawName}
+use Rattle.cedar_expr_names.specs.declared.err.ReservedNameError.{ReservedNameError}
+use Rattle.cedar_expr_names.specs.declared.quoted.Quoted.{Quoted}
+use Rattle.cedar_expr_names.specs.declared.entity.EntityType.{EntityType}
+use Rattle.cedar_expr_names.specs.declared.entity.Eid.{Eid}
+use Rattle.cedar_expr_names.specs.declared.entity.EntityUID.{EntityUID}
+
+-- where a place begins and ends
+abbrev pub loc_start : Loc → ℕ
+loc_start l = l.start
+
+abbrev pub loc_end : Loc → ℕ
+loc_end l = l.end
+
+-- the name that is not reserved
+abbrev pub plain_name_of : Name → model.Name
+plain_name_of n = name_of n.internal
+
+-- the name of a schema before it is resolved
+abbrev pub raw_name_of : RawName → model.Name
+raw_name_of n = name_of n.0
+
+-- the places of these
+abbrev pub plain_name_loc : Name → Option Loc
+plain_name_loc n = name_loc n.internal
+
+abbrev pub raw_name_loc : RawName → Option Loc
+raw_name_loc n = name_loc n.0
+
+abbrev pub type_loc : EntityType → Option Loc
+type_loc t = plain_name_loc t.0
+
+-- the name of an entity type
+abbrev pub type_name_of : EntityType → model.Name
+type_name_of t = plain_name_of t.0
+
+-- the text of an entity's id
+abbrev pub eid_text : Eid → Text
+eid_text e = rc_str_bytes e.0
+
+-- the uid that a code uid holds
+abbrev pub uid_of : EntityUID → Uid
+uid_of u = record { kind = type_name_of u.entity_type; id = eid_text u.eid }
+
+-- the place of a code uid
+abbrev pub uid_loc : EntityUID → Option Loc
+uid_loc u = u.loc
+
+-- the name that was refused as reserved
+abbrev pub refused_name_of : ReservedNameError → model.Name
+refused_name_of e = name_of e.name
+
+-- the text that is shown in quotes
+abbrev pub quoted_text : Quoted → Text
+quoted_text q = q.0.now
