@@ -4,7 +4,9 @@ use Rattle.serde_json.specs.Data.{Data, array, no_items, item}
 use Rattle.serde_json.specs.View.{view, items_view}
 use Rattle.serde_json.specs.declared.value.Value.{Value, Array, the_lemmas}
 use Rattle.serde_json.proofs.Views.{view-Array}
-use Rattle.cedar_gate_model.specs.ReadingExpression.{uid_read, expression_read}
+use Rattle.cedar_gate_model.specs.ReadingExpression.{uid_read, expression_read, Part, with_one, with_two}
+use Rattle.cedar_gate_model.specs.Reading.{given}
+use Rattle.serde_json.specs.Find.{as_str}
 
 seen_as : (v : Value) (items : Vec Value Global) (s : List Value) → v ≡ Array items → s ≡ items.items → view v ≡ array (items_view s)
 seen_as v items s is e = ap view is ∙ view-Array items ∙ ap (λ xs. array (items_view xs)) (sym e)
@@ -30,6 +32,19 @@ two v items s a b is e low high p q = seen_as v items s is e ∙ ap (λ xs. arra
 pub three : (v : Value) (items : Vec Value Global) (s : List Value) (a b d : Value) → v ≡ Array items → s ≡ items.items
     → 3 ≤ length s → length s < 4 → a ≡ get_or s 0 a → b ≡ get_or s 1 b → d ≡ get_or s 2 d → view v ≡ array (item (view a) (item (view b) (item (view d) no_items)))
 three v items s a b d is e low high p q r = seen_as v items s is e ∙ ap (λ xs. array (items_view xs)) (three_are s a b d low high p q r)
+
+-- what a value is as a part of an expression
+abbrev pub part : Value → Part
+part v = record { json = view v; tree = expression_read (view v) }
+
+-- An expression of two items is a word with one part, one of three a word with two.
+pub one_part : (v : Value) (items : Vec Value Global) (s : List Value) (a b : Value) → v ≡ Array items → s ≡ items.items
+    → 2 ≤ length s → length s < 3 → a ≡ get_or s 0 a → b ≡ get_or s 1 b → expression_read (view v) ≡ given (as_str (view a)) (with_one (part b))
+one_part v items s a b is e low high p q = ap expression_read (two v items s a b is e low high p q)
+
+pub two_parts : (v : Value) (items : Vec Value Global) (s : List Value) (a b d : Value) → v ≡ Array items → s ≡ items.items
+    → 3 ≤ length s → length s < 4 → a ≡ get_or s 0 a → b ≡ get_or s 1 b → d ≡ get_or s 2 d → expression_read (view v) ≡ given (as_str (view a)) (with_two (part b) (part d))
+two_parts v items s a b d is e low high p q r = ap expression_read (three v items s a b d is e low high p q r)
 
 -- A list of another length is no uid.
 no_uid_in_one : (xs : List Value) → length xs < 2 → uid_read (array (items_view xs)) ≡ None
