@@ -1,10 +1,13 @@
 -- Lists of few items, which the code tells by a pattern.
-use Rattle.std.proofs.Common.{◌≡◌, ℕ, ◌<◌, ◌≤◌, List, [], ◌∷◌, length, get_or, Option, None, Vec, Global, arith, refl, ap, sym, ◌∙◌}
+use Rattle.std.proofs.Common.{◌≡◌, ℕ, ◌<◌, ◌≤◌, List, [], ◌∷◌, length, get_or, Option, Some, None, false, codes, rules, Vec, Global, arith, refl, ap, sym, ◌∙◌}
 use Rattle.serde_json.specs.Data.{Data, array, no_items, item}
 use Rattle.serde_json.specs.View.{view, items_view}
 use Rattle.serde_json.specs.declared.value.Value.{Value, Array, the_lemmas}
 use Rattle.serde_json.proofs.Views.{view-Array}
-use Rattle.cedar_gate_model.specs.ReadingExpression.{uid_read, expression_read, Part, with_one, with_two}
+use Rattle.cedar_gate_model.specs.ReadingExpression.{uid_read, expression_read, Part, with_one, with_two, joint_named, both_by}
+use Rattle.cedar_expr_model.specs.Tree.{Tree}
+use Rattle.std.specs.Str.{bytes_eq}
+use Rattle.std.proofs.lemmas.Slice.Eq.{bytes_eq-Decides}
 use Rattle.cedar_gate_model.specs.Reading.{given}
 use Rattle.serde_json.specs.Find.{as_str}
 
@@ -37,14 +40,16 @@ three v items s a b d is e low high p q r = seen_as v items s is e ∙ ap (λ xs
 abbrev pub part : Value → Part
 part v = record { json = view v; tree = expression_read (view v) }
 
--- An expression of two items is a word with one part, one of three a word with two.
-pub one_part : (v : Value) (items : Vec Value Global) (s : List Value) (a b : Value) → v ≡ Array items → s ≡ items.items
-    → 2 ≤ length s → length s < 3 → a ≡ get_or s 0 a → b ≡ get_or s 1 b → expression_read (view v) ≡ given (as_str (view a)) (with_one (part b))
-one_part v items s a b is e low high p q = ap expression_read (two v items s a b is e low high p q)
+apart : (a b : List ℕ) → (a ≡ b → ⊥) → bytes_eq a b ≡ false
+apart a b ne = search (rules, bytes_eq-Decides a b)
 
-pub two_parts : (v : Value) (items : Vec Value Global) (s : List Value) (a b d : Value) → v ≡ Array items → s ≡ items.items
-    → 3 ≤ length s → length s < 4 → a ≡ get_or s 0 a → b ≡ get_or s 1 b → d ≡ get_or s 2 d → expression_read (view v) ≡ given (as_str (view a)) (with_two (part b) (part d))
-two_parts v items s a b d is e low high p q r = ap expression_read (three v items s a b d is e low high p q r)
+-- another word than these has no meaning with one part
+pub other_word : (p : Part) (word : List ℕ) → (word ≡ codes "not" → ⊥) → (word ≡ codes "var" → ⊥) → with_one p word ≡ None
+other_word p word a b = rw (apart word (codes "var") b, apart word (codes "not") a)
+
+-- a word that joins two expressions
+pub joining_word : (p q : Part) (word : List ℕ) (join : Tree → Tree → Tree) → (word ≡ codes "uid" → ⊥) → joint_named word ≡ Some join → with_two p q word ≡ both_by p q join
+joining_word p q word join a e = rw (apart word (codes "uid") a, e)
 
 -- A list of another length is no uid.
 no_uid_in_one : (xs : List Value) → length xs < 2 → uid_read (array (items_view xs)) ≡ None
