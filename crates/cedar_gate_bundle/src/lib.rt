@@ -6,5 +6,7 @@ mod fault;
 mod lists;
 mod names;
 mod objects;
+mod policies;
+mod requests;
 
 pub use fault::ReadFault;

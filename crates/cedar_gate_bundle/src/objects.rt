@@ -4,7 +4,7 @@ ghost use Rattle.std.specs.List.{list_any};
 ghost use Rattle.std.specs.Str.{bytes_eq};
 ghost use Rattle.serde_json.specs.Find.{get};
 ghost use Rattle.serde_json.specs.View.{view, items_view, members_view};
-ghost use Rattle.cedar_gate_model.specs.Reading.{has_only, are_among, is_without_items, is_empty_object, is_empty_list};
+ghost use Rattle.cedar_gate_model.specs.Reading.{has_only, may_be, are_among, is_without_items, is_empty_object, is_empty_list};
 ghost use Rattle.cedar_gate_bundle.specs.declared.fault.ReadFault.TheVariants.{Unreadable};
 
 use crate::fault::ReadFault;
@@ -67,6 +67,26 @@ fn is_without_items(items: &[Value]) -> bool
     ensures { result ≡ is_without_items (items_view items.now) }
 {
     items.is_empty()
+}
+
+/// Whether there is an empty object at the key, or the key lacks.
+pub(crate) fn may_be_empty_object(value: &Value, key: &str) -> bool
+    ensures { result ≡ may_be key.now is_empty_object (view value.now) }
+{
+    match value.get(key) {
+        None => true,
+        Some(member) => is_empty_object(member),
+    }
+}
+
+/// Whether there is an empty list at the key, or the key lacks.
+pub(crate) fn may_be_empty_list(value: &Value, key: &str) -> bool
+    ensures { result ≡ may_be key.now is_empty_list (view value.now) }
+{
+    match value.get(key) {
+        None => true,
+        Some(member) => is_empty_list(member),
+    }
 }
 
 /// The value at the key.

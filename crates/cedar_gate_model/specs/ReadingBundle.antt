@@ -28,17 +28,25 @@ effect_named word =
 abbrev pub effect_read : Data → Option Effect
 effect_read d = given (as_str d) effect_named
 
--- one part of a policy's scope: the uid that it has to be
+-- the uid that a part of a scope has to be
+abbrev pub scope_uid_read : Data → Option Uid
+scope_uid_read d = if has_only (codes "eq" ∷ []) d then required (codes "eq") uid_read d else None
+
+-- one part of a policy's scope
 abbrev pub scope_read : Data → Option Scope
-scope_read d = if has_only (codes "eq" ∷ []) d then option_map exactly (required (codes "eq") uid_read d) else None
+scope_read d = option_map exactly (scope_uid_read d)
 
 abbrev pub policy_keys : List Text
 policy_keys = codes "id" ∷ codes "effect" ∷ codes "principal" ∷ codes "action" ∷ codes "resource" ∷ codes "when" ∷ codes "link" ∷ []
 
+-- the keys of a policy alone, and no binding
+abbrev pub is_policy : Data → Bool
+is_policy d = has_only policy_keys d && may_be (codes "link") is_empty_object d
+
 -- A policy. A part of the scope that lacks is anything, and a body that lacks is `true`.
 abbrev pub policy_read : Data → Option Policy
 policy_read d =
-    if has_only policy_keys d && may_be (codes "link") is_empty_object d then
+    if is_policy d then
     given (required (codes "id") as_str d) (λ id.
     given (required (codes "effect") effect_read d) (λ effect.
     given (optional (codes "principal") scope_read any d) (λ principal.
@@ -51,10 +59,14 @@ policy_read d =
 abbrev pub request_keys : List Text
 request_keys = codes "principal" ∷ codes "action" ∷ codes "resource" ∷ codes "context" ∷ []
 
--- a request with an empty context
+-- the keys of a request alone, and an empty context
+abbrev pub is_request : Data → Bool
+is_request d = has_only request_keys d && may_be (codes "context") is_empty_object d
+
+-- a request
 abbrev pub request_read : Data → Option Request
 request_read d =
-    if has_only request_keys d && may_be (codes "context") is_empty_object d then
+    if is_request d then
     given (required (codes "principal") uid_read d) (λ principal.
     given (required (codes "action") uid_read d) (λ action.
     option_map (λ resource. record { principal = principal; action = action; resource = resource })
@@ -113,10 +125,14 @@ submission_read d =
     option_map (λ policies. record { declarations = declarations; policies = policies; level = level; limit = limit })
     (required (codes "policies") (list_of policy_read) d))))
 
+-- the keys of a bundle alone, of this version
+abbrev pub is_bundle : Data → Bool
+is_bundle d = has_only bundle_keys d && has_at (codes "version") is_version d
+
 -- a bundle
 abbrev pub bundle_read : Data → Option Bundle
 bundle_read d =
-    if has_only bundle_keys d && has_at (codes "version") is_version d then
+    if is_bundle d then
     given (submission_read d) (λ submission.
     given (required (codes "request") request_read d) (λ request.
     given (required (codes "store") store_read d) (λ store.

@@ -49,10 +49,14 @@ action_read id d =
 abbrev pub namespace_keys : List Text
 namespace_keys = codes "commonTypes" ∷ codes "entityTypes" ∷ codes "actions" ∷ []
 
+-- the keys of a namespace alone, and no common type
+abbrev pub is_namespace : Data → Bool
+is_namespace d = has_only namespace_keys d && may_be (codes "commonTypes") is_empty_object d
+
 -- what a namespace declares: entity types and actions
 abbrev pub namespace_read : Data → Option Declarations
 namespace_read d =
-    if has_only namespace_keys d && may_be (codes "commonTypes") is_empty_object d then
+    if is_namespace d then
     given (optional (codes "entityTypes") (members_of entity_type_read) [] d) (λ types.
     option_map (λ actions. record { types = types; actions = actions }) (optional (codes "actions") (members_of action_read) [] d))
     else None
