@@ -9,7 +9,8 @@ use Rattle.cedar_expr_model.specs.Tree.{Tree}
 use Rattle.std.specs.Str.{bytes_eq}
 use Rattle.std.proofs.lemmas.Slice.Eq.{bytes_eq-Decides}
 use Rattle.cedar_gate_model.specs.Reading.{given}
-use Rattle.serde_json.specs.Find.{as_str}
+use Rattle.serde_json.specs.Find.{as_str, as_array}
+use Rattle.cedar_gate_model.specs.ReadingSchema.{only_item}
 
 seen_as : (v : Value) (items : Vec Value Global) (s : List Value) → v ≡ Array items → s ≡ items.items → view v ≡ array (items_view s)
 seen_as v items s is e = ap view is ∙ view-Array items ∙ ap (λ xs. array (items_view xs)) (sym e)
@@ -87,3 +88,12 @@ short_expression v items s is e high = ap expression_read (seen_as v items s is 
 
 pub long_expression : (v : Value) (items : Vec Value Global) (s : List Value) → v ≡ Array items → s ≡ items.items → 4 ≤ length s → expression_read (view v) ≡ None
 long_expression v items s is e low = ap expression_read (seen_as v items s is e) ∙ no_expression_in_four s low
+
+-- A list of two or more items has no only one.
+many_items : (xs : List Value) → 2 ≤ length xs → only_item (items_view xs) ≡ None
+many_items [] low = absurd (omega arith)
+many_items (x ∷ []) low = absurd (omega arith)
+many_items (x ∷ y ∷ xs) low = refl
+
+pub several : (v : Value) (items : Vec Value Global) (s : List Value) → v ≡ Array items → s ≡ items.items → 2 ≤ length s → given (as_array (view v)) only_item ≡ None
+several v items s is e low = ap (λ d. given (as_array d) only_item) (seen_as v items s is e) ∙ many_items s low
