@@ -1,15 +1,15 @@
 -- Lists of few items, which the code tells by a pattern.
-use Rattle.std.proofs.Common.{◌≡◌, ℕ, ◌<◌, ◌≤◌, List, [], ◌∷◌, length, get_or, Option, Some, None, false, codes, rules, Vec, Global, arith, refl, ap, sym, ◌∙◌}
-use Rattle.serde_json.specs.Data.{Data, array, no_items, item}
+use Rattle.std.proofs.Common.{◌≡◌, ℕ, ◌<◌, ◌≤◌, List, [], ◌∷◌, length, get_or, Some, None, false, codes, rules, Vec, Global, arith, refl, ap, sym, ◌∙◌}
+use Rattle.serde_json.specs.Data.{array, no_items, item}
 use Rattle.serde_json.specs.View.{view, items_view}
-use Rattle.serde_json.specs.declared.value.Value.{Value, Array, the_lemmas}
+use Rattle.serde_json.specs.declared.value.Value.{Value, Array}
 use Rattle.serde_json.proofs.Views.{view-Array}
 use Rattle.cedar_gate_model.specs.ReadingExpression.{uid_read, expression_read, Part, with_one, with_two, joint_named, both_by}
 use Rattle.cedar_expr_model.specs.Tree.{Tree}
 use Rattle.std.specs.Str.{bytes_eq}
 use Rattle.std.proofs.lemmas.Slice.Eq.{bytes_eq-Decides}
 use Rattle.cedar_gate_model.specs.Reading.{given}
-use Rattle.serde_json.specs.Find.{as_str, as_array}
+use Rattle.serde_json.specs.Find.{as_array}
 use Rattle.cedar_gate_model.specs.ReadingSchema.{only_item}
 
 seen_as : (v : Value) (items : Vec Value Global) (s : List Value) → v ≡ Array items → s ≡ items.items → view v ≡ array (items_view s)

@@ -8,11 +8,13 @@ use Rattle.cedar_gate_bundle.specs.declared.bundle.Bundle.{Bundle}
 
 abbrev pub bundle_of : Bundle → model.Bundle
 bundle_of b = record {
-    submission = record {
-        declarations = declarations_of b.fragments.items;
-        policies = policies_of b.policies.items;
-        level = b.level;
-        limit = levels_of b.limit };
-    request = request_of b.request;
-    store = entity_uids b.store.items;
-    steps = steps_of b.steps.items }
+  submission = record {
+    declarations = declarations_of b.fragments.items;
+    policies = policies_of b.policies.items;
+    level = b.level;
+    limit = levels_of b.limit;
+  };
+  request = request_of b.request;
+  store = entity_uids b.store.items;
+  steps = steps_of b.steps.items;
+}

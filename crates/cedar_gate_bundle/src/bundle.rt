@@ -77,8 +77,17 @@ pub fn read_text(alloc: Global, bytes: &[u8]) -> Result<Bundle, ReadFault>
     ensures plain { IfOk result (λ b. is_first_path b.fragments.items ≡ true) }
     ensures unreadable { IfErr result (λ f. f ≡ Unreadable → input_read bytes.now ≡ None) }
 {
-    let value = Value::from_slice(alloc, bytes)?;
+    let value = parse(alloc, bytes)?;
     read_bundle(alloc, &value)
+}
+
+// The JSON value of the input.
+#[tactic(auto, using(crate::proofs::Inputs::of_json, crate::proofs::Inputs::of_no_json))]
+fn parse(alloc: Global, bytes: &[u8]) -> Result<Value, ReadFault>
+    ensures ok { IfOk result (λ v. input_read bytes.now ≡ bundle_read (view v)) }
+    ensures unreadable { IfErr result (λ f. f ≡ Unreadable → input_read bytes.now ≡ None) }
+{
+    Ok(Value::from_slice(alloc, bytes)?)
 }
 
 impl From<Error> for ReadFault {

@@ -47,6 +47,7 @@ pub(crate) fn read_members<T: ReadableMember>(
 }
 
 // Reads each of these members, in the order of the keys.
+#[tactic(auto, using(crate::proofs::Gathered::all_fit))]
 fn read_each_member<T: ReadableMember>(
     alloc: Global,
     members: &Map<String, Value>,

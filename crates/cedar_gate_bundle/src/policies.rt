@@ -63,7 +63,13 @@ fn is_policy(value: &Value) -> bool
     ensures { result ≡ is_policy (view value.now) }
 {
     let keys = [
-        "id", "effect", "principal", "action", "resource", "when", "link",
+        "id",
+        "effect",
+        "principal",
+        "action",
+        "resource",
+        "when",
+        "link",
     ];
     has_only(value, &keys) && may_be_empty_object(value, "link")
 }

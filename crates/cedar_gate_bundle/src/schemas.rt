@@ -15,9 +15,7 @@ ghost use Rattle.cedar_gate_bundle.specs.declared.fault.ReadFault.TheVariants.{O
 use crate::fault::ReadFault;
 use crate::lists::read_list;
 use crate::members::{ReadableMember, read_members};
-use crate::objects::{
-    has_only, is_empty_object, may_be_empty_list, may_be_empty_object, required,
-};
+use crate::objects::{has_only, is_empty_object, may_be_empty_list, may_be_empty_object, required};
 use cedar_expr::{Id, RawName};
 use cedar_gate_types::Fragment;
 use cedar_gate_types::json_schema::{
@@ -71,7 +69,11 @@ impl ReadableMember for (RcStr, ActionType) {
 
     ghost fits = { λ a. is_plain_action a.1 };
 
-    fn read_member(alloc: Global, key: &str, value: &Value) -> Result<(RcStr, ActionType), ReadFault> {
+    fn read_member(
+        alloc: Global,
+        key: &str,
+        value: &Value,
+    ) -> Result<(RcStr, ActionType), ReadFault> {
         if !is_bare_action(value) {
             return Err(ReadFault::Unreadable);
         }
@@ -95,7 +97,9 @@ fn is_bare_action(value: &Value) -> bool
     ensures { result ≡ is_bare_action (view value.now) }
 {
     let keys = ["in", "principals", "resources", "context"];
-    has_only(value, &keys) && may_be_empty_list(value, "in") && may_be_empty_record(value, "context")
+    has_only(value, &keys)
+        && may_be_empty_list(value, "in")
+        && may_be_empty_record(value, "context")
 }
 
 // Whether there is the type of records without fields at the key, or the key lacks.

@@ -29,6 +29,7 @@ pub(crate) fn read_store(alloc: Global, value: &Value) -> Result<Vec<Entity>, Re
 }
 
 // Whether no two entities have one uid.
+#[tactic(auto, using(crate::proofs::Distinct::next_is))]
 fn are_distinct(entities: &[Entity]) -> bool
     ensures { result ≡ are_distinct uid_eq (entity_uids entities.now) }
 {
