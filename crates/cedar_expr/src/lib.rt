@@ -6,7 +6,7 @@ pub mod extensions;
 pub mod literal;
 pub mod ops;
 
-pub use cedar_expr_names::{Eid, EntityType, EntityUID, Id, InternalName, Loc, Name, RawName};
+pub use cedar_expr_names::{Eid, EntityType, EntityUID, Id, InternalName, Loc, Name, NameError, Quoted, RawName};
 pub use expr::{Expr, ExprKind, Var};
 pub use extensions::{ExtTable, ExtensionFunction, Extensions, Type};
 pub use literal::Literal;

@@ -2,3 +2,5 @@ pub mod Name
 pub mod Uid
 pub mod Value
 pub mod Tree
+pub mod Laws
+pub mod Worked

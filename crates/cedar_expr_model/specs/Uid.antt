@@ -22,7 +22,6 @@ escaped c =
     else (if nat_le 32 c && nat_le c 126 then c ∷ []
     else 92 ∷ 117 ∷ 123 ∷ (digits 16 false c ++ 125 ∷ [])))
 
-
 -- a text in double quotes, escaped
 abbrev pub quoted : Text → Text
 quoted text = 34 ∷ (flat_map escaped (chars text) ++ 34 ∷ [])

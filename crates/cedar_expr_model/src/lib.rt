@@ -1,2 +1,5 @@
 //! Definitions of Cedar's expressions: names, uids and their text, values and bare trees.
 #![tactic(auto)]
+
+pub mod laws;
+pub mod worked;

@@ -7,3 +7,5 @@ pub mod Reading
 pub mod ReadingExpression
 pub mod ReadingSchema
 pub mod ReadingBundle
+pub mod Laws
+pub mod Worked

@@ -1,2 +1,5 @@
 //! Definitions of acceptance, runs, bundles and the lines that the program prints.
 #![tactic(auto)]
+
+pub mod laws;
+pub mod worked;

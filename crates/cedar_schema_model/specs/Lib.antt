@@ -2,3 +2,5 @@ pub mod Declarations
 pub mod Types
 pub mod Environment
 pub mod Conforming
+pub mod Laws
+pub mod Worked

@@ -1,2 +1,5 @@
 //! Definitions of declarations, types, environments and conforming requests.
 #![tactic(auto)]
+
+pub mod laws;
+pub mod worked;

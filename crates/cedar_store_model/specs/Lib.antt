@@ -4,3 +4,5 @@ pub mod Meaning
 pub mod Looks
 pub mod Policy
 pub mod Answer
+pub mod Laws
+pub mod Worked

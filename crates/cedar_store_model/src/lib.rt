@@ -1,2 +1,5 @@
 //! Definitions of worlds, the meaning of expressions, policies and answers.
 #![tactic(auto)]
+
+pub mod laws;
+pub mod worked;

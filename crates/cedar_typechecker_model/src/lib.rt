@@ -1,2 +1,5 @@
 //! Definitions of typing, the scope rules and the verdicts on a policy.
 #![tactic(auto)]
+
+pub mod laws;
+pub mod worked;

@@ -1,0 +1,4 @@
+pub mod Lists
+pub mod Equality
+pub mod Reading
+pub mod Computed

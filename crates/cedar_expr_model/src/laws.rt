@@ -1,0 +1,27 @@
+//! Laws of the definitions. Each function's contract is the theorem; its body does nothing.
+
+ghost use Rattle.std.specs.Prelude.{◌≡◌, true};
+ghost use Rattle.std.specs.Bool.{Decides};
+ghost use Rattle.cedar_expr_model.specs.Laws.{TextsDecide, NamesDecide, UidsDecide, LiteralsDecide, ValuesDecide, NamesAreRead};
+
+/// Two names are equal by the test exactly where they are the same name; so are two lists of texts.
+pub fn names_decide()
+    ensures texts { TextsDecide }
+    ensures names { NamesDecide }
+{}
+
+/// Two uids are equal by the test exactly where they are the same uid.
+pub fn uids_decide()
+    ensures { UidsDecide }
+{}
+
+/// Two literals, and two values, are equal by the test exactly where they are the same.
+pub fn values_decide()
+    ensures literals { LiteralsDecide }
+    ensures values { ValuesDecide }
+{}
+
+/// Reading a text gives a name exactly where the text writes that name, so a text writes one name at most.
+pub fn names_are_read()
+    ensures { NamesAreRead }
+{}

@@ -1,0 +1,144 @@
+//! Why declarations or a submission are refused.
+
+use std::alloc::{AllocError, AllocFailed};
+use thiserror::Error;
+
+/// Why declarations are refused.
+#[derive(Clone, Copy, Debug, PartialEq, Eq, Error)]
+pub enum SchemaError {
+    /// There is no memory.
+    #[error("out of memory")]
+    OutOfMemory,
+    /// An entity type is declared twice.
+    #[error("an entity type is declared twice")]
+    DuplicateEntityType,
+    /// An action is declared twice.
+    #[error("an action is declared twice")]
+    DuplicateAction,
+    /// A type is named that isn't declared.
+    #[error("a type is named that is not declared")]
+    UndeclaredType,
+    /// An entity type has the name that is kept for actions.
+    #[error("an entity type is named `Action`")]
+    ActionAsEntityType,
+    /// A declared name has the reserved part.
+    #[error("a declared name is reserved")]
+    ReservedName,
+}
+
+/// Why the gate refuses a submission.
+#[derive(Clone, Copy, Debug, PartialEq, Eq, Error)]
+pub enum GateFault {
+    /// There is no memory.
+    #[error("out of memory")]
+    OutOfMemory,
+    /// The declarations have a fault.
+    #[error("{0}")]
+    Schema(SchemaError),
+    /// Two policies have one id.
+    #[error("two policies have one id")]
+    RepeatedPolicy,
+    /// A condition nests deeper than the limit.
+    #[error("a condition nests too deep")]
+    Nesting,
+    /// A policy names an entity type that isn't declared.
+    #[error("a policy names an unknown entity type")]
+    UnknownEntityType,
+    /// A policy names an action that isn't declared.
+    #[error("a policy names an unknown action")]
+    UnknownAction,
+    /// A condition has no type of truth values in some environment.
+    #[error("a condition is ill-typed")]
+    IllTyped,
+}
+
+impl SchemaError {
+    ghost use Rattle.std.specs.Prelude.{◌≡◌};
+    ghost use Rattle.cedar_gate_accept.specs.Faults.{schema_error_number};
+
+    /// The number of the refusal: 0 for memory.
+    pub fn number(self) -> u32
+        ensures { result ≡ schema_error_number self }
+    {
+        match self {
+            SchemaError::OutOfMemory => 0,
+            SchemaError::DuplicateEntityType => 1,
+            SchemaError::DuplicateAction => 3,
+            SchemaError::UndeclaredType => 4,
+            SchemaError::ActionAsEntityType => 8,
+            SchemaError::ReservedName => 10,
+        }
+    }
+}
+
+impl GateFault {
+    ghost use Rattle.std.specs.Prelude.{◌≡◌};
+    ghost use Rattle.cedar_gate_accept.specs.Faults.{gate_fault_number};
+
+    /// The number of the refusal: 0 for memory.
+    pub fn number(self) -> u32
+        ensures { result ≡ gate_fault_number self }
+    {
+        match self {
+            GateFault::OutOfMemory => 0,
+            GateFault::Schema(_) => 1,
+            GateFault::RepeatedPolicy => 3,
+            GateFault::Nesting => 7,
+            GateFault::UnknownEntityType => 8,
+            GateFault::UnknownAction => 9,
+            GateFault::IllTyped => 11,
+        }
+    }
+}
+
+impl From<AllocError> for SchemaError {
+    ghost use Rattle.std.specs.Prelude.{◌≡◌};
+    ghost use Rattle.cedar_gate_accept.specs.declared.err.SchemaError.TheVariants.{OutOfMemory};
+
+    ghost from_gives = { λ _ e. e ≡ OutOfMemory };
+
+    fn from(_e: AllocError) -> SchemaError {
+        SchemaError::OutOfMemory
+    }
+}
+
+impl<T: Drop> From<AllocFailed<T>> for SchemaError {
+    ghost use Rattle.std.specs.Prelude.{◌≡◌};
+    ghost use Rattle.cedar_gate_accept.specs.declared.err.SchemaError.TheVariants.{OutOfMemory};
+
+    ghost from_gives = { λ _ e. e ≡ OutOfMemory };
+
+    fn from(_e: AllocFailed<T>) -> SchemaError {
+        SchemaError::OutOfMemory
+    }
+}
+
+impl From<AllocError> for GateFault {
+    ghost use Rattle.std.specs.Prelude.{◌≡◌};
+    ghost use Rattle.cedar_gate_accept.specs.declared.err.GateFault.TheVariants.{OutOfMemory};
+
+    ghost from_gives = { λ _ e. e ≡ OutOfMemory };
+
+    fn from(_e: AllocError) -> GateFault {
+        GateFault::OutOfMemory
+    }
+}
+
+impl From<SchemaError> for GateFault {
+    ghost use Rattle.std.specs.Prelude.{◌≡◌};
+    ghost use Rattle.cedar_gate_accept.specs.Faults.{gate_fault_from};
+
+    ghost from_gives = { λ e f. f ≡ gate_fault_from e };
+
+    /// Want of memory stays that; any other fault is one of the declarations.
+    fn from(e: SchemaError) -> GateFault {
+        match e {
+            SchemaError::OutOfMemory => GateFault::OutOfMemory,
+            SchemaError::DuplicateEntityType => GateFault::Schema(e),
+            SchemaError::DuplicateAction => GateFault::Schema(e),
+            SchemaError::UndeclaredType => GateFault::Schema(e),
+            SchemaError::ActionAsEntityType => GateFault::Schema(e),
+            SchemaError::ReservedName => GateFault::Schema(e),
+        }
+    }
+}

@@ -1,0 +1,14 @@
+//! The gate: what it accepts, and why it refuses the rest.
+#![tactic(auto)]
+
+pub mod declared;
+pub mod distinct;
+pub mod err;
+pub mod nesting;
+pub mod schema;
+pub mod scope;
+pub mod typing;
+pub mod well_formed;
+
+pub use err::{GateFault, SchemaError};
+pub use schema::{ValidatorActionId, ValidatorSchema};

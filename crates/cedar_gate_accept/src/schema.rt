@@ -1,0 +1,152 @@
+//! The declared types and actions.
+
+use cedar_expr::{EntityUID, InternalName};
+
+/// A declared action, with the types of the principals and resources that it is for.
+#[derive(Drop)]
+pub struct ValidatorActionId {
+    name: EntityUID,
+    principals: Vec<InternalName>,
+    resources: Vec<InternalName>,
+}
+
+/// The declared entity types and actions.
+#[derive(Drop)]
+pub struct ValidatorSchema {
+    entity_types: Vec<InternalName>,
+    actions: Vec<ValidatorActionId>,
+}
+
+impl ValidatorActionId {
+    ghost use Rattle.std.specs.Prelude.{◌≡◌, map};
+    ghost use Rattle.cedar_expr_names.specs.Views.{uid_of, name_of};
+    ghost use Rattle.cedar_gate_accept.specs.Schema.{action_of};
+
+    /// The action of this uid, for principals and resources of these types.
+    pub fn new(
+        name: EntityUID,
+        principals: Vec<InternalName>,
+        resources: Vec<InternalName>,
+    ) -> ValidatorActionId
+        ensures { action_of result ≡ record { uid = uid_of name; principals = map name_of principals.items; resources = map name_of resources.items } }
+    {
+        ValidatorActionId {
+            name,
+            principals,
+            resources,
+        }
+    }
+
+    /// The action's uid.
+    pub fn name(&self) -> &EntityUID
+        ensures { uid_of result.now ≡ (action_of self.now).uid }
+    {
+        &self.name
+    }
+
+    /// The types of the principals that it is for.
+    pub fn principals(&self) -> &[InternalName]
+        ensures { map name_of result.now ≡ (action_of self.now).principals }
+    {
+        self.principals.as_slice()
+    }
+
+    /// The types of the resources that it is for.
+    pub fn resources(&self) -> &[InternalName]
+        ensures { map name_of result.now ≡ (action_of self.now).resources }
+    {
+        self.resources.as_slice()
+    }
+}
+
+impl ValidatorSchema {
+    ghost use Rattle.std.specs.Prelude.{◌≡◌, map};
+    ghost use Rattle.cedar_expr_names.specs.Views.{uid_of, name_of};
+    ghost use Rattle.cedar_schema_model.specs.Declarations.{declares_type, declares_action, is_action_type};
+    ghost use Rattle.cedar_gate_accept.specs.Schema.{schema_of, action_of, type_declaration_of};
+
+    /// The names of the declared entity types.
+    pub fn entity_types(&self) -> &[InternalName]
+        ensures { map type_declaration_of result.now ≡ (schema_of self.now).types }
+    {
+        self.entity_types.as_slice()
+    }
+
+    /// The declared actions.
+    pub fn actions(&self) -> &[ValidatorActionId]
+        ensures { map action_of result.now ≡ (schema_of self.now).actions }
+    {
+        self.actions.as_slice()
+    }
+
+    /// Whether an entity type is declared.
+    pub fn declares_type(&self, name: &InternalName) -> bool
+        ensures { result ≡ declares_type (schema_of self.now) (name_of name.now) }
+    {
+        names_have(self.entity_types.as_slice(), name)
+    }
+
+    /// Whether a uid is a declared action.
+    pub fn declares_action(&self, uid: &EntityUID) -> bool
+        ensures { result ≡ declares_action (schema_of self.now) (uid_of uid.now) }
+    {
+        actions_have(self.actions.as_slice(), uid)
+    }
+
+    /// Whether a type is that of a declared action.
+    pub fn is_action_type(&self, name: &InternalName) -> bool
+        ensures { result ≡ is_action_type (schema_of self.now) (name_of name.now) }
+    {
+        actions_are_of(self.actions.as_slice(), name)
+    }
+}
+
+ghost use Rattle.std.specs.Prelude.{◌≡◌};
+ghost use Rattle.cedar_expr_names.specs.Views.{uid_of, name_of};
+ghost use Rattle.cedar_expr_model.specs.Name.{name_eq};
+ghost use Rattle.cedar_expr_model.specs.Uid.{uid_eq};
+
+/// The type of a uid.
+pub fn type_of(uid: &EntityUID) -> &InternalName
+    ensures { name_of result.now ≡ (uid_of uid.now).kind }
+{
+    uid.entity_type().name().as_internal()
+}
+
+/// Whether two names are equal.
+pub fn same_name(a: &InternalName, b: &InternalName) -> bool
+    ensures { result ≡ name_eq (name_of a.now) (name_of b.now) }
+{
+    a.same(b)
+}
+
+/// Whether two uids are equal.
+pub fn same_uid(a: &EntityUID, b: &EntityUID) -> bool
+    ensures { result ≡ uid_eq (uid_of a.now) (uid_of b.now) }
+{
+    a.same(b)
+}
+
+ghost use Rattle.std.specs.List.{list_any};
+ghost use Rattle.cedar_gate_accept.specs.Schema.{action_uid};
+
+/// Whether a name is among names.
+fn names_have(names: &[InternalName], name: &InternalName) -> bool
+    ensures { result ≡ list_any (λ t. name_eq (name_of name.now) (name_of t)) names.now }
+{
+    names.iter().any(|t| name.same(t))
+}
+
+/// Whether a uid is that of one of the actions.
+fn actions_have(actions: &[ValidatorActionId], uid: &EntityUID) -> bool
+    ensures { result ≡ list_any (λ a. uid_eq (uid_of uid.now) (action_uid a)) actions.now }
+{
+    actions.iter().any(|a| uid.same(a.name()))
+}
+
+/// Whether a type is that of one of the actions.
+fn actions_are_of(actions: &[ValidatorActionId], name: &InternalName) -> bool
+    ensures { result ≡ list_any (λ a. name_eq (name_of name.now) (action_uid a).kind) actions.now }
+{
+    actions.iter().any(|a| name.same(type_of(a.name())))
+}

@@ -1,0 +1,5 @@
+pub mod Acceptance
+pub mod Policies
+pub mod Runs
+pub mod Lines
+pub mod Computed

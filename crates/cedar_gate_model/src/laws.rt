@@ -1,0 +1,42 @@
+//! Laws of the definitions. Each function's contract is the theorem; its body does nothing.
+
+ghost use Rattle.cedar_gate_model.specs.Laws.{AcceptanceDecides, FaultsExclude, RefusalHasFault, PoliciesDontErr, WarnedIsNoReason, RunsAreLegal, NothingIsAsked, SliceIsEmpty, AskedIsInSlice, NothingBelow, OneStatus, OneText, SomeText};
+
+/// The test of a submission is true exactly where it is accepted.
+/// A fault excludes acceptance, and a submission that the test refuses has a fault.
+pub fn acceptance_is_decided()
+    ensures decides { AcceptanceDecides }
+    ensures excludes { FaultsExclude }
+    ensures named { RefusalHasFault }
+{}
+
+/// No policy of an accepted submission errs, in any world whose request conforms.
+pub fn accepted_policies_never_err()
+    ensures { PoliciesDontErr }
+{}
+
+/// A policy that an accepted submission warns of is never a reason, in any world whose request conforms.
+pub fn warned_policies_are_no_reasons()
+    ensures { WarnedIsNoReason }
+{}
+
+/// A transcript of one decision for each step that asks for one, and the answer, is legal. It asks for nothing.
+pub fn runs_are_legal()
+    ensures legal { RunsAreLegal }
+    ensures asks_nothing { NothingIsAsked }
+{}
+
+/// At level 0 nothing is in the slice, so a legal transcript asks for nothing;
+/// at any level what a legal transcript asks for is in the slice.
+pub fn what_is_asked_is_in_the_slice()
+    ensures empty { SliceIsEmpty }
+    ensures within { AskedIsInSlice }
+    ensures nothing { NothingBelow }
+{}
+
+/// For each input something may be printed, with one status alone; and where that isn't a refusal, one text alone.
+pub fn printing_is_determined()
+    ensures some_text { SomeText }
+    ensures one_status { OneStatus }
+    ensures one_text { OneText }
+{}

@@ -1,0 +1,2 @@
+pub mod Conforming
+pub mod WellFormed

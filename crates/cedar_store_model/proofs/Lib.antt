@@ -1,0 +1,3 @@
+pub mod Agree
+pub mod Meaning
+pub mod Answers

@@ -1,0 +1,6 @@
+pub mod Exact
+pub mod Typing
+pub mod Verdicts
+pub mod Naming
+pub mod Values
+pub mod Soundness
