@@ -1,4 +1,5 @@
 pub mod Equality
+pub mod RoundTrip
 mod Splitting
-mod Reading
+mod PartByPart
 mod Writing

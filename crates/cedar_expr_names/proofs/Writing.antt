@@ -5,7 +5,7 @@ use mathlib.Core.List.{append_assoc}
 use Rattle.std.specs.List.{flat_map}
 use Rattle.cedar_expr_model.specs.Name.{Text, colons, joined}
 use Rattle.cedar_expr_names.specs.declared.id.Id.{Id}
-use Rattle.cedar_expr_names.specs.Parts.{id_text}
+use Rattle.cedar_expr_names.specs.Ids.{id_text}
 
 -- a part with the double colon that ends it
 abbrev pub ended : Id → Text

@@ -1,3 +1,5 @@
+pub mod Ids
 pub mod Parts
 pub mod Views
 pub mod Refusals
+pub mod Order

@@ -1,14 +1,10 @@
--- What identifiers and names hold, as texts.
-use Rattle.std.specs.Prelude.{List, map, Option}
-use Rattle.std.specs.Rc.{rc_str_bytes}
-use Rattle.cedar_expr_model.specs.Name.{Text, Name}
-use Rattle.cedar_expr_names.specs.declared.id.Id.{Id}
+-- What names hold.
+pub use Rattle.cedar_expr_names.specs.Ids.{id_text}
+use Rattle.std.specs.Prelude.{map, Option}
+use Rattle.cedar_expr_model.specs.Name.{Name}
 use Rattle.cedar_expr_names.specs.declared.loc.Loc.{Loc}
 use Rattle.cedar_expr_names.specs.declared.internal_name.InternalName.{InternalName}
-
--- the text of an identifier
-abbrev pub id_text : Id → Text
-id_text i = rc_str_bytes i.text
+use Rattle.cedar_expr_names.specs.Ids.{id_text}
 
 -- the name that a code name holds
 abbrev pub name_of : InternalName → Name

@@ -1,5 +1,5 @@
 -- What a refusal of a text or a name says.
-use Rattle.std.specs.Prelude.{◌≡◌, true, false, Option, Some, None}
+use Rattle.std.specs.Prelude.{◌≡◌, true, false, Some, None}
 use Rattle.cedar_expr_model.specs.Name.{Text, name_read, is_identifier, is_reserved}
 use Rattle.cedar_expr_names.specs.declared.err.NameError.{NameError}
 use Rattle.cedar_expr_names.specs.declared.err.NameError.TheVariants.{OutOfMemory, NotNormalized, Reserved}

@@ -6,10 +6,12 @@ ghost use Rattle.std.specs.Rc.{rc_str_bytes};
 ghost use Rattle.cedar_expr_model.specs.Name.{name_read, name_text, name_eq, is_reserved};
 ghost use Rattle.cedar_expr_model.specs.Uid.{uid_eq, uid_text, quoted};
 ghost use Rattle.cedar_expr_names.specs.Views.{plain_name_of, plain_name_loc, type_name_of, type_loc, eid_text, uid_of, uid_loc};
+ghost use Rattle.cedar_expr_names.specs.Order.{uid_cmp};
 ghost use Rattle.cedar_expr_names.specs.Refusals.{RefusesPlainText};
 
 use crate::{Loc, Name, NameError, Quoted};
 use std::alloc::{AllocError, Global};
+use std::cmp::Ordering;
 use std::fmt;
 use std::fmt::{Display, Formatter, Write};
 use std::rc::RcStr;
@@ -115,7 +117,8 @@ impl Clone for Eid {
     }
 }
 
-/// The uid of an entity: its type and its id. Its place doesn't count in comparisons.
+/// The uid of an entity: its type and its id. Uids are compared by the texts of their types and then by their ids, in byte
+/// order; places don't count.
 #[derive(Debug, Drop)]
 #[derive_where(PartialEq, Eq, PartialOrd, Ord, Hash)]
 pub struct EntityUID {
@@ -144,6 +147,14 @@ impl EntityUID {
         ensures { result ≡ uid_eq (uid_of self.now) (uid_of other.now) }
     {
         self == other
+    }
+
+    /// The order of this uid and the other: what `cmp` answers, by the texts of their types and then by their ids, in
+    /// byte order.
+    pub fn order(&self, other: &EntityUID) -> Ordering
+        ensures { result ≡ uid_cmp (uid_of self.now) (uid_of other.now) }
+    {
+        self.cmp(other)
     }
 
     /// The entity's type.

@@ -1,30 +1,40 @@
 //! Names of any kind: identifiers joined by `::`.
 
-ghost use Rattle.std.specs.Prelude.{◌≡◌, ◌++◌, [], ◌∷◌, map, length, nat_eq, true, IfOk, IfErr, Some, None, MatchOption, ◌<◌};
-ghost use Rattle.cedar_expr_model.specs.Name as model;
-ghost use Rattle.cedar_expr_model.specs.Name.{name_read, name_text, name_eq, is_identifier, is_reserved, reserved, parts};
-ghost use Rattle.std.specs.List.{list_any};
-ghost use Rattle.std.specs.Str.{bytes_eq};
-ghost use Rattle.cedar_expr_names.specs.Views.{id_text, name_of, name_loc};
-ghost use Rattle.cedar_expr_names.specs.Refusals.{RefusesIdentifier, RefusesText};
+ghost use Rattle.std.specs.Prelude.{◌≡◌, map};
+ghost use Rattle.std.specs.Rc.{rc_str_bytes};
+ghost use Rattle.cedar_expr_model.specs.Name.{joined};
+ghost use Rattle.cedar_expr_names.specs.Ids.{id_text};
 
+use crate::reading::{any_reserved, joined_text, read_part, split_part};
 use crate::{Id, Loc, NameError};
 use std::alloc::{AllocError, Global};
+use std::cmp::Ordering;
 use std::fmt;
 use std::fmt::{Display, Formatter, Write};
-use std::rc::Rc;
+use std::rc::{Rc, RcStr};
 
-/// A name of any kind: a path of identifiers and its base, joined by `::`. Its place doesn't count in comparisons.
+/// A name of any kind: a path of identifiers and its base, joined by `::`. Names are compared by their texts, in byte
+/// order; places don't count.
 #[derive(Debug, Drop)]
 #[derive_where(PartialEq, Eq, PartialOrd, Ord, Hash)]
 pub struct InternalName {
+    text: RcStr,
+    #[derive_where(skip(EqHashOrd))]
     path: Rc<Vec<Id>>,
+    #[derive_where(skip(EqHashOrd))]
     id: Id,
     #[derive_where(skip(EqHashOrd))]
     loc: Option<Loc>,
+    ghost written: { rc_str_bytes text ≡ joined (map id_text path.value.items) (id_text id) },
 }
 
 impl InternalName {
+    ghost use Rattle.std.specs.Prelude.{[], length, nat_eq, IfOk, IfErr, Some, None};
+    ghost use Rattle.cedar_expr_model.specs.Name.{name_read, name_text, name_eq, is_reserved};
+    ghost use Rattle.cedar_expr_names.specs.Parts.{name_of, name_loc};
+    ghost use Rattle.cedar_expr_names.specs.Order.{name_cmp};
+    ghost use Rattle.cedar_expr_names.specs.Refusals.{RefusesText};
+
     /// The name of a base under a path, at a place. Answers want of memory.
     pub fn new(
         alloc: Global,
@@ -36,8 +46,11 @@ impl InternalName {
         ensures path { IfOk result (λ n. (name_of n).path ≡ map id_text path.items) }
         ensures place { IfOk result (λ n. name_loc n ≡ loc) }
     {
+        let text = joined_text(alloc, path.as_slice(), &basename)?;
+        let text = RcStr::from_string(text)?;
         let path = Rc::new(alloc, path)?;
         Ok(InternalName {
+            text,
             path,
             id: basename,
             loc,
@@ -58,6 +71,14 @@ impl InternalName {
         }
         let base = Id::from_normalized_str(alloc, rest)?;
         InternalName::new(alloc, base, path, None).map_err(|_| NameError::OutOfMemory)
+    }
+
+    /// The name's text, from which it is read back.
+    pub fn as_str(&self) -> &str
+        ensures value { result.now ≡ name_text (name_of self.now) }
+        ensures reads_back { name_read result.now ≡ Some (name_of self.now) }
+    {
+        self.text.as_str()
     }
 
     /// The name's last identifier.
@@ -88,6 +109,13 @@ impl InternalName {
         self == other
     }
 
+    /// The order of this name and the other: what `cmp` answers, that of their texts in byte order.
+    pub fn order(&self, other: &InternalName) -> Ordering
+        ensures { result ≡ name_cmp (name_of self.now) (name_of other.now) }
+    {
+        self.cmp(other)
+    }
+
     /// The name's place.
     pub fn loc(&self) -> Option<Loc>
         ensures { result ≡ name_loc self.now }
@@ -106,12 +134,16 @@ impl InternalName {
 }
 
 impl Clone for InternalName {
+    ghost use Rattle.cedar_expr_names.specs.Parts.{name_of, name_loc};
+
     ghost is_clone = { λ n copy. (name_of copy ≡ name_of n) × (name_loc copy ≡ name_loc n) };
 
     fn clone(&self) -> Result<InternalName, AllocError> {
+        let text = self.text.clone()?;
         let path = self.path.clone()?;
         let id = self.id.clone()?;
         Ok(InternalName {
+            text,
             path,
             id,
             loc: self.loc,
@@ -120,38 +152,13 @@ impl Clone for InternalName {
 }
 
 impl Display for InternalName {
+    ghost use Rattle.std.specs.Prelude.{Some};
+    ghost use Rattle.cedar_expr_model.specs.Name.{name_text};
+    ghost use Rattle.cedar_expr_names.specs.Parts.{name_of};
+
     ghost output = { λ n. Some (name_text (name_of n)) };
 
     fn fmt<W: Write>(&self, f: &mut Formatter<W>) -> fmt::Result {
-        for part in self.path.iter() {
-            write!(f, "{part}::")?;
-        }
-        write!(f, "{}", self.id)
+        Display::fmt(&self.text, f)
     }
-}
-
-// These identifiers and the one that the text is.
-fn read_part(alloc: Global, mut path: Vec<Id>, text: &str) -> Result<Vec<Id>, NameError>
-    ensures read { IfOk result (λ p. map id_text p.items ≡ map id_text path.items ++ text.now ∷ []) }
-    ensures identifies { IfOk result (λ p. is_identifier text.now ≡ true) }
-    ensures refused { IfErr result (λ e. RefusesIdentifier text.now e) }
-{
-    let part = Id::from_normalized_str(alloc, text)?;
-    path.push(part).map_err(|_| NameError::OutOfMemory)?;
-    Ok(path)
-}
-
-// Whether one of these is the reserved identifier.
-fn any_reserved(parts: &[Id]) -> bool
-    ensures { result ≡ list_any (bytes_eq reserved) (map id_text parts.now) }
-{
-    parts.iter().any(|part| part.is_reserved())
-}
-
-// The text before the first double colon and the text after it, if there is one.
-fn split_part(text: &str) -> Option<(&str, &str)>
-    ensures first { MatchOption result (parts text.now ≡ text.now ∷ []) (λ x. parts text.now ≡ x.0.now ∷ parts x.1.now) }
-    ensures less { MatchOption result (Unit {0}) (λ x. length x.1.now < length text.now) }
-{
-    text.split_once("::")
 }

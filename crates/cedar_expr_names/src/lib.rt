@@ -8,6 +8,7 @@ mod internal_name;
 mod loc;
 mod name;
 mod quoted;
+mod reading;
 
 pub use entity::{Eid, EntityType, EntityUID};
 pub use err::{NameError, ReservedNameError};

@@ -2,6 +2,7 @@
 
 use super::*;
 use std::alloc::Global;
+use std::cmp::Ordering;
 use std::rc::RcStr;
 use std::test::Fail;
 
@@ -137,5 +138,21 @@ fn copies_and_makers(rt: HostRuntime) -> Result<(), Fail> {
         place,
     );
     assert!(rt; !uid.same(&other));
+    Ok(())
+}
+
+#[test]
+fn uids_are_ordered_by_the_texts_of_their_types(rt: HostRuntime) -> Result<(), Fail> {
+    let alloc = rt.alloc();
+    let parted = EntityType::from_normalized_str(alloc, "A::B")?;
+    let digit = EntityType::from_normalized_str(alloc, "A0")?;
+    let letter = EntityType::from_normalized_str(alloc, "AB")?;
+    let first = EntityUID::from_components(digit, Eid::from_str(alloc, "z")?, None);
+    let second = EntityUID::from_components(parted, Eid::from_str(alloc, "y")?, None);
+    let third = EntityUID::from_components(letter, Eid::from_str(alloc, "x")?, None);
+    assert!(rt; first < second);
+    assert!(rt; second < third);
+    assert_eq!(rt; third.order(&first), Ordering::Greater);
+    assert_eq!(rt; second.entity_type().name().as_internal().as_str(), "A::B");
     Ok(())
 }

@@ -1,6 +1,6 @@
 use Rattle.std.proofs.Common.{map, sym, ap, ◌∙◌, rules}
 use Rattle.cedar_expr_names.specs.Parts.{id_text}
-use Rattle.cedar_expr_names.proofs.Reading.{read_from, takes}
+use Rattle.cedar_expr_names.proofs.PartByPart.{read_from, takes}
 use Rattle.cedar_expr_names.proofs.internal_name.InternalName.from_normalized_str.Goals as goal
 
 pub loop-part-preserved : goal.loop-part-preserved

@@ -3,7 +3,7 @@ use denote.Shadow.{shadow}
 use denote.Text.{Utf8}
 use Rattle.cedar_expr_model.specs.Name.{name_read}
 use Rattle.cedar_expr_names.specs.Parts.{id_text}
-use Rattle.cedar_expr_names.proofs.Reading.{read_from}
+use Rattle.cedar_expr_names.proofs.PartByPart.{read_from}
 use Rattle.cedar_expr_names.proofs.internal_name.InternalName.from_normalized_str.Given as goal
 
 abbrev pub invariant-loop-part : goal.invariant-loop-part

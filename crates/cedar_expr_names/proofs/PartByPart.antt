@@ -1,5 +1,5 @@
 -- Reading a name part by part.
-use Rattle.std.proofs.Common.{◌≡◌, ℕ, Bool, true, false, cond, ◌&&◌, ◌||◌, map, List, [], ◌∷◌, ◌++◌, refl, sym, ap, ◌∙◌, rules, Option, Some, None}
+use Rattle.std.proofs.Common.{◌≡◌, ℕ, Bool, true, false, cond, ◌&&◌, ◌||◌, map, List, [], ◌∷◌, ◌++◌, refl, ap, ◌∙◌, Option, Some, None}
 use Rattle.std.specs.List.{list_all, list_any}
 use Rattle.cedar_expr_model.specs.Name.{Text, Name, parts, with_byte, is_identifier, name_of_parts, name_read}
 

@@ -3,9 +3,9 @@ use Rattle.std.specs.Str.{bytes_eq}
 use Rattle.std.proofs.lemmas.Iterator.{YieldsList-from_slice}
 use Rattle.std.proofs.lemmas.Iterator.Search.{any_from_yields_List}
 use Rattle.cedar_expr_model.specs.Name.{reserved}
-use Rattle.cedar_expr_names.specs.Parts.{id_text}
-use Rattle.cedar_expr_names.proofs.Reading.{any_map}
-use Rattle.cedar_expr_names.proofs.internal_name.any_reserved.Goals as goal
+use Rattle.cedar_expr_names.specs.Ids.{id_text}
+use Rattle.cedar_expr_names.proofs.PartByPart.{any_map}
+use Rattle.cedar_expr_names.proofs.reading.any_reserved.Goals as goal
 
 pub returns : goal.returns
 returns c =

@@ -1,0 +1,50 @@
+//! Names as texts: their parts, one after another.
+
+ghost use Rattle.std.specs.Prelude.{◌≡◌, ◌++◌, [], ◌∷◌, map, length, true, IfOk, IfErr, MatchOption, ◌<◌, string_bytes};
+ghost use Rattle.std.specs.List.{list_any};
+ghost use Rattle.std.specs.Str.{bytes_eq};
+ghost use Rattle.cedar_expr_model.specs.Name.{is_identifier, joined, parts, reserved};
+ghost use Rattle.cedar_expr_names.specs.Ids.{id_text};
+ghost use Rattle.cedar_expr_names.specs.Refusals.{RefusesIdentifier};
+
+use crate::{Id, NameError};
+use std::alloc::{AllocError, Global};
+
+// The text of a name: each part and the double colon that ends it, and then the base.
+pub fn joined_text(alloc: Global, path: &[Id], base: &Id) -> Result<String, AllocError>
+    ensures { IfOk result (λ t. string_bytes t ≡ joined (map id_text path.now) (id_text base.now)) }
+{
+    let mut text = String::new(alloc);
+    for part in path {
+        text.push_str(part.as_str())?;
+        text.push_str("::")?;
+    }
+    text.push_str(base.as_str())?;
+    Ok(text)
+}
+
+// These identifiers and the one that the text is.
+pub fn read_part(alloc: Global, mut path: Vec<Id>, text: &str) -> Result<Vec<Id>, NameError>
+    ensures read { IfOk result (λ p. map id_text p.items ≡ map id_text path.items ++ text.now ∷ []) }
+    ensures identifies { IfOk result (λ p. is_identifier text.now ≡ true) }
+    ensures refused { IfErr result (λ e. RefusesIdentifier text.now e) }
+{
+    let part = Id::from_normalized_str(alloc, text)?;
+    path.push(part).map_err(|_| NameError::OutOfMemory)?;
+    Ok(path)
+}
+
+// Whether one of these is the reserved identifier.
+pub fn any_reserved(parts: &[Id]) -> bool
+    ensures { result ≡ list_any (bytes_eq reserved) (map id_text parts.now) }
+{
+    parts.iter().any(|part| part.is_reserved())
+}
+
+// The text before the first double colon and the text after it, if there is one.
+pub fn split_part(text: &str) -> Option<(&str, &str)>
+    ensures first { MatchOption result (parts text.now ≡ text.now ∷ []) (λ x. parts text.now ≡ x.0.now ∷ parts x.1.now) }
+    ensures less { MatchOption result (Unit {0}) (λ x. length x.1.now < length text.now) }
+{
+    text.split_once("::")
+}
