@@ -2,3 +2,4 @@ pub mod Values
 pub mod Answers
 pub mod Transcripts
 pub mod Printing
+pub mod Sessions

@@ -6,4 +6,5 @@ mod answers;
 mod evaluator;
 mod lines;
 mod output;
+pub mod session;
 pub mod transcript;
