@@ -3,3 +3,5 @@ pub mod Answers
 pub mod Transcripts
 pub mod Printing
 pub mod Sessions
+pub mod Hosts
+pub mod Runs

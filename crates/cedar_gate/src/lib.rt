@@ -4,7 +4,9 @@
 
 mod answers;
 mod evaluator;
+pub mod host;
 mod lines;
 mod output;
+pub mod run;
 pub mod session;
 pub mod transcript;
