@@ -1,7 +1,8 @@
 -- What hosts answer.
-use Rattle.std.specs.Prelude.{ℕ, ◌+◌, Bool, Option, Some, None, option_map, Result, Ok, Err, if◌then◌else◌}
+use Rattle.std.specs.Prelude.{ℕ, ◌+◌, List, Bool, Option, Some, None, option_map, Result, Ok, Err, if◌then◌else◌}
 use Rattle.cedar_expr_names.specs.Views.{uid_of}
-use Rattle.cedar_expr_model.specs.Uid.{Uid}
+use Rattle.cedar_expr_model.specs.Uid.{Uid, uid_eq}
+use Rattle.std.specs.List.{list_any}
 use Rattle.cedar_expr_names.specs.declared.entity.EntityUID.{EntityUID}
 use Rattle.cedar_gate_types.specs.declared.entities.Entity.{Entity}
 use Rattle.cedar_gate_types.specs.Requests.{entity_uid}
@@ -21,3 +22,7 @@ abbrev pub failures_after : {A : Type 0} → Result A HostFault → ℕ → ℕ
 failures_after (Ok a) n = n
 failures_after (Err Memory) n = n
 failures_after (Err Device) n = n + 1
+
+-- whether a uid is one of these
+abbrev pub held_in : List Uid → Uid → Bool
+held_in uids u = list_any (uid_eq u) uids

@@ -5,3 +5,4 @@ pub mod Printing
 pub mod Sessions
 pub mod Hosts
 pub mod Runs
+pub mod Stores

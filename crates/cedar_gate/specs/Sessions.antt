@@ -3,7 +3,7 @@ use Rattle.std.specs.Prelude.{ℕ}
 use Rattle.cedar_store_model.specs.World as model
 use Rattle.cedar_gate_model.specs.Acceptance.{Submission}
 use Rattle.cedar_gate_types.specs.Requests.{request_of}
-use Rattle.cedar_gate_accept.specs.Gates.{submission_of}
+use Rattle.cedar_gate_accept.specs.Accepted.{submission_of}
 use Rattle.cedar_gate.specs.declared.session.Session.{Session}
 use Rattle.cedar_gate.specs.declared.session.OpenFault.{OpenFault}
 use Rattle.cedar_gate.specs.declared.session.OpenFault.TheVariants as opening

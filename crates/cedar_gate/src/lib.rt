@@ -9,4 +9,5 @@ mod lines;
 mod output;
 pub mod run;
 pub mod session;
+mod store_host;
 pub mod transcript;

@@ -6,7 +6,7 @@ ghost use Rattle.cedar_schema_model.specs.Conforming.{conforms};
 ghost use Rattle.cedar_gate_model.specs.Transcript.{decisions_for, IsLegal};
 ghost use Rattle.cedar_gate_types.specs.Requests.{request_of, step_of, steps_of};
 ghost use Rattle.cedar_gate_types.specs.Responses.{response_of};
-ghost use Rattle.cedar_gate_accept.specs.Gates.{submission_of};
+ghost use Rattle.cedar_gate_accept.specs.Accepted.{submission_of};
 ghost use Rattle.cedar_gate.specs.Transcripts.{entries_of, transcript_of};
 ghost use Rattle.cedar_gate.specs.Sessions.{session_submission, session_request};
 ghost use Rattle.cedar_gate.specs.Runs.{session_decision, run_world, RunGives, SessionGives, ConclusionGives};

@@ -8,7 +8,7 @@ ghost use Rattle.cedar_schema_model.specs.Conforming.{conforms};
 ghost use Rattle.cedar_gate_model.specs.Slice.{InSlice};
 ghost use Rattle.cedar_gate_types.specs.Requests.{request_of};
 ghost use Rattle.cedar_gate_types.specs.Responses.{decision_of, response_of};
-ghost use Rattle.cedar_gate_accept.specs.Gates.{submission_of};
+ghost use Rattle.cedar_gate_accept.specs.Accepted.{submission_of};
 ghost use Rattle.cedar_gate.specs.Sessions.{session_submission, session_request};
 
 use crate::answers::{decide, respond};
