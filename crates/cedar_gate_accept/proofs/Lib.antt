@@ -3,3 +3,4 @@ pub mod Depth
 pub mod Fresh
 pub mod Types
 pub mod Declaring
+pub mod Named

@@ -2,3 +2,7 @@ pub mod Schema
 pub mod Typing
 pub mod Faults
 pub mod Verdict
+pub mod Gates
+pub mod Candidates
+pub mod Accepted
+pub mod Plain
