@@ -6,3 +6,4 @@ pub mod Sessions
 pub mod Hosts
 pub mod Runs
 pub mod Stores
+pub mod Statuses

@@ -48,7 +48,10 @@ fn holds_uid(entities: &[Entity], uid: &EntityUID) -> bool
 }
 
 // What the entities answer to a uid.
-fn answer_one(entities: &[Entity], uid: &EntityUID) -> Result<(EntityUID, Option<Entity>), AllocError>
+fn answer_one(
+    entities: &[Entity],
+    uid: &EntityUID,
+) -> Result<(EntityUID, Option<Entity>), AllocError>
     ensures { IfOk result (λ a. answered_of a ≡ answer_from (held_in (entity_uids entities.now)) (uid_of uid.now)) }
 {
     let answer = if holds_uid(entities, uid) {
@@ -87,8 +90,11 @@ fn copied(alloc: Global, uids: &[EntityUID]) -> Result<Vec<EntityUID>, AllocErro
 
 impl Host for StoreHost {
     ghost store = { λ h u. held_in (store_uids h) u };
+
     ghost asked = { store_asked };
+
     ghost honest = { λ _. Unit {0} };
+
     ghost faults = { λ _. 0 };
 
     fn failures(&self) -> u64 {
@@ -100,7 +106,9 @@ impl Host for StoreHost {
         alloc: Global,
         ids: &[EntityUID],
     ) -> Result<Vec<(EntityUID, Option<Entity>)>, HostFault> {
-        let answers = answer_all(alloc, self.entities.as_slice(), ids).map_err(|_| HostFault::Memory)?;
+        let answers = answer_all(alloc, self.entities.as_slice(), ids).map_err(
+            |_| HostFault::Memory,
+        )?;
         let copy = copied(alloc, ids).map_err(|_| HostFault::Memory)?;
         self.asked.push(copy).map_err(|_| HostFault::Memory)?;
         Ok(answers)
