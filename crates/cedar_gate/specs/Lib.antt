@@ -7,3 +7,4 @@ pub mod Hosts
 pub mod Runs
 pub mod Stores
 pub mod Statuses
+pub mod Serving

@@ -9,6 +9,7 @@ mod lines;
 mod output;
 mod printing;
 pub mod run;
+pub mod serve;
 pub mod session;
 pub mod status;
 mod store_host;
