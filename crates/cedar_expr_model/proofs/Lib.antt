@@ -2,3 +2,5 @@ pub mod Lists
 pub mod Equality
 pub mod Reading
 pub mod Computed
+pub mod Escapes
+pub mod UidText

@@ -3,12 +3,8 @@ use Rattle.std.proofs.Common.{◌≡◌, ◌↔◌, ℕ, List, [], ◌∷◌, �
 use Rattle.std.specs.List.{list_all}
 use Rattle.std.proofs.lemmas.Bool.Decides.{Decides-eqb}
 use Rattle.std.proofs.lemmas.List.Folds.{list_all-append}
+use Rattle.cedar_expr_model.proofs.Lists.{both_hold}
 use Rattle.cedar_expr_model.specs.Name.{Text, Name, Writes, joined, name_text, colons, parts, with_byte, name_of_parts, name_read, is_identifier, is_word, starts_identifier, continues_identifier, is_well_formed}
-
--- conjunctions that hold
-both_hold : (a b : Bool) → (a && b) ≡ true → (a ≡ true) × (b ≡ true)
-both_hold true b h = (refl, h)
-both_hold false b h = cc
 
 -- the text of a list of parts
 abbrev whole : List Text → Text

@@ -4,3 +4,4 @@ pub mod Value
 pub mod Tree
 pub mod Laws
 pub mod Worked
+pub mod Sets

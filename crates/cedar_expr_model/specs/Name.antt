@@ -12,6 +12,7 @@ Text = List ℕ
 pub record Name : Type 0 where
   pub path : List Text
   pub base : Text
+  deriving IsSet as Name-set
 
 -- what stands between a name and what follows it
 abbrev pub colons : Text

@@ -7,13 +7,16 @@ pub data Var : Type 0 where
   principal : Var
   action : Var
   resource : Var
+  deriving IsSet as Var-set
 
 pub data UnaryOp : Type 0 where
   negation : UnaryOp
+  deriving IsSet as UnaryOp-set
 
 pub data BinaryOp : Type 0 where
   equal : BinaryOp
   less : BinaryOp
+  deriving IsSet as BinaryOp-set
 
 pub data Tree : Type 0 where
   lit : Literal → Tree
@@ -21,6 +24,7 @@ pub data Tree : Type 0 where
   both : Tree → Tree → Tree
   unary : UnaryOp → Tree → Tree
   binary : BinaryOp → Tree → Tree → Tree
+  deriving IsSet as Tree-set
 
 -- the truth value that an expression writes
 abbrev pub written_truth : Tree → Option Bool

@@ -9,6 +9,7 @@ use Rattle.cedar_expr_model.specs.Name.{Text, Name, name_text, name_eq, colons}
 pub record Uid : Type 0 where
   pub kind : Name
   pub id : Text
+  deriving IsSet as Uid-set
 
 abbrev pub uid_eq : Uid → Uid → Bool
 uid_eq u v = name_eq u.kind v.kind && bytes_eq u.id v.id

@@ -8,6 +8,7 @@ pub data Literal : Type 0 where
   truth : Bool → Literal
   long : ℤ → Literal
   entity : Uid → Literal
+  deriving IsSet as Literal-set
 
 -- A value, in canonical form: equal values are one.
 pub data V : Type 0 where

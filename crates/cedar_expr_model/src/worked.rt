@@ -14,8 +14,7 @@ pub fn worked_conjunctions()
     ensures false_true { conjunction (lit (truth false)) (lit (truth true)) ≡ lit (truth false) }
     ensures with_variable { conjunction (lit (truth true)) (var principal) ≡ both (lit (truth true)) (var principal) }
     ensures with_number { conjunction (lit (long (pos 1))) (lit (truth true)) ≡ both (lit (long (pos 1))) (lit (truth true)) }
-{
-}
+{}
 
 /// Texts that write a name, and texts that write none.
 pub fn worked_names()
@@ -31,11 +30,9 @@ pub fn worked_names()
     ensures reserved_reads { name_read (codes "__cedar::a") ≡ Some reserved_name }
     ensures reserved { is_reserved reserved_name ≡ true }
     ensures not_reserved { is_reserved path_name ≡ false }
-{
-}
+{}
 
 /// The text of a uid whose id has a double quote, a backslash, a line feed and the character U+00E9.
 pub fn worked_uid_text()
     ensures { uid_text awkward_uid ≡ awkward_text }
-{
-}
+{}

@@ -15,3 +15,8 @@ list_all-flat_map p f [] = refl
 list_all-flat_map p f (y ∷ ys) = list_all-append p (f y) (flat_map f ys) ∙ ap (λ b. list_all p (f y) && b) (list_all-flat_map p f ys)
 
 pub ruleset list_rules = (list_any-map, list_all-flat_map)
+
+-- tests that agree on each item
+pub list_all-same : {X : Type 0} (p q : X → Bool) → ((x : X) → p x ≡ q x) → (xs : List X) → list_all p xs ≡ list_all q xs
+list_all-same p q h [] = refl
+list_all-same p q h (x ∷ xs) = ap (λ b. b && list_all p xs) (h x) ∙ ap (λ b. q x && b) (list_all-same p q h xs)

@@ -1,3 +1,6 @@
 pub mod Schema
 pub mod Typing
 pub mod Faults
+pub mod Verdict
+pub mod Gates
+pub mod Candidates

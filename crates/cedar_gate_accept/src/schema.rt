@@ -65,6 +65,19 @@ impl ValidatorSchema {
     ghost use Rattle.cedar_schema_model.specs.Declarations.{declares_type, declares_action, is_action_type};
     ghost use Rattle.cedar_gate_accept.specs.Schema.{schema_of, action_of, type_declaration_of};
 
+    /// The schema of these entity types and actions.
+    pub fn new(
+        entity_types: Vec<InternalName>,
+        actions: Vec<ValidatorActionId>,
+    ) -> ValidatorSchema
+        ensures { schema_of result ≡ record { types = map type_declaration_of entity_types.items; actions = map action_of actions.items } }
+    {
+        ValidatorSchema {
+            entity_types,
+            actions,
+        }
+    }
+
     /// The names of the declared entity types.
     pub fn entity_types(&self) -> &[InternalName]
         ensures { map type_declaration_of result.now ≡ (schema_of self.now).types }

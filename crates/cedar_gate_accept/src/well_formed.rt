@@ -1,14 +1,12 @@
 //! When declarations are well-formed.
 
-use crate::declared::{action_texts, type_texts};
+use crate::declared::{action_texts, actions, only_namespace, type_names, type_texts};
 use crate::distinct::are_distinct;
 use crate::err::SchemaError;
 use crate::schema::{ValidatorActionId, ValidatorSchema};
-use cedar_expr::{Id, InternalName};
-use cedar_gate_types::json_schema;
-use cedar_gate_types::json_schema::{ActionType, NamespaceDefinition};
+use cedar_expr::InternalName;
+use cedar_gate_types::json_schema::{Fragment, NamespaceDefinition};
 use std::alloc::{AllocError, Global};
-use std::rc::RcStr;
 
 ghost use Rattle.std.specs.Prelude.{◌≡◌, ◌&&◌, IfOk, IfErr, OnOk, None, map, not, true};
 ghost use Rattle.std.specs.List.{list_all};
@@ -143,5 +141,42 @@ impl ValidatorSchema {
         ensures { result ≡ model.is_free_of model.reserved_name (schema_of self.now) }
     {
         none_is_reserved(self.entity_types())
+    }
+}
+
+ghost use Rattle.cedar_gate_types.specs.Schemas.{declarations_of, is_first_path};
+
+/// The schema that a namespace without a name declares.
+fn declared_schema(
+    alloc: Global,
+    definition: &NamespaceDefinition,
+) -> Result<ValidatorSchema, SchemaError>
+    ensures built { IfOk result (λ s. schema_of s ≡ declared_in definition.now) }
+    ensures good { IfOk result (λ s. well_formed (declared_in definition.now) ≡ true) }
+    ensures refused { IfErr result (λ e. SchemaErrorIsThere e (declared_in definition.now)) }
+{
+    let entity_types = type_names(alloc, definition.entity_types.as_slice())?;
+    let actions = actions(alloc, definition.actions.as_slice())?;
+    let schema = ValidatorSchema::new(entity_types, actions);
+    check_well_formed(alloc, definition, &schema)?;
+    Ok(schema)
+}
+
+impl ValidatorSchema {
+    /// The schema that the fragments declare, where their declarations are well-formed. Refuses others with a fault that is there, and
+    /// answers want of memory.
+    pub fn from_schema_fragments(
+        alloc: Global,
+        fragments: &[Fragment],
+    ) -> Result<ValidatorSchema, SchemaError>
+        requires { is_first_path fragments.now ≡ true }
+        ensures built { IfOk result (λ s. schema_of s ≡ declarations_of fragments.now) }
+        ensures good { IfOk result (λ s. well_formed (declarations_of fragments.now) ≡ true) }
+        ensures refused { IfErr result (λ e. SchemaErrorIsThere e (declarations_of fragments.now)) }
+    {
+        match only_namespace(fragments) {
+            Some(definition) => declared_schema(alloc, definition),
+            None => unreachable!(),
+        }
     }
 }

@@ -1,5 +1,5 @@
 -- The output of the worked runs, computed.
-use Rattle.std.proofs.Common.{◌≡◌, Some, None, refl}
+use Rattle.std.proofs.Common.{Some, None, refl}
 use Rattle.std.specs.Str.{chars}
 use Rattle.std.specs.Fmt.{digits}
 use Rattle.cedar_gate_model.specs.Acceptance.{unknown_entity_type}

@@ -3,3 +3,4 @@ pub mod Policies
 pub mod Runs
 pub mod Lines
 pub mod Computed
+pub mod Order

@@ -1,5 +1,5 @@
 -- What may be printed.
-use Rattle.std.proofs.Common.{◌≡◌, ◌≢◌, Bool, true, false, ◌++◌, Option, Some, None, refl, sym, ◌∙◌}
+use Rattle.std.proofs.Common.{◌≡◌, ◌≢◌, Bool, true, false, ◌++◌, Option, Some, None, refl, sym, ◌∙◌, ◌↔◌}
 use Rattle.cedar_expr_model.specs.Name.{Text}
 use Rattle.cedar_store_model.specs.Answer.{answer_of}
 use Rattle.cedar_schema_model.specs.Conforming.{conforms}
@@ -49,3 +49,13 @@ one_text (Some x) answered s t n h k = h.2 ∙ sym k.2
 one_text (Some x) refused s t n h k = absurd (n refl)
 one_text (Some x) stopped s t n h k = h.2 ∙ sym k.2
 one_text (Some x) unreadable s t n h k = absurd h
+
+refused_where : (b : Bundle) → (IsAccepted b.submission → ⊥) → (text : Text) × Prints (Some b) refused text
+refused_where b h = by_gate (admits b.submission) refl
+  where
+    by_gate : (t : Bool) → admits b.submission ≡ t → (text : Text) × Prints (Some b) refused text
+    by_gate true e = absurd (h (admitted_accepted b.submission e))
+    by_gate false e = let r = refusal_has_fault b.submission e in (refused_line (number_of r.0), (r.0, r.1, refl))
+
+pub refusals_are_faults : (b : Bundle) → ((text : Text) × Prints (Some b) refused text) ↔ (IsAccepted b.submission → ⊥)
+refusals_are_faults b = (λ h a. faults_exclude (h.1).0 b.submission (h.1).1 a, refused_where b)

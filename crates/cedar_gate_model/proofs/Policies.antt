@@ -1,12 +1,12 @@
 -- What acceptance promises of the answer.
-use Rattle.std.proofs.Common.{◌≡◌, List, [], ◌∷◌, ◌++◌, Bool, true, false, not, ◌&&◌, refl, sym, ap, ◌∙◌, subst}
+use Rattle.std.proofs.Common.{◌≡◌, List, [], ◌∷◌, ◌++◌, Bool, true, false, not, ◌&&◌, refl, sym, ap, ◌∙◌, subst, ◌↔◌}
 use Rattle.std.specs.Prelude.{Contains}
 use Rattle.std.specs.Str.{bytes_eq}
 use Rattle.std.specs.List.{list_any, flat_map, filter}
 use Rattle.std.proofs.lemmas.List.Concat.{flat_map-cons}
 use Rattle.std.proofs.lemmas.Slice.Eq.{bytes_eq-Decides}
 use Rattle.cedar_expr_model.specs.Name.{Text}
-use Rattle.cedar_expr_model.proofs.Lists.{both_hold, contains_head, contains_tail, contains_none, contains_cases, any_has, all_each, filter_only, map_has, map_from}
+use Rattle.cedar_expr_model.proofs.Lists.{both_hold, contains_head, contains_tail, contains_none, contains_cases, any_has, all_each, filter_only, filter_has, map_has, map_from}
 use Rattle.cedar_store_model.specs.Outcome.{val}
 use Rattle.cedar_store_model.specs.World.{World}
 use Rattle.cedar_store_model.specs.Meaning.{outcome_of, truth_value}
@@ -15,7 +15,7 @@ use Rattle.cedar_store_model.specs.Answer.{permits, satisfied, satisfied_permits
 use Rattle.cedar_store_model.proofs.Meaning.{means_outcome, satisfied-Decides}
 use Rattle.cedar_schema_model.specs.Declarations.{are_distinct}
 use Rattle.cedar_schema_model.specs.Conforming.{Conforms}
-use Rattle.cedar_typechecker_model.specs.Verdicts.{passes, impossible}
+use Rattle.cedar_typechecker_model.specs.Verdicts.{IsImpossible, passes, impossible}
 use Rattle.cedar_typechecker_model.proofs.Verdicts.{passes-Decides, impossible-Decides}
 use Rattle.cedar_typechecker_model.proofs.Soundness.{passing_is_sound, impossible_is_sound}
 use Rattle.cedar_gate_model.specs.Acceptance.{Submission, repeated_policy, ill_typed, IsAccepted, warnings_of}
@@ -78,3 +78,11 @@ warned_is_no_reason s w id a c h k =
     let q = determining_satisfied w s.policies z.0 z.1 in
     let e : x.0 ≡ z.0 = one_of_id s.policies (a repeated_policy) x.0 z.0 y.0 q.0 (x.2 ∙ sym z.2) in
     impossible_is_sound s.declarations x.0 w ((impossible-Decides s.declarations x.0).0 y.1) c (subst (IsSatisfied w) (sym e) q.1)
+
+pub warned_are_impossible : (s : Submission) (id : Text) → Contains (warnings_of s) id ↔ ((p : Policy) × Contains s.policies p × IsImpossible s.declarations p × (p.id ≡ id))
+warned_are_impossible s id = (
+  λ h. let x = map_from (λ (p : Policy). p.id) (filter (impossible s.declarations) s.policies) id h in
+      let y = filter_only (impossible s.declarations) s.policies x.0 x.1 in
+      (x.0, y.0, (impossible-Decides s.declarations x.0).0 y.1, x.2),
+  λ h. subst (Contains (warnings_of s)) h.3 (map_has (λ (p : Policy). p.id) (filter (impossible s.declarations) s.policies) h.0 (filter_has (impossible s.declarations) s.policies h.0 h.1 ((impossible-Decides s.declarations h.0).1 h.2))),
+)

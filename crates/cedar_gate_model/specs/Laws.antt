@@ -1,15 +1,17 @@
 -- What the laws of this crate say.
-use Rattle.std.specs.Prelude.{◌≡◌, ◌≢◌, List, [], Option, Some, Contains, false}
+use Rattle.std.specs.Prelude.{◌≡◌, ◌≢◌, List, [], Option, Some, Contains, false, ◌↔◌, ℕ, suc, ◌∷◌, ◌++◌}
 use Rattle.std.specs.Bool.{Decides}
 use Rattle.cedar_expr_model.specs.Name.{Text}
 use Rattle.cedar_expr_model.specs.Uid.{Uid}
 use Rattle.cedar_store_model.specs.World.{World}
 use Rattle.cedar_store_model.specs.Answer.{Decision, decision_of, answer_of, errors_of, reasons_of}
-use Rattle.cedar_schema_model.specs.Declarations.{Declarations}
+use Rattle.cedar_schema_model.specs.Declarations.{Declarations, declares_action}
+use Rattle.cedar_store_model.specs.Policy.{Policy}
+use Rattle.cedar_typechecker_model.specs.Verdicts.{IsImpossible}
 use Rattle.cedar_schema_model.specs.Conforming.{Conforms}
 use Rattle.cedar_gate_model.specs.Acceptance.{Submission, Cause, IsAccepted, HasFault, admits, warnings_of}
-use Rattle.cedar_gate_model.specs.Slice.{InSlice}
-use Rattle.cedar_gate_model.specs.Transcript.{Step, Entry, IsLegal, AreLegal, asked_in, decisions_for}
+use Rattle.cedar_gate_model.specs.Slice.{InSlice, IsRoot}
+use Rattle.cedar_gate_model.specs.Transcript.{Step, Entry, round, decided, IsLegal, AreLegal, asked_in, decisions_for}
 use Rattle.cedar_gate_model.specs.Bundle.{Bundle}
 use Rattle.cedar_gate_model.specs.Lines.{Status, refused, Prints}
 
@@ -67,3 +69,24 @@ OneStatus = (input : Option Bundle) (a b : Status) (s t : Text) → Prints input
 -- the text is one alone, but where it names one of several faults
 abbrev pub OneText : Type 0
 OneText = (input : Option Bundle) (a : Status) (s t : Text) → a ≢ refused → Prints input a s → Prints input a t → s ≡ t
+
+-- an id is warned of exactly where an impossible policy has it
+abbrev pub WarnedAreImpossible : Type 0
+WarnedAreImpossible = (s : Submission) (id : Text) → Contains (warnings_of s) id ↔ ((p : Policy) × Contains s.policies p × IsImpossible s.declarations p × (p.id ≡ id))
+
+-- the slice above level 0 is the roots, less the declared actions
+abbrev pub SliceIsRoots : Type 0
+SliceIsRoots = (d : Declarations) (n : ℕ) (w : World) (u : Uid) → InSlice d (suc n) w u ↔ (IsRoot w u × (declares_action d u ≡ false))
+
+-- a refusal may be printed exactly where a submission isn't accepted
+abbrev pub RefusalsAreFaults : Type 0
+RefusalsAreFaults = (b : Bundle) → ((text : Text) × Prints (Some b) refused text) ↔ (IsAccepted b.submission → ⊥)
+
+-- each decision that a legal transcript gives is that of the answer
+abbrev pub DecisionsAreFinal : Type 0
+DecisionsAreFinal = (s : Submission) (w : World) (entries : List Entry) (d : Decision) → AreLegal s w [] entries → Contains entries (decided (Some d)) → d ≡ decision_of w s.policies
+
+-- no uid stands in two rounds of a legal transcript
+abbrev pub AskedOnce : Type 0
+AskedOnce = (s : Submission) (w : World) (before after : List Entry) (uids : List Uid) (u : Uid) → AreLegal s w [] (before ++ round uids ∷ after)
+    → Contains (asked_in before) u → Contains uids u → ⊥

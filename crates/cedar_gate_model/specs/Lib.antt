@@ -9,3 +9,4 @@ pub mod ReadingSchema
 pub mod ReadingBundle
 pub mod Laws
 pub mod Worked
+pub mod Order

@@ -1,12 +1,12 @@
 -- The values of the worked examples.
-use Rattle.std.specs.Prelude.{ℕ, List, [], ◌∷◌, ◌++◌, codes, false}
+use Rattle.std.specs.Prelude.{List, [], ◌∷◌, ◌++◌, codes, false}
 use Rattle.cedar_expr_model.specs.Name.{Text}
 use Rattle.cedar_expr_model.specs.Value.{truth}
 use Rattle.cedar_expr_model.specs.Tree.{lit}
 use Rattle.cedar_store_model.specs.Policy.{Policy}
 use Rattle.cedar_store_model.specs.Worked.{permit_p, broken_r, request, user_a, doc_d, view}
 use Rattle.cedar_schema_model.specs.Worked.{views, doubled}
-use Rattle.cedar_typechecker_model.specs.Worked.{haunted, never_p, editing}
+use Rattle.cedar_typechecker_model.specs.Worked.{never_p, editing}
 use Rattle.cedar_gate_model.specs.Acceptance.{Submission}
 use Rattle.cedar_gate_model.specs.Bundle.{Bundle}
 use Rattle.cedar_gate_model.specs.Transcript.{load, decide}

@@ -10,8 +10,7 @@ ghost use Rattle.cedar_gate_model.specs.Worked.{good, twice, shallow, ghostly, s
 pub fn worked_acceptance()
     ensures accepted { admits good ≡ true }
     ensures warned { warnings_of good ≡ codes "n" ∷ [] }
-{
-}
+{}
 
 /// Submissions that are refused, each for its fault.
 pub fn worked_refusals()
@@ -23,8 +22,7 @@ pub fn worked_refusals()
     ensures broken { is_clear_of ill_typed broken ≡ false }
     ensures unfounded { is_clear_of (schema duplicate_entity_type) unfounded ≡ false }
     ensures not_admitted { admits ghostly ≡ false }
-{
-}
+{}
 
 /// The whole output of four runs: one that answers, one whose request doesn't conform, one that is refused, and one that can't be read.
 pub fn worked_runs()
@@ -32,5 +30,4 @@ pub fn worked_runs()
     ensures no_answer { Prints (Some swapped) stopped swapped_text }
     ensures refusal { Prints (Some refused_run) refused refused_text }
     ensures no_bundle { Prints None unreadable unreadable_text }
-{
-}
+{}

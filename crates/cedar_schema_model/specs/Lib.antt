@@ -4,3 +4,4 @@ pub mod Environment
 pub mod Conforming
 pub mod Laws
 pub mod Worked
+pub mod Order

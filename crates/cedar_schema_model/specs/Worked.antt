@@ -1,6 +1,5 @@
 -- The values of the worked examples.
 use Rattle.std.specs.Prelude.{List, [], ◌∷◌, codes}
-use Rattle.cedar_expr_model.specs.Name.{Name}
 use Rattle.cedar_expr_model.specs.Uid.{Uid}
 use Rattle.cedar_store_model.specs.Worked.{user, doc, view}
 use Rattle.cedar_schema_model.specs.Declarations.{Declarations, TypeDeclaration, ActionDeclaration}

@@ -1,5 +1,6 @@
 //! Laws of the definitions. Each function's contract is the theorem; its body does nothing.
 
+ghost use Rattle.cedar_schema_model.specs.Order.{OrderHidesNoFault, OrderKeepsRequests, OrderKeepsEnvironments};
 ghost use Rattle.cedar_schema_model.specs.Laws.{ConformingDecides, WellFormedDecides, EnvironmentsAreThose, DeclaredTypes};
 
 /// The test of a request is true exactly where the request conforms.
@@ -20,4 +21,11 @@ pub fn environments_are_those_of_requests()
 /// Where declarations are well-formed, the types of a conforming request are declared, and so is its action.
 pub fn conforming_requests_are_declared()
     ensures { DeclaredTypes }
+{}
+
+/// Declarations in another order have the same faults, the same conforming requests and the same environments.
+pub fn order_of_declarations_is_free()
+    ensures faults { OrderHidesNoFault }
+    ensures requests { OrderKeepsRequests }
+    ensures environments { OrderKeepsEnvironments }
 {}

@@ -16,24 +16,19 @@ pub fn worked_well_formed()
     ensures action_type { is_free_of action_as_entity_type with_action_type ≡ false }
     ensures reserved { is_free_of reserved_name with_reserved ≡ false }
     ensures refused { well_formed doubled ≡ false }
-{
-}
+{}
 
 /// The environments of one action on one pair of types, and of one on two principal and two resource types.
 pub fn worked_environments()
     ensures one { environments views ≡ record { principal = user; action = view; resource = doc } ∷ [] }
-    ensures four {
-        environments crossed
+    ensures four { environments crossed
         ≡ record { principal = user; action = view; resource = user } ∷ record { principal = user; action = view; resource = doc }
-            ∷ record { principal = doc; action = view; resource = user } ∷ record { principal = doc; action = view; resource = doc } ∷ []
-    }
-{
-}
+        ∷ record { principal = doc; action = view; resource = user } ∷ record { principal = doc; action = view; resource = doc } ∷ [] }
+{}
 
 /// A request conforms where its action is declared for its two types.
 pub fn worked_requests()
     ensures good { conforms views request ≡ true }
     ensures swapped { conforms views (record { principal = doc_d; action = view; resource = user_a }) ≡ false }
     ensures no_action { conforms views (record { principal = user_a; action = edit; resource = doc_d }) ≡ false }
-{
-}
+{}

@@ -15,7 +15,7 @@ allowed_parts (p ∷ ps) [] h = ((p, contains_head p ps), refl)
 allowed_parts [] (f ∷ fs) h = cc
 allowed_parts (p ∷ ps) (f ∷ fs) h = cc
 
-is_permit : (e : Effect) → permits e ≡ true → e ≡ permit
+pub is_permit : (e : Effect) → permits e ≡ true → e ≡ permit
 is_permit permit h = refl
 is_permit forbid h = cc
 
@@ -36,7 +36,7 @@ allowed_by [] fs p h none = absurd (contains_none p h)
 allowed_by (q ∷ ps) [] p h none = refl
 allowed_by (q ∷ ps) (f ∷ fs) p h none = absurd (none f (contains_head f fs))
 
-is_forbid : (e : Effect) → not (permits e) ≡ true → e ≡ forbid
+pub is_forbid : (e : Effect) → not (permits e) ≡ true → e ≡ forbid
 is_forbid permit h = cc
 is_forbid forbid h = refl
 

@@ -1,3 +1,6 @@
 pub mod Agree
 pub mod Meaning
 pub mod Answers
+pub mod Conditions
+pub mod Reports
+pub mod Store

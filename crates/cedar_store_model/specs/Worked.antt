@@ -1,8 +1,8 @@
 -- The values of the worked examples.
-use Rattle.std.specs.Prelude.{ℤ, pos, List, [], ◌∷◌, codes, Bool, true, false}
+use Rattle.std.specs.Prelude.{pos, [], codes, true, false}
 use Rattle.cedar_expr_model.specs.Name.{Name}
 use Rattle.cedar_expr_model.specs.Uid.{Uid}
-use Rattle.cedar_expr_model.specs.Value.{truth, long, entity}
+use Rattle.cedar_expr_model.specs.Value.{truth, long}
 use Rattle.cedar_expr_model.specs.Tree.{Tree, lit, binary, less}
 use Rattle.cedar_store_model.specs.World.{Request, World}
 use Rattle.cedar_store_model.specs.Policy.{Policy, permit, forbid, any, exactly}

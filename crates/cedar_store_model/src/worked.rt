@@ -12,8 +12,7 @@ ghost use Rattle.cedar_store_model.specs.Worked.{world, user_a, user_b, permit_p
 /// The condition of `permit(principal == User::"a", action, resource) when 1 < 2` nests five deep.
 pub fn worked_nesting()
     ensures { nesting (condition permit_p) ≡ 5 }
-{
-}
+{}
 
 /// What expressions mean where the principal is `User::"a"`.
 pub fn worked_meanings()
@@ -26,33 +25,26 @@ pub fn worked_meanings()
     ensures true_first { outcome_of world (both (lit (truth true)) (lit (long (pos 1)))) ≡ err wrong_type }
     ensures number_first { outcome_of world (both (lit (long (pos 1))) (lit (truth false))) ≡ err wrong_type }
     ensures negated { outcome_of world (unary negation (lit (truth true))) ≡ val (truth_value false) }
-{
-}
+{}
 
 /// A satisfied permit allows, and is the reason.
 pub fn worked_allow()
     ensures { answer_of world (permit_p ∷ []) ≡ record { decision = allow; reasons = codes "p" ∷ []; errors = [] } }
-{
-}
+{}
 
 /// A satisfied forbid denies, whatever is permitted, and is the reason.
 pub fn worked_forbid()
     ensures { answer_of world (permit_p ∷ forbid_f ∷ []) ≡ record { decision = deny; reasons = codes "f" ∷ []; errors = [] } }
-{
-}
+{}
 
 /// Where no permit is satisfied the decision is Deny, with no reason; so it is with no policy.
 pub fn worked_deny()
     ensures unsatisfied { answer_of world (other_q ∷ []) ≡ record { decision = deny; reasons = []; errors = [] } }
     ensures no_policy { answer_of world [] ≡ record { decision = deny; reasons = []; errors = [] } }
-{
-}
+{}
 
 /// A policy whose condition errs is in the errors, and is not satisfied.
 pub fn worked_error()
-    ensures {
-        answer_of world (broken_r ∷ permit_p ∷ [])
-        ≡ record { decision = allow; reasons = codes "p" ∷ []; errors = record { id = codes "r"; fault = wrong_type } ∷ [] }
-    }
-{
-}
+    ensures { answer_of world (broken_r ∷ permit_p ∷ [])
+        ≡ record { decision = allow; reasons = codes "p" ∷ []; errors = record { id = codes "r"; fault = wrong_type } ∷ [] } }
+{}

@@ -4,3 +4,5 @@ pub mod Verdicts
 pub mod Naming
 pub mod Values
 pub mod Soundness
+pub mod Parts
+pub mod Order

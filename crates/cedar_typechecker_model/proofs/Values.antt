@@ -39,12 +39,6 @@ pub known_truth : (b : Bool) → IsTruthOf (bool_known b) b
 known_truth true = refl
 known_truth false = refl
 
--- a truth value of a type of truth values
-bool_parts : (t : BoolType) (v : V) → IsOf (bool_type t) v → (b : Bool) × (v ≡ truth_value b) × IsTruthOf t b
-bool_parts t (prim (truth b)) h = (b, refl, h)
-bool_parts t (prim (long n)) h = absurd h
-bool_parts t (prim (entity u)) h = absurd h
-
 negated_truth : (t : BoolType) (b : Bool) → IsTruthOf t b → IsTruthOf (negated t) (not b)
 negated_truth only_true b h = ap not h
 negated_truth only_false b h = ap not h
@@ -146,12 +140,6 @@ equal_sound s a b (entity_type m) (entity_type n) (val (prim (entity x))) (err f
 equal_sound s a b (entity_type m) (entity_type n) (val (prim (truth c))) r h k i j ty out p = absurd h
 equal_sound s a b (entity_type m) (entity_type n) (val (prim (long c))) r h k i j ty out p = absurd h
 equal_sound s a b (entity_type m) (entity_type n) (err f) r h k i j ty out p = absurd h
-
--- the value of a whole number's type
-long_parts : (v : V) → IsOf long_type v → (P : V → Type 0) → ((n : _) → P (prim (long n))) → P v
-long_parts (prim (long n)) h P f = f n
-long_parts (prim (truth b)) h P f = absurd h
-long_parts (prim (entity u)) h P f = absurd h
 
 longs_sound : (l r : Res V) → IsGood long_type l → IsGood long_type r → IsGood (bool_type any_bool) (bind l (λ v. bind r (compared less v)))
 longs_sound (val (prim (long m))) (val (prim (long n))) h k = tt

@@ -6,3 +6,5 @@ pub mod Verdicts
 pub mod Laws
 pub mod Soundness
 pub mod Worked
+pub mod Parts
+pub mod Order

@@ -21,8 +21,7 @@ pub fn worked_undeclared()
     ensures impossible { impossible views never_p ≡ true }
     ensures named { each_named (has_known_type views) never_p ≡ false }
     ensures declared { each_named (has_known_type views) permit_p ≡ true }
-{
-}
+{}
 
 /// Equality of uids that are written, of types that differ, and of values.
 pub fn worked_equality()
@@ -35,8 +34,7 @@ pub fn worked_equality()
     ensures numbers { type_of here (binary equal (lit (long (pos 1))) (lit (long (pos 1)))) ≡ Some (bool_type any_bool) }
     ensures mixed { type_of here (binary equal (lit (long (pos 1))) (lit (truth true))) ≡ None }
     ensures with_uid { type_of here (binary equal (lit (entity user_a)) (lit (long (pos 1)))) ≡ None }
-{
-}
+{}
 
 /// Order is of whole numbers alone, and negation of truth values alone.
 pub fn worked_operators()
@@ -47,8 +45,7 @@ pub fn worked_operators()
     ensures false_right { type_of here (both (binary less (lit (long (pos 1))) (lit (long (pos 2)))) (lit (truth false))) ≡ Some (bool_type only_false) }
     ensures bad_right { type_of here (both (lit (truth true)) (lit (long (pos 1)))) ≡ None }
     ensures bad_left { type_of here (both (lit (long (pos 1))) (lit (truth false))) ≡ None }
-{
-}
+{}
 
 /// Verdicts on policies: p passes, r compares a number with a truth value, and an action that isn't declared is named.
 pub fn worked_verdicts()
@@ -58,5 +55,4 @@ pub fn worked_verdicts()
     ensures unknown_action { each_named (is_no_unknown_action views) editing ≡ false }
     ensures known_type { each_named (has_known_type views) editing ≡ true }
     ensures not_passing { passes views editing ≡ false }
-{
-}
+{}

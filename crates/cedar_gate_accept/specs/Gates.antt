@@ -1,0 +1,13 @@
+-- What a gate has accepted.
+use Rattle.std.specs.Prelude.{ℕ, List}
+use Rattle.cedar_gate_model.specs.Acceptance.{Submission}
+use Rattle.cedar_gate_types.specs.Limit.{levels_of}
+use Rattle.cedar_gate_types.specs.Policies.{policies_of}
+use Rattle.cedar_gate_types.specs.declared.policy.Policy.{Policy}
+use Rattle.cedar_gate_types.specs.declared.nest_limit.NestLimit.{NestLimit}
+use Rattle.cedar_gate_accept.specs.declared.schema.ValidatorSchema.{ValidatorSchema}
+use Rattle.cedar_gate_accept.specs.Schema.{schema_of}
+
+-- the submission of these parts
+abbrev pub submission : ValidatorSchema → List Policy → ℕ → NestLimit → Submission
+submission schema policies level limit = record { declarations = schema_of schema; policies = policies_of policies; level = level; limit = levels_of limit }

@@ -1,0 +1,45 @@
+//! The ids and the conditions of policies.
+
+ghost use Rattle.std.specs.Prelude.{◌≡◌, IfOk, map};
+ghost use Rattle.std.specs.Str.{bytes_eq};
+ghost use Rattle.cedar_expr.specs.Trees.{tree_of};
+ghost use Rattle.cedar_store_model.specs.Policy.{condition};
+ghost use Rattle.cedar_store_model.specs.Answer.{ids};
+ghost use Rattle.cedar_schema_model.specs.Declarations as declared_model;
+ghost use Rattle.cedar_gate_types.specs.Policies.{policies_of, policy_of};
+
+use crate::distinct::are_distinct;
+use cedar_expr::Expr;
+use cedar_gate_types::Policy;
+use std::alloc::{AllocError, Global};
+
+/// The texts of the policies' ids. Fails only for want of memory.
+fn id_texts(alloc: Global, policies: &[Policy]) -> Result<Vec<&str>, AllocError>
+    ensures { IfOk result (λ v. map (λ t. t.now) v.items ≡ map (λ p. (policy_of p).id) policies.now) }
+{
+    let mut texts = Vec::new(alloc);
+    for policy in policies {
+        texts.push(policy.id().as_str())?;
+    }
+    Ok(texts)
+}
+
+/// Whether no two policies have one id. Fails only for want of memory.
+pub fn ids_are_distinct(alloc: Global, policies: &[Policy]) -> Result<bool, AllocError>
+    ensures { IfOk result (λ b. b ≡ declared_model.are_distinct bytes_eq (ids (policies_of policies.now))) }
+{
+    let texts = id_texts(alloc, policies)?;
+    let distinct = are_distinct(alloc, texts.as_slice())?;
+    Ok(distinct)
+}
+
+/// The policies' conditions. Fails only for want of memory.
+pub fn conditions_of(alloc: Global, policies: &[Policy]) -> Result<Vec<Expr>, AllocError>
+    ensures { IfOk result (λ v. map tree_of v.items ≡ map (λ p. condition (policy_of p)) policies.now) }
+{
+    let mut conditions = Vec::new(alloc);
+    for policy in policies {
+        conditions.push(policy.condition(alloc)?)?;
+    }
+    Ok(conditions)
+}

@@ -1,0 +1,16 @@
+-- The order of declarations and policies says nothing of acceptance.
+use Rattle.std.specs.Prelude.{◌≡◌}
+use Rattle.std.specs.List.Sorted.{IsPermutation}
+use Rattle.cedar_schema_model.specs.Order.{IsReordered}
+use Rattle.cedar_gate_model.specs.Acceptance.{Submission, Cause, is_clear_of}
+
+-- the same submission in another order
+pub record IsReorderedSubmission (s t : Submission) : Type 0 where
+  pub declarations : IsReordered s.declarations t.declarations
+  pub policies : IsPermutation s.policies t.policies
+  pub level : s.level ≡ t.level
+  pub limit : s.limit ≡ t.limit
+
+-- it has the same faults
+abbrev pub OrderHidesNoFault : Type 0
+OrderHidesNoFault = (s t : Submission) → IsReorderedSubmission s t → (c : Cause) → is_clear_of c s ≡ is_clear_of c t
