@@ -1,5 +1,5 @@
 //! The entities of a store.
-ghost use Rattle.std.specs.Prelude.{◌≡◌, Some, None, IfOk, IfErr, map};
+ghost use Rattle.std.specs.Prelude.{◌≡◌, true, Some, None, IfOk, IfErr, map};
 ghost use Rattle.std.specs.Ordering.{eq_by_cmp};
 ghost use Rattle.serde_json.specs.View.{view};
 ghost use Rattle.cedar_expr_names.specs.Views.{uid_of};
@@ -20,6 +20,7 @@ use std::collections::BTreeSet;
 /// Reads a store, where no uid may be repeated.
 pub(crate) fn read_store(alloc: Global, value: &Value) -> Result<Vec<Entity>, ReadFault>
     ensures ok { IfOk result (λ v. store_read (view value.now) ≡ Some (entity_uids v.items)) }
+    ensures distinct { IfOk result (λ v. are_distinct uid_eq (entity_uids v.items) ≡ true) }
     ensures unreadable { IfErr result (λ f. f ≡ Unreadable → store_read (view value.now) ≡ None) }
 {
     let store: Vec<Entity> = read_list(alloc, value)?;
