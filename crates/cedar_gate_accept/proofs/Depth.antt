@@ -1,6 +1,6 @@
 -- No expression nests within nothing.
-use Rattle.std.proofs.Common.{◌≡◌, ℕ, suc, subst, sym, false}
-use Rattle.std.specs.Prelude.{nat_le, max}
+use Rattle.std.proofs.Common.{◌≡◌, ℕ, subst, sym, false}
+use Rattle.std.specs.Prelude.{nat_le}
 use Rattle.std.proofs.Math.Dec.{leb-suc-zero}
 use Rattle.cedar_expr_model.specs.Tree.{Tree, lit, var, both, unary, binary, nesting}
 

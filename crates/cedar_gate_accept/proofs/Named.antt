@@ -1,5 +1,5 @@
 -- What a condition names is what its policy names.
-use Rattle.std.proofs.Common.{◌≡◌, refl, ap, sym, ◌∙◌, Bool, true, false}
+use Rattle.std.proofs.Common.{◌≡◌, refl, ap, sym, ◌∙◌, Bool, true}
 use Rattle.std.specs.Prelude.{◌&&◌, Option, Some, None, List, map}
 use Rattle.std.specs.List.{list_all}
 use Rattle.std.proofs.lemmas.List.Folds.{list_all-map}
@@ -7,7 +7,7 @@ use Rattle.cedar_expr.specs.declared.expr.Expr.{Expr}
 use Rattle.cedar_expr.specs.Trees.{tree_of}
 use Rattle.cedar_gate_accept.proofs.Lists.{list_all-same}
 use Rattle.cedar_expr_model.specs.Uid.{Uid}
-use Rattle.cedar_expr_model.specs.Value.{Literal, truth, long, entity}
+use Rattle.cedar_expr_model.specs.Value.{truth, long, entity}
 use Rattle.cedar_expr_model.specs.Tree.{Tree, lit, var, both, unary, binary, Var, principal, action, resource, written_truth, folded, conjunction}
 use Rattle.cedar_store_model.specs.Policy.{Policy, Scope, any, exactly, scope_tree, condition}
 use Rattle.cedar_typechecker_model.specs.ScopeRules.{each_uid, each_named, scope_passes}
@@ -40,11 +40,11 @@ condition_named test p =
     conjunction_named test (scope_tree principal p.principal) (conjunction (scope_tree action p.action) (conjunction (scope_tree resource p.resource) p.body))
     ∙ ap (λ b. b && each_uid test (conjunction (scope_tree action p.action) (conjunction (scope_tree resource p.resource) p.body))) (scope_named test principal p.principal)
     ∙ ap (λ b. scope_passes test p.principal && b) (
-        conjunction_named test (scope_tree action p.action) (conjunction (scope_tree resource p.resource) p.body)
-        ∙ ap (λ b. b && each_uid test (conjunction (scope_tree resource p.resource) p.body)) (scope_named test action p.action)
-        ∙ ap (λ b. scope_passes test p.action && b) (
-            conjunction_named test (scope_tree resource p.resource) p.body
-            ∙ ap (λ b. b && each_uid test p.body) (scope_named test resource p.resource)))
+    conjunction_named test (scope_tree action p.action) (conjunction (scope_tree resource p.resource) p.body)
+    ∙ ap (λ b. b && each_uid test (conjunction (scope_tree resource p.resource) p.body)) (scope_named test action p.action)
+    ∙ ap (λ b. scope_passes test p.action && b) (
+    conjunction_named test (scope_tree resource p.resource) p.body
+    ∙ ap (λ b. b && each_uid test p.body) (scope_named test resource p.resource)))
 
 -- a test of each condition is one of each policy
 pub conditions_tested : (test : Tree → Bool) (on_policy : Policy → Bool) → ((p : Policy) → test (condition p) ≡ on_policy p) → (es : List (Expr (Unit {0}))) (ps : List Policy) → map tree_of es ≡ map condition ps → list_all (λ e. test (tree_of e)) es ≡ list_all on_policy ps

@@ -4,7 +4,7 @@ use Rattle.std.specs.Prelude.{Option, Some, None, option_map, option_and_then}
 use Rattle.cedar_expr_model.specs.Tree.{Tree, lit, var, both, unary, binary}
 use Rattle.cedar_schema_model.specs.Types.{Ty, bool_type, long_type, entity_type, BoolType, only_true, only_false, any_bool}
 use Rattle.cedar_typechecker_model.specs.Facts.{Facts, no_facts, union}
-use Rattle.cedar_typechecker_model.specs.Rules.{Setting, literal_type, var_type, unary_type, conjoined, binary_type}
+use Rattle.cedar_typechecker_model.specs.Rules.{Setting, unary_type, binary_type}
 use Rattle.cedar_typechecker_model.specs.Typing.{Judgement, judgement, plain, conjoins, and_judged, type_of}
 use Rattle.cedar_gate_accept.specs.Typing.{plain_type, and_type, conjoined_type}
 

@@ -4,3 +4,5 @@ pub mod Faults
 pub mod Verdict
 pub mod Gates
 pub mod Candidates
+pub mod Accepted
+pub mod Plain

@@ -1,5 +1,5 @@
 -- What the code's schema is as the model's declarations.
-use Rattle.std.specs.Prelude.{List, map, Bool, None}
+use Rattle.std.specs.Prelude.{map, Bool, None}
 use Rattle.cedar_gate_types.specs.declared.json_schema.NamespaceDefinition.{NamespaceDefinition}
 use Rattle.cedar_gate_types.specs.Schemas.{type_declaration, action_declaration}
 use Rattle.cedar_expr_names.specs.Views.{name_of, uid_of}

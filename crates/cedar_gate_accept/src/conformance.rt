@@ -1,9 +1,5 @@
 //! Which requests conform to a schema.
 
-use crate::schema::{ValidatorActionId, ValidatorSchema, type_of};
-use cedar_expr::InternalName;
-use cedar_gate_types::Request;
-
 ghost use Rattle.std.specs.Prelude.{◌≡◌, map};
 ghost use Rattle.std.specs.List.{list_any};
 ghost use Rattle.cedar_expr_names.specs.Views.{name_of};
@@ -11,6 +7,10 @@ ghost use Rattle.cedar_expr_model.specs.Name.{name_eq};
 ghost use Rattle.cedar_schema_model.specs.Conforming.{allows, conforms};
 ghost use Rattle.cedar_gate_types.specs.Requests.{request_of};
 ghost use Rattle.cedar_gate_accept.specs.Schema.{schema_of, action_of};
+
+use crate::schema::{ValidatorActionId, ValidatorSchema, type_of};
+use cedar_expr::InternalName;
+use cedar_gate_types::Request;
 
 /// Whether a name is among names.
 fn is_listed(name: &InternalName, names: &[InternalName]) -> bool

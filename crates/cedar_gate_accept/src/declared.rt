@@ -1,5 +1,13 @@
 //! The declared types and actions of a fragment.
 
+ghost use Rattle.std.specs.Prelude.{◌≡◌, IfOk, MatchOption, None, [], map, true, false};
+ghost use Rattle.std.specs.Rc.{rc_str_bytes};
+ghost use Rattle.cedar_expr_names.specs.Views.{id_text, name_of, raw_name_of, type_name_of};
+ghost use Rattle.cedar_schema_model.specs.Declarations.{action_word};
+ghost use Rattle.cedar_gate_types.specs.Schemas.{declarations_of, is_first_path, is_plain_namespace, type_declaration, action_declaration};
+ghost use Rattle.cedar_gate_accept.specs.Schema.{action_of, declared_in};
+ghost use Rattle.cedar_gate_accept.specs.Plain.{is_plain_definition};
+
 use crate::schema::ValidatorActionId;
 use cedar_expr::{Eid, EntityType, EntityUID, Id, InternalName, NameError, RawName};
 use cedar_gate_types::json_schema;
@@ -7,16 +15,9 @@ use cedar_gate_types::json_schema::{ActionType, Fragment, NamespaceDefinition};
 use std::alloc::{AllocError, Global};
 use std::rc::RcStr;
 
-ghost use Rattle.std.specs.Prelude.{◌≡◌, IfOk, MatchOption, None, [], map, true, false};
-ghost use Rattle.std.specs.Rc.{rc_str_bytes};
-ghost use Rattle.cedar_expr_names.specs.Views.{id_text, name_of, raw_name_of, type_name_of};
-ghost use Rattle.cedar_schema_model.specs.Declarations.{action_word};
-ghost use Rattle.cedar_gate_types.specs.Schemas.{declarations_of, is_first_path, is_plain_namespace, type_declaration, action_declaration};
-ghost use Rattle.cedar_gate_accept.specs.Schema.{action_of, declared_in};
-
 /// The one namespace of fragments, if they are one fragment of one namespace without a name.
 pub fn only_namespace(fragments: &[Fragment]) -> Option<&NamespaceDefinition>
-    ensures { MatchOption result (is_first_path fragments.now ≡ false) (λ n. declarations_of fragments.now ≡ declared_in n.now) }
+    ensures { MatchOption result (is_first_path fragments.now ≡ false) (λ n. (declarations_of fragments.now ≡ declared_in n.now) × (is_first_path fragments.now ≡ is_plain_definition n.now)) }
 {
     match fragments {
         [fragment] => match fragment.namespaces.as_slice() {
@@ -42,10 +43,7 @@ pub fn type_texts(
 }
 
 /// The ids of the declared actions.
-pub fn action_texts(
-    alloc: Global,
-    actions: &[(RcStr, ActionType)],
-) -> Result<Vec<&str>, AllocError>
+pub fn action_texts(alloc: Global, actions: &[(RcStr, ActionType)]) -> Result<Vec<&str>, AllocError>
     ensures { IfOk result (λ v. map (λ t. t.now) v.items ≡ map (λ a. rc_str_bytes a.0) actions.now) }
 {
     let mut texts = Vec::new(alloc);

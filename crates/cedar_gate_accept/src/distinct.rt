@@ -1,11 +1,11 @@
 //! Whether texts are distinct.
 
-use std::alloc::{AllocError, Global};
-use std::collections::BTreeSet;
-
 ghost use Rattle.std.specs.Prelude.{◌≡◌, IfOk, map};
 ghost use Rattle.std.specs.Str.{bytes_eq};
 ghost use Rattle.cedar_schema_model.specs.Declarations.{are_distinct};
+
+use std::alloc::{AllocError, Global};
+use std::collections::BTreeSet;
 
 /// Whether no text stands twice among these. Fails only for want of memory.
 pub fn are_distinct(alloc: Global, texts: &[&str]) -> Result<bool, AllocError>

@@ -1,10 +1,10 @@
 //! How deep a condition nests.
 
-use cedar_expr::{Expr, ExprKind};
-
 ghost use Rattle.std.specs.Prelude.{◌≡◌, nat_le};
 ghost use Rattle.cedar_expr_model.specs.Tree.{nesting};
 ghost use Rattle.cedar_expr.specs.Trees.{tree_of};
+
+use cedar_expr::{Expr, ExprKind};
 
 /// Whether an expression nests within a limit. It is not walked deeper than the limit.
 pub fn nests_within(e: &Expr, limit: u32) -> bool

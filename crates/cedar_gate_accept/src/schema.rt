@@ -66,10 +66,7 @@ impl ValidatorSchema {
     ghost use Rattle.cedar_gate_accept.specs.Schema.{schema_of, action_of, type_declaration_of};
 
     /// The schema of these entity types and actions.
-    pub fn new(
-        entity_types: Vec<InternalName>,
-        actions: Vec<ValidatorActionId>,
-    ) -> ValidatorSchema
+    pub fn new(entity_types: Vec<InternalName>, actions: Vec<ValidatorActionId>) -> ValidatorSchema
         ensures { schema_of result ≡ record { types = map type_declaration_of entity_types.items; actions = map action_of actions.items } }
     {
         ValidatorSchema {

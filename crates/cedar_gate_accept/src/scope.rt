@@ -1,13 +1,13 @@
 //! The scope rules: what a policy names anywhere is declared.
 
-use crate::schema::{ValidatorSchema, type_of};
-use cedar_expr::{EntityUID, Expr, ExprKind, Literal};
-
 ghost use Rattle.std.specs.Prelude.{◌≡◌};
 ghost use Rattle.cedar_expr_names.specs.Views.{uid_of};
 ghost use Rattle.cedar_expr.specs.Trees.{tree_of};
 ghost use Rattle.cedar_typechecker_model.specs.ScopeRules.{each_uid};
 ghost use Rattle.cedar_gate_accept.specs.Schema.{schema_of, rule_passes};
+
+use crate::schema::{ValidatorSchema, type_of};
+use cedar_expr::{EntityUID, Expr, ExprKind, Literal};
 
 /// A scope rule on a uid.
 #[derive(Clone, Copy, Debug, PartialEq, Eq)]

@@ -72,7 +72,11 @@ impl BoolType {
     fn known(value: bool) -> BoolType
         ensures { typed.bool_type_of result ≡ rules_of.bool_known value }
     {
-        if value { BoolType::True } else { BoolType::False }
+        if value {
+            BoolType::True
+        } else {
+            BoolType::False
+        }
     }
 }
 

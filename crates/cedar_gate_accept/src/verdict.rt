@@ -1,9 +1,5 @@
 //! What typing says of a condition over all environments.
 
-use crate::schema::{ValidatorActionId, ValidatorSchema};
-use crate::typing::{BoolType, RequestEnv, Type};
-use cedar_expr::{Expr, InternalName};
-
 ghost use Rattle.std.specs.Prelude.{◌≡◌, option_map, map};
 ghost use Rattle.std.specs.List.{list_all};
 ghost use Rattle.cedar_expr_names.specs.Views.{name_of};
@@ -13,6 +9,10 @@ ghost use Rattle.cedar_typechecker_model.specs.Typing as judged;
 ghost use Rattle.cedar_gate_accept.specs.Schema.{schema_of, action_of};
 ghost use Rattle.cedar_gate_accept.specs.Typing.{type_view, setting_of};
 ghost use Rattle.cedar_gate_accept.specs.Verdict as verdict;
+
+use crate::schema::{ValidatorActionId, ValidatorSchema};
+use crate::typing::{BoolType, RequestEnv, Type};
+use cedar_expr::{Expr, InternalName};
 
 /// A verdict on the type of a condition in an environment.
 #[derive(Clone, Copy, Debug, PartialEq, Eq)]
@@ -94,9 +94,9 @@ impl Verdict {
         ensures { result ≡ list_all (λ p. list_all (verdict.holds_at self (schema_of schema.now) (tree_of condition.now))
             (map (verdict.environment (action_of action.now) (name_of p)) (action_of action.now).resources)) principals.now }
     {
-        principals
-            .iter()
-            .all(|principal| self.holds_for_principal(schema, action, principal, condition))
+        principals.iter().all(|principal| self.holds_for_principal(
+            schema, action, principal, condition,
+        ))
     }
 
     /// Whether it holds in each environment of an action.

@@ -1,13 +1,5 @@
 //! When declarations are well-formed.
 
-use crate::declared::{action_texts, actions, only_namespace, type_names, type_texts};
-use crate::distinct::are_distinct;
-use crate::err::SchemaError;
-use crate::schema::{ValidatorActionId, ValidatorSchema};
-use cedar_expr::InternalName;
-use cedar_gate_types::json_schema::{Fragment, NamespaceDefinition};
-use std::alloc::{AllocError, Global};
-
 ghost use Rattle.std.specs.Prelude.{◌≡◌, ◌&&◌, IfOk, IfErr, OnOk, None, map, not, true};
 ghost use Rattle.std.specs.List.{list_all};
 ghost use Rattle.std.specs.Str.{bytes_eq};
@@ -20,11 +12,16 @@ ghost use Rattle.cedar_gate_types.specs.Schemas.{type_declaration, action_declar
 ghost use Rattle.cedar_gate_accept.specs.Schema.{schema_of, action_of, declared_in};
 ghost use Rattle.cedar_gate_accept.specs.Faults.{SchemaErrorIsThere};
 
+use crate::declared::{action_texts, actions, only_namespace, type_names, type_texts};
+use crate::distinct::are_distinct;
+use crate::err::SchemaError;
+use crate::schema::{ValidatorActionId, ValidatorSchema};
+use cedar_expr::InternalName;
+use cedar_gate_types::json_schema::{Fragment, NamespaceDefinition};
+use std::alloc::{AllocError, Global};
+
 /// Whether no type is declared twice. Fails only for want of memory.
-fn types_are_distinct(
-    alloc: Global,
-    definition: &NamespaceDefinition,
-) -> Result<bool, AllocError>
+fn types_are_distinct(alloc: Global, definition: &NamespaceDefinition) -> Result<bool, AllocError>
     ensures { IfOk result (λ b. b ≡ model.is_free_of model.duplicate_entity_type (declared_in definition.now)) }
 {
     let texts = type_texts(alloc, definition.entity_types.as_slice())?;
@@ -33,10 +30,7 @@ fn types_are_distinct(
 }
 
 /// Whether no action is declared twice. Fails only for want of memory.
-fn actions_are_distinct(
-    alloc: Global,
-    definition: &NamespaceDefinition,
-) -> Result<bool, AllocError>
+fn actions_are_distinct(alloc: Global, definition: &NamespaceDefinition) -> Result<bool, AllocError>
     ensures { IfOk result (λ b. b ≡ model.is_free_of model.duplicate_action (declared_in definition.now)) }
 {
     let texts = action_texts(alloc, definition.actions.as_slice())?;

@@ -1,5 +1,5 @@
 use Rattle.std.proofs.Common.{◌≡◌, take}
-use Rattle.std.specs.Prelude.{map, None}
+use Rattle.std.specs.Prelude.{map}
 use Rattle.cedar_expr_names.specs.Views.{name_of, raw_name_of}
 use Rattle.cedar_gate_accept.proofs.declared.references.Given as goal
 

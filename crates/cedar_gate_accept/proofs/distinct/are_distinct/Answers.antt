@@ -1,4 +1,4 @@
-use Rattle.std.proofs.Common.{Bor, ℕ, ◌≡◌, refl, ap, sym, ◌∙◌, Bool, true, false, List, drop, arith}
+use Rattle.std.proofs.Common.{Bor, ℕ, ◌≡◌, refl, sym, ◌∙◌, Bool, List, arith}
 use Rattle.std.specs.Prelude.{map}
 use Rattle.std.specs.Ordering.{is_eq, nat_cmp}
 use Rattle.std.specs.Cmp.Lexicographic.{slice_cmp}
@@ -21,17 +21,17 @@ loop-text-init c = walk_begins by_text (contains (λ x y. slice_cmp nat_cmp x.no
 pub returns-then-not-branch : goal.returns-then-not-branch
 returns-then-not-branch c =
     walk_stops by_text (contains (λ x y. slice_cmp nat_cmp x.now y.now) c.loop-text.seen) c.args.texts.now c.loop-text.text-index _ (are_distinct by_text c.args.texts.now)
-        c.loop-text-test.true (not_false (sym c.in_ok-insert.ensures.added ∙ c.if-not-branch.true)) c.loop-text.invariant
+    c.loop-text-test.true (not_false (sym c.in_ok-insert.ensures.added ∙ c.if-not-branch.true)) c.loop-text.invariant
     ∙ as_texts c.args.texts.now
 
 pub loop-text-preserved : goal.loop-text-preserved
 loop-text-preserved c =
     walk_goes by_text (contains (λ x y. slice_cmp nat_cmp x.now y.now) c.loop-text.seen) (contains (λ x y. slice_cmp nat_cmp x.now y.now) c.insert.new.self)
-        c.args.texts.now c.loop-text.text-index _ (are_distinct by_text c.args.texts.now)
-        c.loop-text-test.true (not_true (sym c.in_ok-insert.ensures.added ∙ c.if-not-branch.false)) c.in_ok-insert.ensures.updates.0 c.loop-text.invariant
+    c.args.texts.now c.loop-text.text-index _ (are_distinct by_text c.args.texts.now)
+    c.loop-text-test.true (not_true (sym c.in_ok-insert.ensures.added ∙ c.if-not-branch.false)) c.in_ok-insert.ensures.updates.0 c.loop-text.invariant
 
 pub returns : goal.returns
 returns c =
     walk_ends by_text (contains (λ x y. slice_cmp nat_cmp x.now y.now) c.loop-text.seen) c.args.texts.now c.loop-text.text-index (are_distinct by_text c.args.texts.now)
-        (omega arith) c.loop-text.invariant
+    (omega arith) c.loop-text.invariant
     ∙ as_texts c.args.texts.now

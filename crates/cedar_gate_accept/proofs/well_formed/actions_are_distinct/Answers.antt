@@ -1,4 +1,4 @@
-use Rattle.std.proofs.Common.{ap, sym, ◌∙◌, List}
+use Rattle.std.proofs.Common.{ap, sym, ◌∙◌}
 use Rattle.std.specs.Prelude.{map, None}
 use Rattle.std.specs.Str.{bytes_eq}
 use Rattle.std.specs.Rc.{rc_str_bytes}

@@ -13,4 +13,4 @@ pub returns : goal.returns
 returns c =
     c.all_pass.ensures
     ∙ conditions_tested (λ t. list_all (holds_at Passes (schema_of c.args.self.now.schema.now) t) (environments (schema_of c.args.self.now.schema.now))) (passes (schema_of c.args.self.now.schema.now)) (λ p. refl)
-        c.args.self.now.conditions.now (policies_of c.args.self.now.policies.now) c.args.self.now.kept
+    c.args.self.now.conditions.now (policies_of c.args.self.now.policies.now) c.args.self.now.kept

@@ -9,5 +9,5 @@ pub returns : goal.returns
 returns c =
     c.all_keep.ensures
     ∙ conditions_tested (each_uid (has_known_type (schema_of c.args.self.now.schema.now))) (each_named (has_known_type (schema_of c.args.self.now.schema.now)))
-        (condition_named (has_known_type (schema_of c.args.self.now.schema.now)))
-        c.args.self.now.conditions.now (policies_of c.args.self.now.policies.now) c.args.self.now.kept
+    (condition_named (has_known_type (schema_of c.args.self.now.schema.now)))
+    c.args.self.now.conditions.now (policies_of c.args.self.now.policies.now) c.args.self.now.kept

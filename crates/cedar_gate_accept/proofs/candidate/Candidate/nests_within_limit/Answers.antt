@@ -14,4 +14,4 @@ returns c =
     c.all_nest_within.ensures
     ∙ ap (λ n. list_all (λ e. nat_le (nesting (tree_of e)) n) c.args.self.now.conditions.now) c.levels.ensures
     ∙ conditions_tested (λ t. nat_le (nesting t) (levels_of c.args.self.now.limit)) (λ p. nat_le (nesting (condition p)) (levels_of c.args.self.now.limit)) (λ p. refl)
-        c.args.self.now.conditions.now (policies_of c.args.self.now.policies.now) c.args.self.now.kept
+    c.args.self.now.conditions.now (policies_of c.args.self.now.policies.now) c.args.self.now.kept

@@ -1,10 +1,9 @@
 use Rattle.std.proofs.Common.{ap, sym, ◌∙◌}
 use Rattle.std.specs.Prelude.{not}
 use Rattle.std.specs.List.{list_all}
-use Rattle.std.specs.Str.{bytes_eq}
 use Rattle.std.proofs.lemmas.List.Folds.{list_all-map}
 use Rattle.cedar_expr_model.specs.Name.{is_reserved}
-use Rattle.cedar_schema_model.specs.Declarations.{TypeDeclaration, action_word}
+use Rattle.cedar_schema_model.specs.Declarations.{TypeDeclaration}
 use Rattle.cedar_gate_accept.specs.Schema.{type_declaration_of}
 use Rattle.cedar_gate_accept.proofs.schema.ValidatorSchema.has_no_reserved_name.Goals as goal
 

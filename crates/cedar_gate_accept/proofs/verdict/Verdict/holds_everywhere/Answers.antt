@@ -1,14 +1,11 @@
 use Rattle.std.proofs.Common.{ap, sym, ◌∙◌, Bool}
-use Rattle.std.specs.Prelude.{map}
 use Rattle.std.specs.List.{list_all}
 use Rattle.std.proofs.lemmas.List.Folds.{list_all-map}
-use Rattle.cedar_expr_names.specs.Views.{name_of}
-use Rattle.cedar_expr_model.specs.Name.{Name}
 use Rattle.cedar_expr.specs.Trees.{tree_of}
 use Rattle.cedar_schema_model.specs.Declarations.{ActionDeclaration}
 use Rattle.cedar_schema_model.specs.Environment.{Environment, environments_of}
 use Rattle.cedar_gate_accept.specs.Schema.{schema_of, action_of}
-use Rattle.cedar_gate_accept.specs.Verdict.{environment, holds_at}
+use Rattle.cedar_gate_accept.specs.Verdict.{holds_at}
 use Rattle.cedar_gate_accept.proofs.Lists.{list_all-flat_map}
 use Rattle.cedar_gate_accept.proofs.verdict.Verdict.holds_everywhere.Goals as goal
 

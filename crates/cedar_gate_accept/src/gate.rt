@@ -1,0 +1,134 @@
+//! The gate: what it accepts.
+
+ghost use Rattle.std.specs.Prelude.{◌≡◌, true, map};
+ghost use Rattle.cedar_expr_model.specs.Sets.{trees_set, texts_set};
+ghost use Rattle.cedar_expr.specs.Trees.{tree_of};
+ghost use Rattle.cedar_store_model.specs.Policy.{condition};
+ghost use Rattle.cedar_gate_model.specs.Acceptance.{admits, warnings_of};
+ghost use Rattle.cedar_gate_types.specs.Policies.{policies_of, id_text};
+ghost use Rattle.cedar_gate_accept.specs.Gates.{submission};
+
+use crate::candidate::Candidate;
+use crate::err::GateFault;
+use crate::policies::conditions_of;
+use crate::schema::ValidatorSchema;
+use crate::warnings::warnings;
+use cedar_expr::{Expr, ExtTable};
+use cedar_gate_types::{Fragment, NestLimit, Policy, PolicyID};
+use std::alloc::Global;
+
+/// What was accepted: declarations, policies, a level and a limit on nesting. It borrows its table of extension functions.
+#[derive(Drop)]
+pub struct Gate<'a> {
+    schema: ValidatorSchema,
+    policies: Vec<Policy>,
+    conditions: Vec<Expr>,
+    warnings: Vec<PolicyID>,
+    level: u32,
+    limit: NestLimit,
+    table: &'a ExtTable<'a>,
+    ghost accepted: { admits (submission schema policies.items level limit) ≡ true },
+    ghost kept: { map tree_of conditions.items ≡ map condition (policies_of policies.items) } by { trees_set (map tree_of conditions.items) (map condition (policies_of policies.items)) },
+    ghost warned: { map id_text warnings.items ≡ warnings_of (submission schema policies.items level limit) } by { texts_set (map id_text warnings.items) (warnings_of (submission schema policies.items level limit)) },
+}
+
+impl<'a> Gate<'a> {
+    ghost use Rattle.std.specs.Prelude.{◌≡◌, ◌&&◌, ◌==◌, IfOk, IfErr, true, map};
+    ghost use Rattle.cedar_expr.specs.Trees.{tree_of};
+    ghost use Rattle.cedar_expr.specs.Table.{all_typed};
+    ghost use Rattle.cedar_store_model.specs.Policy.{condition};
+    ghost use Rattle.cedar_gate_model.specs.Acceptance.{IsAccepted, warnings_of};
+    ghost use Rattle.cedar_gate_types.specs.Limit.{levels_of};
+    ghost use Rattle.cedar_gate_types.specs.Policies.{policies_of, id_text};
+    ghost use Rattle.cedar_gate_types.specs.Schemas.{is_first_path};
+    ghost use Rattle.cedar_gate_accept.specs.Schema.{schema_of};
+    ghost use Rattle.cedar_gate_accept.specs.Faults.{GateFaultIsThere};
+    ghost use Rattle.cedar_gate_accept.specs.Gates.{submitted};
+    ghost use Rattle.cedar_gate_accept.specs.Accepted.{submission_of};
+
+    /// Accepts declarations and policies where the acceptance rules hold, and else names a fault that is there. Which of several faults
+    /// is left open. Answers want of memory. The table's functions all have a result type, and what is handed in lies in today's
+    /// language, which `first_path` tells.
+    pub fn accept(
+        alloc: Global,
+        fragments: &[Fragment],
+        policies: Vec<Policy>,
+        table: &'a ExtTable<'a>,
+        level: u32,
+        limit: NestLimit,
+    ) -> Result<Gate<'a>, GateFault>
+        requires typed { all_typed table.now ≡ true }
+        requires in_language { (is_first_path fragments.now && (level == 0)) ≡ true }
+        ensures accepted { IfOk result (λ g. IsAccepted (submission_of g)) }
+        ensures kept { IfOk result (λ g. submission_of g ≡ submitted fragments.now policies.items level limit) }
+        ensures refused { IfErr result (λ f. GateFaultIsThere f (submitted fragments.now policies.items level limit)) }
+    {
+        let schema = ValidatorSchema::from_schema_fragments(alloc, fragments)?;
+        let conditions = conditions_of(alloc, policies.as_slice())?;
+        let candidate = Candidate::new(
+            &schema,
+            policies.as_slice(),
+            conditions.as_slice(),
+            level,
+            limit,
+        );
+        candidate.check(alloc)?;
+        let warnings = warnings(alloc, &schema, policies.as_slice(), conditions.as_slice())?;
+        Ok(Gate {
+            schema,
+            policies,
+            conditions,
+            warnings,
+            level,
+            limit,
+            table,
+        })
+    }
+
+    /// The ids of the impossible policies, in policy order.
+    pub fn warnings(&self) -> &[PolicyID]
+        ensures { map id_text result.now ≡ warnings_of (submission_of self.now) }
+    {
+        self.warnings.as_slice()
+    }
+
+    /// The declared types and actions.
+    pub fn schema(&self) -> &ValidatorSchema
+        ensures { schema_of result.now ≡ (submission_of self.now).declarations }
+    {
+        &self.schema
+    }
+
+    /// The level: how many steps a condition may go from what it is asked of.
+    pub fn level(&self) -> u32
+        ensures { result ≡ (submission_of self.now).level }
+    {
+        self.level
+    }
+
+    /// The limit on nesting.
+    pub fn limit(&self) -> NestLimit
+        ensures { levels_of result ≡ (submission_of self.now).limit }
+    {
+        self.limit
+    }
+
+    /// The table of extension functions.
+    pub fn table(&self) -> &ExtTable<'a> {
+        self.table
+    }
+
+    /// The policies, in their order.
+    pub fn policies(&self) -> &[Policy]
+        ensures { policies_of result.now ≡ (submission_of self.now).policies }
+    {
+        self.policies.as_slice()
+    }
+
+    /// The policies' conditions, in the policies' order.
+    pub fn conditions(&self) -> &[Expr]
+        ensures { map tree_of result.now ≡ map condition (submission_of self.now).policies }
+    {
+        self.conditions.as_slice()
+    }
+}
