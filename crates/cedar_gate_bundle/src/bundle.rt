@@ -3,7 +3,9 @@ ghost use Rattle.std.specs.Prelude.{◌≡◌, codes, [], true, Option, Some, No
 ghost use Rattle.serde_json.specs.View.{view};
 ghost use Rattle.cedar_gate_types.specs.Limit.{levels_of};
 ghost use Rattle.cedar_gate_types.specs.Schemas.{is_first_path};
-ghost use Rattle.cedar_gate_types.specs.Requests.{steps_of};
+ghost use Rattle.cedar_gate_types.specs.Requests.{entity_uids, steps_of};
+ghost use Rattle.cedar_expr_model.specs.Uid.{uid_eq};
+ghost use Rattle.cedar_schema_model.specs.Declarations.{are_distinct};
 ghost use Rattle.cedar_gate_model.specs.Reading.{has_at, if_there, list_of};
 ghost use Rattle.cedar_gate_model.specs.ReadingBundle.{is_version, is_bundle, number_between, step_read, bundle_read, input_read};
 ghost use Rattle.cedar_gate_bundle.specs.Bundles.{bundle_of};
@@ -45,6 +47,7 @@ pub struct Bundle {
 pub fn read_bundle(alloc: Global, value: &Value) -> Result<Bundle, ReadFault>
     ensures ok { IfOk result (λ b. bundle_read (view value.now) ≡ Some (bundle_of b)) }
     ensures plain { IfOk result (λ b. is_first_path b.fragments.items ≡ true) }
+    ensures distinct { IfOk result (λ b. are_distinct uid_eq (entity_uids b.store.items) ≡ true) }
     ensures unreadable { IfErr result (λ f. f ≡ Unreadable → bundle_read (view value.now) ≡ None) }
 {
     if !is_bundle(value) {
@@ -75,6 +78,7 @@ pub fn read_bundle(alloc: Global, value: &Value) -> Result<Bundle, ReadFault>
 pub fn read_text(alloc: Global, bytes: &[u8]) -> Result<Bundle, ReadFault>
     ensures ok { IfOk result (λ b. input_read bytes.now ≡ Some (bundle_of b)) }
     ensures plain { IfOk result (λ b. is_first_path b.fragments.items ≡ true) }
+    ensures distinct { IfOk result (λ b. are_distinct uid_eq (entity_uids b.store.items) ≡ true) }
     ensures unreadable { IfErr result (λ f. f ≡ Unreadable → input_read bytes.now ≡ None) }
 {
     let value = parse(alloc, bytes)?;

@@ -1,14 +1,18 @@
+//! Why a bundle is not read.
 ghost use Rattle.std.specs.Prelude.{◌≡◌};
 ghost use Rattle.cedar_gate_bundle.specs.declared.fault.ReadFault.TheVariants.{OutOfMemory};
 
 use std::alloc::{AllocError, AllocFailed};
+use thiserror::Error;
 
 /// Why nothing was read.
-#[derive(Clone, Copy, Debug, PartialEq, Eq, Drop)]
+#[derive(Clone, Copy, Debug, PartialEq, Eq, Error)]
 pub enum ReadFault {
     /// There was too little memory to hold what is read.
+    #[error("out of memory")]
     OutOfMemory,
     /// The input is no bundle of this version.
+    #[error("unreadable")]
     Unreadable,
 }
 

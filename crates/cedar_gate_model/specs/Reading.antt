@@ -20,6 +20,7 @@ abbrev pub if_there : {A : Type 0} → (Data → Option A) → A → Option Data
 if_there read lacking None = Some lacking
 if_there read lacking (Some d) = read d
 
+-- The value at a key is read, if there is one.
 abbrev pub optional : {A : Type 0} → Text → (Data → Option A) → A → Data → Option A
 optional key read lacking d = if_there read lacking (get key d)
 
@@ -44,11 +45,12 @@ has_only keys d = unwrap_or (option_map (are_among keys) (as_object d)) false
 abbrev pub is_empty_object : Data → Bool
 is_empty_object d = has_only [] d
 
--- a list without items
+-- no items
 abbrev pub is_without_items : Items → Bool
 is_without_items no_items = true
 is_without_items (item d ds) = false
 
+-- a list without items
 abbrev pub is_empty_list : Data → Bool
 is_empty_list d = unwrap_or (option_map is_without_items (as_array d)) false
 

@@ -25,6 +25,7 @@ effect_named word =
     else (if bytes_eq word (codes "forbid") then Some forbid
     else None)
 
+-- an effect
 abbrev pub effect_read : Data → Option Effect
 effect_read d = given (as_str d) effect_named
 
@@ -36,6 +37,7 @@ scope_uid_read d = if has_only (codes "eq" ∷ []) d then required (codes "eq") 
 abbrev pub scope_read : Data → Option Scope
 scope_read d = option_map exactly (scope_uid_read d)
 
+-- the keys that a policy may have
 abbrev pub policy_keys : List Text
 policy_keys = codes "id" ∷ codes "effect" ∷ codes "principal" ∷ codes "action" ∷ codes "resource" ∷ codes "when" ∷ codes "link" ∷ []
 
@@ -56,6 +58,7 @@ policy_read d =
     (optional (codes "when") expression_read (lit (truth true)) d))))))
     else None
 
+-- the keys that a request may have
 abbrev pub request_keys : List Text
 request_keys = codes "principal" ∷ codes "action" ∷ codes "resource" ∷ codes "context" ∷ []
 
@@ -73,6 +76,7 @@ request_read d =
     (required (codes "resource") uid_read d)))
     else None
 
+-- the keys that an entity may have
 abbrev pub entity_keys : List Text
 entity_keys = codes "uid" ∷ codes "attrs" ∷ codes "tags" ∷ codes "ancestors" ∷ []
 
@@ -81,6 +85,7 @@ abbrev pub is_bare_entity : Data → Bool
 is_bare_entity d = has_only entity_keys d && (may_be (codes "attrs") is_empty_object d
     && (may_be (codes "tags") is_empty_object d && may_be (codes "ancestors") is_empty_list d))
 
+-- the uid of an entity
 abbrev pub entity_read : Data → Option Uid
 entity_read d = if is_bare_entity d then required (codes "uid") uid_read d else None
 
@@ -88,6 +93,7 @@ entity_read d = if is_bare_entity d then required (codes "uid") uid_read d else 
 abbrev pub unless_repeated : List Uid → Option (List Uid)
 unless_repeated uids = if are_distinct uid_eq uids then Some uids else None
 
+-- the uids of a store, where none is repeated
 abbrev pub store_read : Data → Option (List Uid)
 store_read d = given (list_of entity_read d) unless_repeated
 
@@ -98,6 +104,7 @@ step_named word =
     else (if bytes_eq word (codes "decide") then Some decide
     else None)
 
+-- a step
 abbrev pub step_read : Data → Option Step
 step_read d = given (as_str d) step_named
 
@@ -105,6 +112,7 @@ step_read d = given (as_str d) step_named
 abbrev pub between : ℕ → ℕ → ℕ → Option ℕ
 between low high n = if nat_le low n && nat_le n high then Some n else None
 
+-- a number from low to high
 abbrev pub number_between : ℕ → ℕ → Data → Option ℕ
 number_between low high d = given (count_read d) (between low high)
 
@@ -112,6 +120,7 @@ number_between low high d = given (count_read d) (between low high)
 abbrev pub is_version : Data → Bool
 is_version d = unwrap_or (option_map (λ n. n == 1) (count_read d)) false
 
+-- the keys that a bundle may have
 abbrev pub bundle_keys : List Text
 bundle_keys = codes "version" ∷ codes "level" ∷ codes "limit" ∷ codes "schema" ∷ codes "policies" ∷ codes "request" ∷ codes "store"
     ∷ codes "steps" ∷ []
@@ -141,5 +150,5 @@ bundle_read d =
     else None
 
 -- A whole input, which is UTF-8 and JSON.
-abbrev pub input_read : List ℕ → Option Bundle
+unfoldable pub input_read : List ℕ → Option Bundle
 input_read bytes = if is_utf8 bytes then given (read bytes) bundle_read else None

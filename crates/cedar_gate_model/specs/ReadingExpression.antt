@@ -32,6 +32,7 @@ uid_in (item kind (item id (item d ds))) = None
 uid_in (item kind no_items) = None
 uid_in no_items = None
 
+-- a uid
 abbrev pub uid_read : Data → Option Uid
 uid_read d = given (as_array d) uid_in
 

@@ -12,6 +12,7 @@ use Rattle.cedar_gate_model.specs.ReadingExpression.{any_name_read}
 abbrev pub plain : Text → Name
 plain base = record { path = []; base = base }
 
+-- the keys that an entity type may have
 abbrev pub type_keys : List Text
 type_keys = codes "parents" ∷ codes "attrs" ∷ []
 
@@ -27,6 +28,7 @@ entity_type_read key d = if is_identifier key && is_bare_type d then Some (recor
 abbrev pub is_empty_record : Data → Bool
 is_empty_record d = has_only (codes "record" ∷ []) d && has_at (codes "record") is_empty_object d
 
+-- the keys that an action may have
 abbrev pub action_keys : List Text
 action_keys = codes "in" ∷ codes "principals" ∷ codes "resources" ∷ codes "context" ∷ []
 
@@ -46,6 +48,7 @@ action_read id d =
     (optional (codes "resources") (list_of any_name_read) [] d))
     else None
 
+-- the keys that a namespace may have
 abbrev pub namespace_keys : List Text
 namespace_keys = codes "commonTypes" ∷ codes "entityTypes" ∷ codes "actions" ∷ []
 
