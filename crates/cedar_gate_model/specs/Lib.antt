@@ -3,6 +3,10 @@ pub mod Slice
 pub mod Transcript
 pub mod Bundle
 pub mod Lines
+pub mod Reading
+pub mod ReadingExpression
+pub mod ReadingSchema
+pub mod ReadingBundle
 pub mod Laws
 pub mod Worked
 pub mod Order

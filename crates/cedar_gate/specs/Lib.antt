@@ -1,0 +1,10 @@
+pub mod Values
+pub mod Answers
+pub mod Transcripts
+pub mod Printing
+pub mod Sessions
+pub mod Hosts
+pub mod Runs
+pub mod Stores
+pub mod Statuses
+pub mod Serving

@@ -1,0 +1,35 @@
+-- What the service comes to.
+use Rattle.std.specs.Prelude.{◌≡◌, ◌<◌, ℕ, List, Option, length, take, Result, Ok, Err}
+use Rattle.std.specs.Io.KnownBytes.{Appends}
+use Rattle.cedar_expr_model.specs.Name.{Text}
+use Rattle.cedar_gate_model.specs.Bundle.{Bundle}
+use Rattle.cedar_gate_model.specs.Lines as lines
+use Rattle.cedar_gate_model.specs.Lines.{Prints}
+use Rattle.cedar_gate.specs.Statuses.{status_of}
+use Rattle.cedar_gate.specs.declared.status.Status.{Status}
+use Rattle.cedar_gate.specs.declared.serve.ServeFault.{ServeFault}
+use Rattle.cedar_gate.specs.declared.serve.ServeFault.TheVariants.{Memory, Read, Write}
+
+abbrev pub serve_fault_number : ServeFault → ℕ
+serve_fault_number Memory = 0
+serve_fault_number Read = 1
+serve_fault_number Write = 2
+
+-- What is written for an input: all of a text that may be printed for it, or where the writer fails a beginning of one.
+abbrev pub ServeGives : Option Bundle → Option (List ℕ) → Option (List ℕ) → Result Status ServeFault → Type 0
+ServeGives b old new (Ok status) = (text : Text) × Prints b (status_of status) text × Appends old new text
+ServeGives b old new (Err Write) = (status : lines.Status) × (text : Text) × Prints b status text × (n : ℕ) × (n < length text) × Appends old new (take n text)
+ServeGives b old new (Err Memory) = Unit {0}
+ServeGives b old new (Err Read) = Unit {0}
+
+-- a fault other than that of the writer
+abbrev pub LeavesAlone : ServeFault → Type 0 → Type 0
+LeavesAlone Memory P = P
+LeavesAlone Read P = P
+LeavesAlone Write P = Unit {0}
+
+-- the faults of reading
+abbrev pub IsOfReading : ServeFault → Type 0
+IsOfReading Memory = Unit {0}
+IsOfReading Read = Unit {0}
+IsOfReading Write = ⊥

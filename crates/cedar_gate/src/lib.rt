@@ -1,0 +1,16 @@
+//! The gate's sessions and runs: evaluation of conditions, the answer, what is asked of a host, the lines that are
+//! printed, and the service that reads a bundle and prints them.
+#![tactic(auto)]
+
+mod answers;
+mod evaluator;
+pub mod host;
+mod lines;
+mod output;
+mod printing;
+pub mod run;
+pub mod serve;
+pub mod session;
+pub mod status;
+mod store_host;
+pub mod transcript;

@@ -1,0 +1,178 @@
+//! Sessions: one request at an accepted gate.
+
+ghost use Rattle.std.specs.Prelude.{◌≡◌, ◌↔◌, [], Some, Contains, map, true, false, option_map, IsOk, IsOkAnd, IfOk, IfErr, IsErrOf};
+ghost use Rattle.cedar_expr_names.specs.Views.{uid_of};
+ghost use Rattle.cedar_store_model.specs.World.{World};
+ghost use Rattle.cedar_store_model.specs.Answer as answer;
+ghost use Rattle.cedar_schema_model.specs.Conforming.{conforms};
+ghost use Rattle.cedar_gate_model.specs.Slice.{InSlice};
+ghost use Rattle.cedar_gate_types.specs.Requests.{request_of};
+ghost use Rattle.cedar_gate_types.specs.Responses.{decision_of, response_of};
+ghost use Rattle.cedar_gate_accept.specs.Accepted.{submission_of};
+ghost use Rattle.cedar_gate.specs.Sessions.{session_submission, session_request};
+
+use crate::answers::{decide, respond};
+use cedar_expr::EntityUID;
+use cedar_gate_accept::{Gate, check_conforms};
+use cedar_gate_types::{Decision, Entity, Request, Response};
+use std::alloc::{AllocError, Global};
+
+/// Why a session isn't opened.
+#[derive(Clone, Copy, Debug, PartialEq, Eq)]
+pub enum OpenFault {
+    /// Want of memory. Today a session takes none.
+    OutOfMemory,
+}
+
+/// Why what is supplied is refused.
+#[derive(Clone, Copy, Debug, PartialEq, Eq)]
+pub enum SupplyFault {
+    /// Want of memory.
+    OutOfMemory,
+    /// An entity is supplied that isn't wanted.
+    NotWanted,
+}
+
+/// Why no answer is given.
+#[derive(Clone, Copy, Debug, PartialEq, Eq)]
+pub enum AnswerFault {
+    /// Want of memory.
+    OutOfMemory,
+    /// The request doesn't conform to the schema.
+    NotConforming,
+}
+
+impl OpenFault {
+    ghost use Rattle.cedar_gate.specs.Sessions.{open_fault_number};
+
+    /// The number of the fault.
+    pub fn number(self) -> u32
+        ensures { result ≡ open_fault_number self }
+    {
+        match self {
+            OpenFault::OutOfMemory => 0,
+        }
+    }
+}
+
+impl SupplyFault {
+    ghost use Rattle.cedar_gate.specs.Sessions.{supply_fault_number};
+
+    /// The number of the fault.
+    pub fn number(self) -> u32
+        ensures { result ≡ supply_fault_number self }
+    {
+        match self {
+            SupplyFault::OutOfMemory => 0,
+            SupplyFault::NotWanted => 1,
+        }
+    }
+}
+
+impl AnswerFault {
+    ghost use Rattle.cedar_gate.specs.Sessions.{answer_fault_number};
+
+    /// The number of the fault.
+    pub fn number(self) -> u32
+        ensures { result ≡ answer_fault_number self }
+    {
+        match self {
+            AnswerFault::OutOfMemory => 0,
+            AnswerFault::NotConforming => 3,
+        }
+    }
+}
+
+/// One request at an accepted gate.
+#[derive(Drop)]
+pub struct Session<'a> {
+    gate: &'a Gate<'a>,
+    request: Request,
+}
+
+impl<'a> Session<'a> {
+    /// A session of this request at the gate. Today it always opens.
+    ///
+    /// # Errors
+    ///
+    /// Want of memory.
+    pub fn open(gate: &'a Gate<'a>, request: Request) -> Result<Session<'a>, OpenFault>
+        ensures { IsOkAnd result (λ s. (session_submission s ≡ submission_of gate.now) × (session_request s ≡ request_of request)) }
+    {
+        Ok(Session { gate, request })
+    }
+
+    /// The gate of the session.
+    pub fn gate(&self) -> &'a Gate<'a>
+        ensures { submission_of result.now ≡ session_submission self.now }
+    {
+        self.gate
+    }
+
+    /// The request of the session.
+    pub fn request(&self) -> &Request
+        ensures { request_of result.now ≡ session_request self.now }
+    {
+        &self.request
+    }
+
+    /// The uids that are wanted now: those of the slice, whatever the world, at level 0, where there are none.
+    pub fn wanted(&self) -> &[EntityUID]
+        ensures none { result.now ≡ [] }
+        ensures slice { (w : World) (u : _) → Contains (map uid_of result.now) u ↔ InSlice (session_submission self.now).declarations 0 w u }
+    {
+        &[]
+    }
+
+    /// Takes in what is wanted, each uid with its entity or without one. Today nothing is wanted, so the empty list alone
+    /// is taken. The session stays as it was.
+    ///
+    /// # Errors
+    ///
+    /// `NotWanted` for a list that isn't empty.
+    pub fn supply(&mut self, entities: Vec<(EntityUID, Option<Entity>)>) -> Result<(), SupplyFault>
+        ensures taken { IsOk result ↔ (entities.items ≡ []) }
+        ensures refused { IfErr result (λ e. e ≡ SupplyFault.NotWanted) }
+        ensures unchanged { self.new ≡ self.old }
+    {
+        if entities.is_empty() {
+            Ok(())
+        } else {
+            Err(SupplyFault::NotWanted)
+        }
+    }
+
+    /// The decision, which is that of the answer over any store. Today one is always given.
+    ///
+    /// # Errors
+    ///
+    /// Want of memory. Today it takes none.
+    #[tactic(auto, using(crate::proofs::Worlds::decision_anywhere))]
+    pub fn decision(&self) -> Result<Option<Decision>, AllocError>
+        ensures { (w : World) → w.request ≡ session_request self.now
+            → IsOkAnd result (λ d. option_map decision_of d ≡ Some (answer.decision_of w (session_submission self.now).policies)) }
+    {
+        let policies = self.gate.policies();
+        let conditions = self.gate.conditions();
+        Ok(Some(decide(&self.request, policies, conditions)))
+    }
+
+    /// The answer, which is that over any store.
+    ///
+    /// # Errors
+    ///
+    /// `NotConforming` exactly where the request doesn't conform to the schema; else want of memory.
+    #[tactic(auto, using(crate::proofs::Worlds::answer_anywhere))]
+    pub fn answer(&self, alloc: Global) -> Result<Response, AnswerFault>
+        ensures conforming { IsErrOf result AnswerFault.NotConforming ↔ (conforms (session_submission self.now).declarations (session_request self.now) ≡ false) }
+        ensures answered { IfOk result (λ r. (w : World) → w.request ≡ session_request self.now
+            → response_of r ≡ answer.answer_of w (session_submission self.now).policies) }
+    {
+        if !check_conforms(self.gate.schema(), &self.request) {
+            return Err(AnswerFault::NotConforming);
+        }
+        let policies = self.gate.policies();
+        let conditions = self.gate.conditions();
+        respond(alloc, &self.request, policies, conditions).map_err(|_| AnswerFault::OutOfMemory)
+    }
+}

@@ -1,0 +1,4 @@
+pub mod Gathered
+pub mod Shapes
+pub mod Inputs
+pub mod Distinct

@@ -1,0 +1,4 @@
+pub mod Faults
+pub mod Joints
+pub mod Namespaces
+pub mod Bundles

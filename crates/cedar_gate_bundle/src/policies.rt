@@ -1,0 +1,144 @@
+//! Policies.
+ghost use Rattle.std.specs.Prelude.{◌≡◌, Option, Some, None, IfOk, IfErr, option_map, true};
+ghost use Rattle.serde_json.specs.View.{view};
+ghost use Rattle.cedar_expr_names.specs.Views.{uid_of};
+ghost use Rattle.cedar_expr_model.specs.Value.{truth};
+ghost use Rattle.cedar_expr_model.specs.Tree.{lit};
+ghost use Rattle.cedar_store_model.specs.Policy as model;
+ghost use Rattle.cedar_store_model.specs.Policy.{any};
+ghost use Rattle.cedar_gate_types.specs.Policies.{policy_of, effect_of, scope_of, action_scope_of, body_tree};
+ghost use Rattle.cedar_gate_model.specs.Reading.{if_there};
+ghost use Rattle.cedar_gate_model.specs.ReadingExpression.{expression_read};
+ghost use Rattle.cedar_gate_model.specs.ReadingBundle.{effect_read, scope_uid_read, scope_read, policy_read, is_policy};
+ghost use Rattle.cedar_gate_bundle.specs.declared.fault.ReadFault.TheVariants.{Unreadable};
+
+use crate::expressions::read_expression;
+use crate::fault::ReadFault;
+use crate::lists::Readable;
+use crate::names::{read_uid, text};
+use crate::objects::{has_only, may_be_empty_object, required};
+use cedar_expr::{EntityUID, Expr};
+use cedar_gate_types::{
+    ActionConstraint, Effect, EntityReference, Policy, PolicyID, PrincipalConstraint,
+    PrincipalOrResourceConstraint, ResourceConstraint,
+};
+use serde_json::Value;
+use std::alloc::Global;
+use std::rc::Rc;
+
+impl Readable for Policy {
+    ghost Meaning = { model.Policy };
+
+    ghost reading = { policy_read };
+
+    ghost seen = { policy_of };
+
+    fn read(alloc: Global, value: &Value) -> Result<Policy, ReadFault> {
+        if !is_policy(value) {
+            return Err(ReadFault::Unreadable);
+        }
+        let id = PolicyID::from_string(alloc, text(required(value, "id")?)?)?;
+        let effect = read_effect(required(value, "effect")?)?;
+        let principal = read_scope(alloc, value.get("principal"))?;
+        let action = read_action_scope(alloc, value.get("action"))?;
+        let resource = read_scope(alloc, value.get("resource"))?;
+        let body = read_body(alloc, value.get("when"))?;
+        Ok(Policy::new(
+            id,
+            effect,
+            PrincipalConstraint {
+                constraint: principal,
+            },
+            action,
+            ResourceConstraint {
+                constraint: resource,
+            },
+            body,
+        ))
+    }
+}
+
+// Whether the value has the keys of a policy alone, and binds nothing.
+fn is_policy(value: &Value) -> bool
+    ensures { result ≡ is_policy (view value.now) }
+{
+    let keys = [
+        "id",
+        "effect",
+        "principal",
+        "action",
+        "resource",
+        "when",
+        "link",
+    ];
+    has_only(value, &keys) && may_be_empty_object(value, "link")
+}
+
+// Reads an effect.
+fn read_effect(value: &Value) -> Result<Effect, ReadFault>
+    ensures ok { IfOk result (λ e. effect_read (view value.now) ≡ Some (effect_of e)) }
+    ensures unreadable { IfErr result (λ f. (f ≡ Unreadable) × (effect_read (view value.now) ≡ None)) }
+{
+    match text(value)? {
+        "permit" => Ok(Effect::Permit),
+        "forbid" => Ok(Effect::Forbid),
+        _ => Err(ReadFault::Unreadable),
+    }
+}
+
+// Reads the uid that a part of a scope has to be.
+fn read_scope_uid(alloc: Global, value: &Value) -> Result<Rc<EntityUID>, ReadFault>
+    ensures ok { IfOk result (λ u. scope_uid_read (view value.now) ≡ Some (uid_of u.value)) }
+    ensures unreadable { IfErr result (λ f. f ≡ Unreadable → scope_uid_read (view value.now) ≡ None) }
+{
+    if !has_only(value, &["eq"]) {
+        return Err(ReadFault::Unreadable);
+    }
+    let uid = read_uid(alloc, required(value, "eq")?)?;
+    Ok(Rc::new(alloc, uid)?)
+}
+
+// Reads what a scope asks of principal or resource: nothing, where that lacks.
+fn read_scope(
+    alloc: Global,
+    value: Option<&Value>,
+) -> Result<PrincipalOrResourceConstraint, ReadFault>
+    ensures ok { IfOk result (λ s. if_there scope_read any (option_map (λ v. view v.now) value.entry)
+        ≡ Some (scope_of s)) }
+    ensures unreadable { IfErr result (λ f. f ≡ Unreadable
+        → if_there scope_read any (option_map (λ v. view v.now) value.entry) ≡ None) }
+{
+    match value {
+        None => Ok(PrincipalOrResourceConstraint::Any),
+        Some(value) => {
+            let uid = read_scope_uid(alloc, value)?;
+            Ok(PrincipalOrResourceConstraint::Eq(EntityReference::EUID(uid)))
+        }
+    }
+}
+
+// Reads what a scope asks of the action: nothing, where that lacks.
+fn read_action_scope(alloc: Global, value: Option<&Value>) -> Result<ActionConstraint, ReadFault>
+    ensures ok { IfOk result (λ s. if_there scope_read any (option_map (λ v. view v.now) value.entry)
+        ≡ Some (action_scope_of s)) }
+    ensures unreadable { IfErr result (λ f. f ≡ Unreadable
+        → if_there scope_read any (option_map (λ v. view v.now) value.entry) ≡ None) }
+{
+    match value {
+        None => Ok(ActionConstraint::Any),
+        Some(value) => Ok(ActionConstraint::Eq(read_scope_uid(alloc, value)?)),
+    }
+}
+
+// Reads a body, if there is one.
+fn read_body(alloc: Global, value: Option<&Value>) -> Result<Option<Expr>, ReadFault>
+    ensures ok { IfOk result (λ b. if_there expression_read (lit (truth true)) (option_map (λ v. view v.now) value.entry)
+        ≡ Some (body_tree b)) }
+    ensures unreadable { IfErr result (λ f. f ≡ Unreadable
+        → if_there expression_read (lit (truth true)) (option_map (λ v. view v.now) value.entry) ≡ None) }
+{
+    match value {
+        None => Ok(None),
+        Some(value) => Ok(Some(read_expression(alloc, value)?)),
+    }
+}
