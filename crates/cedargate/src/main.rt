@@ -1,0 +1,21 @@
+//! Reads a JSON bundle on standard input and prints refusals, warnings, early decisions and the answer.
+//!
+//! The exit status is 0 where the request was answered, 1 where the gate refused the policies, 2 where the bundle can't be read, 3 where
+//! the session was stopped, and 4 where memory, reading or writing failed. Arguments are ignored, and nothing goes to standard error.
+#![tactic(auto)]
+
+use cedar_expr::Extensions;
+use cedar_gate::serve::serve;
+use cedar_gate::status::Status;
+use std::process::ExitCode;
+
+fn main(rt: HostRuntime) -> ExitCode {
+    let table = Extensions::none();
+    match serve(rt.alloc(), rt.stdin(), &mut rt.stdout(), &table) {
+        Ok(Status::Answered) => ExitCode::from(0),
+        Ok(Status::Refused) => ExitCode::from(1),
+        Ok(Status::Unreadable) => ExitCode::from(2),
+        Ok(Status::Stopped) => ExitCode::from(3),
+        Err(_) => ExitCode::from(4),
+    }
+}
