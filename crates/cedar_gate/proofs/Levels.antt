@@ -54,5 +54,6 @@ bundle_level d b e =
     (λ (t : Bundle). t.submission.level ≡ 0) (λ submission at request store steps. submission_level d submission at) b (if_keeps (is_bundle d) _ b e)
 
 pub input_level : (bytes : List ℕ) (b : Bundle) → input_read bytes ≡ Some b → b.submission.level ≡ 0
+unfolding input_read
 input_level bytes b e =
     given_keeps (read bytes) bundle_read (λ (t : Bundle). t.submission.level ≡ 0) (λ d _ t h. bundle_level d t h) b (if_keeps (is_utf8 bytes) _ b e)

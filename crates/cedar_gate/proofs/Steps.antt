@@ -14,8 +14,8 @@ use Rattle.cedar_gate_types.specs.Responses.{response_of}
 use Rattle.std.specs.Global.{Vec}
 use Rattle.cedar_gate.specs.declared.transcript.Entry.{Entry}
 use Rattle.cedar_gate.specs.declared.transcript.Transcript.{Transcript}
-use Rattle.cedar_gate.specs.declared.run.RunFault.{RunFault}
-use Rattle.cedar_gate.specs.declared.run.RunFault.TheVariants.{Memory, Answering}
+use Rattle.cedar_gate.specs.declared.runs.RunFault.{RunFault}
+use Rattle.cedar_gate.specs.declared.runs.RunFault.TheVariants.{Memory, Answering}
 use Rattle.cedar_gate.specs.Values.{at_request}
 use Rattle.cedar_gate.specs.Transcripts.{entries_of, transcript_of}
 use Rattle.cedar_gate.specs.Runs.{RunGives, SessionGives, ConclusionGives, IsAnsweredRun, IsStoppedRun, IsUnansweredRun}

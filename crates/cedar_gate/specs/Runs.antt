@@ -11,8 +11,8 @@ use Rattle.cedar_gate.specs.declared.session.Session.{Session}
 use Rattle.std.specs.Global.{Vec}
 use Rattle.cedar_gate.specs.declared.transcript.Transcript.{Transcript}
 use Rattle.cedar_gate.specs.declared.transcript.Entry.{Entry}
-use Rattle.cedar_gate.specs.declared.run.RunFault.{RunFault}
-use Rattle.cedar_gate.specs.declared.run.RunFault.TheVariants.{Memory, Answering}
+use Rattle.cedar_gate.specs.declared.runs.RunFault.{RunFault}
+use Rattle.cedar_gate.specs.declared.runs.RunFault.TheVariants.{Memory, Answering}
 use Rattle.cedar_gate.specs.Values.{at_request}
 use Rattle.cedar_gate_types.specs.Responses.{response_of}
 use Rattle.cedar_gate.specs.declared.session.AnswerFault.TheVariants.{NotConforming}

@@ -7,8 +7,8 @@ use Rattle.cedar_gate_model.specs.Lines as lines
 use Rattle.cedar_gate_model.specs.Lines.{Prints}
 use Rattle.cedar_gate.specs.Statuses.{status_of}
 use Rattle.cedar_gate.specs.declared.status.Status.{Status}
-use Rattle.cedar_gate.specs.declared.serve.ServeFault.{ServeFault}
-use Rattle.cedar_gate.specs.declared.serve.ServeFault.TheVariants.{Memory, Read, Write}
+use Rattle.cedar_gate.specs.declared.service.ServeFault.{ServeFault}
+use Rattle.cedar_gate.specs.declared.service.ServeFault.TheVariants.{Memory, Read, Write}
 
 abbrev pub serve_fault_number : ServeFault → ℕ
 serve_fault_number Memory = 0

@@ -8,9 +8,16 @@ pub mod host;
 mod lines;
 mod output;
 mod printing;
-pub mod run;
-pub mod serve;
+pub mod runs;
+pub mod service;
 pub mod session;
 pub mod status;
 mod store_host;
 pub mod transcript;
+
+pub use host::{Host, HostFault};
+pub use runs::{RunFault, run};
+pub use service::{ServeFault, serve};
+pub use session::{AnswerFault, OpenFault, OpenSession, Session, SupplyFault};
+pub use status::Status;
+pub use transcript::{Entry, Transcript};

@@ -17,7 +17,7 @@ ghost use Rattle.cedar_gate.specs.Transcripts.{entries_of};
 ghost use Rattle.cedar_gate.specs.Statuses.{status_of};
 
 use crate::lines;
-use crate::run::{RunFault, run};
+use crate::runs::{RunFault, run};
 use crate::status::Status;
 use crate::store_host::StoreHost;
 use crate::transcript::Transcript;

@@ -176,3 +176,21 @@ impl<'a> Session<'a> {
         respond(alloc, &self.request, policies, conditions).map_err(|_| AnswerFault::OutOfMemory)
     }
 }
+
+/// Opening a session at a gate, as `gate.open(request)`.
+pub trait OpenSession {
+    /// A session of this request at the gate. Today it always opens.
+    ///
+    /// # Errors
+    ///
+    /// Want of memory.
+    fn open(&self, request: Request) -> Result<Session<'_>, OpenFault>;
+}
+
+impl<'a> OpenSession for Gate<'a> {
+    fn open(&self, request: Request) -> Result<Session<'_>, OpenFault>
+        ensures { IsOkAnd result (λ s. (session_submission s ≡ submission_of self.now) × (session_request s ≡ request_of request)) }
+    {
+        Session::open(self, request)
+    }
+}

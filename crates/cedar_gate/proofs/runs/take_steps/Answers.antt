@@ -1,7 +1,7 @@
 use Rattle.std.proofs.Common.{ap, ◌∙◌}
 use Rattle.cedar_gate.specs.Transcripts.{entries_of}
 use Rattle.cedar_gate.proofs.Steps.{stopped_within, one_more_step}
-use Rattle.cedar_gate.proofs.run.take_steps.Goals as goal
+use Rattle.cedar_gate.proofs.runs.take_steps.Goals as goal
 
 pub returns-in_err-take_step-clause-stopped : goal.returns-in_err-take_step-clause-stopped
 returns-in_err-take_step-clause-stopped c =
