@@ -5,17 +5,13 @@
 #![tactic(auto)]
 
 use cedar_expr::Extensions;
-use cedar_gate::serve::serve;
-use cedar_gate::status::Status;
+use cedar_gate::serve;
 use std::process::ExitCode;
 
 fn main(rt: HostRuntime) -> ExitCode {
     let table = Extensions::none();
     match serve(rt.alloc(), rt.stdin(), &mut rt.stdout(), &table) {
-        Ok(Status::Answered) => ExitCode::from(0),
-        Ok(Status::Refused) => ExitCode::from(1),
-        Ok(Status::Unreadable) => ExitCode::from(2),
-        Ok(Status::Stopped) => ExitCode::from(3),
+        Ok(status) => ExitCode::from(status.number()),
         Err(_) => ExitCode::from(4),
     }
 }
