@@ -4,3 +4,4 @@ pub mod Fresh
 pub mod Types
 pub mod Declaring
 pub mod Named
+pub mod Indexing

@@ -6,3 +6,4 @@ pub mod Gates
 pub mod Candidates
 pub mod Accepted
 pub mod Plain
+pub mod Indexes

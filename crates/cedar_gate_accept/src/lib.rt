@@ -8,6 +8,7 @@ pub mod distinct;
 pub mod each;
 pub mod err;
 pub mod gate;
+pub mod index;
 pub mod nesting;
 pub mod plain;
 pub mod policies;

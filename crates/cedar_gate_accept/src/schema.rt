@@ -1,6 +1,16 @@
 //! The declared types and actions.
 
+ghost use Rattle.std.specs.Prelude.{◌≡◌};
+ghost use Rattle.std.specs.List.{list_any};
+ghost use Rattle.cedar_expr_names.specs.Views.{uid_of, name_of};
+ghost use Rattle.cedar_expr_model.specs.Name.{Name, name_eq};
+ghost use Rattle.cedar_expr_model.specs.Uid.{Uid, uid_eq};
+ghost use Rattle.cedar_gate_accept.specs.Indexes.{has_name, has_uid};
+
+use crate::index::{index_action_types, index_has_name, index_has_uid, index_names, index_uids};
 use cedar_expr::{EntityUID, InternalName};
+use std::alloc::{AllocError, Global};
+use std::collections::BTreeSet;
 
 /// A declared action, with the types of the principals and resources that it is for.
 #[derive(Drop)]
@@ -10,16 +20,21 @@ pub struct ValidatorActionId {
     resources: Vec<InternalName>,
 }
 
-/// The declared entity types and actions.
+/// The declared entity types and actions, with indexes by which they are looked up.
 #[derive(Drop)]
 pub struct ValidatorSchema {
     entity_types: Vec<InternalName>,
     actions: Vec<ValidatorActionId>,
+    type_index: BTreeSet<InternalName>,
+    action_index: BTreeSet<EntityUID>,
+    action_type_index: BTreeSet<InternalName>,
+    ghost types_indexed: { (q : Name) → has_name type_index q ≡ list_any (λ t. name_eq q (name_of t)) entity_types.items },
+    ghost actions_indexed: { (q : Uid) → has_uid action_index q ≡ list_any (λ a. uid_eq q (uid_of a.name)) actions.items },
+    ghost action_types_indexed: { (q : Name) → has_name action_type_index q ≡ list_any (λ a. name_eq q (uid_of a.name).kind) actions.items },
 }
 
 impl ValidatorActionId {
-    ghost use Rattle.std.specs.Prelude.{◌≡◌, map};
-    ghost use Rattle.cedar_expr_names.specs.Views.{uid_of, name_of};
+    ghost use Rattle.std.specs.Prelude.{map};
     ghost use Rattle.cedar_gate_accept.specs.Schema.{action_of};
 
     /// The action of this uid, for principals and resources of these types.
@@ -60,19 +75,28 @@ impl ValidatorActionId {
 }
 
 impl ValidatorSchema {
-    ghost use Rattle.std.specs.Prelude.{◌≡◌, map};
-    ghost use Rattle.cedar_expr_names.specs.Views.{uid_of, name_of};
+    ghost use Rattle.std.specs.Prelude.{IfOk, map};
     ghost use Rattle.cedar_schema_model.specs.Declarations.{declares_type, declares_action, is_action_type};
     ghost use Rattle.cedar_gate_accept.specs.Schema.{schema_of, action_of, type_declaration_of};
 
-    /// The schema of these entity types and actions.
-    pub fn new(entity_types: Vec<InternalName>, actions: Vec<ValidatorActionId>) -> ValidatorSchema
-        ensures { schema_of result ≡ record { types = map type_declaration_of entity_types.items; actions = map action_of actions.items } }
+    /// The schema of these entity types and actions. Fails only for want of memory.
+    pub fn new(
+        alloc: Global,
+        entity_types: Vec<InternalName>,
+        actions: Vec<ValidatorActionId>,
+    ) -> Result<ValidatorSchema, AllocError>
+        ensures { IfOk result (λ s. schema_of s ≡ record { types = map type_declaration_of entity_types.items; actions = map action_of actions.items }) }
     {
-        ValidatorSchema {
+        let type_index = index_names(alloc, entity_types.as_slice())?;
+        let action_index = index_uids(alloc, actions.as_slice())?;
+        let action_type_index = index_action_types(alloc, actions.as_slice())?;
+        Ok(ValidatorSchema {
             entity_types,
             actions,
-        }
+            type_index,
+            action_index,
+            action_type_index,
+        })
     }
 
     /// The names of the declared entity types.
@@ -93,28 +117,23 @@ impl ValidatorSchema {
     pub fn declares_type(&self, name: &InternalName) -> bool
         ensures { result ≡ declares_type (schema_of self.now) (name_of name.now) }
     {
-        names_have(self.entity_types.as_slice(), name)
+        index_has_name(&self.type_index, name)
     }
 
     /// Whether a uid is a declared action.
     pub fn declares_action(&self, uid: &EntityUID) -> bool
         ensures { result ≡ declares_action (schema_of self.now) (uid_of uid.now) }
     {
-        actions_have(self.actions.as_slice(), uid)
+        index_has_uid(&self.action_index, uid)
     }
 
     /// Whether a type is that of a declared action.
     pub fn is_action_type(&self, name: &InternalName) -> bool
         ensures { result ≡ is_action_type (schema_of self.now) (name_of name.now) }
     {
-        actions_are_of(self.actions.as_slice(), name)
+        index_has_name(&self.action_type_index, name)
     }
 }
-
-ghost use Rattle.std.specs.Prelude.{◌≡◌};
-ghost use Rattle.cedar_expr_names.specs.Views.{uid_of, name_of};
-ghost use Rattle.cedar_expr_model.specs.Name.{name_eq};
-ghost use Rattle.cedar_expr_model.specs.Uid.{uid_eq};
 
 /// The type of a uid.
 pub fn type_of(uid: &EntityUID) -> &InternalName
@@ -135,28 +154,4 @@ pub fn same_uid(a: &EntityUID, b: &EntityUID) -> bool
     ensures { result ≡ uid_eq (uid_of a.now) (uid_of b.now) }
 {
     a.same(b)
-}
-
-ghost use Rattle.std.specs.List.{list_any};
-ghost use Rattle.cedar_gate_accept.specs.Schema.{action_uid};
-
-/// Whether a name is among names.
-fn names_have(names: &[InternalName], name: &InternalName) -> bool
-    ensures { result ≡ list_any (λ t. name_eq (name_of name.now) (name_of t)) names.now }
-{
-    names.iter().any(|t| name.same(t))
-}
-
-/// Whether a uid is that of one of the actions.
-fn actions_have(actions: &[ValidatorActionId], uid: &EntityUID) -> bool
-    ensures { result ≡ list_any (λ a. uid_eq (uid_of uid.now) (action_uid a)) actions.now }
-{
-    actions.iter().any(|a| uid.same(a.name()))
-}
-
-/// Whether a type is that of one of the actions.
-fn actions_are_of(actions: &[ValidatorActionId], name: &InternalName) -> bool
-    ensures { result ≡ list_any (λ a. name_eq (name_of name.now) (action_uid a).kind) actions.now }
-{
-    actions.iter().any(|a| name.same(type_of(a.name())))
 }

@@ -151,7 +151,7 @@ fn declared_schema(
 {
     let entity_types = type_names(alloc, definition.entity_types.as_slice())?;
     let actions = actions(alloc, definition.actions.as_slice())?;
-    let schema = ValidatorSchema::new(entity_types, actions);
+    let schema = ValidatorSchema::new(alloc, entity_types, actions)?;
     check_well_formed(alloc, definition, &schema)?;
     Ok(schema)
 }
