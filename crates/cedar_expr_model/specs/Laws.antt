@@ -1,4 +1,5 @@
 -- What the laws of this crate say.
+-- Rule: identifiers and names; the uid text and its escape; values and equality (docs/RULES.md).
 use Rattle.std.specs.Prelude.{◌≡◌, ◌↔◌, List, Some, true}
 use Rattle.std.specs.Bool.{Decides}
 use Rattle.cedar_expr_model.specs.Name.{Text, Name, Writes, name_eq, texts_eq, name_read, name_text, is_well_formed}

@@ -1,5 +1,6 @@
 -- Two trees are equal in one way at most, and so are two lists of trees and two lists of texts. A struct that keeps
 -- such an equation wants to know.
+-- Rule: expressions (docs/RULES.md).
 use Rattle.std.specs.Prelude.{List}
 use Rattle.std.specs.Coded.{Coded-set, coded_list, coded_ℕ, coded_ℤ, coded_bool}
 use Rattle.cedar_expr_model.specs.Name.{Text, Name, Name-set}

@@ -1,4 +1,5 @@
 -- Expressions as bare trees: kinds alone, with no place and no data.
+-- Rule: expressions; nesting (docs/RULES.md).
 use Rattle.std.specs.Prelude.{ℕ, suc, max, ◌&&◌, Bool, Option, Some, None}
 use Rattle.cedar_expr_model.specs.Value.{Literal, truth, long, entity}
 

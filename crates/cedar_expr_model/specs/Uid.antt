@@ -1,4 +1,5 @@
 -- Entity uids and their text.
+-- Rule: the uid text and its escape (docs/RULES.md).
 use Rattle.std.specs.Prelude.{ℕ, ◌==◌, ◌&&◌, false, [], ◌∷◌, ◌++◌, Bool, nat_le, if◌then◌else◌}
 use Rattle.std.specs.List.{flat_map}
 use Rattle.std.specs.Str.{bytes_eq, chars}

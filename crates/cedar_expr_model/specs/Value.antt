@@ -1,4 +1,5 @@
 -- Literals and values.
+-- Rule: values and equality (docs/RULES.md).
 use Rattle.std.specs.Prelude.{ℤ, Bool, true, false, not}
 use Rattle.std.specs.Ordering.{int_eq}
 use Rattle.cedar_expr_model.specs.Uid.{Uid, uid_eq}

@@ -1,4 +1,5 @@
 -- The values of the worked examples.
+-- Rule: identifiers and names; the uid text and its escape (docs/RULES.md).
 use Rattle.std.specs.Prelude.{[], ◌∷◌, ◌++◌, codes}
 use Rattle.cedar_expr_model.specs.Name.{Text, Name}
 use Rattle.cedar_expr_model.specs.Uid.{Uid}

@@ -1,4 +1,5 @@
 -- What the gate admits: the acceptance rules, each with the fault that breaks it.
+-- Rule: the acceptance rules; impossible policies; statuses and refusal numbers (docs/RULES.md).
 use Rattle.std.specs.Prelude.{◌≡◌, ◌&&◌, ℕ, List, Bool, true, false, nat_le}
 use Rattle.std.specs.List.{list_all, filter}
 use Rattle.std.specs.Str.{bytes_eq}

@@ -1,4 +1,5 @@
 -- What a bundle says, once it is read.
+-- Rule: what a bundle reads as (docs/RULES.md).
 use Rattle.std.specs.Prelude.{List}
 use Rattle.std.specs.List.{list_any}
 use Rattle.cedar_expr_model.specs.Uid.{Uid, uid_eq}

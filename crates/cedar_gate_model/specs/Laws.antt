@@ -1,4 +1,5 @@
 -- What the laws of this crate say.
+-- Rule: the acceptance rules; impossible policies; the slice; legal transcript; the lines (docs/RULES.md).
 use Rattle.std.specs.Prelude.{◌≡◌, ◌≢◌, List, [], Option, Some, Contains, false, ◌↔◌, ℕ, suc, ◌∷◌, ◌++◌}
 use Rattle.std.specs.Bool.{Decides}
 use Rattle.cedar_expr_model.specs.Name.{Text}

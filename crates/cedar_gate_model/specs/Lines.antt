@@ -1,4 +1,5 @@
 -- The lines that the program prints, and its status. Each line ends with a line feed.
+-- Rule: the lines; statuses and refusal numbers (docs/RULES.md).
 use Rattle.std.specs.Prelude.{◌≡◌, ◌+◌, ℕ, List, [], ◌∷◌, ◌++◌, Option, Some, None, true, false, codes}
 use Rattle.std.specs.List.{flat_map}
 use Rattle.std.specs.Fmt.{decimal}

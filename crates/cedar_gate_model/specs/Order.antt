@@ -1,4 +1,5 @@
 -- The order of declarations and policies says nothing of acceptance.
+-- Rule: the acceptance rules (docs/RULES.md).
 use Rattle.std.specs.Prelude.{◌≡◌}
 use Rattle.std.specs.List.Sorted.{IsPermutation}
 use Rattle.cedar_schema_model.specs.Order.{IsReordered}

@@ -1,4 +1,5 @@
 -- What may be asked: the uids fewer than n steps away, less the declared actions.
+-- Rule: the slice (docs/RULES.md).
 use Rattle.std.specs.Prelude.{◌≡◌, ℕ, zero, suc, false}
 use Rattle.std.proofs.Common.{◌⊎◌}
 use Rattle.cedar_expr_model.specs.Uid.{Uid}

@@ -1,4 +1,5 @@
 -- Runs: steps, the entries of a transcript, and which transcripts are legal.
+-- Rule: legal transcript (docs/RULES.md).
 use Rattle.std.specs.Prelude.{◌≡◌, ◌≢◌, ◌↔◌, List, [], ◌∷◌, ◌++◌, Option, Some, None, Contains, IfSome}
 use Rattle.cedar_expr_model.specs.Uid.{Uid}
 use Rattle.cedar_store_model.specs.World.{World}

@@ -1,4 +1,5 @@
 -- The values of the worked examples.
+-- Rule: the acceptance rules; the lines (docs/RULES.md).
 use Rattle.std.specs.Prelude.{List, [], ◌∷◌, ◌++◌, codes, false}
 use Rattle.cedar_expr_model.specs.Name.{Text}
 use Rattle.cedar_expr_model.specs.Value.{truth}

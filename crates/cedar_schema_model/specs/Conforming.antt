@@ -1,4 +1,5 @@
 -- Which requests conform to a schema.
+-- Rule: conforming requests (docs/RULES.md).
 use Rattle.std.specs.Prelude.{◌≡◌, ◌&&◌, Bool, Contains}
 use Rattle.std.specs.List.{list_any}
 use Rattle.cedar_expr_model.specs.Name.{name_eq}

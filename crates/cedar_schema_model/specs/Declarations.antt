@@ -1,4 +1,5 @@
 -- The declarations of a schema, as a bag, and when they are well-formed.
+-- Rule: well-formed declarations (docs/RULES.md).
 use Rattle.std.specs.Prelude.{◌≡◌, ◌&&◌, List, [], ◌∷◌, Bool, true, not, map, codes}
 use Rattle.std.specs.List.{list_all, list_any}
 use Rattle.std.specs.Str.{bytes_eq}

@@ -1,4 +1,5 @@
 -- The environments of a schema: each declared action with each of its principal and resource types.
+-- Rule: environments (docs/RULES.md).
 use Rattle.std.specs.Prelude.{List, map}
 use Rattle.std.specs.List.{flat_map}
 use Rattle.cedar_expr_model.specs.Name.{Name}

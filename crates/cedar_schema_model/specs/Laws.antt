@@ -1,4 +1,5 @@
 -- What the laws of this crate say.
+-- Rule: well-formed declarations; environments; conforming requests (docs/RULES.md).
 use Rattle.std.specs.Prelude.{◌≡◌, ◌↔◌, Contains, true}
 use Rattle.std.specs.Bool.{Decides}
 use Rattle.cedar_store_model.specs.World.{Request}

@@ -1,4 +1,5 @@
 -- Declarations are a bag: their order says nothing.
+-- Rule: well-formed declarations; environments; conforming requests (docs/RULES.md).
 use Rattle.std.specs.Prelude.{◌≡◌, ◌↔◌, Contains}
 use Rattle.std.specs.List.Sorted.{IsPermutation}
 use Rattle.cedar_store_model.specs.World.{Request}

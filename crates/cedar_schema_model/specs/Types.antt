@@ -1,4 +1,5 @@
 -- Types. There are three for truth values: the one of `true` alone, the one of `false` alone, and that of both.
+-- Rule: typing (docs/RULES.md).
 use Rattle.std.specs.Prelude.{Option, Some, None, if◌then◌else◌}
 use Rattle.cedar_expr_model.specs.Name.{Name, name_eq}
 

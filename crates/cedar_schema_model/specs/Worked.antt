@@ -1,4 +1,5 @@
 -- The values of the worked examples.
+-- Rule: well-formed declarations; environments; conforming requests (docs/RULES.md).
 use Rattle.std.specs.Prelude.{List, [], ◌∷◌, codes}
 use Rattle.cedar_expr_model.specs.Uid.{Uid}
 use Rattle.cedar_store_model.specs.Worked.{user, doc, view}

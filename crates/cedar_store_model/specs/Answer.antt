@@ -1,4 +1,5 @@
 -- The answer of a list of policies: decision, reasons and errors.
+-- Rule: the answer (docs/RULES.md).
 use Rattle.std.specs.Prelude.{List, [], ◌∷◌, ◌&&◌, map, filter, not, Bool, true, false}
 use Rattle.std.specs.List.{flat_map}
 use Rattle.cedar_expr_model.specs.Name.{Text}

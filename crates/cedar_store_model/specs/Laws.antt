@@ -1,4 +1,5 @@
 -- What the laws of this crate say.
+-- Rule: the meaning; conditions; the answer (docs/RULES.md).
 use Rattle.std.specs.Prelude.{◌≡◌, ◌↔◌, List, Contains, true}
 use Rattle.std.specs.Bool.{Decides}
 use Rattle.cedar_expr_model.specs.Name.{Text}

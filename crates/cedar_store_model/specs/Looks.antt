@@ -1,4 +1,5 @@
 -- Which uids an expression looks up in a world. Of today's kinds none looks anything up by itself.
+-- Rule: the meaning (docs/RULES.md).
 use Rattle.std.specs.Prelude.{true}
 use Rattle.std.proofs.Common.{◌⊎◌}
 use Rattle.cedar_expr_model.specs.Uid.{Uid}

@@ -1,4 +1,5 @@
 -- The meaning of expressions, as a relation between world, expression and outcome, and as the function of that shape.
+-- Rule: the meaning (docs/RULES.md).
 use Rattle.std.specs.Prelude.{◌≡◌, Bool, true, false, not, IsTrue, ◌↔◌, ◌<ℤ◌, int_lt}
 use Rattle.cedar_expr_model.specs.Value.{V, prim, truth, long, entity, value_eq}
 use Rattle.cedar_expr_model.specs.Tree.{Tree, lit, var, both, unary, binary, UnaryOp, negation, BinaryOp, equal, less}

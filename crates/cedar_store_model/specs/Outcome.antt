@@ -1,4 +1,5 @@
 -- Outcomes: a value, or an error of one kind.
+-- Rule: the meaning (docs/RULES.md).
 use Rattle.std.specs.Prelude.{◌≡◌}
 use Rattle.std.proofs.Common.{◌⊎◌}
 

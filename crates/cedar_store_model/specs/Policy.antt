@@ -1,4 +1,5 @@
 -- Policies and their condition.
+-- Rule: conditions (docs/RULES.md).
 use Rattle.std.specs.Prelude.{true}
 use Rattle.cedar_expr_model.specs.Name.{Text}
 use Rattle.cedar_expr_model.specs.Uid.{Uid}

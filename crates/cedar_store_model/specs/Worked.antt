@@ -1,4 +1,5 @@
 -- The values of the worked examples.
+-- Rule: the meaning; conditions; the answer (docs/RULES.md).
 use Rattle.std.specs.Prelude.{pos, [], codes, true, false}
 use Rattle.cedar_expr_model.specs.Name.{Name}
 use Rattle.cedar_expr_model.specs.Uid.{Uid}

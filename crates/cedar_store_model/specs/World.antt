@@ -1,4 +1,5 @@
 -- What an expression is evaluated in: a request and a store.
+-- Rule: the meaning (docs/RULES.md).
 use Rattle.std.specs.Prelude.{Bool}
 use Rattle.cedar_expr_model.specs.Uid.{Uid}
 use Rattle.cedar_expr_model.specs.Tree.{Var, principal, action, resource}

@@ -1,4 +1,5 @@
 -- Facts that hold where an expression is true: an expression has an attribute, or a tag. Of today's kinds none gives one.
+-- Rule: typing (docs/RULES.md).
 use Rattle.std.specs.Prelude.{◌||◌, Bool, false}
 use Rattle.cedar_expr_model.specs.Name.{Text}
 use Rattle.cedar_expr_model.specs.Tree.{Tree}

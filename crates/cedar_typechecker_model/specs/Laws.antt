@@ -1,4 +1,5 @@
 -- What the laws of this crate say of the tests.
+-- Rule: typing; the scope rules; impossible policies (docs/RULES.md).
 use Rattle.std.specs.Prelude.{◌≡◌, ◌↔◌, Bool, Some}
 use Rattle.std.specs.Bool.{Decides}
 use Rattle.cedar_expr_model.specs.Uid.{Uid}

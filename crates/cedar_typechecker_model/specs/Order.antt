@@ -1,4 +1,5 @@
 -- The order of declarations says nothing of types and verdicts.
+-- Rule: typing; the scope rules; impossible policies (docs/RULES.md).
 use Rattle.std.specs.Prelude.{◌≡◌}
 use Rattle.cedar_expr_model.specs.Tree.{Tree}
 use Rattle.cedar_store_model.specs.Policy.{Policy}

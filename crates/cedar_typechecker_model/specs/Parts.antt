@@ -1,4 +1,5 @@
 -- The type of an expression by the types of its parts. Of today's kinds none gives a fact.
+-- Rule: typing (docs/RULES.md).
 use Rattle.std.specs.Prelude.{◌≡◌, Option, Some, None, option_and_then}
 use Rattle.cedar_expr_model.specs.Value.{Literal}
 use Rattle.cedar_expr_model.specs.Tree.{Tree, lit, var, both, unary, binary, Var, UnaryOp, BinaryOp}

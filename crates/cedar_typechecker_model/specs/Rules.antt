@@ -1,4 +1,5 @@
 -- The rules of typing for each kind, on the types of the parts.
+-- Rule: typing (docs/RULES.md).
 use Rattle.std.specs.Prelude.{Bool, true, false, Option, Some, None, option_map, if◌then◌else◌, ◌||◌}
 use Rattle.cedar_expr_model.specs.Name.{name_eq}
 use Rattle.cedar_expr_model.specs.Uid.{Uid, uid_eq}

@@ -1,4 +1,5 @@
 -- The scope rules: what a policy names anywhere, also where typing doesn't reach, is declared.
+-- Rule: the scope rules (docs/RULES.md).
 use Rattle.std.specs.Prelude.{◌≡◌, ◌&&◌, ◌||◌, Bool, true, not, IsTrue}
 use Rattle.std.proofs.Common.{◌⊎◌}
 use Rattle.cedar_expr_model.specs.Uid.{Uid}

@@ -1,4 +1,5 @@
 -- What typing promises of meaning.
+-- Rule: typing; impossible policies (docs/RULES.md).
 use Rattle.std.specs.Prelude.{◌≡◌, Bool, true, false}
 use Rattle.cedar_expr_model.specs.Value.{V, prim, truth, long, entity}
 use Rattle.cedar_expr_model.specs.Tree.{Tree}

@@ -1,4 +1,5 @@
 -- Typing (Strict): a relation between setting, prior facts, expression, type and later facts, and the function of that shape.
+-- Rule: typing (docs/RULES.md).
 use Rattle.std.specs.Prelude.{◌≡◌, Option, Some, None, option_map, option_and_then}
 use Rattle.cedar_expr_model.specs.Tree.{Tree, lit, var, both, unary, binary}
 use Rattle.cedar_schema_model.specs.Types.{Ty, bool_type, long_type, entity_type, BoolType, only_true, only_false, any_bool}

@@ -1,4 +1,5 @@
 -- What typing says of a policy over all environments.
+-- Rule: the acceptance rules; impossible policies (docs/RULES.md).
 use Rattle.std.specs.Prelude.{Bool, true, false, Option, Some, None, Contains}
 use Rattle.std.specs.List.{list_all}
 use Rattle.cedar_store_model.specs.Policy.{Policy, condition}

@@ -1,4 +1,5 @@
 -- The values of the worked examples.
+-- Rule: typing; the scope rules (docs/RULES.md).
 use Rattle.std.specs.Prelude.{[], codes, true, false}
 use Rattle.cedar_expr_model.specs.Uid.{Uid}
 use Rattle.cedar_expr_model.specs.Value.{truth, entity}
