@@ -21,3 +21,6 @@ pub use service::{ServeFault, serve};
 pub use session::{AnswerFault, OpenFault, OpenSession, Session, SupplyFault};
 pub use status::Status;
 pub use transcript::{Entry, Transcript};
+
+#[cfg(test)]
+mod tests;
