@@ -1,0 +1,336 @@
+//! Bundles and what is printed for them; writers, readers and hosts that fail; calls that succeed.
+
+use cedar_expr::ExtTable;
+use cedar_gate::{OpenSession, ServeFault, Status, serve};
+use cedar_gate_accept::Gate;
+use cedar_gate_bundle::{Bundle, read_text};
+use cedar_gate_types::Decision;
+use std::alloc::Global;
+use std::io;
+use std::io::{ErrorKind, Read, Write};
+use std::test::Fail;
+
+// What of a bundle differs from row to row, and what is printed for it.
+#[derive(Clone, Copy)]
+struct Row {
+    limit: &'static str,
+    body: &'static str,
+    forbid: &'static str,
+    resource: &'static str,
+    steps: &'static str,
+    lines: &'static str,
+    status: u8,
+}
+
+const LESS: &str = "[\"less\",1,2]";
+
+// A policy that permits, and what is printed for it.
+const PLAIN: Row = Row {
+    limit: "16",
+    body: LESS,
+    forbid: "",
+    resource: "[\"User\",\"b\"]",
+    steps: "[]",
+    lines: "answer Allow\nreason \"p\"\n",
+    status: 0,
+};
+
+// The text of a row's bundle.
+fn bundle(alloc: Global, row: &Row) -> Result<String, Fail> {
+    let mut text = String::from_str(alloc, "{\"version\":1,\"level\":0,\"limit\":")?;
+    text.push_str(row.limit)?;
+    text.push_str(",\"schema\":[{\"\":{\"entityTypes\":{\"User\":{}},\"actions\":{\"view\":")?;
+    text.push_str("{\"principals\":[\"User\"],\"resources\":[\"User\"]}}}}],\"policies\":[")?;
+    text.push_str(
+        "{\"id\":\"p\",\"effect\":\"permit\",\"principal\":{\"eq\":[\"User\",\"a\"]},\"when\":",
+    )?;
+    text.push_str(row.body)?;
+    if !row.forbid.is_empty() {
+        text.push_str("},{\"id\":\"f\",\"effect\":\"forbid\",\"when\":")?;
+        text.push_str(row.forbid)?;
+    }
+    text.push_str(
+        "}],\"request\":{\"principal\":[\"User\",\"a\"],\"action\":[\"Action\",\"view\"],\"resource\":",
+    )?;
+    text.push_str(row.resource)?;
+    text.push_str("},\"store\":[],\"steps\":")?;
+    text.push_str(row.steps)?;
+    text.push_str("}")?;
+    Ok(text)
+}
+
+#[test]
+fn bundles_and_their_lines(rt: HostRuntime) -> Result<(), Fail> {
+    let deny = "answer Deny\n";
+    let rows = [
+        PLAIN,
+        Row {
+            body: "[\"less\",2,1]",
+            lines: deny,
+            ..PLAIN
+        },
+        Row {
+            body: "[\"less\",1,true]",
+            lines: "refused 11\n",
+            status: 1,
+            ..PLAIN
+        },
+        Row {
+            body: "[\"and\",false,[\"eq\",[\"uid\",\"Ghost\",\"g\"],[\"var\",\"principal\"]]]",
+            lines: "refused 8\n",
+            status: 1,
+            ..PLAIN
+        },
+        Row {
+            limit: "5",
+            ..PLAIN
+        },
+        Row {
+            limit: "4",
+            lines: "refused 7\n",
+            status: 1,
+            ..PLAIN
+        },
+        Row {
+            body: "[\"eq\",[\"uid\",\"User\",\"a\"],[\"uid\",\"User\",\"b\"]]",
+            lines: "impossible \"p\"\nanswer Deny\n",
+            ..PLAIN
+        },
+        Row {
+            forbid: LESS,
+            lines: "answer Deny\nreason \"f\"\n",
+            ..PLAIN
+        },
+        Row {
+            forbid: "[\"not\",[\"less\",1,2]]",
+            ..PLAIN
+        },
+        Row {
+            resource: "[\"Ghost\",\"x\"]",
+            lines: "answer 3\n",
+            status: 3,
+            ..PLAIN
+        },
+        Row {
+            steps: "[\"decide\",\"load\",\"decide\"]",
+            lines: "decision Allow\ndecision Allow\nanswer Allow\nreason \"p\"\n",
+            ..PLAIN
+        },
+        Row {
+            limit: "513",
+            lines: "unreadable\n",
+            status: 2,
+            ..PLAIN
+        },
+    ];
+    for row in rows {
+        let input = bundle(rt.alloc(), &row)?;
+        let mut out = Vec::new(rt.alloc());
+        let table = ExtTable::none();
+        let status = serve(rt.alloc(), input.as_bytes(), &mut out, &table);
+        assert_eq!(rt; status.map(|s| s.number()), Ok(row.status), "{}", row.lines);
+        assert_eq!(rt; out.as_slice(), row.lines.as_bytes(), "{}", row.lines);
+    }
+    Ok(())
+}
+
+#[test]
+fn a_bundle_without_its_end(rt: HostRuntime) -> Result<(), Fail> {
+    let mut input = bundle(rt.alloc(), &PLAIN)?;
+    input.pop();
+    let mut out = Vec::new(rt.alloc());
+    let status = serve(rt.alloc(), input.as_bytes(), &mut out, &ExtTable::none());
+    assert_eq!(rt; status, Ok(Status::Unreadable));
+    assert_eq!(rt; out.as_slice(), "unreadable\n".as_bytes());
+    Ok(())
+}
+
+// A writer that takes one byte at a time, is interrupted at each second call, and takes no more than its room.
+#[derive(Drop)]
+struct Slow {
+    held: Vec<u8>,
+    room: usize,
+    rests: bool,
+}
+
+impl Write for Slow {
+    fn write(&mut self, buf: &[u8]) -> io::Result<usize> {
+        if self.rests {
+            self.rests = false;
+            return Err(io::Error::from(ErrorKind::Interrupted));
+        }
+        self.rests = true;
+        if self.room == 0 || buf.is_empty() {
+            return Ok(0);
+        }
+        self.held.push(buf[0])?;
+        self.room -= 1;
+        Ok(1)
+    }
+
+    fn flush(&mut self) -> io::Result<()> {
+        Ok(())
+    }
+}
+
+#[test]
+fn writers_that_take_a_byte_at_a_time(rt: HostRuntime) -> Result<(), Fail> {
+    for (room, want) in [
+        (100usize, Ok(Status::Answered)),
+        (24, Ok(Status::Answered)),
+        (23, Err(ServeFault::Write)),
+        (0, Err(ServeFault::Write)),
+    ] {
+        let input = bundle(rt.alloc(), &PLAIN)?;
+        let mut writer = Slow {
+            held: Vec::new(rt.alloc()),
+            room,
+            rests: true,
+        };
+        let status = serve(rt.alloc(), input.as_bytes(), &mut writer, &ExtTable::none());
+        assert_eq!(rt; status, want, "with room for {room}");
+        let lines = PLAIN.lines.as_bytes();
+        assert_eq!(rt; writer.held.as_slice(), &lines[..room.min(lines.len())]);
+    }
+    Ok(())
+}
+
+// A reader that gives one byte, and then fails.
+#[derive(Drop)]
+struct Broken {
+    kind: ErrorKind,
+    given: bool,
+}
+
+impl Read for Broken {
+    fn read(&mut self, buf: &mut [u8]) -> io::Result<usize> {
+        if self.given || buf.is_empty() {
+            return Err(io::Error::from(self.kind));
+        }
+        self.given = true;
+        buf[0] = b'{';
+        Ok(1)
+    }
+}
+
+#[test]
+fn readers_that_fail(rt: HostRuntime) {
+    for (kind, want) in [
+        (ErrorKind::BrokenPipe, ServeFault::Read),
+        (ErrorKind::OutOfMemory, ServeFault::Memory),
+    ] {
+        let reader = Broken { kind, given: false };
+        let mut out = Vec::new(rt.alloc());
+        let status = serve(rt.alloc(), reader, &mut out, &ExtTable::none());
+        assert_eq!(rt; status, Err(want));
+        assert!(rt; out.is_empty());
+    }
+}
+
+#[test]
+fn a_session_at_a_gate(rt: HostRuntime) -> Result<(), Fail> {
+    let text = bundle(rt.alloc(), &PLAIN)?;
+    let bundle = read_text(rt.alloc(), text.as_bytes())
+        .ok()
+        .ok_or("unreadable")?;
+    let table = ExtTable::none();
+    let Bundle {
+        fragments,
+        policies,
+        level,
+        limit,
+        request,
+        ..
+    } = bundle;
+    let fragments = fragments.as_slice();
+    assert!(rt; cedar_gate_accept::first_path(fragments, policies.as_slice(), level));
+    let gate = Gate::accept(rt.alloc(), fragments, policies, &table, level, limit)?;
+    let mut session = gate.open(request).ok().ok_or("not opened")?;
+    assert!(rt; session.wanted().is_empty());
+    assert_eq!(rt; session.supply(Vec::new(rt.alloc())), Ok(()));
+    assert_eq!(rt; session.decision(), Ok(Some(Decision::Allow)));
+    let answer = session.answer(rt.alloc()).ok().ok_or("no answer")?;
+    assert_eq!(rt; answer.decision, Decision::Allow);
+    assert_eq!(rt; answer.diagnostics.reason.len(), 1);
+    Ok(())
+}
+
+// The status and the output for an input.
+fn served(alloc: Global, input: &[u8]) -> Result<(Status, Vec<u8>), Fail> {
+    let mut out = Vec::new(alloc);
+    let status = serve(alloc, input, &mut out, &ExtTable::none()).ok().ok_or("no status")?;
+    Ok((status, out))
+}
+
+#[test]
+fn every_beginning_of_a_bundle(rt: HostRuntime) -> Result<(), Fail> {
+    let input = bundle(rt.alloc(), &PLAIN)?;
+    for (n, _) in input.as_bytes().iter().enumerate() {
+        let (status, out) = served(rt.alloc(), &input.as_bytes()[..n])?;
+        assert_eq!(rt; status, Status::Unreadable, "the first {n} bytes");
+        assert_eq!(rt; out.as_slice(), "unreadable\n".as_bytes());
+    }
+    Ok(())
+}
+
+#[test]
+fn bodies_that_are_no_expressions(rt: HostRuntime) -> Result<(), Fail> {
+    for body in [
+        "[\"less\",1,9223372036854775808]",
+        "[\"less\",1,1.0]",
+        "[\"less\",1,1e0]",
+        "[\"less\",-0,1]",
+        "[\"less\",1]",
+        "[\"less\",1,2,3]",
+        "[\"greater\",1,2]",
+        "[]",
+        "{}",
+        "null",
+        "\"a\"",
+        "[\"var\",\"context\"]",
+        "[\"uid\",\"a b\",\"c\"]",
+        "[\"uid\",\"__cedar::A\",\"c\"]",
+        "[\"uid\",\"if\",\"c\"]",
+        "[\"uid\",\"User\",1]",
+    ] {
+        let input = bundle(rt.alloc(), &Row { body, ..PLAIN })?;
+        let (status, _out) = served(rt.alloc(), input.as_bytes())?;
+        assert_eq!(rt; status, Status::Unreadable, "{body}");
+    }
+    Ok(())
+}
+
+#[test]
+fn brackets_nested_too_deep(rt: HostRuntime) -> Result<(), Fail> {
+    let mut input = Vec::new(rt.alloc());
+    for _ in 0..128 {
+        input.push(b'[')?;
+    }
+    for _ in 0..128 {
+        input.push(b']')?;
+    }
+    let (status, out) = served(rt.alloc(), input.as_slice())?;
+    assert_eq!(rt; status, Status::Unreadable);
+    assert_eq!(rt; out.as_slice(), "unreadable\n".as_bytes());
+    Ok(())
+}
+
+#[test]
+fn other_hostile_inputs(rt: HostRuntime) -> Result<(), Fail> {
+    for input in [
+        "",
+        " ",
+        "null",
+        "[]",
+        "{\"version\":1}",
+        "\u{feff}{}",
+        "{\"version\":1,\"level\":0,\"limit\":16,\"schema\":[],\"policies\":[],\"request\":{\"principal\":[\"User\",\"a\"],\"action\":[\"Action\",\"view\"],\"resource\":[\"User\",\"b\"]},\"store\":[]}",
+        "{\"version\":1,\"level\":0,\"limit\":16,\"schema\":[{\"\":{}}],\"policies\":[],\"request\":{\"principal\":[\"User\",\"a\"],\"action\":[\"Action\",\"view\"],\"resource\":[\"User\",\"b\"]},\"store\":[{\"uid\":[\"User\",\"a\"]},{\"uid\":[\"User\",\"a\"]}]}",
+    ] {
+        let (status, _out) = served(rt.alloc(), input.as_bytes())?;
+        assert_eq!(rt; status, Status::Unreadable, "{input}");
+    }
+    let (status, _out) = served(rt.alloc(), b"{\"a\":\"\xff\"}")?;
+    assert_eq!(rt; status, Status::Unreadable);
+    Ok(())
+}
