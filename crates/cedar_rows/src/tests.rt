@@ -1,10 +1,10 @@
 //! Bundles and what is printed for them; writers, readers and hosts that fail; calls that succeed.
 
-use cedar_expr::ExtTable;
-use cedar_gate::{OpenSession, ServeFault, Status, serve};
+use cedar_expr::{EntityUID, ExtTable};
+use cedar_gate::{Host, HostFault, OpenSession, ServeFault, Status, run, serve};
 use cedar_gate_accept::Gate;
 use cedar_gate_bundle::{Bundle, read_text};
-use cedar_gate_types::Decision;
+use cedar_gate_types::{Decision, Entity, Step};
 use std::alloc::Global;
 use std::io;
 use std::io::{ErrorKind, Read, Write};
@@ -258,7 +258,9 @@ fn a_session_at_a_gate(rt: HostRuntime) -> Result<(), Fail> {
 // The status and the output for an input.
 fn served(alloc: Global, input: &[u8]) -> Result<(Status, Vec<u8>), Fail> {
     let mut out = Vec::new(alloc);
-    let status = serve(alloc, input, &mut out, &ExtTable::none()).ok().ok_or("no status")?;
+    let status = serve(alloc, input, &mut out, &ExtTable::none())
+        .ok()
+        .ok_or("no status")?;
     Ok((status, out))
 }
 
@@ -332,5 +334,65 @@ fn other_hostile_inputs(rt: HostRuntime) -> Result<(), Fail> {
     }
     let (status, _out) = served(rt.alloc(), b"{\"a\":\"\xff\"}")?;
     assert_eq!(rt; status, Status::Unreadable);
+    Ok(())
+}
+
+// A host that fails whenever it is asked.
+#[derive(Drop)]
+struct Failing {
+    failed: u64,
+}
+
+impl Host for Failing {
+    ghost use Rattle.std.specs.Prelude.{false, []};
+
+    ghost store = { λ _ _. false };
+
+    ghost asked = { λ _. [] };
+
+    ghost honest = { λ _. Unit {0} };
+
+    ghost faults = { λ h. h.failed };
+
+    fn failures(&self) -> u64 {
+        self.failed
+    }
+
+    fn fetch(
+        &mut self,
+        _alloc: Global,
+        _ids: &[EntityUID],
+    ) -> Result<Vec<(EntityUID, Option<Entity>)>, HostFault> {
+        self.failed += 1;
+        Err(HostFault::Device)
+    }
+}
+
+#[test]
+fn a_host_that_fails_is_not_reached(rt: HostRuntime) -> Result<(), Fail> {
+    let text = bundle(rt.alloc(), &PLAIN)?;
+    let bundle = read_text(rt.alloc(), text.as_bytes())
+        .ok()
+        .ok_or("unreadable")?;
+    let table = ExtTable::none();
+    let Bundle {
+        fragments,
+        policies,
+        level,
+        limit,
+        request,
+        ..
+    } = bundle;
+    let fragments = fragments.as_slice();
+    assert!(rt; cedar_gate_accept::first_path(fragments, policies.as_slice(), level));
+    let gate = Gate::accept(rt.alloc(), fragments, policies, &table, level, limit)?;
+    let mut host = Failing { failed: 0 };
+    let steps = [Step::Decide, Step::Load];
+    let transcript = run(rt.alloc(), &gate, request, &steps, &mut host)
+        .ok()
+        .ok_or("no transcript")?;
+    assert_eq!(rt; transcript.entries.len(), 1);
+    assert!(rt; transcript.answer.is_some());
+    assert_eq!(rt; host.failures(), 0);
     Ok(())
 }
