@@ -13,7 +13,7 @@ use Rattle.cedar_gate_model.specs.Lines.{Prints, refused, answered, stopped, ref
 use Rattle.cedar_gate_accept.specs.Faults.{GateFaultIsThere, gate_fault_number}
 use Rattle.cedar_gate_accept.specs.declared.err.GateFault.{GateFault}
 use Rattle.cedar_gate_accept.specs.declared.err.GateFault.TheVariants as fault
-use Rattle.cedar_gate_accept.specs.declared.err.SchemaError.TheVariants as error
+use Rattle.cedar_gate_schema.specs.declared.err.SchemaError.TheVariants as error
 use Rattle.cedar_gate.specs.declared.printing.Printed.{Printed}
 use Rattle.cedar_gate.specs.declared.status.Status.{Status}
 use Rattle.cedar_gate.specs.declared.status.Status.TheVariants.{Refused}

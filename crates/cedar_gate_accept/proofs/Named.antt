@@ -5,7 +5,7 @@ use Rattle.std.specs.List.{list_all}
 use Rattle.std.proofs.lemmas.List.Folds.{list_all-map}
 use Rattle.cedar_expr.specs.declared.expr.Expr.{Expr}
 use Rattle.cedar_expr.specs.Trees.{tree_of}
-use Rattle.cedar_gate_accept.proofs.Lists.{list_all-same}
+use Rattle.cedar_gate_schema.proofs.Lists.{list_all-same}
 use Rattle.cedar_expr_model.specs.Uid.{Uid}
 use Rattle.cedar_expr_model.specs.Value.{truth, long, entity}
 use Rattle.cedar_expr_model.specs.Tree.{Tree, lit, var, both, unary, binary, Var, principal, action, resource, written_truth, folded, conjunction}

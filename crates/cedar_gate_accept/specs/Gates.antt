@@ -7,8 +7,8 @@ use Rattle.cedar_gate_types.specs.declared.json_schema.Fragment.{Fragment}
 use Rattle.cedar_gate_types.specs.Policies.{policies_of}
 use Rattle.cedar_gate_types.specs.declared.policy.Policy.{Policy}
 use Rattle.cedar_gate_types.specs.declared.nest_limit.NestLimit.{NestLimit}
-use Rattle.cedar_gate_accept.specs.declared.schema.ValidatorSchema.{ValidatorSchema}
-use Rattle.cedar_gate_accept.specs.Schema.{schema_of}
+use Rattle.cedar_gate_schema.specs.declared.schema.ValidatorSchema.{ValidatorSchema}
+use Rattle.cedar_gate_schema.specs.Schema.{schema_of}
 
 -- the submission of these parts
 abbrev pub submission : ValidatorSchema → List Policy → ℕ → NestLimit → Submission

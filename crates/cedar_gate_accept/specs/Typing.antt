@@ -13,7 +13,7 @@ use Rattle.cedar_gate_accept.specs.declared.typing.BoolType.TheVariants.{True, F
 use Rattle.cedar_gate_accept.specs.declared.typing.«Type».{«Type»}
 use Rattle.cedar_gate_accept.specs.declared.typing.«Type».TheVariants.{Bool, Long, Entity}
 use Rattle.cedar_gate_accept.specs.declared.typing.RequestEnv.{RequestEnv}
-use Rattle.cedar_gate_accept.specs.Schema.{schema_of}
+use Rattle.cedar_gate_schema.specs.Schema.{schema_of}
 
 abbrev pub bool_type_of : BoolType → model.BoolType
 bool_type_of True = only_true

@@ -9,9 +9,9 @@ ghost use Rattle.cedar_gate_types.specs.Policies.{policies_of};
 use crate::each::{all_keep, all_nest_within, all_pass};
 use crate::err::GateFault;
 use crate::policies::ids_are_distinct;
-use crate::schema::ValidatorSchema;
 use crate::scope::ScopeRule;
 use cedar_expr::Expr;
+use cedar_gate_schema::ValidatorSchema;
 use cedar_gate_types::{NestLimit, Policy};
 use std::alloc::{AllocError, Global};
 
@@ -33,7 +33,7 @@ impl<'a> Candidate<'a> {
     ghost use Rattle.cedar_gate_model.specs.Acceptance as acceptance;
     ghost use Rattle.cedar_schema_model.specs.Declarations.{well_formed};
     ghost use Rattle.cedar_gate_types.specs.Policies.{policies_of};
-    ghost use Rattle.cedar_gate_accept.specs.Schema.{schema_of};
+    ghost use Rattle.cedar_gate_schema.specs.Schema.{schema_of};
     ghost use Rattle.cedar_gate_accept.specs.Faults.{GateFaultIsThere};
     ghost use Rattle.cedar_gate_accept.specs.Gates.{submission};
     ghost use Rattle.cedar_gate_accept.specs.Candidates.{candidate_of};

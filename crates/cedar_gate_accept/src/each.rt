@@ -6,15 +6,16 @@ ghost use Rattle.cedar_expr_model.specs.Tree.{nesting};
 ghost use Rattle.cedar_expr.specs.Trees.{tree_of};
 ghost use Rattle.cedar_schema_model.specs.Environment.{environments};
 ghost use Rattle.cedar_typechecker_model.specs.ScopeRules.{each_uid};
-ghost use Rattle.cedar_gate_accept.specs.Schema.{schema_of, rule_passes};
+ghost use Rattle.cedar_gate_schema.specs.Schema.{schema_of};
+ghost use Rattle.cedar_gate_accept.specs.Scope.{rule_passes};
 ghost use Rattle.cedar_gate_accept.specs.Verdict as verdict;
 ghost use Rattle.cedar_gate_accept.specs.declared.verdict.Verdict.TheVariants.{Passes};
 
 use crate::nesting::nests_within;
-use crate::schema::ValidatorSchema;
 use crate::scope::ScopeRule;
 use crate::verdict::Verdict;
 use cedar_expr::Expr;
+use cedar_gate_schema::ValidatorSchema;
 
 /// Whether each condition nests within a limit.
 pub fn all_nest_within(conditions: &[Expr], limit: u32) -> bool

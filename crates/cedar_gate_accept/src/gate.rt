@@ -11,9 +11,9 @@ ghost use Rattle.cedar_gate_accept.specs.Gates.{submission};
 use crate::candidate::Candidate;
 use crate::err::GateFault;
 use crate::policies::conditions_of;
-use crate::schema::ValidatorSchema;
 use crate::warnings::warnings;
 use cedar_expr::{Expr, ExtTable};
+use cedar_gate_schema::ValidatorSchema;
 use cedar_gate_types::{Fragment, NestLimit, Policy, PolicyID};
 use std::alloc::Global;
 
@@ -41,7 +41,7 @@ impl<'a> Gate<'a> {
     ghost use Rattle.cedar_gate_types.specs.Limit.{levels_of};
     ghost use Rattle.cedar_gate_types.specs.Policies.{policies_of, id_text};
     ghost use Rattle.cedar_gate_types.specs.Schemas.{is_first_path};
-    ghost use Rattle.cedar_gate_accept.specs.Schema.{schema_of};
+    ghost use Rattle.cedar_gate_schema.specs.Schema.{schema_of};
     ghost use Rattle.cedar_gate_accept.specs.Faults.{GateFaultIsThere};
     ghost use Rattle.cedar_gate_accept.specs.Gates.{submitted};
     ghost use Rattle.cedar_gate_accept.specs.Accepted.{submission_of};

@@ -4,10 +4,12 @@ ghost use Rattle.std.specs.Prelude.{◌≡◌};
 ghost use Rattle.cedar_expr_names.specs.Views.{uid_of};
 ghost use Rattle.cedar_expr.specs.Trees.{tree_of};
 ghost use Rattle.cedar_typechecker_model.specs.ScopeRules.{each_uid};
-ghost use Rattle.cedar_gate_accept.specs.Schema.{schema_of, rule_passes};
+ghost use Rattle.cedar_gate_schema.specs.Schema.{schema_of};
+ghost use Rattle.cedar_gate_accept.specs.Scope.{rule_passes};
 
-use crate::schema::{ValidatorSchema, type_of};
 use cedar_expr::{EntityUID, Expr, ExprKind, Literal};
+use cedar_gate_schema::ValidatorSchema;
+use cedar_gate_schema::schema::type_of;
 
 /// A scope rule on a uid.
 #[derive(Clone, Copy, Debug, PartialEq, Eq)]

@@ -1,7 +1,8 @@
 //! Typing of conditions in an environment.
 
-use crate::schema::{ValidatorSchema, same_name, same_uid, type_of};
 use cedar_expr::{BinaryOp, EntityUID, Expr, ExprKind, InternalName, Literal, UnaryOp, Var};
+use cedar_gate_schema::ValidatorSchema;
+use cedar_gate_schema::schema::{same_name, same_uid, type_of};
 
 /// The types of truth values: of `true` alone, of `false` alone, of both.
 #[derive(Clone, Copy, Debug, PartialEq, Eq)]

@@ -6,13 +6,13 @@ ghost use Rattle.cedar_expr_names.specs.Views.{name_of};
 ghost use Rattle.cedar_expr.specs.Trees.{tree_of};
 ghost use Rattle.cedar_schema_model.specs.Environment.{environments, environments_of};
 ghost use Rattle.cedar_typechecker_model.specs.Typing as judged;
-ghost use Rattle.cedar_gate_accept.specs.Schema.{schema_of, action_of};
+ghost use Rattle.cedar_gate_schema.specs.Schema.{schema_of, action_of};
 ghost use Rattle.cedar_gate_accept.specs.Typing.{type_view, setting_of};
 ghost use Rattle.cedar_gate_accept.specs.Verdict as verdict;
 
-use crate::schema::{ValidatorActionId, ValidatorSchema};
 use crate::typing::{BoolType, RequestEnv, Type};
 use cedar_expr::{Expr, InternalName};
+use cedar_gate_schema::{ValidatorActionId, ValidatorSchema};
 
 /// A verdict on the type of a condition in an environment.
 #[derive(Clone, Copy, Debug, PartialEq, Eq)]

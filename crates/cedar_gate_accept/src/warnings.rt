@@ -7,11 +7,11 @@ ghost use Rattle.cedar_store_model.specs.Policy.{condition};
 ghost use Rattle.cedar_store_model.specs.Answer.{ids};
 ghost use Rattle.cedar_typechecker_model.specs.Verdicts.{impossible};
 ghost use Rattle.cedar_gate_types.specs.Policies.{policies_of, policy_of, id_text};
-ghost use Rattle.cedar_gate_accept.specs.Schema.{schema_of};
+ghost use Rattle.cedar_gate_schema.specs.Schema.{schema_of};
 
-use crate::schema::ValidatorSchema;
 use crate::verdict::Verdict;
 use cedar_expr::Expr;
+use cedar_gate_schema::ValidatorSchema;
 use cedar_gate_types::{Policy, PolicyID};
 use std::alloc::{AllocError, Global};
 

@@ -3,7 +3,7 @@ use Rattle.std.specs.Prelude.{map}
 use Rattle.std.specs.Str.{bytes_eq}
 use Rattle.cedar_schema_model.specs.Declarations.{are_distinct}
 use Rattle.cedar_gate_types.specs.Policies.{policy_of}
-use Rattle.cedar_gate_accept.proofs.Fresh.{map_after}
+use Rattle.cedar_gate_schema.proofs.Fresh.{map_after}
 use Rattle.cedar_gate_accept.proofs.policies.ids_are_distinct.Goals as goal
 
 pub returns : goal.returns

@@ -3,8 +3,8 @@ use Rattle.std.proofs.lemmas.List.{length-map}
 use Rattle.cedar_expr.specs.Trees.{tree_of}
 use Rattle.cedar_store_model.specs.Policy.{condition}
 use Rattle.cedar_gate_types.specs.Policies.{policy_of}
-use Rattle.cedar_gate_accept.proofs.Lists.{same_at}
-use Rattle.cedar_gate_accept.proofs.Fresh.{map_after}
+use Rattle.cedar_gate_schema.proofs.Lists.{same_at}
+use Rattle.cedar_gate_schema.proofs.Fresh.{map_after}
 use Rattle.cedar_gate_accept.proofs.warnings.impossible_ids.Goals as goal
 
 pub is_impossible-requires : goal.is_impossible-requires

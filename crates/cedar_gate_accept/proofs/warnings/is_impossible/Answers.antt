@@ -1,7 +1,7 @@
 use Rattle.std.proofs.Common.{ap, ◌∙◌}
 use Rattle.std.specs.List.{list_all}
 use Rattle.cedar_schema_model.specs.Environment.{environments}
-use Rattle.cedar_gate_accept.specs.Schema.{schema_of}
+use Rattle.cedar_gate_schema.specs.Schema.{schema_of}
 use Rattle.cedar_gate_accept.specs.Verdict.{holds_at}
 use Rattle.cedar_gate_accept.specs.declared.verdict.Verdict.TheVariants.{Impossible}
 use Rattle.cedar_gate_accept.proofs.warnings.is_impossible.Goals as goal

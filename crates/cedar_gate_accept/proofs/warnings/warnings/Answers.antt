@@ -2,9 +2,9 @@ use Rattle.std.proofs.Common.{ap, sym, ◌∙◌}
 use Rattle.cedar_store_model.specs.Answer.{ids}
 use Rattle.cedar_typechecker_model.specs.Verdicts.{impossible}
 use Rattle.cedar_gate_types.specs.Policies.{policy_of}
-use Rattle.cedar_gate_accept.specs.Schema.{schema_of}
-use Rattle.cedar_gate_accept.proofs.Lists.{filter-map}
-use Rattle.cedar_gate_accept.proofs.Fresh.{map_after}
+use Rattle.cedar_gate_schema.specs.Schema.{schema_of}
+use Rattle.cedar_gate_schema.proofs.Lists.{filter-map}
+use Rattle.cedar_gate_schema.proofs.Fresh.{map_after}
 use Rattle.cedar_gate_accept.proofs.warnings.warnings.Goals as goal
 
 pub returns : goal.returns

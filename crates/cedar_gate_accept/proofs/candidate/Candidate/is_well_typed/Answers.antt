@@ -3,7 +3,7 @@ use Rattle.std.specs.List.{list_all}
 use Rattle.cedar_schema_model.specs.Environment.{environments}
 use Rattle.cedar_typechecker_model.specs.Verdicts.{passes}
 use Rattle.cedar_gate_types.specs.Policies.{policies_of}
-use Rattle.cedar_gate_accept.specs.Schema.{schema_of}
+use Rattle.cedar_gate_schema.specs.Schema.{schema_of}
 use Rattle.cedar_gate_accept.specs.Verdict.{holds_at}
 use Rattle.cedar_gate_accept.specs.declared.verdict.Verdict.TheVariants.{Passes}
 use Rattle.cedar_gate_accept.proofs.Named.{conditions_tested}

@@ -1,7 +1,7 @@
 use Rattle.std.proofs.Common.{◌∙◌}
 use Rattle.cedar_typechecker_model.specs.ScopeRules.{each_uid, each_named, has_known_type}
 use Rattle.cedar_gate_types.specs.Policies.{policies_of}
-use Rattle.cedar_gate_accept.specs.Schema.{schema_of}
+use Rattle.cedar_gate_schema.specs.Schema.{schema_of}
 use Rattle.cedar_gate_accept.proofs.Named.{conditions_tested, condition_named}
 use Rattle.cedar_gate_accept.proofs.candidate.Candidate.knows_entity_types.Goals as goal
 

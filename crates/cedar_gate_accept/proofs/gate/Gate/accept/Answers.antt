@@ -10,8 +10,8 @@ use Rattle.cedar_typechecker_model.specs.Verdicts.{impossible}
 use Rattle.std.specs.List.{filter}
 use Rattle.cedar_gate_types.specs.declared.policy.Policy.{Policy}
 use Rattle.cedar_gate_types.specs.Policies.{policies_of, policy_of}
-use Rattle.cedar_gate_accept.specs.Schema.{schema_of}
-use Rattle.cedar_gate_accept.proofs.Fresh.{map_after}
+use Rattle.cedar_gate_schema.specs.Schema.{schema_of}
+use Rattle.cedar_gate_schema.proofs.Fresh.{map_after}
 use Rattle.cedar_gate_accept.proofs.gate.Gate.accept.Goals as goal
 
 kept_of : (es fs : List (Expr (Unit {0}))) (ps qs rs : List Policy) → fs ≡ es → qs ≡ ps → rs ≡ ps → map tree_of es ≡ map (λ p. condition (policy_of p)) rs → map tree_of fs ≡ map condition (policies_of qs)

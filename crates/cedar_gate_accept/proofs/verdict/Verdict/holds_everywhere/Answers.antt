@@ -4,9 +4,9 @@ use Rattle.std.proofs.lemmas.List.Folds.{list_all-map}
 use Rattle.cedar_expr.specs.Trees.{tree_of}
 use Rattle.cedar_schema_model.specs.Declarations.{ActionDeclaration}
 use Rattle.cedar_schema_model.specs.Environment.{Environment, environments_of}
-use Rattle.cedar_gate_accept.specs.Schema.{schema_of, action_of}
+use Rattle.cedar_gate_schema.specs.Schema.{schema_of, action_of}
 use Rattle.cedar_gate_accept.specs.Verdict.{holds_at}
-use Rattle.cedar_gate_accept.proofs.Lists.{list_all-flat_map}
+use Rattle.cedar_gate_schema.proofs.Lists.{list_all-flat_map}
 use Rattle.cedar_gate_accept.proofs.verdict.Verdict.holds_everywhere.Goals as goal
 
 pub returns : goal.returns

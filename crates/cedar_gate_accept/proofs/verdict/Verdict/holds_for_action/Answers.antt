@@ -7,9 +7,9 @@ use Rattle.cedar_expr_model.specs.Name.{Name}
 use Rattle.cedar_expr.specs.Trees.{tree_of}
 use Rattle.cedar_schema_model.specs.Declarations.{ActionDeclaration}
 use Rattle.cedar_schema_model.specs.Environment.{Environment}
-use Rattle.cedar_gate_accept.specs.Schema.{schema_of, action_of}
+use Rattle.cedar_gate_schema.specs.Schema.{schema_of, action_of}
 use Rattle.cedar_gate_accept.specs.Verdict.{environment, holds_at}
-use Rattle.cedar_gate_accept.proofs.Lists.{list_all-flat_map}
+use Rattle.cedar_gate_schema.proofs.Lists.{list_all-flat_map}
 use Rattle.cedar_gate_accept.proofs.verdict.Verdict.holds_for_action.Goals as goal
 
 pub returns : goal.returns

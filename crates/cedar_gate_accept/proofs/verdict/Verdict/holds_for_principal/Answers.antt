@@ -5,7 +5,7 @@ use Rattle.cedar_expr_names.specs.Views.{name_of}
 use Rattle.cedar_expr_model.specs.Name.{Name}
 use Rattle.cedar_expr.specs.Trees.{tree_of}
 use Rattle.cedar_schema_model.specs.Environment.{Environment}
-use Rattle.cedar_gate_accept.specs.Schema.{schema_of, action_of}
+use Rattle.cedar_gate_schema.specs.Schema.{schema_of, action_of}
 use Rattle.cedar_gate_accept.specs.Verdict.{environment, holds_at}
 use Rattle.cedar_gate_accept.proofs.verdict.Verdict.holds_for_principal.Goals as goal
 

@@ -1,0 +1,4 @@
+pub mod Lists
+pub mod Fresh
+pub mod Declaring
+pub mod Indexing

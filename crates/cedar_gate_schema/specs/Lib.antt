@@ -1,0 +1,4 @@
+pub mod Schema
+pub mod Indexes
+pub mod Plain
+pub mod Faults

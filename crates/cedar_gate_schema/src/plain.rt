@@ -1,0 +1,67 @@
+//! Whether what is handed in lies in today's language.
+
+ghost use Rattle.std.specs.Prelude.{◌≡◌, ◌&&◌, ◌==◌};
+ghost use Rattle.std.specs.List.{list_all};
+ghost use Rattle.cedar_gate_types.specs.Schemas.{is_first_path, is_plain_type, is_plain_action};
+ghost use Rattle.cedar_gate_schema.specs.Plain.{is_plain_definition};
+
+use crate::declared::only_namespace;
+use cedar_expr::Id;
+use cedar_gate_types::Policy;
+use cedar_gate_types::json_schema::{ActionType, EntityType, Fragment, NamespaceDefinition};
+use std::rc::RcStr;
+
+/// Whether an entity type is one of any ids, without parents, attributes and tags.
+fn is_plain_type(declared: &EntityType) -> bool
+    ensures { result ≡ is_plain_type declared.now }
+{
+    match declared {
+        EntityType::Standard {
+            parents,
+            attributes,
+            tags,
+        } => parents.is_empty() && attributes.attributes.is_empty() && tags.is_none(),
+        EntityType::Enum { .. } | EntityType::External { .. } => false,
+    }
+}
+
+/// Whether an action has neither parents nor a context.
+fn is_plain_action(declared: &ActionType) -> bool
+    ensures { result ≡ is_plain_action declared.now }
+{
+    declared.member_of.is_empty() && declared.applies_to.context.is_none()
+}
+
+/// Whether each entity type is plain.
+fn are_plain_types(types: &[(Id, EntityType)]) -> bool
+    ensures { result ≡ list_all (λ t. is_plain_type t.1) types.now }
+{
+    types.iter().all(|t| is_plain_type(&t.1))
+}
+
+/// Whether each action is plain.
+fn are_plain_actions(actions: &[(RcStr, ActionType)]) -> bool
+    ensures { result ≡ list_all (λ a. is_plain_action a.1) actions.now }
+{
+    actions.iter().all(|a| is_plain_action(&a.1))
+}
+
+/// Whether a namespace has no common types, and plain types and actions alone.
+fn is_plain_definition(definition: &NamespaceDefinition) -> bool
+    ensures { result ≡ is_plain_definition definition.now }
+{
+    definition.common_types.is_empty()
+        && are_plain_types(definition.entity_types.as_slice())
+        && are_plain_actions(definition.actions.as_slice())
+}
+
+/// Whether declarations, policies and a level lie in today's language: one fragment of one namespace without a name, of plain types and
+/// actions, and level 0. A policy of today can hold nothing else.
+pub fn first_path(fragments: &[Fragment], _policies: &[Policy], level: u32) -> bool
+    ensures { result ≡ (is_first_path fragments.now && (level == 0)) }
+{
+    match only_namespace(fragments) {
+        Some(definition) => is_plain_definition(definition) && level == 0,
+        None => false,
+    }
+}
