@@ -101,34 +101,38 @@ impl<T> Expr<T> {
 }
 
 impl Expr {
-    ghost use Rattle.std.specs.Prelude.{◌≡◌, IfOk};
+    ghost use Rattle.std.specs.Prelude.{◌≡◌, IfOk, None};
     ghost use Rattle.cedar_expr_model.specs.Tree.{lit, var, unary, binary, negation, equal, less, conjunction, written_truth};
-    ghost use Rattle.cedar_expr.specs.Trees.{tree_of, kind_tree, literal_of, var_of, unary_op_of, binary_op_of};
+    ghost use Rattle.cedar_expr.specs.Trees.{tree_of, place_of, kind_tree, literal_of, var_of, unary_op_of, binary_op_of};
 
     /// A literal.
     pub fn val(value: Literal) -> Expr
-        ensures { tree_of result ≡ lit (literal_of value) }
+        ensures tree { tree_of result ≡ lit (literal_of value) }
+        ensures place { place_of result ≡ None }
     {
         Expr::of_kind(ExprKind::Lit(value))
     }
 
     /// A variable of the scope.
     pub fn var(v: Var) -> Expr
-        ensures { tree_of result ≡ var (var_of v) }
+        ensures tree { tree_of result ≡ var (var_of v) }
+        ensures place { place_of result ≡ None }
     {
         Expr::of_kind(ExprKind::Var(v))
     }
 
     /// The negation of a truth value. Fails only for want of memory.
     pub fn not(alloc: Global, e: Expr) -> Result<Expr, AllocError>
-        ensures { IfOk result (λ r. tree_of r ≡ unary negation (tree_of e)) }
+        ensures tree { IfOk result (λ r. tree_of r ≡ unary negation (tree_of e)) }
+        ensures place { IfOk result (λ r. place_of r ≡ None) }
     {
         Expr::unary_app(alloc, UnaryOp::Not, e)
     }
 
     /// The conjunction. Of two literal truth values it is their literal. Fails only for want of memory.
     pub fn and(alloc: Global, e1: Expr, e2: Expr) -> Result<Expr, AllocError>
-        ensures { IfOk result (λ r. tree_of r ≡ conjunction (tree_of e1) (tree_of e2)) }
+        ensures tree { IfOk result (λ r. tree_of r ≡ conjunction (tree_of e1) (tree_of e2)) }
+        ensures place { IfOk result (λ r. place_of r ≡ None) }
     {
         if let (Some(a), Some(b)) = (e1.written_truth(), e2.written_truth()) {
             return Ok(Expr::val(Literal::Bool(a && b)));
@@ -140,21 +144,24 @@ impl Expr {
 
     /// Whether two values are equal. Fails only for want of memory.
     pub fn is_eq(alloc: Global, e1: Expr, e2: Expr) -> Result<Expr, AllocError>
-        ensures { IfOk result (λ r. tree_of r ≡ binary equal (tree_of e1) (tree_of e2)) }
+        ensures tree { IfOk result (λ r. tree_of r ≡ binary equal (tree_of e1) (tree_of e2)) }
+        ensures place { IfOk result (λ r. place_of r ≡ None) }
     {
         Expr::binary_app(alloc, BinaryOp::Eq, e1, e2)
     }
 
     /// Whether a whole number is below another. Fails only for want of memory.
     pub fn less(alloc: Global, e1: Expr, e2: Expr) -> Result<Expr, AllocError>
-        ensures { IfOk result (λ r. tree_of r ≡ binary less (tree_of e1) (tree_of e2)) }
+        ensures tree { IfOk result (λ r. tree_of r ≡ binary less (tree_of e1) (tree_of e2)) }
+        ensures place { IfOk result (λ r. place_of r ≡ None) }
     {
         Expr::binary_app(alloc, BinaryOp::Less, e1, e2)
     }
 
     /// An operator of one operand. Fails only for want of memory.
     pub fn unary_app(alloc: Global, op: UnaryOp, arg: Expr) -> Result<Expr, AllocError>
-        ensures { IfOk result (λ r. tree_of r ≡ unary (unary_op_of op) (tree_of arg)) }
+        ensures tree { IfOk result (λ r. tree_of r ≡ unary (unary_op_of op) (tree_of arg)) }
+        ensures place { IfOk result (λ r. place_of r ≡ None) }
     {
         let arg = Rc::new(alloc, arg)?;
         Ok(Expr::of_kind(ExprKind::UnaryApp { op, arg }))
@@ -167,7 +174,8 @@ impl Expr {
         arg1: Expr,
         arg2: Expr,
     ) -> Result<Expr, AllocError>
-        ensures { IfOk result (λ r. tree_of r ≡ binary (binary_op_of op) (tree_of arg1) (tree_of arg2)) }
+        ensures tree { IfOk result (λ r. tree_of r ≡ binary (binary_op_of op) (tree_of arg1) (tree_of arg2)) }
+        ensures place { IfOk result (λ r. place_of r ≡ None) }
     {
         let arg1 = Rc::new(alloc, arg1)?;
         let arg2 = Rc::new(alloc, arg2)?;
@@ -175,7 +183,8 @@ impl Expr {
     }
 
     fn of_kind(expr_kind: ExprKind) -> Expr
-        ensures { tree_of result ≡ kind_tree expr_kind }
+        ensures tree { tree_of result ≡ kind_tree expr_kind }
+        ensures place { place_of result ≡ None }
     {
         Expr {
             expr_kind,
@@ -215,9 +224,9 @@ impl Clone for ExprKind {
 
 impl Clone for Expr {
     ghost use Rattle.std.specs.Prelude.{◌≡◌};
-    ghost use Rattle.cedar_expr.specs.Trees.{tree_of};
+    ghost use Rattle.cedar_expr.specs.Trees.{tree_of, place_of};
 
-    ghost is_clone = { λ e copy. tree_of copy ≡ tree_of e };
+    ghost is_clone = { λ e copy. (tree_of copy ≡ tree_of e) × (place_of copy ≡ place_of e) };
 
     /// The same expression over the same parts, which are shared.
     fn clone(&self) -> Result<Expr, AllocError> {

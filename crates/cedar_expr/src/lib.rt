@@ -8,6 +8,7 @@ pub mod ops;
 
 pub use cedar_expr_names::{
     Eid, EntityType, EntityUID, Id, InternalName, Loc, Name, NameError, Quoted, RawName,
+    ReservedNameError, is_normalized_ident,
 };
 pub use expr::{Expr, ExprKind, Var};
 pub use extensions::{ExtTable, ExtensionFunction, Extensions, Type};

@@ -27,7 +27,8 @@ pub struct Gate<'a> {
     level: u32,
     limit: NestLimit,
     table: &'a ExtTable<'a>,
-    ghost accepted: { admits (submission schema policies.items level limit) ≡ true },
+    pub ghost accepted: { admits (submission schema policies.items level limit) ≡ true },
+    pub ghost at_zero: { level ≡ 0 },
     ghost kept: { map tree_of conditions.items ≡ map condition (policies_of policies.items) } by { trees_set (map tree_of conditions.items) (map condition (policies_of policies.items)) },
     ghost warned: { map id_text warnings.items ≡ warnings_of (submission schema policies.items level limit) } by { texts_set (map id_text warnings.items) (warnings_of (submission schema policies.items level limit)) },
 }
@@ -44,7 +45,7 @@ impl<'a> Gate<'a> {
     ghost use Rattle.cedar_gate_schema.specs.Schema.{schema_of};
     ghost use Rattle.cedar_gate_accept.specs.Faults.{GateFaultIsThere};
     ghost use Rattle.cedar_gate_accept.specs.Gates.{submitted};
-    ghost use Rattle.cedar_gate_accept.specs.Accepted.{submission_of};
+    ghost use Rattle.cedar_gate_accept.specs.Accepted.{submission_of, table_of};
 
     /// Accepts declarations and policies where the acceptance rules hold, and else names a fault that is there. Which of several faults
     /// is left open. Answers want of memory. The table's functions all have a result type, and what is handed in lies in today's
@@ -99,9 +100,10 @@ impl<'a> Gate<'a> {
         &self.schema
     }
 
-    /// The level: how many steps a condition may go from what it is asked of.
+    /// The level: how many steps a condition may go from what it is asked of. Today it is 0.
     pub fn level(&self) -> u32
-        ensures { result ≡ (submission_of self.now).level }
+        ensures value { result ≡ (submission_of self.now).level }
+        ensures zero { result ≡ 0 }
     {
         self.level
     }
@@ -114,7 +116,9 @@ impl<'a> Gate<'a> {
     }
 
     /// The table of extension functions.
-    pub fn table(&self) -> &ExtTable<'a> {
+    pub fn table(&self) -> &ExtTable<'a>
+        ensures { result.now ≡ table_of self.now }
+    {
         self.table
     }
 

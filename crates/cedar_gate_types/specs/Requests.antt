@@ -1,5 +1,6 @@
 -- What the code's requests, entities and steps are as the model's.
-use Rattle.std.specs.Prelude.{List, map}
+use Rattle.std.specs.Prelude.{List, map, Option}
+use Rattle.cedar_expr_names.specs.declared.loc.Loc.{Loc}
 use Rattle.cedar_expr_names.specs.Views.{uid_of}
 use Rattle.cedar_expr_model.specs.Uid.{Uid}
 use Rattle.cedar_store_model.specs.World as model
@@ -20,6 +21,10 @@ entity_uids es = map entity_uid es
 
 abbrev pub entry_uid : EntityUIDEntry → Uid
 entry_uid (Known euid loc) = uid_of euid.value
+
+-- where the uid of an entry stands
+abbrev pub entry_loc : EntityUIDEntry → Option Loc
+entry_loc (Known euid loc) = loc
 
 abbrev pub request_of : Request → model.Request
 request_of r = record { principal = entry_uid r.principal; action = entry_uid r.action; resource = entry_uid r.resource }

@@ -18,13 +18,23 @@ pub enum EntityUIDEntry {
 impl EntityUIDEntry {
     ghost use Rattle.std.specs.Prelude.{◌≡◌};
     ghost use Rattle.cedar_expr_names.specs.Views.{uid_of};
-    ghost use Rattle.cedar_gate_types.specs.Requests.{entry_uid};
+    ghost use Rattle.cedar_gate_types.specs.Requests.{entry_uid, entry_loc};
 
     /// The entry of a known uid.
     pub fn known(euid: Rc<EntityUID>, loc: Option<Loc>) -> EntityUIDEntry
-        ensures { entry_uid result ≡ uid_of euid.value }
+        ensures uid { entry_uid result ≡ uid_of euid.value }
+        ensures place { entry_loc result ≡ loc }
     {
         EntityUIDEntry::Known { euid, loc }
+    }
+
+    /// Where the uid stands in its source.
+    pub fn loc(&self) -> Option<Loc>
+        ensures { result ≡ entry_loc self.now }
+    {
+        match self {
+            EntityUIDEntry::Known { loc, .. } => *loc,
+        }
     }
 
     /// The uid of the entry.

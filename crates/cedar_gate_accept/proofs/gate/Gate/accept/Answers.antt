@@ -1,5 +1,9 @@
 use Rattle.cedar_gate_model.specs.Acceptance.{admits}
 use Rattle.cedar_gate_accept.specs.Gates.{submission}
+use Rattle.std.specs.Prelude.{nat_eq}
+use Rattle.std.proofs.lemmas.Bool.{eqb-true}
+use Rattle.cedar_expr_model.proofs.Lists.{both_hold}
+use Rattle.cedar_gate_types.specs.Schemas.{is_first_path}
 use Rattle.std.proofs.Common.{◌≡◌, refl, ap, sym, ◌∙◌, List}
 use Rattle.std.specs.Prelude.{map}
 use Rattle.cedar_expr.specs.declared.expr.Expr.{Expr}
@@ -28,6 +32,7 @@ invariant_of-result c = record {
   accepted =
       sym (ap admits (c.new-candidate.ensures ∙ ap (λ ps. submission c.in_ok-schema.schema ps c.args.level c.args.limit) c.as_slice-2.ensures.value))
       ∙ c.in_ok-check.ensures.ok;
+  at_zero = eqb-true c.args.level 0 (both_hold (is_first_path c.args.fragments.now) (nat_eq c.args.level 0) c.requires.in_language).1;
   kept = kept_of c.in_ok-conditions.conditions.items c.in_ok-conditions.conditions.items c.args.policies.items c.args.policies.items c.as_slice.result.now refl refl c.as_slice.ensures.value c.in_ok-conditions.ensures;
   warned = c.in_ok-warnings.ensures ∙ ap (λ ps. ids (filter (impossible (schema_of c.in_ok-schema.schema)) (policies_of ps))) c.as_slice-4.ensures.value;
 }
