@@ -15,6 +15,15 @@ pub mod status;
 mod store_host;
 pub mod transcript;
 
+pub use cedar_gate_accept::{
+    Gate, GateFault, SchemaError, ValidatorActionId, ValidatorSchema, check_conforms, first_path,
+};
+pub use cedar_gate_bundle::{Bundle, ReadFault, read_bundle, read_text};
+pub use cedar_gate_types::{
+    ActionConstraint, AuthorizationError, Decision, Diagnostics, Effect, Entity, EntityReference,
+    EntityUIDEntry, EvaluationError, Fragment, NestLimit, Policy, PolicyID, PrincipalConstraint,
+    PrincipalOrResourceConstraint, Request, ResourceConstraint, Response, Step, json_schema,
+};
 pub use host::{Host, HostFault};
 pub use runs::{RunFault, run};
 pub use service::{ServeFault, serve};

@@ -1,6 +1,6 @@
 //! Sessions: one request at an accepted gate.
 
-ghost use Rattle.std.specs.Prelude.{◌≡◌, ◌↔◌, [], Some, Contains, map, true, false, option_map, IsOk, IsOkAnd, IfOk, IfErr, IsErrOf};
+ghost use Rattle.std.specs.Prelude.{◌≡◌, ◌↔◌, [], Some, Contains, map, true, false, option_map, IsOk, IsOkAnd, OnOk, IfOk, IfErr, IsErrOf};
 ghost use Rattle.cedar_expr_names.specs.Views.{uid_of};
 ghost use Rattle.cedar_store_model.specs.World.{World};
 ghost use Rattle.cedar_store_model.specs.Answer as answer;
@@ -116,10 +116,10 @@ impl<'a> Session<'a> {
         &self.request
     }
 
-    /// The uids that are wanted now: those of the slice, whatever the world, at level 0, where there are none.
+    /// The uids that are wanted now: those of the slice at the gate's level, whatever the world. At level 0 there are none.
     pub fn wanted(&self) -> &[EntityUID]
         ensures none { result.now ≡ [] }
-        ensures slice { (w : World) (u : _) → Contains (map uid_of result.now) u ↔ InSlice (session_submission self.now).declarations 0 w u }
+        ensures slice { (w : World) (u : _) → Contains (map uid_of result.now) u ↔ InSlice (session_submission self.now).declarations (session_submission self.now).level w u }
     {
         &[]
     }
@@ -157,14 +157,28 @@ impl<'a> Session<'a> {
         Ok(Some(decide(&self.request, policies, conditions)))
     }
 
-    /// The answer, which is that over any store.
+    /// The answer, which is that over any store. It has no errors: an accepted policy never errs on a conforming request.
     ///
     /// # Errors
     ///
     /// `NotConforming` exactly where the request doesn't conform to the schema; else want of memory.
-    #[tactic(auto, using(crate::proofs::Worlds::answer_anywhere))]
     pub fn answer(&self, alloc: Global) -> Result<Response, AnswerFault>
         ensures conforming { IsErrOf result AnswerFault.NotConforming ↔ (conforms (session_submission self.now).declarations (session_request self.now) ≡ false) }
+        ensures answered { IfOk result (λ r. (w : World) → w.request ≡ session_request self.now
+            → response_of r ≡ answer.answer_of w (session_submission self.now).policies) }
+        ensures no_errors { IfOk result (λ r. (response_of r).errors ≡ []) }
+    {
+        match self.answer_over_any_store(alloc) {
+            Ok(response) => Ok(response),
+            Err(fault) => Err(fault),
+        }
+    }
+
+    // The answer, which is that over any store.
+    #[tactic(auto, using(crate::proofs::Worlds::answer_anywhere))]
+    fn answer_over_any_store(&self, alloc: Global) -> Result<Response, AnswerFault>
+        ensures conforming { IsErrOf result AnswerFault.NotConforming ↔ (conforms (session_submission self.now).declarations (session_request self.now) ≡ false) }
+        ensures conforms { OnOk result (conforms (session_submission self.now).declarations (session_request self.now) ≡ true) }
         ensures answered { IfOk result (λ r. (w : World) → w.request ≡ session_request self.now
             → response_of r ≡ answer.answer_of w (session_submission self.now).policies) }
     {

@@ -1,4 +1,5 @@
 -- Reading JSON: the forms that parts of a bundle share. None says that a form is wrong.
+-- Rule: what a bundle reads as (docs/RULES.md).
 use Rattle.std.specs.Prelude.{ℕ, ℤ, ◌&&◌, List, [], ◌∷◌, Bool, true, false, Option, Some, None, option_map, option_and_then, unwrap_or}
 use Rattle.std.specs.List.{list_any}
 use Rattle.std.specs.Str.{bytes_eq}

@@ -1,4 +1,5 @@
 -- Reading a bundle.
+-- Rule: what a bundle reads as (docs/RULES.md).
 use Rattle.std.specs.Prelude.{◌&&◌, ◌==◌, ℕ, List, [], ◌∷◌, Bool, true, false, nat_le, codes, if◌then◌else◌, Option, Some, None, option_map, unwrap_or}
 use Rattle.std.specs.Str.{bytes_eq, is_utf8}
 use Rattle.serde_json.specs.Data.{Data}

@@ -1,4 +1,5 @@
 -- Reading names, uids and expressions.
+-- Rule: what a bundle reads as (docs/RULES.md).
 use Rattle.std.specs.Prelude.{List, [], ◌∷◌, codes, if◌then◌else◌, Option, Some, None, option_map}
 use Rattle.std.specs.Str.{bytes_eq}
 use Rattle.serde_json.specs.Data.{Data, null, boolean, number, string, array, object, Items, no_items, item}

@@ -1,4 +1,5 @@
 -- Reading a schema. Inside it a reserved name reads: it is refused later.
+-- Rule: what a bundle reads as (docs/RULES.md).
 use Rattle.std.specs.Prelude.{◌&&◌, List, [], ◌∷◌, Bool, codes, if◌then◌else◌, Option, Some, None, option_map}
 use Rattle.serde_json.specs.Data.{Data, Items, no_items, item}
 use Rattle.serde_json.specs.Find.{as_array}
