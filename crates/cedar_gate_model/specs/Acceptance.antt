@@ -40,7 +40,7 @@ is_clear_of ill_typed s = list_all (passes s.declarations) s.policies
 abbrev pub IsAccepted : Submission → Type 0
 IsAccepted s = (c : Cause) → is_clear_of c s ≡ true
 
--- The fault is there. A fault against the declarations is one only where these themselves have none.
+-- The fault is there. What policies lack against the declarations is a fault only where these have none themselves.
 abbrev pub HasFault : Cause → Submission → Type 0
 HasFault (schema f) s = is_clear_of (schema f) s ≡ false
 HasFault repeated_policy s = is_clear_of repeated_policy s ≡ false
@@ -49,7 +49,7 @@ HasFault unknown_entity_type s = (well_formed s.declarations ≡ true) × (is_cl
 HasFault unknown_action s = (well_formed s.declarations ≡ true) × (is_clear_of unknown_action s ≡ false)
 HasFault ill_typed s = (well_formed s.declarations ≡ true) × (is_clear_of ill_typed s ≡ false)
 
--- whether the fault is one against the declarations, which aren't at fault themselves
+-- whether the fault is one of policies against the declarations
 abbrev pub asks_schema : Cause → Bool
 asks_schema (schema f) = false
 asks_schema repeated_policy = false

@@ -28,7 +28,7 @@ FaultsExclude = (c : Cause) (s : Submission) → HasFault c s → IsAccepted s �
 abbrev pub RefusalHasFault : Type 0
 RefusalHasFault = (s : Submission) → admits s ≡ false → (c : Cause) × HasFault c s
 
--- a fault is there exactly where its rule is broken and, if it is one against the declarations, these are well-formed
+-- a fault is there exactly where its rule is broken and, if it is one of policies against the declarations, these are well-formed
 abbrev pub FaultsAreThere : Type 0
 FaultsAreThere = (c : Cause) (s : Submission) → HasFault c s ↔ ((is_clear_of c s ≡ false) × (asks_schema c ≡ true → well_formed s.declarations ≡ true))
 

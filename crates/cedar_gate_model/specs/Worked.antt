@@ -47,7 +47,7 @@ broken = submitted (broken_r ∷ [])
 abbrev pub unfounded : Submission
 unfounded = record good { declarations = doubled }
 
--- the same with an undeclared type in a policy
+-- such declarations, and an undeclared type in a policy
 abbrev pub groundless : Submission
 groundless = record ghostly { declarations = doubled }
 

@@ -4,8 +4,8 @@ ghost use Rattle.cedar_gate_model.specs.Order.{OrderHidesNoFault, OrderKeepsFaul
 ghost use Rattle.cedar_gate_model.specs.Laws.{AcceptanceDecides, FaultsExclude, RefusalHasFault, FaultsAreThere, PoliciesDontErr, WarnedIsNoReason, RunsAreLegal, NothingIsAsked, SliceIsEmpty, AskedIsInSlice, NothingBelow, OneStatus, OneText, SomeText, SliceIsRoots, WarnedAreImpossible, RefusalsAreFaults, DecisionsAreFinal, AskedOnce};
 
 /// The test of a submission is true exactly where it is accepted.
-/// A fault excludes acceptance, and a submission that the test refuses has a fault. A fault against the declarations is there only
-/// where these are well-formed.
+/// A fault excludes acceptance, and a submission that the test refuses has a fault. A fault of policies against the
+/// declarations is there only where these are well-formed.
 pub fn acceptance_is_decided()
     ensures decides { AcceptanceDecides }
     ensures excludes { FaultsExclude }
