@@ -17,7 +17,7 @@ swapped_is = (admitted_accepted good refl, refl, refl)
 
 pub refused_is : Prints (Some refused_run) refused refused_text
 unfolding chars digits
-refused_is = (unknown_entity_type, refl, refl)
+refused_is = (unknown_entity_type, (refl, refl), refl)
 
 pub unreadable_is : Prints None unreadable unreadable_text
 unreadable_is = (refl, refl)

@@ -7,7 +7,7 @@ use Rattle.cedar_expr_model.specs.Name.{Text}
 use Rattle.cedar_expr_model.specs.Tree.{nesting}
 use Rattle.cedar_store_model.specs.Policy.{Policy, condition}
 use Rattle.cedar_store_model.specs.Answer.{ids}
-use Rattle.cedar_schema_model.specs.Declarations.{Declarations, SchemaFault, duplicate_entity_type, duplicate_action, undeclared_type, action_as_entity_type, reserved_name, is_free_of, are_distinct}
+use Rattle.cedar_schema_model.specs.Declarations.{Declarations, SchemaFault, duplicate_entity_type, duplicate_action, undeclared_type, action_as_entity_type, reserved_name, is_free_of, well_formed, are_distinct}
 use Rattle.cedar_typechecker_model.specs.ScopeRules.{each_named, has_known_type, is_no_unknown_action}
 use Rattle.cedar_typechecker_model.specs.Verdicts.{passes, impossible}
 
@@ -40,9 +40,23 @@ is_clear_of ill_typed s = list_all (passes s.declarations) s.policies
 abbrev pub IsAccepted : Submission → Type 0
 IsAccepted s = (c : Cause) → is_clear_of c s ≡ true
 
--- the fault is there
+-- The fault is there. What policies lack against the declarations is a fault only where these have none themselves.
 abbrev pub HasFault : Cause → Submission → Type 0
-HasFault c s = is_clear_of c s ≡ false
+HasFault (schema f) s = is_clear_of (schema f) s ≡ false
+HasFault repeated_policy s = is_clear_of repeated_policy s ≡ false
+HasFault nests_too_deep s = is_clear_of nests_too_deep s ≡ false
+HasFault unknown_entity_type s = (well_formed s.declarations ≡ true) × (is_clear_of unknown_entity_type s ≡ false)
+HasFault unknown_action s = (well_formed s.declarations ≡ true) × (is_clear_of unknown_action s ≡ false)
+HasFault ill_typed s = (well_formed s.declarations ≡ true) × (is_clear_of ill_typed s ≡ false)
+
+-- whether the fault is one of policies against the declarations
+abbrev pub asks_schema : Cause → Bool
+asks_schema (schema f) = false
+asks_schema repeated_policy = false
+asks_schema nests_too_deep = false
+asks_schema unknown_entity_type = true
+asks_schema unknown_action = true
+asks_schema ill_typed = true
 
 -- the same as a test
 abbrev pub admits : Submission → Bool

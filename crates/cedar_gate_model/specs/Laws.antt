@@ -1,16 +1,16 @@
 -- What the laws of this crate say.
 -- Rule: the acceptance rules; impossible policies; the slice; legal transcript; the lines (docs/RULES.md).
-use Rattle.std.specs.Prelude.{◌≡◌, ◌≢◌, List, [], Option, Some, Contains, false, ◌↔◌, ℕ, suc, ◌∷◌, ◌++◌}
+use Rattle.std.specs.Prelude.{◌≡◌, ◌≢◌, List, [], Option, Some, Contains, true, false, ◌↔◌, ℕ, suc, ◌∷◌, ◌++◌}
 use Rattle.std.specs.Bool.{Decides}
 use Rattle.cedar_expr_model.specs.Name.{Text}
 use Rattle.cedar_expr_model.specs.Uid.{Uid}
 use Rattle.cedar_store_model.specs.World.{World}
 use Rattle.cedar_store_model.specs.Answer.{Decision, decision_of, answer_of, errors_of, reasons_of}
-use Rattle.cedar_schema_model.specs.Declarations.{Declarations, declares_action}
+use Rattle.cedar_schema_model.specs.Declarations.{Declarations, declares_action, well_formed}
 use Rattle.cedar_store_model.specs.Policy.{Policy}
 use Rattle.cedar_typechecker_model.specs.Verdicts.{IsImpossible}
 use Rattle.cedar_schema_model.specs.Conforming.{Conforms}
-use Rattle.cedar_gate_model.specs.Acceptance.{Submission, Cause, IsAccepted, HasFault, admits, warnings_of}
+use Rattle.cedar_gate_model.specs.Acceptance.{Submission, Cause, is_clear_of, IsAccepted, HasFault, asks_schema, admits, warnings_of}
 use Rattle.cedar_gate_model.specs.Slice.{InSlice, IsRoot}
 use Rattle.cedar_gate_model.specs.Transcript.{Step, Entry, round, decided, IsLegal, AreLegal, asked_in, decisions_for}
 use Rattle.cedar_gate_model.specs.Bundle.{Bundle}
@@ -27,6 +27,10 @@ FaultsExclude = (c : Cause) (s : Submission) → HasFault c s → IsAccepted s �
 -- what the test refuses has a fault
 abbrev pub RefusalHasFault : Type 0
 RefusalHasFault = (s : Submission) → admits s ≡ false → (c : Cause) × HasFault c s
+
+-- a fault is there exactly where its rule is broken and, if it is one of policies against the declarations, these are well-formed
+abbrev pub FaultsAreThere : Type 0
+FaultsAreThere = (c : Cause) (s : Submission) → HasFault c s ↔ ((is_clear_of c s ≡ false) × (asks_schema c ≡ true → well_formed s.declarations ≡ true))
 
 -- no accepted policy errs where the request conforms
 abbrev pub PoliciesDontErr : Type 0

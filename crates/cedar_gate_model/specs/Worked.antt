@@ -47,6 +47,10 @@ broken = submitted (broken_r ∷ [])
 abbrev pub unfounded : Submission
 unfounded = record good { declarations = doubled }
 
+-- such declarations, and an undeclared type in a policy
+abbrev pub groundless : Submission
+groundless = record ghostly { declarations = doubled }
+
 -- a run that loads, asks for a decision, and answers
 abbrev pub run : Bundle
 run = record { submission = good; request = request; store = user_a ∷ []; steps = load ∷ decide ∷ [] }

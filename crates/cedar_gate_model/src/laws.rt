@@ -1,14 +1,16 @@
 //! Laws of the definitions. Each function's contract is the theorem; its body does nothing.
 
-ghost use Rattle.cedar_gate_model.specs.Order.{OrderHidesNoFault};
-ghost use Rattle.cedar_gate_model.specs.Laws.{AcceptanceDecides, FaultsExclude, RefusalHasFault, PoliciesDontErr, WarnedIsNoReason, RunsAreLegal, NothingIsAsked, SliceIsEmpty, AskedIsInSlice, NothingBelow, OneStatus, OneText, SomeText, SliceIsRoots, WarnedAreImpossible, RefusalsAreFaults, DecisionsAreFinal, AskedOnce};
+ghost use Rattle.cedar_gate_model.specs.Order.{OrderHidesNoFault, OrderKeepsFaults};
+ghost use Rattle.cedar_gate_model.specs.Laws.{AcceptanceDecides, FaultsExclude, RefusalHasFault, FaultsAreThere, PoliciesDontErr, WarnedIsNoReason, RunsAreLegal, NothingIsAsked, SliceIsEmpty, AskedIsInSlice, NothingBelow, OneStatus, OneText, SomeText, SliceIsRoots, WarnedAreImpossible, RefusalsAreFaults, DecisionsAreFinal, AskedOnce};
 
 /// The test of a submission is true exactly where it is accepted.
-/// A fault excludes acceptance, and a submission that the test refuses has a fault.
+/// A fault excludes acceptance, and a submission that the test refuses has a fault. A fault of policies against the
+/// declarations is there only where these are well-formed.
 pub fn acceptance_is_decided()
     ensures decides { AcceptanceDecides }
     ensures excludes { FaultsExclude }
     ensures named { RefusalHasFault }
+    ensures there { FaultsAreThere }
 {}
 
 /// No policy of an accepted submission errs, in any world whose request conforms.
@@ -60,7 +62,8 @@ pub fn printing_is_determined()
     ensures refusals { RefusalsAreFaults }
 {}
 
-/// A submission has the same faults in whichever order its declarations and its policies stand.
+/// A submission breaks the same rules, and has the same faults, in whichever order its declarations and its policies stand.
 pub fn order_hides_no_fault()
-    ensures { OrderHidesNoFault }
+    ensures rules { OrderHidesNoFault }
+    ensures faults { OrderKeepsFaults }
 {}
