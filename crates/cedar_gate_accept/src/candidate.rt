@@ -17,7 +17,7 @@ use std::alloc::{AllocError, Global};
 
 /// A submission that is being tested: a schema, policies with their conditions, a level and a limit on nesting.
 #[derive(Clone, Copy)]
-pub struct Candidate<'a> {
+pub(crate) struct Candidate<'a> {
     schema: &'a ValidatorSchema,
     policies: &'a [Policy],
     conditions: &'a [Expr],
@@ -39,7 +39,7 @@ impl<'a> Candidate<'a> {
     ghost use Rattle.cedar_gate_accept.specs.Candidates.{candidate_of};
 
     /// The candidate of these parts. The conditions are those of the policies.
-    pub fn new(
+    pub(crate) fn new(
         schema: &'a ValidatorSchema,
         policies: &'a [Policy],
         conditions: &'a [Expr],
@@ -96,7 +96,7 @@ impl<'a> Candidate<'a> {
 
     /// Tests the candidate, whose declarations are well-formed: it passes where it is to be accepted, and else a fault is named that is
     /// there. Answers want of memory.
-    pub fn check(&self, alloc: Global) -> Result<(), GateFault>
+    pub(crate) fn check(&self, alloc: Global) -> Result<(), GateFault>
         requires { well_formed (candidate_of self.now).declarations ≡ true }
         ensures ok { OnOk result (acceptance.admits (candidate_of self.now) ≡ true) }
         ensures err { IfErr result (λ f. GateFaultIsThere f (candidate_of self.now)) }

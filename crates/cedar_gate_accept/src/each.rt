@@ -18,21 +18,21 @@ use cedar_expr::Expr;
 use cedar_gate_schema::ValidatorSchema;
 
 /// Whether each condition nests within a limit.
-pub fn all_nest_within(conditions: &[Expr], limit: u32) -> bool
+pub(crate) fn all_nest_within(conditions: &[Expr], limit: u32) -> bool
     ensures { result ≡ list_all (λ e. nat_le (nesting (tree_of e)) limit) conditions.now }
 {
     conditions.iter().all(|e| nests_within(e, limit))
 }
 
 /// Whether each condition keeps a scope rule.
-pub fn all_keep(rule: ScopeRule, schema: &ValidatorSchema, conditions: &[Expr]) -> bool
+pub(crate) fn all_keep(rule: ScopeRule, schema: &ValidatorSchema, conditions: &[Expr]) -> bool
     ensures { result ≡ list_all (λ e. each_uid (rule_passes rule (schema_of schema.now)) (tree_of e)) conditions.now }
 {
     conditions.iter().all(|e| rule.passes_all(schema, e))
 }
 
 /// Whether each condition has a type of truth values in each environment.
-pub fn all_pass(schema: &ValidatorSchema, conditions: &[Expr]) -> bool
+pub(crate) fn all_pass(schema: &ValidatorSchema, conditions: &[Expr]) -> bool
     ensures { result ≡ list_all (λ e. list_all (verdict.holds_at Passes (schema_of schema.now) (tree_of e)) (environments (schema_of schema.now))) conditions.now }
 {
     conditions

@@ -25,7 +25,7 @@ fn id_texts(alloc: Global, policies: &[Policy]) -> Result<Vec<&str>, AllocError>
 }
 
 /// Whether no two policies have one id. Fails only for want of memory.
-pub fn ids_are_distinct(alloc: Global, policies: &[Policy]) -> Result<bool, AllocError>
+pub(crate) fn ids_are_distinct(alloc: Global, policies: &[Policy]) -> Result<bool, AllocError>
     ensures { IfOk result (λ b. b ≡ declared_model.are_distinct bytes_eq (ids (policies_of policies.now))) }
 {
     let texts = id_texts(alloc, policies)?;
@@ -34,7 +34,7 @@ pub fn ids_are_distinct(alloc: Global, policies: &[Policy]) -> Result<bool, Allo
 }
 
 /// The policies' conditions. Fails only for want of memory.
-pub fn conditions_of(alloc: Global, policies: &[Policy]) -> Result<Vec<Expr>, AllocError>
+pub(crate) fn conditions_of(alloc: Global, policies: &[Policy]) -> Result<Vec<Expr>, AllocError>
     ensures { IfOk result (λ v. map tree_of v.items ≡ map (λ p. condition (policy_of p)) policies.now) }
 {
     let mut conditions = Vec::new(alloc);

@@ -22,7 +22,7 @@ pub enum ScopeRule {
 
 impl ScopeRule {
     /// Whether a uid keeps the rule.
-    pub fn passes(self, schema: &ValidatorSchema, uid: &EntityUID) -> bool
+    pub(crate) fn passes(self, schema: &ValidatorSchema, uid: &EntityUID) -> bool
         ensures { result ≡ rule_passes self (schema_of schema.now) (uid_of uid.now) }
     {
         match self {

@@ -25,7 +25,7 @@ pub enum Verdict {
 
 impl Verdict {
     /// Whether the verdict holds of a type, or of none.
-    pub fn holds_of(self, found: Option<Type<'_>>) -> bool
+    pub(crate) fn holds_of(self, found: Option<Type<'_>>) -> bool
         ensures { result ≡ verdict.test_of self (option_map type_view found.entry) }
     {
         match (self, found) {
@@ -40,7 +40,7 @@ impl Verdict {
     }
 
     /// Whether the verdict holds of a condition in an environment.
-    pub fn holds_in(self, env: &RequestEnv<'_>, condition: &Expr) -> bool
+    pub(crate) fn holds_in(self, env: &RequestEnv<'_>, condition: &Expr) -> bool
         ensures { result ≡ verdict.test_of self (judged.type_of (setting_of env.now) (tree_of condition.now)) }
     {
         self.holds_of(env.type_of(condition))

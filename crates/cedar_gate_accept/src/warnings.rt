@@ -43,7 +43,7 @@ fn impossible_ids(
 }
 
 /// The warnings: the ids of the impossible policies, in policy order. Fails only for want of memory.
-pub fn warnings(
+pub(crate) fn warnings(
     alloc: Global,
     schema: &ValidatorSchema,
     policies: &[Policy],

@@ -16,7 +16,7 @@ use std::alloc::{AllocError, Global};
 use std::rc::RcStr;
 
 /// The one namespace of fragments, if they are one fragment of one namespace without a name.
-pub fn only_namespace(fragments: &[Fragment]) -> Option<&NamespaceDefinition>
+pub(crate) fn only_namespace(fragments: &[Fragment]) -> Option<&NamespaceDefinition>
     ensures { MatchOption result (is_first_path fragments.now ≡ false) (λ n. (declarations_of fragments.now ≡ declared_in n.now) × (is_first_path fragments.now ≡ is_plain_definition n.now)) }
 {
     match fragments {
@@ -29,7 +29,7 @@ pub fn only_namespace(fragments: &[Fragment]) -> Option<&NamespaceDefinition>
 }
 
 /// The texts of the declared types' names.
-pub fn type_texts(
+pub(crate) fn type_texts(
     alloc: Global,
     types: &[(Id, json_schema::EntityType)],
 ) -> Result<Vec<&str>, AllocError>
@@ -43,7 +43,10 @@ pub fn type_texts(
 }
 
 /// The ids of the declared actions.
-pub fn action_texts(alloc: Global, actions: &[(RcStr, ActionType)]) -> Result<Vec<&str>, AllocError>
+pub(crate) fn action_texts(
+    alloc: Global,
+    actions: &[(RcStr, ActionType)],
+) -> Result<Vec<&str>, AllocError>
     ensures { IfOk result (λ v. map (λ t. t.now) v.items ≡ map (λ a. rc_str_bytes a.0) actions.now) }
 {
     let mut texts = Vec::new(alloc);
@@ -54,7 +57,7 @@ pub fn action_texts(alloc: Global, actions: &[(RcStr, ActionType)]) -> Result<Ve
 }
 
 /// The names of the declared types.
-pub fn type_names(
+pub(crate) fn type_names(
     alloc: Global,
     types: &[(Id, json_schema::EntityType)],
 ) -> Result<Vec<InternalName>, AllocError>
@@ -68,7 +71,7 @@ pub fn type_names(
 }
 
 /// The names that are referred to.
-pub fn references(alloc: Global, names: &[RawName]) -> Result<Vec<InternalName>, AllocError>
+pub(crate) fn references(alloc: Global, names: &[RawName]) -> Result<Vec<InternalName>, AllocError>
     ensures { IfOk result (λ v. map name_of v.items ≡ map raw_name_of names.now) }
 {
     let mut references = Vec::new(alloc);
@@ -79,7 +82,7 @@ pub fn references(alloc: Global, names: &[RawName]) -> Result<Vec<InternalName>,
 }
 
 /// The type of an action in no namespace.
-pub fn action_type(alloc: Global) -> Result<EntityType, AllocError>
+pub(crate) fn action_type(alloc: Global) -> Result<EntityType, AllocError>
     ensures { IfOk result (λ t. type_name_of t ≡ record { path = []; base = action_word }) }
 {
     match EntityType::from_normalized_str(alloc, "Action") {
@@ -91,7 +94,7 @@ pub fn action_type(alloc: Global) -> Result<EntityType, AllocError>
 }
 
 /// The action that is declared under an id.
-pub fn action(
+pub(crate) fn action(
     alloc: Global,
     kind: &EntityType,
     id: &RcStr,
@@ -107,7 +110,7 @@ pub fn action(
 }
 
 /// The declared actions.
-pub fn actions(
+pub(crate) fn actions(
     alloc: Global,
     declared: &[(RcStr, ActionType)],
 ) -> Result<Vec<ValidatorActionId>, AllocError>

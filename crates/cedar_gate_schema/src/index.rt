@@ -14,7 +14,7 @@ use std::alloc::{AllocError, Global};
 use std::collections::BTreeSet;
 
 /// An index of names. Fails only for want of memory.
-pub fn index_names(
+pub(crate) fn index_names(
     alloc: Global,
     names: &[InternalName],
 ) -> Result<BTreeSet<InternalName>, AllocError>
@@ -28,7 +28,7 @@ pub fn index_names(
 }
 
 /// An index of the actions' uids. Fails only for want of memory.
-pub fn index_uids(
+pub(crate) fn index_uids(
     alloc: Global,
     actions: &[ValidatorActionId],
 ) -> Result<BTreeSet<EntityUID>, AllocError>
@@ -42,7 +42,7 @@ pub fn index_uids(
 }
 
 /// An index of the types of the actions' uids. Fails only for want of memory.
-pub fn index_action_types(
+pub(crate) fn index_action_types(
     alloc: Global,
     actions: &[ValidatorActionId],
 ) -> Result<BTreeSet<InternalName>, AllocError>
@@ -56,14 +56,14 @@ pub fn index_action_types(
 }
 
 /// Whether an index has a name.
-pub fn index_has_name(index: &BTreeSet<InternalName>, name: &InternalName) -> bool
+pub(crate) fn index_has_name(index: &BTreeSet<InternalName>, name: &InternalName) -> bool
     ensures { result ≡ has_name index.now (name_of name.now) }
 {
     index.contains(name)
 }
 
 /// Whether an index has a uid.
-pub fn index_has_uid(index: &BTreeSet<EntityUID>, uid: &EntityUID) -> bool
+pub(crate) fn index_has_uid(index: &BTreeSet<EntityUID>, uid: &EntityUID) -> bool
     ensures { result ≡ has_uid index.now (uid_of uid.now) }
 {
     index.contains(uid)

@@ -1,14 +1,14 @@
 //! The declared types and actions: well-formed declarations, and which requests conform to them.
 #![tactic(auto)]
 
-pub mod conformance;
-pub mod declared;
+mod conformance;
+mod declared;
 pub mod distinct;
-pub mod err;
-pub mod index;
-pub mod plain;
+mod err;
+mod index;
+mod plain;
 pub mod schema;
-pub mod well_formed;
+mod well_formed;
 
 pub use conformance::check_conforms;
 pub use err::SchemaError;

@@ -38,7 +38,7 @@ impl ValidatorActionId {
     ghost use Rattle.cedar_gate_schema.specs.Schema.{action_of};
 
     /// The action of this uid, for principals and resources of these types.
-    pub fn new(
+    pub(crate) fn new(
         name: EntityUID,
         principals: Vec<InternalName>,
         resources: Vec<InternalName>,
@@ -80,7 +80,7 @@ impl ValidatorSchema {
     ghost use Rattle.cedar_gate_schema.specs.Schema.{schema_of, action_of, type_declaration_of};
 
     /// The schema of these entity types and actions. Fails only for want of memory.
-    pub fn new(
+    pub(crate) fn new(
         alloc: Global,
         entity_types: Vec<InternalName>,
         actions: Vec<ValidatorActionId>,

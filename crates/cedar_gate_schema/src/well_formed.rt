@@ -88,7 +88,7 @@ fn none_is_reserved(names: &[InternalName]) -> bool
 }
 
 /// Tests that the declarations of a namespace are well-formed. The schema is made of them.
-pub fn check_well_formed(
+pub(crate) fn check_well_formed(
     alloc: Global,
     definition: &NamespaceDefinition,
     schema: &ValidatorSchema,
