@@ -104,11 +104,11 @@ pub fn run<'a, H: Host>(
     gate: &'a Gate<'a>,
     request: Request,
     steps: &[Step],
-    _host: &mut H,
+    host: &mut H,
 ) -> Result<Transcript, RunFault>
-    ensures outcome { RunGives (submission_of gate.now) (run_world (request_of request) (H.store _host.old)) (steps_of steps.now) result }
-    ensures asked { H.asked _host.new ≡ H.asked _host.old }
-    ensures host { _host.new ≡ _host.old }
+    ensures outcome { RunGives (submission_of gate.now) (run_world (request_of request) (H.store host.old)) (steps_of steps.now) result }
+    ensures asked { H.asked host.new ≡ H.asked host.old }
+    ensures host { host.new ≡ host.old }
 {
     match Session::open(gate, request) {
         Ok(session) => run_session(alloc, &session, steps),
