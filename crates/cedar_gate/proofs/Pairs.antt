@@ -1,19 +1,17 @@
 -- The answer over policies beside their conditions is the answer of the policies.
 use Rattle.std.proofs.Common.{◌≡◌, Bool, true, false, ◌&&◌, ◌||◌, cond, List, [], ◌∷◌, ◌++◌, map, filter, refl, ap, sym, ◌∙◌, ◌⊎◌, inl, inr}
 use Rattle.std.proofs.lemmas.List.{append-nil}
-use Rattle.std.specs.List.{list_any, zip, flat_map}
-use Rattle.cedar_expr_model.specs.Name.{Text}
-use Rattle.cedar_expr_model.specs.Tree.{Tree}
+use Rattle.std.specs.List.{list_any, zip}
 use Rattle.cedar_store_model.specs.World.{World}
 use Rattle.cedar_store_model.specs.Meaning.{outcome_of}
 use Rattle.cedar_store_model.specs.Policy as model
-use Rattle.cedar_store_model.specs.Answer.{is_true, satisfied, ids, permits, PolicyError, error_of, errors_of, satisfied_permits, satisfied_forbids, decided, determining, decision_of, reasons_of, Decision, allow, deny}
+use Rattle.cedar_store_model.specs.Answer.{is_true, ids, error_of, errors_of, satisfied_permits, satisfied_forbids, decided, determining, decision_of, allow, deny}
 use Rattle.cedar_expr.specs.declared.expr.Expr.{Expr}
 use Rattle.cedar_expr.specs.Trees.{tree_of}
 use Rattle.cedar_gate_types.specs.declared.policy.Policy.{Policy}
 use Rattle.cedar_gate_types.specs.declared.policy.Effect.{Effect}
 use Rattle.cedar_gate_types.specs.declared.policy.Effect.TheVariants.{Permit, Forbid}
-use Rattle.cedar_gate_types.specs.Policies.{id_text, policy_of, policies_of}
+use Rattle.cedar_gate_types.specs.Policies.{policy_of, policies_of}
 use Rattle.cedar_gate.specs.Answers.{has_effect, acts, AreConditions, Pair, pair_acts, acting_ids, pair_errors}
 
 -- the head and the tail of two equal lists

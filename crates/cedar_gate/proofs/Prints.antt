@@ -1,15 +1,12 @@
 -- What is printed may be printed.
-use Rattle.std.proofs.Common.{◌≡◌, ◌≢◌, ℕ, List, ◌++◌, true, false, Some, Result, Ok, Err, IfOk, string_bytes, subst, refl, sym}
+use Rattle.std.proofs.Common.{◌≡◌, ◌≢◌, Some, Result, Ok, Err, IfOk, string_bytes, subst, refl, sym}
 use Rattle.std.specs.declared.alloc.AllocError.{AllocError}
 use Rattle.cedar_expr_model.specs.Name.{Text}
-use Rattle.cedar_store_model.specs.Answer.{Answer, answer_of, decision_of}
 use Rattle.cedar_schema_model.specs.Declarations as schema
-use Rattle.cedar_schema_model.specs.Conforming.{conforms}
 use Rattle.cedar_gate_model.specs.Acceptance as gate
 use Rattle.cedar_gate_model.specs.Acceptance.{Submission, Cause, HasFault, IsAccepted, number_of}
-use Rattle.cedar_gate_model.specs.Bundle.{Bundle, bundle_world}
-use Rattle.cedar_gate_model.specs.Transcript as model
-use Rattle.cedar_gate_model.specs.Lines.{Prints, refused, answered, stopped, refused_line, answer_lines, warning_lines, entry_lines, not_conforming_line}
+use Rattle.cedar_gate_model.specs.Bundle.{Bundle}
+use Rattle.cedar_gate_model.specs.Lines.{Prints, refused, refused_line}
 use Rattle.cedar_gate_accept.specs.Faults.{GateFaultIsThere, gate_fault_number}
 use Rattle.cedar_gate_accept.specs.declared.err.GateFault.{GateFault}
 use Rattle.cedar_gate_accept.specs.declared.err.GateFault.TheVariants as fault

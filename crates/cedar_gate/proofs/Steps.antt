@@ -1,5 +1,5 @@
 -- Steps, and the entries that they make.
-use Rattle.std.proofs.Common.{◌≡◌, ℕ, ◌+◌, ◌<◌, List, [], ◌∷◌, ◌++◌, map, take, length, slice_index_or, Some, Result, Ok, Err, OnErr, Option, None, IfSome, option_map, subst, arith, refl, ap, sym, ◌∙◌}
+use Rattle.std.proofs.Common.{◌≡◌, ℕ, ◌+◌, ◌<◌, List, [], ◌∷◌, ◌++◌, take, length, slice_index_or, Some, Result, Ok, Err, OnErr, Option, None, IfSome, option_map, subst, arith, refl, ap, sym, ◌∙◌}
 use Rattle.std.proofs.lemmas.List.{take-map, map_more, take_all}
 use Rattle.cedar_expr_model.specs.Uid.{Uid}
 use Rattle.cedar_store_model.specs.World.{World, Request}
@@ -18,7 +18,7 @@ use Rattle.cedar_gate.specs.declared.runs.RunFault.{RunFault}
 use Rattle.cedar_gate.specs.declared.runs.RunFault.TheVariants.{Memory, Answering}
 use Rattle.cedar_gate.specs.Values.{at_request}
 use Rattle.cedar_gate.specs.Transcripts.{entries_of, transcript_of}
-use Rattle.cedar_gate.specs.Runs.{RunGives, SessionGives, ConclusionGives, IsAnsweredRun, IsStoppedRun, IsUnansweredRun}
+use Rattle.cedar_gate.specs.Runs.{RunGives, SessionGives, ConclusionGives}
 use Rattle.cedar_gate.proofs.Worlds.{decision_anywhere, answer_anywhere}
 
 decisions_append : (xs ys : List model.Step) (d : Decision) → decisions_for (xs ++ ys) d ≡ decisions_for xs d ++ decisions_for ys d

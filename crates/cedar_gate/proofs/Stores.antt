@@ -1,5 +1,5 @@
 -- Entities and their uids.
-use Rattle.std.proofs.Common.{◌≡◌, ◌||◌, Bool, List, [], ◌∷◌, map, refl, ap}
+use Rattle.std.proofs.Common.{◌≡◌, ◌||◌, List, [], ◌∷◌, refl, ap}
 use Rattle.std.specs.List.{list_any}
 use Rattle.cedar_expr_model.specs.Uid.{Uid, uid_eq}
 use Rattle.cedar_gate_types.specs.declared.entities.Entity.{Entity}

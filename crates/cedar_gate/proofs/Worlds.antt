@@ -1,11 +1,11 @@
 -- What a condition means turns on the request alone: today's kinds look nothing up.
-use Rattle.std.proofs.Common.{◌≡◌, ◌&&◌, Bool, not, List, [], ◌∷◌, ◌++◌, map, filter, refl, ap, sym, ◌∙◌}
+use Rattle.std.proofs.Common.{◌≡◌, ◌&&◌, Bool, not, List, [], ◌∷◌, filter, refl, ap}
 use Rattle.std.specs.List.{flat_map}
 use Rattle.cedar_expr_model.specs.Tree.{Tree, lit, var, both, unary, binary}
-use Rattle.cedar_expr_model.specs.Value.{V, prim, entity}
-use Rattle.cedar_store_model.specs.Outcome.{Res, val, err, bind}
+use Rattle.cedar_expr_model.specs.Value.{prim, entity}
+use Rattle.cedar_store_model.specs.Outcome.{val}
 use Rattle.cedar_store_model.specs.World.{World, Request, bound}
-use Rattle.cedar_store_model.specs.Meaning.{outcome_of, and_then, applied, compared}
+use Rattle.cedar_store_model.specs.Meaning.{outcome_of}
 use Rattle.cedar_store_model.specs.Policy.{Policy, condition}
 use Rattle.cedar_store_model.specs.Answer.{answer_of, decision_of, satisfied_permits, satisfied_forbids, errors_of, error_of, permits, is_true}
 use Rattle.cedar_gate.specs.Values.{at_request}

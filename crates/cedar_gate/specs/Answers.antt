@@ -11,7 +11,7 @@ use Rattle.cedar_expr.specs.Trees.{tree_of}
 use Rattle.cedar_gate_types.specs.declared.policy.Policy.{Policy}
 use Rattle.cedar_gate_types.specs.declared.policy.Effect.{Effect}
 use Rattle.cedar_gate_types.specs.declared.policy.Effect.TheVariants.{Permit, Forbid}
-use Rattle.cedar_gate_types.specs.Policies.{id_text, policy_of, policies_of}
+use Rattle.cedar_gate_types.specs.Policies.{policy_of, policies_of}
 
 -- whether an effect is this one
 abbrev pub has_effect : Effect → model.Effect → Bool

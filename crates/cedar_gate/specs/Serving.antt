@@ -1,5 +1,5 @@
 -- What the service comes to.
-use Rattle.std.specs.Prelude.{◌≡◌, ◌<◌, ℕ, List, Option, length, take, Result, Ok, Err}
+use Rattle.std.specs.Prelude.{◌<◌, ℕ, List, Option, length, take, Result, Ok, Err}
 use Rattle.std.specs.Io.KnownBytes.{Appends}
 use Rattle.cedar_expr_model.specs.Name.{Text}
 use Rattle.cedar_gate_model.specs.Bundle.{Bundle}

@@ -1,5 +1,5 @@
 -- What the code's transcripts are as the model's.
-use Rattle.std.specs.Prelude.{List, map, Option, option_map}
+use Rattle.std.specs.Prelude.{List, map, option_map}
 use Rattle.cedar_expr_names.specs.Views.{uid_of}
 use Rattle.cedar_gate_model.specs.Transcript as model
 use Rattle.cedar_gate_types.specs.Responses.{decision_of, response_of}

@@ -1,4 +1,4 @@
-use Rattle.std.proofs.Common.{arith, length-drop, ap, ◌∙◌, take}
+use Rattle.std.proofs.Common.{arith, length-drop}
 use Rattle.cedar_gate.proofs.Appending.{appends_more, to_the_end}
 use Rattle.cedar_gate.proofs.output.write_out.Goals as goal
 
