@@ -5,3 +5,4 @@ pub mod Tree
 pub mod Laws
 pub mod Worked
 pub mod Sets
+pub mod Order

@@ -2,4 +2,3 @@ pub mod Ids
 pub mod Parts
 pub mod Views
 pub mod Refusals
-pub mod Order

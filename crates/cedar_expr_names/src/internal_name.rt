@@ -32,7 +32,7 @@ impl InternalName {
     ghost use Rattle.std.specs.Prelude.{[], length, nat_eq, IfOk, IfErr, Some, None};
     ghost use Rattle.cedar_expr_model.specs.Name.{name_read, name_text, name_eq, is_reserved};
     ghost use Rattle.cedar_expr_names.specs.Parts.{name_of, name_loc};
-    ghost use Rattle.cedar_expr_names.specs.Order.{name_cmp};
+    ghost use Rattle.cedar_expr_model.specs.Order.{name_cmp};
     ghost use Rattle.cedar_expr_names.specs.Refusals.{RefusesText};
 
     /// The name of a base under a path, at a place. Answers want of memory.

@@ -47,6 +47,7 @@ pub struct Bundle {
 pub fn read_bundle(alloc: Global, value: &Value) -> Result<Bundle, ReadFault>
     ensures ok { IfOk result (λ b. bundle_read (view value.now) ≡ Some (bundle_of b)) }
     ensures plain { IfOk result (λ b. is_first_path b.fragments.items ≡ true) }
+    ensures level { IfOk result (λ b. b.level ≡ 0) }
     ensures distinct { IfOk result (λ b. are_distinct uid_eq (entity_uids b.store.items) ≡ true) }
     ensures unreadable { IfErr result (λ f. f ≡ Unreadable → bundle_read (view value.now) ≡ None) }
 {
@@ -78,6 +79,7 @@ pub fn read_bundle(alloc: Global, value: &Value) -> Result<Bundle, ReadFault>
 pub fn read_text(alloc: Global, bytes: &[u8]) -> Result<Bundle, ReadFault>
     ensures ok { IfOk result (λ b. input_read bytes.now ≡ Some (bundle_of b)) }
     ensures plain { IfOk result (λ b. is_first_path b.fragments.items ≡ true) }
+    ensures level { IfOk result (λ b. b.level ≡ 0) }
     ensures distinct { IfOk result (λ b. are_distinct uid_eq (entity_uids b.store.items) ≡ true) }
     ensures unreadable { IfErr result (λ f. f ≡ Unreadable → input_read bytes.now ≡ None) }
 {
@@ -130,6 +132,7 @@ fn has_version(value: &Value) -> bool
 // Reads the level. Only level 0 is read yet.
 fn read_level(value: &Value) -> Result<u32, ReadFault>
     ensures ok { IfOk result (λ n. number_between 0 0 (view value.now) ≡ Some n) }
+    ensures zero { IfOk result (λ n. n ≡ 0) }
     ensures unreadable { IfErr result (λ f. (f ≡ Unreadable)
         × (number_between 0 0 (view value.now) ≡ None)) }
 {

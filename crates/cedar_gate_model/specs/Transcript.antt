@@ -1,7 +1,8 @@
 -- Runs: steps, the entries of a transcript, and which transcripts are legal.
 -- Rule: legal transcript (docs/RULES.md).
-use Rattle.std.specs.Prelude.{◌≡◌, ◌≢◌, ◌↔◌, List, [], ◌∷◌, ◌++◌, Option, Some, None, Contains, IfSome}
+use Rattle.std.specs.Prelude.{◌≡◌, ◌≢◌, ◌↔◌, true, List, [], ◌∷◌, ◌++◌, Option, Some, None, Contains, IfSome}
 use Rattle.cedar_expr_model.specs.Uid.{Uid}
+use Rattle.cedar_expr_model.specs.Order.{are_rising}
 use Rattle.cedar_store_model.specs.World.{World}
 use Rattle.cedar_store_model.specs.Answer.{Decision, Answer, decision_of, answer_of}
 use Rattle.cedar_gate_model.specs.Acceptance.{Submission}
@@ -20,9 +21,10 @@ pub record Transcript : Type 0 where
   pub entries : List Entry
   pub answer : Option Answer
 
--- A round lists the slice less what was asked before, and isn't empty.
+-- A round lists the slice less what was asked before, in the order of uids, and isn't empty.
 pub record IsRound (s : Submission) (w : World) (asked wanted : List Uid) : Type 0 where
   pub some_wanted : wanted ≢ []
+  pub in_order : are_rising wanted ≡ true
   pub exact : (u : Uid) → Contains wanted u ↔ (InSlice s.declarations s.level w u × (Contains asked u → ⊥))
 
 -- Each round is one, and each decision that is given is that of the answer.
