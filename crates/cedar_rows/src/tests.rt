@@ -179,6 +179,7 @@ fn writers_that_take_a_byte_at_a_time(rt: HostRuntime) -> Result<(), Fail> {
         (100usize, Ok(Status::Answered)),
         (24, Ok(Status::Answered)),
         (23, Err(ServeFault::Write)),
+        (5, Err(ServeFault::Write)),
         (0, Err(ServeFault::Write)),
     ] {
         let input = bundle(rt.alloc(), &PLAIN)?;
@@ -195,19 +196,19 @@ fn writers_that_take_a_byte_at_a_time(rt: HostRuntime) -> Result<(), Fail> {
     Ok(())
 }
 
-// A reader that gives one byte, and then fails.
+// A reader that gives ten bytes, one at a time, and then fails.
 #[derive(Drop)]
 struct Broken {
     kind: ErrorKind,
-    given: bool,
+    given: u8,
 }
 
 impl Read for Broken {
     fn read(&mut self, buf: &mut [u8]) -> io::Result<usize> {
-        if self.given || buf.is_empty() {
+        if self.given >= 10 || buf.is_empty() {
             return Err(io::Error::from(self.kind));
         }
-        self.given = true;
+        self.given += 1;
         buf[0] = b'{';
         Ok(1)
     }
@@ -219,7 +220,7 @@ fn readers_that_fail(rt: HostRuntime) {
         (ErrorKind::BrokenPipe, ServeFault::Read),
         (ErrorKind::OutOfMemory, ServeFault::Memory),
     ] {
-        let reader = Broken { kind, given: false };
+        let reader = Broken { kind, given: 0 };
         let mut out = Vec::new(rt.alloc());
         let status = serve(rt.alloc(), reader, &mut out, &ExtTable::none());
         assert_eq!(rt; status, Err(want));
@@ -245,6 +246,10 @@ fn a_session_at_a_gate(rt: HostRuntime) -> Result<(), Fail> {
     let fragments = fragments.as_slice();
     assert!(rt; cedar_gate_accept::first_path(fragments, policies.as_slice(), level));
     let gate = Gate::accept(rt.alloc(), fragments, policies, &table, level, limit)?;
+    assert_eq!(rt; gate.level(), 0);
+    assert!(rt; gate.warnings().is_empty());
+    assert_eq!(rt; gate.policies().len(), 1);
+    assert_eq!(rt; gate.schema().actions().len(), 1);
     let mut session = gate.open(request).ok().ok_or("not opened")?;
     assert!(rt; session.wanted().is_empty());
     assert_eq!(rt; session.supply(Vec::new(rt.alloc())), Ok(()));
