@@ -5,6 +5,7 @@ ghost use Rattle.cedar_expr_names.specs.Views.{uid_of};
 ghost use Rattle.cedar_store_model.specs.World.{World};
 ghost use Rattle.cedar_store_model.specs.Answer as answer;
 ghost use Rattle.cedar_schema_model.specs.Conforming.{conforms};
+ghost use Rattle.cedar_gate_model.specs.Acceptance.{Submission};
 ghost use Rattle.cedar_gate_model.specs.Slice.{InSlice};
 ghost use Rattle.cedar_gate_types.specs.Requests.{request_of};
 ghost use Rattle.cedar_gate_types.specs.Responses.{decision_of, response_of};
@@ -193,18 +194,22 @@ impl<'a> Session<'a> {
 
 /// Opening a session at a gate, as `gate.open(request)`.
 pub trait OpenSession {
+    /// What was accepted.
+    ghost accepted: { Self → Submission };
+
     /// A session of this request at the gate. Today it always opens.
     ///
     /// # Errors
     ///
     /// Want of memory.
-    fn open(&self, request: Request) -> Result<Session<'_>, OpenFault>;
+    fn open(&self, request: Request) -> Result<Session<'_>, OpenFault>
+        ensures { IsOkAnd result (λ s. (session_submission s ≡ accepted self.now) × (session_request s ≡ request_of request)) };
 }
 
 impl<'a> OpenSession for Gate<'a> {
-    fn open(&self, request: Request) -> Result<Session<'_>, OpenFault>
-        ensures { IsOkAnd result (λ s. (session_submission s ≡ submission_of self.now) × (session_request s ≡ request_of request)) }
-    {
+    ghost accepted = { submission_of };
+
+    fn open(&self, request: Request) -> Result<Session<'_>, OpenFault> {
         Session::open(self, request)
     }
 }
