@@ -8,13 +8,16 @@ ghost use Rattle.cedar_gate.specs.Hosts.{answered_of, answer_from, failures_afte
 use cedar_expr::EntityUID;
 use cedar_gate_types::Entity;
 use std::alloc::Global;
+use thiserror::Error;
 
 /// Why a host doesn't answer.
-#[derive(Clone, Copy, Debug, PartialEq, Eq)]
+#[derive(Clone, Copy, Debug, PartialEq, Eq, Error)]
 pub enum HostFault {
     /// Want of memory.
+    #[error("out of memory")]
     Memory,
     /// A fault of the host's own.
+    #[error("the host failed")]
     Device,
 }
 

@@ -18,16 +18,19 @@ use crate::transcript::{Entry, Transcript};
 use cedar_gate_accept::Gate;
 use cedar_gate_types::{Request, Step};
 use std::alloc::{AllocError, Global};
+use thiserror::Error;
 
 /// Why a run comes to no answer, with what it did so far.
-#[derive(Drop)]
+#[derive(Debug, Drop, Error)]
 pub enum RunFault {
     /// Want of memory.
+    #[error("out of memory")]
     Memory {
         /// What was done so far.
         transcript: Transcript,
     },
     /// The session gives no answer.
+    #[error("no answer is given, by refusal {number}")]
     Answering {
         /// The number of the session's fault.
         number: u32,

@@ -11,15 +11,19 @@ use crate::status::Status;
 use cedar_expr::ExtTable;
 use std::alloc::{AllocError, Global};
 use std::io::{ErrorKind, Read, Write};
+use thiserror::Error;
 
 /// Why an input isn't served.
-#[derive(Clone, Copy, Debug, PartialEq, Eq)]
+#[derive(Clone, Copy, Debug, PartialEq, Eq, Error)]
 pub enum ServeFault {
     /// Want of memory.
+    #[error("out of memory")]
     Memory,
     /// The reader failed.
+    #[error("the reader failed")]
     Read,
     /// The writer failed, or took no byte.
+    #[error("the writer failed")]
     Write,
 }
 

@@ -17,29 +17,35 @@ use cedar_expr::EntityUID;
 use cedar_gate_accept::{Gate, check_conforms};
 use cedar_gate_types::{Decision, Entity, Request, Response};
 use std::alloc::{AllocError, Global};
+use thiserror::Error;
 
 /// Why a session isn't opened.
-#[derive(Clone, Copy, Debug, PartialEq, Eq)]
+#[derive(Clone, Copy, Debug, PartialEq, Eq, Error)]
 pub enum OpenFault {
     /// Want of memory. Today a session takes none.
+    #[error("out of memory")]
     OutOfMemory,
 }
 
 /// Why what is supplied is refused.
-#[derive(Clone, Copy, Debug, PartialEq, Eq)]
+#[derive(Clone, Copy, Debug, PartialEq, Eq, Error)]
 pub enum SupplyFault {
     /// Want of memory.
+    #[error("out of memory")]
     OutOfMemory,
     /// An entity is supplied that isn't wanted.
+    #[error("an entity is supplied that is not wanted")]
     NotWanted,
 }
 
 /// Why no answer is given.
-#[derive(Clone, Copy, Debug, PartialEq, Eq)]
+#[derive(Clone, Copy, Debug, PartialEq, Eq, Error)]
 pub enum AnswerFault {
     /// Want of memory.
+    #[error("out of memory")]
     OutOfMemory,
     /// The request doesn't conform to the schema.
+    #[error("the request does not conform to the schema")]
     NotConforming,
 }
 

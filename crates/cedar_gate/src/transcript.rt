@@ -4,7 +4,7 @@ use cedar_expr::EntityUID;
 use cedar_gate_types::{Decision, Response};
 
 /// A thing that a run did.
-#[derive(Drop)]
+#[derive(Debug, Drop)]
 pub enum Entry {
     /// A round: these uids were asked of the host.
     Round(Vec<EntityUID>),
@@ -13,7 +13,7 @@ pub enum Entry {
 }
 
 /// What a run did, in order, and its answer, where it came to one.
-#[derive(Drop)]
+#[derive(Debug, Drop)]
 pub struct Transcript {
     /// What was done.
     pub entries: Vec<Entry>,

@@ -19,7 +19,7 @@ pub enum EvaluationError {
 }
 
 /// What went wrong with a policy.
-#[derive(Drop)]
+#[derive(Debug, Drop)]
 pub enum AuthorizationError {
     /// Its condition didn't evaluate.
     PolicyEvaluationError {
@@ -31,7 +31,7 @@ pub enum AuthorizationError {
 }
 
 /// Why a decision was made.
-#[derive(Drop)]
+#[derive(Debug, Drop)]
 pub struct Diagnostics {
     /// The policies that determined it, in policy order.
     pub reason: Vec<PolicyID>,
@@ -40,7 +40,7 @@ pub struct Diagnostics {
 }
 
 /// The answer to a request.
-#[derive(Drop)]
+#[derive(Debug, Drop)]
 pub struct Response {
     /// The decision.
     pub decision: Decision,
