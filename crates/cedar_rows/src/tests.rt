@@ -1,10 +1,11 @@
 //! Bundles and what is printed for them; writers, readers and hosts that fail; calls that succeed.
 
-use cedar_expr::{EntityUID, ExtTable};
+use cedar_expr::{EntityUID, ExprKind, ExtTable, Literal, Var};
 use cedar_gate::{Host, HostFault, OpenSession, ServeFault, Status, run, serve};
-use cedar_gate_accept::Gate;
-use cedar_gate_bundle::{Bundle, read_text};
-use cedar_gate_types::{Decision, Entity, Step};
+use cedar_gate_accept::{Gate, ValidatorSchema};
+use cedar_gate_bundle::{Bundle, read_bundle, read_text};
+use cedar_gate_types::{ActionConstraint, Decision, Entity, PrincipalOrResourceConstraint, Step};
+use serde_json::Value;
 use std::alloc::Global;
 use std::io;
 use std::io::{ErrorKind, Read, Write};
@@ -267,6 +268,42 @@ fn served(alloc: Global, input: &[u8]) -> Result<(Status, Vec<u8>), Fail> {
         .ok()
         .ok_or("no status")?;
     Ok((status, out))
+}
+
+#[test]
+fn a_bundle_of_a_value(rt: HostRuntime) -> Result<(), Fail> {
+    let text = bundle(rt.alloc(), &PLAIN)?;
+    let value = Value::from_slice(rt.alloc(), text.as_bytes())
+        .ok()
+        .ok_or("no value")?;
+    let bundle = read_bundle(rt.alloc(), &value).ok().ok_or("no bundle")?;
+    assert_eq!(rt; bundle.policies.len(), 1);
+    assert_eq!(rt; bundle.level, 0);
+    Ok(())
+}
+
+#[test]
+fn a_schema_of_its_fragments(rt: HostRuntime) -> Result<(), Fail> {
+    let text = bundle(rt.alloc(), &PLAIN)?;
+    let bundle = read_text(rt.alloc(), text.as_bytes())
+        .ok()
+        .ok_or("unreadable")?;
+    let fragments = bundle.fragments.as_slice();
+    assert!(rt; cedar_gate_accept::first_path(fragments, bundle.policies.as_slice(), bundle.level));
+    let schema = ValidatorSchema::from_schema_fragments(rt.alloc(), fragments)
+        .ok()
+        .ok_or("no schema")?;
+    assert_eq!(rt; schema.actions().len(), 1);
+    Ok(())
+}
+
+#[test]
+fn a_scope_part_that_asks_nothing_is_true(rt: HostRuntime) -> Result<(), Fail> {
+    let principal = PrincipalOrResourceConstraint::Any.as_expr(rt.alloc(), Var::Principal)?;
+    assert!(rt; matches!(principal.expr_kind(), ExprKind::Lit(Literal::Bool(true))));
+    let action = ActionConstraint::Any.as_expr(rt.alloc())?;
+    assert!(rt; matches!(action.expr_kind(), ExprKind::Lit(Literal::Bool(true))));
+    Ok(())
 }
 
 #[test]
