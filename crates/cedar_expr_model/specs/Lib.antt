@@ -6,3 +6,4 @@ pub mod Laws
 pub mod Worked
 pub mod Sets
 pub mod Order
+pub mod Whole

@@ -5,3 +5,4 @@ pub mod Conforming
 pub mod Laws
 pub mod Worked
 pub mod Order
+pub mod Whole

@@ -6,3 +6,4 @@ pub mod Policy
 pub mod Answer
 pub mod Laws
 pub mod Worked
+pub mod Whole

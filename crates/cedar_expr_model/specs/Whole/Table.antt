@@ -1,0 +1,85 @@
+-- Extension functions: signatures, and what a call of one answers.
+-- Rule: extension functions (docs/RULES.md).
+use Rattle.std.specs.Prelude.{◌≡◌, ◌&&◌, ◌==◌, ℕ, List, [], ◌∷◌, map, length, nat_le, Bool, true, false, not, Option, Some, None, if◌then◌else◌, is_some}
+use Rattle.std.specs.List.{list_all, list_any}
+use Rattle.cedar_expr_model.specs.Name.{Text, Name, name_eq}
+use Rattle.cedar_expr_model.specs.Whole.Value.{Literal, V, prim, extension}
+use Rattle.cedar_expr_model.specs.Whole.Tree.{CoreType, string_core, extension_core}
+use Rattle.cedar_expr_model.specs.Whole.Substitution.{core_type_of, core_eq}
+
+-- how a call is written
+pub data CallStyle : Type 0 where
+  function_style : CallStyle
+  method_style : CallStyle
+
+-- A function: its arguments are of these types, and where it is variadic further ones are of the last of them.
+pub record Signature : Type 0 where
+  pub name : Name
+  pub style : CallStyle
+  pub parameters : List CoreType
+  pub is_variadic : Bool
+  pub result : Option CoreType
+
+-- What a call answers: a value, the failure of an extension of this name, or the unknown of this name.
+pub data Called : Type 0 where
+  gives : V → Called
+  fails : Name → Called
+  leaves : Text → Called
+
+-- A table of functions: their signatures, the extension types whose values are ordered, and the answers.
+pub record Table : Type 0 where
+  pub functions : List Signature
+  pub ordered : List Name
+  pub answers : Name → List V → Called
+
+abbrev pub signature_among : Name → List Signature → Option Signature
+signature_among f [] = None
+signature_among f (s ∷ ss) = if name_eq f s.name then Some s else signature_among f ss
+
+abbrev pub signature_of : Table → Name → Option Signature
+signature_of t f = signature_among f t.functions
+
+-- whether values of the extension type are ordered
+abbrev pub is_ordered : Table → Name → Bool
+is_ordered t n = list_any (name_eq n) t.ordered
+
+-- each function has a result type
+abbrev pub all_typed : Table → Bool
+all_typed t = list_all (λ s. is_some s.result) t.functions
+
+-- the function takes this many arguments
+abbrev pub takes_count : Signature → ℕ → Bool
+takes_count s n = if s.is_variadic then nat_le (length s.parameters) n else (n == length s.parameters)
+
+-- values of these types; further ones are of the last
+abbrev pub are_of_types : List CoreType → List V → Bool
+are_of_types [] vs = true
+are_of_types (a ∷ as_) [] = true
+are_of_types (a ∷ []) (v ∷ vs) = core_eq a (core_type_of v) && are_of_types (a ∷ []) vs
+are_of_types (a ∷ b ∷ bs) (v ∷ vs) = core_eq a (core_type_of v) && are_of_types (b ∷ bs) vs
+
+-- a value of the function's result type, or a failure; one without a result type may leave an unknown
+abbrev pub IsAnswer : Signature → Called → Type 0
+IsAnswer s (gives v) = s.result ≡ Some (core_type_of v)
+IsAnswer s (fails e) = Unit {0}
+IsAnswer s (leaves n) = s.result ≡ None
+
+-- The table is fair: on arguments of their types its functions answer with a value of their result type or a failure.
+abbrev pub IsFair : Table → Type 0
+IsFair t = (f : Name) (s : Signature) (vs : List V) → signature_of t f ≡ Some s → takes_count s (length vs) ≡ true → are_of_types s.parameters vs ≡ true → IsAnswer s (t.answers f vs)
+
+-- a constructor: a function, in function style, of one text, that gives an extension value
+abbrev pub is_extension_type : Option CoreType → Bool
+is_extension_type (Some (extension_core n)) = true
+is_extension_type t = false
+
+abbrev pub is_function_style : CallStyle → Bool
+is_function_style function_style = true
+is_function_style method_style = false
+
+abbrev pub takes_one_text : List CoreType → Bool
+takes_one_text (string_core ∷ []) = true
+takes_one_text ts = false
+
+abbrev pub is_constructor : Signature → Bool
+is_constructor s = is_function_style s.style && (not s.is_variadic && (takes_one_text s.parameters && is_extension_type s.result))

@@ -1,0 +1,111 @@
+-- Expressions as bare trees: kinds alone, with no place and no data.
+-- Rule: expressions; nesting (docs/RULES.md).
+use Rattle.std.specs.Prelude.{ℕ, suc, max, List, [], ◌∷◌, ◌&&◌, ◌||◌, Bool, true, false, Option, Some, None}
+use Rattle.cedar_expr_model.specs.Name.{Text, Name}
+use Rattle.cedar_expr_model.specs.Uid.{Uid}
+use Rattle.cedar_expr_model.specs.Whole.Value.{Literal, truth, long, text, entity}
+use Rattle.cedar_expr_model.specs.Whole.Pattern.{Pattern}
+
+-- the variables of a request
+pub data Var : Type 0 where
+  principal : Var
+  action : Var
+  resource : Var
+  context : Var
+  deriving IsSet as Var-set
+
+-- the slots of a template
+pub data SlotId : Type 0 where
+  principal_slot : SlotId
+  resource_slot : SlotId
+  deriving IsSet as SlotId-set
+
+-- The types that a value shows by itself.
+pub data CoreType : Type 0 where
+  bool_core : CoreType
+  long_core : CoreType
+  string_core : CoreType
+  set_core : CoreType
+  record_core : CoreType
+  entity_core : Name → CoreType
+  extension_core : Name → CoreType
+  deriving IsSet as CoreType-set
+
+pub data UnaryOp : Type 0 where
+  negation : UnaryOp
+  minus : UnaryOp
+  is_empty : UnaryOp
+  deriving IsSet as UnaryOp-set
+
+pub data BinaryOp : Type 0 where
+  equal : BinaryOp
+  less : BinaryOp
+  less_or_equal : BinaryOp
+  plus : BinaryOp
+  difference : BinaryOp
+  times : BinaryOp
+  is_in : BinaryOp
+  contains : BinaryOp
+  contains_all : BinaryOp
+  contains_any : BinaryOp
+  get_tag : BinaryOp
+  has_tag : BinaryOp
+  deriving IsSet as BinaryOp-set
+
+-- Expressions. `has_path` asks for two or more attributes, one after the other.
+mutual
+  pub data Tree : Type 0 where
+    lit : Literal → Tree
+    var : Var → Tree
+    slot : SlotId → Tree
+    unknown : Text → Option CoreType → Tree
+    choice : Tree → Tree → Tree → Tree
+    both : Tree → Tree → Tree
+    either : Tree → Tree → Tree
+    unary : UnaryOp → Tree → Tree
+    binary : BinaryOp → Tree → Tree → Tree
+    call : Name → Trees → Tree
+    get_attr : Tree → Text → Tree
+    has_attr : Tree → Text → Tree
+    has_path : Tree → Text → List Text → Tree
+    like : Tree → Pattern → Tree
+    is_type : Tree → Name → Tree
+    set_literal : Trees → Tree
+    record_literal : TreeFields → Tree
+
+  pub data Trees : Type 0 where
+    no_trees : Trees
+    tree : Tree → Trees → Trees
+
+  pub data TreeFields : Type 0 where
+    no_tree_fields : TreeFields
+    tree_field : Text → Tree → TreeFields → TreeFields
+
+-- The nesting: 1 for a leaf, and for a node 1 more than its deepest child.
+abbrev mutual
+  pub nesting : Tree → ℕ
+  nesting (lit p) = 1
+  nesting (var x) = 1
+  nesting (slot s) = 1
+  nesting (unknown n a) = 1
+  nesting (choice t a b) = suc (max (nesting t) (max (nesting a) (nesting b)))
+  nesting (both a b) = suc (max (nesting a) (nesting b))
+  nesting (either a b) = suc (max (nesting a) (nesting b))
+  nesting (unary o a) = suc (nesting a)
+  nesting (binary o a b) = suc (max (nesting a) (nesting b))
+  nesting (call f ts) = suc (nestings ts)
+  nesting (get_attr a n) = suc (nesting a)
+  nesting (has_attr a n) = suc (nesting a)
+  nesting (has_path a n ns) = suc (nesting a)
+  nesting (like a p) = suc (nesting a)
+  nesting (is_type a n) = suc (nesting a)
+  nesting (set_literal ts) = suc (nestings ts)
+  nesting (record_literal fs) = suc (field_nestings fs)
+
+  pub nestings : Trees → ℕ
+  nestings no_trees = 0
+  nestings (tree t ts) = max (nesting t) (nestings ts)
+
+  pub field_nestings : TreeFields → ℕ
+  field_nestings no_tree_fields = 0
+  field_nestings (tree_field a t fs) = max (nesting t) (field_nestings fs)

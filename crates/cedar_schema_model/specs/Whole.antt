@@ -1,0 +1,3 @@
+-- The definitions for every kind of declaration and type. They take the place of those beside this folder once the code stands on them.
+pub mod Types
+pub mod Schema

@@ -1,0 +1,7 @@
+-- The definitions for every kind of expression. They take the place of those beside this folder once the code stands on them.
+pub mod Outcome
+pub mod World
+pub mod Operators
+pub mod Reads
+pub mod Meaning
+pub mod Looks

@@ -1,0 +1,48 @@
+-- Worlds: what is known of a request, of slots and unknowns, and of a store.
+-- Rule: the meaning; the store (docs/RULES.md).
+use Rattle.std.specs.Prelude.{List, [], ◌∷◌, Option, Some, None, if◌then◌else◌}
+use Rattle.std.specs.Str.{bytes_eq}
+use Rattle.cedar_expr_model.specs.Name.{Text}
+use Rattle.cedar_expr_model.specs.Uid.{Uid}
+use Rattle.cedar_expr_model.specs.Whole.Value.{V, Fields}
+use Rattle.cedar_expr_model.specs.Whole.Tree.{Tree, SlotId, Var, principal, action, resource, context}
+use Rattle.cedar_expr_model.specs.Whole.Table.{Table}
+
+-- what an attribute or a tag holds: a value, or an expression that isn't one yet
+pub data Part (A : Type 0) : Type 0 where
+  known : A → Part A
+  left : Tree → Part A
+
+-- An entity: attributes and tags by name, and the recorded ancestors.
+pub record Entity (A : Type 0) : Type 0 where
+  pub attributes : List (Text × Part A)
+  pub tags : List (Text × Part A)
+  pub ancestors : List Uid
+
+-- What a store answers for a uid: the entity, that there is none, or that this isn't known.
+pub data Found (A : Type 0) : Type 0 where
+  held : Entity A → Found A
+  missing : Found A
+  not_loaded : Found A
+
+abbrev pub part_named : {A : Type 0} → Text → List (Text × Part A) → Option (Part A)
+part_named a [] = None
+part_named a (p ∷ ps) = if bytes_eq a p.0 then Some p.1 else part_named a ps
+
+-- A request: three uids and the fields of the context.
+pub record Request : Type 0 where
+  pub principal : Uid
+  pub action : Uid
+  pub resource : Uid
+  pub context : Fields
+
+-- A world. What is open, or not known yet, is none.
+pub record World : Type 0 where
+  pub principal : Option Uid
+  pub action : Option Uid
+  pub resource : Option Uid
+  pub context : Option V
+  pub slots : SlotId → Option Uid
+  pub unknowns : Text → Option V
+  pub table : Table
+  pub store : Uid → Found V
