@@ -1,0 +1,3 @@
+pub mod Scope
+pub mod Steps
+pub mod Evaluation

@@ -1,0 +1,2 @@
+//! Definitions of partial evaluation and of partial responses.
+#![tactic(auto)]
