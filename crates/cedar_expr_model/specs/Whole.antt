@@ -10,3 +10,4 @@ pub mod Substitution
 pub mod Restricted
 pub mod Table
 pub mod Evident
+pub mod Laws
