@@ -10,4 +10,8 @@ pub mod Substitution
 pub mod Restricted
 pub mod Table
 pub mod Evident
+pub mod Parts
+pub mod Unknowns
+pub mod BuilderForm
+pub mod Calls
 pub mod Laws
