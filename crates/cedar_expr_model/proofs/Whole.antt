@@ -6,3 +6,5 @@ pub mod Sameness
 pub mod Patterns
 pub mod CoreTypes
 pub mod WellFormed
+pub mod Building
+pub mod Substituting

@@ -15,3 +15,4 @@ pub mod Unknowns
 pub mod BuilderForm
 pub mod Calls
 pub mod Laws
+pub mod TreeLaws

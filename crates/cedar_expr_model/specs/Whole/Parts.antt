@@ -88,6 +88,10 @@ abbrev pub is_ref : Tree → Bool
 is_ref (lit (entity u)) = true
 is_ref t = false
 
+abbrev pub is_unknown : Tree → Bool
+is_unknown (unknown n a) = true
+is_unknown t = false
+
 abbrev pub is_slot : Tree → Bool
 is_slot (slot s) = true
 is_slot t = false
