@@ -11,3 +11,9 @@ pub mod Restricted
 pub mod Table
 pub mod Evident
 pub mod Equality
+pub mod Parts
+pub mod Unknowns
+pub mod BuilderForm
+pub mod Calls
+pub mod Laws
+pub mod TreeLaws

@@ -19,6 +19,11 @@ abbrev pub is_before : Text → Fields → Bool
 is_before a no_fields = true
 is_before a (field b w gs) = is_lt (text_cmp a b)
 
+-- each stands before the next, so none stands twice
+abbrev pub are_rising : Vs → Bool
+are_rising no_values = true
+are_rising (value v vs) = is_below v vs && are_rising vs
+
 abbrev mutual
   pub is_canonical : V → Bool
   is_canonical (prim p) = true
