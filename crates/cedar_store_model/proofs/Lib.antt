@@ -4,3 +4,4 @@ pub mod Answers
 pub mod Conditions
 pub mod Reports
 pub mod Store
+pub mod Whole

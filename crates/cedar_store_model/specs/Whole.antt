@@ -5,3 +5,5 @@ pub mod Operators
 pub mod Reads
 pub mod Meaning
 pub mod Looks
+pub mod Knowledge
+pub mod Laws

@@ -1,14 +1,14 @@
 -- Which uids an expression looks up in a world: the left side of `in`, and the entity that an attribute or a tag is asked of.
 -- Rule: the meaning (docs/RULES.md).
-use Rattle.std.specs.Prelude.{◌≡◌, List, [], ◌∷◌, Bool, true, false, Option, Some, None}
+use Rattle.std.specs.Prelude.{◌≡◌, ◌||◌, List, [], ◌∷◌, Bool, true, false, Some}
 use Rattle.std.proofs.Common.{◌⊎◌}
 use Rattle.cedar_expr_model.specs.Name.{Text}
 use Rattle.cedar_expr_model.specs.Uid.{Uid}
-use Rattle.cedar_expr_model.specs.Whole.Value.{Literal, truth, long, text, entity, V, prim, set_of, record_of, extension, truth_value}
-use Rattle.cedar_expr_model.specs.Whole.Tree.{BinaryOp, equal, less, less_or_equal, plus, difference, times, is_in, contains, contains_all, contains_any, get_tag, has_tag, Tree, lit, var, slot, unknown, choice, both, either, unary, binary, call, get_attr, has_attr, has_path, like, is_type, set_literal, record_literal, Trees, no_trees, tree, TreeFields, no_tree_fields, tree_field}
-use Rattle.cedar_store_model.specs.Whole.Outcome.{Res, val, err}
-use Rattle.cedar_store_model.specs.Whole.World.{World}
-use Rattle.cedar_store_model.specs.Whole.Reads.{Step, goes_on, ends, step_from}
+use Rattle.cedar_expr_model.specs.Whole.Value.{text, entity, V, prim, truth_value}
+use Rattle.cedar_expr_model.specs.Whole.Tree.{BinaryOp, is_in, get_tag, has_tag, Tree, lit, var, slot, unknown, choice, both, either, unary, binary, call, get_attr, has_attr, has_path, like, is_type, set_literal, record_literal, Trees, no_trees, tree, TreeFields, no_tree_fields, tree_field}
+use Rattle.cedar_store_model.specs.Whole.Outcome.{Res, val}
+use Rattle.cedar_store_model.specs.Whole.World.{World, Found}
+use Rattle.cedar_store_model.specs.Whole.Reads.{goes_on, step_from}
 use Rattle.cedar_store_model.specs.Whole.Meaning.{Means}
 
 -- the value is the uid
@@ -63,3 +63,43 @@ abbrev mutual
   pub AnyFieldLooks : World → TreeFields → Uid → Type 0
   AnyFieldLooks w no_tree_fields u = ⊥
   AnyFieldLooks w (tree_field a t fs) u = Looks w t u ⊎ WithValue (Means w t) (λ v. AnyFieldLooks w fs u)
+
+-- whether the operator looks up its left operand
+abbrev pub looks_up : BinaryOp → Bool
+looks_up is_in = true
+looks_up get_tag = true
+looks_up has_tag = true
+looks_up o = false
+
+-- whether the expression has a part that looks something up
+abbrev mutual
+  pub has_dereference : Tree → Bool
+  has_dereference (lit p) = false
+  has_dereference (var x) = false
+  has_dereference (slot s) = false
+  has_dereference (unknown n a) = false
+  has_dereference (choice t a b) = has_dereference t || (has_dereference a || has_dereference b)
+  has_dereference (both a b) = has_dereference a || has_dereference b
+  has_dereference (either a b) = has_dereference a || has_dereference b
+  has_dereference (unary o a) = has_dereference a
+  has_dereference (binary o a b) = looks_up o || (has_dereference a || has_dereference b)
+  has_dereference (call f ts) = have_dereference ts
+  has_dereference (get_attr t a) = true
+  has_dereference (has_attr t a) = true
+  has_dereference (has_path t a bs) = true
+  has_dereference (like t p) = has_dereference t
+  has_dereference (is_type t n) = has_dereference t
+  has_dereference (set_literal ts) = have_dereference ts
+  has_dereference (record_literal fs) = fields_have_dereference fs
+
+  pub have_dereference : Trees → Bool
+  have_dereference no_trees = false
+  have_dereference (tree t ts) = has_dereference t || have_dereference ts
+
+  pub fields_have_dereference : TreeFields → Bool
+  fields_have_dereference no_tree_fields = false
+  fields_have_dereference (tree_field a t fs) = has_dereference t || fields_have_dereference fs
+
+-- the world with another store
+abbrev pub with_store : World → (Uid → Found V) → World
+with_store w store = record w { store = store }

@@ -2,15 +2,14 @@
 -- taken in order, the fields of a record in the order of their names, and the first error is the outcome. Where the meaning needs
 -- something that isn't known there is no outcome.
 -- Rule: the meaning (docs/RULES.md).
-use Rattle.std.specs.Prelude.{◌≡◌, List, [], ◌∷◌, Bool, true, false, Option, Some, None, ◌+ℤ◌, ◌-ℤ◌, ◌*ℤ◌}
+use Rattle.std.specs.Prelude.{List, [], ◌∷◌, true, false, Option, Some, None, ◌+ℤ◌, ◌-ℤ◌, ◌*ℤ◌}
 use Rattle.std.specs.Ordering.{is_lt, is_le}
-use Rattle.cedar_expr_model.specs.Name.{Text, Name}
 use Rattle.cedar_expr_model.specs.Uid.{Uid}
-use Rattle.cedar_expr_model.specs.Whole.Value.{Literal, truth, long, text, entity, V, prim, set_of, record_of, extension, Fields, no_fields, field, truth_value}
+use Rattle.cedar_expr_model.specs.Whole.Value.{truth, entity, V, prim, record_of, Fields, no_fields, field, truth_value}
 use Rattle.cedar_expr_model.specs.Whole.Order.{value_eq}
 use Rattle.cedar_expr_model.specs.Whole.Canonical.{set_made}
 use Rattle.cedar_expr_model.specs.Whole.Tree.{Var, principal, action, resource, context, BinaryOp, equal, less, less_or_equal, plus, difference, times, is_in, contains, contains_all, contains_any, get_tag, has_tag, Tree, lit, var, slot, unknown, choice, both, either, unary, binary, call, get_attr, has_attr, has_path, like, is_type, set_literal, record_literal, Trees, no_trees, tree, TreeFields, no_tree_fields, tree_field}
-use Rattle.cedar_store_model.specs.Whole.Outcome.{Res, val, err, wrong_type, unlinked_slot, Then, Is, Gives, and_then, bind}
+use Rattle.cedar_store_model.specs.Whole.Outcome.{Res, val, err, wrong_type, unlinked_slot, Then, Is, Gives, bind}
 use Rattle.cedar_store_model.specs.Whole.World.{World}
 use Rattle.cedar_store_model.specs.Whole.Operators.{says, applied, ordered, calculated, of_sets, all_members, any_member, among_members, like_pattern, of_type, called, bound_value}
 use Rattle.cedar_store_model.specs.Whole.Reads.{attribute_read, attribute_tested, path_tested, tag_read, tag_tested, within}

@@ -1,14 +1,14 @@
 -- Operators at the values of their operands. Where no clause says otherwise the operands have a wrong type.
 -- Rule: the meaning (docs/RULES.md).
-use Rattle.std.specs.Prelude.{◌&&◌, ◌||◌, ◌==◌, ℕ, ℤ, pos, neg_ℤ, ◌+ℤ◌, ◌-ℤ◌, ◌*ℤ◌, int_le, List, [], ◌∷◌, length, Bool, true, false, not, Option, Some, None, if◌then◌else◌}
-use Rattle.std.specs.Ordering.{int_cmp, is_lt, is_le}
+use Rattle.std.specs.Prelude.{◌&&◌, ◌||◌, ℤ, pos, neg_ℤ, int_le, List, length, Bool, true, false, not, Option, Some, None, if◌then◌else◌}
+use Rattle.std.specs.Ordering.{int_cmp}
 use Rattle.std.specs.declared.cmp.Ordering.{Ordering}
 use Rattle.cedar_expr_model.specs.Name.{Text, Name, name_eq}
-use Rattle.cedar_expr_model.specs.Whole.Value.{Literal, truth, long, text, entity, V, prim, set_of, record_of, extension, Vs, no_values, value, truth_value}
-use Rattle.cedar_expr_model.specs.Whole.Order.{text_cmp, value_eq}
+use Rattle.cedar_expr_model.specs.Whole.Value.{truth, long, text, entity, V, prim, set_of, extension, Vs, no_values, value, truth_value}
+use Rattle.cedar_expr_model.specs.Whole.Order.{text_cmp}
 use Rattle.cedar_expr_model.specs.Whole.Canonical.{is_member}
 use Rattle.cedar_expr_model.specs.Whole.Pattern.{Pattern, matches_text}
-use Rattle.cedar_expr_model.specs.Whole.Tree.{UnaryOp, negation, minus, is_empty, BinaryOp, equal, less, less_or_equal, plus, difference, times, is_in, contains, contains_all, contains_any, get_tag, has_tag}
+use Rattle.cedar_expr_model.specs.Whole.Tree.{UnaryOp, negation, minus, is_empty}
 use Rattle.cedar_expr_model.specs.Whole.Table.{Table, Signature, signature_of, is_ordered, takes_count, are_of_types, Called, gives, fails, leaves}
 use Rattle.cedar_store_model.specs.Whole.Outcome.{Res, val, err, wrong_type, overflow, extension_failed, no_function, wrong_count}
 

@@ -1,12 +1,12 @@
 -- What is read of a store at the values of the operands: attributes, tags and ancestors. Where what is known gives no answer
 -- there is none.
 -- Rule: the meaning; the store (docs/RULES.md).
-use Rattle.std.specs.Prelude.{◌&&◌, ◌||◌, List, [], ◌∷◌, Bool, true, false, Option, Some, None, option_map}
+use Rattle.std.specs.Prelude.{◌||◌, List, [], ◌∷◌, Bool, true, false, Option, Some, None, option_map}
 use Rattle.std.specs.List.{list_any}
 use Rattle.cedar_expr_model.specs.Name.{Text}
 use Rattle.cedar_expr_model.specs.Uid.{Uid, uid_eq}
-use Rattle.cedar_expr_model.specs.Whole.Value.{Literal, truth, long, text, entity, V, prim, set_of, record_of, extension, Vs, no_values, value, Fields, field_of, truth_value}
-use Rattle.cedar_store_model.specs.Whole.Outcome.{Res, val, err, missing_entity, missing_attribute_or_tag, missing_field, wrong_type, and_then}
+use Rattle.cedar_expr_model.specs.Whole.Value.{text, entity, V, prim, set_of, record_of, Vs, no_values, value, field_of}
+use Rattle.cedar_store_model.specs.Whole.Outcome.{Res, val, err, missing_entity, missing_attribute_or_tag, missing_field, wrong_type}
 use Rattle.cedar_store_model.specs.Whole.World.{World, Part, known, left, Entity, Found, held, missing, not_loaded, part_named}
 use Rattle.cedar_store_model.specs.Whole.Operators.{says}
 

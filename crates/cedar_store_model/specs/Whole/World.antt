@@ -5,7 +5,7 @@ use Rattle.std.specs.Str.{bytes_eq}
 use Rattle.cedar_expr_model.specs.Name.{Text}
 use Rattle.cedar_expr_model.specs.Uid.{Uid}
 use Rattle.cedar_expr_model.specs.Whole.Value.{V, Fields}
-use Rattle.cedar_expr_model.specs.Whole.Tree.{Tree, SlotId, Var, principal, action, resource, context}
+use Rattle.cedar_expr_model.specs.Whole.Tree.{Tree, SlotId}
 use Rattle.cedar_expr_model.specs.Whole.Table.{Table}
 
 -- what an attribute or a tag holds: a value, or an expression that isn't one yet
