@@ -3,3 +3,8 @@ pub mod Types
 pub mod Schema
 pub mod Environment
 pub mod Provisional
+pub mod Subtype
+pub mod HasType
+pub mod Join
+pub mod Lookup
+pub mod TypeLaws

@@ -3,3 +3,4 @@
 
 pub mod laws;
 pub mod worked;
+pub mod whole_type_laws;

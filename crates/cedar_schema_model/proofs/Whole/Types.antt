@@ -1,0 +1,4 @@
+pub mod Lookups
+pub mod Names
+pub mod Subtypes
+pub mod Values
