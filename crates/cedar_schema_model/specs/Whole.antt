@@ -1,3 +1,10 @@
 -- The definitions for every kind of declaration and type. They take the place of those beside this folder once the code stands on them.
 pub mod Types
 pub mod Schema
+pub mod Descent
+pub mod ActionEntities
+pub mod Admission
+pub mod Conforming
+pub mod Environment
+pub mod ConformingTests
+pub mod DeclLaws
