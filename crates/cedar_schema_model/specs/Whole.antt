@@ -8,3 +8,9 @@ pub mod HasType
 pub mod Join
 pub mod Lookup
 pub mod TypeLaws
+pub mod Descent
+pub mod ActionEntities
+pub mod Admission
+pub mod Conforming
+pub mod ConformingTests
+pub mod DeclLaws

@@ -1,0 +1,3 @@
+pub mod Descent
+pub mod Admission
+pub mod Conforming
