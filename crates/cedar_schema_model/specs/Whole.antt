@@ -2,7 +2,6 @@
 pub mod Types
 pub mod Schema
 pub mod Environment
-pub mod Provisional
 pub mod Subtype
 pub mod HasType
 pub mod Join

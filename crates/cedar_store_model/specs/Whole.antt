@@ -7,3 +7,5 @@ pub mod Meaning
 pub mod Looks
 pub mod Knowledge
 pub mod Laws
+pub mod Policy
+pub mod Answer

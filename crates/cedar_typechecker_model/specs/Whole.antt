@@ -3,3 +3,5 @@ pub mod Facts
 pub mod Rules
 pub mod Typing
 pub mod Levels
+pub mod ScopeRules
+pub mod Verdicts

@@ -10,7 +10,10 @@ use Rattle.cedar_expr_model.specs.Whole.Table.{Table, Signature, signature_of, i
 use Rattle.cedar_schema_model.specs.Whole.Types.{BoolType, any_bool, only_true, only_false, Openness, is_open, is_closed, Ty, never, bool_type, long_type, string_type, any_entity, entity_types, any_set, set_type, record_type, extension_type, entity_type, Attributes, Declared, attribute_named, Mode, strict, permissive}
 use Rattle.cedar_schema_model.specs.Whole.Schema.{Schema, EntityType, EntityKind, standard, enumerated, external, type_named, declares_type, declares_action}
 use Rattle.cedar_schema_model.specs.Whole.Environment.{Environment}
-use Rattle.cedar_schema_model.specs.Whole.Provisional.{join, is_subtype, are_disjoint, reduce_to_join, lookup_attribute, may_have_attribute, type_descends, action_descends}
+use Rattle.cedar_schema_model.specs.Whole.Subtype.{is_subtype}
+use Rattle.cedar_schema_model.specs.Whole.Join.{join, are_disjoint, reduce_to_join}
+use Rattle.cedar_schema_model.specs.Whole.Lookup.{lookup_attribute, may_have_attribute}
+use Rattle.cedar_schema_model.specs.Whole.Descent.{type_descends, action_descends}
 use Rattle.cedar_typechecker_model.specs.Whole.Facts.{Facts, Part, attribute_part, tag_part}
 
 -- what an expression is typed in
