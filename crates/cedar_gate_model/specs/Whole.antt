@@ -3,3 +3,4 @@ pub mod Slice
 pub mod Moment
 pub mod Transcript
 pub mod Owed
+pub mod Acceptance
