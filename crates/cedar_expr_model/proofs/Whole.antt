@@ -8,3 +8,7 @@ pub mod CoreTypes
 pub mod WellFormed
 pub mod Building
 pub mod Substituting
+pub mod Agreeing
+pub mod Mismatching
+pub mod Restricting
+pub mod Gathering

@@ -2,6 +2,9 @@
 
 ghost use Rattle.cedar_expr_model.specs.Whole.Order.{text_cmp, name_order, uid_order, literal_cmp, value_cmp};
 ghost use Rattle.cedar_expr_model.specs.Whole.Laws.{IsLinear, NamesByText, UidsByText, ValuesDecide, CanonicalSame, SetsAreCanonical, SetsRise, MembersAreListed, MembersDecide, SetsAreSame, SetsAreMade, FieldsAreFound, PatternsDecide, CoreTypesDecide, AnnotationsDecide};
+ghost use Rattle.cedar_expr_model.specs.Whole.Builder.{tree_builder};
+ghost use Rattle.cedar_expr_model.specs.Whole.BuilderForm.{IsLawful};
+ghost use Rattle.cedar_expr_model.specs.Whole.TreeLaws.{BuiltIsBuilt, SubstitutedIsBuilt, BuiltStays, BuiltTwice, UnboundStays, BoundLeavesNone, BuildersAgree, WrittenIsRestricted, WrittenHasNoUnknown, WrittenIsBuilt, MismatchDecides, MismatchIsFirst, UnknownsAreListed, UnknownIsPart, ProjectableByParts, RestrictedDecides, WrittenShowsType};
 
 /// Texts, names, uids, literals and values are totally ordered, and the order finds no difference exactly between equal ones.
 pub fn orders_tell_apart()
@@ -44,4 +47,50 @@ pub fn patterns_decide()
 pub fn core_types_decide()
     ensures types { CoreTypesDecide }
     ensures annotations { AnnotationsDecide }
+{}
+
+/// What the builder of trees makes has the builder's form, and what has the form it makes as it is; so making twice is making once.
+pub fn built_trees_stay()
+    ensures lawful { IsLawful tree_builder }
+    ensures form { BuiltIsBuilt }
+    ensures stays { BuiltStays }
+    ensures twice { BuiltTwice }
+{}
+
+/// Where no unknown is bound, substitution only makes the expression; where each is bound, none is left.
+pub fn substitution_binds()
+    ensures form { SubstitutedIsBuilt }
+    ensures unbound { UnboundStays }
+    ensures bound { BoundLeavesNone }
+{}
+
+/// To substitute and then to build through a lawful builder is to build with each bound unknown made of its value.
+pub fn lawful_builders_agree<B>()
+    ensures { BuildersAgree B }
+{}
+
+/// There is no mismatch exactly where all bindings fit, and a mismatch is that of the first unknown that has one.
+pub fn mismatches_decide()
+    ensures decides { MismatchDecides }
+    ensures first { MismatchIsFirst }
+{}
+
+/// Unknowns and projectable expressions are told by the subexpressions.
+pub fn parts_are_subexpressions()
+    ensures unknown { UnknownIsPart }
+    ensures listed { UnknownsAreListed }
+    ensures projectable { ProjectableByParts }
+{}
+
+/// The test of restricted expressions is true exactly where there is no offence.
+pub fn restricted_decide()
+    ensures { RestrictedDecides }
+{}
+
+/// A written value is restricted, has no unknown, has the builder's form, and shows its type.
+pub fn written_values_are_plain()
+    ensures restricted { WrittenIsRestricted }
+    ensures known { WrittenHasNoUnknown }
+    ensures form { WrittenIsBuilt }
+    ensures shown { WrittenShowsType }
 {}

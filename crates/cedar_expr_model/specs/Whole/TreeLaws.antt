@@ -39,8 +39,8 @@ abbrev pub BoundLeavesNone : Type 0
 BoundLeavesNone = (env : Bindings) (t : Tree) → AllBound env t → has_unknown (substituted env t) ≡ false
 
 -- To substitute and then to build, through a lawful builder, is to build with each bound unknown made of its value.
-abbrev pub BuildersAgree : Type 1
-BuildersAgree = (B : Type 0) (b : Builder B) → IsLawful b → (env : Bindings) (t : Tree) → built b (substituted env t) ≡ built_under b env t
+abbrev pub BuildersAgree : Type 0 → Type 0
+BuildersAgree B = (b : Builder B) → IsLawful b → (env : Bindings) (t : Tree) → built b (substituted env t) ≡ built_under b env t
 
 -- a written value is restricted, has no unknown and is in the builder's form
 abbrev pub WrittenIsRestricted : Type 0
@@ -66,8 +66,8 @@ abbrev pub MismatchIsFirst : Type 0
 MismatchIsFirst = (env : Bindings) (t : Tree) → mismatch env t ≡ first_found (λ (u : Unknown). mismatch_at u.name u.annotation (env u.name)) (unknowns t)
 
 -- what holds of each unknown holds of each in the list of them
-abbrev pub UnknownsAreListed : Type 1
-UnknownsAreListed = (P : Unknown → Type 0) (t : Tree) → EachUnknown (λ n a. P (record { name = n; annotation = a })) t ↔ ((u : Unknown) → Contains (unknowns t) u → P u)
+abbrev pub UnknownsAreListed : Type 0
+UnknownsAreListed = (p : Unknown → Bool) (t : Tree) → EachUnknown (λ n a. p (record { name = n; annotation = a }) ≡ true) t ↔ (list_all p (unknowns t) ≡ true)
 
 -- the tests of unknowns and of projectable expressions are those of each subexpression
 abbrev pub UnknownIsPart : Type 0
