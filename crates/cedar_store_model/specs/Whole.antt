@@ -7,3 +7,8 @@ pub mod Meaning
 pub mod Looks
 pub mod Knowledge
 pub mod Laws
+pub mod Policy
+pub mod PolicySet
+pub mod Answer
+pub mod AnswerLaws
+pub mod Matching

@@ -1,0 +1,151 @@
+-- Policies, templates, and their condition.
+-- Rule: conditions; policies and templates (docs/RULES.md).
+use Rattle.std.specs.Prelude.{◌||◌, List, [], ◌∷◌, Bool, true, false, Option, Some, None}
+use Rattle.cedar_expr_model.specs.Name.{Text, Name}
+use Rattle.cedar_expr_model.specs.Uid.{Uid}
+use Rattle.cedar_expr_model.specs.Whole.Value.{truth, entity}
+use Rattle.cedar_expr_model.specs.Whole.Tree.{Var, principal, action, resource, SlotId, principal_slot, resource_slot, equal, is_in, Tree, lit, var, slot, unknown, choice, both, either, unary, binary, call, get_attr, has_attr, has_path, like, is_type, set_literal, record_literal, Trees, no_trees, tree, TreeFields, no_tree_fields, tree_field}
+use Rattle.cedar_expr_model.specs.Whole.Builder.{conjunction}
+
+pub data Effect : Type 0 where
+  permit : Effect
+  forbid : Effect
+  deriving IsSet as Effect-set
+
+-- what a part of a scope names: a uid, or the slot of its variable
+pub data Target : Type 0 where
+  named : Uid → Target
+  own_slot : Target
+
+-- The principal or resource part of a scope: any entity, the target, what is in the target, what has the type, or what has
+-- the type and is in the target.
+pub data Scope : Type 0 where
+  any : Scope
+  exactly : Target → Scope
+  inside : Target → Scope
+  of_kind : Name → Scope
+  of_kind_inside : Name → Target → Scope
+
+-- The action part: any action, the action, or what is in one of the actions.
+pub data ActionScope : Type 0 where
+  any_action : ActionScope
+  exactly_action : Uid → ActionScope
+  inside_actions : List Uid → ActionScope
+
+-- what the slots are bound to
+pub record SlotBindings : Type 0 where
+  pub principal : Option Uid
+  pub resource : Option Uid
+
+-- A policy. A template is a policy that has slots and binds none.
+pub record Policy : Type 0 where
+  pub id : Text
+  pub effect : Effect
+  pub annotations : List (Text × Text)
+  pub principal : Scope
+  pub action : ActionScope
+  pub resource : Scope
+  pub body : Option Tree
+  pub bindings : SlotBindings
+
+abbrev pub binding_of : SlotBindings → SlotId → Option Uid
+binding_of b principal_slot = b.principal
+binding_of b resource_slot = b.resource
+
+abbrev pub no_bindings : SlotBindings
+no_bindings = record { principal = None; resource = None }
+
+-- a target as an expression
+abbrev pub target_tree : SlotId → Target → Tree
+target_tree s (named u) = lit (entity u)
+target_tree s own_slot = slot s
+
+-- what a part of a scope asks of its variable, whose slot this is
+abbrev pub scope_tree : Var → SlotId → Scope → Tree
+scope_tree x s any = lit (truth true)
+scope_tree x s (exactly t) = binary equal (var x) (target_tree s t)
+scope_tree x s (inside t) = binary is_in (var x) (target_tree s t)
+scope_tree x s (of_kind n) = is_type (var x) n
+scope_tree x s (of_kind_inside n t) = conjunction (is_type (var x) n) (binary is_in (var x) (target_tree s t))
+
+abbrev pub uid_trees : List Uid → Trees
+uid_trees [] = no_trees
+uid_trees (u ∷ us) = tree (lit (entity u)) (uid_trees us)
+
+-- what the action part asks; of several actions it asks for their set
+abbrev pub action_tree : ActionScope → Tree
+action_tree any_action = lit (truth true)
+action_tree (exactly_action u) = binary equal (var action) (lit (entity u))
+action_tree (inside_actions us) = binary is_in (var action) (set_literal (uid_trees us))
+
+-- a policy without a body has the body `true`
+abbrev pub body_tree : Option Tree → Tree
+body_tree None = lit (truth true)
+body_tree (Some t) = t
+
+abbrev pub principal_tree : Policy → Tree
+principal_tree p = scope_tree principal principal_slot p.principal
+
+abbrev pub resource_tree : Policy → Tree
+resource_tree p = scope_tree resource resource_slot p.resource
+
+-- The condition: principal, action and resource part, then the body, joined from the right.
+abbrev pub condition : Policy → Tree
+condition p = conjunction (principal_tree p) (conjunction (action_tree p.action) (conjunction (resource_tree p) (body_tree p.body)))
+
+-- the same slots
+abbrev pub slot_eq : SlotId → SlotId → Bool
+slot_eq principal_slot principal_slot = true
+slot_eq resource_slot resource_slot = true
+slot_eq s t = false
+
+-- the target is the slot
+abbrev pub is_own_slot : Target → Bool
+is_own_slot (named u) = false
+is_own_slot own_slot = true
+
+-- the part of the scope has its slot
+abbrev pub scope_has_slot : Scope → Bool
+scope_has_slot any = false
+scope_has_slot (exactly t) = is_own_slot t
+scope_has_slot (inside t) = is_own_slot t
+scope_has_slot (of_kind n) = false
+scope_has_slot (of_kind_inside n t) = is_own_slot t
+
+-- the slots that the scope of a policy has
+abbrev pub scope_uses : Policy → SlotId → Bool
+scope_uses p principal_slot = scope_has_slot p.principal
+scope_uses p resource_slot = scope_has_slot p.resource
+
+-- the slots that an expression has
+abbrev mutual
+  pub tree_uses : Tree → SlotId → Bool
+  tree_uses (lit p) s = false
+  tree_uses (var x) s = false
+  tree_uses (slot r) s = slot_eq r s
+  tree_uses (unknown n a) s = false
+  tree_uses (choice t a b) s = tree_uses t s || (tree_uses a s || tree_uses b s)
+  tree_uses (both a b) s = tree_uses a s || tree_uses b s
+  tree_uses (either a b) s = tree_uses a s || tree_uses b s
+  tree_uses (unary o a) s = tree_uses a s
+  tree_uses (binary o a b) s = tree_uses a s || tree_uses b s
+  tree_uses (call f ts) s = trees_use ts s
+  tree_uses (get_attr t a) s = tree_uses t s
+  tree_uses (has_attr t a) s = tree_uses t s
+  tree_uses (has_path t a bs) s = tree_uses t s
+  tree_uses (like t p) s = tree_uses t s
+  tree_uses (is_type t n) s = tree_uses t s
+  tree_uses (set_literal ts) s = trees_use ts s
+  tree_uses (record_literal fs) s = fields_use fs s
+
+  pub trees_use : Trees → SlotId → Bool
+  trees_use no_trees s = false
+  trees_use (tree t ts) s = tree_uses t s || trees_use ts s
+
+  pub fields_use : TreeFields → SlotId → Bool
+  fields_use no_tree_fields s = false
+  fields_use (tree_field a t fs) s = tree_uses t s || fields_use fs s
+
+-- the slots of a policy: those of its scope and those of its body
+abbrev pub has_slot : Policy → SlotId → Bool
+has_slot p s = scope_uses p s || tree_uses (body_tree p.body) s
