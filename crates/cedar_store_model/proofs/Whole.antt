@@ -5,3 +5,8 @@ pub mod Known
 pub mod Lookups
 pub mod Slices
 pub mod Built
+pub mod Conditions
+pub mod Answers
+pub mod Reports
+pub mod Matching
+pub mod Sets

@@ -8,4 +8,7 @@ pub mod Looks
 pub mod Knowledge
 pub mod Laws
 pub mod Policy
+pub mod PolicySet
 pub mod Answer
+pub mod AnswerLaws
+pub mod Matching
