@@ -1,3 +1,5 @@
 pub mod Descent
 pub mod Admission
 pub mod Conforming
+pub mod Direct
+pub mod Environments
