@@ -8,3 +8,8 @@ pub mod Conforming
 pub mod Environment
 pub mod ConformingTests
 pub mod DeclLaws
+pub mod Reference
+pub mod Declarations
+pub mod WellFormed
+pub mod Resolved
+pub mod BagLaws

@@ -3,3 +3,4 @@ pub mod Admission
 pub mod Conforming
 pub mod Direct
 pub mod Environments
+pub mod Faults
