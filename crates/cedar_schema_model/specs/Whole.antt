@@ -13,3 +13,8 @@ pub mod Admission
 pub mod Conforming
 pub mod ConformingTests
 pub mod DeclLaws
+pub mod Reference
+pub mod Declarations
+pub mod WellFormed
+pub mod Resolved
+pub mod BagLaws

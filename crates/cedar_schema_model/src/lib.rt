@@ -2,5 +2,6 @@
 #![tactic(auto)]
 
 pub mod laws;
+pub mod whole_decl_laws;
 pub mod worked;
 pub mod whole_type_laws;

@@ -33,11 +33,11 @@ no_member-Decides (of_kind external) id = nowise
 no_member-Decides among_actions id = nowise
 no_member-Decides nowhere id = nowise
 
-is_none-Decides : {A : Type 0} (o : Option A) → Decides (not (is_some o)) (o ≡ None)
+pub is_none-Decides : {A : Type 0} (o : Option A) → Decides (not (is_some o)) (o ≡ None)
 is_none-Decides None = (λ h. refl, λ h. refl)
 is_none-Decides (Some a) = (λ h. cc, λ h. cc)
 
-is_true-Decides : (b : Bool) → Decides b (b ≡ true)
+pub is_true-Decides : (b : Bool) → Decides b (b ≡ true)
 is_true-Decides b = (λ h. h, λ h. h)
 
 lacks-Decides : (as_ : Attributes) (ps : List (Text × Part V)) → Decides (lacks as_ ps) (Lacks as_ ps)

@@ -84,7 +84,7 @@ reaches_sound step test each (v ∷ vs) x y h =
 abbrev pub Covers : {X : Type 0} → (X → X → Type 0) → List X → Type 0
 Covers {X} step vs = (x y : X) → step x y → Contains vs x
 
-chain_starts : {X : Type 0} (step : X → X → Type 0) (vs : List X) → Covers step vs → (x : X) (zs : List X) (y : X) → Chain step x zs y → Contains vs x
+pub chain_starts : {X : Type 0} (step : X → X → Type 0) (vs : List X) → Covers step vs → (x : X) (zs : List X) (y : X) → Chain step x zs y → Contains vs x
 chain_starts step vs all x [] y c = all x y c
 chain_starts step vs all x (z ∷ zs) y c = all x z c.0
 
