@@ -4,3 +4,5 @@ pub mod Moment
 pub mod Transcript
 pub mod Owed
 pub mod Acceptance
+pub mod Session
+pub mod Runs
