@@ -13,6 +13,10 @@ pub mod Evident
 pub mod Parts
 pub mod Unknowns
 pub mod BuilderForm
-pub mod Calls
+pub mod Repeats
+pub mod Records
+pub mod Names
+pub mod ValueParts
 pub mod Laws
 pub mod TreeLaws
+pub mod ListLaws
