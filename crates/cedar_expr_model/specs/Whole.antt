@@ -20,3 +20,4 @@ pub mod ValueParts
 pub mod Laws
 pub mod TreeLaws
 pub mod ListLaws
+pub mod Worked
