@@ -12,3 +12,6 @@ pub mod Agreeing
 pub mod Mismatching
 pub mod Restricting
 pub mod Gathering
+pub mod Repeating
+pub mod Ordering
+pub mod SideBySide

@@ -14,6 +14,11 @@ pub mod Equality
 pub mod Parts
 pub mod Unknowns
 pub mod BuilderForm
-pub mod Calls
+pub mod Repeats
+pub mod Records
+pub mod Names
+pub mod ValueParts
 pub mod Laws
 pub mod TreeLaws
+pub mod ListLaws
+pub mod Worked

@@ -5,6 +5,7 @@ ghost use Rattle.cedar_expr_model.specs.Whole.Laws.{IsLinear, NamesByText, UidsB
 ghost use Rattle.cedar_expr_model.specs.Whole.Builder.{tree_builder};
 ghost use Rattle.cedar_expr_model.specs.Whole.BuilderForm.{IsLawful};
 ghost use Rattle.cedar_expr_model.specs.Whole.TreeLaws.{BuiltIsBuilt, SubstitutedIsBuilt, BuiltStays, BuiltTwice, UnboundStays, BoundLeavesNone, BuildersAgree, WrittenIsRestricted, WrittenHasNoUnknown, WrittenIsBuilt, MismatchDecides, MismatchIsFirst, UnknownsAreListed, UnknownIsPart, ProjectableByParts, RestrictedDecides, WrittenShowsType};
+ghost use Rattle.cedar_expr_model.specs.Whole.ListLaws.{RepeatsDecide, RepeatIsFirst, TableFaultDecides, FunctionFault, ConstructorFault, InOrderRises, InOrderFinds, InOrderStays, RecordsAreCanonical, RecordsHaveLast, SubsetDecides, DisjointDecides, SplitGivesValues, NamespaceIsKept, QualifiedStays, QualifiedOnce};
 
 /// Texts, names, uids, literals and values are totally ordered, and the order finds no difference exactly between equal ones.
 pub fn orders_tell_apart()
@@ -93,4 +94,44 @@ pub fn written_values_are_plain()
     ensures known { WrittenHasNoUnknown }
     ensures form { WrittenIsBuilt }
     ensures shown { WrittenShowsType }
+{}
+
+/// Where a test decides equality, nothing is met again exactly where all are distinct, and what is found is what is met again first.
+pub fn repeats_decide<A>()
+    ensures none { RepeatsDecide A }
+    ensures first { RepeatIsFirst A }
+{}
+
+/// The fault of a table is a name that stands twice, and where there is none a type with two constructors.
+pub fn table_faults_decide()
+    ensures none { TableFaultDecides }
+    ensures function { FunctionFault }
+    ensures constructor { ConstructorFault }
+{}
+
+/// Pairs put in order rise by name and have of each name the last; pairs that rise stay.
+pub fn pairs_in_order<A>()
+    ensures rise { InOrderRises A }
+    ensures finds { InOrderFinds A }
+    ensures stays { InOrderStays A }
+{}
+
+/// The record of canonical values is canonical and has of each name the last value.
+pub fn records_are_made()
+    ensures canonical { RecordsAreCanonical }
+    ensures last { RecordsHaveLast }
+{}
+
+/// The tests of subsets and of disjoint sets decide; a list is split into values exactly where it is a list of values.
+pub fn side_by_side()
+    ensures subset { SubsetDecides }
+    ensures disjoint { DisjointDecides }
+    ensures split { SplitGivesValues }
+{}
+
+/// A name in a namespace has that namespace; a name that has one stays as it is.
+pub fn names_in_namespaces()
+    ensures kept { NamespaceIsKept }
+    ensures stays { QualifiedStays }
+    ensures once { QualifiedOnce }
 {}

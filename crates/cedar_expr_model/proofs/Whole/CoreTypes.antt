@@ -6,8 +6,7 @@ use Rattle.cedar_expr_model.specs.Whole.Tree.{CoreType, bool_core, long_core, st
 use Rattle.cedar_expr_model.specs.Whole.Substitution.{core_type_of, core_eq, fits_annotation}
 use Rattle.cedar_expr_model.specs.Whole.Made.{Made, made_prim, made_set, made_record, made_extension, bare, written}
 use Rattle.cedar_expr_model.specs.Whole.Table.{Table, signature_of}
-use Rattle.cedar_expr_model.specs.Whole.Evident.{evident_type, result_of}
-use Rattle.cedar_expr_model.specs.Whole.Calls.{HasResult}
+use Rattle.cedar_expr_model.specs.Whole.Evident.{evident_type, HasResult}
 use Rattle.cedar_expr_model.specs.Whole.Laws.{IsOfType}
 use Rattle.cedar_expr_model.proofs.Equality.{name_eq-Decides}
 

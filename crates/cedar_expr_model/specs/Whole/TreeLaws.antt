@@ -12,8 +12,7 @@ use Rattle.cedar_expr_model.specs.Whole.Unknowns.{has_unknown, EachUnknown, AllB
 use Rattle.cedar_expr_model.specs.Whole.Parts.{subexpressions, Unknown, unknowns, may_project, is_projectable, is_unknown}
 use Rattle.cedar_expr_model.specs.Whole.Restricted.{IsRestricted, offence, is_restricted}
 use Rattle.cedar_expr_model.specs.Whole.Table.{Table}
-use Rattle.cedar_expr_model.specs.Whole.Evident.{evident_type}
-use Rattle.cedar_expr_model.specs.Whole.Calls.{HasResult}
+use Rattle.cedar_expr_model.specs.Whole.Evident.{evident_type, HasResult}
 
 -- what the builder of trees makes is in the builder's form, and so is what substitution makes
 abbrev pub BuiltIsBuilt : Type 0
