@@ -10,3 +10,4 @@ pub mod Answers
 pub mod Reports
 pub mod Matching
 pub mod Sets
+pub mod Stores

@@ -12,3 +12,4 @@ pub mod PolicySet
 pub mod Answer
 pub mod AnswerLaws
 pub mod Matching
+pub mod Store
