@@ -11,3 +11,4 @@ pub mod Reports
 pub mod Matching
 pub mod Sets
 pub mod Stores
+pub mod Computed

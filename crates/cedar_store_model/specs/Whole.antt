@@ -13,3 +13,5 @@ pub mod Answer
 pub mod AnswerLaws
 pub mod Matching
 pub mod Store
+pub mod Worked
+pub mod WorkedPolicies
