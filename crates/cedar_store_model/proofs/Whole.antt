@@ -12,3 +12,5 @@ pub mod Matching
 pub mod Sets
 pub mod Stores
 pub mod Computed
+pub mod Growing
+pub mod Instances

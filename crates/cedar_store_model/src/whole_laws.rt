@@ -1,6 +1,6 @@
 //! Laws of the definitions for every kind of expression. Each function's contract is the theorem; its body does nothing.
 
-ghost use Rattle.cedar_store_model.specs.Whole.Laws.{MeaningIsAFunction, OneOutcome, WholeWorldsAnswer, MoreKeepsMeaning, LookupsAreLoaded, OnlyLookupsMatter, DereferencesLook, BuiltMeansTheSame, ConjunctionIsBoth, DisjunctionIsEither};
+ghost use Rattle.cedar_store_model.specs.Whole.Laws.{MeaningIsAFunction, OneOutcome, WholeWorldsAnswer, MoreKeepsMeaning, MoreKeepsLookups, LookupsAreLoaded, OnlyLookupsMatter, DereferencesLook, BuiltMeansTheSame, ConjunctionIsBoth, DisjunctionIsEither};
 ghost use Rattle.cedar_store_model.specs.Whole.AnswerLaws.{PoliciesMeanTruth, PolicyMeaningIsAFunction, SatisfactionDecides, SatisfactionIsKept, SatisfiedByParts, AllowIsEarned, ReasonsAreThose, ErrorsAreThose, OrderIsFree, OnlyLookupsAnswer, SlotsOfConditions, LinkingIsExact, IdsStayDistinct};
 ghost use Rattle.cedar_store_model.specs.Whole.Matching.{SatisfiedByMatching};
 ghost use Rattle.cedar_store_model.specs.Whole.Store.{LookupIsExact, WholeExtendsPartial, WholeStoresAreWhole};
@@ -13,9 +13,10 @@ pub fn meaning_is_a_function()
     ensures at_least_one { WholeWorldsAnswer }
 {}
 
-/// What an expression means by what is known it means in each world that knows more.
+/// What an expression means by what is known it means in each world that knows more; and it looks up there what it looks up here.
 pub fn more_knowledge_keeps_the_meaning()
-    ensures { MoreKeepsMeaning }
+    ensures outcomes { MoreKeepsMeaning }
+    ensures lookups { MoreKeepsLookups }
 {}
 
 /// Each look-up on the way to an outcome finds an entity, or that there is none.

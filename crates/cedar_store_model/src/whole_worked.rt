@@ -5,13 +5,13 @@ ghost use Rattle.cedar_expr_model.specs.Whole.Value.{Literal, truth, long, text,
 ghost use Rattle.cedar_expr_model.specs.Whole.Pattern.{character, wildcard};
 ghost use Rattle.cedar_expr_model.specs.Whole.Tree.{Tree, lit, var, slot, unknown, choice, both, either, unary, binary, call, get_attr, has_attr, has_path, like, is_type, set_literal, record_literal, no_trees, tree, no_tree_fields, tree_field, principal, action, resource, context, principal_slot, resource_slot, negation, minus, is_empty, equal, less, less_or_equal, plus, difference, times, is_in, contains, contains_all, contains_any, get_tag, has_tag, entity_core, nesting};
 ghost use Rattle.cedar_store_model.specs.Whole.Outcome.{Res, val, err, missing_entity, missing_attribute_or_tag, missing_field, wrong_type, overflow, extension_failed, no_function, wrong_count, unlinked_slot};
-ghost use Rattle.cedar_store_model.specs.Whole.World.{Found, held, missing, not_loaded};
+ghost use Rattle.cedar_store_model.specs.Whole.World.{Part, known, left, Found, held, missing, not_loaded};
 ghost use Rattle.cedar_store_model.specs.Whole.Operators.{says};
 ghost use Rattle.cedar_store_model.specs.Whole.Meaning.{outcome_of};
-ghost use Rattle.cedar_store_model.specs.Whole.Looks.{has_dereference};
-ghost use Rattle.cedar_store_model.specs.Whole.Knowledge.{holds_values};
-ghost use Rattle.cedar_store_model.specs.Whole.Store.{entity_of, are_distinct, store_of, look_up, stand_in, with_ancestor, has_ancestor, whole, partial};
-ghost use Rattle.cedar_store_model.specs.Whole.Worked.{user, doc, user_a, user_b, user_z, ghost_g, team, doc_d, view, edit, number, below_zero, word, uid, says_true, says_false, one_tree, two_trees, uid_value, number_value, ok_of, boss_of, no_field, no_entity, rank, blob, later, pair, plain, rank_of, blob_of, person, unfinished, entities, without_b, world, bound_world, nothing_loaded, a_loaded, principal_open, a_unfinished};
+ghost use Rattle.cedar_store_model.specs.Whole.Looks.{Looks, has_dereference};
+ghost use Rattle.cedar_store_model.specs.Whole.Knowledge.{holds_values, KeepsPart, Extends, IsWhole};
+ghost use Rattle.cedar_store_model.specs.Whole.Store.{entity_of, are_distinct, store_of, look_up, stand_in, with_ancestor, has_ancestor, whole, partial, as_open, world_of};
+ghost use Rattle.cedar_store_model.specs.Whole.Worked.{user, doc, user_a, user_b, user_z, ghost_g, team, doc_d, view, edit, number, below_zero, word, uid, says_true, says_false, one_tree, two_trees, uid_value, number_value, ok_of, boss_of, no_field, no_entity, rank, blob, later, pair, plain, rank_of, blob_of, person, unfinished, table, request, entities, without_b, world, world_without_b, bound_world, nothing_loaded, a_loaded, principal_open, a_unfinished};
 
 /// Arithmetic: a result of more than 64 bits is an overflow, and operands must be whole numbers.
 pub fn worked_arithmetic()
@@ -228,4 +228,28 @@ pub fn worked_stores()
     ensures ancestors { (with_ancestor user_b (person user_a true)).ancestors ≡ team ∷ user_b ∷ [] }
     ensures values { holds_values (person user_a true) ≡ true }
     ensures no_values { holds_values unfinished ≡ false }
+{}
+
+/// What is looked up: the left side of `in` alone, and each entity on the way; nothing on a side that isn't taken.
+pub fn worked_lookups()
+    ensures principal_attribute { Looks world (ok_of (var principal)) user_a }
+    ensures on_the_way { Looks world (ok_of (boss_of (uid user_b))) user_b }
+    ensures after_true { Looks world (both says_true (ok_of (var principal))) user_a }
+    ensures left_alone { Looks world (binary is_in (uid user_a) (uid team)) team → ⊥ }
+    ensures not_after_false { Looks world (both says_false (ok_of (var principal))) user_a → ⊥ }
+{}
+
+/// What knows more: parts that are values stay, a known absence stays, and what was held stays held.
+pub fn worked_knowledge()
+    ensures from_nothing { Extends nothing_loaded world }
+    ensures not_back { Extends world nothing_loaded → ⊥ }
+    ensures absence { Extends world_without_b world → ⊥ }
+    ensures same_part { KeepsPart (Some (known (number_value 1))) (Some (known (number_value 1))) }
+    ensures lost_part { KeepsPart (Some (known (number_value 1))) None → ⊥ }
+    ensures new_part { KeepsPart None (Some (known (number_value 1))) → ⊥ }
+    ensures finished_part { KeepsPart (Some (left (number 1))) (Some (known (number_value 2))) }
+    ensures unfinished_stays { KeepsPart (Some (left (number 1))) None → ⊥ }
+    ensures whole_world { IsWhole (world_of table (λ n. Some (number_value 5)) (as_open request) (record { extent = whole; entities = entities })) }
+    ensures not_whole { IsWhole a_loaded → ⊥ }
+    ensures open_is_not_whole { IsWhole principal_open → ⊥ }
 {}
