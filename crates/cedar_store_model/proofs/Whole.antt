@@ -10,3 +10,7 @@ pub mod Answers
 pub mod Reports
 pub mod Matching
 pub mod Sets
+pub mod Stores
+pub mod Computed
+pub mod Growing
+pub mod Instances

@@ -12,3 +12,6 @@ pub mod PolicySet
 pub mod Answer
 pub mod AnswerLaws
 pub mod Matching
+pub mod Store
+pub mod Worked
+pub mod WorkedPolicies

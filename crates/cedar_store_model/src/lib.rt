@@ -3,4 +3,6 @@
 
 pub mod laws;
 pub mod whole_laws;
+pub mod whole_worked;
+pub mod whole_worked_policies;
 pub mod worked;

@@ -113,7 +113,7 @@ keeps_within k w h (prim (entity u)) x = keeps_in u x (k.store u) (w.store u) (h
 keeps_within k w h v x = refl
 
 -- paths
-keeps_step : (k w : World) → Extends k w → (a : Text) (v : V) → Keeps (step_from k a v) (step_from w a v)
+pub keeps_step : (k w : World) → Extends k w → (a : Text) (v : V) → Keeps (step_from k a v) (step_from w a v)
 keeps_step k w h a (prim (entity u)) = keeps_found_step a (k.store u) (w.store u) (h.store u)
 keeps_step k w h a v = refl
 

@@ -76,7 +76,6 @@ same_picked a b c d v h k = refl
 its_value : (w : World) (t : Tree) (v x : V) → outcome_of w t ≡ Some (val v) → v ≡ x → Means w t (val x)
 its_value w t v x e q = outcome_means w t (val x) (e ∙ ap (λ y. Some (val y)) q)
 
-
 mutual
   pub same : (w : World) (s : Uid → Found V) (t : Tree) → AsIn w s (Looks w t) → outcome_of (with_store w s) t ≡ outcome_of w t
   same w s (lit p) h = refl

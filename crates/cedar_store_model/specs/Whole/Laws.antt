@@ -49,3 +49,7 @@ ConjunctionIsBoth = (w : World) (a b : Tree) (r : Res V) → Means w (conjunctio
 
 abbrev pub DisjunctionIsEither : Type 0
 DisjunctionIsEither = (w : World) (a b : Tree) (r : Res V) → Means w (disjunction a b) r ↔ Means w (either a b) r
+
+-- what is looked up by what is known is looked up where more is known
+abbrev pub MoreKeepsLookups : Type 0
+MoreKeepsLookups = (k w : World) → Extends k w → (t : Tree) (u : Uid) → Looks k t u → Looks w t u

@@ -10,7 +10,6 @@ use Rattle.cedar_expr_model.specs.Whole.Builder.{conjunction}
 pub data Effect : Type 0 where
   permit : Effect
   forbid : Effect
-  deriving IsSet as Effect-set
 
 -- what a part of a scope names: a uid, or the slot of its variable
 pub data Target : Type 0 where
