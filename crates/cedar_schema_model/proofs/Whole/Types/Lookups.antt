@@ -96,7 +96,7 @@ formed_parts n t r as_ w =
     let q = both_hold (is_before_attributes n as_) (are_well_formed_attributes as_) p.1 in
     (p.0, q.0, q.1)
 
-before_later : (x b : Text) (as_ : Attributes) → text_cmp x b ≡ Less → is_before_attributes b as_ ≡ true → is_before_attributes x as_ ≡ true
+pub before_later : (x b : Text) (as_ : Attributes) → text_cmp x b ≡ Less → is_before_attributes b as_ ≡ true → is_before_attributes x as_ ≡ true
 before_later x b no_attributes h k = refl
 before_later x b (attribute c t r as_) h k = ap is_lt (nat_list_cmp_total.trans x b c h (less_is (text_cmp b c) k))
 

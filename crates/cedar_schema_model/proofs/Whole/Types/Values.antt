@@ -103,7 +103,7 @@ Passes Has x y = (e : Declared) → y ≡ Some e → (d : Declared) × (x ≡ So
 abbrev Closes : Openness → Openness → Option Declared → Option Declared → Type 0
 Closes o p x y = p ≡ is_closed → (o ≡ is_closed) × ((d : Declared) → x ≡ Some d → (e : Declared) × (y ≡ Some e))
 
-field_some : (Has : Ty → Type 0) (o : Openness) (x : Option Declared) (d : Declared) → x ≡ Some d → FieldFits o Has x → Has d.type
+pub field_some : (Has : Ty → Type 0) (o : Openness) (x : Option Declared) (d : Declared) → x ≡ Some d → FieldFits o Has x → Has d.type
 field_some Has o None d e h = no_none e
 field_some Has o (Some c) d e h = subst (λ (z : Declared). Has z.type) (inside e) h
 
