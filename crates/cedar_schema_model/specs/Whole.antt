@@ -6,3 +6,4 @@ pub mod HasType
 pub mod Join
 pub mod Lookup
 pub mod TypeLaws
+pub mod TypeWorked

@@ -2,5 +2,6 @@
 #![tactic(auto)]
 
 pub mod laws;
-pub mod worked;
 pub mod whole_type_laws;
+pub mod whole_type_worked;
+pub mod worked;

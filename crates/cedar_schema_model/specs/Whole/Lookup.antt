@@ -3,7 +3,7 @@
 use Rattle.std.specs.Prelude.{List, [], ◌∷◌, Bool, true, false, Option, Some, None, is_some, map, option_map, option_and_then}
 use Rattle.std.specs.List.{list_all, list_any}
 use Rattle.cedar_expr_model.specs.Name.{Text, Name}
-use Rattle.cedar_schema_model.specs.Whole.Types.{Openness, is_open, is_closed, Ty, never, any_entity, entity_types, record_type, Attributes, no_attributes, Declared, attribute_named, Mode, permissive}
+use Rattle.cedar_schema_model.specs.Whole.Types.{is_open, is_closed, Ty, never, any_entity, entity_types, record_type, Attributes, no_attributes, Declared, attribute_named, permissive}
 use Rattle.cedar_schema_model.specs.Whole.Schema.{EntityKind, standard, enumerated, external, EntityType, Schema, type_named}
 use Rattle.cedar_schema_model.specs.Whole.Join.{reduce_to_join}
 

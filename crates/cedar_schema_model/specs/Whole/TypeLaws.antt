@@ -1,6 +1,6 @@
 -- What the laws of types say.
 -- Rule: subtypes; values of a type; joins; attributes of a type (docs/RULES.md).
-use Rattle.std.specs.Prelude.{◌≡◌, ◌↔◌, List, Bool, true, false, Option, Some, is_some, MatchOption, Contains}
+use Rattle.std.specs.Prelude.{◌≡◌, ◌↔◌, List, true, false, Option, Some, is_some, MatchOption, Contains}
 use Rattle.std.specs.Bool.{Decides}
 use Rattle.std.specs.List.{list_all}
 use Rattle.cedar_expr_model.specs.Name.{Text, Name}

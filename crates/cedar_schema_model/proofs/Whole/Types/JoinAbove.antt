@@ -1,15 +1,15 @@
 -- A join is above both types.
-use Rattle.std.proofs.Common.{◌≡◌, ⊎_elim, List, Bool, true, false, cond, ◌&&◌, ◌||◌, Option, Some, None, IfSome, option_map, Contains, refl, sym, ap, ◌∙◌, subst}
+use Rattle.std.proofs.Common.{◌≡◌, ⊎_elim, List, Bool, true, false, ◌&&◌, ◌||◌, Option, Some, None, IfSome, option_map, refl, sym, ap, ◌∙◌, subst}
 use Rattle.cedar_expr_model.specs.Name.{Text, Name, name_eq}
 use Rattle.cedar_expr_model.proofs.Equality.{name_eq-Decides, name_eq_same}
 use Rattle.cedar_expr_model.proofs.Lists.{both_hold, hold_both}
 use Rattle.cedar_schema_model.specs.Whole.Types.{BoolType, any_bool, only_true, only_false, Openness, is_open, is_closed, Ty, never, bool_type, long_type, string_type, any_entity, entity_types, any_set, set_type, record_type, extension_type, Attributes, Declared, attribute_named, Mode, strict, permissive}
-use Rattle.cedar_schema_model.specs.Whole.Subtype.{is_permissive, is_closed_record, are_among, are_named, carries, is_bool_below, is_union_below, is_frame_below, is_subtype, have_below, Below, is_union, is_well_formed_type}
+use Rattle.cedar_schema_model.specs.Whole.Subtype.{is_permissive, is_closed_record, are_among, are_named, carries, is_bool_below, is_union_below, is_frame_below, have_below, Below, is_union, is_well_formed_type}
 use Rattle.cedar_schema_model.specs.Whole.Join.{bool_join, names_of_both, agree, all_stayed, openness_of_join, join, attributes_join}
-use Rattle.cedar_schema_model.proofs.Whole.Types.Lookups.{no_lie, no_none, inside, each_type, Parts, Formed, formed_at}
+use Rattle.cedar_schema_model.proofs.Whole.Types.Lookups.{no_lie, each_type, Parts, Formed, formed_at}
 use Rattle.cedar_schema_model.proofs.Whole.Types.Names.{among_at, among_from, union_parts, both_in, both_left, both_right}
 use Rattle.cedar_schema_model.proofs.Whole.Types.Subtypes.{Found, have_from, below_same, bool_same, open_frame, from_closed_frame, from_strict_frame}
-use Rattle.cedar_schema_model.proofs.Whole.Types.JoinParts.{if_given, for_some, declared_join, Joint, joint, join_named, agree_strict, first_carries, second_carries}
+use Rattle.cedar_schema_model.proofs.Whole.Types.JoinParts.{if_given, for_some, joint, join_named, first_carries, second_carries}
 use Rattle.cedar_schema_model.proofs.Whole.Types.JoinFormed.{attributes_formed}
 
 abbrev AboveBoth : Mode → Ty → Ty → Option Ty → Type 0
@@ -43,12 +43,11 @@ union_above strict ns ms v w e =
     let p = union_parts ns v in
     let q = union_parts ms w in
     let f = both_hold (are_among ns ms) (are_among ms ns) e in
-    let both = names_of_both ns ms in
-    (
+    let both = names_of_both ns ms in (
       hold_both (are_among ns both) (are_among both ns) (among_from ns both (both_left ns ms p.0 q.0))
-      (among_from both ns (λ x k. ⊎_elim (λ i. i) (λ i. among_at ms ns f.1 x i) (both_in ns ms x k))),
+          (among_from both ns (λ x k. ⊎_elim (λ i. i) (λ i. among_at ms ns f.1 x i) (both_in ns ms x k))),
       hold_both (are_among ms both) (are_among both ms) (among_from ms both (both_right ns ms))
-      (among_from both ms (λ x k. ⊎_elim (λ i. among_at ns ms f.0 x i) (λ i. i) (both_in ns ms x k))),
+          (among_from both ms (λ x k. ⊎_elim (λ i. among_at ns ms f.0 x i) (λ i. i) (both_in ns ms x k))),
     )
 
 map_above : (m : Mode) (a b : Ty) (o : Option Ty) → AboveBoth m a b o → AboveBoth m (set_type a) (set_type b) (option_map set_type o)
@@ -66,8 +65,7 @@ module _ (m : Mode) (as_ bs : Attributes) (parts : (n : Text) (d : Declared) →
       let d = k.first in
       let c = k.second in
       let above = for_some (λ j. Below m d.type j × Below m c.type j) (join m d.type c.type) e.type
-          (parts n d k.first_is c.type (formed_at as_ v n d k.first_is) (formed_at bs w n c k.second_is)) k.types in
-      (
+      (parts n d k.first_is c.type (formed_at as_ v n d k.first_is) (formed_at bs w n c k.second_is)) k.types in (
         (d, k.first_is, above.0, subst (λ x. carries m d.is_required x ≡ true) k.required (first_carries m d.is_required c.is_required k.flags)),
         (c, k.second_is, above.1, subst (λ x. carries m c.is_required x ≡ true) k.required (second_carries m d.is_required c.is_required k.flags)),
       )
@@ -116,14 +114,12 @@ opened_closed as_ o bs p js e =
 
 frames_above : (m : Mode) (as_ : Attributes) (o : Openness) (bs : Attributes) (p : Openness) (js : Attributes) → allowed m as_ o bs p js ≡ true → (is_frame_below m as_ o js (opened as_ o bs p js) ≡ true) × (is_frame_below m bs p js (opened as_ o bs p js) ≡ true)
 frames_above permissive as_ o bs p js h =
-    let c = is_closed_record o && (is_closed_record p && all_stayed as_ bs js) in
-    (
+    let c = is_closed_record o && (is_closed_record p && all_stayed as_ bs js) in (
       frame_by as_ o js c (λ e. let f = opened_closed as_ o bs p js e in (f.0, f.2)),
       frame_by bs p js c (λ e. let f = opened_closed as_ o bs p js e in (f.1, f.3)),
     )
 frames_above strict as_ o bs p js h =
-    let f = strict_allowed as_ o bs p js h in
-    (
+    let f = strict_allowed as_ o bs p js h in (
       subst (λ x. is_frame_below strict as_ o js x ≡ true) (sym f.0) (from_strict_frame as_ o js f.2),
       subst (λ x. is_frame_below strict bs p js x ≡ true) (sym f.1) (from_strict_frame bs p js f.3),
     )
@@ -155,11 +151,10 @@ above_step m (record_type as_ o) parts (record_type bs p) v w =
     let js = attributes_join m as_ bs in
     let q = opened as_ o bs p js in
     if_given (λ j. Below m (record_type as_ o) j × Below m (record_type bs p) j) (allowed m as_ o bs p js) (record_type js q) (λ e.
-        let f = frames_above m as_ o bs p js e in
-        (
-          hold_both (is_frame_below m as_ o js q) (have_below m as_ js) f.0 (have_first m as_ bs parts v w),
-          hold_both (is_frame_below m bs p js q) (have_below m bs js) f.1 (have_second m as_ bs parts v w),
-        ))
+    let f = frames_above m as_ o bs p js e in (
+      hold_both (is_frame_below m as_ o js q) (have_below m as_ js) f.0 (have_first m as_ bs parts v w),
+      hold_both (is_frame_below m bs p js q) (have_below m bs js) f.1 (have_second m as_ bs parts v w),
+    ))
 above_step m (extension_type k) p (extension_type n) v w =
     if_given (λ j. Below m (extension_type k) j × Below m (extension_type n) j) (name_eq k n) (extension_type k)
     (λ e. (name_eq_same k, (name_eq-Decides n k).1 (sym ((name_eq-Decides k n).0 e))))

@@ -1,15 +1,15 @@
 -- A join exists wherever an upper bound without `any_set` does, and is below it.
-use Rattle.std.proofs.Common.{◌≡◌, ⊎_elim, List, Bool, true, false, cond, ◌&&◌, ◌||◌, Option, Some, None, is_some, option_map, Contains, refl, sym, ap, ◌∙◌, subst}
+use Rattle.std.proofs.Common.{◌≡◌, ⊎_elim, List, true, ◌&&◌, ◌||◌, Some, is_some, option_map, refl, sym, ap, ◌∙◌, subst}
 use Rattle.cedar_expr_model.specs.Name.{Text, Name, name_eq}
-use Rattle.cedar_expr_model.proofs.Equality.{name_eq-Decides, name_eq_same}
+use Rattle.cedar_expr_model.proofs.Equality.{name_eq-Decides}
 use Rattle.cedar_expr_model.proofs.Lists.{both_hold, hold_both, hold_left}
 use Rattle.cedar_schema_model.specs.Whole.Types.{BoolType, any_bool, only_true, only_false, Openness, is_open, is_closed, Ty, never, bool_type, long_type, string_type, any_entity, entity_types, any_set, set_type, record_type, extension_type, Attributes, no_attributes, attribute, Declared, attribute_named, Mode, strict, permissive}
-use Rattle.cedar_schema_model.specs.Whole.Subtype.{is_permissive, is_closed_record, are_among, are_named, carries, is_bool_below, is_union_below, is_frame_below, is_declared_below, is_subtype, have_below, Below, is_union, is_well_formed_type, has_no_any_set, have_no_any_set}
+use Rattle.cedar_schema_model.specs.Whole.Subtype.{is_permissive, is_closed_record, are_among, are_named, is_bool_below, is_union_below, is_frame_below, is_declared_below, is_subtype, have_below, Below, is_union, is_well_formed_type, has_no_any_set, have_no_any_set}
 use Rattle.cedar_schema_model.specs.Whole.Join.{bool_join, names_of_both, agree, all_stayed, openness_of_join, join, attributes_join}
 use Rattle.cedar_schema_model.proofs.Whole.Types.Lookups.{no_lie, inside, some_is, declares, each_type, Parts, Formed, formed_at}
 use Rattle.cedar_schema_model.proofs.Whole.Types.Names.{among_at, among_from, union_parts, both_in, both_left}
 use Rattle.cedar_schema_model.proofs.Whole.Types.Subtypes.{Found, have_at, have_parts, declared_found, found_declared, named_at, named_from, record_parts, strict_frame, from_strict_frame, closed_frame, open_frame, from_closed_frame}
-use Rattle.cedar_schema_model.proofs.Whole.Types.JoinParts.{given, declared_join, Joint, joint, joins, join_named, agree_same, carries_agree, carries_and}
+use Rattle.cedar_schema_model.proofs.Whole.Types.JoinParts.{given, joint, joins, join_named, agree_same, carries_agree, carries_and}
 use Rattle.cedar_schema_model.proofs.Whole.Types.JoinFormed.{attributes_formed, free_at}
 use Rattle.cedar_schema_model.proofs.Whole.Types.JoinAbove.{opened, allowed, strict_allowed}
 
@@ -39,14 +39,13 @@ union_joined permissive ns ms ks v w h k =
 union_joined strict ns ms ks v w h k =
     let f = both_hold (are_among ns ks) (are_among ks ns) h in
     let g = both_hold (are_among ms ks) (are_among ks ms) k in
-    let both = names_of_both ns ms in
-    (
+    let both = names_of_both ns ms in (
       hold_both (are_among ns ms) (are_among ms ns)
-      (among_from ns ms (λ x i. among_at ks ms g.1 x (among_at ns ks f.0 x i)))
-      (among_from ms ns (λ x i. among_at ks ns f.1 x (among_at ms ks g.0 x i))),
+          (among_from ns ms (λ x i. among_at ks ms g.1 x (among_at ns ks f.0 x i)))
+          (among_from ms ns (λ x i. among_at ks ns f.1 x (among_at ms ks g.0 x i))),
       hold_both (are_among both ks) (are_among ks both)
-      (among_from both ks (λ x i. ⊎_elim (among_at ns ks f.0 x) (among_at ms ks g.0 x) (both_in ns ms x i)))
-      (among_from ks both (λ x i. both_left ns ms (union_parts ns v).0 (union_parts ms w).0 x (among_at ks ns f.1 x i))),
+          (among_from both ks (λ x i. ⊎_elim (among_at ns ks f.0 x) (among_at ms ks g.0 x) (both_in ns ms x i)))
+          (among_from ks both (λ x i. both_left ns ms (union_parts ns v).0 (union_parts ms w).0 x (among_at ks ns f.1 x i))),
     )
 
 unions_least : (m : Mode) (ns ms ks : List Name) → is_union ns ≡ true → is_union ms ≡ true → is_union_below m ns ks ≡ true → is_union_below m ms ks ≡ true → Joined m (entity_types ns) (entity_types ms) (entity_types ks)
@@ -67,8 +66,7 @@ module _ (m : Mode) (as_ bs : Attributes) (parts : (n : Text) (d : Declared) →
   meet n e free f g =
       let d = f.0 in
       let c = g.0 in
-      let k = parts n d f.1 c.type e.type (formed_at as_ v n d f.1) (formed_at bs w n c g.1) free f.2 g.2 in
-      (
+      let k = parts n d f.1 c.type e.type (formed_at as_ v n d f.1) (formed_at bs w n c g.1) free f.2 g.2 in (
         declares k.0 (d.is_required && c.is_required),
         join_named m as_ bs v n ∙ joins m (attribute_named n as_) (attribute_named n bs) d c k.0 f.1 g.1 k.1 (carries_agree m d.is_required c.is_required e.is_required f.3 g.3),
         k.2,
@@ -138,8 +136,7 @@ records_least m as_ o bs p cs q parts v w free h k =
     let f = record_parts m as_ o cs q h in
     let g = record_parts m bs p cs q k in
     let r = opened as_ o bs p js in
-    let s = frames_least m as_ o bs p cs q js f.0 g.0 (all_stay m as_ bs parts v w cs free f.1 g.1) in
-    (
+    let s = frames_least m as_ o bs p cs q js f.0 g.0 (all_stay m as_ bs parts v w cs free f.1 g.1) in (
       record_type js r,
       given (allowed m as_ o bs p js) (record_type js r) s.0,
       hold_both (is_frame_below m js r cs q) (have_below m js cs) s.1 (have_least m as_ bs parts v w cs free f.1 g.1),

@@ -1,16 +1,14 @@
 -- Joins of attributes, by look-up.
-use Rattle.std.proofs.Common.{◌≡◌, Bool, true, false, cond, ◌&&◌, ◌||◌, Option, Some, None, is_some, IfSome, refl, sym, ap, ◌∙◌, subst, is_lt}
-use Rattle.std.specs.Bool.{beq}
+use Rattle.std.proofs.Common.{◌≡◌, Bool, true, false, cond, ◌&&◌, ◌||◌, Option, Some, None, IfSome, refl, sym, ap, ◌∙◌, subst, is_lt}
 use Rattle.std.specs.Str.{bytes_eq}
 use Rattle.std.proofs.lemmas.Slice.Eq.{bytes_eq-Decides}
 use Rattle.cedar_expr_model.specs.Name.{Text}
 use Rattle.cedar_expr_model.specs.Whole.Order.{text_cmp}
-use Rattle.cedar_expr_model.proofs.Lists.{both_hold, hold_both}
-use Rattle.cedar_schema_model.specs.Whole.Types.{Openness, is_open, is_closed, Ty, record_type, Attributes, no_attributes, attribute, Declared, attribute_named, Mode, strict, permissive}
-use Rattle.cedar_schema_model.specs.Whole.Subtype.{is_permissive, is_closed_record, are_named, carries, is_well_formed_type, are_well_formed_attributes, is_before_attributes}
-use Rattle.cedar_schema_model.specs.Whole.Join.{agree, declared_in_common, joined_with, kept_attribute, all_stayed, openness_of_join, record_join, join, attributes_join}
-use Rattle.cedar_schema_model.proofs.Whole.Types.Lookups.{no_lie, no_none, inside, test_cases, declares, less_is, named_here, named_first, named_later, absent, before_later, Formed, formed_parts}
-use Rattle.cedar_schema_model.proofs.Whole.Types.Subtypes.{same_declared}
+use Rattle.cedar_expr_model.proofs.Lists.{hold_both}
+use Rattle.cedar_schema_model.specs.Whole.Types.{Ty, Attributes, no_attributes, attribute, Declared, attribute_named, Mode, strict, permissive}
+use Rattle.cedar_schema_model.specs.Whole.Subtype.{carries, is_well_formed_type, are_well_formed_attributes, is_before_attributes}
+use Rattle.cedar_schema_model.specs.Whole.Join.{agree, declared_in_common, joined_with, kept_attribute, join, attributes_join}
+use Rattle.cedar_schema_model.proofs.Whole.Types.Lookups.{no_lie, no_none, inside, test_cases, declares, less_is, named_first, named_later, absent, before_later, Formed, formed_parts}
 
 -- a fact of what a test gives
 pub if_given : {X : Type 0} (P : X → Type 0) (c : Bool) (x : X) → (c ≡ true → P x) → IfSome (cond c (Some x) None) P
@@ -78,7 +76,7 @@ join_named m (attribute b t r as_) bs w n =
     let none : attribute_named b js ≡ None = join_named m as_ bs p.2 b ∙ ap (λ x. declared_join m x (attribute_named b bs)) (absent b as_ p.1 p.2) in
     test_cases (bytes_eq n b)
     (λ e. subst (λ x. attribute_named x (kept_attribute b j js) ≡ declared_join m (attribute_named x (attribute b t r as_)) (attribute_named x bs)) (sym ((bytes_eq-Decides n b).0 e))
-        (kept_first b j js none ∙ sym (ap (λ x. declared_join m x (attribute_named b bs)) (named_first b t r as_))))
+    (kept_first b j js none ∙ sym (ap (λ x. declared_join m x (attribute_named b bs)) (named_first b t r as_))))
     (λ e. kept_later n b j js e ∙ (join_named m as_ bs p.2 n ∙ sym (ap (λ x. declared_join m x (attribute_named n bs)) (named_later n b t r as_ e))))
 
 -- joins are well-formed

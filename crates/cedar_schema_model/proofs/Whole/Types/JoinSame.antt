@@ -1,15 +1,15 @@
 -- Joins that are the same: of ordered types, with the two swapped, and in both modes.
-use Rattle.std.proofs.Common.{◌≡◌, ⊎_elim, List, Bool, true, false, cond, ◌&&◌, ◌||◌, Option, Some, None, IfSome, option_map, Contains, refl, sym, ap, ◌∙◌, subst}
+use Rattle.std.proofs.Common.{◌≡◌, ⊎_elim, List, Bool, true, false, cond, ◌&&◌, ◌||◌, Option, Some, None, IfSome, option_map, refl, sym, ap, ◌∙◌, subst}
 use Rattle.cedar_expr_model.specs.Name.{Text, Name, name_eq}
 use Rattle.cedar_expr_model.proofs.Equality.{name_eq-Decides}
-use Rattle.cedar_expr_model.proofs.Lists.{both_hold, hold_both, hold_left, hold_right}
+use Rattle.cedar_expr_model.proofs.Lists.{hold_both}
 use Rattle.cedar_schema_model.specs.Whole.Types.{BoolType, any_bool, only_true, only_false, Openness, is_open, is_closed, Ty, never, bool_type, long_type, string_type, any_entity, entity_types, any_set, set_type, record_type, extension_type, Attributes, Declared, attribute_named, Mode, strict, permissive}
 use Rattle.cedar_schema_model.specs.Whole.Subtype.{is_permissive, is_closed_record, are_among, are_named, carries, is_bool_below, is_union_below, is_frame_below, have_below, Below, is_union, is_well_formed_type}
 use Rattle.cedar_schema_model.specs.Whole.Join.{bool_join, names_of_both, agree, declared_in_common, union_join, all_stayed, openness_of_join, record_join, join, attributes_join}
-use Rattle.cedar_schema_model.proofs.Whole.Types.Lookups.{no_lie, no_none, inside, declares, each_type, Parts, Formed, formed_at, same_attributes}
-use Rattle.cedar_schema_model.proofs.Whole.Types.Names.{among_at, among_from, union_parts, both_in, both_left, both_right, both_named, both_rising, same_names}
+use Rattle.cedar_schema_model.proofs.Whole.Types.Lookups.{no_lie, declares, each_type, Parts, Formed, formed_at, same_attributes}
+use Rattle.cedar_schema_model.proofs.Whole.Types.Names.{among_at, union_parts, both_in, both_left, both_right, both_named, both_rising, same_names}
 use Rattle.cedar_schema_model.proofs.Whole.Types.Subtypes.{have_at, named_at, named_from, record_parts, strict_frame, closed_frame, same_declared, same_options, union_weaker}
-use Rattle.cedar_schema_model.proofs.Whole.Types.JoinParts.{if_given, given_if, given, for_some, declared_join, Joint, joint, joins, join_named, agree_same, agree_back, carries_agree, and_back, or_back}
+use Rattle.cedar_schema_model.proofs.Whole.Types.JoinParts.{if_given, given_if, given, for_some, declared_join, joint, joins, join_named, agree_same, agree_back, and_back}
 use Rattle.cedar_schema_model.proofs.Whole.Types.JoinFormed.{attributes_formed}
 use Rattle.cedar_schema_model.proofs.Whole.Types.JoinAbove.{opened, allowed, strict_allowed}
 
@@ -53,9 +53,9 @@ Swaps m a = (b : Ty) → is_well_formed_type a ≡ true → is_well_formed_type 
 attributes_back : (m : Mode) (as_ bs : Attributes) → ((n : Text) (d : Declared) → attribute_named n as_ ≡ Some d → Swaps m d.type) → Formed as_ → Formed bs → attributes_join m as_ bs ≡ attributes_join m bs as_
 attributes_back m as_ bs parts v w =
     same_attributes (attributes_join m as_ bs) (attributes_join m bs as_) (attributes_formed m as_ bs v w) (attributes_formed m bs as_ w v) (λ n.
-        join_named m as_ bs v n
-        ∙ (declared_back m (attribute_named n as_) (attribute_named n bs) (λ d c p q. parts n d p c.type (formed_at as_ v n d p) (formed_at bs w n c q))
-        ∙ sym (join_named m bs as_ w n)))
+    join_named m as_ bs v n
+    ∙ (declared_back m (attribute_named n as_) (attribute_named n bs) (λ d c p q. parts n d p c.type (formed_at as_ v n d p) (formed_at bs w n c q))
+    ∙ sym (join_named m bs as_ w n)))
 
 stayed_back : (as_ bs js : Attributes) → all_stayed as_ bs js ≡ all_stayed bs as_ js
 stayed_back as_ bs js = and_back (are_named as_ js) (are_named bs js)
@@ -113,7 +113,7 @@ map_weakens (Some j) x h = ap (option_map set_type) h
 attributes_weaken : (as_ bs : Attributes) → ((n : Text) (d : Declared) → attribute_named n as_ ≡ Some d → Weakens d.type) → Formed as_ → Formed bs → are_named as_ (attributes_join strict as_ bs) ≡ true → attributes_join strict as_ bs ≡ attributes_join permissive as_ bs
 attributes_weaken as_ bs parts v w stay =
     same_attributes (attributes_join strict as_ bs) (attributes_join permissive as_ bs) (attributes_formed strict as_ bs v w) (attributes_formed permissive as_ bs v w) (λ n.
-        join_named strict as_ bs v n ∙ (at n (attribute_named n as_) refl ∙ sym (join_named permissive as_ bs v n)))
+    join_named strict as_ bs v n ∙ (at n (attribute_named n as_) refl ∙ sym (join_named permissive as_ bs v n)))
   where
     at : (n : Text) (x : Option Declared) → attribute_named n as_ ≡ x → declared_join strict (attribute_named n as_) (attribute_named n bs) ≡ declared_join permissive (attribute_named n as_) (attribute_named n bs)
     at n None e = ap (λ x. declared_join strict x (attribute_named n bs)) e ∙ sym (ap (λ x. declared_join permissive x (attribute_named n bs)) e)
@@ -122,7 +122,7 @@ attributes_weaken as_ bs parts v w stay =
         let h = sym (join_named strict as_ bs v n) ∙ s.1 in
         let k = joint strict (attribute_named n as_) (attribute_named n bs) s.0 h in
         let t = for_some (λ j. join permissive k.first.type k.second.type ≡ Some j) (join strict k.first.type k.second.type) s.0.type
-            (parts n k.first k.first_is k.second.type (formed_at as_ v n k.first k.first_is) (formed_at bs w n k.second k.second_is)) k.types in
+        (parts n k.first k.first_is k.second.type (formed_at as_ v n k.first k.first_is) (formed_at bs w n k.second k.second_is)) k.types in
         let c = joins permissive (attribute_named n as_) (attribute_named n bs) k.first k.second s.0.type k.first_is k.second_is t refl in
         h ∙ (ap Some (sym (same_declared (declares s.0.type (k.first.is_required && k.second.is_required)) s.0 refl k.required)) ∙ sym c)
 

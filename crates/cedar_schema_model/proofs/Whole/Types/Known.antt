@@ -1,12 +1,12 @@
 -- What a type knows of an attribute.
 use Rattle.std.proofs.Common.{◌≡◌, List, [], ◌∷◌, map, Bool, true, false, cond, Option, Some, None, is_some, option_map, option_and_then, MatchOption, Contains, refl, sym, ap, ◌∙◌, subst, true≢false}
-use Rattle.std.specs.List.{list_all, list_any}
+use Rattle.std.specs.List.{list_all}
 use Rattle.cedar_expr_model.specs.Name.{Text, Name}
 use Rattle.std.specs.Str.{bytes_eq}
 use Rattle.std.proofs.lemmas.Slice.Eq.{bytes_eq-Decides}
 use Rattle.cedar_expr_model.specs.Whole.Value.{V, record_of, Fields, no_fields, field, field_of}
 use Rattle.cedar_expr_model.proofs.Lists.{all_each, all_from, any_has, map_has, map_from, contains_head, contains_tail, contains_cases, contains_none}
-use Rattle.cedar_schema_model.specs.Whole.Types.{Openness, is_open, is_closed, Ty, never, any_entity, entity_types, any_set, set_type, record_type, Attributes, Declared, attribute_named, Mode, permissive}
+use Rattle.cedar_schema_model.specs.Whole.Types.{Openness, is_open, is_closed, Ty, any_entity, entity_types, record_type, Attributes, Declared, attribute_named, permissive}
 use Rattle.cedar_schema_model.specs.Whole.Schema.{Schema}
 use Rattle.cedar_schema_model.specs.Whole.Subtype.{Below, is_well_formed_type, has_no_any_set}
 use Rattle.cedar_schema_model.specs.Whole.HasType.{HasType, HasRequired, FieldsFit, FieldFits}
@@ -15,7 +15,6 @@ use Rattle.cedar_schema_model.specs.Whole.Lookup.{declared_of, with_declared, al
 use Rattle.cedar_schema_model.specs.Whole.TypeLaws.{HasPlainAttributes, DeclaredBelow}
 use Rattle.cedar_schema_model.proofs.Whole.Types.Lookups.{no_lie, no_none, inside, from_some, some_is, test_cases, declares}
 use Rattle.cedar_schema_model.proofs.Whole.Types.Names.{among_at}
-use Rattle.cedar_schema_model.proofs.Whole.Types.Subtypes.{below_on, same_options}
 use Rattle.cedar_schema_model.proofs.Whole.Types.Values.{required_at, field_some}
 use Rattle.cedar_schema_model.proofs.Whole.Types.Reduction.{reduction_above, reduction_least, reduction_free}
 
@@ -44,8 +43,7 @@ all_from_names s a (m ∷ ms) ds h =
     let c = p.0 in
     let es = p.1 in
     let r = all_from_names s a ms es p.3 in
-    let into : (d : Declared) → Contains (c ∷ es) d → Contains ds d = λ d k. subst (λ x. Contains x d) (sym p.4) k in
-    (
+    let into : (d : Declared) → Contains (c ∷ es) d → Contains ds d = λ d k. subst (λ x. Contains x d) (sym p.4) k in (
       λ n k. contains_cases ((d : Declared) × Contains ds d × (declared_of s a n ≡ Some d)) m ms n k
           (λ e. (c, into c (contains_head c es), subst (λ x. declared_of s a x ≡ Some c) e p.2))
           (λ i. let f = r.0 n i in (f.0, into f.0 (contains_tail c es f.0 f.1), f.2)),
@@ -72,9 +70,9 @@ made_parts r (Some t) e h = (ap Some (ap type_of (inside h)), ap required_of (in
 types_plain : (s : Schema) (a : Text) (ns : List Name) (ds : List Declared) → HasPlainAttributes s → Holds s a ns ds → list_all is_well_formed_type (map type_of ds) ≡ true
 types_plain s a ns ds plain h =
     all_from is_well_formed_type (map type_of ds) (λ t k.
-        let f = map_from type_of ds t k in
-        let g = h f.0 f.1 in
-        subst (λ x. is_well_formed_type x ≡ true) f.2 (plain a g.0 f.0 g.2).0)
+    let f = map_from type_of ds t k in
+    let g = h f.0 f.1 in
+    subst (λ x. is_well_formed_type x ≡ true) f.2 (plain a g.0 f.0 g.2).0)
 
 -- a union knows what all declare
 pub union_knows : (s : Schema) (ns : List Name) (a : Text) (e : Declared) → HasPlainAttributes s → lookup_attribute s (entity_types ns) a ≡ Some e → (n : Name) → Contains ns n → DeclaredBelow (declared_of s a n) e
@@ -83,9 +81,9 @@ union_knows s ns a e plain h n k =
     let ds = p.0 in
     let q = made_parts (list_all required_of ds) (reduce_to_join permissive (map type_of ds)) e p.2 in
     let r = all_from_names s a ns ds p.1 in
-    let f = r.0 n k in
-    (
-      f.0, f.2,
+    let f = r.0 n k in (
+      f.0,
+      f.2,
       reduction_above permissive (map type_of ds) e.type (types_plain s a ns ds plain r.1) q.0 f.0.type (map_has type_of ds f.0 f.1),
       λ i. all_each required_of ds (q.1 ∙ i) f.0 f.1,
     )
@@ -96,14 +94,15 @@ union_knows_all s ns a e plain free h =
     let ds = p.0 in
     let r = all_from_names s a ns ds p.1 in
     let below : (t : Ty) → Contains (map type_of ds) t → Below permissive t e.type = λ t k.
-        let f = map_from type_of ds t k in
-        let g = r.1 f.0 f.1 in
-        let b = h g.0 g.1 in
-        subst (λ x. Below permissive x e.type) (ap type_of (inside (sym b.1 ∙ g.2)) ∙ f.2) b.2 in
+    let f = map_from type_of ds t k in
+    let g = r.1 f.0 f.1 in
+    let b = h g.0 g.1 in
+    subst (λ x. Below permissive x e.type) (ap type_of (inside (sym b.1 ∙ g.2)) ∙ f.2) b.2 in
     let j = reduction_least permissive (map type_of ds) e.type (types_plain s a ns ds plain r.1) free below in
-    let known : lookup_attribute s (entity_types ns) a ≡ Some (declares j.0 (list_all required_of ds)) = ap (option_and_then declared_by_all) p.1 ∙ ap (option_map (λ t. declares t (list_all required_of ds))) j.1 in
-    (
-      declares j.0 (list_all required_of ds), known, j.2,
+    let known : lookup_attribute s (entity_types ns) a ≡ Some (declares j.0 (list_all required_of ds)) = ap (option_and_then declared_by_all) p.1 ∙ ap (option_map (λ t. declares t (list_all required_of ds))) j.1 in (
+      declares j.0 (list_all required_of ds),
+      known,
+      j.2,
       λ i. all_from required_of ds (λ d k.
           let g = r.1 d k in
           let b = h g.0 g.1 in
@@ -114,9 +113,9 @@ union_knows_all s ns a e plain free h =
 types_free : (s : Schema) (a : Text) (ns : List Name) (ds : List Declared) → HasPlainAttributes s → Holds s a ns ds → list_all has_no_any_set (map type_of ds) ≡ true
 types_free s a ns ds plain h =
     all_from has_no_any_set (map type_of ds) (λ t k.
-        let f = map_from type_of ds t k in
-        let g = h f.0 f.1 in
-        subst (λ x. has_no_any_set x ≡ true) f.2 (plain a g.0 f.0 g.2).1)
+    let f = map_from type_of ds t k in
+    let g = h f.0 f.1 in
+    subst (λ x. has_no_any_set x ≡ true) f.2 (plain a g.0 f.0 g.2).1)
 
 pub larger_knows_less : (s : Schema) (ns ms : List Name) (a : Text) (e : Declared) → HasPlainAttributes s → Below permissive (entity_types ns) (entity_types ms) → lookup_attribute s (entity_types ms) a ≡ Some e → DeclaredBelow (lookup_attribute s (entity_types ns) a) e
 larger_knows_less s ns ms a e plain h k =
@@ -133,8 +132,8 @@ field_at as_ o no_fields h a v e = no_none e
 field_at as_ o (field b u fs) h a v e =
     test_cases (bytes_eq a b)
     (λ q. let n = (bytes_eq-Decides a b).0 q in
-        let same : u ≡ v = inside (sym (ap (λ x. cond x (Some u) (field_of a fs)) q) ∙ e) in
-        subst (λ x. FieldFits o (HasType v) (attribute_named x as_)) (sym n) (subst (λ x. FieldFits o (HasType x) (attribute_named b as_)) same h.0))
+    let same : u ≡ v = inside (sym (ap (λ x. cond x (Some u) (field_of a fs)) q) ∙ e) in
+    subst (λ x. FieldFits o (HasType v) (attribute_named x as_)) (sym n) (subst (λ x. FieldFits o (HasType x) (attribute_named b as_)) same h.0))
     (λ q. field_at as_ o fs h.1 a v (sym (ap (λ x. cond x (Some u) (field_of a fs)) q) ∙ e))
 
 known_field : (as_ : Attributes) (o : Openness) (fs : Fields) (a : Text) (d : Declared) → HasRequired as_ fs → FieldsFit as_ o fs → attribute_named a as_ ≡ Some d → (x : Option V) → field_of a fs ≡ x → MatchOption x (d.is_required ≡ false) (λ v. HasType v d.type)

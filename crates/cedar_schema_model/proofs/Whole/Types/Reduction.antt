@@ -1,5 +1,5 @@
 -- Joins of several types.
-use Rattle.std.proofs.Common.{◌≡◌, ◌↔◌, List, [], ◌∷◌, Bool, true, false, ◌&&◌, Option, Some, None, is_some, IfSome, Contains, refl, sym, ap, ◌∙◌, subst}
+use Rattle.std.proofs.Common.{◌≡◌, ◌↔◌, List, [], ◌∷◌, true, Option, Some, None, is_some, Contains, refl, sym, ap, ◌∙◌, subst}
 use Rattle.std.specs.List.{list_all}
 use Rattle.cedar_expr_model.proofs.Lists.{both_hold, contains_head, contains_tail, contains_cases, contains_none}
 use Rattle.cedar_schema_model.specs.Whole.Types.{Ty, never, Mode}
@@ -29,11 +29,11 @@ free_join m a b j v w e = for_some (λ x. has_no_any_set x ≡ true) (join m a b
 
 pub exists_exactly : (m : Mode) (a b : Ty) → Formed a → Formed b → has_no_any_set a ≡ true → has_no_any_set b ≡ true → (is_some (join m a b) ≡ true) ↔ ((c : Ty) × (has_no_any_set c ≡ true) × Below m a c × Below m b c)
 exists_exactly m a b v w f g = (
-      λ h. let j = from_some (join m a b) h in
-          let u = join_above m a b j.0 v w j.1 in
-          (j.0, free_join m a b j.0 f g j.1, u.0, u.1),
-      λ h. let j = join_least m a b h.0 v w h.1 h.2 h.3 in some_is (join m a b) j.0 j.1,
-    )
+  λ h. let j = from_some (join m a b) h in
+      let u = join_above m a b j.0 v w j.1 in
+      (j.0, free_join m a b j.0 f g j.1, u.0, u.1),
+  λ h. let j = join_least m a b h.0 v w h.1 h.2 h.3 in some_is (join m a b) j.0 j.1,
+)
 
 -- one after the other
 abbrev Tops : Mode → Ty → List Ty → Ty → Type 0
