@@ -18,3 +18,4 @@ pub mod Declarations
 pub mod WellFormed
 pub mod Resolved
 pub mod BagLaws
+pub mod TypeWorked

@@ -5,3 +5,4 @@ pub mod laws;
 pub mod whole_decl_laws;
 pub mod worked;
 pub mod whole_type_laws;
+pub mod whole_type_worked;

@@ -1,11 +1,11 @@
 -- What is declared of an attribute, for the values of a type.
 -- Rule: attributes of a type (docs/RULES.md).
-use Rattle.std.specs.Prelude.{List, [], ◌∷◌, Bool, true, false, Option, Some, None, is_some}
-use Rattle.std.specs.List.{list_any}
+use Rattle.std.specs.Prelude.{List, [], ◌∷◌, Bool, true, false, Option, Some, None, is_some, map, option_map, option_and_then}
+use Rattle.std.specs.List.{list_all, list_any}
 use Rattle.cedar_expr_model.specs.Name.{Text, Name}
-use Rattle.cedar_schema_model.specs.Whole.Types.{Openness, is_open, is_closed, Ty, never, any_entity, entity_types, record_type, Attributes, no_attributes, Declared, attribute_named, Mode, permissive}
+use Rattle.cedar_schema_model.specs.Whole.Types.{is_open, is_closed, Ty, never, any_entity, entity_types, record_type, Attributes, no_attributes, Declared, attribute_named, permissive}
 use Rattle.cedar_schema_model.specs.Whole.Schema.{EntityKind, standard, enumerated, external, EntityType, Schema, type_named}
-use Rattle.cedar_schema_model.specs.Whole.Join.{join, joined_with}
+use Rattle.cedar_schema_model.specs.Whole.Join.{reduce_to_join}
 
 -- Only a standard entity type has attributes.
 abbrev pub attributes_of_kind : EntityKind → Attributes
@@ -21,19 +21,24 @@ declared_for a (Some e) = attribute_named a (attributes_of_kind e.kind)
 abbrev pub declared_of : Schema → Text → Name → Option Declared
 declared_of s a n = declared_for a (type_named s n)
 
--- what two declarations of an attribute have in common
-abbrev pub common_declared : Option Declared → Option Declared → Option Declared
-common_declared None e = None
-common_declared (Some d) e = joined_with permissive d.is_required (join permissive d.type) e
+abbrev pub with_declared : Option Declared → Option (List Declared) → Option (List Declared)
+with_declared None ds = None
+with_declared (Some d) None = None
+with_declared (Some d) (Some ds) = Some (d ∷ ds)
 
-abbrev pub common_of_all : Schema → Text → Option Declared → List Name → Option Declared
-common_of_all s a d [] = d
-common_of_all s a d (n ∷ ns) = common_of_all s a (common_declared d (declared_of s a n)) ns
+-- what each of these entity types declares of the attribute, if all do
+abbrev pub all_declared : Schema → Text → List Name → Option (List Declared)
+all_declared s a [] = Some []
+all_declared s a (n ∷ ns) = with_declared (declared_of s a n) (all_declared s a ns)
 
--- For a record what it lists, for entities what all members of the union declare, with the permissive join of its types.
+-- the permissive join of the types, required where all require it
+abbrev pub declared_by_all : List Declared → Option Declared
+declared_by_all ds = option_map (λ t. record { type = t; is_required = list_all (λ (d : Declared). d.is_required) ds }) (reduce_to_join permissive (map (λ (d : Declared). d.type) ds))
+
+-- For a record what it lists, for entities what all members of the union declare.
 abbrev pub lookup_attribute : Schema → Ty → Text → Option Declared
 lookup_attribute s (record_type as_ o) a = attribute_named a as_
-lookup_attribute s (entity_types (n ∷ ns)) a = common_of_all s a (declared_of s a n) ns
+lookup_attribute s (entity_types ns) a = option_and_then declared_by_all (all_declared s a ns)
 lookup_attribute s t a = None
 
 -- whether some value of the type may have the attribute

@@ -1,5 +1,5 @@
 -- Attributes by their names: what a look-up finds, and attributes that are the same.
-use Rattle.std.proofs.Common.{◌≡◌, List, Bool, true, false, cond, not, ◌&&◌, ◌||◌, Option, Some, None, is_some, refl, sym, ap, ◌∙◌, subst, true≢false, is_lt, Ordering, Less, Equal, Greater}
+use Rattle.std.proofs.Common.{◌≡◌, Bool, true, false, cond, ◌&&◌, Option, Some, None, is_some, refl, sym, ap, ◌∙◌, subst, true≢false, is_lt, Ordering, Less, Equal, Greater}
 use Rattle.std.specs.Str.{bytes_eq}
 use Rattle.std.proofs.lemmas.Slice.Eq.{bytes_eq-Decides}
 use Rattle.std.proofs.lemmas.Cmp.{nat_list_cmp_total, tied_itself}
@@ -7,8 +7,8 @@ use Rattle.std.proofs.lemmas.Map.Lookups.{exact_bytes}
 use Rattle.std.specs.Ordering.{ordering_reverse}
 use Rattle.cedar_expr_model.specs.Name.{Text}
 use Rattle.cedar_expr_model.specs.Whole.Order.{text_cmp}
-use Rattle.cedar_expr_model.proofs.Lists.{both_hold, hold_both}
-use Rattle.cedar_schema_model.specs.Whole.Types.{BoolType, Openness, Ty, never, bool_type, long_type, string_type, any_entity, entity_types, any_set, set_type, record_type, extension_type, Attributes, no_attributes, attribute, Declared, attribute_named}
+use Rattle.cedar_expr_model.proofs.Lists.{both_hold}
+use Rattle.cedar_schema_model.specs.Whole.Types.{Ty, never, bool_type, long_type, string_type, any_entity, entity_types, any_set, set_type, record_type, extension_type, Attributes, no_attributes, attribute, Declared, attribute_named}
 use Rattle.cedar_schema_model.specs.Whole.Subtype.{is_well_formed_type, are_well_formed_attributes, is_before_attributes}
 
 pub no_lie : {P : Type 0} → false ≡ true → P
@@ -96,7 +96,7 @@ formed_parts n t r as_ w =
     let q = both_hold (is_before_attributes n as_) (are_well_formed_attributes as_) p.1 in
     (p.0, q.0, q.1)
 
-before_later : (x b : Text) (as_ : Attributes) → text_cmp x b ≡ Less → is_before_attributes b as_ ≡ true → is_before_attributes x as_ ≡ true
+pub before_later : (x b : Text) (as_ : Attributes) → text_cmp x b ≡ Less → is_before_attributes b as_ ≡ true → is_before_attributes x as_ ≡ true
 before_later x b no_attributes h k = refl
 before_later x b (attribute c t r as_) h k = ap is_lt (nat_list_cmp_total.trans x b c h (less_is (text_cmp b c) k))
 

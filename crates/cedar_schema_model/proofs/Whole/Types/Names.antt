@@ -1,5 +1,5 @@
 -- Rising lists of names: membership, unions, and lists that are the same.
-use Rattle.std.proofs.Common.{◌≡◌, ◌⊎◌, inl, inr, ⊎_elim, List, [], ◌∷◌, Bool, true, false, ◌&&◌, refl, sym, ap, ◌∙◌, subst, true≢false, is_lt, Ordering, Less, Equal, Greater, Contains}
+use Rattle.std.proofs.Common.{◌≡◌, ◌⊎◌, inl, inr, ⊎_elim, List, [], ◌∷◌, true, refl, sym, ap, ◌∙◌, subst, true≢false, is_lt, Ordering, Less, Equal, Greater, Contains}
 use Rattle.std.specs.List.{list_all, list_any}
 use Rattle.std.specs.Ordering.{match_ordering, ordering_reverse}
 use Rattle.std.specs.Cmp.{IsTotalOrder}

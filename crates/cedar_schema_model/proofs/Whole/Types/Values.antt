@@ -1,18 +1,18 @@
 -- Values of a type.
-use Rattle.std.proofs.Common.{◌≡◌, Bool, true, false, not, ◌&&◌, ◌||◌, Option, Some, None, is_some, refl, sym, ap, ◌∙◌, subst, true≢false, Contains, Decides}
-use Rattle.std.proofs.lemmas.Bool.Decides.{Decides-and, Decides-like}
-use Rattle.cedar_expr_model.specs.Name.{Text, Name, name_eq}
+use Rattle.std.proofs.Common.{◌≡◌, Bool, true, false, not, ◌||◌, Option, Some, None, is_some, refl, sym, ap, ◌∙◌, subst, true≢false, Decides}
+use Rattle.std.proofs.lemmas.Bool.Decides.{Decides-and}
+use Rattle.cedar_expr_model.specs.Name.{Text, name_eq}
 use Rattle.cedar_expr_model.specs.Whole.Value.{Literal, truth, long, text, entity, V, prim, set_of, record_of, extension, Vs, no_values, value, Fields, no_fields, field, field_of}
 use Rattle.cedar_expr_model.proofs.Equality.{name_eq-Decides}
-use Rattle.cedar_expr_model.proofs.Lists.{both_hold, found-Decides, any_has}
+use Rattle.cedar_expr_model.proofs.Lists.{found-Decides, any_has}
 use Rattle.std.specs.List.{list_any}
 use Rattle.cedar_schema_model.specs.Whole.Types.{BoolType, any_bool, only_true, only_false, Openness, is_open, is_closed, Ty, never, bool_type, long_type, string_type, any_entity, entity_types, any_set, set_type, record_type, extension_type, Attributes, no_attributes, attribute, Declared, attribute_named, Mode, strict, permissive}
-use Rattle.cedar_schema_model.specs.Whole.Subtype.{carries, is_bool_below, is_frame_below, is_subtype, have_below, Below}
+use Rattle.cedar_schema_model.specs.Whole.Subtype.{carries, is_bool_below, is_frame_below, have_below, Below}
 use Rattle.cedar_schema_model.specs.Whole.HasType.{is_of_bool, LiteralHasType, FieldFits, HasRequired, HasType, HaveType, FieldsFit, literal_has_type, field_fits, has_required, has_type, have_type, fields_fit}
 use Rattle.cedar_schema_model.specs.Whole.Join.{are_disjoint}
-use Rattle.cedar_schema_model.proofs.Whole.Types.Lookups.{no_lie, no_none, inside, declares, named_cases}
+use Rattle.cedar_schema_model.proofs.Whole.Types.Lookups.{no_lie, no_none, inside, named_cases}
 use Rattle.cedar_schema_model.proofs.Whole.Types.Names.{among_at, listed}
-use Rattle.cedar_schema_model.proofs.Whole.Types.Subtypes.{union_weaker, record_parts, have_parts, have_at, declared_found, closed_frame, named_at, below_weaker}
+use Rattle.cedar_schema_model.proofs.Whole.Types.Subtypes.{record_parts, have_parts, have_at, declared_found, closed_frame, named_at, below_weaker}
 
 -- the test decides
 literal_decided : (p : Literal) (t : Ty) → Decides (literal_has_type p t) (LiteralHasType p t)
@@ -103,7 +103,7 @@ Passes Has x y = (e : Declared) → y ≡ Some e → (d : Declared) × (x ≡ So
 abbrev Closes : Openness → Openness → Option Declared → Option Declared → Type 0
 Closes o p x y = p ≡ is_closed → (o ≡ is_closed) × ((d : Declared) → x ≡ Some d → (e : Declared) × (y ≡ Some e))
 
-field_some : (Has : Ty → Type 0) (o : Openness) (x : Option Declared) (d : Declared) → x ≡ Some d → FieldFits o Has x → Has d.type
+pub field_some : (Has : Ty → Type 0) (o : Openness) (x : Option Declared) (d : Declared) → x ≡ Some d → FieldFits o Has x → Has d.type
 field_some Has o None d e h = no_none e
 field_some Has o (Some c) d e h = subst (λ (z : Declared). Has z.type) (inside e) h
 
@@ -145,11 +145,11 @@ mutual
   fields_kept : (fs : Fields) (as_ : Attributes) (o : Openness) (bs : Attributes) (p : Openness) → is_frame_below permissive as_ o bs p ≡ true → have_below permissive as_ bs ≡ true → FieldsFit as_ o fs → FieldsFit bs p fs
   fields_kept no_fields as_ o bs p f h k = tt
   fields_kept (field n v fs) as_ o bs p f h k = (
-      field_kept (HasType v) o p (attribute_named n as_) (attribute_named n bs)
-      (λ e q. let g = have_at permissive as_ bs h n e q in (g.0, g.1, value_kept v g.0.type e.type g.2))
-      (closes as_ o bs p f n) k.0,
-      fields_kept fs as_ o bs p f h k.1,
-    )
+    field_kept (HasType v) o p (attribute_named n as_) (attribute_named n bs)
+        (λ e q. let g = have_at permissive as_ bs h n e q in (g.0, g.1, value_kept v g.0.type e.type g.2))
+        (closes as_ o bs p f n) k.0,
+    fields_kept fs as_ o bs p f h k.1,
+  )
 
 weaker : (m : Mode) (a b : Ty) → Below m a b → Below permissive a b
 weaker permissive a b h = h
