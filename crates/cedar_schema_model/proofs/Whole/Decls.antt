@@ -4,3 +4,4 @@ pub mod Conforming
 pub mod Direct
 pub mod Environments
 pub mod Faults
+pub mod Reordered
