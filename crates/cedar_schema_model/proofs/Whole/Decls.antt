@@ -5,3 +5,5 @@ pub mod Direct
 pub mod Environments
 pub mod Faults
 pub mod Reordered
+pub mod Resolved
+pub mod Schema
