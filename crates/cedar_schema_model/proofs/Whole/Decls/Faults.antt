@@ -11,7 +11,7 @@ use Rattle.cedar_expr_model.specs.Uid.{Uid, uid_eq}
 use Rattle.cedar_expr_model.proofs.Equality.{name_eq-Decides, uid_eq-Decides}
 use Rattle.cedar_expr_model.proofs.Lists.{contains_head, contains_tail, found-Decides, any-Decides, all-Decides, map_has}
 use Rattle.cedar_schema_model.specs.Whole.Descent.{Reaches, reaches}
-use Rattle.cedar_schema_model.specs.Whole.Reference.{action_word, Reference, Meant, common_type, entity, candidates, action_candidates, first_passing, IsFirst}
+use Rattle.cedar_schema_model.specs.Whole.Reference.{Namespace, action_word, Reference, Meant, common_type, entity, candidates, action_candidates, first_passing, IsFirst}
 use Rattle.cedar_schema_model.specs.Whole.Declarations.{CommonDeclaration, EntityDeclaration, ActionDeclaration, Declarations, common_name, entity_name, action_uid, common_names, entity_names, action_uids, is_declared, is_declared_action, meant, parent_meant, references_of_common, references, extensions}
 use Rattle.cedar_schema_model.specs.Whole.WellFormed.{SchemaFault, duplicate_entity_type, duplicate_common_type, duplicate_action, undeclared_type, undeclared_action, cycle_of_common_types, cycle_of_actions, action_as_entity_type, context_not_record, reserved_name, shadowing, unknown_extension_type, unresolved_external, ill_forms, HasTwice, has_twice, Uses, is_common, uses, HasParentAction, is_uid, has_parent_action, becomes_record, written_names, unqualified, unqualified_uid, is_qualified, declared_types, Shadows, shadows, is_external_kind, HasSchemaFault, has_schema_fault, IsWellFormed, well_formed}
 use Rattle.cedar_schema_model.proofs.Whole.Decls.Descent.{reaches-Decides, Covers, chain_starts}
@@ -44,6 +44,9 @@ meant_is_first d r m = (first_is (is_declared d) (candidates r) m, is_first (is_
 
 pub meant_is_declared : (d : Declarations) (r : Reference) (m : Meant) → meant d r ≡ Some m → is_declared d m ≡ true
 meant_is_declared d r m h = first_passes (is_declared d) (candidates r) m (first_is (is_declared d) (candidates r) m h)
+
+pub parent_is_first : (d : Declarations) (ns : Namespace) (u v : Uid) → (parent_meant d ns u ≡ Some v) ↔ IsFirst (is_declared_action d) (action_candidates ns u) v
+parent_is_first d ns u v = (first_is (is_declared_action d) (action_candidates ns u) v, is_first (is_declared_action d) (action_candidates ns u) v)
 
 -- repeats
 pub has_twice-Decides : {X : Type 0} (eq : X → X → Bool) → ((x y : X) → Decides (eq x y) (x ≡ y)) → (xs : List X) → Decides (has_twice eq xs) (HasTwice xs)
