@@ -16,7 +16,7 @@ use Rattle.cedar_expr_model.specs.Uid.{Uid, uid_eq}
 use Rattle.cedar_expr_model.proofs.Equality.{name_eq-Decides, uid_eq-Decides}
 use Rattle.cedar_expr_model.proofs.Lists.{contains_cases, contains_none, contains_head, contains_tail, all_each, all_from, map_has, map_from, flat_has, flat_from}
 use Rattle.cedar_schema_model.specs.Whole.Descent.{Chain, Reaches}
-use Rattle.cedar_schema_model.specs.Whole.Reference.{Namespace, ReferenceKind, Reference, Meant, common_type, entity, candidates, action_candidates, first_passing}
+use Rattle.cedar_schema_model.specs.Whole.Reference.{Namespace, ReferenceKind, Reference, Meant, meant_common, meant_entity, candidates, action_candidates, first_passing}
 use Rattle.cedar_schema_model.specs.Whole.Declarations.{TypeExpr, bool_expr, long_expr, string_expr, set_expr, record_expr, reference, extension_expr, CommonDeclaration, EntityDeclaration, ActionDeclaration, Declarations, bag, common_name, entity_name, action_uid, common_names, entity_names, action_uids, is_declared, is_declared_action, meant, parent_meant, extensions_in, types_in, references_of_common, references_of_entity, references_of_action, references, extensions}
 use Rattle.cedar_schema_model.specs.Whole.WellFormed.{SchemaFault, duplicate_entity_type, duplicate_common_type, duplicate_action, undeclared_type, undeclared_action, cycle_of_common_types, cycle_of_actions, action_as_entity_type, context_not_record, reserved_name, shadowing, unknown_extension_type, unresolved_external, HasTwice, has_twice, Uses, HasParentAction, all_of_name, refers_to_record, is_written_record, is_record_within, becomes_record, parent_types, written_names, unqualified, unqualified_uid, declared_types, Shadows, HasSchemaFault}
 use Rattle.cedar_schema_model.specs.Whole.BagLaws.{IsReordered}
@@ -56,8 +56,8 @@ module _ (d e : Declarations) (m : IsReordered d e) where
   actions_within a h = Contains-permutation d.actions e.actions a m.actions h
 
   pub same_declared : (x : Meant) → is_declared d x ≡ is_declared e x
-  same_declared (common_type n) = list_any-IsPermutation (name_eq n) (common_names d) (common_names e) (IsPermutation-map common_name d.commons e.commons m.commons)
-  same_declared (entity n) = list_any-IsPermutation (name_eq n) (entity_names d) (entity_names e) (IsPermutation-map entity_name d.entities e.entities m.entities)
+  same_declared (meant_common n) = list_any-IsPermutation (name_eq n) (common_names d) (common_names e) (IsPermutation-map common_name d.commons e.commons m.commons)
+  same_declared (meant_entity n) = list_any-IsPermutation (name_eq n) (entity_names d) (entity_names e) (IsPermutation-map entity_name d.entities e.entities m.entities)
 
   pub same_declared_action : (u : Uid) → is_declared_action d u ≡ is_declared_action e u
   same_declared_action u = list_any-IsPermutation (uid_eq u) (action_uids d) (action_uids e) (IsPermutation-map action_uid d.actions e.actions m.actions)
@@ -151,10 +151,10 @@ module _ (d e : Declarations) (m : IsReordered d e) where
   parents_along u v h = (h.0, actions_within d e m h.0 h.1, h.2, (h.3.0, h.3.1, sym (same_parent h.0.namespace h.3.0) ∙ h.3.2))
 
   same_refers : (p q : CommonDeclaration → Bool) → ((c : CommonDeclaration) → p c ≡ q c) → (o : Option Meant) → refers_to_record p d o ≡ refers_to_record q e o
-  same_refers p q f (Some (common_type n)) =
+  same_refers p q f (Some (meant_common n)) =
       all_agree (λ c. not (name_eq n (common_name c)) || p c) (λ c. not (name_eq n (common_name c)) || q c) (λ c. ap (λ b. not (name_eq n (common_name c)) || b) (f c)) d.commons
       ∙ all_reordered (λ c. not (name_eq n (common_name c)) || q c) d.commons e.commons m.commons
-  same_refers p q f (Some (entity n)) = refl
+  same_refers p q f (Some (meant_entity n)) = refl
   same_refers p q f None = refl
 
   same_record : (k : ℕ) (ns : Namespace) (t : TypeExpr) → is_record_within k d ns t ≡ is_record_within k e ns t

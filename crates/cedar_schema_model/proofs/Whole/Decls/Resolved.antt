@@ -13,7 +13,7 @@ use Rattle.cedar_expr_model.proofs.Equality.{name_eq-Decides, uid_eq-Decides}
 use Rattle.cedar_expr_model.proofs.Lists.{contains_cases, contains_none, contains_head, contains_tail, found-Decides, all_each, filter_has, filter_only, map_has, map_from}
 use Rattle.cedar_schema_model.specs.Whole.Types.{Ty, never, record_type, set_type, is_closed, Attributes}
 use Rattle.cedar_schema_model.specs.Whole.Descent.{Chain, Reaches}
-use Rattle.cedar_schema_model.specs.Whole.Reference.{Namespace, Reference, Meant, common_type, entity}
+use Rattle.cedar_schema_model.specs.Whole.Reference.{Namespace, Reference, Meant, meant_common, meant_entity}
 use Rattle.cedar_schema_model.specs.Whole.Declarations.{TypeExpr, bool_expr, long_expr, string_expr, set_expr, record_expr, reference, extension_expr, FieldExprs, no_field_exprs, field_expr, CommonDeclaration, EntityDeclaration, ActionDeclaration, Declarations, common_name, entity_name, action_uid, common_names, entity_names, action_uids, is_declared, meant, parent_meant, references_in, references_in_fields}
 use Rattle.cedar_schema_model.specs.Whole.WellFormed.{duplicate_common_type, cycle_of_common_types, context_not_record, HasTwice, Uses, refers_to_record, is_record_within, becomes_record, IsWellFormed}
 use Rattle.cedar_schema_model.specs.Whole.Resolved.{with_attribute, type_meant, resolved_by, resolved_fields_by, common_among, defined_by, common_within, common_of, resolved, attributes_of_record, resolved_action}
@@ -23,12 +23,12 @@ use Rattle.cedar_schema_model.proofs.Whole.Decls.Faults.{meant_is_declared}
 
 -- Two choices of the common types that agree on those that a written type refers to resolve it to the same.
 abbrev pub AgreeOn : (Name → Ty) → (Name → Ty) → Declarations → List Reference → Type 0
-AgreeOn f g d rs = (r : Reference) → Contains rs r → (n : Name) → meant d r ≡ Some (common_type n) → f n ≡ g n
+AgreeOn f g d rs = (r : Reference) → Contains rs r → (n : Name) → meant d r ≡ Some (meant_common n) → f n ≡ g n
 
-agree_meant : (f g : Name → Ty) (o : Option Meant) → ((n : Name) → o ≡ Some (common_type n) → f n ≡ g n) → type_meant f o ≡ type_meant g o
+agree_meant : (f g : Name → Ty) (o : Option Meant) → ((n : Name) → o ≡ Some (meant_common n) → f n ≡ g n) → type_meant f o ≡ type_meant g o
 agree_meant f g None h = refl
-agree_meant f g (Some (common_type n)) h = h n refl
-agree_meant f g (Some (entity n)) h = refl
+agree_meant f g (Some (meant_common n)) h = h n refl
+agree_meant f g (Some (meant_entity n)) h = refl
 
 mutual
   pub same_resolved : (f g : Name → Ty) (d : Declarations) (ns : Namespace) (t : TypeExpr) → AgreeOn f g d (references_in ns t) → resolved_by f d ns t ≡ resolved_by g d ns t
@@ -126,7 +126,7 @@ stays_on d acyclic ns n m s u =
           among_others n ns k (s.1 k on) (λ e. acyclic n (subst (Reaches (Uses d) n) e on)),
     )
 
-uses_of : (d : Declarations) (n : Name) (c : CommonDeclaration) → IsDeclarationOf n d.commons c → (r : Reference) → Contains (references_in c.namespace c.definition) r → (m : Name) → meant d r ≡ Some (common_type m) → Uses d n m
+uses_of : (d : Declarations) (n : Name) (c : CommonDeclaration) → IsDeclarationOf n d.commons c → (r : Reference) → Contains (references_in c.namespace c.definition) r → (m : Name) → meant d r ≡ Some (meant_common m) → Uses d n m
 uses_of d n c h r k m e = (c, h.1, h.0, (r, k, e))
 
 stable_step : (d : Declarations) (n : Name) (f g : Name → Ty) (o : Option CommonDeclaration) → common_among n d.commons ≡ o → ((m : Name) → Uses d n m → f m ≡ g m) → defined_by f d o ≡ defined_by g d o
@@ -144,7 +144,7 @@ stable d acyclic (suc k) ns l n s =
 
 -- what is used is declared
 used_declared : (d : Declarations) (n : Name) (zs : List Name) (m : Name) → Chain (Uses d) n zs m → Contains (common_names d) m
-used_declared d n [] m h = (found-Decides name_eq name_eq-Decides m (common_names d)).0 (meant_is_declared d h.3.0 (common_type m) h.3.2)
+used_declared d n [] m h = (found-Decides name_eq name_eq-Decides m (common_names d)).0 (meant_is_declared d h.3.0 (meant_common m) h.3.2)
 used_declared d n (z ∷ zs) m h = used_declared d z zs m h.1
 
 length_map : {X Y : Type 0} (f : X → Y) (xs : List X) → length (map f xs) ≡ length xs
@@ -183,7 +183,7 @@ test_of_name false t h e = cc
 abbrev IsRecordType : Ty → Type 0
 IsRecordType t = (as_ : Attributes) × (t ≡ record_type as_ is_closed)
 
-mutual_of_name : (d : Declarations) (test : CommonDeclaration → Bool) (f : Name → Ty) (n : Name) → refers_to_record test d (Some (common_type n)) ≡ true → ((c : CommonDeclaration) → test c ≡ true → IsRecordType (resolved_by f d c.namespace c.definition)) → (o : Option CommonDeclaration) → common_among n d.commons ≡ o → is_some o ≡ true → IsRecordType (defined_by f d o)
+mutual_of_name : (d : Declarations) (test : CommonDeclaration → Bool) (f : Name → Ty) (n : Name) → refers_to_record test d (Some (meant_common n)) ≡ true → ((c : CommonDeclaration) → test c ≡ true → IsRecordType (resolved_by f d c.namespace c.definition)) → (o : Option CommonDeclaration) → common_among n d.commons ≡ o → is_some o ≡ true → IsRecordType (defined_by f d o)
 mutual_of_name d test f n h each None e s = cc
 mutual_of_name d test f n h each (Some c) e s =
     let k = common_found n d.commons c e in
@@ -191,10 +191,10 @@ mutual_of_name d test f n h each (Some c) e s =
 
 meant_record : (d : Declarations) (k : ℕ) → ((ns : Namespace) (t : TypeExpr) → is_record_within k d ns t ≡ true → IsRecordType (resolved_by (common_within k d) d ns t)) → (o : Option Meant) → ((m : Meant) → o ≡ Some m → is_declared d m ≡ true) → refers_to_record (λ c. is_record_within k d c.namespace c.definition) d o ≡ true → IsRecordType (type_meant (common_within (suc k) d) o)
 meant_record d k each None declared h = cc
-meant_record d k each (Some (entity n)) declared h = cc
-meant_record d k each (Some (common_type n)) declared h =
+meant_record d k each (Some (meant_entity n)) declared h = cc
+meant_record d k each (Some (meant_common n)) declared h =
     mutual_of_name d (λ c. is_record_within k d c.namespace c.definition) (common_within k d) n h (λ c t. each c.namespace c.definition t) (common_among n d.commons) refl
-    (some_common n d.commons ((found-Decides name_eq name_eq-Decides n (common_names d)).0 (declared (common_type n) refl)))
+    (some_common n d.commons ((found-Decides name_eq name_eq-Decides n (common_names d)).0 (declared (meant_common n) refl)))
 
 pub record_resolved : (d : Declarations) (k : ℕ) (ns : Namespace) (t : TypeExpr) → is_record_within k d ns t ≡ true → IsRecordType (resolved_by (common_within k d) d ns t)
 record_resolved d zero ns (record_expr fs) h = (resolved_fields_by (common_within zero d) d ns fs, refl)
