@@ -13,3 +13,4 @@ pub mod Declarations
 pub mod WellFormed
 pub mod Resolved
 pub mod BagLaws
+pub mod DeclWorked

@@ -3,4 +3,5 @@
 
 pub mod laws;
 pub mod whole_decl_laws;
+pub mod whole_decl_worked;
 pub mod worked;
