@@ -2,6 +2,7 @@
 #![tactic(auto)]
 
 pub mod laws;
+pub mod whole_bag_worked;
 pub mod whole_decl_laws;
 pub mod whole_decl_worked;
 pub mod worked;

@@ -188,3 +188,58 @@ request = record { principal = user_a; action = view; resource = doc_d; context 
 -- the environment of viewing, by these types
 abbrev pub at : Name → Name → Option Name → Option Name → Environment
 at p r x y = record { principal = p; action = view; resource = r; context = no_attributes; principal_slot = x; resource_slot = y }
+
+-- a reference, as it is written in a namespace
+abbrev pub at_place : Namespace → ReferenceKind → Name → Reference
+at_place ns k x = record { namespace = ns; kind = k; name = x }
+
+-- `User` in the empty namespace and in `N`; and common types beside them
+abbrev pub two_users : Declarations
+two_users = record { commons = []; entities = plain [] (codes "User") ∷ plain n (codes "User") ∷ []; actions = [] }
+
+abbrev pub own_first : Declarations
+own_first = record { commons = common [] (codes "User") bool_expr ∷ []; entities = plain n (codes "User") ∷ []; actions = [] }
+
+abbrev pub common_first : Declarations
+common_first = record { commons = common n (codes "User") bool_expr ∷ []; entities = plain n (codes "User") ∷ plain [] (codes "User") ∷ []; actions = [] }
+
+-- reading is declared in the empty namespace, and in both
+abbrev pub read_above : Declarations
+read_above = record { commons = []; entities = []; actions = act n (codes "view") (read ∷ []) ∷ act [] (codes "read") [] ∷ [] }
+
+abbrev pub read_beside : Declarations
+read_beside = record { commons = []; entities = []; actions = act n (codes "read") [] ∷ act [] (codes "read") [] ∷ [] }
+
+-- T is U and U is T
+abbrev pub common_named : Text → TypeExpr
+common_named w = reference to_common (name_in [] w)
+
+abbrev pub common_cycle : List CommonDeclaration
+common_cycle = common [] (codes "T") (common_named (codes "U")) ∷ common [] (codes "U") (common_named (codes "T")) ∷ []
+
+-- T is a set of U, and U is the record of a number
+abbrev pub number_record : TypeExpr
+number_record = record_expr (field_expr (codes "a") long_expr true no_field_exprs)
+
+abbrev pub common_chain : List CommonDeclaration
+common_chain = common [] (codes "T") (set_expr (common_named (codes "U"))) ∷ common [] (codes "U") number_record ∷ []
+
+-- T is U, and U is that record
+abbrev pub common_alias : List CommonDeclaration
+common_alias = common [] (codes "T") (common_named (codes "U")) ∷ common [] (codes "U") number_record ∷ []
+
+-- a in b, and b in a
+abbrev pub action_cycle : Declarations
+action_cycle = record m { actions = act [] (codes "a") (action_in [] (codes "b") ∷ []) ∷ act [] (codes "b") (action_in [] (codes "a") ∷ []) ∷ [] }
+
+-- a user with an attribute of the extension type `rank`
+abbrev pub ranked : Declarations
+ranked = record m { entities = record { namespace = []; word = codes "Soldier"; parents = []; kind = standard_expr (field_expr (codes "r") (extension_expr rank) true no_field_exprs) None } ∷ m.entities }
+
+-- a type of entities with tags of this type
+abbrev pub tagged_by : TypeExpr → EntityDeclaration
+tagged_by t = record { namespace = []; word = codes "Tagged"; parents = []; kind = standard_expr no_field_exprs (Some t) }
+
+-- a group below itself
+abbrev pub grouped : Declarations
+grouped = with_type (child (codes "Group") (group ∷ []))
