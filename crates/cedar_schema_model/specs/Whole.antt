@@ -19,3 +19,4 @@ pub mod WellFormed
 pub mod Resolved
 pub mod BagLaws
 pub mod TypeWorked
+pub mod DeclWorked

@@ -1,6 +1,7 @@
 //! Laws of the definitions on declarations, entities and requests. Each function's contract is the theorem; its body does nothing.
 
 ghost use Rattle.cedar_schema_model.specs.Whole.DeclLaws.{DescentDecides, ActionDescentDecides, ActionTypeDescentDecides, TypeDescentDecides, DescentIsTransitive, AncestorsAreDeclared, EntitiesAreActions, ActionsConform, AdmissionDecides, SetsByMembers, EntityFaultsDecide, EntityConformingDecides, RequestFaultsDecide, RequestConformingDecides, EntitiesReadDirectly, RequestsReadDirectly, EnvironmentsAreProducts, RequestsHaveEnvironments, SlotsAreCovered};
+ghost use Rattle.cedar_schema_model.specs.Whole.BagLaws.{FirstDeclaredIsMeant, FirstActionIsMeant, SchemaFaultsDecide, WellFormedDecides, OrderHidesNoFault, SplittingIsFree, FragmentsMayMove, OrderIsTransitive, CommonTypesAreDefined, NoMoreToReplace, ContextsAreRecords, SameTypes, SameActions, ParentsAreMeant, ActionParentsAreMeant, NoActionIsItsAncestor, ActionTypesAreApart};
 
 /// The tests of descent are true exactly where there is a chain of declared parents, and descent is transitive.
 pub fn descent_is_decided()
@@ -44,4 +45,43 @@ pub fn environments_are_products()
     ensures products { EnvironmentsAreProducts }
     ensures requests { RequestsHaveEnvironments }
     ensures slots { SlotsAreCovered }
+{}
+
+/// A reference means the first name that is declared of those that are tried.
+pub fn references_mean_the_first()
+    ensures types { FirstDeclaredIsMeant }
+    ensures actions { FirstActionIsMeant }
+{}
+
+/// The tests of declarations are true exactly where the fault is there, and where none is.
+pub fn declarations_are_decided()
+    ensures faults { SchemaFaultsDecide }
+    ensures well_formed { WellFormedDecides }
+{}
+
+/// Declarations in another order, or split into fragments in another way, have the same faults.
+pub fn bags_have_no_order()
+    ensures faults { OrderHidesNoFault }
+    ensures split { SplittingIsFree }
+    ensures moved { FragmentsMayMove }
+    ensures transitive { OrderIsTransitive }
+{}
+
+/// Where declarations are well-formed a common type is what its definition says, replacing once more changes nothing, and the
+/// context of each action is a closed record.
+pub fn common_types_are_replaced()
+    ensures defined { CommonTypesAreDefined }
+    ensures once_more { NoMoreToReplace }
+    ensures contexts { ContextsAreRecords }
+{}
+
+/// The schema has the declared types and actions, with the parents that are meant. Where declarations are well-formed no action
+/// is its own ancestor, and no action's type is an entity type.
+pub fn schemas_are_what_is_declared()
+    ensures types { SameTypes }
+    ensures actions { SameActions }
+    ensures parents { ParentsAreMeant }
+    ensures action_parents { ActionParentsAreMeant }
+    ensures no_cycle { NoActionIsItsAncestor }
+    ensures apart { ActionTypesAreApart }
 {}

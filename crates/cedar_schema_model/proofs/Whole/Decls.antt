@@ -4,3 +4,6 @@ pub mod Conforming
 pub mod Direct
 pub mod Environments
 pub mod Faults
+pub mod Reordered
+pub mod Resolved
+pub mod Schema

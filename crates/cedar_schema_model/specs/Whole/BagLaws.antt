@@ -42,9 +42,12 @@ OrderHidesNoFault = (x : List Name) (d e : Declarations) → IsReordered d e →
 abbrev pub SplittingIsFree : Type 0
 SplittingIsFree = (before after : List Declarations) (d e : Declarations) → bag (before ++ bag (d ∷ e ∷ []) ∷ after) ≡ bag (before ++ d ∷ e ∷ after)
 
--- fragments may change places
+-- neighbouring fragments may change places, and so all of them
 abbrev pub FragmentsMayMove : Type 0
-FragmentsMayMove = (ds es : List Declarations) → IsPermutation ds es → IsReordered (bag ds) (bag es)
+FragmentsMayMove = (before after : List Declarations) (d e : Declarations) → IsReordered (bag (before ++ d ∷ e ∷ after)) (bag (before ++ e ∷ d ∷ after))
+
+abbrev pub OrderIsTransitive : Type 0
+OrderIsTransitive = (c d e : Declarations) → IsReordered c d → IsReordered d e → IsReordered c e
 
 -- where declarations are well-formed, a common type is what its definition says, and replacing once more changes nothing
 abbrev pub CommonTypesAreDefined : Type 0

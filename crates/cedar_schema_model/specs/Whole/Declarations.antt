@@ -4,7 +4,7 @@ use Rattle.std.specs.Prelude.{◌≡◌, ◌||◌, List, [], ◌∷◌, ◌++◌
 use Rattle.std.specs.List.{flat_map, list_any}
 use Rattle.cedar_expr_model.specs.Name.{Text, Name, name_eq}
 use Rattle.cedar_expr_model.specs.Uid.{Uid, uid_eq}
-use Rattle.cedar_schema_model.specs.Whole.Reference.{Namespace, name_in, action_in, ReferenceKind, to_entity, Reference, Meant, common_type, entity, candidates, action_candidates, first_passing}
+use Rattle.cedar_schema_model.specs.Whole.Reference.{Namespace, name_in, action_in, ReferenceKind, to_entity, Reference, Meant, meant_common, meant_entity, candidates, action_candidates, first_passing}
 
 -- A type as it is written.
 mutual
@@ -80,8 +80,8 @@ abbrev pub action_uids : Declarations → List Uid
 action_uids d = map action_uid d.actions
 
 abbrev pub is_declared : Declarations → Meant → Bool
-is_declared d (common_type n) = list_any (name_eq n) (common_names d)
-is_declared d (entity n) = list_any (name_eq n) (entity_names d)
+is_declared d (meant_common n) = list_any (name_eq n) (common_names d)
+is_declared d (meant_entity n) = list_any (name_eq n) (entity_names d)
 
 abbrev pub is_declared_action : Declarations → Uid → Bool
 is_declared_action d u = list_any (uid_eq u) (action_uids d)

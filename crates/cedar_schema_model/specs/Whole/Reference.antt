@@ -36,8 +36,8 @@ pub record Reference : Type 0 where
 
 -- What a reference may mean: a common type or an entity type.
 pub data Meant : Type 0 where
-  common_type : Name → Meant
-  entity : Name → Meant
+  meant_common : Name → Meant
+  meant_entity : Name → Meant
 
 -- The names that are tried, in order: with a namespace the name itself; without one the name in its own namespace, and then
 -- that in the empty one.
@@ -50,9 +50,9 @@ places ns n = places_by n.path ns n
 
 -- what is tried at a name: where either may stand, the common type first
 abbrev pub meant_at : ReferenceKind → Name → List Meant
-meant_at to_entity n = entity n ∷ []
-meant_at to_common n = common_type n ∷ []
-meant_at to_either n = common_type n ∷ entity n ∷ []
+meant_at to_entity n = meant_entity n ∷ []
+meant_at to_common n = meant_common n ∷ []
+meant_at to_either n = meant_common n ∷ meant_entity n ∷ []
 
 abbrev pub candidates : Reference → List Meant
 candidates r = flat_map (meant_at r.kind) (places r.namespace r.name)

@@ -8,7 +8,7 @@ use Rattle.cedar_expr_model.specs.Uid.{Uid}
 use Rattle.cedar_expr_model.specs.Whole.Order.{text_cmp}
 use Rattle.cedar_schema_model.specs.Whole.Types.{Ty, never, bool_type, any_bool, long_type, string_type, entity_type, set_type, record_type, extension_type, is_closed, Attributes, no_attributes, attribute}
 use Rattle.cedar_schema_model.specs.Whole.Schema.{EntityKind, standard, enumerated, external, EntityType, Action, Schema}
-use Rattle.cedar_schema_model.specs.Whole.Reference.{Namespace, to_entity, Reference, Meant, common_type, entity}
+use Rattle.cedar_schema_model.specs.Whole.Reference.{Namespace, to_entity, Reference, Meant, meant_common, meant_entity}
 use Rattle.cedar_schema_model.specs.Whole.Declarations.{TypeExpr, bool_expr, long_expr, string_expr, set_expr, record_expr, reference, extension_expr, FieldExprs, no_field_exprs, field_expr, CommonDeclaration, KindExpr, standard_expr, enumerated_expr, external_expr, EntityDeclaration, ActionDeclaration, Declarations, common_name, entity_name, action_uid, meant, parent_meant}
 
 -- the attributes with one more, in its place; one of that name that stands already stays
@@ -19,8 +19,8 @@ with_attribute a t r (attribute b u q as_) = match_ordering (text_cmp a b) (attr
 -- the type that a reference means; one that means nothing has none
 abbrev pub type_meant : (Name → Ty) → Option Meant → Ty
 type_meant commons None = never
-type_meant commons (Some (common_type n)) = commons n
-type_meant commons (Some (entity n)) = entity_type n
+type_meant commons (Some (meant_common n)) = commons n
+type_meant commons (Some (meant_entity n)) = entity_type n
 
 -- A written type with its references resolved, and these types in place of the common ones.
 abbrev mutual
@@ -67,7 +67,7 @@ resolved_tags d ns (Some t) = Some (resolved d ns t)
 
 -- the entity type that a reference means, if it means one
 abbrev pub entity_of : Option Meant → Option Name
-entity_of (Some (entity n)) = Some n
+entity_of (Some (meant_entity n)) = Some n
 entity_of o = None
 
 abbrev pub entity_meant : Declarations → Namespace → Name → Option Name

@@ -7,7 +7,7 @@ use Rattle.std.proofs.Common.{◌⊎◌}
 use Rattle.cedar_expr_model.specs.Name.{Text, Name, name_eq, is_reserved}
 use Rattle.cedar_expr_model.specs.Uid.{Uid, uid_eq}
 use Rattle.cedar_schema_model.specs.Whole.Descent.{Reaches, reaches}
-use Rattle.cedar_schema_model.specs.Whole.Reference.{Namespace, action_word, ReferenceKind, Reference, Meant, common_type, entity}
+use Rattle.cedar_schema_model.specs.Whole.Reference.{Namespace, action_word, ReferenceKind, Reference, Meant, meant_common, meant_entity}
 use Rattle.cedar_schema_model.specs.Whole.Declarations.{TypeExpr, record_expr, reference, CommonDeclaration, KindExpr, external_expr, EntityDeclaration, ActionDeclaration, Declarations, common_name, entity_name, action_uid, common_names, entity_names, action_uids, meant, parent_meant, references_of_common, references, extensions}
 
 pub data SchemaFault : Type 0 where
@@ -56,11 +56,11 @@ has_twice eq (x ∷ xs) = list_any (eq x) xs || has_twice eq xs
 
 -- the definition of a common type refers to another
 abbrev pub Uses : Declarations → Name → Name → Type 0
-Uses d m n = (c : CommonDeclaration) × Contains d.commons c × (m ≡ common_name c) × ((r : Reference) × Contains (references_of_common c) r × (meant d r ≡ Some (common_type n)))
+Uses d m n = (c : CommonDeclaration) × Contains d.commons c × (m ≡ common_name c) × ((r : Reference) × Contains (references_of_common c) r × (meant d r ≡ Some (meant_common n)))
 
 -- a reference means this common type
 abbrev pub is_common : Name → Option Meant → Bool
-is_common n (Some (common_type m)) = name_eq m n
+is_common n (Some (meant_common m)) = name_eq m n
 is_common n o = false
 
 abbrev pub uses : Declarations → Name → Name → Bool
@@ -83,7 +83,7 @@ abbrev pub all_of_name : Name → (CommonDeclaration → Bool) → List CommonDe
 all_of_name n test cs = list_all (λ c. not (name_eq n (common_name c)) || test c) cs
 
 abbrev pub refers_to_record : (CommonDeclaration → Bool) → Declarations → Option Meant → Bool
-refers_to_record test d (Some (common_type n)) = all_of_name n test d.commons
+refers_to_record test d (Some (meant_common n)) = all_of_name n test d.commons
 refers_to_record test d o = false
 
 abbrev pub is_written_record : (Namespace → ReferenceKind → Name → Bool) → Namespace → TypeExpr → Bool

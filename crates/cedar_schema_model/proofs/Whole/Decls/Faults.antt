@@ -11,7 +11,7 @@ use Rattle.cedar_expr_model.specs.Uid.{Uid, uid_eq}
 use Rattle.cedar_expr_model.proofs.Equality.{name_eq-Decides, uid_eq-Decides}
 use Rattle.cedar_expr_model.proofs.Lists.{contains_head, contains_tail, found-Decides, any-Decides, all-Decides, map_has}
 use Rattle.cedar_schema_model.specs.Whole.Descent.{Reaches, reaches}
-use Rattle.cedar_schema_model.specs.Whole.Reference.{action_word, Reference, Meant, common_type, entity, candidates, action_candidates, first_passing, IsFirst}
+use Rattle.cedar_schema_model.specs.Whole.Reference.{Namespace, action_word, Reference, Meant, meant_common, meant_entity, candidates, action_candidates, first_passing, IsFirst}
 use Rattle.cedar_schema_model.specs.Whole.Declarations.{CommonDeclaration, EntityDeclaration, ActionDeclaration, Declarations, common_name, entity_name, action_uid, common_names, entity_names, action_uids, is_declared, is_declared_action, meant, parent_meant, references_of_common, references, extensions}
 use Rattle.cedar_schema_model.specs.Whole.WellFormed.{SchemaFault, duplicate_entity_type, duplicate_common_type, duplicate_action, undeclared_type, undeclared_action, cycle_of_common_types, cycle_of_actions, action_as_entity_type, context_not_record, reserved_name, shadowing, unknown_extension_type, unresolved_external, ill_forms, HasTwice, has_twice, Uses, is_common, uses, HasParentAction, is_uid, has_parent_action, becomes_record, written_names, unqualified, unqualified_uid, is_qualified, declared_types, Shadows, shadows, is_external_kind, HasSchemaFault, has_schema_fault, IsWellFormed, well_formed}
 use Rattle.cedar_schema_model.proofs.Whole.Decls.Descent.{reaches-Decides, Covers, chain_starts}
@@ -45,22 +45,25 @@ meant_is_first d r m = (first_is (is_declared d) (candidates r) m, is_first (is_
 pub meant_is_declared : (d : Declarations) (r : Reference) (m : Meant) → meant d r ≡ Some m → is_declared d m ≡ true
 meant_is_declared d r m h = first_passes (is_declared d) (candidates r) m (first_is (is_declared d) (candidates r) m h)
 
+pub parent_is_first : (d : Declarations) (ns : Namespace) (u v : Uid) → (parent_meant d ns u ≡ Some v) ↔ IsFirst (is_declared_action d) (action_candidates ns u) v
+parent_is_first d ns u v = (first_is (is_declared_action d) (action_candidates ns u) v, is_first (is_declared_action d) (action_candidates ns u) v)
+
 -- repeats
 pub has_twice-Decides : {X : Type 0} (eq : X → X → Bool) → ((x y : X) → Decides (eq x y) (x ≡ y)) → (xs : List X) → Decides (has_twice eq xs) (HasTwice xs)
 has_twice-Decides eq each [] = (λ h. cc, λ h. absurd h)
 has_twice-Decides eq each (x ∷ xs) = Decides-or _ _ (found-Decides eq each x xs) (has_twice-Decides eq each xs)
 
 -- what a common type refers to
-is_common-Decides : (n : Name) (o : Option Meant) → Decides (is_common n o) (o ≡ Some (common_type n))
-is_common-Decides n (Some (common_type m)) = Decides-like _ (λ e. ap (λ k. Some (common_type k)) e) (λ e. cc) (name_eq-Decides m n)
-is_common-Decides n (Some (entity m)) = (λ h. cc, λ h. cc)
+is_common-Decides : (n : Name) (o : Option Meant) → Decides (is_common n o) (o ≡ Some (meant_common n))
+is_common-Decides n (Some (meant_common m)) = Decides-like _ (λ e. ap (λ k. Some (meant_common k)) e) (λ e. cc) (name_eq-Decides m n)
+is_common-Decides n (Some (meant_entity m)) = (λ h. cc, λ h. cc)
 is_common-Decides n None = (λ h. cc, λ h. cc)
 
 pub uses-Decides : (d : Declarations) (m n : Name) → Decides (uses d m n) (Uses d m n)
 uses-Decides d m n =
     Decides-like _ (λ h. (h.0, h.1, h.2.0, h.2.1)) (λ h. (h.0, h.1, (h.2, h.3)))
-    (any-Decides (λ c. name_eq m (common_name c) && list_any (λ r. is_common n (meant d r)) (references_of_common c)) (λ c. (m ≡ common_name c) × ((r : Reference) × Contains (references_of_common c) r × (meant d r ≡ Some (common_type n))))
-      (λ c. Decides-and _ _ (name_eq-Decides m (common_name c)) (any-Decides (λ r. is_common n (meant d r)) (λ r. meant d r ≡ Some (common_type n)) (λ r. is_common-Decides n (meant d r)) (references_of_common c))) d.commons)
+    (any-Decides (λ c. name_eq m (common_name c) && list_any (λ r. is_common n (meant d r)) (references_of_common c)) (λ c. (m ≡ common_name c) × ((r : Reference) × Contains (references_of_common c) r × (meant d r ≡ Some (meant_common n))))
+      (λ c. Decides-and _ _ (name_eq-Decides m (common_name c)) (any-Decides (λ r. is_common n (meant d r)) (λ r. meant d r ≡ Some (meant_common n)) (λ r. is_common-Decides n (meant d r)) (references_of_common c))) d.commons)
 
 commons_cover : (d : Declarations) → Covers (Uses d) (common_names d)
 commons_cover d m n h = subst (Contains (common_names d)) (sym h.2) (map_has common_name d.commons h.0 h.1)
