@@ -4,3 +4,12 @@ pub mod Moment
 pub mod Transcript
 pub mod Owed
 pub mod Acceptance
+pub mod Bundle
+pub mod ReadingForms
+pub mod ReadingName
+pub mod ReadingExpression
+pub mod ReadingSchema
+pub mod ReadingPolicy
+pub mod ReadingValue
+pub mod ReadingRequest
+pub mod ReadingBundle
