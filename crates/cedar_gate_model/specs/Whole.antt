@@ -6,3 +6,12 @@ pub mod Owed
 pub mod Acceptance
 pub mod Session
 pub mod Runs
+pub mod Bundle
+pub mod ReadingForms
+pub mod ReadingName
+pub mod ReadingExpression
+pub mod ReadingSchema
+pub mod ReadingPolicy
+pub mod ReadingValue
+pub mod ReadingRequest
+pub mod ReadingBundle

@@ -1,17 +1,17 @@
 -- What the gate admits: the acceptance rules, each with the fault that breaks it.
 -- Rule: the acceptance rules; impossible policies; statuses and refusal numbers (docs/RULES.md).
 use Rattle.std.specs.Prelude.{◌≡◌, ◌&&◌, ◌||◌, ℕ, List, [], ◌∷◌, ◌++◌, Contains, Bool, true, false, not, is_some, Option, Some, None, nat_le}
-use Rattle.std.specs.List.{list_all, filter, flat_map, filter_map}
+use Rattle.std.specs.List.{list_all, filter, flat_map}
 use Rattle.std.specs.Str.{bytes_eq}
 use Rattle.cedar_expr_model.specs.Name.{Text, Name}
 use Rattle.cedar_expr_model.specs.Whole.Tree.{SlotId, principal_slot, resource_slot, CoreType, extension_core, nesting}
 use Rattle.cedar_expr_model.specs.Whole.Unknowns.{has_unknown}
-use Rattle.cedar_expr_model.specs.Whole.Table.{Table, Signature}
+use Rattle.cedar_expr_model.specs.Whole.Table.{Table}
 use Rattle.cedar_store_model.specs.Whole.Policy.{Policy, binding_of, body_tree, condition, tree_uses, has_slot}
 use Rattle.cedar_store_model.specs.Whole.Answer.{ids}
 use Rattle.cedar_schema_model.specs.Whole.Schema.{Schema}
 use Rattle.cedar_schema_model.specs.Whole.Declarations.{Declarations}
-use Rattle.cedar_schema_model.specs.Whole.WellFormed.{SchemaFault, unresolved_external, schema_number, ill_forms, has_twice, has_schema_fault, well_formed}
+use Rattle.cedar_schema_model.specs.Whole.WellFormed.{SchemaFault, unresolved_external, ill_forms, has_twice, has_schema_fault, well_formed}
 use Rattle.cedar_schema_model.specs.Whole.Resolved.{schema_of}
 use Rattle.cedar_typechecker_model.specs.Whole.ScopeRules.{names_known_types, names_known_actions, names_known_members}
 use Rattle.cedar_typechecker_model.specs.Whole.Verdicts.{RequestType, passes, impossible, irrelevant_for, policy_violations}

@@ -1,12 +1,12 @@
 -- Requests that may be partly open, the worlds that complete them, and what is known at a moment of a run.
 -- Rule: completions; moments (docs/RULES.md).
-use Rattle.std.specs.Prelude.{◌≡◌, ◌&&◌, ◌||◌, ℕ, List, [], ◌∷◌, Contains, Bool, true, false, Option, Some, None, codes, if◌then◌else◌}
+use Rattle.std.specs.Prelude.{◌≡◌, ◌||◌, ℕ, List, [], Bool, true, false, Option, Some, None, codes, if◌then◌else◌}
 use Rattle.std.specs.List.{list_all, list_any}
 use Rattle.std.specs.Str.{bytes_eq}
-use Rattle.cedar_expr_model.specs.Name.{Text, Name}
+use Rattle.cedar_expr_model.specs.Name.{Text}
 use Rattle.cedar_expr_model.specs.Uid.{Uid, uid_eq}
 use Rattle.cedar_expr_model.specs.Whole.Value.{V, record_of, Fields}
-use Rattle.cedar_expr_model.specs.Whole.Tree.{CoreType, Tree, record_literal, TreeFields}
+use Rattle.cedar_expr_model.specs.Whole.Tree.{CoreType, record_literal}
 use Rattle.cedar_expr_model.specs.Whole.Made.{bare_fields}
 use Rattle.cedar_expr_model.specs.Whole.Substitution.{fits_annotation}
 use Rattle.cedar_expr_model.specs.Whole.Parts.{unknowns}

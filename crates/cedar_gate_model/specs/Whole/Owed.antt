@@ -1,6 +1,6 @@
 -- Which decisions are owed: those that what is known forces.
 -- Rule: owed decisions (docs/RULES.md).
-use Rattle.std.specs.Prelude.{◌≡◌, List, Contains, Bool, true, false}
+use Rattle.std.specs.Prelude.{◌≡◌, List, Contains, true}
 use Rattle.std.proofs.Common.{◌⊎◌}
 use Rattle.cedar_expr_model.specs.Name.{Text}
 use Rattle.cedar_expr_model.specs.Whole.Value.{V, truth_value}

@@ -1,11 +1,11 @@
 -- What may be asked: the uids fewer than n steps away from the request, less the declared actions.
 -- Rule: mentions; the slice (docs/RULES.md).
-use Rattle.std.specs.Prelude.{◌≡◌, ◌&&◌, ◌||◌, ℕ, zero, suc, List, [], ◌∷◌, ◌++◌, map, not, Contains, Bool, true, false, Option, Some, None}
-use Rattle.std.specs.List.{flat_map, list_any, filter}
+use Rattle.std.specs.Prelude.{◌≡◌, ℕ, zero, suc, List, [], ◌∷◌, ◌++◌, not, false, Option, Some, None}
+use Rattle.std.specs.List.{flat_map, filter}
 use Rattle.std.proofs.Common.{◌⊎◌}
 use Rattle.cedar_expr_model.specs.Name.{Text}
-use Rattle.cedar_expr_model.specs.Uid.{Uid, uid_eq}
-use Rattle.cedar_expr_model.specs.Whole.Value.{Literal, truth, long, text, entity, V, prim, set_of, record_of, extension, Fields, no_fields, field}
+use Rattle.cedar_expr_model.specs.Uid.{Uid}
+use Rattle.cedar_expr_model.specs.Whole.Value.{entity, V, prim, set_of, record_of, extension, Fields, no_fields, field}
 use Rattle.cedar_store_model.specs.Whole.World.{World, Part, known, left, Entity, Found, held, missing, not_loaded}
 use Rattle.cedar_schema_model.specs.Whole.Schema.{Schema, declares_action}
 
