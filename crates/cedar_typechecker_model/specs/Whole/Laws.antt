@@ -1,0 +1,48 @@
+-- What the laws of typing say.
+-- Rule: typing (docs/RULES.md).
+use Rattle.std.specs.Prelude.{◌≡◌, ◌↔◌, List, [], ◌∷◌, true, Option, Some, None}
+use Rattle.cedar_expr_model.specs.Name.{Text}
+use Rattle.cedar_expr_model.specs.Whole.Tree.{Tree, both, get_attr, has_attr, has_path, Trees, TreeFields}
+use Rattle.cedar_schema_model.specs.Whole.Types.{any_bool, only_true, Ty, bool_type, Attributes}
+use Rattle.cedar_typechecker_model.specs.Whole.Facts.{Facts, no_facts, Part}
+use Rattle.cedar_typechecker_model.specs.Whole.Rules.{Setting}
+use Rattle.cedar_typechecker_model.specs.Whole.Typing.{Judgement, Types, EachTyped, FieldsTyped, judgement, judgements, field_judgements}
+
+-- an expression has a type, with facts, exactly where the function gives them; likewise lists of expressions and of fields
+abbrev pub TypingIsAFunction : Type 0
+TypingIsAFunction = (s : Setting) (known : Facts) (t : Tree) (ty : Ty) (out : Facts) → Types s known t ty out ↔ (judgement s known t ≡ Some (record { type = ty; facts = out }))
+
+abbrev pub ListsAreTyped : Type 0
+ListsAreTyped = (s : Setting) (known : Facts) (ts : Trees) (us : List Ty) → EachTyped s known ts us ↔ (judgements s known ts ≡ Some us)
+
+abbrev pub FieldsAreTyped : Type 0
+FieldsAreTyped = (s : Setting) (known : Facts) (fs : TreeFields) (as_ : Attributes) → FieldsTyped s known fs as_ ↔ (field_judgements s known fs ≡ Some as_)
+
+-- no expression has two types, nor two sets of facts
+abbrev pub OneJudgement : Type 0
+OneJudgement = (s : Setting) (known : Facts) (t : Tree) (a b : Ty) (f g : Facts) → Types s known t a f → Types s known t b g → (a ≡ b) × (f ≡ g)
+
+-- only an expression of the type of both truth values has facts
+abbrev pub FactsAreOfBool : Type 0
+FactsAreOfBool = (s : Setting) (known : Facts) (t : Tree) (ty : Ty) (out : Facts) → Types s known t ty out → (ty ≡ bool_type any_bool → ⊥) → out ≡ no_facts
+
+-- so one of type True has none
+abbrev pub TruthHasNoFacts : Type 0
+TruthHasNoFacts = (s : Setting) (known : Facts) (t : Tree) (out : Facts) → judgement s known t ≡ Some (record { type = bool_type only_true; facts = out }) → out ≡ no_facts
+
+-- each of the first facts is among the second
+abbrev pub FactsAmong : Facts → Facts → Type 0
+FactsAmong f g = (e : Tree) (p : Part) → f e p ≡ true → g e p ≡ true
+
+-- where more is known, what has a type keeps it, and its facts
+abbrev pub MoreFactsKeepTypes : Type 0
+MoreFactsKeepTypes = (s : Setting) (known more : Facts) (t : Tree) (ty : Ty) (out : Facts) → FactsAmong known more → Types s known t ty out → Types s more t ty out
+
+-- the test of a path, as the conjunction of its tests
+abbrev pub path_unfolded : Tree → Text → List Text → Tree
+path_unfolded e a [] = has_attr e a
+path_unfolded e a (b ∷ bs) = both (has_attr e a) (path_unfolded (get_attr e a) b bs)
+
+-- a path has the type and the facts of that conjunction
+abbrev pub PathsAreConjunctions : Type 0
+PathsAreConjunctions = (s : Setting) (known : Facts) (e : Tree) (a : Text) (bs : List Text) → judgement s known (has_path e a bs) ≡ judgement s known (path_unfolded e a bs)
