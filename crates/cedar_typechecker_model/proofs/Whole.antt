@@ -4,3 +4,5 @@ pub mod Itself
 pub mod More
 pub mod Bare
 pub mod Paths
+pub mod Verdicts
+pub mod Naming

@@ -6,3 +6,4 @@ pub mod Levels
 pub mod ScopeRules
 pub mod Verdicts
 pub mod Laws
+pub mod Worked
