@@ -5,3 +5,5 @@ pub mod Typing
 pub mod Levels
 pub mod ScopeRules
 pub mod Verdicts
+pub mod Laws
+pub mod Worked

@@ -5,6 +5,7 @@ use Rattle.std.specs.List.{list_all, list_any, flat_map, filter}
 use Rattle.cedar_expr_model.specs.Name.{Name, name_eq}
 use Rattle.cedar_expr_model.specs.Uid.{Uid, uid_eq}
 use Rattle.cedar_expr_model.specs.Whole.Table.{Table}
+use Rattle.cedar_expr_model.specs.Whole.Tree.{Tree}
 use Rattle.cedar_store_model.specs.Whole.Policy.{Policy, Target, named, own_slot, Scope, any, exactly, inside, of_kind, of_kind_inside, condition}
 use Rattle.cedar_schema_model.specs.Whole.Types.{BoolType, any_bool, only_true, only_false, Ty, bool_type, Mode, strict}
 use Rattle.cedar_schema_model.specs.Whole.Schema.{Schema}
@@ -30,13 +31,30 @@ scope_use (of_kind_inside n t) = target_use in_slot t
 abbrev pub policy_environments : Schema → Policy → List Environment
 policy_environments s p = environments_for s (scope_use p.principal) (scope_use p.resource)
 
--- what a condition is typed in at the gate
-abbrev pub strictly : Schema → Table → Environment → Setting
-strictly s x e = record { schema = s; table = x; mode = strict; env = e }
+-- what a condition is typed in, and what it is typed in at the gate
+abbrev pub in_mode : Mode → Schema → Table → Environment → Setting
+in_mode m s x e = record { schema = s; table = x; mode = m; env = e }
 
--- In each environment the condition has a type of truth values.
+abbrev pub strictly : Schema → Table → Environment → Setting
+strictly s x e = in_mode strict s x e
+
+-- the expression has a type of truth values, and the type False
+abbrev pub HasBool : Setting → Tree → Type 0
+HasBool s t = (b : BoolType) × (f : Facts) × Types s no_facts t (bool_type b) f
+
+abbrev pub HasFalse : Setting → Tree → Type 0
+HasFalse s t = (f : Facts) × Types s no_facts t (bool_type only_false) f
+
+-- In each environment the condition has a type of truth values; in one of the two ways of typing, and at the gate.
+abbrev pub PassesIn : Mode → Schema → Table → Policy → Type 0
+PassesIn m s x p = (e : Environment) → Contains (policy_environments s p) e → HasBool (in_mode m s x e) (condition p)
+
 abbrev pub Passes : Schema → Table → Policy → Type 0
-Passes s x p = (e : Environment) → Contains (policy_environments s p) e → (b : BoolType) × (f : Facts) × Types (strictly s x e) no_facts (condition p) (bool_type b) f
+Passes s x p = PassesIn strict s x p
+
+-- In each environment the condition has the type False, or there is none: what is warned of where no bindings are seen.
+abbrev pub IsWarned : Mode → Schema → Table → Policy → Type 0
+IsWarned m s x p = (e : Environment) → Contains (policy_environments s p) e → HasFalse (in_mode m s x e) (condition p)
 
 -- the slot of the environment, if it has one, has the type of the uid that is bound to it
 abbrev pub fits_slot : Option Name → Option Uid → Bool
@@ -50,7 +68,7 @@ fits p e = fits_slot e.principal_slot p.bindings.principal && fits_slot e.resour
 
 -- the condition has the type False
 abbrev pub IsFalseIn : Schema → Table → Policy → Environment → Type 0
-IsFalseIn s x p e = (f : Facts) × Types (strictly s x e) no_facts (condition p) (bool_type only_false) f
+IsFalseIn s x p e = HasFalse (strictly s x e) (condition p)
 
 -- Each environment that fits gives the type False, or none fits.
 abbrev pub IsImpossible : Schema → Table → Policy → Type 0
@@ -75,6 +93,11 @@ pub data Verdict : Type 0 where
   irrelevant : Verdict
   fail : Verdict
 
+abbrev pub HasVerdict : Setting → Tree → Verdict → Type 0
+HasVerdict s t success = (b : BoolType) × (f : Facts) × (b ≡ only_false → ⊥) × Types s no_facts t (bool_type b) f
+HasVerdict s t irrelevant = HasFalse s t
+HasVerdict s t fail = HasBool s t → ⊥
+
 abbrev pub verdict_of : Option Ty → Verdict
 verdict_of (Some (bool_type only_false)) = irrelevant
 verdict_of (Some (bool_type b)) = success
@@ -92,8 +115,14 @@ is_false t = false
 abbrev pub condition_type : Schema → Table → Policy → Environment → Option Ty
 condition_type s x p e = type_of (strictly s x e) (condition p)
 
+abbrev pub passes_in : Mode → Schema → Table → Policy → Bool
+passes_in m s x p = list_all (λ e. is_bool (type_of (in_mode m s x e) (condition p))) (policy_environments s p)
+
 abbrev pub passes : Schema → Table → Policy → Bool
-passes s x p = list_all (λ e. is_bool (condition_type s x p e)) (policy_environments s p)
+passes s x p = passes_in strict s x p
+
+abbrev pub is_warned : Mode → Schema → Table → Policy → Bool
+is_warned m s x p = list_all (λ e. is_false (type_of (in_mode m s x e) (condition p))) (policy_environments s p)
 
 abbrev pub impossible : Schema → Table → Policy → Bool
 impossible s x p = list_all (λ e. is_false (condition_type s x p e)) (filter (fits p) (policy_environments s p))
