@@ -4,3 +4,6 @@ pub mod Evaluation
 pub mod Known
 pub mod Completion
 pub mod Standing
+pub mod Response
+pub mod Members
+pub mod Reauthorize
