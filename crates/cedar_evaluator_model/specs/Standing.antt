@@ -1,13 +1,14 @@
 -- What it is for the outcome of a partial evaluation to stand for an expression.
 -- Rule: partial evaluation; completions (docs/RULES.md).
-use Rattle.std.specs.Prelude.{◌≡◌, ◌≤◌, ◌↔◌, ℕ}
+use Rattle.std.specs.Prelude.{◌≡◌, ◌≤◌, ℕ, List, map, Option, None}
+use Rattle.cedar_expr_model.specs.Name.{Text, Name}
 use Rattle.cedar_expr_model.specs.Whole.Value.{V}
 use Rattle.cedar_expr_model.specs.Whole.Tree.{Tree, nesting}
 use Rattle.cedar_expr_model.specs.Whole.Made.{Made, bare}
 use Rattle.cedar_store_model.specs.Whole.Outcome.{Fault, Res, val, err}
 use Rattle.cedar_store_model.specs.Whole.World.{World}
 use Rattle.cedar_store_model.specs.Whole.Meaning.{Means}
-use Rattle.cedar_evaluator_model.specs.Scope.{Scope, fault, limit, Left, value_left, residual, stopped}
+use Rattle.cedar_evaluator_model.specs.Scope.{Scope, IsTaken, leaves_unknown, fault, limit, Left, value_left, residual, stopped}
 use Rattle.cedar_evaluator_model.specs.Evaluation.{evaluated}
 use Rattle.cedar_evaluator_model.specs.Known.{known_world}
 use Rattle.cedar_evaluator_model.specs.Completion.{FitsAnnotations, Completes}
@@ -38,6 +39,10 @@ StandsInAll s t l = (w : World) → Completes w s → FitsAnnotations w t → St
 abbrev pub IsOutcome : Res V → Left → Type 0
 IsOutcome (val v) l = (m : Made) × (l ≡ value_left m) × (bare m ≡ v)
 IsOutcome (err f) l = l ≡ stopped (fault f)
+
+-- an unknown that a call leaves is bound to no value
+abbrev pub LeavesUnbound : Scope → Type 0
+LeavesUnbound s = (f : Name) (ms : List Made) (n : Text) → IsTaken s.table f (map bare ms) → s.calls f ms ≡ leaves_unknown n → s.values n ≡ None
 
 -- What is owed: where what is known gives the expression an outcome, and its nesting is within the limit, that outcome is left.
 abbrev pub Owed : Scope → ℕ → Tree → Type 0
