@@ -8,11 +8,12 @@ use Rattle.cedar_expr_model.specs.Uid.{Uid}
 use Rattle.cedar_expr_model.specs.Whole.Value.{Literal, truth, entity, V}
 use Rattle.cedar_expr_model.specs.Whole.Tree.{Var, principal, action, resource, context, CoreType, entity_core, BinaryOp, Tree, lit, var, slot, unknown, choice, both, either, unary, binary, call, get_attr, has_attr, has_path, like, is_type, set_literal, record_literal, Trees, no_trees, tree, TreeFields, no_tree_fields, tree_field}
 use Rattle.cedar_expr_model.specs.Whole.Builder.{conjunction, disjunction, path_test}
+use Rattle.cedar_expr_model.specs.Whole.Parts.{have_projectable}
 use Rattle.cedar_expr_model.specs.Whole.Made.{Made, made_prim, made_set, made_record, bare, written}
 use Rattle.cedar_store_model.specs.Whole.Outcome.{missing_field, unlinked_slot}
 use Rattle.cedar_store_model.specs.Whole.Operators.{applied, like_pattern, of_type}
 use Rattle.cedar_evaluator_model.specs.Scope.{Scope, Entry, uid, unknown_uid, Context, closed, residual_fields, unknown_context, Stop, limit, Left, value_left, residual, stopped}
-use Rattle.cedar_evaluator_model.specs.Steps.{errs, truth_left, on_value, best, left_of, truth_wanted, picks, mapped, attribute_of, test_of, path_of, combined_left, with_residual, is_of_residual, called_left, made_members, Pieces, pieces, halted, with_piece, from_pieces, made_fields, tree_fields_of}
+use Rattle.cedar_evaluator_model.specs.Steps.{errs, truth_left, on_value, best, left_of, truth_wanted, picks, mapped, attribute_of, test_of, path_of, combined_left, kind_of_value, kind_of_unknown, with_residual, is_of_residual, called_left, made_members, Pieces, pieces, halted, with_piece, from_pieces, made_fields, tree_fields_of}
 
 abbrev pub entry_left : Text → Entry → Left
 entry_left name (uid u) = value_left (made_prim (entity u))
@@ -33,24 +34,6 @@ variable_left s context = context_left s.context
 abbrev pub slot_left : Option Uid → Left
 slot_left None = errs unlinked_slot
 slot_left (Some u) = value_left (made_prim (entity u))
-
--- an expression that may be projected: literals, unknowns, sets, variables and records alone
-abbrev mutual
-  pub is_projectable : Tree → Bool
-  is_projectable (lit p) = true
-  is_projectable (unknown n a) = true
-  is_projectable (var x) = true
-  is_projectable (set_literal ts) = are_projectable ts
-  is_projectable (record_literal fs) = have_projectable fs
-  is_projectable t = false
-
-  pub are_projectable : Trees → Bool
-  are_projectable no_trees = true
-  are_projectable (tree t ts) = is_projectable t && are_projectable ts
-
-  pub have_projectable : TreeFields → Bool
-  have_projectable no_tree_fields = true
-  have_projectable (tree_field a t fs) = is_projectable t && have_projectable fs
 
 abbrev pub tree_named : Text → TreeFields → Option Tree
 tree_named a no_tree_fields = None
@@ -74,10 +57,11 @@ has_of_residual a r = residual (has_attr r a)
 abbrev pub right_left : (Tree → Tree → Tree) → Bool → Left → Left
 right_left join b l = on_value l truth_wanted (λ r. residual (join (lit (truth b)) r))
 
+-- of two operands; where one is a residual the expression stays, but for what its types decide
 abbrev pub binary_left : Scope → BinaryOp → Left → Left → Left
 binary_left s o l r = on_value l
-    (λ m. on_value r (combined_left s o m) (λ b. with_residual o (written m) b))
-    (λ a. on_value r (λ n. with_residual o a (written n)) (with_residual o a))
+    (λ m. on_value r (combined_left s o m) (λ b. with_residual o (kind_of_value m) (kind_of_unknown b) (written m) b))
+    (λ a. on_value r (λ n. with_residual o (kind_of_unknown a) (kind_of_value n) a (written n)) (λ b. with_residual o (kind_of_unknown a) (kind_of_unknown b) a b))
 
 -- what is left of several, one after the other
 abbrev pub pieces_of : (Tree → Left) → Trees → Pieces

@@ -173,20 +173,23 @@ combined_left s contains_any m n = left_of (of_sets any_member (bare m) (bare n)
 combined_left s get_tag m n = tag_of get_tag_found s m n
 combined_left s has_tag m n = tag_of has_tag_found s m n
 
--- the entity type of an operand that is a uid, or an unknown annotated with one
-abbrev pub evident_kind : Tree → Option Name
-evident_kind (lit (entity u)) = Some u.kind
-evident_kind (unknown n (Some (entity_core k))) = Some k
-evident_kind t = None
+-- the entity type of a uid, and that with which an unknown is annotated
+abbrev pub kind_of_value : Made → Option Name
+kind_of_value (made_prim (entity u)) = Some u.kind
+kind_of_value m = None
+
+abbrev pub kind_of_unknown : Tree → Option Name
+kind_of_unknown (unknown n (Some (entity_core k))) = Some k
+kind_of_unknown t = None
 
 abbrev pub differ : Option Name → Option Name → Bool
 differ (Some m) (Some n) = not (name_eq m n)
 differ m n = false
 
 -- An operator of which one operand at least is a residual: it stays, but entities of two types are not equal.
-abbrev pub with_residual : BinaryOp → Tree → Tree → Left
-with_residual equal a b = if differ (evident_kind a) (evident_kind b) then truth_left false else residual (binary equal a b)
-with_residual o a b = residual (binary o a b)
+abbrev pub with_residual : BinaryOp → Option Name → Option Name → Tree → Tree → Left
+with_residual equal j k a b = if differ j k then truth_left false else residual (binary equal a b)
+with_residual o j k a b = residual (binary o a b)
 
 -- `is` of a residual: decided of an unknown annotated with an entity type
 abbrev pub is_of_residual : Name → Tree → Left
