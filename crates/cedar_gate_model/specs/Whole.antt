@@ -15,3 +15,4 @@ pub mod ReadingPolicy
 pub mod ReadingValue
 pub mod ReadingRequest
 pub mod ReadingBundle
+pub mod Lines

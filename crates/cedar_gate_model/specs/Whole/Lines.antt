@@ -10,10 +10,10 @@ use Rattle.cedar_store_model.specs.Whole.Outcome.{Fault, missing_entity, overflo
 use Rattle.cedar_store_model.specs.Whole.World.{Entity}
 use Rattle.cedar_store_model.specs.Whole.Answer.{Decision, allow, deny, PolicyError, Answer}
 use Rattle.cedar_gate_model.specs.Whole.Acceptance.{Submission, Cause, HasFault, IsAccepted, number_of, warnings_of, schema_in}
-use Rattle.cedar_gate_model.specs.Whole.Session.{Functions, Setup, HoldsInAll, open_number, bind_number, supply_number, answer_number}
+use Rattle.cedar_gate_model.specs.Whole.Session.{Setup, HoldsInAll, open_number, bind_number, supply_number, answer_number}
 use Rattle.cedar_gate_model.specs.Whole.Transcript.{Entry, round, bound, decided}
 use Rattle.cedar_gate_model.specs.Whole.Runs.{End, answered, opening_refused, supply_refused, binding_refused, answer_refused, Runs}
-use Rattle.cedar_gate_model.specs.Whole.Bundle.{Bundle}
+use Rattle.cedar_gate_model.specs.Whole.Bundle.{Functions, Bundle}
 
 pub data Status : Type 0 where
   is_answered : Status

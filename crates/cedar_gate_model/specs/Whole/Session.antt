@@ -20,14 +20,10 @@ use Rattle.cedar_schema_model.specs.Whole.Schema.{Schema, declares_action}
 use Rattle.cedar_schema_model.specs.Whole.ActionEntities.{as_entity}
 use Rattle.cedar_schema_model.specs.Whole.Conforming.{EntityConforms, RequestConforms}
 use Rattle.cedar_evaluator_model.specs.Scope.{Scope, MadeCalled, Entry, uid, unknown_uid, Context, closed, residual_fields, unknown_context, Left, value_left, residual, stopped, Stop}
-use Rattle.cedar_evaluator_model.specs.Evaluation.{evaluated}
+use Rattle.cedar_gate_model.specs.Whole.Bundle.{Functions}
 use Rattle.cedar_gate_model.specs.Whole.Slice.{InSlice}
+use Rattle.cedar_gate_model.specs.Whole.ReadingValue.{left_of_restricted}
 use Rattle.cedar_gate_model.specs.Whole.Moment.{Start, Completes, parts_of_world, told}
-
--- the functions that a gate is given
-pub record Functions : Type 0 where
-  pub table : Table
-  pub calls : Name → List Made → MadeCalled
 
 -- What a session stands on: schema, level, functions, the request that it was opened with, and the store that answers.
 pub record Setup : Type 0 where
@@ -56,27 +52,9 @@ abbrev pub is_some_value : Option Made → Bool
 is_some_value None = false
 is_some_value (Some m) = true
 
--- the scope in which restricted expressions are evaluated: it knows the functions alone
-abbrev pub bare_scope : Functions → Scope
-bare_scope f = record {
-  principal = unknown_uid None;
-  action = unknown_uid None;
-  resource = unknown_uid None;
-  context = unknown_context;
-  slots = λ s. None;
-  values = λ n. None;
-  table = f.table;
-  calls = f.calls;
-  store = λ u. not_loaded;
-}
-
--- the depth to which restricted expressions are evaluated
-abbrev pub restricted_limit : ℕ
-restricted_limit = 512
-
 -- the fields of a context with the bound values in the place of its unknowns, evaluated
 abbrev pub context_left : Functions → State → TreeFields → Left
-context_left f s fs = evaluated (bare_scope f) restricted_limit (substituted (value_of s) (record_literal fs))
+context_left f s fs = left_of_restricted f (substituted (value_of s) (record_literal fs))
 
 abbrev pub value_if_whole : Left → Option V
 value_if_whole (value_left m) = Some (bare m)
