@@ -4,10 +4,11 @@ use Rattle.std.specs.Prelude.{◌≡◌, ◌↔◌, List, true, false, Option, S
 use Rattle.std.specs.Bool.{Decides}
 use Rattle.std.specs.List.{list_all}
 use Rattle.cedar_expr_model.specs.Name.{Text, Name}
+use Rattle.cedar_expr_model.specs.Whole.Canonical.{is_canonical}
 use Rattle.cedar_expr_model.specs.Whole.Value.{V, record_of, Fields, field_of}
 use Rattle.cedar_schema_model.specs.Whole.Types.{Ty, never, entity_types, Declared, Mode, strict, permissive}
 use Rattle.cedar_schema_model.specs.Whole.Schema.{Schema}
-use Rattle.cedar_schema_model.specs.Whole.Subtype.{Below, is_well_formed_type, has_no_any_set}
+use Rattle.cedar_schema_model.specs.Whole.Subtype.{Below, is_alike, is_well_formed_type, has_no_any_set, is_filled}
 use Rattle.cedar_schema_model.specs.Whole.HasType.{HasType, has_type}
 use Rattle.cedar_schema_model.specs.Whole.Join.{join, reduce_to_join, are_disjoint}
 use Rattle.cedar_schema_model.specs.Whole.Lookup.{declared_of, lookup_attribute, may_have_attribute}
@@ -32,6 +33,15 @@ SubtypesAntisymmetric = (m : Mode) (a b : Ty) → Formed a → Formed b → Belo
 
 abbrev pub StrictIsPermissive : Type 0
 StrictIsPermissive = (a b : Ty) → Below strict a b → Below permissive a b
+
+-- strict is permissive where the two are alike at every place where they are compared
+abbrev pub StrictSubtypesExactly : Type 0
+StrictSubtypesExactly = (a b : Ty) → Below strict a b ↔ (Below permissive a b × (is_alike a b ≡ true))
+
+-- Where all parts of both have values and all attributes are required, a type is below another exactly where its values are
+-- values of the other.
+abbrev pub SubtypesAreInclusions : Type 0
+SubtypesAreInclusions = (a b : Ty) → Formed a → Formed b → is_filled a ≡ true → is_filled b ≡ true → Below permissive a b ↔ ((v : V) → is_canonical v ≡ true → HasType v a → HasType v b)
 
 -- the test of a value decides whether it is of the type
 abbrev pub HasTypeDecides : Type 0
@@ -67,6 +77,10 @@ JoinSwaps = (m : Mode) (a b : Ty) → Formed a → Formed b → join m a b ≡ j
 -- where the strict join exists the permissive one is the same
 abbrev pub StrictJoinIsPermissive : Type 0
 StrictJoinIsPermissive = (a b j : Ty) → Formed a → Formed b → join strict a b ≡ Some j → join permissive a b ≡ Some j
+
+-- the permissive join is the strict one exactly where it is strictly above both
+abbrev pub StrictJoinsExactly : Type 0
+StrictJoinsExactly = (a b j : Ty) → Formed a → Formed b → (join strict a b ≡ Some j) ↔ ((join permissive a b ≡ Some j) × Below strict a j × Below strict b j)
 
 -- a join exists wherever there is an upper bound without `any_set`
 abbrev pub JoinExists : Type 0
