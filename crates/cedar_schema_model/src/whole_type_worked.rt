@@ -7,7 +7,7 @@ ghost use Rattle.cedar_schema_model.specs.Whole.Subtype.{is_subtype, is_alike, i
 ghost use Rattle.cedar_schema_model.specs.Whole.HasType.{has_type};
 ghost use Rattle.cedar_schema_model.specs.Whole.Join.{join, reduce_to_join, are_disjoint};
 ghost use Rattle.cedar_schema_model.specs.Whole.Lookup.{lookup_attribute, may_have_attribute};
-ghost use Rattle.cedar_schema_model.specs.Whole.TypeWorked.{plain_name, doc, user, group, color, decimal, ip, bool, always, at_no_time, docs, users, docs_or_users, groups_or_users, all_three, with_a, with_both, closed, opened, one, yes_value, word, user_a, doc_d, set_one, set_two, nothing, empty, just_a, a_and_b, schema};
+ghost use Rattle.cedar_schema_model.specs.Whole.TypeWorked.{plain_name, doc, user, group, color, decimal, ip, bool, always, at_no_time, docs, users, docs_or_users, groups_or_users, all_three, with_a, with_both, closed, opened, one, yes_value, no_value, word, user_a, doc_d, set_one, set_two, nothing, empty, just_a, a_and_b, schema};
 
 /// `never` is below all, True and False below the type of both, every other such type below itself alone.
 pub fn worked_simple_subtypes()
@@ -92,6 +92,7 @@ pub fn worked_alike()
     ensures other_openness { is_alike (closed no_attributes) (opened no_attributes) ≡ false }
     ensures deeper { is_alike (set_type (closed (with_a users true))) (set_type (closed (with_a docs true))) ≡ false }
     ensures any { is_alike users any_entity ≡ false }
+    ensures any_first { is_alike any_entity users ≡ false }
     ensures not_compared { is_alike (set_type (closed no_attributes)) any_set ≡ true }
 {}
 
@@ -109,6 +110,8 @@ pub fn worked_simple_values()
     ensures text { has_type word string_type ≡ true }
     ensures true_value { has_type yes_value always ≡ true }
     ensures not_false { has_type yes_value at_no_time ≡ false }
+    ensures false_value { has_type no_value at_no_time ≡ true }
+    ensures not_true { has_type no_value always ≡ false }
     ensures of_both { has_type yes_value bool ≡ true }
     ensures nothing_of_never { has_type one never ≡ false }
     ensures user { has_type user_a docs_or_users ≡ true }

@@ -79,6 +79,7 @@ abbrev mutual
 abbrev pub Below : Mode → Ty → Ty → Type 0
 Below m a b = is_subtype m a b ≡ true
 
+-- the attribute is declared, with a type that passes, and required exactly where that is asked
 abbrev pub is_declared_alike : (Ty → Bool) → Bool → Option Declared → Bool
 is_declared_alike test r None = false
 is_declared_alike test r (Some d) = test d.type && beq d.is_required r

@@ -13,6 +13,7 @@ use Rattle.cedar_schema_model.specs.Whole.HasType.{HasType, has_type}
 use Rattle.cedar_schema_model.specs.Whole.Join.{join, reduce_to_join, are_disjoint}
 use Rattle.cedar_schema_model.specs.Whole.Lookup.{declared_of, lookup_attribute, may_have_attribute}
 
+-- the type is well-formed
 abbrev pub Formed : Ty → Type 0
 Formed a = is_well_formed_type a ≡ true
 
@@ -24,6 +25,7 @@ Free a = has_no_any_set a ≡ true
 abbrev pub SubtypesReflexive : Type 0
 SubtypesReflexive = (m : Mode) (a : Ty) → Formed a → Below m a a
 
+-- what is below a type is below all that are above it
 abbrev pub SubtypesTransitive : Type 0
 SubtypesTransitive = (m : Mode) (a b c : Ty) → Below m a b → Below m b c → Below m a c
 
@@ -31,6 +33,7 @@ SubtypesTransitive = (m : Mode) (a b c : Ty) → Below m a b → Below m b c →
 abbrev pub SubtypesAntisymmetric : Type 0
 SubtypesAntisymmetric = (m : Mode) (a b : Ty) → Formed a → Formed b → Below m a b → Below m b a → a ≡ b
 
+-- strict subtypes are permissive ones
 abbrev pub StrictIsPermissive : Type 0
 StrictIsPermissive = (a b : Ty) → Below strict a b → Below permissive a b
 
@@ -51,6 +54,7 @@ HasTypeDecides = (v : V) (t : Ty) → Decides (has_type v t) (HasType v t)
 abbrev pub SupertypesKeepValues : Type 0
 SupertypesKeepValues = (m : Mode) (a b : Ty) (v : V) → Below m a b → HasType v a → HasType v b
 
+-- no value is of `never`
 abbrev pub NeverHasNoValue : Type 0
 NeverHasNoValue = (v : V) → HasType v never → ⊥
 
@@ -90,10 +94,11 @@ JoinExists = (m : Mode) (a b c : Ty) → Formed a → Formed b → Free c → Be
 abbrev pub JoinExistsExactly : Type 0
 JoinExistsExactly = (m : Mode) (a b : Ty) → Formed a → Formed b → Free a → Free b → (is_some (join m a b) ≡ true) ↔ ((c : Ty) × Free c × Below m a c × Below m b c)
 
--- a join of well-formed types is one, and has no `any_set` where they have none
+-- a join of well-formed types is well-formed
 abbrev pub JoinIsFormed : Type 0
 JoinIsFormed = (m : Mode) (a b j : Ty) → Formed a → Formed b → join m a b ≡ Some j → Formed j
 
+-- a join of types without `any_set` has none
 abbrev pub JoinIsFree : Type 0
 JoinIsFree = (m : Mode) (a b j : Ty) → Free a → Free b → join m a b ≡ Some j → Free j
 
