@@ -1,8 +1,8 @@
 //! Laws of types. Each function's contract is the theorem; its body does nothing.
 
-ghost use Rattle.cedar_schema_model.specs.Whole.TypeLaws.{SubtypesReflexive, SubtypesTransitive, SubtypesAntisymmetric, StrictIsPermissive};
+ghost use Rattle.cedar_schema_model.specs.Whole.TypeLaws.{SubtypesReflexive, SubtypesTransitive, SubtypesAntisymmetric, StrictIsPermissive, StrictSubtypesExactly, SubtypesAreInclusions};
 ghost use Rattle.cedar_schema_model.specs.Whole.TypeLaws.{HasTypeDecides, SupertypesKeepValues, NeverHasNoValue, DisjointShareNoValue};
-ghost use Rattle.cedar_schema_model.specs.Whole.TypeLaws.{JoinOfOrdered, JoinIsAbove, JoinIsLeast, JoinSwaps, StrictJoinIsPermissive, JoinExists, JoinExistsExactly, JoinIsFormed, JoinIsFree};
+ghost use Rattle.cedar_schema_model.specs.Whole.TypeLaws.{JoinOfOrdered, JoinIsAbove, JoinIsLeast, JoinSwaps, StrictJoinIsPermissive, StrictJoinsExactly, JoinExists, JoinExistsExactly, JoinIsFormed, JoinIsFree};
 ghost use Rattle.cedar_schema_model.specs.Whole.TypeLaws.{ReductionIsAbove, ReductionIsLeast, ReductionIsOfMembers};
 ghost use Rattle.cedar_schema_model.specs.Whole.TypeLaws.{UnionKnowsWhatAllDeclare, UnionKnowsAll, LargerUnionKnowsLess, RecordsHaveWhatIsDeclared, RecordsMayHaveWhatTheyHave, LookedUpMayBeThere};
 
@@ -13,9 +13,15 @@ pub fn subtypes_are_ordered()
     ensures both { SubtypesAntisymmetric }
 {}
 
-/// A type that is below another in strict mode is below it in permissive mode.
+/// A type that is below another in strict mode is below it in permissive mode; and it is strictly below exactly where besides the two are alike at every place where they are compared.
 pub fn strict_subtypes_are_permissive()
-    ensures { StrictIsPermissive }
+    ensures permissively { StrictIsPermissive }
+    ensures exactly { StrictSubtypesExactly }
+{}
+
+/// In permissive mode, between types all parts of which have values and all attributes of which are required, a type is below another exactly where its values are values of the other.
+pub fn subtypes_are_inclusions()
+    ensures { SubtypesAreInclusions }
 {}
 
 /// The test of a value and a type is true exactly where the value is of the type.
@@ -52,9 +58,10 @@ pub fn joins_swap()
     ensures { JoinSwaps }
 {}
 
-/// Where the strict join exists the permissive one is the same.
+/// Where the strict join exists the permissive one is the same; and the permissive one is the strict one exactly where it is strictly above both.
 pub fn strict_joins_are_permissive()
-    ensures { StrictJoinIsPermissive }
+    ensures permissively { StrictJoinIsPermissive }
+    ensures exactly { StrictJoinsExactly }
 {}
 
 /// A join of well-formed types is well-formed, and one of types without `any_set` is without it.

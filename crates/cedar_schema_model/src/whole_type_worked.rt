@@ -3,11 +3,11 @@
 ghost use Rattle.std.specs.Prelude.{◌≡◌, true, false, Some, None, codes, [], ◌∷◌};
 ghost use Rattle.cedar_expr_model.specs.Whole.Value.{extension};
 ghost use Rattle.cedar_schema_model.specs.Whole.Types.{never, long_type, string_type, any_entity, entity_types, any_set, set_type, extension_type, no_attributes, attribute, strict, permissive};
-ghost use Rattle.cedar_schema_model.specs.Whole.Subtype.{is_subtype, is_well_formed_type, has_no_any_set};
+ghost use Rattle.cedar_schema_model.specs.Whole.Subtype.{is_subtype, is_alike, is_well_formed_type, has_no_any_set, is_filled};
 ghost use Rattle.cedar_schema_model.specs.Whole.HasType.{has_type};
 ghost use Rattle.cedar_schema_model.specs.Whole.Join.{join, reduce_to_join, are_disjoint};
 ghost use Rattle.cedar_schema_model.specs.Whole.Lookup.{lookup_attribute, may_have_attribute};
-ghost use Rattle.cedar_schema_model.specs.Whole.TypeWorked.{plain_name, doc, user, group, color, decimal, ip, bool, always, at_no_time, docs, users, docs_or_users, groups_or_users, all_three, with_a, with_both, closed, opened, one, yes_value, word, user_a, doc_d, set_one, set_two, nothing, empty, just_a, a_and_b, schema};
+ghost use Rattle.cedar_schema_model.specs.Whole.TypeWorked.{plain_name, doc, user, group, color, decimal, ip, bool, always, at_no_time, docs, users, docs_or_users, groups_or_users, all_three, with_a, with_both, closed, opened, one, yes_value, no_value, word, user_a, doc_d, set_one, set_two, nothing, empty, just_a, a_and_b, schema};
 
 /// `never` is below all, True and False below the type of both, every other such type below itself alone.
 pub fn worked_simple_subtypes()
@@ -83,6 +83,26 @@ pub fn worked_without_any_set()
     ensures inside { has_no_any_set (set_type (closed (with_both long_type any_set))) ≡ false }
 {}
 
+/// Types are alike where records, wherever they are compared, have the same names, flags and openness, and entities the same type.
+pub fn worked_alike()
+    ensures same { is_alike (closed (with_a users true)) (closed (with_a users true)) ≡ true }
+    ensures other_names { is_alike (closed (with_a long_type true)) (closed no_attributes) ≡ false }
+    ensures more_names { is_alike (closed no_attributes) (closed (with_a long_type true)) ≡ false }
+    ensures other_flags { is_alike (closed (with_a long_type true)) (closed (with_a long_type false)) ≡ false }
+    ensures other_openness { is_alike (closed no_attributes) (opened no_attributes) ≡ false }
+    ensures deeper { is_alike (set_type (closed (with_a users true))) (set_type (closed (with_a docs true))) ≡ false }
+    ensures any { is_alike users any_entity ≡ false }
+    ensures any_first { is_alike any_entity users ≡ false }
+    ensures not_compared { is_alike (set_type (closed no_attributes)) any_set ≡ true }
+{}
+
+/// All parts have values and all attributes are required.
+pub fn worked_filled()
+    ensures filled { is_filled (closed (with_both (set_type bool) any_set)) ≡ true }
+    ensures not_required { is_filled (closed (with_a bool false)) ≡ false }
+    ensures no_value { is_filled (set_type never) ≡ false }
+{}
+
 /// Literals, sets and extension values of a type.
 pub fn worked_simple_values()
     ensures long { has_type one long_type ≡ true }
@@ -90,6 +110,8 @@ pub fn worked_simple_values()
     ensures text { has_type word string_type ≡ true }
     ensures true_value { has_type yes_value always ≡ true }
     ensures not_false { has_type yes_value at_no_time ≡ false }
+    ensures false_value { has_type no_value at_no_time ≡ true }
+    ensures not_true { has_type no_value always ≡ false }
     ensures of_both { has_type yes_value bool ≡ true }
     ensures nothing_of_never { has_type one never ≡ false }
     ensures user { has_type user_a docs_or_users ≡ true }
@@ -139,10 +161,12 @@ pub fn worked_joins()
 pub fn worked_record_joins()
     ensures lost { join permissive (closed (with_a long_type true)) (closed no_attributes) ≡ Some (opened no_attributes) }
     ensures lost_strictly { join strict (closed (with_a long_type true)) (closed no_attributes) ≡ None }
+    ensures lost_by_the_second { join permissive (closed no_attributes) (closed (with_a long_type true)) ≡ Some (opened no_attributes) }
     ensures kept { join strict (closed (with_a always true)) (closed (with_a at_no_time true)) ≡ Some (closed (with_a bool true)) }
     ensures not_joining { join permissive (closed (with_both always long_type)) (closed (with_both at_no_time string_type)) ≡ Some (opened (with_a bool true)) }
     ensures not_joining_strictly { join strict (closed (with_both always long_type)) (closed (with_both at_no_time string_type)) ≡ None }
     ensures flags { join permissive (closed (with_a long_type true)) (closed (with_a long_type false)) ≡ Some (closed (with_a long_type false)) }
+    ensures flags_swapped { join permissive (closed (with_a long_type false)) (closed (with_a long_type true)) ≡ Some (closed (with_a long_type false)) }
     ensures flags_strictly { join strict (closed (with_a long_type true)) (closed (with_a long_type false)) ≡ None }
     ensures openness { join permissive (closed (with_a long_type true)) (opened (with_a long_type true)) ≡ Some (opened (with_a long_type true)) }
     ensures openness_strictly { join strict (closed (with_a long_type true)) (opened (with_a long_type true)) ≡ None }

@@ -9,3 +9,6 @@ pub mod JoinLeast
 pub mod JoinSame
 pub mod Reduction
 pub mod Known
+pub mod Alike
+pub mod Samples
+pub mod Inclusion

@@ -4,14 +4,16 @@ use Rattle.std.specs.Prelude.{◌≡◌, ◌↔◌, List, true, false, Option, S
 use Rattle.std.specs.Bool.{Decides}
 use Rattle.std.specs.List.{list_all}
 use Rattle.cedar_expr_model.specs.Name.{Text, Name}
+use Rattle.cedar_expr_model.specs.Whole.Canonical.{is_canonical}
 use Rattle.cedar_expr_model.specs.Whole.Value.{V, record_of, Fields, field_of}
 use Rattle.cedar_schema_model.specs.Whole.Types.{Ty, never, entity_types, Declared, Mode, strict, permissive}
 use Rattle.cedar_schema_model.specs.Whole.Schema.{Schema}
-use Rattle.cedar_schema_model.specs.Whole.Subtype.{Below, is_well_formed_type, has_no_any_set}
+use Rattle.cedar_schema_model.specs.Whole.Subtype.{Below, is_alike, is_well_formed_type, has_no_any_set, is_filled}
 use Rattle.cedar_schema_model.specs.Whole.HasType.{HasType, has_type}
 use Rattle.cedar_schema_model.specs.Whole.Join.{join, reduce_to_join, are_disjoint}
 use Rattle.cedar_schema_model.specs.Whole.Lookup.{declared_of, lookup_attribute, may_have_attribute}
 
+-- the type is well-formed
 abbrev pub Formed : Ty → Type 0
 Formed a = is_well_formed_type a ≡ true
 
@@ -23,6 +25,7 @@ Free a = has_no_any_set a ≡ true
 abbrev pub SubtypesReflexive : Type 0
 SubtypesReflexive = (m : Mode) (a : Ty) → Formed a → Below m a a
 
+-- what is below a type is below all that are above it
 abbrev pub SubtypesTransitive : Type 0
 SubtypesTransitive = (m : Mode) (a b c : Ty) → Below m a b → Below m b c → Below m a c
 
@@ -30,8 +33,18 @@ SubtypesTransitive = (m : Mode) (a b c : Ty) → Below m a b → Below m b c →
 abbrev pub SubtypesAntisymmetric : Type 0
 SubtypesAntisymmetric = (m : Mode) (a b : Ty) → Formed a → Formed b → Below m a b → Below m b a → a ≡ b
 
+-- strict subtypes are permissive ones
 abbrev pub StrictIsPermissive : Type 0
 StrictIsPermissive = (a b : Ty) → Below strict a b → Below permissive a b
+
+-- strict is permissive where the two are alike at every place where they are compared
+abbrev pub StrictSubtypesExactly : Type 0
+StrictSubtypesExactly = (a b : Ty) → Below strict a b ↔ (Below permissive a b × (is_alike a b ≡ true))
+
+-- Where all parts of both have values and all attributes are required, a type is below another exactly where its values are
+-- values of the other.
+abbrev pub SubtypesAreInclusions : Type 0
+SubtypesAreInclusions = (a b : Ty) → Formed a → Formed b → is_filled a ≡ true → is_filled b ≡ true → Below permissive a b ↔ ((v : V) → is_canonical v ≡ true → HasType v a → HasType v b)
 
 -- the test of a value decides whether it is of the type
 abbrev pub HasTypeDecides : Type 0
@@ -41,6 +54,7 @@ HasTypeDecides = (v : V) (t : Ty) → Decides (has_type v t) (HasType v t)
 abbrev pub SupertypesKeepValues : Type 0
 SupertypesKeepValues = (m : Mode) (a b : Ty) (v : V) → Below m a b → HasType v a → HasType v b
 
+-- no value is of `never`
 abbrev pub NeverHasNoValue : Type 0
 NeverHasNoValue = (v : V) → HasType v never → ⊥
 
@@ -68,6 +82,10 @@ JoinSwaps = (m : Mode) (a b : Ty) → Formed a → Formed b → join m a b ≡ j
 abbrev pub StrictJoinIsPermissive : Type 0
 StrictJoinIsPermissive = (a b j : Ty) → Formed a → Formed b → join strict a b ≡ Some j → join permissive a b ≡ Some j
 
+-- the permissive join is the strict one exactly where it is strictly above both
+abbrev pub StrictJoinsExactly : Type 0
+StrictJoinsExactly = (a b j : Ty) → Formed a → Formed b → (join strict a b ≡ Some j) ↔ ((join permissive a b ≡ Some j) × Below strict a j × Below strict b j)
+
 -- a join exists wherever there is an upper bound without `any_set`
 abbrev pub JoinExists : Type 0
 JoinExists = (m : Mode) (a b c : Ty) → Formed a → Formed b → Free c → Below m a c → Below m b c → is_some (join m a b) ≡ true
@@ -76,10 +94,11 @@ JoinExists = (m : Mode) (a b c : Ty) → Formed a → Formed b → Free c → Be
 abbrev pub JoinExistsExactly : Type 0
 JoinExistsExactly = (m : Mode) (a b : Ty) → Formed a → Formed b → Free a → Free b → (is_some (join m a b) ≡ true) ↔ ((c : Ty) × Free c × Below m a c × Below m b c)
 
--- a join of well-formed types is one, and has no `any_set` where they have none
+-- a join of well-formed types is well-formed
 abbrev pub JoinIsFormed : Type 0
 JoinIsFormed = (m : Mode) (a b j : Ty) → Formed a → Formed b → join m a b ≡ Some j → Formed j
 
+-- a join of types without `any_set` has none
 abbrev pub JoinIsFree : Type 0
 JoinIsFree = (m : Mode) (a b j : Ty) → Free a → Free b → join m a b ≡ Some j → Free j
 

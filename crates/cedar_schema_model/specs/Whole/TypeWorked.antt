@@ -74,6 +74,9 @@ one = prim (long (pos 1))
 abbrev pub yes_value : V
 yes_value = prim (truth true)
 
+abbrev pub no_value : V
+no_value = prim (truth false)
+
 abbrev pub word : V
 word = prim (text (codes "w"))
 

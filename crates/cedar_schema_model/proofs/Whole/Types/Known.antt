@@ -88,6 +88,10 @@ union_knows s ns a e plain h n k =
       λ i. all_each required_of ds (q.1 ∙ i) f.0 f.1,
     )
 
+known_by : (o : Option (List Declared)) (ds : List Declared) (t : Ty) → o ≡ Some ds → reduce_to_join permissive (map type_of ds) ≡ Some t → option_and_then declared_by_all o ≡ Some (declares t (list_all required_of ds))
+known_by None ds t e h = no_none e
+known_by (Some es) ds t e h = ap declared_by_all (inside e) ∙ ap (option_map (λ u. declares u (list_all required_of ds))) h
+
 pub union_knows_all : (s : Schema) (ns : List Name) (a : Text) (e : Declared) → HasPlainAttributes s → has_no_any_set e.type ≡ true → ((n : Name) → Contains ns n → DeclaredBelow (declared_of s a n) e) → DeclaredBelow (lookup_attribute s (entity_types ns) a) e
 union_knows_all s ns a e plain free h =
     let p = all_found s a ns (λ n k. let f = h n k in (f.0, f.1)) in
@@ -99,7 +103,7 @@ union_knows_all s ns a e plain free h =
     let b = h g.0 g.1 in
     subst (λ x. Below permissive x e.type) (ap type_of (inside (sym b.1 ∙ g.2)) ∙ f.2) b.2 in
     let j = reduction_least permissive (map type_of ds) e.type (types_plain s a ns ds plain r.1) free below in
-    let known : lookup_attribute s (entity_types ns) a ≡ Some (declares j.0 (list_all required_of ds)) = ap (option_and_then declared_by_all) p.1 ∙ ap (option_map (λ t. declares t (list_all required_of ds))) j.1 in (
+    let known = known_by (all_declared s a ns) ds j.0 p.1 j.1 in (
       declares j.0 (list_all required_of ds),
       known,
       j.2,
@@ -127,7 +131,7 @@ larger_knows_less s ns ms a e plain h k =
     union_knows_all s ns a e plain free (λ n i. union_knows s ms a e plain k n (among_at ns ms h n i))
 
 -- records
-field_at : (as_ : Attributes) (o : Openness) (fs : Fields) → FieldsFit as_ o fs → (a : Text) (v : V) → field_of a fs ≡ Some v → FieldFits o (HasType v) (attribute_named a as_)
+pub field_at : (as_ : Attributes) (o : Openness) (fs : Fields) → FieldsFit as_ o fs → (a : Text) (v : V) → field_of a fs ≡ Some v → FieldFits o (HasType v) (attribute_named a as_)
 field_at as_ o no_fields h a v e = no_none e
 field_at as_ o (field b u fs) h a v e =
     test_cases (bytes_eq a b)
@@ -144,7 +148,7 @@ pub record_has : (s : Schema) (t : Ty) (fs : Fields) (a : Text) (d : Declared) �
 record_has s (record_type as_ o) fs a d h e = known_field as_ o fs a d h.0 h.1 e (field_of a fs) refl
 record_has s t fs a d h e = absurd h
 
-may_here : (as_ : Attributes) (fs : Fields) (a : Text) (x : Option Declared) (v : V) → FieldFits is_closed (HasType v) x → is_some x ≡ true
+pub may_here : (as_ : Attributes) (fs : Fields) (a : Text) (x : Option Declared) (v : V) → FieldFits is_closed (HasType v) x → is_some x ≡ true
 may_here as_ fs a None v h = absurd h
 may_here as_ fs a (Some d) v h = refl
 
