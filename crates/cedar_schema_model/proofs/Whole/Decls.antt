@@ -7,3 +7,5 @@ pub mod Faults
 pub mod Reordered
 pub mod Resolved
 pub mod Schema
+pub mod SameSchema
+pub mod Store

@@ -6,7 +6,7 @@ use Rattle.std.specs.List.Sorted.{IsPermutation}
 use Rattle.cedar_expr_model.specs.Name.{Name}
 use Rattle.cedar_expr_model.specs.Uid.{Uid}
 use Rattle.cedar_schema_model.specs.Whole.Types.{record_type, is_closed}
-use Rattle.cedar_schema_model.specs.Whole.Schema.{Action, declares_type}
+use Rattle.cedar_schema_model.specs.Whole.Schema.{Action, type_named, action_with, declares_type}
 use Rattle.cedar_schema_model.specs.Whole.Descent.{type_names, Reaches, HasParent, HasActionParent, ActionDescends}
 use Rattle.cedar_schema_model.specs.Whole.Descent as descent
 use Rattle.cedar_schema_model.specs.Whole.Reference.{Namespace, Reference, Meant, candidates, action_candidates, first_passing, IsFirst}
@@ -82,3 +82,10 @@ NoActionIsItsAncestor = (x : List Name) (d : Declarations) → IsWellFormed x d 
 
 abbrev pub ActionTypesAreApart : Type 0
 ActionTypesAreApart = (x : List Name) (d : Declarations) → IsWellFormed x d → (u : Uid) → Contains (action_uids d) u → declares_type (schema_of d) u.kind ≡ false
+
+-- declarations in another order make the same schema: each look-up in it answers the same
+abbrev pub SameTypesFound : Type 0
+SameTypesFound = (x : List Name) (d e : Declarations) → IsReordered d e → IsWellFormed x d → (n : Name) → type_named (schema_of d) n ≡ type_named (schema_of e) n
+
+abbrev pub SameActionsFound : Type 0
+SameActionsFound = (x : List Name) (d e : Declarations) → IsReordered d e → IsWellFormed x d → (u : Uid) → action_with (schema_of d) u ≡ action_with (schema_of e) u
