@@ -1,16 +1,16 @@
 -- What the laws on bags of declarations and on their schemas say.
 -- Rule: references; declarations; well-formed declarations; schemas (docs/RULES.md).
-use Rattle.std.specs.Prelude.{◌≡◌, ◌↔◌, suc, List, [], ◌∷◌, ◌++◌, length, Bool, true, false, Option, Some, None, Contains}
+use Rattle.std.specs.Prelude.{◌≡◌, ◌↔◌, suc, List, [], ◌∷◌, ◌++◌, length, false, Some, Contains}
 use Rattle.std.specs.Bool.{Decides}
 use Rattle.std.specs.List.Sorted.{IsPermutation}
 use Rattle.cedar_expr_model.specs.Name.{Name}
 use Rattle.cedar_expr_model.specs.Uid.{Uid}
 use Rattle.cedar_schema_model.specs.Whole.Types.{record_type, is_closed}
-use Rattle.cedar_schema_model.specs.Whole.Schema.{Action, type_named, action_with, declares_type}
+use Rattle.cedar_schema_model.specs.Whole.Schema.{type_named, action_with, declares_type}
 use Rattle.cedar_schema_model.specs.Whole.Descent.{type_names, Reaches, HasParent, HasActionParent, ActionDescends}
 use Rattle.cedar_schema_model.specs.Whole.Descent as descent
-use Rattle.cedar_schema_model.specs.Whole.Reference.{Namespace, Reference, Meant, candidates, action_candidates, first_passing, IsFirst}
-use Rattle.cedar_schema_model.specs.Whole.Declarations.{CommonDeclaration, EntityDeclaration, ActionDeclaration, Declarations, bag, common_name, entity_name, action_uid, entity_names, action_uids, is_declared, is_declared_action, meant, parent_meant}
+use Rattle.cedar_schema_model.specs.Whole.Reference.{Namespace, Reference, Meant, candidates, action_candidates, IsFirst}
+use Rattle.cedar_schema_model.specs.Whole.Declarations.{CommonDeclaration, EntityDeclaration, ActionDeclaration, Declarations, bag, common_name, entity_name, entity_names, action_uids, is_declared, is_declared_action, meant, parent_meant}
 use Rattle.cedar_schema_model.specs.Whole.WellFormed.{SchemaFault, HasSchemaFault, has_schema_fault, IsWellFormed, well_formed, HasParentAction}
 use Rattle.cedar_schema_model.specs.Whole.Resolved.{common_within, common_of, resolved, entity_meant, resolved_action, schema_of}
 

@@ -1,14 +1,14 @@
 -- Conforming as tests, and read directly.
 -- Rule: conforming entities; conforming requests (docs/RULES.md).
-use Rattle.std.specs.Prelude.{◌≡◌, ◌&&◌, ◌||◌, List, [], ◌∷◌, Bool, true, false, not, Option, Some, None, is_some, Contains}
+use Rattle.std.specs.Prelude.{◌≡◌, ◌&&◌, ◌||◌, List, Bool, true, false, not, Option, Some, None, is_some, Contains}
 use Rattle.std.specs.List.{list_any, list_all}
 use Rattle.std.specs.Str.{bytes_eq}
 use Rattle.cedar_expr_model.specs.Name.{Text, Name, name_eq}
 use Rattle.cedar_expr_model.specs.Uid.{Uid, uid_eq}
-use Rattle.cedar_expr_model.specs.Whole.Value.{V, record_of, Fields}
-use Rattle.cedar_store_model.specs.Whole.World.{Part, known, left, Entity, Found, held, missing, not_loaded, Request, part_named}
+use Rattle.cedar_expr_model.specs.Whole.Value.{V, record_of}
+use Rattle.cedar_store_model.specs.Whole.World.{Part, known, left, Entity, Found, held, Request, part_named}
 use Rattle.cedar_schema_model.specs.Whole.Types.{Ty, record_type, is_closed, Attributes, Declared, attribute_named}
-use Rattle.cedar_schema_model.specs.Whole.Schema.{EntityKind, standard, enumerated, external, Action, Schema, action_with, declares_action}
+use Rattle.cedar_schema_model.specs.Whole.Schema.{enumerated, Action, Schema, action_with, declares_action}
 use Rattle.cedar_schema_model.specs.Whole.Descent.{descends, action_descends, is_action_ancestor, action_uids}
 use Rattle.cedar_schema_model.specs.Whole.Admission.{Admits, admits}
 use Rattle.cedar_schema_model.specs.Whole.Conforming.{ConformFault, undeclared, not_listed, no_member, lacks_attribute, undeclared_attribute, attribute_value, tag, ancestor, context_value, open_part, conform_faults, Place, among_actions, of_kind, nowhere, place_of, attributes_at, tags_at, attribute_list, IsNowhere, IsNoMember, MayDescend, MustDescend, RequestParts, EntityConforms}

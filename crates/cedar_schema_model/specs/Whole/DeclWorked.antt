@@ -1,16 +1,16 @@
 -- The values of the worked examples on declarations, entities and requests.
 -- Rule: references; declarations; well-formed declarations; schemas; conforming entities; conforming requests (docs/RULES.md).
-use Rattle.std.specs.Prelude.{List, [], ◌∷◌, ◌++◌, codes, pos, Bool, true, false, Option, Some, None}
+use Rattle.std.specs.Prelude.{List, [], ◌∷◌, codes, pos, true, false, Option, Some, None}
 use Rattle.cedar_expr_model.specs.Name.{Text, Name}
 use Rattle.cedar_expr_model.specs.Uid.{Uid}
-use Rattle.cedar_expr_model.specs.Whole.Value.{V, prim, truth, long, text, entity, set_of, record_of, extension, Vs, no_values, value, Fields, no_fields, field}
+use Rattle.cedar_expr_model.specs.Whole.Value.{V, prim, truth, long, entity, no_fields}
 use Rattle.cedar_expr_model.specs.Whole.Tree.{lit}
 use Rattle.cedar_store_model.specs.Whole.World.{Part, known, left, Entity, Request}
-use Rattle.cedar_schema_model.specs.Whole.Types.{Ty, bool_type, any_bool, string_type, long_type, entity_type, Attributes, no_attributes, attribute}
-use Rattle.cedar_schema_model.specs.Whole.Schema.{standard, enumerated, external, EntityType, Action, Schema}
+use Rattle.cedar_schema_model.specs.Whole.Types.{bool_type, any_bool, string_type, long_type, entity_type, Attributes, no_attributes, attribute}
+use Rattle.cedar_schema_model.specs.Whole.Schema.{standard, enumerated, EntityType, Action, Schema}
 use Rattle.cedar_schema_model.specs.Whole.Environment.{Environment}
 use Rattle.cedar_schema_model.specs.Whole.Reference.{Namespace, name_in, action_in, ReferenceKind, to_entity, to_common, to_either, Reference}
-use Rattle.cedar_schema_model.specs.Whole.Declarations.{TypeExpr, bool_expr, long_expr, string_expr, set_expr, record_expr, reference, extension_expr, FieldExprs, no_field_exprs, field_expr, CommonDeclaration, KindExpr, standard_expr, enumerated_expr, external_expr, EntityDeclaration, ActionDeclaration, Declarations}
+use Rattle.cedar_schema_model.specs.Whole.Declarations.{TypeExpr, bool_expr, long_expr, string_expr, set_expr, record_expr, reference, extension_expr, no_field_exprs, field_expr, CommonDeclaration, standard_expr, enumerated_expr, external_expr, EntityDeclaration, ActionDeclaration, Declarations}
 
 -- names of the empty namespace, and the namespace `N`
 abbrev pub user : Name

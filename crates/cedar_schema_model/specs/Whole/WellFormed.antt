@@ -7,8 +7,8 @@ use Rattle.std.proofs.Common.{◌⊎◌}
 use Rattle.cedar_expr_model.specs.Name.{Text, Name, name_eq, is_reserved}
 use Rattle.cedar_expr_model.specs.Uid.{Uid, uid_eq}
 use Rattle.cedar_schema_model.specs.Whole.Descent.{Reaches, reaches}
-use Rattle.cedar_schema_model.specs.Whole.Reference.{Namespace, action_word, ReferenceKind, Reference, Meant, meant_common, meant_entity}
-use Rattle.cedar_schema_model.specs.Whole.Declarations.{TypeExpr, record_expr, reference, CommonDeclaration, KindExpr, external_expr, EntityDeclaration, ActionDeclaration, Declarations, common_name, entity_name, action_uid, common_names, entity_names, action_uids, meant, parent_meant, references_of_common, references, extensions}
+use Rattle.cedar_schema_model.specs.Whole.Reference.{Namespace, action_word, ReferenceKind, Reference, Meant, meant_common}
+use Rattle.cedar_schema_model.specs.Whole.Declarations.{TypeExpr, record_expr, reference, CommonDeclaration, KindExpr, external_expr, EntityDeclaration, ActionDeclaration, Declarations, common_name, action_uid, common_names, entity_names, action_uids, meant, parent_meant, references_of_common, references, extensions}
 
 pub data SchemaFault : Type 0 where
   duplicate_entity_type : SchemaFault

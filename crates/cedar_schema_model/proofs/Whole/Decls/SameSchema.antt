@@ -1,5 +1,5 @@
 -- Declarations in another order make the same schema.
-use Rattle.std.proofs.Common.{◌≡◌, ◌⊎◌, ℕ, zero, suc, List, [], ◌∷◌, length, Bool, true, false, map, Option, Some, None, refl, sym, ap, ◌∙◌, subst, inl, inr, ⊎_elim, arith}
+use Rattle.std.proofs.Common.{◌≡◌, ℕ, zero, suc, List, [], ◌∷◌, length, Bool, true, false, map, Option, Some, None, refl, sym, ap, ◌∙◌, subst, inl, inr, arith}
 use Rattle.std.specs.Prelude.{Contains, if◌then◌else◌}
 use Rattle.std.specs.Bool.{Decides}
 use Rattle.std.specs.List.{filter_map, cons_option}
@@ -9,8 +9,8 @@ use Rattle.cedar_expr_model.specs.Name.{Name, name_eq}
 use Rattle.cedar_expr_model.specs.Uid.{Uid, uid_eq}
 use Rattle.cedar_expr_model.proofs.Equality.{name_eq-Decides, uid_eq-Decides}
 use Rattle.cedar_expr_model.proofs.Lists.{contains_cases, contains_none, contains_head, contains_tail, map_has}
-use Rattle.cedar_schema_model.specs.Whole.Types.{Ty, set_type, record_type, is_closed, Attributes}
-use Rattle.cedar_schema_model.specs.Whole.Schema.{EntityKind, standard, enumerated, external, EntityType, Action, type_among, type_named, action_among, action_with}
+use Rattle.cedar_schema_model.specs.Whole.Types.{Ty, set_type, record_type, is_closed}
+use Rattle.cedar_schema_model.specs.Whole.Schema.{standard, EntityType, Action, type_among, type_named, action_among, action_with}
 use Rattle.cedar_schema_model.specs.Whole.Reference.{Namespace, to_entity, Reference, Meant, meant_common, meant_entity, first_passing}
 use Rattle.cedar_schema_model.specs.Whole.Declarations.{TypeExpr, bool_expr, long_expr, string_expr, set_expr, record_expr, reference, extension_expr, FieldExprs, no_field_exprs, field_expr, CommonDeclaration, KindExpr, standard_expr, enumerated_expr, external_expr, EntityDeclaration, ActionDeclaration, Declarations, common_name, entity_name, action_uid, common_names, meant, parent_meant}
 use Rattle.cedar_schema_model.specs.Whole.WellFormed.{duplicate_entity_type, duplicate_common_type, duplicate_action, HasTwice, IsWellFormed}
@@ -64,10 +64,10 @@ one_of_key key [] once x y h k e = absurd (contains_none x h)
 one_of_key key (z ∷ xs) once x y h k e =
     contains_cases (x ≡ y) z xs x h
     (λ f. contains_cases (x ≡ y) z xs y k (λ g. sym f ∙ g)
-        (λ g. absurd (once (inl (subst (Contains (map key xs)) (sym e ∙ ap key (sym f)) (map_has key xs y g))))))
+    (λ g. absurd (once (inl (subst (Contains (map key xs)) (sym e ∙ ap key (sym f)) (map_has key xs y g))))))
     (λ f. contains_cases (x ≡ y) z xs y k
-        (λ g. absurd (once (inl (subst (Contains (map key xs)) (e ∙ ap key (sym g)) (map_has key xs x f)))))
-        (λ g. one_of_key key xs (λ t. once (inr t)) x y f g e))
+    (λ g. absurd (once (inl (subst (Contains (map key xs)) (e ∙ ap key (sym g)) (map_has key xs x f)))))
+    (λ g. one_of_key key xs (λ t. once (inr t)) x y f g e))
 
 one_passes : {X K : Type 0} (key : X → K) (eq : K → K → Bool) → ((a b : K) → Decides (eq a b) (a ≡ b)) → (xs : List X) → (HasTwice (map key xs) → ⊥) → (k : K) → OnePasses (λ x. eq k (key x)) xs
 one_passes key eq each xs once k x y h i = one_of_key key xs once x y h.0 i.0 (sym ((each k (key x)).0 h.1) ∙ (each k (key y)).0 i.1)
@@ -122,7 +122,7 @@ module _ (d e : Declarations) (m : IsReordered d e) (once : HasTwice (common_nam
   same_common n =
       common_first n d.commons
       ∙ (same_first (λ c. name_eq n (common_name c)) d.commons e.commons m.commons (one_passes common_name name_eq name_eq-Decides d.commons once n)
-        ∙ sym (common_first n e.commons))
+      ∙ sym (common_first n e.commons))
 
   defined_across : (f g : Name → Ty) → ((n : Name) → f n ≡ g n) → (o : Option CommonDeclaration) → defined_by f d o ≡ defined_by g e o
   defined_across f g same None = refl
@@ -177,8 +177,8 @@ same_types_found x d e m w n =
     let apart : HasTwice (map (λ (t : EntityType). t.name) types) → ⊥ = λ t. w duplicate_entity_type (0, omega arith, refl) (subst HasTwice (same_types d) t) in
     type_first n types
     ∙ (same_first (λ t. name_eq n t.name) types (map (resolved_entity d) e.entities) (IsPermutation-map (resolved_entity d) d.entities e.entities m.entities) (one_passes (λ (t : EntityType). t.name) name_eq name_eq-Decides types apart n)
-      ∙ (sym (type_first n (map (resolved_entity d) e.entities))
-        ∙ ap (type_among n) (map_agree (resolved_entity d) (resolved_entity e) (same_type d e m once) e.entities)))
+    ∙ (sym (type_first n (map (resolved_entity d) e.entities))
+    ∙ ap (type_among n) (map_agree (resolved_entity d) (resolved_entity e) (same_type d e m once) e.entities)))
 
 pub same_actions_found : (x : List Name) (d e : Declarations) → IsReordered d e → IsWellFormed x d → (u : Uid) → action_with (schema_of d) u ≡ action_with (schema_of e) u
 same_actions_found x d e m w u =
@@ -187,5 +187,5 @@ same_actions_found x d e m w u =
     let apart : HasTwice (map (λ (a : Action). a.uid) actions) → ⊥ = λ t. w duplicate_action (2, omega arith, refl) (subst HasTwice (same_actions d) t) in
     action_first u actions
     ∙ (same_first (λ a. uid_eq u a.uid) actions (map (resolved_action d) e.actions) (IsPermutation-map (resolved_action d) d.actions e.actions m.actions) (one_passes (λ (a : Action). a.uid) uid_eq uid_eq-Decides actions apart u)
-      ∙ (sym (action_first u (map (resolved_action d) e.actions))
-        ∙ ap (action_among u) (map_agree (resolved_action d) (resolved_action e) (same_action d e m once) e.actions)))
+    ∙ (sym (action_first u (map (resolved_action d) e.actions))
+    ∙ ap (action_among u) (map_agree (resolved_action d) (resolved_action e) (same_action d e m once) e.actions)))

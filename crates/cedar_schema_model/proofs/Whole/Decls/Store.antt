@@ -1,11 +1,10 @@
 -- Declared actions in a conforming store.
-use Rattle.std.proofs.Common.{◌≡◌, ◌↔◌, List, [], ◌∷◌, true, refl, sym, ap, subst}
+use Rattle.std.proofs.Common.{◌≡◌, List, [], ◌∷◌, true, refl, sym, ap, subst}
 use Rattle.std.specs.Prelude.{Contains}
-use Rattle.cedar_expr_model.specs.Name.{Text}
 use Rattle.cedar_expr_model.specs.Uid.{Uid}
 use Rattle.cedar_expr_model.proofs.Lists.{contains_head}
 use Rattle.cedar_expr_model.specs.Whole.Value.{V}
-use Rattle.cedar_store_model.specs.Whole.World.{Part, Entity, Found, held}
+use Rattle.cedar_store_model.specs.Whole.World.{Entity, Found, held}
 use Rattle.cedar_schema_model.specs.Whole.Types.{attribute_named}
 use Rattle.cedar_schema_model.specs.Whole.Schema.{Schema, declares_action, type_named}
 use Rattle.cedar_schema_model.specs.Whole.Conforming.{among_actions, place_of, place_by, attributes_at, tags_at, MayDescend, MustDescend}
