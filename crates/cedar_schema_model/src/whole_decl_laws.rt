@@ -1,7 +1,7 @@
 //! Laws of the definitions on declarations, entities and requests. Each function's contract is the theorem; its body does nothing.
 
 ghost use Rattle.cedar_schema_model.specs.Whole.DeclLaws.{DescentDecides, ActionDescentDecides, ActionTypeDescentDecides, TypeDescentDecides, DescentIsTransitive, AncestorsAreDeclared, EntitiesAreActions, ActionsConform, AdmissionDecides, SetsByMembers, EntityFaultsDecide, EntityConformingDecides, RequestFaultsDecide, RequestConformingDecides, EntitiesReadDirectly, RequestsReadDirectly, EnvironmentsAreProducts, RequestsHaveEnvironments, SlotsAreCovered, StoresHoldActions};
-ghost use Rattle.cedar_schema_model.specs.Whole.BagLaws.{FirstDeclaredIsMeant, FirstActionIsMeant, SchemaFaultsDecide, WellFormedDecides, OrderHidesNoFault, SplittingIsFree, FragmentsMayMove, OrderIsTransitive, CommonTypesAreDefined, NoMoreToReplace, ContextsAreRecords, SameTypes, SameActions, ParentsAreMeant, ActionParentsAreMeant, NoActionIsItsAncestor, ActionTypesAreApart, SameTypesFound, SameActionsFound};
+ghost use Rattle.cedar_schema_model.specs.Whole.BagLaws.{FirstDeclaredIsMeant, FirstActionIsMeant, SchemaFaultsDecide, WellFormedDecides, OrderHidesNoFault, SplittingIsFree, FragmentsMayMove, OrderIsTransitive, CommonTypesAreDefined, NoMoreToReplace, ContextsAreRecords, SameTypes, SameActions, ParentsAreMeant, ActionParentsAreMeant, NoActionIsItsAncestor, ActionTypesAreApart, SameTypesFound, SameActionsFound, AncestorTypesAreDeclared, AncestorActionsAreDeclared, ListedTypesAreDeclared, NoParentIsDropped, NothingOfActionsIsDropped};
 
 /// The tests of descent are true exactly where there is a chain of declared parents, and descent is transitive.
 pub fn descent_is_decided()
@@ -89,4 +89,14 @@ pub fn schemas_are_what_is_declared()
     ensures action_parents { ActionParentsAreMeant }
     ensures no_cycle { NoActionIsItsAncestor }
     ensures apart { ActionTypesAreApart }
+{}
+
+/// All types and actions that the schema of declarations names are declared in it, and where the declarations are well-formed it
+/// has all that is written.
+pub fn schemas_name_what_is_declared()
+    ensures ancestors { AncestorTypesAreDeclared }
+    ensures action_ancestors { AncestorActionsAreDeclared }
+    ensures listed { ListedTypesAreDeclared }
+    ensures parents { NoParentIsDropped }
+    ensures of_actions { NothingOfActionsIsDropped }
 {}

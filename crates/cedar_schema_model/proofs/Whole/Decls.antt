@@ -9,3 +9,4 @@ pub mod Resolved
 pub mod Schema
 pub mod SameSchema
 pub mod Store
+pub mod Named

@@ -203,6 +203,13 @@ own_first = record { commons = common [] (codes "User") bool_expr ∷ []; entiti
 abbrev pub common_first : Declarations
 common_first = record { commons = common n (codes "User") bool_expr ∷ []; entities = plain n (codes "User") ∷ plain [] (codes "User") ∷ []; actions = [] }
 
+-- `N::User` and `M::N::User`
+abbrev pub nested_users : Declarations
+nested_users = record { commons = []; entities = plain n (codes "User") ∷ plain (codes "M" ∷ n) (codes "User") ∷ []; actions = [] }
+
+abbrev pub deep_users : Declarations
+deep_users = record { commons = []; entities = plain (codes "M" ∷ n) (codes "User") ∷ []; actions = [] }
+
 -- reading is declared in the empty namespace, and in both
 abbrev pub read_above : Declarations
 read_above = record { commons = []; entities = []; actions = act n (codes "view") (read ∷ []) ∷ act [] (codes "read") [] ∷ [] }
