@@ -7,7 +7,7 @@ use Rattle.cedar_expr_model.specs.Whole.Value.{V, prim, truth, long, entity, no_
 use Rattle.cedar_expr_model.specs.Whole.Tree.{lit}
 use Rattle.cedar_store_model.specs.Whole.World.{Part, known, left, Entity, Request}
 use Rattle.cedar_schema_model.specs.Whole.Types.{bool_type, any_bool, string_type, long_type, entity_type, Attributes, no_attributes, attribute}
-use Rattle.cedar_schema_model.specs.Whole.Schema.{standard, enumerated, EntityType, Action, Schema}
+use Rattle.cedar_schema_model.specs.Whole.Schema.{standard, enumerated, external, EntityType, Action, Schema}
 use Rattle.cedar_schema_model.specs.Whole.Environment.{Environment}
 use Rattle.cedar_schema_model.specs.Whole.Reference.{Namespace, name_in, action_in, ReferenceKind, to_entity, to_common, to_either, Reference}
 use Rattle.cedar_schema_model.specs.Whole.Declarations.{TypeExpr, bool_expr, long_expr, string_expr, set_expr, record_expr, reference, extension_expr, no_field_exprs, field_expr, CommonDeclaration, standard_expr, enumerated_expr, external_expr, EntityDeclaration, ActionDeclaration, Declarations}
@@ -250,3 +250,32 @@ tagged_by t = record { namespace = []; word = codes "Tagged"; parents = []; kind
 -- a group below itself
 abbrev pub grouped : Declarations
 grouped = with_type (child (codes "Group") (group ∷ []))
+
+-- in the namespace `N`: members of a group of the empty namespace, who list; and there an enumerated and an external type
+abbrev pub member_declared : EntityDeclaration
+member_declared = record { namespace = n; word = codes "Member"; parents = group ∷ []; kind = standard_expr no_field_exprs (Some long_expr) }
+
+abbrev pub listing : ActionDeclaration
+listing = record (act n (codes "list") (read ∷ [])) { principals = name_in [] (codes "Member") ∷ []; resources = group ∷ []; context = common_named (codes "U") }
+
+abbrev pub mixed : Declarations
+mixed = record {
+  commons = common_chain;
+  entities = member_declared ∷ child (codes "Group") (group ∷ []) ∷ color_declared ∷ external_x ∷ [];
+  actions = listing ∷ act [] (codes "read") [] ∷ [];
+}
+
+abbrev pub member_name : Name
+member_name = name_in n (codes "Member")
+
+abbrev pub member_type : EntityType
+member_type = record { name = member_name; parents = group ∷ []; kind = standard no_attributes (Some long_type) }
+
+abbrev pub listing_action : Action
+listing_action = record { uid = action_in n (codes "list"); parents = read ∷ []; principals = member_name ∷ []; resources = group ∷ []; context = attribute (codes "a") long_type true no_attributes; is_external = false }
+
+abbrev pub mixed_schema : Schema
+mixed_schema = record {
+  types = member_type ∷ group_type ∷ record { name = color; parents = []; kind = enumerated (codes "red" ∷ []) } ∷ record { name = name_in [] (codes "X"); parents = []; kind = external } ∷ [];
+  actions = listing_action ∷ bare_action read [] ∷ [];
+}
