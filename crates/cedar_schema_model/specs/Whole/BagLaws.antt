@@ -1,6 +1,6 @@
 -- What the laws on bags of declarations and on their schemas say.
 -- Rule: references; declarations; well-formed declarations; schemas (docs/RULES.md).
-use Rattle.std.specs.Prelude.{◌≡◌, ◌↔◌, suc, List, [], ◌∷◌, ◌++◌, length, Bool, true, false, Option, Some, Contains, is_some}
+use Rattle.std.specs.Prelude.{◌≡◌, ◌↔◌, suc, List, [], ◌∷◌, ◌++◌, length, true, false, Option, Some, Contains, is_some}
 use Rattle.std.specs.Bool.{Decides}
 use Rattle.std.specs.List.Sorted.{IsPermutation}
 use Rattle.std.proofs.Common.{◌⊎◌}

@@ -13,6 +13,7 @@ use Rattle.cedar_schema_model.specs.Whole.Descent.{descends, action_descends, is
 use Rattle.cedar_schema_model.specs.Whole.Admission.{Admits, admits}
 use Rattle.cedar_schema_model.specs.Whole.Conforming.{ConformFault, undeclared, not_listed, no_member, lacks_attribute, undeclared_attribute, attribute_value, tag, ancestor, context_value, open_part, conform_faults, Place, among_actions, of_kind, nowhere, place_of, attributes_at, tags_at, attribute_list, IsNowhere, IsNoMember, MayDescend, MustDescend, RequestParts, EntityConforms}
 
+-- The tests of an entity, one for each part of a fault.
 abbrev pub is_nowhere : Place → Bool
 is_nowhere nowhere = true
 is_nowhere p = false
@@ -65,6 +66,7 @@ is_left (left t) = true
 abbrev pub has_left : List (Text × Part V) → Bool
 has_left ps = list_any (λ p. is_left p.1) ps
 
+-- the fault is there, in an entity; and no fault is
 abbrev pub entity_fault_at : Schema → Uid → Entity V → Place → ConformFault → Bool
 entity_fault_at s u e p undeclared = is_nowhere p
 entity_fault_at s u e p no_member = is_no_member p u.id
@@ -82,7 +84,7 @@ has_entity_fault s u e f = entity_fault_at s u e (place_of s u) f
 abbrev pub entity_conforms : Schema → Uid → Entity V → Bool
 entity_conforms s u e = list_all (λ f. not (has_entity_fault s u e f)) conform_faults
 
--- requests
+-- The tests of a request.
 abbrev pub where_known : {A : Type 0} → Option A → (A → Bool) → Bool
 where_known None test = false
 where_known (Some a) test = test a

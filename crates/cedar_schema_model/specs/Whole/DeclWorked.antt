@@ -279,3 +279,10 @@ mixed_schema = record {
   types = member_type ∷ group_type ∷ record { name = color; parents = []; kind = enumerated (codes "red" ∷ []) } ∷ record { name = name_in [] (codes "X"); parents = []; kind = external } ∷ [];
   actions = listing_action ∷ bare_action read [] ∷ [];
 }
+
+-- an extension type, and an action's parent, under the reserved part
+abbrev pub reserved_rank : Name
+reserved_rank = name_in (codes "__cedar" ∷ []) (codes "rank")
+
+abbrev pub reserved_ranked : Declarations
+reserved_ranked = with_commons (common [] (codes "R") (extension_expr reserved_rank) ∷ [])
