@@ -14,3 +14,4 @@ pub mod WellFormed
 pub mod Resolved
 pub mod BagLaws
 pub mod DeclWorked
+pub mod Rising

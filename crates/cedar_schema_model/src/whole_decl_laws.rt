@@ -2,6 +2,7 @@
 
 ghost use Rattle.cedar_schema_model.specs.Whole.DeclLaws.{DescentDecides, ActionDescentDecides, ActionTypeDescentDecides, TypeDescentDecides, DescentIsTransitive, AncestorsAreDeclared, EntitiesAreActions, ActionsConform, AdmissionDecides, SetsByMembers, EntityFaultsDecide, EntityConformingDecides, RequestFaultsDecide, RequestConformingDecides, EntitiesReadDirectly, RequestsReadDirectly, EnvironmentsAreProducts, RequestsHaveEnvironments, SlotsAreCovered, StoresHoldActions};
 ghost use Rattle.cedar_schema_model.specs.Whole.BagLaws.{FirstDeclaredIsMeant, FirstActionIsMeant, SchemaFaultsDecide, WellFormedDecides, OrderHidesNoFault, SplittingIsFree, FragmentsMayMove, OrderIsTransitive, CommonTypesAreDefined, NoMoreToReplace, ContextsAreRecords, SameTypes, SameActions, ParentsAreMeant, ActionParentsAreMeant, NoActionIsItsAncestor, ActionTypesAreApart, SameTypesFound, SameActionsFound, AncestorTypesAreDeclared, AncestorActionsAreDeclared, ListedTypesAreDeclared, NoParentIsDropped, NothingOfActionsIsDropped};
+ghost use Rattle.cedar_schema_model.specs.Whole.Rising.{ResolvedTypesRise};
 
 /// The tests of descent are true exactly where there is a chain of declared parents, and descent is transitive.
 pub fn descent_is_decided()
@@ -73,11 +74,12 @@ pub fn bags_have_no_order()
 {}
 
 /// Where declarations are well-formed a common type is what its definition says, replacing once more changes nothing, and the
-/// context of each action is a closed record.
+/// context of each action is a closed record. The attributes of resolved types rise by name.
 pub fn common_types_are_replaced()
     ensures defined { CommonTypesAreDefined }
     ensures once_more { NoMoreToReplace }
     ensures contexts { ContextsAreRecords }
+    ensures rising { ResolvedTypesRise }
 {}
 
 /// The schema has the declared types and actions, with the parents that are meant. Where declarations are well-formed no action

@@ -10,3 +10,4 @@ pub mod Schema
 pub mod SameSchema
 pub mod Store
 pub mod Named
+pub mod Rising
