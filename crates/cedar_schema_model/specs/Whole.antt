@@ -20,3 +20,4 @@ pub mod Resolved
 pub mod BagLaws
 pub mod TypeWorked
 pub mod DeclWorked
+pub mod Rising

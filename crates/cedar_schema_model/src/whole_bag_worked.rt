@@ -8,7 +8,8 @@ ghost use Rattle.cedar_schema_model.specs.Whole.Reference.{name_in, action_in, t
 ghost use Rattle.cedar_schema_model.specs.Whole.Declarations.{bool_expr, long_expr, set_expr, record_expr, reference, extension_expr, no_field_exprs, field_expr, bag, meant, parent_meant};
 ghost use Rattle.cedar_schema_model.specs.Whole.WellFormed.{duplicate_entity_type, duplicate_common_type, duplicate_action, undeclared_type, undeclared_action, cycle_of_common_types, cycle_of_actions, action_as_entity_type, context_not_record, reserved_name, shadowing, unknown_extension_type, unresolved_external, ill_forms, schema_number, has_schema_fault, well_formed};
 ghost use Rattle.cedar_schema_model.specs.Whole.Resolved.{common_of, common_within, resolved, schema_of};
-ghost use Rattle.cedar_schema_model.specs.Whole.DeclWorked.{user, doc, group, color, ghost_type, rank, n, view, read, all_actions, plain, child, color_declared, external_x, common, act, on_docs, m, user_fragment, doc_fragment, with_type, with_action, with_commons, with_context, m_schema, at_place, two_users, own_first, common_first, read_above, read_beside, common_named, common_cycle, common_chain, common_alias, action_cycle, ranked, tagged_by, grouped};
+ghost use Rattle.cedar_schema_model.specs.Whole.Rising.{has_rising};
+ghost use Rattle.cedar_schema_model.specs.Whole.DeclWorked.{user, doc, group, color, ghost_type, rank, n, view, read, all_actions, plain, child, color_declared, external_x, common, act, on_docs, m, user_fragment, doc_fragment, with_type, with_action, with_commons, with_context, m_schema, at_place, two_users, own_first, common_first, nested_users, deep_users, read_above, read_beside, common_named, common_cycle, common_chain, common_alias, action_cycle, ranked, tagged_by, grouped, mixed, mixed_schema, reserved_rank, reserved_ranked};
 
 /// What references mean, written in the namespace `N`.
 pub fn worked_references()
@@ -16,6 +17,9 @@ pub fn worked_references()
     ensures empty { meant m (at_place n to_entity user) ≡ Some (meant_entity user) }
     ensures from_empty { meant two_users (at_place [] to_entity user) ≡ Some (meant_entity user) }
     ensures absolute { meant two_users (at_place (codes "M" ∷ []) to_entity (name_in n (codes "User"))) ≡ Some (meant_entity (name_in n (codes "User"))) }
+    ensures absolute_first { meant nested_users (at_place (codes "M" ∷ []) to_entity (name_in n (codes "User"))) ≡ Some (meant_entity (name_in n (codes "User"))) }
+    ensures not_relative { meant deep_users (at_place (codes "M" ∷ []) to_entity (name_in n (codes "User"))) ≡ None }
+    ensures not_outward { meant two_users (at_place (codes "N" ∷ codes "M" ∷ []) to_entity user) ≡ Some (meant_entity user) }
     ensures absolute_alone { meant m (at_place [] to_entity (name_in n (codes "User"))) ≡ None }
     ensures own_before_common { meant own_first (at_place n to_either user) ≡ Some (meant_entity (name_in n (codes "User"))) }
     ensures common_before_entity { meant common_first (at_place n to_either user) ≡ Some (meant_common (name_in n (codes "User"))) }
@@ -84,6 +88,9 @@ pub fn worked_names()
     ensures no_action_word { has_schema_fault [] (with_type (plain n (codes "Actions"))) action_as_entity_type ≡ false }
     ensures reserved { has_schema_fault [] (with_type (plain [] (codes "__cedar"))) reserved_name ≡ true }
     ensures reserved_namespace { has_schema_fault [] (with_action (act (codes "A" ∷ codes "__cedar" ∷ []) (codes "go") [])) reserved_name ≡ true }
+    ensures reserved_extension { has_schema_fault (reserved_rank ∷ []) reserved_ranked reserved_name ≡ true }
+    ensures reserved_extension_alone { map (has_schema_fault (reserved_rank ∷ []) reserved_ranked) (undeclared_type ∷ unknown_extension_type ∷ []) ≡ false ∷ false ∷ [] }
+    ensures reserved_parent { has_schema_fault [] (with_action (act [] (codes "list") (action_in (codes "__cedar" ∷ []) (codes "a") ∷ []))) reserved_name ≡ true }
     ensures free_id { has_schema_fault [] (with_action (act [] (codes "__cedar") [])) reserved_name ≡ false }
     ensures shadow { has_schema_fault [] two_users shadowing ≡ true }
     ensures other_kind { has_schema_fault [] own_first shadowing ≡ true }
@@ -98,9 +105,11 @@ pub fn worked_names()
     ensures complete { has_schema_fault [] m unresolved_external ≡ false }
 {}
 
-/// The schema of users and documents, in one fragment or two.
+/// The schema of users and documents, in one fragment or two, and that of declarations of every kind.
 pub fn worked_schemas()
     ensures one { schema_of m ≡ m_schema }
+    ensures kinds { schema_of mixed ≡ mixed_schema }
+    ensures kinds_well_formed { well_formed [] mixed ≡ true }
     ensures two { schema_of (bag (user_fragment ∷ doc_fragment ∷ [])) ≡ m_schema }
     ensures nothing { schema_of (bag []) ≡ record { types = []; actions = [] } }
 {}
@@ -115,4 +124,12 @@ pub fn worked_common_types()
     ensures nothing { resolved m [] (reference to_either ghost_type) ≡ never }
     ensures last_stands { resolved m [] (record_expr (field_expr (codes "a") bool_expr true (field_expr (codes "a") long_expr false no_field_exprs))) ≡ record_type (attribute (codes "a") long_type false no_attributes) is_closed }
     ensures rising { resolved m [] (record_expr (field_expr (codes "b") bool_expr true (field_expr (codes "a") long_expr true no_field_exprs))) ≡ record_type (attribute (codes "a") long_type true (attribute (codes "b") (bool_type any_bool) true no_attributes)) is_closed }
+{}
+
+/// Attributes that rise by name, and some that don't.
+pub fn worked_rising()
+    ensures rising { has_rising (record_type (attribute (codes "a") long_type true (attribute (codes "b") long_type true no_attributes)) is_closed) ≡ true }
+    ensures falling { has_rising (record_type (attribute (codes "b") long_type true (attribute (codes "a") long_type true no_attributes)) is_closed) ≡ false }
+    ensures twice { has_rising (record_type (attribute (codes "a") long_type true (attribute (codes "a") long_type true no_attributes)) is_closed) ≡ false }
+    ensures inside { has_rising (set_type (record_type (attribute (codes "b") long_type true (attribute (codes "a") long_type true no_attributes)) is_closed)) ≡ false }
 {}

@@ -1,7 +1,8 @@
 //! Laws of the definitions on declarations, entities and requests. Each function's contract is the theorem; its body does nothing.
 
-ghost use Rattle.cedar_schema_model.specs.Whole.DeclLaws.{DescentDecides, ActionDescentDecides, ActionTypeDescentDecides, TypeDescentDecides, DescentIsTransitive, AncestorsAreDeclared, EntitiesAreActions, ActionsConform, AdmissionDecides, SetsByMembers, EntityFaultsDecide, EntityConformingDecides, RequestFaultsDecide, RequestConformingDecides, EntitiesReadDirectly, RequestsReadDirectly, EnvironmentsAreProducts, RequestsHaveEnvironments, SlotsAreCovered};
-ghost use Rattle.cedar_schema_model.specs.Whole.BagLaws.{FirstDeclaredIsMeant, FirstActionIsMeant, SchemaFaultsDecide, WellFormedDecides, OrderHidesNoFault, SplittingIsFree, FragmentsMayMove, OrderIsTransitive, CommonTypesAreDefined, NoMoreToReplace, ContextsAreRecords, SameTypes, SameActions, ParentsAreMeant, ActionParentsAreMeant, NoActionIsItsAncestor, ActionTypesAreApart};
+ghost use Rattle.cedar_schema_model.specs.Whole.DeclLaws.{DescentDecides, ActionDescentDecides, ActionTypeDescentDecides, TypeDescentDecides, DescentIsTransitive, AncestorsAreDeclared, EntitiesAreActions, ActionsConform, AdmissionDecides, SetsByMembers, EntityFaultsDecide, EntityConformingDecides, RequestFaultsDecide, RequestConformingDecides, EntitiesReadDirectly, RequestsReadDirectly, EnvironmentsAreProducts, RequestsHaveEnvironments, SlotsAreCovered, StoresHoldActions};
+ghost use Rattle.cedar_schema_model.specs.Whole.BagLaws.{FirstDeclaredIsMeant, FirstActionIsMeant, SchemaFaultsDecide, WellFormedDecides, OrderHidesNoFault, SplittingIsFree, FragmentsMayMove, OrderIsTransitive, CommonTypesAreDefined, NoMoreToReplace, ContextsAreRecords, SameTypes, SameActions, ParentsAreMeant, ActionParentsAreMeant, NoActionIsItsAncestor, ActionTypesAreApart, SameTypesFound, SameActionsFound, AncestorTypesAreDeclared, AncestorActionsAreDeclared, ListedTypesAreDeclared, NoParentIsDropped, NothingOfActionsIsDropped};
+ghost use Rattle.cedar_schema_model.specs.Whole.Rising.{ResolvedTypesRise};
 
 /// The tests of descent are true exactly where there is a chain of declared parents, and descent is transitive.
 pub fn descent_is_decided()
@@ -12,11 +13,13 @@ pub fn descent_is_decided()
     ensures transitive { DescentIsTransitive }
 {}
 
-/// The entities of the declared actions have exactly the declared ancestors, are one for each action, and conform.
+/// The entities of the declared actions have exactly the declared ancestors, are one for each action, and conform. A conforming
+/// store holds each declared action like that.
 pub fn action_entities_are_the_actions()
     ensures ancestors { AncestorsAreDeclared }
     ensures those { EntitiesAreActions }
     ensures conform { ActionsConform }
+    ensures stores { StoresHoldActions }
 {}
 
 /// The test of a value is true exactly where the type admits it; a set is admitted where each member is.
@@ -59,20 +62,24 @@ pub fn declarations_are_decided()
     ensures well_formed { WellFormedDecides }
 {}
 
-/// Declarations in another order, or split into fragments in another way, have the same faults.
+/// Declarations in another order, or split into fragments in another way, have the same faults; where they have none they make
+/// the same schema.
 pub fn bags_have_no_order()
     ensures faults { OrderHidesNoFault }
     ensures split { SplittingIsFree }
     ensures moved { FragmentsMayMove }
     ensures transitive { OrderIsTransitive }
+    ensures types { SameTypesFound }
+    ensures actions { SameActionsFound }
 {}
 
 /// Where declarations are well-formed a common type is what its definition says, replacing once more changes nothing, and the
-/// context of each action is a closed record.
+/// context of each action is a closed record. The attributes of resolved types rise by name.
 pub fn common_types_are_replaced()
     ensures defined { CommonTypesAreDefined }
     ensures once_more { NoMoreToReplace }
     ensures contexts { ContextsAreRecords }
+    ensures rising { ResolvedTypesRise }
 {}
 
 /// The schema has the declared types and actions, with the parents that are meant. Where declarations are well-formed no action
@@ -84,4 +91,14 @@ pub fn schemas_are_what_is_declared()
     ensures action_parents { ActionParentsAreMeant }
     ensures no_cycle { NoActionIsItsAncestor }
     ensures apart { ActionTypesAreApart }
+{}
+
+/// All types and actions that the schema of declarations names are declared in it, and where the declarations are well-formed it
+/// has all that is written.
+pub fn schemas_name_what_is_declared()
+    ensures ancestors { AncestorTypesAreDeclared }
+    ensures action_ancestors { AncestorActionsAreDeclared }
+    ensures listed { ListedTypesAreDeclared }
+    ensures parents { NoParentIsDropped }
+    ensures of_actions { NothingOfActionsIsDropped }
 {}

@@ -7,3 +7,7 @@ pub mod Faults
 pub mod Reordered
 pub mod Resolved
 pub mod Schema
+pub mod SameSchema
+pub mod Store
+pub mod Named
+pub mod Rising

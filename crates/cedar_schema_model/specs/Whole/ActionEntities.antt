@@ -1,6 +1,6 @@
 -- Declared actions as entities.
 -- Rule: action entities (docs/RULES.md).
-use Rattle.std.specs.Prelude.{◌≡◌, List, [], map, Bool, true, false, Option, Some, None, Contains}
+use Rattle.std.specs.Prelude.{List, [], map, Bool, true, false, Option, Some, None}
 use Rattle.std.specs.List.{filter}
 use Rattle.cedar_expr_model.specs.Uid.{Uid}
 use Rattle.cedar_expr_model.specs.Whole.Value.{V}

@@ -1,13 +1,13 @@
 -- Which values a type admits.
 -- Rule: admission (docs/RULES.md).
-use Rattle.std.specs.Prelude.{◌≡◌, ◌&&◌, List, [], ◌∷◌, Bool, true, false, not, Option, Some, None, is_some, Contains}
+use Rattle.std.specs.Prelude.{◌≡◌, ◌&&◌, Bool, true, false, not, Option, Some, None, is_some, Contains}
 use Rattle.std.specs.List.{list_any}
-use Rattle.cedar_expr_model.specs.Name.{Text, Name, name_eq}
+use Rattle.cedar_expr_model.specs.Name.{Name, name_eq}
 use Rattle.cedar_expr_model.specs.Uid.{Uid}
-use Rattle.cedar_expr_model.specs.Whole.Value.{Literal, truth, long, text, entity, V, prim, set_of, record_of, extension, Vs, no_values, value, Fields, no_fields, field, field_of}
+use Rattle.cedar_expr_model.specs.Whole.Value.{truth, long, text, entity, V, prim, set_of, record_of, extension, Vs, no_values, value, Fields, no_fields, field, field_of}
 use Rattle.cedar_schema_model.specs.Whole.Types.{BoolType, any_bool, only_true, only_false, Openness, is_open, is_closed, Ty, never, bool_type, long_type, string_type, any_entity, entity_types, any_set, set_type, record_type, extension_type, Attributes, no_attributes, attribute, attribute_named}
 
--- what holds of the members of a set, of the fields of a record; other values have none
+-- this holds of each member of a set, or of the fields of a record; other values are neither
 abbrev pub EachMember : (V → Type 0) → Vs → Type 0
 EachMember holds no_values = Unit {0}
 EachMember holds (value v vs) = holds v × EachMember holds vs
@@ -34,6 +34,7 @@ abbrev pub Allows : Openness → Attributes → Fields → Type 0
 Allows is_open as_ fs = Unit {0}
 Allows is_closed as_ fs = DeclaresEach as_ fs
 
+-- values of one kind: a truth value, a whole number, a text, a uid of which this holds, an extension value of this type
 abbrev pub IsTruth : BoolType → V → Type 0
 IsTruth any_bool (prim (truth b)) = Unit {0}
 IsTruth only_true (prim (truth b)) = b ≡ true

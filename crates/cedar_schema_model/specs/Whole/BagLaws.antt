@@ -1,16 +1,17 @@
 -- What the laws on bags of declarations and on their schemas say.
 -- Rule: references; declarations; well-formed declarations; schemas (docs/RULES.md).
-use Rattle.std.specs.Prelude.{◌≡◌, ◌↔◌, suc, List, [], ◌∷◌, ◌++◌, length, Bool, true, false, Option, Some, None, Contains}
+use Rattle.std.specs.Prelude.{◌≡◌, ◌↔◌, suc, List, [], ◌∷◌, ◌++◌, length, true, false, Option, Some, Contains, is_some}
 use Rattle.std.specs.Bool.{Decides}
 use Rattle.std.specs.List.Sorted.{IsPermutation}
+use Rattle.std.proofs.Common.{◌⊎◌}
 use Rattle.cedar_expr_model.specs.Name.{Name}
 use Rattle.cedar_expr_model.specs.Uid.{Uid}
 use Rattle.cedar_schema_model.specs.Whole.Types.{record_type, is_closed}
-use Rattle.cedar_schema_model.specs.Whole.Schema.{Action, declares_type}
-use Rattle.cedar_schema_model.specs.Whole.Descent.{type_names, Reaches, HasParent, HasActionParent, ActionDescends}
+use Rattle.cedar_schema_model.specs.Whole.Schema.{Action, type_named, action_with, declares_type}
+use Rattle.cedar_schema_model.specs.Whole.Descent.{type_names, Reaches, HasParent, HasActionParent, Descends, ActionDescends}
 use Rattle.cedar_schema_model.specs.Whole.Descent as descent
-use Rattle.cedar_schema_model.specs.Whole.Reference.{Namespace, Reference, Meant, candidates, action_candidates, first_passing, IsFirst}
-use Rattle.cedar_schema_model.specs.Whole.Declarations.{CommonDeclaration, EntityDeclaration, ActionDeclaration, Declarations, bag, common_name, entity_name, action_uid, entity_names, action_uids, is_declared, is_declared_action, meant, parent_meant}
+use Rattle.cedar_schema_model.specs.Whole.Reference.{Namespace, Reference, Meant, candidates, action_candidates, IsFirst}
+use Rattle.cedar_schema_model.specs.Whole.Declarations.{CommonDeclaration, EntityDeclaration, ActionDeclaration, Declarations, bag, common_name, entity_name, entity_names, action_uids, is_declared, is_declared_action, meant, parent_meant}
 use Rattle.cedar_schema_model.specs.Whole.WellFormed.{SchemaFault, HasSchemaFault, has_schema_fault, IsWellFormed, well_formed, HasParentAction}
 use Rattle.cedar_schema_model.specs.Whole.Resolved.{common_within, common_of, resolved, entity_meant, resolved_action, schema_of}
 
@@ -82,3 +83,32 @@ NoActionIsItsAncestor = (x : List Name) (d : Declarations) → IsWellFormed x d 
 
 abbrev pub ActionTypesAreApart : Type 0
 ActionTypesAreApart = (x : List Name) (d : Declarations) → IsWellFormed x d → (u : Uid) → Contains (action_uids d) u → declares_type (schema_of d) u.kind ≡ false
+
+-- declarations in another order make the same schema: each look-up in it answers the same
+abbrev pub SameTypesFound : Type 0
+SameTypesFound = (x : List Name) (d e : Declarations) → IsReordered d e → IsWellFormed x d → (n : Name) → type_named (schema_of d) n ≡ type_named (schema_of e) n
+
+abbrev pub SameActionsFound : Type 0
+SameActionsFound = (x : List Name) (d e : Declarations) → IsReordered d e → IsWellFormed x d → (u : Uid) → action_with (schema_of d) u ≡ action_with (schema_of e) u
+
+-- what the schema names is declared in it: what types and actions descend from, and the types that actions list
+abbrev pub AncestorTypesAreDeclared : Type 0
+AncestorTypesAreDeclared = (d : Declarations) (m n : Name) → Descends (schema_of d) m n → Contains (type_names (schema_of d)) n
+
+abbrev pub AncestorActionsAreDeclared : Type 0
+AncestorActionsAreDeclared = (d : Declarations) (u v : Uid) → ActionDescends (schema_of d) u v → Contains (descent.action_uids (schema_of d)) v
+
+abbrev pub ListedTypesAreDeclared : Type 0
+ListedTypesAreDeclared = (d : Declarations) (a : Action) → Contains (schema_of d).actions a → (n : Name) → Contains a.principals n ⊎ Contains a.resources n → Contains (type_names (schema_of d)) n
+
+-- each of these means something
+abbrev pub KeepsEach : {X Y : Type 0} → (X → Option Y) → List X → Type 0
+KeepsEach {X} f xs = (x : X) → Contains xs x → is_some (f x) ≡ true
+
+-- where declarations are well-formed no parent and no listed type that is written is left out of the schema
+abbrev pub NoParentIsDropped : Type 0
+NoParentIsDropped = (x : List Name) (d : Declarations) → IsWellFormed x d → (t : EntityDeclaration) → Contains d.entities t → KeepsEach (entity_meant d t.namespace) t.parents
+
+abbrev pub NothingOfActionsIsDropped : Type 0
+NothingOfActionsIsDropped = (x : List Name) (d : Declarations) → IsWellFormed x d → (a : ActionDeclaration) → Contains d.actions a
+    → KeepsEach (parent_meant d a.namespace) a.parents × KeepsEach (entity_meant d a.namespace) a.principals × KeepsEach (entity_meant d a.namespace) a.resources

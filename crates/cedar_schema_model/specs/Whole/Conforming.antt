@@ -1,17 +1,15 @@
 -- Which entities and requests conform to a schema. A fault says what is wrong; what has none conforms.
 -- Rule: conforming entities; conforming requests (docs/RULES.md).
-use Rattle.std.specs.Prelude.{◌≡◌, ◌&&◌, ◌||◌, ℕ, List, [], ◌∷◌, Bool, true, false, not, Option, Some, None, is_some, Contains}
-use Rattle.std.specs.List.{list_any}
-use Rattle.std.specs.Str.{bytes_eq}
+use Rattle.std.specs.Prelude.{◌≡◌, ℕ, List, [], ◌∷◌, Bool, true, false, Option, Some, None, Contains}
 use Rattle.std.proofs.Common.{◌⊎◌}
-use Rattle.cedar_expr_model.specs.Name.{Text, Name, name_eq}
-use Rattle.cedar_expr_model.specs.Uid.{Uid, uid_eq}
+use Rattle.cedar_expr_model.specs.Name.{Text, Name}
+use Rattle.cedar_expr_model.specs.Uid.{Uid}
 use Rattle.cedar_expr_model.specs.Whole.Value.{V, record_of, Fields}
 use Rattle.cedar_store_model.specs.Whole.World.{Part, known, left, Entity, Request, part_named}
 use Rattle.cedar_schema_model.specs.Whole.Types.{Ty, record_type, is_closed, Attributes, no_attributes, attribute, Declared, attribute_named}
-use Rattle.cedar_schema_model.specs.Whole.Schema.{EntityKind, standard, enumerated, external, EntityType, Action, Schema, type_named, action_with, declares_action}
-use Rattle.cedar_schema_model.specs.Whole.Descent.{Descends, descends, IsActionAncestor, is_action_ancestor, action_uids}
-use Rattle.cedar_schema_model.specs.Whole.Admission.{Admits, admits}
+use Rattle.cedar_schema_model.specs.Whole.Schema.{EntityKind, standard, enumerated, EntityType, Action, Schema, type_named, action_with, declares_action}
+use Rattle.cedar_schema_model.specs.Whole.Descent.{Descends, IsActionAncestor}
+use Rattle.cedar_schema_model.specs.Whole.Admission.{Admits}
 
 -- The faults of an entity or a request.
 pub data ConformFault : Type 0 where

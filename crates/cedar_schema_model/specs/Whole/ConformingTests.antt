@@ -1,18 +1,19 @@
 -- Conforming as tests, and read directly.
 -- Rule: conforming entities; conforming requests (docs/RULES.md).
-use Rattle.std.specs.Prelude.{◌≡◌, ◌&&◌, ◌||◌, List, [], ◌∷◌, Bool, true, false, not, Option, Some, None, is_some, Contains}
+use Rattle.std.specs.Prelude.{◌≡◌, ◌&&◌, ◌||◌, List, Bool, true, false, not, Option, Some, None, is_some, Contains}
 use Rattle.std.specs.List.{list_any, list_all}
 use Rattle.std.specs.Str.{bytes_eq}
 use Rattle.cedar_expr_model.specs.Name.{Text, Name, name_eq}
 use Rattle.cedar_expr_model.specs.Uid.{Uid, uid_eq}
-use Rattle.cedar_expr_model.specs.Whole.Value.{V, record_of, Fields}
-use Rattle.cedar_store_model.specs.Whole.World.{Part, known, left, Entity, Found, held, missing, not_loaded, Request, part_named}
+use Rattle.cedar_expr_model.specs.Whole.Value.{V, record_of}
+use Rattle.cedar_store_model.specs.Whole.World.{Part, known, left, Entity, Found, held, Request, part_named}
 use Rattle.cedar_schema_model.specs.Whole.Types.{Ty, record_type, is_closed, Attributes, Declared, attribute_named}
-use Rattle.cedar_schema_model.specs.Whole.Schema.{EntityKind, standard, enumerated, external, Action, Schema, action_with, declares_action}
+use Rattle.cedar_schema_model.specs.Whole.Schema.{enumerated, Action, Schema, action_with, declares_action}
 use Rattle.cedar_schema_model.specs.Whole.Descent.{descends, action_descends, is_action_ancestor, action_uids}
 use Rattle.cedar_schema_model.specs.Whole.Admission.{Admits, admits}
 use Rattle.cedar_schema_model.specs.Whole.Conforming.{ConformFault, undeclared, not_listed, no_member, lacks_attribute, undeclared_attribute, attribute_value, tag, ancestor, context_value, open_part, conform_faults, Place, among_actions, of_kind, nowhere, place_of, attributes_at, tags_at, attribute_list, IsNowhere, IsNoMember, MayDescend, MustDescend, RequestParts, EntityConforms}
 
+-- The tests of an entity, one for each part of a fault.
 abbrev pub is_nowhere : Place → Bool
 is_nowhere nowhere = true
 is_nowhere p = false
@@ -65,6 +66,7 @@ is_left (left t) = true
 abbrev pub has_left : List (Text × Part V) → Bool
 has_left ps = list_any (λ p. is_left p.1) ps
 
+-- the fault is there, in an entity; and no fault is
 abbrev pub entity_fault_at : Schema → Uid → Entity V → Place → ConformFault → Bool
 entity_fault_at s u e p undeclared = is_nowhere p
 entity_fault_at s u e p no_member = is_no_member p u.id
@@ -82,7 +84,7 @@ has_entity_fault s u e f = entity_fault_at s u e (place_of s u) f
 abbrev pub entity_conforms : Schema → Uid → Entity V → Bool
 entity_conforms s u e = list_all (λ f. not (has_entity_fault s u e f)) conform_faults
 
--- requests
+-- The tests of a request.
 abbrev pub where_known : {A : Type 0} → Option A → (A → Bool) → Bool
 where_known None test = false
 where_known (Some a) test = test a

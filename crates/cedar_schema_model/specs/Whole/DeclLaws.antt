@@ -1,21 +1,21 @@
 -- What the laws on declarations, entities and requests say.
 -- Rule: descent; action entities; admission; conforming entities; conforming requests; environments (docs/RULES.md).
-use Rattle.std.specs.Prelude.{◌≡◌, ◌↔◌, List, map, Bool, true, Option, Some, None, Contains}
+use Rattle.std.specs.Prelude.{◌≡◌, ◌↔◌, [], true, Option, Some, None, Contains}
 use Rattle.std.specs.Bool.{Decides}
 use Rattle.std.proofs.Common.{◌⊎◌}
 use Rattle.cedar_expr_model.specs.Name.{Name}
 use Rattle.cedar_expr_model.specs.Uid.{Uid}
-use Rattle.cedar_expr_model.specs.Whole.Value.{V, Vs, set_of, Fields, record_of}
+use Rattle.cedar_expr_model.specs.Whole.Value.{V, Vs, set_of}
 use Rattle.cedar_expr_model.specs.Whole.Canonical.{Among}
-use Rattle.cedar_store_model.specs.Whole.World.{Entity, Request}
+use Rattle.cedar_store_model.specs.Whole.World.{Entity, Found, held, Request}
 use Rattle.cedar_schema_model.specs.Whole.Types.{Ty, set_type}
 use Rattle.cedar_schema_model.specs.Whole.Schema.{Schema, Action, declares_action}
-use Rattle.cedar_schema_model.specs.Whole.Descent.{type_names, Reaches, Descends, descends, ActionDescends, action_descends, ActionTypeDescends, action_type_descends, TypeDescends, type_descends, IsActionAncestor, is_action_ancestor, action_uids}
+use Rattle.cedar_schema_model.specs.Whole.Descent.{type_names, Descends, descends, ActionDescends, action_descends, ActionTypeDescends, action_type_descends, TypeDescends, type_descends, IsActionAncestor}
 use Rattle.cedar_schema_model.specs.Whole.ActionEntities.{action_ancestors, action_entity, action_entities}
 use Rattle.cedar_schema_model.specs.Whole.Admission.{Admits, admits}
 use Rattle.cedar_schema_model.specs.Whole.Conforming.{ConformFault, HasEntityFault, EntityConforms, RequestParts, parts_of, HasRequestFault, RequestConforms}
-use Rattle.cedar_schema_model.specs.Whole.ConformingTests.{has_entity_fault, entity_conforms, has_request_fault, request_conforms, IsGoodEntity, IsGoodFor, IsGoodRequest}
-use Rattle.cedar_schema_model.specs.Whole.Environment.{Environment, environment_at, environments, SlotUse, no_slot, equal_slot, in_slot, slot_types, with_slots, environments_for}
+use Rattle.cedar_schema_model.specs.Whole.ConformingTests.{has_entity_fault, entity_conforms, has_request_fault, request_conforms, IsGoodEntity, IsGoodFor, IsGoodRequest, StoreConforms}
+use Rattle.cedar_schema_model.specs.Whole.Environment.{Environment, environment_at, environments, SlotUse, no_slot, equal_slot, in_slot, with_slots, environments_for}
 
 -- the tests decide descent
 abbrev pub DescentDecides : Type 0
@@ -104,3 +104,12 @@ IsLinked s p r x = (e : Environment) × Contains (environments s) e × ((m : Opt
 
 abbrev pub SlotsAreCovered : Type 0
 SlotsAreCovered = (s : Schema) (p r : SlotUse) (x : Environment) → Contains (environments_for s p r) x ↔ IsLinked s p r x
+
+-- a conforming store holds each declared action, without attributes and tags, with exactly its declared ancestors
+pub record IsActionEntity (s : Schema) (u : Uid) (e : Entity V) : Type 0 where
+  pub attributes : e.attributes ≡ []
+  pub tags : e.tags ≡ []
+  pub ancestors : (v : Uid) → Contains e.ancestors v ↔ IsActionAncestor s u v
+
+abbrev pub StoresHoldActions : Type 0
+StoresHoldActions = (s : Schema) (store : Uid → Found V) → StoreConforms s store → (u : Uid) → declares_action s u ≡ true → (e : Entity V) × (store u ≡ held e) × IsActionEntity s u e

@@ -1,16 +1,16 @@
 -- The values of the worked examples on declarations, entities and requests.
 -- Rule: references; declarations; well-formed declarations; schemas; conforming entities; conforming requests (docs/RULES.md).
-use Rattle.std.specs.Prelude.{List, [], ◌∷◌, ◌++◌, codes, pos, Bool, true, false, Option, Some, None}
+use Rattle.std.specs.Prelude.{List, [], ◌∷◌, codes, pos, true, false, Option, Some, None}
 use Rattle.cedar_expr_model.specs.Name.{Text, Name}
 use Rattle.cedar_expr_model.specs.Uid.{Uid}
-use Rattle.cedar_expr_model.specs.Whole.Value.{V, prim, truth, long, text, entity, set_of, record_of, extension, Vs, no_values, value, Fields, no_fields, field}
+use Rattle.cedar_expr_model.specs.Whole.Value.{V, prim, truth, long, entity, no_fields}
 use Rattle.cedar_expr_model.specs.Whole.Tree.{lit}
 use Rattle.cedar_store_model.specs.Whole.World.{Part, known, left, Entity, Request}
-use Rattle.cedar_schema_model.specs.Whole.Types.{Ty, bool_type, any_bool, string_type, long_type, entity_type, Attributes, no_attributes, attribute}
+use Rattle.cedar_schema_model.specs.Whole.Types.{bool_type, any_bool, string_type, long_type, entity_type, Attributes, no_attributes, attribute}
 use Rattle.cedar_schema_model.specs.Whole.Schema.{standard, enumerated, external, EntityType, Action, Schema}
 use Rattle.cedar_schema_model.specs.Whole.Environment.{Environment}
 use Rattle.cedar_schema_model.specs.Whole.Reference.{Namespace, name_in, action_in, ReferenceKind, to_entity, to_common, to_either, Reference}
-use Rattle.cedar_schema_model.specs.Whole.Declarations.{TypeExpr, bool_expr, long_expr, string_expr, set_expr, record_expr, reference, extension_expr, FieldExprs, no_field_exprs, field_expr, CommonDeclaration, KindExpr, standard_expr, enumerated_expr, external_expr, EntityDeclaration, ActionDeclaration, Declarations}
+use Rattle.cedar_schema_model.specs.Whole.Declarations.{TypeExpr, bool_expr, long_expr, string_expr, set_expr, record_expr, reference, extension_expr, no_field_exprs, field_expr, CommonDeclaration, standard_expr, enumerated_expr, external_expr, EntityDeclaration, ActionDeclaration, Declarations}
 
 -- names of the empty namespace, and the namespace `N`
 abbrev pub user : Name
@@ -203,6 +203,13 @@ own_first = record { commons = common [] (codes "User") bool_expr ∷ []; entiti
 abbrev pub common_first : Declarations
 common_first = record { commons = common n (codes "User") bool_expr ∷ []; entities = plain n (codes "User") ∷ plain [] (codes "User") ∷ []; actions = [] }
 
+-- `N::User` and `M::N::User`
+abbrev pub nested_users : Declarations
+nested_users = record { commons = []; entities = plain n (codes "User") ∷ plain (codes "M" ∷ n) (codes "User") ∷ []; actions = [] }
+
+abbrev pub deep_users : Declarations
+deep_users = record { commons = []; entities = plain (codes "M" ∷ n) (codes "User") ∷ []; actions = [] }
+
 -- reading is declared in the empty namespace, and in both
 abbrev pub read_above : Declarations
 read_above = record { commons = []; entities = []; actions = act n (codes "view") (read ∷ []) ∷ act [] (codes "read") [] ∷ [] }
@@ -243,3 +250,39 @@ tagged_by t = record { namespace = []; word = codes "Tagged"; parents = []; kind
 -- a group below itself
 abbrev pub grouped : Declarations
 grouped = with_type (child (codes "Group") (group ∷ []))
+
+-- in the namespace `N`: members of a group of the empty namespace, who list; and there an enumerated and an external type
+abbrev pub member_declared : EntityDeclaration
+member_declared = record { namespace = n; word = codes "Member"; parents = group ∷ []; kind = standard_expr no_field_exprs (Some long_expr) }
+
+abbrev pub listing : ActionDeclaration
+listing = record (act n (codes "list") (read ∷ [])) { principals = name_in [] (codes "Member") ∷ []; resources = group ∷ []; context = common_named (codes "U") }
+
+abbrev pub mixed : Declarations
+mixed = record {
+  commons = common_chain;
+  entities = member_declared ∷ child (codes "Group") (group ∷ []) ∷ color_declared ∷ external_x ∷ [];
+  actions = listing ∷ act [] (codes "read") [] ∷ [];
+}
+
+abbrev pub member_name : Name
+member_name = name_in n (codes "Member")
+
+abbrev pub member_type : EntityType
+member_type = record { name = member_name; parents = group ∷ []; kind = standard no_attributes (Some long_type) }
+
+abbrev pub listing_action : Action
+listing_action = record { uid = action_in n (codes "list"); parents = read ∷ []; principals = member_name ∷ []; resources = group ∷ []; context = attribute (codes "a") long_type true no_attributes; is_external = false }
+
+abbrev pub mixed_schema : Schema
+mixed_schema = record {
+  types = member_type ∷ group_type ∷ record { name = color; parents = []; kind = enumerated (codes "red" ∷ []) } ∷ record { name = name_in [] (codes "X"); parents = []; kind = external } ∷ [];
+  actions = listing_action ∷ bare_action read [] ∷ [];
+}
+
+-- an extension type, and an action's parent, under the reserved part
+abbrev pub reserved_rank : Name
+reserved_rank = name_in (codes "__cedar" ∷ []) (codes "rank")
+
+abbrev pub reserved_ranked : Declarations
+reserved_ranked = with_commons (common [] (codes "R") (extension_expr reserved_rank) ∷ [])

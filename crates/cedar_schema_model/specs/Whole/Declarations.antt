@@ -1,6 +1,6 @@
 -- Declarations, as a bag: what is declared in which namespace, as it is written.
 -- Rule: declarations; references (docs/RULES.md).
-use Rattle.std.specs.Prelude.{◌≡◌, ◌||◌, List, [], ◌∷◌, ◌++◌, map, Bool, true, false, Option, Some, None}
+use Rattle.std.specs.Prelude.{List, [], ◌∷◌, ◌++◌, map, Bool, Option, Some, None}
 use Rattle.std.specs.List.{flat_map, list_any}
 use Rattle.cedar_expr_model.specs.Name.{Text, Name, name_eq}
 use Rattle.cedar_expr_model.specs.Uid.{Uid, uid_eq}
@@ -22,6 +22,7 @@ mutual
     no_field_exprs : FieldExprs
     field_expr : Text → TypeExpr → Bool → FieldExprs → FieldExprs
 
+-- A common type: a name for a written type.
 pub record CommonDeclaration : Type 0 where
   pub namespace : Namespace
   pub word : Text
@@ -79,6 +80,7 @@ entity_names d = map entity_name d.entities
 abbrev pub action_uids : Declarations → List Uid
 action_uids d = map action_uid d.actions
 
+-- whether this is declared
 abbrev pub is_declared : Declarations → Meant → Bool
 is_declared d (meant_common n) = list_any (name_eq n) (common_names d)
 is_declared d (meant_entity n) = list_any (name_eq n) (entity_names d)
@@ -118,11 +120,12 @@ abbrev mutual
   extensions_in_fields no_field_exprs = []
   extensions_in_fields (field_expr a t r fs) = extensions_in t ++ extensions_in_fields fs
 
--- The types that stand in a declaration, as records where they are attributes.
+-- the type of the tags, if there is one
 abbrev pub tag_expr : Option TypeExpr → List TypeExpr
 tag_expr None = []
 tag_expr (Some t) = t ∷ []
 
+-- the types that stand in a declaration: its attributes as a record, and that of its tags
 abbrev pub types_in : KindExpr → List TypeExpr
 types_in (standard_expr fs t) = record_expr fs ∷ tag_expr t
 types_in k = []

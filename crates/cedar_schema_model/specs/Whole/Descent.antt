@@ -1,11 +1,11 @@
 -- Descent: of entity types by their declared parents, and of actions by theirs.
 -- Rule: descent (docs/RULES.md).
-use Rattle.std.specs.Prelude.{◌≡◌, ◌&&◌, ◌||◌, List, [], ◌∷◌, map, Bool, true, Contains}
+use Rattle.std.specs.Prelude.{◌≡◌, ◌&&◌, ◌||◌, List, [], ◌∷◌, map, Bool, Contains}
 use Rattle.std.specs.List.{list_any}
 use Rattle.std.proofs.Common.{◌⊎◌}
 use Rattle.cedar_expr_model.specs.Name.{Name, name_eq}
 use Rattle.cedar_expr_model.specs.Uid.{Uid, uid_eq}
-use Rattle.cedar_schema_model.specs.Whole.Schema.{EntityType, Action, Schema, declares_action}
+use Rattle.cedar_schema_model.specs.Whole.Schema.{EntityType, Action, Schema}
 
 -- A chain: a step leads from the first to each of those in between in turn, and then to the last.
 abbrev pub Chain : {X : Type 0} → (X → X → Type 0) → X → List X → X → Type 0

@@ -4,7 +4,6 @@ use Rattle.std.specs.Prelude.{◌&&◌, List, [], ◌∷◌, map, not, Option, S
 use Rattle.std.specs.List.{flat_map, filter}
 use Rattle.cedar_expr_model.specs.Name.{Name, name_eq}
 use Rattle.cedar_expr_model.specs.Uid.{Uid}
-use Rattle.cedar_store_model.specs.Whole.World.{Request}
 use Rattle.cedar_schema_model.specs.Whole.Types.{Attributes}
 use Rattle.cedar_schema_model.specs.Whole.Schema.{Action, Schema}
 use Rattle.cedar_schema_model.specs.Whole.Descent.{type_names, descends}

@@ -1,14 +1,13 @@
 -- The schema that declarations make: references resolved, common types replaced.
 -- Rule: schemas (docs/RULES.md).
-use Rattle.std.specs.Prelude.{◌≡◌, ℕ, zero, suc, List, [], ◌∷◌, map, length, Bool, true, false, Option, Some, None, if◌then◌else◌}
+use Rattle.std.specs.Prelude.{ℕ, zero, suc, List, [], ◌∷◌, map, length, Bool, Option, Some, None, if◌then◌else◌}
 use Rattle.std.specs.List.{filter_map}
 use Rattle.std.specs.Ordering.{match_ordering}
 use Rattle.cedar_expr_model.specs.Name.{Text, Name, name_eq}
-use Rattle.cedar_expr_model.specs.Uid.{Uid}
 use Rattle.cedar_expr_model.specs.Whole.Order.{text_cmp}
 use Rattle.cedar_schema_model.specs.Whole.Types.{Ty, never, bool_type, any_bool, long_type, string_type, entity_type, set_type, record_type, extension_type, is_closed, Attributes, no_attributes, attribute}
 use Rattle.cedar_schema_model.specs.Whole.Schema.{EntityKind, standard, enumerated, external, EntityType, Action, Schema}
-use Rattle.cedar_schema_model.specs.Whole.Reference.{Namespace, to_entity, Reference, Meant, meant_common, meant_entity}
+use Rattle.cedar_schema_model.specs.Whole.Reference.{Namespace, to_entity, Meant, meant_common, meant_entity}
 use Rattle.cedar_schema_model.specs.Whole.Declarations.{TypeExpr, bool_expr, long_expr, string_expr, set_expr, record_expr, reference, extension_expr, FieldExprs, no_field_exprs, field_expr, CommonDeclaration, KindExpr, standard_expr, enumerated_expr, external_expr, EntityDeclaration, ActionDeclaration, Declarations, common_name, entity_name, action_uid, meant, parent_meant}
 
 -- the attributes with one more, in its place; one of that name that stands already stays

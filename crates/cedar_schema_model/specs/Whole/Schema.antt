@@ -1,6 +1,6 @@
 -- A schema: what declarations say once references are resolved and common types replaced.
 -- Rule: schemas (docs/RULES.md).
-use Rattle.std.specs.Prelude.{List, [], ◌∷◌, Bool, true, false, Option, Some, None, if◌then◌else◌, is_some}
+use Rattle.std.specs.Prelude.{List, [], ◌∷◌, Bool, Option, Some, None, if◌then◌else◌, is_some}
 use Rattle.cedar_expr_model.specs.Name.{Text, Name, name_eq}
 use Rattle.cedar_expr_model.specs.Uid.{Uid, uid_eq}
 use Rattle.cedar_schema_model.specs.Whole.Types.{Ty, Attributes}

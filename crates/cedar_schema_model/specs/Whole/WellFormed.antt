@@ -7,9 +7,10 @@ use Rattle.std.proofs.Common.{◌⊎◌}
 use Rattle.cedar_expr_model.specs.Name.{Text, Name, name_eq, is_reserved}
 use Rattle.cedar_expr_model.specs.Uid.{Uid, uid_eq}
 use Rattle.cedar_schema_model.specs.Whole.Descent.{Reaches, reaches}
-use Rattle.cedar_schema_model.specs.Whole.Reference.{Namespace, action_word, ReferenceKind, Reference, Meant, meant_common, meant_entity}
-use Rattle.cedar_schema_model.specs.Whole.Declarations.{TypeExpr, record_expr, reference, CommonDeclaration, KindExpr, external_expr, EntityDeclaration, ActionDeclaration, Declarations, common_name, entity_name, action_uid, common_names, entity_names, action_uids, meant, parent_meant, references_of_common, references, extensions}
+use Rattle.cedar_schema_model.specs.Whole.Reference.{Namespace, action_word, ReferenceKind, Reference, Meant, meant_common}
+use Rattle.cedar_schema_model.specs.Whole.Declarations.{TypeExpr, record_expr, reference, CommonDeclaration, KindExpr, external_expr, EntityDeclaration, ActionDeclaration, Declarations, common_name, action_uid, common_names, entity_names, action_uids, meant, parent_meant, references_of_common, references, extensions}
 
+-- The faults of declarations, with their numbers.
 pub data SchemaFault : Type 0 where
   duplicate_entity_type : SchemaFault
   duplicate_common_type : SchemaFault
@@ -77,32 +78,36 @@ is_uid v (Some u) = uid_eq u v
 abbrev pub has_parent_action : Declarations → Uid → Uid → Bool
 has_parent_action d u v = list_any (λ a. uid_eq u (action_uid a) && list_any (λ w. is_uid v (parent_meant d a.namespace w)) a.parents) d.actions
 
--- A type is a record by way of this many common types or fewer: it is written as one, or refers to a common type of which the
--- definition is.
+-- the test holds of each declaration of this name
 abbrev pub all_of_name : Name → (CommonDeclaration → Bool) → List CommonDeclaration → Bool
 all_of_name n test cs = list_all (λ c. not (name_eq n (common_name c)) || test c) cs
 
+-- a reference means a common type, and the test holds of what declares it
 abbrev pub refers_to_record : (CommonDeclaration → Bool) → Declarations → Option Meant → Bool
 refers_to_record test d (Some (meant_common n)) = all_of_name n test d.commons
 refers_to_record test d o = false
 
+-- written as a record, or as a reference that refers to one
 abbrev pub is_written_record : (Namespace → ReferenceKind → Name → Bool) → Namespace → TypeExpr → Bool
 is_written_record refers ns (record_expr fs) = true
 is_written_record refers ns (reference k n) = refers ns k n
 is_written_record refers ns t = false
 
+-- A type is a record by way of this many common types or fewer: it is written as one, or refers to a common type of which the
+-- definition is.
 abbrev pub is_record_within : ℕ → Declarations → Namespace → TypeExpr → Bool
 is_record_within zero d = is_written_record (λ ns k n. false)
 is_record_within (suc m) d = is_written_record (λ ns k n. refers_to_record (λ c. is_record_within m d c.namespace c.definition) d (meant d (record { namespace = ns; kind = k; name = n })))
 
--- a record, after as many steps as there are common types
+-- the context of an action is a record, by way of as many common types as there are
 abbrev pub becomes_record : Declarations → ActionDeclaration → Bool
 becomes_record d a = is_record_within (length d.commons) d a.namespace a.context
 
--- all names that are written: those that are declared, those that are referred to, and the types of parents of actions
+-- the types of the parents of actions, as they are written
 abbrev pub parent_types : Declarations → List Name
 parent_types d = flat_map (λ a. map (λ u. u.kind) a.parents) d.actions
 
+-- all names that are written: those that are declared, those that are referred to, and the types of parents of actions
 abbrev pub written_names : Declarations → List Name
 written_names d = common_names d ++ (entity_names d ++ (map (λ u. u.kind) (action_uids d) ++ (map (λ r. r.name) (references d) ++ (extensions d ++ parent_types d))))
 
@@ -113,6 +118,7 @@ unqualified n = record { path = []; base = n.base }
 abbrev pub unqualified_uid : Uid → Uid
 unqualified_uid u = record { kind = unqualified u.kind; id = u.id }
 
+-- the name stands in a namespace that isn't the empty one
 abbrev pub has_parts : List Text → Bool
 has_parts [] = false
 has_parts (part ∷ parts) = true
@@ -120,6 +126,7 @@ has_parts (part ∷ parts) = true
 abbrev pub is_qualified : Name → Bool
 is_qualified n = has_parts n.path
 
+-- the declared types of both kinds
 abbrev pub declared_types : Declarations → List Name
 declared_types d = common_names d ++ entity_names d
 

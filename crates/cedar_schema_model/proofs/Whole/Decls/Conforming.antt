@@ -1,20 +1,20 @@
 -- The tests of entities and requests decide which faults are there.
-use Rattle.std.proofs.Common.{◌≡◌, ◌↔◌, ◌⊎◌, List, [], ◌∷◌, Bool, true, false, not, ◌&&◌, ◌||◌, Option, Some, None, refl, sym, ap, subst, inl, inr, ⊎_elim, arith}
+use Rattle.std.proofs.Common.{◌≡◌, ◌⊎◌, List, ◌∷◌, Bool, true, false, not, ◌&&◌, ◌||◌, Option, Some, None, refl, arith}
 use Rattle.std.specs.Prelude.{Contains, is_some}
 use Rattle.std.specs.Bool.{Decides}
-use Rattle.std.specs.List.{list_any, list_all}
+use Rattle.std.specs.List.{list_any}
 use Rattle.std.specs.Str.{bytes_eq}
 use Rattle.std.proofs.lemmas.Bool.Decides.{Decides-and, Decides-or, Decides-not, Decides-like}
 use Rattle.std.proofs.lemmas.Slice.Eq.{bytes_eq-Decides}
 use Rattle.cedar_expr_model.specs.Name.{Text, Name, name_eq}
 use Rattle.cedar_expr_model.specs.Uid.{Uid, uid_eq}
 use Rattle.cedar_expr_model.proofs.Equality.{name_eq-Decides, uid_eq-Decides}
-use Rattle.cedar_expr_model.proofs.Lists.{contains_head, contains_tail, found-Decides, any-Decides, all-Decides}
-use Rattle.cedar_expr_model.specs.Whole.Value.{V, record_of, Fields}
+use Rattle.cedar_expr_model.proofs.Lists.{contains_tail, found-Decides, any-Decides, all-Decides}
+use Rattle.cedar_expr_model.specs.Whole.Value.{V, record_of}
 use Rattle.cedar_store_model.specs.Whole.World.{Part, known, left, Entity, part_named}
 use Rattle.cedar_schema_model.specs.Whole.Types.{Ty, record_type, is_closed, Attributes, Declared, attribute_named}
-use Rattle.cedar_schema_model.specs.Whole.Schema.{EntityKind, standard, enumerated, external, Action, Schema, action_with, declares_action}
-use Rattle.cedar_schema_model.specs.Whole.Descent.{descends, Descends, action_descends, ActionDescends, IsActionAncestor, is_action_ancestor, action_uids}
+use Rattle.cedar_schema_model.specs.Whole.Schema.{standard, enumerated, external, Action, Schema, action_with, declares_action}
+use Rattle.cedar_schema_model.specs.Whole.Descent.{action_descends, ActionDescends, action_uids}
 use Rattle.cedar_schema_model.specs.Whole.Admission.{Admits, admits}
 use Rattle.cedar_schema_model.specs.Whole.Conforming.{ConformFault, undeclared, not_listed, no_member, lacks_attribute, undeclared_attribute, attribute_value, tag, ancestor, context_value, open_part, conform_faults, Place, among_actions, of_kind, nowhere, place_of, attributes_at, tags_at, attribute_list, IsNowhere, IsNoMember, Lacks, HasUndeclared, IsRefused, IsRefusedValue, HasRefusedValue, IsRefusedTag, HasRefusedTag, MayDescend, MustDescend, HasWrongAncestors, IsLeft, HasLeft, EntityFaultAt, HasEntityFault, EntityConforms, RequestParts, WhereKnown, IsUnknown, OfAction, IsNotListed, HasRequestFault, RequestConforms}
 use Rattle.cedar_schema_model.specs.Whole.ConformingTests.{is_nowhere, is_no_member, lacks, has_undeclared, is_refused, is_refused_value, has_refused_value, is_refused_tag, has_refused_tag, may_descend, lacks_ancestor, has_wrong_ancestors, is_left, has_left, entity_fault_at, has_entity_fault, entity_conforms, where_known, is_unknown, of_action, is_not_listed, has_request_fault, request_conforms}
@@ -44,7 +44,7 @@ lacks-Decides : (as_ : Attributes) (ps : List (Text × Part V)) → Decides (lac
 lacks-Decides as_ ps =
     Decides-like _ (λ h. (h.0, h.1, h.2.0, h.2.1)) (λ h. (h.0, h.1, (h.2, h.3)))
     (any-Decides (λ d. d.1.is_required && not (is_some (part_named d.0 ps))) (λ d. (d.1.is_required ≡ true) × (part_named d.0 ps ≡ None))
-      (λ d. Decides-and _ _ (is_true-Decides d.1.is_required) (is_none-Decides (part_named d.0 ps))) (attribute_list as_))
+    (λ d. Decides-and _ _ (is_true-Decides d.1.is_required) (is_none-Decides (part_named d.0 ps))) (attribute_list as_))
 
 undeclared-Decides : (as_ : Attributes) (ps : List (Text × Part V)) → Decides (has_undeclared as_ ps) (HasUndeclared as_ ps)
 undeclared-Decides as_ ps = any-Decides (λ p. not (is_some (attribute_named p.0 as_))) (λ p. attribute_named p.0 as_ ≡ None) (λ p. is_none-Decides (attribute_named p.0 as_)) ps
@@ -92,7 +92,7 @@ lacks_ancestor-Decides : (s : Schema) (u : Uid) (p : Place) (vs : List Uid) → 
 lacks_ancestor-Decides s u among_actions vs =
     Decides-like _ (λ h. (h.0, (h.1, h.2.0), h.2.1)) (λ h. (h.0, h.1.0, (h.1.1, h.2)))
     (any-Decides (λ v. action_descends s u v && not (list_any (uid_eq v) vs)) (λ v. ActionDescends s u v × (Contains vs v → ⊥))
-      (λ v. Decides-and _ _ (action_descends-Decides s u v) (Decides-not _ (found-Decides uid_eq uid_eq-Decides v vs))) (action_uids s))
+    (λ v. Decides-and _ _ (action_descends-Decides s u v) (Decides-not _ (found-Decides uid_eq uid_eq-Decides v vs))) (action_uids s))
 lacks_ancestor-Decides s u (of_kind k) vs = none_lacks s u (of_kind k) vs (λ v h. h)
 lacks_ancestor-Decides s u nowhere vs = none_lacks s u nowhere vs (λ v h. h)
 

@@ -1,5 +1,5 @@
 -- The tests of descent decide it.
-use Rattle.std.proofs.Common.{◌≡◌, ◌↔◌, ◌⊎◌, List, [], ◌∷◌, ◌++◌, Bool, true, false, ◌&&◌, ◌||◌, map, refl, sym, ap, subst, inl, inr, ⊎_elim}
+use Rattle.std.proofs.Common.{◌≡◌, ◌⊎◌, List, [], ◌∷◌, ◌++◌, Bool, true, false, ◌&&◌, ◌||◌, refl, sym, subst, inl, inr, ⊎_elim}
 use Rattle.std.specs.Prelude.{Contains}
 use Rattle.std.specs.Bool.{Decides}
 use Rattle.std.specs.List.{list_any}
@@ -7,7 +7,7 @@ use Rattle.std.proofs.lemmas.Bool.Decides.{Decides-and, Decides-or, Decides-like
 use Rattle.cedar_expr_model.specs.Name.{Name, name_eq}
 use Rattle.cedar_expr_model.specs.Uid.{Uid, uid_eq}
 use Rattle.cedar_expr_model.proofs.Equality.{name_eq-Decides, uid_eq-Decides}
-use Rattle.cedar_expr_model.proofs.Lists.{both_hold, hold_both, hold_left, hold_right, contains_cases, contains_none, contains_head, contains_tail, found-Decides, any-Decides, map_has}
+use Rattle.cedar_expr_model.proofs.Lists.{both_hold, hold_both, hold_left, hold_right, contains_cases, contains_none, found-Decides, any-Decides, map_has}
 use Rattle.cedar_schema_model.specs.Whole.Schema.{EntityType, Action, Schema}
 use Rattle.cedar_schema_model.specs.Whole.Descent.{Chain, Reaches, reaches, type_names, action_uids, HasParent, has_parent, Descends, descends, HasActionParent, has_action_parent, ActionDescends, action_descends, IsActionAncestor, is_action_ancestor, ActionTypeDescends, has_ancestor_of, action_type_descends, TypeDescends, type_descends}
 
@@ -77,7 +77,7 @@ reaches_sound step test each (v ∷ vs) x y h =
     ⊎_elim
     (λ e. reaches_sound step test each vs x y e)
     (λ e. let p = both_hold (reaches test vs x v) (reaches test vs v y) e in
-        reaches_on step x v y (reaches_sound step test each vs x v p.0) (reaches_sound step test each vs v y p.1))
+    reaches_on step x v y (reaches_sound step test each vs x v p.0) (reaches_sound step test each vs v y p.1))
     (either_holds (reaches test vs x y) (reaches test vs x v && reaches test vs v y) h)
 
 -- all that have a step are among these
@@ -100,7 +100,7 @@ pub has_parent-Decides : (s : Schema) (m n : Name) → Decides (has_parent s m n
 has_parent-Decides s m n =
     Decides-like _ (λ h. (h.0, h.1, h.2.0, h.2.1)) (λ h. (h.0, h.1, (h.2, h.3)))
     (any-Decides (λ (t : EntityType). name_eq m t.name && list_any (name_eq n) t.parents) (λ t. (m ≡ t.name) × Contains t.parents n)
-      (λ t. Decides-and _ _ (name_eq-Decides m t.name) (found-Decides name_eq name_eq-Decides n t.parents)) s.types)
+    (λ t. Decides-and _ _ (name_eq-Decides m t.name) (found-Decides name_eq name_eq-Decides n t.parents)) s.types)
 
 types_cover : (s : Schema) → Covers (HasParent s) (type_names s)
 types_cover s m n h = subst (Contains (type_names s)) (sym h.2) (map_has (λ (t : EntityType). t.name) s.types h.0 h.1)
@@ -113,7 +113,7 @@ pub has_action_parent-Decides : (s : Schema) (u v : Uid) → Decides (has_action
 has_action_parent-Decides s u v =
     Decides-like _ (λ h. (h.0, h.1, h.2.0, h.2.1)) (λ h. (h.0, h.1, (h.2, h.3)))
     (any-Decides (λ (a : Action). uid_eq u a.uid && list_any (uid_eq v) a.parents) (λ a. (u ≡ a.uid) × Contains a.parents v)
-      (λ a. Decides-and _ _ (uid_eq-Decides u a.uid) (found-Decides uid_eq uid_eq-Decides v a.parents)) s.actions)
+    (λ a. Decides-and _ _ (uid_eq-Decides u a.uid) (found-Decides uid_eq uid_eq-Decides v a.parents)) s.actions)
 
 actions_cover : (s : Schema) → Covers (HasActionParent s) (action_uids s)
 actions_cover s u v h = subst (Contains (action_uids s)) (sym h.2) (map_has (λ (a : Action). a.uid) s.actions h.0 h.1)
@@ -132,13 +132,13 @@ has_ancestor_of-Decides : (s : Schema) (n : Name) (u : Uid) → Decides (has_anc
 has_ancestor_of-Decides s n u =
     Decides-like _ (λ h. (h.0, (h.1, h.2.0), h.2.1)) (λ h. (h.0, h.1.0, (h.1.1, h.2)))
     (any-Decides (λ v. action_descends s u v && name_eq n v.kind) (λ v. ActionDescends s u v × (n ≡ v.kind))
-      (λ v. Decides-and _ _ (action_descends-Decides s u v) (name_eq-Decides n v.kind)) (action_uids s))
+    (λ v. Decides-and _ _ (action_descends-Decides s u v) (name_eq-Decides n v.kind)) (action_uids s))
 
 pub action_type_descends-Decides : (s : Schema) (m n : Name) → Decides (action_type_descends s m n) (ActionTypeDescends s m n)
 action_type_descends-Decides s m n =
     Decides-like _ (λ h. (h.0, h.1, h.2.0, h.2.1)) (λ h. (h.0, h.1, (h.2, h.3)))
     (any-Decides (λ u. name_eq m u.kind && has_ancestor_of s n u) (λ u. (m ≡ u.kind) × HasAncestorOf s n u)
-      (λ u. Decides-and _ _ (name_eq-Decides m u.kind) (has_ancestor_of-Decides s n u)) (action_uids s))
+    (λ u. Decides-and _ _ (name_eq-Decides m u.kind) (has_ancestor_of-Decides s n u)) (action_uids s))
 
 pub type_descends-Decides : (s : Schema) (m n : Name) → Decides (type_descends s m n) (TypeDescends s m n)
 type_descends-Decides s m n = Decides-or _ _ (descends-Decides s m n) (action_type_descends-Decides s m n)

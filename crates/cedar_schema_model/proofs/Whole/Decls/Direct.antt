@@ -1,18 +1,18 @@
 -- Conforming read directly.
-use Rattle.std.proofs.Common.{◌≡◌, ◌↔◌, ◌⊎◌, List, [], ◌∷◌, Bool, true, false, not, Option, Some, None, refl, sym, ap, ◌∙◌, subst, inl, inr, ⊎_elim}
-use Rattle.std.specs.Prelude.{Contains, is_some}
+use Rattle.std.proofs.Common.{◌≡◌, ◌↔◌, ◌⊎◌, Bool, true, false, Option, Some, None, refl, sym, ap, subst, inl, inr, ⊎_elim}
+use Rattle.std.specs.Prelude.{is_some}
 use Rattle.std.specs.Bool.{Decides}
 use Rattle.std.specs.List.{list_any}
-use Rattle.cedar_expr_model.specs.Name.{Text, Name, name_eq}
+use Rattle.cedar_expr_model.specs.Name.{name_eq}
 use Rattle.cedar_expr_model.specs.Uid.{Uid, uid_eq}
 use Rattle.cedar_expr_model.proofs.Equality.{name_eq-Decides, uid_eq-Decides}
 use Rattle.cedar_expr_model.proofs.Lists.{found-Decides}
-use Rattle.cedar_expr_model.specs.Whole.Value.{V, record_of, Fields}
+use Rattle.cedar_expr_model.specs.Whole.Value.{V, record_of}
 use Rattle.cedar_store_model.specs.Whole.World.{Part, known, left, Entity, Request, part_named}
-use Rattle.cedar_schema_model.specs.Whole.Types.{Ty, record_type, is_closed, Attributes, Declared, attribute_named}
-use Rattle.cedar_schema_model.specs.Whole.Schema.{EntityKind, standard, enumerated, external, Action, Schema, action_with, declares_action}
+use Rattle.cedar_schema_model.specs.Whole.Types.{Ty, record_type, is_closed, Declared, attribute_named}
+use Rattle.cedar_schema_model.specs.Whole.Schema.{Action, Schema, action_with}
 use Rattle.cedar_schema_model.specs.Whole.Admission.{Admits, admits}
-use Rattle.cedar_schema_model.specs.Whole.Conforming.{ConformFault, undeclared, not_listed, no_member, lacks_attribute, undeclared_attribute, attribute_value, tag, ancestor, context_value, open_part, Place, among_actions, of_kind, nowhere, place_of, attributes_at, tags_at, attribute_list, IsNowhere, IsNoMember, Lacks, IsRefused, IsRefusedValue, IsRefusedTag, MayDescend, MustDescend, IsLeft, HasEntityFault, EntityFaultAt, EntityConforms, RequestParts, parts_of, WhereKnown, IsUnknown, OfAction, IsNotListed, HasRequestFault, RequestConforms}
+use Rattle.cedar_schema_model.specs.Whole.Conforming.{undeclared, not_listed, no_member, lacks_attribute, undeclared_attribute, attribute_value, tag, ancestor, context_value, open_part, place_of, attributes_at, tags_at, IsRefused, IsRefusedValue, IsRefusedTag, IsLeft, EntityConforms, RequestParts, parts_of, WhereKnown, IsUnknown, OfAction, IsNotListed, RequestConforms}
 use Rattle.cedar_schema_model.specs.Whole.ConformingTests.{may_descend, IsAdmittedPart, IsOf, declared_type, IsGoodEntity, IsGoodFor, IsGoodRequest}
 use Rattle.cedar_schema_model.specs.Whole.DeclLaws.{IsKnownAndGood}
 use Rattle.cedar_schema_model.proofs.Whole.Decls.Admission.{admits-Decides}
@@ -120,13 +120,13 @@ good_for s q c a e =
     record {
       action = e;
       principal = not_not (list_any (name_eq q.principal.kind) a.principals) (found-Decides name_eq name_eq-Decides q.principal.kind a.principals)
-        (λ n. c not_listed (of_found s q a (λ b. IsNotListed b.principals (Some q.principal) ⊎ IsNotListed b.resources (Some q.resource)) e (inl n)));
+          (λ n. c not_listed (of_found s q a (λ b. IsNotListed b.principals (Some q.principal) ⊎ IsNotListed b.resources (Some q.resource)) e (inl n)));
       resource = not_not (list_any (name_eq q.resource.kind) a.resources) (found-Decides name_eq name_eq-Decides q.resource.kind a.resources)
-        (λ n. c not_listed (of_found s q a (λ b. IsNotListed b.principals (Some q.principal) ⊎ IsNotListed b.resources (Some q.resource)) e (inr n)));
+          (λ n. c not_listed (of_found s q a (λ b. IsNotListed b.principals (Some q.principal) ⊎ IsNotListed b.resources (Some q.resource)) e (inr n)));
       principal_member = λ n. c no_member (inl n);
       resource_member = λ n. c no_member (inr n);
       context = not_not (admits (record_type a.context is_closed) (record_of q.context)) (admits-Decides (record_type a.context is_closed) (record_of q.context))
-        (λ n. c context_value (of_found s q a (λ b. Admits (record_type b.context is_closed) (record_of q.context) → ⊥) e n));
+          (λ n. c context_value (of_found s q a (λ b. Admits (record_type b.context is_closed) (record_of q.context) → ⊥) e n));
     }
 
 good_request : (s : Schema) (q : Request) → RequestConforms s (parts_of q) → IsGoodRequest s q

@@ -1,20 +1,17 @@
 -- Environments, and actions as entities.
-use Rattle.std.proofs.Common.{◌≡◌, ◌↔◌, ◌⊎◌, List, [], ◌∷◌, Bool, true, false, not, cond, ◌&&◌, map, Option, Some, None, refl, sym, ap, ◌∙◌, subst, inl, inr, ⊎_elim}
+use Rattle.std.proofs.Common.{◌≡◌, ◌↔◌, List, [], ◌∷◌, Bool, true, false, not, ◌&&◌, map, Option, Some, None, refl, sym, ap, ◌∙◌, subst, inl, inr, ⊎_elim}
 use Rattle.std.specs.Prelude.{Contains, is_some, if◌then◌else◌}
 use Rattle.std.specs.Bool.{Decides}
-use Rattle.std.specs.List.{list_any, filter, flat_map}
-use Rattle.std.proofs.lemmas.Bool.Decides.{Decides-and, Decides-not}
 use Rattle.cedar_expr_model.specs.Name.{Name, name_eq}
 use Rattle.cedar_expr_model.specs.Uid.{Uid, uid_eq}
 use Rattle.cedar_expr_model.proofs.Equality.{name_eq-Decides, uid_eq-Decides}
-use Rattle.cedar_expr_model.proofs.Lists.{both_hold, hold_both, hold_left, hold_right, contains_cases, contains_none, contains_head, contains_tail, filter_has, filter_only, map_has, map_from, flat_has, flat_from}
+use Rattle.cedar_expr_model.proofs.Lists.{both_hold, hold_both, contains_cases, contains_none, contains_head, contains_tail, filter_has, filter_only, map_has, map_from, flat_has, flat_from}
 use Rattle.cedar_expr_model.specs.Whole.Value.{V}
 use Rattle.cedar_store_model.specs.Whole.World.{Entity, Request}
-use Rattle.cedar_schema_model.specs.Whole.Types.{no_attributes}
-use Rattle.cedar_schema_model.specs.Whole.Schema.{Action, Schema, action_with, action_among, declares_action, type_named}
+use Rattle.cedar_schema_model.specs.Whole.Schema.{Action, Schema, action_among, declares_action, type_named}
 use Rattle.cedar_schema_model.specs.Whole.Descent.{type_names, action_uids, Descends, descends, action_descends, IsActionAncestor}
 use Rattle.cedar_schema_model.specs.Whole.ActionEntities.{action_ancestors, as_entity, where_declared, action_entity, action_entities}
-use Rattle.cedar_schema_model.specs.Whole.Conforming.{Place, among_actions, place_of, place_by, EntityConforms, EntityFaultAt, ConformFault, undeclared, not_listed, no_member, lacks_attribute, undeclared_attribute, attribute_value, tag, ancestor, context_value, open_part}
+use Rattle.cedar_schema_model.specs.Whole.Conforming.{among_actions, place_of, place_by, EntityConforms, EntityFaultAt, ConformFault, undeclared, not_listed, no_member, lacks_attribute, undeclared_attribute, attribute_value, tag, ancestor, context_value, open_part}
 use Rattle.cedar_schema_model.specs.Whole.ConformingTests.{IsGoodFor}
 use Rattle.cedar_schema_model.specs.Whole.Environment.{Environment, environment_at, environments_of, environments, SlotUse, no_slot, equal_slot, in_slot, types_above, slot_types, with_slots, linked, environments_for}
 use Rattle.cedar_schema_model.specs.Whole.DeclLaws.{IsProduct, IsAtOrAbove, TakesSlot, IsLinked}
@@ -108,7 +105,7 @@ products s x = (
       let r = h.2.2.0 in
       subst (Contains (environments s)) (sym h.2.2.2)
       (flat_has environments_of s.actions a (environment_at a p r) h.1
-        (flat_has (λ q. map (environment_at a q) a.resources) a.principals p (environment_at a p r) h.2.1 (map_has (environment_at a p) a.resources r h.2.2.1))),
+      (flat_has (λ q. map (environment_at a q) a.resources) a.principals p (environment_at a p r) h.2.1 (map_has (environment_at a p) a.resources r h.2.2.1))),
 )
 
 -- the action that is found has that uid, and is one of those declared
@@ -135,8 +132,8 @@ above : (s : Schema) (n m : Name) → Contains (n ∷ types_above s n) m → IsA
 above s n m h =
     contains_cases (IsAtOrAbove s n m) n (types_above s n) m h (λ e. inl (sym e))
     (λ k. let r = filter_only (λ x. descends s n x && not (name_eq x n)) (type_names s) m k in
-        let b = both_hold (descends s n m) (not (name_eq m n)) r.1 in
-        inr (r.0, (descends-Decides s n m).0 b.0))
+    let b = both_hold (descends s n m) (not (name_eq m n)) r.1 in
+    inr (r.0, (descends-Decides s n m).0 b.0))
 
 not_true : (b : Bool) → b ≡ false → not b ≡ true
 not_true true e = cc
@@ -178,6 +175,6 @@ slots_covered s p r x = (
       let n = h.2.2.0 in
       subst (Contains (environments_for s p r)) (sym h.2.2.2)
       (flat_has (linked s p r) (environments s) e (with_slots e m n) h.1
-        (flat_has (λ t. map (with_slots e t) (slot_types s r e.resource)) (slot_types s p e.principal) m (with_slots e m n) (taken s p e.principal m h.2.1)
-          (map_has (with_slots e m) (slot_types s r e.resource) n (taken s r e.resource n h.2.2.1)))),
+      (flat_has (λ t. map (with_slots e t) (slot_types s r e.resource)) (slot_types s p e.principal) m (with_slots e m n) (taken s p e.principal m h.2.1)
+      (map_has (with_slots e m) (slot_types s r e.resource) n (taken s r e.resource n h.2.2.1)))),
 )

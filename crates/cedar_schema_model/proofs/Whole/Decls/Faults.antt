@@ -1,18 +1,18 @@
 -- The tests of declarations decide which faults are there.
-use Rattle.std.proofs.Common.{◌≡◌, ◌↔◌, ◌⊎◌, ◌<◌, List, [], ◌∷◌, ◌++◌, Bool, true, false, not, ◌&&◌, ◌||◌, map, Option, Some, None, refl, sym, ap, ◌∙◌, subst, inl, inr, ⊎_elim, arith}
+use Rattle.std.proofs.Common.{◌≡◌, ◌↔◌, List, [], ◌∷◌, Bool, true, false, not, ◌&&◌, Option, Some, None, refl, sym, ap, ◌∙◌, subst, inl, inr, ⊎_elim}
 use Rattle.std.specs.Prelude.{Contains, is_some, if◌then◌else◌}
 use Rattle.std.specs.Bool.{Decides}
-use Rattle.std.specs.List.{list_any, list_all}
+use Rattle.std.specs.List.{list_any}
 use Rattle.std.specs.Str.{bytes_eq}
 use Rattle.std.proofs.lemmas.Bool.Decides.{Decides-and, Decides-or, Decides-not, Decides-like}
 use Rattle.std.proofs.lemmas.Slice.Eq.{bytes_eq-Decides}
 use Rattle.cedar_expr_model.specs.Name.{Name, name_eq, is_reserved}
 use Rattle.cedar_expr_model.specs.Uid.{Uid, uid_eq}
 use Rattle.cedar_expr_model.proofs.Equality.{name_eq-Decides, uid_eq-Decides}
-use Rattle.cedar_expr_model.proofs.Lists.{contains_head, contains_tail, found-Decides, any-Decides, all-Decides, map_has}
+use Rattle.cedar_expr_model.proofs.Lists.{found-Decides, any-Decides, all-Decides, map_has}
 use Rattle.cedar_schema_model.specs.Whole.Descent.{Reaches, reaches}
 use Rattle.cedar_schema_model.specs.Whole.Reference.{Namespace, action_word, Reference, Meant, meant_common, meant_entity, candidates, action_candidates, first_passing, IsFirst}
-use Rattle.cedar_schema_model.specs.Whole.Declarations.{CommonDeclaration, EntityDeclaration, ActionDeclaration, Declarations, common_name, entity_name, action_uid, common_names, entity_names, action_uids, is_declared, is_declared_action, meant, parent_meant, references_of_common, references, extensions}
+use Rattle.cedar_schema_model.specs.Whole.Declarations.{Declarations, common_name, action_uid, common_names, entity_names, action_uids, is_declared, is_declared_action, meant, parent_meant, references_of_common, references, extensions}
 use Rattle.cedar_schema_model.specs.Whole.WellFormed.{SchemaFault, duplicate_entity_type, duplicate_common_type, duplicate_action, undeclared_type, undeclared_action, cycle_of_common_types, cycle_of_actions, action_as_entity_type, context_not_record, reserved_name, shadowing, unknown_extension_type, unresolved_external, ill_forms, HasTwice, has_twice, Uses, is_common, uses, HasParentAction, is_uid, has_parent_action, becomes_record, written_names, unqualified, unqualified_uid, is_qualified, declared_types, Shadows, shadows, is_external_kind, HasSchemaFault, has_schema_fault, IsWellFormed, well_formed}
 use Rattle.cedar_schema_model.proofs.Whole.Decls.Descent.{reaches-Decides, Covers, chain_starts}
 use Rattle.cedar_schema_model.proofs.Whole.Decls.Admission.{not_false}
@@ -63,7 +63,7 @@ pub uses-Decides : (d : Declarations) (m n : Name) → Decides (uses d m n) (Use
 uses-Decides d m n =
     Decides-like _ (λ h. (h.0, h.1, h.2.0, h.2.1)) (λ h. (h.0, h.1, (h.2, h.3)))
     (any-Decides (λ c. name_eq m (common_name c) && list_any (λ r. is_common n (meant d r)) (references_of_common c)) (λ c. (m ≡ common_name c) × ((r : Reference) × Contains (references_of_common c) r × (meant d r ≡ Some (meant_common n))))
-      (λ c. Decides-and _ _ (name_eq-Decides m (common_name c)) (any-Decides (λ r. is_common n (meant d r)) (λ r. meant d r ≡ Some (meant_common n)) (λ r. is_common-Decides n (meant d r)) (references_of_common c))) d.commons)
+    (λ c. Decides-and _ _ (name_eq-Decides m (common_name c)) (any-Decides (λ r. is_common n (meant d r)) (λ r. meant d r ≡ Some (meant_common n)) (λ r. is_common-Decides n (meant d r)) (references_of_common c))) d.commons)
 
 commons_cover : (d : Declarations) → Covers (Uses d) (common_names d)
 commons_cover d m n h = subst (Contains (common_names d)) (sym h.2) (map_has common_name d.commons h.0 h.1)
@@ -76,7 +76,7 @@ pub has_parent_action-Decides : (d : Declarations) (u v : Uid) → Decides (has_
 has_parent_action-Decides d u v =
     Decides-like _ (λ h. (h.0, h.1, h.2.0, h.2.1)) (λ h. (h.0, h.1, (h.2, h.3)))
     (any-Decides (λ a. uid_eq u (action_uid a) && list_any (λ w. is_uid v (parent_meant d a.namespace w)) a.parents) (λ a. (u ≡ action_uid a) × ((w : Uid) × Contains a.parents w × (parent_meant d a.namespace w ≡ Some v)))
-      (λ a. Decides-and _ _ (uid_eq-Decides u (action_uid a)) (any-Decides (λ w. is_uid v (parent_meant d a.namespace w)) (λ w. parent_meant d a.namespace w ≡ Some v) (λ w. is_uid-Decides v (parent_meant d a.namespace w)) a.parents)) d.actions)
+    (λ a. Decides-and _ _ (uid_eq-Decides u (action_uid a)) (any-Decides (λ w. is_uid v (parent_meant d a.namespace w)) (λ w. parent_meant d a.namespace w ≡ Some v) (λ w. is_uid-Decides v (parent_meant d a.namespace w)) a.parents)) d.actions)
 
 actions_cover : (d : Declarations) → Covers (HasParentAction d) (action_uids d)
 actions_cover d u v h = subst (Contains (action_uids d)) (sym h.2) (map_has action_uid d.actions h.0 h.1)
@@ -91,11 +91,11 @@ shadows-Decides : (d : Declarations) → Decides (shadows d) (Shadows d)
 shadows-Decides d =
     Decides-or _ _
     (Decides-like _ (λ h. (h.0, h.1, h.2.0, h.2.1)) (λ h. (h.0, h.1, (h.2, h.3)))
-      (any-Decides (λ n. is_qualified n && list_any (name_eq (unqualified n)) (declared_types d)) (λ n. (is_qualified n ≡ true) × Contains (declared_types d) (unqualified n))
-        (λ n. Decides-and _ _ (is_true-Decides (is_qualified n)) (found-Decides name_eq name_eq-Decides (unqualified n) (declared_types d))) (declared_types d)))
+    (any-Decides (λ n. is_qualified n && list_any (name_eq (unqualified n)) (declared_types d)) (λ n. (is_qualified n ≡ true) × Contains (declared_types d) (unqualified n))
+    (λ n. Decides-and _ _ (is_true-Decides (is_qualified n)) (found-Decides name_eq name_eq-Decides (unqualified n) (declared_types d))) (declared_types d)))
     (Decides-like _ (λ h. (h.0, h.1, h.2.0, h.2.1)) (λ h. (h.0, h.1, (h.2, h.3)))
-      (any-Decides (λ u. is_qualified u.kind && list_any (uid_eq (unqualified_uid u)) (action_uids d)) (λ u. (is_qualified u.kind ≡ true) × Contains (action_uids d) (unqualified_uid u))
-        (λ u. Decides-and _ _ (is_true-Decides (is_qualified u.kind)) (found-Decides uid_eq uid_eq-Decides (unqualified_uid u) (action_uids d))) (action_uids d)))
+    (any-Decides (λ u. is_qualified u.kind && list_any (uid_eq (unqualified_uid u)) (action_uids d)) (λ u. (is_qualified u.kind ≡ true) × Contains (action_uids d) (unqualified_uid u))
+    (λ u. Decides-and _ _ (is_true-Decides (is_qualified u.kind)) (found-Decides uid_eq uid_eq-Decides (unqualified_uid u) (action_uids d))) (action_uids d)))
 
 pub schema_fault-Decides : (x : List Name) (d : Declarations) (f : SchemaFault) → Decides (has_schema_fault x d f) (HasSchemaFault x d f)
 schema_fault-Decides x d duplicate_entity_type = has_twice-Decides name_eq name_eq-Decides (entity_names d)

@@ -1,5 +1,5 @@
 -- The order of declarations, and how they are split into fragments, hides no fault.
-use Rattle.std.proofs.Common.{◌≡◌, ◌↔◌, ◌⊎◌, ℕ, zero, suc, List, [], ◌∷◌, ◌++◌, length, Bool, true, false, not, ◌&&◌, ◌||◌, map, Option, Some, None, refl, sym, ap, ◌∙◌, subst, inl, inr, ⊎_elim}
+use Rattle.std.proofs.Common.{◌≡◌, ◌↔◌, ℕ, zero, suc, List, [], ◌∷◌, ◌++◌, length, Bool, true, false, not, ◌||◌, map, Option, Some, None, refl, sym, ap, ◌∙◌, subst, inl, inr, ⊎_elim}
 use Rattle.std.specs.Prelude.{Contains, if◌then◌else◌}
 use Rattle.std.specs.Bool.{Decides}
 use Rattle.std.specs.List.{list_any, list_all, flat_map, IsDistinct}
@@ -10,15 +10,15 @@ use Rattle.std.proofs.lemmas.List.Elements.{Contains-append_left, Contains-appen
 use Rattle.std.proofs.lemmas.List.Concat.{flat_map-cons}
 use Rattle.std.proofs.lemmas.Grind.{flat_map-append}
 use Rattle.std.proofs.lemmas.List.{append-nil, append_assoc}
-use Rattle.std.proofs.lemmas.Map.Keys.{IsDistinct-head, IsDistinct-tail, IsDistinct-cons, IsDistinct-IsPermutation}
+use Rattle.std.proofs.lemmas.Map.Keys.{IsDistinct-head, IsDistinct-tail, IsDistinct-IsPermutation}
 use Rattle.cedar_expr_model.specs.Name.{Name, name_eq}
 use Rattle.cedar_expr_model.specs.Uid.{Uid, uid_eq}
 use Rattle.cedar_expr_model.proofs.Equality.{name_eq-Decides, uid_eq-Decides}
-use Rattle.cedar_expr_model.proofs.Lists.{contains_cases, contains_none, contains_head, contains_tail, all_each, all_from, map_has, map_from, flat_has, flat_from}
+use Rattle.cedar_expr_model.proofs.Lists.{contains_cases, contains_none, all_each, all_from, map_has, map_from, flat_has, flat_from}
 use Rattle.cedar_schema_model.specs.Whole.Descent.{Chain, Reaches}
 use Rattle.cedar_schema_model.specs.Whole.Reference.{Namespace, ReferenceKind, Reference, Meant, meant_common, meant_entity, candidates, action_candidates, first_passing}
-use Rattle.cedar_schema_model.specs.Whole.Declarations.{TypeExpr, bool_expr, long_expr, string_expr, set_expr, record_expr, reference, extension_expr, CommonDeclaration, EntityDeclaration, ActionDeclaration, Declarations, bag, common_name, entity_name, action_uid, common_names, entity_names, action_uids, is_declared, is_declared_action, meant, parent_meant, extensions_in, types_in, references_of_common, references_of_entity, references_of_action, references, extensions}
-use Rattle.cedar_schema_model.specs.Whole.WellFormed.{SchemaFault, duplicate_entity_type, duplicate_common_type, duplicate_action, undeclared_type, undeclared_action, cycle_of_common_types, cycle_of_actions, action_as_entity_type, context_not_record, reserved_name, shadowing, unknown_extension_type, unresolved_external, HasTwice, has_twice, Uses, HasParentAction, all_of_name, refers_to_record, is_written_record, is_record_within, becomes_record, parent_types, written_names, unqualified, unqualified_uid, declared_types, Shadows, HasSchemaFault}
+use Rattle.cedar_schema_model.specs.Whole.Declarations.{TypeExpr, bool_expr, long_expr, string_expr, set_expr, record_expr, reference, extension_expr, CommonDeclaration, ActionDeclaration, Declarations, bag, common_name, entity_name, action_uid, common_names, entity_names, action_uids, is_declared, is_declared_action, meant, parent_meant, extensions_in, types_in, references_of_common, references_of_entity, references_of_action, references, extensions}
+use Rattle.cedar_schema_model.specs.Whole.WellFormed.{SchemaFault, duplicate_entity_type, duplicate_common_type, duplicate_action, undeclared_type, undeclared_action, cycle_of_common_types, cycle_of_actions, action_as_entity_type, context_not_record, reserved_name, shadowing, unknown_extension_type, unresolved_external, HasTwice, has_twice, Uses, HasParentAction, refers_to_record, is_written_record, is_record_within, becomes_record, written_names, unqualified, unqualified_uid, declared_types, HasSchemaFault}
 use Rattle.cedar_schema_model.specs.Whole.BagLaws.{IsReordered}
 use Rattle.cedar_schema_model.proofs.Whole.Decls.Faults.{has_twice-Decides}
 
@@ -112,16 +112,16 @@ module _ (d e : Declarations) (m : IsReordered d e) where
       within_append (flat_map references_of_common d.commons) _ (flat_map references_of_common e.commons) _
       (within_flat references_of_common d.commons e.commons (commons_within d e m))
       (within_append (flat_map references_of_entity d.entities) _ (flat_map references_of_entity e.entities) _
-        (within_flat references_of_entity d.entities e.entities (entities_within d e m))
-        (within_flat references_of_action d.actions e.actions (actions_within d e m)))
+      (within_flat references_of_entity d.entities e.entities (entities_within d e m))
+      (within_flat references_of_action d.actions e.actions (actions_within d e m)))
 
   pub extensions_within : Within (extensions d) (extensions e)
   extensions_within =
       within_append (flat_map (λ c. extensions_in c.definition) d.commons) _ (flat_map (λ c. extensions_in c.definition) e.commons) _
       (within_flat (λ c. extensions_in c.definition) d.commons e.commons (commons_within d e m))
       (within_append (flat_map (λ t. flat_map extensions_in (types_in t.kind)) d.entities) _ (flat_map (λ t. flat_map extensions_in (types_in t.kind)) e.entities) _
-        (within_flat (λ t. flat_map extensions_in (types_in t.kind)) d.entities e.entities (entities_within d e m))
-        (within_flat (λ a. extensions_in a.context) d.actions e.actions (actions_within d e m)))
+      (within_flat (λ t. flat_map extensions_in (types_in t.kind)) d.entities e.entities (entities_within d e m))
+      (within_flat (λ a. extensions_in a.context) d.actions e.actions (actions_within d e m)))
 
   commons_named : Within (common_names d) (common_names e)
   commons_named = within_map common_name d.commons e.commons (commons_within d e m)
@@ -139,10 +139,10 @@ module _ (d e : Declarations) (m : IsReordered d e) where
   names_within =
       within_append (common_names d) _ (common_names e) _ commons_named
       (within_append (entity_names d) _ (entity_names e) _ entities_named
-        (within_append (map (λ u. u.kind) (action_uids d)) _ (map (λ u. u.kind) (action_uids e)) _ (within_map (λ u. u.kind) (action_uids d) (action_uids e) actions_named)
-          (within_append (map (λ r. r.name) (references d)) _ (map (λ r. r.name) (references e)) _ (within_map (λ r. r.name) (references d) (references e) references_within)
-            (within_append (extensions d) _ (extensions e) _ extensions_within
-              (within_flat (λ a. map (λ u. u.kind) a.parents) d.actions e.actions (actions_within d e m))))))
+      (within_append (map (λ u. u.kind) (action_uids d)) _ (map (λ u. u.kind) (action_uids e)) _ (within_map (λ u. u.kind) (action_uids d) (action_uids e) actions_named)
+      (within_append (map (λ r. r.name) (references d)) _ (map (λ r. r.name) (references e)) _ (within_map (λ r. r.name) (references d) (references e) references_within)
+      (within_append (extensions d) _ (extensions e) _ extensions_within
+      (within_flat (λ a. map (λ u. u.kind) a.parents) d.actions e.actions (actions_within d e m))))))
 
   pub uses_along : (x y : Name) → Uses d x y → Uses e x y
   uses_along x y h = (h.0, commons_within d e m h.0 h.1, h.2, (h.3.0, h.3.1, sym (same_meant h.3.0) ∙ h.3.2))
@@ -164,7 +164,7 @@ module _ (d e : Declarations) (m : IsReordered d e) where
       (λ x i n. refers_to_record (λ c. is_record_within k d c.namespace c.definition) d (meant d (record { namespace = x; kind = i; name = n })))
       (λ x i n. refers_to_record (λ c. is_record_within k e c.namespace c.definition) e (meant e (record { namespace = x; kind = i; name = n })))
       (λ x i n. same_refers (λ c. is_record_within k d c.namespace c.definition) (λ c. is_record_within k e c.namespace c.definition) (λ c. same_record k c.namespace c.definition) (meant d (record { namespace = x; kind = i; name = n }))
-        ∙ ap (refers_to_record (λ c. is_record_within k e c.namespace c.definition) e) (same_meant (record { namespace = x; kind = i; name = n })))
+      ∙ ap (refers_to_record (λ c. is_record_within k e c.namespace c.definition) e) (same_meant (record { namespace = x; kind = i; name = n })))
       ns t
 
   pub same_becomes : (a : ActionDeclaration) → becomes_record d a ≡ becomes_record e a
@@ -261,8 +261,8 @@ joined_flat : {X Y : Type 0} (f : X → List Y) (before after : List X) (x d e :
 joined_flat f before after x d e h =
     flat_map-append f before (x ∷ after)
     ∙ (ap (λ l. flat_map f before ++ l)
-      (flat_map-cons f x after ∙ (ap (λ l. l ++ flat_map f after) (h ∙ pair) ∙ append_assoc (f d) (f e) (flat_map f after)))
-      ∙ sym (two_flat f before after d e))
+    (flat_map-cons f x after ∙ (ap (λ l. l ++ flat_map f after) (h ∙ pair) ∙ append_assoc (f d) (f e) (flat_map f after)))
+    ∙ sym (two_flat f before after d e))
   where
     pair : flat_map f (d ∷ e ∷ []) ≡ f d ++ f e
     pair = flat_map-cons f d (e ∷ []) ∙ ap (λ l. f d ++ l) (flat_map-cons f e [] ∙ append-nil (f e))

@@ -1,24 +1,19 @@
 -- The schema that well-formed declarations make.
-use Rattle.std.proofs.Common.{◌≡◌, ◌↔◌, ◌⊎◌, ℕ, zero, suc, ◌+◌, ◌<◌, ◌≤◌, List, [], ◌∷◌, ◌++◌, length, Bool, true, false, not, ◌&&◌, ◌||◌, map, Option, Some, None, refl, sym, ap, ◌∙◌, subst, inl, inr, ⊎_elim, arith}
+use Rattle.std.proofs.Common.{◌≡◌, ℕ, zero, suc, ◌<◌, ◌≤◌, List, [], ◌∷◌, length, Bool, true, false, not, ◌||◌, map, Option, Some, None, refl, sym, ap, ◌∙◌, subst, inl, inr, arith}
 use Rattle.std.specs.Prelude.{Contains, is_some, if◌then◌else◌}
-use Rattle.std.specs.Bool.{Decides}
-use Rattle.std.specs.List.{list_any, list_all, flat_map, filter, filter_map}
-use Rattle.std.specs.Str.{bytes_eq}
-use Rattle.std.proofs.lemmas.Slice.Eq.{bytes_eq-Decides}
+use Rattle.std.specs.List.{filter}
 use Rattle.std.proofs.lemmas.List.Elements.{Contains-append_left, Contains-append_right}
 use Rattle.std.proofs.lemmas.List.Filters.{length-filter_both}
 use Rattle.cedar_expr_model.specs.Name.{Name, name_eq}
-use Rattle.cedar_expr_model.specs.Uid.{Uid, uid_eq}
-use Rattle.cedar_expr_model.proofs.Equality.{name_eq-Decides, uid_eq-Decides}
-use Rattle.cedar_expr_model.proofs.Lists.{contains_cases, contains_none, contains_head, contains_tail, found-Decides, all_each, filter_has, filter_only, map_has, map_from}
+use Rattle.cedar_expr_model.proofs.Equality.{name_eq-Decides}
+use Rattle.cedar_expr_model.proofs.Lists.{contains_cases, contains_none, contains_head, contains_tail, found-Decides, all_each, filter_has, map_has}
 use Rattle.cedar_schema_model.specs.Whole.Types.{Ty, never, record_type, set_type, is_closed, Attributes}
 use Rattle.cedar_schema_model.specs.Whole.Descent.{Chain, Reaches}
 use Rattle.cedar_schema_model.specs.Whole.Reference.{Namespace, Reference, Meant, meant_common, meant_entity}
-use Rattle.cedar_schema_model.specs.Whole.Declarations.{TypeExpr, bool_expr, long_expr, string_expr, set_expr, record_expr, reference, extension_expr, FieldExprs, no_field_exprs, field_expr, CommonDeclaration, EntityDeclaration, ActionDeclaration, Declarations, common_name, entity_name, action_uid, common_names, entity_names, action_uids, is_declared, meant, parent_meant, references_in, references_in_fields}
+use Rattle.cedar_schema_model.specs.Whole.Declarations.{TypeExpr, bool_expr, long_expr, string_expr, set_expr, record_expr, reference, extension_expr, FieldExprs, no_field_exprs, field_expr, CommonDeclaration, ActionDeclaration, Declarations, common_name, common_names, is_declared, meant, references_in, references_in_fields}
 use Rattle.cedar_schema_model.specs.Whole.WellFormed.{duplicate_common_type, cycle_of_common_types, context_not_record, HasTwice, Uses, refers_to_record, is_record_within, becomes_record, IsWellFormed}
 use Rattle.cedar_schema_model.specs.Whole.Resolved.{with_attribute, type_meant, resolved_by, resolved_fields_by, common_among, defined_by, common_within, common_of, resolved, attributes_of_record, resolved_action}
 use Rattle.cedar_schema_model.proofs.Whole.Decls.Descent.{reaches_on}
-use Rattle.cedar_schema_model.proofs.Whole.Decls.Direct.{not_not}
 use Rattle.cedar_schema_model.proofs.Whole.Decls.Faults.{meant_is_declared}
 
 -- Two choices of the common types that agree on those that a written type refers to resolve it to the same.
@@ -77,8 +72,8 @@ found_common (b ∷ cs) once c h =
     contains_cases (common_among (common_name c) (b ∷ cs) ≡ Some c) b cs c h
     (λ e. found_here (name_eq (common_name c) (common_name b)) b (common_among (common_name c) cs) ((name_eq-Decides (common_name c) (common_name b)).1 (ap common_name (sym e))) ∙ ap Some e)
     (λ k. found_later (name_eq (common_name c) (common_name b)) b (common_among (common_name c) cs)
-        (λ e. once (inl (subst (Contains (map common_name cs)) ((name_eq-Decides (common_name c) (common_name b)).0 e) (map_has common_name cs c k))))
-        ∙ found_common cs (λ t. once (inr t)) c k)
+    (λ e. once (inl (subst (Contains (map common_name cs)) ((name_eq-Decides (common_name c) (common_name b)).0 e) (map_has common_name cs c k))))
+    ∙ found_common cs (λ t. once (inr t)) c k)
 
 -- a name that is declared is found
 some_step : (n : Name) (b : CommonDeclaration) (cs : List CommonDeclaration) (t : Bool) → name_eq n (common_name b) ≡ t → (Contains (map common_name cs) n → is_some (common_among n cs) ≡ true) → Contains (map common_name (b ∷ cs)) n → is_some (if t then Some b else common_among n cs) ≡ true

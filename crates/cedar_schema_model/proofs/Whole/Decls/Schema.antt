@@ -1,8 +1,7 @@
 -- Types, actions and parents of the schema that declarations make.
-use Rattle.std.proofs.Common.{◌≡◌, ◌↔◌, ◌⊎◌, List, [], ◌∷◌, Bool, true, false, map, Option, Some, None, refl, sym, ap, ◌∙◌, subst, inl, inr, ⊎_elim, arith}
+use Rattle.std.proofs.Common.{◌≡◌, ◌↔◌, List, [], ◌∷◌, Bool, true, false, map, Option, Some, None, refl, sym, ap, ◌∙◌, subst, arith}
 use Rattle.std.specs.Prelude.{Contains, is_some, if◌then◌else◌}
 use Rattle.std.specs.List.{filter_map, cons_option}
-use Rattle.std.specs.Str.{bytes_eq}
 use Rattle.cedar_expr_model.specs.Name.{Name, name_eq}
 use Rattle.cedar_expr_model.specs.Uid.{Uid}
 use Rattle.cedar_expr_model.proofs.Equality.{name_eq-Decides}
@@ -10,7 +9,7 @@ use Rattle.cedar_expr_model.proofs.Lists.{contains_cases, contains_none, contain
 use Rattle.cedar_schema_model.specs.Whole.Schema.{EntityType, Action, type_among, declares_type}
 use Rattle.cedar_schema_model.specs.Whole.Descent.{type_names, Reaches, HasParent, HasActionParent, ActionDescends}
 use Rattle.cedar_schema_model.specs.Whole.Descent as descent
-use Rattle.cedar_schema_model.specs.Whole.Declarations.{EntityDeclaration, ActionDeclaration, Declarations, entity_name, action_uid, entity_names, action_uids, parent_meant}
+use Rattle.cedar_schema_model.specs.Whole.Declarations.{Declarations, entity_name, action_uid, entity_names, action_uids, parent_meant}
 use Rattle.cedar_schema_model.specs.Whole.WellFormed.{cycle_of_actions, action_as_entity_type, HasParentAction, IsWellFormed}
 use Rattle.cedar_schema_model.specs.Whole.Resolved.{entity_meant, resolved_entity, resolved_action, schema_of}
 use Rattle.cedar_schema_model.specs.Whole.BagLaws.{IsDeclaredParent}
@@ -86,4 +85,4 @@ types_apart x d w u h =
     let a = map_from action_uid d.actions u h in
     not_found u.kind (schema_of d).types
     (λ k. let t = map_from entity_name d.entities u.kind (subst (λ l. Contains l u.kind) (same_types d) k) in
-        w action_as_entity_type (7, omega arith, refl) (t.0, t.1, ap (λ (v : Uid). v.kind.base) a.2 ∙ ap (λ (n : Name). n.base) (sym t.2)))
+    w action_as_entity_type (7, omega arith, refl) (t.0, t.1, ap (λ (v : Uid). v.kind.base) a.2 ∙ ap (λ (n : Name). n.base) (sym t.2)))

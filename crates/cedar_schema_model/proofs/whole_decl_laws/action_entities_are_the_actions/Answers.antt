@@ -1,3 +1,4 @@
+use Rattle.cedar_schema_model.proofs.Whole.Decls.Store.{stores_hold}
 use Rattle.cedar_schema_model.proofs.Whole.Decls.Environments.{ancestors_declared, entities_are_actions, actions_conform}
 use Rattle.cedar_schema_model.proofs.whole_decl_laws.action_entities_are_the_actions.Goals as goal
 
@@ -9,3 +10,6 @@ returns-clause-those c = entities_are_actions
 
 pub returns-clause-conform : goal.returns-clause-conform
 returns-clause-conform c = actions_conform
+
+pub returns-clause-stores : goal.returns-clause-stores
+returns-clause-stores c = stores_hold

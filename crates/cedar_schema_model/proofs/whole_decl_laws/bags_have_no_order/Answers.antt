@@ -1,3 +1,4 @@
+use Rattle.cedar_schema_model.proofs.Whole.Decls.SameSchema.{same_types_found, same_actions_found}
 use Rattle.cedar_schema_model.proofs.Whole.Decls.Reordered.{same_faults, splitting_free, fragments_move, reordered_on}
 use Rattle.cedar_schema_model.proofs.whole_decl_laws.bags_have_no_order.Goals as goal
 
@@ -12,3 +13,9 @@ returns-clause-moved c = fragments_move
 
 pub returns-clause-transitive : goal.returns-clause-transitive
 returns-clause-transitive c = reordered_on
+
+pub returns-clause-types : goal.returns-clause-types
+returns-clause-types c = same_types_found
+
+pub returns-clause-actions : goal.returns-clause-actions
+returns-clause-actions c = same_actions_found

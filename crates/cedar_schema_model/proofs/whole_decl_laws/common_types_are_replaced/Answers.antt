@@ -1,3 +1,4 @@
+use Rattle.cedar_schema_model.proofs.Whole.Decls.Rising.{resolved_rises}
 use Rattle.cedar_schema_model.proofs.Whole.Decls.Resolved.{defined, no_more, contexts}
 use Rattle.cedar_schema_model.proofs.whole_decl_laws.common_types_are_replaced.Goals as goal
 
@@ -9,3 +10,6 @@ returns-clause-once_more c = no_more
 
 pub returns-clause-contexts : goal.returns-clause-contexts
 returns-clause-contexts c = contexts
+
+pub returns-clause-rising : goal.returns-clause-rising
+returns-clause-rising c = resolved_rises
