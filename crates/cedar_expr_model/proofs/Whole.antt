@@ -15,3 +15,5 @@ pub mod Gathering
 pub mod Repeating
 pub mod Ordering
 pub mod SideBySide
+pub mod ShapeParts
+pub mod ShapeOrder

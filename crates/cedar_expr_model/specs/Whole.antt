@@ -17,6 +17,7 @@ pub mod Repeats
 pub mod Records
 pub mod Names
 pub mod ValueParts
+pub mod Shape
 pub mod Laws
 pub mod TreeLaws
 pub mod ListLaws

@@ -19,7 +19,7 @@ literal_back (text a) (text b) = text_total.antisymm a b
 literal_back (entity a) (entity b) = uid_total.antisymm a b
 literal_back p q = refl
 
-literal_exact : Exact literal_cmp
+pub literal_exact : Exact literal_cmp
 literal_exact (truth a) (truth b) e = ap truth (bool_exact a b e)
 literal_exact (long a) (long b) e = ap long (int_cmp-IsAntisymmetric a b e)
 literal_exact (text a) (text b) e = ap text (text_exact a b e)
