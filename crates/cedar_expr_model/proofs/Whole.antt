@@ -17,3 +17,5 @@ pub mod Ordering
 pub mod SideBySide
 pub mod ShapeParts
 pub mod ShapeOrder
+pub mod Valued
+pub mod Computed

@@ -8,7 +8,7 @@ ghost use Rattle.cedar_expr_model.specs.Whole.Order.{text_cmp, name_order, uid_o
 ghost use Rattle.cedar_expr_model.specs.Whole.Canonical.{is_canonical, are_rising, set_made, members_made, inserted, is_member, is_subset, is_disjoint};
 ghost use Rattle.cedar_expr_model.specs.Whole.Records.{in_order, names_rise, first_of, last_of, record_made};
 ghost use Rattle.cedar_expr_model.specs.Whole.Repeats.{repeated_name};
-ghost use Rattle.cedar_expr_model.specs.Whole.Pattern.{character, wildcard, matches};
+ghost use Rattle.cedar_expr_model.specs.Whole.Pattern.{character, wildcard, matches, matches_text};
 ghost use Rattle.cedar_expr_model.specs.Name.{is_word, is_identifier};
 ghost use Rattle.cedar_expr_model.specs.Whole.Tree.{principal, action, resource, context, principal_slot, resource_slot, bool_core, long_core, string_core, set_core, record_core, entity_core, extension_core, negation, minus, is_empty, equal, less, plus, is_in, get_tag, has_tag, lit, var, slot, unknown, choice, both, either, unary, binary, call, get_attr, has_attr, has_path, like, is_type, set_literal, record_literal, no_trees, tree, no_tree_fields, tree_field, nesting};
 ghost use Rattle.cedar_expr_model.specs.Whole.Builder.{built, tree_builder, conjunction, disjunction, path_test};
@@ -22,8 +22,9 @@ ghost use Rattle.cedar_expr_model.specs.Whole.Evident.{evident_type, has_valid_c
 ghost use Rattle.cedar_expr_model.specs.Whole.Parts.{subexpressions, unknowns, slots, is_projectable, is_ref, is_slot, is_unknown, is_ref_set};
 ghost use Rattle.cedar_expr_model.specs.Whole.Unknowns.{has_unknown};
 ghost use Rattle.cedar_expr_model.specs.Whole.Records.{record_tree};
+ghost use Rattle.cedar_expr_model.specs.Whole.Shape.{tree_cmp, tree_eq, core_cmp, annotation_cmp, element_cmp, var_cmp, slot_cmp, unary_cmp, binary_cmp};
 ghost use Rattle.cedar_expr_model.specs.Whole.Names.{is_unqualified, namespace_of, within, qualified, possibilities, cedar_name, unreserved_read, name_given, reserved_given, nothing_given};
-ghost use Rattle.cedar_expr_model.specs.Whole.ValueParts.{uids_in, set_of_literals, value_of_tree, known, residual, split, values_alone, with_residuals};
+ghost use Rattle.cedar_expr_model.specs.Whole.ValueParts.{uids_in, set_of_literals, value_of_tree, is_plain, known, residual, split, values_alone, with_residuals};
 ghost use Rattle.cedar_expr_model.specs.Whole.Worked.{plain, user, doc, rank_name, label_name, deep_name, false_name, alice, bob, number, word, flag, one_two, two_one_one, falling, rising, a_then_b, b_then_a, f_to_r, f_and_more, truth_lit, number_lit, named, named_as, two_unknowns, unrestricted, with_principal, rank_of, rank_of_two, lost_call, made_number, made_truth, made_rank, only_x, x_and_y, nothing_bound, number_for_truth, unknown_as, rank_function, label_function, join_function, unknown_function, other_rank_function, other_label_function, worked_table, typed_table};
 
 /// Texts, names and uids in order: a beginning comes first, and names of one text are told apart by their parts.
@@ -329,4 +330,42 @@ pub fn worked_namespaces()
     ensures any_word { is_word (codes "if") ≡ true }
     ensures identifier { is_identifier (codes "iff") ≡ true }
     ensures no_word { is_word (codes "a b") ≡ false }
+{}
+
+/// Patterns on texts go by characters, not by bytes: U+00E9 is one character of two bytes.
+pub fn worked_text_patterns()
+    ensures between { matches_text f_to_r (codes "foo bar") ≡ true }
+    ensures other_end { matches_text f_to_r (codes "foo bars") ≡ false }
+    ensures one_character { matches_text (character 233 ∷ []) (195 ∷ 169 ∷ []) ≡ true }
+    ensures two_bytes { matches_text (character 195 ∷ wildcard ∷ []) (195 ∷ 169 ∷ []) ≡ false }
+{}
+
+/// Expressions in order by their shape: by kind, then by the first part that differs.
+pub fn worked_shapes()
+    ensures kinds { tree_cmp (number_lit 9) (var principal) ≡ Less }
+    ensures later_kind { tree_cmp with_principal (set_literal no_trees) ≡ Greater }
+    ensures variables { tree_cmp (var context) (var action) ≡ Greater }
+    ensures annotations { tree_cmp (named (codes "x")) (named_as (codes "x") bool_core) ≡ Less }
+    ensures operators { tree_cmp (unary negation (var resource)) (unary minus (var principal)) ≡ Less }
+    ensures shorter { tree_cmp (set_literal (tree (number_lit 1) no_trees)) (set_literal (tree (number_lit 1) (tree (number_lit 0) no_trees))) ≡ Less }
+    ensures names { tree_cmp (record_literal (tree_field (codes "b") (number_lit 0) no_tree_fields)) (record_literal (tree_field (codes "a") (number_lit 1) no_tree_fields)) ≡ Greater }
+    ensures paths { tree_cmp (has_path (var principal) (codes "a") (codes "b" ∷ [])) (has_path (var principal) (codes "a") (codes "c" ∷ [])) ≡ Less }
+    ensures same { tree_eq (both (var principal) unrestricted) (both (var principal) unrestricted) ≡ true }
+    ensures order_matters { tree_eq (both (var principal) (var action)) (both (var action) (var principal)) ≡ false }
+    ensures kind_matters { tree_eq (both (var principal) (var action)) (either (var principal) (var action)) ≡ false }
+    ensures same_value { tree_eq (set_literal (tree (number_lit 1) no_trees)) (set_literal (tree (number_lit 1) (tree (number_lit 1) no_trees))) ≡ false }
+    ensures core_types { core_cmp record_core (entity_core user) ≡ Less }
+    ensures core_names { core_cmp (entity_core user) (entity_core doc) ≡ Greater }
+    ensures no_annotation { annotation_cmp None (Some bool_core) ≡ Less }
+    ensures elements { element_cmp (character 255) wildcard ≡ Less }
+    ensures slots { slot_cmp principal_slot resource_slot ≡ Less }
+    ensures binary_operators { binary_cmp equal less ≡ Less }
+    ensures unary_operators { unary_cmp is_empty is_empty ≡ Equal }
+{}
+
+/// Values in which no extension value stands.
+pub fn worked_plain()
+    ensures number { is_plain (made_number 1) ≡ true }
+    ensures extension { is_plain made_rank ≡ false }
+    ensures inside { is_plain (made_set (made (made_number 1) (made made_rank no_mades))) ≡ false }
 {}

@@ -1,13 +1,12 @@
 -- Canonical values: the members of a set rise, so none stands twice, and the names of a record rise. The sets that are made
 -- of any members are canonical.
 -- Rule: values and equality (docs/RULES.md).
-use Rattle.std.specs.Prelude.{◌≡◌, ◌&&◌, ℤ, List, [], ◌∷◌, Bool, true, false, not}
+use Rattle.std.specs.Prelude.{◌≡◌, ◌&&◌, List, [], ◌∷◌, Bool, true, false, not}
 use Rattle.std.specs.Ordering.{match_ordering, is_lt}
 use Rattle.std.proofs.Common.{◌⊎◌}
 use Rattle.cedar_expr_model.specs.Name.{Text}
-use Rattle.cedar_expr_model.specs.Uid.{Uid}
-use Rattle.cedar_expr_model.specs.Whole.Value.{V, prim, set_of, record_of, extension, Vs, no_values, value, Fields, no_fields, field, Literal}
-use Rattle.cedar_expr_model.specs.Whole.Order.{value_cmp, value_eq, text_cmp}
+use Rattle.cedar_expr_model.specs.Whole.Value.{V, prim, set_of, record_of, extension, Vs, no_values, value, Fields, no_fields, field}
+use Rattle.cedar_expr_model.specs.Whole.Order.{value_cmp, text_cmp}
 
 -- the value stands before the first of these
 abbrev pub is_below : V → Vs → Bool

@@ -1,9 +1,8 @@
 -- The core type that an expression shows by itself, and which calls a table takes.
 -- Rule: the evident type; extension functions (docs/RULES.md).
 use Rattle.std.specs.Prelude.{◌≡◌, ◌&&◌, ℕ, zero, suc, Bool, true, false, Option, Some, None, if◌then◌else◌}
-use Rattle.cedar_expr_model.specs.Name.{Text, Name}
-use Rattle.cedar_expr_model.specs.Whole.Value.{Literal, prim}
-use Rattle.cedar_expr_model.specs.Whole.Tree.{CoreType, bool_core, long_core, string_core, set_core, record_core, extension_core, UnaryOp, negation, minus, is_empty, BinaryOp, equal, less, less_or_equal, plus, difference, times, is_in, contains, contains_all, contains_any, get_tag, has_tag, Tree, lit, var, slot, unknown, choice, both, either, unary, binary, call, get_attr, has_attr, has_path, like, is_type, set_literal, record_literal, Trees, no_trees, tree, TreeFields, no_tree_fields, tree_field}
+use Rattle.cedar_expr_model.specs.Whole.Value.{prim}
+use Rattle.cedar_expr_model.specs.Whole.Tree.{CoreType, bool_core, long_core, set_core, record_core, extension_core, UnaryOp, negation, minus, is_empty, BinaryOp, plus, difference, times, get_tag, Tree, lit, var, slot, unknown, choice, both, either, unary, binary, call, get_attr, has_attr, has_path, like, is_type, set_literal, record_literal, Trees, no_trees, tree, TreeFields, no_tree_fields, tree_field}
 use Rattle.cedar_expr_model.specs.Whole.Substitution.{core_type_of, core_eq}
 use Rattle.cedar_expr_model.specs.Whole.Made.{Made, made_extension}
 use Rattle.cedar_expr_model.specs.Whole.Table.{Table, Signature, signature_of, takes_count}

@@ -1,9 +1,9 @@
 -- What an expression is made of: its subexpressions, slots and unknowns.
 -- Rule: parts of an expression (docs/RULES.md).
-use Rattle.std.specs.Prelude.{◌&&◌, ◌||◌, List, [], ◌∷◌, ◌++◌, Bool, true, false, Option, Some, None}
+use Rattle.std.specs.Prelude.{◌&&◌, List, [], ◌∷◌, ◌++◌, Bool, true, false, Option, Some, None}
 use Rattle.std.specs.List.{filter_map}
-use Rattle.cedar_expr_model.specs.Name.{Text, Name}
-use Rattle.cedar_expr_model.specs.Whole.Value.{Literal, truth, long, text, entity}
+use Rattle.cedar_expr_model.specs.Name.{Text}
+use Rattle.cedar_expr_model.specs.Whole.Value.{entity}
 use Rattle.cedar_expr_model.specs.Whole.Tree.{CoreType, SlotId, Tree, lit, var, slot, unknown, choice, both, either, unary, binary, call, get_attr, has_attr, has_path, like, is_type, set_literal, record_literal, Trees, no_trees, tree, TreeFields, no_tree_fields, tree_field}
 
 -- The subexpressions, each place once: the expression itself, and then those of its children, in order.

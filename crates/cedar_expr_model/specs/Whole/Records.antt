@@ -1,11 +1,11 @@
 -- Records made of pairs: the fields in the order of their names.
 -- Rule: repeated names; expressions; values and equality (docs/RULES.md).
-use Rattle.std.specs.Prelude.{◌&&◌, List, [], ◌∷◌, Bool, true, false, Option, Some, None, if◌then◌else◌}
+use Rattle.std.specs.Prelude.{◌&&◌, List, [], ◌∷◌, Bool, true, Option, Some, None, if◌then◌else◌}
 use Rattle.std.specs.Ordering.{match_ordering, is_lt}
 use Rattle.std.specs.Str.{bytes_eq}
 use Rattle.cedar_expr_model.specs.Name.{Text}
 use Rattle.cedar_expr_model.specs.Whole.Value.{V, record_of, Fields, no_fields, field}
-use Rattle.cedar_expr_model.specs.Whole.Tree.{Tree, record_literal, TreeFields, no_tree_fields, tree_field}
+use Rattle.cedar_expr_model.specs.Whole.Tree.{Tree, record_literal}
 use Rattle.cedar_expr_model.specs.Whole.Order.{text_cmp}
 use Rattle.cedar_expr_model.specs.Whole.Builder.{tree_fields}
 use Rattle.cedar_expr_model.specs.Whole.Substitution.{first_of_two}

@@ -1,12 +1,11 @@
 -- What stands in a value, which expressions are values, and values beside residual expressions.
 -- Rule: values and equality; parts of an expression (docs/RULES.md).
-use Rattle.std.specs.Prelude.{List, [], ◌∷◌, ◌++◌, map, Bool, Option, Some, None}
-use Rattle.cedar_expr_model.specs.Name.{Text}
+use Rattle.std.specs.Prelude.{List, [], ◌∷◌, ◌++◌, map, ◌&&◌, Bool, true, false, Option, Some, None}
 use Rattle.cedar_expr_model.specs.Uid.{Uid}
-use Rattle.cedar_expr_model.specs.Whole.Value.{Literal, truth, long, text, entity, V, prim, set_of, record_of, extension, Vs, no_values, value, Fields, no_fields, field}
+use Rattle.cedar_expr_model.specs.Whole.Value.{Literal, entity, V, prim, set_of, record_of, extension, Vs, no_values, value, Fields, no_fields, field}
 use Rattle.cedar_expr_model.specs.Whole.Canonical.{set_made}
-use Rattle.cedar_expr_model.specs.Whole.Tree.{CoreType, Tree, lit, set_literal, record_literal, Trees, no_trees, tree, TreeFields, no_tree_fields, tree_field}
-use Rattle.cedar_expr_model.specs.Whole.Made.{Made, written}
+use Rattle.cedar_expr_model.specs.Whole.Tree.{Tree, lit, set_literal, record_literal, Trees, no_trees, tree, TreeFields, no_tree_fields, tree_field}
+use Rattle.cedar_expr_model.specs.Whole.Made.{Made, made_prim, made_set, made_record, made_extension, Mades, no_mades, made, MadeFields, no_made_fields, made_field, written}
 
 -- the uid that a literal is
 abbrev pub literal_uids : Literal → List Uid
@@ -62,6 +61,22 @@ abbrev mutual
   pub fields_of_trees : TreeFields → Option Fields
   fields_of_trees no_tree_fields = Some no_fields
   fields_of_trees (tree_field a t fs) = joined_with (field a) (value_of_tree t) (fields_of_trees fs)
+
+-- no extension value stands in it
+abbrev mutual
+  pub is_plain : Made → Bool
+  is_plain (made_prim p) = true
+  is_plain (made_set ms) = are_plain ms
+  is_plain (made_record fs) = have_plain fs
+  is_plain (made_extension n k f ps) = false
+
+  pub are_plain : Mades → Bool
+  are_plain no_mades = true
+  are_plain (made m ms) = is_plain m && are_plain ms
+
+  pub have_plain : MadeFields → Bool
+  have_plain no_made_fields = true
+  have_plain (made_field a m fs) = is_plain m && have_plain fs
 
 -- a value, or what is left of an expression
 pub data PartialValue : Type 0 where

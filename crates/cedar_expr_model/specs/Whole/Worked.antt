@@ -1,17 +1,17 @@
 -- The values of the worked examples for every kind.
 -- Rule: values and equality; expressions; substitution; extension functions (docs/RULES.md).
-use Rattle.std.specs.Prelude.{ℕ, ℤ, pos, List, [], ◌∷◌, ◌==◌, Bool, true, false, Option, Some, None, codes, if◌then◌else◌}
+use Rattle.std.specs.Prelude.{ℕ, pos, List, [], ◌∷◌, Bool, true, false, Some, None, codes, if◌then◌else◌}
 use Rattle.std.specs.Str.{bytes_eq}
 use Rattle.cedar_expr_model.specs.Name.{Text, Name}
 use Rattle.cedar_expr_model.specs.Uid.{Uid}
-use Rattle.cedar_expr_model.specs.Whole.Value.{Literal, truth, long, text, entity, V, prim, set_of, record_of, extension, Vs, no_values, value, Fields, no_fields, field}
+use Rattle.cedar_expr_model.specs.Whole.Value.{truth, long, text, V, prim, Vs, no_values, value, Fields, no_fields, field}
 use Rattle.cedar_expr_model.specs.Whole.Pattern.{Pattern, character, wildcard}
-use Rattle.cedar_expr_model.specs.Whole.Tree.{Var, principal, action, resource, context, SlotId, principal_slot, resource_slot, CoreType, bool_core, long_core, string_core, set_core, record_core, entity_core, extension_core, negation, minus, equal, less, plus, contains, get_tag, Tree, lit, var, slot, unknown, choice, both, either, unary, binary, call, get_attr, has_attr, has_path, like, is_type, set_literal, record_literal, Trees, no_trees, tree, TreeFields, no_tree_fields, tree_field}
-use Rattle.cedar_expr_model.specs.Whole.Made.{Made, made_prim, made_set, made_record, made_extension, Mades, no_mades, made, no_made_fields, made_field}
+use Rattle.cedar_expr_model.specs.Whole.Tree.{principal, CoreType, bool_core, long_core, string_core, extension_core, negation, Tree, lit, var, unknown, unary, call, record_literal, no_trees, tree, no_tree_fields, tree_field}
+use Rattle.cedar_expr_model.specs.Whole.Made.{Made, made_prim, made_extension}
 use Rattle.cedar_expr_model.specs.Whole.Canonical.{set_made}
 use Rattle.cedar_expr_model.specs.Whole.Substitution.{Bindings, Mismatch}
 use Rattle.cedar_expr_model.specs.Whole.Parts.{Unknown}
-use Rattle.cedar_expr_model.specs.Whole.Table.{CallStyle, function_style, method_style, Signature, Called, gives, fails, leaves, Table}
+use Rattle.cedar_expr_model.specs.Whole.Table.{function_style, method_style, Signature, Called, fails, Table}
 
 -- names: `User`, `rank`, `label`, `a::b`, and two that no text should hold: the one part `a::b`, and the parts `a:` and `:b`
 abbrev pub plain : Text → Name
