@@ -19,3 +19,4 @@ pub mod ShapeParts
 pub mod ShapeOrder
 pub mod Valued
 pub mod Computed
+pub mod Examples

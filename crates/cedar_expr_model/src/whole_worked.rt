@@ -5,18 +5,18 @@ ghost use Rattle.std.specs.Prelude.{◌≡◌, ℕ, ℤ, pos, negsuc, Bool, true
 ghost use Rattle.std.specs.declared.cmp.Ordering.TheVariants.{Less, Equal, Greater};
 ghost use Rattle.cedar_expr_model.specs.Whole.Value.{truth, long, text, entity, prim, set_of, record_of, extension, no_values, value, no_fields, field, field_of, values_list};
 ghost use Rattle.cedar_expr_model.specs.Whole.Order.{text_cmp, name_order, uid_order, literal_cmp, value_cmp, value_eq};
-ghost use Rattle.cedar_expr_model.specs.Whole.Canonical.{is_canonical, are_rising, set_made, members_made, inserted, is_member, is_subset, is_disjoint};
+ghost use Rattle.cedar_expr_model.specs.Whole.Canonical.{Same, is_canonical, are_rising, set_made, members_made, inserted, is_member, is_subset, is_disjoint};
 ghost use Rattle.cedar_expr_model.specs.Whole.Records.{in_order, names_rise, first_of, last_of, record_made};
 ghost use Rattle.cedar_expr_model.specs.Whole.Repeats.{repeated_name};
 ghost use Rattle.cedar_expr_model.specs.Whole.Pattern.{character, wildcard, matches, matches_text};
 ghost use Rattle.cedar_expr_model.specs.Name.{is_word, is_identifier};
 ghost use Rattle.cedar_expr_model.specs.Whole.Tree.{principal, action, resource, context, principal_slot, resource_slot, bool_core, long_core, string_core, set_core, record_core, entity_core, extension_core, negation, minus, is_empty, equal, less, plus, is_in, get_tag, has_tag, lit, var, slot, unknown, choice, both, either, unary, binary, call, get_attr, has_attr, has_path, like, is_type, set_literal, record_literal, no_trees, tree, no_tree_fields, tree_field, nesting};
 ghost use Rattle.cedar_expr_model.specs.Whole.Builder.{built, tree_builder, conjunction, disjunction, path_test};
-ghost use Rattle.cedar_expr_model.specs.Whole.BuilderForm.{is_built};
+ghost use Rattle.cedar_expr_model.specs.Whole.BuilderForm.{IsLawful, is_built};
 ghost use Rattle.cedar_expr_model.specs.Whole.Made.{bare, written, made_set, made, no_mades};
 ghost use Rattle.cedar_expr_model.specs.Whole.Substitution.{substituted, built_under, core_type_of, core_eq, fits_annotation, mismatch};
 ghost use Rattle.cedar_expr_model.specs.Whole.Restricted.{offence, is_restricted, variables, template_slots, if_then_else, and_operator, unary_operator, attribute_accesses};
-ghost use Rattle.cedar_expr_model.specs.Whole.Table.{signature_of, is_ordered, all_typed, takes_count, are_of_types, is_constructor};
+ghost use Rattle.cedar_expr_model.specs.Whole.Table.{IsFair, signature_of, is_ordered, all_typed, takes_count, are_of_types, is_constructor};
 ghost use Rattle.cedar_expr_model.specs.Whole.Repeats.{table_fault, repeated_function, repeated_constructor};
 ghost use Rattle.cedar_expr_model.specs.Whole.Evident.{evident_type, has_valid_calls};
 ghost use Rattle.cedar_expr_model.specs.Whole.Parts.{subexpressions, unknowns, slots, is_projectable, is_ref, is_slot, is_unknown, is_ref_set};
@@ -25,7 +25,7 @@ ghost use Rattle.cedar_expr_model.specs.Whole.Records.{record_tree};
 ghost use Rattle.cedar_expr_model.specs.Whole.Shape.{tree_cmp, tree_eq, core_cmp, annotation_cmp, element_cmp, var_cmp, slot_cmp, unary_cmp, binary_cmp};
 ghost use Rattle.cedar_expr_model.specs.Whole.Names.{is_unqualified, namespace_of, within, qualified, possibilities, cedar_name, unreserved_read, name_given, reserved_given, nothing_given};
 ghost use Rattle.cedar_expr_model.specs.Whole.ValueParts.{uids_in, set_of_literals, value_of_tree, is_plain, known, residual, split, values_alone, with_residuals};
-ghost use Rattle.cedar_expr_model.specs.Whole.Worked.{plain, user, doc, rank_name, label_name, deep_name, false_name, alice, bob, number, word, flag, one_two, two_one_one, falling, rising, a_then_b, b_then_a, f_to_r, f_and_more, truth_lit, number_lit, named, named_as, two_unknowns, unrestricted, with_principal, rank_of, rank_of_two, lost_call, made_number, made_truth, made_rank, only_x, x_and_y, nothing_bound, number_for_truth, unknown_as, rank_function, label_function, join_function, unknown_function, other_rank_function, other_label_function, worked_table, typed_table};
+ghost use Rattle.cedar_expr_model.specs.Whole.Worked.{plain, user, doc, rank_name, label_name, deep_name, false_name, alice, bob, number, word, flag, one_two, two_one_one, falling, rising, a_then_b, b_then_a, f_to_r, f_and_more, truth_lit, number_lit, named, named_as, two_unknowns, unrestricted, with_principal, rank_of, rank_of_two, lost_call, made_number, made_truth, made_rank, only_x, x_and_y, nothing_bound, number_for_truth, unknown_as, rank_function, label_function, join_function, unknown_function, other_rank_function, other_label_function, worked_table, typed_table, unfair_table, variable_builder};
 
 /// Texts, names and uids in order: a beginning comes first, and names of one text are told apart by their parts.
 pub fn worked_orders()
@@ -72,9 +72,13 @@ pub fn worked_sets()
     ensures mixed { set_made (word (codes "x") ∷ number 3 ∷ flag true ∷ []) ≡ set_of (value (flag true) (value (number 3) (value (word (codes "x")) no_values))) }
     ensures empty { set_made [] ≡ set_of no_values }
     ensures back { values_list (members_made (number 2 ∷ number 1 ∷ [])) ≡ number 1 ∷ number 2 ∷ [] }
+    ensures first { inserted (number 0) rising ≡ value (number 0) rising }
+    ensures between { inserted (number 2) (value (number 1) (value (number 3) no_values)) ≡ value (number 1) (value (number 2) (value (number 3) no_values)) }
+    ensures already { inserted (number 2) rising ≡ rising }
     ensures canonical { is_canonical one_two ≡ true }
     ensures not_rising { is_canonical (set_of falling) ≡ false }
     ensures twice { are_rising (value (number 1) (value (number 1) no_values)) ≡ false }
+    ensures member_falls { is_canonical (set_of (value (set_of falling) no_values)) ≡ false }
     ensures inside { is_canonical (record_of (field (codes "a") (set_of falling) no_fields)) ≡ false }
     ensures names_fall { is_canonical (record_of b_then_a) ≡ false }
     ensures names_rise { is_canonical (record_of a_then_b) ≡ true }
@@ -368,4 +372,30 @@ pub fn worked_plain()
     ensures number { is_plain (made_number 1) ≡ true }
     ensures extension { is_plain made_rank ≡ false }
     ensures inside { is_plain (made_set (made (made_number 1) (made made_rank no_mades))) ≡ false }
+{}
+
+/// Another lawful builder: whether a variable or an unknown stands in the expression.
+pub fn worked_another_builder()
+    ensures lawful { IsLawful variable_builder }
+    ensures a_variable { built variable_builder unrestricted ≡ true }
+    ensures no_variable { built variable_builder (unary negation (rank_of (codes "7"))) ≡ false }
+    ensures an_unknown { built variable_builder two_unknowns ≡ true }
+    ensures bound { built_under variable_builder (x_and_y (made_truth true) made_rank) two_unknowns ≡ false }
+    ensures half_bound { built_under variable_builder (only_x (made_truth true)) two_unknowns ≡ true }
+    ensures under_nothing { built_under variable_builder nothing_bound (truth_lit true) ≡ false }
+{}
+
+/// Equality as of sets: in any order and however often a member is written.
+pub fn worked_sameness()
+    ensures turned { Same (set_of falling) (set_of rising) }
+    ensures twice { Same (set_of (value (number 1) (value (number 1) no_values))) (set_of (value (number 1) no_values)) }
+    ensures records { Same (record_of b_then_a) (record_of a_then_b) }
+    ensures fewer { ¬ (Same (set_of rising) (set_of (value (number 1) no_values))) }
+    ensures kinds { ¬ (Same (set_of no_values) (record_of no_fields)) }
+{}
+
+/// A table whose functions keep to their result types is fair, and one whose constructor gives a number isn't.
+pub fn worked_fairness()
+    ensures fair { IsFair typed_table }
+    ensures unfair { ¬ (IsFair unfair_table) }
 {}
