@@ -20,3 +20,4 @@ pub mod ShapeOrder
 pub mod Valued
 pub mod Computed
 pub mod Examples
+pub mod Representing

@@ -5,7 +5,7 @@ ghost use Rattle.cedar_expr_model.specs.Whole.Shape.{tree_cmp};
 ghost use Rattle.cedar_expr_model.specs.Whole.Laws.{IsLinear, NamesByText, UidsByText, ValuesDecide, CanonicalSame, SetsAreCanonical, SetsRise, MembersAreListed, MembersDecide, SetsAreSame, SetsAreMade, FieldsAreFound, PatternsDecide, CoreTypesDecide, AnnotationsDecide};
 ghost use Rattle.cedar_expr_model.specs.Whole.Builder.{tree_builder};
 ghost use Rattle.cedar_expr_model.specs.Whole.BuilderForm.{IsLawful};
-ghost use Rattle.cedar_expr_model.specs.Whole.TreeLaws.{BuiltIsBuilt, SubstitutedIsBuilt, BuiltStays, BuiltTwice, UnboundStays, BoundLeavesNone, BuildersAgree, WrittenIsRestricted, WrittenHasNoUnknown, WrittenIsBuilt, MismatchDecides, MismatchIsFirst, UnknownsAreListed, UnknownIsPart, ProjectableByParts, RestrictedDecides, WrittenShowsType, WrittenIsValue, ShapesDecide};
+ghost use Rattle.cedar_expr_model.specs.Whole.TreeLaws.{BuiltIsBuilt, SubstitutedIsBuilt, BuiltStays, BuiltTwice, UnboundStays, BoundLeavesNone, BuildersAgree, WrittenIsRestricted, WrittenHasNoUnknown, WrittenIsBuilt, MismatchDecides, MismatchIsFirst, UnknownsAreListed, UnknownIsPart, ProjectableByParts, RestrictedDecides, WrittenShowsType, WrittenIsValue, ShapesDecide, RepresentedHasResult, RepresentedIsValid};
 ghost use Rattle.cedar_expr_model.specs.Whole.ListLaws.{RepeatsDecide, RepeatIsFirst, TableFaultDecides, FunctionFault, ConstructorFault, InOrderRises, InOrderFinds, InOrderStays, RecordsAreCanonical, RecordsHaveLast, SubsetDecides, DisjointDecides, SplitGivesValues, NamespaceIsKept, QualifiedStays, QualifiedOnce};
 
 /// Texts, names, uids, literals and values are totally ordered, and the order finds no difference exactly between equal ones.
@@ -142,4 +142,10 @@ pub fn names_in_namespaces()
 pub fn shapes_tell_apart()
     ensures order { IsLinear tree_cmp }
     ensures equality { ShapesDecide }
+{}
+
+/// Under a fair table a value whose calls make it shows its type, and its calls are right ones.
+pub fn represented_values_are_right()
+    ensures result { RepresentedHasResult }
+    ensures calls { RepresentedIsValid }
 {}

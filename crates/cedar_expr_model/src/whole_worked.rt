@@ -10,12 +10,12 @@ ghost use Rattle.cedar_expr_model.specs.Whole.Records.{in_order, names_rise, fir
 ghost use Rattle.cedar_expr_model.specs.Whole.Repeats.{repeated_name};
 ghost use Rattle.cedar_expr_model.specs.Whole.Pattern.{character, wildcard, matches, matches_text};
 ghost use Rattle.cedar_expr_model.specs.Name.{is_word, is_identifier};
-ghost use Rattle.cedar_expr_model.specs.Whole.Tree.{principal, action, resource, context, principal_slot, resource_slot, bool_core, long_core, string_core, set_core, record_core, entity_core, extension_core, negation, minus, is_empty, equal, less, plus, is_in, get_tag, has_tag, lit, var, slot, unknown, choice, both, either, unary, binary, call, get_attr, has_attr, has_path, like, is_type, set_literal, record_literal, no_trees, tree, no_tree_fields, tree_field, nesting};
+ghost use Rattle.cedar_expr_model.specs.Whole.Tree.{contains_any, times, principal, action, resource, context, principal_slot, resource_slot, bool_core, long_core, string_core, set_core, record_core, entity_core, extension_core, negation, minus, is_empty, equal, less, plus, is_in, get_tag, has_tag, lit, var, slot, unknown, choice, both, either, unary, binary, call, get_attr, has_attr, has_path, like, is_type, set_literal, record_literal, no_trees, tree, no_tree_fields, tree_field, nesting};
 ghost use Rattle.cedar_expr_model.specs.Whole.Builder.{built, tree_builder, conjunction, disjunction, path_test};
 ghost use Rattle.cedar_expr_model.specs.Whole.BuilderForm.{IsLawful, is_built};
 ghost use Rattle.cedar_expr_model.specs.Whole.Made.{bare, written, made_set, made, no_mades};
 ghost use Rattle.cedar_expr_model.specs.Whole.Substitution.{substituted, built_under, core_type_of, core_eq, fits_annotation, mismatch};
-ghost use Rattle.cedar_expr_model.specs.Whole.Restricted.{offence, is_restricted, variables, template_slots, if_then_else, and_operator, unary_operator, attribute_accesses};
+ghost use Rattle.cedar_expr_model.specs.Whole.Restricted.{offence, is_restricted, has_test, is_test, binary_operator, variables, template_slots, if_then_else, and_operator, unary_operator, attribute_accesses};
 ghost use Rattle.cedar_expr_model.specs.Whole.Table.{IsFair, signature_of, is_ordered, all_typed, takes_count, are_of_types, is_constructor};
 ghost use Rattle.cedar_expr_model.specs.Whole.Repeats.{table_fault, repeated_function, repeated_constructor};
 ghost use Rattle.cedar_expr_model.specs.Whole.Evident.{evident_type, has_valid_calls};
@@ -23,9 +23,11 @@ ghost use Rattle.cedar_expr_model.specs.Whole.Parts.{subexpressions, unknowns, s
 ghost use Rattle.cedar_expr_model.specs.Whole.Unknowns.{has_unknown};
 ghost use Rattle.cedar_expr_model.specs.Whole.Records.{record_tree};
 ghost use Rattle.cedar_expr_model.specs.Whole.Shape.{tree_cmp, tree_eq, core_cmp, annotation_cmp, element_cmp, var_cmp, slot_cmp, unary_cmp, binary_cmp};
+ghost use Rattle.cedar_expr_model.specs.Whole.Texts.{var_text, unary_text, binary_text, core_text, feature_text, pattern_text};
+ghost use Rattle.cedar_expr_model.specs.Whole.Represented.{IsRepresented};
 ghost use Rattle.cedar_expr_model.specs.Whole.Names.{is_unqualified, namespace_of, within, qualified, possibilities, cedar_name, unreserved_read, name_given, reserved_given, nothing_given};
 ghost use Rattle.cedar_expr_model.specs.Whole.ValueParts.{uids_in, set_of_literals, value_of_tree, is_plain, known, residual, split, values_alone, with_residuals};
-ghost use Rattle.cedar_expr_model.specs.Whole.Worked.{plain, user, doc, rank_name, label_name, deep_name, false_name, alice, bob, number, word, flag, one_two, two_one_one, falling, rising, a_then_b, b_then_a, f_to_r, f_and_more, truth_lit, number_lit, named, named_as, two_unknowns, unrestricted, with_principal, rank_of, rank_of_two, lost_call, made_number, made_truth, made_rank, only_x, x_and_y, nothing_bound, number_for_truth, unknown_as, rank_function, label_function, join_function, unknown_function, other_rank_function, other_label_function, worked_table, typed_table, unfair_table, variable_builder};
+ghost use Rattle.cedar_expr_model.specs.Whole.Worked.{plain, user, doc, rank_name, label_name, deep_name, false_name, alice, bob, number, word, flag, one_two, two_one_one, falling, rising, a_then_b, b_then_a, f_to_r, f_and_more, truth_lit, number_lit, named, named_as, two_unknowns, unrestricted, with_principal, rank_of, rank_of_two, lost_call, made_number, made_truth, made_rank, only_x, x_and_y, nothing_bound, number_for_truth, unknown_as, rank_function, label_function, join_function, unknown_function, other_rank_function, other_label_function, worked_table, typed_table, unfair_table, variable_builder, true_rank, feigned_rank};
 
 /// Texts, names and uids in order: a beginning comes first, and names of one text are told apart by their parts.
 pub fn worked_orders()
@@ -398,4 +400,29 @@ pub fn worked_sameness()
 pub fn worked_fairness()
     ensures fair { IsFair typed_table }
     ensures unfair { ¬ (IsFair unfair_table) }
+{}
+
+/// A value is represented where its calls give it.
+pub fn worked_represented()
+    ensures rank { IsRepresented typed_table true_rank }
+    ensures other_key { ¬ (IsRepresented typed_table feigned_rank) }
+    ensures number { IsRepresented typed_table (made_number 1) }
+{}
+
+/// Texts of variables, operators, core types, features and patterns.
+pub fn worked_texts()
+    ensures variable { var_text resource ≡ codes "resource" }
+    ensures not { unary_text negation ≡ codes "!" }
+    ensures empty { unary_text is_empty ≡ codes "isEmpty" }
+    ensures product { binary_text times ≡ codes "*" }
+    ensures any { binary_text contains_any ≡ codes "containsAny" }
+    ensures set { core_text set_core ≡ codes "set" }
+    ensures an_entity { core_text (entity_core deep_name) ≡ codes "(entity of type `a::b`)" }
+    ensures an_extension { core_text (extension_core rank_name) ≡ codes "rank" }
+    ensures slots { feature_text template_slots ≡ codes "template slots" }
+    ensures has { feature_text has_test ≡ codes "'has'" }
+    ensures operator { feature_text (binary_operator plus) ≡ codes "+" }
+    ensures pattern { pattern_text f_to_r ≡ codes "f**r" }
+    ensures star { pattern_text (character 42 ∷ wildcard ∷ []) ≡ 92 ∷ 42 ∷ 42 ∷ [] }
+    ensures quote { pattern_text (character 34 ∷ []) ≡ 92 ∷ 34 ∷ [] }
 {}

@@ -1,11 +1,13 @@
 -- Worked examples that want a proof: equality as of sets, fair tables, another lawful builder.
-use Rattle.std.proofs.Common.{◌≡◌, Bool, true, false, cond, List, [], ◌∷◌, Some, None, codes, refl, sym, subst, inl, inr}
+use Rattle.std.proofs.Common.{bytes_eq, ap, ◌≡◌, Bool, true, false, cond, List, [], ◌∷◌, Some, None, codes, refl, sym, subst, inl, inr}
+use mathlib.Core.Bool.{true≢false}
 use Rattle.cedar_expr_model.specs.Name.{Text, name_eq}
 use Rattle.cedar_expr_model.specs.Whole.Value.{text, V, prim, set_of, record_of, extension, no_values, value}
 use Rattle.cedar_expr_model.specs.Whole.Canonical.{Among, FieldAmong, Same, HasSame, HasSameField}
 use Rattle.cedar_expr_model.specs.Whole.BuilderForm.{IsLawful}
-use Rattle.cedar_expr_model.specs.Whole.Table.{Signature, fails, IsAnswer, IsFair}
-use Rattle.cedar_expr_model.specs.Whole.Worked.{number, word, falling, rising, a_then_b, b_then_a, rank_name, label_name, rank_function, label_function, rank_answer, label_answer, typed_table, unfair_table, variable_builder}
+use Rattle.cedar_expr_model.specs.Whole.Table.{Signature, fails, IsAnswer, IsFair, Called, gives}
+use Rattle.cedar_expr_model.specs.Whole.Represented.{IsRepresented}
+use Rattle.cedar_expr_model.specs.Whole.Worked.{true_rank, feigned_rank, number, word, falling, rising, a_then_b, b_then_a, rank_name, label_name, rank_function, label_function, rank_answer, label_answer, typed_table, unfair_table, variable_builder}
 
 pub variables_lawful : IsLawful variable_builder
 variables_lawful = record { conjoins = λ x y. refl; disjoins = λ x y. refl; walks_one = λ t a. refl }
@@ -63,3 +65,16 @@ table_fair f s vs e h k = fair_case (name_eq f rank_name) (name_eq f label_name)
 
 pub table_unfair : ¬ (IsFair unfair_table)
 table_unfair h = let q = h rank_name rank_function (word (codes "7") ∷ []) refl refl refl in cc
+
+-- represented values
+pub rank_represented : IsRepresented typed_table true_rank
+rank_represented = (rank_function, refl, refl, refl, refl)
+
+-- the answer has the key of the true rank
+has_its_key : Called → Bool
+has_its_key (gives (extension n k)) = bytes_eq k (codes "7")
+has_its_key a = false
+
+pub feigned_not : ¬ (IsRepresented typed_table feigned_rank)
+unfolding has_its_key
+feigned_not r = let q : true ≡ false = ap has_its_key r.4 in true≢false q

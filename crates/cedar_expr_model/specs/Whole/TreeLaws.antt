@@ -11,11 +11,12 @@ use Rattle.cedar_expr_model.specs.Whole.Substitution.{Bindings, built_under, sub
 use Rattle.cedar_expr_model.specs.Whole.Unknowns.{has_unknown, EachUnknown, AllBound, NoneBound, FitsAll}
 use Rattle.cedar_expr_model.specs.Whole.Parts.{subexpressions, Unknown, unknowns, may_project, is_projectable, is_unknown}
 use Rattle.cedar_expr_model.specs.Whole.Restricted.{IsRestricted, offence, is_restricted}
-use Rattle.cedar_expr_model.specs.Whole.Table.{Table}
+use Rattle.cedar_expr_model.specs.Whole.Table.{Table, IsFair}
 use Rattle.cedar_expr_model.specs.Whole.Canonical.{is_canonical}
 use Rattle.cedar_expr_model.specs.Whole.ValueParts.{is_plain, value_of_tree}
+use Rattle.cedar_expr_model.specs.Whole.Represented.{IsRepresented}
 use Rattle.cedar_expr_model.specs.Whole.Shape.{tree_eq}
-use Rattle.cedar_expr_model.specs.Whole.Evident.{evident_type, HasResult}
+use Rattle.cedar_expr_model.specs.Whole.Evident.{evident_type, HasResult, has_valid_calls}
 
 -- what the builder of trees makes is in the builder's form, and so is what substitution makes
 abbrev pub BuiltIsBuilt : Type 0
@@ -93,3 +94,11 @@ WrittenIsValue = (m : Made) → is_plain m ≡ true → is_canonical (bare m) �
 -- expressions of one shape are the same
 abbrev pub ShapesDecide : Type 0
 ShapesDecide = (t u : Tree) → Decides (tree_eq t u) (t ≡ u)
+
+-- under a fair table a represented value shows its type when written
+abbrev pub RepresentedHasResult : Type 0
+RepresentedHasResult = (x : Table) (m : Made) → IsFair x → IsRepresented x m → HasResult x m
+
+-- the calls of a represented value name functions of the table and have right counts of arguments
+abbrev pub RepresentedIsValid : Type 0
+RepresentedIsValid = (x : Table) (m : Made) → IsRepresented x m → has_valid_calls x (written m) ≡ true

@@ -219,3 +219,10 @@ variable_builder = record {
   of_set = λ ts. some_of ts;
   of_record = λ fs. some_of_fields fs;
 }
+
+-- a rank as the worked table makes it, and one that it makes otherwise
+abbrev pub true_rank : Made
+true_rank = made_extension rank_name (codes "7") rank_name (text (codes "7") ∷ [])
+
+abbrev pub feigned_rank : Made
+feigned_rank = made_extension rank_name (codes "8") rank_name (text (codes "7") ∷ [])
