@@ -16,7 +16,7 @@ ghost use Rattle.cedar_expr_model.specs.Whole.BuilderForm.{IsLawful, is_built};
 ghost use Rattle.cedar_expr_model.specs.Whole.Made.{bare, written, made_set, made, no_mades};
 ghost use Rattle.cedar_expr_model.specs.Whole.Substitution.{substituted, built_under, core_type_of, core_eq, fits_annotation, mismatch};
 ghost use Rattle.cedar_expr_model.specs.Whole.Restricted.{offence, is_restricted, has_test, is_test, binary_operator, variables, template_slots, if_then_else, and_operator, unary_operator, attribute_accesses};
-ghost use Rattle.cedar_expr_model.specs.Whole.Table.{IsFair, signature_of, is_ordered, all_typed, takes_count, are_of_types, is_constructor};
+ghost use Rattle.cedar_expr_model.specs.Whole.Table.{method_style, IsFair, signature_of, is_ordered, all_typed, takes_count, are_of_types, is_constructor};
 ghost use Rattle.cedar_expr_model.specs.Whole.Repeats.{table_fault, repeated_function, repeated_constructor};
 ghost use Rattle.cedar_expr_model.specs.Whole.Evident.{evident_type, has_valid_calls};
 ghost use Rattle.cedar_expr_model.specs.Whole.Parts.{subexpressions, unknowns, slots, is_projectable, is_ref, is_slot, is_unknown, is_ref_set};
@@ -234,7 +234,11 @@ pub fn worked_tables()
     ensures last_type { are_of_types join_function.parameters (word (codes "x") ∷ number 1 ∷ word (codes "y") ∷ []) ≡ false }
     ensures first_type { are_of_types join_function.parameters (number 1 ∷ number 1 ∷ []) ≡ false }
     ensures constructor { is_constructor rank_function ≡ true }
-    ensures method { is_constructor label_function ≡ false }
+    ensures method { is_constructor (record rank_function { style = method_style }) ≡ false }
+    ensures variadic_text { is_constructor (record rank_function { is_variadic = true }) ≡ false }
+    ensures plain_result { is_constructor (record rank_function { result = Some string_core }) ≡ false }
+    ensures other_argument { is_constructor (record rank_function { parameters = long_core ∷ [] }) ≡ false }
+    ensures of_a_rank { is_constructor label_function ≡ false }
     ensures two_texts { is_constructor join_function ≡ false }
     ensures no_result { is_constructor unknown_function ≡ false }
 {}
@@ -246,6 +250,7 @@ pub fn worked_table_faults()
     ensures two_constructors { table_fault (rank_function ∷ other_rank_function ∷ []) ≡ Some (repeated_constructor (extension_core rank_name)) }
     ensures both { table_fault (rank_function ∷ other_rank_function ∷ label_function ∷ other_label_function ∷ []) ≡ Some (repeated_function label_name) }
     ensures same_twice { table_fault (rank_function ∷ rank_function ∷ []) ≡ Some (repeated_function rank_name) }
+    ensures a_method_too { table_fault (rank_function ∷ record other_rank_function { style = method_style } ∷ []) ≡ None }
     ensures empty { table_fault [] ≡ None }
 {}
 
