@@ -77,6 +77,8 @@ pub fn worked_sets()
     ensures first { inserted (number 0) rising ≡ value (number 0) rising }
     ensures between { inserted (number 2) (value (number 1) (value (number 3) no_values)) ≡ value (number 1) (value (number 2) (value (number 3) no_values)) }
     ensures already { inserted (number 2) rising ≡ rising }
+    ensures members { values_list rising ≡ number 1 ∷ number 2 ∷ [] }
+    ensures no_members { values_list no_values ≡ [] }
     ensures canonical { is_canonical one_two ≡ true }
     ensures not_rising { is_canonical (set_of falling) ≡ false }
     ensures twice { are_rising (value (number 1) (value (number 1) no_values)) ≡ false }
@@ -115,6 +117,9 @@ pub fn worked_records()
     ensures first { first_of (codes "a") ((codes "a", number 1) ∷ (codes "a", number 2) ∷ []) ≡ Some (number 1) }
     ensures last { last_of (codes "a") ((codes "a", number 1) ∷ (codes "a", number 2) ∷ []) ≡ Some (number 2) }
     ensures neither { last_of (codes "b") ((codes "a", number 1) ∷ (codes "a", number 2) ∷ []) ≡ None }
+    ensures in_order { in_order ((codes "b", number 2) ∷ (codes "a", number 1) ∷ (codes "b", number 3) ∷ []) ≡ (codes "a", number 1) ∷ (codes "b", number 3) ∷ [] }
+    ensures first_of_none { first_of (codes "c") ((codes "a", number 1) ∷ []) ≡ None }
+    ensures first_later { first_of (codes "b") ((codes "a", number 1) ∷ (codes "b", number 2) ∷ []) ≡ Some (number 2) }
     ensures repeats { repeated_name ((codes "a", number 1) ∷ (codes "b", number 1) ∷ (codes "b", number 1) ∷ (codes "a", number 1) ∷ []) ≡ Some (codes "b") }
     ensures equal_values { repeated_name ((codes "a", number 1) ∷ (codes "a", number 1) ∷ []) ≡ Some (codes "a") }
     ensures no_repeat { repeated_name ((codes "a", number 1) ∷ (codes "b", number 1) ∷ []) ≡ None }
@@ -153,6 +158,8 @@ pub fn worked_building()
     ensures form { is_built (both (var principal) (truth_lit false)) ≡ true }
     ensures one_step_form { is_built (has_path (var principal) (codes "x") []) ≡ false }
     ensures deep_form { is_built (unary negation (either (truth_lit true) (truth_lit true))) ≡ false }
+    ensures repeated_field { record_tree ((codes "a", var principal) ∷ (codes "a", number_lit 1) ∷ []) ≡ record_tree ((codes "a", number_lit 1) ∷ []) }
+    ensures no_fields { record_tree [] ≡ record_literal no_tree_fields }
     ensures record { record_tree ((codes "b", var principal) ∷ (codes "a", number_lit 1) ∷ []) ≡ with_principal }
 {}
 
@@ -175,6 +182,10 @@ pub fn worked_substitution()
     ensures record { substituted (x_and_y (made_truth true) (made_truth true)) two_unknowns ≡ record_literal (tree_field (codes "a") (truth_lit true) (tree_field (codes "b") (truth_lit true) no_tree_fields)) }
     ensures two { substituted (x_and_y (made_truth false) (made_truth true)) (either (named (codes "x")) (named (codes "y"))) ≡ truth_lit true }
     ensures written { written (made_set (made made_rank (made (made_number 2) no_mades))) ≡ set_literal (tree (rank_of (codes "7")) (tree (number_lit 2) no_trees)) }
+    ensures written_number { written (made_number 1) ≡ number_lit 1 }
+    ensures written_rank { written made_rank ≡ rank_of (codes "7") }
+    ensures bare_number { bare (made_number 1) ≡ number 1 }
+    ensures bare_rank { bare made_rank ≡ extension rank_name (0 ∷ 7 ∷ []) }
     ensures bare { bare (made_set (made made_rank (made (made_number 2) no_mades))) ≡ set_of (value (extension rank_name (0 ∷ 7 ∷ [])) (value (number 2) no_values)) }
 {}
 
@@ -221,8 +232,11 @@ pub fn worked_restricted()
 pub fn worked_tables()
     ensures found { signature_of worked_table label_name ≡ Some label_function }
     ensures not_found { signature_of worked_table doc ≡ None }
+    ensures found_last { signature_of worked_table unknown_function.name ≡ Some unknown_function }
     ensures ordered { is_ordered worked_table rank_name ≡ true }
     ensures not_ordered { is_ordered worked_table label_name ≡ false }
+    ensures not_ordered_name { is_ordered worked_table (plain (codes "ranks")) ≡ false }
+    ensures none_is_typed { all_typed (record worked_table { functions = [] }) ≡ true }
     ensures all { all_typed typed_table ≡ true }
     ensures not_all { all_typed worked_table ≡ false }
     ensures one { takes_count rank_function 1 ≡ true }
@@ -284,6 +298,8 @@ pub fn worked_parts()
     ensures unknowns { unknowns (both two_unknowns (named_as (codes "x") bool_core)) ≡ unknown_as (codes "x") bool_core ∷ unknown_as (codes "y") bool_core ∷ unknown_as (codes "x") bool_core ∷ [] }
     ensures no_unknowns { unknowns unrestricted ≡ [] }
     ensures slots { slots (both (slot principal_slot) (both (slot resource_slot) (slot principal_slot))) ≡ principal_slot ∷ resource_slot ∷ principal_slot ∷ [] }
+    ensures no_slots { slots unrestricted ≡ [] }
+    ensures one_slot { slots (slot resource_slot) ≡ resource_slot ∷ [] }
     ensures has { has_unknown (unary negation two_unknowns) ≡ true }
     ensures has_not { has_unknown unrestricted ≡ false }
     ensures has_in_call { has_unknown (call rank_name (tree (named (codes "t")) no_trees)) ≡ true }
@@ -301,6 +317,8 @@ pub fn worked_parts()
     ensures one_ref { is_ref_set (lit (entity alice)) ≡ false }
     ensures is_a_slot { is_slot (slot resource_slot) ≡ true }
     ensures is_no_slot { is_slot (var resource) ≡ false }
+    ensures ref_is_no_slot { is_slot (lit (entity alice)) ≡ false }
+    ensures not_here { is_unknown (unary negation (named (codes "x"))) ≡ false }
     ensures is_an_unknown { is_unknown (named (codes "x")) ≡ true }
     ensures is_no_unknown { is_unknown (var context) ≡ false }
 {}
@@ -316,6 +334,8 @@ pub fn worked_value_parts()
     ensures one_uid { uids_in (prim (entity alice)) ≡ alice ∷ [] }
     ensures no_uids { uids_in one_two ≡ [] }
     ensures literals { set_of_literals (long (pos 2) ∷ long (pos 1) ∷ long (pos 2) ∷ []) ≡ one_two }
+    ensures no_literals { set_of_literals [] ≡ set_of no_values }
+    ensures mixed_literals { set_of_literals (entity alice ∷ truth true ∷ []) ≡ set_of (value (flag true) (value (prim (entity alice)) no_values)) }
     ensures all_known { split (known (made_number 2) ∷ known (made_number 1) ∷ []) ≡ values_alone (made_number 2 ∷ made_number 1 ∷ []) }
     ensures one_residual { split (known (made_number 2) ∷ residual (named (codes "x")) ∷ known (made_number 1) ∷ []) ≡ with_residuals (number_lit 2 ∷ named (codes "x") ∷ number_lit 1 ∷ []) }
     ensures empty { split [] ≡ values_alone [] }
@@ -331,6 +351,8 @@ pub fn worked_namespaces()
     ensures no_namespace_of { namespace_of user ≡ None }
     ensures unqualified { is_unqualified user ≡ true }
     ensures is_qualified { is_unqualified deep_name ≡ false }
+    ensures deep_namespace { namespace_of (within deep_name (codes "c")) ≡ Some deep_name }
+    ensures false_is_unqualified { is_unqualified false_name ≡ true }
     ensures two_meanings { possibilities (Some doc) user ≡ within doc (codes "User") ∷ user ∷ [] }
     ensures one_meaning { possibilities (Some doc) deep_name ≡ deep_name ∷ [] }
     ensures empty_namespace { possibilities None user ≡ user ∷ [] }
@@ -417,6 +439,9 @@ pub fn worked_represented()
 /// Texts of variables, operators, core types, features and patterns.
 pub fn worked_texts()
     ensures variable { var_text resource ≡ codes "resource" }
+    ensures other_variable { var_text context ≡ codes "context" }
+    ensures minus { unary_text minus ≡ codes "-" }
+    ensures difference { binary_text is_in ≡ codes "in" }
     ensures not { unary_text negation ≡ codes "!" }
     ensures empty { unary_text is_empty ≡ codes "isEmpty" }
     ensures product { binary_text times ≡ codes "*" }

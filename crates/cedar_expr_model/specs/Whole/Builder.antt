@@ -79,6 +79,7 @@ abbrev pub path_test : Tree → Text → List Text → Tree
 path_test t a [] = has_attr t a
 path_test t a (b ∷ bs) = has_path t a (b ∷ bs)
 
+-- lists as the children of an expression
 abbrev pub trees : List Tree → Trees
 trees [] = no_trees
 trees (t ∷ ts) = tree t (trees ts)

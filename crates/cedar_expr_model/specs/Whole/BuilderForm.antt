@@ -16,6 +16,7 @@ pub record IsLawful {B : Type 0} (b : Builder B) : Type 0 where
 abbrev pub is_foldable : Tree → Tree → Bool
 is_foldable a b = is_some (written_truth a) && is_some (written_truth b)
 
+-- a path goes on behind its first attribute
 abbrev pub has_more : List Text → Bool
 has_more [] = false
 has_more (a ∷ as_) = true

@@ -37,6 +37,7 @@ abbrev mutual
   bare_fields no_made_fields = no_fields
   bare_fields (made_field a m fs) = field a (bare m) (bare_fields fs)
 
+-- literals as expressions
 abbrev pub literals : List Literal → Trees
 literals [] = no_trees
 literals (p ∷ ps) = tree (lit p) (literals ps)

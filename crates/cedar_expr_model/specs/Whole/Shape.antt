@@ -41,6 +41,7 @@ binary_rank contains_any = 9
 binary_rank get_tag = 10
 binary_rank has_tag = 11
 
+-- the same as orders
 abbrev pub var_cmp : Var → Var → Ordering
 var_cmp x y = nat_cmp (var_rank x) (var_rank y)
 
@@ -79,12 +80,14 @@ element_cmp (character c) wildcard = Less
 element_cmp wildcard (character d) = Greater
 element_cmp wildcard wildcard = Equal
 
+-- patterns and paths from the first element that differs
 abbrev pub pattern_cmp : Pattern → Pattern → Ordering
 pattern_cmp p q = slice_cmp element_cmp p q
 
 abbrev pub path_cmp : List Text → List Text → Ordering
 path_cmp a b = slice_cmp text_cmp a b
 
+-- the place of a kind among the kinds
 abbrev pub tree_rank : Tree → ℕ
 tree_rank (lit p) = 0
 tree_rank (var x) = 1
@@ -104,6 +107,7 @@ tree_rank (is_type t n) = 14
 tree_rank (set_literal ts) = 15
 tree_rank (record_literal fs) = 16
 
+-- Expressions by kind, and those of one kind by their parts in order; members and fields from the first that differs.
 abbrev mutual
   pub tree_cmp : Tree → Tree → Ordering
   tree_cmp (lit p) (lit p') = literal_cmp p p'

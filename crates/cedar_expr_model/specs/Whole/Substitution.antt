@@ -34,6 +34,7 @@ core_type_of (set_of vs) = set_core
 core_type_of (record_of fs) = record_core
 core_type_of (extension n k) = extension_core n
 
+-- equal core types
 abbrev pub core_eq : CoreType → CoreType → Bool
 core_eq bool_core bool_core = true
 core_eq long_core long_core = true

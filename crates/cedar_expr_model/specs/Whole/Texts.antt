@@ -8,12 +8,14 @@ use Rattle.cedar_expr_model.specs.Whole.Pattern.{Pattern, Element, character, wi
 use Rattle.cedar_expr_model.specs.Whole.Restricted.{Feature, variables, template_slots, if_then_else, and_operator, or_operator, unary_operator, binary_operator, attribute_accesses, has_test, like_test, is_test}
 use Rattle.cedar_expr_model.specs.Whole.Tree.{Var, principal, action, resource, context, CoreType, bool_core, long_core, string_core, set_core, record_core, entity_core, extension_core, UnaryOp, negation, minus, is_empty, BinaryOp, equal, less, less_or_equal, plus, difference, times, is_in, contains, contains_all, contains_any, get_tag, has_tag}
 
+-- a variable is its name
 abbrev pub var_text : Var → Text
 var_text principal = codes "principal"
 var_text action = codes "action"
 var_text resource = codes "resource"
 var_text context = codes "context"
 
+-- operators as they are written, and those of methods by their names
 abbrev pub unary_text : UnaryOp → Text
 unary_text negation = codes "!"
 unary_text minus = codes "-"
@@ -62,5 +64,6 @@ abbrev pub element_text : Element → Text
 element_text wildcard = 42 ∷ []
 element_text (character c) = if c == 42 then 92 ∷ 42 ∷ [] else escaped c
 
+-- the text of a pattern, element by element
 abbrev pub pattern_text : Pattern → Text
 pattern_text p = flat_map element_text p

@@ -64,10 +64,11 @@ abbrev mutual
   EachUnknownInFields P no_tree_fields = Unit {0}
   EachUnknownInFields P (tree_field a t fs) = EachUnknown P t × EachUnknownInFields P fs
 
--- each unknown is bound, or none is
+-- each unknown is bound
 abbrev pub AllBound : Bindings → Tree → Type 0
 AllBound env t = EachUnknown (λ n a. (m : Made) × (env n ≡ Some m)) t
 
+-- no unknown is bound
 abbrev pub NoneBound : Bindings → Tree → Type 0
 NoneBound env t = EachUnknown (λ n a. env n ≡ None) t
 

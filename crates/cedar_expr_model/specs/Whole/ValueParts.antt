@@ -38,6 +38,7 @@ joined_with f (Some a) (Some b) = Some (f a b)
 joined_with f (Some a) None = None
 joined_with f None b = None
 
+-- a set, or a record, of what was given
 abbrev pub set_if_given : Option (List V) → Option V
 set_if_given None = None
 set_if_given (Some vs) = Some (set_made vs)
@@ -83,6 +84,7 @@ pub data PartialValue : Type 0 where
   known : Made → PartialValue
   residual : Tree → PartialValue
 
+-- either as an expression
 abbrev pub tree_of_partial : PartialValue → Tree
 tree_of_partial (known m) = written m
 tree_of_partial (residual t) = t
@@ -98,9 +100,11 @@ pub data Split : Type 0 where
   values_alone : List Made → Split
   with_residuals : List Tree → Split
 
+-- by the values of the list, if it has nothing else
 abbrev pub split_into : List PartialValue → Option (List Made) → Split
 split_into ps None = with_residuals (map tree_of_partial ps)
 split_into ps (Some ms) = values_alone ms
 
+-- the list split
 abbrev pub split : List PartialValue → Split
 split ps = split_into ps (all_known ps)
