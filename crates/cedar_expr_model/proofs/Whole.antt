@@ -15,3 +15,9 @@ pub mod Gathering
 pub mod Repeating
 pub mod Ordering
 pub mod SideBySide
+pub mod ShapeParts
+pub mod ShapeOrder
+pub mod Valued
+pub mod Computed
+pub mod Examples
+pub mod Representing

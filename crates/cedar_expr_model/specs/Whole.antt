@@ -18,6 +18,9 @@ pub mod Repeats
 pub mod Records
 pub mod Names
 pub mod ValueParts
+pub mod Shape
+pub mod Texts
+pub mod Represented
 pub mod Laws
 pub mod TreeLaws
 pub mod ListLaws

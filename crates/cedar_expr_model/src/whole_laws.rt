@@ -1,10 +1,11 @@
 //! Laws of the definitions for every kind. Each function's contract is the theorem; its body does nothing.
 
 ghost use Rattle.cedar_expr_model.specs.Whole.Order.{text_cmp, name_order, uid_order, literal_cmp, value_cmp};
+ghost use Rattle.cedar_expr_model.specs.Whole.Shape.{tree_cmp};
 ghost use Rattle.cedar_expr_model.specs.Whole.Laws.{IsLinear, NamesByText, UidsByText, ValuesDecide, CanonicalSame, SetsAreCanonical, SetsRise, MembersAreListed, MembersDecide, SetsAreSame, SetsAreMade, FieldsAreFound, PatternsDecide, CoreTypesDecide, AnnotationsDecide};
 ghost use Rattle.cedar_expr_model.specs.Whole.Builder.{tree_builder};
 ghost use Rattle.cedar_expr_model.specs.Whole.BuilderForm.{IsLawful};
-ghost use Rattle.cedar_expr_model.specs.Whole.TreeLaws.{BuiltIsBuilt, SubstitutedIsBuilt, BuiltStays, BuiltTwice, UnboundStays, BoundLeavesNone, BuildersAgree, WrittenIsRestricted, WrittenHasNoUnknown, WrittenIsBuilt, MismatchDecides, MismatchIsFirst, UnknownsAreListed, UnknownIsPart, ProjectableByParts, RestrictedDecides, WrittenShowsType};
+ghost use Rattle.cedar_expr_model.specs.Whole.TreeLaws.{BuiltIsBuilt, SubstitutedIsBuilt, BuiltStays, BuiltTwice, UnboundStays, BoundLeavesNone, BuildersAgree, WrittenIsRestricted, WrittenHasNoUnknown, WrittenIsBuilt, MismatchDecides, MismatchIsFirst, UnknownsAreListed, UnknownIsPart, ProjectableByParts, RestrictedDecides, WrittenShowsType, WrittenIsValue, ShapesDecide, RepresentedHasResult, RepresentedIsValid};
 ghost use Rattle.cedar_expr_model.specs.Whole.ListLaws.{RepeatsDecide, RepeatIsFirst, TableFaultDecides, FunctionFault, ConstructorFault, InOrderRises, InOrderFinds, InOrderStays, RecordsAreCanonical, RecordsHaveLast, SubsetDecides, DisjointDecides, SplitGivesValues, NamespaceIsKept, QualifiedStays, QualifiedOnce};
 
 /// Texts, names, uids, literals and values are totally ordered, and the order finds no difference exactly between equal ones.
@@ -88,12 +89,13 @@ pub fn restricted_decide()
     ensures { RestrictedDecides }
 {}
 
-/// A written value is restricted, has no unknown, has the builder's form, and shows its type.
+/// A written value is restricted, has no unknown, has the builder's form, shows its type, and is the value of its expression.
 pub fn written_values_are_plain()
     ensures restricted { WrittenIsRestricted }
     ensures known { WrittenHasNoUnknown }
     ensures form { WrittenIsBuilt }
     ensures shown { WrittenShowsType }
+    ensures value { WrittenIsValue }
 {}
 
 /// Where a test decides equality, nothing is met again exactly where all are distinct, and what is found is what is met again first.
@@ -134,4 +136,16 @@ pub fn names_in_namespaces()
     ensures kept { NamespaceIsKept }
     ensures stays { QualifiedStays }
     ensures once { QualifiedOnce }
+{}
+
+/// Expressions are totally ordered by their shape, and the order finds no difference exactly between equal ones.
+pub fn shapes_tell_apart()
+    ensures order { IsLinear tree_cmp }
+    ensures equality { ShapesDecide }
+{}
+
+/// Under a fair table a value whose calls make it shows its type, and its calls are right ones.
+pub fn represented_values_are_right()
+    ensures result { RepresentedHasResult }
+    ensures calls { RepresentedIsValid }
 {}

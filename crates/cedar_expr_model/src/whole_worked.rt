@@ -5,26 +5,29 @@ ghost use Rattle.std.specs.Prelude.{◌≡◌, ℕ, ℤ, pos, negsuc, Bool, true
 ghost use Rattle.std.specs.declared.cmp.Ordering.TheVariants.{Less, Equal, Greater};
 ghost use Rattle.cedar_expr_model.specs.Whole.Value.{truth, long, text, entity, prim, set_of, record_of, extension, no_values, value, no_fields, field, field_of, values_list};
 ghost use Rattle.cedar_expr_model.specs.Whole.Order.{text_cmp, name_order, uid_order, literal_cmp, value_cmp, value_eq};
-ghost use Rattle.cedar_expr_model.specs.Whole.Canonical.{is_canonical, are_rising, set_made, members_made, inserted, is_member, is_subset, is_disjoint};
+ghost use Rattle.cedar_expr_model.specs.Whole.Canonical.{Same, is_canonical, are_rising, set_made, members_made, inserted, is_member, is_subset, is_disjoint};
 ghost use Rattle.cedar_expr_model.specs.Whole.Records.{in_order, names_rise, first_of, last_of, record_made};
 ghost use Rattle.cedar_expr_model.specs.Whole.Repeats.{repeated_name};
-ghost use Rattle.cedar_expr_model.specs.Whole.Pattern.{character, wildcard, matches};
+ghost use Rattle.cedar_expr_model.specs.Whole.Pattern.{character, wildcard, matches, matches_text};
 ghost use Rattle.cedar_expr_model.specs.Name.{is_word, is_identifier};
-ghost use Rattle.cedar_expr_model.specs.Whole.Tree.{principal, action, resource, context, principal_slot, resource_slot, bool_core, long_core, string_core, set_core, record_core, entity_core, extension_core, negation, minus, is_empty, equal, less, plus, is_in, get_tag, has_tag, lit, var, slot, unknown, choice, both, either, unary, binary, call, get_attr, has_attr, has_path, like, is_type, set_literal, record_literal, no_trees, tree, no_tree_fields, tree_field, nesting};
+ghost use Rattle.cedar_expr_model.specs.Whole.Tree.{contains_any, times, principal, action, resource, context, principal_slot, resource_slot, bool_core, long_core, string_core, set_core, record_core, entity_core, extension_core, negation, minus, is_empty, equal, less, plus, is_in, get_tag, has_tag, lit, var, slot, unknown, choice, both, either, unary, binary, call, get_attr, has_attr, has_path, like, is_type, set_literal, record_literal, no_trees, tree, no_tree_fields, tree_field, nesting};
 ghost use Rattle.cedar_expr_model.specs.Whole.Builder.{built, tree_builder, conjunction, disjunction, path_test};
-ghost use Rattle.cedar_expr_model.specs.Whole.BuilderForm.{is_built};
+ghost use Rattle.cedar_expr_model.specs.Whole.BuilderForm.{IsLawful, is_built};
 ghost use Rattle.cedar_expr_model.specs.Whole.Made.{bare, written, made_set, made, no_mades};
 ghost use Rattle.cedar_expr_model.specs.Whole.Substitution.{substituted, built_under, core_type_of, core_eq, fits_annotation, mismatch};
-ghost use Rattle.cedar_expr_model.specs.Whole.Restricted.{offence, is_restricted, variables, template_slots, if_then_else, and_operator, unary_operator, attribute_accesses};
-ghost use Rattle.cedar_expr_model.specs.Whole.Table.{signature_of, is_ordered, all_typed, takes_count, are_of_types, is_constructor};
+ghost use Rattle.cedar_expr_model.specs.Whole.Restricted.{offence, is_restricted, has_test, is_test, binary_operator, variables, template_slots, if_then_else, and_operator, unary_operator, attribute_accesses};
+ghost use Rattle.cedar_expr_model.specs.Whole.Table.{method_style, IsFair, signature_of, is_ordered, all_typed, takes_count, are_of_types, is_constructor};
 ghost use Rattle.cedar_expr_model.specs.Whole.Repeats.{table_fault, repeated_function, repeated_constructor};
 ghost use Rattle.cedar_expr_model.specs.Whole.Evident.{evident_type, has_valid_calls};
 ghost use Rattle.cedar_expr_model.specs.Whole.Parts.{subexpressions, unknowns, slots, is_projectable, is_ref, is_slot, is_unknown, is_ref_set};
 ghost use Rattle.cedar_expr_model.specs.Whole.Unknowns.{has_unknown};
 ghost use Rattle.cedar_expr_model.specs.Whole.Records.{record_tree};
+ghost use Rattle.cedar_expr_model.specs.Whole.Shape.{tree_cmp, tree_eq, core_cmp, annotation_cmp, element_cmp, var_cmp, slot_cmp, unary_cmp, binary_cmp};
+ghost use Rattle.cedar_expr_model.specs.Whole.Texts.{var_text, unary_text, binary_text, core_text, feature_text, pattern_text};
+ghost use Rattle.cedar_expr_model.specs.Whole.Represented.{IsRepresented};
 ghost use Rattle.cedar_expr_model.specs.Whole.Names.{is_unqualified, namespace_of, within, qualified, possibilities, cedar_name, unreserved_read, name_given, reserved_given, nothing_given};
-ghost use Rattle.cedar_expr_model.specs.Whole.ValueParts.{uids_in, set_of_literals, value_of_tree, known, residual, split, values_alone, with_residuals};
-ghost use Rattle.cedar_expr_model.specs.Whole.Worked.{plain, user, doc, rank_name, label_name, deep_name, false_name, alice, bob, number, word, flag, one_two, two_one_one, falling, rising, a_then_b, b_then_a, f_to_r, f_and_more, truth_lit, number_lit, named, named_as, two_unknowns, unrestricted, with_principal, rank_of, rank_of_two, lost_call, made_number, made_truth, made_rank, only_x, x_and_y, nothing_bound, number_for_truth, unknown_as, rank_function, label_function, join_function, unknown_function, other_rank_function, other_label_function, worked_table, typed_table};
+ghost use Rattle.cedar_expr_model.specs.Whole.ValueParts.{uids_in, set_of_literals, value_of_tree, is_plain, known, residual, split, values_alone, with_residuals};
+ghost use Rattle.cedar_expr_model.specs.Whole.Worked.{plain, user, doc, rank_name, label_name, deep_name, false_name, alice, bob, number, word, flag, one_two, two_one_one, falling, rising, a_then_b, b_then_a, f_to_r, f_and_more, truth_lit, number_lit, named, named_as, two_unknowns, unrestricted, with_principal, rank_of, rank_of_two, lost_call, made_number, made_truth, made_rank, only_x, x_and_y, nothing_bound, number_for_truth, unknown_as, rank_function, label_function, join_function, unknown_function, other_rank_function, other_label_function, worked_table, typed_table, unfair_table, variable_builder, true_rank, feigned_rank};
 
 /// Texts, names and uids in order: a beginning comes first, and names of one text are told apart by their parts.
 pub fn worked_orders()
@@ -71,9 +74,15 @@ pub fn worked_sets()
     ensures mixed { set_made (word (codes "x") ∷ number 3 ∷ flag true ∷ []) ≡ set_of (value (flag true) (value (number 3) (value (word (codes "x")) no_values))) }
     ensures empty { set_made [] ≡ set_of no_values }
     ensures back { values_list (members_made (number 2 ∷ number 1 ∷ [])) ≡ number 1 ∷ number 2 ∷ [] }
+    ensures first { inserted (number 0) rising ≡ value (number 0) rising }
+    ensures between { inserted (number 2) (value (number 1) (value (number 3) no_values)) ≡ value (number 1) (value (number 2) (value (number 3) no_values)) }
+    ensures already { inserted (number 2) rising ≡ rising }
+    ensures members { values_list rising ≡ number 1 ∷ number 2 ∷ [] }
+    ensures no_members { values_list no_values ≡ [] }
     ensures canonical { is_canonical one_two ≡ true }
     ensures not_rising { is_canonical (set_of falling) ≡ false }
     ensures twice { are_rising (value (number 1) (value (number 1) no_values)) ≡ false }
+    ensures member_falls { is_canonical (set_of (value (set_of falling) no_values)) ≡ false }
     ensures inside { is_canonical (record_of (field (codes "a") (set_of falling) no_fields)) ≡ false }
     ensures names_fall { is_canonical (record_of b_then_a) ≡ false }
     ensures names_rise { is_canonical (record_of a_then_b) ≡ true }
@@ -108,6 +117,9 @@ pub fn worked_records()
     ensures first { first_of (codes "a") ((codes "a", number 1) ∷ (codes "a", number 2) ∷ []) ≡ Some (number 1) }
     ensures last { last_of (codes "a") ((codes "a", number 1) ∷ (codes "a", number 2) ∷ []) ≡ Some (number 2) }
     ensures neither { last_of (codes "b") ((codes "a", number 1) ∷ (codes "a", number 2) ∷ []) ≡ None }
+    ensures in_order { in_order ((codes "b", number 2) ∷ (codes "a", number 1) ∷ (codes "b", number 3) ∷ []) ≡ (codes "a", number 1) ∷ (codes "b", number 3) ∷ [] }
+    ensures first_of_none { first_of (codes "c") ((codes "a", number 1) ∷ []) ≡ None }
+    ensures first_later { first_of (codes "b") ((codes "a", number 1) ∷ (codes "b", number 2) ∷ []) ≡ Some (number 2) }
     ensures repeats { repeated_name ((codes "a", number 1) ∷ (codes "b", number 1) ∷ (codes "b", number 1) ∷ (codes "a", number 1) ∷ []) ≡ Some (codes "b") }
     ensures equal_values { repeated_name ((codes "a", number 1) ∷ (codes "a", number 1) ∷ []) ≡ Some (codes "a") }
     ensures no_repeat { repeated_name ((codes "a", number 1) ∷ (codes "b", number 1) ∷ []) ≡ None }
@@ -146,6 +158,8 @@ pub fn worked_building()
     ensures form { is_built (both (var principal) (truth_lit false)) ≡ true }
     ensures one_step_form { is_built (has_path (var principal) (codes "x") []) ≡ false }
     ensures deep_form { is_built (unary negation (either (truth_lit true) (truth_lit true))) ≡ false }
+    ensures repeated_field { record_tree ((codes "a", var principal) ∷ (codes "a", number_lit 1) ∷ []) ≡ record_tree ((codes "a", number_lit 1) ∷ []) }
+    ensures no_fields { record_tree [] ≡ record_literal no_tree_fields }
     ensures record { record_tree ((codes "b", var principal) ∷ (codes "a", number_lit 1) ∷ []) ≡ with_principal }
 {}
 
@@ -168,6 +182,10 @@ pub fn worked_substitution()
     ensures record { substituted (x_and_y (made_truth true) (made_truth true)) two_unknowns ≡ record_literal (tree_field (codes "a") (truth_lit true) (tree_field (codes "b") (truth_lit true) no_tree_fields)) }
     ensures two { substituted (x_and_y (made_truth false) (made_truth true)) (either (named (codes "x")) (named (codes "y"))) ≡ truth_lit true }
     ensures written { written (made_set (made made_rank (made (made_number 2) no_mades))) ≡ set_literal (tree (rank_of (codes "7")) (tree (number_lit 2) no_trees)) }
+    ensures written_number { written (made_number 1) ≡ number_lit 1 }
+    ensures written_rank { written made_rank ≡ rank_of (codes "7") }
+    ensures bare_number { bare (made_number 1) ≡ number 1 }
+    ensures bare_rank { bare made_rank ≡ extension rank_name (0 ∷ 7 ∷ []) }
     ensures bare { bare (made_set (made made_rank (made (made_number 2) no_mades))) ≡ set_of (value (extension rank_name (0 ∷ 7 ∷ [])) (value (number 2) no_values)) }
 {}
 
@@ -214,8 +232,11 @@ pub fn worked_restricted()
 pub fn worked_tables()
     ensures found { signature_of worked_table label_name ≡ Some label_function }
     ensures not_found { signature_of worked_table doc ≡ None }
+    ensures found_last { signature_of worked_table unknown_function.name ≡ Some unknown_function }
     ensures ordered { is_ordered worked_table rank_name ≡ true }
     ensures not_ordered { is_ordered worked_table label_name ≡ false }
+    ensures not_ordered_name { is_ordered worked_table (plain (codes "ranks")) ≡ false }
+    ensures none_is_typed { all_typed (record worked_table { functions = [] }) ≡ true }
     ensures all { all_typed typed_table ≡ true }
     ensures not_all { all_typed worked_table ≡ false }
     ensures one { takes_count rank_function 1 ≡ true }
@@ -227,7 +248,11 @@ pub fn worked_tables()
     ensures last_type { are_of_types join_function.parameters (word (codes "x") ∷ number 1 ∷ word (codes "y") ∷ []) ≡ false }
     ensures first_type { are_of_types join_function.parameters (number 1 ∷ number 1 ∷ []) ≡ false }
     ensures constructor { is_constructor rank_function ≡ true }
-    ensures method { is_constructor label_function ≡ false }
+    ensures method { is_constructor (record rank_function { style = method_style }) ≡ false }
+    ensures variadic_text { is_constructor (record rank_function { is_variadic = true }) ≡ false }
+    ensures plain_result { is_constructor (record rank_function { result = Some string_core }) ≡ false }
+    ensures other_argument { is_constructor (record rank_function { parameters = long_core ∷ [] }) ≡ false }
+    ensures of_a_rank { is_constructor label_function ≡ false }
     ensures two_texts { is_constructor join_function ≡ false }
     ensures no_result { is_constructor unknown_function ≡ false }
 {}
@@ -239,6 +264,7 @@ pub fn worked_table_faults()
     ensures two_constructors { table_fault (rank_function ∷ other_rank_function ∷ []) ≡ Some (repeated_constructor (extension_core rank_name)) }
     ensures both { table_fault (rank_function ∷ other_rank_function ∷ label_function ∷ other_label_function ∷ []) ≡ Some (repeated_function label_name) }
     ensures same_twice { table_fault (rank_function ∷ rank_function ∷ []) ≡ Some (repeated_function rank_name) }
+    ensures a_method_too { table_fault (rank_function ∷ record other_rank_function { style = method_style } ∷ []) ≡ None }
     ensures empty { table_fault [] ≡ None }
 {}
 
@@ -272,6 +298,8 @@ pub fn worked_parts()
     ensures unknowns { unknowns (both two_unknowns (named_as (codes "x") bool_core)) ≡ unknown_as (codes "x") bool_core ∷ unknown_as (codes "y") bool_core ∷ unknown_as (codes "x") bool_core ∷ [] }
     ensures no_unknowns { unknowns unrestricted ≡ [] }
     ensures slots { slots (both (slot principal_slot) (both (slot resource_slot) (slot principal_slot))) ≡ principal_slot ∷ resource_slot ∷ principal_slot ∷ [] }
+    ensures no_slots { slots unrestricted ≡ [] }
+    ensures one_slot { slots (slot resource_slot) ≡ resource_slot ∷ [] }
     ensures has { has_unknown (unary negation two_unknowns) ≡ true }
     ensures has_not { has_unknown unrestricted ≡ false }
     ensures has_in_call { has_unknown (call rank_name (tree (named (codes "t")) no_trees)) ≡ true }
@@ -289,6 +317,8 @@ pub fn worked_parts()
     ensures one_ref { is_ref_set (lit (entity alice)) ≡ false }
     ensures is_a_slot { is_slot (slot resource_slot) ≡ true }
     ensures is_no_slot { is_slot (var resource) ≡ false }
+    ensures ref_is_no_slot { is_slot (lit (entity alice)) ≡ false }
+    ensures not_here { is_unknown (unary negation (named (codes "x"))) ≡ false }
     ensures is_an_unknown { is_unknown (named (codes "x")) ≡ true }
     ensures is_no_unknown { is_unknown (var context) ≡ false }
 {}
@@ -304,6 +334,8 @@ pub fn worked_value_parts()
     ensures one_uid { uids_in (prim (entity alice)) ≡ alice ∷ [] }
     ensures no_uids { uids_in one_two ≡ [] }
     ensures literals { set_of_literals (long (pos 2) ∷ long (pos 1) ∷ long (pos 2) ∷ []) ≡ one_two }
+    ensures no_literals { set_of_literals [] ≡ set_of no_values }
+    ensures mixed_literals { set_of_literals (entity alice ∷ truth true ∷ []) ≡ set_of (value (flag true) (value (prim (entity alice)) no_values)) }
     ensures all_known { split (known (made_number 2) ∷ known (made_number 1) ∷ []) ≡ values_alone (made_number 2 ∷ made_number 1 ∷ []) }
     ensures one_residual { split (known (made_number 2) ∷ residual (named (codes "x")) ∷ known (made_number 1) ∷ []) ≡ with_residuals (number_lit 2 ∷ named (codes "x") ∷ number_lit 1 ∷ []) }
     ensures empty { split [] ≡ values_alone [] }
@@ -319,6 +351,8 @@ pub fn worked_namespaces()
     ensures no_namespace_of { namespace_of user ≡ None }
     ensures unqualified { is_unqualified user ≡ true }
     ensures is_qualified { is_unqualified deep_name ≡ false }
+    ensures deep_namespace { namespace_of (within deep_name (codes "c")) ≡ Some deep_name }
+    ensures false_is_unqualified { is_unqualified false_name ≡ true }
     ensures two_meanings { possibilities (Some doc) user ≡ within doc (codes "User") ∷ user ∷ [] }
     ensures one_meaning { possibilities (Some doc) deep_name ≡ deep_name ∷ [] }
     ensures empty_namespace { possibilities None user ≡ user ∷ [] }
@@ -329,4 +363,96 @@ pub fn worked_namespaces()
     ensures any_word { is_word (codes "if") ≡ true }
     ensures identifier { is_identifier (codes "iff") ≡ true }
     ensures no_word { is_word (codes "a b") ≡ false }
+{}
+
+/// Patterns on texts go by characters, not by bytes: U+00E9 is one character of two bytes.
+pub fn worked_text_patterns()
+    ensures between { matches_text f_to_r (codes "foo bar") ≡ true }
+    ensures other_end { matches_text f_to_r (codes "foo bars") ≡ false }
+    ensures one_character { matches_text (character 233 ∷ []) (195 ∷ 169 ∷ []) ≡ true }
+    ensures two_bytes { matches_text (character 195 ∷ wildcard ∷ []) (195 ∷ 169 ∷ []) ≡ false }
+{}
+
+/// Expressions in order by their shape: by kind, then by the first part that differs.
+pub fn worked_shapes()
+    ensures kinds { tree_cmp (number_lit 9) (var principal) ≡ Less }
+    ensures later_kind { tree_cmp with_principal (set_literal no_trees) ≡ Greater }
+    ensures variables { tree_cmp (var context) (var action) ≡ Greater }
+    ensures annotations { tree_cmp (named (codes "x")) (named_as (codes "x") bool_core) ≡ Less }
+    ensures operators { tree_cmp (unary negation (var resource)) (unary minus (var principal)) ≡ Less }
+    ensures shorter { tree_cmp (set_literal (tree (number_lit 1) no_trees)) (set_literal (tree (number_lit 1) (tree (number_lit 0) no_trees))) ≡ Less }
+    ensures names { tree_cmp (record_literal (tree_field (codes "b") (number_lit 0) no_tree_fields)) (record_literal (tree_field (codes "a") (number_lit 1) no_tree_fields)) ≡ Greater }
+    ensures paths { tree_cmp (has_path (var principal) (codes "a") (codes "b" ∷ [])) (has_path (var principal) (codes "a") (codes "c" ∷ [])) ≡ Less }
+    ensures same { tree_eq (both (var principal) unrestricted) (both (var principal) unrestricted) ≡ true }
+    ensures order_matters { tree_eq (both (var principal) (var action)) (both (var action) (var principal)) ≡ false }
+    ensures kind_matters { tree_eq (both (var principal) (var action)) (either (var principal) (var action)) ≡ false }
+    ensures same_value { tree_eq (set_literal (tree (number_lit 1) no_trees)) (set_literal (tree (number_lit 1) (tree (number_lit 1) no_trees))) ≡ false }
+    ensures core_types { core_cmp record_core (entity_core user) ≡ Less }
+    ensures core_names { core_cmp (entity_core user) (entity_core doc) ≡ Greater }
+    ensures no_annotation { annotation_cmp None (Some bool_core) ≡ Less }
+    ensures elements { element_cmp (character 255) wildcard ≡ Less }
+    ensures slots { slot_cmp principal_slot resource_slot ≡ Less }
+    ensures binary_operators { binary_cmp equal less ≡ Less }
+    ensures unary_operators { unary_cmp is_empty is_empty ≡ Equal }
+{}
+
+/// Values in which no extension value stands.
+pub fn worked_plain()
+    ensures number { is_plain (made_number 1) ≡ true }
+    ensures extension { is_plain made_rank ≡ false }
+    ensures inside { is_plain (made_set (made (made_number 1) (made made_rank no_mades))) ≡ false }
+{}
+
+/// Another lawful builder: whether a variable or an unknown stands in the expression.
+pub fn worked_another_builder()
+    ensures lawful { IsLawful variable_builder }
+    ensures a_variable { built variable_builder unrestricted ≡ true }
+    ensures no_variable { built variable_builder (unary negation (rank_of (codes "7"))) ≡ false }
+    ensures an_unknown { built variable_builder two_unknowns ≡ true }
+    ensures bound { built_under variable_builder (x_and_y (made_truth true) made_rank) two_unknowns ≡ false }
+    ensures half_bound { built_under variable_builder (only_x (made_truth true)) two_unknowns ≡ true }
+    ensures under_nothing { built_under variable_builder nothing_bound (truth_lit true) ≡ false }
+{}
+
+/// Equality as of sets: in any order and however often a member is written.
+pub fn worked_sameness()
+    ensures turned { Same (set_of falling) (set_of rising) }
+    ensures twice { Same (set_of (value (number 1) (value (number 1) no_values))) (set_of (value (number 1) no_values)) }
+    ensures records { Same (record_of b_then_a) (record_of a_then_b) }
+    ensures fewer { ¬ (Same (set_of rising) (set_of (value (number 1) no_values))) }
+    ensures kinds { ¬ (Same (set_of no_values) (record_of no_fields)) }
+{}
+
+/// A table whose functions keep to their result types is fair, and one whose constructor gives a number isn't.
+pub fn worked_fairness()
+    ensures fair { IsFair typed_table }
+    ensures unfair { ¬ (IsFair unfair_table) }
+{}
+
+/// A value is represented where its calls give it.
+pub fn worked_represented()
+    ensures rank { IsRepresented typed_table true_rank }
+    ensures other_key { ¬ (IsRepresented typed_table feigned_rank) }
+    ensures number { IsRepresented typed_table (made_number 1) }
+{}
+
+/// Texts of variables, operators, core types, features and patterns.
+pub fn worked_texts()
+    ensures variable { var_text resource ≡ codes "resource" }
+    ensures other_variable { var_text context ≡ codes "context" }
+    ensures minus { unary_text minus ≡ codes "-" }
+    ensures difference { binary_text is_in ≡ codes "in" }
+    ensures not { unary_text negation ≡ codes "!" }
+    ensures empty { unary_text is_empty ≡ codes "isEmpty" }
+    ensures product { binary_text times ≡ codes "*" }
+    ensures any { binary_text contains_any ≡ codes "containsAny" }
+    ensures set { core_text set_core ≡ codes "set" }
+    ensures an_entity { core_text (entity_core deep_name) ≡ codes "(entity of type `a::b`)" }
+    ensures an_extension { core_text (extension_core rank_name) ≡ codes "rank" }
+    ensures slots { feature_text template_slots ≡ codes "template slots" }
+    ensures has { feature_text has_test ≡ codes "'has'" }
+    ensures operator { feature_text (binary_operator plus) ≡ codes "+" }
+    ensures pattern { pattern_text f_to_r ≡ codes "f**r" }
+    ensures star { pattern_text (character 42 ∷ wildcard ∷ []) ≡ 92 ∷ 42 ∷ 42 ∷ [] }
+    ensures quote { pattern_text (character 34 ∷ []) ≡ 92 ∷ 34 ∷ [] }
 {}

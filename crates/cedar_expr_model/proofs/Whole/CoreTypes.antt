@@ -1,11 +1,11 @@
 -- The tests of core types and annotations, and the type that a written value shows.
-use Rattle.std.proofs.Common.{◌≡◌, Bool, true, false, Option, Some, None, List, [], ◌∷◌, refl, sym, ap, ◌∙◌, Decides}
+use Rattle.std.proofs.Common.{◌≡◌, Option, Some, None, refl, ap, Decides}
 use Rattle.std.proofs.lemmas.Bool.Decides.{Decides-like}
 use Rattle.cedar_expr_model.specs.Whole.Value.{V}
 use Rattle.cedar_expr_model.specs.Whole.Tree.{CoreType, bool_core, long_core, string_core, set_core, record_core, entity_core, extension_core}
 use Rattle.cedar_expr_model.specs.Whole.Substitution.{core_type_of, core_eq, fits_annotation}
 use Rattle.cedar_expr_model.specs.Whole.Made.{Made, made_prim, made_set, made_record, made_extension, bare, written}
-use Rattle.cedar_expr_model.specs.Whole.Table.{Table, signature_of}
+use Rattle.cedar_expr_model.specs.Whole.Table.{Table}
 use Rattle.cedar_expr_model.specs.Whole.Evident.{evident_type, HasResult}
 use Rattle.cedar_expr_model.specs.Whole.Laws.{IsOfType}
 use Rattle.cedar_expr_model.proofs.Equality.{name_eq-Decides}

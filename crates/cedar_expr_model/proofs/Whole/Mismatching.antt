@@ -7,8 +7,8 @@ use Rattle.cedar_expr_model.specs.Name.{Text}
 use Rattle.cedar_expr_model.specs.Whole.Tree.{CoreType, Tree, lit, var, slot, unknown, choice, both, either, unary, binary, call, get_attr, has_attr, has_path, like, is_type, set_literal, record_literal, Trees, no_trees, tree, TreeFields, no_tree_fields, tree_field}
 use Rattle.cedar_expr_model.specs.Whole.Made.{Made, bare}
 use Rattle.cedar_expr_model.specs.Whole.Substitution.{Bindings, core_type_of, core_eq, Mismatch, mismatch_at, mismatch, mismatch_among, mismatch_in_fields, first_of_two}
-use Rattle.cedar_expr_model.specs.Whole.Unknowns.{EachUnknown, EachUnknownAmong, EachUnknownInFields, FitsBound, FitsAll}
-use Rattle.cedar_expr_model.specs.Whole.Parts.{subexpressions, subexpressions_among, subexpressions_in_fields, Unknown, unknown_here, unknowns}
+use Rattle.cedar_expr_model.specs.Whole.Unknowns.{EachUnknown, EachUnknownAmong, EachUnknownInFields, FitsBound}
+use Rattle.cedar_expr_model.specs.Whole.Parts.{subexpressions, subexpressions_among, subexpressions_in_fields, Unknown, unknown_here}
 use Rattle.cedar_expr_model.specs.Whole.TreeLaws.{first_found}
 use Rattle.cedar_expr_model.proofs.Whole.CoreTypes.{core_eq-Decides}
 

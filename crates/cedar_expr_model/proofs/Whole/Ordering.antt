@@ -1,13 +1,13 @@
 -- Pairs in the order of their names, and the records that are made of them.
-use Rattle.std.proofs.Common.{◌≡◌, Bool, true, false, cond, ◌&&◌, List, [], ◌∷◌, Option, Some, None, bytes_eq, refl, sym, ap, ◌∙◌, subst}
+use Rattle.std.proofs.Common.{◌≡◌, Bool, true, false, cond, List, [], ◌∷◌, Option, Some, None, bytes_eq, refl, sym, ap, ◌∙◌}
 use Rattle.std.specs.List.{list_all}
-use Rattle.std.specs.Ordering.{match_ordering, is_lt, ordering_reverse}
+use Rattle.std.specs.Ordering.{match_ordering}
 use Rattle.std.proofs.lemmas.Slice.Eq.{bytes_eq-Decides}
 use Rattle.std.proofs.lemmas.Cmp.{tied_itself}
 use Rattle.std.specs.declared.cmp.Ordering.{Ordering}
 use Rattle.std.specs.declared.cmp.Ordering.TheVariants.{Less, Equal, Greater}
 use Rattle.cedar_expr_model.specs.Name.{Text}
-use Rattle.cedar_expr_model.specs.Whole.Value.{V, Fields, no_fields, field, field_of}
+use Rattle.cedar_expr_model.specs.Whole.Value.{V, field_of}
 use Rattle.cedar_expr_model.specs.Whole.Order.{text_cmp}
 use Rattle.cedar_expr_model.specs.Whole.Canonical.{is_canonical, have_canonical, is_before}
 use Rattle.cedar_expr_model.specs.Whole.Substitution.{first_of_two}

@@ -1,7 +1,7 @@
 -- The test of a pattern decides whether it matches.
-use Rattle.std.proofs.Common.{◌≡◌, ℕ, Bool, true, false, ◌&&◌, ◌||◌, ◌==◌, List, [], ◌∷◌, ◌++◌, refl, sym, ap, ◌∙◌, subst, ◌⊎◌, inl, inr, ⊎_elim, Decides}
+use Rattle.std.proofs.Common.{◌≡◌, ℕ, Bool, true, false, ◌||◌, List, [], ◌∷◌, ◌++◌, refl, sym, subst, ◌⊎◌, inl, inr, ⊎_elim, Decides}
 use Rattle.std.proofs.lemmas.Bool.Decides.{Decides-and, Decides-eqb}
-use Rattle.cedar_expr_model.specs.Whole.Pattern.{Pattern, Element, character, wildcard, Matches, matches, after_some}
+use Rattle.cedar_expr_model.specs.Whole.Pattern.{Pattern, character, wildcard, Matches, matches, after_some}
 
 -- what is left after some beginning of the characters
 abbrev SomeRest : (List ℕ → Type 0) → List ℕ → Type 0

@@ -1,9 +1,9 @@
 -- What is met again in a list, and which fault a list of functions has.
-use Rattle.std.proofs.Common.{◌≡◌, Bool, true, false, cond, List, [], ◌∷◌, ◌++◌, map, Contains, Option, Some, None, Decides, append_assoc, refl, sym, ap, ◌∙◌, subst, ⊎_elim, option_map}
+use Rattle.std.proofs.Common.{◌≡◌, Bool, true, false, cond, List, [], ◌∷◌, ◌++◌, Contains, Option, Some, None, Decides, append_assoc, refl, sym, ap, ◌∙◌, subst, ⊎_elim, option_map}
 use Rattle.std.specs.Prelude.{◌↔◌}
 use Rattle.std.specs.List.{list_any, filter_map}
 use Rattle.std.proofs.lemmas.List.Elements.{Contains-append_left, Contains-append_right, Contains-append_cases}
-use Rattle.cedar_expr_model.specs.Name.{Text, Name, name_eq}
+use Rattle.cedar_expr_model.specs.Name.{Name, name_eq}
 use Rattle.cedar_expr_model.specs.Whole.Tree.{CoreType}
 use Rattle.cedar_expr_model.specs.Whole.Substitution.{core_eq, first_of_two}
 use Rattle.cedar_expr_model.specs.Whole.Table.{Signature}

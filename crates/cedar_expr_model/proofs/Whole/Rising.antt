@@ -1,13 +1,13 @@
 -- Rising lists of values: what stands in them, and that two with the same members are one.
-use Rattle.std.proofs.Common.{◌≡◌, ℕ, Bool, true, false, ◌&&◌, refl, sym, ap, ◌∙◌, subst, ◌⊎◌, inl, inr, ⊎_elim}
+use Rattle.std.proofs.Common.{◌≡◌, true, false, refl, sym, ap, ◌∙◌, ◌⊎◌, inl, inr, ⊎_elim}
 use Rattle.std.specs.Bool.{Decides}
-use Rattle.std.specs.Ordering.{match_ordering, is_lt, is_gt}
+use Rattle.std.specs.Ordering.{match_ordering, is_lt}
 use Rattle.std.specs.declared.cmp.Ordering.{Ordering}
 use Rattle.std.specs.declared.cmp.Ordering.TheVariants.{Less, Equal, Greater}
 use Rattle.cedar_expr_model.specs.Whole.Value.{V, Vs, no_values, value}
 use Rattle.cedar_expr_model.specs.Whole.Order.{value_cmp}
-use Rattle.cedar_expr_model.specs.Whole.Canonical.{is_below, are_rising, is_canonical, are_canonical, inserted, is_member, Among}
-use Rattle.cedar_expr_model.proofs.Lists.{both_hold, hold_both}
+use Rattle.cedar_expr_model.specs.Whole.Canonical.{is_below, are_rising, is_member, Among}
+use Rattle.cedar_expr_model.proofs.Lists.{both_hold}
 use Rattle.cedar_expr_model.proofs.Whole.ValueOrder.{value_linear, value_exact, value_itself}
 
 -- what an answer of the order says, as the tests say it

@@ -1,16 +1,16 @@
 -- The set that is made of values: it rises, and it has those members and no other.
-use Rattle.std.proofs.Common.{◌≡◌, ℕ, Bool, true, false, ◌&&◌, List, [], ◌∷◌, Contains, refl, sym, ap, ◌∙◌, subst, ◌⊎◌, inl, inr, ⊎_elim, Decides}
+use Rattle.std.proofs.Common.{◌≡◌, true, ◌&&◌, List, [], ◌∷◌, Contains, refl, sym, ap, ◌∙◌, subst, ◌⊎◌, inl, inr, ⊎_elim, Decides}
 use Rattle.std.specs.Prelude.{◌↔◌}
 use Rattle.std.specs.List.{list_all}
-use Rattle.std.specs.Ordering.{match_ordering, is_lt}
+use Rattle.std.specs.Ordering.{match_ordering}
 use Rattle.std.specs.declared.cmp.Ordering.{Ordering}
 use Rattle.std.specs.declared.cmp.Ordering.TheVariants.{Less, Equal, Greater}
 use Rattle.cedar_expr_model.specs.Whole.Value.{V, Vs, no_values, value, set_of, values_list}
 use Rattle.cedar_expr_model.specs.Whole.Order.{value_cmp}
 use Rattle.cedar_expr_model.specs.Whole.Canonical.{is_below, are_rising, is_canonical, are_canonical, inserted, members_made, set_made, is_member, Among}
 use Rattle.cedar_expr_model.proofs.Lists.{both_hold, hold_both, contains_head, contains_tail, contains_cases, contains_none}
-use Rattle.cedar_expr_model.proofs.Whole.ValueOrder.{value_exact, value_itself}
-use Rattle.cedar_expr_model.proofs.Whole.Rising.{is_less, less_is, below_next, turned, below_each, member_Decides, same_rising}
+use Rattle.cedar_expr_model.proofs.Whole.ValueOrder.{value_exact}
+use Rattle.cedar_expr_model.proofs.Whole.Rising.{is_less, less_is, turned, member_Decides, same_rising}
 
 -- with one more it still rises
 below_inserted : (u v : V) (ws : Vs) → value_cmp u v ≡ Less → is_below u ws ≡ true → is_below u (inserted v ws) ≡ true

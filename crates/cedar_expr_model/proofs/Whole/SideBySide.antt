@@ -1,14 +1,13 @@
 -- Sets side by side, lists that are split, and names in namespaces.
-use Rattle.std.proofs.Common.{◌≡◌, Bool, true, false, not, ◌&&◌, List, [], ◌∷◌, ◌++◌, map, Option, Some, None, Decides, refl, sym, ap, ◌∙◌, subst, ◌⊎◌, inl, inr, ⊎_elim}
+use Rattle.std.proofs.Common.{◌≡◌, Bool, true, false, List, [], ◌∷◌, ◌++◌, map, Option, Some, None, Decides, refl, sym, ap, ◌∙◌, subst, inl, inr}
 use Rattle.std.specs.Prelude.{◌↔◌}
 use Rattle.std.proofs.lemmas.Bool.Decides.{Decides-and, Decides-like, Decides-not}
 use Rattle.cedar_expr_model.specs.Name.{Text, Name}
 use Rattle.cedar_expr_model.specs.Whole.Value.{V, Vs, no_values, value}
-use Rattle.cedar_expr_model.specs.Whole.Tree.{Tree}
-use Rattle.cedar_expr_model.specs.Whole.Canonical.{are_rising, is_member, is_subset, is_disjoint, Among}
+use Rattle.cedar_expr_model.specs.Whole.Canonical.{are_rising, is_subset, is_disjoint, Among}
 use Rattle.cedar_expr_model.specs.Whole.Made.{Made}
-use Rattle.cedar_expr_model.specs.Whole.Names.{is_unqualified, namespace_of, within, qualified, unqualified}
-use Rattle.cedar_expr_model.specs.Whole.ValueParts.{PartialValue, known, residual, joined_with, all_known, Split, values_alone, with_residuals, split, split_into}
+use Rattle.cedar_expr_model.specs.Whole.Names.{is_unqualified, namespace_of, within, qualified}
+use Rattle.cedar_expr_model.specs.Whole.ValueParts.{PartialValue, known, residual, joined_with, all_known, values_alone, split, split_into}
 use Rattle.cedar_expr_model.proofs.Reading.{name_of_all}
 use Rattle.cedar_expr_model.proofs.Whole.Rising.{member_Decides}
 

@@ -1,12 +1,12 @@
 -- Substitution: what stays where nothing is bound, what is left where all is, and that every lawful builder agrees.
-use Rattle.std.proofs.Common.{◌≡◌, Bool, true, false, ◌&&◌, ◌||◌, not, List, [], ◌∷◌, Option, Some, None, refl, sym, ap, ◌∙◌}
+use Rattle.std.proofs.Common.{◌≡◌, Bool, true, false, ◌||◌, List, [], ◌∷◌, Option, Some, None, refl, ap, ◌∙◌}
 use Rattle.cedar_expr_model.specs.Name.{Text}
-use Rattle.cedar_expr_model.specs.Whole.Value.{truth, long, text, entity, Literal}
+use Rattle.cedar_expr_model.specs.Whole.Value.{Literal}
 use Rattle.cedar_expr_model.specs.Whole.Tree.{CoreType, Tree, lit, var, slot, unknown, choice, both, either, unary, binary, call, get_attr, has_attr, has_path, like, is_type, set_literal, record_literal, Trees, no_trees, tree, TreeFields, no_tree_fields, tree_field}
-use Rattle.cedar_expr_model.specs.Whole.Builder.{Builder, built, built_list, built_fields, tree_builder, written_truth, folded, conjunction, disjunction, path_test, trees, tree_fields}
-use Rattle.cedar_expr_model.specs.Whole.BuilderForm.{IsLawful, is_built}
+use Rattle.cedar_expr_model.specs.Whole.Builder.{built, built_list, built_fields, tree_builder, written_truth, folded, conjunction, disjunction, path_test, trees, tree_fields}
+use Rattle.cedar_expr_model.specs.Whole.BuilderForm.{is_built}
 use Rattle.cedar_expr_model.specs.Whole.Made.{Made, made_prim, made_set, made_record, made_extension, Mades, no_mades, made, MadeFields, no_made_fields, made_field, written, writtens, written_fields, literals}
-use Rattle.cedar_expr_model.specs.Whole.Substitution.{Bindings, bound_or, built_under, substituted}
+use Rattle.cedar_expr_model.specs.Whole.Substitution.{Bindings, bound_or, substituted}
 use Rattle.cedar_expr_model.specs.Whole.Unknowns.{has_unknown, have_unknown, fields_have_unknown, EachUnknown, EachUnknownAmong, EachUnknownInFields, AllBound, NoneBound}
 use Rattle.cedar_expr_model.proofs.Whole.Building.{builder_with, makes_form, built_stays, written_built}
 

@@ -1,14 +1,13 @@
 -- The order of literals and values tells them apart, and goes on.
-use Rattle.std.proofs.Common.{◌≡◌, ◌<◌, ◌≤◌, arith, ℕ, ℤ, Bool, true, false, List, refl, sym, ap, ◌∙◌, subst, Decides}
-use Rattle.std.specs.Ordering.{nat_cmp, int_cmp, bool_cmp, ordering_then, ordering_reverse}
-use Rattle.std.specs.Cmp.{IsTotalOrder, bool_cmp_total, nat_cmp_is, Equal-is}
+use Rattle.std.proofs.Common.{◌≡◌, ◌<◌, ◌≤◌, arith, refl, sym, ap, Decides}
+use Rattle.std.specs.Ordering.{ordering_reverse}
+use Rattle.std.specs.Cmp.{bool_cmp_total, nat_cmp_is, Equal-is}
 use Rattle.std.specs.FinMap.{int_cmp-IsAntisymmetric}
 use Rattle.std.proofs.lemmas.Cmp.{int_cmp_total, tied_itself}
-use Rattle.std.specs.declared.cmp.Ordering.{Ordering}
-use Rattle.std.specs.declared.cmp.Ordering.TheVariants.{Less, Equal, Greater}
+use Rattle.std.specs.declared.cmp.Ordering.TheVariants.{Less, Equal}
 use Rattle.cedar_expr_model.specs.Name.{Text, Name}
 use Rattle.cedar_expr_model.specs.Whole.Value.{Literal, truth, long, text, entity, V, prim, set_of, record_of, extension, Vs, no_values, value, Fields, no_fields, field}
-use Rattle.cedar_expr_model.specs.Whole.Order.{text_cmp, name_order, uid_order, literal_rank, literal_cmp, rank, value_cmp, values_cmp, fields_cmp, value_eq}
+use Rattle.cedar_expr_model.specs.Whole.Order.{text_cmp, name_order, literal_rank, literal_cmp, rank, value_cmp, values_cmp, fields_cmp, value_eq}
 use Rattle.cedar_expr_model.specs.Whole.Laws.{IsLinear}
 use Rattle.cedar_expr_model.proofs.Whole.Linear.{Exact, own_reverse, both_equal, then_reverse, chain, linear, text_total, text_exact, bool_exact, name_total, name_exact, uid_total, uid_exact}
 
@@ -19,7 +18,7 @@ literal_back (text a) (text b) = text_total.antisymm a b
 literal_back (entity a) (entity b) = uid_total.antisymm a b
 literal_back p q = refl
 
-literal_exact : Exact literal_cmp
+pub literal_exact : Exact literal_cmp
 literal_exact (truth a) (truth b) e = ap truth (bool_exact a b e)
 literal_exact (long a) (long b) e = ap long (int_cmp-IsAntisymmetric a b e)
 literal_exact (text a) (text b) e = ap text (text_exact a b e)

@@ -3,7 +3,7 @@
 -- Rule: expressions (docs/RULES.md).
 use Rattle.std.specs.Prelude.{List, [], ◌∷◌, ◌&&◌, ◌||◌, Bool, Option, Some, None}
 use Rattle.cedar_expr_model.specs.Name.{Text, Name}
-use Rattle.cedar_expr_model.specs.Whole.Value.{Literal, truth, long, text, entity}
+use Rattle.cedar_expr_model.specs.Whole.Value.{Literal, truth}
 use Rattle.cedar_expr_model.specs.Whole.Pattern.{Pattern}
 use Rattle.cedar_expr_model.specs.Whole.Tree.{Var, SlotId, CoreType, UnaryOp, BinaryOp, Tree, lit, var, slot, unknown, choice, both, either, unary, binary, call, get_attr, has_attr, has_path, like, is_type, set_literal, record_literal, Trees, no_trees, tree, TreeFields, no_tree_fields, tree_field}
 
@@ -79,6 +79,7 @@ abbrev pub path_test : Tree → Text → List Text → Tree
 path_test t a [] = has_attr t a
 path_test t a (b ∷ bs) = has_path t a (b ∷ bs)
 
+-- lists as the children of an expression
 abbrev pub trees : List Tree → Trees
 trees [] = no_trees
 trees (t ∷ ts) = tree t (trees ts)

@@ -1,7 +1,7 @@
 -- What a lawful builder keeps to, and the form of the expressions that it makes.
 -- Rule: expressions (docs/RULES.md).
-use Rattle.std.specs.Prelude.{◌≡◌, ◌&&◌, ◌||◌, List, [], ◌∷◌, Bool, true, false, not, Option, Some, None, is_some}
-use Rattle.cedar_expr_model.specs.Name.{Text, Name}
+use Rattle.std.specs.Prelude.{◌≡◌, ◌&&◌, ◌||◌, List, [], ◌∷◌, Bool, true, false, not, is_some}
+use Rattle.cedar_expr_model.specs.Name.{Text}
 use Rattle.cedar_expr_model.specs.Whole.Value.{truth}
 use Rattle.cedar_expr_model.specs.Whole.Tree.{Tree, lit, var, slot, unknown, choice, both, either, unary, binary, call, get_attr, has_attr, has_path, like, is_type, set_literal, record_literal, Trees, no_trees, tree, TreeFields, no_tree_fields, tree_field}
 use Rattle.cedar_expr_model.specs.Whole.Builder.{Builder, written_truth}
@@ -16,6 +16,7 @@ pub record IsLawful {B : Type 0} (b : Builder B) : Type 0 where
 abbrev pub is_foldable : Tree → Tree → Bool
 is_foldable a b = is_some (written_truth a) && is_some (written_truth b)
 
+-- a path goes on behind its first attribute
 abbrev pub has_more : List Text → Bool
 has_more [] = false
 has_more (a ∷ as_) = true

@@ -1,13 +1,12 @@
 -- Canonical values: the members of a set rise, so none stands twice, and the names of a record rise. The sets that are made
 -- of any members are canonical.
 -- Rule: values and equality (docs/RULES.md).
-use Rattle.std.specs.Prelude.{◌≡◌, ◌&&◌, ℤ, List, [], ◌∷◌, Bool, true, false, not}
+use Rattle.std.specs.Prelude.{◌≡◌, ◌&&◌, List, [], ◌∷◌, Bool, true, false, not}
 use Rattle.std.specs.Ordering.{match_ordering, is_lt}
 use Rattle.std.proofs.Common.{◌⊎◌}
 use Rattle.cedar_expr_model.specs.Name.{Text}
-use Rattle.cedar_expr_model.specs.Uid.{Uid}
-use Rattle.cedar_expr_model.specs.Whole.Value.{V, prim, set_of, record_of, extension, Vs, no_values, value, Fields, no_fields, field, Literal}
-use Rattle.cedar_expr_model.specs.Whole.Order.{value_cmp, value_eq, text_cmp}
+use Rattle.cedar_expr_model.specs.Whole.Value.{V, prim, set_of, record_of, extension, Vs, no_values, value, Fields, no_fields, field}
+use Rattle.cedar_expr_model.specs.Whole.Order.{value_cmp, text_cmp}
 
 -- the value stands before the first of these
 abbrev pub is_below : V → Vs → Bool
@@ -24,6 +23,7 @@ abbrev pub are_rising : Vs → Bool
 are_rising no_values = true
 are_rising (value v vs) = is_below v vs && are_rising vs
 
+-- Canonical: the members of each set rise, and the names of each record.
 abbrev mutual
   pub is_canonical : V → Bool
   is_canonical (prim p) = true
@@ -49,6 +49,7 @@ abbrev pub members_made : List V → Vs
 members_made [] = no_values
 members_made (v ∷ vs) = inserted v (members_made vs)
 
+-- the same as a value
 abbrev pub set_made : List V → V
 set_made vs = set_of (members_made vs)
 
@@ -57,11 +58,12 @@ abbrev pub is_member : V → Vs → Bool
 is_member v no_values = false
 is_member v (value w ws) = match_ordering (value_cmp v w) false true (is_member v ws)
 
--- each is a member of the other list, or none is
+-- each is a member of the other list
 abbrev pub is_subset : Vs → Vs → Bool
 is_subset no_values ws = true
 is_subset (value v vs) ws = is_member v ws && is_subset vs ws
 
+-- none is a member of the other list
 abbrev pub is_disjoint : Vs → Vs → Bool
 is_disjoint no_values ws = true
 is_disjoint (value v vs) ws = not (is_member v ws) && is_disjoint vs ws

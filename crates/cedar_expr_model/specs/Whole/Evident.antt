@@ -1,13 +1,13 @@
 -- The core type that an expression shows by itself, and which calls a table takes.
 -- Rule: the evident type; extension functions (docs/RULES.md).
 use Rattle.std.specs.Prelude.{◌≡◌, ◌&&◌, ℕ, zero, suc, Bool, true, false, Option, Some, None, if◌then◌else◌}
-use Rattle.cedar_expr_model.specs.Name.{Text, Name}
-use Rattle.cedar_expr_model.specs.Whole.Value.{Literal, prim}
-use Rattle.cedar_expr_model.specs.Whole.Tree.{CoreType, bool_core, long_core, string_core, set_core, record_core, extension_core, UnaryOp, negation, minus, is_empty, BinaryOp, equal, less, less_or_equal, plus, difference, times, is_in, contains, contains_all, contains_any, get_tag, has_tag, Tree, lit, var, slot, unknown, choice, both, either, unary, binary, call, get_attr, has_attr, has_path, like, is_type, set_literal, record_literal, Trees, no_trees, tree, TreeFields, no_tree_fields, tree_field}
+use Rattle.cedar_expr_model.specs.Whole.Value.{prim}
+use Rattle.cedar_expr_model.specs.Whole.Tree.{CoreType, bool_core, long_core, set_core, record_core, extension_core, UnaryOp, negation, minus, is_empty, BinaryOp, plus, difference, times, get_tag, Tree, lit, var, slot, unknown, choice, both, either, unary, binary, call, get_attr, has_attr, has_path, like, is_type, set_literal, record_literal, Trees, no_trees, tree, TreeFields, no_tree_fields, tree_field}
 use Rattle.cedar_expr_model.specs.Whole.Substitution.{core_type_of, core_eq}
 use Rattle.cedar_expr_model.specs.Whole.Made.{Made, made_extension}
 use Rattle.cedar_expr_model.specs.Whole.Table.{Table, Signature, signature_of, takes_count}
 
+-- a negation and the test of emptiness are truth values, a minus is a whole number
 abbrev pub unary_core : UnaryOp → CoreType
 unary_core negation = bool_core
 unary_core minus = long_core
@@ -27,6 +27,7 @@ agreed (Some a) (Some b) = if core_eq a b then Some a else None
 agreed (Some a) None = None
 agreed None b = None
 
+-- the result type of a function, if there is such a function and it has one
 abbrev pub result_of : Option Signature → Option CoreType
 result_of None = None
 result_of (Some s) = s.result
@@ -57,6 +58,7 @@ abbrev pub HasResult : Table → Made → Type 0
 HasResult x (made_extension n k f ps) = result_of (signature_of x f) ≡ Some (extension_core n)
 HasResult x m = Unit {0}
 
+-- how many there are
 abbrev pub trees_length : Trees → ℕ
 trees_length no_trees = zero
 trees_length (tree t ts) = suc (trees_length ts)

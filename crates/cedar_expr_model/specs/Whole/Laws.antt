@@ -1,6 +1,6 @@
 -- What the laws of values and patterns say.
 -- Rule: values and equality; patterns (docs/RULES.md).
-use Rattle.std.specs.Prelude.{◌≡◌, ◌↔◌, ℕ, Bool, true, List, Contains, Option, Some, None}
+use Rattle.std.specs.Prelude.{◌≡◌, ◌↔◌, ℕ, true, List, Contains, Option, Some, None}
 use Rattle.std.specs.Bool.{Decides}
 use Rattle.std.specs.List.{list_all}
 use Rattle.std.specs.Cmp.{IsTotalOrder}
@@ -9,7 +9,7 @@ use Rattle.std.specs.declared.cmp.Ordering.TheVariants.{Equal}
 use Rattle.cedar_expr_model.specs.Name.{Text, Name, is_well_formed}
 use Rattle.cedar_expr_model.specs.Uid.{Uid}
 use Rattle.cedar_expr_model.specs.Order.{name_cmp, uid_cmp}
-use Rattle.cedar_expr_model.specs.Whole.Value.{V, set_of, Vs, Fields, values_list, field_of}
+use Rattle.cedar_expr_model.specs.Whole.Value.{V, Vs, Fields, values_list, field_of}
 use Rattle.cedar_expr_model.specs.Whole.Tree.{CoreType}
 use Rattle.cedar_expr_model.specs.Whole.Substitution.{core_type_of, core_eq, fits_annotation}
 use Rattle.cedar_expr_model.specs.Whole.Order.{name_order, uid_order, value_eq}

@@ -1,6 +1,6 @@
 -- What the laws of repeated names, records of pairs, sets side by side and names say.
 -- Rule: repeated names; extension functions; values and equality; identifiers and names (docs/RULES.md).
-use Rattle.std.specs.Prelude.{◌≡◌, ◌↔◌, Bool, true, false, List, [], ◌∷◌, map, Contains, Option, Some, None}
+use Rattle.std.specs.Prelude.{◌≡◌, ◌↔◌, Bool, true, false, List, map, Option, Some, None}
 use Rattle.std.specs.Bool.{Decides}
 use Rattle.std.specs.List.{list_all, filter_map}
 use Rattle.cedar_expr_model.specs.Name.{Text, Name}
@@ -10,7 +10,7 @@ use Rattle.cedar_expr_model.specs.Whole.Canonical.{is_canonical, are_rising, is_
 use Rattle.cedar_expr_model.specs.Whole.Made.{Made}
 use Rattle.cedar_expr_model.specs.Whole.Names.{namespace_of, within, qualified, is_unqualified}
 use Rattle.cedar_expr_model.specs.Whole.Records.{in_order, names_rise, first_of, last_of, fields, record_made}
-use Rattle.cedar_expr_model.specs.Whole.Repeats.{repeated, AreDistinct, IsMetAgain, TableFault, repeated_function, repeated_constructor, constructed, table_fault}
+use Rattle.cedar_expr_model.specs.Whole.Repeats.{repeated, AreDistinct, IsMetAgain, repeated_function, repeated_constructor, constructed, table_fault}
 use Rattle.cedar_expr_model.specs.Whole.Table.{Signature}
 use Rattle.cedar_expr_model.specs.Whole.ValueParts.{PartialValue, known, split, values_alone}
 

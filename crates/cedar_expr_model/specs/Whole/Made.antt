@@ -1,6 +1,6 @@
 -- Values with the calls that make their extension values, and the expressions that they are written as.
 -- Rule: values and equality; extension functions (docs/RULES.md).
-use Rattle.std.specs.Prelude.{List, [], ◌∷◌, Option, Some, None}
+use Rattle.std.specs.Prelude.{List, [], ◌∷◌}
 use Rattle.cedar_expr_model.specs.Name.{Text, Name}
 use Rattle.cedar_expr_model.specs.Whole.Value.{Literal, V, prim, set_of, record_of, extension, Vs, no_values, value, Fields, no_fields, field}
 use Rattle.cedar_expr_model.specs.Whole.Tree.{Tree, lit, call, set_literal, record_literal, Trees, no_trees, tree, TreeFields, no_tree_fields, tree_field}
@@ -37,6 +37,7 @@ abbrev mutual
   bare_fields no_made_fields = no_fields
   bare_fields (made_field a m fs) = field a (bare m) (bare_fields fs)
 
+-- literals as expressions
 abbrev pub literals : List Literal → Trees
 literals [] = no_trees
 literals (p ∷ ps) = tree (lit p) (literals ps)

@@ -3,10 +3,11 @@
 use Rattle.std.specs.Prelude.{List, [], ◌∷◌, ◌++◌, Bool, true, false, Option, Some, None, if◌then◌else◌}
 use Rattle.cedar_expr_model.specs.Name.{Text, Name, reserved, is_reserved, name_read, name_of_parts}
 
--- a name of one identifier
+-- whether a name is of one identifier
 abbrev pub is_unqualified : Name → Bool
 is_unqualified n = elim n.path as (λ p. Bool) [ [] ↦ true | p ∷ ps ↦ false ]
 
+-- the name of one identifier
 abbrev pub unqualified : Text → Name
 unqualified base = record { path = []; base = base }
 
@@ -38,9 +39,11 @@ pub data NameRead : Type 0 where
   reserved_given : Name → NameRead
   nothing_given : NameRead
 
+-- a name as it is read, told by whether it has the reserved part
 abbrev pub unreserved : Option Name → NameRead
 unreserved None = nothing_given
 unreserved (Some n) = if is_reserved n then reserved_given n else name_given n
 
+-- what a text gives where a name without a reserved part is due
 abbrev pub unreserved_read : Text → NameRead
 unreserved_read text = unreserved (name_read text)

@@ -1,9 +1,9 @@
 -- What an expression is made of: its subexpressions, slots and unknowns.
 -- Rule: parts of an expression (docs/RULES.md).
-use Rattle.std.specs.Prelude.{◌&&◌, ◌||◌, List, [], ◌∷◌, ◌++◌, Bool, true, false, Option, Some, None}
+use Rattle.std.specs.Prelude.{◌&&◌, List, [], ◌∷◌, ◌++◌, Bool, true, false, Option, Some, None}
 use Rattle.std.specs.List.{filter_map}
-use Rattle.cedar_expr_model.specs.Name.{Text, Name}
-use Rattle.cedar_expr_model.specs.Whole.Value.{Literal, truth, long, text, entity}
+use Rattle.cedar_expr_model.specs.Name.{Text}
+use Rattle.cedar_expr_model.specs.Whole.Value.{entity}
 use Rattle.cedar_expr_model.specs.Whole.Tree.{CoreType, SlotId, Tree, lit, var, slot, unknown, choice, both, either, unary, binary, call, get_attr, has_attr, has_path, like, is_type, set_literal, record_literal, Trees, no_trees, tree, TreeFields, no_tree_fields, tree_field}
 
 -- The subexpressions, each place once: the expression itself, and then those of its children, in order.
@@ -40,11 +40,12 @@ pub record Unknown : Type 0 where
   pub name : Text
   pub annotation : Option CoreType
 
--- the unknown, or the slot, that an expression is
+-- the unknown that an expression is
 abbrev pub unknown_here : Tree → Option Unknown
 unknown_here (unknown n a) = Some (record { name = n; annotation = a })
 unknown_here t = None
 
+-- the slot that an expression is
 abbrev pub slot_here : Tree → Option SlotId
 slot_here (slot s) = Some s
 slot_here t = None
@@ -88,6 +89,7 @@ abbrev pub is_ref : Tree → Bool
 is_ref (lit (entity u)) = true
 is_ref t = false
 
+-- an unknown, or a slot
 abbrev pub is_unknown : Tree → Bool
 is_unknown (unknown n a) = true
 is_unknown t = false
@@ -96,6 +98,7 @@ abbrev pub is_slot : Tree → Bool
 is_slot (slot s) = true
 is_slot t = false
 
+-- each is a reference
 abbrev pub are_refs : Trees → Bool
 are_refs no_trees = true
 are_refs (tree t ts) = is_ref t && are_refs ts

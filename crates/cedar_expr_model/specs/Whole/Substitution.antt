@@ -1,9 +1,8 @@
 -- Substitution of values for unknowns.
 -- Rule: substitution (docs/RULES.md).
-use Rattle.std.specs.Prelude.{◌≡◌, List, [], ◌∷◌, Bool, true, false, Option, Some, None, if◌then◌else◌}
-use Rattle.cedar_expr_model.specs.Name.{Text, Name, name_eq}
-use Rattle.cedar_expr_model.specs.Uid.{Uid}
-use Rattle.cedar_expr_model.specs.Whole.Value.{Literal, truth, long, text, entity, V, prim, set_of, record_of, extension}
+use Rattle.std.specs.Prelude.{Bool, true, false, Option, Some, None, if◌then◌else◌}
+use Rattle.cedar_expr_model.specs.Name.{Text, name_eq}
+use Rattle.cedar_expr_model.specs.Whole.Value.{truth, long, text, entity, V, prim, set_of, record_of, extension}
 use Rattle.cedar_expr_model.specs.Whole.Tree.{CoreType, bool_core, long_core, string_core, set_core, record_core, entity_core, extension_core, Tree, lit, var, slot, unknown, choice, both, either, unary, binary, call, get_attr, has_attr, has_path, like, is_type, set_literal, record_literal, Trees, no_trees, tree, TreeFields, no_tree_fields, tree_field}
 use Rattle.cedar_expr_model.specs.Whole.Builder.{Builder, built, tree_builder}
 use Rattle.cedar_expr_model.specs.Whole.Made.{Made, bare, written}
@@ -35,6 +34,7 @@ core_type_of (set_of vs) = set_core
 core_type_of (record_of fs) = record_core
 core_type_of (extension n k) = extension_core n
 
+-- equal core types
 abbrev pub core_eq : CoreType → CoreType → Bool
 core_eq bool_core bool_core = true
 core_eq long_core long_core = true

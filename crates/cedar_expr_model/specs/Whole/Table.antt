@@ -1,9 +1,9 @@
 -- Extension functions: signatures, and what a call of one answers.
 -- Rule: extension functions (docs/RULES.md).
-use Rattle.std.specs.Prelude.{◌≡◌, ◌&&◌, ◌==◌, ℕ, List, [], ◌∷◌, map, length, nat_le, Bool, true, false, not, Option, Some, None, if◌then◌else◌, is_some}
+use Rattle.std.specs.Prelude.{◌≡◌, ◌&&◌, ◌==◌, ℕ, List, [], ◌∷◌, length, nat_le, Bool, true, false, not, Option, Some, None, if◌then◌else◌, is_some}
 use Rattle.std.specs.List.{list_all, list_any}
 use Rattle.cedar_expr_model.specs.Name.{Text, Name, name_eq}
-use Rattle.cedar_expr_model.specs.Whole.Value.{Literal, V, prim, extension}
+use Rattle.cedar_expr_model.specs.Whole.Value.{V}
 use Rattle.cedar_expr_model.specs.Whole.Tree.{CoreType, string_core, extension_core}
 use Rattle.cedar_expr_model.specs.Whole.Substitution.{core_type_of, core_eq}
 
@@ -32,10 +32,12 @@ pub record Table : Type 0 where
   pub ordered : List Name
   pub answers : Name → List V → Called
 
+-- the first function of this name
 abbrev pub signature_among : Name → List Signature → Option Signature
 signature_among f [] = None
 signature_among f (s ∷ ss) = if name_eq f s.name then Some s else signature_among f ss
 
+-- the function of this name in a table
 abbrev pub signature_of : Table → Name → Option Signature
 signature_of t f = signature_among f t.functions
 
@@ -68,18 +70,21 @@ IsAnswer s (leaves n) = s.result ≡ None
 abbrev pub IsFair : Table → Type 0
 IsFair t = (f : Name) (s : Signature) (vs : List V) → signature_of t f ≡ Some s → takes_count s (length vs) ≡ true → are_of_types s.parameters vs ≡ true → IsAnswer s (t.answers f vs)
 
--- a constructor: a function, in function style, of one text, that gives an extension value
+-- the type of extension values
 abbrev pub is_extension_type : Option CoreType → Bool
 is_extension_type (Some (extension_core n)) = true
 is_extension_type t = false
 
+-- written as a function
 abbrev pub is_function_style : CallStyle → Bool
 is_function_style function_style = true
 is_function_style method_style = false
 
+-- one text is the argument
 abbrev pub takes_one_text : List CoreType → Bool
 takes_one_text (string_core ∷ []) = true
 takes_one_text ts = false
 
+-- a constructor: a function, in function style, of one text, that gives an extension value
 abbrev pub is_constructor : Signature → Bool
 is_constructor s = is_function_style s.style && (not s.is_variadic && (takes_one_text s.parameters && is_extension_type s.result))

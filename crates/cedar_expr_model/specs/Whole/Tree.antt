@@ -1,9 +1,8 @@
 -- Expressions as bare trees: kinds alone, with no place and no data.
 -- Rule: expressions; nesting (docs/RULES.md).
-use Rattle.std.specs.Prelude.{ℕ, suc, max, List, [], ◌∷◌, ◌&&◌, ◌||◌, Bool, true, false, Option, Some, None}
+use Rattle.std.specs.Prelude.{ℕ, suc, max, List, Option}
 use Rattle.cedar_expr_model.specs.Name.{Text, Name}
-use Rattle.cedar_expr_model.specs.Uid.{Uid}
-use Rattle.cedar_expr_model.specs.Whole.Value.{Literal, truth, long, text, entity}
+use Rattle.cedar_expr_model.specs.Whole.Value.{Literal}
 use Rattle.cedar_expr_model.specs.Whole.Pattern.{Pattern}
 
 -- the variables of a request

@@ -1,18 +1,22 @@
 -- What the laws of expressions say: builders, substitution, unknowns, parts, restricted expressions, evident types.
 -- Rule: expressions; substitution; parts of an expression; restricted expressions; the evident type (docs/RULES.md).
-use Rattle.std.specs.Prelude.{◌≡◌, ◌↔◌, ℕ, Bool, true, false, List, [], ◌∷◌, Contains, Option, Some, None}
+use Rattle.std.specs.Prelude.{◌≡◌, ◌↔◌, Bool, true, false, List, [], ◌∷◌, Option, Some, None}
 use Rattle.std.specs.Bool.{Decides}
 use Rattle.std.specs.List.{list_all, list_any}
-use Rattle.cedar_expr_model.specs.Whole.Tree.{CoreType, Tree}
+use Rattle.cedar_expr_model.specs.Whole.Tree.{Tree}
 use Rattle.cedar_expr_model.specs.Whole.Builder.{Builder, built, tree_builder}
 use Rattle.cedar_expr_model.specs.Whole.BuilderForm.{IsLawful, is_built}
 use Rattle.cedar_expr_model.specs.Whole.Made.{Made, bare, written}
-use Rattle.cedar_expr_model.specs.Whole.Substitution.{Bindings, built_under, substituted, core_type_of, Mismatch, mismatch, mismatch_at, first_of_two}
+use Rattle.cedar_expr_model.specs.Whole.Substitution.{Bindings, built_under, substituted, core_type_of, mismatch, mismatch_at, first_of_two}
 use Rattle.cedar_expr_model.specs.Whole.Unknowns.{has_unknown, EachUnknown, AllBound, NoneBound, FitsAll}
 use Rattle.cedar_expr_model.specs.Whole.Parts.{subexpressions, Unknown, unknowns, may_project, is_projectable, is_unknown}
 use Rattle.cedar_expr_model.specs.Whole.Restricted.{IsRestricted, offence, is_restricted}
-use Rattle.cedar_expr_model.specs.Whole.Table.{Table}
-use Rattle.cedar_expr_model.specs.Whole.Evident.{evident_type, HasResult}
+use Rattle.cedar_expr_model.specs.Whole.Table.{Table, IsFair}
+use Rattle.cedar_expr_model.specs.Whole.Canonical.{is_canonical}
+use Rattle.cedar_expr_model.specs.Whole.ValueParts.{is_plain, value_of_tree}
+use Rattle.cedar_expr_model.specs.Whole.Represented.{IsRepresented}
+use Rattle.cedar_expr_model.specs.Whole.Shape.{tree_eq}
+use Rattle.cedar_expr_model.specs.Whole.Evident.{evident_type, HasResult, has_valid_calls}
 
 -- what the builder of trees makes is in the builder's form, and so is what substitution makes
 abbrev pub BuiltIsBuilt : Type 0
@@ -82,3 +86,19 @@ RestrictedDecides = (t : Tree) → Decides (is_restricted t) (IsRestricted t)
 -- a written value shows its type, where the function of an extension value has it for its result
 abbrev pub WrittenShowsType : Type 0
 WrittenShowsType = (x : Table) (m : Made) → HasResult x m → evident_type x (written m) ≡ Some (core_type_of (bare m))
+
+-- the expression of a canonical value is that value, where no extension value stands in it
+abbrev pub WrittenIsValue : Type 0
+WrittenIsValue = (m : Made) → is_plain m ≡ true → is_canonical (bare m) ≡ true → value_of_tree (written m) ≡ Some (bare m)
+
+-- expressions of one shape are the same
+abbrev pub ShapesDecide : Type 0
+ShapesDecide = (t u : Tree) → Decides (tree_eq t u) (t ≡ u)
+
+-- under a fair table a represented value shows its type when written
+abbrev pub RepresentedHasResult : Type 0
+RepresentedHasResult = (x : Table) (m : Made) → IsFair x → IsRepresented x m → HasResult x m
+
+-- the calls of a represented value name functions of the table and have right counts of arguments
+abbrev pub RepresentedIsValid : Type 0
+RepresentedIsValid = (x : Table) (m : Made) → IsRepresented x m → has_valid_calls x (written m) ≡ true

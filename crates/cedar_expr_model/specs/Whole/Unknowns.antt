@@ -1,8 +1,7 @@
 -- Whether an expression has unknowns, what holds of each of them, and whether bindings fit them.
 -- Rule: substitution; parts of an expression (docs/RULES.md).
-use Rattle.std.specs.Prelude.{◌≡◌, ◌||◌, Bool, true, false, Option, Some, None, IsSome, IsNone}
-use Rattle.cedar_expr_model.specs.Name.{Text, Name}
-use Rattle.cedar_expr_model.specs.Whole.Value.{V}
+use Rattle.std.specs.Prelude.{◌≡◌, ◌||◌, Bool, true, false, Option, Some, None}
+use Rattle.cedar_expr_model.specs.Name.{Text}
 use Rattle.cedar_expr_model.specs.Whole.Tree.{CoreType, Tree, lit, var, slot, unknown, choice, both, either, unary, binary, call, get_attr, has_attr, has_path, like, is_type, set_literal, record_literal, Trees, no_trees, tree, TreeFields, no_tree_fields, tree_field}
 use Rattle.cedar_expr_model.specs.Whole.Made.{Made, bare}
 use Rattle.cedar_expr_model.specs.Whole.Substitution.{Bindings, core_type_of}
@@ -65,10 +64,11 @@ abbrev mutual
   EachUnknownInFields P no_tree_fields = Unit {0}
   EachUnknownInFields P (tree_field a t fs) = EachUnknown P t × EachUnknownInFields P fs
 
--- each unknown is bound, or none is
+-- each unknown is bound
 abbrev pub AllBound : Bindings → Tree → Type 0
 AllBound env t = EachUnknown (λ n a. (m : Made) × (env n ≡ Some m)) t
 
+-- no unknown is bound
 abbrev pub NoneBound : Bindings → Tree → Type 0
 NoneBound env t = EachUnknown (λ n a. env n ≡ None) t
 

@@ -1,6 +1,6 @@
 -- Literals and values.
 -- Rule: values and equality (docs/RULES.md).
-use Rattle.std.specs.Prelude.{ℤ, List, [], ◌∷◌, Bool, true, false, Option, Some, None, if◌then◌else◌, ◌||◌}
+use Rattle.std.specs.Prelude.{ℤ, List, [], ◌∷◌, Bool, Option, Some, None, if◌then◌else◌}
 use Rattle.std.specs.Str.{bytes_eq}
 use Rattle.cedar_expr_model.specs.Name.{Text, Name}
 use Rattle.cedar_expr_model.specs.Uid.{Uid}

@@ -1,12 +1,11 @@
 -- What stands in a value, which expressions are values, and values beside residual expressions.
 -- Rule: values and equality; parts of an expression (docs/RULES.md).
-use Rattle.std.specs.Prelude.{List, [], ◌∷◌, ◌++◌, map, Bool, Option, Some, None}
-use Rattle.cedar_expr_model.specs.Name.{Text}
+use Rattle.std.specs.Prelude.{List, [], ◌∷◌, ◌++◌, map, ◌&&◌, Bool, true, false, Option, Some, None}
 use Rattle.cedar_expr_model.specs.Uid.{Uid}
-use Rattle.cedar_expr_model.specs.Whole.Value.{Literal, truth, long, text, entity, V, prim, set_of, record_of, extension, Vs, no_values, value, Fields, no_fields, field}
+use Rattle.cedar_expr_model.specs.Whole.Value.{Literal, entity, V, prim, set_of, record_of, extension, Vs, no_values, value, Fields, no_fields, field}
 use Rattle.cedar_expr_model.specs.Whole.Canonical.{set_made}
-use Rattle.cedar_expr_model.specs.Whole.Tree.{CoreType, Tree, lit, set_literal, record_literal, Trees, no_trees, tree, TreeFields, no_tree_fields, tree_field}
-use Rattle.cedar_expr_model.specs.Whole.Made.{Made, written}
+use Rattle.cedar_expr_model.specs.Whole.Tree.{Tree, lit, set_literal, record_literal, Trees, no_trees, tree, TreeFields, no_tree_fields, tree_field}
+use Rattle.cedar_expr_model.specs.Whole.Made.{Made, made_prim, made_set, made_record, made_extension, Mades, no_mades, made, MadeFields, no_made_fields, made_field, written}
 
 -- the uid that a literal is
 abbrev pub literal_uids : Literal → List Uid
@@ -39,6 +38,7 @@ joined_with f (Some a) (Some b) = Some (f a b)
 joined_with f (Some a) None = None
 joined_with f None b = None
 
+-- a set, or a record, of what was given
 abbrev pub set_if_given : Option (List V) → Option V
 set_if_given None = None
 set_if_given (Some vs) = Some (set_made vs)
@@ -63,11 +63,28 @@ abbrev mutual
   fields_of_trees no_tree_fields = Some no_fields
   fields_of_trees (tree_field a t fs) = joined_with (field a) (value_of_tree t) (fields_of_trees fs)
 
+-- no extension value stands in it
+abbrev mutual
+  pub is_plain : Made → Bool
+  is_plain (made_prim p) = true
+  is_plain (made_set ms) = are_plain ms
+  is_plain (made_record fs) = have_plain fs
+  is_plain (made_extension n k f ps) = false
+
+  pub are_plain : Mades → Bool
+  are_plain no_mades = true
+  are_plain (made m ms) = is_plain m && are_plain ms
+
+  pub have_plain : MadeFields → Bool
+  have_plain no_made_fields = true
+  have_plain (made_field a m fs) = is_plain m && have_plain fs
+
 -- a value, or what is left of an expression
 pub data PartialValue : Type 0 where
   known : Made → PartialValue
   residual : Tree → PartialValue
 
+-- either as an expression
 abbrev pub tree_of_partial : PartialValue → Tree
 tree_of_partial (known m) = written m
 tree_of_partial (residual t) = t
@@ -83,9 +100,11 @@ pub data Split : Type 0 where
   values_alone : List Made → Split
   with_residuals : List Tree → Split
 
+-- by the values of the list, if it has nothing else
 abbrev pub split_into : List PartialValue → Option (List Made) → Split
 split_into ps None = with_residuals (map tree_of_partial ps)
 split_into ps (Some ms) = values_alone ms
 
+-- the list split
 abbrev pub split : List PartialValue → Split
 split ps = split_into ps (all_known ps)

@@ -1,17 +1,18 @@
 -- The values of the worked examples for every kind.
 -- Rule: values and equality; expressions; substitution; extension functions (docs/RULES.md).
-use Rattle.std.specs.Prelude.{ℕ, ℤ, pos, List, [], ◌∷◌, ◌==◌, Bool, true, false, Option, Some, None, codes, if◌then◌else◌}
+use Rattle.std.specs.Prelude.{ℕ, pos, List, [], ◌∷◌, Bool, true, false, Some, None, codes, if◌then◌else◌, ◌||◌}
 use Rattle.std.specs.Str.{bytes_eq}
-use Rattle.cedar_expr_model.specs.Name.{Text, Name}
+use Rattle.cedar_expr_model.specs.Name.{Text, Name, name_eq}
 use Rattle.cedar_expr_model.specs.Uid.{Uid}
-use Rattle.cedar_expr_model.specs.Whole.Value.{Literal, truth, long, text, entity, V, prim, set_of, record_of, extension, Vs, no_values, value, Fields, no_fields, field}
+use Rattle.cedar_expr_model.specs.Whole.Value.{truth, long, text, V, prim, extension, Vs, no_values, value, Fields, no_fields, field}
 use Rattle.cedar_expr_model.specs.Whole.Pattern.{Pattern, character, wildcard}
-use Rattle.cedar_expr_model.specs.Whole.Tree.{Var, principal, action, resource, context, SlotId, principal_slot, resource_slot, CoreType, bool_core, long_core, string_core, set_core, record_core, entity_core, extension_core, negation, minus, equal, less, plus, contains, get_tag, Tree, lit, var, slot, unknown, choice, both, either, unary, binary, call, get_attr, has_attr, has_path, like, is_type, set_literal, record_literal, Trees, no_trees, tree, TreeFields, no_tree_fields, tree_field}
-use Rattle.cedar_expr_model.specs.Whole.Made.{Made, made_prim, made_set, made_record, made_extension, Mades, no_mades, made, no_made_fields, made_field}
+use Rattle.cedar_expr_model.specs.Whole.Tree.{principal, CoreType, bool_core, long_core, string_core, extension_core, negation, Tree, lit, var, unknown, unary, call, record_literal, no_trees, tree, no_tree_fields, tree_field}
+use Rattle.cedar_expr_model.specs.Whole.Made.{Made, made_prim, made_extension}
+use Rattle.cedar_expr_model.specs.Whole.Builder.{Builder}
 use Rattle.cedar_expr_model.specs.Whole.Canonical.{set_made}
 use Rattle.cedar_expr_model.specs.Whole.Substitution.{Bindings, Mismatch}
 use Rattle.cedar_expr_model.specs.Whole.Parts.{Unknown}
-use Rattle.cedar_expr_model.specs.Whole.Table.{CallStyle, function_style, method_style, Signature, Called, gives, fails, leaves, Table}
+use Rattle.cedar_expr_model.specs.Whole.Table.{function_style, method_style, Signature, Called, gives, fails, Table}
 
 -- names: `User`, `rank`, `label`, `a::b`, and two that no text should hold: the one part `a::b`, and the parts `a:` and `:b`
 abbrev pub plain : Text → Name
@@ -167,11 +168,61 @@ other_rank_function = record rank_function { name = plain (codes "grade") }
 abbrev pub other_label_function : Signature
 other_label_function = record join_function { name = label_name }
 
+-- what its functions answer: a rank of the text itself as its key, the key of a rank, and otherwise a failure
+abbrev pub rank_answer : List V → Called
+rank_answer (prim (text s) ∷ []) = gives (extension rank_name s)
+rank_answer vs = fails rank_name
+
+abbrev pub label_answer : List V → Called
+label_answer (extension n k ∷ []) = gives (word k)
+label_answer vs = fails rank_name
+
 abbrev pub worked_answers : Name → List V → Called
-worked_answers f vs = fails rank_name
+worked_answers f vs = if name_eq f rank_name then rank_answer vs else (if name_eq f label_name then label_answer vs else fails rank_name)
 
 abbrev pub worked_table : Table
 worked_table = record { functions = rank_function ∷ label_function ∷ join_function ∷ unknown_function ∷ []; ordered = rank_name ∷ []; answers = worked_answers }
 
 abbrev pub typed_table : Table
 typed_table = record worked_table { functions = rank_function ∷ label_function ∷ [] }
+
+-- a table whose constructor of ranks gives a number
+abbrev pub unfair_table : Table
+unfair_table = record typed_table { answers = λ f vs. gives (number 1) }
+
+-- a builder into truth values: whether a variable stands in the expression
+abbrev pub some_of : List Bool → Bool
+some_of [] = false
+some_of (b ∷ bs) = b || some_of bs
+
+abbrev pub some_of_fields : List (Text × Bool) → Bool
+some_of_fields [] = false
+some_of_fields (f ∷ fs) = f.1 || some_of_fields fs
+
+abbrev pub variable_builder : Builder Bool
+variable_builder = record {
+  of_lit = λ p. false;
+  of_var = λ x. true;
+  of_slot = λ s. false;
+  of_unknown = λ n a. true;
+  of_choice = λ t a b. t || (a || b);
+  of_both = λ a b. a || b;
+  of_either = λ a b. a || b;
+  of_unary = λ o a. a;
+  of_binary = λ o a b. a || b;
+  of_call = λ f ts. some_of ts;
+  of_get = λ t a. t;
+  of_has = λ t a. t;
+  of_path = λ t a bs. t;
+  of_like = λ t p. t;
+  of_is = λ t n. t;
+  of_set = λ ts. some_of ts;
+  of_record = λ fs. some_of_fields fs;
+}
+
+-- a rank as the worked table makes it, and one that it makes otherwise
+abbrev pub true_rank : Made
+true_rank = made_extension rank_name (codes "7") rank_name (text (codes "7") ∷ [])
+
+abbrev pub feigned_rank : Made
+feigned_rank = made_extension rank_name (codes "8") rank_name (text (codes "7") ∷ [])

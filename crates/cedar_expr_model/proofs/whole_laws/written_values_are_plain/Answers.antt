@@ -2,6 +2,7 @@ use Rattle.cedar_expr_model.proofs.Whole.Restricting.{written_restricted}
 use Rattle.cedar_expr_model.proofs.Whole.Substituting.{written_known}
 use Rattle.cedar_expr_model.proofs.Whole.Building.{written_built}
 use Rattle.cedar_expr_model.proofs.Whole.CoreTypes.{shown_type}
+use Rattle.cedar_expr_model.proofs.Whole.Valued.{written_is_value}
 use Rattle.cedar_expr_model.proofs.whole_laws.written_values_are_plain.Goals as goal
 
 pub returns-clause-restricted : goal.returns-clause-restricted
@@ -15,3 +16,6 @@ returns-clause-form c = written_built
 
 pub returns-clause-shown : goal.returns-clause-shown
 returns-clause-shown c = shown_type
+
+pub returns-clause-value : goal.returns-clause-value
+returns-clause-value c = written_is_value
