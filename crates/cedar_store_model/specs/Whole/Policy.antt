@@ -36,7 +36,7 @@ pub record SlotBindings : Type 0 where
   pub principal : Option Uid
   pub resource : Option Uid
 
--- A policy. A template is a policy that has slots and binds none.
+-- A policy. A template is one that binds none of its slots.
 pub record Policy : Type 0 where
   pub id : Text
   pub effect : Effect
