@@ -4,3 +4,4 @@ pub mod Reading
 pub mod Computed
 pub mod Escapes
 pub mod UidText
+pub mod Whole

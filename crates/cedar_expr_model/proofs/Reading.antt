@@ -149,7 +149,7 @@ parts_joined (p ∷ path) base h k =
     let q = both_hold (is_identifier p) (list_all is_identifier path) h in
     first_part p (joined path base) (identifier_no_colon p q.0) ∙ ap (λ r. p ∷ r) (parts_joined path base q.1 k)
 
-name_of_all : (before path : List Text) (base : Text) → name_of_parts before (path ++ base ∷ []) ≡ Some (record { path = before ++ path; base = base })
+pub name_of_all : (before path : List Text) (base : Text) → name_of_parts before (path ++ base ∷ []) ≡ Some (record { path = before ++ path; base = base })
 name_of_all before [] base = ap (λ (p : List Text). Some (record { path = p; base = base })) (sym (append-nil before))
 name_of_all before (p ∷ []) base = refl
 name_of_all before (p ∷ q ∷ path) base =

@@ -10,3 +10,15 @@ pub mod Substitution
 pub mod Restricted
 pub mod Table
 pub mod Evident
+pub mod Equality
+pub mod Parts
+pub mod Unknowns
+pub mod BuilderForm
+pub mod Repeats
+pub mod Records
+pub mod Names
+pub mod ValueParts
+pub mod Laws
+pub mod TreeLaws
+pub mod ListLaws
+pub mod Worked

@@ -2,4 +2,6 @@
 #![tactic(auto)]
 
 pub mod laws;
+pub mod whole_laws;
+pub mod whole_worked;
 pub mod worked;

@@ -10,3 +10,4 @@ pub mod ReadingBundle
 pub mod Laws
 pub mod Worked
 pub mod Order
+pub mod Whole

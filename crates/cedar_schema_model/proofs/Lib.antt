@@ -1,3 +1,4 @@
 pub mod Conforming
 pub mod WellFormed
 pub mod Order
+pub mod Whole

@@ -1,3 +1,22 @@
 -- The definitions for every kind of declaration and type. They take the place of those beside this folder once the code stands on them.
 pub mod Types
 pub mod Schema
+pub mod Environment
+pub mod Subtype
+pub mod HasType
+pub mod Join
+pub mod Lookup
+pub mod TypeLaws
+pub mod Descent
+pub mod ActionEntities
+pub mod Admission
+pub mod Conforming
+pub mod ConformingTests
+pub mod DeclLaws
+pub mod Reference
+pub mod Declarations
+pub mod WellFormed
+pub mod Resolved
+pub mod BagLaws
+pub mod TypeWorked
+pub mod DeclWorked

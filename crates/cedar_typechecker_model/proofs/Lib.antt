@@ -6,3 +6,4 @@ pub mod Values
 pub mod Soundness
 pub mod Parts
 pub mod Order
+pub mod Whole

@@ -8,3 +8,4 @@ pub mod Soundness
 pub mod Worked
 pub mod Parts
 pub mod Order
+pub mod Whole

@@ -1,7 +1,7 @@
 -- Canonical values: the members of a set rise, so none stands twice, and the names of a record rise. The sets that are made
 -- of any members are canonical.
 -- Rule: values and equality (docs/RULES.md).
-use Rattle.std.specs.Prelude.{◌≡◌, ◌&&◌, ℤ, List, [], ◌∷◌, Bool, true, false, IsTrue}
+use Rattle.std.specs.Prelude.{◌≡◌, ◌&&◌, ℤ, List, [], ◌∷◌, Bool, true, false, not}
 use Rattle.std.specs.Ordering.{match_ordering, is_lt}
 use Rattle.std.proofs.Common.{◌⊎◌}
 use Rattle.cedar_expr_model.specs.Name.{Text}
@@ -18,6 +18,11 @@ is_below v (value w ws) = is_lt (value_cmp v w)
 abbrev pub is_before : Text → Fields → Bool
 is_before a no_fields = true
 is_before a (field b w gs) = is_lt (text_cmp a b)
+
+-- each stands before the next, so none stands twice
+abbrev pub are_rising : Vs → Bool
+are_rising no_values = true
+are_rising (value v vs) = is_below v vs && are_rising vs
 
 abbrev mutual
   pub is_canonical : V → Bool
@@ -51,6 +56,15 @@ set_made vs = set_of (members_made vs)
 abbrev pub is_member : V → Vs → Bool
 is_member v no_values = false
 is_member v (value w ws) = match_ordering (value_cmp v w) false true (is_member v ws)
+
+-- each is a member of the other list, or none is
+abbrev pub is_subset : Vs → Vs → Bool
+is_subset no_values ws = true
+is_subset (value v vs) ws = is_member v ws && is_subset vs ws
+
+abbrev pub is_disjoint : Vs → Vs → Bool
+is_disjoint no_values ws = true
+is_disjoint (value v vs) ws = not (is_member v ws) && is_disjoint vs ws
 
 -- the value stands among these
 abbrev pub Among : V → Vs → Type 0

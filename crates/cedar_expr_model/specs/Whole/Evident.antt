@@ -1,10 +1,11 @@
 -- The core type that an expression shows by itself, and which calls a table takes.
 -- Rule: the evident type; extension functions (docs/RULES.md).
-use Rattle.std.specs.Prelude.{◌&&◌, ℕ, zero, suc, Bool, true, false, Option, Some, None, if◌then◌else◌}
+use Rattle.std.specs.Prelude.{◌≡◌, ◌&&◌, ℕ, zero, suc, Bool, true, false, Option, Some, None, if◌then◌else◌}
 use Rattle.cedar_expr_model.specs.Name.{Text, Name}
 use Rattle.cedar_expr_model.specs.Whole.Value.{Literal, prim}
-use Rattle.cedar_expr_model.specs.Whole.Tree.{CoreType, bool_core, long_core, string_core, set_core, record_core, UnaryOp, negation, minus, is_empty, BinaryOp, equal, less, less_or_equal, plus, difference, times, is_in, contains, contains_all, contains_any, get_tag, has_tag, Tree, lit, var, slot, unknown, choice, both, either, unary, binary, call, get_attr, has_attr, has_path, like, is_type, set_literal, record_literal, Trees, no_trees, tree, TreeFields, no_tree_fields, tree_field}
+use Rattle.cedar_expr_model.specs.Whole.Tree.{CoreType, bool_core, long_core, string_core, set_core, record_core, extension_core, UnaryOp, negation, minus, is_empty, BinaryOp, equal, less, less_or_equal, plus, difference, times, is_in, contains, contains_all, contains_any, get_tag, has_tag, Tree, lit, var, slot, unknown, choice, both, either, unary, binary, call, get_attr, has_attr, has_path, like, is_type, set_literal, record_literal, Trees, no_trees, tree, TreeFields, no_tree_fields, tree_field}
 use Rattle.cedar_expr_model.specs.Whole.Substitution.{core_type_of, core_eq}
+use Rattle.cedar_expr_model.specs.Whole.Made.{Made, made_extension}
 use Rattle.cedar_expr_model.specs.Whole.Table.{Table, Signature, signature_of, takes_count}
 
 abbrev pub unary_core : UnaryOp → CoreType
@@ -50,6 +51,11 @@ evident_type x (like t p) = Some bool_core
 evident_type x (is_type t n) = Some bool_core
 evident_type x (set_literal ts) = Some set_core
 evident_type x (record_literal fs) = Some record_core
+
+-- an extension value's function is in the table and gives its type
+abbrev pub HasResult : Table → Made → Type 0
+HasResult x (made_extension n k f ps) = result_of (signature_of x f) ≡ Some (extension_core n)
+HasResult x m = Unit {0}
 
 abbrev pub trees_length : Trees → ℕ
 trees_length no_trees = zero

@@ -1,26 +1,28 @@
 -- The order of literals and values: by kind, and in one kind by what it holds.
 -- Rule: values and equality (docs/RULES.md).
-use Rattle.std.specs.Prelude.{ℕ, Bool, true, false, ◌&&◌, ◌||◌}
-use Rattle.std.specs.Ordering.{nat_cmp, int_cmp, ordering_then, is_lt, is_eq}
+use Rattle.std.specs.Prelude.{ℕ, Bool}
+use Rattle.std.specs.Ordering.{nat_cmp, int_cmp, bool_cmp, ordering_then, is_eq}
 use Rattle.std.specs.Cmp.Lexicographic.{slice_cmp}
 use Rattle.std.specs.declared.cmp.Ordering.{Ordering}
 use Rattle.std.specs.declared.cmp.Ordering.TheVariants.{Less, Equal, Greater}
-use Rattle.cedar_expr_model.specs.Name.{Text}
-use Rattle.cedar_expr_model.specs.Order.{name_cmp, uid_cmp}
+use Rattle.cedar_expr_model.specs.Name.{Text, Name, name_text}
+use Rattle.cedar_expr_model.specs.Uid.{Uid}
 use Rattle.cedar_expr_model.specs.Whole.Value.{Literal, truth, long, text, entity, V, prim, set_of, record_of, extension, Vs, no_values, value, Fields, no_fields, field}
 
 -- texts in byte order
 abbrev pub text_cmp : Text → Text → Ordering
 text_cmp s t = slice_cmp nat_cmp s t
 
--- false before true
-abbrev pub truth_cmp : Bool → Bool → Ordering
-truth_cmp false false = Equal
-truth_cmp false true = Less
-truth_cmp true false = Greater
-truth_cmp true true = Equal
+-- Names by their texts, in byte order. Well-formed names of one text are the same; any others of one text are told apart by
+-- their parts.
+abbrev pub name_order : Name → Name → Ordering
+name_order m n = ordering_then (text_cmp (name_text m) (name_text n)) (ordering_then (slice_cmp text_cmp m.path n.path) (text_cmp m.base n.base))
 
--- truth values, whole numbers, texts, uids
+-- uids by their types and then by their ids
+abbrev pub uid_order : Uid → Uid → Ordering
+uid_order u v = ordering_then (name_order u.kind v.kind) (text_cmp u.id v.id)
+
+-- truth values (false first), whole numbers, texts, uids
 abbrev pub literal_rank : Literal → ℕ
 literal_rank (truth b) = 0
 literal_rank (long n) = 1
@@ -28,10 +30,10 @@ literal_rank (text s) = 2
 literal_rank (entity u) = 3
 
 abbrev pub literal_cmp : Literal → Literal → Ordering
-literal_cmp (truth a) (truth b) = truth_cmp a b
+literal_cmp (truth a) (truth b) = bool_cmp a b
 literal_cmp (long m) (long n) = int_cmp m n
 literal_cmp (text s) (text t) = text_cmp s t
-literal_cmp (entity u) (entity v) = uid_cmp u v
+literal_cmp (entity u) (entity v) = uid_order u v
 literal_cmp p q = nat_cmp (literal_rank p) (literal_rank q)
 
 -- literals, sets, records, extension values
@@ -48,7 +50,7 @@ abbrev mutual
   value_cmp (prim p) (prim q) = literal_cmp p q
   value_cmp (set_of vs) (set_of ws) = values_cmp vs ws
   value_cmp (record_of fs) (record_of gs) = fields_cmp fs gs
-  value_cmp (extension m j) (extension n k) = ordering_then (name_cmp m n) (text_cmp j k)
+  value_cmp (extension m j) (extension n k) = ordering_then (name_order m n) (text_cmp j k)
   value_cmp v w = nat_cmp (rank v) (rank w)
 
   pub values_cmp : Vs → Vs → Ordering

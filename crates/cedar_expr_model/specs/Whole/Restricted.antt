@@ -1,6 +1,6 @@
 -- Restricted expressions: literals, unknowns, calls, sets and records alone.
 -- Rule: restricted expressions (docs/RULES.md).
-use Rattle.std.specs.Prelude.{◌≡◌, Option, Some, None}
+use Rattle.std.specs.Prelude.{◌≡◌, ◌&&◌, Bool, true, false, Option, Some, None}
 use Rattle.cedar_expr_model.specs.Whole.Tree.{UnaryOp, BinaryOp, Tree, lit, var, slot, unknown, choice, both, either, unary, binary, call, get_attr, has_attr, has_path, like, is_type, set_literal, record_literal, Trees, no_trees, tree, TreeFields, no_tree_fields, tree_field}
 use Rattle.cedar_expr_model.specs.Whole.Substitution.{first_of_two}
 
@@ -47,5 +47,24 @@ abbrev mutual
   offence_in_fields no_tree_fields = None
   offence_in_fields (tree_field a t fs) = first_of_two (offence t) (offence_in_fields fs)
 
+-- such an expression
 abbrev pub IsRestricted : Tree → Type 0
 IsRestricted t = offence t ≡ None
+
+-- the same as a test, by its parts
+abbrev mutual
+  pub is_restricted : Tree → Bool
+  is_restricted (lit p) = true
+  is_restricted (unknown n a) = true
+  is_restricted (call f ts) = are_restricted ts
+  is_restricted (set_literal ts) = are_restricted ts
+  is_restricted (record_literal fs) = have_restricted fs
+  is_restricted t = false
+
+  pub are_restricted : Trees → Bool
+  are_restricted no_trees = true
+  are_restricted (tree t ts) = is_restricted t && are_restricted ts
+
+  pub have_restricted : TreeFields → Bool
+  have_restricted no_tree_fields = true
+  have_restricted (tree_field a t fs) = is_restricted t && have_restricted fs

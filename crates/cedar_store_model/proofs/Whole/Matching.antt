@@ -12,7 +12,6 @@ use Rattle.std.proofs.lemmas.Map.Text.{is_eq-slice_cmp}
 use Rattle.std.proofs.lemmas.Slice.Eq.{bytes_eq-Decides}
 use Rattle.cedar_expr_model.specs.Name.{Name, name_text}
 use Rattle.cedar_expr_model.specs.Uid.{Uid, uid_eq}
-use Rattle.cedar_expr_model.specs.Order.{name_cmp, uid_cmp}
 use Rattle.cedar_expr_model.specs.Whole.Value.{V, prim, entity, Vs, no_values, value}
 use Rattle.cedar_expr_model.specs.Whole.Canonical.{inserted, members_made, set_made}
 use Rattle.cedar_expr_model.specs.Whole.Tree.{var, binary, BinaryOp, equal, is_in, Var, principal, action, resource, SlotId, principal_slot, resource_slot, is_type}
@@ -27,6 +26,8 @@ use Rattle.cedar_store_model.specs.Whole.Meaning.{variable, known_uid, slot_valu
 use Rattle.cedar_store_model.specs.Whole.Knowledge.{IsSettled, IsWhole}
 use Rattle.cedar_store_model.specs.Whole.Policy.{Policy, Target, named, own_slot, Scope, any, exactly, inside, of_kind, of_kind_inside, ActionScope, any_action, exactly_action, inside_actions, target_tree, scope_tree, uid_trees, action_tree, body_tree}
 use Rattle.cedar_store_model.specs.Whole.Answer.{with_slots, IsSatisfied, is_true}
+use Rattle.cedar_expr_model.proofs.Whole.ValueOrder.{values_decide}
+use Rattle.cedar_expr_model.specs.Whole.Order.{uid_order, value_eq}
 use Rattle.cedar_store_model.specs.Whole.AnswerLaws.{Holds}
 use Rattle.cedar_store_model.specs.Whole.Matching.{IsIn, target_uid, IsInTarget, Matches, MatchesAction, is_well_named, is_well_named_if_bound, scope_is_well_named, action_is_well_named, policy_is_well_named, AsksFor}
 use Rattle.cedar_store_model.proofs.Whole.Conditions.{holds_in, holds-Decides, conjunction-Decides, parts-Decides}
@@ -43,13 +44,8 @@ bytes_cmp-Decides s t = let d = bytes_eq-Decides s t in (λ h. d.0 (sym (is_eq-s
 same_uid : (u v : Uid) → u.kind ≡ v.kind → u.id ≡ v.id → u ≡ v
 same_uid u v p q = λ i. record { kind = p i; id = q i }
 
-uid_cmp-Decides : (u v : Uid) → is_well_named u ≡ true → is_well_named v ≡ true → Decides (is_eq (uid_cmp u v)) (u ≡ v)
-uid_cmp-Decides u v wu wv = (
-  λ h. let k = both_hold (is_eq (name_cmp u.kind v.kind)) (is_eq (slice_cmp nat_cmp u.id v.id)) (sym (then_equal (name_cmp u.kind v.kind) (slice_cmp nat_cmp u.id v.id)) ∙ h) in
-      same_uid u v (name_text_apart u.kind v.kind wu wv ((bytes_cmp-Decides (name_text u.kind) (name_text v.kind)).0 k.0)) ((bytes_cmp-Decides u.id v.id).0 k.1),
-  λ h. then_equal (name_cmp u.kind v.kind) (slice_cmp nat_cmp u.id v.id)
-      ∙ hold_both _ _ ((bytes_cmp-Decides (name_text u.kind) (name_text v.kind)).1 (ap (λ (x : Uid). name_text x.kind) h)) ((bytes_cmp-Decides u.id v.id).1 (ap (λ (x : Uid). x.id) h)),
-)
+uid_order-Decides : (u v : Uid) → is_well_named u ≡ true → is_well_named v ≡ true → Decides (is_eq (uid_order u v)) (u ≡ v)
+uid_order-Decides u v wu wv = let d = values_decide (prim (entity u)) (prim (entity v)) in (λ h. let e = d.0 h in cc, λ h. d.1 (ap (λ x. prim (entity x)) h))
 
 decides_by : {P : Type 0} (a b : Bool) → a ≡ b → Decides b P → Decides a P
 decides_by a b e d = (λ h. d.0 (sym e ∙ h), λ h. e ∙ d.1 h)
@@ -60,7 +56,7 @@ decides_as b f g d = (λ h. f (d.0 h), λ h. d.1 (g h))
 -- equality with what a target names
 equal_at : (w : World) (u : Uid) (o : Option Uid) → is_well_named u ≡ true → is_well_named_if_bound o ≡ true → Decides (is_true (bind (Some (slot_value o)) (combined w equal (prim (entity u))))) (o ≡ Some u)
 equal_at w u None wu wo = (λ h. cc, λ h. cc)
-equal_at w u (Some v) wu wo = decides_as (is_eq (uid_cmp u v)) (λ h. ap Some (sym h)) (λ h. cc) (uid_cmp-Decides u v wu wo)
+equal_at w u (Some v) wu wo = decides_as (value_eq (prim (entity u)) (prim (entity v))) (λ h. cc) (λ h. cc) (values_decide (prim (entity u)) (prim (entity v)))
 
 -- the uid is one of these or has one of them among the ancestors
 among-Decides : (u : Uid) (ancestors us : List Uid) → Decides (list_any (λ v. uid_eq u v || list_any (uid_eq v) ancestors) us) ((v : Uid) × Contains us v × ((u ≡ v) ⊎ Contains ancestors v))
@@ -139,7 +135,7 @@ uid_values (u ∷ us) = value (prim (entity u)) (uid_values us)
 
 abbrev uid_inserted : Uid → List Uid → List Uid
 uid_inserted u [] = u ∷ []
-uid_inserted u (v ∷ vs) = match_ordering (uid_cmp u v) (u ∷ v ∷ vs) (v ∷ vs) (v ∷ uid_inserted u vs)
+uid_inserted u (v ∷ vs) = match_ordering (uid_order u v) (u ∷ v ∷ vs) (v ∷ vs) (v ∷ uid_inserted u vs)
 
 abbrev uids_made : List Uid → List Uid
 uids_made [] = []
@@ -156,8 +152,8 @@ picked_values Greater a b c = refl
 inserted_values : (u : Uid) (us : List Uid) → inserted (prim (entity u)) (uid_values us) ≡ uid_values (uid_inserted u us)
 inserted_values u [] = refl
 inserted_values u (v ∷ vs) =
-    ap (λ x. match_ordering (uid_cmp u v) (uid_values (u ∷ v ∷ vs)) (uid_values (v ∷ vs)) (value (prim (entity v)) x)) (inserted_values u vs)
-    ∙ picked_values (uid_cmp u v) (u ∷ v ∷ vs) (v ∷ vs) (v ∷ uid_inserted u vs)
+    ap (λ x. match_ordering (uid_order u v) (uid_values (u ∷ v ∷ vs)) (uid_values (v ∷ vs)) (value (prim (entity v)) x)) (inserted_values u vs)
+    ∙ picked_values (uid_order u v) (u ∷ v ∷ vs) (v ∷ vs) (v ∷ uid_inserted u vs)
 
 made_values : (us : List Uid) → members_made (as_values us) ≡ uid_values (uids_made us)
 made_values [] = refl
@@ -187,7 +183,7 @@ inserted_from Greater u v vs rest x f h =
 
 from_inserted : (u : Uid) (us : List Uid) (x : Uid) → Contains (uid_inserted u us) x → Contains (u ∷ us) x
 from_inserted u [] x h = h
-from_inserted u (v ∷ vs) x h = inserted_from (uid_cmp u v) u v vs (uid_inserted u vs) x (from_inserted u vs x) h
+from_inserted u (v ∷ vs) x h = inserted_from (uid_order u v) u v vs (uid_inserted u vs) x (from_inserted u vs x) h
 
 from_made : (us : List Uid) (x : Uid) → Contains (uids_made us) x → Contains us x
 from_made [] x h = h
@@ -205,7 +201,7 @@ has_inserted : (u : Uid) (us : List Uid) (x : Uid) → is_well_named u ≡ true 
 has_inserted u [] x wu ws h = h
 has_inserted u (v ∷ vs) x wu ws h =
     let k = both_hold (is_well_named v) (list_all is_well_named vs) ws in
-    inserted_has (uid_cmp u v) u v vs (uid_inserted u vs) x (uid_cmp-Decides u v wu k.0).0 (has_inserted u vs x wu k.1) h
+    inserted_has (uid_order u v) u v vs (uid_inserted u vs) x (uid_order-Decides u v wu k.0).0 (has_inserted u vs x wu k.1) h
 
 named_inserted : (o : Ordering) (u v : Uid) (vs rest : List Uid) → is_well_named u ≡ true → list_all is_well_named (v ∷ vs) ≡ true → list_all is_well_named rest ≡ true → list_all is_well_named (match_ordering o (u ∷ v ∷ vs) (v ∷ vs) (v ∷ rest)) ≡ true
 named_inserted Less u v vs rest wu ws wr = hold_both (is_well_named u) _ wu ws
@@ -214,7 +210,7 @@ named_inserted Greater u v vs rest wu ws wr = hold_both (is_well_named v) _ (bot
 
 inserted_named : (u : Uid) (us : List Uid) → is_well_named u ≡ true → list_all is_well_named us ≡ true → list_all is_well_named (uid_inserted u us) ≡ true
 inserted_named u [] wu ws = hold_both (is_well_named u) true wu refl
-inserted_named u (v ∷ vs) wu ws = named_inserted (uid_cmp u v) u v vs (uid_inserted u vs) wu ws (inserted_named u vs wu (both_hold (is_well_named v) (list_all is_well_named vs) ws).1)
+inserted_named u (v ∷ vs) wu ws = named_inserted (uid_order u v) u v vs (uid_inserted u vs) wu ws (inserted_named u vs wu (both_hold (is_well_named v) (list_all is_well_named vs) ws).1)
 
 made_named : (us : List Uid) → list_all is_well_named us ≡ true → list_all is_well_named (uids_made us) ≡ true
 made_named [] h = refl
@@ -230,7 +226,7 @@ has_made (u ∷ us) x ws h =
 action-Decides : (w : World) (u : Uid) → variable w action ≡ Some (val (prim (entity u))) → IsSettled (w.store u) → is_well_named u ≡ true → (c : ActionScope) → action_is_well_named c ≡ true → Decides (holds_in w (action_tree c)) (MatchesAction w c u)
 action-Decides w u e h wu any_action wc = (λ _. tt, λ _. refl)
 action-Decides w u e h wu (exactly_action v) wc =
-    decides_by _ _ (λ i. is_true (bind (e i) (λ x. combined w equal x (prim (entity v))))) (uid_cmp-Decides u v wu wc)
+    decides_by _ _ (λ i. is_true (bind (e i) (λ x. combined w equal x (prim (entity v))))) (uid_order-Decides u v wu wc)
 action-Decides w u e h wu (inside_actions us) wc =
     decides_by _ _ (ap is_true ((λ i. bind (e i) (λ x. bind (bind (trees_outcome w us i) (λ vs. Some (val (set_made vs)))) (combined w is_in x))) ∙ set_in u us (w.store u)))
     (decides_as _ (λ k. (k.0, from_made us k.0 k.1, k.2)) (λ k. (k.0, has_made us k.0 wc k.1, k.2)) (in-Decides w u (uids_made us) (w.store u) refl h))

@@ -1,0 +1,181 @@
+-- What is read of a store, and what calls answer, beside what the world of what is known gives.
+use Rattle.std.proofs.Common.{◌≡◌, suc, ℤ, Bool, true, false, cond, List, [], ◌∷◌, refl, sym, ap, ◌∙◌, subst}
+use Rattle.std.specs.Prelude.{Option, Some, None, option_map, map, length, is_some, ◌+ℤ◌, ◌-ℤ◌, ◌*ℤ◌}
+use Rattle.std.specs.Ordering.{is_lt, is_le}
+use Rattle.std.specs.Str.{bytes_eq}
+use Rattle.cedar_expr_model.specs.Name.{Text, Name}
+use Rattle.cedar_expr_model.specs.Uid.{Uid}
+use Rattle.cedar_expr_model.specs.Whole.Value.{Literal, truth, long, text, entity, V, prim, field_of}
+use Rattle.cedar_expr_model.specs.Whole.Order.{value_eq}
+use Rattle.cedar_expr_model.specs.Whole.Tree.{CoreType, Tree, unknown, BinaryOp, equal, less, less_or_equal, plus, difference, times, is_in, contains, contains_all, contains_any, get_tag, has_tag}
+use Rattle.cedar_expr_model.specs.Whole.Made.{Made, made_prim, made_set, made_record, made_extension, MadeFields, no_made_fields, made_field, bare, bare_fields}
+use Rattle.cedar_expr_model.specs.Whole.Substitution.{fits_annotation}
+use Rattle.cedar_expr_model.specs.Whole.Table.{Table, Signature, Called, gives, fails, leaves, signature_of, takes_count, are_of_types}
+use Rattle.cedar_expr_model.proofs.Whole.CoreTypes.{fits-Decides}
+use Rattle.cedar_store_model.specs.Whole.Outcome.{Res, val, err, bind, wrong_type, wrong_count}
+use Rattle.cedar_store_model.specs.Whole.World.{World, Part, known, left, Entity, Found, held, missing, not_loaded, part_named}
+use Rattle.cedar_store_model.specs.Whole.Operators.{says, bound_value, answered, called_with, all_members, any_member, among_members, of_sets, ordered, calculated}
+use Rattle.cedar_store_model.specs.Whole.Reads.{is_there, part_value, part_read, part_tested, attributes_of, tags_of, attribute_read, attribute_tested, Step, goes_on, ends, field_value, field_step, part_step, found_step, step_from, path_after, path_tested, tag_read, tag_tested, uids_in, is_in_some, found_in, within}
+use Rattle.cedar_store_model.specs.Whole.Meaning.{combined}
+use Rattle.cedar_evaluator_model.specs.Scope.{Scope, MadeCalled, makes, faults, leaves_unknown, bare_called, IsTaken, Agrees, fault, Left, value_left, residual, stopped}
+use Rattle.cedar_evaluator_model.specs.Steps.{errs, truth_left, left_of, mapped, part_left, tag_left, part_or_missing, attribute_found, made_named, field_or_missing, attribute_of, test_found, test_of, path_step, path_found, path_field, path_from, path_of, get_tag_found, has_tag_found, tag_of, in_found, in_of, combined_left, answer_left, call_left}
+use Rattle.cedar_evaluator_model.specs.Known.{known_part, known_parts, known_entity, known_found, known_world}
+use Rattle.cedar_evaluator_model.specs.Completion.{Fits}
+use Rattle.cedar_evaluator_model.specs.Standing.{LeavesUnbound}
+use Rattle.cedar_evaluator_model.proofs.Given.{Given, given_value, given_if, given_literal, literal_ordered, literal_calculated, literal_among, literal_sets, literal_in}
+
+-- parts and fields by name
+named_case : (b : Bool) (p : Part Made) (o : Option (Part Made)) (q : Option (Part V)) → q ≡ option_map known_part o → cond b (Some (known_part p)) q ≡ option_map known_part (cond b (Some p) o)
+named_case true p o q e = refl
+named_case false p o q e = e
+
+pub named_known : (a : Text) (ps : List (Text × Part Made)) → part_named a (known_parts ps) ≡ option_map known_part (part_named a ps)
+named_known a [] = refl
+named_known a (p ∷ ps) = named_case (bytes_eq a p.0) p.1 (part_named a ps) (part_named a (known_parts ps)) (named_known a ps)
+
+field_case : (b : Bool) (m : Made) (o : Option Made) (q : Option V) → q ≡ option_map bare o → cond b (Some (bare m)) q ≡ option_map bare (cond b (Some m) o)
+field_case true m o q e = refl
+field_case false m o q e = e
+
+pub field_known : (a : Text) (fs : MadeFields) → field_of a (bare_fields fs) ≡ option_map bare (made_named a fs)
+field_known a no_made_fields = refl
+field_known a (made_field b m fs) = field_case (bytes_eq a b) m (made_named a fs) (field_of a (bare_fields fs)) (field_known a fs)
+
+-- unknowns
+pub given_mapped : (s : Scope) (n : Text) (a : Option CoreType) (o : Option Made) → Fits a (option_map bare o) → Given (bound_value (option_map bare o)) (mapped s n a o)
+given_mapped s n a None h = tt
+given_mapped s n a (Some m) h = subst (λ b. Given (Some (val (bare m))) (cond b (value_left m) (errs wrong_type))) (sym ((fits-Decides a (bare m)).1 h)) (given_value m)
+
+-- attributes
+given_part : (next : Part Made → Left) → ((m : Made) → next (known m) ≡ value_left m) → (o : Option (Part Made)) → Given (part_value (option_map known_part o)) (part_or_missing next o)
+given_part next h None = refl
+given_part next h (Some (known m)) = subst (Given (Some (val (bare m)))) (sym (h m)) (given_value m)
+given_part next h (Some (left t)) = tt
+
+given_attribute_found : (s : Scope) (u : Uid) (a : Text) (f : Found Made) → Given (part_read attributes_of u a (known_found f)) (attribute_found s u a f)
+given_attribute_found s u a (held e) = subst (λ o. Given (part_value o) (part_or_missing (part_left s) (part_named a e.attributes))) (sym (named_known a e.attributes)) (given_part (part_left s) (λ m. refl) (part_named a e.attributes))
+given_attribute_found s u a missing = refl
+given_attribute_found s u a not_loaded = tt
+
+given_field : (o : Option Made) → Given (Some (field_value (option_map bare o))) (field_or_missing o)
+given_field None = refl
+given_field (Some m) = given_value m
+
+pub given_attribute : (s : Scope) (a : Text) (m : Made) → Given (attribute_read (known_world s) a (bare m)) (attribute_of s a m)
+given_attribute s a (made_prim (entity u)) = given_attribute_found s u a (s.store u)
+given_attribute s a (made_record fs) = subst (λ o. Given (Some (field_value o)) (field_or_missing (made_named a fs))) (sym (field_known a fs)) (given_field (made_named a fs))
+given_attribute s a m = refl
+
+-- tests of attributes
+given_there : (o : Option (Part Made)) → Given (Some (says (is_there (option_map known_part o)))) (truth_left (is_some o))
+given_there None = given_value (made_prim (truth false))
+given_there (Some p) = given_value (made_prim (truth true))
+
+given_test_found : (u : Uid) (a : Text) (f : Found Made) → Given (part_tested attributes_of a (known_found f)) (test_found u a f)
+given_test_found u a (held e) = subst (λ o. Given (Some (says (is_there o))) (truth_left (is_some (part_named a e.attributes)))) (sym (named_known a e.attributes)) (given_there (part_named a e.attributes))
+given_test_found u a missing = given_value (made_prim (truth false))
+given_test_found u a not_loaded = tt
+
+given_field_there : (o : Option Made) → Given (Some (says (is_there (option_map bare o)))) (truth_left (is_some o))
+given_field_there None = given_value (made_prim (truth false))
+given_field_there (Some m) = given_value (made_prim (truth true))
+
+pub given_test : (s : Scope) (a : Text) (m : Made) → Given (attribute_tested (known_world s) a (bare m)) (test_of s a m)
+given_test s a (made_prim (entity u)) = given_test_found u a (s.store u)
+given_test s a (made_record fs) = subst (λ o. Given (Some (says (is_there o))) (truth_left (is_some (made_named a fs)))) (sym (field_known a fs)) (given_field_there (made_named a fs))
+given_test s a m = refl
+
+-- paths
+module _ (f : V → Option (Res V)) (next : Made → Left) (h : (m : Made) → Given (f (bare m)) (next m)) where
+  given_step : (other : Tree → Left) (o : Option (Part Made)) → Given (path_after f (part_step (option_map known_part o))) (path_step next other o)
+  given_step other None = given_value (made_prim (truth false))
+  given_step other (Some (known m)) = h m
+  given_step other (Some (left t)) = tt
+
+  given_path_found : (other : Tree → Left) (u : Uid) (a b : Text) (bs : List Text) (g : Found Made) → Given (path_after f (found_step a (known_found g))) (path_found next other u a b bs g)
+  given_path_found other u a b bs (held e) = subst (λ o. Given (path_after f (part_step o)) (path_step next other (part_named a e.attributes))) (sym (named_known a e.attributes)) (given_step other (part_named a e.attributes))
+  given_path_found other u a b bs missing = given_value (made_prim (truth false))
+  given_path_found other u a b bs not_loaded = tt
+
+  given_path_field : (o : Option Made) → Given (path_after f (Some (val (field_step (option_map bare o))))) (path_field next o)
+  given_path_field None = given_value (made_prim (truth false))
+  given_path_field (Some m) = h m
+
+  given_path_from : (s : Scope) (a b : Text) (bs : List Text) (m : Made) → Given (path_after f (step_from (known_world s) a (bare m))) (path_from s next a b bs m)
+  given_path_from s a b bs (made_prim (entity u)) = given_path_found _ u a b bs (s.store u)
+  given_path_from s a b bs (made_record fs) = subst (λ o. Given (path_after f (Some (val (field_step o)))) (path_field next (made_named a fs))) (sym (field_known a fs)) (given_path_field (made_named a fs))
+  given_path_from s a b bs m = refl
+
+pub given_path : (s : Scope) (a : Text) (bs : List Text) (m : Made) → Given (path_tested (known_world s) a bs (bare m)) (path_of s a bs m)
+given_path s a [] m = given_test s a m
+given_path s a (b ∷ bs) m = given_path_from (path_tested (known_world s) b bs) (path_of s b bs) (λ k. given_path s b bs k) s a b bs m
+
+-- tags
+given_get_tag : (u : Uid) (a : Text) (f : Found Made) → Given (part_read tags_of u a (known_found f)) (get_tag_found u a f)
+given_get_tag u a (held e) = subst (λ o. Given (part_value o) (part_or_missing tag_left (part_named a e.tags))) (sym (named_known a e.tags)) (given_part tag_left (λ m. refl) (part_named a e.tags))
+given_get_tag u a missing = refl
+given_get_tag u a not_loaded = tt
+
+given_has_tag : (u : Uid) (a : Text) (f : Found Made) → Given (part_tested tags_of a (known_found f)) (has_tag_found u a f)
+given_has_tag u a (held e) = subst (λ o. Given (Some (says (is_there o))) (truth_left (is_some (part_named a e.tags)))) (sym (named_known a e.tags)) (given_there (part_named a e.tags))
+given_has_tag u a missing = given_value (made_prim (truth false))
+given_has_tag u a not_loaded = tt
+
+given_tag_read : (s : Scope) (m n : Made) → Given (tag_read (known_world s) (bare m) (bare n)) (tag_of get_tag_found s m n)
+given_tag_read s (made_prim (entity u)) (made_prim (text a)) = given_get_tag u a (s.store u)
+given_tag_read s m n = refl
+
+given_tag_tested : (s : Scope) (m n : Made) → Given (tag_tested (known_world s) (bare m) (bare n)) (tag_of has_tag_found s m n)
+given_tag_tested s (made_prim (entity u)) (made_prim (text a)) = given_has_tag u a (s.store u)
+given_tag_tested s m n = refl
+
+-- the hierarchy
+given_found_in : (u : Uid) (m : Made) (f : Found Made) → Given (found_in u (bare m) (known_found f)) (in_found u m f)
+given_found_in u m (held e) = given_literal (is_in_some e.ancestors u (uids_in (bare m))) (literal_in e.ancestors u (uids_in (bare m)))
+given_found_in u m missing = given_literal (is_in_some [] u (uids_in (bare m))) (literal_in [] u (uids_in (bare m)))
+given_found_in u m not_loaded = tt
+
+given_within : (s : Scope) (m n : Made) → Given (within (known_world s) (bare m) (bare n)) (in_of s m n)
+given_within s (made_prim (entity u)) n = given_found_in u n (s.store u)
+given_within s m n = refl
+
+pub given_combined : (s : Scope) (o : BinaryOp) (m n : Made) → Given (combined (known_world s) o (bare m) (bare n)) (combined_left s o m n)
+given_combined s equal m n = given_value (made_prim (truth (value_eq (bare m) (bare n))))
+given_combined s less m n = given_literal _ (literal_ordered s.table is_lt (bare m) (bare n))
+given_combined s less_or_equal m n = given_literal _ (literal_ordered s.table is_le (bare m) (bare n))
+given_combined s plus m n = given_literal _ (literal_calculated (λ i j. i +ℤ j) (bare m) (bare n))
+given_combined s difference m n = given_literal _ (literal_calculated (λ i j. i -ℤ j) (bare m) (bare n))
+given_combined s times m n = given_literal _ (literal_calculated (λ i j. i *ℤ j) (bare m) (bare n))
+given_combined s is_in m n = given_within s m n
+given_combined s contains m n = given_literal _ (literal_among (bare m) (bare n))
+given_combined s contains_all m n = given_literal _ (literal_sets (λ vs ws. all_members ws vs) (bare m) (bare n))
+given_combined s contains_any m n = given_literal _ (literal_sets any_member (bare m) (bare n))
+given_combined s get_tag m n = given_tag_read s m n
+given_combined s has_tag m n = given_tag_tested s m n
+
+-- calls
+given_answer : (s : Scope) (c : MadeCalled) → ((n : Text) → c ≡ leaves_unknown n → s.values n ≡ None) → Given (answered (known_world s).unknowns (bare_called c)) (answer_left c)
+given_answer s (makes m) h = given_value m
+given_answer s (faults e) h = refl
+given_answer s (leaves_unknown n) h = subst (λ o. Given (bound_value (option_map bare o)) (residual (unknown n None))) (sym (h n refl)) tt
+
+length_bare : (ms : List Made) → length (map bare ms) ≡ length ms
+length_bare [] = refl
+length_bare (m ∷ ms) = ap (λ n. suc n) (length_bare ms)
+
+-- count and types are asked for first
+given_guarded : (count types : Bool) (o : Option (Res V)) (l : Left) → (count ≡ true → types ≡ true → Given o l) → Given (cond count (cond types o (Some (err wrong_type))) (Some (err wrong_count))) (cond count (cond types l (errs wrong_type)) (errs wrong_count))
+given_guarded true true o l h = h refl refl
+given_guarded true false o l h = refl
+given_guarded false types o l h = refl
+
+pub given_call : (s : Scope) → Agrees s → LeavesUnbound s → (f : Name) (ms : List Made) (g : Option Signature) → signature_of s.table f ≡ g → Given (called_with s.table (known_world s).unknowns f (map bare ms) g) (call_left s f ms g)
+given_call s agrees unbound f ms None q = refl
+given_call s agrees unbound f ms (Some g) q =
+    let typed = are_of_types g.parameters (map bare ms) in
+    let known_answer = answered (known_world s).unknowns (s.table.answers f (map bare ms)) in
+    subst (λ k. Given (cond (takes_count g k) (cond typed known_answer (Some (err wrong_type))) (Some (err wrong_count))) (call_left s f ms (Some g))) (sym (length_bare ms))
+    (given_guarded (takes_count g (length ms)) typed known_answer (answer_left (s.calls f ms))
+     (λ c t.
+        let taken : IsTaken s.table f (map bare ms) = (g, q, ap (takes_count g) (length_bare ms) ∙ c, t) in
+        subst (λ x. Given (answered (known_world s).unknowns x) (answer_left (s.calls f ms))) (agrees f ms taken) (given_answer s (s.calls f ms) (λ n. unbound f ms n taken))))

@@ -1,0 +1,8 @@
+use Rattle.cedar_evaluator_model.proofs.Owed.{owed, owed_without_values}
+use Rattle.cedar_evaluator_model.proofs.laws.outcomes_are_owed.Goals as goal
+
+pub returns-clause-owed : goal.returns-clause-owed
+returns-clause-owed c = owed
+
+pub returns-clause-without_values : goal.returns-clause-without_values
+returns-clause-without_values c = owed_without_values

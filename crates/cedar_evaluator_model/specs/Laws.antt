@@ -1,0 +1,55 @@
+-- What the laws of partial evaluation say.
+-- Rule: partial evaluation; partial responses; completions (docs/RULES.md).
+use Rattle.std.specs.Prelude.{◌≡◌, ◌↔◌, ◌≤◌, ℕ, suc, true, List, Option, None}
+use Rattle.cedar_expr_model.specs.Name.{Text}
+use Rattle.cedar_expr_model.specs.Whole.Value.{Literal, V}
+use Rattle.cedar_expr_model.specs.Whole.Tree.{Tree, lit, nesting}
+use Rattle.cedar_expr_model.specs.Whole.Made.{made_prim}
+use Rattle.cedar_expr_model.specs.Whole.Table.{Table, IsFair, all_typed}
+use Rattle.cedar_store_model.specs.Whole.Outcome.{Res}
+use Rattle.cedar_store_model.specs.Whole.World.{World}
+use Rattle.cedar_store_model.specs.Whole.Meaning.{Means}
+use Rattle.cedar_store_model.specs.Whole.Knowledge.{Extends, IsGrounded}
+use Rattle.cedar_evaluator_model.specs.Scope.{Scope, Agrees, limit, Left, value_left, residual, stopped}
+use Rattle.cedar_evaluator_model.specs.Evaluation.{evaluated}
+use Rattle.cedar_evaluator_model.specs.Known.{known_world}
+use Rattle.cedar_evaluator_model.specs.Whole.{NothingUnknown, AllLoaded, AllBoundTo, LeavesNothing}
+use Rattle.cedar_evaluator_model.specs.Completion.{FitsAnnotations, Completes}
+use Rattle.cedar_evaluator_model.specs.Standing.{IsOutcome, LeavesUnbound, Owed, NoLimit}
+
+-- at limit 0 all stops at the limit, and a literal within the limit is its value
+abbrev pub LimitStops : Type 0
+LimitStops = (s : Scope) (t : Tree) → evaluated s 0 t ≡ stopped limit
+
+abbrev pub LiteralsStand : Type 0
+LiteralsStand = (s : Scope) (n : ℕ) (p : Literal) → evaluated s (suc n) (lit p) ≡ value_left (made_prim p)
+
+-- Outcomes are owed: whatever else is unknown, where what is known gives an expression an outcome that outcome is left. The calls
+-- answer as the table does, and unknowns with values fit their annotations.
+abbrev pub OutcomesAreOwed : Type 0
+OutcomesAreOwed = (s : Scope) → Agrees s → LeavesUnbound s → (n : ℕ) (t : Tree) → FitsAnnotations (known_world s) t → Owed s n t
+
+-- where no unknown has a value nothing is asked of annotations
+abbrev pub OwedWithoutValues : Type 0
+OwedWithoutValues = (s : Scope) → Agrees s → ((x : Text) → s.values x ≡ None) → (n : ℕ) (t : Tree) → Owed s n t
+
+-- the expression means an outcome, and exactly what it means is left
+pub record IsExact (s : Scope) (n : ℕ) (t : Tree) : Type 0 where
+  pub grounded : IsGrounded (known_world s) t
+  pub exact : (r : Res V) → Means (known_world s) t r ↔ IsOutcome r (evaluated s n t)
+
+-- Where nothing is unknown, everything is loaded and each unknown has a value that fits, evaluation within the limit is the meaning.
+abbrev pub EvaluationIsTheMeaning : Type 0
+EvaluationIsTheMeaning = (s : Scope) → Agrees s → NothingUnknown s → AllLoaded s → (n : ℕ) (t : Tree) → AllBoundTo s t → nesting t ≤ n → IsExact s n t
+
+-- and no residual is left
+abbrev pub NoResidualIsLeft : Type 0
+NoResidualIsLeft = (s : Scope) → Agrees s → NothingUnknown s → AllLoaded s → (n : ℕ) (t : Tree) → AllBoundTo s t → nesting t ≤ n → (r : Tree) → evaluated s n t ≡ residual r → ⊥
+
+-- a fair table of which each function has a result type leaves no unknown
+abbrev pub TypedTablesLeaveNothing : Type 0
+TypedTablesLeaveNothing = (x : Table) → IsFair x → all_typed x ≡ true → LeavesNothing x
+
+-- a completion knows all that the scope knows as values
+abbrev pub CompletionsExtend : Type 0
+CompletionsExtend = (w : World) (s : Scope) → Completes w s → Extends (known_world s) w

@@ -1,0 +1,11 @@
+pub mod Scope
+pub mod Steps
+pub mod Evaluation
+pub mod Known
+pub mod Whole
+pub mod Completion
+pub mod Standing
+pub mod Response
+pub mod Members
+pub mod Reauthorize
+pub mod Laws

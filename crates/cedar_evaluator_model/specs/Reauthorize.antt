@@ -1,0 +1,108 @@
+-- Reauthorizing: what is left of the policies is evaluated again, with values for unknowns.
+-- Rule: reauthorizing (docs/RULES.md).
+use Rattle.std.specs.Prelude.{List, [], ◌∷◌, ℕ, Bool, true, false, Option, Some, None, if◌then◌else◌, codes}
+use Rattle.std.specs.List.{list_any}
+use Rattle.std.specs.Str.{bytes_eq}
+use Rattle.cedar_expr_model.specs.Name.{Text, Name, name_eq}
+use Rattle.cedar_expr_model.specs.Uid.{Uid}
+use Rattle.cedar_expr_model.specs.Whole.Value.{entity}
+use Rattle.cedar_expr_model.specs.Whole.Tree.{Tree, TreeFields, record_literal, Var, principal, action, resource, context}
+use Rattle.cedar_expr_model.specs.Whole.Made.{Made, made_prim, made_record}
+use Rattle.cedar_expr_model.specs.Whole.Substitution.{Bindings, substituted}
+use Rattle.cedar_store_model.specs.Whole.Policy.{Policy}
+use Rattle.cedar_store_model.specs.Whole.Answer.{ids}
+use Rattle.cedar_evaluator_model.specs.Scope.{Scope, Entry, uid, unknown_uid, Context, closed, residual_fields, unknown_context, Stop, limit, Left, value_left, residual, stopped}
+use Rattle.cedar_evaluator_model.specs.Evaluation.{evaluated}
+use Rattle.cedar_evaluator_model.specs.Response.{PartialRequest, Response, response_of}
+use Rattle.cedar_evaluator_model.specs.Members.{all_residuals}
+
+-- Why a response isn't reauthorized: an id stands twice; a variable gets no uid, or the context no record; a variable that is known
+-- already; a uid of another type than is known of it; the context doesn't evaluate with the values.
+pub data Refusal : Type 0 where
+  repeated_id : Text → Refusal
+  wrong_value : Var → Refusal
+  known_already : Var → Refusal
+  other_type : Var → Refusal
+  context_stops : Stop → Refusal
+
+-- what is made, or why not
+pub data Outcome (A : Type 0) : Type 0 where
+  makes_it : A → Outcome A
+  refuses : Refusal → Outcome A
+
+abbrev pub and_next : {A B : Type 0} → Outcome A → (A → Outcome B) → Outcome B
+and_next (makes_it a) next = next a
+and_next (refuses r) next = refuses r
+
+-- the first id that stands before it already
+abbrev pub repeated : List Text → List Text → Option Text
+repeated seen [] = None
+repeated seen (i ∷ is) = if list_any (bytes_eq i) seen then Some i else repeated (i ∷ seen) is
+
+-- the policies, of distinct ids
+abbrev pub distinct_or : List Policy → Option Text → Outcome (List Policy)
+distinct_or ps None = makes_it ps
+distinct_or ps (Some i) = refuses (repeated_id i)
+
+abbrev pub distinct : List Policy → Outcome (List Policy)
+distinct ps = distinct_or ps (repeated [] (ids ps))
+
+-- an entry with a uid for it
+abbrev pub entry_with : Var → Uid → Entry → Outcome Entry
+entry_with x u (uid v) = refuses (known_already x)
+entry_with x u (unknown_uid None) = makes_it (uid u)
+entry_with x u (unknown_uid (Some k)) = if name_eq k u.kind then makes_it (uid u) else refuses (other_type x)
+
+-- An entry with the value for its name, if there is one: it must be a uid, and the entry unknown and of the uid's type.
+abbrev pub entry_bound : Var → Entry → Option Made → Outcome Entry
+entry_bound x e None = makes_it e
+entry_bound x e (Some (made_prim (entity u))) = entry_with x u e
+entry_bound x e (Some m) = refuses (wrong_value x)
+
+-- a context with the value for `context`, if there is one: it must be a record, and the context unknown
+abbrev pub context_bound : Context → Option Made → Outcome Context
+context_bound c None = makes_it c
+context_bound unknown_context (Some (made_record fs)) = makes_it (closed fs)
+context_bound c (Some (made_record fs)) = refuses (known_already context)
+context_bound c (Some m) = refuses (wrong_value context)
+
+-- a scope that knows the table alone, in which restricted expressions are evaluated
+abbrev pub restricted_scope : Scope → Scope
+restricted_scope s = record s { values = λ n. None }
+
+-- what is left of a restricted expression: the limit on its depth is fixed
+abbrev pub restricted_left : Scope → Tree → Left
+restricted_left s t = evaluated (restricted_scope s) 512 t
+
+-- the context that an evaluated record is
+abbrev pub context_made : Left → Outcome Context
+context_made (value_left (made_record fs)) = makes_it (closed fs)
+context_made (residual (record_literal fs)) = makes_it (residual_fields fs)
+context_made (stopped r) = refuses (context_stops r)
+context_made l = refuses (wrong_value context)
+
+-- The unknowns of a residual context replaced by their values, whatever their annotations, and what is left evaluated; a context of
+-- values stays, and an unknown one.
+abbrev pub context_substituted : Scope → Bindings → Context → Outcome Context
+context_substituted s env (residual_fields fs) = context_made (restricted_left s (substituted env (record_literal fs)))
+context_substituted s env c = makes_it c
+
+-- the context of a request under values for unknowns
+abbrev pub context_under : Scope → Bindings → Context → Outcome Context
+context_under s env c = and_next (context_bound c (env (codes "context"))) (context_substituted s env)
+
+-- A request under values for unknowns: principal, action, resource and context, one after the other.
+abbrev pub request_bound : Scope → Bindings → PartialRequest → Outcome PartialRequest
+request_bound s env q =
+    and_next (entry_bound principal q.principal (env (codes "principal")))
+    (λ p. and_next (entry_bound action q.action (env (codes "action")))
+     (λ a. and_next (entry_bound resource q.resource (env (codes "resource")))
+      (λ r. and_next (context_under s env q.context) (λ c. makes_it (record { principal = p; action = a; resource = r; context = c })))))
+
+-- the scope with another request, in which unknowns have these values
+abbrev pub resumed : Scope → Bindings → PartialRequest → Scope
+resumed s env q = record s { principal = q.principal; action = q.action; resource = q.resource; context = q.context; values = env }
+
+-- The response to what is left of the policies, under values for unknowns. Table and store are those of the scope.
+abbrev pub reauthorized : Scope → ℕ → Bindings → Response → Outcome Response
+reauthorized s n env r = and_next (distinct (all_residuals r)) (λ ps. and_next (request_bound s env r.request) (λ q. makes_it (response_of (resumed s env q) n ps)))

@@ -1,0 +1,63 @@
+-- What an evaluation knows: request, context, slots, values for unknowns, store and functions; and what it leaves.
+-- Rule: partial evaluation (docs/RULES.md).
+use Rattle.std.specs.Prelude.{◌≡◌, List, [], ◌∷◌, map, length, true, Option, Some, None}
+use Rattle.cedar_expr_model.specs.Name.{Text, Name}
+use Rattle.cedar_expr_model.specs.Uid.{Uid}
+use Rattle.cedar_expr_model.specs.Whole.Value.{V}
+use Rattle.cedar_expr_model.specs.Whole.Tree.{Tree, SlotId, TreeFields}
+use Rattle.cedar_expr_model.specs.Whole.Made.{Made, MadeFields, bare}
+use Rattle.cedar_expr_model.specs.Whole.Table.{Table, Signature, signature_of, takes_count, are_of_types, Called, gives, fails, leaves}
+use Rattle.cedar_store_model.specs.Whole.Outcome.{Fault}
+use Rattle.cedar_store_model.specs.Whole.World.{Found}
+
+-- what a call answers, with the call that makes its value
+pub data MadeCalled : Type 0 where
+  makes : Made → MadeCalled
+  faults : Name → MadeCalled
+  leaves_unknown : Text → MadeCalled
+
+abbrev pub bare_called : MadeCalled → Called
+bare_called (makes m) = gives (bare m)
+bare_called (faults e) = fails e
+bare_called (leaves_unknown n) = leaves n
+
+-- a principal, action or resource: a uid, or an unknown one, of a type if that is known
+pub data Entry : Type 0 where
+  uid : Uid → Entry
+  unknown_uid : Option Name → Entry
+
+-- a context: fields with values, fields with expressions of which at least one has an unknown, or nothing known
+pub data Context : Type 0 where
+  closed : MadeFields → Context
+  residual_fields : TreeFields → Context
+  unknown_context : Context
+
+pub record Scope : Type 0 where
+  pub principal : Entry
+  pub action : Entry
+  pub resource : Entry
+  pub context : Context
+  pub slots : SlotId → Option Uid
+  pub values : Text → Option Made
+  pub table : Table
+  pub calls : Name → List Made → MadeCalled
+  pub store : Uid → Found Made
+
+-- the table has the function, which takes these arguments
+abbrev pub IsTaken : Table → Name → List V → Type 0
+IsTaken x f vs = (g : Signature) × (signature_of x f ≡ Some g) × (takes_count g (length vs) ≡ true) × (are_of_types g.parameters vs ≡ true)
+
+-- the calls answer as the table does, on arguments that their functions take
+abbrev pub Agrees : Scope → Type 0
+Agrees s = (f : Name) (ms : List Made) → IsTaken s.table f (map bare ms) → bare_called (s.calls f ms) ≡ s.table.answers f (map bare ms)
+
+-- why an evaluation stops: an error, or an expression that nests deeper than the limit
+pub data Stop : Type 0 where
+  fault : Fault → Stop
+  limit : Stop
+
+-- what an evaluation leaves: a value, an expression, or nothing
+pub data Left : Type 0 where
+  value_left : Made → Left
+  residual : Tree → Left
+  stopped : Stop → Left

@@ -1,0 +1,33 @@
+//! Laws of the definitions. Each function's contract is the theorem; its body does nothing.
+
+ghost use Rattle.cedar_evaluator_model.specs.Laws.{LimitStops, LiteralsStand, OutcomesAreOwed, OwedWithoutValues, EvaluationIsTheMeaning, NoResidualIsLeft, TypedTablesLeaveNothing, CompletionsExtend};
+
+/// At limit 0 every evaluation stops at the limit; within a limit a literal is its value.
+pub fn the_limit_is_met()
+    ensures zero { LimitStops }
+    ensures literals { LiteralsStand }
+{}
+
+/// Whatever else is unknown: where what is known as values gives an expression an outcome, and its nesting is within the limit,
+/// evaluation leaves that value or that error.
+pub fn outcomes_are_owed()
+    ensures owed { OutcomesAreOwed }
+    ensures without_values { OwedWithoutValues }
+{}
+
+/// Where nothing is unknown, everything is loaded and the nesting is within the limit, evaluation is the meaning, and leaves no
+/// residual.
+pub fn evaluation_is_the_meaning()
+    ensures exact { EvaluationIsTheMeaning }
+    ensures no_residual { NoResidualIsLeft }
+{}
+
+/// The calls of a fair table leave no unknown where each of its functions has a result type.
+pub fn typed_tables_leave_nothing()
+    ensures { TypedTablesLeaveNothing }
+{}
+
+/// Each completion of a scope knows what the scope knows as values.
+pub fn completions_extend_what_is_known()
+    ensures { CompletionsExtend }
+{}

@@ -1,0 +1,4 @@
+//! Definitions of partial evaluation and of partial responses.
+#![tactic(auto)]
+
+pub mod laws;

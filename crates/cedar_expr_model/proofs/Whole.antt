@@ -1,0 +1,17 @@
+pub mod Linear
+pub mod ValueOrder
+pub mod Rising
+pub mod Sets
+pub mod Sameness
+pub mod Patterns
+pub mod CoreTypes
+pub mod WellFormed
+pub mod Building
+pub mod Substituting
+pub mod Agreeing
+pub mod Mismatching
+pub mod Restricting
+pub mod Gathering
+pub mod Repeating
+pub mod Ordering
+pub mod SideBySide

@@ -1,0 +1,17 @@
+use Rattle.cedar_expr_model.proofs.Whole.Restricting.{written_restricted}
+use Rattle.cedar_expr_model.proofs.Whole.Substituting.{written_known}
+use Rattle.cedar_expr_model.proofs.Whole.Building.{written_built}
+use Rattle.cedar_expr_model.proofs.Whole.CoreTypes.{shown_type}
+use Rattle.cedar_expr_model.proofs.whole_laws.written_values_are_plain.Goals as goal
+
+pub returns-clause-restricted : goal.returns-clause-restricted
+returns-clause-restricted c = written_restricted
+
+pub returns-clause-known : goal.returns-clause-known
+returns-clause-known c = written_known
+
+pub returns-clause-form : goal.returns-clause-form
+returns-clause-form c = written_built
+
+pub returns-clause-shown : goal.returns-clause-shown
+returns-clause-shown c = shown_type

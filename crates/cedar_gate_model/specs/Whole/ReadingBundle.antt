@@ -1,0 +1,51 @@
+-- Reading a bundle.
+-- Rule: what a bundle reads as (docs/RULES.md).
+use Rattle.std.specs.Prelude.{◌&&◌, ℕ, List, [], ◌∷◌, Bool, codes, if◌then◌else◌, Option, None, option_map}
+use Rattle.std.specs.Str.{is_utf8}
+use Rattle.serde_json.specs.Data.{Data}
+use Rattle.serde_json.specs.Read.{read}
+use Rattle.cedar_expr_model.specs.Name.{Text}
+use Rattle.cedar_gate_model.specs.Reading.{given, required, has_at, has_only, list_of}
+use Rattle.cedar_gate_model.specs.Whole.Acceptance.{Submission}
+use Rattle.cedar_gate_model.specs.Whole.Bundle.{Functions, Bundle}
+use Rattle.cedar_gate_model.specs.Whole.ReadingForms.{number_between, is_number}
+use Rattle.cedar_gate_model.specs.Whole.ReadingSchema.{schema_read}
+use Rattle.cedar_gate_model.specs.Whole.ReadingPolicy.{policy_read}
+use Rattle.cedar_gate_model.specs.Whole.ReadingRequest.{request_read, store_read, steps_read}
+
+abbrev pub level_read : Data → Option ℕ
+level_read d = number_between 0 4294967295 d
+
+abbrev pub limit_read : Data → Option ℕ
+limit_read d = number_between 1 512 d
+
+-- what is handed to the gate
+abbrev pub submission_read : Functions → Data → Option Submission
+submission_read x d =
+    given (required (codes "level") level_read d) (λ level.
+    given (required (codes "limit") limit_read d) (λ limit.
+    given (required (codes "schema") schema_read d) (λ declarations.
+    option_map (λ policies. record { declarations = declarations; policies = policies; table = x.table; level = level; limit = limit })
+    (required (codes "policies") (list_of policy_read) d))))
+
+abbrev pub bundle_keys : List Text
+bundle_keys = codes "version" ∷ codes "level" ∷ codes "limit" ∷ codes "schema" ∷ codes "policies" ∷ codes "request" ∷ codes "store"
+    ∷ codes "steps" ∷ []
+
+-- the keys of a bundle alone, of the first version
+abbrev pub is_bundle : Data → Bool
+is_bundle d = has_only bundle_keys d && has_at (codes "version") (is_number 1) d
+
+-- a bundle
+abbrev pub bundle_read : Functions → Data → Option Bundle
+bundle_read x d =
+    if is_bundle d then
+    given (submission_read x d) (λ submission.
+    given (required (codes "request") (request_read x) d) (λ start.
+    given (required (codes "store") (store_read x) d) (λ store.
+    option_map (λ steps. record { submission = submission; start = start; store = store; steps = steps }) (steps_read x d))))
+    else None
+
+-- A whole input, which is UTF-8 and JSON.
+unfoldable pub input_read : Functions → List ℕ → Option Bundle
+input_read x bytes = if is_utf8 bytes then given (read bytes) (bundle_read x) else None

@@ -1,0 +1,86 @@
+-- Runs over a store that answers for every uid: what they do step by step, and how they end.
+-- Rule: runs; legal transcript (docs/RULES.md).
+use Rattle.std.specs.Prelude.{◌≡◌, ◌≢◌, ◌↔◌, ℕ, List, [], ◌∷◌, ◌++◌, map, Contains, Bool, true, false, Option, Some, None}
+use Rattle.std.proofs.Common.{◌⊎◌}
+use Rattle.cedar_expr_model.specs.Name.{Text}
+use Rattle.cedar_expr_model.specs.Uid.{Uid}
+use Rattle.cedar_expr_model.specs.Whole.Made.{Made}
+use Rattle.cedar_expr_model.specs.Whole.Value.{V}
+use Rattle.cedar_store_model.specs.Whole.World.{World, Entity}
+use Rattle.cedar_store_model.specs.Whole.Policy.{Policy}
+use Rattle.cedar_store_model.specs.Whole.Answer.{Decision, Answer, decision_of, answer_of}
+use Rattle.cedar_gate_model.specs.Whole.Session.{Setup, State, at_start, known_now, world_now, IsWantedList, NothingIsWanted, with_bound, OpenFault, OpenRefusal, open_number, BindFault, BindRefusal, bind_number, Supplied, SupplyFault, SupplyRefusal, supply_number, AnswerFault, AnswerRefusal, answer_number}
+use Rattle.cedar_gate_model.specs.Whole.Transcript.{Step, load, bind_name, decide, Entry, round, bound, decided}
+use Rattle.cedar_gate_model.specs.Whole.Owed.{IsForced}
+
+-- How a run ends: with the answer, or where a call refuses.
+pub data End : Type 0 where
+  answered : Answer → End
+  opening_refused : OpenRefusal → End
+  supply_refused : SupplyRefusal → End
+  binding_refused : BindRefusal → End
+  answer_refused : AnswerRefusal → End
+
+-- what the store supplies for these
+abbrev pub owned : Uid → Option (Entity V) → Option (Uid × Entity V)
+owned u None = None
+owned u (Some e) = Some (u, e)
+
+abbrev pub supplied_by : Setup → List Uid → Supplied
+supplied_by x uids = map (λ u. (u, owned u (x.store u))) uids
+
+-- A round: these are wanted, at least one, in order, and what the store supplies is taken.
+pub record IsRoundNow (x : Setup) (s : State) (uids : List Uid) : Type 0 where
+  pub some_wanted : uids ≢ []
+  pub wanted : IsWantedList x s uids
+  pub taken : (f : SupplyRefusal) → SupplyFault x s (supplied_by x uids) f → ⊥
+
+-- the state after a round
+abbrev pub with_asked : State → List Uid → State
+with_asked s uids = record s { asked = s.asked ++ uids }
+
+-- a round whose supply is refused
+abbrev pub RefusesSupply : Setup → State → SupplyRefusal → Type 0
+RefusesSupply x s f = (uids : List Uid) × (uids ≢ []) × IsWantedList x s uids × SupplyFault x s (supplied_by x uids) f
+
+-- A decision that may be given: one that is given is the decision of every completion of what is known, and one that what is known forces is given.
+abbrev pub MayDecide : (Decision → Type 0) → (Decision → Type 0) → Option Decision → Type 0
+MayDecide holds forced None = (d : Decision) → forced d → ⊥
+MayDecide holds forced (Some d) = holds d
+
+-- After the last step: rounds as long as something is wanted, and then the answer.
+abbrev pub Finishes : Setup → List Policy → State → List Entry → End → Type 0
+Finishes x ps s (round uids ∷ es) end = IsRoundNow x s uids × Finishes x ps (with_asked s uids) es end
+Finishes x ps s [] (answered a) = NothingIsWanted x s × ((f : AnswerRefusal) → AnswerFault x s f → ⊥) × (a ≡ answer_of (world_now x s) ps)
+Finishes x ps s [] (answer_refused f) = NothingIsWanted x s × AnswerFault x s f
+Finishes x ps s [] (supply_refused f) = RefusesSupply x s f
+Finishes x ps s es end = ⊥
+
+-- A load where something is wanted: a round and what comes after it, or a supply that is refused.
+abbrev pub Loads : Setup → State → (State → List Entry → Type 0) → List Entry → End → Type 0
+Loads x s next (round uids ∷ es) end = IsRoundNow x s uids × next (with_asked s uids) es
+Loads x s next [] (supply_refused f) = RefusesSupply x s f
+Loads x s next es end = ⊥
+
+-- A binding and what comes after it, or one that is refused.
+abbrev pub Binds : Setup → State → Text → Made → (List Entry → Type 0) → List Entry → End → Type 0
+Binds x s n m next (bound k ∷ es) end = (k ≡ n) × ((f : BindRefusal) → BindFault x s n m f → ⊥) × next es
+Binds x s n m next [] (binding_refused f) = BindFault x s n m f
+Binds x s n m next es end = ⊥
+
+-- A decision that may be given, and what comes after it.
+abbrev pub DecidesNow : (Decision → Type 0) → World → List Policy → (List Entry → Type 0) → List Entry → Type 0
+DecidesNow holds k ps next (decided d ∷ es) = MayDecide holds (IsForced k ps) d × next es
+DecidesNow holds k ps next es = ⊥
+
+-- What the steps do, one after the other. `holds` tells which decisions every completion of a state has.
+abbrev pub Follows : (State → Decision → Type 0) → Setup → List Policy → State → List Step → List Entry → End → Type 0
+Follows holds x ps s [] es end = Finishes x ps s es end
+Follows holds x ps s (load ∷ steps) es end = (NothingIsWanted x s × Follows holds x ps s steps es end) ⊎ Loads x s (λ t fs. Follows holds x ps t steps fs end) es end
+Follows holds x ps s (bind_name n m ∷ steps) es end = Binds x s n m (λ fs. Follows holds x ps (with_bound s n m) steps fs end) es end
+Follows holds x ps s (decide ∷ steps) es end = DecidesNow (holds s) (known_now x s) ps (λ fs. Follows holds x ps s steps fs end) es
+
+-- A run: it doesn't open, or it follows its steps to an end.
+abbrev pub Runs : (State → Decision → Type 0) → Setup → List Policy → List Step → List Entry → End → Type 0
+Runs holds x ps steps es (opening_refused f) = (es ≡ []) × OpenFault x.start f
+Runs holds x ps steps es end = ((f : OpenRefusal) → OpenFault x.start f → ⊥) × Follows holds x ps at_start steps es end

@@ -1,0 +1,281 @@
+-- Sessions: what was bound and asked so far, what is known by it, and what each call refuses.
+-- Rule: sessions; refusals of a session (docs/RULES.md).
+use Rattle.std.specs.Prelude.{◌≡◌, ◌≢◌, ◌↔◌, ◌&&◌, ◌||◌, ◌==◌, ℕ, List, [], ◌∷◌, ◌++◌, map, Contains, Bool, true, false, not, Option, Some, None, codes, if◌then◌else◌}
+use Rattle.std.specs.List.{list_all, list_any, flat_map, filter}
+use Rattle.std.specs.Str.{bytes_eq}
+use Rattle.std.proofs.Common.{◌⊎◌}
+use Rattle.cedar_expr_model.specs.Name.{Text, Name, name_eq}
+use Rattle.cedar_expr_model.specs.Uid.{Uid, uid_eq}
+use Rattle.cedar_expr_model.specs.Order.{are_rising}
+use Rattle.cedar_expr_model.specs.Whole.Value.{Literal, truth, long, text, entity, V, prim, record_of, Fields}
+use Rattle.cedar_expr_model.specs.Whole.Tree.{CoreType, Tree, record_literal, TreeFields, SlotId}
+use Rattle.cedar_expr_model.specs.Whole.Made.{Made, made_prim, made_record, bare, bare_fields}
+use Rattle.cedar_expr_model.specs.Whole.Substitution.{fits_annotation, substituted}
+use Rattle.cedar_expr_model.specs.Whole.Parts.{Unknown, unknowns}
+use Rattle.cedar_expr_model.specs.Whole.Table.{Table}
+use Rattle.cedar_store_model.specs.Whole.World.{World, Entity, Found, held, missing, not_loaded}
+use Rattle.cedar_store_model.specs.Whole.Policy.{Policy}
+use Rattle.cedar_store_model.specs.Whole.Answer.{Decision, decision_of}
+use Rattle.cedar_schema_model.specs.Whole.Schema.{Schema, declares_action}
+use Rattle.cedar_schema_model.specs.Whole.ActionEntities.{as_entity}
+use Rattle.cedar_schema_model.specs.Whole.Conforming.{EntityConforms, RequestConforms}
+use Rattle.cedar_evaluator_model.specs.Scope.{Scope, MadeCalled, Entry, uid, unknown_uid, Context, closed, residual_fields, unknown_context, Left, value_left, residual, stopped, Stop}
+use Rattle.cedar_gate_model.specs.Whole.Bundle.{Functions}
+use Rattle.cedar_gate_model.specs.Whole.Slice.{InSlice}
+use Rattle.cedar_gate_model.specs.Whole.ReadingValue.{left_of_restricted}
+use Rattle.cedar_gate_model.specs.Whole.Moment.{Start, Completes, parts_of_world, told}
+
+-- What a session stands on: schema, level, functions, the request that it was opened with, and the store that answers.
+pub record Setup : Type 0 where
+  pub schema : Schema
+  pub level : ℕ
+  pub functions : Functions
+  pub start : Start
+  pub store : Uid → Option (Entity V)
+
+-- What was done by now: the names that were bound, with their values, and the uids that were asked for.
+pub record State : Type 0 where
+  pub bound : List (Text × Made)
+  pub asked : List Uid
+
+abbrev pub at_start : State
+at_start = record { bound = []; asked = [] }
+
+abbrev pub value_among : Text → List (Text × Made) → Option Made
+value_among n [] = None
+value_among n (b ∷ bs) = if bytes_eq n b.0 then Some b.1 else value_among n bs
+
+abbrev pub value_of : State → Text → Option Made
+value_of s n = value_among n s.bound
+
+abbrev pub is_some_value : Option Made → Bool
+is_some_value None = false
+is_some_value (Some m) = true
+
+-- the fields of a context with the bound values in the place of its unknowns, evaluated
+abbrev pub context_left : Functions → State → TreeFields → Left
+context_left f s fs = left_of_restricted f (substituted (value_of s) (record_literal fs))
+
+abbrev pub value_if_whole : Left → Option V
+value_if_whole (value_left m) = Some (bare m)
+value_if_whole l = None
+
+abbrev pub uid_in : Option Made → Option Uid
+uid_in (Some (made_prim (entity u))) = Some u
+uid_in o = None
+
+-- an entry, as far as it is known by now
+abbrev pub entry_by_now : State → Text → Entry → Option Uid
+entry_by_now s name (uid u) = Some u
+entry_by_now s name (unknown_uid k) = uid_in (value_of s name)
+
+abbrev pub bare_if_there : Option Made → Option V
+bare_if_there None = None
+bare_if_there (Some m) = Some (bare m)
+
+abbrev pub context_by_now : Functions → State → Context → Option V
+context_by_now f s (closed fs) = Some (record_of (bare_fields fs))
+context_by_now f s (residual_fields fs) = value_if_whole (context_left f s fs)
+context_by_now f s unknown_context = bare_if_there (value_of s (codes "context"))
+
+abbrev pub found_in : Option (Entity V) → Found V
+found_in None = missing
+found_in (Some e) = held e
+
+-- what the whole store answers: at declared actions these stand, whatever is said of them
+abbrev pub whole_store : Setup → Uid → Found V
+whole_store x u = if declares_action x.schema u then held (as_entity x.schema u) else found_in (x.store u)
+
+-- what is known by now
+abbrev pub known_now : Setup → State → World
+known_now x s = record {
+  principal = entry_by_now s (codes "principal") x.start.principal;
+  action = entry_by_now s (codes "action") x.start.action;
+  resource = entry_by_now s (codes "resource") x.start.resource;
+  context = context_by_now x.functions s x.start.context;
+  slots = λ s'. None;
+  unknowns = λ n. bare_if_there (value_of s n);
+  table = x.functions.table;
+  store = λ u. if declares_action x.schema u || list_any (uid_eq u) s.asked then told (whole_store x u) else not_loaded;
+}
+
+-- the same with the whole store, which the answer stands on
+abbrev pub world_now : Setup → State → World
+world_now x s = record (known_now x s) { store = whole_store x }
+
+-- what may be asked now: the slice of what is known, less what was asked
+abbrev pub IsWantedNow : Setup → State → Uid → Type 0
+IsWantedNow x s u = InSlice x.schema x.level (known_now x s) u × (Contains s.asked u → ⊥)
+
+abbrev pub NothingIsWanted : Setup → State → Type 0
+NothingIsWanted x s = (u : Uid) → IsWantedNow x s u → ⊥
+
+-- the list of what is wanted, in the order of uids
+pub record IsWantedList (x : Setup) (s : State) (uids : List Uid) : Type 0 where
+  pub in_order : are_rising uids ≡ true
+  pub exact : (u : Uid) → Contains uids u ↔ IsWantedNow x s u
+
+-- the names of the variables of a request
+abbrev pub variable_names : List Text
+variable_names = codes "principal" ∷ codes "action" ∷ codes "resource" ∷ codes "context" ∷ []
+
+-- the unknowns of the context that a session is opened with
+abbrev pub context_unknowns : Context → List Unknown
+context_unknowns (residual_fields fs) = unknowns (record_literal fs)
+context_unknowns c = []
+
+-- Refusals of opening: an unknown of the context has a double quote in its name, or is named as a variable.
+pub data OpenRefusal : Type 0 where
+  quote_in_name : OpenRefusal
+  name_of_variable : OpenRefusal
+
+abbrev pub open_number : OpenRefusal → ℕ
+open_number quote_in_name = 1
+open_number name_of_variable = 2
+
+abbrev pub OpenFault : Start → OpenRefusal → Type 0
+OpenFault r quote_in_name = (u : Unknown) × Contains (context_unknowns r.context) u × Contains u.name 34
+OpenFault r name_of_variable = (u : Unknown) × Contains (context_unknowns r.context) u × Contains variable_names u.name
+
+-- the entry of a variable, where the name is that of one
+abbrev pub entry_named : Start → Text → Option Entry
+entry_named r n =
+    if bytes_eq n (codes "principal") then Some r.principal
+    else (if bytes_eq n (codes "action") then Some r.action
+    else (if bytes_eq n (codes "resource") then Some r.resource else None))
+
+abbrev pub is_open_entry : Option Entry → Bool
+is_open_entry (Some (unknown_uid k)) = true
+is_open_entry e = false
+
+abbrev pub is_open_context : Context → Text → Bool
+is_open_context (closed fs) n = false
+is_open_context (residual_fields fs) n = list_any (λ u. bytes_eq n u.name) (unknowns (record_literal fs))
+is_open_context unknown_context n = bytes_eq n (codes "context")
+
+-- the name was open at the start, and is not bound yet
+abbrev pub is_open_name : Start → State → Text → Bool
+is_open_name r s n = not (is_some_value (value_of s n)) && (is_open_entry (entry_named r n) || is_open_context r.context n)
+
+-- something is not bound yet
+abbrev pub HasOpenName : Start → State → Type 0
+HasOpenName r s = (n : Text) × (is_open_name r s n ≡ true)
+
+-- an entity of another type than the unknown entry has
+abbrev pub IsOtherKind : Option Entry → Made → Type 0
+IsOtherKind (Some (unknown_uid (Some k))) (made_prim (entity u)) = name_eq u.kind k ≡ false
+IsOtherKind e m = ⊥
+
+-- a value that is no entity, for a variable that is one
+abbrev pub IsNoEntity : Option Entry → Made → Type 0
+IsNoEntity None m = ⊥
+IsNoEntity (Some e) m = uid_in (Some m) ≡ None
+
+-- a value that isn't of the annotation of an unknown of this name
+abbrev pub BreaksAnnotation : Context → Text → Made → Type 0
+BreaksAnnotation c n m = (u : Unknown) × Contains (context_unknowns c) u × (u.name ≡ n) × (fits_annotation u.annotation (bare m) ≡ false)
+
+abbrev pub IsNoRecord : Made → Type 0
+IsNoRecord (made_record fs) = ⊥
+IsNoRecord m = Unit {0}
+
+-- the state with one more binding
+abbrev pub with_bound : State → Text → Made → State
+with_bound s n m = record s { bound = (n, m) ∷ s.bound }
+
+-- the context fails to evaluate
+abbrev pub ContextFails : Functions → State → Context → Type 0
+ContextFails f s (residual_fields fs) = (why : Stop) × (context_left f s fs ≡ stopped why)
+ContextFails f s c = ⊥
+
+-- Refusals of a binding: the name isn't open; the value isn't of the type that is annotated; a variable gets no entity or the context
+-- no record; the context fails to evaluate with it.
+pub data BindRefusal : Type 0 where
+  not_open : BindRefusal
+  against_annotation : BindRefusal
+  no_entity_or_record : BindRefusal
+  context_fails : BindRefusal
+
+abbrev pub bind_number : BindRefusal → ℕ
+bind_number not_open = 1
+bind_number against_annotation = 2
+bind_number no_entity_or_record = 3
+bind_number context_fails = 4
+
+abbrev pub BindFault : Setup → State → Text → Made → BindRefusal → Type 0
+BindFault x s n m not_open = is_open_name x.start s n ≡ false
+BindFault x s n m against_annotation = IsOtherKind (entry_named x.start n) m ⊎ BreaksAnnotation x.start.context n m
+BindFault x s n m no_entity_or_record = IsNoEntity (entry_named x.start n) m ⊎ ((n ≡ codes "context") × IsNoRecord m)
+BindFault x s n m context_fails = ContextFails x.functions (with_bound s n m) x.start.context
+
+-- what was supplied for a uid
+abbrev pub Supplied : Type 0
+Supplied = List (Uid × Option (Uid × Entity V))
+
+abbrev pub supplied_ids : Supplied → List Uid
+supplied_ids ps = map (λ p. p.0) ps
+
+-- one of them stands twice
+abbrev pub HasTwice : List Uid → Type 0
+HasTwice [] = ⊥
+HasTwice (u ∷ us) = Contains us u ⊎ HasTwice us
+
+-- an entity under another uid than its own, or one that doesn't conform
+abbrev pub IsWrong : Schema → Uid × Option (Uid × Entity V) → Type 0
+IsWrong s (u, None) = ⊥
+IsWrong s (u, Some e) = (uid_eq u e.0 ≡ false) ⊎ (EntityConforms s e.0 e.1 → ⊥)
+
+-- Refusals of a supply: a uid that isn't wanted; one that is wanted lacks; one stands twice; an entity is wrong.
+pub data SupplyRefusal : Type 0 where
+  not_wanted : SupplyRefusal
+  lacking : SupplyRefusal
+  repeated : SupplyRefusal
+  wrong_entity : SupplyRefusal
+
+abbrev pub supply_number : SupplyRefusal → ℕ
+supply_number not_wanted = 1
+supply_number lacking = 2
+supply_number repeated = 3
+supply_number wrong_entity = 4
+
+abbrev pub SupplyFault : Setup → State → Supplied → SupplyRefusal → Type 0
+SupplyFault x s ps not_wanted = (u : Uid) × Contains (supplied_ids ps) u × (IsWantedNow x s u → ⊥)
+SupplyFault x s ps lacking = (u : Uid) × IsWantedNow x s u × (Contains (supplied_ids ps) u → ⊥)
+SupplyFault x s ps repeated = HasTwice (supplied_ids ps)
+SupplyFault x s ps wrong_entity = (p : Uid × Option (Uid × Entity V)) × Contains ps p × IsWrong x.schema p
+
+-- Refusals of the answer: something isn't bound; something is wanted; all is bound and the request doesn't conform.
+pub data AnswerRefusal : Type 0 where
+  not_bound : AnswerRefusal
+  still_wanted : AnswerRefusal
+  not_conforming : AnswerRefusal
+
+abbrev pub answer_number : AnswerRefusal → ℕ
+answer_number not_bound = 1
+answer_number still_wanted = 2
+answer_number not_conforming = 3
+
+abbrev pub AnswerFault : Setup → State → AnswerRefusal → Type 0
+AnswerFault x s not_bound = HasOpenName x.start s
+AnswerFault x s still_wanted = (u : Uid) × IsWantedNow x s u
+AnswerFault x s not_conforming = (HasOpenName x.start s → ⊥) × (RequestConforms x.schema (parts_of_world (world_now x s)) → ⊥)
+
+-- a variable of the request means its value, where the name is that of one
+abbrev pub VariableMeansBound : World → Text → Made → Type 0
+VariableMeansBound w n m = (n ≡ codes "principal" → w.principal ≡ uid_in (Some m)) × (n ≡ codes "action" → w.action ≡ uid_in (Some m))
+    × (n ≡ codes "resource" → w.resource ≡ uid_in (Some m)) × (n ≡ codes "context" → w.context ≡ Some (bare m))
+
+-- A bound name means its value in a world: a variable its uid, the context its record, an unknown itself.
+abbrev pub MeansBound : World → Text × Made → Type 0
+MeansBound w b = (w.unknowns b.0 ≡ Some (bare b.1)) × VariableMeansBound w b.0 b.1
+
+-- A whole world that completes a state: it completes the request, each bound name means its value, and each uid that was asked for is
+-- in it as the store answered.
+pub record CompletesNow (x : Setup) (s : State) (w : World) : Type 0 where
+  pub request : Completes x.schema x.functions.table x.level x.start w
+  pub bound : (b : Text × Made) → Contains s.bound b → MeansBound w b
+  pub asked : (u : Uid) → Contains s.asked u → w.store u ≡ whole_store x u
+
+-- the decision is that of every completion
+abbrev pub HoldsInAll : Setup → List Policy → State → Decision → Type 0
+HoldsInAll x ps s d = (w : World) → CompletesNow x s w → d ≡ decision_of w ps

@@ -1,0 +1,11 @@
+pub mod Lookups
+pub mod Names
+pub mod Subtypes
+pub mod Values
+pub mod JoinParts
+pub mod JoinFormed
+pub mod JoinAbove
+pub mod JoinLeast
+pub mod JoinSame
+pub mod Reduction
+pub mod Known

@@ -1,0 +1,12 @@
+use Rattle.cedar_schema_model.proofs.Whole.Decls.Conforming.{entity_fault-Decides, entity_conforms-Decides}
+use Rattle.cedar_schema_model.proofs.Whole.Decls.Direct.{entities_read}
+use Rattle.cedar_schema_model.proofs.whole_decl_laws.entities_are_decided.Goals as goal
+
+pub returns-clause-faults : goal.returns-clause-faults
+returns-clause-faults c = entity_fault-Decides
+
+pub returns-clause-conforming : goal.returns-clause-conforming
+returns-clause-conforming c = entity_conforms-Decides
+
+pub returns-clause-directly : goal.returns-clause-directly
+returns-clause-directly c = entities_read

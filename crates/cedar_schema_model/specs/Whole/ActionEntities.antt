@@ -1,0 +1,29 @@
+-- Declared actions as entities.
+-- Rule: action entities (docs/RULES.md).
+use Rattle.std.specs.Prelude.{◌≡◌, List, [], map, Bool, true, false, Option, Some, None, Contains}
+use Rattle.std.specs.List.{filter}
+use Rattle.cedar_expr_model.specs.Uid.{Uid}
+use Rattle.cedar_expr_model.specs.Whole.Value.{V}
+use Rattle.cedar_store_model.specs.Whole.World.{Entity}
+use Rattle.cedar_schema_model.specs.Whole.Schema.{Schema, declares_action}
+use Rattle.cedar_schema_model.specs.Whole.Descent.{action_uids, action_descends}
+
+-- the declared actions that the action descends from
+abbrev pub action_ancestors : Schema → Uid → List Uid
+action_ancestors s u = filter (action_descends s u) (action_uids s)
+
+-- An action as an entity: all its ancestors, neither attributes nor tags.
+abbrev pub as_entity : Schema → Uid → Entity V
+as_entity s u = record { attributes = []; tags = []; ancestors = action_ancestors s u }
+
+abbrev pub where_declared : Bool → Entity V → Option (Entity V)
+where_declared true e = Some e
+where_declared false e = None
+
+-- the entity that a declared action is
+abbrev pub action_entity : Schema → Uid → Option (Entity V)
+action_entity s u = where_declared (declares_action s u) (as_entity s u)
+
+-- all of them
+abbrev pub action_entities : Schema → List (Uid × Entity V)
+action_entities s = map (λ u. (u, as_entity s u)) (action_uids s)

@@ -1,0 +1,51 @@
+-- What is declared of an attribute, for the values of a type.
+-- Rule: attributes of a type (docs/RULES.md).
+use Rattle.std.specs.Prelude.{List, [], ◌∷◌, Bool, true, false, Option, Some, None, is_some, map, option_map, option_and_then}
+use Rattle.std.specs.List.{list_all, list_any}
+use Rattle.cedar_expr_model.specs.Name.{Text, Name}
+use Rattle.cedar_schema_model.specs.Whole.Types.{is_open, is_closed, Ty, never, any_entity, entity_types, record_type, Attributes, no_attributes, Declared, attribute_named, permissive}
+use Rattle.cedar_schema_model.specs.Whole.Schema.{EntityKind, standard, enumerated, external, EntityType, Schema, type_named}
+use Rattle.cedar_schema_model.specs.Whole.Join.{reduce_to_join}
+
+-- Only a standard entity type has attributes.
+abbrev pub attributes_of_kind : EntityKind → Attributes
+attributes_of_kind (standard as_ tags) = as_
+attributes_of_kind (enumerated ids) = no_attributes
+attributes_of_kind external = no_attributes
+
+abbrev pub declared_for : Text → Option EntityType → Option Declared
+declared_for a None = None
+declared_for a (Some e) = attribute_named a (attributes_of_kind e.kind)
+
+-- what the schema declares of an attribute for one entity type
+abbrev pub declared_of : Schema → Text → Name → Option Declared
+declared_of s a n = declared_for a (type_named s n)
+
+abbrev pub with_declared : Option Declared → Option (List Declared) → Option (List Declared)
+with_declared None ds = None
+with_declared (Some d) None = None
+with_declared (Some d) (Some ds) = Some (d ∷ ds)
+
+-- what each of these entity types declares of the attribute, if all do
+abbrev pub all_declared : Schema → Text → List Name → Option (List Declared)
+all_declared s a [] = Some []
+all_declared s a (n ∷ ns) = with_declared (declared_of s a n) (all_declared s a ns)
+
+-- the permissive join of the types, required where all require it
+abbrev pub declared_by_all : List Declared → Option Declared
+declared_by_all ds = option_map (λ t. record { type = t; is_required = list_all (λ (d : Declared). d.is_required) ds }) (reduce_to_join permissive (map (λ (d : Declared). d.type) ds))
+
+-- For a record what it lists, for entities what all members of the union declare.
+abbrev pub lookup_attribute : Schema → Ty → Text → Option Declared
+lookup_attribute s (record_type as_ o) a = attribute_named a as_
+lookup_attribute s (entity_types ns) a = option_and_then declared_by_all (all_declared s a ns)
+lookup_attribute s t a = None
+
+-- whether some value of the type may have the attribute
+abbrev pub may_have_attribute : Schema → Ty → Text → Bool
+may_have_attribute s never a = true
+may_have_attribute s any_entity a = true
+may_have_attribute s (record_type as_ is_open) a = true
+may_have_attribute s (record_type as_ is_closed) a = is_some (attribute_named a as_)
+may_have_attribute s (entity_types ns) a = list_any (λ n. is_some (declared_of s a n)) ns
+may_have_attribute s t a = false

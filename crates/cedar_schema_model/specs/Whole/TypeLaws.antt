@@ -1,0 +1,128 @@
+-- What the laws of types say.
+-- Rule: subtypes; values of a type; joins; attributes of a type (docs/RULES.md).
+use Rattle.std.specs.Prelude.{◌≡◌, ◌↔◌, List, true, false, Option, Some, is_some, MatchOption, Contains}
+use Rattle.std.specs.Bool.{Decides}
+use Rattle.std.specs.List.{list_all}
+use Rattle.cedar_expr_model.specs.Name.{Text, Name}
+use Rattle.cedar_expr_model.specs.Whole.Value.{V, record_of, Fields, field_of}
+use Rattle.cedar_schema_model.specs.Whole.Types.{Ty, never, entity_types, Declared, Mode, strict, permissive}
+use Rattle.cedar_schema_model.specs.Whole.Schema.{Schema}
+use Rattle.cedar_schema_model.specs.Whole.Subtype.{Below, is_well_formed_type, has_no_any_set}
+use Rattle.cedar_schema_model.specs.Whole.HasType.{HasType, has_type}
+use Rattle.cedar_schema_model.specs.Whole.Join.{join, reduce_to_join, are_disjoint}
+use Rattle.cedar_schema_model.specs.Whole.Lookup.{declared_of, lookup_attribute, may_have_attribute}
+
+abbrev pub Formed : Ty → Type 0
+Formed a = is_well_formed_type a ≡ true
+
+-- `any_set` stands nowhere in it
+abbrev pub Free : Ty → Type 0
+Free a = has_no_any_set a ≡ true
+
+-- a type is below itself
+abbrev pub SubtypesReflexive : Type 0
+SubtypesReflexive = (m : Mode) (a : Ty) → Formed a → Below m a a
+
+abbrev pub SubtypesTransitive : Type 0
+SubtypesTransitive = (m : Mode) (a b c : Ty) → Below m a b → Below m b c → Below m a c
+
+-- types below each other are the same
+abbrev pub SubtypesAntisymmetric : Type 0
+SubtypesAntisymmetric = (m : Mode) (a b : Ty) → Formed a → Formed b → Below m a b → Below m b a → a ≡ b
+
+abbrev pub StrictIsPermissive : Type 0
+StrictIsPermissive = (a b : Ty) → Below strict a b → Below permissive a b
+
+-- the test of a value decides whether it is of the type
+abbrev pub HasTypeDecides : Type 0
+HasTypeDecides = (v : V) (t : Ty) → Decides (has_type v t) (HasType v t)
+
+-- a value of a type is a value of every type above it
+abbrev pub SupertypesKeepValues : Type 0
+SupertypesKeepValues = (m : Mode) (a b : Ty) (v : V) → Below m a b → HasType v a → HasType v b
+
+abbrev pub NeverHasNoValue : Type 0
+NeverHasNoValue = (v : V) → HasType v never → ⊥
+
+-- no value is of both of two disjoint types
+abbrev pub DisjointShareNoValue : Type 0
+DisjointShareNoValue = (a b : Ty) (v : V) → are_disjoint a b ≡ true → HasType v a → HasType v b → ⊥
+
+-- of two types of which one is below the other, the greater
+abbrev pub JoinOfOrdered : Type 0
+JoinOfOrdered = (m : Mode) (a b : Ty) → Formed a → Formed b → Below m a b → join m a b ≡ Some b
+
+-- a join is above both
+abbrev pub JoinIsAbove : Type 0
+JoinIsAbove = (m : Mode) (a b j : Ty) → Formed a → Formed b → join m a b ≡ Some j → Below m a j × Below m b j
+
+-- a join is below every upper bound in which `any_set` stands nowhere
+abbrev pub JoinIsLeast : Type 0
+JoinIsLeast = (m : Mode) (a b j c : Ty) → Formed a → Formed b → join m a b ≡ Some j → Free c → Below m a c → Below m b c → Below m j c
+
+-- swapping the two changes neither whether there is a join nor which
+abbrev pub JoinSwaps : Type 0
+JoinSwaps = (m : Mode) (a b : Ty) → Formed a → Formed b → join m a b ≡ join m b a
+
+-- where the strict join exists the permissive one is the same
+abbrev pub StrictJoinIsPermissive : Type 0
+StrictJoinIsPermissive = (a b j : Ty) → Formed a → Formed b → join strict a b ≡ Some j → join permissive a b ≡ Some j
+
+-- a join exists wherever there is an upper bound without `any_set`
+abbrev pub JoinExists : Type 0
+JoinExists = (m : Mode) (a b c : Ty) → Formed a → Formed b → Free c → Below m a c → Below m b c → is_some (join m a b) ≡ true
+
+-- and, between types without it, only there
+abbrev pub JoinExistsExactly : Type 0
+JoinExistsExactly = (m : Mode) (a b : Ty) → Formed a → Formed b → Free a → Free b → (is_some (join m a b) ≡ true) ↔ ((c : Ty) × Free c × Below m a c × Below m b c)
+
+-- a join of well-formed types is one, and has no `any_set` where they have none
+abbrev pub JoinIsFormed : Type 0
+JoinIsFormed = (m : Mode) (a b j : Ty) → Formed a → Formed b → join m a b ≡ Some j → Formed j
+
+abbrev pub JoinIsFree : Type 0
+JoinIsFree = (m : Mode) (a b j : Ty) → Free a → Free b → join m a b ≡ Some j → Free j
+
+-- the join of several types is above each
+abbrev pub ReductionIsAbove : Type 0
+ReductionIsAbove = (m : Mode) (ts : List Ty) (j : Ty) → list_all is_well_formed_type ts ≡ true → reduce_to_join m ts ≡ Some j → (t : Ty) → Contains ts t → Below m t j
+
+-- it exists wherever there is an upper bound without `any_set`, and is below it
+abbrev pub ReductionIsLeast : Type 0
+ReductionIsLeast = (m : Mode) (ts : List Ty) (c : Ty) → list_all is_well_formed_type ts ≡ true → Free c → ((t : Ty) → Contains ts t → Below m t c) → (j : Ty) × (reduce_to_join m ts ≡ Some j) × Below m j c
+
+-- without `any_set` neither the order of the types nor how often one stands among them matters
+abbrev pub ReductionIsOfMembers : Type 0
+ReductionIsOfMembers = (m : Mode) (ts us : List Ty) → list_all is_well_formed_type ts ≡ true → list_all is_well_formed_type us ≡ true → list_all has_no_any_set ts ≡ true → list_all has_no_any_set us ≡ true → ((t : Ty) → Contains ts t ↔ Contains us t) → reduce_to_join m ts ≡ reduce_to_join m us
+
+-- the types of the schema's attributes are well-formed and have no `any_set`
+abbrev pub HasPlainAttributes : Schema → Type 0
+HasPlainAttributes s = (a : Text) (n : Name) (d : Declared) → declared_of s a n ≡ Some d → Formed d.type × Free d.type
+
+-- declared with a type below, and required where that one is
+abbrev pub DeclaredBelow : Option Declared → Declared → Type 0
+DeclaredBelow x e = (d : Declared) × (x ≡ Some d) × Below permissive d.type e.type × (e.is_required ≡ true → d.is_required ≡ true)
+
+-- What a union knows of an attribute each member declares, with a type below, and required where the union says so.
+abbrev pub UnionKnowsWhatAllDeclare : Type 0
+UnionKnowsWhatAllDeclare = (s : Schema) (ns : List Name) (a : Text) (e : Declared) → HasPlainAttributes s → lookup_attribute s (entity_types ns) a ≡ Some e → (n : Name) → Contains ns n → DeclaredBelow (declared_of s a n) e
+
+-- What all members declare below one type without `any_set` a union knows, with a type below, and required where all require it.
+abbrev pub UnionKnowsAll : Type 0
+UnionKnowsAll = (s : Schema) (ns : List Name) (a : Text) (e : Declared) → HasPlainAttributes s → Free e.type → ((n : Name) → Contains ns n → DeclaredBelow (declared_of s a n) e) → DeclaredBelow (lookup_attribute s (entity_types ns) a) e
+
+-- A larger union knows no more, and no narrower type.
+abbrev pub LargerUnionKnowsLess : Type 0
+LargerUnionKnowsLess = (s : Schema) (ns ms : List Name) (a : Text) (e : Declared) → HasPlainAttributes s → Below permissive (entity_types ns) (entity_types ms) → lookup_attribute s (entity_types ms) a ≡ Some e → DeclaredBelow (lookup_attribute s (entity_types ns) a) e
+
+-- the field of a value of a record type is as declared, and is there where it is required
+abbrev pub RecordsHaveWhatIsDeclared : Type 0
+RecordsHaveWhatIsDeclared = (s : Schema) (t : Ty) (fs : Fields) (a : Text) (d : Declared) → HasType (record_of fs) t → lookup_attribute s t a ≡ Some d → MatchOption (field_of a fs) (d.is_required ≡ false) (λ v. HasType v d.type)
+
+-- a record that has the field is of a type that may have it
+abbrev pub RecordsMayHaveWhatTheyHave : Type 0
+RecordsMayHaveWhatTheyHave = (s : Schema) (t : Ty) (fs : Fields) (a : Text) → HasType (record_of fs) t → is_some (field_of a fs) ≡ true → may_have_attribute s t a ≡ true
+
+-- what is looked up may be there
+abbrev pub LookedUpMayBeThere : Type 0
+LookedUpMayBeThere = (s : Schema) (t : Ty) (a : Text) → Formed t → is_some (lookup_attribute s t a) ≡ true → may_have_attribute s t a ≡ true

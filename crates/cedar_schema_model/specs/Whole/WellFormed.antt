@@ -1,0 +1,176 @@
+-- When declarations are well-formed: the faults of a bag.
+-- Rule: well-formed declarations (docs/RULES.md).
+use Rattle.std.specs.Prelude.{◌≡◌, ◌&&◌, ◌||◌, ℕ, zero, suc, List, [], ◌∷◌, ◌++◌, map, length, Bool, true, false, not, Option, Some, None, is_some, Contains}
+use Rattle.std.specs.List.{flat_map, list_any, list_all}
+use Rattle.std.specs.Str.{bytes_eq}
+use Rattle.std.proofs.Common.{◌⊎◌}
+use Rattle.cedar_expr_model.specs.Name.{Text, Name, name_eq, is_reserved}
+use Rattle.cedar_expr_model.specs.Uid.{Uid, uid_eq}
+use Rattle.cedar_schema_model.specs.Whole.Descent.{Reaches, reaches}
+use Rattle.cedar_schema_model.specs.Whole.Reference.{Namespace, action_word, ReferenceKind, Reference, Meant, meant_common, meant_entity}
+use Rattle.cedar_schema_model.specs.Whole.Declarations.{TypeExpr, record_expr, reference, CommonDeclaration, KindExpr, external_expr, EntityDeclaration, ActionDeclaration, Declarations, common_name, entity_name, action_uid, common_names, entity_names, action_uids, meant, parent_meant, references_of_common, references, extensions}
+
+pub data SchemaFault : Type 0 where
+  duplicate_entity_type : SchemaFault
+  duplicate_common_type : SchemaFault
+  duplicate_action : SchemaFault
+  undeclared_type : SchemaFault
+  undeclared_action : SchemaFault
+  cycle_of_common_types : SchemaFault
+  cycle_of_actions : SchemaFault
+  action_as_entity_type : SchemaFault
+  context_not_record : SchemaFault
+  reserved_name : SchemaFault
+  shadowing : SchemaFault
+  unknown_extension_type : SchemaFault
+  unresolved_external : SchemaFault
+
+abbrev pub schema_number : SchemaFault → ℕ
+schema_number duplicate_entity_type = 1
+schema_number duplicate_common_type = 2
+schema_number duplicate_action = 3
+schema_number undeclared_type = 4
+schema_number undeclared_action = 5
+schema_number cycle_of_common_types = 6
+schema_number cycle_of_actions = 7
+schema_number action_as_entity_type = 8
+schema_number context_not_record = 9
+schema_number reserved_name = 10
+schema_number shadowing = 11
+schema_number unknown_extension_type = 12
+schema_number unresolved_external = 13
+
+-- the faults of declarations that are ill-formed; an external declaration is none of them
+abbrev pub ill_forms : List SchemaFault
+ill_forms = duplicate_entity_type ∷ duplicate_common_type ∷ duplicate_action ∷ undeclared_type ∷ undeclared_action ∷ cycle_of_common_types
+    ∷ cycle_of_actions ∷ action_as_entity_type ∷ context_not_record ∷ reserved_name ∷ shadowing ∷ unknown_extension_type ∷ []
+
+-- one of them stands twice
+abbrev pub HasTwice : {X : Type 0} → List X → Type 0
+HasTwice [] = ⊥
+HasTwice (x ∷ xs) = Contains xs x ⊎ HasTwice xs
+
+abbrev pub has_twice : {X : Type 0} → (X → X → Bool) → List X → Bool
+has_twice eq [] = false
+has_twice eq (x ∷ xs) = list_any (eq x) xs || has_twice eq xs
+
+-- the definition of a common type refers to another
+abbrev pub Uses : Declarations → Name → Name → Type 0
+Uses d m n = (c : CommonDeclaration) × Contains d.commons c × (m ≡ common_name c) × ((r : Reference) × Contains (references_of_common c) r × (meant d r ≡ Some (meant_common n)))
+
+-- a reference means this common type
+abbrev pub is_common : Name → Option Meant → Bool
+is_common n (Some (meant_common m)) = name_eq m n
+is_common n o = false
+
+abbrev pub uses : Declarations → Name → Name → Bool
+uses d m n = list_any (λ c. name_eq m (common_name c) && list_any (λ r. is_common n (meant d r)) (references_of_common c)) d.commons
+
+-- an action has another as its parent
+abbrev pub HasParentAction : Declarations → Uid → Uid → Type 0
+HasParentAction d u v = (a : ActionDeclaration) × Contains d.actions a × (u ≡ action_uid a) × ((w : Uid) × Contains a.parents w × (parent_meant d a.namespace w ≡ Some v))
+
+abbrev pub is_uid : Uid → Option Uid → Bool
+is_uid v None = false
+is_uid v (Some u) = uid_eq u v
+
+abbrev pub has_parent_action : Declarations → Uid → Uid → Bool
+has_parent_action d u v = list_any (λ a. uid_eq u (action_uid a) && list_any (λ w. is_uid v (parent_meant d a.namespace w)) a.parents) d.actions
+
+-- A type is a record by way of this many common types or fewer: it is written as one, or refers to a common type of which the
+-- definition is.
+abbrev pub all_of_name : Name → (CommonDeclaration → Bool) → List CommonDeclaration → Bool
+all_of_name n test cs = list_all (λ c. not (name_eq n (common_name c)) || test c) cs
+
+abbrev pub refers_to_record : (CommonDeclaration → Bool) → Declarations → Option Meant → Bool
+refers_to_record test d (Some (meant_common n)) = all_of_name n test d.commons
+refers_to_record test d o = false
+
+abbrev pub is_written_record : (Namespace → ReferenceKind → Name → Bool) → Namespace → TypeExpr → Bool
+is_written_record refers ns (record_expr fs) = true
+is_written_record refers ns (reference k n) = refers ns k n
+is_written_record refers ns t = false
+
+abbrev pub is_record_within : ℕ → Declarations → Namespace → TypeExpr → Bool
+is_record_within zero d = is_written_record (λ ns k n. false)
+is_record_within (suc m) d = is_written_record (λ ns k n. refers_to_record (λ c. is_record_within m d c.namespace c.definition) d (meant d (record { namespace = ns; kind = k; name = n })))
+
+-- a record, after as many steps as there are common types
+abbrev pub becomes_record : Declarations → ActionDeclaration → Bool
+becomes_record d a = is_record_within (length d.commons) d a.namespace a.context
+
+-- all names that are written: those that are declared, those that are referred to, and the types of parents of actions
+abbrev pub parent_types : Declarations → List Name
+parent_types d = flat_map (λ a. map (λ u. u.kind) a.parents) d.actions
+
+abbrev pub written_names : Declarations → List Name
+written_names d = common_names d ++ (entity_names d ++ (map (λ u. u.kind) (action_uids d) ++ (map (λ r. r.name) (references d) ++ (extensions d ++ parent_types d))))
+
+-- the name, or the uid, as it is in the empty namespace
+abbrev pub unqualified : Name → Name
+unqualified n = record { path = []; base = n.base }
+
+abbrev pub unqualified_uid : Uid → Uid
+unqualified_uid u = record { kind = unqualified u.kind; id = u.id }
+
+abbrev pub has_parts : List Text → Bool
+has_parts [] = false
+has_parts (part ∷ parts) = true
+
+abbrev pub is_qualified : Name → Bool
+is_qualified n = has_parts n.path
+
+abbrev pub declared_types : Declarations → List Name
+declared_types d = common_names d ++ entity_names d
+
+-- a type or an action of a namespace stands in the empty one too
+abbrev pub Shadows : Declarations → Type 0
+Shadows d = ((n : Name) × Contains (declared_types d) n × (is_qualified n ≡ true) × Contains (declared_types d) (unqualified n))
+    ⊎ ((u : Uid) × Contains (action_uids d) u × (is_qualified u.kind ≡ true) × Contains (action_uids d) (unqualified_uid u))
+
+abbrev pub shadows : Declarations → Bool
+shadows d = list_any (λ n. is_qualified n && list_any (name_eq (unqualified n)) (declared_types d)) (declared_types d)
+    || list_any (λ u. is_qualified u.kind && list_any (uid_eq (unqualified_uid u)) (action_uids d)) (action_uids d)
+
+abbrev pub is_external_kind : KindExpr → Bool
+is_external_kind external_expr = true
+is_external_kind k = false
+
+-- The fault is there. The extension types are those of the table.
+abbrev pub HasSchemaFault : List Name → Declarations → SchemaFault → Type 0
+HasSchemaFault x d duplicate_entity_type = HasTwice (entity_names d)
+HasSchemaFault x d duplicate_common_type = HasTwice (common_names d)
+HasSchemaFault x d duplicate_action = HasTwice (action_uids d)
+HasSchemaFault x d undeclared_type = (r : Reference) × Contains (references d) r × (meant d r ≡ None)
+HasSchemaFault x d undeclared_action = (a : ActionDeclaration) × Contains d.actions a × ((u : Uid) × Contains a.parents u × (parent_meant d a.namespace u ≡ None))
+HasSchemaFault x d cycle_of_common_types = (n : Name) × Reaches (Uses d) n n
+HasSchemaFault x d cycle_of_actions = (u : Uid) × Reaches (HasParentAction d) u u
+HasSchemaFault x d action_as_entity_type = (t : EntityDeclaration) × Contains d.entities t × (action_word ≡ t.word)
+HasSchemaFault x d context_not_record = (a : ActionDeclaration) × Contains d.actions a × (becomes_record d a ≡ false)
+HasSchemaFault x d reserved_name = (n : Name) × Contains (written_names d) n × (is_reserved n ≡ true)
+HasSchemaFault x d shadowing = Shadows d
+HasSchemaFault x d unknown_extension_type = (n : Name) × Contains (extensions d) n × (Contains x n → ⊥)
+HasSchemaFault x d unresolved_external = ((t : EntityDeclaration) × Contains d.entities t × (is_external_kind t.kind ≡ true)) ⊎ ((a : ActionDeclaration) × Contains d.actions a × (a.is_external ≡ true))
+
+-- Declarations are well-formed where none of these faults is there.
+abbrev pub IsWellFormed : List Name → Declarations → Type 0
+IsWellFormed x d = (f : SchemaFault) → Contains ill_forms f → HasSchemaFault x d f → ⊥
+
+-- the same as tests
+abbrev pub has_schema_fault : List Name → Declarations → SchemaFault → Bool
+has_schema_fault x d duplicate_entity_type = has_twice name_eq (entity_names d)
+has_schema_fault x d duplicate_common_type = has_twice name_eq (common_names d)
+has_schema_fault x d duplicate_action = has_twice uid_eq (action_uids d)
+has_schema_fault x d undeclared_type = list_any (λ r. not (is_some (meant d r))) (references d)
+has_schema_fault x d undeclared_action = list_any (λ a. list_any (λ u. not (is_some (parent_meant d a.namespace u))) a.parents) d.actions
+has_schema_fault x d cycle_of_common_types = list_any (λ n. reaches (uses d) (common_names d) n n) (common_names d)
+has_schema_fault x d cycle_of_actions = list_any (λ u. reaches (has_parent_action d) (action_uids d) u u) (action_uids d)
+has_schema_fault x d action_as_entity_type = list_any (λ t. bytes_eq action_word t.word) d.entities
+has_schema_fault x d context_not_record = list_any (λ a. not (becomes_record d a)) d.actions
+has_schema_fault x d reserved_name = list_any is_reserved (written_names d)
+has_schema_fault x d shadowing = shadows d
+has_schema_fault x d unknown_extension_type = list_any (λ n. not (list_any (name_eq n) x)) (extensions d)
+has_schema_fault x d unresolved_external = list_any (λ t. is_external_kind t.kind) d.entities || list_any (λ a. a.is_external) d.actions
+
+abbrev pub well_formed : List Name → Declarations → Bool
+well_formed x d = list_all (λ f. not (has_schema_fault x d f)) ill_forms

@@ -1,0 +1,87 @@
+//! Laws of the definitions on declarations, entities and requests. Each function's contract is the theorem; its body does nothing.
+
+ghost use Rattle.cedar_schema_model.specs.Whole.DeclLaws.{DescentDecides, ActionDescentDecides, ActionTypeDescentDecides, TypeDescentDecides, DescentIsTransitive, AncestorsAreDeclared, EntitiesAreActions, ActionsConform, AdmissionDecides, SetsByMembers, EntityFaultsDecide, EntityConformingDecides, RequestFaultsDecide, RequestConformingDecides, EntitiesReadDirectly, RequestsReadDirectly, EnvironmentsAreProducts, RequestsHaveEnvironments, SlotsAreCovered};
+ghost use Rattle.cedar_schema_model.specs.Whole.BagLaws.{FirstDeclaredIsMeant, FirstActionIsMeant, SchemaFaultsDecide, WellFormedDecides, OrderHidesNoFault, SplittingIsFree, FragmentsMayMove, OrderIsTransitive, CommonTypesAreDefined, NoMoreToReplace, ContextsAreRecords, SameTypes, SameActions, ParentsAreMeant, ActionParentsAreMeant, NoActionIsItsAncestor, ActionTypesAreApart};
+
+/// The tests of descent are true exactly where there is a chain of declared parents, and descent is transitive.
+pub fn descent_is_decided()
+    ensures types { DescentDecides }
+    ensures actions { ActionDescentDecides }
+    ensures action_types { ActionTypeDescentDecides }
+    ensures either { TypeDescentDecides }
+    ensures transitive { DescentIsTransitive }
+{}
+
+/// The entities of the declared actions have exactly the declared ancestors, are one for each action, and conform.
+pub fn action_entities_are_the_actions()
+    ensures ancestors { AncestorsAreDeclared }
+    ensures those { EntitiesAreActions }
+    ensures conform { ActionsConform }
+{}
+
+/// The test of a value is true exactly where the type admits it; a set is admitted where each member is.
+pub fn admission_is_decided()
+    ensures decides { AdmissionDecides }
+    ensures sets { SetsByMembers }
+{}
+
+/// The tests of entities are true exactly where the fault is there, and where none is; and what conforming says directly.
+pub fn entities_are_decided()
+    ensures faults { EntityFaultsDecide }
+    ensures conforming { EntityConformingDecides }
+    ensures directly { EntitiesReadDirectly }
+{}
+
+/// The tests of requests are true exactly where the fault is there, and where none is; and what conforming says directly.
+pub fn requests_are_decided()
+    ensures faults { RequestFaultsDecide }
+    ensures conforming { RequestConformingDecides }
+    ensures directly { RequestsReadDirectly }
+{}
+
+/// The environments are each declared action with each of its principal and resource types; a conforming request has its own
+/// among them; and those of a policy with slots are these, with each type that a slot may have.
+pub fn environments_are_products()
+    ensures products { EnvironmentsAreProducts }
+    ensures requests { RequestsHaveEnvironments }
+    ensures slots { SlotsAreCovered }
+{}
+
+/// A reference means the first name that is declared of those that are tried.
+pub fn references_mean_the_first()
+    ensures types { FirstDeclaredIsMeant }
+    ensures actions { FirstActionIsMeant }
+{}
+
+/// The tests of declarations are true exactly where the fault is there, and where none is.
+pub fn declarations_are_decided()
+    ensures faults { SchemaFaultsDecide }
+    ensures well_formed { WellFormedDecides }
+{}
+
+/// Declarations in another order, or split into fragments in another way, have the same faults.
+pub fn bags_have_no_order()
+    ensures faults { OrderHidesNoFault }
+    ensures split { SplittingIsFree }
+    ensures moved { FragmentsMayMove }
+    ensures transitive { OrderIsTransitive }
+{}
+
+/// Where declarations are well-formed a common type is what its definition says, replacing once more changes nothing, and the
+/// context of each action is a closed record.
+pub fn common_types_are_replaced()
+    ensures defined { CommonTypesAreDefined }
+    ensures once_more { NoMoreToReplace }
+    ensures contexts { ContextsAreRecords }
+{}
+
+/// The schema has the declared types and actions, with the parents that are meant. Where declarations are well-formed no action
+/// is its own ancestor, and no action's type is an entity type.
+pub fn schemas_are_what_is_declared()
+    ensures types { SameTypes }
+    ensures actions { SameActions }
+    ensures parents { ParentsAreMeant }
+    ensures action_parents { ActionParentsAreMeant }
+    ensures no_cycle { NoActionIsItsAncestor }
+    ensures apart { ActionTypesAreApart }
+{}

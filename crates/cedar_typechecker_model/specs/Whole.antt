@@ -1,0 +1,9 @@
+-- The definitions for every kind of expression. They take the place of those beside this folder once the code stands on them.
+pub mod Facts
+pub mod Rules
+pub mod Typing
+pub mod Levels
+pub mod ScopeRules
+pub mod Verdicts
+pub mod Laws
+pub mod Worked

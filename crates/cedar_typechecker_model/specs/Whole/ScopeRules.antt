@@ -1,0 +1,94 @@
+-- The scope rules: what a policy names anywhere, also where typing doesn't reach, is declared.
+-- Rule: the scope rules (docs/RULES.md).
+use Rattle.std.specs.Prelude.{◌≡◌, ◌&&◌, ◌||◌, List, [], ◌∷◌, ◌++◌, map, Contains, Bool, true, false, not, Option, Some, None}
+use Rattle.std.specs.List.{list_all, list_any, filter_map}
+use Rattle.std.proofs.Common.{◌⊎◌}
+use Rattle.std.specs.Str.{bytes_eq}
+use Rattle.cedar_expr_model.specs.Name.{Text, Name, name_eq}
+use Rattle.cedar_expr_model.specs.Uid.{Uid}
+use Rattle.cedar_expr_model.specs.Whole.Value.{Literal, truth, long, text, entity}
+use Rattle.cedar_expr_model.specs.Whole.Tree.{Tree, lit, is_type}
+use Rattle.cedar_expr_model.specs.Whole.Parts.{subexpressions}
+use Rattle.cedar_store_model.specs.Whole.Policy.{Policy, SlotBindings, condition}
+use Rattle.cedar_schema_model.specs.Whole.Schema.{Schema, EntityType, EntityKind, standard, enumerated, external, type_named, declares_type, declares_action}
+use Rattle.cedar_schema_model.specs.Whole.Descent.{action_uids}
+
+-- the uid, and the entity type of an `is` test, that an expression is or asks for by itself
+abbrev pub uid_here : Tree → Option Uid
+uid_here (lit (entity u)) = Some u
+uid_here t = None
+
+abbrev pub kind_here : Tree → Option Name
+kind_here (is_type e n) = Some n
+kind_here t = None
+
+-- the uids that an expression writes anywhere, and the entity types that its `is` tests name
+abbrev pub uids_of : Tree → List Uid
+uids_of t = filter_map uid_here (subexpressions t)
+
+abbrev pub kinds_of : Tree → List Name
+kinds_of t = filter_map kind_here (subexpressions t)
+
+abbrev pub bound_uid : Option Uid → List Uid
+bound_uid None = []
+bound_uid (Some u) = u ∷ []
+
+-- the uids that a policy names: in its scope, in its body, and as the values of its slots
+abbrev pub policy_uids : Policy → List Uid
+policy_uids p = uids_of (condition p) ++ (bound_uid p.bindings.principal ++ bound_uid p.bindings.resource)
+
+-- the entity types that a policy names: those of its uids and of its `is` tests
+abbrev pub policy_kinds : Policy → List Name
+policy_kinds p = map (λ u. u.kind) (policy_uids p) ++ kinds_of (condition p)
+
+-- the type of some declared action
+abbrev pub is_action_type : Schema → Name → Bool
+is_action_type s n = list_any (λ u. name_eq n u.kind) (action_uids s)
+
+-- an entity type is declared, or is that of a declared action
+abbrev pub is_known_type : Schema → Name → Bool
+is_known_type s n = declares_type s n || is_action_type s n
+
+-- a uid of an action's type is a declared action
+abbrev pub is_no_unknown_action : Schema → Uid → Bool
+is_no_unknown_action s u = not (is_action_type s u.kind) || declares_action s u
+
+abbrev pub has_id : EntityKind → Text → Bool
+has_id (enumerated ids) id = list_any (bytes_eq id) ids
+has_id k id = true
+
+abbrev pub is_id_of : Option EntityType → Text → Bool
+is_id_of None id = true
+is_id_of (Some t) id = has_id t.kind id
+
+-- a uid of an enumerated type is a declared member of it
+abbrev pub is_no_unknown_member : Schema → Uid → Bool
+is_no_unknown_member s u = is_id_of (type_named s u.kind) u.id
+
+-- The policy names the uid: it stands in the scope or the body, or a slot is bound to it.
+abbrev pub NamesUid : Policy → Uid → Type 0
+NamesUid p u = Contains (subexpressions (condition p)) (lit (entity u)) ⊎ ((p.bindings.principal ≡ Some u) ⊎ (p.bindings.resource ≡ Some u))
+
+-- The policy names the entity type: a uid that it names has it, or an `is` test in it asks for it.
+abbrev pub NamesType : Policy → Name → Type 0
+NamesType p n = ((u : Uid) × NamesUid p u × (n ≡ u.kind)) ⊎ ((e : Tree) × Contains (subexpressions (condition p)) (is_type e n))
+
+-- The three scope rules.
+abbrev pub NamesKnownTypes : Schema → Policy → Type 0
+NamesKnownTypes s p = (n : Name) → NamesType p n → is_known_type s n ≡ true
+
+abbrev pub NamesKnownActions : Schema → Policy → Type 0
+NamesKnownActions s p = (u : Uid) → NamesUid p u → is_no_unknown_action s u ≡ true
+
+abbrev pub NamesKnownMembers : Schema → Policy → Type 0
+NamesKnownMembers s p = (u : Uid) → NamesUid p u → is_no_unknown_member s u ≡ true
+
+-- the same as tests
+abbrev pub names_known_types : Schema → Policy → Bool
+names_known_types s p = list_all (is_known_type s) (policy_kinds p)
+
+abbrev pub names_known_actions : Schema → Policy → Bool
+names_known_actions s p = list_all (is_no_unknown_action s) (policy_uids p)
+
+abbrev pub names_known_members : Schema → Policy → Bool
+names_known_members s p = list_all (is_no_unknown_member s) (policy_uids p)
