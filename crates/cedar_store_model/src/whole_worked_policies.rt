@@ -8,7 +8,6 @@ ghost use Rattle.cedar_store_model.specs.Whole.Operators.{says};
 ghost use Rattle.cedar_store_model.specs.Whole.Policy.{Policy, permit, forbid, no_bindings, condition, scope_uses, tree_uses, has_slot, binding_of};
 ghost use Rattle.cedar_store_model.specs.Whole.PolicySet.{is_static, is_taken, has_distinct_ids, have_distinct_ids, template_of, linked, with_policy, add_policy, add_template, link, has_link_fault, id_present, slot_not_bound, slot_not_of_template, no_template};
 ghost use Rattle.cedar_store_model.specs.Whole.Answer.{allow, deny, answer_of, policy_outcome, satisfied};
-ghost use Rattle.cedar_store_model.specs.Whole.Matching.{is_well_named, policy_is_well_named};
 ghost use Rattle.cedar_store_model.specs.Whole.Worked.{user, user_a, user_b, team, doc_d, view, edit, plain, number, uid, says_true, two_trees, world, world_without_b, nothing_loaded, a_loaded, principal_open};
 ghost use Rattle.cedar_store_model.specs.Whole.WorkedPolicies.{too_large, owners_boss, for_a, if_ok, not_if_ok, by_boss, always, if_bad, not_if_bad, never, no_truth, template, to_a, to_team, to_both, linked_l, many_parts, no_edit, empty_set, with_t, with_l};
 
@@ -102,12 +101,4 @@ pub fn worked_partial_answers()
     ensures anything { policy_outcome principal_open always ≡ Some (says true) }
     ensures overflows { policy_outcome principal_open too_large ≡ Some (err overflow) }
     ensures not_satisfied { satisfied nothing_loaded linked_l ≡ false }
-{}
-
-/// Uids whose type is a well-formed name.
-pub fn worked_names()
-    ensures well_named { is_well_named user_a ≡ true }
-    ensures badly_named { is_well_named (record { kind = plain (codes "a::b"); id = [] }) ≡ false }
-    ensures policy { policy_is_well_named many_parts ≡ true }
-    ensures linked_badly { policy_is_well_named (linked template (codes "k") (record { principal = Some (record { kind = plain (codes "1"); id = [] }); resource = None })) ≡ false }
 {}

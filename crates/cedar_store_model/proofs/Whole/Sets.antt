@@ -1,26 +1,35 @@
 -- Slots of conditions, and what adding and linking do to a set of policies.
 use Rattle.std.proofs.Common.{◌≡◌, ◌↔◌, List, [], ◌∷◌, ◌++◌, Bool, true, false, cond, not, ◌&&◌, ◌||◌, refl, sym, ap, ◌∙◌, ◌⊎◌, inl, inr}
 use Rattle.std.specs.Prelude.{Option, Some, None}
-use Rattle.std.specs.List.{list_all}
+use Rattle.std.specs.List.{list_all, list_any}
 use Rattle.std.specs.Str.{bytes_eq}
+use Rattle.std.proofs.lemmas.List.Elements.{filter_map-append}
+use Rattle.std.proofs.lemmas.List.Folds.{list_any-append}
 use Rattle.std.proofs.lemmas.Slice.Eq.{bytes_eq-Decides}
 use Rattle.cedar_expr_model.specs.Name.{Text}
 use Rattle.cedar_expr_model.specs.Uid.{Uid}
 use Rattle.cedar_expr_model.specs.Whole.Value.{truth}
-use Rattle.cedar_expr_model.specs.Whole.Tree.{Tree, lit, var, binary, is_type, SlotId, principal_slot, resource_slot, Var, principal, resource, is_in}
+use Rattle.cedar_expr_model.specs.Whole.Tree.{Tree, lit, var, both, binary, is_type, set_literal, SlotId, principal_slot, resource_slot, Var, principal, resource, is_in}
 use Rattle.cedar_expr_model.specs.Whole.Builder.{conjunction}
+use Rattle.cedar_expr_model.specs.Whole.Parts.{subexpressions, slot_here, slots}
 use Rattle.cedar_expr_model.proofs.Lists.{both_hold, hold_both, hold_left, hold_right}
-use Rattle.cedar_store_model.specs.Whole.Policy.{Policy, SlotBindings, Target, named, own_slot, Scope, any, exactly, inside, of_kind, of_kind_inside, ActionScope, any_action, exactly_action, inside_actions, slot_eq, is_own_slot, scope_has_slot, tree_uses, trees_use, has_slot, target_tree, scope_tree, uid_trees, action_tree, body_tree, principal_tree, resource_tree, condition}
+use Rattle.cedar_store_model.specs.Whole.Policy.{Policy, SlotBindings, Target, named, own_slot, Scope, any, exactly, inside, of_kind, of_kind_inside, ActionScope, any_action, exactly_action, inside_actions, slot_eq, is_own_slot, scope_has_slot, tree_uses, has_slot, target_tree, scope_tree, uid_trees, action_tree, body_tree, principal_tree, resource_tree, condition}
 use Rattle.cedar_store_model.specs.Whole.PolicySet.{PolicySet, has_id, is_taken, have_distinct_ids, has_distinct_ids, template_of, linked, with_template, with_policy, lacks_binding, has_stray_binding, of_some_slot, LinkFault, id_present, slot_not_bound, slot_not_of_template, no_template, has_fault_at, has_link_fault, linked_in, link, add_template, add_policy}
 
 -- slots of a conjunction are those of its sides
+both_use : (a b : Tree) (s : SlotId) → tree_uses (both a b) s ≡ (tree_uses a s || tree_uses b s)
+both_use a b s = ap (list_any (slot_eq s)) (filter_map-append slot_here (subexpressions a) (subexpressions b)) ∙ list_any-append (slot_eq s) (slots a) (slots b)
+
 conjunction_uses : (a b : Tree) (s : SlotId) → tree_uses (conjunction a b) s ≡ (tree_uses a s || tree_uses b s)
 conjunction_uses (lit (truth x)) (lit (truth y)) s = refl
-conjunction_uses a b s = refl
+conjunction_uses a b s = both_use a b s
 
 target_uses : (r s : SlotId) (t : Target) → tree_uses (target_tree r t) s ≡ (is_own_slot t && slot_eq r s)
 target_uses r s (named u) = refl
-target_uses r s own_slot = refl
+target_uses principal_slot principal_slot own_slot = refl
+target_uses principal_slot resource_slot own_slot = refl
+target_uses resource_slot principal_slot own_slot = refl
+target_uses resource_slot resource_slot own_slot = refl
 
 part_uses : (x : Var) (r s : SlotId) (c : Scope) → tree_uses (scope_tree x r c) s ≡ (scope_has_slot c && slot_eq r s)
 part_uses x r s any = refl
@@ -29,7 +38,7 @@ part_uses x r s (inside t) = target_uses r s t
 part_uses x r s (of_kind n) = refl
 part_uses x r s (of_kind_inside n t) = conjunction_uses (is_type (var x) n) (binary is_in (var x) (target_tree r t)) s ∙ target_uses r s t
 
-uids_use : (us : List Uid) (s : SlotId) → trees_use (uid_trees us) s ≡ false
+uids_use : (us : List Uid) (s : SlotId) → tree_uses (set_literal (uid_trees us)) s ≡ false
 uids_use [] s = refl
 uids_use (u ∷ us) s = uids_use us s
 
