@@ -9,6 +9,7 @@ pub mod Conditions
 pub mod Answers
 pub mod Reports
 pub mod Matching
+pub mod Distinct
 pub mod Sets
 pub mod Stores
 pub mod Computed

@@ -8,9 +8,8 @@ ghost use Rattle.cedar_store_model.specs.Whole.Operators.{says};
 ghost use Rattle.cedar_store_model.specs.Whole.Policy.{Policy, permit, forbid, no_bindings, condition, scope_uses, tree_uses, has_slot, binding_of};
 ghost use Rattle.cedar_store_model.specs.Whole.PolicySet.{is_static, is_taken, has_distinct_ids, have_distinct_ids, template_of, linked, with_policy, add_policy, add_template, link, has_link_fault, id_present, slot_not_bound, slot_not_of_template, no_template};
 ghost use Rattle.cedar_store_model.specs.Whole.Answer.{allow, deny, answer_of, policy_outcome, satisfied};
-ghost use Rattle.cedar_store_model.specs.Whole.Matching.{is_well_named, policy_is_well_named};
 ghost use Rattle.cedar_store_model.specs.Whole.Worked.{user, user_a, user_b, team, doc_d, view, edit, plain, number, uid, says_true, two_trees, world, world_without_b, nothing_loaded, a_loaded, principal_open};
-ghost use Rattle.cedar_store_model.specs.Whole.WorkedPolicies.{too_large, owners_boss, for_a, if_ok, not_if_ok, by_boss, always, if_bad, not_if_bad, never, no_truth, template, to_a, to_team, to_both, linked_l, many_parts, no_edit, empty_set, with_t, with_l};
+ghost use Rattle.cedar_store_model.specs.Whole.WorkedPolicies.{too_large, owners_boss, for_a, if_ok, not_if_ok, by_boss, always, if_bad, not_if_bad, never, no_truth, template, to_a, to_team, to_both, linked_l, many_parts, no_edit, empty_set, with_t, with_l, for_joined, for_actions, by_joined, by_parted};
 
 /// Conditions: the parts of the scope and the body, joined from the right; two truth values are joined to their literal.
 pub fn worked_conditions()
@@ -104,10 +103,11 @@ pub fn worked_partial_answers()
     ensures not_satisfied { satisfied nothing_loaded linked_l ≡ false }
 {}
 
-/// Uids whose type is a well-formed name.
-pub fn worked_names()
-    ensures well_named { is_well_named user_a ≡ true }
-    ensures badly_named { is_well_named (record { kind = plain (codes "a::b"); id = [] }) ≡ false }
-    ensures policy { policy_is_well_named many_parts ≡ true }
-    ensures linked_badly { policy_is_well_named (linked template (codes "k") (record { principal = Some (record { kind = plain (codes "1"); id = [] }); resource = None })) ≡ false }
+/// Uids are told apart by the parts of their types, be these well-formed names or not.
+pub fn worked_types()
+    ensures the_same { satisfied by_joined for_joined ≡ true }
+    ensures another { satisfied by_parted for_joined ≡ false }
+    ensures among_actions { satisfied by_parted for_actions ≡ true }
+    ensures also_among { satisfied by_joined for_actions ≡ true }
+    ensures not_among { satisfied world for_actions ≡ false }
 {}

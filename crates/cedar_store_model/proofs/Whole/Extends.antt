@@ -1,6 +1,6 @@
 -- A world that knows more gives the same outcomes.
 use Rattle.std.proofs.Common.{◌≡◌, Bool, true, false, cond, List, [], ◌∷◌, refl, sym, ap, ◌∙◌, subst}
-use Rattle.std.specs.Prelude.{Option, Some, None, length}
+use Rattle.std.specs.Prelude.{Option, Some, None, is_some, length}
 use Rattle.cedar_expr_model.specs.Name.{Text, Name}
 use Rattle.cedar_expr_model.specs.Uid.{Uid}
 use Rattle.cedar_expr_model.specs.Whole.Value.{V, prim, truth, text, entity, field}
@@ -9,7 +9,7 @@ use Rattle.cedar_expr_model.specs.Whole.Table.{Table, Signature, Called, gives, 
 use Rattle.cedar_store_model.specs.Whole.Outcome.{Res, val, err, bind}
 use Rattle.cedar_store_model.specs.Whole.World.{World, Part, known, left, Entity, Found, held, missing, not_loaded, part_named}
 use Rattle.cedar_store_model.specs.Whole.Operators.{says, bound_value, answered, called_with, called}
-use Rattle.cedar_store_model.specs.Whole.Reads.{part_value, is_there, part_read, part_tested, attributes_of, tags_of, attribute_read, attribute_tested, Step, goes_on, ends, part_step, found_step, step_from, path_after, path_tested, tag_read, tag_tested, found_in, within, uids_in, is_in_some}
+use Rattle.cedar_store_model.specs.Whole.Reads.{part_value, part_read, part_tested, attributes_of, tags_of, attribute_read, attribute_tested, Step, goes_on, ends, part_step, found_step, step_from, path_after, path_tested, tag_read, tag_tested, found_in, within, uids_in, is_in_some}
 use Rattle.cedar_store_model.specs.Whole.Meaning.{Means, known_uid, variable, slot_value, combined, picked, truth_asked, outcome_of, outcomes_of, field_outcomes_of}
 use Rattle.cedar_store_model.specs.Whole.Knowledge.{IsThere, Keeps, KeepsPart, KeepsParts, KeepsEntity, KeepsFound, Extends}
 use Rattle.cedar_store_model.proofs.Whole.Meaning.{means_outcome, outcome_means}
@@ -51,13 +51,13 @@ keeps_value None p h = ap part_value h
 keeps_value (Some (known v)) p h = ap part_value h
 keeps_value (Some (left t)) p h = tt
 
-there_same : {A : Type 0} (p : Option A) → IsThere p → is_there p ≡ true
+there_same : {A : Type 0} (p : Option A) → IsThere p → is_some p ≡ true
 there_same None h = absurd h
 there_same (Some a) h = refl
 
-same_there : (o p : Option (Part V)) → KeepsPart o p → is_there p ≡ is_there o
-same_there None p h = ap is_there h
-same_there (Some (known v)) p h = ap is_there h
+same_there : (o p : Option (Part V)) → KeepsPart o p → is_some p ≡ is_some o
+same_there None p h = ap is_some h
+same_there (Some (known v)) p h = ap is_some h
 same_there (Some (left t)) p h = there_same p h
 
 keeps_part_step : (o p : Option (Part V)) → KeepsPart o p → Keeps (part_step o) (part_step p)

@@ -1,23 +1,19 @@
 -- The parts of a scope mean true exactly where they match.
-use Rattle.std.proofs.Common.{ℕ, ◌≡◌, ◌↔◌, List, [], ◌∷◌, Bool, true, ◌&&◌, ◌||◌, map, refl, sym, ap, ◌∙◌, subst, ◌⊎◌, inl, inr}
+use Rattle.std.proofs.Common.{◌≡◌, ◌↔◌, List, [], ◌∷◌, Bool, true, ◌||◌, map, refl, sym, ap, ◌∙◌, subst, ◌⊎◌, inl, inr}
 use Rattle.std.specs.Prelude.{Option, Some, None, Contains, option_map}
 use Rattle.std.specs.Bool.{Decides}
-use Rattle.std.specs.List.{list_any, list_all}
-use Rattle.std.specs.Ordering.{nat_cmp, ordering_then, is_eq, match_ordering}
-use Rattle.std.specs.Cmp.Lexicographic.{slice_cmp}
+use Rattle.std.specs.List.{list_any}
+use Rattle.std.specs.Ordering.{is_eq, match_ordering}
 use Rattle.std.specs.declared.cmp.Ordering.{Ordering}
 use Rattle.std.specs.declared.cmp.Ordering.TheVariants.{Less, Equal, Greater}
 use Rattle.std.proofs.lemmas.Bool.Decides.{Decides-or}
-use Rattle.std.proofs.lemmas.Map.Text.{is_eq-slice_cmp}
-use Rattle.std.proofs.lemmas.Slice.Eq.{bytes_eq-Decides}
-use Rattle.cedar_expr_model.specs.Name.{Name, name_text}
+use Rattle.cedar_expr_model.specs.Name.{Name}
 use Rattle.cedar_expr_model.specs.Uid.{Uid, uid_eq}
 use Rattle.cedar_expr_model.specs.Whole.Value.{V, prim, entity, Vs, no_values, value}
 use Rattle.cedar_expr_model.specs.Whole.Canonical.{inserted, members_made, set_made}
 use Rattle.cedar_expr_model.specs.Whole.Tree.{var, binary, BinaryOp, equal, is_in, Var, principal, action, resource, SlotId, principal_slot, resource_slot, is_type}
 use Rattle.cedar_expr_model.proofs.Equality.{name_eq-Decides, uid_eq-Decides}
-use Rattle.cedar_expr_model.proofs.UidText.{name_text_apart}
-use Rattle.cedar_expr_model.proofs.Lists.{both_hold, hold_both, contains_head, contains_tail, contains_cases, contains_none, any-Decides, found-Decides}
+use Rattle.cedar_expr_model.proofs.Lists.{contains_head, contains_tail, contains_cases, contains_none, any-Decides, found-Decides}
 use Rattle.cedar_store_model.specs.Whole.Outcome.{Res, val, bind}
 use Rattle.cedar_store_model.specs.Whole.World.{World, Entity, Found, held, missing, not_loaded}
 use Rattle.cedar_store_model.specs.Whole.Operators.{of_type}
@@ -27,25 +23,10 @@ use Rattle.cedar_store_model.specs.Whole.Knowledge.{IsSettled, IsWhole}
 use Rattle.cedar_store_model.specs.Whole.Policy.{Policy, Target, named, own_slot, Scope, any, exactly, inside, of_kind, of_kind_inside, ActionScope, any_action, exactly_action, inside_actions, target_tree, scope_tree, uid_trees, action_tree, body_tree}
 use Rattle.cedar_store_model.specs.Whole.Answer.{with_slots, IsSatisfied, is_true}
 use Rattle.cedar_expr_model.proofs.Whole.ValueOrder.{values_decide}
-use Rattle.cedar_expr_model.specs.Whole.Order.{uid_order, value_eq}
+use Rattle.cedar_expr_model.specs.Whole.Order.{uid_order}
 use Rattle.cedar_store_model.specs.Whole.AnswerLaws.{Holds}
-use Rattle.cedar_store_model.specs.Whole.Matching.{IsIn, target_uid, IsInTarget, Matches, MatchesAction, is_well_named, is_well_named_if_bound, scope_is_well_named, action_is_well_named, policy_is_well_named, AsksFor}
+use Rattle.cedar_store_model.specs.Whole.Matching.{IsIn, target_uid, IsInTarget, Matches, MatchesAction, AsksFor}
 use Rattle.cedar_store_model.proofs.Whole.Conditions.{holds_in, holds-Decides, conjunction-Decides, parts-Decides}
-
--- the order of uids finds no difference exactly between equal ones
-then_equal : (a b : Ordering) → is_eq (ordering_then a b) ≡ (is_eq a && is_eq b)
-then_equal Less b = refl
-then_equal Equal b = refl
-then_equal Greater b = refl
-
-bytes_cmp-Decides : (s t : List ℕ) → Decides (is_eq (slice_cmp nat_cmp s t)) (s ≡ t)
-bytes_cmp-Decides s t = let d = bytes_eq-Decides s t in (λ h. d.0 (sym (is_eq-slice_cmp s t) ∙ h), λ h. is_eq-slice_cmp s t ∙ d.1 h)
-
-same_uid : (u v : Uid) → u.kind ≡ v.kind → u.id ≡ v.id → u ≡ v
-same_uid u v p q = λ i. record { kind = p i; id = q i }
-
-uid_order-Decides : (u v : Uid) → is_well_named u ≡ true → is_well_named v ≡ true → Decides (is_eq (uid_order u v)) (u ≡ v)
-uid_order-Decides u v wu wv = let d = values_decide (prim (entity u)) (prim (entity v)) in (λ h. let e = d.0 h in cc, λ h. d.1 (ap (λ x. prim (entity x)) h))
 
 decides_by : {P : Type 0} (a b : Bool) → a ≡ b → Decides b P → Decides a P
 decides_by a b e d = (λ h. d.0 (sym e ∙ h), λ h. e ∙ d.1 h)
@@ -53,10 +34,14 @@ decides_by a b e d = (λ h. d.0 (sym e ∙ h), λ h. e ∙ d.1 h)
 decides_as : {P Q : Type 0} (b : Bool) → (P → Q) → (Q → P) → Decides b P → Decides b Q
 decides_as b f g d = (λ h. f (d.0 h), λ h. d.1 (g h))
 
+-- the order of uids finds no difference exactly between equal ones
+uid_order-Decides : (u v : Uid) → Decides (is_eq (uid_order u v)) (u ≡ v)
+uid_order-Decides u v = decides_as _ (λ h. cc) (λ h. cc) (values_decide (prim (entity u)) (prim (entity v)))
+
 -- equality with what a target names
-equal_at : (w : World) (u : Uid) (o : Option Uid) → is_well_named u ≡ true → is_well_named_if_bound o ≡ true → Decides (is_true (bind (Some (slot_value o)) (combined w equal (prim (entity u))))) (o ≡ Some u)
-equal_at w u None wu wo = (λ h. cc, λ h. cc)
-equal_at w u (Some v) wu wo = decides_as (value_eq (prim (entity u)) (prim (entity v))) (λ h. cc) (λ h. cc) (values_decide (prim (entity u)) (prim (entity v)))
+equal_at : (w : World) (u : Uid) (o : Option Uid) → Decides (is_true (bind (Some (slot_value o)) (combined w equal (prim (entity u))))) (o ≡ Some u)
+equal_at w u None = (λ h. cc, λ h. cc)
+equal_at w u (Some v) = decides_as _ (λ h. cc) (λ h. cc) (uid_order-Decides u v)
 
 -- the uid is one of these or has one of them among the ancestors
 among-Decides : (u : Uid) (ancestors us : List Uid) → Decides (list_any (λ v. uid_eq u v || list_any (uid_eq v) ancestors) us) ((v : Uid) × Contains us v × ((u ≡ v) ⊎ Contains ancestors v))
@@ -121,12 +106,12 @@ kind-Decides w x u e n = decides_by _ _ (λ i. is_true (bind (e i) (λ v. Some (
 inside-Decides : (w : World) (x : Var) (u : Uid) → variable w x ≡ Some (val (prim (entity u))) → IsSettled (w.store u) → (s : SlotId) (t : Target) → Decides (holds_in w (binary is_in (var x) (target_tree s t))) (IsInTarget w (target_uid (w.slots s) t) u)
 inside-Decides w x u e h s t = decides_by _ _ (ap is_true (operator_outcome w x u e s is_in t)) (in_at w u (target_uid (w.slots s) t) h)
 
-scope-Decides : (w : World) (x : Var) (u : Uid) → variable w x ≡ Some (val (prim (entity u))) → IsSettled (w.store u) → is_well_named u ≡ true → (s : SlotId) (c : Scope) → scope_is_well_named (w.slots s) c ≡ true → Decides (holds_in w (scope_tree x s c)) (Matches w (w.slots s) c u)
-scope-Decides w x u e h wu s any wc = (λ _. tt, λ _. refl)
-scope-Decides w x u e h wu s (exactly t) wc = decides_by _ _ (ap is_true (operator_outcome w x u e s equal t)) (equal_at w u (target_uid (w.slots s) t) wu wc)
-scope-Decides w x u e h wu s (inside t) wc = inside-Decides w x u e h s t
-scope-Decides w x u e h wu s (of_kind n) wc = kind-Decides w x u e n
-scope-Decides w x u e h wu s (of_kind_inside n t) wc = conjunction-Decides w (is_type (var x) n) (binary is_in (var x) (target_tree s t)) _ _ (kind-Decides w x u e n) (inside-Decides w x u e h s t)
+scope-Decides : (w : World) (x : Var) (u : Uid) → variable w x ≡ Some (val (prim (entity u))) → IsSettled (w.store u) → (s : SlotId) (c : Scope) → Decides (holds_in w (scope_tree x s c)) (Matches w (w.slots s) c u)
+scope-Decides w x u e h s any = (λ _. tt, λ _. refl)
+scope-Decides w x u e h s (exactly t) = decides_by _ _ (ap is_true (operator_outcome w x u e s equal t)) (equal_at w u (target_uid (w.slots s) t))
+scope-Decides w x u e h s (inside t) = inside-Decides w x u e h s t
+scope-Decides w x u e h s (of_kind n) = kind-Decides w x u e n
+scope-Decides w x u e h s (of_kind_inside n t) = conjunction-Decides w (is_type (var x) n) (binary is_in (var x) (target_tree s t)) _ _ (kind-Decides w x u e n) (inside-Decides w x u e h s t)
 
 -- the set of some uids
 abbrev uid_values : List Uid → Vs
@@ -197,52 +182,32 @@ inserted_has Greater u v vs rest x same f h =
     (λ e. contains_tail v rest x (f (subst (λ y. Contains (y ∷ vs) x) (sym e) (contains_head x vs))))
     (λ k. contains_cases (Contains (v ∷ rest) x) v vs x k (λ e. subst (λ y. Contains (y ∷ rest) x) (sym e) (contains_head x rest)) (λ m. contains_tail v rest x (f (contains_tail u vs x m))))
 
-has_inserted : (u : Uid) (us : List Uid) (x : Uid) → is_well_named u ≡ true → list_all is_well_named us ≡ true → Contains (u ∷ us) x → Contains (uid_inserted u us) x
-has_inserted u [] x wu ws h = h
-has_inserted u (v ∷ vs) x wu ws h =
-    let k = both_hold (is_well_named v) (list_all is_well_named vs) ws in
-    inserted_has (uid_order u v) u v vs (uid_inserted u vs) x (uid_order-Decides u v wu k.0).0 (has_inserted u vs x wu k.1) h
+has_inserted : (u : Uid) (us : List Uid) (x : Uid) → Contains (u ∷ us) x → Contains (uid_inserted u us) x
+has_inserted u [] x h = h
+has_inserted u (v ∷ vs) x h = inserted_has (uid_order u v) u v vs (uid_inserted u vs) x (uid_order-Decides u v).0 (has_inserted u vs x) h
 
-named_inserted : (o : Ordering) (u v : Uid) (vs rest : List Uid) → is_well_named u ≡ true → list_all is_well_named (v ∷ vs) ≡ true → list_all is_well_named rest ≡ true → list_all is_well_named (match_ordering o (u ∷ v ∷ vs) (v ∷ vs) (v ∷ rest)) ≡ true
-named_inserted Less u v vs rest wu ws wr = hold_both (is_well_named u) _ wu ws
-named_inserted Equal u v vs rest wu ws wr = ws
-named_inserted Greater u v vs rest wu ws wr = hold_both (is_well_named v) _ (both_hold (is_well_named v) (list_all is_well_named vs) ws).0 wr
+has_made : (us : List Uid) (x : Uid) → Contains us x → Contains (uids_made us) x
+has_made [] x h = h
+has_made (u ∷ us) x h =
+    has_inserted u (uids_made us) x
+    (contains_cases (Contains (u ∷ uids_made us) x) u us x h (λ e. subst (λ y. Contains (y ∷ uids_made us) x) (sym e) (contains_head x (uids_made us))) (λ m. contains_tail u (uids_made us) x (has_made us x m)))
 
-inserted_named : (u : Uid) (us : List Uid) → is_well_named u ≡ true → list_all is_well_named us ≡ true → list_all is_well_named (uid_inserted u us) ≡ true
-inserted_named u [] wu ws = hold_both (is_well_named u) true wu refl
-inserted_named u (v ∷ vs) wu ws = named_inserted (uid_order u v) u v vs (uid_inserted u vs) wu ws (inserted_named u vs wu (both_hold (is_well_named v) (list_all is_well_named vs) ws).1)
-
-made_named : (us : List Uid) → list_all is_well_named us ≡ true → list_all is_well_named (uids_made us) ≡ true
-made_named [] h = refl
-made_named (u ∷ us) h = let k = both_hold (is_well_named u) (list_all is_well_named us) h in inserted_named u (uids_made us) k.0 (made_named us k.1)
-
-has_made : (us : List Uid) (x : Uid) → list_all is_well_named us ≡ true → Contains us x → Contains (uids_made us) x
-has_made [] x ws h = h
-has_made (u ∷ us) x ws h =
-    let k = both_hold (is_well_named u) (list_all is_well_named us) ws in
-    has_inserted u (uids_made us) x k.0 (made_named us k.1)
-    (contains_cases (Contains (u ∷ uids_made us) x) u us x h (λ e. subst (λ y. Contains (y ∷ uids_made us) x) (sym e) (contains_head x (uids_made us))) (λ m. contains_tail u (uids_made us) x (has_made us x k.1 m)))
-
-action-Decides : (w : World) (u : Uid) → variable w action ≡ Some (val (prim (entity u))) → IsSettled (w.store u) → is_well_named u ≡ true → (c : ActionScope) → action_is_well_named c ≡ true → Decides (holds_in w (action_tree c)) (MatchesAction w c u)
-action-Decides w u e h wu any_action wc = (λ _. tt, λ _. refl)
-action-Decides w u e h wu (exactly_action v) wc =
-    decides_by _ _ (λ i. is_true (bind (e i) (λ x. combined w equal x (prim (entity v))))) (uid_order-Decides u v wu wc)
-action-Decides w u e h wu (inside_actions us) wc =
+action-Decides : (w : World) (u : Uid) → variable w action ≡ Some (val (prim (entity u))) → IsSettled (w.store u) → (c : ActionScope) → Decides (holds_in w (action_tree c)) (MatchesAction w c u)
+action-Decides w u e h any_action = (λ _. tt, λ _. refl)
+action-Decides w u e h (exactly_action v) =
+    decides_by _ _ (λ i. is_true (bind (e i) (λ x. combined w equal x (prim (entity v))))) (uid_order-Decides u v)
+action-Decides w u e h (inside_actions us) =
     decides_by _ _ (ap is_true ((λ i. bind (e i) (λ x. bind (bind (trees_outcome w us i) (λ vs. Some (val (set_made vs)))) (combined w is_in x))) ∙ set_in u us (w.store u)))
-    (decides_as _ (λ k. (k.0, from_made us k.0 k.1, k.2)) (λ k. (k.0, has_made us k.0 wc k.1, k.2)) (in-Decides w u (uids_made us) (w.store u) refl h))
+    (decides_as _ (λ k. (k.0, from_made us k.0 k.1, k.2)) (λ k. (k.0, has_made us k.0 k.1, k.2)) (in-Decides w u (uids_made us) (w.store u) refl h))
 
 variable_is : (o : Option Uid) (u : Uid) → o ≡ Some u → known_uid o ≡ Some (val (prim (entity u)))
 variable_is o u e = ap known_uid e
 
-pub satisfied_by_matching : (w : World) (p : Policy) (a b c : Uid) → IsWhole w → AsksFor w a b c → policy_is_well_named p ≡ true → IsSatisfied w p ↔ (Matches w p.bindings.principal p.principal a × MatchesAction w p.action b × Matches w p.bindings.resource p.resource c × Holds (with_slots w p.bindings) (body_tree p.body))
-satisfied_by_matching w p a b c h r wp =
+pub satisfied_by_matching : (w : World) (p : Policy) (a b c : Uid) → IsWhole w → AsksFor w a b c → IsSatisfied w p ↔ (Matches w p.bindings.principal p.principal a × MatchesAction w p.action b × Matches w p.bindings.resource p.resource c × Holds (with_slots w p.bindings) (body_tree p.body))
+satisfied_by_matching w p a b c h r =
     let u = with_slots w p.bindings in
-    let n = both_hold (is_well_named a) _ r.well_named in
-    let m = both_hold (is_well_named b) (is_well_named c) n.1 in
-    let k = both_hold (scope_is_well_named p.bindings.principal p.principal) _ wp in
-    let l = both_hold (action_is_well_named p.action) (scope_is_well_named p.bindings.resource p.resource) k.1 in
     parts-Decides w p _ _ _ _
-    (scope-Decides u principal a (variable_is w.principal a r.principal) (h.store a) n.0 principal_slot p.principal k.0)
-    (action-Decides u b (variable_is w.action b r.action) (h.store b) m.0 p.action l.0)
-    (scope-Decides u resource c (variable_is w.resource c r.resource) (h.store c) m.1 resource_slot p.resource l.1)
+    (scope-Decides u principal a (variable_is w.principal a r.principal) (h.store a) principal_slot p.principal)
+    (action-Decides u b (variable_is w.action b r.action) (h.store b) p.action)
+    (scope-Decides u resource c (variable_is w.resource c r.resource) (h.store c) resource_slot p.resource)
     (holds-Decides u (body_tree p.body))

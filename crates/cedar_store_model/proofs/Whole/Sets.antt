@@ -1,26 +1,41 @@
 -- Slots of conditions, and what adding and linking do to a set of policies.
-use Rattle.std.proofs.Common.{◌≡◌, ◌↔◌, List, [], ◌∷◌, ◌++◌, Bool, true, false, cond, not, ◌&&◌, ◌||◌, refl, sym, ap, ◌∙◌, ◌⊎◌, inl, inr}
-use Rattle.std.specs.Prelude.{Option, Some, None}
-use Rattle.std.specs.List.{list_all}
+use Rattle.std.proofs.Common.{◌≡◌, ◌↔◌, List, [], ◌∷◌, ◌++◌, Bool, true, false, cond, ◌&&◌, ◌||◌, refl, sym, ap, ◌∙◌, subst, append_assoc, ◌⊎◌, inl, inr, ⊎_elim}
+use Rattle.std.specs.Prelude.{Option, Some, None, Contains}
+use Rattle.std.specs.Bool.{Decides}
+use Rattle.std.specs.List.{list_any}
 use Rattle.std.specs.Str.{bytes_eq}
+use Rattle.std.proofs.lemmas.List.Elements.{filter_map-append, Contains-append_cases}
+use Rattle.std.proofs.lemmas.List.{map-append}
+use Rattle.std.proofs.lemmas.List.Folds.{list_any-append}
 use Rattle.std.proofs.lemmas.Slice.Eq.{bytes_eq-Decides}
 use Rattle.cedar_expr_model.specs.Name.{Text}
 use Rattle.cedar_expr_model.specs.Uid.{Uid}
 use Rattle.cedar_expr_model.specs.Whole.Value.{truth}
-use Rattle.cedar_expr_model.specs.Whole.Tree.{Tree, lit, var, binary, is_type, SlotId, principal_slot, resource_slot, Var, principal, resource, is_in}
+use Rattle.cedar_expr_model.specs.Whole.Tree.{Tree, lit, var, both, binary, is_type, set_literal, SlotId, principal_slot, resource_slot, Var, principal, resource, is_in}
 use Rattle.cedar_expr_model.specs.Whole.Builder.{conjunction}
-use Rattle.cedar_expr_model.proofs.Lists.{both_hold, hold_both, hold_left, hold_right}
-use Rattle.cedar_store_model.specs.Whole.Policy.{Policy, SlotBindings, Target, named, own_slot, Scope, any, exactly, inside, of_kind, of_kind_inside, ActionScope, any_action, exactly_action, inside_actions, slot_eq, is_own_slot, scope_has_slot, tree_uses, trees_use, has_slot, target_tree, scope_tree, uid_trees, action_tree, body_tree, principal_tree, resource_tree, condition}
+use Rattle.cedar_expr_model.specs.Whole.Parts.{subexpressions, slot_here, slots}
+use Rattle.cedar_expr_model.proofs.Lists.{hold_left, hold_right, any_has, map_from}
+use Rattle.cedar_expr_model.proofs.Whole.Repeating.{distinct_last}
+use Rattle.cedar_expr_model.specs.Whole.Repeats.{AreDistinct}
+use Rattle.cedar_store_model.specs.Whole.Answer.{ids}
+use Rattle.cedar_store_model.proofs.Whole.Distinct.{distinct-Decides, distinct_between}
+use Rattle.cedar_store_model.specs.Whole.Policy.{Policy, SlotBindings, Target, named, own_slot, Scope, any, exactly, inside, of_kind, of_kind_inside, ActionScope, any_action, exactly_action, inside_actions, slot_eq, is_own_slot, scope_has_slot, tree_uses, has_slot, target_tree, scope_tree, uid_trees, action_tree, body_tree, principal_tree, resource_tree, condition}
 use Rattle.cedar_store_model.specs.Whole.PolicySet.{PolicySet, has_id, is_taken, have_distinct_ids, has_distinct_ids, template_of, linked, with_template, with_policy, lacks_binding, has_stray_binding, of_some_slot, LinkFault, id_present, slot_not_bound, slot_not_of_template, no_template, has_fault_at, has_link_fault, linked_in, link, add_template, add_policy}
 
 -- slots of a conjunction are those of its sides
+both_use : (a b : Tree) (s : SlotId) → tree_uses (both a b) s ≡ (tree_uses a s || tree_uses b s)
+both_use a b s = ap (list_any (slot_eq s)) (filter_map-append slot_here (subexpressions a) (subexpressions b)) ∙ list_any-append (slot_eq s) (slots a) (slots b)
+
 conjunction_uses : (a b : Tree) (s : SlotId) → tree_uses (conjunction a b) s ≡ (tree_uses a s || tree_uses b s)
 conjunction_uses (lit (truth x)) (lit (truth y)) s = refl
-conjunction_uses a b s = refl
+conjunction_uses a b s = both_use a b s
 
 target_uses : (r s : SlotId) (t : Target) → tree_uses (target_tree r t) s ≡ (is_own_slot t && slot_eq r s)
 target_uses r s (named u) = refl
-target_uses r s own_slot = refl
+target_uses principal_slot principal_slot own_slot = refl
+target_uses principal_slot resource_slot own_slot = refl
+target_uses resource_slot principal_slot own_slot = refl
+target_uses resource_slot resource_slot own_slot = refl
 
 part_uses : (x : Var) (r s : SlotId) (c : Scope) → tree_uses (scope_tree x r c) s ≡ (scope_has_slot c && slot_eq r s)
 part_uses x r s any = refl
@@ -29,7 +44,7 @@ part_uses x r s (inside t) = target_uses r s t
 part_uses x r s (of_kind n) = refl
 part_uses x r s (of_kind_inside n t) = conjunction_uses (is_type (var x) n) (binary is_in (var x) (target_tree r t)) s ∙ target_uses r s t
 
-uids_use : (us : List Uid) (s : SlotId) → trees_use (uid_trees us) s ≡ false
+uids_use : (us : List Uid) (s : SlotId) → tree_uses (set_literal (uid_trees us)) s ≡ false
 uids_use [] s = refl
 uids_use (u ∷ us) s = uids_use us s
 
@@ -128,66 +143,41 @@ neither : (a b : Bool) → (a || b) ≡ false → (a ≡ false) × (b ≡ false)
 neither true b h = cc
 neither false b h = (refl, h)
 
-nor : (a b : Bool) → a ≡ false → b ≡ false → (a || b) ≡ false
-nor true b h k = cc
-nor false b h k = k
+-- what has no id that stands among these
+not_among : (id : Text) (ps : List Policy) → has_id id ps ≡ false → ¬ (Contains (ids ps) id)
+not_among id ps h c =
+    let k = map_from (λ (p : Policy). p.id) ps id c in
+    let t : has_id id ps ≡ true = any_has (λ (p : Policy). bytes_eq id p.id) ps k.0 k.1 ((bytes_eq-Decides id k.0.id).1 (sym k.2)) in
+    let e = sym t ∙ h in cc
 
-negated : (b : Bool) → not b ≡ true → b ≡ false
-negated true h = cc
-negated false h = refl
+distinct_ids-Decides : (ps : List Policy) → Decides (have_distinct_ids ps) (AreDistinct (ids ps))
+distinct_ids-Decides ps = distinct-Decides bytes_eq bytes_eq-Decides (ids ps)
 
-negates : (b : Bool) → b ≡ false → not b ≡ true
-negates b h = ap not h
+-- the ids of a set in a row
+apart_ids : (s : PolicySet) → has_distinct_ids s ≡ true → AreDistinct (ids s.templates ++ ids s.policies)
+apart_ids s h = subst AreDistinct (map-append (λ (p : Policy). p.id) s.templates s.policies) ((distinct_ids-Decides (s.templates ++ s.policies)).0 h)
 
--- equality of texts has no order
-other_way : (s t : Text) → bytes_eq s t ≡ false → bytes_eq t s ≡ false
-other_way s t h = at (bytes_eq t s) refl
-  where
-    at : (b : Bool) → bytes_eq t s ≡ b → b ≡ false
-    at true e = let k = sym h ∙ (bytes_eq-Decides s t).1 (sym ((bytes_eq-Decides t s).0 e)) in cc
-    at false e = refl
+ids_apart : (s : PolicySet) → AreDistinct (ids s.templates ++ ids s.policies) → has_distinct_ids s ≡ true
+ids_apart s h = (distinct_ids-Decides (s.templates ++ s.policies)).1 (subst AreDistinct (sym (map-append (λ (p : Policy). p.id) s.templates s.policies)) h)
 
-last_has : (id : Text) (ps : List Policy) (p : Policy) → has_id id ps ≡ false → bytes_eq id p.id ≡ false → has_id id (ps ++ p ∷ []) ≡ false
-last_has id [] p h e = nor (bytes_eq id p.id) false e refl
-last_has id (q ∷ ps) p h e = let k = neither (bytes_eq id q.id) (has_id id ps) h in nor (bytes_eq id q.id) _ k.0 (last_has id ps p k.1 e)
-
-distinct_last : (ps : List Policy) (p : Policy) → have_distinct_ids ps ≡ true → has_id p.id ps ≡ false → have_distinct_ids (ps ++ p ∷ []) ≡ true
-distinct_last [] p h e = refl
-distinct_last (q ∷ ps) p h e =
-    let k = both_hold (not (has_id q.id ps)) (have_distinct_ids ps) h in
-    let l = neither (bytes_eq p.id q.id) (has_id p.id ps) e in
-    hold_both (not (has_id q.id (ps ++ p ∷ []))) _ (negates _ (last_has q.id ps p (negated _ k.0) (other_way p.id q.id l.0))) (distinct_last ps p k.1 l.1)
-
--- no template's id is a policy's
-abbrev are_apart : List Policy → List Policy → Bool
-are_apart ts ps = list_all (λ t. not (has_id t.id ps)) ts
-
-apart_last : (ts ps : List Policy) (p : Policy) → are_apart ts ps ≡ true → has_id p.id ts ≡ false → are_apart ts (ps ++ p ∷ []) ≡ true
-apart_last [] ps p h e = refl
-apart_last (t ∷ ts) ps p h e =
-    let k = both_hold (not (has_id t.id ps)) (are_apart ts ps) h in
-    let l = neither (bytes_eq p.id t.id) (has_id p.id ts) e in
-    hold_both (not (has_id t.id (ps ++ p ∷ []))) _ (negates _ (last_has t.id ps p (negated _ k.0) (other_way p.id t.id l.0))) (apart_last ts ps p k.1 l.1)
-
-apart_more : (ts ps : List Policy) (p : Policy) → are_apart ts ps ≡ true → has_id p.id ps ≡ false → are_apart (ts ++ p ∷ []) ps ≡ true
-apart_more [] ps p h e = hold_both (not (has_id p.id ps)) true (negates _ e) refl
-apart_more (t ∷ ts) ps p h e =
-    let k = both_hold (not (has_id t.id ps)) (are_apart ts ps) h in
-    hold_both (not (has_id t.id ps)) _ k.0 (apart_more ts ps p k.1 e)
+not_in_set : (s : PolicySet) (id : Text) → is_taken id s ≡ false → ¬ (Contains (ids s.templates ++ ids s.policies) id)
+not_in_set s id e c =
+    let k = neither (has_id id s.templates) (has_id id s.policies) e in
+    ⊎_elim (not_among id s.templates k.0) (not_among id s.policies k.1) (Contains-append_cases (ids s.templates) (ids s.policies) id c)
 
 policy_keeps : (s : PolicySet) (p : Policy) → has_distinct_ids s ≡ true → is_taken p.id s ≡ false → has_distinct_ids (with_policy s p) ≡ true
 policy_keeps s p h e =
-    let a = both_hold (have_distinct_ids s.templates) _ h in
-    let b = both_hold (have_distinct_ids s.policies) (are_apart s.templates s.policies) a.1 in
-    let k = neither (has_id p.id s.templates) (has_id p.id s.policies) e in
-    hold_both (have_distinct_ids s.templates) _ a.0 (hold_both _ _ (distinct_last s.policies p b.0 k.1) (apart_last s.templates s.policies p b.1 k.0))
+    let last = ap (λ l. ids s.templates ++ l) (map-append (λ (q : Policy). q.id) s.policies (p ∷ [])) in
+    ids_apart (with_policy s p)
+    (subst AreDistinct (append_assoc (ids s.templates) (ids s.policies) (p.id ∷ []) ∙ sym last)
+    (distinct_last (ids s.templates ++ ids s.policies) p.id (apart_ids s h) (not_in_set s p.id e)))
 
 template_keeps : (s : PolicySet) (p : Policy) → has_distinct_ids s ≡ true → is_taken p.id s ≡ false → has_distinct_ids (with_template s p) ≡ true
 template_keeps s p h e =
-    let a = both_hold (have_distinct_ids s.templates) _ h in
-    let b = both_hold (have_distinct_ids s.policies) (are_apart s.templates s.policies) a.1 in
-    let k = neither (has_id p.id s.templates) (has_id p.id s.policies) e in
-    hold_both _ _ (distinct_last s.templates p a.0 k.0) (hold_both (have_distinct_ids s.policies) _ b.0 (apart_more s.templates s.policies p b.1 k.1))
+    let last = ap (λ l. l ++ ids s.policies) (map-append (λ (q : Policy). q.id) s.templates (p ∷ [])) in
+    ids_apart (with_template s p)
+    (subst AreDistinct (sym (append_assoc (ids s.templates) (p.id ∷ []) (ids s.policies)) ∙ sym last)
+    (distinct_between (ids s.templates) (ids s.policies) p.id (apart_ids s h) (not_in_set s p.id e)))
 
 holds_of : (s r : PolicySet) → r ≡ s → has_distinct_ids s ≡ true → has_distinct_ids r ≡ true
 holds_of s r e h = ap has_distinct_ids e ∙ h

@@ -1,16 +1,19 @@
 -- Stores that answer alike for what is looked up give an expression the same outcomes.
 use Rattle.std.proofs.Common.{◌≡◌, ◌↔◌, Bool, true, false, ◌||◌, List, [], ◌∷◌, refl, sym, ap, ◌∙◌, inl, inr}
-use Rattle.std.specs.Prelude.{Option, Some, None}
+use Rattle.std.specs.Prelude.{Option, Some, None, ◌++◌}
+use Rattle.std.specs.List.{list_any}
+use Rattle.std.proofs.lemmas.List.Folds.{list_any-append}
 use Rattle.cedar_expr_model.specs.Name.{Text}
 use Rattle.cedar_expr_model.specs.Uid.{Uid}
 use Rattle.cedar_expr_model.specs.Whole.Value.{V, prim, truth, text, entity, field, truth_value}
 use Rattle.cedar_expr_model.specs.Whole.Tree.{Tree, lit, var, slot, unknown, choice, both, either, unary, binary, call, get_attr, has_attr, has_path, like, is_type, set_literal, record_literal, Trees, no_trees, tree, TreeFields, no_tree_fields, tree_field, principal, action, resource, context, BinaryOp, is_in, get_tag, has_tag}
+use Rattle.cedar_expr_model.specs.Whole.Parts.{subexpressions, subexpressions_among, subexpressions_in_fields}
 use Rattle.cedar_store_model.specs.Whole.Outcome.{Res, val, err, bind}
 use Rattle.cedar_store_model.specs.Whole.World.{World, Found}
 use Rattle.cedar_store_model.specs.Whole.Operators.{says}
 use Rattle.cedar_store_model.specs.Whole.Reads.{part_read, part_tested, attributes_of, tags_of, attribute_read, attribute_tested, Step, goes_on, ends, found_step, step_from, path_after, path_tested, tag_read, tag_tested, found_in, within}
 use Rattle.cedar_store_model.specs.Whole.Meaning.{Means, combined, picked, truth_asked, outcome_of, outcomes_of, field_outcomes_of}
-use Rattle.cedar_store_model.specs.Whole.Looks.{IsEntity, CombinedLooks, PathLooks, Looks, AnyLooks, AnyFieldLooks, looks_up, has_dereference, have_dereference, fields_have_dereference, with_store}
+use Rattle.cedar_store_model.specs.Whole.Looks.{IsEntity, CombinedLooks, PathLooks, Looks, AnyLooks, AnyFieldLooks, looks_up, is_dereference, has_dereference, with_store}
 use Rattle.cedar_store_model.proofs.Whole.Meaning.{means_outcome, outcome_means}
 
 -- the store answers as the world's does
@@ -144,6 +147,12 @@ neither : (a b : Bool) → (a || b) ≡ false → (a ≡ false) × (b ≡ false)
 neither true b h = cc
 neither false b h = (refl, h)
 
+abbrev look_nothing_up : List Tree → Type 0
+look_nothing_up ts = list_any is_dereference ts ≡ false
+
+none_of_either : (ts us : List Tree) → look_nothing_up (ts ++ us) → look_nothing_up ts × look_nothing_up us
+none_of_either ts us e = neither (list_any is_dereference ts) (list_any is_dereference us) (sym (list_any-append is_dereference ts us) ∙ e)
+
 none_at_operator : (o : BinaryOp) (v x : V) (u : Uid) → looks_up o ≡ false → CombinedLooks o v x u → ⊥
 none_at_operator is_in v x u e h = cc
 none_at_operator get_tag v x u e h = cc
@@ -156,16 +165,16 @@ mutual
   nothing_looked w u (var x) e h = h
   nothing_looked w u (slot s) e h = h
   nothing_looked w u (unknown n a) e h = h
-  nothing_looked w u (choice t a b) e (inl h) = nothing_looked w u t (neither (has_dereference t) _ e).0 h
-  nothing_looked w u (choice t a b) e (inr (inl h)) = nothing_looked w u a (neither (has_dereference a) (has_dereference b) (neither (has_dereference t) _ e).1).0 h.1
-  nothing_looked w u (choice t a b) e (inr (inr h)) = nothing_looked w u b (neither (has_dereference a) (has_dereference b) (neither (has_dereference t) _ e).1).1 h.1
-  nothing_looked w u (both a b) e (inl h) = nothing_looked w u a (neither (has_dereference a) (has_dereference b) e).0 h
-  nothing_looked w u (both a b) e (inr h) = nothing_looked w u b (neither (has_dereference a) (has_dereference b) e).1 h.1
-  nothing_looked w u (either a b) e (inl h) = nothing_looked w u a (neither (has_dereference a) (has_dereference b) e).0 h
-  nothing_looked w u (either a b) e (inr h) = nothing_looked w u b (neither (has_dereference a) (has_dereference b) e).1 h.1
+  nothing_looked w u (choice t a b) e (inl h) = nothing_looked w u t (none_of_either (subexpressions t) (subexpressions a ++ subexpressions b) e).0 h
+  nothing_looked w u (choice t a b) e (inr (inl h)) = nothing_looked w u a (none_of_either (subexpressions a) (subexpressions b) (none_of_either (subexpressions t) (subexpressions a ++ subexpressions b) e).1).0 h.1
+  nothing_looked w u (choice t a b) e (inr (inr h)) = nothing_looked w u b (none_of_either (subexpressions a) (subexpressions b) (none_of_either (subexpressions t) (subexpressions a ++ subexpressions b) e).1).1 h.1
+  nothing_looked w u (both a b) e (inl h) = nothing_looked w u a (none_of_either (subexpressions a) (subexpressions b) e).0 h
+  nothing_looked w u (both a b) e (inr h) = nothing_looked w u b (none_of_either (subexpressions a) (subexpressions b) e).1 h.1
+  nothing_looked w u (either a b) e (inl h) = nothing_looked w u a (none_of_either (subexpressions a) (subexpressions b) e).0 h
+  nothing_looked w u (either a b) e (inr h) = nothing_looked w u b (none_of_either (subexpressions a) (subexpressions b) e).1 h.1
   nothing_looked w u (unary o a) e h = nothing_looked w u a e h
-  nothing_looked w u (binary o a b) e (inl h) = nothing_looked w u a (neither (has_dereference a) (has_dereference b) (neither (looks_up o) _ e).1).0 h
-  nothing_looked w u (binary o a b) e (inr (v, m, inl h)) = nothing_looked w u b (neither (has_dereference a) (has_dereference b) (neither (looks_up o) _ e).1).1 h
+  nothing_looked w u (binary o a b) e (inl h) = nothing_looked w u a (none_of_either (subexpressions a) (subexpressions b) (neither (looks_up o) _ e).1).0 h
+  nothing_looked w u (binary o a b) e (inr (v, m, inl h)) = nothing_looked w u b (none_of_either (subexpressions a) (subexpressions b) (neither (looks_up o) _ e).1).1 h
   nothing_looked w u (binary o a b) e (inr (v, m, inr h)) = none_at_operator o v h.0 u (neither (looks_up o) _ e).0 h.2
   nothing_looked w u (call f ts) e h = nothing_any w u ts e h
   nothing_looked w u (get_attr t a) e h = cc
@@ -176,12 +185,12 @@ mutual
   nothing_looked w u (set_literal ts) e h = nothing_any w u ts e h
   nothing_looked w u (record_literal fs) e h = nothing_field w u fs e h
 
-  nothing_any : (w : World) (u : Uid) (ts : Trees) → have_dereference ts ≡ false → AnyLooks w ts u → ⊥
+  nothing_any : (w : World) (u : Uid) (ts : Trees) → look_nothing_up (subexpressions_among ts) → AnyLooks w ts u → ⊥
   nothing_any w u no_trees e h = h
-  nothing_any w u (tree t ts) e (inl h) = nothing_looked w u t (neither (has_dereference t) (have_dereference ts) e).0 h
-  nothing_any w u (tree t ts) e (inr h) = nothing_any w u ts (neither (has_dereference t) (have_dereference ts) e).1 h.2
+  nothing_any w u (tree t ts) e (inl h) = nothing_looked w u t (none_of_either (subexpressions t) (subexpressions_among ts) e).0 h
+  nothing_any w u (tree t ts) e (inr h) = nothing_any w u ts (none_of_either (subexpressions t) (subexpressions_among ts) e).1 h.2
 
-  nothing_field : (w : World) (u : Uid) (fs : TreeFields) → fields_have_dereference fs ≡ false → AnyFieldLooks w fs u → ⊥
+  nothing_field : (w : World) (u : Uid) (fs : TreeFields) → look_nothing_up (subexpressions_in_fields fs) → AnyFieldLooks w fs u → ⊥
   nothing_field w u no_tree_fields e h = h
-  nothing_field w u (tree_field a t fs) e (inl h) = nothing_looked w u t (neither (has_dereference t) (fields_have_dereference fs) e).0 h
-  nothing_field w u (tree_field a t fs) e (inr h) = nothing_field w u fs (neither (has_dereference t) (fields_have_dereference fs) e).1 h.2
+  nothing_field w u (tree_field a t fs) e (inl h) = nothing_looked w u t (none_of_either (subexpressions t) (subexpressions_in_fields fs) e).0 h
+  nothing_field w u (tree_field a t fs) e (inr h) = nothing_field w u fs (none_of_either (subexpressions t) (subexpressions_in_fields fs) e).1 h.2

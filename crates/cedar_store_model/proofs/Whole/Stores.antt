@@ -1,5 +1,5 @@
 -- Stores as maps, and what is known by a part of one.
-use Rattle.std.proofs.Common.{◌≡◌, List, [], ◌∷◌, Bool, true, false, cond, not, ◌&&◌, ◌++◌, refl, sym, ap, ◌∙◌, subst}
+use Rattle.std.proofs.Common.{◌≡◌, List, [], ◌∷◌, map, Bool, true, false, cond, not, ◌&&◌, ◌++◌, refl, sym, ap, ◌∙◌, subst}
 use Rattle.std.specs.Prelude.{Option, Some, None, Contains}
 use Rattle.std.specs.List.{list_all, filter, flat_map}
 use Rattle.std.proofs.lemmas.List.Concat.{flat_map-cons}
@@ -7,14 +7,16 @@ use Rattle.cedar_expr_model.specs.Name.{Text}
 use Rattle.cedar_expr_model.specs.Uid.{Uid, uid_eq}
 use Rattle.cedar_expr_model.specs.Whole.Value.{V}
 use Rattle.cedar_expr_model.specs.Whole.Table.{Table}
+use Rattle.cedar_expr_model.specs.Whole.Repeats.{AreDistinct}
 use Rattle.cedar_expr_model.proofs.Equality.{uid_eq-Decides}
-use Rattle.cedar_expr_model.proofs.Lists.{both_hold, contains_head, contains_tail, contains_cases, contains_none, any_has}
+use Rattle.cedar_expr_model.proofs.Lists.{both_hold, contains_head, contains_tail, contains_cases, contains_none, map_has}
 use Rattle.cedar_store_model.specs.Whole.World.{World, Request, Entity, Found, Part, part_named, known, left}
 use Rattle.cedar_store_model.specs.Whole.Looks.{Looks, with_store}
 use Rattle.cedar_store_model.specs.Whole.Knowledge.{IsThere, holds_values, Keeps, KeepsPart, KeepsEntity, KeepsFound, IsSettled, IsWhole, Extends}
 use Rattle.cedar_store_model.specs.Whole.Policy.{Policy, condition}
 use Rattle.cedar_store_model.specs.Whole.Answer.{with_slots, policy_outcome, is_true, permits, ids, decided, determining, error_of, answer_of, PolicyError}
-use Rattle.cedar_store_model.specs.Whole.Store.{Entities, whole, partial, entity_of, found_as, has_uid, are_distinct, OpenRequest, as_open, world_of, KeepsRequest, ArePartOf}
+use Rattle.cedar_store_model.specs.Whole.Store.{Entities, whole, partial, entity_of, found_as, are_distinct, OpenRequest, as_open, world_of, KeepsRequest, ArePartOf}
+use Rattle.cedar_store_model.proofs.Whole.Distinct.{distinct-Decides}
 use Rattle.cedar_store_model.proofs.Whole.Slices.{same}
 use Rattle.cedar_store_model.proofs.Whole.Conditions.{condition_asked}
 
@@ -30,29 +32,27 @@ pub found_stands : (es : Entities) (u : Uid) (e : Entity V) → entity_of u es �
 found_stands [] u e h = cc
 found_stands (d ∷ es) u e h = found_here u d.0 d.1 e es (uid_eq u d.0) refl (found_stands es u e) h
 
-negated : (b : Bool) → not b ≡ true → b ≡ false
-negated true h = cc
-negated false h = refl
-
 stands_here : (u v : Uid) (d e : Entity V) (es : Entities) → ◌≡◌ {A = Uid × Entity V} (v, d) (u, e) → cond (uid_eq u v) (Some d) (entity_of u es) ≡ Some e
 stands_here u v d e es q =
     let s : u ≡ v = sym (ap (λ (x : Uid × Entity V). x.0) q) in
     ap (λ b. cond b (Some d) (entity_of u es)) ((uid_eq-Decides u v).1 s) ∙ ap (λ (x : Uid × Entity V). Some x.1) q
 
-stands_later : (u v : Uid) (d e : Entity V) (es : Entities) (b : Bool) → uid_eq u v ≡ b → has_uid v es ≡ false → Contains es (u, e) → entity_of u es ≡ Some e → cond b (Some d) (entity_of u es) ≡ Some e
-stands_later u v d e es true q none m h =
-    let s : v ≡ u = sym ((uid_eq-Decides u v).0 q) in
-    let k : has_uid v es ≡ true = any_has (λ (x : Uid × Entity V). uid_eq v x.0) es (u, e) m ((uid_eq-Decides v u).1 s) in
-    let c : true ≡ false = sym k ∙ none in cc
+abbrev uids : Entities → List Uid
+uids es = map (λ e. e.0) es
+
+stands_later : (u v : Uid) (d e : Entity V) (es : Entities) (b : Bool) → uid_eq u v ≡ b → ¬ (Contains (uids es) v) → Contains es (u, e) → entity_of u es ≡ Some e → cond b (Some d) (entity_of u es) ≡ Some e
+stands_later u v d e es true q none m h = absurd (none (subst (Contains (uids es)) ((uid_eq-Decides u v).0 q) (map_has (λ (x : Uid × Entity V). x.0) es (u, e) m)))
 stands_later u v d e es false q none m h = h
 
-pub stands_found : (es : Entities) → are_distinct es ≡ true → (u : Uid) (e : Entity V) → Contains es (u, e) → entity_of u es ≡ Some e
-stands_found [] h u e m = absurd (contains_none (u, e) m)
-stands_found (d ∷ es) h u e m =
-    let k = both_hold (not (has_uid d.0 es)) (are_distinct es) h in
+distinct_found : (es : Entities) → AreDistinct (uids es) → (u : Uid) (e : Entity V) → Contains es (u, e) → entity_of u es ≡ Some e
+distinct_found [] h u e m = absurd (contains_none (u, e) m)
+distinct_found (d ∷ es) h u e m =
     contains_cases (entity_of u (d ∷ es) ≡ Some e) d es (u, e) m
     (λ q. stands_here u d.0 d.1 e es q)
-    (λ n. stands_later u d.0 d.1 e es (uid_eq u d.0) refl (negated _ k.0) n (stands_found es k.1 u e n))
+    (λ n. stands_later u d.0 d.1 e es (uid_eq u d.0) refl h.0 n (distinct_found es h.1 u e n))
+
+pub stands_found : (es : Entities) → are_distinct es ≡ true → (u : Uid) (e : Entity V) → Contains es (u, e) → entity_of u es ≡ Some e
+stands_found es h u e m = distinct_found es ((distinct-Decides uid_eq uid_eq-Decides (uids es)).0 h) u e m
 
 pub lookup_is_exact : (es : Entities) → are_distinct es ≡ true → (u : Uid) (e : Entity V) → (entity_of u es ≡ Some e → Contains es (u, e)) × (Contains es (u, e) → entity_of u es ≡ Some e)
 lookup_is_exact es h u e = (found_stands es u e, stands_found es h u e)

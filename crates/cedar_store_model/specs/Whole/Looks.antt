@@ -1,11 +1,13 @@
 -- Which uids an expression looks up in a world: the left side of `in`, and the entity that an attribute or a tag is asked of.
 -- Rule: the meaning (docs/RULES.md).
-use Rattle.std.specs.Prelude.{◌≡◌, ◌||◌, List, [], ◌∷◌, Bool, true, false, Some}
+use Rattle.std.specs.Prelude.{◌≡◌, List, [], ◌∷◌, Bool, true, false, Some}
+use Rattle.std.specs.List.{list_any}
 use Rattle.std.proofs.Common.{◌⊎◌}
 use Rattle.cedar_expr_model.specs.Name.{Text}
 use Rattle.cedar_expr_model.specs.Uid.{Uid}
 use Rattle.cedar_expr_model.specs.Whole.Value.{text, entity, V, prim, truth_value}
 use Rattle.cedar_expr_model.specs.Whole.Tree.{BinaryOp, is_in, get_tag, has_tag, Tree, lit, var, slot, unknown, choice, both, either, unary, binary, call, get_attr, has_attr, has_path, like, is_type, set_literal, record_literal, Trees, no_trees, tree, TreeFields, no_tree_fields, tree_field}
+use Rattle.cedar_expr_model.specs.Whole.Parts.{subexpressions}
 use Rattle.cedar_store_model.specs.Whole.Outcome.{Res, val}
 use Rattle.cedar_store_model.specs.Whole.World.{World, Found}
 use Rattle.cedar_store_model.specs.Whole.Reads.{goes_on, step_from}
@@ -71,34 +73,17 @@ looks_up get_tag = true
 looks_up has_tag = true
 looks_up o = false
 
--- whether the expression has a part that looks something up
-abbrev mutual
-  pub has_dereference : Tree → Bool
-  has_dereference (lit p) = false
-  has_dereference (var x) = false
-  has_dereference (slot s) = false
-  has_dereference (unknown n a) = false
-  has_dereference (choice t a b) = has_dereference t || (has_dereference a || has_dereference b)
-  has_dereference (both a b) = has_dereference a || has_dereference b
-  has_dereference (either a b) = has_dereference a || has_dereference b
-  has_dereference (unary o a) = has_dereference a
-  has_dereference (binary o a b) = looks_up o || (has_dereference a || has_dereference b)
-  has_dereference (call f ts) = have_dereference ts
-  has_dereference (get_attr t a) = true
-  has_dereference (has_attr t a) = true
-  has_dereference (has_path t a bs) = true
-  has_dereference (like t p) = has_dereference t
-  has_dereference (is_type t n) = has_dereference t
-  has_dereference (set_literal ts) = have_dereference ts
-  has_dereference (record_literal fs) = fields_have_dereference fs
+-- the expression looks something up at the values of its parts
+abbrev pub is_dereference : Tree → Bool
+is_dereference (binary o a b) = looks_up o
+is_dereference (get_attr t a) = true
+is_dereference (has_attr t a) = true
+is_dereference (has_path t a bs) = true
+is_dereference t = false
 
-  pub have_dereference : Trees → Bool
-  have_dereference no_trees = false
-  have_dereference (tree t ts) = has_dereference t || have_dereference ts
-
-  pub fields_have_dereference : TreeFields → Bool
-  fields_have_dereference no_tree_fields = false
-  fields_have_dereference (tree_field a t fs) = has_dereference t || fields_have_dereference fs
+-- whether the expression, or a part of it, looks something up
+abbrev pub has_dereference : Tree → Bool
+has_dereference t = list_any is_dereference (subexpressions t)
 
 -- the world with another store
 abbrev pub with_store : World → (Uid → Found V) → World

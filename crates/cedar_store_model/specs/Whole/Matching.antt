@@ -1,9 +1,7 @@
 -- When the parts of a scope match the uids of a request.
 -- Rule: conditions (docs/RULES.md).
-use Rattle.std.specs.Prelude.{◌≡◌, ◌↔◌, ◌&&◌, Contains, Bool, true, Option, Some, None}
-use Rattle.std.specs.List.{list_all}
+use Rattle.std.specs.Prelude.{◌≡◌, ◌↔◌, Contains, Option, Some}
 use Rattle.std.proofs.Common.{◌⊎◌}
-use Rattle.cedar_expr_model.specs.Name.{is_well_formed}
 use Rattle.cedar_expr_model.specs.Uid.{Uid}
 use Rattle.cedar_expr_model.specs.Whole.Value.{V}
 use Rattle.cedar_store_model.specs.Whole.World.{World, Entity, held}
@@ -39,39 +37,13 @@ MatchesAction w any_action u = Unit {0}
 MatchesAction w (exactly_action v) u = u ≡ v
 MatchesAction w (inside_actions vs) u = (v : Uid) × Contains vs v × IsIn w u v
 
--- the type of the uid is a well-formed name
-abbrev pub is_well_named : Uid → Bool
-is_well_named u = is_well_formed u.kind
-
-abbrev pub is_well_named_if_bound : Option Uid → Bool
-is_well_named_if_bound None = true
-is_well_named_if_bound (Some u) = is_well_named u
-
--- the uid that the part of a scope names is so
-abbrev pub scope_is_well_named : Option Uid → Scope → Bool
-scope_is_well_named bound any = true
-scope_is_well_named bound (exactly t) = is_well_named_if_bound (target_uid bound t)
-scope_is_well_named bound (inside t) = is_well_named_if_bound (target_uid bound t)
-scope_is_well_named bound (of_kind n) = true
-scope_is_well_named bound (of_kind_inside n t) = is_well_named_if_bound (target_uid bound t)
-
-abbrev pub action_is_well_named : ActionScope → Bool
-action_is_well_named any_action = true
-action_is_well_named (exactly_action u) = is_well_named u
-action_is_well_named (inside_actions us) = list_all is_well_named us
-
--- the uids that the scope of a policy names are so
-abbrev pub policy_is_well_named : Policy → Bool
-policy_is_well_named p = scope_is_well_named p.bindings.principal p.principal && (action_is_well_named p.action && scope_is_well_named p.bindings.resource p.resource)
-
 -- the three uids of the request
 pub record AsksFor (w : World) (a b c : Uid) : Type 0 where
   pub principal : w.principal ≡ Some a
   pub action : w.action ≡ Some b
   pub resource : w.resource ≡ Some c
-  pub well_named : (is_well_named a && (is_well_named b && is_well_named c)) ≡ true
 
 -- where everything is known a policy is satisfied exactly where each part of its scope matches and its body means true
 abbrev pub SatisfiedByMatching : Type 0
-SatisfiedByMatching = (w : World) (p : Policy) (a b c : Uid) → IsWhole w → AsksFor w a b c → policy_is_well_named p ≡ true
+SatisfiedByMatching = (w : World) (p : Policy) (a b c : Uid) → IsWhole w → AsksFor w a b c
     → IsSatisfied w p ↔ (Matches w p.bindings.principal p.principal a × MatchesAction w p.action b × Matches w p.bindings.resource p.resource c × Holds (with_slots w p.bindings) (body_tree p.body))

@@ -2,16 +2,16 @@
 -- taken in order, the fields of a record in the order of their names, and the first error is the outcome. Where the meaning needs
 -- something that isn't known there is no outcome.
 -- Rule: the meaning (docs/RULES.md).
-use Rattle.std.specs.Prelude.{List, [], ◌∷◌, true, false, Option, Some, None, ◌+ℤ◌, ◌-ℤ◌, ◌*ℤ◌}
+use Rattle.std.specs.Prelude.{List, [], ◌∷◌, true, false, not, Option, Some, None, ◌+ℤ◌, ◌-ℤ◌, ◌*ℤ◌}
 use Rattle.std.specs.Ordering.{is_lt, is_le}
 use Rattle.cedar_expr_model.specs.Uid.{Uid}
 use Rattle.cedar_expr_model.specs.Whole.Value.{truth, entity, V, prim, record_of, Fields, no_fields, field, truth_value}
 use Rattle.cedar_expr_model.specs.Whole.Order.{value_eq}
-use Rattle.cedar_expr_model.specs.Whole.Canonical.{set_made}
+use Rattle.cedar_expr_model.specs.Whole.Canonical.{set_made, is_subset, is_disjoint}
 use Rattle.cedar_expr_model.specs.Whole.Tree.{Var, principal, action, resource, context, BinaryOp, equal, less, less_or_equal, plus, difference, times, is_in, contains, contains_all, contains_any, get_tag, has_tag, Tree, lit, var, slot, unknown, choice, both, either, unary, binary, call, get_attr, has_attr, has_path, like, is_type, set_literal, record_literal, Trees, no_trees, tree, TreeFields, no_tree_fields, tree_field}
 use Rattle.cedar_store_model.specs.Whole.Outcome.{Res, val, err, wrong_type, unlinked_slot, Then, Is, Gives, bind}
 use Rattle.cedar_store_model.specs.Whole.World.{World}
-use Rattle.cedar_store_model.specs.Whole.Operators.{says, applied, ordered, calculated, of_sets, all_members, any_member, among_members, like_pattern, of_type, called, bound_value}
+use Rattle.cedar_store_model.specs.Whole.Operators.{says, applied, ordered, calculated, of_sets, among_members, like_pattern, of_type, called, bound_value}
 use Rattle.cedar_store_model.specs.Whole.Reads.{attribute_read, attribute_tested, path_tested, tag_read, tag_tested, within}
 
 -- the uid as a value, where it is known
@@ -41,8 +41,8 @@ combined w difference v v' = Some (calculated (λ m n. m -ℤ n) v v')
 combined w times v v' = Some (calculated (λ m n. m *ℤ n) v v')
 combined w is_in v v' = within w v v'
 combined w contains v v' = Some (among_members v v')
-combined w contains_all v v' = Some (of_sets (λ vs ws. all_members ws vs) v v')
-combined w contains_any v v' = Some (of_sets any_member v v')
+combined w contains_all v v' = Some (of_sets (λ vs ws. is_subset ws vs) v v')
+combined w contains_any v v' = Some (of_sets (λ vs ws. not (is_disjoint vs ws)) v v')
 combined w get_tag v v' = tag_read w v v'
 combined w has_tag v v' = tag_tested w v v'
 

@@ -1,6 +1,6 @@
 -- Operators at the values of their operands. Where no clause says otherwise the operands have a wrong type.
 -- Rule: the meaning (docs/RULES.md).
-use Rattle.std.specs.Prelude.{◌&&◌, ◌||◌, ℤ, pos, neg_ℤ, int_le, List, length, Bool, true, false, not, Option, Some, None, if◌then◌else◌}
+use Rattle.std.specs.Prelude.{◌&&◌, ℤ, pos, neg_ℤ, int_le, List, length, Bool, true, false, not, Option, Some, None, if◌then◌else◌}
 use Rattle.std.specs.Ordering.{int_cmp}
 use Rattle.std.specs.declared.cmp.Ordering.{Ordering}
 use Rattle.cedar_expr_model.specs.Name.{Text, Name, name_eq}
@@ -43,14 +43,6 @@ ordered x test v w = err wrong_type
 abbrev pub calculated : (ℤ → ℤ → ℤ) → V → V → Res V
 calculated f (prim (long m)) (prim (long n)) = in_range (f m n)
 calculated f v w = err wrong_type
-
-abbrev pub all_members : Vs → Vs → Bool
-all_members no_values ws = true
-all_members (value v vs) ws = is_member v ws && all_members vs ws
-
-abbrev pub any_member : Vs → Vs → Bool
-any_member no_values ws = false
-any_member (value v vs) ws = is_member v ws || any_member vs ws
 
 abbrev pub among_members : V → V → Res V
 among_members (set_of vs) w = says (is_member w vs)

@@ -1,11 +1,13 @@
 -- Policies, templates, and their condition.
 -- Rule: conditions; policies and templates (docs/RULES.md).
-use Rattle.std.specs.Prelude.{◌||◌, List, [], ◌∷◌, Bool, true, false, Option, Some, None}
+use Rattle.std.specs.Prelude.{◌||◌, List, map, Bool, true, false, Option, Some, None}
+use Rattle.std.specs.List.{list_any}
 use Rattle.cedar_expr_model.specs.Name.{Text, Name}
 use Rattle.cedar_expr_model.specs.Uid.{Uid}
 use Rattle.cedar_expr_model.specs.Whole.Value.{truth, entity}
-use Rattle.cedar_expr_model.specs.Whole.Tree.{Var, principal, action, resource, SlotId, principal_slot, resource_slot, equal, is_in, Tree, lit, var, slot, unknown, choice, both, either, unary, binary, call, get_attr, has_attr, has_path, like, is_type, set_literal, record_literal, Trees, no_trees, tree, TreeFields, no_tree_fields, tree_field}
-use Rattle.cedar_expr_model.specs.Whole.Builder.{conjunction}
+use Rattle.cedar_expr_model.specs.Whole.Tree.{Var, principal, action, resource, SlotId, principal_slot, resource_slot, equal, is_in, Tree, lit, var, slot, binary, is_type, set_literal, Trees}
+use Rattle.cedar_expr_model.specs.Whole.Builder.{conjunction, trees}
+use Rattle.cedar_expr_model.specs.Whole.Parts.{slots}
 
 pub data Effect : Type 0 where
   permit : Effect
@@ -36,7 +38,7 @@ pub record SlotBindings : Type 0 where
   pub principal : Option Uid
   pub resource : Option Uid
 
--- A policy. A template is a policy that has slots and binds none.
+-- A policy. A template is one that binds none of its slots.
 pub record Policy : Type 0 where
   pub id : Text
   pub effect : Effect
@@ -68,8 +70,7 @@ scope_tree x s (of_kind n) = is_type (var x) n
 scope_tree x s (of_kind_inside n t) = conjunction (is_type (var x) n) (binary is_in (var x) (target_tree s t))
 
 abbrev pub uid_trees : List Uid → Trees
-uid_trees [] = no_trees
-uid_trees (u ∷ us) = tree (lit (entity u)) (uid_trees us)
+uid_trees us = trees (map (λ u. lit (entity u)) us)
 
 -- what the action part asks; of several actions it asks for their set
 abbrev pub action_tree : ActionScope → Tree
@@ -116,34 +117,9 @@ abbrev pub scope_uses : Policy → SlotId → Bool
 scope_uses p principal_slot = scope_has_slot p.principal
 scope_uses p resource_slot = scope_has_slot p.resource
 
--- the slots that an expression has
-abbrev mutual
-  pub tree_uses : Tree → SlotId → Bool
-  tree_uses (lit p) s = false
-  tree_uses (var x) s = false
-  tree_uses (slot r) s = slot_eq r s
-  tree_uses (unknown n a) s = false
-  tree_uses (choice t a b) s = tree_uses t s || (tree_uses a s || tree_uses b s)
-  tree_uses (both a b) s = tree_uses a s || tree_uses b s
-  tree_uses (either a b) s = tree_uses a s || tree_uses b s
-  tree_uses (unary o a) s = tree_uses a s
-  tree_uses (binary o a b) s = tree_uses a s || tree_uses b s
-  tree_uses (call f ts) s = trees_use ts s
-  tree_uses (get_attr t a) s = tree_uses t s
-  tree_uses (has_attr t a) s = tree_uses t s
-  tree_uses (has_path t a bs) s = tree_uses t s
-  tree_uses (like t p) s = tree_uses t s
-  tree_uses (is_type t n) s = tree_uses t s
-  tree_uses (set_literal ts) s = trees_use ts s
-  tree_uses (record_literal fs) s = fields_use fs s
-
-  pub trees_use : Trees → SlotId → Bool
-  trees_use no_trees s = false
-  trees_use (tree t ts) s = tree_uses t s || trees_use ts s
-
-  pub fields_use : TreeFields → SlotId → Bool
-  fields_use no_tree_fields s = false
-  fields_use (tree_field a t fs) s = tree_uses t s || fields_use fs s
+-- the slot stands in the expression
+abbrev pub tree_uses : Tree → SlotId → Bool
+tree_uses t s = list_any (slot_eq s) (slots t)
 
 -- the slots of a policy: those of its scope and those of its body
 abbrev pub has_slot : Policy → SlotId → Bool

@@ -1,10 +1,11 @@
 -- Sets of policies: templates and policies, each in the order of insertion, under ids that are used once.
 -- Rule: policies and templates (docs/RULES.md).
-use Rattle.std.specs.Prelude.{◌&&◌, ◌||◌, List, [], ◌∷◌, ◌++◌, Bool, true, false, not, Option, Some, None, is_some, if◌then◌else◌}
-use Rattle.std.specs.List.{list_any, list_all}
+use Rattle.std.specs.Prelude.{◌&&◌, ◌||◌, map, List, [], ◌∷◌, ◌++◌, Bool, false, not, Option, Some, None, is_some, is_none, if◌then◌else◌}
+use Rattle.std.specs.List.{list_any}
 use Rattle.std.specs.Str.{bytes_eq}
 use Rattle.cedar_expr_model.specs.Name.{Text}
 use Rattle.cedar_expr_model.specs.Whole.Tree.{SlotId, principal_slot, resource_slot}
+use Rattle.cedar_expr_model.specs.Whole.Repeats.{repeated}
 use Rattle.cedar_store_model.specs.Whole.Policy.{Policy, SlotBindings, binding_of, has_slot}
 
 pub record PolicySet : Type 0 where
@@ -25,12 +26,11 @@ is_taken id s = has_id id s.templates || has_id id s.policies
 
 -- no id stands twice
 abbrev pub have_distinct_ids : List Policy → Bool
-have_distinct_ids [] = true
-have_distinct_ids (p ∷ ps) = not (has_id p.id ps) && have_distinct_ids ps
+have_distinct_ids ps = is_none (repeated bytes_eq (map (λ p. p.id) ps))
 
 -- no id is used twice, be it by templates or policies
 abbrev pub has_distinct_ids : PolicySet → Bool
-has_distinct_ids s = have_distinct_ids s.templates && (have_distinct_ids s.policies && list_all (λ t. not (has_id t.id s.policies)) s.templates)
+has_distinct_ids s = have_distinct_ids (s.templates ++ s.policies)
 
 abbrev pub template_among : Text → List Policy → Option Policy
 template_among id [] = None

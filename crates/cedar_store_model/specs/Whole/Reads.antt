@@ -1,7 +1,7 @@
 -- What is read of a store at the values of the operands: attributes, tags and ancestors. Where what is known gives no answer
 -- there is none.
 -- Rule: the meaning; the store (docs/RULES.md).
-use Rattle.std.specs.Prelude.{◌||◌, List, [], ◌∷◌, Bool, true, false, Option, Some, None, option_map}
+use Rattle.std.specs.Prelude.{◌||◌, List, [], ◌∷◌, false, Option, Some, None, is_some, option_map}
 use Rattle.std.specs.List.{list_any}
 use Rattle.cedar_expr_model.specs.Name.{Text}
 use Rattle.cedar_expr_model.specs.Uid.{Uid, uid_eq}
@@ -16,10 +16,6 @@ part_value None = Some (err missing_attribute_or_tag)
 part_value (Some (known v)) = Some (val v)
 part_value (Some (left t)) = None
 
-abbrev pub is_there : {A : Type 0} → Option A → Bool
-is_there None = false
-is_there (Some a) = true
-
 -- an attribute, or a tag, of an entity that was looked up
 abbrev pub part_read : (Entity V → List (Text × Part V)) → Uid → Text → Found V → Option (Res V)
 part_read parts u a (held e) = part_value (part_named a (parts e))
@@ -28,7 +24,7 @@ part_read parts u a not_loaded = None
 
 -- whether it is there; a missing entity has none
 abbrev pub part_tested : (Entity V → List (Text × Part V)) → Text → Found V → Option (Res V)
-part_tested parts a (held e) = Some (says (is_there (part_named a (parts e))))
+part_tested parts a (held e) = Some (says (is_some (part_named a (parts e))))
 part_tested parts a missing = Some (says false)
 part_tested parts a not_loaded = None
 
@@ -50,7 +46,7 @@ attribute_read w a v = Some (err wrong_type)
 
 abbrev pub attribute_tested : World → Text → V → Option (Res V)
 attribute_tested w a (prim (entity u)) = part_tested attributes_of a (w.store u)
-attribute_tested w a (record_of fs) = Some (says (is_there (field_of a fs)))
+attribute_tested w a (record_of fs) = Some (says (is_some (field_of a fs)))
 attribute_tested w a v = Some (err wrong_type)
 
 -- what a step on a path finds: a value to go on with, or that it isn't there

@@ -1,11 +1,12 @@
 -- Stores as finite maps of entities, whole or partial, and the worlds of requests over them.
 -- Rule: the store; what is known (docs/RULES.md).
-use Rattle.std.specs.Prelude.{◌≡◌, ◌&&◌, List, [], ◌∷◌, ◌++◌, Contains, Bool, true, not, Option, Some, None, if◌then◌else◌}
+use Rattle.std.specs.Prelude.{◌≡◌, List, [], ◌∷◌, ◌++◌, map, Contains, Bool, true, Option, Some, None, is_none, if◌then◌else◌}
 use Rattle.std.specs.List.{list_any, list_all}
 use Rattle.cedar_expr_model.specs.Name.{Text}
 use Rattle.cedar_expr_model.specs.Uid.{Uid, uid_eq, uid_text}
 use Rattle.cedar_expr_model.specs.Whole.Value.{V, record_of}
 use Rattle.cedar_expr_model.specs.Whole.Tree.{Tree, unknown, entity_core}
+use Rattle.cedar_expr_model.specs.Whole.Repeats.{repeated}
 use Rattle.cedar_expr_model.specs.Whole.Table.{Table}
 use Rattle.cedar_store_model.specs.Whole.World.{World, Request, Entity, Found, held, missing, not_loaded}
 use Rattle.cedar_store_model.specs.Whole.Knowledge.{IsThere, holds_values, Keeps, IsWhole, Extends}
@@ -40,13 +41,9 @@ look_up s u = found_as s.extent (entity_of u s.entities)
 abbrev pub stand_in : Uid → Tree
 stand_in u = unknown (uid_text u) (Some (entity_core u.kind))
 
-abbrev pub has_uid : Uid → Entities → Bool
-has_uid u es = list_any (λ e. uid_eq u e.0) es
-
 -- no uid stands twice
 abbrev pub are_distinct : Entities → Bool
-are_distinct [] = true
-are_distinct (e ∷ es) = not (has_uid e.0 es) && are_distinct es
+are_distinct es = is_none (repeated uid_eq (map (λ e. e.0) es))
 
 -- the store of these entities, where no uid is repeated
 abbrev pub store_of : Extent → Entities → Option Store

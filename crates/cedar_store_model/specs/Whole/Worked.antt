@@ -76,7 +76,7 @@ uid_value u = prim (entity u)
 abbrev pub number_value : ℕ → V
 number_value n = prim (long (pos n))
 
--- `User::"a".ok`, `Ghost::"g".ok`: a value and an error
+-- an attribute of an expression
 abbrev pub ok_of : Tree → Tree
 ok_of t = get_attr t (codes "ok")
 
@@ -90,8 +90,8 @@ no_field = get_attr (var context) (codes "none")
 abbrev pub no_entity : Tree
 no_entity = ok_of (uid ghost_g)
 
--- the table: `rank` of a text, ordered, fails at `x`; `blob` of a text, not ordered; `later` of nothing leaves the unknown `u`;
--- `most` of numbers, one at least
+-- The functions of the table: `rank` of a text, whose values are ordered, and `blob` of a text, whose values aren't; both fail
+-- at the text `x`. `later` of nothing leaves the unknown `u`. `pair` of two texts or more always fails.
 abbrev pub rank : Name
 rank = plain (codes "rank")
 

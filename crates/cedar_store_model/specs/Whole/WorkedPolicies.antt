@@ -2,10 +2,12 @@
 -- Rule: conditions; policies and templates; the answer (docs/RULES.md).
 use Rattle.std.specs.Prelude.{[], ◌∷◌, codes, Option, Some, None}
 use Rattle.cedar_expr_model.specs.Name.{Text}
+use Rattle.cedar_expr_model.specs.Uid.{Uid}
 use Rattle.cedar_expr_model.specs.Whole.Tree.{principal, resource, context, resource_slot, equal, plus, Tree, var, slot, choice, binary, get_attr}
+use Rattle.cedar_store_model.specs.Whole.World.{World}
 use Rattle.cedar_store_model.specs.Whole.Policy.{Policy, Effect, permit, forbid, any, exactly, inside, of_kind, of_kind_inside, named, own_slot, any_action, exactly_action, inside_actions, SlotBindings, no_bindings}
 use Rattle.cedar_store_model.specs.Whole.PolicySet.{PolicySet, linked}
-use Rattle.cedar_store_model.specs.Whole.Worked.{user, user_a, team, doc_d, view, edit, number, ok_of, boss_of}
+use Rattle.cedar_store_model.specs.Whole.Worked.{plain, world, user, user_a, team, doc_d, view, edit, number, ok_of, boss_of}
 
 -- a policy for any request
 abbrev pub policy : Text → Effect → Option Tree → Policy
@@ -86,6 +88,26 @@ many_parts = record {
 -- `forbid(principal, action == Action::"edit", resource == ?resource)`
 abbrev pub no_edit : Policy
 no_edit = record (policy (codes "e") forbid None) { action = exactly_action edit; resource = exactly own_slot }
+
+-- two uids whose types have one text; the first type is no well-formed name
+abbrev pub of_joined : Uid
+of_joined = record { kind = plain (codes "a::b"); id = codes "x" }
+
+abbrev pub of_parted : Uid
+of_parted = record { kind = record { path = codes "a" ∷ []; base = codes "b" }; id = codes "x" }
+
+-- `permit(principal == U, action, resource)` and `permit(principal, action in [U, V], resource)` of these two
+abbrev pub for_joined : Policy
+for_joined = record always { principal = exactly (named of_joined) }
+
+abbrev pub for_actions : Policy
+for_actions = record always { action = inside_actions (of_joined ∷ of_parted ∷ []) }
+
+abbrev pub by_parted : World
+by_parted = record world { principal = Some of_parted; action = Some of_parted }
+
+abbrev pub by_joined : World
+by_joined = record world { principal = Some of_joined; action = Some of_joined }
 
 abbrev pub empty_set : PolicySet
 empty_set = record { templates = []; policies = [] }
