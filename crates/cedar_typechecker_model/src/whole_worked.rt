@@ -291,12 +291,13 @@ pub fn worked_names()
 
 /// How far expressions reach: each step into the store counts one from its target.
 pub fn worked_levels()
-    ensures owner_short { violations 1 here no_facts owned_by_staff ≡ needs (get_attr (get_attr (var resource) owner) boss) 2 ∷ [] }
-    ensures owner_reached { violations 2 here no_facts owned_by_staff ≡ [] }
+    ensures owner_short { policy_violations 1 small no_table (permits_when owned_by_staff) ≡ needs (get_attr (get_attr (var resource) owner) boss) 2 ∷ [] }
+    ensures owner_reached { policy_violations 2 small no_table (permits_when owned_by_staff) ≡ [] }
+    ensures owner_typed { passes small no_table (permits_when owned_by_staff) ≡ true }
     ensures guarded { violations 1 here no_facts (both has_nick nick_is_x) ≡ [] }
-    ensures chosen_short { violations 2 here no_facts chosen_ok ≡ needs chosen_ok 3 ∷ [] }
-    ensures chosen_reached { violations 3 here no_facts chosen_ok ≡ [] }
-    ensures literal { violations 1 here no_facts alice_ok ≡ stands (lit (entity alice)) ∷ [] }
+    ensures chosen_short { policy_violations 2 small no_table (permits_when chosen_ok) ≡ needs chosen_ok 3 ∷ [] }
+    ensures chosen_reached { policy_violations 3 small no_table (permits_when chosen_ok) ≡ [] }
+    ensures literal { policy_violations 1 small no_table (permits_when alice_ok) ≡ stands (lit (entity alice)) ∷ [] }
     ensures literal_far { violations 9 here no_facts alice_ok ≡ stands (lit (entity alice)) ∷ [] }
     ensures overflow { violations 0 here no_facts (binary equal (binary plus (lit (long (pos 9223372036854775807))) (lit (long (pos 1)))) (lit (long (pos 0)))) ≡ [] }
     ensures untyped { violations 0 here no_facts haunted ≡ [] }
@@ -312,4 +313,74 @@ pub fn worked_levels()
     ensures ill_typed { policy_violations 0 small no_table (permits_when nick_is_x) ≡ [] }
     ensures ranked_short { violations 0 there no_facts ranked ≡ needs (get_attr (var principal) (codes "r")) 1 ∷ [] }
     ensures nested { nesting (condition (permits_when is_ok)) ≡ 5 }
+{}
+
+/// What typing reaches counts: the left of what ends early and the test of a choice, but not what is behind them.
+pub fn worked_reach()
+    ensures behind_false { violations 0 here no_facts (both false_ is_ok) ≡ [] }
+    ensures before_false { violations 0 here no_facts (both is_ok false_) ≡ needs is_ok 1 ∷ [] }
+    ensures left_of_false { violations 0 here no_facts (both (both is_ok false_) the_boss) ≡ needs is_ok 1 ∷ [] }
+    ensures behind_true { violations 0 here no_facts (either true_ is_ok) ≡ [] }
+    ensures left_of_true { violations 0 here no_facts (either (either is_ok true_) the_boss) ≡ needs is_ok 1 ∷ [] }
+    ensures both_sides { violations 0 here no_facts (either is_ok (get_attr the_boss ok)) ≡ needs is_ok 1 ∷ needs (get_attr the_boss ok) 2 ∷ [] }
+    ensures taken { violations 0 here no_facts (choice true_ is_ok (get_attr the_boss ok)) ≡ needs is_ok 1 ∷ [] }
+    ensures test_counts { violations 0 here no_facts (choice (both is_ok false_) the_boss true_) ≡ needs is_ok 1 ∷ [] }
+    ensures taken_target { violations 1 here no_facts (get_attr (choice true_ (var principal) the_boss) ok) ≡ [] }
+    ensures greater_target { violations 1 here no_facts (get_attr (choice is_ok (var principal) the_boss) ok) ≡ needs (get_attr (choice is_ok (var principal) the_boss) ok) 2 ∷ [] }
+    ensures guarded_target { violations 1 there no_facts (get_attr (choice (has_attr (var principal) boss) (get_attr (var principal) boss) (var principal)) info) ≡ needs (get_attr (choice (has_attr (var principal) boss) (get_attr (var principal) boss) (var principal)) info) 2 ∷ [] }
+    ensures other_fields { violations 1 here no_facts (get_attr (get_attr (record_literal (tree_field nick (get_attr the_boss ok) (tree_field owner (var principal) no_tree_fields))) owner) ok) ≡ needs (get_attr the_boss ok) 2 ∷ [] }
+    ensures of_set { violations 0 here no_facts (unary is_empty (set_literal (tree is_ok (tree true_ no_trees)))) ≡ needs is_ok 1 ∷ [] }
+    ensures of_record { violations 0 here no_facts (record_literal (tree_field ok is_ok no_tree_fields)) ≡ needs is_ok 1 ∷ [] }
+    ensures right_of_in { violations 0 here no_facts (binary is_in (var principal) (get_attr (var resource) owner)) ≡ needs (binary is_in (var principal) (get_attr (var resource) owner)) 1 ∷ needs (get_attr (var resource) owner) 1 ∷ [] }
+    ensures of_tags { violations 0 there no_facts (both (binary has_tag (var principal) (lit (text (codes "t")))) (like (binary get_tag (var principal) (lit (text (codes "t")))) [])) ≡ needs (binary has_tag (var principal) (lit (text (codes "t")))) 1 ∷ needs (binary get_tag (var principal) (lit (text (codes "t")))) 1 ∷ [] }
+    ensures tag_counts { target 0 there no_facts [] (binary get_tag (var principal) (lit (text (codes "t")))) ≡ count 1 [] }
+    ensures action_literal { violations 1 here no_facts (binary is_in (lit (entity view)) (lit (entity view))) ≡ [] }
+    ensures other_literal { violations 1 here no_facts (binary is_in (lit (entity user_a)) (var principal)) ≡ stands (lit (entity user_a)) ∷ [] }
+    ensures known_largest { needed 4294967295 ≡ 4294967295 }
+    ensures any_larger { needed 4294967297 ≡ 4294967296 }
+{}
+
+/// A path steps once for each entity that it stands on, up to its first test of type False, and counts as one step of so many.
+pub fn worked_path_steps()
+    ensures two_short { violations 1 there no_facts (has_path (var principal) boss (boss ∷ [])) ≡ needs (has_path (var principal) boss (boss ∷ [])) 2 ∷ [] }
+    ensures two_reached { violations 2 there no_facts (has_path (var principal) boss (boss ∷ [])) ≡ [] }
+    ensures ends { violations 1 there no_facts (has_path (var principal) ok (boss ∷ [])) ≡ [] }
+    ensures ends_there { entity_steps there boss (ok ∷ boss ∷ []) (Some (entity_type user)) ≡ 2 }
+    ensures from_record { violations 1 there no_facts (has_path (get_attr (var principal) info) owner (boss ∷ [])) ≡ needs (has_path (get_attr (var principal) info) owner (boss ∷ [])) 2 ∷ [] }
+    ensures from_record_reached { violations 2 there no_facts (has_path (get_attr (var principal) info) owner (boss ∷ [])) ≡ [] }
+    ensures in_record { violations 0 there no_facts (has_path (get_attr (var principal) info) owner []) ≡ needs (get_attr (var principal) info) 1 ∷ [] }
+    ensures through_record { entity_steps there info (owner ∷ boss ∷ []) (Some (entity_type user)) ≡ 2 }
+    ensures from_context { violations 0 there no_facts (has_path (var context) owner (boss ∷ [])) ≡ needs (has_path (var context) owner (boss ∷ [])) 1 ∷ [] }
+    ensures from_literal { violations 0 here no_facts (has_path (record_literal (tree_field owner (var principal) no_tree_fields)) owner (boss ∷ [])) ≡ needs (has_path (record_literal (tree_field owner (var principal) no_tree_fields)) owner (boss ∷ [])) 1 ∷ [] }
+    ensures fields { fields_before there owner (boss ∷ []) (Some info_type) ≡ owner ∷ [] }
+    ensures no_fields { fields_before there boss (boss ∷ []) (Some (entity_type user)) ≡ [] }
+{}
+
+/// Facts: of an expression and a part, and what two sets of them give together and in common.
+pub fn worked_facts()
+    ensures itself { fact (var principal) (attribute_part nick) (var principal) (attribute_part nick) ≡ true }
+    ensures other_expression { fact (var principal) (attribute_part nick) (var resource) (attribute_part nick) ≡ false }
+    ensures other_attribute { fact (var principal) (attribute_part nick) (var principal) (attribute_part ok) ≡ false }
+    ensures no_tag { part_eq (attribute_part nick) (tag_part (lit (text nick))) ≡ false }
+    ensures a_tag { part_eq (tag_part is_ok) (tag_part is_ok) ≡ true }
+    ensures none { no_facts (var principal) (attribute_part nick) ≡ false }
+    ensures left { union (fact (var principal) (attribute_part nick)) no_facts (var principal) (attribute_part nick) ≡ true }
+    ensures right { union no_facts (fact (var principal) (attribute_part nick)) (var principal) (attribute_part nick) ≡ true }
+    ensures in_common { intersection (fact (var principal) (attribute_part nick)) no_facts (var principal) (attribute_part nick) ≡ false }
+    ensures same_in_common { intersection (fact (var principal) (attribute_part nick)) (fact (var principal) (attribute_part nick)) (var principal) (attribute_part nick) ≡ true }
+{}
+
+/// Arguments are below the types of parameters, and further ones below the last; the kinds of entities of a union.
+pub fn worked_parts_of_rules()
+    ensures below { arguments_fit (bool_type any_bool ∷ []) (bool_type only_true ∷ []) ≡ true }
+    ensures not_below { arguments_fit (long_type ∷ []) (bool_type only_true ∷ []) ≡ false }
+    ensures further_ones { arguments_fit (long_type ∷ bool_type any_bool ∷ []) (long_type ∷ bool_type any_bool ∷ long_type ∷ []) ≡ false }
+    ensures empty_set_kinds { entity_or_set_kinds (set_type never) ≡ Some (some_kinds []) }
+    ensures union_of_tags { tag_type there (entity_types (group ∷ user ∷ [])) ≡ None }
+    ensures no_kind { may_be_in large (some_kinds []) any_kind ≡ true }
+    ensures unions_related { may_be_in large (some_kinds (color ∷ user ∷ [])) (some_kinds (group ∷ [])) ≡ true }
+    ensures unions_apart { may_be_in large (some_kinds (color ∷ group ∷ [])) (some_kinds (user ∷ [])) ≡ false }
+    ensures set_of_actions { written_actions there (set_literal (tree (lit (entity read)) (tree (lit (entity view)) no_trees))) ≡ Some (read ∷ view ∷ []) }
+    ensures set_of_others { written_actions there (set_literal (tree (lit (entity read)) (tree (lit (entity edit)) no_trees))) ≡ None }
+    ensures no_uid { written_uid here (var principal) ≡ None }
 {}
