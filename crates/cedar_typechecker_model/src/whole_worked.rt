@@ -57,6 +57,9 @@ pub fn worked_and()
     ensures guarded { type_of here (both has_nick nick_is_x) ≡ Some (bool_type any_bool) }
     ensures turned { type_of here (both nick_is_x has_nick) ≡ None }
     ensures after { type_of here (both (both is_ok has_nick) nick_is_x) ≡ Some (bool_type any_bool) }
+    ensures nested { type_of here (both has_nick (both is_ok nick_is_x)) ≡ Some (bool_type any_bool) }
+    ensures nested_in_or { type_of here (both has_nick (either nick_is_x is_ok)) ≡ Some (bool_type any_bool) }
+    ensures nested_in_choice { type_of here (both has_nick (choice is_ok nick_is_x nick_is_x)) ≡ Some (bool_type any_bool) }
     ensures both_facts { type_under here (fact (var resource) (attribute_part nick)) (both has_nick nick_is_x) ≡ Some (bool_type any_bool) }
     ensures number_left { type_of here (both (lit (long (pos 1))) true_) ≡ None }
     ensures number_right { type_of here (both true_ (lit (long (pos 1)))) ≡ None }
@@ -329,6 +332,8 @@ pub fn worked_reach()
     ensures greater_target { violations 1 here no_facts (get_attr (choice is_ok (var principal) the_boss) ok) ≡ needs (get_attr (choice is_ok (var principal) the_boss) ok) 2 ∷ [] }
     ensures guarded_target { violations 1 there no_facts (get_attr (choice (has_attr (var principal) boss) (get_attr (var principal) boss) (var principal)) info) ≡ needs (get_attr (choice (has_attr (var principal) boss) (get_attr (var principal) boss) (var principal)) info) 2 ∷ [] }
     ensures other_fields { violations 1 here no_facts (get_attr (get_attr (record_literal (tree_field nick (get_attr the_boss ok) (tree_field owner (var principal) no_tree_fields))) owner) ok) ≡ needs (get_attr the_boss ok) 2 ∷ [] }
+    ensures fields_after { violations 1 here no_facts (get_attr (get_attr (record_literal (tree_field nick (var principal) (tree_field owner (get_attr the_boss ok) no_tree_fields))) nick) ok) ≡ needs (get_attr the_boss ok) 2 ∷ [] }
+    ensures nested_fields { violations 1 here no_facts (get_attr (get_attr (get_attr (record_literal (tree_field nick (record_literal (tree_field owner the_boss (tree_field boss is_ok no_tree_fields))) no_tree_fields)) nick) owner) ok) ≡ needs (get_attr (get_attr (get_attr (record_literal (tree_field nick (record_literal (tree_field owner the_boss (tree_field boss is_ok no_tree_fields))) no_tree_fields)) nick) owner) ok) 2 ∷ [] }
     ensures of_set { violations 0 here no_facts (unary is_empty (set_literal (tree is_ok (tree true_ no_trees)))) ≡ needs is_ok 1 ∷ [] }
     ensures of_record { violations 0 here no_facts (record_literal (tree_field ok is_ok no_tree_fields)) ≡ needs is_ok 1 ∷ [] }
     ensures right_of_in { violations 0 here no_facts (binary is_in (var principal) (get_attr (var resource) owner)) ≡ needs (binary is_in (var principal) (get_attr (var resource) owner)) 1 ∷ needs (get_attr (var resource) owner) 1 ∷ [] }
@@ -352,6 +357,7 @@ pub fn worked_path_steps()
     ensures through_record { entity_steps there info (owner ∷ boss ∷ []) (Some (entity_type user)) ≡ 2 }
     ensures from_context { violations 0 there no_facts (has_path (var context) owner (boss ∷ [])) ≡ needs (has_path (var context) owner (boss ∷ [])) 1 ∷ [] }
     ensures from_literal { violations 0 here no_facts (has_path (record_literal (tree_field owner (var principal) no_tree_fields)) owner (boss ∷ [])) ≡ needs (has_path (record_literal (tree_field owner (var principal) no_tree_fields)) owner (boss ∷ [])) 1 ∷ [] }
+    ensures from_literal_far { violations 1 here no_facts (has_path (record_literal (tree_field owner the_boss no_tree_fields)) owner (boss ∷ [])) ≡ needs (has_path (record_literal (tree_field owner the_boss no_tree_fields)) owner (boss ∷ [])) 2 ∷ [] }
     ensures fields { fields_before there owner (boss ∷ []) (Some info_type) ≡ owner ∷ [] }
     ensures no_fields { fields_before there boss (boss ∷ []) (Some (entity_type user)) ≡ [] }
 {}

@@ -8,7 +8,7 @@ use Rattle.cedar_expr_model.specs.Whole.Table.{Table}
 use Rattle.cedar_expr_model.specs.Whole.Tree.{BinaryOp, get_tag, Tree, lit, var, slot, unknown, choice, both, either, unary, binary, call, get_attr, has_attr, has_path, like, is_type, set_literal, record_literal, Trees, no_trees, tree, TreeFields, no_tree_fields, tree_field}
 use Rattle.cedar_expr_model.proofs.Lists.{contains_head, contains_none, flat_has, flat_from}
 use Rattle.cedar_store_model.specs.Whole.Policy.{Policy, condition}
-use Rattle.cedar_schema_model.specs.Whole.Types.{BoolType, any_bool, only_true, only_false, Ty, bool_type}
+use Rattle.cedar_schema_model.specs.Whole.Types.{BoolType, any_bool, only_true, only_false, Ty, bool_type, Mode}
 use Rattle.cedar_schema_model.specs.Whole.Schema.{Schema}
 use Rattle.cedar_schema_model.specs.Whole.Environment.{Environment}
 use Rattle.cedar_typechecker_model.specs.Whole.Facts.{Facts, no_facts, union}
@@ -16,7 +16,7 @@ use Rattle.cedar_typechecker_model.specs.Whole.Rules.{Setting}
 use Rattle.cedar_typechecker_model.specs.Whole.Typing.{Judgement, Types, judgement, type_of}
 use Rattle.cedar_typechecker_model.specs.Whole.Levels.{Violation, steps_from_left, violations}
 use Rattle.cedar_typechecker_model.specs.Whole.Dereferences.{Where, ByType, Behind, Branch, AfterTest, TooFar, IsViolation, IsAmong, IsInFields, TargetHas, FieldsHave, IsPolicyViolation}
-use Rattle.cedar_typechecker_model.specs.Whole.Verdicts.{policy_environments, strictly, condition_type, if_typed, violations_in, policy_violations}
+use Rattle.cedar_typechecker_model.specs.Whole.Verdicts.{policy_environments, in_mode, if_typed, violations_in, policy_violations_in}
 use Rattle.cedar_typechecker_model.proofs.Whole.Typing.{has_its_type, type_is}
 use Rattle.cedar_typechecker_model.proofs.Whole.Levels.{violations_are_listed}
 
@@ -113,22 +113,22 @@ typed_has : (o : Option Ty) (t : Ty) (vs : List Violation) (v : Violation) → o
 typed_has None t vs v e h = cc
 typed_has (Some u) t vs v e h = h
 
-pub policy_violations_are_listed : (n : ℕ) (s : Schema) (x : Table) (p : Policy) (v : Violation) → Contains (policy_violations n s x p) v ↔ IsPolicyViolation n s x p v
-policy_violations_are_listed n s x p v = (forward, back)
+pub policy_violations_are_listed : (w : Mode) (n : ℕ) (s : Schema) (x : Table) (p : Policy) (v : Violation) → Contains (policy_violations_in w n s x p) v ↔ IsPolicyViolation w n s x p v
+policy_violations_are_listed w n s x p v = (forward, back)
   where
-    forward : Contains (policy_violations n s x p) v → IsPolicyViolation n s x p v
+    forward : Contains (policy_violations_in w n s x p) v → IsPolicyViolation w n s x p v
     forward h =
-        let r = flat_from (violations_in n s x p) (policy_environments s p) v h in
-        let k = typed_from (condition_type s x p r.0) (violations n (strictly s x r.0) no_facts (condition p)) v r.2 in
-        let d = has_its_type (strictly s x r.0) (condition p) k.0 k.1 in
-        (r.0, r.1, k.0, d.0, d.1, (violations_are_listed n (strictly s x r.0) no_facts (condition p) v).0 k.2)
+        let r = flat_from (violations_in w n s x p) (policy_environments s p) v h in
+        let k = typed_from (type_of (in_mode w s x r.0) (condition p)) (violations n (in_mode w s x r.0) no_facts (condition p)) v r.2 in
+        let d = has_its_type (in_mode w s x r.0) (condition p) k.0 k.1 in
+        (r.0, r.1, k.0, d.0, d.1, (violations_are_listed n (in_mode w s x r.0) no_facts (condition p) v).0 k.2)
 
-    back : IsPolicyViolation n s x p v → Contains (policy_violations n s x p) v
-    back h = flat_has (violations_in n s x p) (policy_environments s p) h.0 v h.1
-      (typed_has (condition_type s x p h.0) h.2 (violations n (strictly s x h.0) no_facts (condition p)) v (type_is (strictly s x h.0) (condition p) h.2 h.3 h.4) ((violations_are_listed n (strictly s x h.0) no_facts (condition p) v).1 h.5))
+    back : IsPolicyViolation w n s x p v → Contains (policy_violations_in w n s x p) v
+    back h = flat_has (violations_in w n s x p) (policy_environments s p) h.0 v h.1
+      (typed_has (type_of (in_mode w s x h.0) (condition p)) h.2 (violations n (in_mode w s x h.0) no_facts (condition p)) v (type_is (in_mode w s x h.0) (condition p) h.2 h.3 h.4) ((violations_are_listed n (in_mode w s x h.0) no_facts (condition p) v).1 h.5))
 
-pub larger_levels_pass_policies : (n m : ℕ) (s : Schema) (x : Table) (p : Policy) → n ≤ m → policy_violations n s x p ≡ [] → policy_violations m s x p ≡ []
-larger_levels_pass_policies n m s x p l e = empty_list (policy_violations m s x p) (λ v h. nothing_in (policy_violations n s x p) v e ((policy_violations_are_listed n s x p v).1 (smaller v ((policy_violations_are_listed m s x p v).0 h))))
+pub larger_levels_pass_policies : (w : Mode) (n m : ℕ) (s : Schema) (x : Table) (p : Policy) → n ≤ m → policy_violations_in w n s x p ≡ [] → policy_violations_in w m s x p ≡ []
+larger_levels_pass_policies w n m s x p l e = empty_list (policy_violations_in w m s x p) (λ v h. nothing_in (policy_violations_in w n s x p) v e ((policy_violations_are_listed w n s x p v).1 (smaller v ((policy_violations_are_listed w m s x p v).0 h))))
   where
-    smaller : (v : Violation) → IsPolicyViolation m s x p v → IsPolicyViolation n s x p v
-    smaller v h = (h.0, h.1, h.2, h.3, h.4, larger n m l (strictly s x h.0) no_facts (condition p) v h.5)
+    smaller : (v : Violation) → IsPolicyViolation w m s x p v → IsPolicyViolation w n s x p v
+    smaller v h = (h.0, h.1, h.2, h.3, h.4, larger n m l (in_mode w s x h.0) no_facts (condition p) v h.5)

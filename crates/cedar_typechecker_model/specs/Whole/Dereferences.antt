@@ -8,14 +8,14 @@ use Rattle.cedar_expr_model.specs.Whole.Value.{Literal, truth, long, text, entit
 use Rattle.cedar_expr_model.specs.Whole.Table.{Table}
 use Rattle.cedar_expr_model.specs.Whole.Tree.{BinaryOp, get_tag, Tree, lit, var, slot, unknown, choice, both, either, unary, binary, call, get_attr, has_attr, has_path, like, is_type, set_literal, record_literal, Trees, no_trees, tree, TreeFields, no_tree_fields, tree_field}
 use Rattle.cedar_store_model.specs.Whole.Policy.{Policy, condition}
-use Rattle.cedar_schema_model.specs.Whole.Types.{BoolType, any_bool, only_true, only_false, Ty, bool_type}
+use Rattle.cedar_schema_model.specs.Whole.Types.{BoolType, any_bool, only_true, only_false, Ty, bool_type, Mode}
 use Rattle.cedar_schema_model.specs.Whole.Schema.{Schema}
 use Rattle.cedar_schema_model.specs.Whole.Environment.{Environment}
 use Rattle.cedar_typechecker_model.specs.Whole.Facts.{Facts, no_facts, union}
 use Rattle.cedar_typechecker_model.specs.Whole.Rules.{Setting}
 use Rattle.cedar_typechecker_model.specs.Whole.Typing.{Types}
 use Rattle.cedar_typechecker_model.specs.Whole.Levels.{Violation, needed, is_entity, steps_from_left, entity_steps, fields_before}
-use Rattle.cedar_typechecker_model.specs.Whole.Verdicts.{policy_environments, strictly}
+use Rattle.cedar_typechecker_model.specs.Whole.Verdicts.{policy_environments, in_mode}
 
 -- the one where the test holds, else the other
 abbrev pub Where : Bool → Type 0 → Type 0 → Type 0
@@ -136,6 +136,6 @@ abbrev mutual
       Where (bytes_eq a b) (IsInFields n s known fs v ⊎ TargetHas n s known path e v) (IsViolation n s known e v ⊎ FieldsHave n s known (a ∷ path) fs v)
 
 -- A violation of a policy: one of its condition in an environment in which that has a type.
-abbrev pub IsPolicyViolation : ℕ → Schema → Table → Policy → Violation → Type 0
-IsPolicyViolation n s x p v =
-    (e : Environment) × Contains (policy_environments s p) e × (t : Ty) × (f : Facts) × Types (strictly s x e) no_facts (condition p) t f × IsViolation n (strictly s x e) no_facts (condition p) v
+abbrev pub IsPolicyViolation : Mode → ℕ → Schema → Table → Policy → Violation → Type 0
+IsPolicyViolation m n s x p v =
+    (e : Environment) × Contains (policy_environments s p) e × (t : Ty) × (f : Facts) × Types (in_mode m s x e) no_facts (condition p) t f × IsViolation n (in_mode m s x e) no_facts (condition p) v
