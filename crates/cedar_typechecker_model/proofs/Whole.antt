@@ -6,3 +6,6 @@ pub mod Bare
 pub mod Paths
 pub mod Verdicts
 pub mod Naming
+pub mod Counting
+pub mod Levels
+pub mod Larger

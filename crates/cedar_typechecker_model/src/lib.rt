@@ -3,4 +3,5 @@
 
 pub mod laws;
 pub mod whole_laws;
+pub mod whole_worked;
 pub mod worked;

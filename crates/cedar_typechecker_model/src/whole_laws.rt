@@ -1,6 +1,7 @@
 //! Laws of the definitions for every kind of expression. Each function's contract is the theorem; its body does nothing.
 
 ghost use Rattle.cedar_typechecker_model.specs.Whole.Laws.{TypingIsAFunction, ListsAreTyped, FieldsAreTyped, OneJudgement, FactsAreOfBool, TruthHasNoFacts, MoreFactsKeepTypes, PathsAreConjunctions, PassingDecides, WarningDecides, ImpossibleDecides, IrrelevantDecides, VerdictDecides, UidsAreNamed, TypesAreNamed, KnownTypesDecide, KnownActionsDecide, KnownMembersDecide};
+ghost use Rattle.cedar_typechecker_model.specs.Whole.LevelLaws.{ViolationsAreListed, CountsAreExact, TargetsAreListed, PolicyViolationsAreListed, LargerLevelsKeep, LargerLevelsPass, LargerLevelsPassPolicies};
 
 /// An expression has a type with facts exactly where the function gives them: so it has one type at most, with one set of facts.
 pub fn typing_is_a_function()
@@ -43,4 +44,19 @@ pub fn scope_rules_are_decided()
     ensures types { KnownTypesDecide }
     ensures actions { KnownActionsDecide }
     ensures members { KnownMembersDecide }
+{}
+
+/// The lists of violations have those of the relations and no others, and a target has one count.
+pub fn violations_are_listed()
+    ensures expressions { ViolationsAreListed }
+    ensures counts { CountsAreExact }
+    ensures targets { TargetsAreListed }
+    ensures policies { PolicyViolationsAreListed }
+{}
+
+/// A violation at a larger level is one at the smaller: without violations at a level there are none at a larger one.
+pub fn larger_levels_pass()
+    ensures each { LargerLevelsKeep }
+    ensures expressions { LargerLevelsPass }
+    ensures policies { LargerLevelsPassPolicies }
 {}

@@ -8,7 +8,7 @@ use Rattle.cedar_expr_model.specs.Whole.Value.{Literal, truth, long, text, entit
 use Rattle.cedar_expr_model.specs.Whole.Tree.{BinaryOp, equal, less, less_or_equal, plus, difference, times, is_in, contains, contains_all, contains_any, get_tag, has_tag, Tree, lit, var, slot, unknown, choice, both, either, unary, binary, call, get_attr, has_attr, has_path, like, is_type, set_literal, record_literal, Trees, no_trees, tree, TreeFields, no_tree_fields, tree_field}
 use Rattle.cedar_schema_model.specs.Whole.Types.{BoolType, any_bool, only_true, only_false, Ty, bool_type, any_entity, entity_types}
 use Rattle.cedar_typechecker_model.specs.Whole.Facts.{Facts, union}
-use Rattle.cedar_typechecker_model.specs.Whole.Rules.{Setting, has_type}
+use Rattle.cedar_typechecker_model.specs.Whole.Rules.{Setting}
 use Rattle.cedar_typechecker_model.specs.Whole.Typing.{Judgement, judgement, type_under, step_type}
 
 -- Where an expression reaches too far, and the level that it needs; none where a literal or a slot is reached from.
@@ -84,21 +84,15 @@ abbrev pub target_after_test : Option Judgement → (Facts → Count) → Count 
 target_after_test None first second = count 0 []
 target_after_test (Some j) first second = branches greater j.type (first j.facts) second
 
--- the test of an attribute ends a path where it is False
-abbrev pub goes_on : Option BoolType → Bool
-goes_on None = false
-goes_on (Some only_false) = false
-goes_on (Some b) = true
-
 abbrev pub one_if : Bool → ℕ
 one_if true = 1
 one_if false = 0
 
--- the steps of a path that stand on an entity
+-- The steps of a path that stand on an entity. The first test of type False asks for what isn't declared, and ends the path.
 abbrev pub entity_steps : Setting → Text → List Text → Option Ty → ℕ
 entity_steps s a bs None = 0
 entity_steps s a [] (Some t) = one_if (is_entity (Some t))
-entity_steps s a (b ∷ bs) (Some t) = one_if (is_entity (Some t)) + (if goes_on (has_type s t a) then entity_steps s b bs (step_type s t a) else 0)
+entity_steps s a (b ∷ bs) (Some t) = one_if (is_entity (Some t)) + entity_steps s b bs (step_type s t a)
 
 -- the fields of records by which a path reaches its first entity
 abbrev pub fields_before : Setting → Text → List Text → Option Ty → List Text

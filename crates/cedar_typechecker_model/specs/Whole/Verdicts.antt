@@ -135,9 +135,13 @@ abbrev pub if_typed : {A : Type 0} → Option Ty → List A → List A
 if_typed None vs = []
 if_typed (Some t) vs = vs
 
--- the violations of a policy at a level, in the environments in which its condition has a type
-abbrev pub violations_in : ℕ → Schema → Table → Policy → Environment → List Violation
-violations_in n s x p e = if_typed (condition_type s x p e) (violations n (strictly s x e) no_facts (condition p))
+-- the violations of a policy at a level, in the environments in which its condition has a type; in one of the two ways of
+-- typing, and at the gate
+abbrev pub violations_in : Mode → ℕ → Schema → Table → Policy → Environment → List Violation
+violations_in m n s x p e = if_typed (type_of (in_mode m s x e) (condition p)) (violations n (in_mode m s x e) no_facts (condition p))
+
+abbrev pub policy_violations_in : Mode → ℕ → Schema → Table → Policy → List Violation
+policy_violations_in m n s x p = flat_map (violations_in m n s x p) (policy_environments s p)
 
 abbrev pub policy_violations : ℕ → Schema → Table → Policy → List Violation
-policy_violations n s x p = flat_map (violations_in n s x p) (policy_environments s p)
+policy_violations n s x p = policy_violations_in strict n s x p

@@ -207,7 +207,7 @@ abbrev pub read_action : Action
 read_action = record { uid = read; parents = []; principals = []; resources = []; context = no_attributes; is_external = false }
 
 abbrev pub view_in_read : Action
-view_in_read = record { uid = view; parents = read ∷ []; principals = user ∷ []; resources = group ∷ []; context = no_attributes; is_external = false }
+view_in_read = record { uid = view; parents = read ∷ []; principals = user ∷ []; resources = group ∷ []; context = attribute owner (entity_type user) true no_attributes; is_external = false }
 
 abbrev pub large : Schema
 large = record { types = member_type ∷ group_type ∷ color_type ∷ []; actions = read_action ∷ view_in_read ∷ [] }
