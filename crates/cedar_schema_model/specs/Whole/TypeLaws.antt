@@ -4,9 +4,9 @@ use Rattle.std.specs.Prelude.{◌≡◌, ◌↔◌, List, true, false, Option, S
 use Rattle.std.specs.Bool.{Decides}
 use Rattle.std.specs.List.{list_all}
 use Rattle.cedar_expr_model.specs.Name.{Text, Name}
-use Rattle.cedar_expr_model.specs.Whole.Canonical.{is_canonical}
-use Rattle.cedar_expr_model.specs.Whole.Value.{V, record_of, Fields, field_of}
-use Rattle.cedar_schema_model.specs.Whole.Types.{Ty, never, entity_types, Declared, Mode, strict, permissive}
+use Rattle.cedar_expr_model.specs.Whole.Canonical.{is_canonical, Among}
+use Rattle.cedar_expr_model.specs.Whole.Value.{V, Vs, set_of, record_of, Fields, field_of}
+use Rattle.cedar_schema_model.specs.Whole.Types.{Ty, never, entity_types, set_type, Declared, Mode, strict, permissive}
 use Rattle.cedar_schema_model.specs.Whole.Schema.{Schema}
 use Rattle.cedar_schema_model.specs.Whole.Subtype.{Below, is_alike, is_well_formed_type, has_no_any_set, is_filled}
 use Rattle.cedar_schema_model.specs.Whole.HasType.{HasType, has_type}
@@ -49,6 +49,10 @@ SubtypesAreInclusions = (a b : Ty) → Formed a → Formed b → is_filled a ≡
 -- the test of a value decides whether it is of the type
 abbrev pub HasTypeDecides : Type 0
 HasTypeDecides = (v : V) (t : Ty) → Decides (has_type v t) (HasType v t)
+
+-- a set is of a type where each member is
+abbrev pub SetsByMembers : Type 0
+SetsByMembers = (t : Ty) (vs : Vs) → HasType (set_of vs) (set_type t) ↔ ((v : V) → Among v vs → HasType v t)
 
 -- a value of a type is a value of every type above it
 abbrev pub SupertypesKeepValues : Type 0

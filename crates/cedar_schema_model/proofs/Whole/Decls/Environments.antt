@@ -2,6 +2,7 @@
 use Rattle.std.proofs.Common.{◌≡◌, ◌↔◌, List, [], ◌∷◌, Bool, true, false, not, ◌&&◌, map, Option, Some, None, refl, sym, ap, ◌∙◌, subst, inl, inr, ⊎_elim}
 use Rattle.std.specs.Prelude.{Contains, is_some, if◌then◌else◌}
 use Rattle.std.specs.Bool.{Decides}
+use Rattle.std.specs.Option.{option_map_or}
 use Rattle.cedar_expr_model.specs.Name.{Name, name_eq}
 use Rattle.cedar_expr_model.specs.Uid.{Uid, uid_eq}
 use Rattle.cedar_expr_model.proofs.Equality.{name_eq-Decides, uid_eq-Decides}
@@ -11,11 +12,11 @@ use Rattle.cedar_store_model.specs.Whole.World.{Entity, Request}
 use Rattle.cedar_schema_model.specs.Whole.Schema.{Action, Schema, action_among, declares_action, type_named}
 use Rattle.cedar_schema_model.specs.Whole.Descent.{type_names, action_uids, Descends, descends, action_descends, IsActionAncestor}
 use Rattle.cedar_schema_model.specs.Whole.ActionEntities.{action_ancestors, as_entity, where_declared, action_entity, action_entities}
-use Rattle.cedar_schema_model.specs.Whole.Conforming.{among_actions, place_of, place_by, EntityConforms, EntityFaultAt, ConformFault, undeclared, not_listed, no_member, lacks_attribute, undeclared_attribute, attribute_value, tag, ancestor, context_value, open_part}
-use Rattle.cedar_schema_model.specs.Whole.ConformingTests.{IsGoodFor}
+use Rattle.cedar_schema_model.specs.Whole.Conforming.{among_actions, of_kind, nowhere, place_of, EntityConforms, ConformFault, undeclared, not_listed, no_member, lacks_attribute, undeclared_attribute, attribute_value, tag, ancestor, context_value, open_part}
 use Rattle.cedar_schema_model.specs.Whole.Environment.{Environment, environment_at, environments_of, environments, SlotUse, no_slot, equal_slot, in_slot, types_above, slot_types, with_slots, linked, environments_for}
-use Rattle.cedar_schema_model.specs.Whole.DeclLaws.{IsProduct, IsAtOrAbove, TakesSlot, IsLinked}
+use Rattle.cedar_schema_model.specs.Whole.DeclLaws.{EntityFaultAt, IsGoodFor, IsProduct, IsAtOrAbove, TakesSlot, IsLinked}
 use Rattle.cedar_schema_model.proofs.Whole.Decls.Descent.{descends-Decides, action_descends-Decides}
+use Rattle.cedar_schema_model.proofs.Whole.Decls.Conforming.{where_no_entity_fault}
 
 -- actions
 pub ancestors_declared : (s : Schema) (u v : Uid) → Contains (action_ancestors s u) v ↔ IsActionAncestor s u v
@@ -76,7 +77,7 @@ entities_are_actions s u e = (
 
 -- an action as an entity has no fault
 faultless : (s : Schema) (u : Uid) (f : ConformFault) → EntityFaultAt s u (as_entity s u) among_actions f → ⊥
-faultless s u undeclared h = h
+faultless s u undeclared h = cc
 faultless s u no_member h = h
 faultless s u lacks_attribute h = contains_none h.0 h.1
 faultless s u undeclared_attribute h = contains_none h.0 h.1
@@ -90,8 +91,8 @@ faultless s u context_value h = h
 pub actions_conform : (s : Schema) (u : Uid) (e : Entity V) → action_entity s u ≡ Some e → EntityConforms s u e
 actions_conform s u e h =
     let k = where_some (declares_action s u) (as_entity s u) e h in
-    let at : place_of s u ≡ among_actions = ap (λ b. place_by b (type_named s u.kind)) k.0 in
-    λ f x. faultless s u f (subst (λ p. EntityFaultAt s u (as_entity s u) p f) at (subst (λ g. EntityFaultAt s u g (place_of s u) f) (sym k.1) x))
+    let at : place_of s u ≡ among_actions = ap (λ b. if b then among_actions else option_map_or (λ t. of_kind t.kind) (type_named s u.kind) nowhere) k.0 in
+    where_no_entity_fault s u e (λ f x. faultless s u f (subst (λ p. EntityFaultAt s u (as_entity s u) p f) at (subst (λ g. EntityFaultAt s u g (place_of s u) f) (sym k.1) x)))
 
 -- environments
 pub products : (s : Schema) (x : Environment) → Contains (environments s) x ↔ IsProduct s x

@@ -15,8 +15,7 @@ use Rattle.cedar_schema_model.specs.Whole.Reference.{Namespace, action_word, Ref
 use Rattle.cedar_schema_model.specs.Whole.Declarations.{Declarations, common_name, action_uid, common_names, entity_names, action_uids, is_declared, is_declared_action, meant, parent_meant, references_of_common, references, extensions}
 use Rattle.cedar_schema_model.specs.Whole.WellFormed.{SchemaFault, duplicate_entity_type, duplicate_common_type, duplicate_action, undeclared_type, undeclared_action, cycle_of_common_types, cycle_of_actions, action_as_entity_type, context_not_record, reserved_name, shadowing, unknown_extension_type, unresolved_external, ill_forms, HasTwice, has_twice, Uses, is_common, uses, HasParentAction, is_uid, has_parent_action, becomes_record, written_names, unqualified, unqualified_uid, is_qualified, declared_types, Shadows, shadows, is_external_kind, HasSchemaFault, has_schema_fault, IsWellFormed, well_formed}
 use Rattle.cedar_schema_model.proofs.Whole.Decls.Descent.{reaches-Decides, Covers, chain_starts}
-use Rattle.cedar_schema_model.proofs.Whole.Decls.Admission.{not_false}
-use Rattle.cedar_schema_model.proofs.Whole.Decls.Conforming.{is_none-Decides, is_true-Decides}
+use Rattle.cedar_schema_model.proofs.Whole.Decls.Conforming.{not_false, is_none-Decides, is_true-Decides}
 
 -- the first that passes
 first_step : {X : Type 0} (test : X → Bool) (x : X) (xs : List X) (y : X) (b : Bool) → test x ≡ b → (first_passing test xs ≡ Some y → IsFirst test xs y) → (if b then Some x else first_passing test xs) ≡ Some y → IsFirst test (x ∷ xs) y
