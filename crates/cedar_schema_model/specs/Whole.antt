@@ -18,4 +18,3 @@ pub mod Resolved
 pub mod BagLaws
 pub mod TypeWorked
 pub mod DeclWorked
-pub mod Rising

@@ -9,7 +9,7 @@ use Rattle.cedar_expr_model.specs.Uid.{Uid, uid_eq}
 use Rattle.cedar_expr_model.specs.Whole.Value.{V, record_of, Fields}
 use Rattle.cedar_store_model.specs.Whole.World.{Part, known, left, Entity, Found, held, Request, part_named}
 use Rattle.cedar_schema_model.specs.Whole.Types.{Ty, record_type, is_closed, Attributes, no_attributes, attribute, Declared, attribute_named}
-use Rattle.cedar_schema_model.specs.Whole.Schema.{EntityKind, standard, enumerated, EntityType, Action, Schema, type_named, action_with, declares_action}
+use Rattle.cedar_schema_model.specs.Whole.Schema.{EntityKind, standard, enumerated, Action, Schema, type_named, action_with, declares_action}
 use Rattle.cedar_schema_model.specs.Whole.Descent.{descends, action_descends, is_action_ancestor, action_uids}
 use Rattle.cedar_schema_model.specs.Whole.HasType.{has_type}
 

@@ -6,7 +6,7 @@ use Rattle.std.proofs.Common.{◌⊎◌}
 use Rattle.cedar_expr_model.specs.Name.{Text, Name}
 use Rattle.cedar_expr_model.specs.Uid.{Uid}
 use Rattle.cedar_expr_model.specs.Whole.Value.{V, record_of}
-use Rattle.cedar_store_model.specs.Whole.World.{Part, known, left, Entity, Found, held, Request, part_named}
+use Rattle.cedar_store_model.specs.Whole.World.{Part, known, Entity, Found, held, Request, part_named}
 use Rattle.cedar_schema_model.specs.Whole.Types.{Ty, record_type, is_closed, Declared, attribute_named}
 use Rattle.cedar_schema_model.specs.Whole.Schema.{enumerated, Schema, Action, action_with, declares_action}
 use Rattle.cedar_schema_model.specs.Whole.Descent.{type_names, Descends, descends, ActionDescends, action_descends, ActionTypeDescends, action_type_descends, TypeDescends, type_descends, IsActionAncestor}

@@ -12,7 +12,7 @@ use Rattle.cedar_expr_model.proofs.Equality.{name_eq-Decides, uid_eq-Decides}
 use Rattle.cedar_expr_model.proofs.Lists.{contains_tail, found-Decides, any-Decides, all-Decides}
 use Rattle.cedar_expr_model.specs.Whole.Value.{V, record_of}
 use Rattle.cedar_store_model.specs.Whole.World.{Part, known, left, Entity, part_named}
-use Rattle.cedar_schema_model.specs.Whole.Types.{Ty, record_type, is_closed, Attributes, Declared, attribute_named}
+use Rattle.cedar_schema_model.specs.Whole.Types.{Ty, record_type, is_closed, attribute_named}
 use Rattle.cedar_schema_model.specs.Whole.Schema.{standard, enumerated, external, Action, Schema, action_with, declares_action}
 use Rattle.cedar_schema_model.specs.Whole.Descent.{action_descends, ActionDescends, action_uids}
 use Rattle.cedar_schema_model.specs.Whole.HasType.{HasType, has_type}
