@@ -9,9 +9,7 @@ pub mod Lookup
 pub mod TypeLaws
 pub mod Descent
 pub mod ActionEntities
-pub mod Admission
 pub mod Conforming
-pub mod ConformingTests
 pub mod DeclLaws
 pub mod Reference
 pub mod Declarations
@@ -20,4 +18,3 @@ pub mod Resolved
 pub mod BagLaws
 pub mod TypeWorked
 pub mod DeclWorked
-pub mod Rising

@@ -8,7 +8,7 @@ ghost use Rattle.cedar_schema_model.specs.Whole.Reference.{name_in, action_in, t
 ghost use Rattle.cedar_schema_model.specs.Whole.Declarations.{bool_expr, long_expr, set_expr, record_expr, reference, extension_expr, no_field_exprs, field_expr, bag, meant, parent_meant};
 ghost use Rattle.cedar_schema_model.specs.Whole.WellFormed.{duplicate_entity_type, duplicate_common_type, duplicate_action, undeclared_type, undeclared_action, cycle_of_common_types, cycle_of_actions, action_as_entity_type, context_not_record, reserved_name, shadowing, unknown_extension_type, unresolved_external, ill_forms, schema_number, has_schema_fault, well_formed};
 ghost use Rattle.cedar_schema_model.specs.Whole.Resolved.{common_of, common_within, resolved, schema_of};
-ghost use Rattle.cedar_schema_model.specs.Whole.Rising.{has_rising};
+ghost use Rattle.cedar_schema_model.specs.Whole.BagLaws.{has_rising};
 ghost use Rattle.cedar_schema_model.specs.Whole.DeclWorked.{user, doc, group, color, ghost_type, rank, n, view, read, all_actions, plain, child, color_declared, external_x, common, act, on_docs, m, user_fragment, doc_fragment, with_type, with_action, with_commons, with_context, m_schema, at_place, two_users, own_first, common_first, nested_users, deep_users, read_above, read_beside, common_named, common_cycle, common_chain, common_alias, action_cycle, ranked, tagged_by, grouped, mixed, mixed_schema, reserved_rank, reserved_ranked};
 
 /// What references mean, written in the namespace `N`.

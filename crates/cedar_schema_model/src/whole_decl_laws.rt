@@ -1,8 +1,8 @@
 //! Laws of the definitions on declarations, entities and requests. Each function's contract is the theorem; its body does nothing.
 
-ghost use Rattle.cedar_schema_model.specs.Whole.DeclLaws.{DescentDecides, ActionDescentDecides, ActionTypeDescentDecides, TypeDescentDecides, DescentIsTransitive, AncestorsAreDeclared, EntitiesAreActions, ActionsConform, AdmissionDecides, SetsByMembers, EntityFaultsDecide, EntityConformingDecides, RequestFaultsDecide, RequestConformingDecides, EntitiesReadDirectly, RequestsReadDirectly, EnvironmentsAreProducts, RequestsHaveEnvironments, SlotsAreCovered, StoresHoldActions};
+ghost use Rattle.cedar_schema_model.specs.Whole.DeclLaws.{DescentDecides, ActionDescentDecides, ActionTypeDescentDecides, TypeDescentDecides, DescentIsTransitive, AncestorsAreDeclared, EntitiesAreActions, ActionsConform, EntityFaultsDecide, EntityConformingDecides, RequestFaultsDecide, RequestConformingDecides, EntitiesReadDirectly, RequestsReadDirectly, EnvironmentsAreProducts, RequestsHaveEnvironments, SlotsAreCovered, StoresHoldActions};
 ghost use Rattle.cedar_schema_model.specs.Whole.BagLaws.{FirstDeclaredIsMeant, FirstActionIsMeant, SchemaFaultsDecide, WellFormedDecides, OrderHidesNoFault, SplittingIsFree, FragmentsMayMove, OrderIsTransitive, CommonTypesAreDefined, NoMoreToReplace, ContextsAreRecords, SameTypes, SameActions, ParentsAreMeant, ActionParentsAreMeant, NoActionIsItsAncestor, ActionTypesAreApart, SameTypesFound, SameActionsFound, AncestorTypesAreDeclared, AncestorActionsAreDeclared, ListedTypesAreDeclared, NoParentIsDropped, NothingOfActionsIsDropped};
-ghost use Rattle.cedar_schema_model.specs.Whole.Rising.{ResolvedTypesRise};
+ghost use Rattle.cedar_schema_model.specs.Whole.BagLaws.{ResolvedTypesRise};
 
 /// The tests of descent are true exactly where there is a chain of declared parents, and descent is transitive.
 pub fn descent_is_decided()
@@ -20,12 +20,6 @@ pub fn action_entities_are_the_actions()
     ensures those { EntitiesAreActions }
     ensures conform { ActionsConform }
     ensures stores { StoresHoldActions }
-{}
-
-/// The test of a value is true exactly where the type admits it; a set is admitted where each member is.
-pub fn admission_is_decided()
-    ensures decides { AdmissionDecides }
-    ensures sets { SetsByMembers }
 {}
 
 /// The tests of entities are true exactly where the fault is there, and where none is; and what conforming says directly.

@@ -6,9 +6,8 @@ ghost use Rattle.cedar_expr_model.specs.Whole.Value.{truth, long, text, entity, 
 ghost use Rattle.cedar_schema_model.specs.Whole.Types.{any_bool, only_true, is_open, is_closed, never, bool_type, long_type, string_type, any_entity, entity_types, entity_type, any_set, set_type, record_type, extension_type, no_attributes, attribute};
 ghost use Rattle.cedar_schema_model.specs.Whole.Descent.{descends, action_descends, action_type_descends, type_descends};
 ghost use Rattle.cedar_schema_model.specs.Whole.ActionEntities.{action_entity, action_entities};
-ghost use Rattle.cedar_schema_model.specs.Whole.Admission.{admits};
-ghost use Rattle.cedar_schema_model.specs.Whole.Conforming.{undeclared, not_listed, no_member, lacks_attribute, undeclared_attribute, attribute_value, tag, ancestor, context_value, open_part, conform_number, conform_faults, parts_of};
-ghost use Rattle.cedar_schema_model.specs.Whole.ConformingTests.{has_entity_fault, entity_conforms, has_request_fault, request_conforms};
+ghost use Rattle.cedar_schema_model.specs.Whole.HasType.{has_type};
+ghost use Rattle.cedar_schema_model.specs.Whole.Conforming.{undeclared, not_listed, no_member, lacks_attribute, undeclared_attribute, attribute_value, tag, ancestor, context_value, open_part, conform_number, conform_faults, has_entity_fault, entity_conforms, parts_of, has_request_fault, request_conforms};
 ghost use Rattle.cedar_schema_model.specs.Whole.Environment.{no_slot, equal_slot, in_slot, environments, environments_for, slot_types};
 ghost use Rattle.cedar_schema_model.specs.Whole.Reference.{action_in};
 ghost use Rattle.cedar_schema_model.specs.Whole.DeclWorked.{user, doc, group, color, ghost_type, rank, n, user_a, doc_d, view, edit, read, all_actions, user_attributes, m_schema, color_schema, tagged_schema, readers, crossed, squared, boss_a, is_ok, ok_seven, age_one, ok_left, one, made, good_user, request, at};
@@ -46,37 +45,37 @@ pub fn worked_action_entities()
 
 /// What types of one part admit.
 pub fn worked_admission()
-    ensures absent { admits (entity_type user) (prim (entity user_a)) ≡ true }
-    ensures other_type { admits (entity_type user) (prim (entity doc_d)) ≡ false }
-    ensures one_of_two { admits (entity_types (doc ∷ user ∷ [])) (prim (entity user_a)) ≡ true }
-    ensures no_member { admits (entity_type color) (prim (entity (record { kind = color; id = codes "blue" }))) ≡ true }
-    ensures any { admits any_entity (prim (entity doc_d)) ≡ true }
-    ensures no_entity { admits any_entity one ≡ false }
-    ensures truth { admits (bool_type any_bool) (prim (truth false)) ≡ true }
-    ensures true_alone { admits (bool_type only_true) (prim (truth false)) ≡ false }
-    ensures number { admits long_type one ≡ true }
-    ensures no_number { admits long_type (prim (truth true)) ≡ false }
-    ensures word { admits string_type (prim (text (codes "x"))) ≡ true }
-    ensures no_word { admits string_type one ≡ false }
-    ensures extension { admits (extension_type rank) (extension rank (codes "k")) ≡ true }
-    ensures other_extension { admits (extension_type user) (extension rank (codes "k")) ≡ false }
-    ensures nothing { admits never one ≡ false }
+    ensures absent { has_type (prim (entity user_a)) (entity_type user) ≡ true }
+    ensures other_type { has_type (prim (entity doc_d)) (entity_type user) ≡ false }
+    ensures one_of_two { has_type (prim (entity user_a)) (entity_types (doc ∷ user ∷ [])) ≡ true }
+    ensures no_member { has_type (prim (entity (record { kind = color; id = codes "blue" }))) (entity_type color) ≡ true }
+    ensures any { has_type (prim (entity doc_d)) any_entity ≡ true }
+    ensures no_entity { has_type one any_entity ≡ false }
+    ensures truth { has_type (prim (truth false)) (bool_type any_bool) ≡ true }
+    ensures true_alone { has_type (prim (truth false)) (bool_type only_true) ≡ false }
+    ensures number { has_type one long_type ≡ true }
+    ensures no_number { has_type (prim (truth true)) long_type ≡ false }
+    ensures word { has_type (prim (text (codes "x"))) string_type ≡ true }
+    ensures no_word { has_type one string_type ≡ false }
+    ensures extension { has_type (extension rank (codes "k")) (extension_type rank) ≡ true }
+    ensures other_extension { has_type (extension rank (codes "k")) (extension_type user) ≡ false }
+    ensures nothing { has_type one never ≡ false }
 {}
 
 /// What types of sets and records admit.
 pub fn worked_nested_admission()
-    ensures empty_set { admits (set_type long_type) (set_of no_values) ≡ true }
-    ensures each { admits (set_type long_type) (set_of (value one no_values)) ≡ true }
-    ensures one_not { admits (set_type long_type) (set_of (value one (value (prim (truth true)) no_values))) ≡ false }
-    ensures any { admits any_set (set_of (value one (value (prim (truth true)) no_values))) ≡ true }
-    ensures no_set { admits any_set one ≡ false }
-    ensures whole { admits (record_type user_attributes is_closed) (record_of (field (codes "boss") (prim (entity user_a)) (field (codes "nick") (prim (text [])) (field (codes "ok") (prim (truth true)) no_fields)))) ≡ true }
-    ensures optional { admits (record_type user_attributes is_closed) (record_of (field (codes "boss") (prim (entity user_a)) (field (codes "ok") (prim (truth true)) no_fields))) ≡ true }
-    ensures required { admits (record_type user_attributes is_closed) (record_of (field (codes "boss") (prim (entity user_a)) no_fields)) ≡ false }
-    ensures wrong_optional { admits (record_type user_attributes is_closed) (record_of (field (codes "boss") (prim (entity user_a)) (field (codes "nick") one (field (codes "ok") (prim (truth true)) no_fields)))) ≡ false }
-    ensures undeclared { admits (record_type no_attributes is_closed) (record_of (field (codes "x") one no_fields)) ≡ false }
-    ensures opened { admits (record_type no_attributes is_open) (record_of (field (codes "x") one no_fields)) ≡ true }
-    ensures no_record { admits (record_type no_attributes is_open) (set_of no_values) ≡ false }
+    ensures empty_set { has_type (set_of no_values) (set_type long_type) ≡ true }
+    ensures each { has_type (set_of (value one no_values)) (set_type long_type) ≡ true }
+    ensures one_not { has_type (set_of (value one (value (prim (truth true)) no_values))) (set_type long_type) ≡ false }
+    ensures any { has_type (set_of (value one (value (prim (truth true)) no_values))) any_set ≡ true }
+    ensures no_set { has_type one any_set ≡ false }
+    ensures whole { has_type (record_of (field (codes "boss") (prim (entity user_a)) (field (codes "nick") (prim (text [])) (field (codes "ok") (prim (truth true)) no_fields)))) (record_type user_attributes is_closed) ≡ true }
+    ensures optional { has_type (record_of (field (codes "boss") (prim (entity user_a)) (field (codes "ok") (prim (truth true)) no_fields))) (record_type user_attributes is_closed) ≡ true }
+    ensures required { has_type (record_of (field (codes "boss") (prim (entity user_a)) no_fields)) (record_type user_attributes is_closed) ≡ false }
+    ensures wrong_optional { has_type (record_of (field (codes "boss") (prim (entity user_a)) (field (codes "nick") one (field (codes "ok") (prim (truth true)) no_fields)))) (record_type user_attributes is_closed) ≡ false }
+    ensures undeclared { has_type (record_of (field (codes "x") one no_fields)) (record_type no_attributes is_closed) ≡ false }
+    ensures opened { has_type (record_of (field (codes "x") one no_fields)) (record_type no_attributes is_open) ≡ true }
+    ensures no_record { has_type (set_of no_values) (record_type no_attributes is_open) ≡ false }
 {}
 
 /// A user with a boss and a flag conforms; others each have one fault.

@@ -1,7 +1,7 @@
 //! Laws of types. Each function's contract is the theorem; its body does nothing.
 
 ghost use Rattle.cedar_schema_model.specs.Whole.TypeLaws.{SubtypesReflexive, SubtypesTransitive, SubtypesAntisymmetric, StrictIsPermissive, StrictSubtypesExactly, SubtypesAreInclusions};
-ghost use Rattle.cedar_schema_model.specs.Whole.TypeLaws.{HasTypeDecides, SupertypesKeepValues, NeverHasNoValue, DisjointShareNoValue};
+ghost use Rattle.cedar_schema_model.specs.Whole.TypeLaws.{HasTypeDecides, SetsByMembers, SupertypesKeepValues, NeverHasNoValue, DisjointShareNoValue};
 ghost use Rattle.cedar_schema_model.specs.Whole.TypeLaws.{JoinOfOrdered, JoinIsAbove, JoinIsLeast, JoinSwaps, StrictJoinIsPermissive, StrictJoinsExactly, JoinExists, JoinExistsExactly, JoinIsFormed, JoinIsFree};
 ghost use Rattle.cedar_schema_model.specs.Whole.TypeLaws.{ReductionIsAbove, ReductionIsLeast, ReductionIsOfMembers};
 ghost use Rattle.cedar_schema_model.specs.Whole.TypeLaws.{UnionKnowsWhatAllDeclare, UnionKnowsAll, LargerUnionKnowsLess, RecordsHaveWhatIsDeclared, RecordsMayHaveWhatTheyHave, LookedUpMayBeThere};
@@ -24,9 +24,10 @@ pub fn subtypes_are_inclusions()
     ensures { SubtypesAreInclusions }
 {}
 
-/// The test of a value and a type is true exactly where the value is of the type.
+/// The test of a value and a type is true exactly where the value is of the type; a set is of a type where each member is.
 pub fn has_type_is_decided()
-    ensures { HasTypeDecides }
+    ensures decides { HasTypeDecides }
+    ensures sets { SetsByMembers }
 {}
 
 /// A value of a type is a value of every type above it, in both modes. No value is of `never`.

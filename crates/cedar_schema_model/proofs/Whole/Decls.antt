@@ -1,5 +1,4 @@
 pub mod Descent
-pub mod Admission
 pub mod Conforming
 pub mod Direct
 pub mod Environments

@@ -1,6 +1,6 @@
 -- Declared actions as entities.
 -- Rule: action entities (docs/RULES.md).
-use Rattle.std.specs.Prelude.{List, [], map, Bool, true, false, Option, Some, None}
+use Rattle.std.specs.Prelude.{List, [], map, Option, Some, None, if◌then◌else◌}
 use Rattle.std.specs.List.{filter}
 use Rattle.cedar_expr_model.specs.Uid.{Uid}
 use Rattle.cedar_expr_model.specs.Whole.Value.{V}
@@ -16,13 +16,9 @@ action_ancestors s u = filter (action_descends s u) (action_uids s)
 abbrev pub as_entity : Schema → Uid → Entity V
 as_entity s u = record { attributes = []; tags = []; ancestors = action_ancestors s u }
 
-abbrev pub where_declared : Bool → Entity V → Option (Entity V)
-where_declared true e = Some e
-where_declared false e = None
-
 -- the entity that a declared action is
 abbrev pub action_entity : Schema → Uid → Option (Entity V)
-action_entity s u = where_declared (declares_action s u) (as_entity s u)
+action_entity s u = if declares_action s u then Some (as_entity s u) else None
 
 -- all of them
 abbrev pub action_entities : Schema → List (Uid × Entity V)

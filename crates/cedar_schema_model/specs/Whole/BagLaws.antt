@@ -1,19 +1,26 @@
 -- What the laws on bags of declarations and on their schemas say.
 -- Rule: references; declarations; well-formed declarations; schemas (docs/RULES.md).
-use Rattle.std.specs.Prelude.{◌≡◌, ◌↔◌, suc, List, [], ◌∷◌, ◌++◌, length, true, false, Option, Some, Contains, is_some}
+use Rattle.std.specs.Prelude.{◌≡◌, ◌↔◌, suc, List, [], ◌∷◌, ◌++◌, length, true, false, Option, Some, Contains, is_some, ◌&&◌, Bool, None}
 use Rattle.std.specs.Bool.{Decides}
 use Rattle.std.specs.List.Sorted.{IsPermutation}
 use Rattle.std.proofs.Common.{◌⊎◌}
-use Rattle.cedar_expr_model.specs.Name.{Name}
+use Rattle.cedar_expr_model.specs.Name.{Name, is_reserved}
 use Rattle.cedar_expr_model.specs.Uid.{Uid}
-use Rattle.cedar_schema_model.specs.Whole.Types.{record_type, is_closed}
+use Rattle.cedar_schema_model.specs.Whole.Types.{record_type, is_closed, Ty, set_type, Attributes, no_attributes, attribute}
 use Rattle.cedar_schema_model.specs.Whole.Schema.{Action, type_named, action_with, declares_type}
 use Rattle.cedar_schema_model.specs.Whole.Descent.{type_names, Reaches, HasParent, HasActionParent, Descends, ActionDescends}
 use Rattle.cedar_schema_model.specs.Whole.Descent as descent
-use Rattle.cedar_schema_model.specs.Whole.Reference.{Namespace, Reference, Meant, candidates, action_candidates, IsFirst}
-use Rattle.cedar_schema_model.specs.Whole.Declarations.{CommonDeclaration, EntityDeclaration, ActionDeclaration, Declarations, bag, common_name, entity_name, entity_names, action_uids, is_declared, is_declared_action, meant, parent_meant}
-use Rattle.cedar_schema_model.specs.Whole.WellFormed.{SchemaFault, HasSchemaFault, has_schema_fault, IsWellFormed, well_formed, HasParentAction}
+use Rattle.cedar_schema_model.specs.Whole.Reference.{Namespace, Reference, Meant, candidates, action_candidates, action_word, meant_common}
+use Rattle.cedar_schema_model.specs.Whole.Declarations.{CommonDeclaration, EntityDeclaration, ActionDeclaration, Declarations, bag, common_name, entity_name, entity_names, action_uids, is_declared, is_declared_action, meant, parent_meant, TypeExpr, action_uid, common_names, references_of_common, references, extensions}
+use Rattle.cedar_schema_model.specs.Whole.WellFormed.{SchemaFault, has_schema_fault, IsWellFormed, well_formed, duplicate_entity_type, duplicate_common_type, duplicate_action, undeclared_type, undeclared_action, cycle_of_common_types, cycle_of_actions, action_as_entity_type, context_not_record, reserved_name, shadowing, unknown_extension_type, unresolved_external, HasTwice, becomes_record, written_names, is_qualified, unqualified_uid, declared_types, is_external_kind}
 use Rattle.cedar_schema_model.specs.Whole.Resolved.{common_within, common_of, resolved, entity_meant, resolved_action, schema_of}
+use Rattle.cedar_schema_model.specs.Whole.Subtype.{is_before_attributes}
+use Rattle.cedar_expr_model.specs.Whole.Names.{unqualified}
+
+-- It is the first that passes: those before it don't.
+abbrev pub IsFirst : {X : Type 0} → (X → Bool) → List X → X → Type 0
+IsFirst test [] y = ⊥
+IsFirst test (x ∷ xs) y = ((test x ≡ true) × (y ≡ x)) ⊎ ((test x ≡ false) × IsFirst test xs y)
 
 -- a reference means the first that is declared, and no other
 abbrev pub FirstDeclaredIsMeant : Type 0
@@ -21,6 +28,34 @@ FirstDeclaredIsMeant = (d : Declarations) (r : Reference) (m : Meant) → (meant
 
 abbrev pub FirstActionIsMeant : Type 0
 FirstActionIsMeant = (d : Declarations) (ns : Namespace) (u v : Uid) → (parent_meant d ns u ≡ Some v) ↔ IsFirst (is_declared_action d) (action_candidates ns u) v
+
+-- The faults of declarations, read directly. The definition of a common type refers to another.
+abbrev pub Uses : Declarations → Name → Name → Type 0
+Uses d m n = (c : CommonDeclaration) × Contains d.commons c × (m ≡ common_name c) × ((r : Reference) × Contains (references_of_common c) r × (meant d r ≡ Some (meant_common n)))
+
+-- an action has another as its parent
+abbrev pub HasParentAction : Declarations → Uid → Uid → Type 0
+HasParentAction d u v = (a : ActionDeclaration) × Contains d.actions a × (u ≡ action_uid a) × ((w : Uid) × Contains a.parents w × (parent_meant d a.namespace w ≡ Some v))
+
+-- a type or an action of a namespace stands in the empty one too
+abbrev pub Shadows : Declarations → Type 0
+Shadows d = ((n : Name) × Contains (declared_types d) n × (is_qualified n ≡ true) × Contains (declared_types d) (unqualified n.base))
+    ⊎ ((u : Uid) × Contains (action_uids d) u × (is_qualified u.kind ≡ true) × Contains (action_uids d) (unqualified_uid u))
+
+abbrev pub HasSchemaFault : List Name → Declarations → SchemaFault → Type 0
+HasSchemaFault x d duplicate_entity_type = HasTwice (entity_names d)
+HasSchemaFault x d duplicate_common_type = HasTwice (common_names d)
+HasSchemaFault x d duplicate_action = HasTwice (action_uids d)
+HasSchemaFault x d undeclared_type = (r : Reference) × Contains (references d) r × (meant d r ≡ None)
+HasSchemaFault x d undeclared_action = (a : ActionDeclaration) × Contains d.actions a × ((u : Uid) × Contains a.parents u × (parent_meant d a.namespace u ≡ None))
+HasSchemaFault x d cycle_of_common_types = (n : Name) × Reaches (Uses d) n n
+HasSchemaFault x d cycle_of_actions = (u : Uid) × Reaches (HasParentAction d) u u
+HasSchemaFault x d action_as_entity_type = (t : EntityDeclaration) × Contains d.entities t × (action_word ≡ t.word)
+HasSchemaFault x d context_not_record = (a : ActionDeclaration) × Contains d.actions a × (becomes_record d a ≡ false)
+HasSchemaFault x d reserved_name = (n : Name) × Contains (written_names d) n × (is_reserved n ≡ true)
+HasSchemaFault x d shadowing = Shadows d
+HasSchemaFault x d unknown_extension_type = (n : Name) × Contains (extensions d) n × (Contains x n → ⊥)
+HasSchemaFault x d unresolved_external = ((t : EntityDeclaration) × Contains d.entities t × (is_external_kind t.kind ≡ true)) ⊎ ((a : ActionDeclaration) × Contains d.actions a × (a.is_external ≡ true))
 
 -- the tests decide which faults are there, and whether one is
 abbrev pub SchemaFaultsDecide : Type 0
@@ -112,3 +147,18 @@ NoParentIsDropped = (x : List Name) (d : Declarations) → IsWellFormed x d → 
 abbrev pub NothingOfActionsIsDropped : Type 0
 NothingOfActionsIsDropped = (x : List Name) (d : Declarations) → IsWellFormed x d → (a : ActionDeclaration) → Contains d.actions a
     → KeepsEach (parent_meant d a.namespace) a.parents × KeepsEach (entity_meant d a.namespace) a.principals × KeepsEach (entity_meant d a.namespace) a.resources
+
+-- The attributes of a type rise by name, at every nesting.
+abbrev mutual
+  pub has_rising : Ty → Bool
+  has_rising (set_type t) = has_rising t
+  has_rising (record_type as_ o) = are_rising as_
+  has_rising t = true
+
+  pub are_rising : Attributes → Bool
+  are_rising no_attributes = true
+  are_rising (attribute a t r as_) = has_rising t && (is_before_attributes a as_ && are_rising as_)
+
+-- the types of a schema do
+abbrev pub ResolvedTypesRise : Type 0
+ResolvedTypesRise = (d : Declarations) (ns : Namespace) (t : TypeExpr) → has_rising (resolved d ns t) ≡ true

@@ -1,15 +1,17 @@
 -- Which entities and requests conform to a schema. A fault says what is wrong; what has none conforms.
 -- Rule: conforming entities; conforming requests (docs/RULES.md).
-use Rattle.std.specs.Prelude.{◌≡◌, ℕ, List, [], ◌∷◌, Bool, true, false, Option, Some, None, Contains}
-use Rattle.std.proofs.Common.{◌⊎◌}
-use Rattle.cedar_expr_model.specs.Name.{Text, Name}
-use Rattle.cedar_expr_model.specs.Uid.{Uid}
+use Rattle.std.specs.Prelude.{◌≡◌, ◌&&◌, ◌||◌, ℕ, List, [], ◌∷◌, Bool, true, false, not, Option, Some, None, is_none, option_map, if◌then◌else◌}
+use Rattle.std.specs.Option.{option_map_or}
+use Rattle.std.specs.List.{list_any, list_all}
+use Rattle.std.specs.Str.{bytes_eq}
+use Rattle.cedar_expr_model.specs.Name.{Text, Name, name_eq}
+use Rattle.cedar_expr_model.specs.Uid.{Uid, uid_eq}
 use Rattle.cedar_expr_model.specs.Whole.Value.{V, record_of, Fields}
-use Rattle.cedar_store_model.specs.Whole.World.{Part, known, left, Entity, Request, part_named}
+use Rattle.cedar_store_model.specs.Whole.World.{Part, known, left, Entity, Found, held, Request, part_named}
 use Rattle.cedar_schema_model.specs.Whole.Types.{Ty, record_type, is_closed, Attributes, no_attributes, attribute, Declared, attribute_named}
-use Rattle.cedar_schema_model.specs.Whole.Schema.{EntityKind, standard, enumerated, EntityType, Action, Schema, type_named, action_with, declares_action}
-use Rattle.cedar_schema_model.specs.Whole.Descent.{Descends, IsActionAncestor}
-use Rattle.cedar_schema_model.specs.Whole.Admission.{Admits}
+use Rattle.cedar_schema_model.specs.Whole.Schema.{EntityKind, standard, enumerated, Action, Schema, type_named, action_with, declares_action}
+use Rattle.cedar_schema_model.specs.Whole.Descent.{descends, action_descends, is_action_ancestor, action_uids}
+use Rattle.cedar_schema_model.specs.Whole.HasType.{has_type}
 
 -- The faults of an entity or a request.
 pub data ConformFault : Type 0 where
@@ -39,22 +41,14 @@ conform_number open_part = 10
 abbrev pub conform_faults : List ConformFault
 conform_faults = undeclared ∷ not_listed ∷ no_member ∷ lacks_attribute ∷ undeclared_attribute ∷ attribute_value ∷ tag ∷ ancestor ∷ context_value ∷ open_part ∷ []
 
--- Where a schema speaks of a uid: among its actions, else among its entity types, else nowhere.
+-- Where a schema speaks of a uid: among its actions, else by the kind of its entity type, else nowhere.
 pub data Place : Type 0 where
   among_actions : Place
   of_kind : EntityKind → Place
   nowhere : Place
 
-abbrev pub place_by_type : Option EntityType → Place
-place_by_type (Some t) = of_kind t.kind
-place_by_type None = nowhere
-
-abbrev pub place_by : Bool → Option EntityType → Place
-place_by true t = among_actions
-place_by false t = place_by_type t
-
 abbrev pub place_of : Schema → Uid → Place
-place_of s u = place_by (declares_action s u) (type_named s u.kind)
+place_of s u = if declares_action s u then among_actions else option_map_or (λ t. of_kind t.kind) (type_named s u.kind) nowhere
 
 -- the attributes and the type of the tags that are declared there
 abbrev pub attributes_at : Place → Attributes
@@ -65,90 +59,73 @@ abbrev pub tags_at : Place → Option Ty
 tags_at (of_kind (standard as_ t)) = t
 tags_at p = None
 
--- the attributes as a list
+-- the attributes as a list, and the type of one of them
 abbrev pub attribute_list : Attributes → List (Text × Declared)
 attribute_list no_attributes = []
 attribute_list (attribute a t r as_) = (a, record { type = t; is_required = r }) ∷ attribute_list as_
 
+abbrev pub type_at : Attributes → Text → Option Ty
+type_at as_ a = option_map (λ d. d.type) (attribute_named a as_)
+
 -- nothing is declared there
-abbrev pub IsNowhere : Place → Type 0
-IsNowhere nowhere = Unit {0}
-IsNowhere p = ⊥
+abbrev pub is_nowhere : Place → Bool
+is_nowhere nowhere = true
+is_nowhere p = false
 
 -- an enumerated type doesn't have this member
-abbrev pub IsNoMember : Place → Text → Type 0
-IsNoMember (of_kind (enumerated ids)) id = Contains ids id → ⊥
-IsNoMember p id = ⊥
+abbrev pub is_no_member : Place → Text → Bool
+is_no_member (of_kind (enumerated ids)) id = not (list_any (bytes_eq id) ids)
+is_no_member p id = false
 
--- a required attribute lacks
-abbrev pub Lacks : Attributes → List (Text × Part V) → Type 0
-Lacks as_ ps = (d : Text × Declared) × Contains (attribute_list as_) d × (d.1.is_required ≡ true) × (part_named d.0 ps ≡ None)
+-- a value that isn't of the type
+abbrev pub is_refused : Option Ty → Part V → Bool
+is_refused (Some t) (known v) = not (has_type v t)
+is_refused t x = false
 
--- an attribute that isn't declared
-abbrev pub HasUndeclared : Attributes → List (Text × Part V) → Type 0
-HasUndeclared as_ ps = (p : Text × Part V) × Contains ps p × (attribute_named p.0 as_ ≡ None)
-
--- a value that the type doesn't admit; what isn't a value yet is a fault of its own
-abbrev pub IsRefused : Ty → Part V → Type 0
-IsRefused t (known v) = Admits t v → ⊥
-IsRefused t (left x) = ⊥
-
-abbrev pub IsRefusedValue : Option Declared → Part V → Type 0
-IsRefusedValue None x = ⊥
-IsRefusedValue (Some d) x = IsRefused d.type x
-
-abbrev pub HasRefusedValue : Attributes → List (Text × Part V) → Type 0
-HasRefusedValue as_ ps = (p : Text × Part V) × Contains ps p × IsRefusedValue (attribute_named p.0 as_) p.1
-
--- a tag where there may be none, or one whose value isn't admitted
-abbrev pub IsRefusedTag : Option Ty → Part V → Type 0
-IsRefusedTag None x = Unit {0}
-IsRefusedTag (Some t) x = IsRefused t x
-
-abbrev pub HasRefusedTag : Option Ty → List (Text × Part V) → Type 0
-HasRefusedTag t ps = (p : Text × Part V) × Contains ps p × IsRefusedTag t p.1
+-- a part that isn't a value yet
+abbrev pub is_left : Part V → Bool
+is_left (known v) = false
+is_left (left t) = true
 
 -- What may be an ancestor: of an action its declared ancestors; of an enumerated member nothing; else what has a type that its
 -- type descends from.
-abbrev pub MayDescend : Schema → Uid → Place → Uid → Type 0
-MayDescend s u among_actions v = IsActionAncestor s u v
-MayDescend s u (of_kind (enumerated ids)) v = ⊥
-MayDescend s u p v = Descends s u.kind v.kind
+abbrev pub may_descend : Schema → Uid → Place → Uid → Bool
+may_descend s u among_actions v = is_action_ancestor s u v
+may_descend s u (of_kind (enumerated ids)) v = false
+may_descend s u p v = descends s u.kind v.kind
 
--- what has to be one: of an action its declared ancestors
-abbrev pub MustDescend : Schema → Uid → Place → Uid → Type 0
-MustDescend s u among_actions v = IsActionAncestor s u v
-MustDescend s u p v = ⊥
+-- an ancestor that has to be there lacks: one of the declared ancestors of an action
+abbrev pub lacks_ancestor : Schema → Uid → Place → List Uid → Bool
+lacks_ancestor s u among_actions vs = list_any (λ v. action_descends s u v && not (list_any (uid_eq v) vs)) (action_uids s)
+lacks_ancestor s u p vs = false
 
-abbrev pub HasWrongAncestors : Schema → Uid → Place → List Uid → Type 0
-HasWrongAncestors s u p vs = ((v : Uid) × Contains vs v × (MayDescend s u p v → ⊥)) ⊎ ((v : Uid) × MustDescend s u p v × (Contains vs v → ⊥))
+-- The fault is there, in an entity: a required attribute lacks, or an attribute isn't declared; a value isn't of its type, or
+-- there is a tag where none may be; an ancestor is wrong or lacks; a part isn't a value yet.
+abbrev pub entity_fault_at : Schema → Uid → Entity V → Place → ConformFault → Bool
+entity_fault_at s u e p undeclared = is_nowhere p
+entity_fault_at s u e p no_member = is_no_member p u.id
+entity_fault_at s u e p lacks_attribute = list_any (λ d. d.1.is_required && is_none (part_named d.0 e.attributes)) (attribute_list (attributes_at p))
+entity_fault_at s u e p undeclared_attribute = list_any (λ x. is_none (attribute_named x.0 (attributes_at p))) e.attributes
+entity_fault_at s u e p attribute_value = list_any (λ x. is_refused (type_at (attributes_at p) x.0) x.1) e.attributes
+entity_fault_at s u e p tag = list_any (λ x. is_none (tags_at p) || is_refused (tags_at p) x.1) e.tags
+entity_fault_at s u e p ancestor = list_any (λ v. not (may_descend s u p v)) e.ancestors || lacks_ancestor s u p e.ancestors
+entity_fault_at s u e p open_part = list_any (λ x. is_left x.1) e.attributes || list_any (λ x. is_left x.1) e.tags
+entity_fault_at s u e p f = false
 
--- a part that isn't a value yet
-abbrev pub IsLeft : Part V → Type 0
-IsLeft (known v) = ⊥
-IsLeft (left t) = Unit {0}
-
-abbrev pub HasLeft : List (Text × Part V) → Type 0
-HasLeft ps = (p : Text × Part V) × Contains ps p × IsLeft p.1
-
--- the fault is there, in an entity
-abbrev pub EntityFaultAt : Schema → Uid → Entity V → Place → ConformFault → Type 0
-EntityFaultAt s u e p undeclared = IsNowhere p
-EntityFaultAt s u e p no_member = IsNoMember p u.id
-EntityFaultAt s u e p lacks_attribute = Lacks (attributes_at p) e.attributes
-EntityFaultAt s u e p undeclared_attribute = HasUndeclared (attributes_at p) e.attributes
-EntityFaultAt s u e p attribute_value = HasRefusedValue (attributes_at p) e.attributes
-EntityFaultAt s u e p tag = HasRefusedTag (tags_at p) e.tags
-EntityFaultAt s u e p ancestor = HasWrongAncestors s u p e.ancestors
-EntityFaultAt s u e p open_part = HasLeft e.attributes ⊎ HasLeft e.tags
-EntityFaultAt s u e p f = ⊥
-
-abbrev pub HasEntityFault : Schema → Uid → Entity V → ConformFault → Type 0
-HasEntityFault s u e f = EntityFaultAt s u e (place_of s u) f
+abbrev pub has_entity_fault : Schema → Uid → Entity V → ConformFault → Bool
+has_entity_fault s u e f = entity_fault_at s u e (place_of s u) f
 
 -- An entity conforms where no fault is there.
 abbrev pub EntityConforms : Schema → Uid → Entity V → Type 0
-EntityConforms s u e = (f : ConformFault) → HasEntityFault s u e f → ⊥
+EntityConforms s u e = (f : ConformFault) → has_entity_fault s u e f ≡ false
+
+abbrev pub entity_conforms : Schema → Uid → Entity V → Bool
+entity_conforms s u e = list_all (λ f. not (has_entity_fault s u e f)) conform_faults
+
+-- A store conforms: each entity that it holds does, and it holds each declared action.
+pub record StoreConforms (s : Schema) (store : Uid → Found V) : Type 0 where
+  pub each : (u : Uid) (e : Entity V) → store u ≡ held e → EntityConforms s u e
+  pub actions : (u : Uid) → declares_action s u ≡ true → (e : Entity V) × (store u ≡ held e)
 
 -- A request of which parts may be unknown.
 pub record RequestParts : Type 0 where
@@ -162,31 +139,29 @@ abbrev pub parts_of : Request → RequestParts
 parts_of r = record { principal = Some r.principal; action = Some r.action; resource = Some r.resource; context = Some r.context }
 
 -- this holds of what is known
-abbrev pub WhereKnown : {A : Type 0} → Option A → (A → Type 0) → Type 0
-WhereKnown None holds = ⊥
-WhereKnown (Some a) holds = holds a
+abbrev pub where_known : {A : Type 0} → Option A → (A → Bool) → Bool
+where_known a test = option_map_or test a false
 
-abbrev pub IsUnknown : {A : Type 0} → Option A → Type 0
-IsUnknown None = Unit {0}
-IsUnknown (Some a) = ⊥
-
--- what holds of the action of a request, where it is known and declared
-abbrev pub OfAction : Schema → RequestParts → (Action → Type 0) → Type 0
-OfAction s r holds = WhereKnown r.action (λ u. WhereKnown (action_with s u) holds)
+-- this holds of the action of a request, where it is known and declared
+abbrev pub of_action : Schema → RequestParts → (Action → Bool) → Bool
+of_action s r test = where_known r.action (λ u. where_known (action_with s u) test)
 
 -- the type isn't among those listed
-abbrev pub IsNotListed : List Name → Option Uid → Type 0
-IsNotListed ns u = WhereKnown u (λ v. Contains ns v.kind → ⊥)
+abbrev pub is_not_listed : List Name → Option Uid → Bool
+is_not_listed ns u = where_known u (λ v. not (list_any (name_eq v.kind) ns))
 
--- the fault is there, in a request
-abbrev pub HasRequestFault : Schema → RequestParts → ConformFault → Type 0
-HasRequestFault s r undeclared = WhereKnown r.action (λ u. declares_action s u ≡ false)
-HasRequestFault s r not_listed = OfAction s r (λ a. IsNotListed a.principals r.principal ⊎ IsNotListed a.resources r.resource)
-HasRequestFault s r no_member = WhereKnown r.principal (λ u. IsNoMember (place_of s u) u.id) ⊎ WhereKnown r.resource (λ u. IsNoMember (place_of s u) u.id)
-HasRequestFault s r context_value = OfAction s r (λ a. WhereKnown r.context (λ fs. Admits (record_type a.context is_closed) (record_of fs) → ⊥))
-HasRequestFault s r open_part = (IsUnknown r.principal ⊎ IsUnknown r.action) ⊎ (IsUnknown r.resource ⊎ IsUnknown r.context)
-HasRequestFault s r f = ⊥
+-- The fault is there, in a request.
+abbrev pub has_request_fault : Schema → RequestParts → ConformFault → Bool
+has_request_fault s r undeclared = where_known r.action (λ u. not (declares_action s u))
+has_request_fault s r not_listed = of_action s r (λ a. is_not_listed a.principals r.principal || is_not_listed a.resources r.resource)
+has_request_fault s r no_member = where_known r.principal (λ u. is_no_member (place_of s u) u.id) || where_known r.resource (λ u. is_no_member (place_of s u) u.id)
+has_request_fault s r context_value = of_action s r (λ a. where_known r.context (λ fs. not (has_type (record_of fs) (record_type a.context is_closed))))
+has_request_fault s r open_part = (is_none r.principal || is_none r.action) || (is_none r.resource || is_none r.context)
+has_request_fault s r f = false
 
 -- A request conforms where no fault is there.
 abbrev pub RequestConforms : Schema → RequestParts → Type 0
-RequestConforms s r = (f : ConformFault) → HasRequestFault s r f → ⊥
+RequestConforms s r = (f : ConformFault) → has_request_fault s r f ≡ false
+
+abbrev pub request_conforms : Schema → RequestParts → Bool
+request_conforms s r = list_all (λ f. not (has_request_fault s r f)) conform_faults

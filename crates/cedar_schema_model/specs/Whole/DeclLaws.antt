@@ -1,20 +1,18 @@
 -- What the laws on declarations, entities and requests say.
--- Rule: descent; action entities; admission; conforming entities; conforming requests; environments (docs/RULES.md).
-use Rattle.std.specs.Prelude.{◌≡◌, ◌↔◌, [], true, Option, Some, None, Contains}
+-- Rule: descent; action entities; conforming entities; conforming requests; environments (docs/RULES.md).
+use Rattle.std.specs.Prelude.{◌≡◌, ◌↔◌, List, [], true, false, Option, Some, None, is_some, Contains}
 use Rattle.std.specs.Bool.{Decides}
 use Rattle.std.proofs.Common.{◌⊎◌}
-use Rattle.cedar_expr_model.specs.Name.{Name}
+use Rattle.cedar_expr_model.specs.Name.{Text, Name}
 use Rattle.cedar_expr_model.specs.Uid.{Uid}
-use Rattle.cedar_expr_model.specs.Whole.Value.{V, Vs, set_of}
-use Rattle.cedar_expr_model.specs.Whole.Canonical.{Among}
-use Rattle.cedar_store_model.specs.Whole.World.{Entity, Found, held, Request}
-use Rattle.cedar_schema_model.specs.Whole.Types.{Ty, set_type}
-use Rattle.cedar_schema_model.specs.Whole.Schema.{Schema, Action, declares_action}
+use Rattle.cedar_expr_model.specs.Whole.Value.{V, record_of}
+use Rattle.cedar_store_model.specs.Whole.World.{Part, known, Entity, Found, held, Request, part_named}
+use Rattle.cedar_schema_model.specs.Whole.Types.{Ty, record_type, is_closed, Declared, attribute_named}
+use Rattle.cedar_schema_model.specs.Whole.Schema.{enumerated, Schema, Action, action_with, declares_action}
 use Rattle.cedar_schema_model.specs.Whole.Descent.{type_names, Descends, descends, ActionDescends, action_descends, ActionTypeDescends, action_type_descends, TypeDescends, type_descends, IsActionAncestor}
 use Rattle.cedar_schema_model.specs.Whole.ActionEntities.{action_ancestors, action_entity, action_entities}
-use Rattle.cedar_schema_model.specs.Whole.Admission.{Admits, admits}
-use Rattle.cedar_schema_model.specs.Whole.Conforming.{ConformFault, HasEntityFault, EntityConforms, RequestParts, parts_of, HasRequestFault, RequestConforms}
-use Rattle.cedar_schema_model.specs.Whole.ConformingTests.{has_entity_fault, entity_conforms, has_request_fault, request_conforms, IsGoodEntity, IsGoodFor, IsGoodRequest, StoreConforms}
+use Rattle.cedar_schema_model.specs.Whole.HasType.{HasType}
+use Rattle.cedar_schema_model.specs.Whole.Conforming.{ConformFault, undeclared, not_listed, no_member, lacks_attribute, undeclared_attribute, attribute_value, tag, ancestor, context_value, open_part, Place, among_actions, of_kind, nowhere, place_of, attributes_at, tags_at, attribute_list, type_at, is_left, has_entity_fault, EntityConforms, entity_conforms, StoreConforms, RequestParts, parts_of, has_request_fault, RequestConforms, request_conforms}
 use Rattle.cedar_schema_model.specs.Whole.Environment.{Environment, environment_at, environments, SlotUse, no_slot, equal_slot, in_slot, with_slots, environments_for}
 
 -- the tests decide descent
@@ -46,13 +44,61 @@ EntitiesAreActions = (s : Schema) (u : Uid) (e : Entity V) → Contains (action_
 abbrev pub ActionsConform : Type 0
 ActionsConform = (s : Schema) (u : Uid) (e : Entity V) → action_entity s u ≡ Some e → EntityConforms s u e
 
--- the test decides what a type admits
-abbrev pub AdmissionDecides : Type 0
-AdmissionDecides = (t : Ty) (v : V) → Decides (admits t v) (Admits t v)
+-- The faults of entities, read directly. An enumerated type doesn't have this member.
+abbrev pub IsNoMember : Place → Text → Type 0
+IsNoMember (of_kind (enumerated ids)) id = Contains ids id → ⊥
+IsNoMember p id = ⊥
 
--- a set is admitted where each member is
-abbrev pub SetsByMembers : Type 0
-SetsByMembers = (t : Ty) (vs : Vs) → Admits (set_type t) (set_of vs) ↔ ((v : V) → Among v vs → Admits t v)
+-- a value that isn't of the type
+abbrev pub IsRefused : Option Ty → Part V → Type 0
+IsRefused (Some t) (known v) = HasType v t → ⊥
+IsRefused t x = ⊥
+
+-- what may be an ancestor, and what has to be one
+abbrev pub MayDescend : Schema → Uid → Place → Uid → Type 0
+MayDescend s u among_actions v = IsActionAncestor s u v
+MayDescend s u (of_kind (enumerated ids)) v = ⊥
+MayDescend s u p v = Descends s u.kind v.kind
+
+abbrev pub MustDescend : Schema → Uid → Place → Uid → Type 0
+MustDescend s u among_actions v = IsActionAncestor s u v
+MustDescend s u p v = ⊥
+
+abbrev pub HasLeft : List (Text × Part V) → Type 0
+HasLeft ps = (x : Text × Part V) × Contains ps x × (is_left x.1 ≡ true)
+
+abbrev pub EntityFaultAt : Schema → Uid → Entity V → Place → ConformFault → Type 0
+EntityFaultAt s u e p undeclared = p ≡ nowhere
+EntityFaultAt s u e p no_member = IsNoMember p u.id
+EntityFaultAt s u e p lacks_attribute = (d : Text × Declared) × Contains (attribute_list (attributes_at p)) d × (d.1.is_required ≡ true) × (part_named d.0 e.attributes ≡ None)
+EntityFaultAt s u e p undeclared_attribute = (x : Text × Part V) × Contains e.attributes x × (attribute_named x.0 (attributes_at p) ≡ None)
+EntityFaultAt s u e p attribute_value = (x : Text × Part V) × Contains e.attributes x × IsRefused (type_at (attributes_at p) x.0) x.1
+EntityFaultAt s u e p tag = (x : Text × Part V) × Contains e.tags x × ((tags_at p ≡ None) ⊎ IsRefused (tags_at p) x.1)
+EntityFaultAt s u e p ancestor = ((v : Uid) × Contains e.ancestors v × (MayDescend s u p v → ⊥)) ⊎ ((v : Uid) × MustDescend s u p v × (Contains e.ancestors v → ⊥))
+EntityFaultAt s u e p open_part = HasLeft e.attributes ⊎ HasLeft e.tags
+EntityFaultAt s u e p f = ⊥
+
+abbrev pub HasEntityFault : Schema → Uid → Entity V → ConformFault → Type 0
+HasEntityFault s u e f = EntityFaultAt s u e (place_of s u) f
+
+-- The faults of requests, read directly. This holds of what is known.
+abbrev pub WhereKnown : {A : Type 0} → Option A → (A → Type 0) → Type 0
+WhereKnown None holds = ⊥
+WhereKnown (Some a) holds = holds a
+
+abbrev pub OfAction : Schema → RequestParts → (Action → Type 0) → Type 0
+OfAction s r holds = WhereKnown r.action (λ u. WhereKnown (action_with s u) holds)
+
+abbrev pub IsNotListed : List Name → Option Uid → Type 0
+IsNotListed ns u = WhereKnown u (λ v. Contains ns v.kind → ⊥)
+
+abbrev pub HasRequestFault : Schema → RequestParts → ConformFault → Type 0
+HasRequestFault s r undeclared = WhereKnown r.action (λ u. declares_action s u ≡ false)
+HasRequestFault s r not_listed = OfAction s r (λ a. IsNotListed a.principals r.principal ⊎ IsNotListed a.resources r.resource)
+HasRequestFault s r no_member = WhereKnown r.principal (λ u. IsNoMember (place_of s u) u.id) ⊎ WhereKnown r.resource (λ u. IsNoMember (place_of s u) u.id)
+HasRequestFault s r context_value = OfAction s r (λ a. WhereKnown r.context (λ fs. HasType (record_of fs) (record_type a.context is_closed) → ⊥))
+HasRequestFault s r open_part = ((r.principal ≡ None) ⊎ (r.action ≡ None)) ⊎ ((r.resource ≡ None) ⊎ (r.context ≡ None))
+HasRequestFault s r f = ⊥
 
 -- the tests decide which faults are there
 abbrev pub EntityFaultsDecide : Type 0
@@ -66,6 +112,35 @@ RequestFaultsDecide = (s : Schema) (r : RequestParts) (f : ConformFault) → Dec
 
 abbrev pub RequestConformingDecides : Type 0
 RequestConformingDecides = (s : Schema) (r : RequestParts) → Decides (request_conforms s r) (RequestConforms s r)
+
+-- Conforming, read directly: this is known and of the type.
+abbrev pub IsOf : Option Ty → Part V → Type 0
+IsOf (Some t) (known v) = HasType v t
+IsOf t x = ⊥
+
+-- An entity that conforms: it is declared, and so is its member where it is of an enumerated type; required attributes are
+-- there; attributes are declared, and they and the tags are of their types; the ancestors are as they have to be.
+pub record IsGoodEntity (s : Schema) (u : Uid) (e : Entity V) : Type 0 where
+  pub is_declared : place_of s u ≡ nowhere → ⊥
+  pub member : IsNoMember (place_of s u) u.id → ⊥
+  pub required : (d : Text × Declared) → Contains (attribute_list (attributes_at (place_of s u))) d → d.1.is_required ≡ true → is_some (part_named d.0 e.attributes) ≡ true
+  pub attributes : (p : Text × Part V) → Contains e.attributes p → IsOf (type_at (attributes_at (place_of s u)) p.0) p.1
+  pub tags : (p : Text × Part V) → Contains e.tags p → IsOf (tags_at (place_of s u)) p.1
+  pub allowed : (v : Uid) → Contains e.ancestors v → MayDescend s u (place_of s u) v
+  pub whole : (v : Uid) → MustDescend s u (place_of s u) v → Contains e.ancestors v
+
+-- A request that conforms: its action is declared, for the types of its principal and resource; these are members where
+-- their types are enumerated; and the context is of its type.
+pub record IsGoodFor (s : Schema) (r : Request) (a : Action) : Type 0 where
+  pub action : action_with s r.action ≡ Some a
+  pub principal : Contains a.principals r.principal.kind
+  pub resource : Contains a.resources r.resource.kind
+  pub principal_member : IsNoMember (place_of s r.principal) r.principal.id → ⊥
+  pub resource_member : IsNoMember (place_of s r.resource) r.resource.id → ⊥
+  pub context : HasType (record_of r.context) (record_type a.context is_closed)
+
+abbrev pub IsGoodRequest : Schema → Request → Type 0
+IsGoodRequest s r = (a : Action) × IsGoodFor s r a
 
 -- an entity conforms exactly where it does by the direct reading
 abbrev pub EntitiesReadDirectly : Type 0

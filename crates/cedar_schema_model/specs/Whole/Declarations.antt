@@ -1,10 +1,10 @@
 -- Declarations, as a bag: what is declared in which namespace, as it is written.
 -- Rule: declarations; references (docs/RULES.md).
-use Rattle.std.specs.Prelude.{List, [], ◌∷◌, ◌++◌, map, Bool, Option, Some, None}
+use Rattle.std.specs.Prelude.{List, [], ◌∷◌, ◌++◌, map, Bool, Option, find, option_to_list}
 use Rattle.std.specs.List.{flat_map, list_any}
 use Rattle.cedar_expr_model.specs.Name.{Text, Name, name_eq}
 use Rattle.cedar_expr_model.specs.Uid.{Uid, uid_eq}
-use Rattle.cedar_schema_model.specs.Whole.Reference.{Namespace, name_in, action_in, ReferenceKind, to_entity, Reference, Meant, meant_common, meant_entity, candidates, action_candidates, first_passing}
+use Rattle.cedar_schema_model.specs.Whole.Reference.{Namespace, name_in, action_in, ReferenceKind, to_entity, Reference, Meant, meant_common, meant_entity, candidates, action_candidates}
 
 -- A type as it is written.
 mutual
@@ -90,11 +90,11 @@ is_declared_action d u = list_any (uid_eq u) (action_uids d)
 
 -- What a reference means: the first of what it may mean that is declared.
 abbrev pub meant : Declarations → Reference → Option Meant
-meant d r = first_passing (is_declared d) (candidates r)
+meant d r = find (is_declared d) (candidates r)
 
 -- what the parent of an action means
 abbrev pub parent_meant : Declarations → Namespace → Uid → Option Uid
-parent_meant d ns u = first_passing (is_declared_action d) (action_candidates ns u)
+parent_meant d ns u = find (is_declared_action d) (action_candidates ns u)
 
 -- the references in a type that is written in a namespace
 abbrev mutual
@@ -120,14 +120,9 @@ abbrev mutual
   extensions_in_fields no_field_exprs = []
   extensions_in_fields (field_expr a t r fs) = extensions_in t ++ extensions_in_fields fs
 
--- the type of the tags, if there is one
-abbrev pub tag_expr : Option TypeExpr → List TypeExpr
-tag_expr None = []
-tag_expr (Some t) = t ∷ []
-
 -- the types that stand in a declaration: its attributes as a record, and that of its tags
 abbrev pub types_in : KindExpr → List TypeExpr
-types_in (standard_expr fs t) = record_expr fs ∷ tag_expr t
+types_in (standard_expr fs t) = record_expr fs ∷ option_to_list t
 types_in k = []
 
 -- references to entity types, by these names

@@ -4,32 +4,22 @@ use Rattle.std.specs.Prelude.{List, [], ◌∷◌, Bool, true, false, Option, So
 use Rattle.std.specs.List.{list_all, list_any}
 use Rattle.cedar_expr_model.specs.Name.{Text, Name}
 use Rattle.cedar_schema_model.specs.Whole.Types.{is_open, is_closed, Ty, never, any_entity, entity_types, record_type, Attributes, no_attributes, Declared, attribute_named, permissive}
-use Rattle.cedar_schema_model.specs.Whole.Schema.{EntityKind, standard, enumerated, external, EntityType, Schema, type_named}
+use Rattle.cedar_schema_model.specs.Whole.Schema.{EntityKind, standard, Schema, type_named}
 use Rattle.cedar_schema_model.specs.Whole.Join.{reduce_to_join}
 
 -- Only a standard entity type has attributes.
 abbrev pub attributes_of_kind : EntityKind → Attributes
 attributes_of_kind (standard as_ tags) = as_
-attributes_of_kind (enumerated ids) = no_attributes
-attributes_of_kind external = no_attributes
-
-abbrev pub declared_for : Text → Option EntityType → Option Declared
-declared_for a None = None
-declared_for a (Some e) = attribute_named a (attributes_of_kind e.kind)
+attributes_of_kind k = no_attributes
 
 -- what the schema declares of an attribute for one entity type
 abbrev pub declared_of : Schema → Text → Name → Option Declared
-declared_of s a n = declared_for a (type_named s n)
-
-abbrev pub with_declared : Option Declared → Option (List Declared) → Option (List Declared)
-with_declared None ds = None
-with_declared (Some d) None = None
-with_declared (Some d) (Some ds) = Some (d ∷ ds)
+declared_of s a n = option_and_then (λ e. attribute_named a (attributes_of_kind e.kind)) (type_named s n)
 
 -- what each of these entity types declares of the attribute, if all do
 abbrev pub all_declared : Schema → Text → List Name → Option (List Declared)
 all_declared s a [] = Some []
-all_declared s a (n ∷ ns) = with_declared (declared_of s a n) (all_declared s a ns)
+all_declared s a (n ∷ ns) = option_and_then (λ d. option_map (λ ds. d ∷ ds) (all_declared s a ns)) (declared_of s a n)
 
 -- the permissive join of the types, required where all require it
 abbrev pub declared_by_all : List Declared → Option Declared

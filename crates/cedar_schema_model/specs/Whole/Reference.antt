@@ -1,10 +1,10 @@
 -- References: names as they are written in declarations, and what they may mean.
 -- Rule: references (docs/RULES.md).
-use Rattle.std.specs.Prelude.{◌≡◌, List, [], ◌∷◌, map, Bool, true, false, Option, Some, None, if◌then◌else◌, codes}
+use Rattle.std.specs.Prelude.{List, [], ◌∷◌, map, if◌then◌else◌, codes}
 use Rattle.std.specs.List.{flat_map}
-use Rattle.std.proofs.Common.{◌⊎◌}
 use Rattle.cedar_expr_model.specs.Name.{Text, Name}
 use Rattle.cedar_expr_model.specs.Uid.{Uid}
+use Rattle.cedar_expr_model.specs.Whole.Names.{is_unqualified}
 
 -- A namespace: the parts of its name. The empty one has none.
 abbrev pub Namespace : Type 0
@@ -41,12 +41,8 @@ pub data Meant : Type 0 where
 
 -- The names that are tried, in order: with a namespace the name itself; without one the name in its own namespace, and then
 -- that in the empty one.
-abbrev pub places_by : List Text → Namespace → Name → List Name
-places_by [] ns n = name_in ns n.base ∷ n ∷ []
-places_by (part ∷ parts) ns n = n ∷ []
-
 abbrev pub places : Namespace → Name → List Name
-places ns n = places_by n.path ns n
+places ns n = if is_unqualified n then name_in ns n.base ∷ n ∷ [] else n ∷ []
 
 -- what is tried at a name: where either may stand, the common type first
 abbrev pub meant_at : ReferenceKind → Name → List Meant
@@ -60,13 +56,3 @@ candidates r = flat_map (meant_at r.kind) (places r.namespace r.name)
 -- the actions that are tried for a parent
 abbrev pub action_candidates : Namespace → Uid → List Uid
 action_candidates ns u = map (λ n. record { kind = n; id = u.id }) (places ns u.kind)
-
--- the first that passes
-abbrev pub first_passing : {X : Type 0} → (X → Bool) → List X → Option X
-first_passing test [] = None
-first_passing test (x ∷ xs) = if test x then Some x else first_passing test xs
-
--- It is the first that passes: those before it don't.
-abbrev pub IsFirst : {X : Type 0} → (X → Bool) → List X → X → Type 0
-IsFirst test [] y = ⊥
-IsFirst test (x ∷ xs) y = ((test x ≡ true) × (y ≡ x)) ⊎ ((test x ≡ false) × IsFirst test xs y)

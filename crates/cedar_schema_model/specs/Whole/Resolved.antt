@@ -1,6 +1,6 @@
 -- The schema that declarations make: references resolved, common types replaced.
 -- Rule: schemas (docs/RULES.md).
-use Rattle.std.specs.Prelude.{ℕ, zero, suc, List, [], ◌∷◌, map, length, Bool, Option, Some, None, if◌then◌else◌}
+use Rattle.std.specs.Prelude.{ℕ, zero, suc, map, length, Bool, Option, Some, None, find, option_map}
 use Rattle.std.specs.List.{filter_map}
 use Rattle.std.specs.Ordering.{match_ordering}
 use Rattle.cedar_expr_model.specs.Name.{Text, Name, name_eq}
@@ -36,10 +36,6 @@ abbrev mutual
   resolved_fields_by commons d ns no_field_exprs = no_attributes
   resolved_fields_by commons d ns (field_expr a t r fs) = with_attribute a (resolved_by commons d ns t) r (resolved_fields_by commons d ns fs)
 
-abbrev pub common_among : Name → List CommonDeclaration → Option CommonDeclaration
-common_among n [] = None
-common_among n (c ∷ cs) = if name_eq n (common_name c) then Some c else common_among n cs
-
 -- the type that a declaration of a common type defines
 abbrev pub defined_by : (Name → Ty) → Declarations → Option CommonDeclaration → Ty
 defined_by commons d None = never
@@ -48,7 +44,7 @@ defined_by commons d (Some c) = resolved_by commons d c.namespace c.definition
 -- The type of a common type, replaced this many times; and as often as there are common types.
 abbrev pub common_within : ℕ → Declarations → Name → Ty
 common_within zero d n = never
-common_within (suc m) d n = defined_by (common_within m d) d (common_among n d.commons)
+common_within (suc m) d n = defined_by (common_within m d) d (find (λ c. name_eq n (common_name c)) d.commons)
 
 abbrev pub common_of : Declarations → Name → Ty
 common_of d n = common_within (length d.commons) d n
@@ -56,13 +52,6 @@ common_of d n = common_within (length d.commons) d n
 -- a written type, resolved
 abbrev pub resolved : Declarations → Namespace → TypeExpr → Ty
 resolved d ns t = resolved_by (common_of d) d ns t
-
-abbrev pub resolved_fields : Declarations → Namespace → FieldExprs → Attributes
-resolved_fields d ns fs = resolved_fields_by (common_of d) d ns fs
-
-abbrev pub resolved_tags : Declarations → Namespace → Option TypeExpr → Option Ty
-resolved_tags d ns None = None
-resolved_tags d ns (Some t) = Some (resolved d ns t)
 
 -- the entity type that a reference means, if it means one
 abbrev pub entity_of : Option Meant → Option Name
@@ -73,7 +62,7 @@ abbrev pub entity_meant : Declarations → Namespace → Name → Option Name
 entity_meant d ns n = entity_of (meant d (record { namespace = ns; kind = to_entity; name = n }))
 
 abbrev pub resolved_kind : Declarations → Namespace → KindExpr → EntityKind
-resolved_kind d ns (standard_expr fs t) = standard (resolved_fields d ns fs) (resolved_tags d ns t)
+resolved_kind d ns (standard_expr fs t) = standard (resolved_fields_by (common_of d) d ns fs) (option_map (resolved d ns) t)
 resolved_kind d ns (enumerated_expr ids) = enumerated ids
 resolved_kind d ns external_expr = external
 

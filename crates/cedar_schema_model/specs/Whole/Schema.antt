@@ -1,6 +1,6 @@
 -- A schema: what declarations say once references are resolved and common types replaced.
 -- Rule: schemas (docs/RULES.md).
-use Rattle.std.specs.Prelude.{List, [], ◌∷◌, Bool, Option, Some, None, if◌then◌else◌, is_some}
+use Rattle.std.specs.Prelude.{List, Bool, Option, is_some, find}
 use Rattle.cedar_expr_model.specs.Name.{Text, Name, name_eq}
 use Rattle.cedar_expr_model.specs.Uid.{Uid, uid_eq}
 use Rattle.cedar_schema_model.specs.Whole.Types.{Ty, Attributes}
@@ -30,19 +30,11 @@ pub record Schema : Type 0 where
   pub types : List EntityType
   pub actions : List Action
 
-abbrev pub type_among : Name → List EntityType → Option EntityType
-type_among n [] = None
-type_among n (t ∷ ts) = if name_eq n t.name then Some t else type_among n ts
-
 abbrev pub type_named : Schema → Name → Option EntityType
-type_named s n = type_among n s.types
-
-abbrev pub action_among : Uid → List Action → Option Action
-action_among u [] = None
-action_among u (a ∷ as_) = if uid_eq u a.uid then Some a else action_among u as_
+type_named s n = find (λ t. name_eq n t.name) s.types
 
 abbrev pub action_with : Schema → Uid → Option Action
-action_with s u = action_among u s.actions
+action_with s u = find (λ a. uid_eq u a.uid) s.actions
 
 abbrev pub declares_type : Schema → Name → Bool
 declares_type s n = is_some (type_named s n)

@@ -79,27 +79,6 @@ abbrev mutual
 abbrev pub Below : Mode → Ty → Ty → Type 0
 Below m a b = is_subtype m a b ≡ true
 
--- the attribute is declared, with a type that passes, and required exactly where that is asked
-abbrev pub is_declared_alike : (Ty → Bool) → Bool → Option Declared → Bool
-is_declared_alike test r None = false
-is_declared_alike test r (Some d) = test d.type && beq d.is_required r
-
--- At every place where the two are compared, entities are of the same type and records have the same names and required
--- flags, and both are open or neither is.
-abbrev mutual
-  pub is_alike : Ty → Ty → Bool
-  is_alike any_entity (entity_types ms) = false
-  is_alike (entity_types ns) any_entity = false
-  is_alike (entity_types ns) (entity_types ms) = are_among ns ms && are_among ms ns
-  is_alike (set_type a) (set_type b) = is_alike a b
-  is_alike (record_type as_ o) (record_type bs p) = beq (is_closed_record o) (is_closed_record p) && (are_named as_ bs && have_alike as_ bs)
-  is_alike a b = true
-
-  -- the first attributes have each of the second, alike
-  pub have_alike : Attributes → Attributes → Bool
-  have_alike as_ no_attributes = true
-  have_alike as_ (attribute n t r bs) = is_declared_alike (λ a. is_alike a t) r (attribute_named n as_) && have_alike as_ bs
-
 -- each name stands before the next
 abbrev pub are_rising_names : List Name → Bool
 are_rising_names [] = true
@@ -127,27 +106,3 @@ abbrev mutual
   pub are_well_formed_attributes : Attributes → Bool
   are_well_formed_attributes no_attributes = true
   are_well_formed_attributes (attribute n t r as_) = is_well_formed_type t && (is_before_attributes n as_ && are_well_formed_attributes as_)
-
--- `any_set` stands nowhere in the type.
-abbrev mutual
-  pub has_no_any_set : Ty → Bool
-  has_no_any_set any_set = false
-  has_no_any_set (set_type t) = has_no_any_set t
-  has_no_any_set (record_type as_ o) = have_no_any_set as_
-  has_no_any_set t = true
-
-  pub have_no_any_set : Attributes → Bool
-  have_no_any_set no_attributes = true
-  have_no_any_set (attribute n t r as_) = has_no_any_set t && have_no_any_set as_
-
--- All parts of the type have values, and all attributes are required: `never` stands nowhere in it.
-abbrev mutual
-  pub is_filled : Ty → Bool
-  is_filled never = false
-  is_filled (set_type t) = is_filled t
-  is_filled (record_type as_ o) = are_filled as_
-  is_filled t = true
-
-  pub are_filled : Attributes → Bool
-  are_filled no_attributes = true
-  are_filled (attribute n t r as_) = r && (is_filled t && are_filled as_)

@@ -1,17 +1,62 @@
 -- What the laws of types say.
 -- Rule: subtypes; values of a type; joins; attributes of a type (docs/RULES.md).
-use Rattle.std.specs.Prelude.{◌≡◌, ◌↔◌, List, true, false, Option, Some, is_some, MatchOption, Contains}
-use Rattle.std.specs.Bool.{Decides}
+use Rattle.std.specs.Prelude.{◌≡◌, ◌↔◌, List, true, false, Option, Some, is_some, MatchOption, Contains, Bool, ◌&&◌, None}
+use Rattle.std.specs.Bool.{Decides, beq}
 use Rattle.std.specs.List.{list_all}
 use Rattle.cedar_expr_model.specs.Name.{Text, Name}
-use Rattle.cedar_expr_model.specs.Whole.Canonical.{is_canonical}
-use Rattle.cedar_expr_model.specs.Whole.Value.{V, record_of, Fields, field_of}
-use Rattle.cedar_schema_model.specs.Whole.Types.{Ty, never, entity_types, Declared, Mode, strict, permissive}
+use Rattle.cedar_expr_model.specs.Whole.Canonical.{is_canonical, Among}
+use Rattle.cedar_expr_model.specs.Whole.Value.{V, Vs, set_of, record_of, Fields, field_of}
+use Rattle.cedar_schema_model.specs.Whole.Types.{Ty, never, entity_types, set_type, Declared, attribute_named, Mode, strict, permissive, any_entity, any_set, record_type, Attributes, no_attributes, attribute}
 use Rattle.cedar_schema_model.specs.Whole.Schema.{Schema}
-use Rattle.cedar_schema_model.specs.Whole.Subtype.{Below, is_alike, is_well_formed_type, has_no_any_set, is_filled}
+use Rattle.cedar_schema_model.specs.Whole.Subtype.{Below, is_well_formed_type, are_among, are_named, is_closed_record}
 use Rattle.cedar_schema_model.specs.Whole.HasType.{HasType, has_type}
 use Rattle.cedar_schema_model.specs.Whole.Join.{join, reduce_to_join, are_disjoint}
 use Rattle.cedar_schema_model.specs.Whole.Lookup.{declared_of, lookup_attribute, may_have_attribute}
+
+-- the attribute is declared, with a type that passes, and required exactly where that is asked
+abbrev pub is_declared_alike : (Ty → Bool) → Bool → Option Declared → Bool
+is_declared_alike test r None = false
+is_declared_alike test r (Some d) = test d.type && beq d.is_required r
+
+-- At every place where the two are compared, entities are of the same type and records have the same names and required
+-- flags, and both are open or neither is.
+abbrev mutual
+  pub is_alike : Ty → Ty → Bool
+  is_alike any_entity (entity_types ms) = false
+  is_alike (entity_types ns) any_entity = false
+  is_alike (entity_types ns) (entity_types ms) = are_among ns ms && are_among ms ns
+  is_alike (set_type a) (set_type b) = is_alike a b
+  is_alike (record_type as_ o) (record_type bs p) = beq (is_closed_record o) (is_closed_record p) && (are_named as_ bs && have_alike as_ bs)
+  is_alike a b = true
+
+  -- the first attributes have each of the second, alike
+  pub have_alike : Attributes → Attributes → Bool
+  have_alike as_ no_attributes = true
+  have_alike as_ (attribute n t r bs) = is_declared_alike (λ a. is_alike a t) r (attribute_named n as_) && have_alike as_ bs
+
+-- `any_set` stands nowhere in the type.
+abbrev mutual
+  pub has_no_any_set : Ty → Bool
+  has_no_any_set any_set = false
+  has_no_any_set (set_type t) = has_no_any_set t
+  has_no_any_set (record_type as_ o) = have_no_any_set as_
+  has_no_any_set t = true
+
+  pub have_no_any_set : Attributes → Bool
+  have_no_any_set no_attributes = true
+  have_no_any_set (attribute n t r as_) = has_no_any_set t && have_no_any_set as_
+
+-- All parts of the type have values, and all attributes are required: `never` stands nowhere in it.
+abbrev mutual
+  pub is_filled : Ty → Bool
+  is_filled never = false
+  is_filled (set_type t) = is_filled t
+  is_filled (record_type as_ o) = are_filled as_
+  is_filled t = true
+
+  pub are_filled : Attributes → Bool
+  are_filled no_attributes = true
+  are_filled (attribute n t r as_) = r && (is_filled t && are_filled as_)
 
 -- the type is well-formed
 abbrev pub Formed : Ty → Type 0
@@ -49,6 +94,10 @@ SubtypesAreInclusions = (a b : Ty) → Formed a → Formed b → is_filled a ≡
 -- the test of a value decides whether it is of the type
 abbrev pub HasTypeDecides : Type 0
 HasTypeDecides = (v : V) (t : Ty) → Decides (has_type v t) (HasType v t)
+
+-- a set is of a type where each member is
+abbrev pub SetsByMembers : Type 0
+SetsByMembers = (t : Ty) (vs : Vs) → HasType (set_of vs) (set_type t) ↔ ((v : V) → Among v vs → HasType v t)
 
 -- a value of a type is a value of every type above it
 abbrev pub SupertypesKeepValues : Type 0

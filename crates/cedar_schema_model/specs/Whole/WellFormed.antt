@@ -1,14 +1,16 @@
 -- When declarations are well-formed: the faults of a bag.
 -- Rule: well-formed declarations (docs/RULES.md).
-use Rattle.std.specs.Prelude.{◌≡◌, ◌&&◌, ◌||◌, ℕ, zero, suc, List, [], ◌∷◌, ◌++◌, map, length, Bool, true, false, not, Option, Some, None, is_some, Contains}
+use Rattle.std.specs.Prelude.{◌≡◌, ◌&&◌, ◌||◌, ℕ, zero, suc, List, [], ◌∷◌, ◌++◌, map, length, Bool, true, false, not, Option, Some, Contains, is_none}
 use Rattle.std.specs.List.{flat_map, list_any, list_all}
 use Rattle.std.specs.Str.{bytes_eq}
 use Rattle.std.proofs.Common.{◌⊎◌}
-use Rattle.cedar_expr_model.specs.Name.{Text, Name, name_eq, is_reserved}
+use Rattle.cedar_expr_model.specs.Name.{Name, name_eq, is_reserved}
 use Rattle.cedar_expr_model.specs.Uid.{Uid, uid_eq}
-use Rattle.cedar_schema_model.specs.Whole.Descent.{Reaches, reaches}
-use Rattle.cedar_schema_model.specs.Whole.Reference.{Namespace, action_word, ReferenceKind, Reference, Meant, meant_common}
-use Rattle.cedar_schema_model.specs.Whole.Declarations.{TypeExpr, record_expr, reference, CommonDeclaration, KindExpr, external_expr, EntityDeclaration, ActionDeclaration, Declarations, common_name, action_uid, common_names, entity_names, action_uids, meant, parent_meant, references_of_common, references, extensions}
+use Rattle.cedar_schema_model.specs.Whole.Descent.{reaches}
+use Rattle.cedar_schema_model.specs.Whole.Reference.{Namespace, action_word, ReferenceKind, Meant, meant_common}
+use Rattle.cedar_schema_model.specs.Whole.Declarations.{TypeExpr, record_expr, reference, CommonDeclaration, KindExpr, external_expr, ActionDeclaration, Declarations, common_name, action_uid, common_names, entity_names, action_uids, meant, parent_meant, references_of_common, references, extensions}
+use Rattle.std.specs.Option.{option_eq}
+use Rattle.cedar_expr_model.specs.Whole.Names.{is_unqualified, unqualified}
 
 -- The faults of declarations, with their numbers.
 pub data SchemaFault : Type 0 where
@@ -55,36 +57,22 @@ abbrev pub has_twice : {X : Type 0} → (X → X → Bool) → List X → Bool
 has_twice eq [] = false
 has_twice eq (x ∷ xs) = list_any (eq x) xs || has_twice eq xs
 
--- the definition of a common type refers to another
-abbrev pub Uses : Declarations → Name → Name → Type 0
-Uses d m n = (c : CommonDeclaration) × Contains d.commons c × (m ≡ common_name c) × ((r : Reference) × Contains (references_of_common c) r × (meant d r ≡ Some (meant_common n)))
-
 -- a reference means this common type
 abbrev pub is_common : Name → Option Meant → Bool
 is_common n (Some (meant_common m)) = name_eq m n
 is_common n o = false
 
+-- the definition of a common type refers to another
 abbrev pub uses : Declarations → Name → Name → Bool
 uses d m n = list_any (λ c. name_eq m (common_name c) && list_any (λ r. is_common n (meant d r)) (references_of_common c)) d.commons
 
 -- an action has another as its parent
-abbrev pub HasParentAction : Declarations → Uid → Uid → Type 0
-HasParentAction d u v = (a : ActionDeclaration) × Contains d.actions a × (u ≡ action_uid a) × ((w : Uid) × Contains a.parents w × (parent_meant d a.namespace w ≡ Some v))
-
-abbrev pub is_uid : Uid → Option Uid → Bool
-is_uid v None = false
-is_uid v (Some u) = uid_eq u v
-
 abbrev pub has_parent_action : Declarations → Uid → Uid → Bool
-has_parent_action d u v = list_any (λ a. uid_eq u (action_uid a) && list_any (λ w. is_uid v (parent_meant d a.namespace w)) a.parents) d.actions
+has_parent_action d u v = list_any (λ a. uid_eq u (action_uid a) && list_any (λ w. option_eq uid_eq (parent_meant d a.namespace w) (Some v)) a.parents) d.actions
 
--- the test holds of each declaration of this name
-abbrev pub all_of_name : Name → (CommonDeclaration → Bool) → List CommonDeclaration → Bool
-all_of_name n test cs = list_all (λ c. not (name_eq n (common_name c)) || test c) cs
-
--- a reference means a common type, and the test holds of what declares it
+-- a reference means a common type, and the test holds of each declaration of it
 abbrev pub refers_to_record : (CommonDeclaration → Bool) → Declarations → Option Meant → Bool
-refers_to_record test d (Some (meant_common n)) = all_of_name n test d.commons
+refers_to_record test d (Some (meant_common n)) = list_all (λ c. not (name_eq n (common_name c)) || test c) d.commons
 refers_to_record test d o = false
 
 -- written as a record, or as a reference that refers to one
@@ -103,40 +91,25 @@ is_record_within (suc m) d = is_written_record (λ ns k n. refers_to_record (λ 
 abbrev pub becomes_record : Declarations → ActionDeclaration → Bool
 becomes_record d a = is_record_within (length d.commons) d a.namespace a.context
 
--- the types of the parents of actions, as they are written
-abbrev pub parent_types : Declarations → List Name
-parent_types d = flat_map (λ a. map (λ u. u.kind) a.parents) d.actions
-
 -- all names that are written: those that are declared, those that are referred to, and the types of parents of actions
 abbrev pub written_names : Declarations → List Name
-written_names d = common_names d ++ (entity_names d ++ (map (λ u. u.kind) (action_uids d) ++ (map (λ r. r.name) (references d) ++ (extensions d ++ parent_types d))))
-
--- the name, or the uid, as it is in the empty namespace
-abbrev pub unqualified : Name → Name
-unqualified n = record { path = []; base = n.base }
-
-abbrev pub unqualified_uid : Uid → Uid
-unqualified_uid u = record { kind = unqualified u.kind; id = u.id }
+written_names d = common_names d ++ (entity_names d ++ (map (λ u. u.kind) (action_uids d) ++ (map (λ r. r.name) (references d) ++ (extensions d ++ flat_map (λ a. map (λ u. u.kind) a.parents) d.actions))))
 
 -- the name stands in a namespace that isn't the empty one
-abbrev pub has_parts : List Text → Bool
-has_parts [] = false
-has_parts (part ∷ parts) = true
-
 abbrev pub is_qualified : Name → Bool
-is_qualified n = has_parts n.path
+is_qualified n = not (is_unqualified n)
+
+-- the uid as it is in the empty namespace
+abbrev pub unqualified_uid : Uid → Uid
+unqualified_uid u = record { kind = unqualified u.kind.base; id = u.id }
 
 -- the declared types of both kinds
 abbrev pub declared_types : Declarations → List Name
 declared_types d = common_names d ++ entity_names d
 
 -- a type or an action of a namespace stands in the empty one too
-abbrev pub Shadows : Declarations → Type 0
-Shadows d = ((n : Name) × Contains (declared_types d) n × (is_qualified n ≡ true) × Contains (declared_types d) (unqualified n))
-    ⊎ ((u : Uid) × Contains (action_uids d) u × (is_qualified u.kind ≡ true) × Contains (action_uids d) (unqualified_uid u))
-
 abbrev pub shadows : Declarations → Bool
-shadows d = list_any (λ n. is_qualified n && list_any (name_eq (unqualified n)) (declared_types d)) (declared_types d)
+shadows d = list_any (λ n. is_qualified n && list_any (name_eq (unqualified n.base)) (declared_types d)) (declared_types d)
     || list_any (λ u. is_qualified u.kind && list_any (uid_eq (unqualified_uid u)) (action_uids d)) (action_uids d)
 
 abbrev pub is_external_kind : KindExpr → Bool
@@ -144,32 +117,12 @@ is_external_kind external_expr = true
 is_external_kind k = false
 
 -- The fault is there. The extension types are those of the table.
-abbrev pub HasSchemaFault : List Name → Declarations → SchemaFault → Type 0
-HasSchemaFault x d duplicate_entity_type = HasTwice (entity_names d)
-HasSchemaFault x d duplicate_common_type = HasTwice (common_names d)
-HasSchemaFault x d duplicate_action = HasTwice (action_uids d)
-HasSchemaFault x d undeclared_type = (r : Reference) × Contains (references d) r × (meant d r ≡ None)
-HasSchemaFault x d undeclared_action = (a : ActionDeclaration) × Contains d.actions a × ((u : Uid) × Contains a.parents u × (parent_meant d a.namespace u ≡ None))
-HasSchemaFault x d cycle_of_common_types = (n : Name) × Reaches (Uses d) n n
-HasSchemaFault x d cycle_of_actions = (u : Uid) × Reaches (HasParentAction d) u u
-HasSchemaFault x d action_as_entity_type = (t : EntityDeclaration) × Contains d.entities t × (action_word ≡ t.word)
-HasSchemaFault x d context_not_record = (a : ActionDeclaration) × Contains d.actions a × (becomes_record d a ≡ false)
-HasSchemaFault x d reserved_name = (n : Name) × Contains (written_names d) n × (is_reserved n ≡ true)
-HasSchemaFault x d shadowing = Shadows d
-HasSchemaFault x d unknown_extension_type = (n : Name) × Contains (extensions d) n × (Contains x n → ⊥)
-HasSchemaFault x d unresolved_external = ((t : EntityDeclaration) × Contains d.entities t × (is_external_kind t.kind ≡ true)) ⊎ ((a : ActionDeclaration) × Contains d.actions a × (a.is_external ≡ true))
-
--- Declarations are well-formed where none of these faults is there.
-abbrev pub IsWellFormed : List Name → Declarations → Type 0
-IsWellFormed x d = (f : SchemaFault) → Contains ill_forms f → HasSchemaFault x d f → ⊥
-
--- the same as tests
 abbrev pub has_schema_fault : List Name → Declarations → SchemaFault → Bool
 has_schema_fault x d duplicate_entity_type = has_twice name_eq (entity_names d)
 has_schema_fault x d duplicate_common_type = has_twice name_eq (common_names d)
 has_schema_fault x d duplicate_action = has_twice uid_eq (action_uids d)
-has_schema_fault x d undeclared_type = list_any (λ r. not (is_some (meant d r))) (references d)
-has_schema_fault x d undeclared_action = list_any (λ a. list_any (λ u. not (is_some (parent_meant d a.namespace u))) a.parents) d.actions
+has_schema_fault x d undeclared_type = list_any (λ r. is_none (meant d r)) (references d)
+has_schema_fault x d undeclared_action = list_any (λ a. list_any (λ u. is_none (parent_meant d a.namespace u)) a.parents) d.actions
 has_schema_fault x d cycle_of_common_types = list_any (λ n. reaches (uses d) (common_names d) n n) (common_names d)
 has_schema_fault x d cycle_of_actions = list_any (λ u. reaches (has_parent_action d) (action_uids d) u u) (action_uids d)
 has_schema_fault x d action_as_entity_type = list_any (λ t. bytes_eq action_word t.word) d.entities
@@ -178,6 +131,10 @@ has_schema_fault x d reserved_name = list_any is_reserved (written_names d)
 has_schema_fault x d shadowing = shadows d
 has_schema_fault x d unknown_extension_type = list_any (λ n. not (list_any (name_eq n) x)) (extensions d)
 has_schema_fault x d unresolved_external = list_any (λ t. is_external_kind t.kind) d.entities || list_any (λ a. a.is_external) d.actions
+
+-- Declarations are well-formed where none of the faults is there that make them ill-formed.
+abbrev pub IsWellFormed : List Name → Declarations → Type 0
+IsWellFormed x d = (f : SchemaFault) → Contains ill_forms f → has_schema_fault x d f ≡ false
 
 abbrev pub well_formed : List Name → Declarations → Bool
 well_formed x d = list_all (λ f. not (has_schema_fault x d f)) ill_forms

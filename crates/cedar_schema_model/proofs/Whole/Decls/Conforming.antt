@@ -1,6 +1,6 @@
 -- The tests of entities and requests decide which faults are there.
-use Rattle.std.proofs.Common.{◌≡◌, ◌⊎◌, List, ◌∷◌, Bool, true, false, not, ◌&&◌, ◌||◌, Option, Some, None, refl, arith}
-use Rattle.std.specs.Prelude.{Contains, is_some}
+use Rattle.std.proofs.Common.{◌≡◌, ◌⊎◌, List, ◌∷◌, Bool, true, false, not, ◌&&◌, ◌||◌, Option, Some, None, refl, sym, arith}
+use Rattle.std.specs.Prelude.{Contains, is_some, is_none}
 use Rattle.std.specs.Bool.{Decides}
 use Rattle.std.specs.List.{list_any}
 use Rattle.std.specs.Str.{bytes_eq}
@@ -12,19 +12,27 @@ use Rattle.cedar_expr_model.proofs.Equality.{name_eq-Decides, uid_eq-Decides}
 use Rattle.cedar_expr_model.proofs.Lists.{contains_tail, found-Decides, any-Decides, all-Decides}
 use Rattle.cedar_expr_model.specs.Whole.Value.{V, record_of}
 use Rattle.cedar_store_model.specs.Whole.World.{Part, known, left, Entity, part_named}
-use Rattle.cedar_schema_model.specs.Whole.Types.{Ty, record_type, is_closed, Attributes, Declared, attribute_named}
+use Rattle.cedar_schema_model.specs.Whole.Types.{Ty, record_type, is_closed, attribute_named}
 use Rattle.cedar_schema_model.specs.Whole.Schema.{standard, enumerated, external, Action, Schema, action_with, declares_action}
 use Rattle.cedar_schema_model.specs.Whole.Descent.{action_descends, ActionDescends, action_uids}
-use Rattle.cedar_schema_model.specs.Whole.Admission.{Admits, admits}
-use Rattle.cedar_schema_model.specs.Whole.Conforming.{ConformFault, undeclared, not_listed, no_member, lacks_attribute, undeclared_attribute, attribute_value, tag, ancestor, context_value, open_part, conform_faults, Place, among_actions, of_kind, nowhere, place_of, attributes_at, tags_at, attribute_list, IsNowhere, IsNoMember, Lacks, HasUndeclared, IsRefused, IsRefusedValue, HasRefusedValue, IsRefusedTag, HasRefusedTag, MayDescend, MustDescend, HasWrongAncestors, IsLeft, HasLeft, EntityFaultAt, HasEntityFault, EntityConforms, RequestParts, WhereKnown, IsUnknown, OfAction, IsNotListed, HasRequestFault, RequestConforms}
-use Rattle.cedar_schema_model.specs.Whole.ConformingTests.{is_nowhere, is_no_member, lacks, has_undeclared, is_refused, is_refused_value, has_refused_value, is_refused_tag, has_refused_tag, may_descend, lacks_ancestor, has_wrong_ancestors, is_left, has_left, entity_fault_at, has_entity_fault, entity_conforms, where_known, is_unknown, of_action, is_not_listed, has_request_fault, request_conforms}
+use Rattle.cedar_schema_model.specs.Whole.HasType.{HasType, has_type}
+use Rattle.cedar_schema_model.specs.Whole.Conforming.{ConformFault, undeclared, not_listed, no_member, lacks_attribute, undeclared_attribute, attribute_value, tag, ancestor, context_value, open_part, conform_faults, Place, among_actions, of_kind, nowhere, place_of, attributes_at, tags_at, attribute_list, type_at, is_nowhere, is_no_member, is_refused, is_left, may_descend, lacks_ancestor, entity_fault_at, has_entity_fault, EntityConforms, entity_conforms, RequestParts, where_known, of_action, is_not_listed, has_request_fault, RequestConforms, request_conforms}
+use Rattle.cedar_schema_model.specs.Whole.DeclLaws.{IsNoMember, IsRefused, MayDescend, MustDescend, HasLeft, EntityFaultAt, HasEntityFault, WhereKnown, OfAction, IsNotListed, HasRequestFault}
 use Rattle.cedar_schema_model.proofs.Whole.Decls.Descent.{descends-Decides, action_descends-Decides, is_action_ancestor-Decides}
-use Rattle.cedar_schema_model.proofs.Whole.Decls.Admission.{always, nowise, not_false, admits-Decides}
+use Rattle.cedar_schema_model.proofs.Whole.Types.Values.{value_decided}
 
-nowhere-Decides : (p : Place) → Decides (is_nowhere p) (IsNowhere p)
-nowhere-Decides nowhere = always
-nowhere-Decides among_actions = nowise
-nowhere-Decides (of_kind k) = nowise
+-- nothing that holds
+nowise : Decides false ⊥
+nowise = (λ h. cc, λ h. absurd h)
+
+pub not_false : (b : Bool) → Decides (not b) (b ≡ false)
+not_false true = (λ h. sym h, λ h. sym h)
+not_false false = (λ h. refl, λ h. refl)
+
+nowhere-Decides : (p : Place) → Decides (is_nowhere p) (p ≡ nowhere)
+nowhere-Decides nowhere = (λ h. refl, λ h. refl)
+nowhere-Decides among_actions = (λ h. cc, λ h. cc)
+nowhere-Decides (of_kind k) = (λ h. cc, λ h. cc)
 
 no_member-Decides : (p : Place) (id : Text) → Decides (is_no_member p id) (IsNoMember p id)
 no_member-Decides (of_kind (enumerated ids)) id = Decides-not _ (found-Decides bytes_eq bytes_eq-Decides id ids)
@@ -40,39 +48,13 @@ is_none-Decides (Some a) = (λ h. cc, λ h. cc)
 pub is_true-Decides : (b : Bool) → Decides b (b ≡ true)
 is_true-Decides b = (λ h. h, λ h. h)
 
-lacks-Decides : (as_ : Attributes) (ps : List (Text × Part V)) → Decides (lacks as_ ps) (Lacks as_ ps)
-lacks-Decides as_ ps =
-    Decides-like _ (λ h. (h.0, h.1, h.2.0, h.2.1)) (λ h. (h.0, h.1, (h.2, h.3)))
-    (any-Decides (λ d. d.1.is_required && not (is_some (part_named d.0 ps))) (λ d. (d.1.is_required ≡ true) × (part_named d.0 ps ≡ None))
-    (λ d. Decides-and _ _ (is_true-Decides d.1.is_required) (is_none-Decides (part_named d.0 ps))) (attribute_list as_))
+refused-Decides : (t : Option Ty) (x : Part V) → Decides (is_refused t x) (IsRefused t x)
+refused-Decides (Some t) (known v) = Decides-not _ (value_decided v t)
+refused-Decides (Some t) (left x) = nowise
+refused-Decides None x = nowise
 
-undeclared-Decides : (as_ : Attributes) (ps : List (Text × Part V)) → Decides (has_undeclared as_ ps) (HasUndeclared as_ ps)
-undeclared-Decides as_ ps = any-Decides (λ p. not (is_some (attribute_named p.0 as_))) (λ p. attribute_named p.0 as_ ≡ None) (λ p. is_none-Decides (attribute_named p.0 as_)) ps
-
-refused-Decides : (t : Ty) (x : Part V) → Decides (is_refused t x) (IsRefused t x)
-refused-Decides t (known v) = Decides-not _ (admits-Decides t v)
-refused-Decides t (left x) = nowise
-
-refused_value-Decides : (d : Option Declared) (x : Part V) → Decides (is_refused_value d x) (IsRefusedValue d x)
-refused_value-Decides None x = nowise
-refused_value-Decides (Some d) x = refused-Decides d.type x
-
-refused_tag-Decides : (t : Option Ty) (x : Part V) → Decides (is_refused_tag t x) (IsRefusedTag t x)
-refused_tag-Decides None x = always
-refused_tag-Decides (Some t) x = refused-Decides t x
-
-left-Decides : (x : Part V) → Decides (is_left x) (IsLeft x)
-left-Decides (known v) = nowise
-left-Decides (left t) = always
-
-has_refused_value-Decides : (as_ : Attributes) (ps : List (Text × Part V)) → Decides (has_refused_value as_ ps) (HasRefusedValue as_ ps)
-has_refused_value-Decides as_ ps = any-Decides (λ p. is_refused_value (attribute_named p.0 as_) p.1) (λ p. IsRefusedValue (attribute_named p.0 as_) p.1) (λ p. refused_value-Decides (attribute_named p.0 as_) p.1) ps
-
-has_refused_tag-Decides : (t : Option Ty) (ps : List (Text × Part V)) → Decides (has_refused_tag t ps) (HasRefusedTag t ps)
-has_refused_tag-Decides t ps = any-Decides (λ p. is_refused_tag t p.1) (λ p. IsRefusedTag t p.1) (λ p. refused_tag-Decides t p.1) ps
-
-has_left-Decides : (ps : List (Text × Part V)) → Decides (has_left ps) (HasLeft ps)
-has_left-Decides ps = any-Decides (λ p. is_left p.1) (λ p. IsLeft p.1) (λ p. left-Decides p.1) ps
+left-Decides : (ps : List (Text × Part V)) → Decides (list_any (λ x. is_left x.1) ps) (HasLeft ps)
+left-Decides ps = any-Decides (λ x. is_left x.1) (λ x. is_left x.1 ≡ true) (λ x. is_true-Decides (is_left x.1)) ps
 
 pub may_descend-Decides : (s : Schema) (u : Uid) (p : Place) (v : Uid) → Decides (may_descend s u p v) (MayDescend s u p v)
 may_descend-Decides s u among_actions v = is_action_ancestor-Decides s u v
@@ -96,21 +78,25 @@ lacks_ancestor-Decides s u among_actions vs =
 lacks_ancestor-Decides s u (of_kind k) vs = none_lacks s u (of_kind k) vs (λ v h. h)
 lacks_ancestor-Decides s u nowhere vs = none_lacks s u nowhere vs (λ v h. h)
 
-wrong_ancestors-Decides : (s : Schema) (u : Uid) (p : Place) (vs : List Uid) → Decides (has_wrong_ancestors s u p vs) (HasWrongAncestors s u p vs)
-wrong_ancestors-Decides s u p vs =
-    Decides-or _ _
-    (any-Decides (λ v. not (may_descend s u p v)) (λ v. MayDescend s u p v → ⊥) (λ v. Decides-not _ (may_descend-Decides s u p v)) vs)
-    (lacks_ancestor-Decides s u p vs)
-
 fault_at-Decides : (s : Schema) (u : Uid) (e : Entity V) (p : Place) (f : ConformFault) → Decides (entity_fault_at s u e p f) (EntityFaultAt s u e p f)
 fault_at-Decides s u e p undeclared = nowhere-Decides p
 fault_at-Decides s u e p no_member = no_member-Decides p u.id
-fault_at-Decides s u e p lacks_attribute = lacks-Decides (attributes_at p) e.attributes
-fault_at-Decides s u e p undeclared_attribute = undeclared-Decides (attributes_at p) e.attributes
-fault_at-Decides s u e p attribute_value = has_refused_value-Decides (attributes_at p) e.attributes
-fault_at-Decides s u e p tag = has_refused_tag-Decides (tags_at p) e.tags
-fault_at-Decides s u e p ancestor = wrong_ancestors-Decides s u p e.ancestors
-fault_at-Decides s u e p open_part = Decides-or _ _ (has_left-Decides e.attributes) (has_left-Decides e.tags)
+fault_at-Decides s u e p lacks_attribute =
+    Decides-like _ (λ h. (h.0, h.1, h.2.0, h.2.1)) (λ h. (h.0, h.1, (h.2, h.3)))
+    (any-Decides (λ d. d.1.is_required && is_none (part_named d.0 e.attributes)) (λ d. (d.1.is_required ≡ true) × (part_named d.0 e.attributes ≡ None))
+    (λ d. Decides-and _ _ (is_true-Decides d.1.is_required) (is_none-Decides (part_named d.0 e.attributes))) (attribute_list (attributes_at p)))
+fault_at-Decides s u e p undeclared_attribute =
+    any-Decides (λ x. is_none (attribute_named x.0 (attributes_at p))) (λ x. attribute_named x.0 (attributes_at p) ≡ None) (λ x. is_none-Decides (attribute_named x.0 (attributes_at p))) e.attributes
+fault_at-Decides s u e p attribute_value =
+    any-Decides (λ x. is_refused (type_at (attributes_at p) x.0) x.1) (λ x. IsRefused (type_at (attributes_at p) x.0) x.1) (λ x. refused-Decides (type_at (attributes_at p) x.0) x.1) e.attributes
+fault_at-Decides s u e p tag =
+    any-Decides (λ x. is_none (tags_at p) || is_refused (tags_at p) x.1) (λ x. (tags_at p ≡ None) ⊎ IsRefused (tags_at p) x.1)
+    (λ x. Decides-or _ _ (is_none-Decides (tags_at p)) (refused-Decides (tags_at p) x.1)) e.tags
+fault_at-Decides s u e p ancestor =
+    Decides-or _ _
+    (any-Decides (λ v. not (may_descend s u p v)) (λ v. MayDescend s u p v → ⊥) (λ v. Decides-not _ (may_descend-Decides s u p v)) e.ancestors)
+    (lacks_ancestor-Decides s u p e.ancestors)
+fault_at-Decides s u e p open_part = Decides-or _ _ (left-Decides e.attributes) (left-Decides e.tags)
 fault_at-Decides s u e p not_listed = nowise
 fault_at-Decides s u e p context_value = nowise
 
@@ -136,16 +122,27 @@ each_fault open_part = (9, omega arith, refl)
 pub entity_conforms-Decides : (s : Schema) (u : Uid) (e : Entity V) → Decides (entity_conforms s u e) (EntityConforms s u e)
 entity_conforms-Decides s u e =
     Decides-like _ (λ h f. h f (each_fault f)) (λ h f k. h f)
-    (all-Decides (λ f. not (has_entity_fault s u e f)) (λ f. HasEntityFault s u e f → ⊥) (λ f. Decides-not _ (entity_fault-Decides s u e f)) conform_faults)
+    (all-Decides (λ f. not (has_entity_fault s u e f)) (λ f. has_entity_fault s u e f ≡ false) (λ f. not_false (has_entity_fault s u e f)) conform_faults)
+
+-- a fault isn't there exactly where its test is false
+pub none_there : {P : Type 0} (b : Bool) → Decides b P → b ≡ false → P → ⊥
+none_there true d e p = cc
+none_there false d e p = cc (d.1 p)
+
+pub is_lacking : {P : Type 0} (b : Bool) → Decides b P → (P → ⊥) → b ≡ false
+is_lacking true d h = absurd (h (d.0 refl))
+is_lacking false d h = refl
+
+pub no_entity_fault : (s : Schema) (u : Uid) (e : Entity V) → EntityConforms s u e → (f : ConformFault) → HasEntityFault s u e f → ⊥
+no_entity_fault s u e c f = none_there (has_entity_fault s u e f) (entity_fault-Decides s u e f) (c f)
+
+pub where_no_entity_fault : (s : Schema) (u : Uid) (e : Entity V) → ((f : ConformFault) → HasEntityFault s u e f → ⊥) → EntityConforms s u e
+where_no_entity_fault s u e h f = is_lacking (has_entity_fault s u e f) (entity_fault-Decides s u e f) (h f)
 
 -- requests
 where_known-Decides : {A : Type 0} (o : Option A) (test : A → Bool) (holds : A → Type 0) → ((a : A) → Decides (test a) (holds a)) → Decides (where_known o test) (WhereKnown o holds)
 where_known-Decides None test holds each = nowise
 where_known-Decides (Some a) test holds each = each a
-
-unknown-Decides : {A : Type 0} (o : Option A) → Decides (is_unknown o) (IsUnknown o)
-unknown-Decides None = always
-unknown-Decides (Some a) = nowise
 
 of_action-Decides : (s : Schema) (r : RequestParts) (test : Action → Bool) (holds : Action → Type 0) → ((a : Action) → Decides (test a) (holds a)) → Decides (of_action s r test) (OfAction s r holds)
 of_action-Decides s r test holds each =
@@ -157,10 +154,10 @@ not_listed-Decides ns u = where_known-Decides u (λ v. not (list_any (name_eq v.
 is_member-Decides : (s : Schema) (u : Option Uid) → Decides (where_known u (λ v. is_no_member (place_of s v) v.id)) (WhereKnown u (λ v. IsNoMember (place_of s v) v.id))
 is_member-Decides s u = where_known-Decides u (λ v. is_no_member (place_of s v) v.id) (λ v. IsNoMember (place_of s v) v.id) (λ v. no_member-Decides (place_of s v) v.id)
 
-refuses_context-Decides : (r : RequestParts) (a : Action) → Decides (where_known r.context (λ fs. not (admits (record_type a.context is_closed) (record_of fs)))) (WhereKnown r.context (λ fs. Admits (record_type a.context is_closed) (record_of fs) → ⊥))
+refuses_context-Decides : (r : RequestParts) (a : Action) → Decides (where_known r.context (λ fs. not (has_type (record_of fs) (record_type a.context is_closed)))) (WhereKnown r.context (λ fs. HasType (record_of fs) (record_type a.context is_closed) → ⊥))
 refuses_context-Decides r a =
-    where_known-Decides r.context (λ fs. not (admits (record_type a.context is_closed) (record_of fs))) (λ fs. Admits (record_type a.context is_closed) (record_of fs) → ⊥)
-    (λ fs. Decides-not _ (admits-Decides (record_type a.context is_closed) (record_of fs)))
+    where_known-Decides r.context (λ fs. not (has_type (record_of fs) (record_type a.context is_closed))) (λ fs. HasType (record_of fs) (record_type a.context is_closed) → ⊥)
+    (λ fs. Decides-not _ (value_decided (record_of fs) (record_type a.context is_closed)))
 
 pub request_fault-Decides : (s : Schema) (r : RequestParts) (f : ConformFault) → Decides (has_request_fault s r f) (HasRequestFault s r f)
 request_fault-Decides s r undeclared = where_known-Decides r.action (λ u. not (declares_action s u)) (λ u. declares_action s u ≡ false) (λ u. not_false (declares_action s u))
@@ -169,10 +166,10 @@ request_fault-Decides s r not_listed =
     (λ a. Decides-or _ _ (not_listed-Decides a.principals r.principal) (not_listed-Decides a.resources r.resource))
 request_fault-Decides s r no_member = Decides-or _ _ (is_member-Decides s r.principal) (is_member-Decides s r.resource)
 request_fault-Decides s r context_value =
-    of_action-Decides s r (λ a. where_known r.context (λ fs. not (admits (record_type a.context is_closed) (record_of fs)))) (λ a. WhereKnown r.context (λ fs. Admits (record_type a.context is_closed) (record_of fs) → ⊥))
+    of_action-Decides s r (λ a. where_known r.context (λ fs. not (has_type (record_of fs) (record_type a.context is_closed)))) (λ a. WhereKnown r.context (λ fs. HasType (record_of fs) (record_type a.context is_closed) → ⊥))
     (refuses_context-Decides r)
 request_fault-Decides s r open_part =
-    Decides-or _ _ (Decides-or _ _ (unknown-Decides r.principal) (unknown-Decides r.action)) (Decides-or _ _ (unknown-Decides r.resource) (unknown-Decides r.context))
+    Decides-or _ _ (Decides-or _ _ (is_none-Decides r.principal) (is_none-Decides r.action)) (Decides-or _ _ (is_none-Decides r.resource) (is_none-Decides r.context))
 request_fault-Decides s r lacks_attribute = nowise
 request_fault-Decides s r undeclared_attribute = nowise
 request_fault-Decides s r attribute_value = nowise
@@ -182,4 +179,10 @@ request_fault-Decides s r ancestor = nowise
 pub request_conforms-Decides : (s : Schema) (r : RequestParts) → Decides (request_conforms s r) (RequestConforms s r)
 request_conforms-Decides s r =
     Decides-like _ (λ h f. h f (each_fault f)) (λ h f k. h f)
-    (all-Decides (λ f. not (has_request_fault s r f)) (λ f. HasRequestFault s r f → ⊥) (λ f. Decides-not _ (request_fault-Decides s r f)) conform_faults)
+    (all-Decides (λ f. not (has_request_fault s r f)) (λ f. has_request_fault s r f ≡ false) (λ f. not_false (has_request_fault s r f)) conform_faults)
+
+pub no_request_fault : (s : Schema) (r : RequestParts) → RequestConforms s r → (f : ConformFault) → HasRequestFault s r f → ⊥
+no_request_fault s r c f = none_there (has_request_fault s r f) (request_fault-Decides s r f) (c f)
+
+pub where_no_request_fault : (s : Schema) (r : RequestParts) → ((f : ConformFault) → HasRequestFault s r f → ⊥) → RequestConforms s r
+where_no_request_fault s r h f = is_lacking (has_request_fault s r f) (request_fault-Decides s r f) (h f)

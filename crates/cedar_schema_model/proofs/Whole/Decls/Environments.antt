@@ -1,21 +1,22 @@
 -- Environments, and actions as entities.
 use Rattle.std.proofs.Common.{◌≡◌, ◌↔◌, List, [], ◌∷◌, Bool, true, false, not, ◌&&◌, map, Option, Some, None, refl, sym, ap, ◌∙◌, subst, inl, inr, ⊎_elim}
-use Rattle.std.specs.Prelude.{Contains, is_some, if◌then◌else◌}
+use Rattle.std.specs.Prelude.{Contains, is_some, if◌then◌else◌, find}
 use Rattle.std.specs.Bool.{Decides}
+use Rattle.std.specs.Option.{option_map_or}
 use Rattle.cedar_expr_model.specs.Name.{Name, name_eq}
 use Rattle.cedar_expr_model.specs.Uid.{Uid, uid_eq}
 use Rattle.cedar_expr_model.proofs.Equality.{name_eq-Decides, uid_eq-Decides}
 use Rattle.cedar_expr_model.proofs.Lists.{both_hold, hold_both, contains_cases, contains_none, contains_head, contains_tail, filter_has, filter_only, map_has, map_from, flat_has, flat_from}
 use Rattle.cedar_expr_model.specs.Whole.Value.{V}
 use Rattle.cedar_store_model.specs.Whole.World.{Entity, Request}
-use Rattle.cedar_schema_model.specs.Whole.Schema.{Action, Schema, action_among, declares_action, type_named}
+use Rattle.cedar_schema_model.specs.Whole.Schema.{Action, Schema, declares_action, type_named}
 use Rattle.cedar_schema_model.specs.Whole.Descent.{type_names, action_uids, Descends, descends, action_descends, IsActionAncestor}
-use Rattle.cedar_schema_model.specs.Whole.ActionEntities.{action_ancestors, as_entity, where_declared, action_entity, action_entities}
-use Rattle.cedar_schema_model.specs.Whole.Conforming.{among_actions, place_of, place_by, EntityConforms, EntityFaultAt, ConformFault, undeclared, not_listed, no_member, lacks_attribute, undeclared_attribute, attribute_value, tag, ancestor, context_value, open_part}
-use Rattle.cedar_schema_model.specs.Whole.ConformingTests.{IsGoodFor}
+use Rattle.cedar_schema_model.specs.Whole.ActionEntities.{action_ancestors, as_entity, action_entity, action_entities}
+use Rattle.cedar_schema_model.specs.Whole.Conforming.{among_actions, of_kind, nowhere, place_of, EntityConforms, ConformFault, undeclared, not_listed, no_member, lacks_attribute, undeclared_attribute, attribute_value, tag, ancestor, context_value, open_part}
 use Rattle.cedar_schema_model.specs.Whole.Environment.{Environment, environment_at, environments_of, environments, SlotUse, no_slot, equal_slot, in_slot, types_above, slot_types, with_slots, linked, environments_for}
-use Rattle.cedar_schema_model.specs.Whole.DeclLaws.{IsProduct, IsAtOrAbove, TakesSlot, IsLinked}
+use Rattle.cedar_schema_model.specs.Whole.DeclLaws.{EntityFaultAt, IsGoodFor, IsProduct, IsAtOrAbove, TakesSlot, IsLinked}
 use Rattle.cedar_schema_model.proofs.Whole.Decls.Descent.{descends-Decides, action_descends-Decides}
+use Rattle.cedar_schema_model.proofs.Whole.Decls.Conforming.{where_no_entity_fault}
 
 -- actions
 pub ancestors_declared : (s : Schema) (u v : Uid) → Contains (action_ancestors s u) v ↔ IsActionAncestor s u v
@@ -29,10 +30,10 @@ found_step : (u : Uid) (a : Action) (b : Bool) (rest : Option Action) (P : Type 
 found_step u a true rest P e f g h = f ((uid_eq-Decides u a.uid).0 e)
 found_step u a false rest P e f g h = g h
 
-found_uid : (u : Uid) (xs : List Action) → is_some (action_among u xs) ≡ true → Contains (map (λ a. a.uid) xs) u
+found_uid : (u : Uid) (xs : List Action) → is_some (find (λ (x : Action). uid_eq u x.uid) xs) ≡ true → Contains (map (λ a. a.uid) xs) u
 found_uid u [] h = cc
 found_uid u (a ∷ xs) h =
-    found_step u a (uid_eq u a.uid) (action_among u xs) (Contains (map (λ x. x.uid) (a ∷ xs)) u) refl
+    found_step u a (uid_eq u a.uid) (find (λ (x : Action). uid_eq u x.uid) xs) (Contains (map (λ x. x.uid) (a ∷ xs)) u) refl
     (λ e. subst (Contains (map (λ x. x.uid) (a ∷ xs))) (sym e) (contains_head a.uid (map (λ x. x.uid) xs)))
     (λ k. contains_tail a.uid (map (λ x. x.uid) xs) u (found_uid u xs k))
     h
@@ -45,21 +46,21 @@ kept_later : (b : Bool) (a : Action) (rest : Option Action) → is_some rest ≡
 kept_later true a rest e = refl
 kept_later false a rest e = e
 
-uid_found : (u : Uid) (xs : List Action) → Contains (map (λ a. a.uid) xs) u → is_some (action_among u xs) ≡ true
+uid_found : (u : Uid) (xs : List Action) → Contains (map (λ a. a.uid) xs) u → is_some (find (λ (x : Action). uid_eq u x.uid) xs) ≡ true
 uid_found u [] h = absurd (contains_none u h)
 uid_found u (a ∷ xs) h =
-    contains_cases (is_some (action_among u (a ∷ xs)) ≡ true) a.uid (map (λ x. x.uid) xs) u h
-    (λ e. kept_here (uid_eq u a.uid) a (action_among u xs) ((uid_eq-Decides u a.uid).1 (sym e)))
-    (λ k. kept_later (uid_eq u a.uid) a (action_among u xs) (uid_found u xs k))
+    contains_cases (is_some (find (λ (x : Action). uid_eq u x.uid) (a ∷ xs)) ≡ true) a.uid (map (λ x. x.uid) xs) u h
+    (λ e. kept_here (uid_eq u a.uid) a (find (λ (x : Action). uid_eq u x.uid) xs) ((uid_eq-Decides u a.uid).1 (sym e)))
+    (λ k. kept_later (uid_eq u a.uid) a (find (λ (x : Action). uid_eq u x.uid) xs) (uid_found u xs k))
 
 pub declares_action-Decides : (s : Schema) (u : Uid) → Decides (declares_action s u) (Contains (action_uids s) u)
 declares_action-Decides s u = (found_uid u s.actions, uid_found u s.actions)
 
-where_true : (b : Bool) (e : Entity V) → b ≡ true → where_declared b e ≡ Some e
+where_true : (b : Bool) (e : Entity V) → b ≡ true → (if b then Some e else None) ≡ Some e
 where_true true e h = refl
 where_true false e h = cc
 
-where_some : (b : Bool) (e f : Entity V) → where_declared b e ≡ Some f → (b ≡ true) × (e ≡ f)
+where_some : (b : Bool) (e f : Entity V) → (if b then Some e else None) ≡ Some f → (b ≡ true) × (e ≡ f)
 where_some true e f h = (refl, cc)
 where_some false e f h = cc
 
@@ -76,7 +77,7 @@ entities_are_actions s u e = (
 
 -- an action as an entity has no fault
 faultless : (s : Schema) (u : Uid) (f : ConformFault) → EntityFaultAt s u (as_entity s u) among_actions f → ⊥
-faultless s u undeclared h = h
+faultless s u undeclared h = cc
 faultless s u no_member h = h
 faultless s u lacks_attribute h = contains_none h.0 h.1
 faultless s u undeclared_attribute h = contains_none h.0 h.1
@@ -90,8 +91,8 @@ faultless s u context_value h = h
 pub actions_conform : (s : Schema) (u : Uid) (e : Entity V) → action_entity s u ≡ Some e → EntityConforms s u e
 actions_conform s u e h =
     let k = where_some (declares_action s u) (as_entity s u) e h in
-    let at : place_of s u ≡ among_actions = ap (λ b. place_by b (type_named s u.kind)) k.0 in
-    λ f x. faultless s u f (subst (λ p. EntityFaultAt s u (as_entity s u) p f) at (subst (λ g. EntityFaultAt s u g (place_of s u) f) (sym k.1) x))
+    let at : place_of s u ≡ among_actions = ap (λ b. if b then among_actions else option_map_or (λ t. of_kind t.kind) (type_named s u.kind) nowhere) k.0 in
+    where_no_entity_fault s u e (λ f x. faultless s u f (subst (λ p. EntityFaultAt s u (as_entity s u) p f) at (subst (λ g. EntityFaultAt s u g (place_of s u) f) (sym k.1) x)))
 
 -- environments
 pub products : (s : Schema) (x : Environment) → Contains (environments s) x ↔ IsProduct s x
@@ -112,13 +113,13 @@ products s x = (
 abbrev IsDeclaredAs : Uid → List Action → Action → Type 0
 IsDeclaredAs u xs a = (a.uid ≡ u) × Contains xs a
 
-found_as_step : (u : Uid) (b : Action) (xs : List Action) (a : Action) (t : Bool) → uid_eq u b.uid ≡ t → (action_among u xs ≡ Some a → IsDeclaredAs u xs a) → (if t then Some b else action_among u xs) ≡ Some a → IsDeclaredAs u (b ∷ xs) a
+found_as_step : (u : Uid) (b : Action) (xs : List Action) (a : Action) (t : Bool) → uid_eq u b.uid ≡ t → (find (λ (x : Action). uid_eq u x.uid) xs ≡ Some a → IsDeclaredAs u xs a) → (if t then Some b else find (λ (x : Action). uid_eq u x.uid) xs) ≡ Some a → IsDeclaredAs u (b ∷ xs) a
 found_as_step u b xs a true e rest k =
     let same : b ≡ a = cc in
     subst (IsDeclaredAs u (b ∷ xs)) same (sym ((uid_eq-Decides u b.uid).0 e), contains_head b xs)
 found_as_step u b xs a false e rest k = let r = rest k in (r.0, contains_tail b xs a r.1)
 
-pub found_as : (u : Uid) (xs : List Action) (a : Action) → action_among u xs ≡ Some a → IsDeclaredAs u xs a
+pub found_as : (u : Uid) (xs : List Action) (a : Action) → find (λ (x : Action). uid_eq u x.uid) xs ≡ Some a → IsDeclaredAs u xs a
 found_as u [] a h = cc
 found_as u (b ∷ xs) a h = found_as_step u b xs a (uid_eq u b.uid) refl (found_as u xs a) h
 

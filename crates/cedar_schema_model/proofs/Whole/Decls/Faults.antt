@@ -1,6 +1,6 @@
 -- The tests of declarations decide which faults are there.
 use Rattle.std.proofs.Common.{◌≡◌, ◌↔◌, List, [], ◌∷◌, Bool, true, false, not, ◌&&◌, Option, Some, None, refl, sym, ap, ◌∙◌, subst, inl, inr, ⊎_elim}
-use Rattle.std.specs.Prelude.{Contains, is_some, if◌then◌else◌}
+use Rattle.std.specs.Prelude.{Contains, is_some, if◌then◌else◌, find}
 use Rattle.std.specs.Bool.{Decides}
 use Rattle.std.specs.List.{list_any}
 use Rattle.std.specs.Str.{bytes_eq}
@@ -11,27 +11,29 @@ use Rattle.cedar_expr_model.specs.Uid.{Uid, uid_eq}
 use Rattle.cedar_expr_model.proofs.Equality.{name_eq-Decides, uid_eq-Decides}
 use Rattle.cedar_expr_model.proofs.Lists.{found-Decides, any-Decides, all-Decides, map_has}
 use Rattle.cedar_schema_model.specs.Whole.Descent.{Reaches, reaches}
-use Rattle.cedar_schema_model.specs.Whole.Reference.{Namespace, action_word, Reference, Meant, meant_common, meant_entity, candidates, action_candidates, first_passing, IsFirst}
+use Rattle.cedar_schema_model.specs.Whole.Reference.{Namespace, action_word, Reference, Meant, meant_common, meant_entity, candidates, action_candidates}
 use Rattle.cedar_schema_model.specs.Whole.Declarations.{Declarations, common_name, action_uid, common_names, entity_names, action_uids, is_declared, is_declared_action, meant, parent_meant, references_of_common, references, extensions}
-use Rattle.cedar_schema_model.specs.Whole.WellFormed.{SchemaFault, duplicate_entity_type, duplicate_common_type, duplicate_action, undeclared_type, undeclared_action, cycle_of_common_types, cycle_of_actions, action_as_entity_type, context_not_record, reserved_name, shadowing, unknown_extension_type, unresolved_external, ill_forms, HasTwice, has_twice, Uses, is_common, uses, HasParentAction, is_uid, has_parent_action, becomes_record, written_names, unqualified, unqualified_uid, is_qualified, declared_types, Shadows, shadows, is_external_kind, HasSchemaFault, has_schema_fault, IsWellFormed, well_formed}
+use Rattle.cedar_schema_model.specs.Whole.WellFormed.{SchemaFault, duplicate_entity_type, duplicate_common_type, duplicate_action, undeclared_type, undeclared_action, cycle_of_common_types, cycle_of_actions, action_as_entity_type, context_not_record, reserved_name, shadowing, unknown_extension_type, unresolved_external, ill_forms, HasTwice, has_twice, is_common, uses, has_parent_action, becomes_record, written_names, unqualified_uid, is_qualified, declared_types, shadows, is_external_kind, has_schema_fault, IsWellFormed, well_formed}
 use Rattle.cedar_schema_model.proofs.Whole.Decls.Descent.{reaches-Decides, Covers, chain_starts}
-use Rattle.cedar_schema_model.proofs.Whole.Decls.Admission.{not_false}
-use Rattle.cedar_schema_model.proofs.Whole.Decls.Conforming.{is_none-Decides, is_true-Decides}
+use Rattle.cedar_schema_model.proofs.Whole.Decls.Conforming.{not_false, is_none-Decides, is_true-Decides, none_there}
+use Rattle.cedar_schema_model.specs.Whole.BagLaws.{IsFirst, Uses, HasParentAction, Shadows, HasSchemaFault}
+use Rattle.cedar_expr_model.specs.Whole.Names.{unqualified}
+use Rattle.std.specs.Option.{option_eq}
 
 -- the first that passes
-first_step : {X : Type 0} (test : X → Bool) (x : X) (xs : List X) (y : X) (b : Bool) → test x ≡ b → (first_passing test xs ≡ Some y → IsFirst test xs y) → (if b then Some x else first_passing test xs) ≡ Some y → IsFirst test (x ∷ xs) y
+first_step : {X : Type 0} (test : X → Bool) (x : X) (xs : List X) (y : X) (b : Bool) → test x ≡ b → (find test xs ≡ Some y → IsFirst test xs y) → (if b then Some x else find test xs) ≡ Some y → IsFirst test (x ∷ xs) y
 first_step test x xs y true e rest h = inl (e, cc)
 first_step test x xs y false e rest h = inr (e, rest h)
 
-pub first_is : {X : Type 0} (test : X → Bool) (xs : List X) (y : X) → first_passing test xs ≡ Some y → IsFirst test xs y
+pub first_is : {X : Type 0} (test : X → Bool) (xs : List X) (y : X) → find test xs ≡ Some y → IsFirst test xs y
 first_is test [] y h = cc
 first_is test (x ∷ xs) y h = first_step test x xs y (test x) refl (first_is test xs y) h
 
-back_step : {X : Type 0} (test : X → Bool) (x : X) (xs : List X) (y : X) (b : Bool) → test x ≡ b → (IsFirst test xs y → first_passing test xs ≡ Some y) → IsFirst test (x ∷ xs) y → (if b then Some x else first_passing test xs) ≡ Some y
+back_step : {X : Type 0} (test : X → Bool) (x : X) (xs : List X) (y : X) (b : Bool) → test x ≡ b → (IsFirst test xs y → find test xs ≡ Some y) → IsFirst test (x ∷ xs) y → (if b then Some x else find test xs) ≡ Some y
 back_step test x xs y true e rest h = ⊎_elim (λ k. ap Some (sym k.1)) (λ k. let f = k.0 in cc) h
 back_step test x xs y false e rest h = ⊎_elim (λ k. let f = k.0 in cc) (λ k. rest k.1) h
 
-pub is_first : {X : Type 0} (test : X → Bool) (xs : List X) (y : X) → IsFirst test xs y → first_passing test xs ≡ Some y
+pub is_first : {X : Type 0} (test : X → Bool) (xs : List X) (y : X) → IsFirst test xs y → find test xs ≡ Some y
 is_first test [] y h = absurd h
 is_first test (x ∷ xs) y h = back_step test x xs y (test x) refl (is_first test xs y) h
 
@@ -68,15 +70,15 @@ uses-Decides d m n =
 commons_cover : (d : Declarations) → Covers (Uses d) (common_names d)
 commons_cover d m n h = subst (Contains (common_names d)) (sym h.2) (map_has common_name d.commons h.0 h.1)
 
-is_uid-Decides : (v : Uid) (o : Option Uid) → Decides (is_uid v o) (o ≡ Some v)
+is_uid-Decides : (v : Uid) (o : Option Uid) → Decides (option_eq uid_eq o (Some v)) (o ≡ Some v)
 is_uid-Decides v None = (λ h. cc, λ h. cc)
 is_uid-Decides v (Some u) = Decides-like _ (λ e. ap Some e) (λ e. cc) (uid_eq-Decides u v)
 
 pub has_parent_action-Decides : (d : Declarations) (u v : Uid) → Decides (has_parent_action d u v) (HasParentAction d u v)
 has_parent_action-Decides d u v =
     Decides-like _ (λ h. (h.0, h.1, h.2.0, h.2.1)) (λ h. (h.0, h.1, (h.2, h.3)))
-    (any-Decides (λ a. uid_eq u (action_uid a) && list_any (λ w. is_uid v (parent_meant d a.namespace w)) a.parents) (λ a. (u ≡ action_uid a) × ((w : Uid) × Contains a.parents w × (parent_meant d a.namespace w ≡ Some v)))
-    (λ a. Decides-and _ _ (uid_eq-Decides u (action_uid a)) (any-Decides (λ w. is_uid v (parent_meant d a.namespace w)) (λ w. parent_meant d a.namespace w ≡ Some v) (λ w. is_uid-Decides v (parent_meant d a.namespace w)) a.parents)) d.actions)
+    (any-Decides (λ a. uid_eq u (action_uid a) && list_any (λ w. option_eq uid_eq (parent_meant d a.namespace w) (Some v)) a.parents) (λ a. (u ≡ action_uid a) × ((w : Uid) × Contains a.parents w × (parent_meant d a.namespace w ≡ Some v)))
+    (λ a. Decides-and _ _ (uid_eq-Decides u (action_uid a)) (any-Decides (λ w. option_eq uid_eq (parent_meant d a.namespace w) (Some v)) (λ w. parent_meant d a.namespace w ≡ Some v) (λ w. is_uid-Decides v (parent_meant d a.namespace w)) a.parents)) d.actions)
 
 actions_cover : (d : Declarations) → Covers (HasParentAction d) (action_uids d)
 actions_cover d u v h = subst (Contains (action_uids d)) (sym h.2) (map_has action_uid d.actions h.0 h.1)
@@ -91,8 +93,8 @@ shadows-Decides : (d : Declarations) → Decides (shadows d) (Shadows d)
 shadows-Decides d =
     Decides-or _ _
     (Decides-like _ (λ h. (h.0, h.1, h.2.0, h.2.1)) (λ h. (h.0, h.1, (h.2, h.3)))
-    (any-Decides (λ n. is_qualified n && list_any (name_eq (unqualified n)) (declared_types d)) (λ n. (is_qualified n ≡ true) × Contains (declared_types d) (unqualified n))
-    (λ n. Decides-and _ _ (is_true-Decides (is_qualified n)) (found-Decides name_eq name_eq-Decides (unqualified n) (declared_types d))) (declared_types d)))
+    (any-Decides (λ n. is_qualified n && list_any (name_eq (unqualified n.base)) (declared_types d)) (λ n. (is_qualified n ≡ true) × Contains (declared_types d) (unqualified n.base))
+    (λ n. Decides-and _ _ (is_true-Decides (is_qualified n)) (found-Decides name_eq name_eq-Decides (unqualified n.base) (declared_types d))) (declared_types d)))
     (Decides-like _ (λ h. (h.0, h.1, h.2.0, h.2.1)) (λ h. (h.0, h.1, (h.2, h.3)))
     (any-Decides (λ u. is_qualified u.kind && list_any (uid_eq (unqualified_uid u)) (action_uids d)) (λ u. (is_qualified u.kind ≡ true) × Contains (action_uids d) (unqualified_uid u))
     (λ u. Decides-and _ _ (is_true-Decides (is_qualified u.kind)) (found-Decides uid_eq uid_eq-Decides (unqualified_uid u) (action_uids d))) (action_uids d)))
@@ -118,4 +120,7 @@ schema_fault-Decides x d unresolved_external =
     (any-Decides (λ a. a.is_external) (λ a. a.is_external ≡ true) (λ a. is_true-Decides a.is_external) d.actions)
 
 pub well_formed-Decides : (x : List Name) (d : Declarations) → Decides (well_formed x d) (IsWellFormed x d)
-well_formed-Decides x d = all-Decides (λ f. not (has_schema_fault x d f)) (λ f. HasSchemaFault x d f → ⊥) (λ f. Decides-not _ (schema_fault-Decides x d f)) ill_forms
+well_formed-Decides x d = all-Decides (λ f. not (has_schema_fault x d f)) (λ f. has_schema_fault x d f ≡ false) (λ f. not_false (has_schema_fault x d f)) ill_forms
+
+pub no_schema_fault : (x : List Name) (d : Declarations) → IsWellFormed x d → (f : SchemaFault) → Contains ill_forms f → HasSchemaFault x d f → ⊥
+no_schema_fault x d w f k = none_there (has_schema_fault x d f) (schema_fault-Decides x d f) (w f k)

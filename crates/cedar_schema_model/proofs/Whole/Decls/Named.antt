@@ -10,12 +10,12 @@ use Rattle.cedar_expr_model.proofs.Lists.{contains_cases, contains_none, contain
 use Rattle.cedar_schema_model.specs.Whole.Schema.{Action}
 use Rattle.cedar_schema_model.specs.Whole.Descent.{Chain, type_names, Descends, ActionDescends, HasParent, HasActionParent}
 use Rattle.cedar_schema_model.specs.Whole.Descent as descent
-use Rattle.cedar_schema_model.specs.Whole.Reference.{Namespace, to_entity, Reference, Meant, meant_common, meant_entity, places, candidates, action_candidates, IsFirst}
+use Rattle.cedar_schema_model.specs.Whole.Reference.{Namespace, to_entity, Reference, Meant, meant_common, meant_entity, places, candidates, action_candidates}
 use Rattle.cedar_schema_model.specs.Whole.Declarations.{EntityDeclaration, ActionDeclaration, Declarations, entity_names, action_uids, is_declared, is_declared_action, meant, parent_meant, to_entities, references_of_common, references_of_entity, references_of_action, references}
 use Rattle.cedar_schema_model.specs.Whole.WellFormed.{undeclared_type, undeclared_action, IsWellFormed}
 use Rattle.cedar_schema_model.specs.Whole.Resolved.{entity_of, entity_meant, resolved_action, schema_of}
-use Rattle.cedar_schema_model.specs.Whole.BagLaws.{KeepsEach}
-use Rattle.cedar_schema_model.proofs.Whole.Decls.Faults.{first_is, first_passes, meant_is_declared}
+use Rattle.cedar_schema_model.specs.Whole.BagLaws.{KeepsEach, IsFirst}
+use Rattle.cedar_schema_model.proofs.Whole.Decls.Faults.{first_is, first_passes, meant_is_declared, no_schema_fault}
 use Rattle.cedar_schema_model.proofs.Whole.Decls.Schema.{kept_from, parents_meant, action_parents_meant, same_types, same_actions}
 
 -- an entity type that is meant is declared
@@ -83,7 +83,7 @@ entity_is_meant d ns w (Some m) e h =
 each_meant : (x : List Name) (d : Declarations) → IsWellFormed x d → (ns : Namespace) (ws : List Name) → ((r : Reference) → Contains (to_entities ns ws) r → Contains (references d) r) → KeepsEach (entity_meant d ns) ws
 each_meant x d w ns ws within n h =
     let r : Reference = record { namespace = ns; kind = to_entity; name = n } in
-    entity_is_meant d ns n (meant d r) refl (λ e. w undeclared_type (3, omega arith, refl) (r, within r (map_has (λ k. record { namespace = ns; kind = to_entity; name = k }) ws n h), e))
+    entity_is_meant d ns n (meant d r) refl (λ e. no_schema_fault x d w undeclared_type (3, omega arith, refl) (r, within r (map_has (λ k. record { namespace = ns; kind = to_entity; name = k }) ws n h), e))
 
 of_entities : (d : Declarations) (t : EntityDeclaration) → Contains d.entities t → (r : Reference) → Contains (references_of_entity t) r → Contains (references d) r
 of_entities d t h r k =
@@ -111,4 +111,4 @@ some_there None h = absurd (h refl)
 some_there (Some a) h = refl
 
 pub action_parents_kept : (x : List Name) (d : Declarations) → IsWellFormed x d → (a : ActionDeclaration) → Contains d.actions a → KeepsEach (parent_meant d a.namespace) a.parents
-action_parents_kept x d w a h u k = some_there (parent_meant d a.namespace u) (λ e. w undeclared_action (4, omega arith, refl) (a, h, (u, k, e)))
+action_parents_kept x d w a h u k = some_there (parent_meant d a.namespace u) (λ e. no_schema_fault x d w undeclared_action (4, omega arith, refl) (a, h, (u, k, e)))

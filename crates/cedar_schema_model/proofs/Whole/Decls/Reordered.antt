@@ -1,6 +1,6 @@
 -- The order of declarations, and how they are split into fragments, hides no fault.
 use Rattle.std.proofs.Common.{◌≡◌, ◌↔◌, ℕ, zero, suc, List, [], ◌∷◌, ◌++◌, length, Bool, true, false, not, ◌||◌, map, Option, Some, None, refl, sym, ap, ◌∙◌, subst, inl, inr, ⊎_elim}
-use Rattle.std.specs.Prelude.{Contains, if◌then◌else◌}
+use Rattle.std.specs.Prelude.{Contains, if◌then◌else◌, find}
 use Rattle.std.specs.Bool.{Decides}
 use Rattle.std.specs.List.{list_any, list_all, flat_map, IsDistinct}
 use Rattle.std.specs.List.Sorted.{IsPermutation}
@@ -16,11 +16,12 @@ use Rattle.cedar_expr_model.specs.Uid.{Uid, uid_eq}
 use Rattle.cedar_expr_model.proofs.Equality.{name_eq-Decides, uid_eq-Decides}
 use Rattle.cedar_expr_model.proofs.Lists.{contains_cases, contains_none, all_each, all_from, map_has, map_from, flat_has, flat_from}
 use Rattle.cedar_schema_model.specs.Whole.Descent.{Chain, Reaches}
-use Rattle.cedar_schema_model.specs.Whole.Reference.{Namespace, ReferenceKind, Reference, Meant, meant_common, meant_entity, candidates, action_candidates, first_passing}
+use Rattle.cedar_schema_model.specs.Whole.Reference.{Namespace, ReferenceKind, Reference, Meant, meant_common, meant_entity, candidates, action_candidates}
 use Rattle.cedar_schema_model.specs.Whole.Declarations.{TypeExpr, bool_expr, long_expr, string_expr, set_expr, record_expr, reference, extension_expr, CommonDeclaration, ActionDeclaration, Declarations, bag, common_name, entity_name, action_uid, common_names, entity_names, action_uids, is_declared, is_declared_action, meant, parent_meant, extensions_in, types_in, references_of_common, references_of_entity, references_of_action, references, extensions}
-use Rattle.cedar_schema_model.specs.Whole.WellFormed.{SchemaFault, duplicate_entity_type, duplicate_common_type, duplicate_action, undeclared_type, undeclared_action, cycle_of_common_types, cycle_of_actions, action_as_entity_type, context_not_record, reserved_name, shadowing, unknown_extension_type, unresolved_external, HasTwice, has_twice, Uses, HasParentAction, refers_to_record, is_written_record, is_record_within, becomes_record, written_names, unqualified, unqualified_uid, declared_types, HasSchemaFault}
-use Rattle.cedar_schema_model.specs.Whole.BagLaws.{IsReordered}
+use Rattle.cedar_schema_model.specs.Whole.WellFormed.{SchemaFault, duplicate_entity_type, duplicate_common_type, duplicate_action, undeclared_type, undeclared_action, cycle_of_common_types, cycle_of_actions, action_as_entity_type, context_not_record, reserved_name, shadowing, unknown_extension_type, unresolved_external, HasTwice, has_twice, refers_to_record, is_written_record, is_record_within, becomes_record, written_names, unqualified_uid, declared_types}
+use Rattle.cedar_schema_model.specs.Whole.BagLaws.{IsReordered, Uses, HasParentAction, HasSchemaFault}
 use Rattle.cedar_schema_model.proofs.Whole.Decls.Faults.{has_twice-Decides}
+use Rattle.cedar_expr_model.specs.Whole.Names.{unqualified}
 
 -- all members of the first are members of the second
 abbrev pub Within : {X : Type 0} → List X → List X → Type 0
@@ -62,10 +63,10 @@ module _ (d e : Declarations) (m : IsReordered d e) where
   pub same_declared_action : (u : Uid) → is_declared_action d u ≡ is_declared_action e u
   same_declared_action u = list_any-IsPermutation (uid_eq u) (action_uids d) (action_uids e) (IsPermutation-map action_uid d.actions e.actions m.actions)
 
-pub first_agree : {X : Type 0} (p q : X → Bool) → ((x : X) → p x ≡ q x) → (xs : List X) → first_passing p xs ≡ first_passing q xs
+pub first_agree : {X : Type 0} (p q : X → Bool) → ((x : X) → p x ≡ q x) → (xs : List X) → find p xs ≡ find q xs
 first_agree p q e [] = refl
 first_agree {X} p q e (x ∷ xs) =
-    ap (λ (b : Bool). if b then Some x else first_passing p xs) (e x) ∙ ap (λ (o : Option X). if q x then Some x else o) (first_agree p q e xs)
+    ap (λ (b : Bool). if b then Some x else find p xs) (e x) ∙ ap (λ (o : Option X). if q x then Some x else o) (first_agree p q e xs)
 
 -- a step that is one of the other kind too
 pub chain_along : {X : Type 0} (step go : X → X → Type 0) → ((x y : X) → step x y → go x y) → (x : X) (zs : List X) (y : X) → Chain step x zs y → Chain go x zs y
@@ -225,7 +226,7 @@ fault_moved x d e m context_not_record h = (h.0, actions_within d e m h.0 h.1, s
 fault_moved x d e m reserved_name h = (h.0, names_within d e m h.0 h.1, h.2)
 fault_moved x d e m shadowing h =
     ⊎_elim
-    (λ k. inl (k.0, types_named d e m k.0 k.1, k.2, types_named d e m (unqualified k.0) k.3))
+    (λ k. inl (k.0, types_named d e m k.0 k.1, k.2, types_named d e m (unqualified k.0.base) k.3))
     (λ k. inr (k.0, actions_named d e m k.0 k.1, k.2, actions_named d e m (unqualified_uid k.0) k.3))
     h
 fault_moved x d e m unknown_extension_type h = (h.0, extensions_within d e m h.0 h.1, h.2)

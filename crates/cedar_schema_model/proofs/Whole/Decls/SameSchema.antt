@@ -1,6 +1,6 @@
 -- Declarations in another order make the same schema.
 use Rattle.std.proofs.Common.{◌≡◌, ℕ, zero, suc, List, [], ◌∷◌, length, Bool, true, false, map, Option, Some, None, refl, sym, ap, ◌∙◌, subst, inl, inr, arith}
-use Rattle.std.specs.Prelude.{Contains, if◌then◌else◌}
+use Rattle.std.specs.Prelude.{Contains, if◌then◌else◌, find, option_map}
 use Rattle.std.specs.Bool.{Decides}
 use Rattle.std.specs.List.{filter_map, cons_option}
 use Rattle.std.specs.List.Sorted.{IsPermutation}
@@ -10,24 +10,25 @@ use Rattle.cedar_expr_model.specs.Uid.{Uid, uid_eq}
 use Rattle.cedar_expr_model.proofs.Equality.{name_eq-Decides, uid_eq-Decides}
 use Rattle.cedar_expr_model.proofs.Lists.{contains_cases, contains_none, contains_head, contains_tail, map_has}
 use Rattle.cedar_schema_model.specs.Whole.Types.{Ty, set_type, record_type, is_closed}
-use Rattle.cedar_schema_model.specs.Whole.Schema.{standard, EntityType, Action, type_among, type_named, action_among, action_with}
-use Rattle.cedar_schema_model.specs.Whole.Reference.{Namespace, to_entity, Reference, Meant, meant_common, meant_entity, first_passing}
+use Rattle.cedar_schema_model.specs.Whole.Schema.{standard, EntityType, Action, type_named, action_with}
+use Rattle.cedar_schema_model.specs.Whole.Reference.{Namespace, to_entity, Reference, Meant, meant_common, meant_entity}
 use Rattle.cedar_schema_model.specs.Whole.Declarations.{TypeExpr, bool_expr, long_expr, string_expr, set_expr, record_expr, reference, extension_expr, FieldExprs, no_field_exprs, field_expr, CommonDeclaration, KindExpr, standard_expr, enumerated_expr, external_expr, EntityDeclaration, ActionDeclaration, Declarations, common_name, entity_name, action_uid, common_names, meant, parent_meant}
 use Rattle.cedar_schema_model.specs.Whole.WellFormed.{duplicate_entity_type, duplicate_common_type, duplicate_action, HasTwice, IsWellFormed}
-use Rattle.cedar_schema_model.specs.Whole.Resolved.{with_attribute, type_meant, resolved_by, resolved_fields_by, common_among, defined_by, common_within, common_of, resolved, resolved_fields, resolved_tags, entity_of, entity_meant, resolved_kind, resolved_entity, attributes_of_record, resolved_action, schema_of}
+use Rattle.cedar_schema_model.specs.Whole.Resolved.{with_attribute, type_meant, resolved_by, resolved_fields_by, defined_by, common_within, common_of, resolved, entity_of, entity_meant, resolved_kind, resolved_entity, attributes_of_record, resolved_action, schema_of}
 use Rattle.cedar_schema_model.specs.Whole.BagLaws.{IsReordered}
 use Rattle.cedar_schema_model.proofs.Whole.Decls.Reordered.{same_meant, same_parent}
 use Rattle.cedar_schema_model.proofs.Whole.Decls.Schema.{same_types, same_actions}
+use Rattle.cedar_schema_model.proofs.Whole.Decls.Faults.{no_schema_fault}
 
 -- the first that passes is one of them, and passes
 abbrev Passing : {X : Type 0} → (X → Bool) → List X → X → Type 0
 Passing p xs x = Contains xs x × (p x ≡ true)
 
-passing_step : {X : Type 0} (p : X → Bool) (y : X) (xs : List X) (x : X) (b : Bool) → p y ≡ b → (first_passing p xs ≡ Some x → Passing p xs x) → (if b then Some y else first_passing p xs) ≡ Some x → Passing p (y ∷ xs) x
+passing_step : {X : Type 0} (p : X → Bool) (y : X) (xs : List X) (x : X) (b : Bool) → p y ≡ b → (find p xs ≡ Some x → Passing p xs x) → (if b then Some y else find p xs) ≡ Some x → Passing p (y ∷ xs) x
 passing_step p y xs x true e rest h = let same : y ≡ x = cc in subst (Passing p (y ∷ xs)) same (contains_head y xs, e)
 passing_step p y xs x false e rest h = let r = rest h in (contains_tail y xs x r.0, r.1)
 
-passing : {X : Type 0} (p : X → Bool) (xs : List X) (x : X) → first_passing p xs ≡ Some x → Passing p xs x
+passing : {X : Type 0} (p : X → Bool) (xs : List X) (x : X) → find p xs ≡ Some x → Passing p xs x
 passing p [] x h = cc
 passing p (y ∷ xs) x h = passing_step p y xs x (p y) refl (passing p xs x) h
 
@@ -36,10 +37,10 @@ none_step : {X : Type 0} (y : X) (b : Bool) (o : Option X) → (if b then Some y
 none_step y true o h = cc
 none_step y false o h = (λ e. cc, h)
 
-none_passes : {X : Type 0} (p : X → Bool) (xs : List X) → first_passing p xs ≡ None → (x : X) → Passing p xs x → ⊥
+none_passes : {X : Type 0} (p : X → Bool) (xs : List X) → find p xs ≡ None → (x : X) → Passing p xs x → ⊥
 none_passes p [] h x k = contains_none x k.0
 none_passes p (y ∷ xs) h x k =
-    let s = none_step y (p y) (first_passing p xs) h in
+    let s = none_step y (p y) (find p xs) h in
     contains_cases ⊥ y xs x k.0 (λ e. s.0 (ap p e ∙ k.1)) (λ l. none_passes p xs s.1 x (l, k.1))
 
 -- at most one passes
@@ -49,14 +50,14 @@ OnePasses {X} p xs = (x y : X) → Passing p xs x → Passing p xs y → x ≡ y
 moved_passing : {X : Type 0} (p : X → Bool) (xs ys : List X) → IsPermutation xs ys → (x : X) → Passing p xs x → Passing p ys x
 moved_passing p xs ys m x h = (Contains-permutation xs ys x m h.0, h.1)
 
-same_first_case : {X : Type 0} (p : X → Bool) (xs ys : List X) → IsPermutation xs ys → OnePasses p xs → (o q : Option X) → first_passing p xs ≡ o → first_passing p ys ≡ q → o ≡ q
+same_first_case : {X : Type 0} (p : X → Bool) (xs ys : List X) → IsPermutation xs ys → OnePasses p xs → (o q : Option X) → find p xs ≡ o → find p ys ≡ q → o ≡ q
 same_first_case p xs ys m one None None e f = refl
 same_first_case p xs ys m one None (Some y) e f = absurd (none_passes p xs e y (moved_passing p ys xs (IsPermutation-sym xs ys m) y (passing p ys y f)))
 same_first_case p xs ys m one (Some x) None e f = absurd (none_passes p ys f x (moved_passing p xs ys m x (passing p xs x e)))
 same_first_case p xs ys m one (Some x) (Some y) e f = ap Some (one x y (passing p xs x e) (moved_passing p ys xs (IsPermutation-sym xs ys m) y (passing p ys y f)))
 
-same_first : {X : Type 0} (p : X → Bool) (xs ys : List X) → IsPermutation xs ys → OnePasses p xs → first_passing p xs ≡ first_passing p ys
-same_first p xs ys m one = same_first_case p xs ys m one (first_passing p xs) (first_passing p ys) refl refl
+same_first : {X : Type 0} (p : X → Bool) (xs ys : List X) → IsPermutation xs ys → OnePasses p xs → find p xs ≡ find p ys
+same_first p xs ys m one = same_first_case p xs ys m one (find p xs) (find p ys) refl refl
 
 -- of things whose keys are told apart one alone has a key
 one_of_key : {X K : Type 0} (key : X → K) (xs : List X) → (HasTwice (map key xs) → ⊥) → (x y : X) → Contains xs x → Contains xs y → key x ≡ key y → x ≡ y
@@ -71,19 +72,6 @@ one_of_key key (z ∷ xs) once x y h k e =
 
 one_passes : {X K : Type 0} (key : X → K) (eq : K → K → Bool) → ((a b : K) → Decides (eq a b) (a ≡ b)) → (xs : List X) → (HasTwice (map key xs) → ⊥) → (k : K) → OnePasses (λ x. eq k (key x)) xs
 one_passes key eq each xs once k x y h i = one_of_key key xs once x y h.0 i.0 (sym ((each k (key x)).0 h.1) ∙ (each k (key y)).0 i.1)
-
--- looking up is finding the first
-common_first : (n : Name) (cs : List CommonDeclaration) → common_among n cs ≡ first_passing (λ c. name_eq n (common_name c)) cs
-common_first n [] = refl
-common_first n (c ∷ cs) = ap (λ o. if name_eq n (common_name c) then Some c else o) (common_first n cs)
-
-type_first : (n : Name) (ts : List EntityType) → type_among n ts ≡ first_passing (λ t. name_eq n t.name) ts
-type_first n [] = refl
-type_first n (t ∷ ts) = ap (λ o. if name_eq n t.name then Some t else o) (type_first n ts)
-
-action_first : (u : Uid) (as_ : List Action) → action_among u as_ ≡ first_passing (λ a. uid_eq u a.uid) as_
-action_first u [] = refl
-action_first u (a ∷ as_) = ap (λ o. if uid_eq u a.uid then Some a else o) (action_first u as_)
 
 -- filters with maps, and maps, that agree
 map_agree : {X Y : Type 0} (f g : X → Y) → ((x : X) → f x ≡ g x) → (xs : List X) → map f xs ≡ map g xs
@@ -118,11 +106,9 @@ module _ (d e : Declarations) (m : IsReordered d e) (f g : Name → Ty) (same : 
         ap (λ u. with_attribute a u r (resolved_fields_by f d ns fs)) (across ns t) ∙ ap (with_attribute a (resolved_by g e ns t) r) (fields_across ns fs)
 
 module _ (d e : Declarations) (m : IsReordered d e) (once : HasTwice (common_names d) → ⊥) where
-  same_common : (n : Name) → common_among n d.commons ≡ common_among n e.commons
+  same_common : (n : Name) → find (λ (x : CommonDeclaration). name_eq n (common_name x)) d.commons ≡ find (λ (x : CommonDeclaration). name_eq n (common_name x)) e.commons
   same_common n =
-      common_first n d.commons
-      ∙ (same_first (λ c. name_eq n (common_name c)) d.commons e.commons m.commons (one_passes common_name name_eq name_eq-Decides d.commons once n)
-      ∙ sym (common_first n e.commons))
+      same_first (λ c. name_eq n (common_name c)) d.commons e.commons m.commons (one_passes common_name name_eq name_eq-Decides d.commons once n)
 
   defined_across : (f g : Name → Ty) → ((n : Name) → f n ≡ g n) → (o : Option CommonDeclaration) → defined_by f d o ≡ defined_by g e o
   defined_across f g same None = refl
@@ -131,7 +117,7 @@ module _ (d e : Declarations) (m : IsReordered d e) (once : HasTwice (common_nam
   same_within : (k : ℕ) (n : Name) → common_within k d n ≡ common_within k e n
   same_within zero n = refl
   same_within (suc k) n =
-      defined_across (common_within k d) (common_within k e) (same_within k) (common_among n d.commons)
+      defined_across (common_within k d) (common_within k e) (same_within k) (find (λ (x : CommonDeclaration). name_eq n (common_name x)) d.commons)
       ∙ ap (defined_by (common_within k e) e) (same_common n)
 
   same_of : (n : Name) → common_of d n ≡ common_of e n
@@ -143,13 +129,13 @@ module _ (d e : Declarations) (m : IsReordered d e) (once : HasTwice (common_nam
   same_entity : (ns : Namespace) (n : Name) → entity_meant d ns n ≡ entity_meant e ns n
   same_entity ns n = ap entity_of (same_meant d e m (record { namespace = ns; kind = to_entity; name = n }))
 
-  same_tags : (ns : Namespace) (t : Option TypeExpr) → resolved_tags d ns t ≡ resolved_tags e ns t
+  same_tags : (ns : Namespace) (t : Option TypeExpr) → option_map (resolved d ns) t ≡ option_map (resolved e ns) t
   same_tags ns None = refl
   same_tags ns (Some t) = ap Some (same_resolved ns t)
 
   same_kind : (ns : Namespace) (k : KindExpr) → resolved_kind d ns k ≡ resolved_kind e ns k
   same_kind ns (standard_expr fs t) =
-      ap (λ as_. standard as_ (resolved_tags d ns t)) (fields_across d e m (common_of d) (common_of e) same_of ns fs) ∙ ap (standard (resolved_fields e ns fs)) (same_tags ns t)
+      ap (λ as_. standard as_ (option_map (resolved d ns) t)) (fields_across d e m (common_of d) (common_of e) same_of ns fs) ∙ ap (standard (resolved_fields_by (common_of e) e ns fs)) (same_tags ns t)
   same_kind ns (enumerated_expr ids) = refl
   same_kind ns external_expr = refl
 
@@ -172,20 +158,16 @@ module _ (d e : Declarations) (m : IsReordered d e) (once : HasTwice (common_nam
 
 pub same_types_found : (x : List Name) (d e : Declarations) → IsReordered d e → IsWellFormed x d → (n : Name) → type_named (schema_of d) n ≡ type_named (schema_of e) n
 same_types_found x d e m w n =
-    let once = w duplicate_common_type (1, omega arith, refl) in
+    let once = no_schema_fault x d w duplicate_common_type (1, omega arith, refl) in
     let types = (schema_of d).types in
-    let apart : HasTwice (map (λ (t : EntityType). t.name) types) → ⊥ = λ t. w duplicate_entity_type (0, omega arith, refl) (subst HasTwice (same_types d) t) in
-    type_first n types
-    ∙ (same_first (λ t. name_eq n t.name) types (map (resolved_entity d) e.entities) (IsPermutation-map (resolved_entity d) d.entities e.entities m.entities) (one_passes (λ (t : EntityType). t.name) name_eq name_eq-Decides types apart n)
-    ∙ (sym (type_first n (map (resolved_entity d) e.entities))
-    ∙ ap (type_among n) (map_agree (resolved_entity d) (resolved_entity e) (same_type d e m once) e.entities)))
+    let apart : HasTwice (map (λ (t : EntityType). t.name) types) → ⊥ = λ t. no_schema_fault x d w duplicate_entity_type (0, omega arith, refl) (subst HasTwice (same_types d) t) in
+    same_first (λ t. name_eq n t.name) types (map (resolved_entity d) e.entities) (IsPermutation-map (resolved_entity d) d.entities e.entities m.entities) (one_passes (λ (t : EntityType). t.name) name_eq name_eq-Decides types apart n)
+    ∙ ap (find (λ (t : EntityType). name_eq n t.name)) (map_agree (resolved_entity d) (resolved_entity e) (same_type d e m once) e.entities)
 
 pub same_actions_found : (x : List Name) (d e : Declarations) → IsReordered d e → IsWellFormed x d → (u : Uid) → action_with (schema_of d) u ≡ action_with (schema_of e) u
 same_actions_found x d e m w u =
-    let once = w duplicate_common_type (1, omega arith, refl) in
+    let once = no_schema_fault x d w duplicate_common_type (1, omega arith, refl) in
     let actions = (schema_of d).actions in
-    let apart : HasTwice (map (λ (a : Action). a.uid) actions) → ⊥ = λ t. w duplicate_action (2, omega arith, refl) (subst HasTwice (same_actions d) t) in
-    action_first u actions
-    ∙ (same_first (λ a. uid_eq u a.uid) actions (map (resolved_action d) e.actions) (IsPermutation-map (resolved_action d) d.actions e.actions m.actions) (one_passes (λ (a : Action). a.uid) uid_eq uid_eq-Decides actions apart u)
-    ∙ (sym (action_first u (map (resolved_action d) e.actions))
-    ∙ ap (action_among u) (map_agree (resolved_action d) (resolved_action e) (same_action d e m once) e.actions)))
+    let apart : HasTwice (map (λ (a : Action). a.uid) actions) → ⊥ = λ t. no_schema_fault x d w duplicate_action (2, omega arith, refl) (subst HasTwice (same_actions d) t) in
+    same_first (λ a. uid_eq u a.uid) actions (map (resolved_action d) e.actions) (IsPermutation-map (resolved_action d) d.actions e.actions m.actions) (one_passes (λ (a : Action). a.uid) uid_eq uid_eq-Decides actions apart u)
+    ∙ ap (find (λ (a : Action). uid_eq u a.uid)) (map_agree (resolved_action d) (resolved_action e) (same_action d e m once) e.actions)

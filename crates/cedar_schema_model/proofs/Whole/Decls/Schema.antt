@@ -1,19 +1,20 @@
 -- Types, actions and parents of the schema that declarations make.
 use Rattle.std.proofs.Common.{◌≡◌, ◌↔◌, List, [], ◌∷◌, Bool, true, false, map, Option, Some, None, refl, sym, ap, ◌∙◌, subst, arith}
-use Rattle.std.specs.Prelude.{Contains, is_some, if◌then◌else◌}
+use Rattle.std.specs.Prelude.{Contains, is_some, if◌then◌else◌, find}
 use Rattle.std.specs.List.{filter_map, cons_option}
 use Rattle.cedar_expr_model.specs.Name.{Name, name_eq}
 use Rattle.cedar_expr_model.specs.Uid.{Uid}
 use Rattle.cedar_expr_model.proofs.Equality.{name_eq-Decides}
 use Rattle.cedar_expr_model.proofs.Lists.{contains_cases, contains_none, contains_head, contains_tail, map_has, map_from}
-use Rattle.cedar_schema_model.specs.Whole.Schema.{EntityType, Action, type_among, declares_type}
+use Rattle.cedar_schema_model.specs.Whole.Schema.{EntityType, Action, declares_type}
 use Rattle.cedar_schema_model.specs.Whole.Descent.{type_names, Reaches, HasParent, HasActionParent, ActionDescends}
 use Rattle.cedar_schema_model.specs.Whole.Descent as descent
 use Rattle.cedar_schema_model.specs.Whole.Declarations.{Declarations, entity_name, action_uid, entity_names, action_uids, parent_meant}
-use Rattle.cedar_schema_model.specs.Whole.WellFormed.{cycle_of_actions, action_as_entity_type, HasParentAction, IsWellFormed}
+use Rattle.cedar_schema_model.specs.Whole.WellFormed.{cycle_of_actions, action_as_entity_type, IsWellFormed}
 use Rattle.cedar_schema_model.specs.Whole.Resolved.{entity_meant, resolved_entity, resolved_action, schema_of}
-use Rattle.cedar_schema_model.specs.Whole.BagLaws.{IsDeclaredParent}
+use Rattle.cedar_schema_model.specs.Whole.BagLaws.{IsDeclaredParent, HasParentAction}
 use Rattle.cedar_schema_model.proofs.Whole.Decls.Reordered.{reaches_along}
+use Rattle.cedar_schema_model.proofs.Whole.Decls.Faults.{no_schema_fault}
 
 map_twice : {X Y Z : Type 0} (f : X → Y) (g : Y → Z) (xs : List X) → map g (map f xs) ≡ map (λ x. g (f x)) xs
 map_twice f g [] = refl
@@ -69,14 +70,14 @@ action_parents_meant d u v = (
 )
 
 pub not_its_ancestor : (x : List Name) (d : Declarations) → IsWellFormed x d → (u : Uid) → ActionDescends (schema_of d) u u → ⊥
-not_its_ancestor x d w u r = w cycle_of_actions (6, omega arith, refl) (u, reaches_along (HasActionParent (schema_of d)) (HasParentAction d) (λ v y. (action_parents_meant d v y).0) u u r)
+not_its_ancestor x d w u r = no_schema_fault x d w cycle_of_actions (6, omega arith, refl) (u, reaches_along (HasActionParent (schema_of d)) (HasParentAction d) (λ v y. (action_parents_meant d v y).0) u u r)
 
 -- a type that no declaration has isn't found
-not_found : (n : Name) (ts : List EntityType) → (Contains (map (λ t. t.name) ts) n → ⊥) → is_some (type_among n ts) ≡ false
+not_found : (n : Name) (ts : List EntityType) → (Contains (map (λ t. t.name) ts) n → ⊥) → is_some (find (λ (x : EntityType). name_eq n x.name) ts) ≡ false
 not_found n [] h = refl
 not_found n (t ∷ ts) h = step (name_eq n t.name) refl (not_found n ts (λ k. h (contains_tail t.name (map (λ x. x.name) ts) n k)))
   where
-    step : (b : Bool) → name_eq n t.name ≡ b → is_some (type_among n ts) ≡ false → is_some (if b then Some t else type_among n ts) ≡ false
+    step : (b : Bool) → name_eq n t.name ≡ b → is_some (find (λ (x : EntityType). name_eq n x.name) ts) ≡ false → is_some (if b then Some t else find (λ (x : EntityType). name_eq n x.name) ts) ≡ false
     step true e rest = absurd (h (subst (Contains (map (λ x. x.name) (t ∷ ts))) (sym ((name_eq-Decides n t.name).0 e)) (contains_head t.name (map (λ x. x.name) ts))))
     step false e rest = rest
 
@@ -85,4 +86,4 @@ types_apart x d w u h =
     let a = map_from action_uid d.actions u h in
     not_found u.kind (schema_of d).types
     (λ k. let t = map_from entity_name d.entities u.kind (subst (λ l. Contains l u.kind) (same_types d) k) in
-    w action_as_entity_type (7, omega arith, refl) (t.0, t.1, ap (λ (v : Uid). v.kind.base) a.2 ∙ ap (λ (n : Name). n.base) (sym t.2)))
+    no_schema_fault x d w action_as_entity_type (7, omega arith, refl) (t.0, t.1, ap (λ (v : Uid). v.kind.base) a.2 ∙ ap (λ (n : Name). n.base) (sym t.2)))

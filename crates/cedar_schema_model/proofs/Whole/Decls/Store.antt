@@ -1,15 +1,14 @@
 -- Declared actions in a conforming store.
 use Rattle.std.proofs.Common.{◌≡◌, List, [], ◌∷◌, true, refl, sym, ap, subst}
-use Rattle.std.specs.Prelude.{Contains}
+use Rattle.std.specs.Prelude.{Contains, if◌then◌else◌}
+use Rattle.std.specs.Option.{option_map_or}
 use Rattle.cedar_expr_model.specs.Uid.{Uid}
 use Rattle.cedar_expr_model.proofs.Lists.{contains_head}
 use Rattle.cedar_expr_model.specs.Whole.Value.{V}
 use Rattle.cedar_store_model.specs.Whole.World.{Entity, Found, held}
-use Rattle.cedar_schema_model.specs.Whole.Types.{attribute_named}
 use Rattle.cedar_schema_model.specs.Whole.Schema.{Schema, declares_action, type_named}
-use Rattle.cedar_schema_model.specs.Whole.Conforming.{among_actions, place_of, place_by, attributes_at, tags_at, MayDescend, MustDescend}
-use Rattle.cedar_schema_model.specs.Whole.ConformingTests.{IsOf, declared_type, IsGoodEntity, StoreConforms}
-use Rattle.cedar_schema_model.specs.Whole.DeclLaws.{IsActionEntity}
+use Rattle.cedar_schema_model.specs.Whole.Conforming.{among_actions, of_kind, nowhere, place_of, attributes_at, tags_at, type_at, StoreConforms}
+use Rattle.cedar_schema_model.specs.Whole.DeclLaws.{MayDescend, MustDescend, IsOf, IsGoodEntity, IsActionEntity}
 use Rattle.cedar_schema_model.proofs.Whole.Decls.Direct.{good_entity}
 
 none_there : {X : Type 0} (xs : List X) → ((x : X) → Contains xs x → ⊥) → xs ≡ []
@@ -18,9 +17,9 @@ none_there (x ∷ xs) h = absurd (h x (contains_head x xs))
 
 pub action_entity_is : (s : Schema) (u : Uid) (e : Entity V) → declares_action s u ≡ true → IsGoodEntity s u e → IsActionEntity s u e
 action_entity_is s u e a g =
-    let at : place_of s u ≡ among_actions = ap (λ b. place_by b (type_named s u.kind)) a in
+    let at : place_of s u ≡ among_actions = ap (λ b. if b then among_actions else option_map_or (λ t. of_kind t.kind) (type_named s u.kind) nowhere) a in
     record {
-      attributes = none_there e.attributes (λ p h. subst (λ q. IsOf (declared_type (attribute_named p.0 (attributes_at q))) p.1) at (g.attributes p h));
+      attributes = none_there e.attributes (λ p h. subst (λ q. IsOf (type_at (attributes_at q) p.0) p.1) at (g.attributes p h));
       tags = none_there e.tags (λ p h. subst (λ q. IsOf (tags_at q) p.1) at (g.tags p h));
       ancestors = λ v. (λ h. subst (λ q. MayDescend s u q v) at (g.allowed v h), λ h. g.whole v (subst (λ q. MustDescend s u q v) (sym at) h));
     }

@@ -8,10 +8,11 @@ use Rattle.cedar_expr_model.specs.Whole.Value.{V, record_of, Fields, no_fields, 
 use Rattle.cedar_expr_model.proofs.Lists.{all_each, all_from, any_has, map_has, map_from, contains_head, contains_tail, contains_cases, contains_none}
 use Rattle.cedar_schema_model.specs.Whole.Types.{Openness, is_open, is_closed, Ty, any_entity, entity_types, record_type, Attributes, Declared, attribute_named, permissive}
 use Rattle.cedar_schema_model.specs.Whole.Schema.{Schema}
-use Rattle.cedar_schema_model.specs.Whole.Subtype.{Below, is_well_formed_type, has_no_any_set}
+use Rattle.cedar_schema_model.specs.Whole.Subtype.{Below, is_well_formed_type}
+use Rattle.cedar_schema_model.specs.Whole.TypeLaws.{has_no_any_set}
 use Rattle.cedar_schema_model.specs.Whole.HasType.{HasType, HasRequired, FieldsFit, FieldFits}
 use Rattle.cedar_schema_model.specs.Whole.Join.{reduce_to_join}
-use Rattle.cedar_schema_model.specs.Whole.Lookup.{declared_of, with_declared, all_declared, declared_by_all, lookup_attribute, may_have_attribute}
+use Rattle.cedar_schema_model.specs.Whole.Lookup.{declared_of, all_declared, declared_by_all, lookup_attribute, may_have_attribute}
 use Rattle.cedar_schema_model.specs.Whole.TypeLaws.{HasPlainAttributes, DeclaredBelow}
 use Rattle.cedar_schema_model.proofs.Whole.Types.Lookups.{no_lie, no_none, inside, from_some, some_is, test_cases, declares}
 use Rattle.cedar_schema_model.proofs.Whole.Types.Names.{among_at}
@@ -30,6 +31,9 @@ Holds s a ns ds = (d : Declared) → Contains ds d → (n : Name) × Contains ns
 
 abbrev Declares : Schema → Text → List Name → List Declared → Type 0
 Declares s a ns ds = (n : Name) → Contains ns n → (d : Declared) × Contains ds d × (declared_of s a n ≡ Some d)
+
+abbrev with_declared : Option Declared → Option (List Declared) → Option (List Declared)
+with_declared x o = option_and_then (λ d. option_map (λ ds. d ∷ ds) o) x
 
 with_parts : (x : Option Declared) (o : Option (List Declared)) (ds : List Declared) → with_declared x o ≡ Some ds → (d : Declared) × (es : List Declared) × (x ≡ Some d) × (o ≡ Some es) × (ds ≡ (d ∷ es))
 with_parts None o ds h = no_none h

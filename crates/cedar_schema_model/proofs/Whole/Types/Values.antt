@@ -1,8 +1,9 @@
 -- Values of a type.
-use Rattle.std.proofs.Common.{◌≡◌, Bool, true, false, not, ◌||◌, Option, Some, None, is_some, refl, sym, ap, ◌∙◌, subst, true≢false, Decides}
+use Rattle.std.proofs.Common.{◌≡◌, ◌↔◌, Bool, true, false, not, ◌||◌, Option, Some, None, is_some, refl, sym, ap, ◌∙◌, subst, true≢false, Decides, inl, inr, ⊎_elim}
 use Rattle.std.proofs.lemmas.Bool.Decides.{Decides-and}
 use Rattle.cedar_expr_model.specs.Name.{Text, name_eq}
 use Rattle.cedar_expr_model.specs.Whole.Value.{Literal, truth, long, text, entity, V, prim, set_of, record_of, extension, Vs, no_values, value, Fields, no_fields, field, field_of}
+use Rattle.cedar_expr_model.specs.Whole.Canonical.{Among}
 use Rattle.cedar_expr_model.proofs.Equality.{name_eq-Decides}
 use Rattle.cedar_expr_model.proofs.Lists.{found-Decides, any_has}
 use Rattle.std.specs.List.{list_any}
@@ -55,6 +56,18 @@ mutual
       Decides-and (field_fits o (has_type v) (attribute_named n as_)) (fields_fit as_ o fs)
       (field_decided o (HasType v) (has_type v) (value_decided v) (attribute_named n as_))
       (fields_decided as_ o fs)
+
+-- each member of a set
+each_of : (vs : Vs) (t : Ty) → HaveType vs t → (v : V) → Among v vs → HasType v t
+each_of no_values t h v k = absurd k
+each_of (value w ws) t h v k = ⊎_elim (λ e. subst (λ x. HasType x t) (sym e) h.0) (each_of ws t h.1 v) k
+
+of_each : (vs : Vs) (t : Ty) → ((v : V) → Among v vs → HasType v t) → HaveType vs t
+of_each no_values t h = tt
+of_each (value w ws) t h = (h w (inl refl), of_each ws t (λ v k. h v (inr k)))
+
+pub sets_by_members : (t : Ty) (vs : Vs) → HasType (set_of vs) (set_type t) ↔ ((v : V) → Among v vs → HasType v t)
+sets_by_members t vs = (each_of vs t, of_each vs t)
 
 -- values of a type are values of a greater one
 bool_kept : (x y : BoolType) (b : Bool) → is_bool_below x y ≡ true → is_of_bool x b ≡ true → is_of_bool y b ≡ true
