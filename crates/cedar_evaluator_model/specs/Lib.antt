@@ -9,3 +9,4 @@ pub mod Response
 pub mod Members
 pub mod Reauthorize
 pub mod Laws
+pub mod Worked
