@@ -10,3 +10,4 @@ pub mod Members
 pub mod Reauthorize
 pub mod Laws
 pub mod Worked
+pub mod WorkedResponses

@@ -3,3 +3,4 @@
 
 pub mod laws;
 pub mod worked;
+pub mod worked_responses;
