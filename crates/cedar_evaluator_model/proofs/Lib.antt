@@ -6,3 +6,4 @@ pub mod Owed
 pub mod Settled
 pub mod Exact
 pub mod Completions
+pub mod Responses

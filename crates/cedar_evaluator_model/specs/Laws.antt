@@ -1,6 +1,6 @@
 -- What the laws of partial evaluation say.
 -- Rule: partial evaluation; partial responses; completions (docs/RULES.md).
-use Rattle.std.specs.Prelude.{◌≡◌, ◌↔◌, ◌≤◌, ℕ, suc, true, List, Option, None}
+use Rattle.std.specs.Prelude.{◌≡◌, ◌↔◌, ◌≤◌, ℕ, suc, true, List, [], map, All, Option, Some, None}
 use Rattle.cedar_expr_model.specs.Name.{Text}
 use Rattle.cedar_expr_model.specs.Whole.Value.{Literal, V}
 use Rattle.cedar_expr_model.specs.Whole.Tree.{Tree, lit, nesting}
@@ -10,11 +10,15 @@ use Rattle.cedar_store_model.specs.Whole.Outcome.{Res}
 use Rattle.cedar_store_model.specs.Whole.World.{World}
 use Rattle.cedar_store_model.specs.Whole.Meaning.{Means}
 use Rattle.cedar_store_model.specs.Whole.Knowledge.{Extends, IsGrounded}
-use Rattle.cedar_evaluator_model.specs.Scope.{Scope, Agrees, limit, Left, value_left, residual, stopped}
+use Rattle.cedar_store_model.specs.Whole.Policy.{Policy, condition}
+use Rattle.cedar_store_model.specs.Whole.Answer.{PolicyError, Answer, answer_of, decision_of}
+use Rattle.cedar_evaluator_model.specs.Scope.{Scope, Agrees, fault, limit, Left, value_left, residual, stopped}
 use Rattle.cedar_evaluator_model.specs.Evaluation.{evaluated}
 use Rattle.cedar_evaluator_model.specs.Known.{known_world}
 use Rattle.cedar_evaluator_model.specs.Whole.{NothingUnknown, AllLoaded, AllBoundTo, LeavesNothing}
 use Rattle.cedar_evaluator_model.specs.Completion.{FitsAnnotations, Completes}
+use Rattle.cedar_evaluator_model.specs.Response.{stops, with_bindings, response_of}
+use Rattle.cedar_evaluator_model.specs.Members.{Concrete, concretize, decision_in_session, nontrivial_residuals}
 use Rattle.cedar_evaluator_model.specs.Standing.{IsOutcome, LeavesUnbound, Owed, NoLimit}
 
 -- at limit 0 all stops at the limit, and a literal within the limit is its value
@@ -53,3 +57,22 @@ TypedTablesLeaveNothing = (x : Table) → IsFair x → all_typed x ≡ true → 
 -- a completion knows all that the scope knows as values
 abbrev pub CompletionsExtend : Type 0
 CompletionsExtend = (w : World) (s : Scope) → Completes w s → Extends (known_world s) w
+
+-- each policy's condition nests within the limit, and its unknowns have values that fit
+abbrev pub WithinLimit : Scope → ℕ → Policy → Type 0
+WithinLimit s n p = AllBoundTo (with_bindings s p.bindings) (condition p) × nesting (condition p) ≤ n
+
+-- an answer with the kinds of errors as a response has them
+abbrev pub as_concrete : Answer → Concrete
+as_concrete a = record { decision = a.decision; reasons = a.reasons; errors = map (λ (e : PolicyError). record { id = e.id; cause = stops (fault e.fault) }) a.errors }
+
+-- Where nothing is unknown and everything is loaded, the response to policies within the limit is the answer in the world of what is
+-- known: its decision, reasons and errors; and no policy is residual.
+abbrev pub ResponseIsTheAnswer : Type 0
+ResponseIsTheAnswer = (s : Scope) → Agrees s → NothingUnknown s → AllLoaded s → (n : ℕ) (ps : List Policy) → All (WithinLimit s n) ps → concretize (response_of s n ps) ≡ as_concrete (answer_of (known_world s) ps)
+
+abbrev pub DecisionIsGiven : Type 0
+DecisionIsGiven = (s : Scope) → Agrees s → NothingUnknown s → AllLoaded s → (n : ℕ) (ps : List Policy) → All (WithinLimit s n) ps → decision_in_session (response_of s n ps) ≡ Some (decision_of (known_world s) ps)
+
+abbrev pub NoPolicyIsResidual : Type 0
+NoPolicyIsResidual = (s : Scope) → Agrees s → NothingUnknown s → AllLoaded s → (n : ℕ) (ps : List Policy) → All (WithinLimit s n) ps → nontrivial_residuals (response_of s n ps) ≡ []

@@ -1,6 +1,6 @@
 //! Laws of the definitions. Each function's contract is the theorem; its body does nothing.
 
-ghost use Rattle.cedar_evaluator_model.specs.Laws.{LimitStops, LiteralsStand, OutcomesAreOwed, OwedWithoutValues, EvaluationIsTheMeaning, NoResidualIsLeft, TypedTablesLeaveNothing, CompletionsExtend};
+ghost use Rattle.cedar_evaluator_model.specs.Laws.{LimitStops, LiteralsStand, OutcomesAreOwed, OwedWithoutValues, EvaluationIsTheMeaning, NoResidualIsLeft, TypedTablesLeaveNothing, CompletionsExtend, ResponseIsTheAnswer, DecisionIsGiven, NoPolicyIsResidual};
 
 /// At limit 0 every evaluation stops at the limit; within a limit a literal is its value.
 pub fn the_limit_is_met()
@@ -30,4 +30,12 @@ pub fn typed_tables_leave_nothing()
 /// Each completion of a scope knows what the scope knows as values.
 pub fn completions_extend_what_is_known()
     ensures { CompletionsExtend }
+{}
+
+/// Where nothing is unknown and everything is loaded, the response to policies within the limit, taken as an answer, is the answer:
+/// decision, reasons and errors. A session has its decision, and no policy is residual.
+pub fn the_response_is_the_answer()
+    ensures answer { ResponseIsTheAnswer }
+    ensures decision { DecisionIsGiven }
+    ensures no_residual { NoPolicyIsResidual }
 {}
