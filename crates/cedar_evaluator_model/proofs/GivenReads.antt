@@ -159,7 +159,7 @@ given_answer s (makes m) h = given_value m
 given_answer s (faults e) h = refl
 given_answer s (leaves_unknown n) h = subst (λ o. Given (bound_value (option_map bare o)) (residual (unknown n None))) (sym (h n refl)) tt
 
-length_bare : (ms : List Made) → length (map bare ms) ≡ length ms
+pub length_bare : (ms : List Made) → length (map bare ms) ≡ length ms
 length_bare [] = refl
 length_bare (m ∷ ms) = ap (λ n. suc n) (length_bare ms)
 

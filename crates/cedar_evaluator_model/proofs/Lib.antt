@@ -4,6 +4,8 @@ pub mod GivenReads
 pub mod GivenLists
 pub mod Owed
 pub mod Settled
+pub mod Sure
+pub mod NoLimits
 pub mod Exact
 pub mod Completions
 pub mod Responses

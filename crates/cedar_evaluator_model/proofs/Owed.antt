@@ -48,13 +48,13 @@ given_slot None = refl
 given_slot (Some u) = given_value (made_prim _)
 
 -- depths of children
-left_within : (a b n : ℕ) → max a b ≤ n → a ≤ n
+pub left_within : (a b n : ℕ) → max a b ≤ n → a ≤ n
 left_within a b n h = let k = le-max_left a b in omega (arith, h, k)
 
-right_within : (a b n : ℕ) → max a b ≤ n → b ≤ n
+pub right_within : (a b n : ℕ) → max a b ≤ n → b ≤ n
 right_within a b n h = let k = le-max_right a b in omega (arith, h, k)
 
-less_one : (a n : ℕ) → suc a ≤ suc n → a ≤ n
+pub less_one : (a n : ℕ) → suc a ≤ suc n → a ≤ n
 less_one a n h = omega (arith, h)
 
 -- one level, where the outcomes of what is a level deeper are given
@@ -114,7 +114,7 @@ module _ (s : Scope) (agrees : Agrees s) (unbound : LeavesUnbound s) (n : ℕ) (
       given_from (λ ms. bare_fields (made_fields (names_of fs) ms)) (field_outcomes_of (known_world s) fs) (pieces_of go (trees_of fs)) (λ vs. Some (val (record_of vs))) (λ ms. value_left (made_record (made_fields (names_of fs) ms))) (λ ts. record_literal (tree_fields_of (names_of fs) ts)) (given_fields fs (less_one _ n d) f)
       (λ ms. given_value (made_record (made_fields (names_of fs) ms)))
 
-nested : (t : Tree) → nesting t ≤ 0 → ⊥
+pub nested : (t : Tree) → nesting t ≤ 0 → ⊥
 nested (lit p) h = omega (arith, h)
 nested (var p) h = omega (arith, h)
 nested (slot p) h = omega (arith, h)

@@ -50,6 +50,10 @@ EvaluationIsTheMeaning = (s : Scope) → Agrees s → NothingUnknown s → AllLo
 abbrev pub NoResidualIsLeft : Type 0
 NoResidualIsLeft = (s : Scope) → Agrees s → NothingUnknown s → AllLoaded s → (n : ℕ) (t : Tree) → AllBoundTo s t → nesting t ≤ n → (r : Tree) → evaluated s n t ≡ residual r → ⊥
 
+-- Where nothing is unknown, though entities may not be loaded, no evaluation within the limit meets it.
+abbrev pub NoLimitIsMet : Type 0
+NoLimitIsMet = (s : Scope) → Agrees s → NothingUnknown s → (n : ℕ) (t : Tree) → AllBoundTo s t → nesting t ≤ n → NoLimit s n t
+
 -- a fair table of which each function has a result type leaves no unknown
 abbrev pub TypedTablesLeaveNothing : Type 0
 TypedTablesLeaveNothing = (x : Table) → IsFair x → all_typed x ≡ true → LeavesNothing x

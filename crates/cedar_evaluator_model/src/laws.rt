@@ -1,6 +1,6 @@
 //! Laws of the definitions. Each function's contract is the theorem; its body does nothing.
 
-ghost use Rattle.cedar_evaluator_model.specs.Laws.{LimitStops, LiteralsStand, OutcomesAreOwed, OwedWithoutValues, EvaluationIsTheMeaning, NoResidualIsLeft, TypedTablesLeaveNothing, CompletionsExtend, ResponseIsTheAnswer, DecisionIsGiven, NoPolicyIsResidual};
+ghost use Rattle.cedar_evaluator_model.specs.Laws.{LimitStops, LiteralsStand, OutcomesAreOwed, OwedWithoutValues, EvaluationIsTheMeaning, NoResidualIsLeft, NoLimitIsMet, TypedTablesLeaveNothing, CompletionsExtend, ResponseIsTheAnswer, DecisionIsGiven, NoPolicyIsResidual};
 
 /// At limit 0 every evaluation stops at the limit; within a limit a literal is its value.
 pub fn the_limit_is_met()
@@ -20,6 +20,11 @@ pub fn outcomes_are_owed()
 pub fn evaluation_is_the_meaning()
     ensures exact { EvaluationIsTheMeaning }
     ensures no_residual { NoResidualIsLeft }
+{}
+
+/// Where nothing is unknown no evaluation within the limit meets it, over a partial store either.
+pub fn no_limit_is_met()
+    ensures { NoLimitIsMet }
 {}
 
 /// The calls of a fair table leave no unknown where each of its functions has a result type.
