@@ -11,3 +11,4 @@ pub mod Reauthorize
 pub mod Laws
 pub mod Worked
 pub mod WorkedResponses
+pub mod WorkedCompletions

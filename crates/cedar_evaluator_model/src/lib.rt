@@ -3,4 +3,5 @@
 
 pub mod laws;
 pub mod worked;
+pub mod worked_completions;
 pub mod worked_responses;
