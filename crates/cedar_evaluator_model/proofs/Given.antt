@@ -43,7 +43,7 @@ given_picks a b l r h k (made_prim (truth true)) = h
 given_picks a b l r h k (made_prim (truth false)) = k
 given_picks a b l r h k m = refl
 
-given_asked : (m : Made) → Given (Some (truth_asked (bare m))) (truth_wanted m)
+pub given_asked : (m : Made) → Given (Some (truth_asked (bare m))) (truth_wanted m)
 given_asked (made_prim (truth b)) = given_value (made_prim (truth b))
 given_asked m = refl
 

@@ -3,9 +3,11 @@ pub mod Given
 pub mod GivenReads
 pub mod GivenLists
 pub mod Owed
+pub mod Reached
 pub mod Settled
 pub mod Sure
 pub mod NoLimits
 pub mod Exact
 pub mod Completions
 pub mod Responses
+pub mod Forced

@@ -37,13 +37,13 @@ given_context (closed fs) = given_value (made_record fs)
 given_context (residual_fields fs) = tt
 given_context unknown_context = tt
 
-given_variable : (s : Scope) (x : Var) → Given (variable (known_world s) x) (variable_left s x)
+pub given_variable : (s : Scope) (x : Var) → Given (variable (known_world s) x) (variable_left s x)
 given_variable s principal = given_entry _ s.principal
 given_variable s action = given_entry _ s.action
 given_variable s resource = given_entry _ s.resource
 given_variable s context = given_context s.context
 
-given_slot : (o : Option Uid) → Given (Some (slot_value o)) (slot_left o)
+pub given_slot : (o : Option Uid) → Given (Some (slot_value o)) (slot_left o)
 given_slot None = refl
 given_slot (Some u) = given_value (made_prim _)
 

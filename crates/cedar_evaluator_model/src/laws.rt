@@ -1,6 +1,6 @@
 //! Laws of the definitions. Each function's contract is the theorem; its body does nothing.
 
-ghost use Rattle.cedar_evaluator_model.specs.Laws.{LimitStops, LiteralsStand, OutcomesAreOwed, OwedWithoutValues, EvaluationIsTheMeaning, NoResidualIsLeft, NoLimitIsMet, TypedTablesLeaveNothing, CompletionsExtend, ResponseIsTheAnswer, DecisionIsGiven, NoPolicyIsResidual};
+ghost use Rattle.cedar_evaluator_model.specs.Laws.{LimitStops, LiteralsStand, OutcomesAreOwed, OwedWithoutValues, OwedUnlessLimit, EvaluationIsTheMeaning, NoResidualIsLeft, NoLimitIsMet, TypedTablesLeaveNothing, CompletionsExtend, ResponseIsTheAnswer, DecisionIsGiven, NoPolicyIsResidual, ForbidForces, PermitForces, NoPermitForces};
 
 /// At limit 0 every evaluation stops at the limit; within a limit a literal is its value.
 pub fn the_limit_is_met()
@@ -9,10 +9,11 @@ pub fn the_limit_is_met()
 {}
 
 /// Whatever else is unknown: where what is known as values gives an expression an outcome, and its nesting is within the limit,
-/// evaluation leaves that value or that error.
+/// evaluation leaves that value or that error; so it does at every limit that isn't met.
 pub fn outcomes_are_owed()
     ensures owed { OutcomesAreOwed }
     ensures without_values { OwedWithoutValues }
+    ensures unless_limit { OwedUnlessLimit }
 {}
 
 /// Where nothing is unknown, everything is loaded and the nesting is within the limit, evaluation is the meaning, and leaves no
@@ -43,4 +44,11 @@ pub fn the_response_is_the_answer()
     ensures answer { ResponseIsTheAnswer }
     ensures decision { DecisionIsGiven }
     ensures no_residual { NoPolicyIsResidual }
+{}
+
+/// A session's decision is owed as soon as what is known forces it, whatever else is unknown, where no policy met the limit.
+pub fn decisions_are_owed()
+    ensures by_forbid { ForbidForces }
+    ensures by_permit { PermitForces }
+    ensures by_no_permit { NoPermitForces }
 {}
