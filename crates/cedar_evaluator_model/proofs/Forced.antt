@@ -156,7 +156,7 @@ permitted [] ls fs ms h e i = absurd h
 permitted (p ∷ ps) ls fs ms h e i = λ j. decided_by (p ∷ ps) ls (e j) (i j)
 
 no_permit : {A B C D : Type 0} (ps : List A) (ls : List B) (fs : List C) (ms : List D) → ps ≡ [] → ls ≡ [] → decided_by ps ls fs ms ≡ Some deny
-no_permit ps ls [] ms e i = λ j. decided_by (e j) (i j) [] ms
+no_permit {C = C} ps ls [] ms e i = λ j. decided_by {C = C} (e j) (i j) [] ms
 no_permit ps ls (f ∷ fs) ms e i = refl
 
 in_session : (s : Scope) (n : ℕ) (ps : List Policy) → met_limit (response_of s n ps) ≡ false → (d : Option Decision) → decision (response_of s n ps) ≡ d → decision_in_session (response_of s n ps) ≡ d
