@@ -23,24 +23,8 @@ use Rattle.cedar_evaluator_model.specs.Response.{Noted, ResponseError, stops, wi
 use Rattle.cedar_evaluator_model.specs.Members.{decided_by, decision, is_limit, met_limit, decision_in_session}
 use Rattle.cedar_evaluator_model.specs.Laws.{IsUnsatisfied, IsReady}
 use Rattle.cedar_evaluator_model.proofs.Responses.{SameVerdict, same_verdict}
+use Rattle.cedar_evaluator_model.proofs.Limits.{not_met, no_limit_within}
 use Rattle.cedar_evaluator_model.proofs.Reached.{owed_unless_limit}
-
--- no policy of a list met the limit
-limit_case : (l : Left) (p : Policy) (es : List ResponseError) → list_any (λ e. is_limit e.cause) (cons_option (if_stopped p l) es) ≡ false → (l ≡ stopped limit → ⊥) × (list_any (λ e. is_limit e.cause) es ≡ false)
-limit_case (value_left m) p es h = (λ e. cc, h)
-limit_case (residual r) p es h = (λ e. cc, h)
-limit_case (stopped (fault f)) p es h = (λ e. cc, h)
-limit_case (stopped limit) p es h = cc
-
-pub not_met : (s : Scope) (n : ℕ) (ps : List Policy) → met_limit (response_of s n ps) ≡ false → (p : Policy) → Contains ps p → verdict s n p ≡ stopped limit → ⊥
-not_met s n [] h p c = absurd (contains_none p c)
-not_met s n (q ∷ ps) h p c =
-    let k = limit_case (verdict s n q) q (filter_map (λ p. if_stopped p (verdict s n p)) ps) h in
-    contains_cases (verdict s n p ≡ stopped limit → ⊥) q ps p c (λ e. subst (λ x. verdict s n x ≡ stopped limit → ⊥) e k.0) (λ d. not_met s n ps k.1 p d)
-
--- the condition doesn't meet the limit where the verdict doesn't
-no_limit_within : (s : Scope) (n : ℕ) (p : Policy) → (verdict s n p ≡ stopped limit → ⊥) → NoLimit (with_bindings s p.bindings) n (condition p)
-no_limit_within s n p h e = h (ap (λ l. on_value l truth_wanted residual) e)
 
 fits_of : (s : Scope) (ps : List Policy) → All (λ p. FitsAnnotations (known_world s) (condition p)) ps → (p : Policy) → Contains ps p → FitsAnnotations (known_world s) (condition p)
 fits_of s ps h p c = subst (λ q. FitsAnnotations (known_world s) (condition q)) c.2 (h c.0 p c.1)

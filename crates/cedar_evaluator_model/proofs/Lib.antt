@@ -9,5 +9,6 @@ pub mod Sure
 pub mod NoLimits
 pub mod Exact
 pub mod Completions
+pub mod Limits
 pub mod Responses
 pub mod Forced

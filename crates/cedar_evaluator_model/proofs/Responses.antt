@@ -2,7 +2,7 @@
 use Rattle.std.proofs.Common.{◌≡◌, ℕ, ◌≤◌, Bool, true, false, cond, not, ◌&&◌, List, [], ◌∷◌, ◌++◌, refl, sym, ap, ◌∙◌, subst, ◌⊎◌, inl, inr, ⊎_elim}
 use Rattle.std.specs.Prelude.{Option, Some, None, map, All, slice_index_or}
 use Rattle.std.specs.List.{filter, filter_map, cons_option, flat_map, list_any}
-use Rattle.std.proofs.lemmas.List.Elements.{All-head, All-tail}
+use Rattle.std.proofs.lemmas.List.Elements.{All-head, All-tail, Contains-get_or}
 use Rattle.cedar_expr_model.specs.Name.{Text}
 use Rattle.cedar_expr_model.specs.Whole.Value.{V, truth, prim, set_of, record_of, extension, truth_value}
 use Rattle.cedar_expr_model.specs.Whole.Tree.{Tree, lit, nesting}
@@ -21,8 +21,10 @@ use Rattle.cedar_evaluator_model.specs.Whole.{NothingUnknown, AllLoaded}
 use Rattle.cedar_evaluator_model.specs.Standing.{IsOutcome}
 use Rattle.cedar_evaluator_model.specs.Response.{Noted, ResponseError, stops, with_bindings, verdict, noted, of_effect, if_true, if_residual, if_stopped, group, response_of}
 use Rattle.cedar_evaluator_model.specs.Members.{left_policy, of_true, of_residual, decided_by, decision, if_none, without_value, concrete_decision, concretize, is_limit, met_limit, decision_in_session, nontrivial_residuals}
-use Rattle.cedar_evaluator_model.specs.Laws.{WithinLimit, as_concrete}
-use Rattle.cedar_evaluator_model.proofs.Exact.{exact}
+use Rattle.cedar_evaluator_model.specs.Laws.{IsBound, as_concrete}
+use Rattle.cedar_evaluator_model.proofs.Limits.{not_met, no_limit_within}
+use Rattle.cedar_evaluator_model.proofs.Reached.{outcome_or_limit, owed_unless_limit}
+use Rattle.cedar_evaluator_model.proofs.Exact.{grounded, leaves_unbound, all_fit}
 
 -- the outcome and the verdict of a policy: the same truth value, or the same error
 abbrev pub SameVerdict : Option (Res V) → Left → Type 0
@@ -180,26 +182,56 @@ decision_is_given w s n ps h =
     let rf = residuals_are w s n forbid ps h in
     (λ i. cond (no_limits w s n ps h i) None (decided_by (tp i) (rp i) (tf i) (rf i))) ∙ given_decision (satisfied_permits w ps) (satisfied_forbids w ps)
 
-pub none_residual : (w : World) (s : Scope) (n : ℕ) (ps : List Policy) → All (Same w s n) ps → nontrivial_residuals (response_of s n ps) ≡ []
-none_residual w s n ps h = λ i. of_residual permit (residuals_are w s n permit ps h i) ++ of_residual forbid (residuals_are w s n forbid ps h i)
+-- the scope with the slots of a policy has nothing unknown either
+known_with : (s : Scope) → NothingUnknown s → (p : Policy) → NothingUnknown (with_bindings s p.bindings)
+known_with s k p = record { principal = k.principal; action = k.action; resource = k.resource; context = k.context; store = k.store; calls = k.calls }
 
--- each policy within the limit has such a verdict
-one_same : (s : Scope) → Agrees s → NothingUnknown s → AllLoaded s → (n : ℕ) (p : Policy) → WithinLimit s n p → Same (known_world s) s n p
-one_same s agrees k l n p x =
+one_same : (s : Scope) → Agrees s → NothingUnknown s → AllLoaded s → (n : ℕ) (p : Policy) → IsBound s p → (verdict s n p ≡ stopped limit → ⊥) → Same (known_world s) s n p
+one_same s agrees k l n p x e =
     let t = with_bindings s p.bindings in
-    let known : NothingUnknown t = record { principal = k.principal; action = k.action; resource = k.resource; context = k.context; store = k.store; calls = k.calls } in
-    let e = exact t agrees known l n (condition p) x.0 x.1 in
-    let o = e.grounded in
-    same_verdict o.0 (outcome_of (with_slots (known_world s) p.bindings) (condition p)) (evaluated t n (condition p)) (means_outcome (known_world t) (condition p) o.0 o.1) ((e.exact o.0).0 o.1)
+    let o = grounded t (known_with s k p) l (condition p) x in
+    same_verdict o.0 (outcome_of (with_slots (known_world s) p.bindings) (condition p)) (evaluated t n (condition p)) (means_outcome (known_world t) (condition p) o.0 o.1)
+    (owed_unless_limit t agrees (leaves_unbound s agrees k.calls) n (condition p) (all_fit t (condition p) x) (no_limit_within s n p e) o.0 o.1)
 
-pub all_same : (s : Scope) → Agrees s → NothingUnknown s → AllLoaded s → (n : ℕ) (ps : List Policy) → All (WithinLimit s n) ps → All (Same (known_world s) s n) ps
-all_same s agrees k l n ps h j d lt = one_same s agrees k l n (slice_index_or ps j d) (h j d lt)
+pub all_same : (s : Scope) → Agrees s → NothingUnknown s → AllLoaded s → (n : ℕ) (ps : List Policy) → All (IsBound s) ps → met_limit (response_of s n ps) ≡ false → All (Same (known_world s) s n) ps
+all_same s agrees k l n ps h e j d lt =
+    let p = slice_index_or ps j d in
+    one_same s agrees k l n p (h j d lt) (not_met s n ps e p (Contains-get_or ps j d lt))
 
-pub answers : (s : Scope) → Agrees s → NothingUnknown s → AllLoaded s → (n : ℕ) (ps : List Policy) → All (WithinLimit s n) ps → concretize (response_of s n ps) ≡ as_concrete (answer_of (known_world s) ps)
-answers s agrees k l n ps h = response_is_answer (known_world s) s n ps (all_same s agrees k l n ps h)
+pub answers : (s : Scope) → Agrees s → NothingUnknown s → AllLoaded s → (n : ℕ) (ps : List Policy) → All (IsBound s) ps → met_limit (response_of s n ps) ≡ false → concretize (response_of s n ps) ≡ as_concrete (answer_of (known_world s) ps)
+answers s agrees k l n ps h e = response_is_answer (known_world s) s n ps (all_same s agrees k l n ps h e)
 
-pub decisions : (s : Scope) → Agrees s → NothingUnknown s → AllLoaded s → (n : ℕ) (ps : List Policy) → All (WithinLimit s n) ps → decision_in_session (response_of s n ps) ≡ Some (decision_of (known_world s) ps)
-decisions s agrees k l n ps h = decision_is_given (known_world s) s n ps (all_same s agrees k l n ps h)
+pub decisions : (s : Scope) → Agrees s → NothingUnknown s → AllLoaded s → (n : ℕ) (ps : List Policy) → All (IsBound s) ps → met_limit (response_of s n ps) ≡ false → decision_in_session (response_of s n ps) ≡ Some (decision_of (known_world s) ps)
+decisions s agrees k l n ps h e = decision_is_given (known_world s) s n ps (all_same s agrees k l n ps h e)
 
-pub no_residuals : (s : Scope) → Agrees s → NothingUnknown s → AllLoaded s → (n : ℕ) (ps : List Policy) → All (WithinLimit s n) ps → nontrivial_residuals (response_of s n ps) ≡ []
-no_residuals s agrees k l n ps h = none_residual (known_world s) s n ps (all_same s agrees k l n ps h)
+-- no policy is residual, at any limit
+verdict_no_residual : (q : Res V) (l : Left) (p : Policy) → (l ≡ stopped limit) ⊎ IsOutcome q l → if_residual p (on_value l truth_wanted residual) ≡ None
+verdict_no_residual q l p (inl e) = ap (λ x. if_residual p (on_value x truth_wanted residual)) e
+verdict_no_residual (val v) l p (inr h) = ap (λ x. if_residual p (on_value x truth_wanted residual)) h.1 ∙ go h.0
+  where
+    go : (m : Made) → if_residual p (truth_wanted m) ≡ None
+    go (made_prim (truth b)) = refl
+    go m = refl
+verdict_no_residual (err f) l p (inr h) = ap (λ x. if_residual p (on_value x truth_wanted residual)) h
+
+one_no_residual : (s : Scope) → Agrees s → NothingUnknown s → AllLoaded s → (n : ℕ) (p : Policy) → IsBound s p → if_residual p (verdict s n p) ≡ None
+one_no_residual s agrees k l n p x =
+    let t = with_bindings s p.bindings in
+    let o = grounded t (known_with s k p) l (condition p) x in
+    verdict_no_residual o.0 (evaluated t n (condition p)) p (outcome_or_limit t agrees (leaves_unbound s agrees k.calls) n (condition p) (all_fit t (condition p) x) o.0 o.1)
+
+took_none : {A : Type 0} (e d : Effect) → of_effect {A = A} e d None ≡ None
+took_none permit permit = refl
+took_none permit forbid = refl
+took_none forbid permit = refl
+took_none forbid forbid = refl
+
+none_left : (d : Effect) (s : Scope) → Agrees s → NothingUnknown s → AllLoaded s → (n : ℕ) (ps : List Policy) → All (IsBound s) ps → group d (λ p. if_residual p (verdict s n p)) ps ≡ []
+none_left d s agrees k l n [] h = refl
+none_left d s agrees k l n (p ∷ ps) h =
+    let one = one_no_residual s agrees k l n p (All-head (IsBound s) p ps h) in
+    let rest = none_left d s agrees k l n ps (All-tail (IsBound s) p ps h) in
+    (λ i. cons_option (of_effect d p.effect (one i)) (rest i)) ∙ ap (λ o. cons_option o []) (took_none d p.effect)
+
+pub no_residuals : (s : Scope) → Agrees s → NothingUnknown s → AllLoaded s → (n : ℕ) (ps : List Policy) → All (IsBound s) ps → nontrivial_residuals (response_of s n ps) ≡ []
+no_residuals s agrees k l n ps h = λ i. of_residual permit (none_left permit s agrees k l n ps h i) ++ of_residual forbid (none_left forbid s agrees k l n ps h i)

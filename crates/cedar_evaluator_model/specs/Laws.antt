@@ -66,24 +66,33 @@ TypedTablesLeaveNothing = (x : Table) → IsFair x → all_typed x ≡ true → 
 abbrev pub CompletionsExtend : Type 0
 CompletionsExtend = (w : World) (s : Scope) → Completes w s → Extends (known_world s) w
 
--- each policy's condition nests within the limit, and its unknowns have values that fit
+-- each unknown of the policy's condition has a value that fits
+abbrev pub IsBound : Scope → Policy → Type 0
+IsBound s p = AllBoundTo (with_bindings s p.bindings) (condition p)
+
+-- and the condition nests within the limit
 abbrev pub WithinLimit : Scope → ℕ → Policy → Type 0
-WithinLimit s n p = AllBoundTo (with_bindings s p.bindings) (condition p) × nesting (condition p) ≤ n
+WithinLimit s n p = IsBound s p × nesting (condition p) ≤ n
+
+-- where nothing is unknown, though entities may not be loaded, no policy within the limit meets it
+abbrev pub NoPolicyMeetsLimit : Type 0
+NoPolicyMeetsLimit = (s : Scope) → Agrees s → NothingUnknown s → (n : ℕ) (ps : List Policy) → All (WithinLimit s n) ps → met_limit (response_of s n ps) ≡ false
 
 -- an answer with the kinds of errors as a response has them
 abbrev pub as_concrete : Answer → Concrete
 as_concrete a = record { decision = a.decision; reasons = a.reasons; errors = map (λ (e : PolicyError). record { id = e.id; cause = stops (fault e.fault) }) a.errors }
 
--- Where nothing is unknown and everything is loaded, the response to policies within the limit is the answer in the world of what is
--- known: its decision, reasons and errors; and no policy is residual.
+-- Where nothing is unknown and everything is loaded, and no policy met the limit, the response is the answer in the world of what is
+-- known: its decision, reasons and errors.
 abbrev pub ResponseIsTheAnswer : Type 0
-ResponseIsTheAnswer = (s : Scope) → Agrees s → NothingUnknown s → AllLoaded s → (n : ℕ) (ps : List Policy) → All (WithinLimit s n) ps → concretize (response_of s n ps) ≡ as_concrete (answer_of (known_world s) ps)
+ResponseIsTheAnswer = (s : Scope) → Agrees s → NothingUnknown s → AllLoaded s → (n : ℕ) (ps : List Policy) → All (IsBound s) ps → met_limit (response_of s n ps) ≡ false → concretize (response_of s n ps) ≡ as_concrete (answer_of (known_world s) ps)
 
 abbrev pub DecisionIsGiven : Type 0
-DecisionIsGiven = (s : Scope) → Agrees s → NothingUnknown s → AllLoaded s → (n : ℕ) (ps : List Policy) → All (WithinLimit s n) ps → decision_in_session (response_of s n ps) ≡ Some (decision_of (known_world s) ps)
+DecisionIsGiven = (s : Scope) → Agrees s → NothingUnknown s → AllLoaded s → (n : ℕ) (ps : List Policy) → All (IsBound s) ps → met_limit (response_of s n ps) ≡ false → decision_in_session (response_of s n ps) ≡ Some (decision_of (known_world s) ps)
 
+-- there no policy is residual, at any limit
 abbrev pub NoPolicyIsResidual : Type 0
-NoPolicyIsResidual = (s : Scope) → Agrees s → NothingUnknown s → AllLoaded s → (n : ℕ) (ps : List Policy) → All (WithinLimit s n) ps → nontrivial_residuals (response_of s n ps) ≡ []
+NoPolicyIsResidual = (s : Scope) → Agrees s → NothingUnknown s → AllLoaded s → (n : ℕ) (ps : List Policy) → All (IsBound s) ps → nontrivial_residuals (response_of s n ps) ≡ []
 
 -- what is known satisfies the policy, or gives it an outcome that doesn't
 abbrev pub IsUnsatisfied : World → Policy → Type 0

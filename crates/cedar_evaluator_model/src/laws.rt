@@ -1,6 +1,6 @@
 //! Laws of the definitions. Each function's contract is the theorem; its body does nothing.
 
-ghost use Rattle.cedar_evaluator_model.specs.Laws.{LimitStops, LiteralsStand, OutcomesAreOwed, OwedWithoutValues, OwedUnlessLimit, EvaluationIsTheMeaning, NoResidualIsLeft, NoLimitIsMet, TypedTablesLeaveNothing, CompletionsExtend, ResponseIsTheAnswer, DecisionIsGiven, NoPolicyIsResidual, ForbidForces, PermitForces, NoPermitForces};
+ghost use Rattle.cedar_evaluator_model.specs.Laws.{LimitStops, LiteralsStand, OutcomesAreOwed, OwedWithoutValues, OwedUnlessLimit, EvaluationIsTheMeaning, NoResidualIsLeft, NoLimitIsMet, TypedTablesLeaveNothing, CompletionsExtend, NoPolicyMeetsLimit, ResponseIsTheAnswer, DecisionIsGiven, NoPolicyIsResidual, ForbidForces, PermitForces, NoPermitForces};
 
 /// At limit 0 every evaluation stops at the limit; within a limit a literal is its value.
 pub fn the_limit_is_met()
@@ -38,9 +38,10 @@ pub fn completions_extend_what_is_known()
     ensures { CompletionsExtend }
 {}
 
-/// Where nothing is unknown and everything is loaded, the response to policies within the limit, taken as an answer, is the answer:
-/// decision, reasons and errors. A session has its decision, and no policy is residual.
+/// Where nothing is unknown no policy within the limit meets it. Where everything is loaded too and none met it, the response, taken
+/// as an answer, is the answer: decision, reasons and errors; a session has its decision. No policy is residual there.
 pub fn the_response_is_the_answer()
+    ensures limit { NoPolicyMeetsLimit }
     ensures answer { ResponseIsTheAnswer }
     ensures decision { DecisionIsGiven }
     ensures no_residual { NoPolicyIsResidual }
