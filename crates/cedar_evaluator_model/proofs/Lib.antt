@@ -4,6 +4,7 @@ pub mod GivenReads
 pub mod GivenLists
 pub mod Owed
 pub mod Reached
+pub mod Larger
 pub mod Settled
 pub mod Sure
 pub mod NoLimits

@@ -41,6 +41,10 @@ OwedWithoutValues = (s : Scope) → Agrees s → ((x : Text) → s.values x ≡ 
 abbrev pub OwedUnlessLimit : Type 0
 OwedUnlessLimit = (s : Scope) → Agrees s → LeavesUnbound s → (n : ℕ) (t : Tree) → FitsAnnotations (known_world s) t → NoLimit s n t → (r : Res V) → Means (known_world s) t r → IsOutcome r (evaluated s n t)
 
+-- There every larger limit leaves the same. In general it doesn't: what is evaluated in best effort may meet the limit unseen.
+abbrev pub LargerLimitsKeep : Type 0
+LargerLimitsKeep = (s : Scope) → Agrees s → LeavesUnbound s → (n m : ℕ) (t : Tree) → FitsAnnotations (known_world s) t → IsGrounded (known_world s) t → NoLimit s n t → n ≤ m → evaluated s m t ≡ evaluated s n t
+
 -- the expression means an outcome, and exactly what it means is left
 pub record IsExact (s : Scope) (n : ℕ) (t : Tree) : Type 0 where
   pub grounded : IsGrounded (known_world s) t

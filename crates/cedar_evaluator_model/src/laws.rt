@@ -1,6 +1,6 @@
 //! Laws of the definitions. Each function's contract is the theorem; its body does nothing.
 
-ghost use Rattle.cedar_evaluator_model.specs.Laws.{LimitStops, LiteralsStand, OutcomesAreOwed, OwedWithoutValues, OwedUnlessLimit, EvaluationIsTheMeaning, NoResidualIsLeft, NoLimitIsMet, TypedTablesLeaveNothing, CompletionsExtend, NoPolicyMeetsLimit, ResponseIsTheAnswer, DecisionIsGiven, NoPolicyIsResidual, ForbidForces, PermitForces, NoPermitForces};
+ghost use Rattle.cedar_evaluator_model.specs.Laws.{LimitStops, LiteralsStand, OutcomesAreOwed, OwedWithoutValues, OwedUnlessLimit, LargerLimitsKeep, EvaluationIsTheMeaning, NoResidualIsLeft, NoLimitIsMet, TypedTablesLeaveNothing, CompletionsExtend, NoPolicyMeetsLimit, ResponseIsTheAnswer, DecisionIsGiven, NoPolicyIsResidual, ForbidForces, PermitForces, NoPermitForces};
 
 /// At limit 0 every evaluation stops at the limit; within a limit a literal is its value.
 pub fn the_limit_is_met()
@@ -9,11 +9,12 @@ pub fn the_limit_is_met()
 {}
 
 /// Whatever else is unknown: where what is known as values gives an expression an outcome, and its nesting is within the limit,
-/// evaluation leaves that value or that error; so it does at every limit that isn't met.
+/// evaluation leaves that value or that error; so it does at every limit that isn't met, and every larger limit leaves the same.
 pub fn outcomes_are_owed()
     ensures owed { OutcomesAreOwed }
     ensures without_values { OwedWithoutValues }
     ensures unless_limit { OwedUnlessLimit }
+    ensures larger_limits { LargerLimitsKeep }
 {}
 
 /// Where nothing is unknown, everything is loaded and the nesting is within the limit, evaluation is the meaning, and leaves no
