@@ -1,26 +1,22 @@
 -- A decision is given as soon as what is known forces it.
-use Rattle.std.proofs.Common.{◌≡◌, ℕ, Bool, true, false, cond, ◌&&◌, ◌||◌, List, [], ◌∷◌, Contains, refl, sym, ap, ◌∙◌, subst, ◌⊎◌, inl, inr, ⊎_elim}
+use Rattle.std.proofs.Common.{◌≡◌, ℕ, true, false, cond, List, [], ◌∷◌, Contains, refl, sym, ap, ◌∙◌, subst, ◌⊎◌, inl, inr}
 use Rattle.std.specs.Prelude.{Option, Some, None, All}
-use Rattle.std.specs.List.{filter_map, cons_option, list_any}
-use Rattle.std.proofs.lemmas.List.Elements.{All-head, All-tail}
+use Rattle.std.specs.List.{cons_option}
 use Rattle.cedar_expr_model.specs.Whole.Value.{V, truth, long, text, entity, prim, set_of, record_of, extension, truth_value}
-use Rattle.cedar_expr_model.specs.Whole.Tree.{Tree}
-use Rattle.cedar_expr_model.specs.Whole.Made.{made_prim}
 use Rattle.cedar_expr_model.proofs.Lists.{contains_head, contains_tail, contains_cases, contains_none}
 use Rattle.cedar_store_model.specs.Whole.Outcome.{Res, val, err, Fault, bind}
-use Rattle.cedar_store_model.specs.Whole.World.{World}
 use Rattle.cedar_store_model.specs.Whole.Meaning.{Means, outcome_of, truth_asked}
 use Rattle.cedar_store_model.specs.Whole.Policy.{Policy, Effect, permit, forbid, condition}
 use Rattle.cedar_store_model.specs.Whole.Answer.{Decision, allow, deny, with_slots, policy_outcome, IsSatisfied}
 use Rattle.cedar_store_model.proofs.Whole.Meaning.{means_outcome}
-use Rattle.cedar_evaluator_model.specs.Scope.{Scope, Agrees, fault, limit, Left, value_left, residual, stopped}
-use Rattle.cedar_evaluator_model.specs.Steps.{errs, truth_left, on_value, truth_wanted}
+use Rattle.cedar_evaluator_model.specs.Scope.{Scope, Left}
+use Rattle.cedar_evaluator_model.specs.Steps.{errs, truth_left}
 use Rattle.cedar_evaluator_model.specs.Evaluation.{evaluated}
 use Rattle.cedar_evaluator_model.specs.Known.{known_world}
 use Rattle.cedar_evaluator_model.specs.Completion.{FitsAnnotations}
-use Rattle.cedar_evaluator_model.specs.Standing.{IsOutcome, LeavesUnbound, NoLimit}
-use Rattle.cedar_evaluator_model.specs.Response.{Noted, ResponseError, stops, with_bindings, verdict, noted, of_effect, if_true, if_residual, if_stopped, group, response_of}
-use Rattle.cedar_evaluator_model.specs.Members.{decided_by, decision, is_limit, met_limit, decision_in_session}
+use Rattle.cedar_evaluator_model.specs.Standing.{IsOutcome}
+use Rattle.cedar_evaluator_model.specs.Response.{with_bindings, verdict, noted, of_effect, if_true, if_residual, group, response_of}
+use Rattle.cedar_evaluator_model.specs.Members.{decided_by, decision, met_limit, decision_in_session}
 use Rattle.cedar_evaluator_model.specs.Laws.{IsUnsatisfied, IsReady}
 use Rattle.cedar_evaluator_model.proofs.Responses.{SameVerdict, same_verdict}
 use Rattle.cedar_evaluator_model.proofs.Limits.{not_met, no_limit_within}

@@ -1,28 +1,27 @@
 -- What is read of a store, and what calls answer, beside what the world of what is known gives.
-use Rattle.std.proofs.Common.{◌≡◌, suc, ℤ, Bool, true, false, cond, List, [], ◌∷◌, refl, sym, ap, ◌∙◌, subst}
+use Rattle.std.proofs.Common.{◌≡◌, suc, Bool, true, false, cond, List, [], ◌∷◌, refl, sym, ap, ◌∙◌, subst}
 use Rattle.std.specs.Prelude.{Option, Some, None, option_map, map, length, is_some, ◌+ℤ◌, ◌-ℤ◌, ◌*ℤ◌}
 use Rattle.std.specs.Ordering.{is_lt, is_le}
 use Rattle.std.specs.Str.{bytes_eq}
 use Rattle.cedar_expr_model.specs.Name.{Text, Name}
 use Rattle.cedar_expr_model.specs.Uid.{Uid}
-use Rattle.cedar_expr_model.specs.Whole.Value.{Literal, truth, long, text, entity, V, prim, field_of}
+use Rattle.cedar_expr_model.specs.Whole.Value.{truth, text, entity, V, field_of}
 use Rattle.cedar_expr_model.specs.Whole.Order.{value_eq}
 use Rattle.cedar_expr_model.specs.Whole.Tree.{CoreType, Tree, unknown, BinaryOp, equal, less, less_or_equal, plus, difference, times, is_in, contains, contains_all, contains_any, get_tag, has_tag}
-use Rattle.cedar_expr_model.specs.Whole.Made.{Made, made_prim, made_set, made_record, made_extension, MadeFields, no_made_fields, made_field, bare, bare_fields}
-use Rattle.cedar_expr_model.specs.Whole.Substitution.{fits_annotation}
-use Rattle.cedar_expr_model.specs.Whole.Table.{Table, Signature, Called, gives, fails, leaves, signature_of, takes_count, are_of_types}
+use Rattle.cedar_expr_model.specs.Whole.Made.{Made, made_prim, made_record, MadeFields, no_made_fields, made_field, bare, bare_fields}
+use Rattle.cedar_expr_model.specs.Whole.Table.{Signature, signature_of, takes_count, are_of_types}
 use Rattle.cedar_expr_model.proofs.Whole.CoreTypes.{fits-Decides}
-use Rattle.cedar_store_model.specs.Whole.Outcome.{Res, val, err, bind, wrong_type, wrong_count}
-use Rattle.cedar_store_model.specs.Whole.World.{World, Part, known, left, Entity, Found, held, missing, not_loaded, part_named}
-use Rattle.cedar_store_model.specs.Whole.Operators.{says, bound_value, answered, called_with, all_members, any_member, among_members, of_sets, ordered, calculated}
-use Rattle.cedar_store_model.specs.Whole.Reads.{is_there, part_value, part_read, part_tested, attributes_of, tags_of, attribute_read, attribute_tested, Step, goes_on, ends, field_value, field_step, part_step, found_step, step_from, path_after, path_tested, tag_read, tag_tested, uids_in, is_in_some, found_in, within}
+use Rattle.cedar_store_model.specs.Whole.Outcome.{Res, val, err, wrong_type, wrong_count}
+use Rattle.cedar_store_model.specs.Whole.World.{Part, known, left, Found, held, missing, not_loaded, part_named}
+use Rattle.cedar_store_model.specs.Whole.Operators.{says, bound_value, answered, called_with, all_members, any_member}
+use Rattle.cedar_store_model.specs.Whole.Reads.{is_there, part_value, part_read, part_tested, attributes_of, tags_of, attribute_read, attribute_tested, field_value, field_step, part_step, found_step, step_from, path_after, path_tested, tag_read, tag_tested, uids_in, is_in_some, found_in, within}
 use Rattle.cedar_store_model.specs.Whole.Meaning.{combined}
-use Rattle.cedar_evaluator_model.specs.Scope.{Scope, MadeCalled, makes, faults, leaves_unknown, bare_called, IsTaken, Agrees, fault, Left, value_left, residual, stopped}
-use Rattle.cedar_evaluator_model.specs.Steps.{errs, truth_left, left_of, mapped, part_left, tag_left, part_or_missing, attribute_found, made_named, field_or_missing, attribute_of, test_found, test_of, path_step, path_found, path_field, path_from, path_of, get_tag_found, has_tag_found, tag_of, in_found, in_of, combined_left, answer_left, call_left}
-use Rattle.cedar_evaluator_model.specs.Known.{known_part, known_parts, known_entity, known_found, known_world}
+use Rattle.cedar_evaluator_model.specs.Scope.{Scope, MadeCalled, makes, faults, leaves_unknown, bare_called, IsTaken, Agrees, Left, value_left, residual}
+use Rattle.cedar_evaluator_model.specs.Steps.{errs, truth_left, mapped, part_left, tag_left, part_or_missing, attribute_found, made_named, field_or_missing, attribute_of, test_found, test_of, path_step, path_found, path_field, path_from, path_of, get_tag_found, has_tag_found, tag_of, in_found, in_of, combined_left, answer_left, call_left}
+use Rattle.cedar_evaluator_model.specs.Known.{known_part, known_parts, known_found, known_world}
 use Rattle.cedar_evaluator_model.specs.Completion.{Fits}
 use Rattle.cedar_evaluator_model.specs.Standing.{LeavesUnbound}
-use Rattle.cedar_evaluator_model.proofs.Given.{Given, given_value, given_if, given_literal, literal_ordered, literal_calculated, literal_among, literal_sets, literal_in}
+use Rattle.cedar_evaluator_model.proofs.Given.{Given, given_value, given_literal, literal_ordered, literal_calculated, literal_among, literal_sets, literal_in}
 
 -- parts and fields by name
 named_case : (b : Bool) (p : Part Made) (o : Option (Part Made)) (q : Option (Part V)) → q ≡ option_map known_part o → cond b (Some (known_part p)) q ≡ option_map known_part (cond b (Some p) o)
@@ -176,6 +175,6 @@ given_call s agrees unbound f ms (Some g) q =
     let known_answer = answered (known_world s).unknowns (s.table.answers f (map bare ms)) in
     subst (λ k. Given (cond (takes_count g k) (cond typed known_answer (Some (err wrong_type))) (Some (err wrong_count))) (call_left s f ms (Some g))) (sym (length_bare ms))
     (given_guarded (takes_count g (length ms)) typed known_answer (answer_left (s.calls f ms))
-     (λ c t.
-        let taken : IsTaken s.table f (map bare ms) = (g, q, ap (takes_count g) (length_bare ms) ∙ c, t) in
-        subst (λ x. Given (answered (known_world s).unknowns x) (answer_left (s.calls f ms))) (agrees f ms taken) (given_answer s (s.calls f ms) (λ n. unbound f ms n taken))))
+    (λ c t.
+    let taken : IsTaken s.table f (map bare ms) = (g, q, ap (takes_count g) (length_bare ms) ∙ c, t) in
+    subst (λ x. Given (answered (known_world s).unknowns x) (answer_left (s.calls f ms))) (agrees f ms taken) (given_answer s (s.calls f ms) (λ n. unbound f ms n taken))))

@@ -1,10 +1,10 @@
 -- Responses in which no policy met the limit.
-use Rattle.std.proofs.Common.{◌≡◌, ℕ, Bool, true, false, List, [], ◌∷◌, Contains, refl, sym, ap, ◌∙◌, subst}
-use Rattle.std.specs.Prelude.{Option, Some, None, All}
+use Rattle.std.proofs.Common.{◌≡◌, ℕ, false, List, [], ◌∷◌, Contains, refl, ap, subst}
+use Rattle.std.specs.Prelude.{All}
 use Rattle.std.specs.List.{filter_map, cons_option, list_any}
 use Rattle.std.proofs.lemmas.List.Elements.{All-head, All-tail}
-use Rattle.cedar_expr_model.specs.Whole.Value.{truth, prim}
-use Rattle.cedar_expr_model.specs.Whole.Made.{Made, made_prim}
+use Rattle.cedar_expr_model.specs.Whole.Value.{truth}
+use Rattle.cedar_expr_model.specs.Whole.Made.{made_prim}
 use Rattle.cedar_expr_model.proofs.Lists.{contains_cases, contains_none}
 use Rattle.cedar_store_model.specs.Whole.Policy.{Policy, condition}
 use Rattle.cedar_evaluator_model.specs.Scope.{Scope, Agrees, fault, limit, Left, value_left, residual, stopped}

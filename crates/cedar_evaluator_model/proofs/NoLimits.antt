@@ -6,27 +6,25 @@ use Rattle.cedar_expr_model.specs.Name.{Text, Name}
 use Rattle.cedar_expr_model.specs.Uid.{Uid}
 use Rattle.cedar_expr_model.specs.Whole.Value.{V}
 use Rattle.cedar_expr_model.specs.Whole.Tree.{CoreType, Var, principal, action, resource, context, Tree, lit, var, slot, unknown, choice, both, either, unary, binary, call, get_attr, has_attr, has_path, like, is_type, set_literal, record_literal, Trees, no_trees, tree, TreeFields, no_tree_fields, tree_field, nesting, nestings, field_nestings}
-use Rattle.cedar_expr_model.specs.Whole.Builder.{conjunction, disjunction, path_test}
 use Rattle.cedar_expr_model.specs.Whole.Parts.{is_projectable, are_projectable, have_projectable}
 use Rattle.cedar_expr_model.specs.Whole.Made.{Made, made_set, made_record, bare, written}
 use Rattle.cedar_expr_model.specs.Whole.Substitution.{fits_annotation}
 use Rattle.cedar_expr_model.specs.Whole.Table.{Signature, signature_of, takes_count, are_of_types}
 use Rattle.cedar_expr_model.specs.Whole.Unknowns.{EachUnknownAmong, EachUnknownInFields}
-use Rattle.cedar_expr_model.specs.Whole.Laws.{IsOfType}
 use Rattle.cedar_expr_model.proofs.Lists.{both_hold}
-use Rattle.cedar_store_model.specs.Whole.Outcome.{wrong_type, wrong_count, no_function}
+use Rattle.cedar_store_model.specs.Whole.Outcome.{wrong_type, wrong_count}
 use Rattle.cedar_store_model.specs.Whole.World.{Part, known, left, Found, held, missing, not_loaded}
 use Rattle.cedar_store_model.specs.Whole.Operators.{applied, like_pattern, of_type}
 use Rattle.cedar_store_model.specs.Whole.Knowledge.{IsThere, is_known}
-use Rattle.cedar_evaluator_model.specs.Scope.{Scope, MadeCalled, makes, faults, leaves_unknown, bare_called, IsTaken, Agrees, Entry, uid, unknown_uid, Context, closed, residual_fields, unknown_context, Stop, fault, limit, Left, value_left, residual, stopped}
-use Rattle.cedar_evaluator_model.specs.Steps.{errs, truth_left, best, left_of, picks, mapped, attribute_of, test_of, path_of, combined_left, kind_of_value, kind_of_unknown, with_residual, is_of_residual, answer_left, call_left, called_left, made_members, Piece, whole, part, Pieces, pieces, halted, with_piece, all_whole, piece_trees, made_or, from_pieces, made_fields, tree_fields_of}
-use Rattle.cedar_evaluator_model.specs.Evaluation.{entry_left, context_left, variable_left, slot_left, get_of_residual, has_of_residual, right_left, names_of, trees_of, pieces_of, node, evaluated}
-use Rattle.cedar_evaluator_model.specs.Known.{known_entry, known_context, known_part, known_parts, known_found, known_world}
+use Rattle.cedar_evaluator_model.specs.Scope.{Scope, MadeCalled, makes, faults, leaves_unknown, bare_called, IsTaken, Agrees, Entry, uid, unknown_uid, Context, closed, residual_fields, unknown_context, fault, limit, Left, value_left, residual, stopped}
+use Rattle.cedar_evaluator_model.specs.Steps.{errs, truth_left, best, mapped, attribute_of, test_of, path_of, combined_left, kind_of_value, kind_of_unknown, with_residual, answer_left, call_left, called_left, made_members, Piece, whole, Pieces, pieces, halted, with_piece, all_whole, piece_trees, made_or, from_pieces, made_fields, tree_fields_of}
+use Rattle.cedar_evaluator_model.specs.Evaluation.{entry_left, context_left, variable_left, slot_left, get_of_residual, has_of_residual, names_of, trees_of, pieces_of, node, evaluated}
+use Rattle.cedar_evaluator_model.specs.Known.{known_entry, known_context, known_part, known_parts, known_found}
 use Rattle.cedar_evaluator_model.specs.Whole.{NothingUnknown, HoldsValues, LeavesNothing, BoundTo, AllBoundTo}
 use Rattle.cedar_evaluator_model.specs.Standing.{NoLimit}
 use Rattle.cedar_evaluator_model.proofs.GivenReads.{length_bare}
 use Rattle.cedar_evaluator_model.proofs.Owed.{left_within, right_within, less_one, nested}
-use Rattle.cedar_evaluator_model.proofs.Sure.{Sure, sure_if, sure_value, sure_left, sure_picks, conjunction_left, disjunction_left, sure_and, sure_or, AreKnown, ValuesHeld, sure_attribute, sure_test, sure_path, sure_combined, sure_with_residual, sure_is, path_unprojectable, sure_get, sure_has}
+use Rattle.cedar_evaluator_model.proofs.Sure.{Sure, sure_if, sure_value, sure_left, sure_picks, conjunction_left, disjunction_left, sure_and, sure_or, ValuesHeld, sure_attribute, sure_test, sure_path, sure_combined, sure_with_residual, sure_is, path_unprojectable, sure_get, sure_has}
 
 -- several pieces: values, or what is rebuilt of them can't be projected
 abbrev SureWhole : (Trees → Bool) → List Piece → Option (List Made) → Type 0
@@ -172,7 +170,7 @@ module _ (s : Scope) (agrees : Agrees s) (k : NothingUnknown s) (n : ℕ) (go : 
       sure_value (go a) _ _ (deeper a (left_within (nesting a) (nesting b) n e) f.0)
       (λ m. sure_value (go b) (combined_left s o m) _ right (λ x. sure_combined s holds o m x) (λ y h. sure_with_residual o (kind_of_value m) (kind_of_unknown y) (written m) y))
       (λ y h. sure_value (go b) (λ x. with_residual o (kind_of_unknown y) (kind_of_value x) y (written x)) (λ z. with_residual o (kind_of_unknown y) (kind_of_unknown z) y z) right
-       (λ x. sure_with_residual o (kind_of_unknown y) (kind_of_value x) y (written x)) (λ z g. sure_with_residual o (kind_of_unknown y) (kind_of_unknown z) y z))
+      (λ x. sure_with_residual o (kind_of_unknown y) (kind_of_value x) y (written x)) (λ z g. sure_with_residual o (kind_of_unknown y) (kind_of_unknown z) y z))
   sure_node (call g ts) d f = sure_from are_projectable (called_left s g) (call g) (pieces_of go ts) (sure_all ts (less_one _ n d) f) (λ ms. sure_call s agrees k.calls g ms (signature_of s.table g) refl) (λ ts h. refl)
   sure_node (get_attr t a) d f = sure_value (go t) (attribute_of s a) (get_of_residual go a) (child t d f) (λ m. sure_attribute s holds a m) (λ r h. sure_get go a r h)
   sure_node (has_attr t a) d f = sure_value (go t) (test_of s a) (has_of_residual a) (child t d f) (λ m. sure_test s holds a m) (λ r h. sure_has a r h)

@@ -1,11 +1,10 @@
 -- At every limit: where what is known gives an expression an outcome, that outcome is left, or the limit is met.
-use Rattle.std.proofs.Common.{◌≡◌, ℕ, zero, suc, Bool, true, false, cond, List, [], ◌∷◌, refl, sym, ap, ◌∙◌, subst, ◌⊎◌, inl, inr, ⊎_elim}
+use Rattle.std.proofs.Common.{◌≡◌, ℕ, zero, suc, Bool, true, false, List, [], ◌∷◌, refl, sym, ap, ◌∙◌, subst, ◌⊎◌, inl, inr, ⊎_elim}
 use Rattle.std.specs.Prelude.{Option, Some, None, map}
-use Rattle.cedar_expr_model.specs.Name.{Text}
-use Rattle.cedar_expr_model.specs.Whole.Value.{Literal, truth, V, prim, set_of, record_of, Fields, field}
+use Rattle.cedar_expr_model.specs.Whole.Value.{truth, V, set_of, record_of, field}
 use Rattle.cedar_expr_model.specs.Whole.Canonical.{set_made}
 use Rattle.cedar_expr_model.specs.Whole.Builder.{conjunction, disjunction}
-use Rattle.cedar_expr_model.specs.Whole.Tree.{CoreType, Tree, lit, var, slot, unknown, choice, both, either, unary, binary, call, get_attr, has_attr, has_path, like, is_type, set_literal, record_literal, Trees, no_trees, tree, TreeFields, no_tree_fields, tree_field}
+use Rattle.cedar_expr_model.specs.Whole.Tree.{Tree, lit, var, slot, unknown, choice, both, either, unary, binary, call, get_attr, has_attr, has_path, like, is_type, set_literal, record_literal, Trees, no_trees, tree, TreeFields, no_tree_fields, tree_field}
 use Rattle.cedar_expr_model.specs.Whole.Unknowns.{EachUnknownAmong, EachUnknownInFields}
 use Rattle.cedar_expr_model.specs.Whole.Made.{Made, made_prim, made_set, made_record, bare, bare_fields}
 use Rattle.cedar_expr_model.specs.Whole.Table.{signature_of}
@@ -14,13 +13,13 @@ use Rattle.cedar_store_model.specs.Whole.Operators.{says, applied, like_pattern,
 use Rattle.cedar_store_model.specs.Whole.Reads.{attribute_read, attribute_tested, path_tested}
 use Rattle.cedar_store_model.specs.Whole.Meaning.{Means, combined, picked, truth_asked, outcome_of, outcomes_of, field_outcomes_of}
 use Rattle.cedar_store_model.proofs.Whole.Meaning.{means_outcome}
-use Rattle.cedar_evaluator_model.specs.Scope.{Scope, Agrees, limit, Stop, Left, value_left, residual, stopped}
-use Rattle.cedar_evaluator_model.specs.Steps.{truth_left, left_of, on_value, picks, truth_wanted, combined_left, attribute_of, test_of, path_of, called_left, made_members, made_fields, tree_fields_of, Pieces, pieces, halted, with_piece, from_pieces}
+use Rattle.cedar_evaluator_model.specs.Scope.{Scope, Agrees, limit, Left, value_left, stopped}
+use Rattle.cedar_evaluator_model.specs.Steps.{truth_left, left_of, on_value, picks, truth_wanted, combined_left, attribute_of, test_of, path_of, called_left, made_members, made_fields, tree_fields_of, Pieces, halted, with_piece, from_pieces}
 use Rattle.cedar_evaluator_model.specs.Evaluation.{right_left, pieces_of, names_of, trees_of, node, evaluated}
 use Rattle.cedar_evaluator_model.specs.Known.{known_world}
 use Rattle.cedar_evaluator_model.specs.Completion.{Fits, FitsAnnotations}
 use Rattle.cedar_evaluator_model.specs.Standing.{IsOutcome, LeavesUnbound, NoLimit}
-use Rattle.cedar_evaluator_model.proofs.Given.{Given, given_value, given_bind, given_asked, given_literal, literal_applied, literal_like, literal_type}
+use Rattle.cedar_evaluator_model.proofs.Given.{Given, given_value, given_asked, given_literal, literal_applied, literal_like, literal_type}
 use Rattle.cedar_evaluator_model.proofs.GivenReads.{given_mapped, given_attribute, given_test, given_path, given_combined, given_call}
 use Rattle.cedar_evaluator_model.proofs.GivenLists.{bare_members, GivenAs, given_from, given_more}
 use Rattle.cedar_evaluator_model.proofs.Owed.{given_variable, given_slot}

@@ -1,26 +1,25 @@
 -- Where nothing is unknown the response is the answer.
-use Rattle.std.proofs.Common.{◌≡◌, ℕ, ◌≤◌, Bool, true, false, cond, not, ◌&&◌, List, [], ◌∷◌, ◌++◌, refl, sym, ap, ◌∙◌, subst, ◌⊎◌, inl, inr, ⊎_elim}
+use Rattle.std.proofs.Common.{◌≡◌, ℕ, Bool, true, false, cond, not, ◌&&◌, List, [], ◌∷◌, ◌++◌, refl, sym, ap, ◌∙◌, subst, ◌⊎◌, inl, inr}
 use Rattle.std.specs.Prelude.{Option, Some, None, map, All, slice_index_or}
-use Rattle.std.specs.List.{filter, filter_map, cons_option, flat_map, list_any}
+use Rattle.std.specs.List.{filter_map, cons_option, list_any}
 use Rattle.std.proofs.lemmas.List.Elements.{All-head, All-tail, Contains-get_or}
-use Rattle.cedar_expr_model.specs.Name.{Text}
-use Rattle.cedar_expr_model.specs.Whole.Value.{V, truth, prim, set_of, record_of, extension, truth_value}
-use Rattle.cedar_expr_model.specs.Whole.Tree.{Tree, lit, nesting}
-use Rattle.cedar_expr_model.specs.Whole.Made.{Made, made_prim, made_set, made_record, made_extension, bare}
+use Rattle.cedar_expr_model.specs.Whole.Value.{V, truth, truth_value}
+use Rattle.cedar_expr_model.specs.Whole.Tree.{Tree}
+use Rattle.cedar_expr_model.specs.Whole.Made.{Made, made_prim, bare}
 use Rattle.cedar_store_model.specs.Whole.Outcome.{Res, val, err, Fault, wrong_type, bind}
 use Rattle.cedar_store_model.specs.Whole.World.{World}
-use Rattle.cedar_store_model.specs.Whole.Meaning.{Means, outcome_of, truth_asked}
+use Rattle.cedar_store_model.specs.Whole.Meaning.{outcome_of, truth_asked}
 use Rattle.cedar_store_model.specs.Whole.Policy.{Policy, Effect, permit, forbid, condition}
-use Rattle.cedar_store_model.specs.Whole.Answer.{Decision, allow, deny, PolicyError, with_slots, policy_outcome, is_true, satisfied, permits, satisfied_permits, satisfied_forbids, ids, decided, determining, error_of, errors_of, decision_of, answer_of}
+use Rattle.cedar_store_model.specs.Whole.Answer.{PolicyError, with_slots, policy_outcome, is_true, satisfied, permits, satisfied_permits, satisfied_forbids, ids, decided, determining, error_of, errors_of, decision_of, answer_of}
 use Rattle.cedar_store_model.proofs.Whole.Meaning.{means_outcome}
-use Rattle.cedar_evaluator_model.specs.Scope.{Scope, Agrees, fault, limit, Left, value_left, residual, stopped}
+use Rattle.cedar_evaluator_model.specs.Scope.{Scope, Agrees, fault, limit, Left, residual, stopped}
 use Rattle.cedar_evaluator_model.specs.Steps.{errs, truth_left, on_value, truth_wanted}
 use Rattle.cedar_evaluator_model.specs.Evaluation.{evaluated}
 use Rattle.cedar_evaluator_model.specs.Known.{known_world}
 use Rattle.cedar_evaluator_model.specs.Whole.{NothingUnknown, AllLoaded}
 use Rattle.cedar_evaluator_model.specs.Standing.{IsOutcome}
 use Rattle.cedar_evaluator_model.specs.Response.{Noted, ResponseError, stops, with_bindings, verdict, noted, of_effect, if_true, if_residual, if_stopped, group, response_of}
-use Rattle.cedar_evaluator_model.specs.Members.{left_policy, of_true, of_residual, decided_by, decision, if_none, without_value, concrete_decision, concretize, is_limit, met_limit, decision_in_session, nontrivial_residuals}
+use Rattle.cedar_evaluator_model.specs.Members.{of_true, of_residual, decided_by, if_none, without_value, concrete_decision, concretize, is_limit, met_limit, decision_in_session, nontrivial_residuals}
 use Rattle.cedar_evaluator_model.specs.Laws.{IsBound, as_concrete}
 use Rattle.cedar_evaluator_model.proofs.Limits.{not_met, no_limit_within}
 use Rattle.cedar_evaluator_model.proofs.Reached.{outcome_or_limit, owed_unless_limit}
@@ -167,11 +166,11 @@ response_is_answer w s n ps h =
     let one = same_decision (satisfied_permits w ps) (satisfied_forbids w ps) in
     let two = same_reasons (satisfied_permits w ps) (satisfied_forbids w ps) in
     (λ i.
-        record {
-          decision = concrete_decision (tp i) (tf i);
-          reasons = ids (if_none (tf i) (if_none (rf i) (of_true permit (tp i)) (of_true forbid (tf i))) (of_true forbid (tf i)));
-          errors = map without_value (rf i ++ rp i) ++ er i;
-        })
+    record {
+      decision = concrete_decision (tp i) (tf i);
+      reasons = ids (if_none (tf i) (if_none (rf i) (of_true permit (tp i)) (of_true forbid (tf i))) (of_true forbid (tf i)));
+      errors = map without_value (rf i ++ rp i) ++ er i;
+    })
     ∙ (λ i. record { decision = one i; reasons = two i; errors = map as_error (errors_of w ps) })
 
 pub decision_is_given : (w : World) (s : Scope) (n : ℕ) (ps : List Policy) → All (Same w s n) ps → decision_in_session (response_of s n ps) ≡ Some (decision_of w ps)

@@ -1,25 +1,24 @@
 -- Where nothing is unknown, though entities may not be loaded: no evaluation within the limit meets it, since no residual can be
 -- projected.
-use Rattle.std.proofs.Common.{◌≡◌, ℕ, zero, suc, ◌≤◌, max, Bool, true, false, cond, ◌&&◌, List, [], ◌∷◌, refl, sym, ap, ◌∙◌, subst, arith}
-use Rattle.std.specs.Prelude.{Option, Some, None, map, option_map, length, is_some}
+use Rattle.std.proofs.Common.{◌≡◌, Bool, true, false, cond, List, [], ◌∷◌, refl}
+use Rattle.std.specs.Prelude.{Option, Some, None, is_some}
 use Rattle.std.specs.List.{list_all}
 use Rattle.std.specs.Str.{bytes_eq}
 use Rattle.cedar_expr_model.specs.Name.{Text, Name}
 use Rattle.cedar_expr_model.specs.Uid.{Uid}
-use Rattle.cedar_expr_model.specs.Whole.Value.{Literal, truth, long, text, entity, V, prim}
-use Rattle.cedar_expr_model.specs.Whole.Tree.{CoreType, bool_core, long_core, string_core, set_core, record_core, entity_core, extension_core, BinaryOp, equal, less, less_or_equal, plus, difference, times, is_in, contains, contains_all, contains_any, get_tag, has_tag, Tree, lit, var, slot, unknown, choice, both, either, unary, binary, call, get_attr, has_attr, has_path, like, is_type, set_literal, record_literal, Trees, no_trees, tree, TreeFields, no_tree_fields, tree_field}
+use Rattle.cedar_expr_model.specs.Whole.Value.{truth, text, entity, V, prim}
+use Rattle.cedar_expr_model.specs.Whole.Tree.{entity_core, BinaryOp, equal, less, less_or_equal, plus, difference, times, is_in, contains, contains_all, contains_any, get_tag, has_tag, Tree, lit, unknown, binary, has_attr, record_literal, TreeFields}
 use Rattle.cedar_expr_model.specs.Whole.Builder.{conjunction, disjunction, path_test}
-use Rattle.cedar_expr_model.specs.Whole.Parts.{is_projectable, are_projectable, have_projectable}
-use Rattle.cedar_expr_model.specs.Whole.Made.{Made, made_prim, made_set, made_record, made_extension, bare, written}
-use Rattle.cedar_expr_model.specs.Whole.Substitution.{fits_annotation}
+use Rattle.cedar_expr_model.specs.Whole.Parts.{is_projectable, have_projectable}
+use Rattle.cedar_expr_model.specs.Whole.Made.{Made, made_prim, made_record, bare}
 use Rattle.cedar_expr_model.proofs.Lists.{both_hold}
-use Rattle.cedar_store_model.specs.Whole.Outcome.{Fault, Res, val, err, wrong_type}
-use Rattle.cedar_store_model.specs.Whole.World.{Part, known, left, Entity, Found, held, missing, not_loaded, part_named}
+use Rattle.cedar_store_model.specs.Whole.Outcome.{Res, val, err}
+use Rattle.cedar_store_model.specs.Whole.World.{Part, known, left, Found, held, missing, not_loaded, part_named}
 use Rattle.cedar_store_model.specs.Whole.Reads.{is_in_some, uids_in}
-use Rattle.cedar_store_model.specs.Whole.Knowledge.{is_known, holds_values}
-use Rattle.cedar_evaluator_model.specs.Scope.{Scope, MadeCalled, makes, faults, leaves_unknown, Stop, fault, limit, Left, value_left, residual, stopped}
-use Rattle.cedar_evaluator_model.specs.Steps.{errs, truth_left, on_value, best, left_of, truth_wanted, picks, mapped, stand_in, part_left, tag_left, part_or_missing, attribute_found, made_named, field_or_missing, attribute_of, test_found, test_of, path_step, path_found, path_field, path_from, path_of, get_tag_found, has_tag_found, tag_of, in_found, in_of, combined_left, differ, with_residual, is_of_residual, answer_left, Piece, whole, part, Pieces, pieces, halted, with_piece, all_whole, piece_tree, piece_trees, made_or, from_pieces, tree_fields_of}
-use Rattle.cedar_evaluator_model.specs.Evaluation.{tree_named, projected, get_of_residual, has_of_residual, right_left, names_of, trees_of, pieces_of}
+use Rattle.cedar_store_model.specs.Whole.Knowledge.{is_known}
+use Rattle.cedar_evaluator_model.specs.Scope.{Scope, fault, limit, Left, value_left, residual, stopped}
+use Rattle.cedar_evaluator_model.specs.Steps.{truth_left, on_value, left_of, truth_wanted, picks, part_left, tag_left, part_or_missing, attribute_found, made_named, field_or_missing, attribute_of, test_found, test_of, path_step, path_found, path_field, path_from, path_of, get_tag_found, has_tag_found, tag_of, in_found, in_of, combined_left, differ, with_residual, is_of_residual}
+use Rattle.cedar_evaluator_model.specs.Evaluation.{tree_named, projected, get_of_residual, has_of_residual, right_left}
 
 -- a value, an error, or a residual that can't be projected
 abbrev pub Sure : Left → Type 0

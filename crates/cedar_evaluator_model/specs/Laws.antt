@@ -1,6 +1,6 @@
 -- What the laws of partial evaluation say.
 -- Rule: partial evaluation; partial responses; completions (docs/RULES.md).
-use Rattle.std.specs.Prelude.{◌≡◌, ◌↔◌, ◌≤◌, ℕ, suc, true, false, List, [], map, All, Contains, Option, Some, None}
+use Rattle.std.specs.Prelude.{◌≡◌, ◌↔◌, ◌≤◌, ℕ, suc, true, false, List, [], map, All, Contains, Some, None}
 use Rattle.cedar_expr_model.specs.Name.{Text}
 use Rattle.cedar_expr_model.specs.Whole.Value.{Literal, V, truth_value}
 use Rattle.cedar_expr_model.specs.Whole.Tree.{Tree, lit, nesting}
@@ -12,7 +12,7 @@ use Rattle.cedar_store_model.specs.Whole.Meaning.{Means}
 use Rattle.cedar_store_model.specs.Whole.Knowledge.{Extends, IsGrounded}
 use Rattle.cedar_store_model.specs.Whole.Policy.{Policy, permit, forbid, condition}
 use Rattle.cedar_store_model.specs.Whole.Answer.{allow, deny, PolicyError, Answer, with_slots, IsSatisfied, answer_of, decision_of}
-use Rattle.cedar_evaluator_model.specs.Scope.{Scope, Agrees, fault, limit, Left, value_left, residual, stopped}
+use Rattle.cedar_evaluator_model.specs.Scope.{Scope, Agrees, fault, limit, value_left, residual, stopped}
 use Rattle.cedar_evaluator_model.specs.Evaluation.{evaluated}
 use Rattle.cedar_evaluator_model.specs.Known.{known_world}
 use Rattle.cedar_evaluator_model.specs.Whole.{NothingUnknown, AllLoaded, AllBoundTo, LeavesNothing}

@@ -4,12 +4,12 @@ use Rattle.std.specs.Prelude.{ℕ, pos, List, [], ◌∷◌, codes, true, false,
 use Rattle.std.specs.Str.{bytes_eq}
 use Rattle.cedar_expr_model.specs.Name.{Text, Name, name_eq}
 use Rattle.cedar_expr_model.specs.Uid.{Uid, uid_eq, uid_text}
-use Rattle.cedar_expr_model.specs.Whole.Value.{Literal, truth, long, text, entity, V, prim, record_of, no_fields}
-use Rattle.cedar_expr_model.specs.Whole.Tree.{Tree, lit, unknown, CoreType, string_core, extension_core, entity_core, Trees, no_trees, tree, TreeFields, no_tree_fields, tree_field, SlotId, principal_slot, record_literal}
-use Rattle.cedar_expr_model.specs.Whole.Made.{Made, made_prim, made_set, made_record, made_extension, MadeFields, no_made_fields, made_field}
-use Rattle.cedar_expr_model.specs.Whole.Table.{Table, Signature, function_style, Called, gives, fails, leaves}
-use Rattle.cedar_store_model.specs.Whole.World.{World, Part, known, left, Entity, Found, held, missing, not_loaded}
-use Rattle.cedar_evaluator_model.specs.Scope.{Scope, MadeCalled, makes, faults, leaves_unknown, bare_called, Entry, uid, unknown_uid, Context, closed, residual_fields, unknown_context}
+use Rattle.cedar_expr_model.specs.Whole.Value.{truth, long, text, entity, V, prim}
+use Rattle.cedar_expr_model.specs.Whole.Tree.{Tree, lit, unknown, string_core, extension_core, entity_core, no_tree_fields, tree_field, SlotId, record_literal}
+use Rattle.cedar_expr_model.specs.Whole.Made.{Made, made_prim, made_record, made_extension, no_made_fields, made_field}
+use Rattle.cedar_expr_model.specs.Whole.Table.{Table, Signature, function_style, Called, fails, leaves}
+use Rattle.cedar_store_model.specs.Whole.World.{known, left, Entity, Found, held, missing, not_loaded}
+use Rattle.cedar_evaluator_model.specs.Scope.{Scope, MadeCalled, makes, faults, leaves_unknown, bare_called, uid, unknown_uid, Context, closed, residual_fields, unknown_context}
 
 abbrev pub named : Text → Name
 named n = record { path = []; base = n }
@@ -96,10 +96,10 @@ abbrev pub entity_a : Entity Made
 entity_a =
     record {
       attributes =
-        (codes "boss", known (made_prim (entity user_b)))
-        ∷ (codes "ok", left unknown_u)
-        ∷ (codes "rest", left (record_literal (tree_field (codes "y") unknown_u no_tree_fields)))
-        ∷ [];
+          (codes "boss", known (made_prim (entity user_b)))
+          ∷ (codes "ok", left unknown_u)
+          ∷ (codes "rest", left (record_literal (tree_field (codes "y") unknown_u no_tree_fields)))
+          ∷ [];
       tags = (codes "t", known (made_number 1)) ∷ (codes "later", left unknown_a) ∷ [];
       ancestors = doc_d ∷ [];
     }
@@ -108,9 +108,9 @@ abbrev pub entity_d : Entity Made
 entity_d =
     record {
       attributes =
-        (codes "owner", known (made_prim (entity user_a)))
-        ∷ (codes "place", known (made_record (made_field (codes "x") (made_number 1) no_made_fields)))
-        ∷ [];
+          (codes "owner", known (made_prim (entity user_a)))
+          ∷ (codes "place", known (made_record (made_field (codes "x") (made_number 1) no_made_fields)))
+          ∷ [];
       tags = [];
       ancestors = [];
     }

@@ -1,9 +1,9 @@
 -- The values of the worked examples of completions and of standing for an expression.
 -- Rule: completions; partial evaluation (docs/RULES.md).
-use Rattle.std.specs.Prelude.{[], ◌∷◌, codes, true, Option, Some, None, if◌then◌else◌}
+use Rattle.std.specs.Prelude.{[], codes, true, Some, if◌then◌else◌}
 use Rattle.std.specs.Str.{bytes_eq}
 use Rattle.cedar_expr_model.specs.Name.{Text}
-use Rattle.cedar_expr_model.specs.Uid.{Uid, uid_text}
+use Rattle.cedar_expr_model.specs.Uid.{uid_text}
 use Rattle.cedar_expr_model.specs.Whole.Value.{V, prim, entity, record_of, no_fields, truth_value}
 use Rattle.cedar_expr_model.specs.Whole.Table.{Table, fails}
 use Rattle.cedar_store_model.specs.Whole.World.{World, missing}
@@ -19,9 +19,9 @@ abbrev pub meant : Text → V
 meant n =
     if bytes_eq n (codes "principal") then prim (entity user_a)
     else (if bytes_eq n (codes "action") then prim (entity view)
-          else (if bytes_eq n (codes "resource") then prim (entity doc_d)
-                else (if bytes_eq n (codes "context") then record_of no_fields
-                      else (if bytes_eq n (uid_text user_b) then prim (entity user_b) else truth_value true))))
+    else (if bytes_eq n (codes "resource") then prim (entity doc_d)
+    else (if bytes_eq n (codes "context") then record_of no_fields
+    else (if bytes_eq n (uid_text user_b) then prim (entity user_b) else truth_value true))))
 
 abbrev pub completed : World
 completed =

@@ -1,19 +1,19 @@
 -- The values of the worked examples of partial responses and of reauthorizing.
 -- Rule: partial responses; reauthorizing (docs/RULES.md).
-use Rattle.std.specs.Prelude.{ℕ, List, [], ◌∷◌, map, codes, true, false, Bool, Option, Some, None, if◌then◌else◌}
+use Rattle.std.specs.Prelude.{[], ◌∷◌, codes, true, Option, Some, None, if◌then◌else◌}
 use Rattle.std.specs.Str.{bytes_eq}
-use Rattle.cedar_expr_model.specs.Name.{Text, Name}
+use Rattle.cedar_expr_model.specs.Name.{Text}
 use Rattle.cedar_expr_model.specs.Uid.{Uid}
-use Rattle.cedar_expr_model.specs.Whole.Value.{entity, text}
-use Rattle.cedar_expr_model.specs.Whole.Tree.{Tree, lit, var, unknown, both, unary, negation, binary, equal, call, get_attr, principal, resource, context, no_trees, tree, no_tree_fields, tree_field, record_literal, set_literal, Trees}
-use Rattle.cedar_expr_model.specs.Whole.Made.{Made, made_prim, made_set, no_mades, no_made_fields, made_record}
-use Rattle.cedar_store_model.specs.Whole.Policy.{Policy, Effect, permit, forbid, any, any_action, exactly, named, no_bindings, own_slot}
+use Rattle.cedar_expr_model.specs.Whole.Value.{entity}
+use Rattle.cedar_expr_model.specs.Whole.Tree.{Tree, lit, var, unknown, both, binary, equal, get_attr, principal, resource, context, no_tree_fields, tree_field}
+use Rattle.cedar_expr_model.specs.Whole.Made.{Made, made_prim}
+use Rattle.cedar_store_model.specs.Whole.Policy.{Policy, Effect, permit, forbid, any, any_action, exactly, named, no_bindings}
 use Rattle.cedar_store_model.specs.Whole.Answer.{Decision}
-use Rattle.cedar_evaluator_model.specs.Scope.{Scope, uid, unknown_uid, residual_fields, closed, unknown_context}
-use Rattle.cedar_evaluator_model.specs.Response.{Noted, no_error, with_error, ResponseError, Response, noted, request_of, response_of}
+use Rattle.cedar_evaluator_model.specs.Scope.{Scope, uid, unknown_uid, residual_fields}
+use Rattle.cedar_evaluator_model.specs.Response.{Noted, no_error, with_error, Response, request_of, response_of}
 use Rattle.cedar_evaluator_model.specs.Members.{decision}
 use Rattle.cedar_evaluator_model.specs.Reauthorize.{Outcome, makes_it, refuses, Refusal, reauthorized}
-use Rattle.cedar_evaluator_model.specs.Worked.{entity_of, user_a, user_b, doc_d, number, made_number, made_truth, true_tree, false_tree, unknown_a, scope, bare_scope, value_of}
+use Rattle.cedar_evaluator_model.specs.Worked.{entity_of, user_a, number, made_number, made_truth, false_tree, unknown_a, scope, bare_scope}
 
 -- a policy for every request, with a body
 abbrev pub policy : Text → Effect → Option Tree → Policy

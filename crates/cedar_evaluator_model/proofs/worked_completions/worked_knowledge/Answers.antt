@@ -1,6 +1,6 @@
-use Rattle.std.proofs.Common.{◌≡◌, [], ◌∷◌, refl, codes}
+use Rattle.std.proofs.Common.{[], ◌∷◌, refl, codes}
 use Rattle.cedar_expr_model.specs.Whole.Value.{text, prim}
-use Rattle.cedar_evaluator_model.specs.Worked.{user_b, later, later_function, made_number}
+use Rattle.cedar_evaluator_model.specs.Worked.{user_b, later, later_function}
 use Rattle.cedar_evaluator_model.proofs.worked_completions.worked_knowledge.Goals as goal
 
 -- the call `later("u")` leaves the unknown `u`
