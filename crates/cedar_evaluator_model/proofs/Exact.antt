@@ -1,13 +1,12 @@
 -- Where nothing is unknown evaluation is the meaning.
-use Rattle.std.proofs.Common.{◌≡◌, ◌↔◌, ℕ, ◌≤◌, Bool, true, false, cond, ◌&&◌, List, [], ◌∷◌, refl, sym, ap, ◌∙◌, subst}
-use Rattle.std.specs.Prelude.{Option, Some, None, map, length, is_some}
+use Rattle.std.proofs.Common.{◌≡◌, ℕ, ◌≤◌, Bool, true, false, cond, List, [], ◌∷◌, sym, ap, ◌∙◌, subst}
+use Rattle.std.specs.Prelude.{Option, Some, map, is_some}
 use Rattle.std.specs.List.{list_all}
 use Rattle.cedar_expr_model.specs.Name.{Text, Name, name_eq}
-use Rattle.cedar_expr_model.specs.Uid.{Uid}
 use Rattle.cedar_expr_model.specs.Whole.Value.{V}
 use Rattle.cedar_expr_model.specs.Whole.Tree.{CoreType, Tree, nesting}
-use Rattle.cedar_expr_model.specs.Whole.Made.{Made, bare}
-use Rattle.cedar_expr_model.specs.Whole.Table.{Table, Signature, Called, leaves, IsAnswer, IsFair, all_typed, signature_among, signature_of}
+use Rattle.cedar_expr_model.specs.Whole.Made.{bare}
+use Rattle.cedar_expr_model.specs.Whole.Table.{Table, Signature, leaves, IsAnswer, IsFair, all_typed, signature_among}
 use Rattle.cedar_expr_model.specs.Whole.Unknowns.{EachUnknown}
 use Rattle.cedar_expr_model.proofs.Lists.{both_hold}
 use Rattle.cedar_expr_model.proofs.Whole.Substituting.{each_follows}
@@ -16,7 +15,7 @@ use Rattle.cedar_store_model.specs.Whole.Meaning.{Means, outcome_of}
 use Rattle.cedar_store_model.specs.Whole.Knowledge.{IsThere}
 use Rattle.cedar_store_model.proofs.Whole.Known.{what_is_there}
 use Rattle.cedar_store_model.proofs.Whole.Meaning.{outcome_means}
-use Rattle.cedar_evaluator_model.specs.Scope.{Scope, leaves_unknown, bare_called, Agrees, fault, limit, Left, value_left, residual, stopped}
+use Rattle.cedar_evaluator_model.specs.Scope.{Scope, bare_called, Agrees, fault, Left, value_left, residual, stopped}
 use Rattle.cedar_evaluator_model.specs.Evaluation.{evaluated}
 use Rattle.cedar_evaluator_model.specs.Known.{known_world}
 use Rattle.cedar_evaluator_model.specs.Whole.{NothingUnknown, AllLoaded, BoundTo, AllBoundTo, LeavesNothing}

@@ -1,21 +1,21 @@
 -- What is left beside the outcome that what is known gives, through each combinator.
-use Rattle.std.proofs.Common.{◌≡◌, ℤ, Bool, true, false, cond, ◌&&◌, refl, sym, ap, ◌∙◌, subst}
+use Rattle.std.proofs.Common.{ℤ, Bool, true, false, cond, ◌&&◌, refl, sym, ap, subst}
 use Rattle.std.specs.Prelude.{List, Option, Some, None, neg_ℤ}
 use Rattle.std.specs.declared.cmp.Ordering.{Ordering}
 use Rattle.cedar_expr_model.specs.Name.{Name, name_eq}
 use Rattle.cedar_expr_model.specs.Uid.{Uid}
-use Rattle.cedar_expr_model.specs.Whole.Value.{Literal, truth, long, text, entity, V, prim, set_of, record_of, extension, Vs}
+use Rattle.cedar_expr_model.specs.Whole.Value.{truth, long, text, entity, V, prim, set_of, record_of, extension, Vs}
 use Rattle.cedar_expr_model.specs.Whole.Order.{text_cmp}
 use Rattle.cedar_expr_model.specs.Whole.Pattern.{Pattern}
 use Rattle.cedar_expr_model.specs.Whole.Tree.{Tree, UnaryOp, negation, minus, is_empty}
-use Rattle.cedar_expr_model.specs.Whole.Made.{Made, made_prim, made_set, made_record, made_extension, bare}
+use Rattle.cedar_expr_model.specs.Whole.Made.{Made, made_prim, bare}
 use Rattle.cedar_expr_model.specs.Whole.Table.{Table, is_ordered}
-use Rattle.cedar_store_model.specs.Whole.Outcome.{Res, val, err, Fault, wrong_type, overflow, bind}
+use Rattle.cedar_store_model.specs.Whole.Outcome.{Res, val, err, wrong_type, overflow, bind}
 use Rattle.cedar_store_model.specs.Whole.Operators.{is_long, in_range, says, applied, ordered, calculated, among_members, of_sets, like_pattern, of_type}
 use Rattle.cedar_store_model.specs.Whole.Reads.{is_in_some}
 use Rattle.cedar_store_model.specs.Whole.Meaning.{picked, truth_asked}
-use Rattle.cedar_evaluator_model.specs.Scope.{Stop, fault, Left, value_left, residual, stopped}
-use Rattle.cedar_evaluator_model.specs.Steps.{errs, on_value, left_of, truth_wanted, picks}
+use Rattle.cedar_evaluator_model.specs.Scope.{Left, value_left}
+use Rattle.cedar_evaluator_model.specs.Steps.{on_value, left_of, truth_wanted, picks}
 use Rattle.cedar_evaluator_model.specs.Evaluation.{right_left}
 use Rattle.cedar_evaluator_model.specs.Standing.{IsOutcome}
 
@@ -43,7 +43,7 @@ given_picks a b l r h k (made_prim (truth true)) = h
 given_picks a b l r h k (made_prim (truth false)) = k
 given_picks a b l r h k m = refl
 
-given_asked : (m : Made) → Given (Some (truth_asked (bare m))) (truth_wanted m)
+pub given_asked : (m : Made) → Given (Some (truth_asked (bare m))) (truth_wanted m)
 given_asked (made_prim (truth b)) = given_value (made_prim (truth b))
 given_asked m = refl
 

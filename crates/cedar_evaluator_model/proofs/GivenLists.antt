@@ -1,19 +1,18 @@
 -- Lists of expressions: what is left of them beside their outcomes, and the sets and records that are made of values.
-use Rattle.std.proofs.Common.{◌≡◌, Bool, true, false, cond, List, [], ◌∷◌, refl, sym, ap, ◌∙◌, subst}
+use Rattle.std.proofs.Common.{◌≡◌, List, [], ◌∷◌, refl, sym, ap, ◌∙◌, subst}
 use Rattle.std.specs.Prelude.{Option, Some, None, option_map, map}
 use Rattle.std.specs.Ordering.{match_ordering}
 use Rattle.std.specs.declared.cmp.Ordering.{Ordering}
 use Rattle.std.specs.declared.cmp.Ordering.TheVariants.{Less, Equal, Greater}
-use Rattle.cedar_expr_model.specs.Name.{Text}
-use Rattle.cedar_expr_model.specs.Whole.Value.{V, Vs, value, Fields, no_fields, field}
+use Rattle.cedar_expr_model.specs.Whole.Value.{V, value}
 use Rattle.cedar_expr_model.specs.Whole.Order.{value_cmp}
 use Rattle.cedar_expr_model.specs.Whole.Canonical.{inserted, members_made}
 use Rattle.cedar_expr_model.specs.Whole.Tree.{Tree, Trees}
-use Rattle.cedar_expr_model.specs.Whole.Made.{Made, Mades, no_mades, made, MadeFields, made_field, bare, bares, bare_fields}
+use Rattle.cedar_expr_model.specs.Whole.Made.{Made, Mades, no_mades, made, bare, bares}
 use Rattle.cedar_expr_model.proofs.Whole.ValueOrder.{value_exact}
 use Rattle.cedar_store_model.specs.Whole.Outcome.{Res, val, err, bind}
-use Rattle.cedar_evaluator_model.specs.Scope.{Stop, fault, Left, value_left, residual, stopped}
-use Rattle.cedar_evaluator_model.specs.Steps.{Piece, whole, part, Pieces, pieces, halted, with_piece, all_whole, made_or, from_pieces, made_fields, made_inserted, made_members}
+use Rattle.cedar_evaluator_model.specs.Scope.{Stop, fault, Left, value_left, stopped}
+use Rattle.cedar_evaluator_model.specs.Steps.{whole, Pieces, pieces, halted, with_piece, all_whole, made_or, from_pieces, made_inserted, made_members}
 use Rattle.cedar_evaluator_model.proofs.Given.{Given}
 
 -- sets of values as they were made have the bare sets

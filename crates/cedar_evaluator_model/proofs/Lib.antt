@@ -3,6 +3,13 @@ pub mod Given
 pub mod GivenReads
 pub mod GivenLists
 pub mod Owed
+pub mod Reached
+pub mod Larger
 pub mod Settled
+pub mod Sure
+pub mod NoLimits
 pub mod Exact
 pub mod Completions
+pub mod Limits
+pub mod Responses
+pub mod Forced

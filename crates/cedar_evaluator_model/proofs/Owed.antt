@@ -1,24 +1,24 @@
 -- What is owed: where what is known gives an expression an outcome, and its nesting is within the limit, that outcome is left.
-use Rattle.std.proofs.Common.{◌≡◌, ℕ, zero, suc, ◌≤◌, max, Bool, true, false, cond, List, [], ◌∷◌, refl, sym, ap, ◌∙◌, subst, arith}
+use Rattle.std.proofs.Common.{◌≡◌, ℕ, zero, suc, ◌≤◌, max, true, false, [], ◌∷◌, refl, sym, ap, subst, arith}
 use Rattle.std.proofs.Math.Nat.{le-max_left, le-max_right}
 use Rattle.std.specs.Prelude.{Option, Some, None, map, option_map}
 use Rattle.cedar_expr_model.specs.Name.{Text}
 use Rattle.cedar_expr_model.specs.Uid.{Uid}
-use Rattle.cedar_expr_model.specs.Whole.Value.{Literal, truth, V, prim, set_of, record_of, Fields, no_fields, field}
-use Rattle.cedar_expr_model.specs.Whole.Canonical.{set_made, members_made}
+use Rattle.cedar_expr_model.specs.Whole.Value.{truth, V, set_of, record_of, field}
+use Rattle.cedar_expr_model.specs.Whole.Canonical.{set_made}
 use Rattle.cedar_expr_model.specs.Whole.Builder.{conjunction, disjunction}
 use Rattle.cedar_expr_model.specs.Whole.Tree.{CoreType, Tree, lit, var, slot, unknown, choice, both, either, unary, binary, call, get_attr, has_attr, has_path, like, is_type, set_literal, record_literal, Trees, no_trees, tree, TreeFields, no_tree_fields, tree_field, Var, principal, action, resource, context, nesting, nestings, field_nestings}
 use Rattle.cedar_expr_model.specs.Whole.Unknowns.{EachUnknownAmong, EachUnknownInFields}
-use Rattle.cedar_expr_model.specs.Whole.Made.{Made, made_prim, made_set, made_record, bare, bare_fields}
+use Rattle.cedar_expr_model.specs.Whole.Made.{made_prim, made_set, made_record, bare, bare_fields}
 use Rattle.cedar_expr_model.specs.Whole.Table.{signature_of}
-use Rattle.cedar_store_model.specs.Whole.Outcome.{Res, val, err, bind}
+use Rattle.cedar_store_model.specs.Whole.Outcome.{Res, val, bind}
 use Rattle.cedar_store_model.specs.Whole.Operators.{says, applied, like_pattern, of_type, called, bound_value}
 use Rattle.cedar_store_model.specs.Whole.Reads.{attribute_read, attribute_tested, path_tested}
-use Rattle.cedar_store_model.specs.Whole.Meaning.{Means, known_uid, variable, combined, picked, truth_asked, slot_value, outcome_of, outcomes_of, field_outcomes_of}
+use Rattle.cedar_store_model.specs.Whole.Meaning.{known_uid, variable, combined, slot_value, outcome_of, outcomes_of, field_outcomes_of}
 use Rattle.cedar_store_model.proofs.Whole.Meaning.{means_outcome}
 use Rattle.cedar_evaluator_model.specs.Scope.{Scope, Entry, uid, unknown_uid, Context, closed, residual_fields, unknown_context, Agrees, Left, value_left}
-use Rattle.cedar_evaluator_model.specs.Steps.{truth_left, left_of, picks, truth_wanted, combined_left, attribute_of, test_of, path_of, called_left, made_members, made_fields, tree_fields_of}
-use Rattle.cedar_evaluator_model.specs.Evaluation.{entry_left, context_left, variable_left, slot_left, right_left, pieces_of, names_of, trees_of, node, evaluated}
+use Rattle.cedar_evaluator_model.specs.Steps.{truth_left, left_of, combined_left, attribute_of, test_of, path_of, called_left, made_members, made_fields, tree_fields_of}
+use Rattle.cedar_evaluator_model.specs.Evaluation.{entry_left, context_left, variable_left, slot_left, pieces_of, names_of, trees_of, node, evaluated}
 use Rattle.cedar_evaluator_model.specs.Known.{known_entry, known_context, known_world}
 use Rattle.cedar_evaluator_model.specs.Completion.{Fits, FitsAnnotations}
 use Rattle.cedar_evaluator_model.specs.Standing.{IsOutcome, LeavesUnbound, Owed}
@@ -37,24 +37,24 @@ given_context (closed fs) = given_value (made_record fs)
 given_context (residual_fields fs) = tt
 given_context unknown_context = tt
 
-given_variable : (s : Scope) (x : Var) → Given (variable (known_world s) x) (variable_left s x)
+pub given_variable : (s : Scope) (x : Var) → Given (variable (known_world s) x) (variable_left s x)
 given_variable s principal = given_entry _ s.principal
 given_variable s action = given_entry _ s.action
 given_variable s resource = given_entry _ s.resource
 given_variable s context = given_context s.context
 
-given_slot : (o : Option Uid) → Given (Some (slot_value o)) (slot_left o)
+pub given_slot : (o : Option Uid) → Given (Some (slot_value o)) (slot_left o)
 given_slot None = refl
 given_slot (Some u) = given_value (made_prim _)
 
 -- depths of children
-left_within : (a b n : ℕ) → max a b ≤ n → a ≤ n
+pub left_within : (a b n : ℕ) → max a b ≤ n → a ≤ n
 left_within a b n h = let k = le-max_left a b in omega (arith, h, k)
 
-right_within : (a b n : ℕ) → max a b ≤ n → b ≤ n
+pub right_within : (a b n : ℕ) → max a b ≤ n → b ≤ n
 right_within a b n h = let k = le-max_right a b in omega (arith, h, k)
 
-less_one : (a n : ℕ) → suc a ≤ suc n → a ≤ n
+pub less_one : (a n : ℕ) → suc a ≤ suc n → a ≤ n
 less_one a n h = omega (arith, h)
 
 -- one level, where the outcomes of what is a level deeper are given
@@ -114,7 +114,7 @@ module _ (s : Scope) (agrees : Agrees s) (unbound : LeavesUnbound s) (n : ℕ) (
       given_from (λ ms. bare_fields (made_fields (names_of fs) ms)) (field_outcomes_of (known_world s) fs) (pieces_of go (trees_of fs)) (λ vs. Some (val (record_of vs))) (λ ms. value_left (made_record (made_fields (names_of fs) ms))) (λ ts. record_literal (tree_fields_of (names_of fs) ts)) (given_fields fs (less_one _ n d) f)
       (λ ms. given_value (made_record (made_fields (names_of fs) ms)))
 
-nested : (t : Tree) → nesting t ≤ 0 → ⊥
+pub nested : (t : Tree) → nesting t ≤ 0 → ⊥
 nested (lit p) h = omega (arith, h)
 nested (var p) h = omega (arith, h)
 nested (slot p) h = omega (arith, h)

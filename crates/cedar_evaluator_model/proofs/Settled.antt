@@ -1,16 +1,16 @@
 -- Where everything but the unknowns is known, an expression whose unknowns have values has an outcome.
-use Rattle.std.proofs.Common.{◌≡◌, Bool, true, false, cond, List, [], ◌∷◌, refl, sym, ap, ◌∙◌, subst}
+use Rattle.std.proofs.Common.{◌≡◌, Bool, true, false, cond, List, [], ◌∷◌, refl, subst}
 use Rattle.std.specs.Prelude.{Option, Some, None, length}
 use Rattle.cedar_expr_model.specs.Name.{Text, Name}
 use Rattle.cedar_expr_model.specs.Uid.{Uid}
-use Rattle.cedar_expr_model.specs.Whole.Value.{V, prim, truth, text, entity, record_of, field, truth_value}
+use Rattle.cedar_expr_model.specs.Whole.Value.{V, prim, text, entity, record_of, field, truth_value}
 use Rattle.cedar_expr_model.specs.Whole.Canonical.{set_made}
 use Rattle.cedar_expr_model.specs.Whole.Tree.{Tree, lit, var, slot, unknown, choice, both, either, unary, binary, call, get_attr, has_attr, has_path, like, is_type, set_literal, record_literal, Trees, no_trees, tree, TreeFields, no_tree_fields, tree_field, Var, principal, action, resource, context, BinaryOp, is_in, get_tag, has_tag}
 use Rattle.cedar_expr_model.specs.Whole.Unknowns.{EachUnknown, EachUnknownAmong, EachUnknownInFields}
-use Rattle.cedar_expr_model.specs.Whole.Table.{Table, Signature, Called, gives, fails, leaves, signature_of, takes_count, are_of_types}
+use Rattle.cedar_expr_model.specs.Whole.Table.{Signature, Called, gives, fails, leaves, signature_of, takes_count, are_of_types}
 use Rattle.cedar_store_model.specs.Whole.Outcome.{Res, val, err, bind, wrong_type, wrong_count}
-use Rattle.cedar_store_model.specs.Whole.World.{World, Found}
-use Rattle.cedar_store_model.specs.Whole.Operators.{says, applied, like_pattern, of_type, bound_value, answered, called_with, called}
+use Rattle.cedar_store_model.specs.Whole.World.{World}
+use Rattle.cedar_store_model.specs.Whole.Operators.{says, applied, like_pattern, of_type, bound_value, answered, called_with}
 use Rattle.cedar_store_model.specs.Whole.Reads.{attribute_read, attribute_tested, step_from, path_after, path_tested, tag_read, tag_tested, within}
 use Rattle.cedar_store_model.specs.Whole.Meaning.{variable, combined, picked, truth_asked, outcome_of, outcomes_of, field_outcomes_of}
 use Rattle.cedar_store_model.specs.Whole.Knowledge.{IsThere, IsSettled, IsWhole}

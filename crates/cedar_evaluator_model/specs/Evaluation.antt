@@ -1,19 +1,19 @@
 -- Partial evaluation: one level of an expression, given what is left of expressions a level deeper; and the whole, within a limit on
 -- the depth. The root has depth 1.
 -- Rule: partial evaluation; the recursion limit (docs/RULES.md).
-use Rattle.std.specs.Prelude.{◌&&◌, ℕ, zero, suc, List, [], ◌∷◌, Bool, true, false, Option, Some, None, is_some, if◌then◌else◌, codes}
+use Rattle.std.specs.Prelude.{ℕ, zero, suc, List, [], ◌∷◌, Bool, true, false, Option, Some, None, is_some, if◌then◌else◌, codes}
 use Rattle.std.specs.Str.{bytes_eq}
-use Rattle.cedar_expr_model.specs.Name.{Text, Name}
+use Rattle.cedar_expr_model.specs.Name.{Text}
 use Rattle.cedar_expr_model.specs.Uid.{Uid}
-use Rattle.cedar_expr_model.specs.Whole.Value.{Literal, truth, entity, V}
-use Rattle.cedar_expr_model.specs.Whole.Tree.{Var, principal, action, resource, context, CoreType, entity_core, BinaryOp, Tree, lit, var, slot, unknown, choice, both, either, unary, binary, call, get_attr, has_attr, has_path, like, is_type, set_literal, record_literal, Trees, no_trees, tree, TreeFields, no_tree_fields, tree_field}
+use Rattle.cedar_expr_model.specs.Whole.Value.{truth, entity}
+use Rattle.cedar_expr_model.specs.Whole.Tree.{Var, principal, action, resource, context, entity_core, BinaryOp, Tree, lit, var, slot, unknown, choice, both, either, unary, binary, call, get_attr, has_attr, has_path, like, is_type, set_literal, record_literal, Trees, no_trees, tree, TreeFields, no_tree_fields, tree_field}
 use Rattle.cedar_expr_model.specs.Whole.Builder.{conjunction, disjunction, path_test}
 use Rattle.cedar_expr_model.specs.Whole.Parts.{have_projectable}
-use Rattle.cedar_expr_model.specs.Whole.Made.{Made, made_prim, made_set, made_record, bare, written}
+use Rattle.cedar_expr_model.specs.Whole.Made.{made_prim, made_set, made_record, bare, written}
 use Rattle.cedar_store_model.specs.Whole.Outcome.{missing_field, unlinked_slot}
 use Rattle.cedar_store_model.specs.Whole.Operators.{applied, like_pattern, of_type}
-use Rattle.cedar_evaluator_model.specs.Scope.{Scope, Entry, uid, unknown_uid, Context, closed, residual_fields, unknown_context, Stop, limit, Left, value_left, residual, stopped}
-use Rattle.cedar_evaluator_model.specs.Steps.{errs, truth_left, on_value, best, left_of, truth_wanted, picks, mapped, attribute_of, test_of, path_of, combined_left, kind_of_value, kind_of_unknown, with_residual, is_of_residual, called_left, made_members, Pieces, pieces, halted, with_piece, from_pieces, made_fields, tree_fields_of}
+use Rattle.cedar_evaluator_model.specs.Scope.{Scope, Entry, uid, unknown_uid, Context, closed, residual_fields, unknown_context, limit, Left, value_left, residual, stopped}
+use Rattle.cedar_evaluator_model.specs.Steps.{errs, truth_left, on_value, best, left_of, truth_wanted, picks, mapped, attribute_of, test_of, path_of, combined_left, kind_of_value, kind_of_unknown, with_residual, is_of_residual, called_left, made_members, Pieces, pieces, with_piece, from_pieces, made_fields, tree_fields_of}
 
 abbrev pub entry_left : Text → Entry → Left
 entry_left name (uid u) = value_left (made_prim (entity u))

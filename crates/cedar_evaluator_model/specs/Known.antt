@@ -1,12 +1,12 @@
 -- The world of what an evaluation knows as values: what is still an expression, or unknown, is open in it.
 -- Rule: partial evaluation; what is known (docs/RULES.md).
-use Rattle.std.specs.Prelude.{◌≡◌, List, [], ◌∷◌, map, Option, Some, None, option_map}
+use Rattle.std.specs.Prelude.{List, map, Option, Some, None, option_map}
 use Rattle.cedar_expr_model.specs.Name.{Text}
 use Rattle.cedar_expr_model.specs.Uid.{Uid}
 use Rattle.cedar_expr_model.specs.Whole.Value.{V, record_of}
-use Rattle.cedar_expr_model.specs.Whole.Made.{Made, MadeFields, bare, bare_fields}
+use Rattle.cedar_expr_model.specs.Whole.Made.{Made, bare, bare_fields}
 use Rattle.cedar_store_model.specs.Whole.World.{World, Part, known, left, Entity, Found, held, missing, not_loaded}
-use Rattle.cedar_evaluator_model.specs.Scope.{Scope, Entry, uid, unknown_uid, Context, closed, residual_fields, unknown_context}
+use Rattle.cedar_evaluator_model.specs.Scope.{Scope, Entry, uid, unknown_uid, Context, closed}
 
 -- the uid, where it is known
 abbrev pub known_entry : Entry → Option Uid

@@ -9,3 +9,6 @@ pub mod Response
 pub mod Members
 pub mod Reauthorize
 pub mod Laws
+pub mod Worked
+pub mod WorkedResponses
+pub mod WorkedCompletions

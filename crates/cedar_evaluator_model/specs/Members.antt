@@ -1,15 +1,14 @@
 -- What a partial response answers: decisions, policies that may or must determine them, residual policies.
 -- Rule: partial responses (docs/RULES.md).
-use Rattle.std.specs.Prelude.{List, [], ◌∷◌, ◌++◌, map, ◌&&◌, ◌||◌, Bool, true, false, not, Option, Some, None, if◌then◌else◌}
+use Rattle.std.specs.Prelude.{List, [], ◌∷◌, ◌++◌, map, Bool, true, false, Option, Some, None, if◌then◌else◌}
 use Rattle.std.specs.List.{filter, filter_map, list_any}
 use Rattle.std.specs.Str.{bytes_eq}
 use Rattle.cedar_expr_model.specs.Name.{Text}
 use Rattle.cedar_expr_model.specs.Whole.Value.{truth}
 use Rattle.cedar_expr_model.specs.Whole.Tree.{Tree, lit}
-use Rattle.cedar_expr_model.specs.Whole.Substitution.{first_of_two}
 use Rattle.cedar_store_model.specs.Whole.Policy.{Policy, Effect, permit, forbid, any, any_action, no_bindings}
 use Rattle.cedar_store_model.specs.Whole.Answer.{Decision, allow, deny, ids}
-use Rattle.cedar_evaluator_model.specs.Scope.{fault, limit}
+use Rattle.cedar_evaluator_model.specs.Scope.{limit}
 use Rattle.cedar_evaluator_model.specs.Response.{Noted, ErrorState, no_error, with_error, Cause, stops, no_value, ResponseError, Response}
 
 -- a policy of what is left: its scope is any, and its body is the residual
@@ -98,7 +97,7 @@ abbrev pub get : Response → Text → Option Policy
 get r i =
     with_id i
     ((of_residual permit r.residual_permits ++ (of_true permit r.true_permits ++ of_false permit r.false_permits))
-     ++ (of_residual forbid r.residual_forbids ++ (of_true forbid r.true_forbids ++ of_false forbid r.false_forbids)))
+    ++ (of_residual forbid r.residual_forbids ++ (of_true forbid r.true_forbids ++ of_false forbid r.false_forbids)))
 
 -- the error of a residual policy where a value is wanted
 abbrev pub without_value : Noted × Tree → ResponseError

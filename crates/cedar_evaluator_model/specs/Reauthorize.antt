@@ -1,17 +1,17 @@
 -- Reauthorizing: what is left of the policies is evaluated again, with values for unknowns.
 -- Rule: reauthorizing (docs/RULES.md).
-use Rattle.std.specs.Prelude.{List, [], ◌∷◌, ℕ, Bool, true, false, Option, Some, None, if◌then◌else◌, codes}
+use Rattle.std.specs.Prelude.{List, [], ◌∷◌, ℕ, Option, Some, None, if◌then◌else◌, codes}
 use Rattle.std.specs.List.{list_any}
 use Rattle.std.specs.Str.{bytes_eq}
-use Rattle.cedar_expr_model.specs.Name.{Text, Name, name_eq}
+use Rattle.cedar_expr_model.specs.Name.{Text, name_eq}
 use Rattle.cedar_expr_model.specs.Uid.{Uid}
 use Rattle.cedar_expr_model.specs.Whole.Value.{entity}
-use Rattle.cedar_expr_model.specs.Whole.Tree.{Tree, TreeFields, record_literal, Var, principal, action, resource, context}
+use Rattle.cedar_expr_model.specs.Whole.Tree.{Tree, record_literal, Var, principal, action, resource, context}
 use Rattle.cedar_expr_model.specs.Whole.Made.{Made, made_prim, made_record}
 use Rattle.cedar_expr_model.specs.Whole.Substitution.{Bindings, substituted}
 use Rattle.cedar_store_model.specs.Whole.Policy.{Policy}
 use Rattle.cedar_store_model.specs.Whole.Answer.{ids}
-use Rattle.cedar_evaluator_model.specs.Scope.{Scope, Entry, uid, unknown_uid, Context, closed, residual_fields, unknown_context, Stop, limit, Left, value_left, residual, stopped}
+use Rattle.cedar_evaluator_model.specs.Scope.{Scope, Entry, uid, unknown_uid, Context, closed, residual_fields, unknown_context, Stop, Left, value_left, residual, stopped}
 use Rattle.cedar_evaluator_model.specs.Evaluation.{evaluated}
 use Rattle.cedar_evaluator_model.specs.Response.{PartialRequest, Response, response_of}
 use Rattle.cedar_evaluator_model.specs.Members.{all_residuals}
@@ -96,8 +96,8 @@ abbrev pub request_bound : Scope → Bindings → PartialRequest → Outcome Par
 request_bound s env q =
     and_next (entry_bound principal q.principal (env (codes "principal")))
     (λ p. and_next (entry_bound action q.action (env (codes "action")))
-     (λ a. and_next (entry_bound resource q.resource (env (codes "resource")))
-      (λ r. and_next (context_under s env q.context) (λ c. makes_it (record { principal = p; action = a; resource = r; context = c })))))
+    (λ a. and_next (entry_bound resource q.resource (env (codes "resource")))
+    (λ r. and_next (context_under s env q.context) (λ c. makes_it (record { principal = p; action = a; resource = r; context = c })))))
 
 -- the scope with another request, in which unknowns have these values
 abbrev pub resumed : Scope → Bindings → PartialRequest → Scope

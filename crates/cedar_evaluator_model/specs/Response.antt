@@ -1,15 +1,14 @@
 -- Partial responses: policies evaluated one after the other, in groups by effect and by what was left of their conditions.
 -- Rule: partial responses (docs/RULES.md).
-use Rattle.std.specs.Prelude.{ℕ, List, [], ◌∷◌, ◌++◌, Bool, true, false, Option, Some, None}
+use Rattle.std.specs.Prelude.{ℕ, List, true, false, Option, Some, None}
 use Rattle.std.specs.List.{filter_map}
 use Rattle.cedar_expr_model.specs.Name.{Text}
 use Rattle.cedar_expr_model.specs.Whole.Value.{truth}
 use Rattle.cedar_expr_model.specs.Whole.Tree.{Tree}
-use Rattle.cedar_expr_model.specs.Whole.Made.{Made, made_prim}
-use Rattle.cedar_store_model.specs.Whole.Outcome.{wrong_type}
+use Rattle.cedar_expr_model.specs.Whole.Made.{made_prim}
 use Rattle.cedar_store_model.specs.Whole.Policy.{Policy, Effect, permit, forbid, SlotBindings, binding_of, condition}
-use Rattle.cedar_evaluator_model.specs.Scope.{Scope, Entry, Context, Stop, fault, Left, value_left, residual, stopped}
-use Rattle.cedar_evaluator_model.specs.Steps.{errs, on_value, truth_wanted}
+use Rattle.cedar_evaluator_model.specs.Scope.{Scope, Entry, Context, Stop, Left, value_left, residual, stopped}
+use Rattle.cedar_evaluator_model.specs.Steps.{on_value, truth_wanted}
 use Rattle.cedar_evaluator_model.specs.Evaluation.{evaluated}
 
 -- a request of which parts may be unknown

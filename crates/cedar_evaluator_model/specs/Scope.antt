@@ -1,6 +1,6 @@
 -- What an evaluation knows: request, context, slots, values for unknowns, store and functions; and what it leaves.
 -- Rule: partial evaluation (docs/RULES.md).
-use Rattle.std.specs.Prelude.{◌≡◌, List, [], ◌∷◌, map, length, true, Option, Some, None}
+use Rattle.std.specs.Prelude.{◌≡◌, List, map, length, true, Option, Some}
 use Rattle.cedar_expr_model.specs.Name.{Text, Name}
 use Rattle.cedar_expr_model.specs.Uid.{Uid}
 use Rattle.cedar_expr_model.specs.Whole.Value.{V}

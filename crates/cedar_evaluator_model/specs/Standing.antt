@@ -1,6 +1,6 @@
 -- What it is for the outcome of a partial evaluation to stand for an expression.
 -- Rule: partial evaluation; completions (docs/RULES.md).
-use Rattle.std.specs.Prelude.{◌≡◌, ◌≤◌, ℕ, List, map, Option, None}
+use Rattle.std.specs.Prelude.{◌≡◌, ◌≤◌, ℕ, List, map, None}
 use Rattle.cedar_expr_model.specs.Name.{Text, Name}
 use Rattle.cedar_expr_model.specs.Whole.Value.{V}
 use Rattle.cedar_expr_model.specs.Whole.Tree.{Tree, nesting}

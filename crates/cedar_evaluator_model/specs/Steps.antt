@@ -1,22 +1,20 @@
 -- The steps of partial evaluation on parts that are evaluated already.
 -- Rule: partial evaluation (docs/RULES.md).
-use Rattle.std.specs.Prelude.{◌≡◌, ◌&&◌, ◌||◌, ℤ, ◌+ℤ◌, ◌-ℤ◌, ◌*ℤ◌, List, [], ◌∷◌, map, length, Bool, true, false, not, Option, Some, None, option_map, if◌then◌else◌, is_some}
+use Rattle.std.specs.Prelude.{◌+ℤ◌, ◌-ℤ◌, ◌*ℤ◌, List, [], ◌∷◌, map, length, Bool, true, false, not, Option, Some, None, option_map, if◌then◌else◌, is_some}
 use Rattle.std.specs.Ordering.{is_lt, is_le, match_ordering}
 use Rattle.std.specs.Str.{bytes_eq}
 use Rattle.cedar_expr_model.specs.Name.{Text, Name, name_eq}
 use Rattle.cedar_expr_model.specs.Uid.{Uid, uid_text}
-use Rattle.cedar_expr_model.specs.Whole.Value.{Literal, truth, long, text, entity, V, prim}
+use Rattle.cedar_expr_model.specs.Whole.Value.{truth, text, entity, V, prim}
 use Rattle.cedar_expr_model.specs.Whole.Order.{value_cmp, value_eq}
-use Rattle.cedar_expr_model.specs.Whole.Pattern.{Pattern}
-use Rattle.cedar_expr_model.specs.Whole.Tree.{CoreType, entity_core, UnaryOp, BinaryOp, equal, less, less_or_equal, plus, difference, times, is_in, contains, contains_all, contains_any, get_tag, has_tag, Tree, lit, var, slot, unknown, choice, both, either, unary, binary, call, get_attr, has_attr, has_path, like, is_type, set_literal, record_literal, Trees, no_trees, tree, TreeFields, no_tree_fields, tree_field}
+use Rattle.cedar_expr_model.specs.Whole.Tree.{CoreType, entity_core, BinaryOp, equal, less, less_or_equal, plus, difference, times, is_in, contains, contains_all, contains_any, get_tag, has_tag, Tree, lit, unknown, binary, get_attr, has_attr, has_path, is_type, Trees, no_trees, tree, TreeFields, no_tree_fields, tree_field}
 use Rattle.cedar_expr_model.specs.Whole.Builder.{path_test}
-use Rattle.cedar_expr_model.specs.Whole.Made.{Made, made_prim, made_set, made_record, Mades, no_mades, made, MadeFields, no_made_fields, made_field, bare, written}
+use Rattle.cedar_expr_model.specs.Whole.Made.{Made, made_prim, made_record, Mades, no_mades, made, MadeFields, no_made_fields, made_field, bare, written}
 use Rattle.cedar_expr_model.specs.Whole.Substitution.{fits_annotation}
 use Rattle.cedar_expr_model.specs.Whole.Table.{Signature, signature_of, takes_count, are_of_types}
-use Rattle.cedar_expr_model.specs.Whole.Canonical.{is_subset, is_disjoint}
 use Rattle.cedar_store_model.specs.Whole.Outcome.{Fault, Res, val, err, missing_entity, missing_attribute_or_tag, missing_field, wrong_type, no_function, wrong_count, extension_failed}
-use Rattle.cedar_store_model.specs.Whole.World.{Part, known, left, Entity, Found, held, missing, not_loaded, part_named}
-use Rattle.cedar_store_model.specs.Whole.Operators.{ordered, calculated, of_sets, among_members, like_pattern, of_type}
+use Rattle.cedar_store_model.specs.Whole.World.{Part, known, left, Found, held, missing, not_loaded, part_named}
+use Rattle.cedar_store_model.specs.Whole.Operators.{ordered, calculated, of_sets, all_members, any_member, among_members}
 use Rattle.cedar_store_model.specs.Whole.Reads.{uids_in, is_in_some}
 use Rattle.cedar_evaluator_model.specs.Scope.{Scope, MadeCalled, makes, faults, leaves_unknown, Stop, fault, Left, value_left, residual, stopped}
 
@@ -169,8 +167,8 @@ combined_left s difference m n = left_of (calculated (λ i j. i -ℤ j) (bare m)
 combined_left s times m n = left_of (calculated (λ i j. i *ℤ j) (bare m) (bare n))
 combined_left s is_in m n = in_of s m n
 combined_left s contains m n = left_of (among_members (bare m) (bare n))
-combined_left s contains_all m n = left_of (of_sets (λ vs ws. is_subset ws vs) (bare m) (bare n))
-combined_left s contains_any m n = left_of (of_sets (λ vs ws. not (is_disjoint vs ws)) (bare m) (bare n))
+combined_left s contains_all m n = left_of (of_sets (λ vs ws. all_members ws vs) (bare m) (bare n))
+combined_left s contains_any m n = left_of (of_sets any_member (bare m) (bare n))
 combined_left s get_tag m n = tag_of get_tag_found s m n
 combined_left s has_tag m n = tag_of has_tag_found s m n
 

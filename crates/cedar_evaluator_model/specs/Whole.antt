@@ -1,6 +1,6 @@
 -- Scopes in which nothing is unknown, and those in which only the loading of entities is.
 -- Rule: partial evaluation; what is known (docs/RULES.md).
-use Rattle.std.specs.Prelude.{◌≡◌, List, true, Option, Some, None}
+use Rattle.std.specs.Prelude.{◌≡◌, List, true, Option, Some}
 use Rattle.cedar_expr_model.specs.Name.{Text, Name}
 use Rattle.cedar_expr_model.specs.Uid.{Uid}
 use Rattle.cedar_expr_model.specs.Whole.Value.{V}
@@ -8,7 +8,7 @@ use Rattle.cedar_expr_model.specs.Whole.Tree.{CoreType, Tree}
 use Rattle.cedar_expr_model.specs.Whole.Unknowns.{EachUnknown}
 use Rattle.cedar_expr_model.specs.Whole.Table.{Table, leaves}
 use Rattle.cedar_expr_model.specs.Whole.Laws.{IsOfType}
-use Rattle.cedar_store_model.specs.Whole.World.{Found, held, missing, not_loaded}
+use Rattle.cedar_store_model.specs.Whole.World.{Found, held}
 use Rattle.cedar_store_model.specs.Whole.Knowledge.{IsThere, IsSettled, holds_values}
 use Rattle.cedar_evaluator_model.specs.Scope.{Scope, IsTaken}
 use Rattle.cedar_evaluator_model.specs.Known.{known_world}

@@ -2,3 +2,6 @@
 #![tactic(auto)]
 
 pub mod laws;
+pub mod worked;
+pub mod worked_completions;
+pub mod worked_responses;

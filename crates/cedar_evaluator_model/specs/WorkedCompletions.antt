@@ -1,0 +1,53 @@
+-- The values of the worked examples of completions and of standing for an expression.
+-- Rule: completions; partial evaluation (docs/RULES.md).
+use Rattle.std.specs.Prelude.{[], codes, true, Some, if◌then◌else◌}
+use Rattle.std.specs.Str.{bytes_eq}
+use Rattle.cedar_expr_model.specs.Name.{Text}
+use Rattle.cedar_expr_model.specs.Uid.{uid_text}
+use Rattle.cedar_expr_model.specs.Whole.Value.{V, prim, entity, record_of, no_fields, truth_value}
+use Rattle.cedar_expr_model.specs.Whole.Table.{Table, fails}
+use Rattle.cedar_store_model.specs.Whole.World.{World, missing}
+use Rattle.cedar_evaluator_model.specs.Scope.{Scope}
+use Rattle.cedar_evaluator_model.specs.Worked.{user_a, user_b, doc_d, view, no_slot, worked_table, scope, open_scope}
+
+-- the open request over a store without entities
+abbrev pub open_request : Scope
+open_request = record open_scope { store = λ u. missing }
+
+-- what the unknowns mean: the variables' names their values, the name of `User::"b"` that uid, and every other one true
+abbrev pub meant : Text → V
+meant n =
+    if bytes_eq n (codes "principal") then prim (entity user_a)
+    else (if bytes_eq n (codes "action") then prim (entity view)
+    else (if bytes_eq n (codes "resource") then prim (entity doc_d)
+    else (if bytes_eq n (codes "context") then record_of no_fields
+    else (if bytes_eq n (uid_text user_b) then prim (entity user_b) else truth_value true))))
+
+abbrev pub completed : World
+completed =
+    record {
+      principal = Some user_a;
+      action = Some view;
+      resource = Some doc_d;
+      context = Some (record_of no_fields);
+      slots = no_slot;
+      unknowns = λ n. Some (meant n);
+      table = worked_table;
+      store = λ u. missing;
+    }
+
+-- the principal is a document
+abbrev pub other_kind : World
+other_kind = record completed { principal = Some doc_d }
+
+-- the principal isn't what the unknown `principal` means
+abbrev pub other_name : World
+other_name = record completed { principal = Some user_b }
+
+-- no functions
+abbrev pub empty_table : Table
+empty_table = record { functions = []; ordered = []; answers = λ f vs. fails f }
+
+-- nothing is unknown, and there are no functions
+abbrev pub whole_scope : Scope
+whole_scope = record scope { table = empty_table; store = λ u. missing }

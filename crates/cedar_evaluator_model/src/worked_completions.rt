@@ -1,0 +1,95 @@
+//! Worked examples of what is known, of completions, and of standing for an expression. Each function's contract is what holds; its
+//! body does nothing.
+
+ghost use Rattle.std.specs.Prelude.{◌≡◌, true, false, Some, None, codes, pos, [], ◌∷◌};
+ghost use Rattle.cedar_expr_model.specs.Whole.Value.{prim, long, entity, record_of, no_fields, truth_value};
+ghost use Rattle.cedar_expr_model.specs.Whole.Tree.{bool_core, long_core, principal, context, lit, var, unknown, get_attr, has_attr, both, unary, negation, no_tree_fields, tree_field};
+ghost use Rattle.cedar_expr_model.specs.Whole.Made.{made_record, no_made_fields};
+ghost use Rattle.cedar_store_model.specs.Whole.Outcome.{val, err, wrong_type, overflow};
+ghost use Rattle.cedar_store_model.specs.Whole.World.{known, left, held, missing, not_loaded};
+ghost use Rattle.cedar_store_model.specs.Whole.Meaning.{outcome_of};
+ghost use Rattle.cedar_evaluator_model.specs.Scope.{Agrees, unknown_uid, uid, closed, residual_fields, unknown_context, fault, limit, value_left, residual, stopped};
+ghost use Rattle.cedar_evaluator_model.specs.Steps.{truth_left};
+ghost use Rattle.cedar_evaluator_model.specs.Known.{known_world};
+ghost use Rattle.cedar_evaluator_model.specs.Whole.{LeavesNothing, NothingUnknown, AllLoaded, AllBoundTo};
+ghost use Rattle.cedar_evaluator_model.specs.Completion.{FitsAnnotations, EntryMeans, ContextMeans, PartMeans, FoundMeans, Completes};
+ghost use Rattle.cedar_evaluator_model.specs.Standing.{StandsFor, IsOutcome, LeavesUnbound, NoLimit};
+ghost use Rattle.cedar_evaluator_model.specs.Worked.{user, user_a, user_b, doc_d, number, made_number, made_truth, true_tree, false_tree, unknown_a, unknown_u, entity_d, scope, open_scope, with_value, with_context, deep_context};
+ghost use Rattle.cedar_evaluator_model.specs.WorkedCompletions.{open_request, completed, other_kind, other_name, whole_scope};
+
+/// What a scope knows as values: known parts, and nothing of the unknown ones.
+pub fn worked_known()
+    ensures principal { (known_world scope).principal ≡ Some user_a }
+    ensures open_principal { (known_world open_scope).principal ≡ None }
+    ensures context { (known_world scope).context ≡ Some (record_of no_fields) }
+    ensures open_context { (known_world (with_context deep_context)).context ≡ None }
+    ensures bound { (known_world (with_value (codes "u") (made_number 7))).unknowns (codes "u") ≡ Some (prim (long (pos 7))) }
+    ensures unbound { (known_world scope).unknowns (codes "u") ≡ None }
+    ensures attribute { outcome_of (known_world scope) (get_attr (var principal) (codes "boss")) ≡ Some (val (prim (entity user_b))) }
+    ensures residual_attribute { outcome_of (known_world scope) (get_attr (var principal) (codes "ok")) ≡ None }
+    ensures residual_is_there { outcome_of (known_world scope) (has_attr (var principal) (codes "ok")) ≡ Some (val (truth_value true)) }
+    ensures not_loaded { outcome_of (known_world scope) (has_attr (lit (entity user_b)) (codes "ok")) ≡ None }
+{}
+
+/// Calls that answer as the table does; unknowns that calls leave; scopes with nothing unknown, and those with something.
+pub fn worked_knowledge()
+    ensures agree { Agrees scope }
+    ensures unbound { LeavesUnbound scope }
+    ensures leaves { LeavesNothing scope.table → ⊥ }
+    ensures nothing { LeavesNothing whole_scope.table }
+    ensures known { NothingUnknown whole_scope }
+    ensures unknown_principal { NothingUnknown open_scope → ⊥ }
+    ensures loaded { AllLoaded whole_scope }
+    ensures some_not { AllLoaded scope → ⊥ }
+    ensures bound { AllBoundTo (with_value (codes "u") (made_number 7)) (unknown (codes "u") (Some long_core)) }
+    ensures misfit { AllBoundTo (with_value (codes "u") (made_number 7)) (unknown (codes "u") (Some bool_core)) → ⊥ }
+    ensures open_ { AllBoundTo scope unknown_u → ⊥ }
+{}
+
+/// A world completes an open request where each unknown part is of its type and is what the unknown of its name means.
+pub fn worked_completes()
+    ensures completes { Completes completed open_request }
+    ensures other_kind { Completes other_kind open_request → ⊥ }
+    ensures other_name { Completes other_name open_request → ⊥ }
+    ensures entry { EntryMeans completed (codes "principal") (unknown_uid None) (Some user_a) }
+    ensures known_entry { EntryMeans completed (codes "principal") (uid user_b) (Some user_a) → ⊥ }
+{}
+
+/// Contexts, parts and entities in a completion.
+pub fn worked_parts()
+    ensures context { ContextMeans completed (residual_fields (tree_field (codes "x") unknown_u no_tree_fields)) (Some (record_of no_fields)) → ⊥ }
+    ensures closed { ContextMeans completed (closed no_made_fields) (Some (record_of no_fields)) }
+    ensures unknown { ContextMeans completed unknown_context (Some (record_of no_fields)) }
+    ensures value { PartMeans completed (Some (known (made_number 1))) (Some (known (prim (long (pos 1))))) }
+    ensures residual { PartMeans completed (Some (left unknown_u)) (Some (known (truth_value true))) }
+    ensures residual_misfit { PartMeans completed (Some (left (unknown (codes "u") (Some long_core)))) (Some (known (truth_value true))) → ⊥ }
+    ensures other_value { PartMeans completed (Some (left unknown_u)) (Some (known (truth_value false))) → ⊥ }
+    ensures lacking { PartMeans completed None (Some (known (truth_value true))) → ⊥ }
+    ensures missing { FoundMeans completed user_a missing missing }
+    ensures lost { FoundMeans completed doc_d (held entity_d) missing → ⊥ }
+    ensures not_loaded { FoundMeans completed user_b not_loaded missing }
+    ensures misnamed { FoundMeans completed user_a not_loaded missing → ⊥ }
+{}
+
+/// Annotations: the unknown `u` means true, which is a truth value and no whole number.
+pub fn worked_annotations()
+    ensures fits { FitsAnnotations completed (unknown (codes "u") (Some bool_core)) }
+    ensures none { FitsAnnotations completed unknown_u }
+    ensures misfit { FitsAnnotations completed (both unknown_u (unknown (codes "u") (Some long_core))) → ⊥ }
+{}
+
+/// What stands for an expression: its value, its error or another one, an expression of the same meaning; and what doesn't.
+pub fn worked_standing()
+    ensures value { StandsFor completed unknown_u (truth_left true) }
+    ensures other_value { StandsFor completed unknown_u (truth_left false) → ⊥ }
+    ensures other_error { StandsFor completed (unary negation (number 1)) (stopped (fault overflow)) }
+    ensures no_error { StandsFor completed unknown_u (stopped (fault wrong_type)) → ⊥ }
+    ensures limit { StandsFor completed unknown_u (stopped limit) }
+    ensures itself { StandsFor completed unknown_u (residual unknown_u) }
+    ensures alike { StandsFor completed unknown_u (residual (both true_tree unknown_a)) }
+    ensures unlike { StandsFor completed unknown_u (residual (both false_tree unknown_a)) → ⊥ }
+    ensures outcome { IsOutcome (val (truth_value true)) (truth_left true) }
+    ensures other_outcome { IsOutcome (err wrong_type) (stopped (fault overflow)) → ⊥ }
+    ensures limit_met { NoLimit scope 2 (unary negation (unary negation true_tree)) → ⊥ }
+    ensures limit_not_met { NoLimit scope 3 (unary negation (unary negation true_tree)) }
+{}
