@@ -1,6 +1,6 @@
 -- What is read of a store, and what calls answer, beside what the world of what is known gives.
 use Rattle.std.proofs.Common.{◌≡◌, suc, Bool, true, false, cond, List, [], ◌∷◌, refl, sym, ap, ◌∙◌, subst}
-use Rattle.std.specs.Prelude.{Option, Some, None, option_map, map, length, is_some, ◌+ℤ◌, ◌-ℤ◌, ◌*ℤ◌}
+use Rattle.std.specs.Prelude.{Option, Some, None, option_map, map, length, is_some, not, ◌+ℤ◌, ◌-ℤ◌, ◌*ℤ◌}
 use Rattle.std.specs.Ordering.{is_lt, is_le}
 use Rattle.std.specs.Str.{bytes_eq}
 use Rattle.cedar_expr_model.specs.Name.{Text, Name}
@@ -11,10 +11,11 @@ use Rattle.cedar_expr_model.specs.Whole.Tree.{CoreType, Tree, unknown, BinaryOp,
 use Rattle.cedar_expr_model.specs.Whole.Made.{Made, made_prim, made_record, MadeFields, no_made_fields, made_field, bare, bare_fields}
 use Rattle.cedar_expr_model.specs.Whole.Table.{Signature, signature_of, takes_count, are_of_types}
 use Rattle.cedar_expr_model.proofs.Whole.CoreTypes.{fits-Decides}
+use Rattle.cedar_expr_model.specs.Whole.Canonical.{is_subset, is_disjoint}
 use Rattle.cedar_store_model.specs.Whole.Outcome.{Res, val, err, wrong_type, wrong_count}
 use Rattle.cedar_store_model.specs.Whole.World.{Part, known, left, Found, held, missing, not_loaded, part_named}
-use Rattle.cedar_store_model.specs.Whole.Operators.{says, bound_value, answered, called_with, all_members, any_member}
-use Rattle.cedar_store_model.specs.Whole.Reads.{is_there, part_value, part_read, part_tested, attributes_of, tags_of, attribute_read, attribute_tested, field_value, field_step, part_step, found_step, step_from, path_after, path_tested, tag_read, tag_tested, uids_in, is_in_some, found_in, within}
+use Rattle.cedar_store_model.specs.Whole.Operators.{says, bound_value, answered, called_with}
+use Rattle.cedar_store_model.specs.Whole.Reads.{part_value, part_read, part_tested, attributes_of, tags_of, attribute_read, attribute_tested, field_value, field_step, part_step, found_step, step_from, path_after, path_tested, tag_read, tag_tested, uids_in, is_in_some, found_in, within}
 use Rattle.cedar_store_model.specs.Whole.Meaning.{combined}
 use Rattle.cedar_evaluator_model.specs.Scope.{Scope, MadeCalled, makes, faults, leaves_unknown, bare_called, IsTaken, Agrees, Left, value_left, residual}
 use Rattle.cedar_evaluator_model.specs.Steps.{errs, truth_left, mapped, part_left, tag_left, part_or_missing, attribute_found, made_named, field_or_missing, attribute_of, test_found, test_of, path_step, path_found, path_field, path_from, path_of, get_tag_found, has_tag_found, tag_of, in_found, in_of, combined_left, answer_left, call_left}
@@ -66,22 +67,22 @@ given_attribute s a (made_record fs) = subst (λ o. Given (Some (field_value o))
 given_attribute s a m = refl
 
 -- tests of attributes
-given_there : (o : Option (Part Made)) → Given (Some (says (is_there (option_map known_part o)))) (truth_left (is_some o))
+given_there : (o : Option (Part Made)) → Given (Some (says (is_some (option_map known_part o)))) (truth_left (is_some o))
 given_there None = given_value (made_prim (truth false))
 given_there (Some p) = given_value (made_prim (truth true))
 
 given_test_found : (u : Uid) (a : Text) (f : Found Made) → Given (part_tested attributes_of a (known_found f)) (test_found u a f)
-given_test_found u a (held e) = subst (λ o. Given (Some (says (is_there o))) (truth_left (is_some (part_named a e.attributes)))) (sym (named_known a e.attributes)) (given_there (part_named a e.attributes))
+given_test_found u a (held e) = subst (λ o. Given (Some (says (is_some o))) (truth_left (is_some (part_named a e.attributes)))) (sym (named_known a e.attributes)) (given_there (part_named a e.attributes))
 given_test_found u a missing = given_value (made_prim (truth false))
 given_test_found u a not_loaded = tt
 
-given_field_there : (o : Option Made) → Given (Some (says (is_there (option_map bare o)))) (truth_left (is_some o))
+given_field_there : (o : Option Made) → Given (Some (says (is_some (option_map bare o)))) (truth_left (is_some o))
 given_field_there None = given_value (made_prim (truth false))
 given_field_there (Some m) = given_value (made_prim (truth true))
 
 pub given_test : (s : Scope) (a : Text) (m : Made) → Given (attribute_tested (known_world s) a (bare m)) (test_of s a m)
 given_test s a (made_prim (entity u)) = given_test_found u a (s.store u)
-given_test s a (made_record fs) = subst (λ o. Given (Some (says (is_there o))) (truth_left (is_some (made_named a fs)))) (sym (field_known a fs)) (given_field_there (made_named a fs))
+given_test s a (made_record fs) = subst (λ o. Given (Some (says (is_some o))) (truth_left (is_some (made_named a fs)))) (sym (field_known a fs)) (given_field_there (made_named a fs))
 given_test s a m = refl
 
 -- paths
@@ -116,7 +117,7 @@ given_get_tag u a missing = refl
 given_get_tag u a not_loaded = tt
 
 given_has_tag : (u : Uid) (a : Text) (f : Found Made) → Given (part_tested tags_of a (known_found f)) (has_tag_found u a f)
-given_has_tag u a (held e) = subst (λ o. Given (Some (says (is_there o))) (truth_left (is_some (part_named a e.tags)))) (sym (named_known a e.tags)) (given_there (part_named a e.tags))
+given_has_tag u a (held e) = subst (λ o. Given (Some (says (is_some o))) (truth_left (is_some (part_named a e.tags)))) (sym (named_known a e.tags)) (given_there (part_named a e.tags))
 given_has_tag u a missing = given_value (made_prim (truth false))
 given_has_tag u a not_loaded = tt
 
@@ -147,7 +148,7 @@ given_combined s difference m n = given_literal _ (literal_calculated (λ i j. i
 given_combined s times m n = given_literal _ (literal_calculated (λ i j. i *ℤ j) (bare m) (bare n))
 given_combined s is_in m n = given_within s m n
 given_combined s contains m n = given_literal _ (literal_among (bare m) (bare n))
-given_combined s contains_all m n = given_literal _ (literal_sets (λ vs ws. all_members ws vs) (bare m) (bare n))
+given_combined s contains_all m n = given_literal _ (literal_sets (λ vs ws. is_subset ws vs) (bare m) (bare n))
 given_combined s contains_any m n = given_literal _ (literal_sets any_member (bare m) (bare n))
 given_combined s get_tag m n = given_tag_read s m n
 given_combined s has_tag m n = given_tag_tested s m n

@@ -14,7 +14,8 @@ use Rattle.cedar_expr_model.specs.Whole.Substitution.{fits_annotation}
 use Rattle.cedar_expr_model.specs.Whole.Table.{Signature, signature_of, takes_count, are_of_types}
 use Rattle.cedar_store_model.specs.Whole.Outcome.{Fault, Res, val, err, missing_entity, missing_attribute_or_tag, missing_field, wrong_type, no_function, wrong_count, extension_failed}
 use Rattle.cedar_store_model.specs.Whole.World.{Part, known, left, Found, held, missing, not_loaded, part_named}
-use Rattle.cedar_store_model.specs.Whole.Operators.{ordered, calculated, of_sets, all_members, any_member, among_members}
+use Rattle.cedar_expr_model.specs.Whole.Canonical.{is_subset, is_disjoint}
+use Rattle.cedar_store_model.specs.Whole.Operators.{ordered, calculated, of_sets, among_members}
 use Rattle.cedar_store_model.specs.Whole.Reads.{uids_in, is_in_some}
 use Rattle.cedar_evaluator_model.specs.Scope.{Scope, MadeCalled, makes, faults, leaves_unknown, Stop, fault, Left, value_left, residual, stopped}
 
@@ -167,8 +168,8 @@ combined_left s difference m n = left_of (calculated (λ i j. i -ℤ j) (bare m)
 combined_left s times m n = left_of (calculated (λ i j. i *ℤ j) (bare m) (bare n))
 combined_left s is_in m n = in_of s m n
 combined_left s contains m n = left_of (among_members (bare m) (bare n))
-combined_left s contains_all m n = left_of (of_sets (λ vs ws. all_members ws vs) (bare m) (bare n))
-combined_left s contains_any m n = left_of (of_sets any_member (bare m) (bare n))
+combined_left s contains_all m n = left_of (of_sets (λ vs ws. is_subset ws vs) (bare m) (bare n))
+combined_left s contains_any m n = left_of (of_sets (λ vs ws. not (is_disjoint vs ws)) (bare m) (bare n))
 combined_left s get_tag m n = tag_of get_tag_found s m n
 combined_left s has_tag m n = tag_of has_tag_found s m n
 
