@@ -13,3 +13,4 @@ pub mod ReadingPolicy
 pub mod ReadingValue
 pub mod ReadingRequest
 pub mod ReadingBundle
+pub mod WorkedReading

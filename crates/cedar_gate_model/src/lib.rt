@@ -2,4 +2,5 @@
 #![tactic(auto)]
 
 pub mod laws;
+pub mod whole_reading_worked;
 pub mod worked;
