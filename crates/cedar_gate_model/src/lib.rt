@@ -2,5 +2,6 @@
 #![tactic(auto)]
 
 pub mod laws;
+pub mod whole_reading_declared;
 pub mod whole_reading_worked;
 pub mod worked;

@@ -11,6 +11,8 @@ use Rattle.cedar_expr_model.specs.Whole.Value.{Literal, text, V, prim, extension
 use Rattle.cedar_expr_model.specs.Whole.Tree.{string_core, extension_core}
 use Rattle.cedar_expr_model.specs.Whole.Made.{Made, made_prim, made_extension}
 use Rattle.cedar_expr_model.specs.Whole.Table.{function_style, Signature, Called, gives, fails}
+use Rattle.cedar_schema_model.specs.Whole.Declarations.{record_expr, no_field_exprs, CommonDeclaration, ActionDeclaration, Declarations}
+use Rattle.cedar_store_model.specs.Whole.Policy.{Policy, permit, any, any_action, no_bindings}
 use Rattle.cedar_evaluator_model.specs.Scope.{MadeCalled, makes, faults}
 use Rattle.cedar_gate_model.specs.Reading.{given}
 use Rattle.cedar_gate_model.specs.Whole.Bundle.{Functions}
@@ -50,6 +52,26 @@ user_a = record { kind = name (codes "User"); id = codes "a" }
 
 abbrev pub view : Uid
 view = record { kind = name (codes "Action"); id = codes "view" }
+
+-- the action `view` without parents, types and context
+abbrev pub plain_action : ActionDeclaration
+plain_action = record { namespace = []; id = codes "view"; parents = []; principals = []; resources = []; context = record_expr no_field_exprs; is_external = false }
+
+abbrev pub declaring : List CommonDeclaration → List ActionDeclaration → Declarations
+declaring commons actions = record { commons = commons; entities = []; actions = actions }
+
+-- a permit of everything
+abbrev pub plain_policy : Policy
+plain_policy = record {
+  id = codes "p";
+  effect = permit;
+  annotations = [];
+  principal = any;
+  action = any_action;
+  resource = any;
+  body = None;
+  bindings = no_bindings;
+}
 
 -- An extension type with a constructor, which fails at the text `x` alone. The key is the text.
 abbrev pub rank : Name
