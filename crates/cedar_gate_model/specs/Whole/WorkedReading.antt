@@ -1,21 +1,24 @@
 -- The values of the worked examples of reading.
 -- Rule: what a bundle reads as (docs/RULES.md).
-use Rattle.std.specs.Prelude.{◌==◌, ℕ, zero, suc, List, [], ◌∷◌, ◌++◌, map, Bool, false, is_some, is_none, codes, if◌then◌else◌, Option, Some, None}
+use Rattle.std.specs.Prelude.{◌==◌, ℕ, zero, suc, List, [], ◌∷◌, ◌++◌, map, Bool, false, is_some, is_none, codes, if◌then◌else◌, Option, Some, None, pos}
 use Rattle.std.specs.List.{list_all}
 use Rattle.std.specs.Str.{bytes_eq}
 use Rattle.serde_json.specs.Data.{Data, string, array, object, item, no_items, member, no_members}
 use Rattle.serde_json.specs.Read.{read}
 use Rattle.cedar_expr_model.specs.Name.{Text, Name}
 use Rattle.cedar_expr_model.specs.Uid.{Uid}
-use Rattle.cedar_expr_model.specs.Whole.Value.{Literal, text, V, prim, extension}
-use Rattle.cedar_expr_model.specs.Whole.Tree.{string_core, extension_core}
-use Rattle.cedar_expr_model.specs.Whole.Made.{Made, made_prim, made_extension}
+use Rattle.cedar_expr_model.specs.Whole.Value.{long, text, V, prim, extension}
+use Rattle.cedar_expr_model.specs.Whole.Tree.{string_core, extension_core, less, lit, binary}
+use Rattle.cedar_expr_model.specs.Whole.Made.{Made, made_prim, made_extension, no_made_fields}
 use Rattle.cedar_expr_model.specs.Whole.Table.{function_style, Signature, Called, gives, fails}
-use Rattle.cedar_schema_model.specs.Whole.Declarations.{record_expr, no_field_exprs, CommonDeclaration, ActionDeclaration, Declarations}
-use Rattle.cedar_store_model.specs.Whole.Policy.{Policy, permit, any, any_action, no_bindings}
-use Rattle.cedar_evaluator_model.specs.Scope.{MadeCalled, makes, faults}
+use Rattle.cedar_schema_model.specs.Whole.Declarations.{record_expr, no_field_exprs, standard_expr, CommonDeclaration, EntityDeclaration, ActionDeclaration, Declarations}
+use Rattle.cedar_store_model.specs.Whole.Policy.{Policy, permit, named, any, exactly, any_action, no_bindings}
+use Rattle.cedar_store_model.specs.Whole.World.{Entity}
+use Rattle.cedar_evaluator_model.specs.Scope.{MadeCalled, makes, faults, uid, unknown_uid, closed}
 use Rattle.cedar_gate_model.specs.Reading.{given}
-use Rattle.cedar_gate_model.specs.Whole.Bundle.{Functions}
+use Rattle.cedar_gate_model.specs.Whole.Acceptance.{Submission}
+use Rattle.cedar_gate_model.specs.Whole.Bundle.{Functions, Bundle}
+use Rattle.cedar_gate_model.specs.Whole.Moment.{Start}
 use Rattle.cedar_gate_model.specs.Whole.ReadingBundle.{bundle_read}
 
 -- the text with a double quote for each single one
@@ -141,12 +144,53 @@ lacking key = object_text (without key usual_parts)
 abbrev pub with_part : Text → Text → Text
 with_part key value = object_text ((key, value) ∷ without key usual_parts)
 
+-- the usual bundle with one policy of this id
+abbrev pub with_id : Text → Text
+with_id id = with_part (codes "policies") (codes "[{'id':'" ++ (id ++ codes "','effect':'permit'}]"))
+
 -- the bundle is read with each of these values, or with none of them
 abbrev pub takes_part : Text → List Text → Bool
 takes_part key values = takes (bundle_read ranks) (map (with_part key) values)
 
 abbrev pub refuses_part : Text → List Text → Bool
 refuses_part key values = refuses (bundle_read ranks) (map (with_part key) values)
+
+-- the request of the user a to view, with an unknown resource
+abbrev pub plain_start : Start
+plain_start = record { principal = uid user_a; action = uid view; resource = unknown_uid None; context = closed no_made_fields }
+
+abbrev pub plain_entity : Entity V
+plain_entity = record { attributes = []; tags = []; ancestors = [] }
+
+-- the type `User` without attributes
+abbrev pub plain_user : EntityDeclaration
+plain_user = record { namespace = []; word = codes "User"; parents = []; kind = standard_expr no_field_exprs None }
+
+-- what the usual bundle says
+abbrev pub usual_submission : Submission
+usual_submission = record {
+  declarations = record {
+    commons = [];
+    entities = plain_user ∷ [];
+    actions = record plain_action { principals = name (codes "User") ∷ []; resources = name (codes "User") ∷ [] } ∷ [];
+  };
+  policies = record plain_policy { principal = exactly (named user_a); body = Some (binary less (lit (long (pos 1))) (lit (long (pos 2)))) } ∷ [];
+  table = ranks.table;
+  level = 0;
+  limit = 16;
+}
+
+abbrev pub usual_bundle : Bundle
+usual_bundle = record {
+  submission = usual_submission;
+  start = record plain_start { resource = uid (record user_a { id = codes "b" }) };
+  store = [];
+  steps = [];
+}
+
+abbrev pub tail : Text → Text
+tail [] = []
+tail (b ∷ bs) = bs
 
 -- the text without its last byte
 abbrev pub but_last : Text → Text
