@@ -14,3 +14,4 @@ pub mod ReadingValue
 pub mod ReadingRequest
 pub mod ReadingBundle
 pub mod WorkedReading
+pub mod ReadingLaws
