@@ -29,3 +29,16 @@ beside_all T word [] h a e = cc
 beside_all {A} T word (p ∷ ps) h a e =
     elim (bytes_eq word p.0) as (λ c. bytes_eq word p.0 ≡ c → (if c then Some p.1 else beside word ps) ≡ Some a → T a)
     [ true ↦ λ q r. let s : p.1 ≡ a = cc in subst T s (h.0 q) | false ↦ λ q r. beside_all T word ps h.1 a r ] refl e
+
+-- whatever is given has this
+abbrev pub Gives : {A : Type 0} → (A → Type 0) → Option A → Type 0
+Gives {A} Q o = (a : A) → o ≡ Some a → Q a
+
+pub given_gives : {A B : Type 0} (Q : B → Type 0) (o : Option A) (next : A → Option B) → ((a : A) → o ≡ Some a → Gives Q (next a)) → Gives Q (given o next)
+given_gives Q o next h b e = let p = given_some o next b e in h p.0 p.1 b p.2
+
+pub map_gives : {A B : Type 0} (Q : B → Type 0) (make : A → B) (o : Option A) → ((a : A) → o ≡ Some a → Q (make a)) → Gives Q (option_map make o)
+map_gives Q make o h b e = let p = map_some make o b e in subst Q (sym p.2) (h p.0 p.1)
+
+pub if_gives : {A : Type 0} (Q : A → Type 0) (c : Bool) (o : Option A) → (c ≡ true → Gives Q o) → Gives Q (if c then o else None)
+if_gives Q c o h a e = let p = if_some_of c o a e in h p.0 a p.1
