@@ -1,7 +1,7 @@
 -- What a bundle that was read says.
-use Rattle.std.proofs.Common.{◌≡◌, ◌≤◌, ℕ, Bool, true, false, ◌&&◌, not, List, [], ◌∷◌, Option, Some, None, Contains, refl, sym, ap, ◌∙◌, subst, codes, Decides}
+use Rattle.std.proofs.Common.{◌≡◌, ◌≤◌, ℕ, Bool, true, false, not, List, [], ◌∷◌, Option, Some, None, Contains, refl, sym, ap, ◌∙◌, subst, codes}
 use Rattle.std.specs.List.{list_all}
-use Rattle.std.proofs.lemmas.Bool.{leb-true, not_from_true}
+use Rattle.std.proofs.lemmas.Bool.{leb-true}
 use Rattle.serde_json.specs.Data.{Data, Items, no_items, item, Members, no_members, member}
 use Rattle.serde_json.specs.Find.{get, as_array, as_object}
 use Rattle.cedar_expr_model.specs.Name.{Text}
@@ -9,11 +9,11 @@ use Rattle.cedar_expr_model.specs.Uid.{Uid, uid_eq}
 use Rattle.cedar_expr_model.specs.Whole.Value.{V}
 use Rattle.cedar_expr_model.proofs.Lists.{both_hold, hold_both, all_each}
 use Rattle.cedar_expr_model.proofs.Equality.{uid_eq-Decides}
-use Rattle.cedar_store_model.specs.Whole.World.{Part, known, Entity}
+use Rattle.cedar_store_model.specs.Whole.World.{Part, Entity}
 use Rattle.cedar_store_model.specs.Whole.Knowledge.{is_known, holds_values}
 use Rattle.cedar_schema_model.specs.Whole.WellFormed.{HasTwice, has_twice}
 use Rattle.cedar_schema_model.proofs.Whole.Decls.Faults.{has_twice-Decides}
-use Rattle.cedar_gate_model.specs.Reading.{given, required, if_there, optional, has_only, each, list_of, each_member, members_of, count_read}
+use Rattle.cedar_gate_model.specs.Reading.{required, if_there, optional, has_only, each, list_of, each_member, count_read}
 use Rattle.cedar_gate_model.specs.Whole.Acceptance.{Submission}
 use Rattle.cedar_gate_model.specs.Whole.Bundle.{Functions, Bundle}
 use Rattle.cedar_gate_model.specs.Whole.ReadingForms.{if_passing, is_between, number_between}
@@ -124,8 +124,8 @@ entity_known x d = if_gives HoldsValues (has_only entity_keys d) _ (λ _. given_
     given_gives HoldsValues (optional (codes "tags") (parts_read x) [] d) _ (λ tags r.
     map_gives HoldsValues _ (optional (codes "ancestors") uids_read [] d) (λ ancestors t.
     hold_both (list_all (λ (p : Text × Part V). is_known p.1) attributes) (list_all (λ (p : Text × Part V). is_known p.1) tags)
-        (there_has AreKnown (parts_read x) [] refl (parts_known x) (get (codes "attrs") d) attributes q)
-        (there_has AreKnown (parts_read x) [] refl (parts_known x) (get (codes "tags") d) tags r))))))
+    (there_has AreKnown (parts_read x) [] refl (parts_known x) (get (codes "attrs") d) attributes q)
+    (there_has AreKnown (parts_read x) [] refl (parts_known x) (get (codes "tags") d) tags r))))))
 
 entities_known : (x : Functions) (ds : Items) (es : List (Uid × Entity V)) → each (entity_read x) ds ≡ Some es → list_all (λ (f : Uid × Entity V). holds_values f.1) es ≡ true
 entities_known x no_items es e = let q : [] ≡ es = cc in subst (λ (fs : List (Uid × Entity V)). list_all (λ f. holds_values f.1) fs ≡ true) q refl
@@ -133,7 +133,7 @@ entities_known x (item d ds) es e =
     let p = given_some (entity_read x d) _ es e in
     let q = map_some (λ more. p.0 ∷ more) (each (entity_read x) ds) es p.2 in
     subst (λ (fs : List (Uid × Entity V)). list_all (λ f. holds_values f.1) fs ≡ true) (sym q.2)
-        (hold_both (holds_values p.0.1) _ (entity_known x d p.0 p.1) (entities_known x ds q.0 q.1))
+    (hold_both (holds_values p.0.1) _ (entity_known x d p.0 p.1) (entities_known x ds q.0 q.1))
 
 pub store_holds_values : (x : Functions) (d : Data) (b : Bundle) → bundle_read x d ≡ Some b → (f : Uid × Entity V) → Contains b.store f → holds_values f.1 ≡ true
 store_holds_values x d b e f h =

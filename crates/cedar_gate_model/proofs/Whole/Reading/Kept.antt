@@ -1,5 +1,5 @@
 -- What each step of the builder keeps holds of what is read, where it holds of the slots that are written.
-use Rattle.std.proofs.Common.{◌≡◌, Bool, true, false, List, [], ◌∷◌, Option, Some, None, refl, sym, ap, ◌∙◌, subst, codes, option_map, bytes_eq}
+use Rattle.std.proofs.Common.{◌≡◌, true, List, [], ◌∷◌, Option, Some, None, sym, subst, codes, option_map, bytes_eq}
 use Rattle.serde_json.specs.Data.{Data, null, boolean, number, string, array, object, Items, no_items, item, Members, no_members, member}
 use Rattle.serde_json.specs.Find.{as_str, as_i64}
 use Rattle.cedar_expr_model.specs.Name.{Text, Name}
@@ -150,37 +150,94 @@ module _ (P : Tree → Type 0) (kept : Kept P) where
 
   -- each form of the table
   forms_read : (word : Text) (xs : List Part) → AreGood P xs → (bytes_eq word (codes "slot") ≡ true → Reads P (of_word slot slot_words xs)) → AllBeside (λ form. Reads P (form xs)) word forms
-  forms_read word xs g s =
-      (λ _. uid_reads xs,
-      (λ _. var_reads xs,
-      (s,
-      (λ _. unknown_reads xs,
-      (λ _. three_reads choice kept.of_choice xs g,
-      (λ _. two_reads conjunction kept.of_both xs g,
-      (λ _. two_reads disjunction kept.of_either xs g,
-      (λ _. one_reads (unary negation) (kept.of_unary negation) xs g,
-      (λ _. one_reads (unary minus) (kept.of_unary minus) xs g,
-      (λ _. one_reads (unary is_empty) (kept.of_unary is_empty) xs g,
-      (λ _. joins equal xs g,
-      (λ _. joins less xs g,
-      (λ _. joins less_or_equal xs g,
-      (λ _. joins plus xs g,
-      (λ _. joins difference xs g,
-      (λ _. joins times xs g,
-      (λ _. joins is_in xs g,
-      (λ _. joins contains xs g,
-      (λ _. joins contains_all xs g,
-      (λ _. joins contains_any xs g,
-      (λ _. joins get_tag xs g,
-      (λ _. joins has_tag xs g,
-      (λ _. call_reads xs g,
-      (λ _. tree_and_reads get_attr as_str kept.of_get xs g,
-      (λ _. has_reads xs g,
-      (λ _. tree_and_reads like pattern_read kept.of_like xs g,
-      (λ _. tree_and_reads is_type plain_name_read kept.of_is xs g,
-      (λ _. set_reads xs g,
-      (λ _. record_reads xs g,
-      tt)))))))))))))))))))))))))))))
+  forms_read word xs g s = (
+    λ _. uid_reads xs,
+    (
+      λ _. var_reads xs,
+      (
+        s,
+        (
+          λ _. unknown_reads xs,
+          (
+            λ _. three_reads choice kept.of_choice xs g,
+            (
+              λ _. two_reads conjunction kept.of_both xs g,
+              (
+                λ _. two_reads disjunction kept.of_either xs g,
+                (
+                  λ _. one_reads (unary negation) (kept.of_unary negation) xs g,
+                  (
+                    λ _. one_reads (unary minus) (kept.of_unary minus) xs g,
+                    (
+                      λ _. one_reads (unary is_empty) (kept.of_unary is_empty) xs g,
+                      (
+                        λ _. joins equal xs g,
+                        (
+                          λ _. joins less xs g,
+                          (
+                            λ _. joins less_or_equal xs g,
+                            (
+                              λ _. joins plus xs g,
+                              (
+                                λ _. joins difference xs g,
+                                (
+                                  λ _. joins times xs g,
+                                  (
+                                    λ _. joins is_in xs g,
+                                    (
+                                      λ _. joins contains xs g,
+                                      (
+                                        λ _. joins contains_all xs g,
+                                        (
+                                          λ _. joins contains_any xs g,
+                                          (
+                                            λ _. joins get_tag xs g,
+                                            (
+                                              λ _. joins has_tag xs g,
+                                              (
+                                                λ _. call_reads xs g,
+                                                (
+                                                  λ _. tree_and_reads get_attr as_str kept.of_get xs g,
+                                                  (
+                                                    λ _. has_reads xs g,
+                                                    (
+                                                      λ _. tree_and_reads like pattern_read kept.of_like xs g,
+                                                      (
+                                                        λ _. tree_and_reads is_type plain_name_read kept.of_is xs g,
+                                                        (
+                                                          λ _. set_reads xs g,
+                                                          (
+                                                            λ _. record_reads xs g,
+                                                            tt,
+                                                          ),
+                                                        ),
+                                                      ),
+                                                    ),
+                                                  ),
+                                                ),
+                                              ),
+                                            ),
+                                          ),
+                                        ),
+                                      ),
+                                    ),
+                                  ),
+                                ),
+                              ),
+                            ),
+                          ),
+                        ),
+                      ),
+                    ),
+                  ),
+                ),
+              ),
+            ),
+          ),
+        ),
+      ),
+    ),
+  )
 
   word_reads : (word : Text) (xs : List Part) → AreGood P xs → (bytes_eq word (codes "slot") ≡ true → Reads P (of_word slot slot_words xs)) → Reads P (given (beside word forms) (λ form. form xs))
   word_reads word xs g s = given_reads (beside word forms) _ (λ form e. beside_all (λ f. Reads P (f xs)) word forms (forms_read word xs g s) form e)

@@ -3,9 +3,8 @@ use Rattle.std.proofs.Common.{◌≡◌, Bool, true, false, ◌&&◌, ◌||◌, 
 use Rattle.std.proofs.lemmas.Bool.{or_parts, or_from}
 use Rattle.serde_json.specs.Data.{Data, null, boolean, number, string, array, object, Items, no_items, item, Members, no_members, member}
 use Rattle.cedar_expr_model.specs.Name.{Text}
-use Rattle.cedar_expr_model.specs.Whole.Value.{truth}
-use Rattle.cedar_expr_model.specs.Whole.Tree.{SlotId, principal_slot, resource_slot, Tree, lit, slot, both, either, has_path, Trees, no_trees, tree, TreeFields, no_tree_fields, tree_field}
-use Rattle.cedar_expr_model.specs.Whole.Builder.{written_truth, folded, conjunction, disjunction, path_test}
+use Rattle.cedar_expr_model.specs.Whole.Tree.{SlotId, principal_slot, resource_slot, Tree, slot, both, either, Trees, no_trees, tree, TreeFields, no_tree_fields, tree_field}
+use Rattle.cedar_expr_model.specs.Whole.Builder.{written_truth, folded, path_test}
 use Rattle.cedar_expr_model.specs.Whole.BuilderForm.{is_built, are_built, have_built}
 use Rattle.cedar_expr_model.proofs.Lists.{hold_both}
 use Rattle.cedar_expr_model.proofs.Whole.Building.{conjunction_built, disjunction_built}
