@@ -2,10 +2,12 @@
 //! function's contract is what comes out; its body does nothing.
 
 ghost use Rattle.std.specs.Prelude.{◌≡◌, ◌++◌, true, false, Some, None, codes, [], ◌∷◌, pos, negsuc};
+ghost use Rattle.serde_json.specs.Data.{null, number, unsigned};
+ghost use Rattle.serde_json.specs.Find.{as_str};
 ghost use Rattle.cedar_expr_model.specs.Whole.Value.{truth, long, text, entity};
 ghost use Rattle.cedar_expr_model.specs.Whole.Pattern.{character, wildcard};
 ghost use Rattle.cedar_expr_model.specs.Whole.Tree.{principal, context, principal_slot, resource_slot, string_core, set_core, entity_core, extension_core, negation, minus, is_empty, equal, less, less_or_equal, plus, difference, times, is_in, contains, contains_all, contains_any, get_tag, has_tag, lit, var, slot, unknown, choice, both, either, unary, binary, call, get_attr, has_attr, has_path, like, is_type, set_literal, record_literal, no_trees, tree, no_tree_fields, tree_field};
-ghost use Rattle.cedar_gate_model.specs.Whole.ReadingForms.{beside, texts_read, if_some, is_between, number_between, is_number};
+ghost use Rattle.cedar_gate_model.specs.Whole.ReadingForms.{beside, word_of, first_form, alone, if_passing, texts_read, is_between, number_between, is_number};
 ghost use Rattle.cedar_gate_model.specs.Whole.ReadingName.{any_name_read, plain_name_read, names_read, uid_read, uids_read, declared_uid_read, annotation_read};
 ghost use Rattle.cedar_gate_model.specs.Whole.ReadingExpression.{var_words, slot_words, pattern_read, expression_read, fields_read};
 ghost use Rattle.cedar_gate_model.specs.Whole.WorkedReading.{reads_as, takes, refuses, name, name_under, user_a};
@@ -56,6 +58,22 @@ pub fn worked_numbers()
     ensures beside { beside (codes "?resource") slot_words ≡ Some resource_slot }
     ensures first { beside (codes "?principal") slot_words ≡ Some principal_slot }
     ensures not_beside { beside (codes "?action") slot_words ≡ None }
+{}
+
+/// Words, objects with one key, and the first of several forms.
+pub fn worked_forms()
+    ensures word { reads_as (word_of slot_words) (codes "'?resource'") ≡ Some resource_slot }
+    ensures no_words { refuses (word_of slot_words) (codes "'resource'" ∷ codes "''" ∷ codes "1" ∷ codes "['?resource']" ∷ []) ≡ true }
+    ensures alone { reads_as (alone (codes "a") as_str) (codes "{'a':'x'}") ≡ Some (codes "x") }
+    ensures not_alone { refuses (alone (codes "a") as_str) (codes "{}" ∷ codes "{'a':'x','b':1}" ∷ codes "{'b':'x'}" ∷ codes "{'a':1}" ∷ codes "'a'" ∷ []) ≡ true }
+    ensures one_form { reads_as (first_form (as_str ∷ alone (codes "a") as_str ∷ [])) (codes "'x'") ≡ Some (codes "x") }
+    ensures another_form { reads_as (first_form (as_str ∷ alone (codes "a") as_str ∷ [])) (codes "{'a':'y'}") ≡ Some (codes "y") }
+    ensures no_form { refuses (first_form (as_str ∷ alone (codes "a") as_str ∷ [])) (codes "1" ∷ codes "{'a':1}" ∷ []) ≡ true }
+    ensures passing { if_passing (is_between 1 2) 2 ≡ Some 2 }
+    ensures not_passing { if_passing (is_between 1 2) 3 ≡ None }
+    ensures this_number { is_number 1 (number (unsigned 1)) ≡ true }
+    ensures another_number { is_number 1 (number (unsigned 2)) ≡ false }
+    ensures no_number { is_number 1 null ≡ false }
 {}
 
 /// Literals and variables, slots and unknowns.
