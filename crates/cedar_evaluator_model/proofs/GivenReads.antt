@@ -149,7 +149,7 @@ given_combined s times m n = given_literal _ (literal_calculated (λ i j. i *ℤ
 given_combined s is_in m n = given_within s m n
 given_combined s contains m n = given_literal _ (literal_among (bare m) (bare n))
 given_combined s contains_all m n = given_literal _ (literal_sets (λ vs ws. is_subset ws vs) (bare m) (bare n))
-given_combined s contains_any m n = given_literal _ (literal_sets any_member (bare m) (bare n))
+given_combined s contains_any m n = given_literal _ (literal_sets (λ vs ws. not (is_disjoint vs ws)) (bare m) (bare n))
 given_combined s get_tag m n = given_tag_read s m n
 given_combined s has_tag m n = given_tag_tested s m n
 

@@ -16,3 +16,5 @@ pub mod ReadingValue
 pub mod ReadingRequest
 pub mod ReadingBundle
 pub mod Lines
+pub mod WorkedReading
+pub mod ReadingLaws

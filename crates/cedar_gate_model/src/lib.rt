@@ -2,4 +2,8 @@
 #![tactic(auto)]
 
 pub mod laws;
+pub mod whole_reading_declared;
+pub mod whole_reading_laws;
+pub mod whole_reading_started;
+pub mod whole_reading_worked;
 pub mod worked;

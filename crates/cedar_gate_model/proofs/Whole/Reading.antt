@@ -1,0 +1,5 @@
+pub mod Steps
+pub mod Kept
+pub mod Slots
+pub mod Bundles
+pub mod Values
