@@ -1,5 +1,5 @@
 -- What is read is in the builder's form, and has the slots alone that are written.
-use Rattle.std.proofs.Common.{◌≡◌, Bool, true, false, ◌&&◌, ◌||◌, List, [], ◌∷◌, Option, Some, None, refl, sym, subst, codes, bytes_eq}
+use Rattle.std.proofs.Common.{◌≡◌, Bool, true, false, ◌&&◌, ◌||◌, List, [], ◌∷◌, ◌++◌, Option, Some, None, refl, sym, subst, codes, bytes_eq}
 use Rattle.std.proofs.lemmas.Bool.{or_parts, or_from}
 use Rattle.serde_json.specs.Data.{Data, null, boolean, number, string, array, object, Items, no_items, item, Members, no_members, member}
 use Rattle.cedar_expr_model.specs.Name.{Text}
@@ -8,7 +8,11 @@ use Rattle.cedar_expr_model.specs.Whole.Builder.{written_truth, folded, path_tes
 use Rattle.cedar_expr_model.specs.Whole.BuilderForm.{is_built, are_built, have_built}
 use Rattle.cedar_expr_model.proofs.Lists.{hold_both}
 use Rattle.cedar_expr_model.proofs.Whole.Building.{conjunction_built, disjunction_built}
-use Rattle.cedar_store_model.specs.Whole.Policy.{slot_eq, tree_uses, trees_use, fields_use}
+use Rattle.std.specs.List.{list_any, filter_map}
+use Rattle.std.proofs.lemmas.List.Elements.{filter_map-append}
+use Rattle.std.proofs.lemmas.List.Folds.{list_any-append}
+use Rattle.cedar_expr_model.specs.Whole.Parts.{subexpressions, subexpressions_among, subexpressions_in_fields, slot_here}
+use Rattle.cedar_store_model.specs.Whole.Policy.{slot_eq, tree_uses}
 use Rattle.cedar_gate_model.specs.Whole.ReadingForms.{word_of, beside}
 use Rattle.cedar_gate_model.specs.Whole.ReadingExpression.{Part, slot_words, of_word, expression_read, parts_in}
 use Rattle.cedar_gate_model.specs.Whole.ReadingLaws.{slot_text, is_slot_form, writes_slot, some_writes_slot, member_writes_slot}
@@ -91,13 +95,22 @@ module _ (s : SlotId) where
   abbrev Lacks : Tree → Type 0
   Lacks t = tree_uses t s ≡ false
 
-  each_lacks : (ts : Trees) → EachTree Lacks ts → trees_use ts s ≡ false
-  each_lacks no_trees h = refl
-  each_lacks (tree t ts) h = or_from (tree_uses t s) (trees_use ts s) h.0 (each_lacks ts h.1)
+  -- the slot stands among these expressions
+  abbrev uses_among : List Tree → Bool
+  uses_among ts = list_any (slot_eq s) (filter_map slot_here ts)
 
-  each_field_lacks : (fs : TreeFields) → EachField Lacks fs → fields_use fs s ≡ false
+  used_in_both : (xs ys : List Tree) → uses_among xs ≡ false → uses_among ys ≡ false → uses_among (xs ++ ys) ≡ false
+  used_in_both xs ys h k =
+      subst (λ l. list_any (slot_eq s) l ≡ false) (sym (filter_map-append slot_here xs ys))
+      (subst (λ b. b ≡ false) (sym (list_any-append (slot_eq s) (filter_map slot_here xs) (filter_map slot_here ys))) (or_from (uses_among xs) (uses_among ys) h k))
+
+  each_lacks : (ts : Trees) → EachTree Lacks ts → uses_among (subexpressions_among ts) ≡ false
+  each_lacks no_trees h = refl
+  each_lacks (tree t ts) h = used_in_both (subexpressions t) (subexpressions_among ts) h.0 (each_lacks ts h.1)
+
+  each_field_lacks : (fs : TreeFields) → EachField Lacks fs → uses_among (subexpressions_in_fields fs) ≡ false
   each_field_lacks no_tree_fields h = refl
-  each_field_lacks (tree_field a t fs) h = or_from (tree_uses t s) (fields_use fs s) h.0 (each_field_lacks fs h.1)
+  each_field_lacks (tree_field a t fs) h = used_in_both (subexpressions t) (subexpressions_in_fields fs) h.0 (each_field_lacks fs h.1)
 
   folded_lacks : (f : Bool → Bool → Bool) (a b : Option Bool) (t : Tree) → tree_uses t s ≡ false → tree_uses (folded f a b t) s ≡ false
   folded_lacks f (Some x) (Some y) t h = refl
@@ -113,11 +126,11 @@ module _ (s : SlotId) where
     of_lit = λ p. refl;
     of_var = λ x. refl;
     of_unknown = λ n a. refl;
-    of_choice = λ t a b h k l. or_from (tree_uses t s) (tree_uses a s || tree_uses b s) h (or_from (tree_uses a s) (tree_uses b s) k l);
-    of_both = λ a b h k. folded_lacks _ (written_truth a) (written_truth b) (both a b) (or_from (tree_uses a s) (tree_uses b s) h k);
-    of_either = λ a b h k. folded_lacks _ (written_truth a) (written_truth b) (either a b) (or_from (tree_uses a s) (tree_uses b s) h k);
+    of_choice = λ t a b h k l. used_in_both (subexpressions t) (subexpressions a ++ subexpressions b) h (used_in_both (subexpressions a) (subexpressions b) k l);
+    of_both = λ a b h k. folded_lacks _ (written_truth a) (written_truth b) (both a b) (used_in_both (subexpressions a) (subexpressions b) h k);
+    of_either = λ a b h k. folded_lacks _ (written_truth a) (written_truth b) (either a b) (used_in_both (subexpressions a) (subexpressions b) h k);
     of_unary = λ o a h. h;
-    of_binary = λ o a b h k. or_from (tree_uses a s) (tree_uses b s) h k;
+    of_binary = λ o a b h k. used_in_both (subexpressions a) (subexpressions b) h k;
     of_call = λ f ts h. each_lacks ts h;
     of_get = λ t a h. h;
     of_path = path_lacks;
@@ -127,7 +140,7 @@ module _ (s : SlotId) where
     of_record = each_field_lacks;
   }
 
-other_slot : (s : SlotId) (v : Text) → bytes_eq v (slot_text s) ≡ false → AllBeside (λ r. slot_eq r s ≡ false) v slot_words
+other_slot : (s : SlotId) (v : Text) → bytes_eq v (slot_text s) ≡ false → AllBeside (λ r. (slot_eq s r || false) ≡ false) v slot_words
 other_slot principal_slot v h = ((λ k. cc), ((λ k. refl), tt))
 other_slot resource_slot v h = ((λ k. refl), ((λ k. cc), tt))
 
@@ -135,7 +148,7 @@ other_slot resource_slot v h = ((λ k. refl), ((λ k. cc), tt))
 after_word : (s : SlotId) (v : Text) → bytes_eq v (slot_text s) ≡ false → Reads (Lacks s) (of_word slot slot_words (parts_in (item (string v) no_items)))
 after_word s v h t e =
     let p = map_some slot (beside v slot_words) t e in
-    subst (Lacks s) (sym p.2) (beside_all (λ r. slot_eq r s ≡ false) v slot_words (other_slot s v h) p.0 p.1)
+    subst (Lacks s) (sym p.2) (beside_all (λ r. (slot_eq s r || false) ≡ false) v slot_words (other_slot s v h) p.0 p.1)
 
 second_false : (a b : Bool) → (a && b) ≡ false → a ≡ true → b ≡ false
 second_false true b e h = e
