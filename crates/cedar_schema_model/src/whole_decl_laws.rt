@@ -1,7 +1,7 @@
 //! Laws of the definitions on declarations, entities and requests. Each function's contract is the theorem; its body does nothing.
 
-ghost use Rattle.cedar_schema_model.specs.Whole.DeclLaws.{DescentDecides, ActionDescentDecides, ActionTypeDescentDecides, TypeDescentDecides, DescentIsTransitive, AncestorsAreDeclared, EntitiesAreActions, ActionsConform, EntityFaultsDecide, EntityConformingDecides, RequestFaultsDecide, RequestConformingDecides, EntitiesReadDirectly, RequestsReadDirectly, EnvironmentsAreProducts, RequestsHaveEnvironments, SlotsAreCovered, StoresHoldActions};
-ghost use Rattle.cedar_schema_model.specs.Whole.BagLaws.{FirstDeclaredIsMeant, FirstActionIsMeant, SchemaFaultsDecide, WellFormedDecides, OrderHidesNoFault, SplittingIsFree, FragmentsMayMove, OrderIsTransitive, CommonTypesAreDefined, NoMoreToReplace, ContextsAreRecords, SameTypes, SameActions, ParentsAreMeant, ActionParentsAreMeant, NoActionIsItsAncestor, ActionTypesAreApart, SameTypesFound, SameActionsFound, AncestorTypesAreDeclared, AncestorActionsAreDeclared, ListedTypesAreDeclared, NoParentIsDropped, NothingOfActionsIsDropped};
+ghost use Rattle.cedar_schema_model.specs.Whole.DeclLaws.{DescentDecides, ActionDescentDecides, ActionTypeDescentDecides, TypeDescentDecides, DescentIsTransitive, AncestorsAreDeclared, EntitiesAreActions, ActionsConform, EntityFaultsDecide, EntityConformingDecides, ConformingIsFaultless, RequestFaultsDecide, RequestConformingDecides, RequestIsFaultless, EntitiesReadDirectly, RequestsReadDirectly, EnvironmentsAreProducts, RequestsHaveEnvironments, SlotsAreCovered, StoresHoldActions};
+ghost use Rattle.cedar_schema_model.specs.Whole.BagLaws.{FirstDeclaredIsMeant, FirstActionIsMeant, SchemaFaultsDecide, WellFormedDecides, WellFormedIsFaultless, OrderHidesNoFault, SplittingIsFree, FragmentsMayMove, OrderIsTransitive, CommonTypesAreDefined, NoMoreToReplace, ContextsAreRecords, SameTypes, SameActions, ParentsAreMeant, ActionParentsAreMeant, NoActionIsItsAncestor, ActionTypesAreApart, SameTypesFound, SameActionsFound, AncestorTypesAreDeclared, AncestorActionsAreDeclared, ListedTypesAreDeclared, NoParentIsDropped, NothingOfActionsIsDropped};
 ghost use Rattle.cedar_schema_model.specs.Whole.BagLaws.{ResolvedTypesRise};
 
 /// The tests of descent are true exactly where there is a chain of declared parents, and descent is transitive.
@@ -26,6 +26,7 @@ pub fn action_entities_are_the_actions()
 pub fn entities_are_decided()
     ensures faults { EntityFaultsDecide }
     ensures conforming { EntityConformingDecides }
+    ensures faultless { ConformingIsFaultless }
     ensures directly { EntitiesReadDirectly }
 {}
 
@@ -33,6 +34,7 @@ pub fn entities_are_decided()
 pub fn requests_are_decided()
     ensures faults { RequestFaultsDecide }
     ensures conforming { RequestConformingDecides }
+    ensures faultless { RequestIsFaultless }
     ensures directly { RequestsReadDirectly }
 {}
 
@@ -54,6 +56,7 @@ pub fn references_mean_the_first()
 pub fn declarations_are_decided()
     ensures faults { SchemaFaultsDecide }
     ensures well_formed { WellFormedDecides }
+    ensures faultless { WellFormedIsFaultless }
 {}
 
 /// Declarations in another order, or split into fragments in another way, have the same faults; where they have none they make

@@ -7,6 +7,7 @@ ghost use Rattle.cedar_schema_model.specs.Whole.Types.{any_bool, only_true, is_o
 ghost use Rattle.cedar_schema_model.specs.Whole.Descent.{descends, action_descends, action_type_descends, type_descends};
 ghost use Rattle.cedar_schema_model.specs.Whole.ActionEntities.{action_entity, action_entities};
 ghost use Rattle.cedar_schema_model.specs.Whole.HasType.{has_type};
+ghost use Rattle.cedar_schema_model.specs.Whole.Schema.{enumerated};
 ghost use Rattle.cedar_schema_model.specs.Whole.Conforming.{undeclared, not_listed, no_member, lacks_attribute, undeclared_attribute, attribute_value, tag, ancestor, context_value, open_part, conform_number, conform_faults, has_entity_fault, entity_conforms, parts_of, has_request_fault, request_conforms};
 ghost use Rattle.cedar_schema_model.specs.Whole.Environment.{no_slot, equal_slot, in_slot, environments, environments_for, slot_types};
 ghost use Rattle.cedar_schema_model.specs.Whole.Reference.{action_in};
@@ -43,8 +44,8 @@ pub fn worked_action_entities()
     ensures none { action_entity readers edit ≡ None }
 {}
 
-/// What types of one part admit.
-pub fn worked_admission()
+/// The values of types of one part.
+pub fn worked_values()
     ensures absent { has_type (prim (entity user_a)) (entity_type user) ≡ true }
     ensures other_type { has_type (prim (entity doc_d)) (entity_type user) ≡ false }
     ensures one_of_two { has_type (prim (entity user_a)) (entity_types (doc ∷ user ∷ [])) ≡ true }
@@ -62,8 +63,8 @@ pub fn worked_admission()
     ensures nothing { has_type one never ≡ false }
 {}
 
-/// What types of sets and records admit.
-pub fn worked_nested_admission()
+/// The values of types of sets and records.
+pub fn worked_nested_values()
     ensures empty_set { has_type (set_of no_values) (set_type long_type) ≡ true }
     ensures each { has_type (set_of (value one no_values)) (set_type long_type) ≡ true }
     ensures one_not { has_type (set_of (value one (value (prim (truth true)) no_values))) (set_type long_type) ≡ false }
@@ -90,6 +91,7 @@ pub fn worked_entities()
     ensures not_member { has_entity_fault color_schema (record { kind = color; id = codes "blue" }) (made [] [] []) no_member ≡ true }
     ensures residual { has_entity_fault m_schema user_a (made (boss_a ∷ ok_left ∷ []) [] []) open_part ≡ true }
     ensures residual_is_there { has_entity_fault m_schema user_a (made (boss_a ∷ ok_left ∷ []) [] []) lacks_attribute ≡ false }
+    ensures residual_is_no_value { has_entity_fault m_schema user_a (made (boss_a ∷ ok_left ∷ []) [] []) attribute_value ≡ false }
     ensures good_has_none { map (has_entity_fault m_schema user_a good_user) conform_faults ≡ map (λ f. false) conform_faults }
     ensures refused { entity_conforms m_schema user_a (made (boss_a ∷ []) [] []) ≡ false }
 {}
@@ -107,6 +109,7 @@ pub fn worked_kinds_of_entities()
     ensures more_ancestors { has_entity_fault readers read (made [] [] (all_actions ∷ view ∷ [])) ancestor ≡ true }
     ensures no_action { has_entity_fault readers edit (made [] [] []) undeclared ≡ true }
     ensures action_without_tags { has_entity_fault readers all_actions (made [] (age_one ∷ []) []) tag ≡ true }
+    ensures action_before_type { entity_conforms (record readers { types = record { name = view.kind; parents = []; kind = enumerated [] } ∷ [] }) view (made [] [] (all_actions ∷ read ∷ [])) ≡ true }
 {}
 
 /// A request of a user, to view a document, conforms; others each have one fault.

@@ -107,11 +107,17 @@ EntityFaultsDecide = (s : Schema) (u : Uid) (e : Entity V) (f : ConformFault) �
 abbrev pub EntityConformingDecides : Type 0
 EntityConformingDecides = (s : Schema) (u : Uid) (e : Entity V) → Decides (entity_conforms s u e) (EntityConforms s u e)
 
+abbrev pub ConformingIsFaultless : Type 0
+ConformingIsFaultless = (s : Schema) (u : Uid) (e : Entity V) → EntityConforms s u e ↔ ((f : ConformFault) → HasEntityFault s u e f → ⊥)
+
 abbrev pub RequestFaultsDecide : Type 0
 RequestFaultsDecide = (s : Schema) (r : RequestParts) (f : ConformFault) → Decides (has_request_fault s r f) (HasRequestFault s r f)
 
 abbrev pub RequestConformingDecides : Type 0
 RequestConformingDecides = (s : Schema) (r : RequestParts) → Decides (request_conforms s r) (RequestConforms s r)
+
+abbrev pub RequestIsFaultless : Type 0
+RequestIsFaultless = (s : Schema) (r : RequestParts) → RequestConforms s r ↔ ((f : ConformFault) → HasRequestFault s r f → ⊥)
 
 -- Conforming, read directly: this is known and of the type.
 abbrev pub IsOf : Option Ty → Part V → Type 0

@@ -15,7 +15,7 @@ use Rattle.cedar_schema_model.specs.Whole.Reference.{Namespace, action_word, Ref
 use Rattle.cedar_schema_model.specs.Whole.Declarations.{Declarations, common_name, action_uid, common_names, entity_names, action_uids, is_declared, is_declared_action, meant, parent_meant, references_of_common, references, extensions}
 use Rattle.cedar_schema_model.specs.Whole.WellFormed.{SchemaFault, duplicate_entity_type, duplicate_common_type, duplicate_action, undeclared_type, undeclared_action, cycle_of_common_types, cycle_of_actions, action_as_entity_type, context_not_record, reserved_name, shadowing, unknown_extension_type, unresolved_external, ill_forms, HasTwice, has_twice, is_common, uses, has_parent_action, becomes_record, written_names, unqualified_uid, is_qualified, declared_types, shadows, is_external_kind, has_schema_fault, IsWellFormed, well_formed}
 use Rattle.cedar_schema_model.proofs.Whole.Decls.Descent.{reaches-Decides, Covers, chain_starts}
-use Rattle.cedar_schema_model.proofs.Whole.Decls.Conforming.{not_false, is_none-Decides, is_true-Decides, none_there}
+use Rattle.cedar_schema_model.proofs.Whole.Decls.Conforming.{not_false, is_none-Decides, is_true-Decides, none_there, is_lacking}
 use Rattle.cedar_schema_model.specs.Whole.BagLaws.{IsFirst, Uses, HasParentAction, Shadows, HasSchemaFault}
 use Rattle.cedar_expr_model.specs.Whole.Names.{unqualified}
 use Rattle.std.specs.Option.{option_eq}
@@ -124,3 +124,6 @@ well_formed-Decides x d = all-Decides (λ f. not (has_schema_fault x d f)) (λ f
 
 pub no_schema_fault : (x : List Name) (d : Declarations) → IsWellFormed x d → (f : SchemaFault) → Contains ill_forms f → HasSchemaFault x d f → ⊥
 no_schema_fault x d w f k = none_there (has_schema_fault x d f) (schema_fault-Decides x d f) (w f k)
+
+pub where_no_schema_fault : (x : List Name) (d : Declarations) → ((f : SchemaFault) → Contains ill_forms f → HasSchemaFault x d f → ⊥) → IsWellFormed x d
+where_no_schema_fault x d h f k = is_lacking (has_schema_fault x d f) (schema_fault-Decides x d f) (h f k)

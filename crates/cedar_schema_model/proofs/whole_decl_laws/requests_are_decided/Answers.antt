@@ -1,4 +1,4 @@
-use Rattle.cedar_schema_model.proofs.Whole.Decls.Conforming.{request_fault-Decides, request_conforms-Decides}
+use Rattle.cedar_schema_model.proofs.Whole.Decls.Conforming.{request_fault-Decides, request_conforms-Decides, no_request_fault, where_no_request_fault}
 use Rattle.cedar_schema_model.proofs.Whole.Decls.Direct.{requests_read}
 use Rattle.cedar_schema_model.proofs.whole_decl_laws.requests_are_decided.Goals as goal
 
@@ -10,3 +10,6 @@ returns-clause-conforming c = request_conforms-Decides
 
 pub returns-clause-directly : goal.returns-clause-directly
 returns-clause-directly c = requests_read
+
+pub returns-clause-faultless : goal.returns-clause-faultless
+returns-clause-faultless c = λ s r. (no_request_fault s r, where_no_request_fault s r)
