@@ -1,5 +1,5 @@
 -- Reauthorizing where nothing is unknown any more.
-use Rattle.std.proofs.Common.{◌≡◌, ℕ, Bool, true, false, List, [], ◌∷◌, refl, sym, ap, ◌∙◌, subst}
+use Rattle.std.proofs.Common.{◌≡◌, ℕ, false, List, [], sym, ap, ◌∙◌}
 use Rattle.std.specs.Prelude.{Option, Some, None, All}
 use Rattle.cedar_expr_model.specs.Name.{Text}
 use Rattle.cedar_expr_model.specs.Whole.Substitution.{Bindings}
@@ -10,7 +10,7 @@ use Rattle.cedar_evaluator_model.specs.Known.{known_world}
 use Rattle.cedar_evaluator_model.specs.Whole.{NothingUnknown, AllLoaded}
 use Rattle.cedar_evaluator_model.specs.Response.{PartialRequest, Response, response_of}
 use Rattle.cedar_evaluator_model.specs.Members.{all_residuals, concretize, met_limit, nontrivial_residuals}
-use Rattle.cedar_evaluator_model.specs.Reauthorize.{Outcome, makes_it, refuses, and_next, repeated, distinct_or, distinct, request_bound, resumed, reauthorized}
+use Rattle.cedar_evaluator_model.specs.Reauthorize.{Outcome, makes_it, and_next, repeated, distinct_or, request_bound, resumed, reauthorized}
 use Rattle.cedar_evaluator_model.specs.Laws.{IsBound, as_concrete}
 use Rattle.cedar_evaluator_model.proofs.Responses.{answers, no_residuals}
 

@@ -1,10 +1,10 @@
 -- The expression that a well-made value is written as means it, and evaluates to an equal value.
-use Rattle.std.proofs.Common.{◌≡◌, ℕ, ◌≤◌, Bool, true, false, cond, List, [], ◌∷◌, refl, sym, ap, ◌∙◌, subst}
+use Rattle.std.proofs.Common.{◌≡◌, ℕ, ◌≤◌, Bool, true, false, cond, List, [], ◌∷◌, refl, ap, ◌∙◌}
 use Rattle.std.specs.Prelude.{Option, Some, None, map, length}
 use Rattle.cedar_expr_model.specs.Name.{Text, Name}
-use Rattle.cedar_expr_model.specs.Whole.Value.{Literal, V, prim, set_of, record_of, extension, Vs, values_list, field}
+use Rattle.cedar_expr_model.specs.Whole.Value.{Literal, V, prim, set_of, record_of, extension, values_list, field}
 use Rattle.cedar_expr_model.specs.Whole.Canonical.{set_made}
-use Rattle.cedar_expr_model.specs.Whole.Tree.{CoreType, Tree, nesting}
+use Rattle.cedar_expr_model.specs.Whole.Tree.{CoreType, nesting}
 use Rattle.cedar_expr_model.specs.Whole.Unknowns.{EachUnknown, EachUnknownAmong, EachUnknownInFields}
 use Rattle.cedar_expr_model.specs.Whole.Made.{Made, made_prim, made_set, made_record, made_extension, Mades, no_mades, made, MadeFields, no_made_fields, made_field, bare, bares, bare_fields, literals, written, writtens, written_fields}
 use Rattle.cedar_expr_model.specs.Whole.Table.{Table, Signature, Called, gives, fails, leaves, signature_of, takes_count, are_of_types}
@@ -14,11 +14,11 @@ use Rattle.cedar_store_model.specs.Whole.World.{World}
 use Rattle.cedar_store_model.specs.Whole.Operators.{answered, called_with, called}
 use Rattle.cedar_store_model.specs.Whole.Meaning.{Means, outcome_of, outcomes_of, field_outcomes_of}
 use Rattle.cedar_store_model.proofs.Whole.Meaning.{outcome_means}
-use Rattle.cedar_evaluator_model.specs.Scope.{Scope, Agrees, Left, value_left}
+use Rattle.cedar_evaluator_model.specs.Scope.{Scope, Agrees}
 use Rattle.cedar_evaluator_model.specs.Evaluation.{evaluated}
 use Rattle.cedar_evaluator_model.specs.Known.{known_world}
 use Rattle.cedar_evaluator_model.specs.WellMade.{no_meaning, IsWellMade, AreWellMade, HaveWellMade}
-use Rattle.cedar_evaluator_model.specs.Completion.{Fits, FitsAnnotations}
+use Rattle.cedar_evaluator_model.specs.Completion.{Fits}
 use Rattle.cedar_evaluator_model.specs.Standing.{IsOutcome, LeavesUnbound}
 use Rattle.cedar_evaluator_model.proofs.Owed.{owed}
 

@@ -1,6 +1,6 @@
 -- Values as they are made: the members of a set rise, and the call that an extension value is written as answers it.
 -- Rule: values and equality; extension functions (docs/RULES.md).
-use Rattle.std.specs.Prelude.{◌≡◌, List, map, true, Option, Some, None}
+use Rattle.std.specs.Prelude.{◌≡◌, map, true, Option, Some, None}
 use Rattle.cedar_expr_model.specs.Name.{Text}
 use Rattle.cedar_expr_model.specs.Whole.Value.{V, prim, extension}
 use Rattle.cedar_expr_model.specs.Whole.Canonical.{are_rising}
