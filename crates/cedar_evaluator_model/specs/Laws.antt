@@ -16,13 +16,13 @@ use Rattle.cedar_evaluator_model.specs.Scope.{Scope, Agrees, fault, limit, value
 use Rattle.cedar_evaluator_model.specs.Evaluation.{evaluated}
 use Rattle.cedar_evaluator_model.specs.Known.{known_world}
 use Rattle.cedar_evaluator_model.specs.Whole.{NothingUnknown, AllLoaded, AllBoundTo, LeavesNothing}
-use Rattle.cedar_evaluator_model.specs.WellMade.{IsWellMade}
+use Rattle.cedar_evaluator_model.specs.WellMade.{IsWellMade, AllMadeWell}
 use Rattle.cedar_evaluator_model.specs.Completion.{FitsAnnotations, Completes}
 use Rattle.cedar_evaluator_model.specs.Response.{stops, PartialRequest, Response, with_bindings, response_of}
 use Rattle.cedar_evaluator_model.specs.Reauthorize.{makes_it, request_bound, resumed, reauthorized}
 use Rattle.cedar_expr_model.specs.Whole.Substitution.{Bindings}
 use Rattle.cedar_evaluator_model.specs.Members.{all_residuals, Concrete, concretize, met_limit, decision_in_session, nontrivial_residuals}
-use Rattle.cedar_evaluator_model.specs.Standing.{IsOutcome, LeavesUnbound, Owed, NoLimit}
+use Rattle.cedar_evaluator_model.specs.Standing.{StandsInAll, IsOutcome, LeavesUnbound, Owed, NoLimit}
 
 -- at limit 0 all stops at the limit, and a literal within the limit is its value
 abbrev pub LimitStops : Type 0
@@ -145,3 +145,7 @@ PermitForces =
 -- by all permits, none satisfied.
 abbrev pub NoPermitForces : Type 0
 NoPermitForces = (s : Scope) (n : ℕ) (ps : List Policy) → IsReady s n ps → ((p : Policy) → Contains ps p → p.effect ≡ permit → IsUnsatisfied (known_world s) p) → decision_in_session (response_of s n ps) ≡ Some deny
+
+-- What evaluation leaves stands for the expression in every completion. This is stated here alone; no law says it yet.
+abbrev pub ResidualsStand : Type 0
+ResidualsStand = (s : Scope) → Agrees s → AllMadeWell s → (n : ℕ) (t : Tree) → StandsInAll s t (evaluated s n t)
