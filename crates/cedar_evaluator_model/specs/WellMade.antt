@@ -8,9 +8,9 @@ use Rattle.cedar_expr_model.specs.Whole.Canonical.{are_rising}
 use Rattle.cedar_expr_model.specs.Whole.Made.{Made, made_prim, made_set, made_record, made_extension, Mades, no_mades, made, MadeFields, no_made_fields, made_field, bare, bares}
 use Rattle.cedar_expr_model.specs.Whole.Table.{Table}
 use Rattle.cedar_store_model.specs.Whole.Outcome.{val}
-use Rattle.cedar_store_model.specs.Whole.World.{Part, known, left, Found, held, missing, not_loaded, part_named}
+use Rattle.cedar_store_model.specs.Whole.World.{Part, known, Found, held, part_named}
 use Rattle.cedar_store_model.specs.Whole.Operators.{called}
-use Rattle.cedar_evaluator_model.specs.Scope.{Scope, IsTaken, makes, Context, closed, residual_fields, unknown_context}
+use Rattle.cedar_evaluator_model.specs.Scope.{Scope, IsTaken, makes, Context, closed}
 
 -- no unknown means anything
 abbrev pub no_meaning : Text → Option V
