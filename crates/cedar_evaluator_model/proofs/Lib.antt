@@ -13,3 +13,5 @@ pub mod Completions
 pub mod Limits
 pub mod Responses
 pub mod Forced
+pub mod Written
+pub mod Again

@@ -4,7 +4,7 @@ use Rattle.std.specs.Prelude.{◌≡◌, ◌↔◌, ◌≤◌, ℕ, suc, true, f
 use Rattle.cedar_expr_model.specs.Name.{Text}
 use Rattle.cedar_expr_model.specs.Whole.Value.{Literal, V, truth_value}
 use Rattle.cedar_expr_model.specs.Whole.Tree.{Tree, lit, nesting}
-use Rattle.cedar_expr_model.specs.Whole.Made.{made_prim}
+use Rattle.cedar_expr_model.specs.Whole.Made.{Made, made_prim, bare, written}
 use Rattle.cedar_expr_model.specs.Whole.Table.{Table, IsFair, all_typed}
 use Rattle.cedar_store_model.specs.Whole.Outcome.{Res, val}
 use Rattle.cedar_store_model.specs.Whole.World.{World}
@@ -16,10 +16,13 @@ use Rattle.cedar_evaluator_model.specs.Scope.{Scope, Agrees, fault, limit, value
 use Rattle.cedar_evaluator_model.specs.Evaluation.{evaluated}
 use Rattle.cedar_evaluator_model.specs.Known.{known_world}
 use Rattle.cedar_evaluator_model.specs.Whole.{NothingUnknown, AllLoaded, AllBoundTo, LeavesNothing}
+use Rattle.cedar_evaluator_model.specs.WellMade.{IsWellMade, AllMadeWell}
 use Rattle.cedar_evaluator_model.specs.Completion.{FitsAnnotations, Completes}
-use Rattle.cedar_evaluator_model.specs.Response.{stops, with_bindings, response_of}
-use Rattle.cedar_evaluator_model.specs.Members.{Concrete, concretize, met_limit, decision_in_session, nontrivial_residuals}
-use Rattle.cedar_evaluator_model.specs.Standing.{IsOutcome, LeavesUnbound, Owed, NoLimit}
+use Rattle.cedar_evaluator_model.specs.Response.{stops, PartialRequest, Response, with_bindings, response_of}
+use Rattle.cedar_evaluator_model.specs.Reauthorize.{makes_it, request_bound, resumed, reauthorized}
+use Rattle.cedar_expr_model.specs.Whole.Substitution.{Bindings}
+use Rattle.cedar_evaluator_model.specs.Members.{all_residuals, Concrete, concretize, met_limit, decision_in_session, nontrivial_residuals}
+use Rattle.cedar_evaluator_model.specs.Standing.{StandsInAll, IsOutcome, LeavesUnbound, Owed, NoLimit}
 
 -- at limit 0 all stops at the limit, and a literal within the limit is its value
 abbrev pub LimitStops : Type 0
@@ -62,6 +65,13 @@ NoResidualIsLeft = (s : Scope) → Agrees s → NothingUnknown s → AllLoaded s
 abbrev pub NoLimitIsMet : Type 0
 NoLimitIsMet = (s : Scope) → Agrees s → NothingUnknown s → (n : ℕ) (t : Tree) → AllBoundTo s t → nesting t ≤ n → NoLimit s n t
 
+-- The expression that a well-made value is written as means the value, and evaluates within the limit to an equal one.
+abbrev pub WrittenMeansTheValue : Type 0
+WrittenMeansTheValue = (w : World) (m : Made) → IsWellMade w.table m → Means w (written m) (val (bare m))
+
+abbrev pub WrittenEvaluates : Type 0
+WrittenEvaluates = (s : Scope) → Agrees s → LeavesUnbound s → (n : ℕ) (m : Made) → IsWellMade s.table m → nesting (written m) ≤ n → IsOutcome (val (bare m)) (evaluated s n (written m))
+
 -- a fair table of which each function has a result type leaves no unknown
 abbrev pub TypedTablesLeaveNothing : Type 0
 TypedTablesLeaveNothing = (x : Table) → IsFair x → all_typed x ≡ true → LeavesNothing x
@@ -98,6 +108,18 @@ DecisionIsGiven = (s : Scope) → Agrees s → NothingUnknown s → AllLoaded s 
 abbrev pub NoPolicyIsResidual : Type 0
 NoPolicyIsResidual = (s : Scope) → Agrees s → NothingUnknown s → AllLoaded s → (n : ℕ) (ps : List Policy) → All (IsBound s) ps → nontrivial_residuals (response_of s n ps) ≡ []
 
+-- Reauthorizing under values with which nothing is unknown any more, over a store where everything is loaded: no policy is residual,
+-- and where none met the limit the response is the answer to what was left of the policies.
+abbrev pub ReauthorizingLeavesNone : Type 0
+ReauthorizingLeavesNone =
+    (s : Scope) (n : ℕ) (env : Bindings) (r q : Response) (b : PartialRequest) → request_bound s env r.request ≡ makes_it b → reauthorized s n env r ≡ makes_it q → Agrees s → NothingUnknown (resumed s env b) → AllLoaded s
+    → All (IsBound (resumed s env b)) (all_residuals r) → nontrivial_residuals q ≡ []
+
+abbrev pub ReauthorizingAnswers : Type 0
+ReauthorizingAnswers =
+    (s : Scope) (n : ℕ) (env : Bindings) (r q : Response) (b : PartialRequest) → request_bound s env r.request ≡ makes_it b → reauthorized s n env r ≡ makes_it q → Agrees s → NothingUnknown (resumed s env b) → AllLoaded s
+    → All (IsBound (resumed s env b)) (all_residuals r) → met_limit q ≡ false → concretize q ≡ as_concrete (answer_of (known_world (resumed s env b)) (all_residuals r))
+
 -- what is known satisfies the policy, or gives it an outcome that doesn't
 abbrev pub IsUnsatisfied : World → Policy → Type 0
 IsUnsatisfied w p = (r : Res V) × Means (with_slots w p.bindings) (condition p) r × (r ≡ val (truth_value true) → ⊥)
@@ -123,3 +145,7 @@ PermitForces =
 -- by all permits, none satisfied.
 abbrev pub NoPermitForces : Type 0
 NoPermitForces = (s : Scope) (n : ℕ) (ps : List Policy) → IsReady s n ps → ((p : Policy) → Contains ps p → p.effect ≡ permit → IsUnsatisfied (known_world s) p) → decision_in_session (response_of s n ps) ≡ Some deny
+
+-- What evaluation leaves stands for the expression in every completion. This is stated here alone; no law says it yet.
+abbrev pub ResidualsStand : Type 0
+ResidualsStand = (s : Scope) → Agrees s → AllMadeWell s → (n : ℕ) (t : Tree) → StandsInAll s t (evaluated s n t)

@@ -8,6 +8,7 @@ pub mod Standing
 pub mod Response
 pub mod Members
 pub mod Reauthorize
+pub mod WellMade
 pub mod Laws
 pub mod Worked
 pub mod WorkedResponses

@@ -1,6 +1,6 @@
 //! Laws of the definitions. Each function's contract is the theorem; its body does nothing.
 
-ghost use Rattle.cedar_evaluator_model.specs.Laws.{LimitStops, LiteralsStand, OutcomesAreOwed, OwedWithoutValues, OwedUnlessLimit, LargerLimitsKeep, EvaluationIsTheMeaning, NoResidualIsLeft, NoLimitIsMet, TypedTablesLeaveNothing, CompletionsExtend, NoPolicyMeetsLimit, ResponseIsTheAnswer, DecisionIsGiven, NoPolicyIsResidual, ForbidForces, PermitForces, NoPermitForces};
+ghost use Rattle.cedar_evaluator_model.specs.Laws.{LimitStops, LiteralsStand, OutcomesAreOwed, OwedWithoutValues, OwedUnlessLimit, LargerLimitsKeep, EvaluationIsTheMeaning, NoResidualIsLeft, NoLimitIsMet, WrittenMeansTheValue, WrittenEvaluates, TypedTablesLeaveNothing, CompletionsExtend, NoPolicyMeetsLimit, ResponseIsTheAnswer, DecisionIsGiven, NoPolicyIsResidual, ReauthorizingLeavesNone, ReauthorizingAnswers, ForbidForces, PermitForces, NoPermitForces};
 
 /// At limit 0 every evaluation stops at the limit; within a limit a literal is its value.
 pub fn the_limit_is_met()
@@ -29,6 +29,12 @@ pub fn no_limit_is_met()
     ensures { NoLimitIsMet }
 {}
 
+/// A well-made value is what its written expression means, and that evaluates to an equal value.
+pub fn written_values_stand()
+    ensures meaning { WrittenMeansTheValue }
+    ensures evaluation { WrittenEvaluates }
+{}
+
 /// The calls of a fair table leave no unknown where each of its functions has a result type.
 pub fn typed_tables_leave_nothing()
     ensures { TypedTablesLeaveNothing }
@@ -46,6 +52,12 @@ pub fn the_response_is_the_answer()
     ensures answer { ResponseIsTheAnswer }
     ensures decision { DecisionIsGiven }
     ensures no_residual { NoPolicyIsResidual }
+{}
+
+/// Reauthorizing where nothing is unknown any more leaves no residual, and answers as what was left of the policies does.
+pub fn reauthorizing_decides()
+    ensures no_residual { ReauthorizingLeavesNone }
+    ensures answer { ReauthorizingAnswers }
 {}
 
 /// A session's decision is owed as soon as what is known forces it, whatever else is unknown, where no policy met the limit.

@@ -7,7 +7,7 @@ ghost use Rattle.cedar_expr_model.specs.Whole.Made.{made_prim, made_set, made_re
 ghost use Rattle.cedar_expr_model.specs.Whole.Pattern.{character, wildcard};
 ghost use Rattle.cedar_store_model.specs.Whole.Outcome.{missing_entity, missing_attribute_or_tag, missing_field, wrong_type, overflow, extension_failed, no_function, wrong_count, unlinked_slot};
 ghost use Rattle.cedar_evaluator_model.specs.Scope.{uid, unknown_uid, closed, residual_fields, unknown_context, limit, fault, value_left, residual, stopped};
-ghost use Rattle.cedar_evaluator_model.specs.Steps.{errs, truth_left};
+ghost use Rattle.cedar_evaluator_model.specs.Steps.{errs, truth_left, made_members};
 ghost use Rattle.cedar_evaluator_model.specs.Evaluation.{evaluated};
 ghost use Rattle.cedar_evaluator_model.specs.Worked.{user, doc, user_a, user_b, doc_d, view, entity_of, named, number, made_number, made_truth, true_tree, false_tree, unknown_a, unknown_u, rank, later, scope, open_scope, with_value, with_context, deep_context, standing_b};
 
@@ -172,6 +172,7 @@ pub fn worked_calls()
 /// Sets and records: of values alone a value, else the expressions that are left, each value written.
 pub fn worked_collections()
     ensures set { evaluated scope 2 (set_literal (tree (number 2) (tree (number 1) (tree (number 2) no_trees)))) ≡ value_left (made_set (made (made_number 1) (made (made_number 2) no_mades))) }
+    ensures first_of_equal { made_members (made_extension rank (codes "7") rank (text (codes "07") ∷ []) ∷ made_extension rank (codes "7") rank (text (codes "7") ∷ []) ∷ []) ≡ made (made_extension rank (codes "7") rank (text (codes "07") ∷ [])) no_mades }
     ensures set_left { evaluated scope 3 (set_literal (tree (binary plus (number 1) (number 1)) (tree unknown_u no_trees))) ≡ residual (set_literal (tree (number 2) (tree unknown_u no_trees))) }
     ensures set_errs { evaluated scope 2 (set_literal (tree unknown_u (tree (slot principal_slot) no_trees))) ≡ errs unlinked_slot }
     ensures record { evaluated scope 2 (record_literal (tree_field (codes "x") (number 1) no_tree_fields)) ≡ value_left (made_record (made_field (codes "x") (made_number 1) no_made_fields)) }

@@ -2,9 +2,9 @@
 //! body does nothing.
 
 ghost use Rattle.std.specs.Prelude.{◌≡◌, true, false, Some, None, codes, pos, [], ◌∷◌};
-ghost use Rattle.cedar_expr_model.specs.Whole.Value.{prim, long, entity, record_of, no_fields, truth_value};
+ghost use Rattle.cedar_expr_model.specs.Whole.Value.{prim, long, text, entity, record_of, no_fields, truth_value};
 ghost use Rattle.cedar_expr_model.specs.Whole.Tree.{bool_core, long_core, principal, context, lit, var, unknown, get_attr, has_attr, both, unary, negation, no_tree_fields, tree_field};
-ghost use Rattle.cedar_expr_model.specs.Whole.Made.{made_record, no_made_fields};
+ghost use Rattle.cedar_expr_model.specs.Whole.Made.{made_set, made_record, made_extension, no_mades, made, no_made_fields, made_field};
 ghost use Rattle.cedar_store_model.specs.Whole.Outcome.{val, err, wrong_type, overflow};
 ghost use Rattle.cedar_store_model.specs.Whole.World.{known, left, held, missing, not_loaded};
 ghost use Rattle.cedar_store_model.specs.Whole.Meaning.{outcome_of};
@@ -12,9 +12,10 @@ ghost use Rattle.cedar_evaluator_model.specs.Scope.{Agrees, unknown_uid, uid, cl
 ghost use Rattle.cedar_evaluator_model.specs.Steps.{truth_left};
 ghost use Rattle.cedar_evaluator_model.specs.Known.{known_world};
 ghost use Rattle.cedar_evaluator_model.specs.Whole.{LeavesNothing, NothingUnknown, AllLoaded, AllBoundTo};
+ghost use Rattle.cedar_evaluator_model.specs.WellMade.{IsWellMade, AllMadeWell};
 ghost use Rattle.cedar_evaluator_model.specs.Completion.{FitsAnnotations, EntryMeans, ContextMeans, PartMeans, FoundMeans, Completes};
 ghost use Rattle.cedar_evaluator_model.specs.Standing.{StandsFor, IsOutcome, LeavesUnbound, NoLimit};
-ghost use Rattle.cedar_evaluator_model.specs.Worked.{user, user_a, user_b, doc_d, number, made_number, made_truth, true_tree, false_tree, unknown_a, unknown_u, entity_d, scope, open_scope, with_value, with_context, deep_context};
+ghost use Rattle.cedar_evaluator_model.specs.Worked.{user, doc, user_a, user_b, doc_d, number, made_number, made_truth, true_tree, false_tree, unknown_a, unknown_u, rank, entity_d, scope, open_scope, with_value, with_context, deep_context};
 ghost use Rattle.cedar_evaluator_model.specs.WorkedCompletions.{open_request, completed, other_kind, other_name, whole_scope};
 
 /// What a scope knows as values: known parts, and nothing of the unknown ones.
@@ -52,6 +53,8 @@ pub fn worked_completes()
     ensures other_kind { Completes other_kind open_request → ⊥ }
     ensures other_name { Completes other_name open_request → ⊥ }
     ensures entry { EntryMeans completed (codes "principal") (unknown_uid None) (Some user_a) }
+    ensures entry_of_kind { EntryMeans completed (codes "resource") (unknown_uid (Some doc)) (Some doc_d) }
+    ensures entry_of_other_kind { EntryMeans completed (codes "resource") (unknown_uid (Some user)) (Some doc_d) → ⊥ }
     ensures known_entry { EntryMeans completed (codes "principal") (uid user_b) (Some user_a) → ⊥ }
 {}
 
@@ -92,4 +95,17 @@ pub fn worked_standing()
     ensures other_outcome { IsOutcome (err wrong_type) (stopped (fault overflow)) → ⊥ }
     ensures limit_met { NoLimit scope 2 (unary negation (unary negation true_tree)) → ⊥ }
     ensures limit_not_met { NoLimit scope 3 (unary negation (unary negation true_tree)) }
+{}
+
+/// Well-made values: the call that an extension value is written as answers it, and the members of a set rise.
+pub fn worked_well_made()
+    ensures literal { IsWellMade scope.table (made_number 1) }
+    ensures rank { IsWellMade scope.table (made_extension rank (codes "7") rank (text (codes "7") ∷ [])) }
+    ensures other_key { IsWellMade scope.table (made_extension rank (codes "8") rank (text (codes "7") ∷ [])) → ⊥ }
+    ensures no_function { IsWellMade whole_scope.table (made_extension rank (codes "7") rank (text (codes "7") ∷ [])) → ⊥ }
+    ensures rises { IsWellMade scope.table (made_set (made (made_number 1) (made (made_number 2) no_mades))) }
+    ensures falls { IsWellMade scope.table (made_set (made (made_number 2) (made (made_number 1) no_mades))) → ⊥ }
+    ensures all { AllMadeWell whole_scope }
+    ensures not_all { AllMadeWell (with_context (closed (made_field (codes "x") (made_set (made (made_number 2) (made (made_number 1) no_mades))) no_made_fields))) → ⊥ }
+    ensures not_value { AllMadeWell (with_value (codes "u") (made_set (made (made_number 2) (made (made_number 1) no_mades)))) → ⊥ }
 {}
