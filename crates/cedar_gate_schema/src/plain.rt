@@ -2,13 +2,15 @@
 
 ghost use Rattle.std.specs.Prelude.{◌≡◌, ◌&&◌, ◌==◌};
 ghost use Rattle.std.specs.List.{list_all};
-ghost use Rattle.cedar_gate_types.specs.Schemas.{is_first_path, is_plain_type, is_plain_action};
+ghost use Rattle.cedar_gate_types.specs.Schemas.{is_first_path, is_plain_type, is_empty_context, is_plain_action};
 ghost use Rattle.cedar_gate_schema.specs.Plain.{is_plain_definition};
 
 use crate::declared::only_namespace;
 use cedar_expr::Id;
 use cedar_gate_types::Policy;
-use cedar_gate_types::json_schema::{ActionType, EntityType, Fragment, NamespaceDefinition};
+use cedar_gate_types::json_schema::{
+    ActionType, EntityType, Fragment, NamespaceDefinition, Type, TypeVariant,
+};
 use std::rc::RcStr;
 
 /// Whether an entity type is one of any ids, without parents, attributes and tags.
@@ -25,11 +27,30 @@ fn is_plain_type(declared: &EntityType) -> bool
     }
 }
 
-/// Whether an action has neither parents nor a context.
+/// Whether the type of a context is that of records without fields, or isn't written.
+fn is_empty_context(context: &Option<Type>) -> bool
+    ensures { result ≡ is_empty_context context.now }
+{
+    match context {
+        None => true,
+        Some(ty) => match &ty.variant {
+            TypeVariant::Record(record) => record.attributes.is_empty(),
+            TypeVariant::Bool
+            | TypeVariant::Long
+            | TypeVariant::String
+            | TypeVariant::Set(_)
+            | TypeVariant::Entity(_)
+            | TypeVariant::Common(_)
+            | TypeVariant::Extension(_) => false,
+        },
+    }
+}
+
+/// Whether an action has no parents, and its context no field.
 fn is_plain_action(declared: &ActionType) -> bool
     ensures { result ≡ is_plain_action declared.now }
 {
-    declared.member_of.is_empty() && declared.applies_to.context.is_none()
+    declared.member_of.is_empty() && is_empty_context(&declared.applies_to.context)
 }
 
 /// Whether each entity type is plain.

@@ -16,6 +16,9 @@ use Rattle.cedar_gate_types.specs.declared.json_schema.EntityType.{EntityType}
 use Rattle.cedar_gate_types.specs.declared.json_schema.EntityType.TheVariants.{Standard, Enum, External}
 use Rattle.cedar_gate_types.specs.declared.json_schema.ActionType.{ActionType}
 use Rattle.cedar_gate_types.specs.declared.json_schema.RecordType.{RecordType, out-RecordType}
+use Rattle.cedar_gate_types.specs.declared.json_schema.«Type».{«Type»}
+use Rattle.cedar_gate_types.specs.declared.json_schema.TypeVariant.{TypeVariant}
+use Rattle.cedar_gate_types.specs.declared.json_schema.TypeVariant.TheVariants as variants
 
 -- a name in a namespace, or in the empty one
 abbrev pub qualified : Option InternalName → Text → model.Name
@@ -57,9 +60,25 @@ is_plain_type (Standard parents attributes tags) = (vec_len parents == 0) && ((v
 is_plain_type (Enum choices) = false
 is_plain_type (External parents) = false
 
--- an action without parents and context
+-- the type of records without fields
+abbrev pub is_empty_record : TypeVariant → Bool
+is_empty_record (variants.Record r) = vec_len (out-RecordType r).attributes == 0
+is_empty_record variants.Bool = false
+is_empty_record variants.Long = false
+is_empty_record variants.String = false
+is_empty_record (variants.Set' p t) = false
+is_empty_record (variants.Entity n) = false
+is_empty_record (variants.Common n) = false
+is_empty_record (variants.Extension n) = false
+
+-- no type of the context is written, or that of records without fields
+abbrev pub is_empty_context : Option «Type» → Bool
+is_empty_context None = true
+is_empty_context (Some t) = is_empty_record t.variant
+
+-- an action without parents, whose context has no field
 abbrev pub is_plain_action : ActionType → Bool
-is_plain_action a = (vec_len a.member_of == 0) && is_none a.applies_to.context
+is_plain_action a = (vec_len a.member_of == 0) && is_empty_context a.applies_to.context
 
 -- the empty namespace, with no common types, and plain types and actions alone
 abbrev pub is_plain_namespace : Option InternalName × NamespaceDefinition → Bool

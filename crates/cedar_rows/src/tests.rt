@@ -4,11 +4,16 @@ use cedar_expr::{EntityUID, ExprKind, ExtTable, Literal, Var};
 use cedar_gate::{Host, HostFault, OpenSession, ServeFault, Status, run, serve};
 use cedar_gate_accept::{Gate, ValidatorSchema};
 use cedar_gate_bundle::{Bundle, read_bundle, read_text};
+use cedar_gate_types::json_schema::{
+    ActionType, ApplySpec, Fragment, NamespaceDefinition, RecordType, Type, TypeOfAttribute,
+    TypeVariant,
+};
 use cedar_gate_types::{ActionConstraint, Decision, Entity, PrincipalOrResourceConstraint, Step};
 use serde_json::Value;
 use std::alloc::Global;
 use std::io;
 use std::io::{ErrorKind, Read, Write};
+use std::rc::RcStr;
 use std::test::Fail;
 
 // What of a bundle differs from row to row, and what is printed for it.
@@ -294,6 +299,60 @@ fn a_schema_of_its_fragments(rt: HostRuntime) -> Result<(), Fail> {
         .ok()
         .ok_or("no schema")?;
     assert_eq!(rt; schema.actions().len(), 1);
+    Ok(())
+}
+
+// A fragment of one action for nothing, with this type of its context.
+fn fragments_of(alloc: Global, context: Option<Type>) -> Result<Vec<Fragment>, Fail> {
+    let applies_to = ApplySpec {
+        principal_types: Vec::new(alloc),
+        resource_types: Vec::new(alloc),
+        context,
+    };
+    let action = ActionType {
+        member_of: Vec::new(alloc),
+        applies_to,
+    };
+    let mut actions = Vec::new(alloc);
+    actions.push((RcStr::from_str(alloc, "view")?, action))?;
+    let definition = NamespaceDefinition {
+        common_types: Vec::new(alloc),
+        entity_types: Vec::new(alloc),
+        actions,
+    };
+    let mut namespaces = Vec::new(alloc);
+    namespaces.push((None, definition))?;
+    let mut fragments = Vec::new(alloc);
+    fragments.push(Fragment { namespaces })?;
+    Ok(fragments)
+}
+
+// Whether an action with this type of its context lies in today's language.
+fn takes_context(alloc: Global, context: Option<Type>) -> Result<bool, Fail> {
+    let fragments = fragments_of(alloc, context)?;
+    Ok(cedar_gate_accept::first_path(fragments.as_slice(), &[], 0))
+}
+
+#[test]
+fn a_context_without_fields_is_none(rt: HostRuntime) -> Result<(), Fail> {
+    let alloc = rt.alloc();
+    assert!(rt; takes_context(alloc, None)?);
+    let attributes = Vec::new(alloc);
+    let variant = TypeVariant::Record(RecordType { attributes });
+    assert!(rt; takes_context(alloc, Some(Type { variant }))?);
+    let ty = Type {
+        variant: TypeVariant::Long,
+    };
+    let required = true;
+    let mut attributes = Vec::new(alloc);
+    attributes.push((
+        RcStr::from_str(alloc, "x")?,
+        TypeOfAttribute { ty, required },
+    ))?;
+    let variant = TypeVariant::Record(RecordType { attributes });
+    assert!(rt; !takes_context(alloc, Some(Type { variant }))?);
+    let variant = TypeVariant::Long;
+    assert!(rt; !takes_context(alloc, Some(Type { variant }))?);
     Ok(())
 }
 
