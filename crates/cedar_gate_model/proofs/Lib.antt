@@ -4,3 +4,4 @@ pub mod Runs
 pub mod Lines
 pub mod Computed
 pub mod Order
+pub mod Whole

@@ -16,3 +16,4 @@ pub mod ReadingValue
 pub mod ReadingRequest
 pub mod ReadingBundle
 pub mod Lines
+pub mod GateLaws
