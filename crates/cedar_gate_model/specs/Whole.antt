@@ -17,3 +17,4 @@ pub mod ReadingRequest
 pub mod ReadingBundle
 pub mod Lines
 pub mod GateLaws
+pub mod RunLaws

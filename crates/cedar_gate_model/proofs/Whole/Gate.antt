@@ -1,3 +1,6 @@
 pub mod Accepting
 pub mod Slices
 pub mod Transcripts
+pub mod RisingUids
+pub mod AlikeRuns
+pub mod Printing
