@@ -1,6 +1,7 @@
 //! Laws of acceptance, slices, transcripts, runs and lines. Each function's contract is the theorem; its body does nothing.
 
 ghost use Rattle.cedar_gate_model.specs.Whole.GateLaws.{AcceptanceDecides, FaultsExclude, RefusalHasFault, AcceptanceReads, WarnedAreImpossible, GivenAreRelevant, ImpossibleIsIrrelevant, MentionedAreListed, NearAreListed, SliceIsListed, SliceIsEmpty, SliceGrows, KnowledgeKeepsTheSlice, SliceIsLocal, AskedIsInSlice, AskedOnce, DecisionsAreFinal, OneDecision, RoundsAreFew, SliceIsAsked};
+ghost use Rattle.cedar_gate_model.specs.Whole.RunLaws.{NothingTwice, RunsAreAlike, OneStatus, UnreadableAlone, OnlyUnreadable, RefusalsAreFaults, RunsAreLegal, AnsweredRunsAskTheSlice};
 
 /// The test of a submission is true exactly where it is accepted, which is where the acceptance rules hold as they are read.
 /// A fault excludes acceptance, and a submission that the test refuses has a fault.
@@ -40,6 +41,7 @@ pub fn slices_grow()
 pub fn legal_transcripts_ask_the_slice()
     ensures within { AskedIsInSlice }
     ensures once { AskedOnce }
+    ensures never_twice { NothingTwice }
     ensures few { RoundsAreFew }
     ensures exact { SliceIsAsked }
 {}
@@ -48,4 +50,25 @@ pub fn legal_transcripts_ask_the_slice()
 pub fn given_decisions_are_final()
     ensures final_decisions { DecisionsAreFinal }
     ensures one { OneDecision }
+{}
+
+/// Two runs of the same steps have the same rounds and bindings, and end in the same way.
+pub fn runs_are_alike()
+    ensures { RunsAreAlike }
+{}
+
+/// What a run does, a refused one too, is legal against each world that completes what was bound and answered by its end; and a run
+/// that answered asked for the slice. This is where the context is known or wholly unknown; each other part may be open.
+pub fn runs_are_legal()
+    ensures legal { RunsAreLegal }
+    ensures asked { AnsweredRunsAskTheSlice }
+{}
+
+/// An input has one status. What doesn't read prints `unreadable` alone, and nothing else does; a refusal by the gate is printed
+/// exactly where a submission isn't accepted.
+pub fn printing_is_determined()
+    ensures one_status { OneStatus }
+    ensures unreadable { UnreadableAlone }
+    ensures no_other { OnlyUnreadable }
+    ensures refusals { RefusalsAreFaults }
 {}

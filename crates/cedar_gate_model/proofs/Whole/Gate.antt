@@ -4,3 +4,4 @@ pub mod Transcripts
 pub mod RisingUids
 pub mod AlikeRuns
 pub mod Printing
+pub mod LegalRuns

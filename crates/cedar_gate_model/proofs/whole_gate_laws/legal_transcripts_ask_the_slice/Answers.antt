@@ -1,4 +1,5 @@
 use Rattle.cedar_gate_model.proofs.Whole.Gate.Transcripts.{asked_is_in_slice, asked_once, rounds_are_few, slice_is_asked}
+use Rattle.cedar_gate_model.proofs.Whole.Gate.AlikeRuns.{nothing_twice}
 use Rattle.cedar_gate_model.proofs.whole_gate_laws.legal_transcripts_ask_the_slice.Goals as goal
 
 pub returns-clause-within : goal.returns-clause-within
@@ -6,6 +7,9 @@ returns-clause-within c = asked_is_in_slice
 
 pub returns-clause-once : goal.returns-clause-once
 returns-clause-once c = asked_once
+
+pub returns-clause-never_twice : goal.returns-clause-never_twice
+returns-clause-never_twice c = nothing_twice
 
 pub returns-clause-few : goal.returns-clause-few
 returns-clause-few c = rounds_are_few
