@@ -18,3 +18,4 @@ pub mod ReadingBundle
 pub mod Lines
 pub mod GateLaws
 pub mod RunLaws
+pub mod WorkedGate

@@ -3,4 +3,5 @@
 
 pub mod laws;
 pub mod whole_gate_laws;
+pub mod whole_gate_worked;
 pub mod worked;

@@ -1,0 +1,195 @@
+-- The values of the worked examples of acceptance, slices, sessions and lines.
+-- Rule: the acceptance rules; the slice; sessions; the lines (docs/RULES.md).
+use Rattle.std.specs.Prelude.{ℕ, pos, List, [], ◌∷◌, ◌++◌, codes, Bool, true, false, Option, Some, None, if◌then◌else◌}
+use Rattle.std.specs.Str.{bytes_eq}
+use Rattle.cedar_expr_model.specs.Name.{Text, Name, name_eq}
+use Rattle.cedar_expr_model.specs.Uid.{Uid}
+use Rattle.cedar_expr_model.specs.Whole.Value.{truth, long, text, entity, V, prim, extension, Fields, no_fields}
+use Rattle.cedar_expr_model.specs.Whole.Tree.{principal, action, context, Tree, lit, var, slot, unknown, both, binary, unary, negation, equal, less, less_or_equal, plus, call, get_attr, is_type, principal_slot, CoreType, string_core, entity_core, extension_core, no_trees, tree, record_literal, TreeFields, no_tree_fields, tree_field}
+use Rattle.cedar_expr_model.specs.Whole.Made.{Made, made_prim, made_record, made_extension, no_made_fields, made_field}
+use Rattle.cedar_expr_model.specs.Whole.Table.{Table, function_style, Called, gives, fails}
+use Rattle.cedar_store_model.specs.Whole.World.{World, Part, known, Entity, Found, not_loaded}
+use Rattle.cedar_store_model.specs.Whole.Store.{Entities, entity_of, found_as, whole, partial}
+use Rattle.cedar_store_model.specs.Whole.Policy.{Policy, Effect, permit, forbid, any, exactly, named, any_action, no_bindings}
+use Rattle.cedar_schema_model.specs.Whole.Declarations.{Declarations, EntityDeclaration, ActionDeclaration, bag, standard_expr, no_field_exprs}
+use Rattle.cedar_schema_model.specs.Whole.DeclWorked.{m, user_fragment, external_x, color_declared, with_type, view_declared}
+use Rattle.cedar_typechecker_model.specs.Whole.Worked.{user, doc, phantom_g, user_a, doc_d, view, edit, blue, no_table, permits_when, is_ok, has_nick, nick_is_x, owned_by_staff, false_, haunted, in_slot_of, plain_name, uid_of, function}
+use Rattle.cedar_typechecker_model.specs.Whole.Verdicts.{RequestType}
+use Rattle.cedar_evaluator_model.specs.Scope.{MadeCalled, makes, faults, Entry, uid, unknown_uid, Context, closed, residual_fields, unknown_context}
+use Rattle.cedar_gate_model.specs.Whole.Acceptance.{Submission, schema_in}
+use Rattle.cedar_gate_model.specs.Whole.Bundle.{Functions, Bundle}
+use Rattle.cedar_gate_model.specs.Whole.Moment.{Start}
+use Rattle.cedar_gate_model.specs.Whole.Session.{Setup, State}
+
+abbrev pub user_b : Uid
+user_b = uid_of user (codes "b")
+
+abbrev pub user_z : Uid
+user_z = uid_of user (codes "z")
+
+abbrev pub alice : Uid
+alice = uid_of user (codes "alice")
+
+-- policies by id, with a body
+abbrev pub policy : Text → Effect → Tree → Policy
+policy id e t = record (permits_when t) { id = id; effect = e }
+
+-- `resource.owner.boss == principal`; the principal alone; unless the principal is ok; nobody
+abbrev pub p0 : Policy
+p0 = policy (codes "p0") permit owned_by_staff
+
+abbrev pub p1 : Policy
+p1 = record (policy (codes "p1") permit (lit (truth true))) { principal = exactly (named user_a) }
+
+abbrev pub p2 : Policy
+p2 = policy (codes "p2") forbid is_ok
+
+abbrev pub p3 : Policy
+p3 = policy (codes "p3") forbid (lit (truth true))
+
+-- `principal is Doc`
+abbrev pub p5 : Policy
+p5 = policy (codes "p5") permit (is_type (var principal) doc)
+
+abbrev pub when : Tree → Policy
+when t = policy (codes "p") permit t
+
+-- a submission at a level, with the limit 16
+abbrev pub submitted : Declarations → ℕ → List Policy → Submission
+submitted d n ps = record { declarations = d; policies = ps; table = no_table; level = n; limit = 16 }
+
+abbrev pub within : ℕ → Submission → Submission
+within n s = record s { limit = n }
+
+abbrev pub twice_users : Declarations
+twice_users = bag (user_fragment ∷ m ∷ [])
+
+-- `principal == ?principal`, `false && unknown`, `false && Action::"edit" == action`, `false && Color::"blue" == principal`
+abbrev pub slot_in_body : Policy
+slot_in_body = record (in_slot_of (Some user_a)) { body = Some (binary equal (var principal) (slot principal_slot)) }
+
+abbrev pub and_unknown : Tree
+and_unknown = both false_ (unknown (codes "u") None)
+
+abbrev pub and_edit : Tree
+and_edit = both false_ (binary equal (lit (entity edit)) (var action))
+
+abbrev pub and_blue : Tree
+and_blue = both false_ (binary equal (lit (entity blue)) (var principal))
+
+-- a robot may view too
+abbrev pub robot : Name
+robot = plain_name (codes "Robot")
+
+abbrev pub robots : Declarations
+robots = record m { entities = record { namespace = []; word = codes "Robot"; parents = []; kind = standard_expr no_field_exprs None } ∷ m.entities; actions = record view_declared { principals = user ∷ robot ∷ [] } ∷ [] }
+
+abbrev pub p6 : Policy
+p6 = policy (codes "p6") permit (is_type (var principal) user)
+
+abbrev pub p7 : Policy
+p7 = policy (codes "p7") permit (is_type (var principal) robot)
+
+abbrev pub viewing_by : Name → RequestType
+viewing_by n = record { principal = n; action = view; resource = doc }
+
+-- entities
+abbrev pub person : Uid → Bool → Entity V
+person boss ok = record { attributes = (codes "boss", known (prim (entity boss))) ∷ (codes "ok", known (prim (truth ok))) ∷ []; tags = []; ancestors = [] }
+
+abbrev pub document : Uid → Entity V
+document owner = record { attributes = (codes "owner", known (prim (entity owner))) ∷ []; tags = []; ancestors = [] }
+
+abbrev pub staff : Entities
+staff = (user_a, person user_a true) ∷ (user_b, person user_a true) ∷ (user_z, person user_z true) ∷ (doc_d, document user_b) ∷ []
+
+abbrev pub without_b : Entities
+without_b = (user_a, person user_a true) ∷ (user_z, person user_z true) ∷ (doc_d, document user_b) ∷ []
+
+-- the boss of a is z
+abbrev pub below_z : Entities
+below_z = (user_a, person user_z true) ∷ (user_b, person user_a true) ∷ (user_z, person user_z true) ∷ (doc_d, document user_b) ∷ []
+
+-- the world of a request by this principal on `Doc::"d"`, over a whole store
+abbrev pub world_of : Option Uid → Entities → World
+world_of p es = record { principal = p; action = Some view; resource = Some doc_d; context = None; slots = λ s. None; unknowns = λ n. None; table = no_table; store = λ u. found_as whole (entity_of u es) }
+
+-- requests
+abbrev pub asking : Entry → Context → Start
+asking p c = record { principal = p; action = uid view; resource = uid doc_d; context = c }
+
+abbrev pub no_context : Context
+no_context = closed no_made_fields
+
+abbrev pub by_a : Start
+by_a = asking (uid user_a) no_context
+
+abbrev pub by_some_user : Start
+by_some_user = asking (unknown_uid (Some user)) no_context
+
+abbrev pub by_anyone : Start
+by_anyone = asking (unknown_uid None) no_context
+
+-- `rank` of a text of one digit; its key is the number in two bytes
+abbrev pub rank : Name
+rank = plain_name (codes "rank")
+
+abbrev pub key_of : Text → Option Text
+key_of (c ∷ []) = Some (0 ∷ c ∷ [])
+key_of cs = None
+
+abbrev pub rank_with : Text → Option Text → MadeCalled
+rank_with s (Some k) = makes (made_extension rank k rank (text s ∷ []))
+rank_with s None = faults rank
+
+abbrev pub rank_called : Name → List Made → MadeCalled
+rank_called f (made_prim (text s) ∷ []) = rank_with s (key_of s)
+rank_called f ms = faults rank
+
+abbrev pub rank_given : Option Text → Called
+rank_given (Some k) = gives (extension rank k)
+rank_given None = fails rank
+
+abbrev pub rank_answers : Name → List V → Called
+rank_answers f (prim (text s) ∷ []) = rank_given (key_of s)
+rank_answers f vs = fails rank
+
+abbrev pub ranks : Table
+ranks = record { functions = function (codes "rank") function_style (string_core ∷ []) false (Some (extension_core rank)) ∷ []; ordered = rank ∷ []; answers = rank_answers }
+
+abbrev pub with_ranks : Functions
+with_ranks = record { table = ranks; calls = rank_called }
+
+abbrev pub no_functions : Functions
+no_functions = record { table = no_table; calls = λ f ms. faults f }
+
+-- the context `{r: rank(unknown t)}`
+abbrev pub open_rank : Context
+open_rank = residual_fields (tree_field (codes "r") (call rank (tree (unknown (codes "t") None) no_trees)) no_tree_fields)
+
+-- the context `{x: unknown}`, by the unknown's name
+abbrev pub open_named : Text → Context
+open_named n = residual_fields (tree_field (codes "x") (unknown n None) no_tree_fields)
+
+-- `User::"a"` as a name
+abbrev pub in_quotes : Text → Text
+in_quotes id = 34 ∷ (id ++ 34 ∷ [])
+
+abbrev pub user_text : Text → Text
+user_text id = codes "User::" ++ in_quotes id
+
+abbrev pub setup_with : ℕ → Functions → Start → Entities → Setup
+setup_with n f r es = record { schema = schema_in (submitted m n []); level = n; limit = 16; functions = f; start = r; store = λ u. entity_of u es }
+
+abbrev pub text_made : Text → Made
+text_made s = made_prim (text s)
+
+abbrev pub uid_made : Uid → Made
+uid_made u = made_prim (entity u)
+
+abbrev pub number_made : ℕ → Made
+number_made n = made_prim (long (pos n))
+
+-- a state after these bindings and answers
+abbrev pub after : List (Text × Made) → List Uid → State
+after bs us = record { bound = bs; asked = us }
