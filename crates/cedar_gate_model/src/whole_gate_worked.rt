@@ -17,9 +17,12 @@ ghost use Rattle.cedar_gate_model.specs.Whole.Acceptance.{schema, external, repe
 ghost use Rattle.cedar_gate_model.specs.Whole.Slice.{mentioned, mentioned_by_found, near, slice, roots};
 ghost use Rattle.cedar_gate_model.specs.Whole.Moment.{when, told, at_first, is_bound, entry_known, context_known, known_at};
 ghost use Rattle.cedar_gate_model.specs.Whole.Transcript.{round, bound, decided, asked_in, last_rounds};
-ghost use Rattle.cedar_gate_model.specs.Whole.Session.{at_start, value_of, uid_in, entry_by_now, context_by_now, entry_now, context_now, whole_store, known_now, world_now, is_open_name, with_bound, BindFault, not_open, against_annotation, no_entity_or_record, context_fails, open_number, quote_in_name, name_of_variable, bind_number, supply_number, not_wanted, lacking, repeated, wrong_entity, answer_number, not_bound, still_wanted, not_conforming};
-ghost use Rattle.cedar_gate_model.specs.Whole.Runs.{owned, supplied_by};
-ghost use Rattle.cedar_gate_model.specs.Whole.WorkedGate.{user_b, user_z, alice, p0, p1, p2, p3, p5, p6, p7, submitted, within, twice_users, slot_in_body, and_unknown, and_edit, and_blue, robot, robots, viewing_by, person, document, staff, without_b, below_z, world_of, by_a, by_some_user, by_anyone, asking, no_context, rank, open_rank, open_named, with_ranks, no_functions, setup_with, text_made, uid_made, number_made, after};
+ghost use Rattle.cedar_gate_model.specs.Whole.Session.{at_start, value_of, uid_in, entry_by_now, context_by_now, entry_now, context_now, whole_store, known_now, world_now, is_open_name, with_bound, OpenFault, BindFault, not_open, against_annotation, no_entity_or_record, context_fails, open_number, quote_in_name, name_of_variable, bind_number, supply_number, not_wanted, lacking, repeated, wrong_entity, answer_number, not_bound, still_wanted, not_conforming};
+ghost use Rattle.cedar_gate_model.specs.Whole.Runs.{owned, supplied_by, opening_refused, supply_refused, binding_refused, answer_refused};
+ghost use Rattle.cedar_gate_model.specs.Whole.Owed.{IsForced};
+ghost use Rattle.cedar_gate_model.specs.Whole.Lines.{is_answered, is_refused, is_unreadable, is_stopped, warning_lines, entry_lines, answer_lines, end_lines, end_status, refused_line, unreadable_line, Prints};
+ghost use Rattle.cedar_store_model.specs.Whole.Answer.{allow, deny};
+ghost use Rattle.cedar_gate_model.specs.Whole.WorkedGate.{user_b, user_z, alice, p0, p1, p2, p3, p5, p6, p7, submitted, within, twice_users, slot_in_body, and_unknown, and_edit, and_blue, robot, robots, viewing_by, person, document, staff, without_b, below_z, world_of, by_a, by_some_user, by_anyone, asking, no_context, rank, open_rank, open_named, with_ranks, no_functions, setup_with, text_made, uid_made, number_made, after, lines, p4, ranking, answer_with, in_quotes, user_text, good_bundle, far_bundle, open_bundle, nothing_known, nobody_known, after_a_round};
 
 /// Submissions that are accepted, and one that isn't for each fault.
 pub fn worked_acceptance()
@@ -164,4 +167,51 @@ pub fn worked_contexts()
     ensures rounds { last_rounds (round (doc_d ∷ []) ∷ bound (codes "principal") ∷ round (user_b ∷ []) ∷ decided None ∷ []) ≡ (user_b ∷ []) ∷ [] }
     ensures no_rounds { last_rounds (round (doc_d ∷ []) ∷ bound (codes "principal") ∷ []) ≡ [] }
     ensures supplied { supplied_by (setup_with 2 no_functions by_a without_b) (doc_d ∷ user_b ∷ []) ≡ (doc_d, Some (doc_d, document user_b)) ∷ (user_b, None) ∷ [] }
+{}
+
+/// Requests that don't open: the name of an unknown has a double quote, or is that of a variable; and one that opens.
+pub fn worked_openings()
+    ensures quoted_name { OpenFault (asking (uid user_a) (open_named (user_text (codes "a")))) quote_in_name }
+    ensures no_quote { OpenFault (asking (uid user_a) (open_named (codes "principal"))) quote_in_name → ⊥ }
+    ensures variable { OpenFault (asking (uid user_a) (open_named (codes "principal"))) name_of_variable }
+    ensures no_variable { OpenFault (asking (uid user_a) open_rank) name_of_variable → ⊥ }
+    ensures nothing_open { OpenFault by_a quote_in_name → ⊥ }
+{}
+
+/// Decisions that what is known forces: a forbid of all; a permit of the principal; and none, where the only permit isn't known yet.
+pub fn worked_owed()
+    ensures forbidden { IsForced nobody_known (p3 ∷ []) deny }
+    ensures permitted { IsForced nothing_known (p0 ∷ p1 ∷ []) allow }
+    ensures permitted_later { IsForced after_a_round (p0 ∷ p1 ∷ p2 ∷ []) allow }
+    ensures not_denied { IsForced nothing_known (p0 ∷ []) deny → ⊥ }
+    ensures not_allowed { IsForced nothing_known (p0 ∷ []) allow → ⊥ }
+    ensures not_yet { IsForced nothing_known (p0 ∷ p1 ∷ p2 ∷ []) allow → ⊥ }
+{}
+
+/// The lines of runs: two rounds and an answer; an entity that is missing; an overflow; a function that fails; decisions; refusals.
+pub fn worked_lines()
+    ensures rounds { entry_lines 1 (round (doc_d ∷ user_a ∷ []) ∷ bound (codes "x") ∷ round (user_b ∷ []) ∷ []) ≡ lines ((codes "round 1 Doc::" ++ (in_quotes (codes "d") ++ (codes " " ++ user_text (codes "a")))) ∷ (codes "round 2 " ++ user_text (codes "b")) ∷ []) }
+    ensures allowed { answer_lines (answer_with no_functions staff (doc_d ∷ user_a ∷ user_b ∷ []) (p0 ∷ [])) ≡ lines (codes "answer Allow" ∷ (codes "reason " ++ in_quotes (codes "p0")) ∷ []) }
+    ensures missing_user { answer_lines (answer_with no_functions without_b (doc_d ∷ user_a ∷ user_b ∷ []) (p0 ∷ [])) ≡ lines (codes "answer Deny" ∷ (codes "error " ++ (in_quotes (codes "p0") ++ (codes " missing " ++ user_text (codes "b")))) ∷ []) }
+    ensures overflowed { answer_lines (answer_with no_functions staff [] (p4 ∷ [])) ≡ lines (codes "answer Deny" ∷ (codes "error " ++ (in_quotes (codes "p4") ++ codes " overflow")) ∷ []) }
+    ensures failed { answer_lines (answer_with with_ranks staff [] (ranking ∷ [])) ≡ lines (codes "answer Deny" ∷ (codes "error " ++ (in_quotes (codes "p") ++ codes " extension rank")) ∷ []) }
+    ensures decisions { entry_lines 1 (decided None ∷ round (user_a ∷ []) ∷ decided (Some allow) ∷ decided (Some deny) ∷ []) ≡ lines (codes "decision None" ∷ (codes "round 1 " ++ user_text (codes "a")) ∷ codes "decision Allow" ∷ codes "decision Deny" ∷ []) }
+    ensures warning { warning_lines (submitted m 0 (p5 ∷ [])) ≡ lines ((codes "impossible " ++ in_quotes (codes "p5")) ∷ []) }
+    ensures no_warning { warning_lines (submitted m 2 (p0 ∷ [])) ≡ [] }
+    ensures opening { end_lines (opening_refused quote_in_name) ≡ lines (codes "open 1" ∷ []) }
+    ensures supplying { end_lines (supply_refused wrong_entity) ≡ lines (codes "supply 4" ∷ []) }
+    ensures binding { end_lines (binding_refused context_fails) ≡ lines (codes "bind 4" ∷ []) }
+    ensures answering { end_lines (answer_refused not_conforming) ≡ lines (codes "answer 3" ∷ []) }
+    ensures refused { refused_line 12 ≡ lines (codes "refused 12" ∷ []) }
+    ensures unreadable { unreadable_line ≡ lines (codes "unreadable" ∷ []) }
+{}
+
+/// The whole output of bundles: one that answers, one that the gate refuses, one that is never bound, and one that doesn't read.
+pub fn worked_prints()
+    ensures answers { Prints no_functions (Some good_bundle) is_answered (lines (codes "answer Allow" ∷ (codes "reason " ++ in_quotes (codes "p")) ∷ [])) }
+    ensures refuses { Prints no_functions (Some far_bundle) is_refused (lines (codes "refused 12" ∷ [])) }
+    ensures stops { Prints no_functions (Some open_bundle) is_stopped (lines (codes "answer 1" ∷ [])) }
+    ensures unreadable { Prints no_functions None is_unreadable (lines (codes "unreadable" ∷ [])) }
+    ensures no_refusal { Prints no_functions (Some good_bundle) is_refused (lines (codes "refused 12" ∷ [])) → ⊥ }
+    ensures status { end_status (answer_refused not_bound) ≡ is_stopped }
 {}

@@ -5,3 +5,4 @@ pub mod RisingUids
 pub mod AlikeRuns
 pub mod Printing
 pub mod LegalRuns
+pub mod Computed

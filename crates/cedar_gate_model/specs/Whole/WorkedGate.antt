@@ -1,7 +1,7 @@
 -- The values of the worked examples of acceptance, slices, sessions and lines.
 -- Rule: the acceptance rules; the slice; sessions; the lines (docs/RULES.md).
 use Rattle.std.specs.Prelude.{ℕ, pos, List, [], ◌∷◌, ◌++◌, codes, Bool, true, false, Option, Some, None, if◌then◌else◌}
-use Rattle.std.specs.Str.{bytes_eq}
+use Rattle.std.specs.List.{flat_map}
 use Rattle.cedar_expr_model.specs.Name.{Text, Name, name_eq}
 use Rattle.cedar_expr_model.specs.Uid.{Uid}
 use Rattle.cedar_expr_model.specs.Whole.Value.{truth, long, text, entity, V, prim, extension, Fields, no_fields}
@@ -10,16 +10,18 @@ use Rattle.cedar_expr_model.specs.Whole.Made.{Made, made_prim, made_record, made
 use Rattle.cedar_expr_model.specs.Whole.Table.{Table, function_style, Called, gives, fails}
 use Rattle.cedar_store_model.specs.Whole.World.{World, Part, known, Entity, Found, not_loaded}
 use Rattle.cedar_store_model.specs.Whole.Store.{Entities, entity_of, found_as, whole, partial}
+use Rattle.cedar_store_model.specs.Whole.Answer.{Answer, answer_of}
 use Rattle.cedar_store_model.specs.Whole.Policy.{Policy, Effect, permit, forbid, any, exactly, named, any_action, no_bindings}
 use Rattle.cedar_schema_model.specs.Whole.Declarations.{Declarations, EntityDeclaration, ActionDeclaration, bag, standard_expr, no_field_exprs}
-use Rattle.cedar_schema_model.specs.Whole.DeclWorked.{m, user_fragment, external_x, color_declared, with_type, view_declared}
+use Rattle.cedar_schema_model.specs.Whole.DeclWorked.{m, user_fragment, external_x, color_declared, with_type, view_declared, plain}
 use Rattle.cedar_typechecker_model.specs.Whole.Worked.{user, doc, phantom_g, user_a, doc_d, view, edit, blue, no_table, permits_when, is_ok, has_nick, nick_is_x, owned_by_staff, false_, haunted, in_slot_of, plain_name, uid_of, function}
 use Rattle.cedar_typechecker_model.specs.Whole.Verdicts.{RequestType}
 use Rattle.cedar_evaluator_model.specs.Scope.{MadeCalled, makes, faults, Entry, uid, unknown_uid, Context, closed, residual_fields, unknown_context}
 use Rattle.cedar_gate_model.specs.Whole.Acceptance.{Submission, schema_in}
 use Rattle.cedar_gate_model.specs.Whole.Bundle.{Functions, Bundle}
 use Rattle.cedar_gate_model.specs.Whole.Moment.{Start}
-use Rattle.cedar_gate_model.specs.Whole.Session.{Setup, State}
+use Rattle.cedar_gate_model.specs.Whole.Session.{Setup, State, at_start, known_now, world_now}
+use Rattle.cedar_gate_model.specs.Whole.Lines.{line}
 
 abbrev pub user_b : Uid
 user_b = uid_of user (codes "b")
@@ -193,3 +195,61 @@ number_made n = made_prim (long (pos n))
 -- a state after these bindings and answers
 abbrev pub after : List (Text × Made) → List Uid → State
 after bs us = record { bound = bs; asked = us }
+
+-- lines, each with its line feed
+abbrev pub lines : List Text → Text
+lines ts = flat_map line ts
+
+-- a policy that overflows, and one whose function fails
+abbrev pub p4 : Policy
+p4 = policy (codes "p4") permit (binary equal (binary plus (lit (long (pos 9223372036854775807))) (lit (long (pos 1)))) (lit (long (pos 0))))
+
+abbrev pub rank_tree : Text → Tree
+rank_tree s = call rank (tree (lit (text s)) no_trees)
+
+abbrev pub ranking : Policy
+ranking = policy (codes "p") permit (binary less (rank_tree (codes "xx")) (rank_tree (codes "1")))
+
+-- what the sessions of these examples answer at their end
+abbrev pub answer_with : Functions → Entities → List Uid → List Policy → Answer
+answer_with f es us ps = answer_of (world_now (setup_with 2 f by_a es) (after [] us)) ps
+
+-- A bundle on users who view users: one policy that holds, of a single user.
+abbrev pub view_users : ActionDeclaration
+view_users = record view_declared { principals = user ∷ []; resources = user ∷ [] }
+
+abbrev pub users : Declarations
+users = record { commons = []; entities = plain [] (codes "User") ∷ []; actions = view_users ∷ [] }
+
+abbrev pub holds : Policy
+holds = record (when (binary less (lit (long (pos 1))) (lit (long (pos 2))))) { principal = exactly (named user_a) }
+
+abbrev pub by_a_on_b : Start
+by_a_on_b = record by_a { resource = uid user_b }
+
+abbrev pub bundle_of : Declarations → ℕ → List Policy → Start → Bundle
+bundle_of d n ps r = record { submission = submitted d n ps; start = r; store = []; steps = [] }
+
+abbrev pub good_bundle : Bundle
+good_bundle = bundle_of users 0 (holds ∷ []) by_a_on_b
+
+-- one that the gate refuses, and one that is never bound
+abbrev pub far_bundle : Bundle
+far_bundle = bundle_of m 1 (p0 ∷ []) by_a
+
+abbrev pub open_bundle : Bundle
+open_bundle = bundle_of users 0 (holds ∷ []) (record by_a_on_b { principal = unknown_uid None })
+
+-- what is known where nothing is loaded, and where the principal is open
+abbrev pub nothing_known : World
+nothing_known = known_now (setup_with 2 no_functions by_a staff) at_start
+
+abbrev pub nobody_known : World
+nobody_known = known_now (setup_with 2 no_functions by_some_user staff) at_start
+
+-- the same after a round in which the principal, who isn't ok, and the document were loaded
+abbrev pub not_ok : Entities
+not_ok = (user_a, person user_a false) ∷ (doc_d, document user_b) ∷ []
+
+abbrev pub after_a_round : World
+after_a_round = known_now (setup_with 2 no_functions by_a not_ok) (after [] (doc_d ∷ user_a ∷ []))
