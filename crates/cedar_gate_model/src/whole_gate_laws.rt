@@ -1,7 +1,7 @@
 //! Laws of acceptance, slices, transcripts, runs and lines. Each function's contract is the theorem; its body does nothing.
 
 ghost use Rattle.cedar_gate_model.specs.Whole.GateLaws.{AcceptanceDecides, FaultsExclude, RefusalHasFault, AcceptanceReads, WarnedAreImpossible, GivenAreRelevant, ImpossibleIsIrrelevant, MentionedAreListed, NearAreListed, SliceIsListed, SliceIsEmpty, SliceGrows, KnowledgeKeepsTheSlice, SliceIsLocal, AskedIsInSlice, AskedOnce, DecisionsAreFinal, OneDecision, RoundsAreFew, SliceIsAsked};
-ghost use Rattle.cedar_gate_model.specs.Whole.RunLaws.{NothingTwice, RunsAreAlike, OneStatus, UnreadableAlone, OnlyUnreadable, RefusalsAreFaults, RunsAreLegal, AnsweredRunsAskTheSlice};
+ghost use Rattle.cedar_gate_model.specs.Whole.RunLaws.{NothingTwice, RunsAreAlike, OneStatus, OneAnswer, UnreadableAlone, OnlyUnreadable, RefusalsAreFaults, RunsAreLegal, AnsweredRunsAskTheSlice};
 
 /// The test of a submission is true exactly where it is accepted, which is where the acceptance rules hold as they are read.
 /// A fault excludes acceptance, and a submission that the test refuses has a fault.
@@ -64,10 +64,11 @@ pub fn runs_are_legal()
     ensures asked { AnsweredRunsAskTheSlice }
 {}
 
-/// An input has one status. What doesn't read prints `unreadable` alone, and nothing else does; a refusal by the gate is printed
+/// An input has one status, and a bundle that is answered one answer. What doesn't read prints `unreadable` alone, and nothing else does; a refusal by the gate is printed
 /// exactly where a submission isn't accepted.
 pub fn printing_is_determined()
     ensures one_status { OneStatus }
+    ensures one_answer { OneAnswer }
     ensures unreadable { UnreadableAlone }
     ensures no_other { OnlyUnreadable }
     ensures refusals { RefusalsAreFaults }

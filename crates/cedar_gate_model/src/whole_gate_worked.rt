@@ -11,18 +11,19 @@ ghost use Rattle.cedar_expr_model.specs.Whole.Made.{made_record, no_made_fields}
 ghost use Rattle.cedar_store_model.specs.Whole.World.{held, missing, not_loaded};
 ghost use Rattle.cedar_schema_model.specs.Whole.DeclWorked.{m, external_x, color_declared, with_type};
 ghost use Rattle.cedar_schema_model.specs.Whole.WellFormed.{duplicate_entity_type};
-ghost use Rattle.cedar_typechecker_model.specs.Whole.Worked.{user, doc, user_a, doc_d, view, small, is_ok, has_nick, nick_is_x, haunted, alice_ok, in_views, in_slot_of, permits_when};
+ghost use Rattle.cedar_typechecker_model.specs.Whole.Worked.{user, doc, user_a, doc_d, view, small, no_table, is_ok, has_nick, nick_is_x, haunted, alice_ok, in_views, in_slot_of, permits_when};
 ghost use Rattle.cedar_evaluator_model.specs.Scope.{uid, unknown_uid, unknown_context};
 ghost use Rattle.cedar_gate_model.specs.Whole.Acceptance.{schema, external, repeated_policy, unlinked_slot, slot_outside_scope, unknown_in_policy, nests_too_deep, unknown_entity_type, unknown_action, no_member, ill_typed, reaches_too_far, policy_causes, is_clear_of, is_linked, keeps_slots_in_scope, asks_schema, has_schema, admits, number_of, warnings_of, policies_for, schema_in, extension_types};
 ghost use Rattle.cedar_gate_model.specs.Whole.Slice.{mentioned, mentioned_by_found, near, slice, roots};
-ghost use Rattle.cedar_gate_model.specs.Whole.Moment.{when, told, at_first, is_bound, entry_known, context_known, known_at};
+ghost use Rattle.cedar_gate_model.specs.Whole.Moment.{Completes, when, told, at_first, is_bound, entry_known, context_known, known_at};
 ghost use Rattle.cedar_gate_model.specs.Whole.Transcript.{round, bound, decided, asked_in, last_rounds};
 ghost use Rattle.cedar_gate_model.specs.Whole.Session.{at_start, value_of, uid_in, entry_by_now, context_by_now, entry_now, context_now, whole_store, known_now, world_now, is_open_name, with_bound, OpenFault, BindFault, not_open, against_annotation, no_entity_or_record, context_fails, open_number, quote_in_name, name_of_variable, bind_number, supply_number, not_wanted, lacking, repeated, wrong_entity, answer_number, not_bound, still_wanted, not_conforming};
 ghost use Rattle.cedar_gate_model.specs.Whole.Runs.{owned, supplied_by, opening_refused, supply_refused, binding_refused, answer_refused};
-ghost use Rattle.cedar_gate_model.specs.Whole.Owed.{IsForced};
+ghost use Rattle.cedar_gate_model.specs.Whole.Owed.{IsForced, Holds};
+ghost use Rattle.cedar_evaluator_model.specs.Members.{met_limit};
 ghost use Rattle.cedar_gate_model.specs.Whole.Lines.{is_answered, is_refused, is_unreadable, is_stopped, warning_lines, entry_lines, answer_lines, end_lines, end_status, refused_line, unreadable_line, Prints};
-ghost use Rattle.cedar_store_model.specs.Whole.Answer.{allow, deny};
-ghost use Rattle.cedar_gate_model.specs.Whole.WorkedGate.{user_b, user_z, alice, p0, p1, p2, p3, p5, p6, p7, submitted, within, twice_users, slot_in_body, and_unknown, and_edit, and_blue, robot, robots, viewing_by, person, document, staff, without_b, below_z, world_of, by_a, by_some_user, by_anyone, asking, no_context, rank, open_rank, open_named, with_ranks, no_functions, setup_with, text_made, uid_made, number_made, after, lines, p4, ranking, answer_with, in_quotes, user_text, good_bundle, far_bundle, open_bundle, nothing_known, nobody_known, after_a_round};
+ghost use Rattle.cedar_store_model.specs.Whole.Answer.{allow, deny, reasons_of};
+ghost use Rattle.cedar_gate_model.specs.Whole.WorkedGate.{user_b, user_z, alice, p0, p1, p2, p3, p5, p6, p7, submitted, within, twice_users, slot_in_body, and_unknown, and_edit, and_blue, robot, robots, viewing_by, person, document, staff, without_b, below_z, world_of, by_a, by_some_user, by_anyone, asking, no_context, rank, open_rank, open_named, with_ranks, no_functions, setup_with, text_made, uid_made, number_made, after, lines, p4, ranking, answer_with, in_quotes, user_text, good_bundle, far_bundle, open_bundle, nothing_known, nobody_known, after_a_round, nested_with, reviewed, bounds, by_a_on_b, nobody_there};
 
 /// Submissions that are accepted, and one that isn't for each fault.
 pub fn worked_acceptance()
@@ -214,4 +215,29 @@ pub fn worked_prints()
     ensures unreadable { Prints no_functions None is_unreadable (lines (codes "unreadable" ∷ [])) }
     ensures no_refusal { Prints no_functions (Some good_bundle) is_refused (lines (codes "refused 12" ∷ [])) → ⊥ }
     ensures status { end_status (answer_refused not_bound) ≡ is_stopped }
+{}
+
+/// A policy that evaluates a field of an open context again meets the limit, and doesn't where the limit is larger or the context is
+/// bound.
+pub fn worked_limits()
+    ensures met { met_limit (nested_with 6 []) ≡ true }
+    ensures not_met { met_limit (nested_with 7 []) ≡ false }
+    ensures bound_then { met_limit (nested_with 6 ((codes "u", number_made 1) ∷ [])) ≡ false }
+{}
+
+/// Bounds that hold in a world, and bounds that don't.
+pub fn worked_bounds()
+    ensures reasons { reasons_of reviewed (p0 ∷ p1 ∷ p2 ∷ []) ≡ codes "p0" ∷ codes "p1" ∷ [] }
+    ensures both_hold { Holds (bounds (codes "p1" ∷ []) (codes "p0" ∷ codes "p1" ∷ [])) reviewed (p0 ∷ p1 ∷ p2 ∷ []) }
+    ensures too_much { Holds (bounds (codes "p2" ∷ []) (codes "p0" ∷ codes "p1" ∷ [])) reviewed (p0 ∷ p1 ∷ p2 ∷ []) → ⊥ }
+    ensures too_little { Holds (bounds [] (codes "p0" ∷ [])) reviewed (p0 ∷ p1 ∷ p2 ∷ []) → ⊥ }
+{}
+
+/// A world that completes a request, and requests that it doesn't complete.
+pub fn worked_completions()
+    ensures completed { Completes (schema_in good_bundle.submission) no_table 0 by_a_on_b nobody_there }
+    ensures of_type { Completes (schema_in good_bundle.submission) no_table 0 (record by_a_on_b { principal = unknown_uid (Some user) }) nobody_there }
+    ensures of_other_type { Completes (schema_in good_bundle.submission) no_table 0 (record by_a_on_b { principal = unknown_uid (Some doc) }) nobody_there → ⊥ }
+    ensures of_other_uid { Completes (schema_in good_bundle.submission) no_table 0 (record by_a_on_b { principal = uid user_b }) nobody_there → ⊥ }
+    ensures not_conforming { Completes small no_table 0 by_a_on_b nobody_there → ⊥ }
 {}

@@ -14,7 +14,7 @@ use Rattle.cedar_gate_model.specs.Whole.Moment.{at_first}
 use Rattle.cedar_gate_model.specs.Whole.Transcript.{Step, load, bind_name, decide, Entry, round, bound, decided, Case, AreLegal, asked_in, AsksTheSlice}
 use Rattle.cedar_gate_model.specs.Whole.Session.{Setup, State, at_start, CompletesNow}
 use Rattle.cedar_gate_model.specs.Whole.Runs.{End, answered, opening_refused, supply_refused, binding_refused, answer_refused, with_asked, MayDecide, Runs}
-use Rattle.cedar_gate_model.specs.Whole.Lines.{Status, is_refused, is_unreadable, unreadable_line, Prints}
+use Rattle.cedar_gate_model.specs.Whole.Lines.{Status, is_answered, is_refused, run_lines, is_unreadable, unreadable_line, Prints}
 
 -- no uid is asked for twice in a legal transcript, in two rounds or in one
 abbrev pub NothingTwice : Type 0
@@ -45,6 +45,11 @@ RunsAreAlike = (x : Setup) (ps : List Policy) (steps : List Step) (es fs : List 
 -- the status of an input is one alone
 abbrev pub OneStatus : Type 0
 OneStatus = (f : Functions) (input : Option Bundle) (a b : Status) (s t : Text) → Prints f input a s → Prints f input b t → a ≡ b
+
+-- two outputs of a bundle that is answered have one answer, the same rounds, and decisions in the same places
+abbrev pub OneAnswer : Type 0
+OneAnswer = (f : Functions) (b : Bundle) (s t : Text) → Prints f (Some b) is_answered s → Prints f (Some b) is_answered t
+    → (a : Answer) × (es : List Entry) × (fs : List Entry) × (s ≡ run_lines b es (answered a)) × (t ≡ run_lines b fs (answered a)) × EntriesAlike es fs
 
 -- an input that doesn't read prints `unreadable` alone, and no other does
 abbrev pub UnreadableAlone : Type 0

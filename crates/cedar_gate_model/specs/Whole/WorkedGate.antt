@@ -17,11 +17,13 @@ use Rattle.cedar_schema_model.specs.Whole.DeclWorked.{m, user_fragment, external
 use Rattle.cedar_typechecker_model.specs.Whole.Worked.{user, doc, phantom_g, user_a, doc_d, view, edit, blue, no_table, permits_when, is_ok, has_nick, nick_is_x, owned_by_staff, false_, haunted, in_slot_of, plain_name, uid_of, function}
 use Rattle.cedar_typechecker_model.specs.Whole.Verdicts.{RequestType}
 use Rattle.cedar_evaluator_model.specs.Scope.{MadeCalled, makes, faults, Entry, uid, unknown_uid, Context, closed, residual_fields, unknown_context}
+use Rattle.cedar_evaluator_model.specs.Response.{Response, response_of}
 use Rattle.cedar_gate_model.specs.Whole.Acceptance.{Submission, schema_in}
 use Rattle.cedar_gate_model.specs.Whole.Bundle.{Functions, Bundle}
 use Rattle.cedar_gate_model.specs.Whole.Moment.{Start}
-use Rattle.cedar_gate_model.specs.Whole.Session.{Setup, State, at_start, known_now, world_now}
-use Rattle.cedar_gate_model.specs.Whole.Lines.{line}
+use Rattle.cedar_gate_model.specs.Whole.Session.{Setup, State, at_start, known_now, world_now, scope_now}
+use Rattle.cedar_gate_model.specs.Whole.Lines.{line, setup_of}
+use Rattle.cedar_gate_model.specs.Whole.Owed.{Bounds}
 
 abbrev pub user_b : Uid
 user_b = uid_of user (codes "b")
@@ -253,3 +255,30 @@ not_ok = (user_a, person user_a false) ∷ (doc_d, document user_b) ∷ []
 
 abbrev pub after_a_round : World
 after_a_round = known_now (setup_with 2 no_functions by_a not_ok) (after [] (doc_d ∷ user_a ∷ []))
+
+-- a whole store in which the principal isn't ok
+abbrev pub reviewed : World
+reviewed = world_now (setup_with 2 no_functions by_a ((user_b, person user_a true) ∷ not_ok)) at_start
+
+abbrev pub bounds : List Text → List Text → Bounds
+bounds must may = record { must = must; may = may }
+
+-- A context `{r: {s: unknown u}}`, and a policy that evaluates its field again: `context.r == context.r`.
+abbrev pub open_nested : Context
+open_nested = residual_fields (tree_field (codes "r") (record_literal (tree_field (codes "s") (unknown (codes "u") None) no_tree_fields)) no_tree_fields)
+
+abbrev pub compared : Tree
+compared = binary equal (get_attr (var context) (codes "r")) (get_attr (var context) (codes "r"))
+
+abbrev pub no_made_store : Uid → Found Made
+no_made_store u = not_loaded
+
+abbrev pub nested_with : ℕ → List (Text × Made) → Response
+nested_with n bs = response_of (scope_now (setup_with 0 no_functions (asking (uid user_a) open_nested) []) (after bs []) no_made_store) n (when compared ∷ [])
+
+abbrev pub one_field : Made
+one_field = number_made 1
+
+-- A world that completes the request of a user on a user: everything is known in it, and nobody is there.
+abbrev pub nobody_there : World
+nobody_there = record (world_now (setup_of no_functions good_bundle) at_start) { unknowns = λ n. Some (prim (truth true)) }

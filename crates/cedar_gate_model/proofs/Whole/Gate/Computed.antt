@@ -3,27 +3,32 @@ use Rattle.std.proofs.Common.{◌≡◌, ◌∙◌, Bool, true, false, cond, not
 use Rattle.std.specs.Prelude.{Contains}
 use Rattle.std.specs.Str.{bytes_eq, chars}
 use Rattle.std.specs.Fmt.{digits}
-use Rattle.cedar_expr_model.specs.Name.{Text}
+use Rattle.cedar_expr_model.specs.Name.{Text, Name}
 use Rattle.cedar_expr_model.specs.Uid.{Uid}
 use Rattle.cedar_expr_model.specs.Whole.Value.{V, truth_value}
 use Rattle.cedar_expr_model.specs.Whole.Parts.{Unknown}
-use Rattle.cedar_expr_model.proofs.Lists.{contains_cases, contains_none, contains_head, contains_tail}
+use Rattle.std.proofs.lemmas.Slice.Eq.{bytes_eq-Decides}
+use Rattle.cedar_expr_model.proofs.Equality.{name_eq-Decides, uid_eq-Decides}
+use Rattle.cedar_expr_model.proofs.Lists.{any_has, contains_cases, contains_none, contains_head, contains_tail}
 use Rattle.cedar_store_model.specs.Whole.Outcome.{Res, val}
-use Rattle.cedar_store_model.specs.Whole.World.{World}
+use Rattle.cedar_store_model.specs.Whole.World.{World, held, missing}
+use Rattle.cedar_store_model.specs.Whole.Knowledge.{IsSettled, IsWhole}
+use Rattle.cedar_schema_model.specs.Whole.Schema.{Schema, declares_action}
+use Rattle.cedar_schema_model.specs.Whole.ActionEntities.{as_entity}
 use Rattle.cedar_store_model.specs.Whole.Policy.{Policy, Effect, permit, forbid}
 use Rattle.cedar_store_model.specs.Whole.Answer.{Answer, allow, deny, PolicyMeans, policy_outcome, answer_of}
 use Rattle.cedar_store_model.proofs.Whole.Conditions.{policy_meaning_is_a_function}
 use Rattle.cedar_schema_model.specs.Whole.Conforming.{RequestConforms}
 use Rattle.cedar_schema_model.proofs.Whole.Decls.Conforming.{request_conforms-Decides}
-use Rattle.cedar_typechecker_model.specs.Whole.Worked.{user_a}
+use Rattle.cedar_typechecker_model.specs.Whole.Worked.{user, doc, user_a, small, no_table}
 use Rattle.cedar_evaluator_model.specs.Scope.{Entry, uid, unknown_uid}
 use Rattle.cedar_gate_model.specs.Whole.Acceptance.{IsAccepted, reaches_too_far}
-use Rattle.cedar_gate_model.specs.Whole.Moment.{parts_of_world}
-use Rattle.cedar_gate_model.specs.Whole.Owed.{IsForcedTrue, IsForcedFalse, SomeTrue, NoneTrue, IsForced}
+use Rattle.cedar_gate_model.specs.Whole.Moment.{Completes, parts_of_world}
+use Rattle.cedar_gate_model.specs.Whole.Owed.{Holds, IsForcedTrue, IsForcedFalse, SomeTrue, NoneTrue, IsForced}
 use Rattle.cedar_gate_model.specs.Whole.Session.{Setup, State, at_start, OpenFault, quote_in_name, name_of_variable, AnswerFault, AnswerRefusal, not_bound, still_wanted, not_conforming, OpenRefusal, HasOpenName, is_open_entry, world_now}
 use Rattle.cedar_gate_model.specs.Whole.Runs.{answered, answer_refused}
 use Rattle.cedar_gate_model.specs.Whole.Lines.{is_answered, is_refused, is_unreadable, is_stopped, setup_of, Prints}
-use Rattle.cedar_gate_model.specs.Whole.WorkedGate.{p0, p1, p2, p3, by_a, asking, open_named, open_rank, user_text, no_functions, lines, in_quotes, good_bundle, far_bundle, open_bundle, nothing_known, nobody_known, after_a_round}
+use Rattle.cedar_gate_model.specs.Whole.WorkedGate.{p0, p1, p2, p3, by_a, asking, open_named, open_rank, user_text, no_functions, lines, in_quotes, good_bundle, far_bundle, open_bundle, nothing_known, nobody_known, after_a_round, reviewed, bounds, by_a_on_b, nobody_there, user_b}
 use Rattle.cedar_gate_model.proofs.Whole.Gate.Accepting.{admitted_accepted, faults_exclude}
 
 -- openings
@@ -142,3 +147,84 @@ stops = (admitted_accepted open_bundle.submission refl, ([], answer_refused not_
 
 pub no_refusal : Prints no_functions (Some good_bundle) is_refused (lines (codes "refused 12" ∷ [])) → ⊥
 no_refusal h = faults_exclude h.0 good_bundle.submission h.1 good_accepted
+
+-- bounds
+pub both_bounds_hold : Holds (bounds (codes "p1" ∷ []) (codes "p0" ∷ codes "p1" ∷ [])) reviewed (p0 ∷ p1 ∷ p2 ∷ [])
+both_bounds_hold = record {
+  within = λ id k. contains_tail (codes "p0") (codes "p1" ∷ []) id k;
+  covers = λ id k. k;
+}
+
+differ_p2 : (id : Text) → codes "p2" ≡ id → Contains (codes "p0" ∷ codes "p1" ∷ []) id → ⊥
+differ_p2 id e k = let t = any_has (bytes_eq (codes "p2")) (codes "p0" ∷ codes "p1" ∷ []) id k ((bytes_eq-Decides (codes "p2") id).1 e) in cc
+
+pub too_much : Holds (bounds (codes "p2" ∷ []) (codes "p0" ∷ codes "p1" ∷ [])) reviewed (p0 ∷ p1 ∷ p2 ∷ []) → ⊥
+too_much h = differ_p2 (codes "p2") refl (h.within (codes "p2") (contains_head (codes "p2") []))
+
+pub too_little : Holds (bounds [] (codes "p0" ∷ [])) reviewed (p0 ∷ p1 ∷ p2 ∷ []) → ⊥
+too_little h =
+    let k = h.covers (codes "p1") (contains_tail (codes "p0") (codes "p1" ∷ []) (codes "p1") (contains_head (codes "p1") [])) in
+    let t = any_has (bytes_eq (codes "p1")) (codes "p0" ∷ []) (codes "p1") k refl in cc
+
+-- completions
+abbrev good_schema : Schema
+good_schema = good_setup.schema
+
+settled_at : (u : Uid) (t : Bool) → IsSettled (cond t (held (as_entity good_schema u)) missing)
+settled_at u true = refl
+settled_at u false = tt
+
+stands_at : (u : Uid) (t : Bool) → t ≡ true → cond t (held (as_entity good_schema u)) missing ≡ held (as_entity good_schema u)
+stands_at u true e = refl
+stands_at u false e = cc
+
+nobody_is_whole : IsWhole nobody_there
+nobody_is_whole = record { principal = tt; action = tt; resource = tt; context = tt; unknowns = λ n. tt; store = λ u. settled_at u (declares_action good_schema u) }
+
+pub completed : Completes good_schema no_table 0 by_a_on_b nobody_there
+completed = record {
+  whole = nobody_is_whole;
+  principal = refl;
+  action = refl;
+  resource = refl;
+  context = refl;
+  table = refl;
+  request = (request_conforms-Decides good_schema (parts_of_world nobody_there)).0 refl;
+  actions = λ u e. stands_at u (declares_action good_schema u) e;
+  slice = λ u e i. absurd i.0;
+}
+
+pub of_type : Completes good_schema no_table 0 (record by_a_on_b { principal = unknown_uid (Some user) }) nobody_there
+of_type = record {
+  whole = nobody_is_whole;
+  principal = (user_a, refl, refl);
+  action = refl;
+  resource = refl;
+  context = refl;
+  table = refl;
+  request = completed.request;
+  actions = completed.actions;
+  slice = completed.slice;
+}
+
+uid_or : Option Uid → Uid
+uid_or (Some u) = u
+uid_or None = user_a
+
+kind_in : Option Uid → Name
+kind_in (Some u) = u.kind
+kind_in None = user
+
+kinds_differ : (u : Uid) → Some user_a ≡ Some u → u.kind ≡ doc → ⊥
+unfolding kind_in
+kinds_differ u e k = let q = (name_eq-Decides user doc).1 (ap (λ o. kind_in o) e ∙ k) in cc
+
+pub of_other_type : Completes good_schema no_table 0 (record by_a_on_b { principal = unknown_uid (Some doc) }) nobody_there → ⊥
+of_other_type h = let p = h.principal in kinds_differ p.0 p.1 p.2
+
+pub of_other_uid : Completes good_schema no_table 0 (record by_a_on_b { principal = uid user_b }) nobody_there → ⊥
+unfolding uid_or
+of_other_uid h = let q = (uid_eq-Decides user_a user_b).1 (ap uid_or h.principal) in cc
+
+pub not_conforming_there : Completes small no_table 0 by_a_on_b nobody_there → ⊥
+not_conforming_there h = let q = (request_conforms-Decides small (parts_of_world nobody_there)).1 h.request in cc

@@ -1,11 +1,13 @@
 -- What may be printed.
-use Rattle.std.proofs.Common.{◌≡◌, ◌↔◌, ◌∙◌, Bool, true, false, Option, Some, None, refl, sym, ap}
+use Rattle.std.proofs.Common.{◌≡◌, ◌↔◌, ◌∙◌, Bool, true, false, Option, Some, None, List, refl, sym, ap, subst}
 use Rattle.cedar_expr_model.specs.Name.{Text}
+use Rattle.cedar_store_model.specs.Whole.Answer.{Answer}
+use Rattle.cedar_gate_model.specs.Whole.Transcript.{Entry}
 use Rattle.cedar_gate_model.specs.Whole.Acceptance.{IsAccepted, admits, number_of}
 use Rattle.cedar_gate_model.specs.Whole.Bundle.{Functions, Bundle}
 use Rattle.cedar_gate_model.specs.Whole.Runs.{End, answered, opening_refused, supply_refused, binding_refused, answer_refused}
-use Rattle.cedar_gate_model.specs.Whole.Lines.{Status, is_answered, is_refused, is_unreadable, is_stopped, end_status, refused_line, unreadable_line, setup_of, PrintsRun, Prints}
-use Rattle.cedar_gate_model.specs.Whole.RunLaws.{EndsAlike}
+use Rattle.cedar_gate_model.specs.Whole.Lines.{Status, is_answered, is_refused, is_unreadable, is_stopped, end_status, refused_line, unreadable_line, run_lines, setup_of, PrintsRun, Prints}
+use Rattle.cedar_gate_model.specs.Whole.RunLaws.{EntriesAlike, EndsAlike}
 use Rattle.cedar_gate_model.proofs.Whole.Gate.Accepting.{faults_exclude, admitted_accepted, refusal_has_fault}
 use Rattle.cedar_gate_model.proofs.Whole.Gate.AlikeRuns.{runs_are_alike}
 
@@ -54,3 +56,22 @@ refused_where f b h = by_gate (admits b.submission) refl
 
 pub refusals_are_faults : (f : Functions) (b : Bundle) → ((text : Text) × Prints f (Some b) is_refused text) ↔ (IsAccepted b.submission → ⊥)
 refusals_are_faults f b = (λ h a. faults_exclude (h.1).0 b.submission (h.1).1 a, refused_where f b)
+
+-- only an answer has the status of one
+answer_there : (e : End) → is_answered ≡ end_status e → (a : Answer) × (e ≡ answered a)
+answer_there (answered a) h = (a, refl)
+answer_there (opening_refused a) h = cc
+answer_there (supply_refused a) h = cc
+answer_there (binding_refused a) h = cc
+answer_there (answer_refused a) h = cc
+
+pub one_answer : (f : Functions) (b : Bundle) (s t : Text) → Prints f (Some b) is_answered s → Prints f (Some b) is_answered t
+    → (a : Answer) × (es : List Entry) × (fs : List Entry) × (s ≡ run_lines b es (answered a)) × (t ≡ run_lines b fs (answered a)) × EntriesAlike es fs
+one_answer f b s t h k =
+    let p = h.1 in
+    let q = k.1 in
+    let r = runs_are_alike (setup_of f b) b.submission.policies b.steps p.0 q.0 p.1 q.1 p.2 q.2 in
+    let i = answer_there p.1 p.3 in
+    let j = answer_there q.1 q.3 in
+    let same : i.0 ≡ j.0 = subst (λ e. EndsAlike (answered i.0) e) j.1 (subst (λ e. EndsAlike e q.1) i.1 r.1) in
+    (i.0, p.0, q.0, p.4 ∙ ap (run_lines b p.0) i.1, q.4 ∙ ap (run_lines b q.0) (j.1 ∙ ap answered (sym same)), r.0)
