@@ -17,13 +17,13 @@ ghost use Rattle.cedar_gate_model.specs.Whole.Acceptance.{schema, external, repe
 ghost use Rattle.cedar_gate_model.specs.Whole.Slice.{mentioned, mentioned_by_found, near, slice, roots};
 ghost use Rattle.cedar_gate_model.specs.Whole.Moment.{Completes, when, told, at_first, is_bound, entry_known, context_known, known_at};
 ghost use Rattle.cedar_gate_model.specs.Whole.Transcript.{round, bound, decided, asked_in, last_rounds};
-ghost use Rattle.cedar_gate_model.specs.Whole.Session.{at_start, value_of, uid_in, entry_by_now, context_by_now, entry_now, context_now, whole_store, known_now, world_now, is_open_name, with_bound, OpenFault, BindFault, not_open, against_annotation, no_entity_or_record, context_fails, open_number, quote_in_name, name_of_variable, bind_number, supply_number, not_wanted, lacking, repeated, wrong_entity, answer_number, not_bound, still_wanted, not_conforming};
+ghost use Rattle.cedar_gate_model.specs.Whole.Session.{at_start, value_of, uid_in, entry_by_now, context_by_now, entry_now, context_now, whole_store, known_now, world_now, is_open_name, with_bound, OpenFault, BindFault, not_open, against_annotation, no_entity_or_record, context_fails, open_number, quote_in_name, name_of_variable, bind_number, supply_number, SupplyFault, not_wanted, lacking, repeated, wrong_entity, answer_number, not_bound, still_wanted, not_conforming};
 ghost use Rattle.cedar_gate_model.specs.Whole.Runs.{owned, supplied_by, opening_refused, supply_refused, binding_refused, answer_refused};
 ghost use Rattle.cedar_gate_model.specs.Whole.Owed.{IsForced, Holds};
 ghost use Rattle.cedar_evaluator_model.specs.Members.{met_limit};
 ghost use Rattle.cedar_gate_model.specs.Whole.Lines.{is_answered, is_refused, is_unreadable, is_stopped, warning_lines, entry_lines, answer_lines, end_lines, end_status, refused_line, unreadable_line, Prints};
 ghost use Rattle.cedar_store_model.specs.Whole.Answer.{allow, deny, reasons_of};
-ghost use Rattle.cedar_gate_model.specs.Whole.WorkedGate.{user_b, user_z, alice, p0, p1, p2, p3, p5, p6, p7, submitted, within, twice_users, slot_in_body, and_unknown, and_edit, and_blue, robot, robots, viewing_by, person, document, staff, without_b, below_z, world_of, by_a, by_some_user, by_anyone, asking, no_context, rank, open_rank, open_named, with_ranks, no_functions, setup_with, text_made, uid_made, number_made, after, lines, p4, ranking, answer_with, in_quotes, user_text, good_bundle, far_bundle, open_bundle, nothing_known, nobody_known, after_a_round, nested_with, reviewed, bounds, by_a_on_b, nobody_there};
+ghost use Rattle.cedar_gate_model.specs.Whole.WorkedGate.{user_b, user_z, alice, p0, p1, p2, p3, p5, p6, p7, submitted, within, twice_users, slot_in_body, and_unknown, and_edit, and_blue, robot, robots, viewing_by, person, document, staff, without_b, below_z, world_of, by_a, by_some_user, by_anyone, asking, no_context, rank, open_rank, open_named, with_ranks, no_functions, setup_with, text_made, uid_made, number_made, after, lines, p4, ranking, answer_with, in_quotes, user_text, good_bundle, far_bundle, open_bundle, nothing_known, nobody_known, after_a_round, nested_with, reviewed, bounds, by_a_on_b, nobody_there, ordinary, right_supply, with_z, only_d, twice_d, b_for_a, lacks_ok};
 
 /// Submissions that are accepted, and one that isn't for each fault.
 pub fn worked_acceptance()
@@ -240,4 +240,16 @@ pub fn worked_completions()
     ensures of_other_type { Completes (schema_in good_bundle.submission) no_table 0 (record by_a_on_b { principal = unknown_uid (Some doc) }) nobody_there → ⊥ }
     ensures of_other_uid { Completes (schema_in good_bundle.submission) no_table 0 (record by_a_on_b { principal = uid user_b }) nobody_there → ⊥ }
     ensures not_conforming { Completes small no_table 0 by_a_on_b nobody_there → ⊥ }
+{}
+
+/// Supplies that are refused: one too many, one too few, one twice, the entity of another, one that doesn't conform; and a right one.
+pub fn worked_supplies()
+    ensures stray { SupplyFault ordinary at_start with_z not_wanted }
+    ensures short { SupplyFault ordinary at_start only_d lacking }
+    ensures doubled { SupplyFault ordinary at_start twice_d repeated }
+    ensures swapped { SupplyFault ordinary at_start b_for_a wrong_entity }
+    ensures not_conforming_one { SupplyFault ordinary at_start lacks_ok wrong_entity }
+    ensures nothing_lacks { SupplyFault ordinary at_start right_supply lacking → ⊥ }
+    ensures nothing_twice { SupplyFault ordinary at_start right_supply repeated → ⊥ }
+    ensures nothing_wrong { SupplyFault ordinary at_start right_supply wrong_entity → ⊥ }
 {}

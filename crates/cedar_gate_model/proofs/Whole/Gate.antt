@@ -6,3 +6,4 @@ pub mod AlikeRuns
 pub mod Printing
 pub mod LegalRuns
 pub mod Computed
+pub mod Supplying

@@ -1,13 +1,13 @@
 -- What the laws of acceptance, slices and transcripts say.
 -- Rule: the acceptance rules; impossible policies; the slice; legal transcript (docs/RULES.md).
-use Rattle.std.specs.Prelude.{◌≡◌, ◌≢◌, ◌↔◌, ◌≤◌, ℕ, suc, List, [], ◌∷◌, ◌++◌, map, length, Contains, true, false, codes, Option, Some}
+use Rattle.std.specs.Prelude.{◌≡◌, ◌↔◌, ◌≤◌, ℕ, suc, List, ◌∷◌, ◌++◌, map, length, Contains, true, false, codes, Some}
 use Rattle.std.specs.Bool.{Decides}
 use Rattle.cedar_expr_model.specs.Name.{Text}
 use Rattle.cedar_expr_model.specs.Uid.{Uid}
 use Rattle.cedar_expr_model.specs.Whole.Value.{V}
 use Rattle.cedar_expr_model.specs.Whole.Tree.{SlotId, nesting}
 use Rattle.cedar_expr_model.specs.Whole.Unknowns.{has_unknown}
-use Rattle.cedar_store_model.specs.Whole.World.{World, Part, Entity, Found, held}
+use Rattle.cedar_store_model.specs.Whole.World.{World, Part, Entity, held}
 use Rattle.cedar_store_model.specs.Whole.Policy.{Policy, binding_of, body_tree, condition, tree_uses, has_slot}
 use Rattle.cedar_store_model.specs.Whole.Knowledge.{IsThere, Extends}
 use Rattle.cedar_store_model.specs.Whole.Answer.{Decision, ids, decision_of}

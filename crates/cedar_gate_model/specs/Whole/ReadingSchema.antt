@@ -113,8 +113,15 @@ action_read ns id d =
     given (optional (codes "in") (list_of declared_uid_read) [] d) (λ parents.
     given (optional (codes "principals") names_read [] d) (λ principals.
     given (optional (codes "resources") names_read [] d) (λ resources.
-    option_map (λ context. record { namespace = ns; id = id; parents = parents; principals = principals; resources = resources;
-        context = context; is_external = false })
+    option_map (λ context. record {
+      namespace = ns;
+      id = id;
+      parents = parents;
+      principals = principals;
+      resources = resources;
+      context = context;
+      is_external = false;
+    })
     (optional (codes "context") type_read (record_expr no_field_exprs) d))))
     else None
 

@@ -1,11 +1,11 @@
 -- What the laws of runs and of lines say.
 -- Rule: runs; legal transcript; the lines (docs/RULES.md).
-use Rattle.std.specs.Prelude.{◌≡◌, ◌↔◌, List, [], ◌∷◌, Contains, Option, Some, None}
+use Rattle.std.specs.Prelude.{◌≡◌, ◌↔◌, List, [], ◌∷◌, Option, Some, None}
 use Rattle.cedar_expr_model.specs.Name.{Text}
 use Rattle.cedar_expr_model.specs.Whole.Made.{Made}
 use Rattle.cedar_store_model.specs.Whole.World.{World}
 use Rattle.cedar_store_model.specs.Whole.Policy.{Policy}
-use Rattle.cedar_store_model.specs.Whole.Answer.{Decision, Answer}
+use Rattle.cedar_store_model.specs.Whole.Answer.{Answer}
 use Rattle.cedar_schema_model.specs.Whole.WellFormed.{HasTwice}
 use Rattle.cedar_evaluator_model.specs.Scope.{Context, closed, residual_fields, unknown_context}
 use Rattle.cedar_gate_model.specs.Whole.Acceptance.{IsAccepted}

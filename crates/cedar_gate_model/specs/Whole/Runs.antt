@@ -1,15 +1,15 @@
 -- Runs over a store that answers for every uid: what they do step by step, and how they end.
 -- Rule: runs; legal transcript (docs/RULES.md).
-use Rattle.std.specs.Prelude.{◌≡◌, ◌≢◌, ◌↔◌, ℕ, List, [], ◌∷◌, ◌++◌, map, Contains, Bool, true, false, Option, Some, None}
+use Rattle.std.specs.Prelude.{◌≡◌, ◌≢◌, List, [], ◌∷◌, ◌++◌, map, Option, Some, None}
 use Rattle.std.proofs.Common.{◌⊎◌}
 use Rattle.cedar_expr_model.specs.Name.{Text}
 use Rattle.cedar_expr_model.specs.Uid.{Uid}
 use Rattle.cedar_expr_model.specs.Whole.Made.{Made}
 use Rattle.cedar_expr_model.specs.Whole.Value.{V}
-use Rattle.cedar_store_model.specs.Whole.World.{World, Entity}
+use Rattle.cedar_store_model.specs.Whole.World.{Entity}
 use Rattle.cedar_store_model.specs.Whole.Policy.{Policy}
-use Rattle.cedar_store_model.specs.Whole.Answer.{Decision, Answer, decision_of, answer_of}
-use Rattle.cedar_gate_model.specs.Whole.Session.{Setup, State, at_start, known_now, world_now, MeetsLimit, HoldsInAll, IsWantedList, NothingIsWanted, with_bound, OpenFault, OpenRefusal, open_number, BindFault, BindRefusal, bind_number, Supplied, SupplyFault, SupplyRefusal, supply_number, AnswerFault, AnswerRefusal, answer_number}
+use Rattle.cedar_store_model.specs.Whole.Answer.{Decision, Answer, answer_of}
+use Rattle.cedar_gate_model.specs.Whole.Session.{Setup, State, at_start, known_now, world_now, MeetsLimit, HoldsInAll, IsWantedList, NothingIsWanted, with_bound, OpenFault, OpenRefusal, BindFault, BindRefusal, Supplied, SupplyFault, SupplyRefusal, AnswerFault, AnswerRefusal}
 use Rattle.cedar_gate_model.specs.Whole.Transcript.{Step, load, bind_name, decide, Entry, round, bound, decided}
 use Rattle.cedar_gate_model.specs.Whole.Owed.{IsForced}
 

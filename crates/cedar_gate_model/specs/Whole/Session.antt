@@ -1,19 +1,18 @@
 -- Sessions: what was bound and asked so far, what is known by it, and what each call refuses.
 -- Rule: sessions; refusals of a session (docs/RULES.md).
-use Rattle.std.specs.Prelude.{◌≡◌, ◌≢◌, ◌↔◌, ◌&&◌, ◌||◌, ◌==◌, ℕ, List, [], ◌∷◌, ◌++◌, map, Contains, Bool, true, false, not, is_some, Option, Some, None, option_map, codes, if◌then◌else◌}
-use Rattle.std.specs.List.{list_all, list_any, flat_map, filter}
+use Rattle.std.specs.Prelude.{◌≡◌, ◌↔◌, ◌&&◌, ◌||◌, ℕ, List, [], ◌∷◌, map, Contains, Bool, true, false, not, is_some, Option, Some, None, option_map, codes, if◌then◌else◌}
+use Rattle.std.specs.List.{list_any}
 use Rattle.std.specs.Str.{bytes_eq}
 use Rattle.std.proofs.Common.{◌⊎◌}
 use Rattle.cedar_expr_model.specs.Name.{Text, Name, name_eq}
 use Rattle.cedar_expr_model.specs.Uid.{Uid, uid_eq}
 use Rattle.cedar_expr_model.specs.Order.{are_rising}
-use Rattle.cedar_expr_model.specs.Whole.Value.{Literal, truth, long, text, entity, V, prim, record_of, Fields}
-use Rattle.cedar_expr_model.specs.Whole.Tree.{CoreType, Tree, record_literal, TreeFields, SlotId}
+use Rattle.cedar_expr_model.specs.Whole.Value.{entity, V, record_of}
+use Rattle.cedar_expr_model.specs.Whole.Tree.{record_literal, TreeFields}
 use Rattle.cedar_expr_model.specs.Whole.Made.{Made, made_prim, made_record, bare, bare_fields}
 use Rattle.cedar_expr_model.specs.Whole.Substitution.{fits_annotation, substituted}
 use Rattle.cedar_expr_model.specs.Whole.Parts.{Unknown, unknowns}
-use Rattle.cedar_expr_model.specs.Whole.Table.{Table}
-use Rattle.cedar_store_model.specs.Whole.World.{World, Entity, Found, held, missing, not_loaded}
+use Rattle.cedar_store_model.specs.Whole.World.{World, Entity, Found, held, not_loaded}
 use Rattle.cedar_store_model.specs.Whole.Policy.{Policy}
 use Rattle.cedar_store_model.specs.Whole.Answer.{Decision, decision_of}
 use Rattle.cedar_store_model.specs.Whole.Store.{found_as, whole}
@@ -21,7 +20,7 @@ use Rattle.cedar_schema_model.specs.Whole.WellFormed.{HasTwice}
 use Rattle.cedar_schema_model.specs.Whole.Schema.{Schema, declares_action}
 use Rattle.cedar_schema_model.specs.Whole.ActionEntities.{as_entity}
 use Rattle.cedar_schema_model.specs.Whole.Conforming.{EntityConforms, RequestConforms}
-use Rattle.cedar_evaluator_model.specs.Scope.{Scope, MadeCalled, Entry, uid, unknown_uid, Context, closed, residual_fields, unknown_context, Left, value_left, residual, stopped, Stop}
+use Rattle.cedar_evaluator_model.specs.Scope.{Scope, Entry, uid, unknown_uid, Context, closed, residual_fields, unknown_context, Left, value_left, residual, stopped, Stop}
 use Rattle.cedar_evaluator_model.specs.Known.{known_found}
 use Rattle.cedar_evaluator_model.specs.Response.{response_of}
 use Rattle.cedar_evaluator_model.specs.Members.{met_limit}

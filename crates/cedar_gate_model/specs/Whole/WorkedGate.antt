@@ -1,27 +1,28 @@
 -- The values of the worked examples of acceptance, slices, sessions and lines.
 -- Rule: the acceptance rules; the slice; sessions; the lines (docs/RULES.md).
-use Rattle.std.specs.Prelude.{ℕ, pos, List, [], ◌∷◌, ◌++◌, codes, Bool, true, false, Option, Some, None, if◌then◌else◌}
+use Rattle.std.specs.Prelude.{ℕ, pos, List, [], ◌∷◌, ◌++◌, codes, Bool, true, false, Option, Some, None}
 use Rattle.std.specs.List.{flat_map}
-use Rattle.cedar_expr_model.specs.Name.{Text, Name, name_eq}
+use Rattle.cedar_expr_model.specs.Name.{Text, Name}
 use Rattle.cedar_expr_model.specs.Uid.{Uid}
-use Rattle.cedar_expr_model.specs.Whole.Value.{truth, long, text, entity, V, prim, extension, Fields, no_fields}
-use Rattle.cedar_expr_model.specs.Whole.Tree.{principal, action, context, Tree, lit, var, slot, unknown, both, binary, unary, negation, equal, less, less_or_equal, plus, call, get_attr, is_type, principal_slot, CoreType, string_core, entity_core, extension_core, no_trees, tree, record_literal, TreeFields, no_tree_fields, tree_field}
-use Rattle.cedar_expr_model.specs.Whole.Made.{Made, made_prim, made_record, made_extension, no_made_fields, made_field}
+use Rattle.cedar_expr_model.specs.Whole.Value.{truth, long, text, entity, V, prim, extension}
+use Rattle.cedar_expr_model.specs.Whole.Tree.{principal, action, context, Tree, lit, var, slot, unknown, both, binary, equal, less, plus, call, get_attr, is_type, principal_slot, string_core, extension_core, no_trees, tree, record_literal, no_tree_fields, tree_field}
+use Rattle.cedar_expr_model.specs.Whole.Made.{Made, made_prim, made_extension, no_made_fields}
 use Rattle.cedar_expr_model.specs.Whole.Table.{Table, function_style, Called, gives, fails}
-use Rattle.cedar_store_model.specs.Whole.World.{World, Part, known, Entity, Found, not_loaded}
-use Rattle.cedar_store_model.specs.Whole.Store.{Entities, entity_of, found_as, whole, partial}
+use Rattle.cedar_store_model.specs.Whole.World.{World, known, Entity, Found, not_loaded}
+use Rattle.cedar_store_model.specs.Whole.Store.{Entities, entity_of, found_as, whole}
 use Rattle.cedar_store_model.specs.Whole.Answer.{Answer, answer_of}
-use Rattle.cedar_store_model.specs.Whole.Policy.{Policy, Effect, permit, forbid, any, exactly, named, any_action, no_bindings}
-use Rattle.cedar_schema_model.specs.Whole.Declarations.{Declarations, EntityDeclaration, ActionDeclaration, bag, standard_expr, no_field_exprs}
-use Rattle.cedar_schema_model.specs.Whole.DeclWorked.{m, user_fragment, external_x, color_declared, with_type, view_declared, plain}
-use Rattle.cedar_typechecker_model.specs.Whole.Worked.{user, doc, phantom_g, user_a, doc_d, view, edit, blue, no_table, permits_when, is_ok, has_nick, nick_is_x, owned_by_staff, false_, haunted, in_slot_of, plain_name, uid_of, function}
+use Rattle.cedar_store_model.specs.Whole.Policy.{Policy, Effect, permit, forbid, exactly, named}
+use Rattle.cedar_schema_model.specs.Whole.Declarations.{Declarations, ActionDeclaration, bag, standard_expr, no_field_exprs}
+use Rattle.cedar_schema_model.specs.Whole.DeclWorked.{m, user_fragment, view_declared, plain}
+use Rattle.cedar_typechecker_model.specs.Whole.Worked.{user, doc, user_a, doc_d, view, edit, blue, no_table, permits_when, is_ok, owned_by_staff, false_, in_slot_of, plain_name, uid_of, function}
 use Rattle.cedar_typechecker_model.specs.Whole.Verdicts.{RequestType}
-use Rattle.cedar_evaluator_model.specs.Scope.{MadeCalled, makes, faults, Entry, uid, unknown_uid, Context, closed, residual_fields, unknown_context}
+use Rattle.cedar_evaluator_model.specs.Scope.{MadeCalled, makes, faults, Entry, uid, unknown_uid, Context, closed, residual_fields}
 use Rattle.cedar_evaluator_model.specs.Response.{Response, response_of}
 use Rattle.cedar_gate_model.specs.Whole.Acceptance.{Submission, schema_in}
 use Rattle.cedar_gate_model.specs.Whole.Bundle.{Functions, Bundle}
 use Rattle.cedar_gate_model.specs.Whole.Moment.{Start}
-use Rattle.cedar_gate_model.specs.Whole.Session.{Setup, State, at_start, known_now, world_now, scope_now}
+use Rattle.cedar_gate_model.specs.Whole.Session.{Setup, State, at_start, known_now, world_now, scope_now, Supplied}
+use Rattle.cedar_gate_model.specs.Whole.Runs.{supplied_by}
 use Rattle.cedar_gate_model.specs.Whole.Lines.{line, setup_of}
 use Rattle.cedar_gate_model.specs.Whole.Owed.{Bounds}
 
@@ -282,3 +283,29 @@ one_field = number_made 1
 -- A world that completes the request of a user on a user: everything is known in it, and nobody is there.
 abbrev pub nobody_there : World
 nobody_there = record (world_now (setup_of no_functions good_bundle) at_start) { unknowns = λ n. Some (prim (truth true)) }
+
+-- The session of a user on a document at level 2, and supplies for it: right ones, one too many, one too few, one twice, the entity of
+-- another, and one that doesn't conform.
+abbrev pub ordinary : Setup
+ordinary = setup_with 2 no_functions by_a staff
+
+abbrev pub right_supply : Supplied
+right_supply = supplied_by ordinary (doc_d ∷ user_a ∷ [])
+
+abbrev pub with_z : Supplied
+with_z = supplied_by ordinary (user_a ∷ doc_d ∷ user_z ∷ [])
+
+abbrev pub only_d : Supplied
+only_d = supplied_by ordinary (doc_d ∷ [])
+
+abbrev pub twice_d : Supplied
+twice_d = supplied_by ordinary (user_a ∷ doc_d ∷ doc_d ∷ [])
+
+abbrev pub b_for_a : Supplied
+b_for_a = (user_a, Some (user_b, person user_a true)) ∷ []
+
+abbrev pub without_ok : Entity V
+without_ok = record (person user_a true) { attributes = (codes "boss", known (prim (entity user_a))) ∷ [] }
+
+abbrev pub lacks_ok : Supplied
+lacks_ok = (user_a, Some (user_a, without_ok)) ∷ []

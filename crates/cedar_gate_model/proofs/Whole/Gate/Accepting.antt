@@ -1,5 +1,5 @@
 -- The test of a submission decides whether it is accepted, and what its clauses say.
-use Rattle.std.proofs.Common.{◌≡◌, ◌↔◌, ◌≤◌, ℕ, Bool, true, false, ◌&&◌, ◌||◌, not, List, [], ◌∷◌, map, Option, Some, None, refl, sym, ap, ◌∙◌, subst, arith, nat_le, is_some}
+use Rattle.std.proofs.Common.{◌≡◌, ◌↔◌, ◌≤◌, ℕ, Bool, true, false, ◌&&◌, ◌||◌, not, List, [], ◌∷◌, Option, Some, None, refl, subst, arith, nat_le, is_some}
 use Rattle.std.specs.Prelude.{Contains}
 use Rattle.std.specs.Bool.{Decides}
 use Rattle.std.specs.Str.{bytes_eq}
@@ -7,22 +7,20 @@ use Rattle.std.specs.List.{list_all, filter}
 use Rattle.std.proofs.lemmas.Bool.{leb-true, le-leb}
 use Rattle.std.proofs.lemmas.Slice.Eq.{bytes_eq-Decides}
 use Rattle.cedar_expr_model.specs.Name.{Text}
-use Rattle.cedar_expr_model.specs.Uid.{Uid}
 use Rattle.cedar_expr_model.specs.Whole.Tree.{SlotId, principal_slot, resource_slot, nesting}
 use Rattle.cedar_expr_model.specs.Whole.Unknowns.{has_unknown}
 use Rattle.cedar_expr_model.proofs.Lists.{both_hold, hold_both, contains_head, contains_tail, contains_none, filter_has, filter_only, all_each, all_from, map_has, map_from}
 use Rattle.cedar_store_model.specs.Whole.Policy.{Policy, binding_of, body_tree, condition, tree_uses, has_slot}
 use Rattle.cedar_store_model.specs.Whole.Knowledge.{IsThere}
 use Rattle.cedar_store_model.specs.Whole.Answer.{ids}
-use Rattle.cedar_schema_model.specs.Whole.WellFormed.{SchemaFault, ill_forms, unresolved_external, HasTwice, has_schema_fault, HasSchemaFault, IsWellFormed, well_formed}
+use Rattle.cedar_schema_model.specs.Whole.WellFormed.{ill_forms, unresolved_external, has_schema_fault, well_formed}
 use Rattle.cedar_schema_model.proofs.Whole.Decls.Faults.{has_twice-Decides, schema_fault-Decides, well_formed-Decides}
 use Rattle.cedar_typechecker_model.specs.Whole.ScopeRules.{names_known_types, names_known_actions, names_known_members}
-use Rattle.cedar_typechecker_model.specs.Whole.Levels.{Violation}
-use Rattle.cedar_typechecker_model.specs.Whole.Verdicts.{RequestType, Passes, passes, IsImpossible, impossible, IsIrrelevant, irrelevant_for, policy_violations}
+use Rattle.cedar_typechecker_model.specs.Whole.Verdicts.{RequestType, passes, IsImpossible, impossible, IsIrrelevant, irrelevant_for, policy_violations}
 use Rattle.cedar_schema_model.specs.Whole.Types.{strict}
 use Rattle.cedar_typechecker_model.proofs.Whole.Verdicts.{passes-Decides, impossible-Decides, irrelevant-Decides}
 use Rattle.cedar_typechecker_model.proofs.Whole.Naming.{known_types-Decides, known_actions-Decides, known_members-Decides}
-use Rattle.cedar_gate_model.specs.Whole.Acceptance.{Submission, Cause, schema, external, repeated_policy, unlinked_slot, slot_outside_scope, unknown_in_policy, nests_too_deep, unknown_entity_type, unknown_action, no_member, ill_typed, reaches_too_far, extension_types, schema_in, all_slots, is_linked, keeps_slots_in_scope, is_nil, is_clear_of, asks_schema, IsCause, IsAccepted, has_schema, HasFault, policy_causes, admits, warnings_of, policies_for}
+use Rattle.cedar_gate_model.specs.Whole.Acceptance.{Submission, Cause, schema, external, repeated_policy, unlinked_slot, slot_outside_scope, unknown_in_policy, nests_too_deep, unknown_entity_type, unknown_action, no_member, ill_typed, reaches_too_far, extension_types, schema_in, all_slots, is_linked, keeps_slots_in_scope, is_nil, is_clear_of, IsCause, IsAccepted, HasFault, policy_causes, admits, warnings_of, policies_for}
 use Rattle.cedar_gate_model.specs.Whole.GateLaws.{IsGoodPolicy, FitsSchema, IsGood}
 
 -- the causes that aren't faults of declarations

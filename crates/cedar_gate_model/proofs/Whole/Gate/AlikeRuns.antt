@@ -1,6 +1,5 @@
 -- Two runs of the same steps are alike; and no uid is asked for twice.
-use Rattle.std.proofs.Common.{◌≡◌, ◌≢◌, ◌↔◌, ◌∙◌, List, [], ◌∷◌, ◌++◌, Option, Some, None, inl, inr, ⊎_elim, ◌⊎◌, refl, sym, ap, subst}
-use Rattle.std.specs.Prelude.{Contains}
+use Rattle.std.proofs.Common.{◌≡◌, ◌≢◌, ◌∙◌, List, [], ◌∷◌, Option, inl, inr, ⊎_elim, ◌⊎◌, refl, sym, subst}
 use Rattle.cedar_expr_model.specs.Name.{Text}
 use Rattle.cedar_expr_model.specs.Uid.{Uid}
 use Rattle.cedar_expr_model.specs.Whole.Made.{Made}
@@ -11,7 +10,7 @@ use Rattle.cedar_store_model.specs.Whole.Answer.{Decision}
 use Rattle.cedar_schema_model.specs.Whole.WellFormed.{HasTwice}
 use Rattle.cedar_gate_model.specs.Whole.Moment.{Moment, at_first}
 use Rattle.cedar_gate_model.specs.Whole.Transcript.{Step, load, bind_name, decide, Entry, round, bound, decided, Case, after, AreLegal, moment_after, asked_in}
-use Rattle.cedar_gate_model.specs.Whole.Session.{Setup, State, at_start, IsWantedNow, NothingIsWanted, IsWantedList, with_bound, OpenFault, OpenRefusal, BindFault, BindRefusal, SupplyFault, SupplyRefusal}
+use Rattle.cedar_gate_model.specs.Whole.Session.{Setup, State, at_start, NothingIsWanted, IsWantedList, with_bound, OpenFault, OpenRefusal, BindFault, BindRefusal, SupplyFault, SupplyRefusal}
 use Rattle.cedar_gate_model.specs.Whole.Runs.{End, answered, opening_refused, supply_refused, binding_refused, answer_refused, supplied_by, IsRoundNow, with_asked, RefusesSupply, Finishes, Loads, Binds, DecidesNow, Follows, MayDecide, Runs}
 use Rattle.cedar_gate_model.specs.Whole.RunLaws.{EntriesAlike, EndsAlike}
 use Rattle.cedar_gate_model.proofs.Whole.Gate.RisingUids.{rising_once, same_rising, apart_once}

@@ -1,12 +1,11 @@
 -- The worked examples that aren't equations which compute by themselves.
-use Rattle.std.proofs.Common.{◌≡◌, ◌∙◌, Bool, true, false, cond, not, ◌&&◌, ◌||◌, List, [], ◌∷◌, ◌++◌, Option, Some, None, codes, inl, inr, ⊎_elim, ◌⊎◌, refl, sym, ap, subst, arith}
+use Rattle.std.proofs.Common.{◌≡◌, ◌∙◌, Bool, true, false, cond, not, ◌&&◌, ◌||◌, [], ◌∷◌, ◌++◌, Option, Some, None, codes, inl, ⊎_elim, refl, sym, ap, subst, arith}
 use Rattle.std.specs.Prelude.{Contains}
 use Rattle.std.specs.Str.{bytes_eq, chars}
 use Rattle.std.specs.Fmt.{digits}
 use Rattle.cedar_expr_model.specs.Name.{Text, Name}
 use Rattle.cedar_expr_model.specs.Uid.{Uid}
 use Rattle.cedar_expr_model.specs.Whole.Value.{V, truth_value}
-use Rattle.cedar_expr_model.specs.Whole.Parts.{Unknown}
 use Rattle.std.proofs.lemmas.Slice.Eq.{bytes_eq-Decides}
 use Rattle.cedar_expr_model.proofs.Equality.{name_eq-Decides, uid_eq-Decides}
 use Rattle.cedar_expr_model.proofs.Lists.{any_has, contains_cases, contains_none, contains_head, contains_tail}
@@ -16,19 +15,18 @@ use Rattle.cedar_store_model.specs.Whole.Knowledge.{IsSettled, IsWhole}
 use Rattle.cedar_schema_model.specs.Whole.Schema.{Schema, declares_action}
 use Rattle.cedar_schema_model.specs.Whole.ActionEntities.{as_entity}
 use Rattle.cedar_store_model.specs.Whole.Policy.{Policy, Effect, permit, forbid}
-use Rattle.cedar_store_model.specs.Whole.Answer.{Answer, allow, deny, PolicyMeans, policy_outcome, answer_of}
+use Rattle.cedar_store_model.specs.Whole.Answer.{allow, deny, policy_outcome, answer_of}
 use Rattle.cedar_store_model.proofs.Whole.Conditions.{policy_meaning_is_a_function}
-use Rattle.cedar_schema_model.specs.Whole.Conforming.{RequestConforms}
 use Rattle.cedar_schema_model.proofs.Whole.Decls.Conforming.{request_conforms-Decides}
 use Rattle.cedar_typechecker_model.specs.Whole.Worked.{user, doc, user_a, small, no_table}
-use Rattle.cedar_evaluator_model.specs.Scope.{Entry, uid, unknown_uid}
+use Rattle.cedar_evaluator_model.specs.Scope.{uid, unknown_uid}
 use Rattle.cedar_gate_model.specs.Whole.Acceptance.{IsAccepted, reaches_too_far}
 use Rattle.cedar_gate_model.specs.Whole.Moment.{Completes, parts_of_world}
-use Rattle.cedar_gate_model.specs.Whole.Owed.{Holds, IsForcedTrue, IsForcedFalse, SomeTrue, NoneTrue, IsForced}
-use Rattle.cedar_gate_model.specs.Whole.Session.{Setup, State, at_start, OpenFault, quote_in_name, name_of_variable, AnswerFault, AnswerRefusal, not_bound, still_wanted, not_conforming, OpenRefusal, HasOpenName, is_open_entry, world_now}
+use Rattle.cedar_gate_model.specs.Whole.Owed.{Holds, IsForcedTrue, IsForcedFalse, IsForced}
+use Rattle.cedar_gate_model.specs.Whole.Session.{Setup, at_start, OpenFault, quote_in_name, name_of_variable, AnswerFault, AnswerRefusal, not_bound, still_wanted, not_conforming, OpenRefusal, HasOpenName, is_open_entry, world_now}
 use Rattle.cedar_gate_model.specs.Whole.Runs.{answered, answer_refused}
-use Rattle.cedar_gate_model.specs.Whole.Lines.{is_answered, is_refused, is_unreadable, is_stopped, setup_of, Prints}
-use Rattle.cedar_gate_model.specs.Whole.WorkedGate.{p0, p1, p2, p3, by_a, asking, open_named, open_rank, user_text, no_functions, lines, in_quotes, good_bundle, far_bundle, open_bundle, nothing_known, nobody_known, after_a_round, reviewed, bounds, by_a_on_b, nobody_there, user_b}
+use Rattle.cedar_gate_model.specs.Whole.Lines.{is_answered, is_refused, is_stopped, setup_of, Prints}
+use Rattle.cedar_gate_model.specs.Whole.WorkedGate.{p0, p1, p2, p3, by_a, asking, open_named, user_text, no_functions, lines, in_quotes, good_bundle, far_bundle, open_bundle, nothing_known, nobody_known, after_a_round, reviewed, bounds, by_a_on_b, nobody_there, user_b}
 use Rattle.cedar_gate_model.proofs.Whole.Gate.Accepting.{admitted_accepted, faults_exclude}
 
 -- openings
@@ -46,9 +44,6 @@ is_variable = (record { name = codes "principal"; annotation = None }, (0, omega
 forced_true : (k : World) (p : Policy) → policy_outcome k p ≡ Some (val (truth_value true)) → IsForcedTrue k p
 forced_true k p e = (policy_meaning_is_a_function k p (val (truth_value true))).1 e
 
-false_isnt_true : Res V → ⊥ → ⊥
-false_isnt_true r h = h
-
 forced_false : (k : World) (p : Policy) → policy_outcome k p ≡ Some (val (truth_value false)) → IsForcedFalse k p
 forced_false k p e = (val (truth_value false), (policy_meaning_is_a_function k p (val (truth_value false))).1 e, λ q. cc)
 
@@ -58,14 +53,7 @@ not_known k p e h = let q = (policy_meaning_is_a_function k p h.0).0 h.1 in cc
 never_true : (k : World) (p : Policy) → policy_outcome k p ≡ None → IsForcedTrue k p → ⊥
 never_true k p e h = let q = (policy_meaning_is_a_function k p (val (truth_value true))).0 h in cc
 
--- what differs by a test differs
-is_permit : Policy → Bool
-is_permit p = by_effect p.effect
-  where
-    by_effect : Effect → Bool
-    by_effect permit = true
-    by_effect forbid = false
-
+-- a permit is no forbid
 effects_differ : permit ≡ forbid → ⊥
 effects_differ e = cc
 
@@ -76,15 +64,15 @@ pub permitted : IsForced nothing_known (p0 ∷ p1 ∷ []) allow
 permitted = (
   (p1, contains_tail p0 (p1 ∷ []) p1 (contains_head p1 []), refl, forced_true nothing_known p1 refl),
   λ p k e. contains_cases (IsForcedFalse nothing_known p) p0 (p1 ∷ []) p k (λ q. absurd (effects_differ (ap (λ (z : Policy). z.effect) q ∙ e)))
-    (λ m. contains_cases (IsForcedFalse nothing_known p) p1 [] p m (λ q. absurd (effects_differ (ap (λ (z : Policy). z.effect) q ∙ e))) (λ n. absurd (contains_none p n))),
+      (λ m. contains_cases (IsForcedFalse nothing_known p) p1 [] p m (λ q. absurd (effects_differ (ap (λ (z : Policy). z.effect) q ∙ e))) (λ n. absurd (contains_none p n))),
 )
 
 pub permitted_later : IsForced after_a_round (p0 ∷ p1 ∷ p2 ∷ []) allow
 permitted_later = (
   (p1, contains_tail p0 (p1 ∷ p2 ∷ []) p1 (contains_head p1 (p2 ∷ [])), refl, forced_true after_a_round p1 refl),
   λ p k e. contains_cases (IsForcedFalse after_a_round p) p0 (p1 ∷ p2 ∷ []) p k (λ q. absurd (effects_differ (ap (λ (z : Policy). z.effect) q ∙ e)))
-    (λ m. contains_cases (IsForcedFalse after_a_round p) p1 (p2 ∷ []) p m (λ q. absurd (effects_differ (ap (λ (z : Policy). z.effect) q ∙ e)))
-    (λ n. contains_cases (IsForcedFalse after_a_round p) p2 [] p n (λ q. subst (IsForcedFalse after_a_round) q (forced_false after_a_round p2 refl)) (λ n. absurd (contains_none p n)))),
+      (λ m. contains_cases (IsForcedFalse after_a_round p) p1 (p2 ∷ []) p m (λ q. absurd (effects_differ (ap (λ (z : Policy). z.effect) q ∙ e)))
+      (λ n. contains_cases (IsForcedFalse after_a_round p) p2 [] p n (λ q. subst (IsForcedFalse after_a_round) q (forced_false after_a_round p2 refl)) (λ n. absurd (contains_none p n)))),
 )
 
 p0_alone : (p : Policy) → Contains (p0 ∷ []) p → p0 ≡ p

@@ -1,5 +1,5 @@
 -- What a run does is legal, and one that answered asked for the slice.
-use Rattle.std.proofs.Common.{◌≡◌, ◌≢◌, ◌↔◌, ◌∙◌, ℕ, Bool, true, false, cond, not, ◌&&◌, ◌||◌, is_some, List, [], ◌∷◌, ◌++◌, map, Option, Some, None, option_map, codes, inl, inr, ⊎_elim, ◌⊎◌, refl, sym, ap, subst}
+use Rattle.std.proofs.Common.{◌≡◌, ◌↔◌, ◌∙◌, ℕ, Bool, true, false, cond, not, ◌&&◌, ◌||◌, is_some, List, [], ◌∷◌, map, Option, Some, None, option_map, codes, inl, inr, ⊎_elim, ◌⊎◌, refl, sym, ap, subst}
 use Rattle.std.specs.Prelude.{Contains}
 use Rattle.std.specs.List.{list_any}
 use Rattle.std.specs.Str.{bytes_eq}
@@ -7,22 +7,22 @@ use Rattle.std.proofs.lemmas.List.Elements.{Contains-append_left}
 use Rattle.std.proofs.lemmas.Slice.Eq.{bytes_eq-Decides}
 use Rattle.cedar_expr_model.specs.Name.{Text}
 use Rattle.cedar_expr_model.specs.Uid.{Uid, uid_eq}
-use Rattle.cedar_expr_model.specs.Whole.Value.{V, record_of}
-use Rattle.cedar_expr_model.specs.Whole.Made.{Made, bare, bare_fields}
+use Rattle.cedar_expr_model.specs.Whole.Value.{V}
+use Rattle.cedar_expr_model.specs.Whole.Made.{Made, bare}
 use Rattle.cedar_expr_model.proofs.Lists.{contains_head, contains_tail, found-Decides}
 use Rattle.cedar_expr_model.proofs.Equality.{uid_eq-Decides}
-use Rattle.cedar_store_model.specs.Whole.World.{World, Found, held, missing, not_loaded}
+use Rattle.cedar_store_model.specs.Whole.World.{World, Found, held, not_loaded}
 use Rattle.cedar_store_model.specs.Whole.Policy.{Policy}
 use Rattle.cedar_store_model.specs.Whole.Answer.{Decision, Answer}
 use Rattle.cedar_store_model.specs.Whole.Store.{found_as, whole}
 use Rattle.cedar_schema_model.specs.Whole.Schema.{declares_action}
 use Rattle.cedar_schema_model.specs.Whole.ActionEntities.{as_entity}
 use Rattle.cedar_evaluator_model.specs.Scope.{Entry, uid, unknown_uid, Context, closed, residual_fields, unknown_context}
-use Rattle.cedar_gate_model.specs.Whole.Slice.{FoundMentions, IsRoot, IsNear, InSlice}
-use Rattle.cedar_gate_model.specs.Whole.Moment.{Start, EntryCompleted, ContextCompleted, Completes, Moment, at_first, is_bound, entry_known, context_known, when, told, known_at}
+use Rattle.cedar_gate_model.specs.Whole.Slice.{FoundMentions, IsNear, InSlice}
+use Rattle.cedar_gate_model.specs.Whole.Moment.{Start, EntryCompleted, ContextCompleted, Moment, at_first, entry_known, context_known, when, told, known_at}
 use Rattle.cedar_gate_model.specs.Whole.Transcript as transcript
 use Rattle.cedar_gate_model.specs.Whole.Transcript.{Step, load, bind_name, decide, round, bound, decided, Case, after, IsWanted, IsRound, IsLegalEntry, AreLegal, moment_after, asked_in, AsksTheSlice}
-use Rattle.cedar_gate_model.specs.Whole.Session.{Setup, State, at_start, value_among, value_of, uid_in, entry_by_now, context_by_now, whole_store, known_now, IsWantedNow, NothingIsWanted, IsWantedList, is_open_entry, is_open_context, entry_named, is_open_name, HasOpenName, with_bound, BindFault, BindRefusal, not_bound, MeansBound, CompletesNow}
+use Rattle.cedar_gate_model.specs.Whole.Session.{Setup, State, at_start, value_among, uid_in, entry_by_now, context_by_now, whole_store, known_now, NothingIsWanted, is_open_entry, is_open_context, entry_named, HasOpenName, with_bound, not_bound, MeansBound, CompletesNow}
 use Rattle.cedar_gate_model.specs.Whole.Runs.{End, answered, opening_refused, supply_refused, binding_refused, answer_refused, IsRoundNow, with_asked, Finishes, Loads, Binds, DecidesNow, Follows, MayDecide, Runs}
 use Rattle.cedar_gate_model.specs.Whole.GateLaws.{SameRoots, KnowsRoots}
 use Rattle.cedar_gate_model.specs.Whole.RunLaws.{HasNoResidual, bindings_in, last_state, case_of}
@@ -194,8 +194,7 @@ binding_is_good : (x : Setup) (ps : List Policy) (w : World) (s : State) (k : Te
     → (es : List transcript.Entry) → Binds x s k m next es end → CompletesNow x (last_state s ((k, m) ∷ bs) es) w → Good x ps w s (last_state s ((k, m) ∷ bs) es) es end
 binding_is_good x ps w s k m bs end next then [] h c = (tt, refl, unbound x s k m next end h)
 binding_is_good x ps w s k m bs end next then (bound j ∷ es) h c =
-    let r = then es h.2 c in
-    (
+    let r = then es h.2 c in (
       (tt, subst (λ z. AreLegal (case_of x ps) w (record { bound = z ∷ map (λ b. b.0) s.bound; asked = s.asked }) es) (sym h.0) r.0),
       ap (λ z. moment_after (record { bound = z ∷ map (λ b. b.0) s.bound; asked = s.asked }) es) h.0 ∙ r.1,
       r.2,

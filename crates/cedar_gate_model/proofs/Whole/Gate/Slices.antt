@@ -1,8 +1,8 @@
 -- What is mentioned, what is near, and the slice.
-use Rattle.std.proofs.Common.{◌≡◌, ◌↔◌, ◌≤◌, ℕ, zero, suc, Bool, true, false, cond, not, List, [], ◌∷◌, ◌++◌, map, Option, Some, None, inl, inr, ⊎_elim, ◌⊎◌, refl, sym, ap, ◌∙◌, subst, arith}
+use Rattle.std.proofs.Common.{◌≡◌, ◌↔◌, ◌≤◌, ℕ, zero, suc, Bool, true, false, cond, not, List, [], ◌∷◌, ◌++◌, Option, Some, None, inl, inr, ⊎_elim, ◌⊎◌, refl, sym, ap, ◌∙◌, subst, arith}
 use Rattle.std.specs.Prelude.{Contains}
 use Rattle.std.specs.Str.{bytes_eq}
-use Rattle.std.specs.List.{flat_map, filter}
+use Rattle.std.specs.List.{flat_map}
 use Rattle.std.proofs.lemmas.List.Elements.{Contains-append_left, Contains-append_right, Contains-append_cases}
 use Rattle.std.proofs.lemmas.Slice.Eq.{bytes_eq-Decides}
 use Rattle.cedar_expr_model.specs.Name.{Text}
@@ -10,10 +10,10 @@ use Rattle.cedar_expr_model.specs.Uid.{Uid}
 use Rattle.cedar_expr_model.specs.Whole.Value.{truth, long, text, entity, V, prim, set_of, record_of, extension, Fields, no_fields, field}
 use Rattle.cedar_expr_model.proofs.Lists.{contains_head, contains_tail, contains_cases, contains_none, filter_has, filter_only, map_has, flat_has, flat_from}
 use Rattle.cedar_store_model.specs.Whole.World.{World, Part, known, left, Entity, Found, held, missing, not_loaded, part_named}
-use Rattle.cedar_store_model.specs.Whole.Knowledge.{Keeps, KeepsPart, KeepsParts, KeepsEntity, KeepsFound, Extends}
+use Rattle.cedar_store_model.specs.Whole.Knowledge.{Keeps, KeepsPart, KeepsParts, KeepsFound, Extends}
 use Rattle.cedar_schema_model.specs.Whole.Schema.{Schema, declares_action}
 use Rattle.cedar_schema_model.specs.Whole.WellFormed.{HasTwice}
-use Rattle.cedar_gate_model.specs.Whole.Slice.{Mentions, FieldsMention, PartMentions, PartsMention, EntityMentions, FoundMentions, IsKnown, ContextMentions, IsRoot, IsNear, InSlice, mentioned, mentioned_in_fields, mentioned_by_part, mentioned_by_parts, mentioned_by_found, known_list, mentioned_by_context, roots, near, slice}
+use Rattle.cedar_gate_model.specs.Whole.Slice.{Mentions, FieldsMention, PartMentions, PartsMention, FoundMentions, IsKnown, ContextMentions, IsRoot, IsNear, InSlice, mentioned, mentioned_in_fields, mentioned_by_part, mentioned_by_parts, mentioned_by_found, known_list, mentioned_by_context, roots, near, slice}
 use Rattle.cedar_gate_model.specs.Whole.GateLaws.{names_of, HasNamesOnce, HoldsNamesOnce, SameRoots}
 
 one_only : (v u : Uid) → Contains (v ∷ []) u → u ≡ v
@@ -230,8 +230,7 @@ same_root v w r u = (
 near_is_local : (n : ℕ) (v w : World) → SameRoots v w → ((x : Uid) → IsNear n w x → v.store x ≡ w.store x) → (u : Uid) → IsNear (suc n) w u ↔ IsNear (suc n) v u
 near_is_local zero v w r same u = (λ h. ⊎_elim (λ m. inl ((same_root v w r u).0 m)) (λ m. absurd m.1) h, λ h. ⊎_elim (λ m. inl ((same_root v w r u).1 m)) (λ m. absurd m.1) h)
 near_is_local (suc n) v w r same u =
-    let before : (x : Uid) → IsNear (suc n) w x ↔ IsNear (suc n) v x = λ x. near_is_local n v w r (λ y k. same y (near_within n (suc n) w y (omega arith) k)) x in
-    (
+    let before : (x : Uid) → IsNear (suc n) w x ↔ IsNear (suc n) v x = λ x. near_is_local n v w r (λ y k. same y (near_within n (suc n) w y (omega arith) k)) x in (
       λ h. ⊎_elim (λ m. inl ((same_root v w r u).0 m)) (λ m. inr (m.0, (before m.0).0 m.1, subst (λ f. FoundMentions f u) (sym (same m.0 m.1)) m.2)) h,
       λ h. ⊎_elim (λ m. inl ((same_root v w r u).1 m)) (λ m. let k = (before m.0).1 m.1 in inr (m.0, k, subst (λ f. FoundMentions f u) (same m.0 k) m.2)) h,
     )

@@ -1,21 +1,20 @@
 -- What a legal transcript asks for, and which decisions it gives.
-use Rattle.std.proofs.Common.{◌≡◌, ◌≢◌, ◌↔◌, ◌≤◌, ◌<◌, ℕ, zero, suc, Bool, true, false, cond, ◌||◌, List, [], ◌∷◌, ◌++◌, length, Option, Some, None, codes, inl, inr, ⊎_elim, ◌⊎◌, refl, sym, ap, ◌∙◌, subst, arith, append-nil, append_assoc}
+use Rattle.std.proofs.Common.{◌≡◌, ◌≢◌, ◌≤◌, ◌<◌, ℕ, zero, suc, Bool, true, false, cond, ◌||◌, List, [], ◌∷◌, ◌++◌, length, Option, Some, None, codes, inl, inr, ⊎_elim, ◌⊎◌, refl, sym, ap, ◌∙◌, subst, arith}
 use Rattle.std.specs.Prelude.{Contains}
 use Rattle.std.specs.List.{list_any}
 use Rattle.std.proofs.lemmas.Bool.{leb-true, leb-false}
 use Rattle.std.proofs.lemmas.List.{length-append}
 use Rattle.std.specs.Prelude.{leb}
 use Rattle.std.proofs.lemmas.List.Elements.{Contains-append_left, Contains-append_right, Contains-append_cases}
-use Rattle.cedar_expr_model.specs.Name.{Text}
 use Rattle.cedar_expr_model.specs.Uid.{Uid, uid_eq}
 use Rattle.cedar_expr_model.specs.Whole.Value.{V}
 use Rattle.cedar_expr_model.proofs.Lists.{contains_head, contains_cases, contains_none, found-Decides}
 use Rattle.cedar_expr_model.proofs.Equality.{uid_eq-Decides}
 use Rattle.cedar_store_model.specs.Whole.World.{World, Found, held, missing, not_loaded}
 use Rattle.cedar_store_model.specs.Whole.Answer.{Decision, decision_of}
-use Rattle.cedar_schema_model.specs.Whole.Schema.{Schema, declares_action}
+use Rattle.cedar_schema_model.specs.Whole.Schema.{declares_action}
 use Rattle.cedar_gate_model.specs.Whole.Slice.{FoundMentions, IsKnown, ContextMentions, IsRoot, IsNear, InSlice}
-use Rattle.cedar_gate_model.specs.Whole.Moment.{Start, Moment, at_first, entry_known, context_known, when, told, known_at}
+use Rattle.cedar_gate_model.specs.Whole.Moment.{Moment, at_first, entry_known, context_known, when, told, known_at}
 use Rattle.cedar_gate_model.specs.Whole.Transcript.{Entry, round, bound, decided, Case, after, IsWanted, IsRound, IsLegalEntry, AreLegal, moment_after, asked_in, rounds_after, last_rounds, AsksTheSlice}
 use Rattle.cedar_gate_model.specs.Whole.GateLaws.{KnowsRoots}
 use Rattle.cedar_gate_model.proofs.Whole.Gate.Slices.{near_within, near_kept}
@@ -133,12 +132,12 @@ nearer c w m uids r settled zero l u h = ⊎_elim (λ k. inl k) (λ k. absurd k.
 nearer c w m uids r settled (suc j) l u h =
     ⊎_elim (λ k. inl k)
     (λ k.
-      let v = k.0 in
-      let near = nearer c w m uids r settled j (omega (arith, l)) v k.1 in
-      let loaded = settled v (near_within (suc j) r (known c w m) v l near) in
-      let now = loaded_is_told c w m v loaded in
-      let then = loaded_is_told c w (after m (round uids)) v (λ e. Contains-append_left m.asked uids v (loaded e)) in
-      inr (v, near, subst (λ f. FoundMentions f u) (then ∙ sym now) k.2))
+    let v = k.0 in
+    let near = nearer c w m uids r settled j (omega (arith, l)) v k.1 in
+    let loaded = settled v (near_within (suc j) r (known c w m) v l near) in
+    let now = loaded_is_told c w m v loaded in
+    let then = loaded_is_told c w (after m (round uids)) v (λ e. Contains-append_left m.asked uids v (loaded e)) in
+    inr (v, near, subst (λ f. FoundMentions f u) (then ∙ sym now) k.2))
     h
 
 some_item : (uids : List Uid) → uids ≢ [] → (u : Uid) × Contains uids u
@@ -195,10 +194,10 @@ near_known c w m e settled zero l u h = absurd h
 near_known c w m e settled (suc n) l u h =
     ⊎_elim (λ k. inl (root_known c w m e u k))
     (λ k.
-      let v = k.0 in
-      let near = near_known c w m e settled n (omega (arith, l)) v k.1 in
-      let loaded = settled v (near_within n c.level (known c w m) v (omega (arith, l)) near) in
-      inr (v, near, subst (λ f. FoundMentions f u) (sym (loaded_is_told c w m v loaded)) (told_all (w.store v) u k.2)))
+    let v = k.0 in
+    let near = near_known c w m e settled n (omega (arith, l)) v k.1 in
+    let loaded = settled v (near_within n c.level (known c w m) v (omega (arith, l)) near) in
+    inr (v, near, subst (λ f. FoundMentions f u) (sym (loaded_is_told c w m v loaded)) (told_all (w.store v) u k.2)))
     h
 
 pub slice_is_asked : (c : Case) (w : World) (es : List Entry) → AreLegal c w at_first es → KnowsRoots c.start (moment_after at_first es) → ((u : Uid) → IsWanted c w (moment_after at_first es) u → ⊥) → AsksTheSlice c w es
