@@ -18,3 +18,6 @@ pub mod ReadingBundle
 pub mod Lines
 pub mod WorkedReading
 pub mod ReadingLaws
+pub mod GateLaws
+pub mod RunLaws
+pub mod WorkedGate

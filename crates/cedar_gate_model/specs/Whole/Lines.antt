@@ -1,18 +1,17 @@
 -- The lines that the program prints, and its status. Each line ends with a line feed.
 -- Rule: the lines; statuses and refusal numbers (docs/RULES.md).
-use Rattle.std.specs.Prelude.{◌≡◌, ◌+◌, ℕ, List, [], ◌∷◌, ◌++◌, Option, Some, None, codes, if◌then◌else◌}
+use Rattle.std.specs.Prelude.{◌≡◌, ◌+◌, ℕ, List, [], ◌∷◌, ◌++◌, Option, Some, None, codes}
 use Rattle.std.specs.List.{flat_map}
 use Rattle.std.specs.Fmt.{decimal}
 use Rattle.cedar_expr_model.specs.Name.{Text, name_text}
-use Rattle.cedar_expr_model.specs.Uid.{Uid, uid_eq, uid_text, quoted}
-use Rattle.cedar_expr_model.specs.Whole.Value.{V}
+use Rattle.cedar_expr_model.specs.Uid.{Uid, uid_text, quoted}
 use Rattle.cedar_store_model.specs.Whole.Outcome.{Fault, missing_entity, overflow, extension_failed}
-use Rattle.cedar_store_model.specs.Whole.World.{Entity}
+use Rattle.cedar_store_model.specs.Whole.Store.{entity_of}
 use Rattle.cedar_store_model.specs.Whole.Answer.{Decision, allow, deny, PolicyError, Answer}
 use Rattle.cedar_gate_model.specs.Whole.Acceptance.{Submission, Cause, HasFault, IsAccepted, number_of, warnings_of, schema_in}
-use Rattle.cedar_gate_model.specs.Whole.Session.{Setup, HoldsInAll, open_number, bind_number, supply_number, answer_number}
+use Rattle.cedar_gate_model.specs.Whole.Session.{Setup, open_number, bind_number, supply_number, answer_number}
 use Rattle.cedar_gate_model.specs.Whole.Transcript.{Entry, round, bound, decided}
-use Rattle.cedar_gate_model.specs.Whole.Runs.{End, answered, opening_refused, supply_refused, binding_refused, answer_refused, Runs}
+use Rattle.cedar_gate_model.specs.Whole.Runs.{End, answered, opening_refused, supply_refused, binding_refused, answer_refused, MayDecide, Runs}
 use Rattle.cedar_gate_model.specs.Whole.Bundle.{Functions, Bundle}
 
 pub data Status : Type 0 where
@@ -88,18 +87,15 @@ abbrev pub end_status : End → Status
 end_status (answered a) = is_answered
 end_status e = is_stopped
 
--- the entity that a list of entities holds under a uid
-abbrev pub entity_among : List (Uid × Entity V) → Uid → Option (Entity V)
-entity_among [] u = None
-entity_among (e ∷ es) u = if uid_eq u e.0 then Some e.1 else entity_among es u
-
+-- what a session of a bundle stands on
 abbrev pub setup_of : Functions → Bundle → Setup
 setup_of f b = record {
   schema = schema_in b.submission;
   level = b.submission.level;
+  limit = b.submission.limit;
   functions = f;
   start = b.start;
-  store = entity_among b.store;
+  store = λ u. entity_of u b.store;
 }
 
 -- the lines of a run, after acceptance
@@ -109,7 +105,7 @@ run_lines b es end = warning_lines b.submission ++ (entry_lines 1 es ++ end_line
 -- What may be printed for an accepted bundle: the lines of a run of it.
 abbrev pub PrintsRun : Functions → Bundle → Status → Text → Type 0
 PrintsRun f b status text = (es : List Entry) × (end : End)
-    × Runs (HoldsInAll (setup_of f b) b.submission.policies) (setup_of f b) b.submission.policies b.steps es end × (status ≡ end_status end) × (text ≡ run_lines b es end)
+    × Runs (MayDecide (setup_of f b) b.submission.policies) (setup_of f b) b.submission.policies b.steps es end × (status ≡ end_status end) × (text ≡ run_lines b es end)
 
 -- What may be printed for an input, and the status with it. Where several faults are there, any may be named.
 abbrev pub Prints : Functions → Option Bundle → Status → Text → Type 0

@@ -1,15 +1,15 @@
 -- Runs over a store that answers for every uid: what they do step by step, and how they end.
 -- Rule: runs; legal transcript (docs/RULES.md).
-use Rattle.std.specs.Prelude.{◌≡◌, ◌≢◌, ◌↔◌, ℕ, List, [], ◌∷◌, ◌++◌, map, Contains, Bool, true, false, Option, Some, None}
+use Rattle.std.specs.Prelude.{◌≡◌, ◌≢◌, List, [], ◌∷◌, ◌++◌, map, Option, Some, None}
 use Rattle.std.proofs.Common.{◌⊎◌}
 use Rattle.cedar_expr_model.specs.Name.{Text}
 use Rattle.cedar_expr_model.specs.Uid.{Uid}
 use Rattle.cedar_expr_model.specs.Whole.Made.{Made}
 use Rattle.cedar_expr_model.specs.Whole.Value.{V}
-use Rattle.cedar_store_model.specs.Whole.World.{World, Entity}
+use Rattle.cedar_store_model.specs.Whole.World.{Entity}
 use Rattle.cedar_store_model.specs.Whole.Policy.{Policy}
-use Rattle.cedar_store_model.specs.Whole.Answer.{Decision, Answer, decision_of, answer_of}
-use Rattle.cedar_gate_model.specs.Whole.Session.{Setup, State, at_start, known_now, world_now, IsWantedList, NothingIsWanted, with_bound, OpenFault, OpenRefusal, open_number, BindFault, BindRefusal, bind_number, Supplied, SupplyFault, SupplyRefusal, supply_number, AnswerFault, AnswerRefusal, answer_number}
+use Rattle.cedar_store_model.specs.Whole.Answer.{Decision, Answer, answer_of}
+use Rattle.cedar_gate_model.specs.Whole.Session.{Setup, State, at_start, known_now, world_now, MeetsLimit, HoldsInAll, IsWantedList, NothingIsWanted, with_bound, OpenFault, OpenRefusal, BindFault, BindRefusal, Supplied, SupplyFault, SupplyRefusal, AnswerFault, AnswerRefusal}
 use Rattle.cedar_gate_model.specs.Whole.Transcript.{Step, load, bind_name, decide, Entry, round, bound, decided}
 use Rattle.cedar_gate_model.specs.Whole.Owed.{IsForced}
 
@@ -43,10 +43,11 @@ with_asked s uids = record s { asked = s.asked ++ uids }
 abbrev pub RefusesSupply : Setup → State → SupplyRefusal → Type 0
 RefusesSupply x s f = (uids : List Uid) × (uids ≢ []) × IsWantedList x s uids × SupplyFault x s (supplied_by x uids) f
 
--- A decision that may be given: one that is given is the decision of every completion of what is known, and one that what is known forces is given.
-abbrev pub MayDecide : (Decision → Type 0) → (Decision → Type 0) → Option Decision → Type 0
-MayDecide holds forced None = (d : Decision) → forced d → ⊥
-MayDecide holds forced (Some d) = holds d
+-- What a decision may be: one that is given is the decision of every completion of what is known; and one that what is known forces
+-- is given, but where a policy meets the limit.
+abbrev pub MayDecide : Setup → List Policy → State → Option Decision → Type 0
+MayDecide x ps s None = MeetsLimit x ps s ⊎ ((d : Decision) → IsForced (known_now x s) ps d → ⊥)
+MayDecide x ps s (Some d) = HoldsInAll x ps s d
 
 -- After the last step: rounds as long as something is wanted, and then the answer.
 abbrev pub Finishes : Setup → List Policy → State → List Entry → End → Type 0
@@ -68,19 +69,19 @@ Binds x s n m next (bound k ∷ es) end = (k ≡ n) × ((f : BindRefusal) → Bi
 Binds x s n m next [] (binding_refused f) = BindFault x s n m f
 Binds x s n m next es end = ⊥
 
--- A decision that may be given, and what comes after it.
-abbrev pub DecidesNow : (Decision → Type 0) → World → List Policy → (List Entry → Type 0) → List Entry → Type 0
-DecidesNow holds k ps next (decided d ∷ es) = MayDecide holds (IsForced k ps) d × next es
-DecidesNow holds k ps next es = ⊥
+-- A decision, and what comes after it.
+abbrev pub DecidesNow : (Option Decision → Type 0) → (List Entry → Type 0) → List Entry → Type 0
+DecidesNow may next (decided d ∷ es) = may d × next es
+DecidesNow may next es = ⊥
 
--- What the steps do, one after the other. `holds` tells which decisions every completion of a state has.
-abbrev pub Follows : (State → Decision → Type 0) → Setup → List Policy → State → List Step → List Entry → End → Type 0
-Follows holds x ps s [] es end = Finishes x ps s es end
-Follows holds x ps s (load ∷ steps) es end = (NothingIsWanted x s × Follows holds x ps s steps es end) ⊎ Loads x s (λ t fs. Follows holds x ps t steps fs end) es end
-Follows holds x ps s (bind_name n m ∷ steps) es end = Binds x s n m (λ fs. Follows holds x ps (with_bound s n m) steps fs end) es end
-Follows holds x ps s (decide ∷ steps) es end = DecidesNow (holds s) (known_now x s) ps (λ fs. Follows holds x ps s steps fs end) es
+-- What the steps do, one after the other. `may` tells what the decision may be in a state.
+abbrev pub Follows : (State → Option Decision → Type 0) → Setup → List Policy → State → List Step → List Entry → End → Type 0
+Follows may x ps s [] es end = Finishes x ps s es end
+Follows may x ps s (load ∷ steps) es end = (NothingIsWanted x s × Follows may x ps s steps es end) ⊎ Loads x s (λ t fs. Follows may x ps t steps fs end) es end
+Follows may x ps s (bind_name n m ∷ steps) es end = Binds x s n m (λ fs. Follows may x ps (with_bound s n m) steps fs end) es end
+Follows may x ps s (decide ∷ steps) es end = DecidesNow (may s) (λ fs. Follows may x ps s steps fs end) es
 
 -- A run: it doesn't open, or it follows its steps to an end.
-abbrev pub Runs : (State → Decision → Type 0) → Setup → List Policy → List Step → List Entry → End → Type 0
-Runs holds x ps steps es (opening_refused f) = (es ≡ []) × OpenFault x.start f
-Runs holds x ps steps es end = ((f : OpenRefusal) → OpenFault x.start f → ⊥) × Follows holds x ps at_start steps es end
+abbrev pub Runs : (State → Option Decision → Type 0) → Setup → List Policy → List Step → List Entry → End → Type 0
+Runs may x ps steps es (opening_refused f) = (es ≡ []) × OpenFault x.start f
+Runs may x ps steps es end = ((f : OpenRefusal) → OpenFault x.start f → ⊥) × Follows may x ps at_start steps es end

@@ -1,34 +1,40 @@
 -- Sessions: what was bound and asked so far, what is known by it, and what each call refuses.
 -- Rule: sessions; refusals of a session (docs/RULES.md).
-use Rattle.std.specs.Prelude.{◌≡◌, ◌≢◌, ◌↔◌, ◌&&◌, ◌||◌, ◌==◌, ℕ, List, [], ◌∷◌, ◌++◌, map, Contains, Bool, true, false, not, Option, Some, None, codes, if◌then◌else◌}
-use Rattle.std.specs.List.{list_all, list_any, flat_map, filter}
+use Rattle.std.specs.Prelude.{◌≡◌, ◌↔◌, ◌&&◌, ◌||◌, ℕ, List, [], ◌∷◌, map, Contains, Bool, true, false, not, is_some, Option, Some, None, option_map, codes, if◌then◌else◌}
+use Rattle.std.specs.List.{list_any}
 use Rattle.std.specs.Str.{bytes_eq}
 use Rattle.std.proofs.Common.{◌⊎◌}
 use Rattle.cedar_expr_model.specs.Name.{Text, Name, name_eq}
 use Rattle.cedar_expr_model.specs.Uid.{Uid, uid_eq}
 use Rattle.cedar_expr_model.specs.Order.{are_rising}
-use Rattle.cedar_expr_model.specs.Whole.Value.{Literal, truth, long, text, entity, V, prim, record_of, Fields}
-use Rattle.cedar_expr_model.specs.Whole.Tree.{CoreType, Tree, record_literal, TreeFields, SlotId}
+use Rattle.cedar_expr_model.specs.Whole.Value.{entity, V, record_of}
+use Rattle.cedar_expr_model.specs.Whole.Tree.{record_literal, TreeFields}
 use Rattle.cedar_expr_model.specs.Whole.Made.{Made, made_prim, made_record, bare, bare_fields}
 use Rattle.cedar_expr_model.specs.Whole.Substitution.{fits_annotation, substituted}
 use Rattle.cedar_expr_model.specs.Whole.Parts.{Unknown, unknowns}
-use Rattle.cedar_expr_model.specs.Whole.Table.{Table}
-use Rattle.cedar_store_model.specs.Whole.World.{World, Entity, Found, held, missing, not_loaded}
+use Rattle.cedar_store_model.specs.Whole.World.{World, Entity, Found, held, not_loaded}
 use Rattle.cedar_store_model.specs.Whole.Policy.{Policy}
 use Rattle.cedar_store_model.specs.Whole.Answer.{Decision, decision_of}
+use Rattle.cedar_store_model.specs.Whole.Store.{found_as, whole}
+use Rattle.cedar_schema_model.specs.Whole.WellFormed.{HasTwice}
 use Rattle.cedar_schema_model.specs.Whole.Schema.{Schema, declares_action}
 use Rattle.cedar_schema_model.specs.Whole.ActionEntities.{as_entity}
 use Rattle.cedar_schema_model.specs.Whole.Conforming.{EntityConforms, RequestConforms}
-use Rattle.cedar_evaluator_model.specs.Scope.{Scope, MadeCalled, Entry, uid, unknown_uid, Context, closed, residual_fields, unknown_context, Left, value_left, residual, stopped, Stop}
+use Rattle.cedar_evaluator_model.specs.Scope.{Scope, Entry, uid, unknown_uid, Context, closed, residual_fields, unknown_context, Left, value_left, residual, stopped, Stop}
+use Rattle.cedar_evaluator_model.specs.Known.{known_found}
+use Rattle.cedar_evaluator_model.specs.Response.{response_of}
+use Rattle.cedar_evaluator_model.specs.Members.{met_limit}
 use Rattle.cedar_gate_model.specs.Whole.Bundle.{Functions}
 use Rattle.cedar_gate_model.specs.Whole.Slice.{InSlice}
 use Rattle.cedar_gate_model.specs.Whole.ReadingValue.{left_of_restricted}
 use Rattle.cedar_gate_model.specs.Whole.Moment.{Start, Completes, parts_of_world, told}
 
--- What a session stands on: schema, level, functions, the request that it was opened with, and the store that answers.
+-- What a session stands on: schema, level, the limit on nesting, functions, the request that it was opened with, and the store
+-- that answers.
 pub record Setup : Type 0 where
   pub schema : Schema
   pub level : ℕ
+  pub limit : ℕ
   pub functions : Functions
   pub start : Start
   pub store : Uid → Option (Entity V)
@@ -48,10 +54,6 @@ value_among n (b ∷ bs) = if bytes_eq n b.0 then Some b.1 else value_among n bs
 abbrev pub value_of : State → Text → Option Made
 value_of s n = value_among n s.bound
 
-abbrev pub is_some_value : Option Made → Bool
-is_some_value None = false
-is_some_value (Some m) = true
-
 -- the fields of a context with the bound values in the place of its unknowns, evaluated
 abbrev pub context_left : Functions → State → TreeFields → Left
 context_left f s fs = left_of_restricted f (substituted (value_of s) (record_literal fs))
@@ -69,22 +71,14 @@ abbrev pub entry_by_now : State → Text → Entry → Option Uid
 entry_by_now s name (uid u) = Some u
 entry_by_now s name (unknown_uid k) = uid_in (value_of s name)
 
-abbrev pub bare_if_there : Option Made → Option V
-bare_if_there None = None
-bare_if_there (Some m) = Some (bare m)
-
 abbrev pub context_by_now : Functions → State → Context → Option V
 context_by_now f s (closed fs) = Some (record_of (bare_fields fs))
 context_by_now f s (residual_fields fs) = value_if_whole (context_left f s fs)
-context_by_now f s unknown_context = bare_if_there (value_of s (codes "context"))
-
-abbrev pub found_in : Option (Entity V) → Found V
-found_in None = missing
-found_in (Some e) = held e
+context_by_now f s unknown_context = option_map bare (value_of s (codes "context"))
 
 -- what the whole store answers: at declared actions these stand, whatever is said of them
 abbrev pub whole_store : Setup → Uid → Found V
-whole_store x u = if declares_action x.schema u then held (as_entity x.schema u) else found_in (x.store u)
+whole_store x u = if declares_action x.schema u then held (as_entity x.schema u) else found_as whole (x.store u)
 
 -- what is known by now
 abbrev pub known_now : Setup → State → World
@@ -94,7 +88,7 @@ known_now x s = record {
   resource = entry_by_now s (codes "resource") x.start.resource;
   context = context_by_now x.functions s x.start.context;
   slots = λ s'. None;
-  unknowns = λ n. bare_if_there (value_of s n);
+  unknowns = λ n. option_map bare (value_of s n);
   table = x.functions.table;
   store = λ u. if declares_action x.schema u || list_any (uid_eq u) s.asked then told (whole_store x u) else not_loaded;
 }
@@ -114,6 +108,48 @@ NothingIsWanted x s = (u : Uid) → IsWantedNow x s u → ⊥
 pub record IsWantedList (x : Setup) (s : State) (uids : List Uid) : Type 0 where
   pub in_order : are_rising uids ≡ true
   pub exact : (u : Uid) → Contains uids u ↔ IsWantedNow x s u
+
+-- an entry and a context as they are now, with what was bound in its place
+abbrev pub entry_with : Option Name → Option Uid → Entry
+entry_with k (Some u) = uid u
+entry_with k None = unknown_uid k
+
+abbrev pub entry_now : State → Text → Entry → Entry
+entry_now s name (uid u) = uid u
+entry_now s name (unknown_uid k) = entry_with k (uid_in (value_of s name))
+
+abbrev pub context_with : Option Made → Context
+context_with (Some (made_record fs)) = closed fs
+context_with o = unknown_context
+
+abbrev pub context_if_record : Left → Context
+context_if_record (value_left m) = context_with (Some m)
+context_if_record (residual (record_literal fs)) = residual_fields fs
+context_if_record l = unknown_context
+
+abbrev pub context_now : Functions → State → Context → Context
+context_now f s (closed fs) = closed fs
+context_now f s (residual_fields fs) = context_if_record (context_left f s fs)
+context_now f s unknown_context = context_with (value_of s (codes "context"))
+
+-- what an evaluation knows now, over a store with the calls that make its values
+abbrev pub scope_now : Setup → State → (Uid → Found Made) → Scope
+scope_now x s store = record {
+  principal = entry_now s (codes "principal") x.start.principal;
+  action = entry_now s (codes "action") x.start.action;
+  resource = entry_now s (codes "resource") x.start.resource;
+  context = context_now x.functions s x.start.context;
+  slots = λ s'. None;
+  values = value_of s;
+  table = x.functions.table;
+  calls = x.functions.calls;
+  store = store;
+}
+
+-- Some policy is evaluated to the limit on nesting now: such a policy counts as open, and no decision is owed.
+abbrev pub MeetsLimit : Setup → List Policy → State → Type 0
+MeetsLimit x ps s = (store : Uid → Found Made) × ((u : Uid) → known_found (store u) ≡ (known_now x s).store u)
+    × (met_limit (response_of (scope_now x s store) x.limit ps) ≡ true)
 
 -- the names of the variables of a request
 abbrev pub variable_names : List Text
@@ -155,7 +191,7 @@ is_open_context unknown_context n = bytes_eq n (codes "context")
 
 -- the name was open at the start, and is not bound yet
 abbrev pub is_open_name : Start → State → Text → Bool
-is_open_name r s n = not (is_some_value (value_of s n)) && (is_open_entry (entry_named r n) || is_open_context r.context n)
+is_open_name r s n = not (is_some (value_of s n)) && (is_open_entry (entry_named r n) || is_open_context r.context n)
 
 -- something is not bound yet
 abbrev pub HasOpenName : Start → State → Type 0
@@ -214,11 +250,6 @@ Supplied = List (Uid × Option (Uid × Entity V))
 
 abbrev pub supplied_ids : Supplied → List Uid
 supplied_ids ps = map (λ p. p.0) ps
-
--- one of them stands twice
-abbrev pub HasTwice : List Uid → Type 0
-HasTwice [] = ⊥
-HasTwice (u ∷ us) = Contains us u ⊎ HasTwice us
 
 -- an entity under another uid than its own, or one that doesn't conform
 abbrev pub IsWrong : Schema → Uid × Option (Uid × Entity V) → Type 0
