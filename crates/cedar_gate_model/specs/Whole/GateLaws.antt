@@ -12,7 +12,8 @@ use Rattle.cedar_store_model.specs.Whole.Policy.{Policy, binding_of, body_tree, 
 use Rattle.cedar_store_model.specs.Whole.Knowledge.{IsThere, Extends}
 use Rattle.cedar_store_model.specs.Whole.Answer.{Decision, ids, decision_of}
 use Rattle.cedar_schema_model.specs.Whole.Schema.{Schema}
-use Rattle.cedar_schema_model.specs.Whole.WellFormed.{IsWellFormed, HasSchemaFault, unresolved_external, HasTwice}
+use Rattle.cedar_schema_model.specs.Whole.WellFormed.{IsWellFormed, unresolved_external, HasTwice}
+use Rattle.cedar_schema_model.specs.Whole.BagLaws.{HasSchemaFault}
 use Rattle.cedar_typechecker_model.specs.Whole.ScopeRules.{NamesKnownTypes, NamesKnownActions, NamesKnownMembers}
 use Rattle.cedar_typechecker_model.specs.Whole.Levels.{Violation}
 use Rattle.cedar_typechecker_model.specs.Whole.Verdicts.{RequestType, Passes, IsImpossible, IsIrrelevant, policy_violations}

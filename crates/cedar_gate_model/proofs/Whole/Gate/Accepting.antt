@@ -14,7 +14,7 @@ use Rattle.cedar_store_model.specs.Whole.Policy.{Policy, binding_of, body_tree, 
 use Rattle.cedar_store_model.specs.Whole.Knowledge.{IsThere}
 use Rattle.cedar_store_model.specs.Whole.Answer.{ids}
 use Rattle.cedar_schema_model.specs.Whole.WellFormed.{ill_forms, unresolved_external, has_schema_fault, well_formed}
-use Rattle.cedar_schema_model.proofs.Whole.Decls.Faults.{has_twice-Decides, schema_fault-Decides, well_formed-Decides}
+use Rattle.cedar_schema_model.proofs.Whole.Decls.Faults.{has_twice-Decides, schema_fault-Decides, no_schema_fault, well_formed-Decides}
 use Rattle.cedar_typechecker_model.specs.Whole.ScopeRules.{names_known_types, names_known_actions, names_known_members}
 use Rattle.cedar_typechecker_model.specs.Whole.Verdicts.{RequestType, passes, IsImpossible, impossible, IsIrrelevant, irrelevant_for, policy_violations}
 use Rattle.cedar_schema_model.specs.Whole.Types.{strict}
@@ -206,7 +206,7 @@ good_accepted : (s : Submission) → IsGood s → IsAccepted s
 good_accepted s g c k = by_kind c k
   where
     by_kind : (c : Cause) → IsCause c → is_clear_of c s ≡ true
-    by_kind (schema f) k = there_not _ _ (schema_fault-Decides (extension_types s.table) s.declarations f) (g.well_formed f k)
+    by_kind (schema f) k = there_not _ _ (schema_fault-Decides (extension_types s.table) s.declarations f) (no_schema_fault (extension_types s.table) s.declarations g.well_formed f k)
     by_kind external k = there_not _ _ (schema_fault-Decides (extension_types s.table) s.declarations unresolved_external) g.resolved
     by_kind repeated_policy k = there_not _ _ (has_twice-Decides bytes_eq bytes_eq-Decides (ids s.policies)) g.distinct
     by_kind unlinked_slot k = all_from is_linked s.policies (λ p m. all_from (λ x. not (has_slot p x) || is_some (binding_of p.bindings x)) all_slots (λ x n. not_or (has_slot p x) _ (λ u. there_is _ ((g.each p m).linked x u))))

@@ -7,7 +7,7 @@ use Rattle.cedar_expr_model.specs.Whole.Value.{V}
 use Rattle.cedar_expr_model.proofs.Lists.{contains_cases, contains_none, contains_head, found-Decides}
 use Rattle.cedar_expr_model.proofs.Equality.{uid_eq-Decides}
 use Rattle.cedar_store_model.specs.Whole.World.{Entity}
-use Rattle.cedar_schema_model.specs.Whole.ConformingTests.{entity_conforms}
+use Rattle.cedar_schema_model.specs.Whole.Conforming.{entity_conforms}
 use Rattle.cedar_schema_model.proofs.Whole.Decls.Conforming.{entity_conforms-Decides}
 use Rattle.cedar_typechecker_model.specs.Whole.Worked.{user_a, doc_d}
 use Rattle.cedar_gate_model.specs.Whole.Slice.{slice}
