@@ -2,10 +2,10 @@
 #![tactic(auto)]
 
 pub mod laws;
+pub mod whole_gate_laws;
+pub mod whole_gate_worked;
 pub mod whole_reading_declared;
 pub mod whole_reading_laws;
 pub mod whole_reading_started;
 pub mod whole_reading_worked;
-pub mod whole_gate_laws;
-pub mod whole_gate_worked;
 pub mod worked;

@@ -1,9 +1,9 @@
 -- Only an expression of the type of both truth values has facts.
-use Rattle.std.proofs.Common.{◌≡◌, ◌&&◌, Bool, true, false, List, [], ◌∷◌, Option, Some, None, refl, sym, ap, ◌∙◌}
+use Rattle.std.proofs.Common.{◌≡◌, ◌&&◌, Bool, true, false, List, [], ◌∷◌, Option, Some, None, refl, ap, ◌∙◌}
 use Rattle.std.specs.Prelude.{option_map, option_and_then}
 use Rattle.cedar_expr_model.specs.Name.{Text}
-use Rattle.cedar_expr_model.specs.Whole.Tree.{BinaryOp, equal, less, less_or_equal, plus, difference, times, is_in, contains, contains_all, contains_any, get_tag, has_tag, Tree, lit, var, slot, unknown, choice, both, either, unary, binary, call, get_attr, has_attr, has_path, like, is_type, set_literal, record_literal}
-use Rattle.cedar_schema_model.specs.Whole.Types.{BoolType, any_bool, only_true, only_false, is_closed, Ty, bool_type, never, long_type, string_type, any_entity, entity_types, any_set, set_type, record_type, extension_type, Mode}
+use Rattle.cedar_expr_model.specs.Whole.Tree.{BinaryOp, get_tag, has_tag, Tree, lit, var, slot, unknown, choice, both, either, unary, binary, call, get_attr, has_attr, has_path, like, is_type, set_literal, record_literal}
+use Rattle.cedar_schema_model.specs.Whole.Types.{BoolType, any_bool, only_true, only_false, Ty, bool_type, never, Mode}
 use Rattle.cedar_schema_model.specs.Whole.Join.{join}
 use Rattle.cedar_typechecker_model.specs.Whole.Facts.{Facts, no_facts, fact, union, intersection, Part, attribute_part, tag_part}
 use Rattle.cedar_typechecker_model.specs.Whole.Rules.{Setting, literal_type, var_type, slot_type, unary_type, binary_type, like_type, is_type_type, has_type, get_type, has_tag_type, get_tag_type, set_literal_type, call_type}

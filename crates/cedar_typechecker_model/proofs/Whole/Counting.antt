@@ -5,7 +5,7 @@ use Rattle.std.proofs.lemmas.Bool.Decides.{leb_tells}
 use Rattle.std.proofs.lemmas.List.Elements.{Contains-append_left, Contains-append_right, Contains-append_cases}
 use Rattle.cedar_expr_model.specs.Whole.Tree.{Tree}
 use Rattle.cedar_expr_model.proofs.Lists.{contains_head, contains_none, contains_cases, contains_tail}
-use Rattle.cedar_schema_model.specs.Whole.Types.{BoolType, any_bool, only_true, only_false, Ty, bool_type}
+use Rattle.cedar_schema_model.specs.Whole.Types.{BoolType, only_true, only_false, Ty, bool_type}
 use Rattle.cedar_typechecker_model.specs.Whole.Facts.{Facts}
 use Rattle.cedar_typechecker_model.specs.Whole.Typing.{Judgement}
 use Rattle.cedar_typechecker_model.specs.Whole.Levels.{Violation, Count, count, joined, further, needed, stepped, is_entity, unless_false, unless_true, branches, after_and, after_or, after_test, greater, target_after_test, path_violations}
@@ -63,18 +63,18 @@ counts_where false K L T U c d l m = m
 
 -- a step from a target
 too_far : (n : ℕ) (e : Tree) (more : ℕ) (K : ℕ → Type 0) (T : Violation → Type 0) (c : Count) → Counts K T c → (b : Bool) → nat_le (c.steps + more) n ≡ b →
-  Lists (λ v. TooFar n e more K v ⊎ T v) (if b then c.found else (record { at = e; required = Some (needed (c.steps + more)) } ∷ c.found))
+    Lists (λ v. TooFar n e more K v ⊎ T v) (if b then c.found else (record { at = e; required = Some (needed (c.steps + more)) } ∷ c.found))
 too_far n e more K T c m true h = record {
   has = λ v k. ⊎_elim (λ f. (let q : f.0 ≡ c.steps = m.alone f.0 f.1 in let l : n < f.0 + more = f.2 in let w : c.steps + more ≤ n = grind (arith, leb_tells (c.steps + more) n, h) in absurd (omega (arith, q, l, w)))) (λ t. m.found.has v t) k;
   only = λ v k. inr (m.found.only v k);
 }
 too_far n e more K T c m false h = record {
   has = λ v k. ⊎_elim
-    (λ f. (let q : c.steps ≡ f.0 = sym (m.alone f.0 f.1) in let p : v ≡ record { at = e; required = Some (needed (c.steps + more)) } = f.3 ∙ ap (λ x. record { at = e; required = Some (needed (x + more)) }) (sym q) in
+      (λ f. (let q : c.steps ≡ f.0 = sym (m.alone f.0 f.1) in let p : v ≡ record { at = e; required = Some (needed (c.steps + more)) } = f.3 ∙ ap (λ x. record { at = e; required = Some (needed (x + more)) }) (sym q) in
       subst (Contains (record { at = e; required = Some (needed (c.steps + more)) } ∷ c.found)) (sym p) (contains_head _ c.found)))
-    (λ t. contains_tail _ c.found v (m.found.has v t)) k;
+      (λ t. contains_tail _ c.found v (m.found.has v t)) k;
   only = λ v k. contains_cases (TooFar n e more K v ⊎ T v) (record { at = e; required = Some (needed (c.steps + more)) }) c.found v k
-    (λ q. inl (c.steps, m.here, grind (arith, leb_tells (c.steps + more) n, h), sym q)) (λ t. inr (m.found.only v t));
+      (λ q. inl (c.steps, m.here, grind (arith, leb_tells (c.steps + more) n, h), sym q)) (λ t. inr (m.found.only v t));
 }
 
 pub lists_stepped : (n : ℕ) (e : Tree) (more : ℕ) (K : ℕ → Type 0) (T : Violation → Type 0) (c : Count) → Counts K T c → Lists (λ v. TooFar n e more K v ⊎ T v) (stepped n e (further more c))
@@ -165,7 +165,7 @@ lists_branches (bool_type only_false) R S vs ws l m = m
 lists_branches t R S vs ws l m = lists_both R S vs ws l m
 
 pub lists_test : (P : Ty → Facts → Type 0) (o : Option Judgement) → Exact P o → (R : Facts → Violation → Type 0) (S : Violation → Type 0) (vs : Facts → List Violation) (ws : List Violation) → ((f : Facts) → Lists (R f) (vs f)) → Lists S ws →
-  Lists (λ v. AfterTest P (λ f. R f v) (S v)) (after_test o vs ws)
+    Lists (λ v. AfterTest P (λ f. R f v) (S v)) (after_test o vs ws)
 lists_test P None x R S vs ws l m = lists_same _ _ _ lists_none (λ v. after_none P x (λ f. R f v) (S v))
 lists_test P (Some j) x R S vs ws l m = lists_same _ _ _ (lists_branches j.type (R j.facts) S (vs j.facts) ws (l j.facts) m) (λ v. after_some P j x (λ f. R f v) (S v))
 
@@ -182,7 +182,7 @@ counts_branches (bool_type only_false) K L T U c d l m = m
 counts_branches t K L T U c d l m = counts_greater K L T U c d l m
 
 pub counts_test : (P : Ty → Facts → Type 0) (o : Option Judgement) → Exact P o → (K : Facts → ℕ → Type 0) (L : ℕ → Type 0) (T : Facts → Violation → Type 0) (U : Violation → Type 0) (c : Facts → Count) (d : Count) → ((f : Facts) → Counts (K f) (T f) (c f)) → Counts L U d →
-  Counts (CountAfterTest P K L) (λ v. AfterTest P (λ f. T f v) (U v)) (target_after_test o c d)
+    Counts (CountAfterTest P K L) (λ v. AfterTest P (λ f. T f v) (U v)) (target_after_test o c d)
 counts_test P None x K L T U c d l m = counts_same _ _ _ _ _ counts_zero (λ k. count_none P x K L k) (λ v. after_none P x (λ f. T f v) (U v))
 counts_test P (Some j) x K L T U c d l m = counts_same _ _ _ _ _ (counts_branches j.type (K j.facts) L (T j.facts) U (c j.facts) d (l j.facts) m) (λ k. count_some P j x K L k) (λ v. after_some P j x (λ f. T f v) (U v))
 
@@ -196,27 +196,28 @@ lists_standing P None x R S vs ws l m = lists_same _ _ _ m (λ v. by_type_none P
 lists_standing P (Some j) x R S vs ws l m = stands_list P j x R S vs ws l m (is_entity (Some j.type)) refl
 
 stands_count : (P : Ty → Facts → Type 0) (j : Judgement) → Exact P (Some j) → (K L : ℕ → Type 0) (T U : Violation → Type 0) (c d : Count) → Counts K T c → Counts L U d → (b : Bool) → is_entity (Some j.type) ≡ b →
-  Counts (λ k. ByType P is_entity_type (λ t. K k) (L k)) (λ v. ByType P is_entity_type (λ t. T v) (U v)) (if b then c else d)
+    Counts (λ k. ByType P is_entity_type (λ t. K k) (L k)) (λ v. ByType P is_entity_type (λ t. T v) (U v)) (if b then c else d)
 stands_count P j x K L T U c d l m true e = counts_same _ _ _ _ _ l (λ k. by_type_true P j x is_entity_type (λ t. K k) (L k) e) (λ v. by_type_true P j x is_entity_type (λ t. T v) (U v) e)
 stands_count P j x K L T U c d l m false e = counts_same _ _ _ _ _ m (λ k. by_type_false P j x is_entity_type (λ t. K k) (L k) e) (λ v. by_type_false P j x is_entity_type (λ t. T v) (U v) e)
 
 pub counts_standing : (P : Ty → Facts → Type 0) (o : Option Judgement) → Exact P o → (K L : ℕ → Type 0) (T U : Violation → Type 0) (c d : Count) → Counts K T c → Counts L U d →
-  Counts (λ k. ByType P is_entity_type (λ t. K k) (L k)) (λ v. ByType P is_entity_type (λ t. T v) (U v)) (if is_entity (option_map (λ j. j.type) o) then c else d)
+    Counts (λ k. ByType P is_entity_type (λ t. K k) (L k)) (λ v. ByType P is_entity_type (λ t. T v) (U v)) (if is_entity (option_map (λ j. j.type) o) then c else d)
 counts_standing P None x K L T U c d l m = counts_same _ _ _ _ _ m (λ k. by_type_none P x is_entity_type (λ t. K k) (L k)) (λ v. by_type_none P x is_entity_type (λ t. T v) (U v))
 counts_standing P (Some j) x K L T U c d l m = stands_count P j x K L T U c d l m (is_entity (Some j.type)) refl
 
 -- a path, by how many of its steps stand on an entity
 path_list : (n : ℕ) (e : Tree) (m : ℕ) (K : ℕ → Type 0) (T : Violation → Type 0) (c : Count) (P : Ty → Facts → Type 0) (j : Judgement) → Exact P (Some j) → (steps : Ty → ℕ) (A : Ty → Violation → Type 0) (S : Violation → Type 0) (ws : List Violation) → Counts K T c → Lists S ws →
-  steps j.type ≡ m → ((v : Violation) → A j.type v ↔ (TooFar n e m K v ⊎ T v)) →
-  Lists (λ v. ByType P (λ t. is_positive (steps t)) (λ t. A t v) (S v)) (path_violations n e m c ws)
+    steps j.type ≡ m → ((v : Violation) → A j.type v ↔ (TooFar n e m K v ⊎ T v)) →
+    Lists (λ v. ByType P (λ t. is_positive (steps t)) (λ t. A t v) (S v)) (path_violations n e m c ws)
 path_list n e zero K T c P j x steps A S ws l m q a = lists_same _ _ _ m (λ v. by_type_false P j x (λ t. is_positive (steps t)) (λ t. A t v) (S v) (ap is_positive q))
 path_list n e (suc k) K T c P j x steps A S ws l m q a =
-    lists_same _ _ _ (lists_stepped n e (suc k) K T c l) (λ v.
-      (λ h. (a v).0 ((by_type_true P j x (λ t. is_positive (steps t)) (λ t. A t v) (S v) (ap is_positive q)).0 h),
-       λ h. (by_type_true P j x (λ t. is_positive (steps t)) (λ t. A t v) (S v) (ap is_positive q)).1 ((a v).1 h)))
+    lists_same _ _ _ (lists_stepped n e (suc k) K T c l) (λ v. (
+      λ h. (a v).0 ((by_type_true P j x (λ t. is_positive (steps t)) (λ t. A t v) (S v) (ap is_positive q)).0 h),
+      λ h. (by_type_true P j x (λ t. is_positive (steps t)) (λ t. A t v) (S v) (ap is_positive q)).1 ((a v).1 h),
+    ))
 
 pub lists_path : {X : Type 0} (n : ℕ) (e : Tree) (P : Ty → Facts → Type 0) (o : Option Judgement) → Exact P o → (steps : Option Ty → ℕ) → steps None ≡ 0 → (path : Option Ty → X) (K : X → ℕ → Type 0) (T : X → Violation → Type 0) (c : X → Count) (S : Violation → Type 0) (ws : List Violation) → ((p : X) → Counts (K p) (T p) (c p)) → Lists S ws →
-  Lists (λ v. ByType P (λ t. is_positive (steps (Some t))) (λ t. TooFar n e (steps (Some t)) (K (path (Some t))) v ⊎ T (path (Some t)) v) (S v)) (path_violations n e (steps (option_map (λ j. j.type) o)) (c (path (option_map (λ j. j.type) o))) ws)
+    Lists (λ v. ByType P (λ t. is_positive (steps (Some t))) (λ t. TooFar n e (steps (Some t)) (K (path (Some t))) v ⊎ T (path (Some t)) v) (S v)) (path_violations n e (steps (option_map (λ j. j.type) o)) (c (path (option_map (λ j. j.type) o))) ws)
 lists_path n e P None x steps z path K T c S ws l m = rw z (lists_same _ _ _ m (λ v. by_type_none P x _ _ (S v)))
 lists_path n e P (Some j) x steps z path K T c S ws l m =
     path_list n e (steps (Some j.type)) (K (path (Some j.type))) (T (path (Some j.type))) (c (path (Some j.type))) P j x (λ t. steps (Some t)) (λ t v. TooFar n e (steps (Some t)) (K (path (Some t))) v ⊎ T (path (Some t)) v) S ws (l (path (Some j.type))) m refl (λ v. same _)

@@ -2,8 +2,8 @@
 use Rattle.std.proofs.Common.{◌≡◌, Option, Some, None, refl, sym, ap, ◌∙◌}
 use Rattle.std.specs.Prelude.{option_map, option_and_then}
 use Rattle.cedar_schema_model.specs.Whole.Types.{Ty}
-use Rattle.cedar_typechecker_model.specs.Whole.Facts.{Facts, no_facts}
-use Rattle.cedar_typechecker_model.specs.Whole.Typing.{Judgement, judged, plain, Gives, Sub}
+use Rattle.cedar_typechecker_model.specs.Whole.Facts.{Facts}
+use Rattle.cedar_typechecker_model.specs.Whole.Typing.{Judgement, Gives, Sub}
 
 abbrev pub of_parts : Ty → Facts → Judgement
 of_parts t f = record { type = t; facts = f }
@@ -69,7 +69,7 @@ exact_at a = record { only = λ b h. ap Some (sym h); gives = λ b e. cc }
 
 -- one thing and then the rest, put together
 pub exact_next : {A B : Type 0} (first : Ty → Facts → Type 0) (rest : A → Type 0) (r : Option Judgement) (o : Option A) (make : Ty → A → B) → Exact first r → ExactAt rest o →
-  ExactAt (λ b. (t : Ty) × (f : Facts) × first t f × (as_ : A) × rest as_ × (b ≡ make t as_)) (option_and_then (λ j. option_map (make j.type) o) r)
+    ExactAt (λ b. (t : Ty) × (f : Facts) × first t f × (as_ : A) × rest as_ × (b ≡ make t as_)) (option_and_then (λ j. option_map (make j.type) o) r)
 exact_next first rest None o make h k = record {
   only = λ b n. (let e = h.only n.0 n.1 n.2 in cc);
   gives = λ b e. cc;
@@ -80,11 +80,11 @@ exact_next first rest (Some j) None make h k = record {
 }
 exact_next first rest (Some j) (Some a) make h k = record {
   only = λ b n. (
-    let e : Some j ≡ Some (of_parts n.0 n.1) = h.only n.0 n.1 n.2 in
-    let d : Some a ≡ Some n.3 = k.only n.3 n.4 in
-    let p : j.type ≡ n.0 = same_type j (of_parts n.0 n.1) e in
-    let q : a ≡ n.3 = cc in
-    let s : b ≡ make n.0 n.3 = n.5 in
-    cc);
+      let e : Some j ≡ Some (of_parts n.0 n.1) = h.only n.0 n.1 n.2 in
+      let d : Some a ≡ Some n.3 = k.only n.3 n.4 in
+      let p : j.type ≡ n.0 = same_type j (of_parts n.0 n.1) e in
+      let q : a ≡ n.3 = cc in
+      let s : b ≡ make n.0 n.3 = n.5 in
+      cc);
   gives = λ b e. (j.type, j.facts, h.gives j.type j.facts refl, a, k.gives a refl, (let q : make j.type a ≡ b = cc in sym q));
 }

@@ -1,15 +1,14 @@
 -- An expression is the same as itself by the test of trees.
-use Rattle.std.proofs.Common.{◌≡◌, ℕ, ◌==◌, List, [], ◌∷◌, Bool, true, Option, Some, None, refl, ap, Decides}
+use Rattle.std.proofs.Common.{◌≡◌, ℕ, ◌==◌, [], ◌∷◌, true, Option, Some, None, refl, ap}
 use Rattle.std.specs.Str.{bytes_eq}
 use Rattle.std.specs.Ordering.{is_eq}
 use Rattle.std.proofs.lemmas.Slice.Eq.{bytes_eq-Decides}
 use Rattle.std.proofs.lemmas.Bool.Decides.{Decides-eqb}
-use Rattle.cedar_expr_model.specs.Name.{Text, Name, name_eq, texts_eq}
+use Rattle.cedar_expr_model.specs.Name.{Text}
 use Rattle.cedar_expr_model.specs.Whole.Value.{Literal}
 use Rattle.cedar_expr_model.specs.Whole.Order.{literal_cmp}
 use Rattle.cedar_expr_model.specs.Whole.Pattern.{Pattern, Element, character, wildcard}
-use Rattle.cedar_expr_model.specs.Whole.Tree.{Var, principal, action, resource, context, SlotId, principal_slot, resource_slot, CoreType, UnaryOp, negation, minus, is_empty, BinaryOp, equal, less, less_or_equal, plus, difference, times, is_in, contains, contains_all, contains_any, get_tag, has_tag, Tree, lit, var, slot, unknown, choice, both, either, unary, binary, call, get_attr, has_attr, has_path, like, is_type, set_literal, record_literal, Trees, no_trees, tree, TreeFields, no_tree_fields, tree_field}
-use Rattle.cedar_expr_model.specs.Whole.Substitution.{core_eq}
+use Rattle.cedar_expr_model.specs.Whole.Tree.{CoreType, Tree, lit, var, slot, unknown, choice, both, either, unary, binary, call, get_attr, has_attr, has_path, like, is_type, set_literal, record_literal, Trees, no_trees, tree, TreeFields, no_tree_fields, tree_field}
 use Rattle.cedar_expr_model.specs.Whole.Equality.{var_number, slot_number, unary_number, binary_number, annotation_eq, element_eq, pattern_eq, tree_eq, trees_eq, tree_fields_eq}
 use Rattle.cedar_expr_model.proofs.Lists.{hold_both}
 use Rattle.cedar_expr_model.proofs.Equality.{name_eq_same, texts_eq-Decides}

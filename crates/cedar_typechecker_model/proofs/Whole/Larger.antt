@@ -1,19 +1,17 @@
 -- A violation at a larger level is one at the smaller.
-use Rattle.std.proofs.Common.{◌≡◌, ◌↔◌, ℕ, ◌+◌, ◌<◌, ◌≤◌, Bool, true, false, List, [], ◌∷◌, Option, Some, None, refl, sym, ap, ◌∙◌, subst, ◌⊎◌, inl, inr, ⊎_elim, arith}
-use Rattle.std.specs.Prelude.{Contains, option_map}
-use Rattle.std.specs.List.{flat_map}
+use Rattle.std.proofs.Common.{◌≡◌, ◌↔◌, ℕ, ◌+◌, ◌<◌, ◌≤◌, Bool, true, false, List, [], ◌∷◌, Option, Some, None, refl, subst, ◌⊎◌, inl, inr, arith}
+use Rattle.std.specs.Prelude.{Contains}
 use Rattle.std.specs.Str.{bytes_eq}
 use Rattle.cedar_expr_model.specs.Name.{Text}
 use Rattle.cedar_expr_model.specs.Whole.Table.{Table}
-use Rattle.cedar_expr_model.specs.Whole.Tree.{BinaryOp, get_tag, Tree, lit, var, slot, unknown, choice, both, either, unary, binary, call, get_attr, has_attr, has_path, like, is_type, set_literal, record_literal, Trees, no_trees, tree, TreeFields, no_tree_fields, tree_field}
+use Rattle.cedar_expr_model.specs.Whole.Tree.{get_tag, Tree, lit, var, slot, unknown, choice, both, either, unary, binary, call, get_attr, has_attr, has_path, like, is_type, set_literal, record_literal, Trees, no_trees, tree, TreeFields, no_tree_fields, tree_field}
 use Rattle.cedar_expr_model.proofs.Lists.{contains_head, contains_none, flat_has, flat_from}
 use Rattle.cedar_store_model.specs.Whole.Policy.{Policy, condition}
-use Rattle.cedar_schema_model.specs.Whole.Types.{BoolType, any_bool, only_true, only_false, Ty, bool_type, Mode}
+use Rattle.cedar_schema_model.specs.Whole.Types.{BoolType, only_true, only_false, Ty, bool_type, Mode}
 use Rattle.cedar_schema_model.specs.Whole.Schema.{Schema}
-use Rattle.cedar_schema_model.specs.Whole.Environment.{Environment}
 use Rattle.cedar_typechecker_model.specs.Whole.Facts.{Facts, no_facts, union}
 use Rattle.cedar_typechecker_model.specs.Whole.Rules.{Setting}
-use Rattle.cedar_typechecker_model.specs.Whole.Typing.{Judgement, Types, judgement, type_of}
+use Rattle.cedar_typechecker_model.specs.Whole.Typing.{Types, type_of}
 use Rattle.cedar_typechecker_model.specs.Whole.Levels.{Violation, steps_from_left, violations}
 use Rattle.cedar_typechecker_model.specs.Whole.Dereferences.{Where, ByType, Behind, Branch, AfterTest, TooFar, IsViolation, IsAmong, IsInFields, TargetHas, FieldsHave, IsPolicyViolation}
 use Rattle.cedar_typechecker_model.specs.Whole.Verdicts.{policy_environments, in_mode, if_typed, violations_in, policy_violations_in}
@@ -125,7 +123,7 @@ policy_violations_are_listed w n s x p v = (forward, back)
 
     back : IsPolicyViolation w n s x p v → Contains (policy_violations_in w n s x p) v
     back h = flat_has (violations_in w n s x p) (policy_environments s p) h.0 v h.1
-      (typed_has (type_of (in_mode w s x h.0) (condition p)) h.2 (violations n (in_mode w s x h.0) no_facts (condition p)) v (type_is (in_mode w s x h.0) (condition p) h.2 h.3 h.4) ((violations_are_listed n (in_mode w s x h.0) no_facts (condition p) v).1 h.5))
+        (typed_has (type_of (in_mode w s x h.0) (condition p)) h.2 (violations n (in_mode w s x h.0) no_facts (condition p)) v (type_is (in_mode w s x h.0) (condition p) h.2 h.3 h.4) ((violations_are_listed n (in_mode w s x h.0) no_facts (condition p) v).1 h.5))
 
 pub larger_levels_pass_policies : (w : Mode) (n m : ℕ) (s : Schema) (x : Table) (p : Policy) → n ≤ m → policy_violations_in w n s x p ≡ [] → policy_violations_in w m s x p ≡ []
 larger_levels_pass_policies w n m s x p l e = empty_list (policy_violations_in w m s x p) (λ v h. nothing_in (policy_violations_in w n s x p) v e ((policy_violations_are_listed w n s x p v).1 (smaller v ((policy_violations_are_listed w m s x p v).0 h))))

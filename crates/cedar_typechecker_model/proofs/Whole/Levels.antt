@@ -1,17 +1,17 @@
 -- The lists of violations and the counts of targets are those of the relations.
-use Rattle.std.proofs.Common.{◌≡◌, ◌↔◌, ℕ, ◌≤◌, Bool, true, false, List, [], ◌∷◌, ◌++◌, Option, Some, None, refl, sym, ap, ◌∙◌, subst, ◌⊎◌, inl, inr}
+use Rattle.std.proofs.Common.{◌≡◌, ◌↔◌, ℕ, Bool, true, false, List, [], ◌∷◌, None, refl, sym, subst, ◌⊎◌}
 use Rattle.std.specs.Prelude.{Contains, if◌then◌else◌}
 use Rattle.std.specs.Str.{bytes_eq}
 use Rattle.cedar_expr_model.specs.Name.{Text}
 use Rattle.cedar_expr_model.specs.Uid.{Uid, uid_eq}
-use Rattle.cedar_expr_model.specs.Whole.Value.{Literal, truth, long, text, entity}
-use Rattle.cedar_expr_model.specs.Whole.Tree.{BinaryOp, get_tag, Tree, lit, var, slot, unknown, choice, both, either, unary, binary, call, get_attr, has_attr, has_path, like, is_type, set_literal, record_literal, Trees, no_trees, tree, TreeFields, no_tree_fields, tree_field}
+use Rattle.cedar_expr_model.specs.Whole.Value.{Literal, entity}
+use Rattle.cedar_expr_model.specs.Whole.Tree.{get_tag, Tree, lit, var, slot, unknown, choice, both, either, unary, binary, call, get_attr, has_attr, has_path, like, is_type, set_literal, record_literal, Trees, no_trees, tree, TreeFields, no_tree_fields, tree_field}
 use Rattle.cedar_expr_model.proofs.Equality.{uid_eq-Decides}
 use Rattle.cedar_typechecker_model.specs.Whole.Facts.{Facts, union}
 use Rattle.cedar_typechecker_model.specs.Whole.Rules.{Setting}
 use Rattle.cedar_typechecker_model.specs.Whole.Typing.{Types, judgement}
-use Rattle.cedar_typechecker_model.specs.Whole.Levels.{Violation, count, joined, further, stepped, literal_count, after_and, after_or, after_test, target_after_test, entity_steps, fields_before, steps_from_left, violations, violations_among, violations_in_fields, target, target_in_fields}
-use Rattle.cedar_typechecker_model.specs.Whole.Dereferences.{Where, ByType, Behind, AfterTest, CountAfterTest, Further, Reaches, ReachesByField, TooFar, LiteralHas, IsViolation, IsAmong, IsInFields, TargetHas, FieldsHave}
+use Rattle.cedar_typechecker_model.specs.Whole.Levels.{Violation, count, joined, further, stepped, literal_count, entity_steps, fields_before, steps_from_left, violations, violations_among, violations_in_fields, target, target_in_fields}
+use Rattle.cedar_typechecker_model.specs.Whole.Dereferences.{AfterTest, Further, Reaches, ReachesByField, TooFar, LiteralHas, IsViolation, IsAmong, IsInFields, TargetHas, FieldsHave}
 use Rattle.cedar_typechecker_model.proofs.Whole.Typing.{exact}
 use Rattle.cedar_typechecker_model.proofs.Whole.Counting.{Lists, Counts, lists_same, lists_none, lists_one, lists_both, lists_where, counts_same, counts_zero, counts_joined, counts_further, counts_where, lists_stepped, lists_and, lists_or, lists_test, counts_test, lists_standing, counts_standing, lists_path}
 
@@ -46,7 +46,7 @@ mutual
   violations_listed n s known (binary o a b) =
       lists_both _ (IsViolation n s known b) _ (violations n s known b)
       (lists_where (steps_from_left o) (λ v. TooFar n (binary o a b) 1 (Reaches s known [] a) v ⊎ TargetHas n s known [] a v) (IsViolation n s known a) (stepped n (binary o a b) (further 1 (target n s known [] a))) (violations n s known a)
-        (lists_stepped n (binary o a b) 1 (Reaches s known [] a) (TargetHas n s known [] a) (target n s known [] a) (target_counted n s known [] a)) (violations_listed n s known a))
+      (lists_stepped n (binary o a b) 1 (Reaches s known [] a) (TargetHas n s known [] a) (target n s known [] a) (target_counted n s known [] a)) (violations_listed n s known a))
       (violations_listed n s known b)
   violations_listed n s known (call f ts) = among_listed n s known ts
   violations_listed n s known (get_attr e a) =
@@ -77,7 +77,7 @@ mutual
   target_counted n s known path (choice t a b) =
       counts_joined (IsViolation n s known t) _ _ (violations n s known t) _ (violations_listed n s known t)
       (counts_test (Types s known t) (judgement s known t) (exact s known t) (λ f. Reaches s (union known f) path a) (Reaches s known path b) (λ f. TargetHas n s (union known f) path a) (TargetHas n s known path b) (λ f. target n s (union known f) path a) (target n s known path b)
-        (λ f. target_counted n s (union known f) path a) (target_counted n s known path b))
+      (λ f. target_counted n s (union known f) path a) (target_counted n s known path b))
   target_counted n s known path (get_attr e a) =
       counts_standing (Types s known e) (judgement s known e) (exact s known e) (Further 1 (Reaches s known [] e)) (Reaches s known (a ∷ path) e) (TargetHas n s known [] e) (TargetHas n s known (a ∷ path) e) (further 1 (target n s known [] e)) (target n s known (a ∷ path) e)
       (counts_further 1 (Reaches s known [] e) (TargetHas n s known [] e) (target n s known [] e) (target_counted n s known [] e)) (target_counted n s known (a ∷ path) e)

@@ -27,8 +27,8 @@ step_from f x xs y (Some z) e h = contains_cases ((f x ≡ Some y) ⊎ Contains 
 given_has : {X Y : Type 0} (f : X → Option Y) (xs : List X) (x : X) (y : Y) → Contains xs x → f x ≡ Some y → Contains (filter_map f xs) y
 given_has f [] x y h e = absurd (contains_none x h)
 given_has f (z ∷ xs) x y h e = contains_cases (Contains (filter_map f (z ∷ xs)) y) z xs x h
-  (λ q. step_has f z xs y (f z) refl (inl (ap f q ∙ e)))
-  (λ k. step_has f z xs y (f z) refl (inr (given_has f xs x y k e)))
+    (λ q. step_has f z xs y (f z) refl (inl (ap f q ∙ e)))
+    (λ k. step_has f z xs y (f z) refl (inr (given_has f xs x y k e)))
 
 given_from : {X Y : Type 0} (f : X → Option Y) (xs : List X) (y : Y) → Contains (filter_map f xs) y → (x : X) × Contains xs x × (f x ≡ Some y)
 given_from f [] y h = absurd (contains_none y h)

@@ -1,14 +1,14 @@
 -- The test of a path is typed as the conjunction of its tests.
-use Rattle.std.proofs.Common.{◌≡◌, ◌&&◌, ◌||◌, Bool, true, false, List, [], ◌∷◌, Option, Some, None, refl, sym, ap, ◌∙◌}
+use Rattle.std.proofs.Common.{◌≡◌, ◌||◌, Bool, true, false, List, [], ◌∷◌, Option, Some, None, refl, sym, ap, ◌∙◌}
 use Rattle.std.specs.Prelude.{option_map, option_and_then, if◌then◌else◌}
 use Rattle.cedar_expr_model.specs.Name.{Text}
-use Rattle.cedar_expr_model.specs.Whole.Tree.{Tree, both, get_attr, has_attr, has_path}
+use Rattle.cedar_expr_model.specs.Whole.Tree.{Tree, get_attr, has_path}
 use Rattle.cedar_expr_model.proofs.Lists.{hold_both, hold_left, hold_right}
-use Rattle.cedar_schema_model.specs.Whole.Types.{BoolType, any_bool, only_true, only_false, Openness, is_open, is_closed, Ty, bool_type, never, long_type, string_type, any_entity, entity_types, any_set, set_type, record_type, extension_type, Declared, attribute_named}
+use Rattle.cedar_schema_model.specs.Whole.Types.{BoolType, any_bool, only_true, only_false, Openness, Ty, bool_type, never, long_type, string_type, any_entity, entity_types, any_set, set_type, record_type, extension_type, Declared, attribute_named}
 use Rattle.cedar_schema_model.specs.Whole.Lookup.{lookup_attribute, may_have_attribute}
-use Rattle.cedar_typechecker_model.specs.Whole.Facts.{Facts, no_facts, fact, union, Part, attribute_part}
+use Rattle.cedar_typechecker_model.specs.Whole.Facts.{Facts, no_facts, fact, union, attribute_part}
 use Rattle.cedar_typechecker_model.specs.Whole.Rules.{Setting, has_type, has_field, get_type, attribute_type}
-use Rattle.cedar_typechecker_model.specs.Whole.Typing.{Judgement, judged, plain, tested, conjoined, step_type, path_after, path_judged, and_judged, judgement}
+use Rattle.cedar_typechecker_model.specs.Whole.Typing.{Judgement, plain, tested, conjoined, step_type, path_after, path_judged, and_judged, judgement}
 use Rattle.cedar_typechecker_model.specs.Whole.Laws.{FactsAmong, path_unfolded}
 use Rattle.cedar_typechecker_model.proofs.Whole.Itself.{tree_same, bytes_same}
 use Rattle.cedar_typechecker_model.proofs.Whole.More.{more}
@@ -58,45 +58,45 @@ none_follows s known e a (b ∷ bs) h = rw h refl
 
 -- The next step of a path that goes on: the attribute is there, and then the rest.
 module _ (s : Setting) (known : Facts) (e : Tree) (a b : Text) (bs : List Text) (j : Judgement) (f : Facts)
-  (typed : judgement s (union known f) e ≡ Some j)
-  (rest : (d : Ty) → judgement s (union known f) (get_attr e a) ≡ Some (record { type = d; facts = no_facts }) → judgement s (union known f) (path_unfolded (get_attr e a) b bs) ≡ path_judged s b bs (get_attr e a) d)
-  (there : (d : Declared) → lookup_attribute s.schema j.type a ≡ Some d → (d.is_required || union known f e (attribute_part a)) ≡ true)
+    (typed : judgement s (union known f) e ≡ Some j)
+    (rest : (d : Ty) → judgement s (union known f) (get_attr e a) ≡ Some (record { type = d; facts = no_facts }) → judgement s (union known f) (path_unfolded (get_attr e a) b bs) ≡ path_judged s b bs (get_attr e a) d)
+    (there : (d : Declared) → lookup_attribute s.schema j.type a ≡ Some d → (d.is_required || union known f e (attribute_part a)) ≡ true)
   where
-  got : (found : Option Declared) → lookup_attribute s.schema j.type a ≡ found → judgement s (union known f) (get_attr e a) ≡ plain (attribute_type (union known f e (attribute_part a)) found)
-  got found h = ap (option_and_then (λ k. plain (get_type s (union known f) e k.type a))) typed ∙ ap (λ x. plain (attribute_type (union known f e (attribute_part a)) x)) h
+    got : (found : Option Declared) → lookup_attribute s.schema j.type a ≡ found → judgement s (union known f) (get_attr e a) ≡ plain (attribute_type (union known f e (attribute_part a)) found)
+    got found h = ap (option_and_then (λ k. plain (get_type s (union known f) e k.type a))) typed ∙ ap (λ x. plain (attribute_type (union known f e (attribute_part a)) x)) h
 
-  goes_on : (found : Option Declared) → lookup_attribute s.schema j.type a ≡ found → judgement s (union known f) (path_unfolded (get_attr e a) b bs) ≡ option_and_then (path_judged s b bs (get_attr e a)) (option_map (λ (d : Declared). d.type) found)
-  goes_on None h = none_follows s (union known f) (get_attr e a) b bs (got None h)
-  goes_on (Some d) h = rest d.type (got (Some d) h ∙ ap plain (there_required _ d (there d h)))
+    goes_on : (found : Option Declared) → lookup_attribute s.schema j.type a ≡ found → judgement s (union known f) (path_unfolded (get_attr e a) b bs) ≡ option_and_then (path_judged s b bs (get_attr e a)) (option_map (λ (d : Declared). d.type) found)
+    goes_on None h = none_follows s (union known f) (get_attr e a) b bs (got None h)
+    goes_on (Some d) h = rest d.type (got (Some d) h ∙ ap plain (there_required _ d (there d h)))
 
-  after_step : (left : BoolType) →
-    option_and_then (λ r. conjoined left f r.type r.facts) (judgement s (union known f) (path_unfolded (get_attr e a) b bs))
-    ≡ option_and_then (λ t. option_and_then (λ r. conjoined left f r.type r.facts) (path_judged s b bs (get_attr e a) t)) (step_type s j.type a)
-  after_step left = ap (option_and_then (λ r. conjoined left f r.type r.facts)) (goes_on (lookup_attribute s.schema j.type a) refl) ∙ apart (step_type s j.type a)
-    where
-      apart : (o : Option Ty) → option_and_then (λ r. conjoined left f r.type r.facts) (option_and_then (path_judged s b bs (get_attr e a)) o) ≡ option_and_then (λ t. option_and_then (λ r. conjoined left f r.type r.facts) (path_judged s b bs (get_attr e a) t)) o
-      apart None = refl
-      apart (Some t) = refl
+    after_step : (left : BoolType) →
+        option_and_then (λ r. conjoined left f r.type r.facts) (judgement s (union known f) (path_unfolded (get_attr e a) b bs))
+        ≡ option_and_then (λ t. option_and_then (λ r. conjoined left f r.type r.facts) (path_judged s b bs (get_attr e a) t)) (step_type s j.type a)
+    after_step left = ap (option_and_then (λ r. conjoined left f r.type r.facts)) (goes_on (lookup_attribute s.schema j.type a) refl) ∙ apart (step_type s j.type a)
+      where
+        apart : (o : Option Ty) → option_and_then (λ r. conjoined left f r.type r.facts) (option_and_then (path_judged s b bs (get_attr e a)) o) ≡ option_and_then (λ t. option_and_then (λ r. conjoined left f r.type r.facts) (path_judged s b bs (get_attr e a) t)) o
+        apart None = refl
+        apart (Some t) = refl
 
 -- a path of two steps or more, by its first test
 module _ (s : Setting) (known : Facts) (e : Tree) (a b : Text) (bs : List Text) (j : Judgement)
-  (typed : (f : Facts) → judgement s (union known f) e ≡ Some j)
-  (rest : (f : Facts) (d : Ty) → judgement s (union known f) (get_attr e a) ≡ Some (record { type = d; facts = no_facts }) → judgement s (union known f) (path_unfolded (get_attr e a) b bs) ≡ path_judged s b bs (get_attr e a) d)
+    (typed : (f : Facts) → judgement s (union known f) e ≡ Some j)
+    (rest : (f : Facts) (d : Ty) → judgement s (union known f) (get_attr e a) ≡ Some (record { type = d; facts = no_facts }) → judgement s (union known f) (path_unfolded (get_attr e a) b bs) ≡ path_judged s b bs (get_attr e a) d)
   where
-  by_first : (found : Option BoolType) → has_type s j.type a ≡ found →
-    option_and_then (λ k. and_judged (λ f. judgement s (union known f) (path_unfolded (get_attr e a) b bs)) k.type k.facts) (option_map (tested e (attribute_part a)) found)
-    ≡ option_and_then (λ left. path_after (path_judged s b bs (get_attr e a)) (step_type s j.type a) (tested e (attribute_part a) left) left) found
-  by_first None q = refl
-  by_first (Some only_false) q = refl
-  by_first (Some any_bool) q = after_step s known e a b bs j (fact e (attribute_part a)) (typed _) (rest _) (λ d k. hold_right d.is_required _ (known_now known e a)) any_bool
-  by_first (Some only_true) q = after_step s known e a b bs j no_facts (typed _) (rest _) (λ d k. hold_left d.is_required _ (required s j.type a d q k)) only_true
+    by_first : (found : Option BoolType) → has_type s j.type a ≡ found →
+        option_and_then (λ k. and_judged (λ f. judgement s (union known f) (path_unfolded (get_attr e a) b bs)) k.type k.facts) (option_map (tested e (attribute_part a)) found)
+        ≡ option_and_then (λ left. path_after (path_judged s b bs (get_attr e a)) (step_type s j.type a) (tested e (attribute_part a) left) left) found
+    by_first None q = refl
+    by_first (Some only_false) q = refl
+    by_first (Some any_bool) q = after_step s known e a b bs j (fact e (attribute_part a)) (typed _) (rest _) (λ d k. hold_right d.is_required _ (known_now known e a)) any_bool
+    by_first (Some only_true) q = after_step s known e a b bs j no_facts (typed _) (rest _) (λ d k. hold_left d.is_required _ (required s j.type a d q k)) only_true
 
 pub path_unfolds : (s : Setting) (known : Facts) (a : Text) (bs : List Text) (e : Tree) (j : Judgement) → judgement s known e ≡ Some j → judgement s known (path_unfolded e a bs) ≡ path_judged s a bs e j.type
 path_unfolds s known a [] e j h = rw h refl
 path_unfolds s known a (b ∷ bs) e j h =
     ap (λ o. option_and_then (λ k. and_judged (λ f. judgement s (union known f) (path_unfolded (get_attr e a) b bs)) k.type k.facts) (option_and_then (λ k. option_map (tested e (attribute_part a)) (has_type s k.type a)) o)) h
     ∙ by_first s known e a b bs j (λ f. (more s known (union known f) (union_more known f) e).stays j h)
-      (λ f d q. path_unfolds s (union known f) b bs (get_attr e a) (record { type = d; facts = no_facts }) q) (has_type s j.type a) refl
+    (λ f d q. path_unfolds s (union known f) b bs (get_attr e a) (record { type = d; facts = no_facts }) q) (has_type s j.type a) refl
 
 pub paths_are_conjunctions : (s : Setting) (known : Facts) (e : Tree) (a : Text) (bs : List Text) → judgement s known (has_path e a bs) ≡ judgement s known (path_unfolded e a bs)
 paths_are_conjunctions s known e a bs = by (judgement s known e) refl

@@ -1,8 +1,8 @@
 -- The typing relation and the function give the same.
-use Rattle.std.proofs.Common.{◌≡◌, ◌↔◌, List, [], ◌∷◌, Option, Some, None, refl, sym, ap, ◌∙◌}
+use Rattle.std.proofs.Common.{◌≡◌, ◌↔◌, List, [], ◌∷◌, Option, Some, None, sym, ap, ◌∙◌}
 use Rattle.std.specs.Prelude.{option_map, option_and_then, true}
 use Rattle.cedar_expr_model.specs.Whole.Tree.{Tree, lit, var, slot, unknown, choice, both, either, unary, binary, call, get_attr, has_attr, has_path, like, is_type, set_literal, record_literal, Trees, no_trees, tree, TreeFields, no_tree_fields, tree_field}
-use Rattle.cedar_schema_model.specs.Whole.Types.{BoolType, any_bool, only_true, only_false, is_closed, Ty, bool_type, record_type, Attributes, no_attributes, attribute}
+use Rattle.cedar_schema_model.specs.Whole.Types.{any_bool, only_true, only_false, is_closed, Ty, bool_type, record_type, Attributes, no_attributes, attribute}
 use Rattle.cedar_typechecker_model.specs.Whole.Facts.{Facts, no_facts, union, attribute_part}
 use Rattle.cedar_typechecker_model.specs.Whole.Rules.{Setting, literal_type, var_type, slot_type, unary_type, like_type, is_type_type, has_type, get_type, set_literal_type, call_type}
 use Rattle.cedar_typechecker_model.specs.Whole.Typing.{Judgement, judged, plain, tested, conjoined, disjoined, chosen, path_judged, binary_judged, Gives, Sub, AndTyped, OrTyped, ChoiceTyped, Types, EachTyped, FieldsTyped, and_judged, or_judged, choice_judged, judgement, judgements, field_judgements, type_of}

@@ -1,17 +1,16 @@
 -- The tests of a policy over its environments decide the verdicts.
-use Rattle.std.proofs.Common.{◌≡◌, ◌↔◌, Bool, true, false, List, Option, Some, None, refl, sym, ap, ◌∙◌, Decides}
+use Rattle.std.proofs.Common.{◌≡◌, ◌↔◌, Bool, true, List, Option, Some, refl, ap, ◌∙◌, Decides}
 use Rattle.std.specs.Prelude.{Contains}
 use Rattle.std.specs.List.{list_all, filter}
 use Rattle.cedar_expr_model.specs.Whole.Tree.{Tree}
 use Rattle.cedar_expr_model.specs.Whole.Table.{Table}
 use Rattle.cedar_expr_model.proofs.Lists.{all-Decides, filter_has, filter_only}
 use Rattle.cedar_store_model.specs.Whole.Policy.{Policy, condition}
-use Rattle.cedar_schema_model.specs.Whole.Types.{BoolType, any_bool, only_true, only_false, Ty, bool_type, Mode, strict}
+use Rattle.cedar_schema_model.specs.Whole.Types.{BoolType, any_bool, only_true, only_false, Ty, bool_type, Mode}
 use Rattle.cedar_schema_model.specs.Whole.Schema.{Schema}
 use Rattle.cedar_schema_model.specs.Whole.Environment.{Environment}
-use Rattle.cedar_typechecker_model.specs.Whole.Facts.{Facts, no_facts}
 use Rattle.cedar_typechecker_model.specs.Whole.Rules.{Setting}
-use Rattle.cedar_typechecker_model.specs.Whole.Typing.{Types, type_of}
+use Rattle.cedar_typechecker_model.specs.Whole.Typing.{type_of}
 use Rattle.cedar_typechecker_model.specs.Whole.Verdicts.{policy_environments, in_mode, strictly, HasBool, HasFalse, PassesIn, passes_in, IsWarned, is_warned, fits, IsFalseIn, IsImpossible, impossible, RequestType, is_of_request, IsIrrelevant, irrelevant_for, Verdict, success, irrelevant, fail, HasVerdict, verdict_of, is_bool, is_false, condition_type}
 use Rattle.cedar_typechecker_model.proofs.Whole.Typing.{has_its_type, type_is}
 

@@ -1,6 +1,6 @@
 -- Facts: that an expression has an attribute, or a tag. They hold where the expression that gives them is true.
 -- Rule: typing (docs/RULES.md).
-use Rattle.std.specs.Prelude.{◌&&◌, ◌||◌, Bool, true, false}
+use Rattle.std.specs.Prelude.{◌&&◌, ◌||◌, Bool, false}
 use Rattle.std.specs.Str.{bytes_eq}
 use Rattle.cedar_expr_model.specs.Name.{Text}
 use Rattle.cedar_expr_model.specs.Whole.Tree.{Tree}

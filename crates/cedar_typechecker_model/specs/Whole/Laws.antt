@@ -1,6 +1,6 @@
 -- What the laws of typing, verdicts and the scope rules say.
 -- Rule: typing; the acceptance rules; impossible policies; the scope rules (docs/RULES.md).
-use Rattle.std.specs.Prelude.{◌≡◌, ◌↔◌, List, [], ◌∷◌, Contains, true, Option, Some, None}
+use Rattle.std.specs.Prelude.{◌≡◌, ◌↔◌, List, [], ◌∷◌, Contains, true, Some}
 use Rattle.std.specs.Bool.{Decides}
 use Rattle.cedar_expr_model.specs.Name.{Text, Name}
 use Rattle.cedar_expr_model.specs.Uid.{Uid}
@@ -11,7 +11,7 @@ use Rattle.cedar_schema_model.specs.Whole.Types.{any_bool, only_true, Ty, bool_t
 use Rattle.cedar_schema_model.specs.Whole.Schema.{Schema}
 use Rattle.cedar_typechecker_model.specs.Whole.Facts.{Facts, no_facts, Part}
 use Rattle.cedar_typechecker_model.specs.Whole.Rules.{Setting}
-use Rattle.cedar_typechecker_model.specs.Whole.Typing.{Judgement, Types, EachTyped, FieldsTyped, judgement, judgements, field_judgements, type_of}
+use Rattle.cedar_typechecker_model.specs.Whole.Typing.{Types, EachTyped, FieldsTyped, judgement, judgements, field_judgements, type_of}
 use Rattle.cedar_typechecker_model.specs.Whole.ScopeRules.{policy_uids, policy_kinds, NamesUid, NamesType, NamesKnownTypes, NamesKnownActions, NamesKnownMembers, names_known_types, names_known_actions, names_known_members}
 use Rattle.cedar_typechecker_model.specs.Whole.Verdicts.{PassesIn, passes_in, IsWarned, is_warned, IsImpossible, impossible, RequestType, IsIrrelevant, irrelevant_for, Verdict, HasVerdict, verdict_of}
 

@@ -1,20 +1,20 @@
 -- The rules of typing for each kind, on the types of the parts. Where no clause says otherwise there is no type.
 -- Rule: typing (docs/RULES.md).
-use Rattle.std.specs.Prelude.{◌&&◌, ◌||◌, ◌==◌, List, [], ◌∷◌, length, map, Bool, true, false, not, Option, Some, None, option_map, option_and_then, if◌then◌else◌}
+use Rattle.std.specs.Prelude.{◌&&◌, ◌||◌, List, [], ◌∷◌, length, map, Bool, true, false, not, Option, Some, None, option_map, option_and_then, if◌then◌else◌}
 use Rattle.std.specs.List.{list_all, list_any}
 use Rattle.cedar_expr_model.specs.Name.{Text, Name, name_eq}
 use Rattle.cedar_expr_model.specs.Uid.{Uid, uid_eq}
 use Rattle.cedar_expr_model.specs.Whole.Value.{Literal, truth, long, text, entity}
 use Rattle.cedar_expr_model.specs.Whole.Tree.{Var, principal, action, resource, context, SlotId, principal_slot, resource_slot, CoreType, bool_core, long_core, string_core, extension_core, UnaryOp, negation, minus, is_empty, BinaryOp, equal, less, less_or_equal, plus, difference, times, is_in, contains, contains_all, contains_any, get_tag, has_tag, Tree, lit, var, set_literal, Trees, no_trees, tree}
 use Rattle.cedar_expr_model.specs.Whole.Table.{Table, Signature, signature_of, is_ordered, takes_count, is_constructor}
-use Rattle.cedar_schema_model.specs.Whole.Types.{BoolType, any_bool, only_true, only_false, Openness, is_open, is_closed, Ty, never, bool_type, long_type, string_type, any_entity, entity_types, any_set, set_type, record_type, extension_type, entity_type, Attributes, Declared, attribute_named, Mode, strict, permissive}
-use Rattle.cedar_schema_model.specs.Whole.Schema.{Schema, EntityType, EntityKind, standard, enumerated, external, type_named, declares_type, declares_action}
+use Rattle.cedar_schema_model.specs.Whole.Types.{BoolType, any_bool, only_true, only_false, Openness, is_open, is_closed, Ty, never, bool_type, long_type, string_type, any_entity, entity_types, any_set, set_type, record_type, extension_type, entity_type, Declared, attribute_named, Mode, strict, permissive}
+use Rattle.cedar_schema_model.specs.Whole.Schema.{Schema, EntityKind, standard, type_named, declares_type, declares_action}
 use Rattle.cedar_schema_model.specs.Whole.Environment.{Environment}
 use Rattle.cedar_schema_model.specs.Whole.Subtype.{is_subtype}
 use Rattle.cedar_schema_model.specs.Whole.Join.{join, are_disjoint, reduce_to_join}
 use Rattle.cedar_schema_model.specs.Whole.Lookup.{lookup_attribute, may_have_attribute}
 use Rattle.cedar_schema_model.specs.Whole.Descent.{type_descends, action_descends}
-use Rattle.cedar_typechecker_model.specs.Whole.Facts.{Facts, Part, attribute_part, tag_part}
+use Rattle.cedar_typechecker_model.specs.Whole.Facts.{Facts, attribute_part, tag_part}
 
 -- what an expression is typed in
 pub record Setting : Type 0 where

@@ -1,16 +1,16 @@
 -- The scope rules: what a policy names anywhere, also where typing doesn't reach, is declared.
 -- Rule: the scope rules (docs/RULES.md).
-use Rattle.std.specs.Prelude.{◌≡◌, ◌&&◌, ◌||◌, List, [], ◌∷◌, ◌++◌, map, Contains, Bool, true, false, not, Option, Some, None}
+use Rattle.std.specs.Prelude.{◌≡◌, ◌||◌, List, [], ◌∷◌, ◌++◌, map, Contains, Bool, true, not, Option, Some, None}
 use Rattle.std.specs.List.{list_all, list_any, filter_map}
 use Rattle.std.proofs.Common.{◌⊎◌}
 use Rattle.std.specs.Str.{bytes_eq}
 use Rattle.cedar_expr_model.specs.Name.{Text, Name, name_eq}
 use Rattle.cedar_expr_model.specs.Uid.{Uid}
-use Rattle.cedar_expr_model.specs.Whole.Value.{Literal, truth, long, text, entity}
+use Rattle.cedar_expr_model.specs.Whole.Value.{entity}
 use Rattle.cedar_expr_model.specs.Whole.Tree.{Tree, lit, is_type}
 use Rattle.cedar_expr_model.specs.Whole.Parts.{subexpressions}
-use Rattle.cedar_store_model.specs.Whole.Policy.{Policy, SlotBindings, condition}
-use Rattle.cedar_schema_model.specs.Whole.Schema.{Schema, EntityType, EntityKind, standard, enumerated, external, type_named, declares_type, declares_action}
+use Rattle.cedar_store_model.specs.Whole.Policy.{Policy, condition}
+use Rattle.cedar_schema_model.specs.Whole.Schema.{Schema, EntityType, EntityKind, enumerated, type_named, declares_type, declares_action}
 use Rattle.cedar_schema_model.specs.Whole.Descent.{action_uids}
 
 -- the uid, and the entity type of an `is` test, that an expression is or asks for by itself

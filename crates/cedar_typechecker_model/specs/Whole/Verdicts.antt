@@ -1,13 +1,13 @@
 -- What typing and levels say of a policy over its environments.
 -- Rule: the acceptance rules; impossible policies; levels (docs/RULES.md).
-use Rattle.std.specs.Prelude.{◌≡◌, ◌&&◌, ℕ, List, [], ◌∷◌, ◌++◌, Contains, Bool, true, false, not, Option, Some, None}
-use Rattle.std.specs.List.{list_all, list_any, flat_map, filter}
+use Rattle.std.specs.Prelude.{◌≡◌, ◌&&◌, ℕ, List, [], Contains, Bool, true, false, Option, Some, None}
+use Rattle.std.specs.List.{list_all, flat_map, filter}
 use Rattle.cedar_expr_model.specs.Name.{Name, name_eq}
 use Rattle.cedar_expr_model.specs.Uid.{Uid, uid_eq}
 use Rattle.cedar_expr_model.specs.Whole.Table.{Table}
 use Rattle.cedar_expr_model.specs.Whole.Tree.{Tree}
 use Rattle.cedar_store_model.specs.Whole.Policy.{Policy, Target, named, own_slot, Scope, any, exactly, inside, of_kind, of_kind_inside, condition}
-use Rattle.cedar_schema_model.specs.Whole.Types.{BoolType, any_bool, only_true, only_false, Ty, bool_type, Mode, strict}
+use Rattle.cedar_schema_model.specs.Whole.Types.{BoolType, only_false, Ty, bool_type, Mode, strict}
 use Rattle.cedar_schema_model.specs.Whole.Schema.{Schema}
 use Rattle.cedar_schema_model.specs.Whole.Environment.{Environment, SlotUse, no_slot, equal_slot, in_slot, environments_for}
 use Rattle.cedar_typechecker_model.specs.Whole.Facts.{Facts, no_facts}

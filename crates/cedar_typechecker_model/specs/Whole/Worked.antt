@@ -1,13 +1,13 @@
 -- The values of the worked examples.
 -- Rule: typing; levels; the scope rules (docs/RULES.md).
-use Rattle.std.specs.Prelude.{ℕ, pos, List, [], ◌∷◌, codes, Bool, true, false, Option, Some, None}
+use Rattle.std.specs.Prelude.{ℕ, List, [], ◌∷◌, codes, Bool, true, false, Option, Some, None}
 use Rattle.cedar_expr_model.specs.Name.{Text, Name}
 use Rattle.cedar_expr_model.specs.Uid.{Uid}
 use Rattle.cedar_expr_model.specs.Whole.Value.{truth, text, entity}
-use Rattle.cedar_expr_model.specs.Whole.Tree.{principal, resource, Tree, lit, var, both, binary, equal, less, call, get_attr, has_attr, choice, is_in, CoreType, string_core, set_core, extension_core, Trees, no_trees, tree, record_literal, TreeFields, no_tree_fields, tree_field}
+use Rattle.cedar_expr_model.specs.Whole.Tree.{principal, resource, Tree, lit, var, both, binary, equal, less, call, get_attr, has_attr, choice, CoreType, string_core, set_core, extension_core, no_trees, tree, record_literal, no_tree_fields, tree_field}
 use Rattle.cedar_expr_model.specs.Whole.Table.{CallStyle, function_style, method_style, Signature, Table, fails}
 use Rattle.cedar_store_model.specs.Whole.Policy.{Policy, permit, Scope, any, inside, own_slot, ActionScope, any_action, inside_actions, SlotBindings, no_bindings}
-use Rattle.cedar_schema_model.specs.Whole.Types.{any_bool, Openness, is_closed, Ty, bool_type, long_type, string_type, entity_type, record_type, extension_type, Attributes, no_attributes, attribute, permissive}
+use Rattle.cedar_schema_model.specs.Whole.Types.{any_bool, is_closed, Ty, bool_type, long_type, string_type, entity_type, record_type, extension_type, no_attributes, attribute, permissive}
 use Rattle.cedar_schema_model.specs.Whole.Schema.{standard, enumerated, EntityType, Action, Schema}
 use Rattle.cedar_schema_model.specs.Whole.Environment.{Environment}
 use Rattle.cedar_typechecker_model.specs.Whole.Rules.{Setting}
@@ -219,8 +219,8 @@ function n style ps more r = record { name = plain_name n; style = style; parame
 abbrev pub ranks : Table
 ranks = record {
   functions = function (codes "rank") function_style (string_core ∷ []) false (Some (extension_core rank))
-    ∷ function (codes "below") method_style (extension_core rank ∷ string_core ∷ []) true (Some string_core)
-    ∷ function (codes "all") function_style (set_core ∷ []) false (Some string_core) ∷ [];
+      ∷ function (codes "below") method_style (extension_core rank ∷ string_core ∷ []) true (Some string_core)
+      ∷ function (codes "all") function_style (set_core ∷ []) false (Some string_core) ∷ [];
   ordered = rank ∷ [];
   answers = λ f vs. fails f;
 }

@@ -5,16 +5,16 @@ use Rattle.std.specs.Str.{bytes_eq, chars}
 use Rattle.std.specs.Fmt.{digits}
 use Rattle.cedar_expr_model.specs.Name.{Text, Name}
 use Rattle.cedar_expr_model.specs.Uid.{Uid}
-use Rattle.cedar_expr_model.specs.Whole.Value.{V, truth_value}
+use Rattle.cedar_expr_model.specs.Whole.Value.{truth_value}
 use Rattle.std.proofs.lemmas.Slice.Eq.{bytes_eq-Decides}
 use Rattle.cedar_expr_model.proofs.Equality.{name_eq-Decides, uid_eq-Decides}
 use Rattle.cedar_expr_model.proofs.Lists.{any_has, contains_cases, contains_none, contains_head, contains_tail}
-use Rattle.cedar_store_model.specs.Whole.Outcome.{Res, val}
+use Rattle.cedar_store_model.specs.Whole.Outcome.{val}
 use Rattle.cedar_store_model.specs.Whole.World.{World, held, missing}
 use Rattle.cedar_store_model.specs.Whole.Knowledge.{IsSettled, IsWhole}
 use Rattle.cedar_schema_model.specs.Whole.Schema.{Schema, declares_action}
 use Rattle.cedar_schema_model.specs.Whole.ActionEntities.{as_entity}
-use Rattle.cedar_store_model.specs.Whole.Policy.{Policy, Effect, permit, forbid}
+use Rattle.cedar_store_model.specs.Whole.Policy.{Policy, permit, forbid}
 use Rattle.cedar_store_model.specs.Whole.Answer.{allow, deny, policy_outcome, answer_of}
 use Rattle.cedar_store_model.proofs.Whole.Conditions.{policy_meaning_is_a_function}
 use Rattle.cedar_schema_model.proofs.Whole.Decls.Conforming.{request_conforms-Decides}
