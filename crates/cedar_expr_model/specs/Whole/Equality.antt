@@ -1,10 +1,9 @@
 -- Equality of bare trees, as a test.
 -- Rule: expressions (docs/RULES.md).
-use Rattle.std.specs.Prelude.{◌&&◌, ◌==◌, ℕ, List, [], ◌∷◌, Bool, true, false, Option, Some, None}
+use Rattle.std.specs.Prelude.{◌&&◌, ◌==◌, ℕ, [], ◌∷◌, Bool, true, false, Option, Some, None}
 use Rattle.std.specs.Str.{bytes_eq}
 use Rattle.std.specs.Ordering.{is_eq}
-use Rattle.cedar_expr_model.specs.Name.{Text, Name, name_eq, texts_eq}
-use Rattle.cedar_expr_model.specs.Whole.Value.{Literal, truth, long, text, entity}
+use Rattle.cedar_expr_model.specs.Name.{name_eq, texts_eq}
 use Rattle.cedar_expr_model.specs.Whole.Order.{literal_cmp}
 use Rattle.cedar_expr_model.specs.Whole.Pattern.{Pattern, Element, character, wildcard}
 use Rattle.cedar_expr_model.specs.Whole.Substitution.{core_eq}
