@@ -21,3 +21,4 @@ pub mod Valued
 pub mod Computed
 pub mod Examples
 pub mod Representing
+pub mod FirstPath

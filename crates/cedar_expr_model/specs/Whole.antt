@@ -24,4 +24,5 @@ pub mod Represented
 pub mod Laws
 pub mod TreeLaws
 pub mod ListLaws
+pub mod FirstPath
 pub mod Worked

@@ -15,3 +15,5 @@ pub mod Stores
 pub mod Computed
 pub mod Growing
 pub mod Instances
+pub mod FirstPath
+pub mod FirstPathAnswers

@@ -13,5 +13,6 @@ pub mod Answer
 pub mod AnswerLaws
 pub mod Matching
 pub mod Store
+pub mod FirstPath
 pub mod Worked
 pub mod WorkedPolicies

@@ -1,0 +1,56 @@
+//! The definitions of the first path are those of the whole language on their part of it. Each function's contract is the
+//! theorem; its body does nothing.
+
+ghost use Rattle.std.specs.Prelude.{◌≡◌, pos, Bool, true, false};
+ghost use Rattle.cedar_expr_model.specs.Value as small_value;
+ghost use Rattle.cedar_expr_model.specs.Tree as small;
+ghost use Rattle.cedar_expr_model.specs.Whole.Value.{truth, long, entity, prim};
+ghost use Rattle.cedar_expr_model.specs.Whole.Order.{value_eq};
+ghost use Rattle.cedar_expr_model.specs.Whole.Tree.{principal, action, resource, negation, equal, less, lit, var, both, unary, binary};
+ghost use Rattle.cedar_expr_model.specs.Whole.Worked.{alice, bob};
+ghost use Rattle.cedar_expr_model.specs.Whole.FirstPath.{whole_literal, whole_value, whole_var, whole_unary, whole_binary, whole_tree, WritesTheSame, ConjunctionIsWhole, NestingIsWhole, EqualityIsWhole, ValuesAreKept, TreesAreKept, NoUnknownStands, NoSlotStands};
+
+/// Values of the first path are equal exactly where they are as values of the whole language; different ones stay different.
+pub fn values_are_whole()
+    ensures equality { EqualityIsWhole }
+    ensures kept { ValuesAreKept }
+{}
+
+/// Expressions of the first path write the same truth values, build the same conjunctions and have the same nesting as in the
+/// whole language, and different ones stay different.
+pub fn trees_are_whole()
+    ensures written { WritesTheSame }
+    ensures conjunction { ConjunctionIsWhole }
+    ensures nesting { NestingIsWhole }
+    ensures kept { TreesAreKept }
+{}
+
+/// No unknown and no slot stands in an expression of the first path.
+pub fn nothing_is_open()
+    ensures unknowns { NoUnknownStands }
+    ensures slots { NoSlotStands }
+{}
+
+/// Literals, values, variables and operators of the first path in the whole language.
+pub fn worked_whole_parts()
+    ensures truth_value { whole_literal (small_value.truth false) ≡ truth false }
+    ensures number { whole_literal (small_value.long (pos 3)) ≡ long (pos 3) }
+    ensures uid { whole_literal (small_value.entity alice) ≡ entity alice }
+    ensures value { whole_value (small_value.prim (small_value.entity bob)) ≡ prim (entity bob) }
+    ensures same_values { value_eq (whole_value (small_value.prim (small_value.long (pos 3)))) (whole_value (small_value.prim (small_value.long (pos 3)))) ≡ true }
+    ensures other_values { value_eq (whole_value (small_value.prim (small_value.long (pos 3)))) (whole_value (small_value.prim (small_value.truth true))) ≡ false }
+    ensures principals { whole_var small.principal ≡ principal }
+    ensures actions { whole_var small.action ≡ action }
+    ensures resources { whole_var small.resource ≡ resource }
+    ensures negated { whole_unary small.negation ≡ negation }
+    ensures equals { whole_binary small.equal ≡ equal }
+    ensures lesser { whole_binary small.less ≡ less }
+{}
+
+/// Expressions of the first path in the whole language.
+pub fn worked_whole_trees()
+    ensures compared { whole_tree (small.binary small.less (small.lit (small_value.long (pos 1))) (small.var small.resource)) ≡ binary less (lit (long (pos 1))) (var resource) }
+    ensures negated { whole_tree (small.unary small.negation (small.var small.principal)) ≡ unary negation (var principal) }
+    ensures joined { whole_tree (small.both (small.lit (small_value.truth true)) (small.var small.action)) ≡ both (lit (truth true)) (var action) }
+    ensures folded { whole_tree (small.conjunction (small.lit (small_value.truth true)) (small.lit (small_value.truth false))) ≡ lit (truth false) }
+{}

@@ -1,0 +1,14 @@
+use Rattle.cedar_store_model.proofs.Whole.FirstPathAnswers.{decision_is_whole, reasons_are_whole, errors_are_whole, answer_is_whole}
+use Rattle.cedar_store_model.proofs.whole_first_path.answers_are_whole.Goals as goal
+
+pub returns-clause-decision : goal.returns-clause-decision
+returns-clause-decision c = decision_is_whole
+
+pub returns-clause-reasons : goal.returns-clause-reasons
+returns-clause-reasons c = reasons_are_whole
+
+pub returns-clause-errors : goal.returns-clause-errors
+returns-clause-errors c = errors_are_whole
+
+pub returns-clause-answer : goal.returns-clause-answer
+returns-clause-answer c = answer_is_whole
