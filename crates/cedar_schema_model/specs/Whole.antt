@@ -18,3 +18,4 @@ pub mod Resolved
 pub mod BagLaws
 pub mod TypeWorked
 pub mod DeclWorked
+pub mod FirstPath
