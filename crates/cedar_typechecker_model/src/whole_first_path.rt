@@ -1,0 +1,30 @@
+//! The definitions of the first path are those of the whole language on its part. Each function's contract is the theorem; its
+//! body does nothing.
+
+ghost use Rattle.cedar_typechecker_model.specs.Whole.FirstPath.{JudgementsAreTheSame, TypesAreTheSame, ConditionsAreTheSame, PassingIsTheSame, ImpossibleIsTheSame, KnownTypesAreTheSame, KnownActionsAreTheSame, MembersAlwaysPass, NoViolations, NoPolicyViolations};
+
+/// An expression has the same judgement, and so the same type, in Strict and under plain declarations that are well-formed.
+pub fn types_are_the_same()
+    ensures judgements { JudgementsAreTheSame }
+    ensures types { TypesAreTheSame }
+{}
+
+/// A policy has the same condition, and the same verdicts.
+pub fn verdicts_are_the_same()
+    ensures conditions { ConditionsAreTheSame }
+    ensures passing { PassingIsTheSame }
+    ensures impossible { ImpossibleIsTheSame }
+{}
+
+/// The scope rules say the same, and that of members of enumerations always passes.
+pub fn scope_rules_are_the_same()
+    ensures types { KnownTypesAreTheSame }
+    ensures actions { KnownActionsAreTheSame }
+    ensures members { MembersAlwaysPass }
+{}
+
+/// No expression and no policy of the first path reaches into the store, so none has a violation at any level.
+pub fn levels_always_pass()
+    ensures expressions { NoViolations }
+    ensures policies { NoPolicyViolations }
+{}
