@@ -19,3 +19,4 @@ pub mod BagLaws
 pub mod TypeWorked
 pub mod DeclWorked
 pub mod FirstPath
+pub mod FirstWorked

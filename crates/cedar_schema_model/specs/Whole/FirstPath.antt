@@ -1,6 +1,6 @@
 -- The declarations, types and environments of the first path as ones of the whole language, and what that keeps.
 -- Rule: the first path (docs/RULES.md).
-use Rattle.std.specs.Prelude.{◌≡◌, ◌&&◌, List, [], map, Bool, true, false, not, Option, None}
+use Rattle.std.specs.Prelude.{◌≡◌, ◌↔◌, ◌&&◌, List, [], map, option_map, Bool, true, false, not, Option, None}
 use Rattle.std.specs.List.{list_all, flat_map}
 use Rattle.cedar_expr_model.specs.Name.{Name, name_eq, is_reserved}
 use Rattle.cedar_expr_model.specs.Uid.{Uid}
@@ -12,14 +12,15 @@ use Rattle.cedar_schema_model.specs.Declarations as small
 use Rattle.cedar_schema_model.specs.Types as small_types
 use Rattle.cedar_schema_model.specs.Environment as small_environment
 use Rattle.cedar_schema_model.specs.Conforming as small_conforming
-use Rattle.cedar_schema_model.specs.Whole.Types.{BoolType, any_bool, only_true, only_false, Ty, bool_type, long_type, entity_type, no_attributes}
+use Rattle.cedar_schema_model.specs.Whole.Types.{BoolType, any_bool, only_true, only_false, Ty, bool_type, long_type, entity_type, no_attributes, strict}
 use Rattle.cedar_schema_model.specs.Whole.Schema.{standard, EntityType, Action, Schema, declares_type, declares_action}
 use Rattle.cedar_schema_model.specs.Whole.Environment.{Environment, environments}
 use Rattle.cedar_schema_model.specs.Whole.Reference.{action_word}
 use Rattle.cedar_schema_model.specs.Whole.Declarations.{record_expr, no_field_exprs, standard_expr, EntityDeclaration, ActionDeclaration, Declarations}
-use Rattle.cedar_schema_model.specs.Whole.WellFormed.{SchemaFault, duplicate_entity_type, duplicate_action, undeclared_type, action_as_entity_type, reserved_name, has_schema_fault, well_formed}
+use Rattle.cedar_schema_model.specs.Whole.WellFormed.{SchemaFault, duplicate_entity_type, duplicate_action, undeclared_type, action_as_entity_type, reserved_name, has_schema_fault, IsWellFormed, well_formed}
 use Rattle.cedar_schema_model.specs.Whole.Resolved.{schema_of}
-use Rattle.cedar_schema_model.specs.Whole.Conforming.{parts_of, request_conforms}
+use Rattle.cedar_schema_model.specs.Whole.Conforming.{parts_of, RequestConforms, request_conforms}
+use Rattle.cedar_schema_model.specs.Whole.Join.{join}
 
 -- the Boolean types
 abbrev pub whole_bool : small_types.BoolType → BoolType
@@ -124,7 +125,10 @@ OthersAreNeverThere = (x : List Name) (d : small.Declarations) → is_plain d �
 abbrev pub WellFormedIsTheSame : Type 0
 WellFormedIsTheSame = (x : List Name) (d : small.Declarations) → is_plain d ≡ true → well_formed x (whole_declarations d) ≡ small.well_formed d
 
--- the declarations of the first path
+abbrev pub WellFormedSaysTheSame : Type 0
+WellFormedSaysTheSame = (x : List Name) (d : small.Declarations) → is_plain d ≡ true → IsWellFormed x (whole_declarations d) ↔ small.IsWellFormed d
+
+-- Plain declarations that are well-formed: those that the first path goes on with.
 pub record IsFirst (d : small.Declarations) : Type 0 where
   pub plain : is_plain d ≡ true
   pub formed : small.well_formed d ≡ true
@@ -148,3 +152,11 @@ EnvironmentsAreTheSame = (d : small.Declarations) → IsFirst d → environments
 abbrev pub RequestsConformTheSame : Type 0
 RequestsConformTheSame = (d : small.Declarations) (r : small_world.Request) → IsFirst d
     → request_conforms (schema_of (whole_declarations d)) (parts_of (whole_request r)) ≡ small_conforming.conforms d r
+
+abbrev pub ConformingSaysTheSame : Type 0
+ConformingSaysTheSame = (d : small.Declarations) (r : small_world.Request) → IsFirst d
+    → RequestConforms (schema_of (whole_declarations d)) (parts_of (whole_request r)) ↔ small_conforming.Conforms d r
+
+-- the Strict join of two types is the same
+abbrev pub JoinsAreTheSame : Type 0
+JoinsAreTheSame = (a b : small_types.Ty) → join strict (whole_type a) (whole_type b) ≡ option_map whole_type (small_types.strict_join a b)

@@ -1,5 +1,5 @@
 -- The faults of plain declarations.
-use Rattle.std.proofs.Common.{◌≡◌, List, [], ◌∷◌, ◌++◌, Bool, true, false, not, cond, ◌&&◌, ◌||◌, map, Option, Some, None, refl, sym, ap, ◌∙◌, subst}
+use Rattle.std.proofs.Common.{◌≡◌, ◌↔◌, List, [], ◌∷◌, ◌++◌, Bool, true, false, not, cond, ◌&&◌, ◌||◌, map, Option, Some, None, refl, sym, ap, ◌∙◌, subst}
 use Rattle.std.specs.Prelude.{is_some, is_none}
 use Rattle.std.specs.List.{list_all, list_any, flat_map}
 use Rattle.std.specs.Str.{bytes_eq}
@@ -14,10 +14,12 @@ use Rattle.cedar_schema_model.specs.Declarations as small
 use Rattle.cedar_schema_model.specs.Whole.Descent.{reaches}
 use Rattle.cedar_schema_model.specs.Whole.Reference.{Namespace, action_word, name_in, to_entity, Reference, Meant, meant_entity}
 use Rattle.cedar_schema_model.specs.Whole.Declarations.{EntityDeclaration, ActionDeclaration, entity_name, action_uid, entity_names, action_uids, is_declared, meant, parent_meant, types_in, extensions_in, to_entities, references_of_entity, references_of_action, references, extensions}
-use Rattle.cedar_schema_model.specs.Whole.WellFormed.{SchemaFault, duplicate_entity_type, duplicate_common_type, duplicate_action, undeclared_type, undeclared_action, cycle_of_common_types, cycle_of_actions, action_as_entity_type, context_not_record, reserved_name, shadowing, unknown_extension_type, unresolved_external, has_twice, has_parent_action, is_qualified, unqualified_uid, declared_types, shadows, becomes_record, is_external_kind, written_names, has_schema_fault, well_formed}
+use Rattle.cedar_schema_model.specs.Whole.WellFormed.{SchemaFault, duplicate_entity_type, duplicate_common_type, duplicate_action, undeclared_type, undeclared_action, cycle_of_common_types, cycle_of_actions, action_as_entity_type, context_not_record, reserved_name, shadowing, unknown_extension_type, unresolved_external, has_twice, has_parent_action, is_qualified, unqualified_uid, declared_types, shadows, becomes_record, is_external_kind, written_names, has_schema_fault, IsWellFormed, well_formed}
 use Rattle.cedar_schema_model.specs.Whole.FirstPath.{whole_entity, whole_action, whole_declarations, whole_fault, is_first_fault, is_plain_action, is_plain, refers_unreserved, also_asked}
 use Rattle.cedar_schema_model.proofs.Order.{all_agree}
-use Rattle.cedar_schema_model.proofs.Whole.FirstPath.Lists.{and_true, and_false, not_or, not_not, any_map, any_none, any_none_where, not_any, flat_none, all_agree_where, all_implied, all_true, map_twice, map_agree_where}
+use Rattle.cedar_schema_model.proofs.WellFormed as small_formed
+use Rattle.cedar_schema_model.proofs.Whole.Decls.Faults.{well_formed-Decides}
+use Rattle.cedar_schema_model.proofs.Whole.FirstPath.Lists.{and_true, and_false, not_or, not_not, any_map, any_none, any_none_where, same_said, not_any, flat_none, all_agree_where, all_implied, all_true, map_twice, map_agree_where}
 
 pub plain_types : (d : small.Declarations) → is_plain d ≡ true → list_all (λ (t : small.TypeDeclaration). is_unqualified t.name) d.types ≡ true
 plain_types d h = (both_hold (list_all (λ (t : small.TypeDeclaration). is_unqualified t.name) d.types) (list_all is_plain_action d.actions) h).0
@@ -254,3 +256,6 @@ same_formed x d h =
     (λ i. s small.duplicate_entity_type i && (o duplicate_common_type refl i && (s small.duplicate_action i && (s small.undeclared_type i && (o undeclared_action refl i && (o cycle_of_common_types refl i
       && (o cycle_of_actions refl i && (s small.action_as_entity_type i && (o context_not_record refl i && (s small.reserved_name i && (o shadowing refl i && (o unknown_extension_type refl i && true))))))))))))
     ∙ all_together (small.is_free_of small.duplicate_entity_type d) (small.is_free_of small.duplicate_action d) (small.is_free_of small.undeclared_type d) (small.is_free_of small.action_as_entity_type d) (small.is_free_of small.reserved_name d) (also_asked small.reserved_name d) (nothing_asked d small.reserved_name)
+
+pub formed_says : (x : List Name) (d : small.Declarations) → is_plain d ≡ true → IsWellFormed x (whole_declarations d) ↔ small.IsWellFormed d
+formed_says x d h = same_said (well_formed x (whole_declarations d)) (small.well_formed d) (well_formed-Decides x (whole_declarations d)) (small_formed.well_formed-Decides d) (same_formed x d h)

@@ -1,5 +1,6 @@
 -- Tests, maps and filters of lists.
-use Rattle.std.proofs.Common.{◌≡◌, List, [], ◌∷◌, ◌++◌, Bool, true, false, not, cond, ◌&&◌, ◌||◌, map, Option, Some, None, refl, sym, ap, ◌∙◌, subst}
+use Rattle.std.proofs.Common.{◌≡◌, ◌↔◌, List, [], ◌∷◌, ◌++◌, Bool, true, false, not, cond, ◌&&◌, ◌||◌, map, Option, Some, None, refl, sym, ap, ◌∙◌, subst}
+use Rattle.std.specs.Bool.{Decides}
 use Rattle.std.specs.Prelude.{is_some, find, option_map}
 use Rattle.std.specs.List.{list_all, list_any, flat_map, filter_map, cons_option}
 use Rattle.cedar_expr_model.proofs.Lists.{both_hold, hold_both}
@@ -99,3 +100,7 @@ flat_agree f g h (x ∷ xs) = λ i. h x i ++ flat_agree f g h xs i
 pub flat_single : {X : Type 0} (f : X → List X) → ((x : X) → f x ≡ x ∷ []) → (xs : List X) → flat_map f xs ≡ xs
 flat_single f h [] = refl
 flat_single f h (x ∷ xs) = λ i. h x i ++ flat_single f h xs i
+
+-- where two tests are the same, so is what they decide
+pub same_said : {P Q : Type 0} (b c : Bool) → Decides b P → Decides c Q → b ≡ c → P ↔ Q
+same_said b c f g e = (λ p. g.0 (sym e ∙ f.1 p), λ q. f.0 (e ∙ g.1 q))

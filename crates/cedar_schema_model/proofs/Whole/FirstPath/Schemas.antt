@@ -1,5 +1,5 @@
 -- The schema of plain declarations, its environments, and the requests that conform to it.
-use Rattle.std.proofs.Common.{◌≡◌, List, [], ◌∷◌, ◌++◌, Bool, true, false, not, cond, ◌&&◌, ◌||◌, map, Option, Some, None, refl, sym, ap, ◌∙◌, subst}
+use Rattle.std.proofs.Common.{◌≡◌, ◌↔◌, List, [], ◌∷◌, ◌++◌, Bool, true, false, not, cond, ◌&&◌, ◌||◌, map, Option, Some, None, refl, sym, ap, ◌∙◌, subst}
 use Rattle.std.specs.Prelude.{is_some, is_none, find, option_map}
 use Rattle.std.specs.Option.{option_map_or}
 use Rattle.std.specs.List.{list_all, list_any, flat_map, filter_map}
@@ -19,10 +19,12 @@ use Rattle.cedar_schema_model.specs.Whole.Reference.{Namespace, Meant, meant_ent
 use Rattle.cedar_schema_model.specs.Whole.Declarations.{action_uid}
 use Rattle.cedar_schema_model.specs.Whole.Resolved.{entity_of, entity_meant, resolved_entity, resolved_action, schema_of}
 use Rattle.cedar_schema_model.specs.Whole.HasType.{has_type}
-use Rattle.cedar_schema_model.specs.Whole.Conforming.{among_actions, of_kind, nowhere, place_of, is_no_member, where_known, is_not_listed, parts_of, request_conforms}
+use Rattle.cedar_schema_model.specs.Whole.Conforming.{among_actions, of_kind, nowhere, place_of, is_no_member, where_known, is_not_listed, parts_of, RequestConforms, request_conforms}
 use Rattle.cedar_schema_model.specs.Whole.FirstPath.{whole_entity, whole_action, whole_declarations, whole_environment, whole_request, is_plain_action, is_plain, schema_entity, schema_action, whole_schema, IsFirst}
 use Rattle.cedar_schema_model.proofs.WellFormed.{well_formed-Decides}
-use Rattle.cedar_schema_model.proofs.Whole.FirstPath.Lists.{any_map, map_twice, map_agree_where, filter_keeps, find_map, found_any, map_flat, flat_agree}
+use Rattle.cedar_schema_model.proofs.Conforming.{conforms-Decides}
+use Rattle.cedar_schema_model.proofs.Whole.Decls.Conforming.{request_conforms-Decides}
+use Rattle.cedar_schema_model.proofs.Whole.FirstPath.Lists.{any_map, map_twice, map_agree_where, filter_keeps, find_map, found_any, map_flat, flat_agree, same_said}
 use Rattle.cedar_schema_model.proofs.Whole.FirstPath.Faults.{plain_actions, plain_path, same_uid, same_meant}
 
 -- what is listed is found as it is
@@ -174,3 +176,8 @@ conforms_to_schema d r h =
 
 pub same_requests : (d : small.Declarations) (r : small_world.Request) → IsFirst d → request_conforms (schema_of (whole_declarations d)) (parts_of (whole_request r)) ≡ small_conforming.conforms d r
 same_requests d r h = ap (λ s. request_conforms s (parts_of (whole_request r))) (same_schema d h) ∙ conforms_to_schema d r ((well_formed-Decides d).0 h.formed).actions_once
+
+pub conforming_says : (d : small.Declarations) (r : small_world.Request) → IsFirst d → RequestConforms (schema_of (whole_declarations d)) (parts_of (whole_request r)) ↔ small_conforming.Conforms d r
+conforming_says d r h =
+    same_said (request_conforms (schema_of (whole_declarations d)) (parts_of (whole_request r))) (small_conforming.conforms d r)
+    (request_conforms-Decides (schema_of (whole_declarations d)) (parts_of (whole_request r))) (conforms-Decides d r) (same_requests d r h)

@@ -1,4 +1,4 @@
-use Rattle.cedar_schema_model.proofs.Whole.FirstPath.Faults.{same_faults, nothing_asked, others_never, same_formed}
+use Rattle.cedar_schema_model.proofs.Whole.FirstPath.Faults.{same_faults, nothing_asked, others_never, same_formed, formed_says}
 use Rattle.cedar_schema_model.proofs.whole_first_path.faults_are_the_same.Goals as goal
 
 pub returns-clause-same : goal.returns-clause-same
@@ -12,3 +12,6 @@ returns-clause-others c = others_never
 
 pub returns-clause-well_formed : goal.returns-clause-well_formed
 returns-clause-well_formed c = same_formed
+
+pub returns-clause-says : goal.returns-clause-says
+returns-clause-says c = formed_says

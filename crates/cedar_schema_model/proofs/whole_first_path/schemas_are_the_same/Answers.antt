@@ -1,4 +1,4 @@
-use Rattle.cedar_schema_model.proofs.Whole.FirstPath.Schemas.{same_schema, same_types, same_declared_actions, same_environments, same_requests}
+use Rattle.cedar_schema_model.proofs.Whole.FirstPath.Schemas.{same_schema, same_types, same_declared_actions, same_environments, same_requests, conforming_says}
 use Rattle.cedar_schema_model.proofs.whole_first_path.schemas_are_the_same.Goals as goal
 
 pub returns-clause-schema : goal.returns-clause-schema
@@ -15,3 +15,6 @@ returns-clause-environments c = same_environments
 
 pub returns-clause-requests : goal.returns-clause-requests
 returns-clause-requests c = same_requests
+
+pub returns-clause-says : goal.returns-clause-says
+returns-clause-says c = conforming_says
