@@ -1,7 +1,7 @@
 -- The declarations, types and environments of the first path as ones of the whole language, and what that keeps.
 -- Rule: the first path (docs/RULES.md).
-use Rattle.std.specs.Prelude.{◌≡◌, ◌↔◌, ◌&&◌, List, [], map, option_map, Bool, true, false, not, Option, None}
-use Rattle.std.specs.List.{list_all, flat_map}
+use Rattle.std.specs.Prelude.{◌≡◌, ◌↔◌, ◌&&◌, List, [], map, option_map, Bool, true, false, not, None}
+use Rattle.std.specs.List.{list_all}
 use Rattle.cedar_expr_model.specs.Name.{Name, name_eq, is_reserved}
 use Rattle.cedar_expr_model.specs.Uid.{Uid}
 use Rattle.cedar_expr_model.specs.Whole.Names.{is_unqualified, unqualified}

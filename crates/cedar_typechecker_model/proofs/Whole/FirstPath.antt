@@ -1,3 +1,4 @@
 pub mod Typing
 pub mod Naming
 pub mod Verdicts
+pub mod Readings

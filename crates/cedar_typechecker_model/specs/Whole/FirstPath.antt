@@ -1,17 +1,19 @@
 -- Typing, the scope rules, the verdicts and the levels of the first path, as those of the whole language.
 -- Rule: the first path (docs/RULES.md).
-use Rattle.std.specs.Prelude.{◌≡◌, ℕ, List, [], Bool, true, Option, option_map}
+use Rattle.std.specs.Prelude.{◌≡◌, ◌↔◌, ℕ, List, [], Bool, true, Option, option_map}
 use Rattle.cedar_expr_model.specs.Tree as small_tree
 use Rattle.cedar_expr_model.specs.Whole.Table.{Table}
 use Rattle.cedar_store_model.specs.Policy as small_policy
 use Rattle.cedar_store_model.specs.Whole.Policy.{condition}
 use Rattle.cedar_schema_model.specs.Declarations as small_declarations
 use Rattle.cedar_schema_model.specs.Environment as small_environment
-use Rattle.cedar_schema_model.specs.Whole.Types.{Ty, Mode, strict}
+use Rattle.cedar_schema_model.specs.Types as small_types
+use Rattle.cedar_schema_model.specs.Whole.Types.{Ty, Mode}
 use Rattle.cedar_schema_model.specs.Whole.Schema.{Schema}
 use Rattle.cedar_schema_model.specs.Whole.Resolved.{schema_of}
 use Rattle.cedar_schema_model.specs.Whole.FirstPath.{whole_type, whole_environment, whole_declarations, IsFirst}
 use Rattle.cedar_typechecker_model.specs.Facts as small_facts
+use Rattle.cedar_typechecker_model.specs.Rules as small_rules
 use Rattle.cedar_typechecker_model.specs.Typing as small
 use Rattle.cedar_typechecker_model.specs.ScopeRules as small_scope
 use Rattle.cedar_typechecker_model.specs.Verdicts as small_verdicts
@@ -19,8 +21,8 @@ use Rattle.cedar_typechecker_model.specs.Whole.Facts.{Facts, no_facts}
 use Rattle.cedar_typechecker_model.specs.Whole.Rules.{Setting}
 use Rattle.cedar_typechecker_model.specs.Whole.Typing.{Types, Judgement, judgement, type_of}
 use Rattle.cedar_typechecker_model.specs.Whole.Levels.{violations}
-use Rattle.cedar_typechecker_model.specs.Whole.ScopeRules.{names_known_types, names_known_actions, names_known_members}
-use Rattle.cedar_typechecker_model.specs.Whole.Verdicts.{strictly, passes, impossible, policy_violations_in}
+use Rattle.cedar_typechecker_model.specs.Whole.ScopeRules.{NamesKnownTypes, NamesKnownActions, NamesKnownMembers, names_known_types, names_known_actions, names_known_members}
+use Rattle.cedar_typechecker_model.specs.Whole.Verdicts.{strictly, Passes, IsImpossible, passes, impossible, policy_violations_in}
 use Rattle.cedar_typechecker_model.specs.Whole.FirstTrees.{whole_tree, whole_policy}
 
 -- the schema of declarations of the first path
@@ -45,6 +47,15 @@ abbrev pub TypesAreTheSame : Type 0
 TypesAreTheSame = (d : small_declarations.Declarations) (x : Table) (e : small_environment.Environment) (t : small_tree.Tree) → IsFirst d
     → type_of (whole_setting d x e) (whole_tree t) ≡ option_map whole_type (small.type_of (small_verdicts.setting d e) t)
 
+-- A type of the first path, and no facts.
+abbrev pub TypedFirst : small_rules.Setting → small_facts.Facts → small_tree.Tree → Ty → Facts → Type 0
+TypedFirst s before t ty out = (u : small_types.Ty) × (f : small_facts.Facts) × small.Types s before t u f × (ty ≡ whole_type u) × (out ≡ no_facts)
+
+-- as relations: what has a type here has it there, without facts, and has no other
+abbrev pub TypingSaysTheSame : Type 0
+TypingSaysTheSame = (d : small_declarations.Declarations) (x : Table) (e : small_environment.Environment) (known : Facts) (before : small_facts.Facts) (t : small_tree.Tree) (ty : Ty) (out : Facts) → IsFirst d
+    → Types (whole_setting d x e) known (whole_tree t) ty out ↔ TypedFirst (small_verdicts.setting d e) before t ty out
+
 -- the condition of a policy is the same
 abbrev pub ConditionsAreTheSame : Type 0
 ConditionsAreTheSame = (p : small_policy.Policy) → condition (whole_policy p) ≡ whole_tree (small_policy.condition p)
@@ -56,6 +67,12 @@ PassingIsTheSame = (d : small_declarations.Declarations) (x : Table) (p : small_
 abbrev pub ImpossibleIsTheSame : Type 0
 ImpossibleIsTheSame = (d : small_declarations.Declarations) (x : Table) (p : small_policy.Policy) → IsFirst d → impossible (first_schema d) x (whole_policy p) ≡ small_verdicts.impossible d p
 
+abbrev pub PassingSaysTheSame : Type 0
+PassingSaysTheSame = (d : small_declarations.Declarations) (x : Table) (p : small_policy.Policy) → IsFirst d → Passes (first_schema d) x (whole_policy p) ↔ small_verdicts.Passes d p
+
+abbrev pub ImpossibleSaysTheSame : Type 0
+ImpossibleSaysTheSame = (d : small_declarations.Declarations) (x : Table) (p : small_policy.Policy) → IsFirst d → IsImpossible (first_schema d) x (whole_policy p) ↔ small_verdicts.IsImpossible d p
+
 -- the same policies name known types and known actions
 abbrev pub KnownTypesAreTheSame : Type 0
 KnownTypesAreTheSame = (d : small_declarations.Declarations) (p : small_policy.Policy) → IsFirst d → names_known_types (first_schema d) (whole_policy p) ≡ small_scope.each_named (small_scope.has_known_type d) p
@@ -66,6 +83,15 @@ KnownActionsAreTheSame = (d : small_declarations.Declarations) (p : small_policy
 -- no member of an enumeration lacks: there is none
 abbrev pub MembersAlwaysPass : Type 0
 MembersAlwaysPass = (d : small_declarations.Declarations) (p : small_policy.Policy) → IsFirst d → names_known_members (first_schema d) (whole_policy p) ≡ true
+
+abbrev pub KnownTypesSayTheSame : Type 0
+KnownTypesSayTheSame = (d : small_declarations.Declarations) (p : small_policy.Policy) → IsFirst d → NamesKnownTypes (first_schema d) (whole_policy p) ↔ small_scope.EachNamed (small_scope.has_known_type d) p
+
+abbrev pub KnownActionsSayTheSame : Type 0
+KnownActionsSayTheSame = (d : small_declarations.Declarations) (p : small_policy.Policy) → IsFirst d → NamesKnownActions (first_schema d) (whole_policy p) ↔ small_scope.EachNamed (small_scope.is_no_unknown_action d) p
+
+abbrev pub MembersAreKnown : Type 0
+MembersAreKnown = (d : small_declarations.Declarations) (p : small_policy.Policy) → IsFirst d → NamesKnownMembers (first_schema d) (whole_policy p)
 
 -- In any setting an expression of the first path has no violation at any level, and so a policy has none.
 abbrev pub NoViolations : Type 0

@@ -1,6 +1,6 @@
 -- The faults of plain declarations.
-use Rattle.std.proofs.Common.{◌≡◌, ◌↔◌, List, [], ◌∷◌, ◌++◌, Bool, true, false, not, cond, ◌&&◌, ◌||◌, map, Option, Some, None, refl, sym, ap, ◌∙◌, subst}
-use Rattle.std.specs.Prelude.{is_some, is_none}
+use Rattle.std.proofs.Common.{◌≡◌, ◌↔◌, List, [], ◌∷◌, ◌++◌, Bool, true, false, not, cond, ◌&&◌, ◌||◌, map, Option, Some, None, refl, sym, ap, ◌∙◌}
+use Rattle.std.specs.Prelude.{is_none}
 use Rattle.std.specs.List.{list_all, list_any, flat_map}
 use Rattle.std.specs.Str.{bytes_eq}
 use Rattle.std.specs.Option.{option_eq}
@@ -19,7 +19,7 @@ use Rattle.cedar_schema_model.specs.Whole.FirstPath.{whole_entity, whole_action,
 use Rattle.cedar_schema_model.proofs.Order.{all_agree}
 use Rattle.cedar_schema_model.proofs.WellFormed as small_formed
 use Rattle.cedar_schema_model.proofs.Whole.Decls.Faults.{well_formed-Decides}
-use Rattle.cedar_schema_model.proofs.Whole.FirstPath.Lists.{and_true, and_false, not_or, not_not, any_map, any_none, any_none_where, same_said, not_any, flat_none, all_agree_where, all_implied, all_true, map_twice, map_agree_where}
+use Rattle.cedar_schema_model.proofs.Whole.FirstPath.Lists.{and_true, and_false, not_or, any_map, any_none, any_none_where, same_said, not_any, all_implied, map_twice, map_agree_where}
 
 pub plain_types : (d : small.Declarations) → is_plain d ≡ true → list_all (λ (t : small.TypeDeclaration). is_unqualified t.name) d.types ≡ true
 plain_types d h = (both_hold (list_all (λ (t : small.TypeDeclaration). is_unqualified t.name) d.types) (list_all is_plain_action d.actions) h).0
@@ -118,7 +118,6 @@ same_undeclared d h =
     ∙ (ap (list_all (λ r. not (p r))) (same_references d)
     ∙ all_references (λ r. not (p r)) (small.declares_type d) (λ ns e n. ap (λ m. not (is_none m)) (same_meant d ns e n) ∙ not_undeclared (small.declares_type d n) n) d.actions (plain_actions d h))
 
-
 same_action_word : (d : small.Declarations) → not (list_any (λ (t : EntityDeclaration). bytes_eq action_word t.word) (map whole_entity d.types)) ≡ list_all (λ (t : small.TypeDeclaration). not (bytes_eq small.action_word t.name.base)) d.types
 same_action_word d = not_any (λ (t : EntityDeclaration). bytes_eq action_word t.word) (map whole_entity d.types) ∙ list_all-map (λ (t : EntityDeclaration). not (bytes_eq action_word t.word)) whole_entity d.types
 
@@ -159,12 +158,12 @@ same_reserved d h =
     not_any is_reserved (written_names (whole_declarations d))
     ∙ (list_all-append unreserved types (actions ++ (refs ++ last_names d))
     ∙ (ap (λ b. list_all unreserved types && b) (
-      list_all-append unreserved actions (refs ++ last_names d)
-      ∙ (ap (λ b. b && list_all unreserved (refs ++ last_names d)) (action_names_unreserved d h)
-      ∙ (list_all-append unreserved refs (last_names d)
-      ∙ (ap (λ l. list_all unreserved refs && list_all unreserved l) (no_last_names d)
-      ∙ (and_true (list_all unreserved refs)
-      ∙ reference_names d h)))))
+    list_all-append unreserved actions (refs ++ last_names d)
+    ∙ (ap (λ b. b && list_all unreserved (refs ++ last_names d)) (action_names_unreserved d h)
+    ∙ (list_all-append unreserved refs (last_names d)
+    ∙ (ap (λ l. list_all unreserved refs && list_all unreserved l) (no_last_names d)
+    ∙ (and_true (list_all unreserved refs)
+    ∙ reference_names d h)))))
     ∙ ap (λ b. b && list_all refers_unreserved d.actions) (ap (list_all unreserved) (same_names d) ∙ list_all-map unreserved (λ (t : small.TypeDeclaration). t.name) d.types)))
 
 pub same_faults : (x : List Name) (d : small.Declarations) → is_plain d ≡ true → (f : small.SchemaFault) → not (has_schema_fault x (whole_declarations d) (whole_fault f)) ≡ (small.is_free_of f d && also_asked f d)
@@ -214,13 +213,13 @@ no_shadows d h =
     let p : Name → Bool = λ n. is_qualified n && list_any (name_eq (unqualified n.base)) (declared_types e) in
     let q : Uid → Bool = λ u. is_qualified u.kind && list_any (uid_eq (unqualified_uid u)) (action_uids e) in
     let first : list_any p (declared_types e) ≡ false =
-        ap (list_any p) (same_names d)
-        ∙ (any_map p (λ (t : small.TypeDeclaration). t.name) d.types
-        ∙ any_none_where (λ (t : small.TypeDeclaration). is_unqualified t.name) (λ (t : small.TypeDeclaration). p t.name) (λ t k. not_qualified t.name (list_any (name_eq (unqualified t.name.base)) (declared_types e)) k) d.types (plain_types d h)) in
+    ap (list_any p) (same_names d)
+    ∙ (any_map p (λ (t : small.TypeDeclaration). t.name) d.types
+    ∙ any_none_where (λ (t : small.TypeDeclaration). is_unqualified t.name) (λ (t : small.TypeDeclaration). p t.name) (λ t k. not_qualified t.name (list_any (name_eq (unqualified t.name.base)) (declared_types e)) k) d.types (plain_types d h)) in
     let second : list_any q (action_uids e) ≡ false =
-        ap (list_any q) (same_uids d h)
-        ∙ (any_map q (λ (a : small.ActionDeclaration). a.uid) d.actions
-        ∙ any_none_where is_plain_action (λ (a : small.ActionDeclaration). q a.uid) (λ a k. not_qualified a.uid.kind (list_any (uid_eq (unqualified_uid a.uid)) (action_uids e)) (ap is_unqualified (plain_kind a k))) d.actions (plain_actions d h)) in
+    ap (list_any q) (same_uids d h)
+    ∙ (any_map q (λ (a : small.ActionDeclaration). a.uid) d.actions
+    ∙ any_none_where is_plain_action (λ (a : small.ActionDeclaration). q a.uid) (λ a k. not_qualified a.uid.kind (list_any (uid_eq (unqualified_uid a.uid)) (action_uids e)) (ap is_unqualified (plain_kind a k))) d.actions (plain_actions d h)) in
     λ i. first i || second i
 
 pub others_never : (x : List Name) (d : small.Declarations) → is_plain d ≡ true → (f : SchemaFault) → is_first_fault f ≡ false → has_schema_fault x (whole_declarations d) f ≡ false
@@ -254,7 +253,7 @@ same_formed x d h =
     let s = same_faults x d h in
     let o : (f : SchemaFault) → is_first_fault f ≡ false → not (has_schema_fault x (whole_declarations d) f) ≡ true = λ f k. ap not (others_never x d h f k) in
     (λ i. s small.duplicate_entity_type i && (o duplicate_common_type refl i && (s small.duplicate_action i && (s small.undeclared_type i && (o undeclared_action refl i && (o cycle_of_common_types refl i
-      && (o cycle_of_actions refl i && (s small.action_as_entity_type i && (o context_not_record refl i && (s small.reserved_name i && (o shadowing refl i && (o unknown_extension_type refl i && true))))))))))))
+    && (o cycle_of_actions refl i && (s small.action_as_entity_type i && (o context_not_record refl i && (s small.reserved_name i && (o shadowing refl i && (o unknown_extension_type refl i && true))))))))))))
     ∙ all_together (small.is_free_of small.duplicate_entity_type d) (small.is_free_of small.duplicate_action d) (small.is_free_of small.undeclared_type d) (small.is_free_of small.action_as_entity_type d) (small.is_free_of small.reserved_name d) (also_asked small.reserved_name d) (nothing_asked d small.reserved_name)
 
 pub formed_says : (x : List Name) (d : small.Declarations) → is_plain d ≡ true → IsWellFormed x (whole_declarations d) ↔ small.IsWellFormed d

@@ -1,5 +1,5 @@
 -- Types of the first path have the same joins.
-use Rattle.std.proofs.Common.{◌≡◌, [], ◌∷◌, Bool, true, false, cond, ◌&&◌, ◌||◌, Option, Some, None, refl, sym, ap, ◌∙◌, Ordering, Equal}
+use Rattle.std.proofs.Common.{◌≡◌, [], ◌∷◌, Bool, true, false, cond, ◌&&◌, ◌||◌, Some, None, refl, sym, ap, ◌∙◌, Ordering, Equal}
 use Rattle.std.specs.Prelude.{option_map}
 use Rattle.std.specs.Ordering.{match_ordering}
 use Rattle.std.proofs.lemmas.Cmp.{tied_itself}

@@ -1,6 +1,6 @@
 -- The schema of plain declarations, its environments, and the requests that conform to it.
-use Rattle.std.proofs.Common.{◌≡◌, ◌↔◌, List, [], ◌∷◌, ◌++◌, Bool, true, false, not, cond, ◌&&◌, ◌||◌, map, Option, Some, None, refl, sym, ap, ◌∙◌, subst}
-use Rattle.std.specs.Prelude.{is_some, is_none, find, option_map}
+use Rattle.std.proofs.Common.{◌≡◌, ◌↔◌, List, [], ◌∷◌, ◌++◌, Bool, true, false, not, cond, ◌&&◌, ◌||◌, map, Option, Some, None, refl, sym, ap, ◌∙◌}
+use Rattle.std.specs.Prelude.{is_some, find, option_map}
 use Rattle.std.specs.Option.{option_map_or}
 use Rattle.std.specs.List.{list_all, list_any, flat_map, filter_map}
 use Rattle.cedar_expr_model.specs.Name.{Text, Name, name_eq}
@@ -13,18 +13,17 @@ use Rattle.cedar_schema_model.specs.Declarations as small
 use Rattle.cedar_schema_model.specs.Environment as small_environment
 use Rattle.cedar_schema_model.specs.Conforming as small_conforming
 use Rattle.cedar_schema_model.specs.Whole.Types.{record_type, is_closed, no_attributes}
-use Rattle.cedar_schema_model.specs.Whole.Schema.{EntityType, Action, Schema, type_named, action_with, declares_type, declares_action}
-use Rattle.cedar_schema_model.specs.Whole.Environment.{Environment, environment_at, environments_of, environments}
-use Rattle.cedar_schema_model.specs.Whole.Reference.{Namespace, Meant, meant_entity}
-use Rattle.cedar_schema_model.specs.Whole.Declarations.{action_uid}
+use Rattle.cedar_schema_model.specs.Whole.Schema.{EntityType, Action, action_with, declares_type, declares_action}
+use Rattle.cedar_schema_model.specs.Whole.Environment.{environment_at, environments_of, environments}
+use Rattle.cedar_schema_model.specs.Whole.Reference.{Namespace, meant_entity}
 use Rattle.cedar_schema_model.specs.Whole.Resolved.{entity_of, entity_meant, resolved_entity, resolved_action, schema_of}
 use Rattle.cedar_schema_model.specs.Whole.HasType.{has_type}
 use Rattle.cedar_schema_model.specs.Whole.Conforming.{among_actions, of_kind, nowhere, place_of, is_no_member, where_known, is_not_listed, parts_of, RequestConforms, request_conforms}
-use Rattle.cedar_schema_model.specs.Whole.FirstPath.{whole_entity, whole_action, whole_declarations, whole_environment, whole_request, is_plain_action, is_plain, schema_entity, schema_action, whole_schema, IsFirst}
+use Rattle.cedar_schema_model.specs.Whole.FirstPath.{whole_entity, whole_action, whole_declarations, whole_environment, whole_request, is_plain_action, schema_entity, schema_action, whole_schema, IsFirst}
 use Rattle.cedar_schema_model.proofs.WellFormed.{well_formed-Decides}
 use Rattle.cedar_schema_model.proofs.Conforming.{conforms-Decides}
 use Rattle.cedar_schema_model.proofs.Whole.Decls.Conforming.{request_conforms-Decides}
-use Rattle.cedar_schema_model.proofs.Whole.FirstPath.Lists.{any_map, map_twice, map_agree_where, filter_keeps, find_map, found_any, map_flat, flat_agree, same_said}
+use Rattle.cedar_schema_model.proofs.Whole.FirstPath.Lists.{any_map, map_twice, filter_keeps, find_map, found_any, map_flat, flat_agree, same_said}
 use Rattle.cedar_schema_model.proofs.Whole.FirstPath.Faults.{plain_actions, plain_path, same_uid, same_meant}
 
 -- what is listed is found as it is
