@@ -1,5 +1,5 @@
 -- The declarations, types and environments of the first path as ones of the whole language, and what that keeps.
--- Rule: the first path (docs/RULES.md).
+-- Rule: declarations; well-formed declarations; schemas; environments; conforming requests; joins (docs/RULES.md).
 use Rattle.std.specs.Prelude.{◌≡◌, ◌↔◌, ◌&&◌, List, [], map, option_map, Bool, true, false, not, None}
 use Rattle.std.specs.List.{list_all}
 use Rattle.cedar_expr_model.specs.Name.{Name, name_eq, is_reserved}

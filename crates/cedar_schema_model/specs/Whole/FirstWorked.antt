@@ -1,5 +1,5 @@
 -- The values of the worked examples of the first path.
--- Rule: the first path (docs/RULES.md).
+-- Rule: declarations; well-formed declarations (docs/RULES.md).
 use Rattle.std.specs.Prelude.{[], ◌∷◌, codes}
 use Rattle.cedar_expr_model.specs.Name.{Text, Name}
 use Rattle.cedar_expr_model.specs.Uid.{Uid}

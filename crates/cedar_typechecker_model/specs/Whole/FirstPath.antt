@@ -1,6 +1,6 @@
 -- Typing, the scope rules, the verdicts and the levels of the first path, as those of the whole language.
--- Rule: the first path (docs/RULES.md).
-use Rattle.std.specs.Prelude.{◌≡◌, ◌↔◌, ℕ, List, [], Bool, true, Option, option_map}
+-- Rule: typing; the scope rules; the acceptance rules; impossible policies; levels (docs/RULES.md).
+use Rattle.std.specs.Prelude.{◌≡◌, ◌↔◌, ℕ, [], true, option_map}
 use Rattle.cedar_expr_model.specs.Tree as small_tree
 use Rattle.cedar_expr_model.specs.Whole.Table.{Table}
 use Rattle.cedar_store_model.specs.Policy as small_policy

@@ -1,6 +1,6 @@
 -- The expressions and policies of the first path as ones of the whole language.
--- Rule: the first path (docs/RULES.md).
-use Rattle.std.specs.Prelude.{[], Option, Some}
+-- Rule: expressions; policies and templates (docs/RULES.md).
+use Rattle.std.specs.Prelude.{[], Some}
 use Rattle.cedar_expr_model.specs.Value as small_value
 use Rattle.cedar_expr_model.specs.Tree as small_tree
 use Rattle.cedar_expr_model.specs.Whole.Value.{Literal, truth, long, entity}

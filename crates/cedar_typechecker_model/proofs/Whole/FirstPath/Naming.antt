@@ -1,20 +1,20 @@
 -- What a policy of the first path names, and its condition.
-use Rattle.std.proofs.Common.{◌≡◌, List, [], ◌∷◌, ◌++◌, Bool, true, false, not, cond, ◌&&◌, ◌||◌, map, Option, Some, None, refl, sym, ap, ◌∙◌}
+use Rattle.std.proofs.Common.{◌≡◌, List, [], ◌++◌, Bool, true, not, ◌&&◌, ◌||◌, map, Option, Some, None, refl, ap, ◌∙◌}
 use Rattle.std.specs.Prelude.{find, option_map}
-use Rattle.std.specs.List.{list_all, list_any, filter_map}
+use Rattle.std.specs.List.{list_all, filter_map}
 use Rattle.std.proofs.lemmas.List.Elements.{filter_map-append}
 use Rattle.std.proofs.lemmas.List.Folds.{list_all-append, list_all-map}
 use Rattle.cedar_expr_model.specs.Name.{Name, Text, name_eq}
-use Rattle.cedar_expr_model.specs.Uid.{Uid, uid_eq}
+use Rattle.cedar_expr_model.specs.Uid.{Uid}
 use Rattle.cedar_expr_model.specs.Value as small_value
 use Rattle.cedar_expr_model.specs.Tree as small_tree
-use Rattle.cedar_expr_model.specs.Whole.Tree.{Tree, principal, action, resource, principal_slot, resource_slot, both}
+use Rattle.cedar_expr_model.specs.Whole.Tree.{Tree, principal, resource, principal_slot, resource_slot, both}
 use Rattle.cedar_expr_model.specs.Whole.Parts.{subexpressions}
 use Rattle.cedar_expr_model.specs.Whole.Builder.{written_truth, folded, conjunction}
 use Rattle.cedar_store_model.specs.Policy as small_policy
 use Rattle.cedar_store_model.specs.Whole.Policy.{scope_tree, action_tree, condition}
 use Rattle.cedar_schema_model.specs.Declarations as small_declarations
-use Rattle.cedar_schema_model.specs.Whole.Schema.{Schema, EntityType, Action}
+use Rattle.cedar_schema_model.specs.Whole.Schema.{EntityType, Action}
 use Rattle.cedar_schema_model.specs.Whole.FirstPath.{schema_entity, schema_action, whole_schema, IsFirst}
 use Rattle.cedar_schema_model.proofs.Order.{all_agree}
 use Rattle.cedar_schema_model.proofs.Whole.FirstPath.Lists.{and_true, any_map, all_true, find_map}

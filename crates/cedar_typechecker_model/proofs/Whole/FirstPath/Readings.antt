@@ -1,14 +1,13 @@
 -- Typing, the verdicts and the scope rules of the first path as relations.
-use Rattle.std.proofs.Common.{◌≡◌, ◌↔◌, Option, Some, None, refl, sym, ap, ◌∙◌, subst}
+use Rattle.std.proofs.Common.{◌≡◌, ◌↔◌, Option, Some, None, refl, sym, ap, ◌∙◌}
 use Rattle.std.specs.Prelude.{option_map}
 use Rattle.cedar_expr_model.specs.Tree as small_tree
 use Rattle.cedar_expr_model.specs.Whole.Table.{Table}
 use Rattle.cedar_store_model.specs.Policy as small_policy
 use Rattle.cedar_schema_model.specs.Declarations as small_declarations
-use Rattle.cedar_schema_model.specs.Types as small_types
 use Rattle.cedar_schema_model.specs.Environment as small_environment
 use Rattle.cedar_schema_model.specs.Whole.Types.{Ty, strict}
-use Rattle.cedar_schema_model.specs.Whole.FirstPath.{whole_type, IsFirst}
+use Rattle.cedar_schema_model.specs.Whole.FirstPath.{IsFirst}
 use Rattle.cedar_schema_model.proofs.Whole.FirstPath.Lists.{same_said}
 use Rattle.cedar_typechecker_model.specs.Facts as small_facts
 use Rattle.cedar_typechecker_model.specs.Rules as small_rules
@@ -18,8 +17,8 @@ use Rattle.cedar_typechecker_model.specs.Verdicts as small_verdicts
 use Rattle.cedar_typechecker_model.proofs.Typing as small_typing
 use Rattle.cedar_typechecker_model.proofs.Verdicts as small_deciding
 use Rattle.cedar_typechecker_model.proofs.Naming as small_naming
-use Rattle.cedar_typechecker_model.specs.Whole.Facts.{Facts, no_facts}
-use Rattle.cedar_typechecker_model.specs.Whole.Typing.{Types, Judgement, judgement}
+use Rattle.cedar_typechecker_model.specs.Whole.Facts.{Facts}
+use Rattle.cedar_typechecker_model.specs.Whole.Typing.{Types, Judgement}
 use Rattle.cedar_typechecker_model.specs.Whole.ScopeRules.{NamesKnownTypes, NamesKnownActions, NamesKnownMembers, names_known_types, names_known_actions}
 use Rattle.cedar_typechecker_model.specs.Whole.Verdicts.{Passes, IsImpossible, passes, impossible}
 use Rattle.cedar_typechecker_model.specs.Whole.FirstTrees.{whole_tree, whole_policy}

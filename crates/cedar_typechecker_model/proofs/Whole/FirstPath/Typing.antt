@@ -1,19 +1,17 @@
 -- An expression of the first path has the type that the whole language gives it.
-use Rattle.std.proofs.Common.{◌≡◌, List, [], ◌∷◌, Bool, true, false, not, cond, ◌&&◌, ◌||◌, Option, Some, None, refl, sym, ap, ◌∙◌}
+use Rattle.std.proofs.Common.{◌≡◌, Bool, true, false, not, cond, ◌&&◌, ◌||◌, Option, Some, None, refl, sym, ap, ◌∙◌}
 use Rattle.std.specs.Prelude.{option_map, option_and_then}
 use Rattle.cedar_expr_model.specs.Name.{Name, name_eq}
 use Rattle.cedar_expr_model.specs.Uid.{Uid, uid_eq}
 use Rattle.cedar_expr_model.specs.Value as small_value
 use Rattle.cedar_expr_model.specs.Tree as small_tree
-use Rattle.cedar_expr_model.specs.Whole.Tree.{Tree, equal, less}
 use Rattle.cedar_expr_model.specs.Whole.Table.{Table}
 use Rattle.cedar_expr_model.proofs.Equality.{name_eq-Decides}
 use Rattle.cedar_schema_model.specs.Declarations as small_declarations
 use Rattle.cedar_schema_model.specs.Types as small_types
 use Rattle.cedar_schema_model.specs.Environment as small_environment
-use Rattle.cedar_schema_model.specs.Whole.Types.{BoolType, any_bool, only_true, only_false, Ty, bool_type, long_type, entity_types, entity_type, strict}
-use Rattle.cedar_schema_model.specs.Whole.Schema.{Schema, declares_type, declares_action}
-use Rattle.cedar_schema_model.specs.Whole.FirstPath.{whole_bool, whole_type, whole_environment, whole_schema, whole_declarations, IsFirst}
+use Rattle.cedar_schema_model.specs.Whole.Types.{any_bool, only_true, only_false, Ty, bool_type, long_type, entity_types, entity_type, strict}
+use Rattle.cedar_schema_model.specs.Whole.FirstPath.{whole_bool, whole_type, whole_environment, whole_schema, IsFirst}
 use Rattle.cedar_schema_model.proofs.Whole.FirstPath.Schemas.{types_of_schema, actions_of_schema, same_schema}
 use Rattle.cedar_typechecker_model.specs.Facts as small_facts
 use Rattle.cedar_typechecker_model.specs.Rules as small_rules
@@ -21,11 +19,11 @@ use Rattle.cedar_typechecker_model.specs.Parts as small_parts
 use Rattle.cedar_typechecker_model.specs.Typing as small
 use Rattle.cedar_typechecker_model.specs.Verdicts as small_verdicts
 use Rattle.cedar_typechecker_model.specs.Whole.Facts.{Facts, no_facts, union}
-use Rattle.cedar_typechecker_model.specs.Whole.Rules.{Setting, known_truth, truth_type, if_there, literal_type, unary_type, written_uid, comparable, written_equal, equal_type, order_type, binary_type}
+use Rattle.cedar_typechecker_model.specs.Whole.Rules.{Setting, known_truth, truth_type, if_there, literal_type, unary_type, written_uid, comparable, written_equal, equal_type, order_type}
 use Rattle.cedar_typechecker_model.specs.Whole.Typing.{Judgement, plain, conjoined, and_judged, binary_judged, judgement, type_of}
 use Rattle.cedar_typechecker_model.specs.Whole.Verdicts.{strictly}
 use Rattle.cedar_typechecker_model.specs.Whole.FirstTrees.{whole_literal, whole_unary, whole_binary, whole_tree}
-use Rattle.cedar_typechecker_model.specs.Whole.FirstPath.{first_schema, whole_setting, whole_judgement}
+use Rattle.cedar_typechecker_model.specs.Whole.FirstPath.{whole_setting, whole_judgement}
 use Rattle.cedar_typechecker_model.proofs.Parts.{type_of_lit, type_of_both, type_of_unary, type_of_binary, no_facts_arise}
 
 -- the setting of the schema that is read off

@@ -1,5 +1,5 @@
 -- The verdicts on a policy of the first path, and its violations, of which there are none.
-use Rattle.std.proofs.Common.{◌≡◌, ℕ, List, [], ◌∷◌, ◌++◌, Bool, true, false, cond, map, Option, Some, None, refl, sym, ap, ◌∙◌}
+use Rattle.std.proofs.Common.{◌≡◌, ℕ, List, [], ◌∷◌, ◌++◌, Bool, map, Option, Some, None, refl, ap, ◌∙◌}
 use Rattle.std.specs.Prelude.{option_map}
 use Rattle.std.specs.List.{list_all, flat_map, filter}
 use Rattle.std.proofs.lemmas.List.Folds.{list_all-map}
@@ -12,7 +12,7 @@ use Rattle.cedar_schema_model.specs.Types as small_types
 use Rattle.cedar_schema_model.specs.Environment as small_environment
 use Rattle.cedar_schema_model.specs.Whole.Types.{any_bool, only_true, only_false, Ty, never, bool_type, long_type, string_type, any_entity, entity_types, any_set, set_type, record_type, extension_type, Mode}
 use Rattle.cedar_schema_model.specs.Whole.Schema.{Schema}
-use Rattle.cedar_schema_model.specs.Whole.Environment.{Environment, environments, no_slot, linked, environments_for}
+use Rattle.cedar_schema_model.specs.Whole.Environment.{no_slot, linked, environments_for}
 use Rattle.cedar_schema_model.specs.Whole.FirstPath.{whole_type, whole_environment, whole_schema, IsFirst}
 use Rattle.cedar_schema_model.proofs.Order.{all_agree}
 use Rattle.cedar_schema_model.proofs.Whole.FirstPath.Lists.{flat_none}
