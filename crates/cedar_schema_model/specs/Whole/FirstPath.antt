@@ -129,32 +129,32 @@ abbrev pub WellFormedSaysTheSame : Type 0
 WellFormedSaysTheSame = (x : List Name) (d : small.Declarations) → is_plain d ≡ true → IsWellFormed x (whole_declarations d) ↔ small.IsWellFormed d
 
 -- Plain declarations that are well-formed: those that the first path goes on with.
-pub record IsFirst (d : small.Declarations) : Type 0 where
+pub record IsFirstPath (d : small.Declarations) : Type 0 where
   pub plain : is_plain d ≡ true
   pub formed : small.well_formed d ≡ true
 
 -- the schema has each declared type and action as it is
 abbrev pub SchemasAreTheSame : Type 0
-SchemasAreTheSame = (d : small.Declarations) → IsFirst d → schema_of (whole_declarations d) ≡ whole_schema d
+SchemasAreTheSame = (d : small.Declarations) → IsFirstPath d → schema_of (whole_declarations d) ≡ whole_schema d
 
 -- it declares the same types and actions
 abbrev pub SameTypesAreDeclared : Type 0
-SameTypesAreDeclared = (d : small.Declarations) → IsFirst d → (n : Name) → declares_type (schema_of (whole_declarations d)) n ≡ small.declares_type d n
+SameTypesAreDeclared = (d : small.Declarations) → IsFirstPath d → (n : Name) → declares_type (schema_of (whole_declarations d)) n ≡ small.declares_type d n
 
 abbrev pub SameActionsAreDeclared : Type 0
-SameActionsAreDeclared = (d : small.Declarations) → IsFirst d → (u : Uid) → declares_action (schema_of (whole_declarations d)) u ≡ small.declares_action d u
+SameActionsAreDeclared = (d : small.Declarations) → IsFirstPath d → (u : Uid) → declares_action (schema_of (whole_declarations d)) u ≡ small.declares_action d u
 
 -- its environments are the first path's, in their order
 abbrev pub EnvironmentsAreTheSame : Type 0
-EnvironmentsAreTheSame = (d : small.Declarations) → IsFirst d → environments (schema_of (whole_declarations d)) ≡ map whole_environment (small_environment.environments d)
+EnvironmentsAreTheSame = (d : small.Declarations) → IsFirstPath d → environments (schema_of (whole_declarations d)) ≡ map whole_environment (small_environment.environments d)
 
 -- the same requests conform
 abbrev pub RequestsConformTheSame : Type 0
-RequestsConformTheSame = (d : small.Declarations) (r : small_world.Request) → IsFirst d
+RequestsConformTheSame = (d : small.Declarations) (r : small_world.Request) → IsFirstPath d
     → request_conforms (schema_of (whole_declarations d)) (parts_of (whole_request r)) ≡ small_conforming.conforms d r
 
 abbrev pub ConformingSaysTheSame : Type 0
-ConformingSaysTheSame = (d : small.Declarations) (r : small_world.Request) → IsFirst d
+ConformingSaysTheSame = (d : small.Declarations) (r : small_world.Request) → IsFirstPath d
     → RequestConforms (schema_of (whole_declarations d)) (parts_of (whole_request r)) ↔ small_conforming.Conforms d r
 
 -- the Strict join of two types is the same

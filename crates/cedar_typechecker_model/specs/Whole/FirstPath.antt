@@ -11,7 +11,7 @@ use Rattle.cedar_schema_model.specs.Types as small_types
 use Rattle.cedar_schema_model.specs.Whole.Types.{Ty, Mode}
 use Rattle.cedar_schema_model.specs.Whole.Schema.{Schema}
 use Rattle.cedar_schema_model.specs.Whole.Resolved.{schema_of}
-use Rattle.cedar_schema_model.specs.Whole.FirstPath.{whole_type, whole_environment, whole_declarations, IsFirst}
+use Rattle.cedar_schema_model.specs.Whole.FirstPath.{whole_type, whole_environment, whole_declarations, IsFirstPath}
 use Rattle.cedar_typechecker_model.specs.Facts as small_facts
 use Rattle.cedar_typechecker_model.specs.Rules as small_rules
 use Rattle.cedar_typechecker_model.specs.Typing as small
@@ -39,12 +39,12 @@ whole_judgement j = record { type = whole_type j.type; facts = no_facts }
 
 -- An expression has the same judgement, whatever is known before.
 abbrev pub JudgementsAreTheSame : Type 0
-JudgementsAreTheSame = (d : small_declarations.Declarations) (x : Table) (e : small_environment.Environment) (known : Facts) (before : small_facts.Facts) (t : small_tree.Tree) → IsFirst d
+JudgementsAreTheSame = (d : small_declarations.Declarations) (x : Table) (e : small_environment.Environment) (known : Facts) (before : small_facts.Facts) (t : small_tree.Tree) → IsFirstPath d
     → judgement (whole_setting d x e) known (whole_tree t) ≡ option_map whole_judgement (small.judgement (small_verdicts.setting d e) before t)
 
 -- and the same type
 abbrev pub TypesAreTheSame : Type 0
-TypesAreTheSame = (d : small_declarations.Declarations) (x : Table) (e : small_environment.Environment) (t : small_tree.Tree) → IsFirst d
+TypesAreTheSame = (d : small_declarations.Declarations) (x : Table) (e : small_environment.Environment) (t : small_tree.Tree) → IsFirstPath d
     → type_of (whole_setting d x e) (whole_tree t) ≡ option_map whole_type (small.type_of (small_verdicts.setting d e) t)
 
 -- A type of the first path, and no facts.
@@ -53,7 +53,7 @@ TypedFirst s before t ty out = (u : small_types.Ty) × (f : small_facts.Facts) �
 
 -- as relations: what has a type here has it there, without facts, and has no other
 abbrev pub TypingSaysTheSame : Type 0
-TypingSaysTheSame = (d : small_declarations.Declarations) (x : Table) (e : small_environment.Environment) (known : Facts) (before : small_facts.Facts) (t : small_tree.Tree) (ty : Ty) (out : Facts) → IsFirst d
+TypingSaysTheSame = (d : small_declarations.Declarations) (x : Table) (e : small_environment.Environment) (known : Facts) (before : small_facts.Facts) (t : small_tree.Tree) (ty : Ty) (out : Facts) → IsFirstPath d
     → Types (whole_setting d x e) known (whole_tree t) ty out ↔ TypedFirst (small_verdicts.setting d e) before t ty out
 
 -- the condition of a policy is the same
@@ -62,36 +62,36 @@ ConditionsAreTheSame = (p : small_policy.Policy) → condition (whole_policy p) 
 
 -- the same policies pass, and the same ones are impossible
 abbrev pub PassingIsTheSame : Type 0
-PassingIsTheSame = (d : small_declarations.Declarations) (x : Table) (p : small_policy.Policy) → IsFirst d → passes (first_schema d) x (whole_policy p) ≡ small_verdicts.passes d p
+PassingIsTheSame = (d : small_declarations.Declarations) (x : Table) (p : small_policy.Policy) → IsFirstPath d → passes (first_schema d) x (whole_policy p) ≡ small_verdicts.passes d p
 
 abbrev pub ImpossibleIsTheSame : Type 0
-ImpossibleIsTheSame = (d : small_declarations.Declarations) (x : Table) (p : small_policy.Policy) → IsFirst d → impossible (first_schema d) x (whole_policy p) ≡ small_verdicts.impossible d p
+ImpossibleIsTheSame = (d : small_declarations.Declarations) (x : Table) (p : small_policy.Policy) → IsFirstPath d → impossible (first_schema d) x (whole_policy p) ≡ small_verdicts.impossible d p
 
 abbrev pub PassingSaysTheSame : Type 0
-PassingSaysTheSame = (d : small_declarations.Declarations) (x : Table) (p : small_policy.Policy) → IsFirst d → Passes (first_schema d) x (whole_policy p) ↔ small_verdicts.Passes d p
+PassingSaysTheSame = (d : small_declarations.Declarations) (x : Table) (p : small_policy.Policy) → IsFirstPath d → Passes (first_schema d) x (whole_policy p) ↔ small_verdicts.Passes d p
 
 abbrev pub ImpossibleSaysTheSame : Type 0
-ImpossibleSaysTheSame = (d : small_declarations.Declarations) (x : Table) (p : small_policy.Policy) → IsFirst d → IsImpossible (first_schema d) x (whole_policy p) ↔ small_verdicts.IsImpossible d p
+ImpossibleSaysTheSame = (d : small_declarations.Declarations) (x : Table) (p : small_policy.Policy) → IsFirstPath d → IsImpossible (first_schema d) x (whole_policy p) ↔ small_verdicts.IsImpossible d p
 
 -- the same policies name known types and known actions
 abbrev pub KnownTypesAreTheSame : Type 0
-KnownTypesAreTheSame = (d : small_declarations.Declarations) (p : small_policy.Policy) → IsFirst d → names_known_types (first_schema d) (whole_policy p) ≡ small_scope.each_named (small_scope.has_known_type d) p
+KnownTypesAreTheSame = (d : small_declarations.Declarations) (p : small_policy.Policy) → IsFirstPath d → names_known_types (first_schema d) (whole_policy p) ≡ small_scope.each_named (small_scope.has_known_type d) p
 
 abbrev pub KnownActionsAreTheSame : Type 0
-KnownActionsAreTheSame = (d : small_declarations.Declarations) (p : small_policy.Policy) → IsFirst d → names_known_actions (first_schema d) (whole_policy p) ≡ small_scope.each_named (small_scope.is_no_unknown_action d) p
+KnownActionsAreTheSame = (d : small_declarations.Declarations) (p : small_policy.Policy) → IsFirstPath d → names_known_actions (first_schema d) (whole_policy p) ≡ small_scope.each_named (small_scope.is_no_unknown_action d) p
 
 -- no member of an enumeration lacks: there is none
 abbrev pub MembersAlwaysPass : Type 0
-MembersAlwaysPass = (d : small_declarations.Declarations) (p : small_policy.Policy) → IsFirst d → names_known_members (first_schema d) (whole_policy p) ≡ true
+MembersAlwaysPass = (d : small_declarations.Declarations) (p : small_policy.Policy) → IsFirstPath d → names_known_members (first_schema d) (whole_policy p) ≡ true
 
 abbrev pub KnownTypesSayTheSame : Type 0
-KnownTypesSayTheSame = (d : small_declarations.Declarations) (p : small_policy.Policy) → IsFirst d → NamesKnownTypes (first_schema d) (whole_policy p) ↔ small_scope.EachNamed (small_scope.has_known_type d) p
+KnownTypesSayTheSame = (d : small_declarations.Declarations) (p : small_policy.Policy) → IsFirstPath d → NamesKnownTypes (first_schema d) (whole_policy p) ↔ small_scope.EachNamed (small_scope.has_known_type d) p
 
 abbrev pub KnownActionsSayTheSame : Type 0
-KnownActionsSayTheSame = (d : small_declarations.Declarations) (p : small_policy.Policy) → IsFirst d → NamesKnownActions (first_schema d) (whole_policy p) ↔ small_scope.EachNamed (small_scope.is_no_unknown_action d) p
+KnownActionsSayTheSame = (d : small_declarations.Declarations) (p : small_policy.Policy) → IsFirstPath d → NamesKnownActions (first_schema d) (whole_policy p) ↔ small_scope.EachNamed (small_scope.is_no_unknown_action d) p
 
 abbrev pub MembersAreKnown : Type 0
-MembersAreKnown = (d : small_declarations.Declarations) (p : small_policy.Policy) → IsFirst d → NamesKnownMembers (first_schema d) (whole_policy p)
+MembersAreKnown = (d : small_declarations.Declarations) (p : small_policy.Policy) → IsFirstPath d → NamesKnownMembers (first_schema d) (whole_policy p)
 
 -- In any setting an expression of the first path has no violation at any level, and so a policy has none.
 abbrev pub NoViolations : Type 0

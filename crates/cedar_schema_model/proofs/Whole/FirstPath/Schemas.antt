@@ -19,7 +19,7 @@ use Rattle.cedar_schema_model.specs.Whole.Reference.{Namespace, meant_entity}
 use Rattle.cedar_schema_model.specs.Whole.Resolved.{entity_of, entity_meant, resolved_entity, resolved_action, schema_of}
 use Rattle.cedar_schema_model.specs.Whole.HasType.{has_type}
 use Rattle.cedar_schema_model.specs.Whole.Conforming.{among_actions, of_kind, nowhere, place_of, is_no_member, where_known, is_not_listed, parts_of, RequestConforms, request_conforms}
-use Rattle.cedar_schema_model.specs.Whole.FirstPath.{whole_entity, whole_action, whole_declarations, whole_environment, whole_request, is_plain_action, schema_entity, schema_action, whole_schema, IsFirst}
+use Rattle.cedar_schema_model.specs.Whole.FirstPath.{whole_entity, whole_action, whole_declarations, whole_environment, whole_request, is_plain_action, schema_entity, schema_action, whole_schema, IsFirstPath}
 use Rattle.cedar_schema_model.proofs.WellFormed.{well_formed-Decides}
 use Rattle.cedar_schema_model.proofs.Conforming.{conforms-Decides}
 use Rattle.cedar_schema_model.proofs.Whole.Decls.Conforming.{request_conforms-Decides}
@@ -47,7 +47,7 @@ same_actions d (a ∷ as_) p h =
     let k = both_hold (small.refers_to_declared d a) (list_all (small.refers_to_declared d) as_) h in
     λ i. same_action d a q.0 k.0 i ∷ same_actions d as_ q.1 k.1 i
 
-pub same_schema : (d : small.Declarations) → IsFirst d → schema_of (whole_declarations d) ≡ whole_schema d
+pub same_schema : (d : small.Declarations) → IsFirstPath d → schema_of (whole_declarations d) ≡ whole_schema d
 same_schema d h =
     let w = (well_formed-Decides d).0 h.formed in
     λ i. record { types = map_twice whole_entity (resolved_entity (whole_declarations d)) d.types i; actions = same_actions d d.actions (plain_actions d h.plain) w.declared i }
@@ -59,10 +59,10 @@ types_of_schema d n = found_any (λ (t : EntityType). name_eq n t.name) (map sch
 pub actions_of_schema : (d : small.Declarations) (u : Uid) → declares_action (whole_schema d) u ≡ small.declares_action d u
 actions_of_schema d u = found_any (λ (a : Action). uid_eq u a.uid) (map schema_action d.actions) ∙ any_map (λ (a : Action). uid_eq u a.uid) schema_action d.actions
 
-pub same_types : (d : small.Declarations) → IsFirst d → (n : Name) → declares_type (schema_of (whole_declarations d)) n ≡ small.declares_type d n
+pub same_types : (d : small.Declarations) → IsFirstPath d → (n : Name) → declares_type (schema_of (whole_declarations d)) n ≡ small.declares_type d n
 same_types d h n = ap (λ s. declares_type s n) (same_schema d h) ∙ types_of_schema d n
 
-pub same_declared_actions : (d : small.Declarations) → IsFirst d → (u : Uid) → declares_action (schema_of (whole_declarations d)) u ≡ small.declares_action d u
+pub same_declared_actions : (d : small.Declarations) → IsFirstPath d → (u : Uid) → declares_action (schema_of (whole_declarations d)) u ≡ small.declares_action d u
 same_declared_actions d h u = ap (λ s. declares_action s u) (same_schema d h) ∙ actions_of_schema d u
 
 -- the same environments
@@ -81,7 +81,7 @@ environments_among (a ∷ as_) = λ i. environments_of_one a i ++ environments_a
 pub environments_of_schema : (d : small.Declarations) → environments (whole_schema d) ≡ map whole_environment (small_environment.environments d)
 environments_of_schema d = environments_among d.actions ∙ sym (map_flat small_environment.environments_of whole_environment d.actions)
 
-pub same_environments : (d : small.Declarations) → IsFirst d → environments (schema_of (whole_declarations d)) ≡ map whole_environment (small_environment.environments d)
+pub same_environments : (d : small.Declarations) → IsFirstPath d → environments (schema_of (whole_declarations d)) ≡ map whole_environment (small_environment.environments d)
 same_environments d h = ap environments (same_schema d h) ∙ environments_of_schema d
 
 -- Requests: the action that is found says which types it is for.
@@ -173,10 +173,10 @@ conforms_to_schema d r h =
     ∙ (verdict_is r (find (has_uid r.action) d.actions)
     ∙ sym (allowed_by_found r d.actions h)))
 
-pub same_requests : (d : small.Declarations) (r : small_world.Request) → IsFirst d → request_conforms (schema_of (whole_declarations d)) (parts_of (whole_request r)) ≡ small_conforming.conforms d r
+pub same_requests : (d : small.Declarations) (r : small_world.Request) → IsFirstPath d → request_conforms (schema_of (whole_declarations d)) (parts_of (whole_request r)) ≡ small_conforming.conforms d r
 same_requests d r h = ap (λ s. request_conforms s (parts_of (whole_request r))) (same_schema d h) ∙ conforms_to_schema d r ((well_formed-Decides d).0 h.formed).actions_once
 
-pub conforming_says : (d : small.Declarations) (r : small_world.Request) → IsFirst d → RequestConforms (schema_of (whole_declarations d)) (parts_of (whole_request r)) ↔ small_conforming.Conforms d r
+pub conforming_says : (d : small.Declarations) (r : small_world.Request) → IsFirstPath d → RequestConforms (schema_of (whole_declarations d)) (parts_of (whole_request r)) ↔ small_conforming.Conforms d r
 conforming_says d r h =
     same_said (request_conforms (schema_of (whole_declarations d)) (parts_of (whole_request r))) (small_conforming.conforms d r)
     (request_conforms-Decides (schema_of (whole_declarations d)) (parts_of (whole_request r))) (conforms-Decides d r) (same_requests d r h)

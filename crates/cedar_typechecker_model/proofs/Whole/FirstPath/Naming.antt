@@ -15,7 +15,7 @@ use Rattle.cedar_store_model.specs.Policy as small_policy
 use Rattle.cedar_store_model.specs.Whole.Policy.{scope_tree, action_tree, condition}
 use Rattle.cedar_schema_model.specs.Declarations as small_declarations
 use Rattle.cedar_schema_model.specs.Whole.Schema.{EntityType, Action}
-use Rattle.cedar_schema_model.specs.Whole.FirstPath.{schema_entity, schema_action, whole_schema, IsFirst}
+use Rattle.cedar_schema_model.specs.Whole.FirstPath.{schema_entity, schema_action, whole_schema, IsFirstPath}
 use Rattle.cedar_schema_model.proofs.Order.{all_agree}
 use Rattle.cedar_schema_model.proofs.Whole.FirstPath.Lists.{and_true, any_map, all_true, find_map}
 use Rattle.cedar_schema_model.proofs.Whole.FirstPath.Schemas.{types_of_schema, actions_of_schema, same_schema}
@@ -154,11 +154,11 @@ member_known d u =
     ap (λ o. is_id_of o u.id) (find_map (λ (t : EntityType). name_eq u.kind t.name) schema_entity d.types)
     ∙ member_case (find (λ (t : small_declarations.TypeDeclaration). name_eq u.kind t.name) d.types) u.id
 
-pub same_known_types : (d : small_declarations.Declarations) (p : small_policy.Policy) → IsFirst d → names_known_types (first_schema d) (whole_policy p) ≡ small_scope.each_named (small_scope.has_known_type d) p
+pub same_known_types : (d : small_declarations.Declarations) (p : small_policy.Policy) → IsFirstPath d → names_known_types (first_schema d) (whole_policy p) ≡ small_scope.each_named (small_scope.has_known_type d) p
 same_known_types d p h = ap (λ s. names_known_types s (whole_policy p)) (same_schema d h) ∙ known_types d p
 
-pub same_known_actions : (d : small_declarations.Declarations) (p : small_policy.Policy) → IsFirst d → names_known_actions (first_schema d) (whole_policy p) ≡ small_scope.each_named (small_scope.is_no_unknown_action d) p
+pub same_known_actions : (d : small_declarations.Declarations) (p : small_policy.Policy) → IsFirstPath d → names_known_actions (first_schema d) (whole_policy p) ≡ small_scope.each_named (small_scope.is_no_unknown_action d) p
 same_known_actions d p h = ap (λ s. names_known_actions s (whole_policy p)) (same_schema d h) ∙ known_actions d p
 
-pub members_pass : (d : small_declarations.Declarations) (p : small_policy.Policy) → IsFirst d → names_known_members (first_schema d) (whole_policy p) ≡ true
+pub members_pass : (d : small_declarations.Declarations) (p : small_policy.Policy) → IsFirstPath d → names_known_members (first_schema d) (whole_policy p) ≡ true
 members_pass d p h = ap (λ s. names_known_members s (whole_policy p)) (same_schema d h) ∙ all_true (is_no_unknown_member (whole_schema d)) (member_known d) (policy_uids (whole_policy p))

@@ -7,7 +7,7 @@ use Rattle.cedar_store_model.specs.Policy as small_policy
 use Rattle.cedar_schema_model.specs.Declarations as small_declarations
 use Rattle.cedar_schema_model.specs.Environment as small_environment
 use Rattle.cedar_schema_model.specs.Whole.Types.{Ty, strict}
-use Rattle.cedar_schema_model.specs.Whole.FirstPath.{IsFirst}
+use Rattle.cedar_schema_model.specs.Whole.FirstPath.{IsFirstPath}
 use Rattle.cedar_schema_model.proofs.Whole.FirstPath.Lists.{same_said}
 use Rattle.cedar_typechecker_model.specs.Facts as small_facts
 use Rattle.cedar_typechecker_model.specs.Rules as small_rules
@@ -43,7 +43,7 @@ image_of s before t ty out (Some j) e h =
       sym (ap (λ (k : Judgement). k.facts) same),
     )
 
-pub typing_says : (d : small_declarations.Declarations) (x : Table) (e : small_environment.Environment) (known : Facts) (before : small_facts.Facts) (t : small_tree.Tree) (ty : Ty) (out : Facts) → IsFirst d
+pub typing_says : (d : small_declarations.Declarations) (x : Table) (e : small_environment.Environment) (known : Facts) (before : small_facts.Facts) (t : small_tree.Tree) (ty : Ty) (out : Facts) → IsFirstPath d
     → Types (whole_setting d x e) known (whole_tree t) ty out ↔ TypedFirst (small_verdicts.setting d e) before t ty out
 typing_says d x e known before t ty out h =
     let s = small_verdicts.setting d e in
@@ -53,19 +53,19 @@ typing_says d x e known before t ty out h =
       λ k. function.1 (same ∙ (ap (option_map whole_judgement) ((small_typing.typing_is_a_function s before t k.0 k.1).0 k.2) ∙ (λ i. Some (record { type = sym k.3 i; facts = sym k.4 i })))),
     )
 
-pub passing_says : (d : small_declarations.Declarations) (x : Table) (p : small_policy.Policy) → IsFirst d → Passes (first_schema d) x (whole_policy p) ↔ small_verdicts.Passes d p
+pub passing_says : (d : small_declarations.Declarations) (x : Table) (p : small_policy.Policy) → IsFirstPath d → Passes (first_schema d) x (whole_policy p) ↔ small_verdicts.Passes d p
 passing_says d x p h = same_said (passes (first_schema d) x (whole_policy p)) (small_verdicts.passes d p) (passes-Decides strict (first_schema d) x (whole_policy p)) (small_deciding.passes-Decides d p) (same_passing d x p h)
 
-pub impossible_says : (d : small_declarations.Declarations) (x : Table) (p : small_policy.Policy) → IsFirst d → IsImpossible (first_schema d) x (whole_policy p) ↔ small_verdicts.IsImpossible d p
+pub impossible_says : (d : small_declarations.Declarations) (x : Table) (p : small_policy.Policy) → IsFirstPath d → IsImpossible (first_schema d) x (whole_policy p) ↔ small_verdicts.IsImpossible d p
 impossible_says d x p h = same_said (impossible (first_schema d) x (whole_policy p)) (small_verdicts.impossible d p) (impossible-Decides (first_schema d) x (whole_policy p)) (small_deciding.impossible-Decides d p) (same_impossible d x p h)
 
-pub types_say : (d : small_declarations.Declarations) (p : small_policy.Policy) → IsFirst d → NamesKnownTypes (first_schema d) (whole_policy p) ↔ small_scope.EachNamed (small_scope.has_known_type d) p
+pub types_say : (d : small_declarations.Declarations) (p : small_policy.Policy) → IsFirstPath d → NamesKnownTypes (first_schema d) (whole_policy p) ↔ small_scope.EachNamed (small_scope.has_known_type d) p
 types_say d p h =
     same_said (names_known_types (first_schema d) (whole_policy p)) (small_scope.each_named (small_scope.has_known_type d) p) (known_types-Decides (first_schema d) (whole_policy p)) (small_naming.each_named-Decides (small_scope.has_known_type d) p) (same_known_types d p h)
 
-pub actions_say : (d : small_declarations.Declarations) (p : small_policy.Policy) → IsFirst d → NamesKnownActions (first_schema d) (whole_policy p) ↔ small_scope.EachNamed (small_scope.is_no_unknown_action d) p
+pub actions_say : (d : small_declarations.Declarations) (p : small_policy.Policy) → IsFirstPath d → NamesKnownActions (first_schema d) (whole_policy p) ↔ small_scope.EachNamed (small_scope.is_no_unknown_action d) p
 actions_say d p h =
     same_said (names_known_actions (first_schema d) (whole_policy p)) (small_scope.each_named (small_scope.is_no_unknown_action d) p) (known_actions-Decides (first_schema d) (whole_policy p)) (small_naming.each_named-Decides (small_scope.is_no_unknown_action d) p) (same_known_actions d p h)
 
-pub members_say : (d : small_declarations.Declarations) (p : small_policy.Policy) → IsFirst d → NamesKnownMembers (first_schema d) (whole_policy p)
+pub members_say : (d : small_declarations.Declarations) (p : small_policy.Policy) → IsFirstPath d → NamesKnownMembers (first_schema d) (whole_policy p)
 members_say d p h = (known_members-Decides (first_schema d) (whole_policy p)).0 (members_pass d p h)

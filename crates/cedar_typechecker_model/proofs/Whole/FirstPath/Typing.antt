@@ -11,7 +11,7 @@ use Rattle.cedar_schema_model.specs.Declarations as small_declarations
 use Rattle.cedar_schema_model.specs.Types as small_types
 use Rattle.cedar_schema_model.specs.Environment as small_environment
 use Rattle.cedar_schema_model.specs.Whole.Types.{any_bool, only_true, only_false, Ty, bool_type, long_type, entity_types, entity_type, strict}
-use Rattle.cedar_schema_model.specs.Whole.FirstPath.{whole_bool, whole_type, whole_environment, whole_schema, IsFirst}
+use Rattle.cedar_schema_model.specs.Whole.FirstPath.{whole_bool, whole_type, whole_environment, whole_schema, IsFirstPath}
 use Rattle.cedar_schema_model.proofs.Whole.FirstPath.Schemas.{types_of_schema, actions_of_schema, same_schema}
 use Rattle.cedar_typechecker_model.specs.Facts as small_facts
 use Rattle.cedar_typechecker_model.specs.Rules as small_rules
@@ -228,7 +228,7 @@ type_plain : (o : Option Ty) → option_map (λ (j : Judgement). j.type) (plain 
 type_plain None = refl
 type_plain (Some t) = refl
 
-pub same_judgements : (d : small_declarations.Declarations) (x : Table) (e : small_environment.Environment) (known : Facts) (before : small_facts.Facts) (t : small_tree.Tree) → IsFirst d
+pub same_judgements : (d : small_declarations.Declarations) (x : Table) (e : small_environment.Environment) (known : Facts) (before : small_facts.Facts) (t : small_tree.Tree) → IsFirstPath d
     → judgement (whole_setting d x e) known (whole_tree t) ≡ option_map whole_judgement (small.judgement (small_verdicts.setting d e) before t)
 same_judgements d x e known before t h =
     ap (λ s. judgement (strictly s x (whole_environment e)) known (whole_tree t)) (same_schema d h)
@@ -238,5 +238,5 @@ same_judgements d x e known before t h =
 pub types_same : (d : small_declarations.Declarations) (x : Table) (e : small_environment.Environment) (t : small_tree.Tree) → type_of (read_setting d x e) (whole_tree t) ≡ option_map whole_type (small.type_of (small_verdicts.setting d e) t)
 types_same d x e t = ap (option_map (λ (j : Judgement). j.type)) (judged_same d x e t no_facts) ∙ type_plain (option_map whole_type (small.type_of (small_verdicts.setting d e) t))
 
-pub same_types : (d : small_declarations.Declarations) (x : Table) (e : small_environment.Environment) (t : small_tree.Tree) → IsFirst d → type_of (whole_setting d x e) (whole_tree t) ≡ option_map whole_type (small.type_of (small_verdicts.setting d e) t)
+pub same_types : (d : small_declarations.Declarations) (x : Table) (e : small_environment.Environment) (t : small_tree.Tree) → IsFirstPath d → type_of (whole_setting d x e) (whole_tree t) ≡ option_map whole_type (small.type_of (small_verdicts.setting d e) t)
 same_types d x e t h = ap (λ s. type_of (strictly s x (whole_environment e)) (whole_tree t)) (same_schema d h) ∙ types_same d x e t

@@ -13,7 +13,7 @@ use Rattle.cedar_schema_model.specs.Environment as small_environment
 use Rattle.cedar_schema_model.specs.Whole.Types.{any_bool, only_true, only_false, Ty, never, bool_type, long_type, string_type, any_entity, entity_types, any_set, set_type, record_type, extension_type, Mode}
 use Rattle.cedar_schema_model.specs.Whole.Schema.{Schema}
 use Rattle.cedar_schema_model.specs.Whole.Environment.{no_slot, linked, environments_for}
-use Rattle.cedar_schema_model.specs.Whole.FirstPath.{whole_type, whole_environment, whole_schema, IsFirst}
+use Rattle.cedar_schema_model.specs.Whole.FirstPath.{whole_type, whole_environment, whole_schema, IsFirstPath}
 use Rattle.cedar_schema_model.proofs.Order.{all_agree}
 use Rattle.cedar_schema_model.proofs.Whole.FirstPath.Lists.{flat_none}
 use Rattle.cedar_schema_model.proofs.Whole.FirstPath.Schemas.{environments_of_schema, same_schema}
@@ -73,7 +73,7 @@ each_same test small_test h d x p =
     list_all-map (λ e. test (condition_type (whole_schema d) x (whole_policy p) e)) whole_environment (small_environment.environments d)
     ∙ all_agree (λ e. test (condition_type (whole_schema d) x (whole_policy p) (whole_environment e))) (λ e. small_test (small_type d p e)) (λ e. ap test (condition_same d x p e) ∙ h (small_type d p e)) (small_environment.environments d)
 
-pub same_passing : (d : small_declarations.Declarations) (x : Table) (p : small_policy.Policy) → IsFirst d → passes (first_schema d) x (whole_policy p) ≡ small_verdicts.passes d p
+pub same_passing : (d : small_declarations.Declarations) (x : Table) (p : small_policy.Policy) → IsFirstPath d → passes (first_schema d) x (whole_policy p) ≡ small_verdicts.passes d p
 same_passing d x p h =
     ap (λ s. passes s x (whole_policy p)) (same_schema d h)
     ∙ (ap (list_all (λ e. is_bool (condition_type (whole_schema d) x (whole_policy p) e))) (environments_same d p)
@@ -84,7 +84,7 @@ all_fit : (p : small_policy.Policy) (es : List small_environment.Environment) �
 all_fit p [] = refl
 all_fit p (e ∷ es) = ap (λ l. whole_environment e ∷ l) (all_fit p es)
 
-pub same_impossible : (d : small_declarations.Declarations) (x : Table) (p : small_policy.Policy) → IsFirst d → impossible (first_schema d) x (whole_policy p) ≡ small_verdicts.impossible d p
+pub same_impossible : (d : small_declarations.Declarations) (x : Table) (p : small_policy.Policy) → IsFirstPath d → impossible (first_schema d) x (whole_policy p) ≡ small_verdicts.impossible d p
 same_impossible d x p h =
     ap (λ s. impossible s x (whole_policy p)) (same_schema d h)
     ∙ (ap (list_all (λ e. is_false (condition_type (whole_schema d) x (whole_policy p) e))) (ap (filter (fits (whole_policy p))) (environments_same d p) ∙ all_fit p (small_environment.environments d))
