@@ -1,7 +1,7 @@
 //! The definitions of the first path are those of the whole language on its part. Each function's contract is the theorem; its
 //! body does nothing.
 
-ghost use Rattle.cedar_typechecker_model.specs.Whole.FirstPath.{JudgementsAreTheSame, TypesAreTheSame, TypingSaysTheSame, ConditionsAreTheSame, PassingIsTheSame, ImpossibleIsTheSame, PassingSaysTheSame, ImpossibleSaysTheSame, KnownTypesAreTheSame, KnownActionsAreTheSame, MembersAlwaysPass, KnownTypesSayTheSame, KnownActionsSayTheSame, MembersAreKnown, NoViolations, NoPolicyViolations};
+ghost use Rattle.cedar_typechecker_model.specs.Whole.FirstPath.{JudgementsAreTheSame, TypesAreTheSame, TypingSaysTheSame, ConditionsAreTheSame, PassingIsTheSame, ImpossibleIsTheSame, PassingSaysTheSame, ImpossibleSaysTheSame, KnownTypesAreTheSame, KnownActionsAreTheSame, MembersAlwaysPass, KnownTypesSayTheSame, KnownActionsSayTheSame, MembersAreKnown, NoViolations, NoPolicyViolations, ValuesAreTheSame};
 
 /// An expression has the same judgement, and so the same type, in Strict and under plain declarations that are well-formed.
 pub fn types_are_the_same()
@@ -33,4 +33,9 @@ pub fn scope_rules_are_the_same()
 pub fn levels_always_pass()
     ensures expressions { NoViolations }
     ensures policies { NoPolicyViolations }
+{}
+
+/// A type has the same values.
+pub fn values_are_the_same()
+    ensures { ValuesAreTheSame }
 {}

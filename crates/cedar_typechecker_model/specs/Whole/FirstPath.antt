@@ -1,7 +1,9 @@
 -- Typing, the scope rules, the verdicts and the levels of the first path, as those of the whole language.
 -- Rule: typing; the scope rules; the acceptance rules; impossible policies; levels (docs/RULES.md).
 use Rattle.std.specs.Prelude.{◌≡◌, ◌↔◌, ℕ, [], true, option_map}
+use Rattle.cedar_expr_model.specs.Value as small_value
 use Rattle.cedar_expr_model.specs.Tree as small_tree
+use Rattle.cedar_expr_model.specs.Whole.Value.{prim}
 use Rattle.cedar_expr_model.specs.Whole.Table.{Table}
 use Rattle.cedar_store_model.specs.Policy as small_policy
 use Rattle.cedar_store_model.specs.Whole.Policy.{condition}
@@ -16,6 +18,8 @@ use Rattle.cedar_typechecker_model.specs.Facts as small_facts
 use Rattle.cedar_typechecker_model.specs.Rules as small_rules
 use Rattle.cedar_typechecker_model.specs.Typing as small
 use Rattle.cedar_typechecker_model.specs.ScopeRules as small_scope
+use Rattle.cedar_schema_model.specs.Whole.HasType.{HasType}
+use Rattle.cedar_typechecker_model.specs.Soundness as small_sound
 use Rattle.cedar_typechecker_model.specs.Verdicts as small_verdicts
 use Rattle.cedar_typechecker_model.specs.Whole.Facts.{Facts, no_facts}
 use Rattle.cedar_typechecker_model.specs.Whole.Rules.{Setting}
@@ -23,7 +27,7 @@ use Rattle.cedar_typechecker_model.specs.Whole.Typing.{Types, Judgement, judgeme
 use Rattle.cedar_typechecker_model.specs.Whole.Levels.{violations}
 use Rattle.cedar_typechecker_model.specs.Whole.ScopeRules.{NamesKnownTypes, NamesKnownActions, NamesKnownMembers, names_known_types, names_known_actions, names_known_members}
 use Rattle.cedar_typechecker_model.specs.Whole.Verdicts.{strictly, Passes, IsImpossible, passes, impossible, policy_violations_in}
-use Rattle.cedar_typechecker_model.specs.Whole.FirstTrees.{whole_tree, whole_policy}
+use Rattle.cedar_typechecker_model.specs.Whole.FirstTrees.{whole_literal, whole_tree, whole_policy}
 
 -- the schema of declarations of the first path
 abbrev pub first_schema : small_declarations.Declarations → Schema
@@ -99,3 +103,7 @@ NoViolations = (n : ℕ) (s : Setting) (known : Facts) (t : small_tree.Tree) →
 
 abbrev pub NoPolicyViolations : Type 0
 NoPolicyViolations = (m : Mode) (n : ℕ) (s : Schema) (x : Table) (p : small_policy.Policy) → policy_violations_in m n s x (whole_policy p) ≡ []
+
+-- a type has the same values
+abbrev pub ValuesAreTheSame : Type 0
+ValuesAreTheSame = (t : small_types.Ty) (p : small_value.Literal) → HasType (prim (whole_literal p)) (whole_type t) ↔ small_sound.IsOf t (small_value.prim p)
