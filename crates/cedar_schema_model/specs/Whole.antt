@@ -18,3 +18,5 @@ pub mod Resolved
 pub mod BagLaws
 pub mod TypeWorked
 pub mod DeclWorked
+pub mod FirstPath
+pub mod FirstWorked

@@ -9,3 +9,4 @@ pub mod Naming
 pub mod Counting
 pub mod Levels
 pub mod Larger
+pub mod FirstPath

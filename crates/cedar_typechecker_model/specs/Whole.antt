@@ -9,3 +9,5 @@ pub mod Dereferences
 pub mod Laws
 pub mod LevelLaws
 pub mod Worked
+pub mod FirstTrees
+pub mod FirstPath

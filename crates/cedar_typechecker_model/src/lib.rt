@@ -2,6 +2,8 @@
 #![tactic(auto)]
 
 pub mod laws;
+pub mod whole_first_path;
+pub mod whole_first_worked;
 pub mod whole_laws;
 pub mod whole_worked;
 pub mod worked;
