@@ -14,7 +14,8 @@ ghost use Rattle.cedar_schema_model.specs.Whole.Resolved.{schema_of};
 ghost use Rattle.cedar_schema_model.specs.Whole.Environment.{environments};
 ghost use Rattle.cedar_schema_model.specs.Whole.Conforming.{parts_of, request_conforms};
 ghost use Rattle.cedar_schema_model.specs.Whole.WellFormed.{duplicate_entity_type, duplicate_common_type, duplicate_action, undeclared_type, undeclared_action, action_as_entity_type, reserved_name, shadowing, unresolved_external, schema_number, has_schema_fault, well_formed};
-ghost use Rattle.cedar_schema_model.specs.Whole.FirstPath.{whole_bool, whole_type, whole_declarations, whole_fault, is_first_fault, whole_environment, whole_request, is_plain_action, is_plain, refers_unreserved, also_asked, whole_schema};
+ghost use Rattle.cedar_store_model.specs.Whole.FirstPath.{whole_request};
+ghost use Rattle.cedar_schema_model.specs.Whole.FirstPath.{whole_bool, whole_type, whole_declarations, whole_fault, is_first_fault, whole_environment, is_plain_action, is_plain, refers_unreserved, also_asked, whole_schema};
 ghost use Rattle.cedar_schema_model.specs.Whole.FirstWorked.{deep_user, reserved_reference, other_actions, deep_view, in_namespace, shadowed};
 
 /// Types of the first path.

@@ -9,5 +9,4 @@ pub mod Dereferences
 pub mod Laws
 pub mod LevelLaws
 pub mod Worked
-pub mod FirstTrees
 pub mod FirstPath

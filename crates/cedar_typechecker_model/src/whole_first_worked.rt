@@ -16,7 +16,8 @@ ghost use Rattle.cedar_typechecker_model.specs.Whole.Worked.{no_table};
 ghost use Rattle.cedar_typechecker_model.specs.Whole.Typing.{type_of};
 ghost use Rattle.cedar_typechecker_model.specs.Whole.ScopeRules.{names_known_types, names_known_actions, names_known_members};
 ghost use Rattle.cedar_typechecker_model.specs.Whole.Verdicts.{passes, impossible, policy_violations};
-ghost use Rattle.cedar_typechecker_model.specs.Whole.FirstTrees.{whole_literal, whole_var, whole_unary, whole_binary, whole_tree, whole_effect, whole_scope, whole_action_scope, whole_policy};
+ghost use Rattle.cedar_expr_model.specs.Whole.FirstPath.{whole_literal, whole_var, whole_unary, whole_binary, whole_tree};
+ghost use Rattle.cedar_store_model.specs.Whole.FirstPath.{whole_effect, whole_scope, whole_action_scope, whole_policy};
 ghost use Rattle.cedar_typechecker_model.specs.Whole.FirstPath.{first_schema, whole_setting};
 
 /// Expressions of the first path.

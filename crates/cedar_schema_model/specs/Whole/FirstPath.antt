@@ -8,6 +8,7 @@ use Rattle.cedar_expr_model.specs.Whole.Names.{is_unqualified, unqualified}
 use Rattle.cedar_expr_model.specs.Whole.Value.{no_fields}
 use Rattle.cedar_store_model.specs.World as small_world
 use Rattle.cedar_store_model.specs.Whole.World.{Request}
+use Rattle.cedar_store_model.specs.Whole.FirstPath.{whole_request}
 use Rattle.cedar_schema_model.specs.Declarations as small
 use Rattle.cedar_schema_model.specs.Types as small_types
 use Rattle.cedar_schema_model.specs.Environment as small_environment
@@ -75,10 +76,6 @@ is_first_fault f = false
 -- an environment: the context has no attributes, and there are no slots
 abbrev pub whole_environment : small_environment.Environment → Environment
 whole_environment e = record { principal = e.principal; action = e.action; resource = e.resource; context = no_attributes; principal_slot = None; resource_slot = None }
-
--- a request: its context is the empty record
-abbrev pub whole_request : small_world.Request → Request
-whole_request r = record { principal = r.principal; action = r.action; resource = r.resource; context = no_fields }
 
 -- Plain declarations: all stands in the empty namespace, and each action has the type `Action`.
 abbrev pub is_plain_action : small.ActionDeclaration → Bool

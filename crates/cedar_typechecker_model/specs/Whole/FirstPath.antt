@@ -27,7 +27,8 @@ use Rattle.cedar_typechecker_model.specs.Whole.Typing.{Types, Judgement, judgeme
 use Rattle.cedar_typechecker_model.specs.Whole.Levels.{violations}
 use Rattle.cedar_typechecker_model.specs.Whole.ScopeRules.{NamesKnownTypes, NamesKnownActions, NamesKnownMembers, names_known_types, names_known_actions, names_known_members}
 use Rattle.cedar_typechecker_model.specs.Whole.Verdicts.{strictly, Passes, IsImpossible, passes, impossible, policy_violations_in}
-use Rattle.cedar_typechecker_model.specs.Whole.FirstTrees.{whole_literal, whole_tree, whole_policy}
+use Rattle.cedar_expr_model.specs.Whole.FirstPath.{whole_literal, whole_tree}
+use Rattle.cedar_store_model.specs.Whole.FirstPath.{whole_policy}
 
 -- the schema of declarations of the first path
 abbrev pub first_schema : small_declarations.Declarations → Schema

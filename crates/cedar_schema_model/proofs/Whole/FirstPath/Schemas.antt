@@ -19,7 +19,8 @@ use Rattle.cedar_schema_model.specs.Whole.Reference.{Namespace, meant_entity}
 use Rattle.cedar_schema_model.specs.Whole.Resolved.{entity_of, entity_meant, resolved_entity, resolved_action, schema_of}
 use Rattle.cedar_schema_model.specs.Whole.HasType.{has_type}
 use Rattle.cedar_schema_model.specs.Whole.Conforming.{among_actions, of_kind, nowhere, place_of, is_no_member, where_known, is_not_listed, parts_of, RequestConforms, request_conforms}
-use Rattle.cedar_schema_model.specs.Whole.FirstPath.{whole_entity, whole_action, whole_declarations, whole_environment, whole_request, is_plain_action, schema_entity, schema_action, whole_schema, IsFirstPath}
+use Rattle.cedar_store_model.specs.Whole.FirstPath.{whole_request}
+use Rattle.cedar_schema_model.specs.Whole.FirstPath.{whole_entity, whole_action, whole_declarations, whole_environment, is_plain_action, schema_entity, schema_action, whole_schema, IsFirstPath}
 use Rattle.cedar_schema_model.proofs.WellFormed.{well_formed-Decides}
 use Rattle.cedar_schema_model.proofs.Conforming.{conforms-Decides}
 use Rattle.cedar_schema_model.proofs.Whole.Decls.Conforming.{request_conforms-Decides}

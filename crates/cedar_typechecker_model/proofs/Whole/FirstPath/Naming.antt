@@ -21,7 +21,8 @@ use Rattle.cedar_schema_model.proofs.Whole.FirstPath.Lists.{and_true, any_map, a
 use Rattle.cedar_schema_model.proofs.Whole.FirstPath.Schemas.{types_of_schema, actions_of_schema, same_schema}
 use Rattle.cedar_typechecker_model.specs.ScopeRules as small_scope
 use Rattle.cedar_typechecker_model.specs.Whole.ScopeRules.{uid_here, kind_here, uids_of, kinds_of, policy_uids, is_action_type, is_known_type, is_no_unknown_action, is_id_of, is_no_unknown_member, names_known_types, names_known_actions, names_known_members}
-use Rattle.cedar_typechecker_model.specs.Whole.FirstTrees.{whole_tree, whole_scope, whole_action_scope, whole_policy}
+use Rattle.cedar_expr_model.specs.Whole.FirstPath.{whole_tree}
+use Rattle.cedar_store_model.specs.Whole.FirstPath.{whole_scope, whole_action_scope, whole_policy}
 use Rattle.cedar_typechecker_model.specs.Whole.FirstPath.{first_schema}
 
 -- conditions

@@ -21,7 +21,8 @@ use Rattle.cedar_typechecker_model.specs.Whole.Facts.{Facts}
 use Rattle.cedar_typechecker_model.specs.Whole.Typing.{Types, Judgement}
 use Rattle.cedar_typechecker_model.specs.Whole.ScopeRules.{NamesKnownTypes, NamesKnownActions, NamesKnownMembers, names_known_types, names_known_actions}
 use Rattle.cedar_typechecker_model.specs.Whole.Verdicts.{Passes, IsImpossible, passes, impossible}
-use Rattle.cedar_typechecker_model.specs.Whole.FirstTrees.{whole_tree, whole_policy}
+use Rattle.cedar_expr_model.specs.Whole.FirstPath.{whole_tree}
+use Rattle.cedar_store_model.specs.Whole.FirstPath.{whole_policy}
 use Rattle.cedar_typechecker_model.specs.Whole.FirstPath.{first_schema, whole_setting, whole_judgement, TypedFirst}
 use Rattle.cedar_typechecker_model.proofs.Whole.Typing.{typing_is_a_function}
 use Rattle.cedar_typechecker_model.proofs.Whole.Verdicts.{passes-Decides, impossible-Decides}

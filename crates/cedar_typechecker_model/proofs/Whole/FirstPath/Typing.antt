@@ -22,7 +22,7 @@ use Rattle.cedar_typechecker_model.specs.Whole.Facts.{Facts, no_facts, union}
 use Rattle.cedar_typechecker_model.specs.Whole.Rules.{Setting, known_truth, truth_type, if_there, literal_type, unary_type, written_uid, comparable, written_equal, equal_type, order_type}
 use Rattle.cedar_typechecker_model.specs.Whole.Typing.{Judgement, plain, conjoined, and_judged, binary_judged, judgement, type_of}
 use Rattle.cedar_typechecker_model.specs.Whole.Verdicts.{strictly}
-use Rattle.cedar_typechecker_model.specs.Whole.FirstTrees.{whole_literal, whole_unary, whole_binary, whole_tree}
+use Rattle.cedar_expr_model.specs.Whole.FirstPath.{whole_literal, whole_unary, whole_binary, whole_tree}
 use Rattle.cedar_typechecker_model.specs.Whole.FirstPath.{whole_setting, whole_judgement}
 use Rattle.cedar_typechecker_model.proofs.Parts.{type_of_lit, type_of_both, type_of_unary, type_of_binary, no_facts_arise}
 

@@ -9,7 +9,7 @@ use Rattle.cedar_schema_model.specs.Types as small_types
 use Rattle.cedar_schema_model.specs.Whole.HasType.{HasType, is_of_bool}
 use Rattle.cedar_schema_model.specs.Whole.FirstPath.{whole_bool, whole_type}
 use Rattle.cedar_typechecker_model.specs.Soundness as small
-use Rattle.cedar_typechecker_model.specs.Whole.FirstTrees.{whole_literal}
+use Rattle.cedar_expr_model.specs.Whole.FirstPath.{whole_literal}
 
 false_said : (b : Bool) → (not b ≡ true) ↔ (b ≡ false)
 false_said true = (λ h. cc, λ h. cc)

@@ -24,7 +24,8 @@ use Rattle.cedar_typechecker_model.specs.Whole.Rules.{Setting}
 use Rattle.cedar_typechecker_model.specs.Whole.Typing.{Judgement, judgement, type_of}
 use Rattle.cedar_typechecker_model.specs.Whole.Levels.{Violation, unless_false, after_and, violations}
 use Rattle.cedar_typechecker_model.specs.Whole.Verdicts.{scope_use, policy_environments, in_mode, strictly, fits, is_bool, is_false, condition_type, passes, impossible, if_typed, violations_in, policy_violations_in}
-use Rattle.cedar_typechecker_model.specs.Whole.FirstTrees.{whole_tree, whole_scope, whole_policy}
+use Rattle.cedar_expr_model.specs.Whole.FirstPath.{whole_tree}
+use Rattle.cedar_store_model.specs.Whole.FirstPath.{whole_scope, whole_policy}
 use Rattle.cedar_typechecker_model.specs.Whole.FirstPath.{first_schema}
 use Rattle.cedar_typechecker_model.proofs.Whole.FirstPath.Typing.{types_same}
 use Rattle.cedar_typechecker_model.proofs.Whole.FirstPath.Naming.{same_condition}
