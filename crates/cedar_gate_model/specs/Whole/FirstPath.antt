@@ -16,12 +16,13 @@ use Rattle.cedar_schema_model.specs.Conforming as small_conforming
 use Rattle.cedar_schema_model.specs.Whole.Schema.{Schema}
 use Rattle.cedar_schema_model.specs.Whole.WellFormed.{schema_number}
 use Rattle.cedar_schema_model.specs.Whole.FirstPath.{whole_declarations, whole_fault, is_plain, IsFirstPath}
+use Rattle.cedar_typechecker_model.specs.Whole.FirstPath.{first_schema}
 use Rattle.cedar_evaluator_model.specs.Scope.{uid, closed}
 use Rattle.cedar_gate_model.specs.Acceptance as small_acceptance
 use Rattle.cedar_gate_model.specs.Transcript as small_transcript
 use Rattle.cedar_gate_model.specs.Bundle as small_bundle
 use Rattle.cedar_gate_model.specs.Lines as small_lines
-use Rattle.cedar_gate_model.specs.Whole.Acceptance.{Submission, Cause, schema, repeated_policy, nests_too_deep, unknown_entity_type, unknown_action, ill_typed, schema_in, IsAccepted, HasFault, admits, number_of, warnings_of}
+use Rattle.cedar_gate_model.specs.Whole.Acceptance.{Submission, Cause, schema, repeated_policy, nests_too_deep, unknown_entity_type, unknown_action, ill_typed, IsAccepted, HasFault, admits, number_of, warnings_of}
 use Rattle.cedar_gate_model.specs.Whole.Moment.{Start, Completes}
 use Rattle.cedar_gate_model.specs.Whole.Transcript.{Step, load, decide, Entry, round, decided, Transcript, Case, IsLegal}
 use Rattle.cedar_gate_model.specs.Whole.Session.{Setup, State, value_of, world_now, NothingIsWanted, OpenFault, OpenRefusal, SupplyFault, SupplyRefusal, AnswerFault, AnswerRefusal, not_conforming}
@@ -80,7 +81,7 @@ whole_status small_lines.stopped = is_stopped
 -- what a session of a submission and a request stands on, with any functions and any store
 abbrev pub first_setup : Functions → small_acceptance.Submission → small_world.Request → (Uid → Option (Entity V)) → Setup
 first_setup f s r store = record {
-  schema = schema_in (whole_submission f.table s);
+  schema = first_schema s.declarations;
   level = s.level;
   limit = s.limit;
   functions = f;
@@ -89,8 +90,8 @@ first_setup f s r store = record {
 }
 
 -- what a run of them is of
-abbrev pub first_case : Table → small_acceptance.Submission → small_world.Request → Case
-first_case x s r = record { schema = schema_in (whole_submission x s); level = s.level; policies = whole_policies s.policies; start = start_of r }
+abbrev pub first_case : small_acceptance.Submission → small_world.Request → Case
+first_case s r = record { schema = first_schema s.declarations; level = s.level; policies = whole_policies s.policies; start = start_of r }
 
 -- the faults keep their numbers, those of the gate and those of the schema
 abbrev pub NumbersAreTheSame : Type 0
@@ -108,7 +109,8 @@ AcceptanceIsTheSame = (x : Table) (s : small_acceptance.Submission) → is_plain
 
 -- a fault of the first path that is there is there in the whole language
 abbrev pub FaultsAreThere : Type 0
-FaultsAreThere = (x : Table) (s : small_acceptance.Submission) (c : small_acceptance.Cause) → is_plain s.declarations ≡ true → small_acceptance.HasFault c s → HasFault (whole_cause c) (whole_submission x s)
+FaultsAreThere = (x : Table) (s : small_acceptance.Submission) (c : small_acceptance.Cause) → is_plain s.declarations ≡ true → small_acceptance.HasFault c s
+    → HasFault (whole_cause c) (whole_submission x s)
 
 -- a fault of the whole language that is there has the number of a fault of the first path that is there
 abbrev pub NoOtherNumbers : Type 0
@@ -167,20 +169,20 @@ RunsTo f s v store steps end =
     Runs (MayDecide x ps) x ps (whole_steps steps) (whole_entries (small_transcript.decisions_for steps (small_answer.decision_of v s.policies))) end
 
 -- at level 0 that is a run: it answers where the request conforms, and else is refused for that
-abbrev pub RunsAreTheSame : Type 0
-RunsAreTheSame = (f : Functions) (s : small_acceptance.Submission) (v : small_world.World) (store : Uid → Option (Entity V)) (steps : List small_transcript.Step)
+abbrev pub AnsweringRunsAreWhole : Type 0
+AnsweringRunsAreWhole = (f : Functions) (s : small_acceptance.Submission) (v : small_world.World) (store : Uid → Option (Entity V)) (steps : List small_transcript.Step)
     → IsFirstPath s.declarations → s.level ≡ 0 → small_conforming.conforms s.declarations v.request ≡ true
     → RunsTo f s v store steps (answered (whole_answer (small_answer.answer_of v s.policies)))
 
-abbrev pub RefusedRunsAreTheSame : Type 0
-RefusedRunsAreTheSame = (f : Functions) (s : small_acceptance.Submission) (v : small_world.World) (store : Uid → Option (Entity V)) (steps : List small_transcript.Step)
+abbrev pub RefusedRunsAreWhole : Type 0
+RefusedRunsAreWhole = (f : Functions) (s : small_acceptance.Submission) (v : small_world.World) (store : Uid → Option (Entity V)) (steps : List small_transcript.Step)
     → IsFirstPath s.declarations → s.level ≡ 0 → small_conforming.conforms s.declarations v.request ≡ false
     → RunsTo f s v store steps (answer_refused not_conforming)
 
 -- at level 0 the same transcripts are legal, against each world that knows the request
 abbrev pub TranscriptsAreTheSame : Type 0
-TranscriptsAreTheSame = (x : Table) (s : small_acceptance.Submission) (v : small_world.World) (t : small_transcript.Transcript) (w : World)
-    → s.level ≡ 0 → KnowsRequest v.request w → small_transcript.IsLegal s v t ↔ IsLegal (first_case x s v.request) w (whole_transcript t)
+TranscriptsAreTheSame = (s : small_acceptance.Submission) (v : small_world.World) (t : small_transcript.Transcript) (w : World)
+    → s.level ≡ 0 → KnowsRequest v.request w → small_transcript.IsLegal s v t ↔ IsLegal (first_case s v.request) w (whole_transcript t)
 
 -- where the input doesn't read the same is printed
 abbrev pub UnreadableIsTheSame : Type 0
@@ -192,6 +194,6 @@ RefusalsAreTheSame = (f : Functions) (b : small_bundle.Bundle) (text : Text) →
     → small_lines.Prints (Some b) small_lines.refused text ↔ Prints f (Some (whole_bundle f.table b)) is_refused text
 
 -- what the first path prints for a bundle with plain declarations and level 0 may be printed, with its status
-abbrev pub LinesAreTheSame : Type 0
-LinesAreTheSame = (f : Functions) (b : small_bundle.Bundle) (status : small_lines.Status) (text : Text) → is_plain b.submission.declarations ≡ true → b.submission.level ≡ 0
+abbrev pub LinesAreWhole : Type 0
+LinesAreWhole = (f : Functions) (b : small_bundle.Bundle) (status : small_lines.Status) (text : Text) → is_plain b.submission.declarations ≡ true → b.submission.level ≡ 0
     → small_lines.Prints (Some b) status text → Prints f (Some (whole_bundle f.table b)) (whole_status status) text

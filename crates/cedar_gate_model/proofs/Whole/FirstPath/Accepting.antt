@@ -33,12 +33,13 @@ use Rattle.cedar_typechecker_model.proofs.Whole.FirstPath.Naming.{same_known_typ
 use Rattle.cedar_typechecker_model.proofs.Whole.FirstPath.Verdicts.{same_passing, same_impossible, no_policy_violations}
 use Rattle.cedar_gate_model.specs.Acceptance as small_acceptance
 use Rattle.cedar_gate_model.proofs.Acceptance as small_accepting
-use Rattle.cedar_gate_model.specs.Whole.Acceptance.{Cause, schema, external, repeated_policy, unlinked_slot, slot_outside_scope, unknown_in_policy, nests_too_deep, unknown_entity_type, unknown_action, no_member, ill_typed, reaches_too_far, extension_types, schema_in, all_slots, is_linked, keeps_slots_in_scope, is_nil, is_clear_of, IsAccepted, has_schema, HasFault, policy_causes, admits, number_of, warnings_of}
+use Rattle.cedar_gate_model.specs.Whole.Acceptance.{Submission, Cause, schema, external, repeated_policy, unlinked_slot, slot_outside_scope, unknown_in_policy, nests_too_deep, unknown_entity_type, unknown_action, no_member, ill_typed, reaches_too_far, extension_types, schema_in, all_slots, is_linked, keeps_slots_in_scope, is_nil, is_clear_of, IsAccepted, has_schema, HasFault, policy_causes, admits, number_of, warnings_of}
 use Rattle.cedar_gate_model.specs.Whole.FirstPath.{whole_submission, whole_cause}
 use Rattle.cedar_gate_model.proofs.Whole.Gate.Accepting.{admits-Decides}
 
 -- a test of each policy
-each_same : (f : Policy → Bool) (g : small_policy.Policy → Bool) → ((p : small_policy.Policy) → f (whole_policy p) ≡ g p) → (ps : List small_policy.Policy) → list_all f (whole_policies ps) ≡ list_all g ps
+each_same : (f : Policy → Bool) (g : small_policy.Policy → Bool) → ((p : small_policy.Policy) → f (whole_policy p) ≡ g p) → (ps : List small_policy.Policy)
+    → list_all f (whole_policies ps) ≡ list_all g ps
 each_same f g h ps = list_all-map f whole_policy ps ∙ all_agree (λ p. f (whole_policy p)) g h ps
 
 each_true : (f : Policy → Bool) → ((p : small_policy.Policy) → f (whole_policy p) ≡ true) → (ps : List small_policy.Policy) → list_all f (whole_policies ps) ≡ true
@@ -57,7 +58,9 @@ slotless p principal_slot = λ i. slotless_scope p.principal i || slotless_tree 
 slotless p resource_slot = λ i. slotless_scope p.resource i || slotless_tree p.body resource_slot i
 
 linked : (p : small_policy.Policy) → is_linked (whole_policy p) ≡ true
-linked p = all_true (λ x. not (has_slot (whole_policy p) x) || is_some (binding_of (whole_policy p).bindings x)) (λ x. ap (λ b. not b || is_some (binding_of (whole_policy p).bindings x)) (slotless p x)) all_slots
+linked p =
+    let is_there : SlotId → Bool = λ x. is_some (binding_of (whole_policy p).bindings x) in
+    all_true (λ x. not (has_slot (whole_policy p) x) || is_there x) (λ x. ap (λ b. not b || is_there x) (slotless p x)) all_slots
 
 in_scope : (p : small_policy.Policy) → keeps_slots_in_scope (whole_policy p) ≡ true
 in_scope p = all_true (λ x. not (tree_uses (whole_tree p.body) x)) (λ x. ap not (slotless_tree p.body x)) all_slots
@@ -101,72 +104,91 @@ five_first true true true false e r = refl
 five_first true true true true e r = refl
 
 module _ (x : Table) (s : small_acceptance.Submission) where
+  abbrev here : Submission
+  here = whole_submission x s
+
+  abbrev is_clear : Cause → Bool
+  is_clear c = is_clear_of c here
+
+  abbrev is_small_clear : small_acceptance.Cause → Bool
+  is_small_clear c = small_acceptance.is_clear_of c s
+
   -- the rules that ask no schema: two are those of the first path, and three are never broken
-  same_ids : is_clear_of repeated_policy (whole_submission x s) ≡ small_acceptance.is_clear_of small_acceptance.repeated_policy s
+  same_ids : is_clear repeated_policy ≡ is_small_clear small_acceptance.repeated_policy
   same_ids = ap (λ l. not (has_twice bytes_eq l)) (ids_whole s.policies) ∙ same_distinct bytes_eq (small_answer.ids s.policies)
 
-  same_depth : is_clear_of nests_too_deep (whole_submission x s) ≡ small_acceptance.is_clear_of small_acceptance.nests_too_deep s
+  same_depth : is_clear nests_too_deep ≡ is_small_clear small_acceptance.nests_too_deep
   same_depth = each_same (λ p. nat_le (nesting (condition p)) s.limit) (λ p. nat_le (small_tree.nesting (small_policy.condition p)) s.limit) (same_nesting s.limit) s.policies
 
-  always_linked : is_clear_of unlinked_slot (whole_submission x s) ≡ true
+  always_linked : is_clear unlinked_slot ≡ true
   always_linked = each_true is_linked linked s.policies
 
-  always_in_scope : is_clear_of slot_outside_scope (whole_submission x s) ≡ true
+  always_in_scope : is_clear slot_outside_scope ≡ true
   always_in_scope = each_true keeps_slots_in_scope in_scope s.policies
 
-  always_known : is_clear_of unknown_in_policy (whole_submission x s) ≡ true
+  always_known : is_clear unknown_in_policy ≡ true
   always_known = each_true (λ p. not (has_unknown (condition p))) known s.policies
 
   -- nothing is external
-  resolved : is_plain s.declarations ≡ true → is_clear_of external (whole_submission x s) ≡ true
+  resolved : is_plain s.declarations ≡ true → is_clear external ≡ true
   resolved h = ap not (others_never (extension_types x) s.declarations h unresolved_external refl)
 
-  formed : is_plain s.declarations ≡ true → well_formed (extension_types x) (whole_declarations s.declarations) ≡ small.well_formed s.declarations
-  formed h = same_formed (extension_types x) s.declarations h
+  same_form : is_plain s.declarations ≡ true → well_formed (extension_types x) (whole_declarations s.declarations) ≡ small.well_formed s.declarations
+  same_form h = same_formed (extension_types x) s.declarations h
 
-  schema_there : is_plain s.declarations ≡ true → small.well_formed s.declarations ≡ true → has_schema (whole_submission x s) ≡ true
-  schema_there h w = hold_both (well_formed (extension_types x) (whole_declarations s.declarations)) (is_clear_of external (whole_submission x s)) (formed h ∙ w) (resolved h)
+  schema_there : is_plain s.declarations ≡ true → small.well_formed s.declarations ≡ true → has_schema here ≡ true
+  schema_there h w = hold_both (well_formed (extension_types x) (whole_declarations s.declarations)) (is_clear external) (same_form h ∙ w) (resolved h)
 
-  first_there : is_plain s.declarations ≡ true → has_schema (whole_submission x s) ≡ true → IsFirstPath s.declarations
+  first_there : is_plain s.declarations ≡ true → has_schema here ≡ true → IsFirstPath s.declarations
   first_there h w =
-      let b = both_hold (well_formed (extension_types x) (whole_declarations s.declarations)) (is_clear_of external (whole_submission x s)) w in
-      record { plain = h; formed = sym (formed h) ∙ b.0 }
+      let b = both_hold (well_formed (extension_types x) (whole_declarations s.declarations)) (is_clear external) w in
+      record { plain = h; formed = sym (same_form h) ∙ b.0 }
 
   -- the rules that ask the schema: three are those of the first path, and two are never broken
-  same_types : IsFirstPath s.declarations → is_clear_of unknown_entity_type (whole_submission x s) ≡ small_acceptance.is_clear_of small_acceptance.unknown_entity_type s
-  same_types h = each_same (names_known_types (schema_in (whole_submission x s))) (small_scope.each_named (small_scope.has_known_type s.declarations)) (λ p. same_known_types s.declarations p h) s.policies
+  same_types : IsFirstPath s.declarations → is_clear unknown_entity_type ≡ is_small_clear small_acceptance.unknown_entity_type
+  same_types h =
+      let test = small_scope.each_named (small_scope.has_known_type s.declarations) in
+      each_same (names_known_types (schema_in here)) test (λ p. same_known_types s.declarations p h) s.policies
 
-  same_actions : IsFirstPath s.declarations → is_clear_of unknown_action (whole_submission x s) ≡ small_acceptance.is_clear_of small_acceptance.unknown_action s
-  same_actions h = each_same (names_known_actions (schema_in (whole_submission x s))) (small_scope.each_named (small_scope.is_no_unknown_action s.declarations)) (λ p. same_known_actions s.declarations p h) s.policies
+  same_actions : IsFirstPath s.declarations → is_clear unknown_action ≡ is_small_clear small_acceptance.unknown_action
+  same_actions h =
+      let test = small_scope.each_named (small_scope.is_no_unknown_action s.declarations) in
+      each_same (names_known_actions (schema_in here)) test (λ p. same_known_actions s.declarations p h) s.policies
 
-  same_typed : IsFirstPath s.declarations → is_clear_of ill_typed (whole_submission x s) ≡ small_acceptance.is_clear_of small_acceptance.ill_typed s
-  same_typed h = each_same (passes (schema_in (whole_submission x s)) x) (small_verdicts.passes s.declarations) (λ p. same_passing s.declarations x p h) s.policies
+  same_typed : IsFirstPath s.declarations → is_clear ill_typed ≡ is_small_clear small_acceptance.ill_typed
+  same_typed h = each_same (passes (schema_in here) x) (small_verdicts.passes s.declarations) (λ p. same_passing s.declarations x p h) s.policies
 
-  always_members : IsFirstPath s.declarations → is_clear_of no_member (whole_submission x s) ≡ true
-  always_members h = each_true (names_known_members (schema_in (whole_submission x s))) (λ p. members_pass s.declarations p h) s.policies
+  always_members : IsFirstPath s.declarations → is_clear no_member ≡ true
+  always_members h = each_true (names_known_members (schema_in here)) (λ p. members_pass s.declarations p h) s.policies
 
-  always_near : is_clear_of reaches_too_far (whole_submission x s) ≡ true
-  always_near = each_true (λ p. is_nil (policy_violations s.level (schema_in (whole_submission x s)) x p)) (λ p. ap is_nil (no_policy_violations strict s.level (schema_in (whole_submission x s)) x p)) s.policies
+  always_near : is_clear reaches_too_far ≡ true
+  always_near = each_true (λ p. is_nil (policy_violations s.level (schema_in here) x p)) (λ p. ap is_nil (no_policy_violations strict s.level (schema_in here) x p)) s.policies
 
   -- all rules of policies together
-  same_rest : IsFirstPath s.declarations → list_all (λ c. is_clear_of c (whole_submission x s)) policy_causes
-      ≡ (small_acceptance.is_clear_of small_acceptance.repeated_policy s && (small_acceptance.is_clear_of small_acceptance.nests_too_deep s && (small_acceptance.is_clear_of small_acceptance.unknown_entity_type s
-      && (small_acceptance.is_clear_of small_acceptance.unknown_action s && small_acceptance.is_clear_of small_acceptance.ill_typed s))))
+  abbrev small_rest : Bool → Bool
+  small_rest typed =
+      is_small_clear small_acceptance.repeated_policy
+      && (is_small_clear small_acceptance.nests_too_deep && (is_small_clear small_acceptance.unknown_entity_type && (is_small_clear small_acceptance.unknown_action && typed)))
+
+  same_rest : IsFirstPath s.declarations → list_all is_clear policy_causes ≡ small_rest (is_small_clear small_acceptance.ill_typed)
   same_rest h =
-      (λ i. resolved h.plain i && (same_ids i && (always_linked i && (always_in_scope i && (always_known i && (same_depth i && (same_types h i && (same_actions h i && (always_members h i && (same_typed h i && (always_near i && true)))))))))))
-      ∙ ap (λ b. small_acceptance.is_clear_of small_acceptance.repeated_policy s && (small_acceptance.is_clear_of small_acceptance.nests_too_deep s && (small_acceptance.is_clear_of small_acceptance.unknown_entity_type s && (small_acceptance.is_clear_of small_acceptance.unknown_action s && b))))
-      (and_true (small_acceptance.is_clear_of small_acceptance.ill_typed s))
+      (λ i. resolved h.plain i && (same_ids i && (always_linked i && (always_in_scope i && (always_known i && (same_depth i
+      && (same_types h i && (same_actions h i && (always_members h i && (same_typed h i && (always_near i && true)))))))))))
+      ∙ ap small_rest (and_true (is_small_clear small_acceptance.ill_typed))
 
-  pub admitting_is_the_same : is_plain s.declarations ≡ true → admits (whole_submission x s) ≡ small_acceptance.admits s
+  abbrev is_free : small.SchemaFault → Bool
+  is_free f = small.is_free_of f s.declarations
+
+  pub admitting_is_the_same : is_plain s.declarations ≡ true → admits here ≡ small_acceptance.admits s
   admitting_is_the_same h =
-      both_where _ (small.well_formed s.declarations) _ _ (formed h) (λ w. same_rest (record { plain = h; formed = w }))
-      ∙ sym (five_first (small.is_free_of small.duplicate_entity_type s.declarations) (small.is_free_of small.duplicate_action s.declarations) (small.is_free_of small.undeclared_type s.declarations) (small.is_free_of small.action_as_entity_type s.declarations) (small.is_free_of small.reserved_name s.declarations) _)
+      both_where _ (small.well_formed s.declarations) _ _ (same_form h) (λ w. same_rest (record { plain = h; formed = w }))
+      ∙ sym (five_first (is_free small.duplicate_entity_type) (is_free small.duplicate_action) (is_free small.undeclared_type) (is_free small.action_as_entity_type) (is_free small.reserved_name) _)
 
-  pub acceptance_is_the_same : is_plain s.declarations ≡ true → IsAccepted (whole_submission x s) ↔ small_acceptance.IsAccepted s
-  acceptance_is_the_same h = same_said (admits (whole_submission x s)) (small_acceptance.admits s) (admits-Decides (whole_submission x s)) (small_accepting.admits-Decides s) (admitting_is_the_same h)
+  pub acceptance_is_the_same : is_plain s.declarations ≡ true → IsAccepted here ↔ small_acceptance.IsAccepted s
+  acceptance_is_the_same h = same_said (admits here) (small_acceptance.admits s) (admits-Decides here) (small_accepting.admits-Decides s) (admitting_is_the_same h)
 
   -- faults
-  pub faults_are_there : (c : small_acceptance.Cause) → is_plain s.declarations ≡ true → small_acceptance.HasFault c s → HasFault (whole_cause c) (whole_submission x s)
+  pub faults_are_there : (c : small_acceptance.Cause) → is_plain s.declarations ≡ true → small_acceptance.HasFault c s → HasFault (whole_cause c) here
   faults_are_there (small_acceptance.schema f) h k = (listed f, same_faults (extension_types x) s.declarations h f ∙ ap (λ b. b && also_asked f s.declarations) k, λ e. cc)
   faults_are_there small_acceptance.repeated_policy h k = (tt, same_ids ∙ k, λ e. cc)
   faults_are_there small_acceptance.nests_too_deep h k = (tt, same_depth ∙ k, λ e. cc)
@@ -178,16 +200,16 @@ module _ (x : Table) (s : small_acceptance.Submission) where
   abbrev Numbered : Cause → Type 0
   Numbered c = (b : small_acceptance.Cause) × small_acceptance.HasFault b s × (number_of c ≡ small_acceptance.number_of b)
 
-  of_schema : (f : SchemaFault) → is_plain s.declarations ≡ true → HasFault (schema f) (whole_submission x s) → Numbered (schema f)
+  of_schema : (f : SchemaFault) → is_plain s.declarations ≡ true → HasFault (schema f) here → Numbered (schema f)
   of_schema f h k = by_form (small.well_formed s.declarations) refl
     where
       by_form : (t : Bool) → small.well_formed s.declarations ≡ t → Numbered (schema f)
       by_form true e =
-          let q = all_each (λ g. not (has_schema_fault (extension_types x) (whole_declarations s.declarations) g)) ill_forms (formed h ∙ e) f k.0 in
+          let q = all_each (λ g. not (has_schema_fault (extension_types x) (whole_declarations s.declarations) g)) ill_forms (same_form h ∙ e) f k.0 in
           let r = k.1 in cc
       by_form false e = let r = ill_formed s.declarations e in (small_acceptance.schema r.0, r.1, refl)
 
-  pub no_other_numbers : (c : Cause) → is_plain s.declarations ≡ true → HasFault c (whole_submission x s) → Numbered c
+  pub no_other_numbers : (c : Cause) → is_plain s.declarations ≡ true → HasFault c here → Numbered c
   no_other_numbers (schema f) h k = of_schema f h k
   no_other_numbers external h k = let q = resolved h in let r = k.1 in cc
   no_other_numbers repeated_policy h k = (small_acceptance.repeated_policy, sym same_ids ∙ k.1, refl)
@@ -201,9 +223,9 @@ module _ (x : Table) (s : small_acceptance.Submission) where
   no_other_numbers ill_typed h k = let p = first_there h (k.2 refl) in (small_acceptance.ill_typed, (p.formed, sym (same_typed p) ∙ k.1), refl)
   no_other_numbers reaches_too_far h k = let q = always_near in let r = k.1 in cc
 
-  pub warnings_are_the_same : IsFirstPath s.declarations → warnings_of (whole_submission x s) ≡ small_acceptance.warnings_of s
+  pub warnings_are_the_same : IsFirstPath s.declarations → warnings_of here ≡ small_acceptance.warnings_of s
   warnings_are_the_same h =
-      ap ids (filter_whole whole_policy (small_verdicts.impossible s.declarations) (impossible (schema_in (whole_submission x s)) x) (λ p. same_impossible s.declarations x p h) s.policies)
+      ap ids (filter_whole whole_policy (small_verdicts.impossible s.declarations) (impossible (schema_in here) x) (λ p. same_impossible s.declarations x p h) s.policies)
       ∙ ids_whole (filter (small_verdicts.impossible s.declarations) s.policies)
 
 -- where the declarations are plain, an accepted submission is one that typing goes on with

@@ -22,7 +22,7 @@ use Rattle.cedar_gate_model.specs.Whole.Bundle.{Functions}
 use Rattle.cedar_gate_model.specs.Whole.Lines.{is_refused, is_unreadable, line, decision_word, impossible_line, reason_line, error_line, decided_line, round_line, entry_lines, answer_lines, refused_line, end_lines, run_lines, Prints}
 use Rattle.cedar_gate_model.specs.Whole.FirstPath.{whole_cause, whole_entries, whole_bundle, whole_status}
 use Rattle.cedar_gate_model.proofs.Whole.FirstPath.Accepting.{acceptance_is_the_same, accepted_is_first, faults_are_there, no_other_numbers, warnings_are_the_same, numbers_are_the_same}
-use Rattle.cedar_gate_model.proofs.Whole.FirstPath.Sessions.{runs_are_the_same, refused_runs_are_the_same}
+use Rattle.cedar_gate_model.proofs.Whole.FirstPath.Sessions.{answering_runs_are_whole, refused_runs_are_whole}
 
 -- the lines of what was done, of warnings and of answers
 same_decision : (d : Option small_answer.Decision) → decided_line (option_map whole_decision d) ≡ small.decided_line d
@@ -54,28 +54,31 @@ unfolding chars digits
 same_stop = refl
 
 -- the whole text
+abbrev done : small_bundle.Bundle → List small_transcript.Entry
+done b = small_transcript.decisions_for b.steps (small_answer.decision_of (small_bundle.bundle_world b) b.submission.policies)
+
 same_text : (x : Table) (b : small_bundle.Bundle) (end : End) (last : Text) → IsFirstPath b.submission.declarations → end_lines end ≡ last
-    → small.run_lines b ++ last ≡ run_lines (whole_bundle x b) (whole_entries (small_transcript.decisions_for b.steps (small_answer.decision_of (small_bundle.bundle_world b) b.submission.policies))) end
+    → small.run_lines b ++ last ≡ run_lines (whole_bundle x b) (whole_entries (done b)) end
 same_text x b end last h e =
-    let es = small_transcript.decisions_for b.steps (small_answer.decision_of (small_bundle.bundle_world b) b.submission.policies) in
-    append_assoc (small.warning_lines b.submission) (small.entry_lines 1 es) last
-    ∙ sym (λ i. flat_map impossible_line (warnings_are_the_same x b.submission h i) ++ (same_entries 1 es i ++ e i))
+    append_assoc (small.warning_lines b.submission) (small.entry_lines 1 (done b)) last
+    ∙ sym (λ i. flat_map impossible_line (warnings_are_the_same x b.submission h i) ++ (same_entries 1 (done b) i ++ e i))
 
 -- refusals
-refusal_there : (f : Functions) (b : small_bundle.Bundle) (text : Text) → is_plain b.submission.declarations ≡ true → small.Prints (Some b) small.refused text → Prints f (Some (whole_bundle f.table b)) is_refused text
-refusal_there f b text p h = (
-  whole_cause h.0,
-  faults_are_there f.table b.submission h.0 p h.1,
-  h.2 ∙ sym (ap refused_line (numbers_are_the_same h.0) ∙ same_refusal (small_acceptance.number_of h.0)),
-)
+module _ (f : Functions) (b : small_bundle.Bundle) (text : Text) (p : is_plain b.submission.declarations ≡ true) where
+  refusal_there : small.Prints (Some b) small.refused text → Prints f (Some (whole_bundle f.table b)) is_refused text
+  refusal_there h = (
+    whole_cause h.0,
+    faults_are_there f.table b.submission h.0 p h.1,
+    h.2 ∙ sym (ap refused_line (numbers_are_the_same h.0) ∙ same_refusal (small_acceptance.number_of h.0)),
+  )
 
-there_refusal : (f : Functions) (b : small_bundle.Bundle) (text : Text) → is_plain b.submission.declarations ≡ true → Prints f (Some (whole_bundle f.table b)) is_refused text → small.Prints (Some b) small.refused text
-there_refusal f b text p h =
-    let r = no_other_numbers f.table b.submission h.0 p h.1 in
-    (r.0, r.1, h.2 ∙ ap refused_line r.2 ∙ same_refusal (small_acceptance.number_of r.0))
+  there_refusal : Prints f (Some (whole_bundle f.table b)) is_refused text → small.Prints (Some b) small.refused text
+  there_refusal h =
+      let r = no_other_numbers f.table b.submission h.0 p h.1 in
+      (r.0, r.1, h.2 ∙ ap refused_line r.2 ∙ same_refusal (small_acceptance.number_of r.0))
 
-pub refusals_are_the_same : (f : Functions) (b : small_bundle.Bundle) (text : Text) → is_plain b.submission.declarations ≡ true → small.Prints (Some b) small.refused text ↔ Prints f (Some (whole_bundle f.table b)) is_refused text
-refusals_are_the_same f b text p = (refusal_there f b text p, there_refusal f b text p)
+  pub refusals_are_the_same : small.Prints (Some b) small.refused text ↔ Prints f (Some (whole_bundle f.table b)) is_refused text
+  refusals_are_the_same = (refusal_there, there_refusal)
 
 -- what doesn't read
 is_unreadable_there : (status : small.Status) → whole_status status ≡ is_unreadable → status ≡ small.unreadable
@@ -87,32 +90,32 @@ is_unreadable_there small.stopped h = cc
 pub unreadable_is_the_same : (f : Functions) (status : small.Status) (text : Text) → small.Prints None status text ↔ Prints f None (whole_status status) text
 unreadable_is_the_same f status text = (λ h. (ap whole_status h.0, h.1), λ h. (is_unreadable_there status h.0, h.1))
 
-pub lines_are_the_same : (f : Functions) (b : small_bundle.Bundle) (status : small.Status) (text : Text) → is_plain b.submission.declarations ≡ true → b.submission.level ≡ 0
+pub lines_are_whole : (f : Functions) (b : small_bundle.Bundle) (status : small.Status) (text : Text) → is_plain b.submission.declarations ≡ true → b.submission.level ≡ 0
     → small.Prints (Some b) status text → Prints f (Some (whole_bundle f.table b)) (whole_status status) text
-lines_are_the_same f b small.refused text p e h = refusal_there f b text p h
-lines_are_the_same f b small.unreadable text p e h = h
-lines_are_the_same f b small.answered text p e h =
+lines_are_whole f b small.refused text p e h = refusal_there f b text p h
+lines_are_whole f b small.unreadable text p e h = h
+lines_are_whole f b small.answered text p e h =
     let v = small_bundle.bundle_world b in
     let a = small_answer.answer_of v b.submission.policies in
     let first = accepted_is_first b.submission p h.0 in
     let clean = policies_dont_err b.submission v h.0 ((conforms-Decides b.submission.declarations b.request).0 h.1) in (
       (acceptance_is_the_same f.table b.submission p).1 h.0,
       (
-        whole_entries (small_transcript.decisions_for b.steps (small_answer.decision_of v b.submission.policies)),
+        whole_entries (done b),
         answered (whole_answer a),
-        runs_are_the_same f b.submission v (λ u. entity_of u (plain_entities b.store)) b.steps first e h.1,
+        answering_runs_are_whole f b.submission v (λ u. entity_of u (plain_entities b.store)) b.steps first e h.1,
         refl,
         h.2 ∙ same_text f.table b (answered (whole_answer a)) (small.answer_lines a) first (same_answer a clean),
       ),
     )
-lines_are_the_same f b small.stopped text p e h =
+lines_are_whole f b small.stopped text p e h =
     let v = small_bundle.bundle_world b in
     let first = accepted_is_first b.submission p h.0 in (
       (acceptance_is_the_same f.table b.submission p).1 h.0,
       (
-        whole_entries (small_transcript.decisions_for b.steps (small_answer.decision_of v b.submission.policies)),
+        whole_entries (done b),
         answer_refused not_conforming,
-        refused_runs_are_the_same f b.submission v (λ u. entity_of u (plain_entities b.store)) b.steps first e h.1,
+        refused_runs_are_whole f b.submission v (λ u. entity_of u (plain_entities b.store)) b.steps first e h.1,
         refl,
         h.2 ∙ same_text f.table b (answer_refused not_conforming) small.not_conforming_line first same_stop,
       ),

@@ -59,7 +59,8 @@ no_open_entry false false false p q r = refl
 no_open_name : (r : small_world.Request) (t : State) → HasOpenName (start_of r) t → ⊥
 no_open_name r t h =
     let n = h.0 in
-    let e : is_open_entry (entry_named (start_of r) n) ≡ false = no_open_entry (bytes_eq n (codes "principal")) (bytes_eq n (codes "action")) (bytes_eq n (codes "resource")) r.principal r.action r.resource in
+    let e : is_open_entry (entry_named (start_of r) n) ≡ false =
+    no_open_entry (bytes_eq n (codes "principal")) (bytes_eq n (codes "action")) (bytes_eq n (codes "resource")) r.principal r.action r.resource in
     let f : is_open_name (start_of r) t n ≡ false = ap (λ b. not (is_some (value_of t n)) && (b || false)) e ∙ and_false (not (is_some (value_of t n))) in
     let g = h.1 in cc
 
@@ -76,37 +77,49 @@ fails_where true P d n = absurd (n (d.0 refl))
 fails_where false P d n = refl
 
 module _ (f : Functions) (s : small_acceptance.Submission) (r : small_world.Request) (store : Uid → Option (Entity V)) (t : State) (h : IsFirstPath s.declarations) where
-  -- a request is refused exactly where it doesn't conform
-  refused_where : AnswerFault (first_setup f s r store) t not_conforming → small_conforming.conforms s.declarations r ≡ false
-  refused_where k = fails_where (small_conforming.conforms s.declarations r) (small_conforming.Conforms s.declarations r) (conforms-Decides s.declarations r) (λ c. k.1 ((conforming_says s.declarations r h).1 c))
+  abbrev Refuses : AnswerRefusal → Type 0
+  Refuses why = AnswerFault (first_setup f s r store) t why
 
-  where_refused : small_conforming.conforms s.declarations r ≡ false → AnswerFault (first_setup f s r store) t not_conforming
+  abbrev conforming : Bool
+  conforming = small_conforming.conforms s.declarations r
+
+  -- a request is refused exactly where it doesn't conform
+  refused_where : Refuses not_conforming → conforming ≡ false
+  refused_where k = fails_where conforming (small_conforming.Conforms s.declarations r) (conforms-Decides s.declarations r) (λ c. k.1 ((conforming_says s.declarations r h).1 c))
+
+  where_refused : conforming ≡ false → Refuses not_conforming
   where_refused e = (no_open_name r t, λ c. let g = (conforms-Decides s.declarations r).1 ((conforming_says s.declarations r h).0 c) in cc)
 
-  pub refused_answers_are_the_same : s.level ≡ 0 → (why : AnswerRefusal) → AnswerFault (first_setup f s r store) t why ↔ ((why ≡ not_conforming) × (small_conforming.conforms s.declarations r ≡ false))
+  pub refused_answers_are_the_same : s.level ≡ 0 → (why : AnswerRefusal) → Refuses why ↔ ((why ≡ not_conforming) × (conforming ≡ false))
   refused_answers_are_the_same e not_bound = (λ k. absurd (no_open_name r t k), λ k. let g = k.0 in cc)
   refused_answers_are_the_same e still_wanted = (λ k. absurd (nothing_is_wanted (first_setup f s r store) t e k.0 k.1), λ k. let g = k.0 in cc)
   refused_answers_are_the_same e not_conforming = (λ k. (refl, refused_where k), λ k. where_refused k.1)
 
 -- A run that loads nothing gives one decision wherever one is asked for, and comes to its end.
+abbrev RunsOn : Setup → List Policy → List small_transcript.Step → small_answer.Decision → End → Type 0
+RunsOn x ps steps d end = Follows (MayDecide x ps) x ps at_start (whole_steps steps) (whole_entries (small_transcript.decisions_for steps d)) end
+
 follows_steps : (x : Setup) (ps : List Policy) (d : small_answer.Decision) (end : End) → NothingIsWanted x at_start → MayDecide x ps at_start (Some (whole_decision d)) → Finishes x ps at_start [] end
-    → (steps : List small_transcript.Step) → Follows (MayDecide x ps) x ps at_start (whole_steps steps) (whole_entries (small_transcript.decisions_for steps d)) end
+    → (steps : List small_transcript.Step) → RunsOn x ps steps d end
 follows_steps x ps d end none may last [] = last
 follows_steps x ps d end none may last (small_transcript.load ∷ steps) = inl (none, follows_steps x ps d end none may last steps)
 follows_steps x ps d end none may last (small_transcript.decide ∷ steps) = (may, follows_steps x ps d end none may last steps)
 
-module _ (f : Functions) (s : small_acceptance.Submission) (v : small_world.World) (store : Uid → Option (Entity V)) (steps : List small_transcript.Step) (h : IsFirstPath s.declarations) (e : s.level ≡ 0) where
-  none_here : NothingIsWanted (first_setup f s v.request store) at_start
-  none_here = nothing_is_wanted (first_setup f s v.request store) at_start e
+module _ (f : Functions) (s : small_acceptance.Submission) (v : small_world.World) (store : Uid → Option (Entity V)) (steps : List small_transcript.Step) where
+  abbrev here : Setup
+  here = first_setup f s v.request store
 
-  follows_here : (end : End) → Finishes (first_setup f s v.request store) (whole_policies s.policies) at_start [] end
-      → Follows (MayDecide (first_setup f s v.request store) (whole_policies s.policies)) (first_setup f s v.request store) (whole_policies s.policies) at_start (whole_steps steps) (whole_entries (small_transcript.decisions_for steps (small_answer.decision_of v s.policies))) end
-  follows_here end last = follows_steps (first_setup f s v.request store) (whole_policies s.policies) (small_answer.decision_of v s.policies) end none_here (decisions_may_be_given f s v store at_start) last steps
+  follows_here : s.level ≡ 0 → (end : End) → Finishes here (whole_policies s.policies) at_start [] end → RunsOn here (whole_policies s.policies) steps (small_answer.decision_of v s.policies) end
+  follows_here e end last =
+      follows_steps here (whole_policies s.policies) (small_answer.decision_of v s.policies) end (nothing_is_wanted here at_start e) (decisions_may_be_given f s v store at_start) last steps
 
-  pub runs_are_the_same : small_conforming.conforms s.declarations v.request ≡ true → RunsTo f s v store steps (answered (whole_answer (small_answer.answer_of v s.policies)))
-  runs_are_the_same c =
-      let fits : (why : AnswerRefusal) → AnswerFault (first_setup f s v.request store) at_start why → ⊥ = λ why k. let q = ((refused_answers_are_the_same f s v.request store at_start h e why).0 k).1 in cc in
-      (opening_is_not_refused v.request, follows_here (answered (whole_answer (small_answer.answer_of v s.policies))) (none_here, fits, sym (answers_are_the_same f s v store at_start)))
+  pub answering_runs_are_whole : IsFirstPath s.declarations → s.level ≡ 0 → small_conforming.conforms s.declarations v.request ≡ true
+      → RunsTo f s v store steps (answered (whole_answer (small_answer.answer_of v s.policies)))
+  answering_runs_are_whole h e c =
+      let fits : (why : AnswerRefusal) → AnswerFault here at_start why → ⊥ =
+      λ why k. let q = ((refused_answers_are_the_same f s v.request store at_start h e why).0 k).1 in cc in
+      let end = answered (whole_answer (small_answer.answer_of v s.policies)) in
+      (opening_is_not_refused v.request, follows_here e end (nothing_is_wanted here at_start e, fits, sym (answers_are_the_same f s v store at_start)))
 
-  pub refused_runs_are_the_same : small_conforming.conforms s.declarations v.request ≡ false → RunsTo f s v store steps (answer_refused not_conforming)
-  refused_runs_are_the_same c = (opening_is_not_refused v.request, follows_here (answer_refused not_conforming) (none_here, where_refused f s v.request store at_start h c))
+  pub refused_runs_are_whole : IsFirstPath s.declarations → s.level ≡ 0 → small_conforming.conforms s.declarations v.request ≡ false → RunsTo f s v store steps (answer_refused not_conforming)
+  refused_runs_are_whole h e c = (opening_is_not_refused v.request, follows_here e (answer_refused not_conforming) (nothing_is_wanted here at_start e, where_refused f s v.request store at_start h c))

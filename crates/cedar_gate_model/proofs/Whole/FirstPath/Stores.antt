@@ -55,5 +55,6 @@ module _ (f : Functions) (b : small_bundle.Bundle) (first : IsFirstPath b.submis
       ∙ ap (λ t. cond t (held (as_entity (whole_schema d) u)) (found_as whole (entity_of u (plain_entities b.store)))) (actions_of_schema d u)
       ∙ either_found (small.declares_action d u) ((small_bundle.bundle_world b).holds u) (as_entity (whole_schema d) u) _ (plain_action d u) (listed u)
 
-pub worlds_are_the_same : (f : Functions) (b : small_bundle.Bundle) (t : State) → IsFirstPath b.submission.declarations → world_now (setup_of f (whole_bundle f.table b)) t ≡ whole_world f.table (λ n. option_map bare (value_of t n)) (with_actions b)
+pub worlds_are_the_same : (f : Functions) (b : small_bundle.Bundle) (t : State) → IsFirstPath b.submission.declarations
+    → world_now (setup_of f (whole_bundle f.table b)) t ≡ whole_world f.table (λ n. option_map bare (value_of t n)) (with_actions b)
 worlds_are_the_same f b t first = λ i. record (world_now (setup_of f (whole_bundle f.table b)) t) { store = λ u. same_store f b first u i }
