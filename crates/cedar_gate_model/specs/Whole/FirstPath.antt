@@ -1,5 +1,5 @@
 -- What the first path accepts, does and prints, seen as what the whole language does, and what the laws say of this.
--- Rule: the acceptance rules; impossible policies; sessions; refusals of a session; runs; legal transcript; the lines (docs/RULES.md).
+-- Rule: the acceptance rules; impossible policies; statuses and refusal numbers; sessions; refusals of a session; runs; legal transcript; the lines (docs/RULES.md).
 use Rattle.std.specs.Prelude.{◌≡◌, ◌↔◌, ◌||◌, ℕ, List, [], map, true, false, Option, Some, None, option_map}
 use Rattle.cedar_expr_model.specs.Name.{Text}
 use Rattle.cedar_expr_model.specs.Uid.{Uid}
