@@ -19,7 +19,7 @@ ghost use Rattle.cedar_gate_model.specs.Whole.Acceptance.{schema, repeated_polic
 ghost use Rattle.cedar_gate_model.specs.Whole.Transcript.{load, decide, round, decided};
 ghost use Rattle.cedar_gate_model.specs.Whole.Lines.{is_answered, is_refused, is_unreadable, is_stopped, Prints};
 ghost use Rattle.cedar_gate_model.specs.Whole.WorkedGate.{no_functions};
-ghost use Rattle.cedar_gate_model.specs.Whole.FirstPath.{whole_submission, whole_cause, whole_steps, whole_entries, whole_transcript, start_of, whole_bundle, whole_status, first_setup, first_case, with_actions, NumbersAreTheSame, SchemaNumbersAreTheSame, AdmittingIsTheSame, AcceptanceIsTheSame, FaultsAreThere, NoOtherNumbers, WarningsAreTheSame, OpeningIsNotRefused, NothingIsWantedAtZero, NothingIsARightSupply, WorldsAreTheSame, CompletionsKnowTheRequest, DecisionsMayBeGiven, AnswersAreTheSame, RefusedAnswersAreTheSame, AnsweringRunsAreWhole, RefusedRunsAreWhole, TranscriptsAreTheSame, UnreadableIsTheSame, RefusalsAreTheSame, LinesAreWhole};
+ghost use Rattle.cedar_gate_model.specs.Whole.FirstPath.{whole_submission, whole_cause, whole_steps, whole_entries, whole_transcript, start_of, whole_bundle, whole_status, first_setup, first_case, with_actions, NumbersAreTheSame, SchemaNumbersAreTheSame, AdmittingIsTheSame, AcceptanceIsTheSame, FaultsAreThere, NoOtherNumbers, WarningsAreTheSame, OpeningIsNotRefused, NothingIsWantedAtZero, SupplyingNothingIsRight, WorldsAreTheSame, CompletionsKnowTheRequest, DecisionsMayBeGiven, AnswersAreTheSame, RefusedAnswersAreTheSame, AnsweringRunsAreWhole, RefusedRunsAreWhole, TranscriptsAreTheSame, UnreadableIsTheSame, RefusalsAreTheSame, LinesAreWhole};
 
 /// The same submissions with plain declarations are accepted. A fault of the first path that is there is there in the whole
 /// language, with its number, and no other number may be named.
@@ -47,7 +47,7 @@ pub fn worlds_are_the_same()
 pub fn sessions_are_the_same()
     ensures opening { OpeningIsNotRefused }
     ensures nothing_wanted { NothingIsWantedAtZero }
-    ensures nothing_supplied { NothingIsARightSupply }
+    ensures nothing_supplied { SupplyingNothingIsRight }
     ensures completions { CompletionsKnowTheRequest }
     ensures decisions { DecisionsMayBeGiven }
     ensures answers { AnswersAreTheSame }

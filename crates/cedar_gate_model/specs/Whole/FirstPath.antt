@@ -125,12 +125,12 @@ WarningsAreTheSame = (x : Table) (s : small_acceptance.Submission) → IsFirstPa
 abbrev pub OpeningIsNotRefused : Type 0
 OpeningIsNotRefused = (r : small_world.Request) (f : OpenRefusal) → OpenFault (start_of r) f → ⊥
 
--- at level 0 nothing is wanted in any state of any session, and nothing is a right supply
+-- at level 0 nothing is wanted in any state of any session, and a supply of nothing is right
 abbrev pub NothingIsWantedAtZero : Type 0
 NothingIsWantedAtZero = (x : Setup) (t : State) → x.level ≡ 0 → NothingIsWanted x t
 
-abbrev pub NothingIsARightSupply : Type 0
-NothingIsARightSupply = (x : Setup) (t : State) → x.level ≡ 0 → (f : SupplyRefusal) → SupplyFault x t [] f → ⊥
+abbrev pub SupplyingNothingIsRight : Type 0
+SupplyingNothingIsRight = (x : Setup) (t : State) → x.level ≡ 0 → (f : SupplyRefusal) → SupplyFault x t [] f → ⊥
 
 -- The first path's world of a bundle, in which the declared actions are held too.
 abbrev pub with_actions : small_bundle.Bundle → small_world.World
