@@ -1,6 +1,5 @@
 -- Sessions and runs of the first path, which is at level 0.
 use Rattle.std.proofs.Common.{◌≡◌, ◌↔◌, ◌∙◌, ℕ, Bool, true, false, cond, not, ◌&&◌, ◌||◌, is_some, List, [], ◌∷◌, Option, Some, None, codes, inl, refl, sym, ap, subst}
-use Rattle.std.specs.Bool.{Decides}
 use Rattle.std.specs.Str.{bytes_eq}
 use Rattle.cedar_expr_model.specs.Uid.{Uid}
 use Rattle.cedar_expr_model.specs.Whole.Value.{V}
@@ -17,28 +16,30 @@ use Rattle.cedar_schema_model.specs.Conforming as small_conforming
 use Rattle.cedar_schema_model.specs.Whole.Schema.{Schema}
 use Rattle.cedar_schema_model.specs.Whole.FirstPath.{IsFirstPath}
 use Rattle.cedar_schema_model.proofs.Conforming.{conforms-Decides}
+use Rattle.cedar_schema_model.proofs.Whole.Decls.Conforming.{is_lacking}
 use Rattle.cedar_schema_model.proofs.Whole.FirstPath.Lists.{and_false}
 use Rattle.cedar_schema_model.proofs.Whole.FirstPath.Schemas.{conforming_says}
 use Rattle.cedar_evaluator_model.specs.Scope.{uid}
 use Rattle.cedar_gate_model.specs.Acceptance as small_acceptance
 use Rattle.cedar_gate_model.specs.Transcript as small_transcript
 use Rattle.cedar_gate_model.specs.Whole.Bundle.{Functions}
-use Rattle.cedar_gate_model.specs.Whole.Slice.{IsNear, InSlice}
+use Rattle.cedar_gate_model.specs.Whole.Slice.{InSlice}
 use Rattle.cedar_gate_model.specs.Whole.Moment.{Completes}
 use Rattle.cedar_gate_model.specs.Whole.Session.{Setup, State, at_start, value_of, world_now, NothingIsWanted, OpenFault, OpenRefusal, quote_in_name, name_of_variable, is_open_entry, entry_named, is_open_name, HasOpenName, SupplyFault, SupplyRefusal, not_wanted, lacking, repeated, wrong_entity, AnswerFault, AnswerRefusal, not_bound, still_wanted, not_conforming}
 use Rattle.cedar_gate_model.specs.Whole.Runs.{End, answered, answer_refused, Finishes, Follows, MayDecide}
 use Rattle.cedar_gate_model.specs.Whole.FirstPath.{start_of, whole_steps, whole_entries, first_setup, RunsTo}
+use Rattle.cedar_gate_model.proofs.Whole.Gate.Slices.{slice_is_empty}
 
 pub opening_is_not_refused : (r : small_world.Request) (f : OpenRefusal) → OpenFault (start_of r) f → ⊥
 opening_is_not_refused r quote_in_name h = contains_none h.0 h.1
 opening_is_not_refused r name_of_variable h = contains_none h.0 h.1
 
--- the slice at level 0 has nothing
-pub slice_is_empty : (s : Schema) (n : ℕ) (w : World) (u : Uid) → n ≡ 0 → InSlice s n w u → ⊥
-slice_is_empty s n w u e h = subst (λ m. IsNear m w u) e h.0
+-- a slice at a level that is 0 has nothing
+pub none_in_slice : (s : Schema) (n : ℕ) (w : World) (u : Uid) → n ≡ 0 → InSlice s n w u → ⊥
+none_in_slice s n w u e h = slice_is_empty s w u (subst (λ m. InSlice s m w u) e h)
 
 pub nothing_is_wanted : (x : Setup) (t : State) → x.level ≡ 0 → NothingIsWanted x t
-nothing_is_wanted x t e u h = slice_is_empty x.schema x.level _ u e h.0
+nothing_is_wanted x t e u h = none_in_slice x.schema x.level _ u e h.0
 
 pub nothing_is_supplied : (x : Setup) (t : State) → x.level ≡ 0 → (f : SupplyRefusal) → SupplyFault x t [] f → ⊥
 nothing_is_supplied x t e not_wanted h = contains_none h.0 h.1
@@ -71,11 +72,7 @@ module _ (f : Functions) (s : small_acceptance.Submission) (v : small_world.Worl
   pub answers_are_the_same : answer_of (world_now (first_setup f s v.request store) t) (whole_policies s.policies) ≡ whole_answer (small_answer.answer_of v s.policies)
   answers_are_the_same = answer_is_whole v (world_now (first_setup f s v.request store) t) (record { principal = refl; action = refl; resource = refl }) s.policies
 
--- a test that fails, and what it tests
-fails_where : (b : Bool) (P : Type 0) → Decides b P → (P → ⊥) → b ≡ false
-fails_where true P d n = absurd (n (d.0 refl))
-fails_where false P d n = refl
-
+-- what refuses the answer
 module _ (f : Functions) (s : small_acceptance.Submission) (r : small_world.Request) (store : Uid → Option (Entity V)) (t : State) (h : IsFirstPath s.declarations) where
   abbrev Refuses : AnswerRefusal → Type 0
   Refuses why = AnswerFault (first_setup f s r store) t why
@@ -85,7 +82,7 @@ module _ (f : Functions) (s : small_acceptance.Submission) (r : small_world.Requ
 
   -- a request is refused exactly where it doesn't conform
   refused_where : Refuses not_conforming → conforming ≡ false
-  refused_where k = fails_where conforming (small_conforming.Conforms s.declarations r) (conforms-Decides s.declarations r) (λ c. k.1 ((conforming_says s.declarations r h).1 c))
+  refused_where k = is_lacking conforming (conforms-Decides s.declarations r) (λ c. k.1 ((conforming_says s.declarations r h).1 c))
 
   where_refused : conforming ≡ false → Refuses not_conforming
   where_refused e = (no_open_name r t, λ c. let g = (conforms-Decides s.declarations r).1 ((conforming_says s.declarations r h).0 c) in cc)

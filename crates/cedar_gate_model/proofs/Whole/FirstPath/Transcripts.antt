@@ -15,7 +15,7 @@ use Rattle.cedar_gate_model.specs.Whole.Moment.{Moment, at_first}
 use Rattle.cedar_gate_model.specs.Whole.Transcript.{IsRound, AreLegal, IsLegal}
 use Rattle.cedar_gate_model.specs.Whole.FirstPath.{whole_entries, whole_transcript, first_case}
 use Rattle.cedar_gate_model.proofs.Whole.Gate.Transcripts.{some_item}
-use Rattle.cedar_gate_model.proofs.Whole.FirstPath.Sessions.{slice_is_empty}
+use Rattle.cedar_gate_model.proofs.Whole.FirstPath.Sessions.{none_in_slice}
 
 module _ (s : small_acceptance.Submission) (v : small_world.World) (w : World) (e : s.level ≡ 0) (k : KnowsRequest v.request w) where
   -- there is no round
@@ -27,7 +27,7 @@ module _ (s : small_acceptance.Submission) (v : small_world.World) (w : World) (
   no_round : (m : Moment) (uids : List Uid) → IsRound (first_case s v.request) w m uids → ⊥
   no_round m uids h =
       let i = some_item uids h.some_wanted in
-      slice_is_empty (first_case s v.request).schema s.level _ i.0 e ((h.exact i.0).0 i.1).0
+      none_in_slice (first_case s v.request).schema s.level _ i.0 e ((h.exact i.0).0 i.1).0
 
   entries_are_legal : (asked : List Uid) (m : Moment) (es : List small.Entry) → small.AreLegal s v asked es → AreLegal (first_case s v.request) w m (whole_entries es)
   entries_are_legal asked m [] h = tt
