@@ -21,3 +21,4 @@ pub mod ReadingLaws
 pub mod GateLaws
 pub mod RunLaws
 pub mod WorkedGate
+pub mod FirstPathReading
