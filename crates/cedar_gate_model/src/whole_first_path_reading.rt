@@ -1,6 +1,6 @@
 //! Laws of reading on the first path. Each function's contract is the theorem; its body does nothing.
 
-ghost use Rattle.cedar_gate_model.specs.Whole.FirstPathReading.{KeysAreInOrder, UidsReadTheSame, ExpressionsReadTheSame, PoliciesReadTheSame, SchemasReadTheSame, RequestsReadTheSame, StoresReadTheSame, StepsReadTheSame, BundlesReadTheSame, InputsReadTheSame, UnreadableStaysSo, BundlesLieInFirstPath, InputsLieInFirstPath, WrittenBodiesStay, BodiesKeepFaults, BodiesKeepCauses, BodiesKeepAcceptance, BodiesKeepTheTest, BodiesKeepWarnings, BodiesKeepPolicies, BodiesKeepDecisions, BodiesKeepAnswers, BodiesKeepRuns, BodiesKeepPrinting, InputsPrintTheSame};
+ghost use Rattle.cedar_gate_model.specs.Whole.FirstPathReading.{KeysAreInOrder, UidsReadTheSame, ExpressionsReadTheSame, PoliciesReadTheSame, SchemasReadTheSame, RequestsReadTheSame, StoresReadTheSame, StepsReadTheSame, BundlesReadTheSame, InputsReadTheSame, UnreadableStaysSo, BundlesLieInFirstPath, InputsLieInFirstPath, WrittenBodiesStay, BodiesKeepRules, BodiesKeepFaults, BodiesKeepAcceptance, BodiesKeepTheTest, BodiesKeepWarnings, BodiesKeepPolicies, BodiesKeepDecisions, BodiesKeepAnswers, BodiesKeepRuns, BodiesKeepPrinting, InputsPrintTheSame};
 
 /// JSON is read with the keys of each object in order, each of them once.
 pub fn keys_are_read_in_order()
@@ -15,7 +15,8 @@ pub fn policies_read_the_same()
     ensures policies { PoliciesReadTheSame }
 {}
 
-/// What reads as declarations of the first path reads as the same declarations in the whole language.
+/// What reads as declarations of the first path reads as the same declarations in the whole language, where each object has its keys in
+/// order.
 pub fn schemas_read_the_same()
     ensures { SchemasReadTheSame }
 {}
@@ -27,8 +28,8 @@ pub fn requests_read_the_same()
     ensures steps { StepsReadTheSame }
 {}
 
-/// What reads as a bundle of the first path reads as the same bundle in the whole language, but that a body that lacks isn't written.
-/// What doesn't read in the whole language doesn't read on the first path.
+/// What reads as a bundle of the first path reads as the same bundle in the whole language, but that a body that lacks isn't written:
+/// JSON whose objects have their keys in order, and so each input. What doesn't read in the whole language doesn't read on the first path.
 pub fn inputs_read_the_same()
     ensures bundles { BundlesReadTheSame }
     ensures inputs { InputsReadTheSame }
@@ -41,20 +42,20 @@ pub fn inputs_lie_in_the_first_path()
     ensures inputs { InputsLieInFirstPath }
 {}
 
-/// Whether a body lacks or is written as `true`, a submission has the same faults, is accepted or not, has the same warnings and the
-/// same policies for a request's types. Where all bodies are written a bundle stays as it is.
+/// Whether bodies lack or are written as `true`, a submission breaks the same rules, has the same faults, is accepted or not, and has the
+/// same warnings and the same policies for a request's types. A bundle whose bodies are all written stays as it is.
 pub fn bodies_keep_acceptance()
     ensures written { WrittenBodiesStay }
+    ensures rules { BodiesKeepRules }
     ensures faults { BodiesKeepFaults }
-    ensures causes { BodiesKeepCauses }
     ensures accepted { BodiesKeepAcceptance }
     ensures admitted { BodiesKeepTheTest }
     ensures warned { BodiesKeepWarnings }
     ensures given { BodiesKeepPolicies }
 {}
 
-/// Whether a body lacks or is written as `true`, policies have the same decision and the same answer, runs are the same, and the same
-/// may be printed.
+/// Whether bodies lack or are written as `true`, policies have the same decision and the same answer, their runs are the same, and the
+/// same may be printed.
 pub fn bodies_keep_answers()
     ensures decisions { BodiesKeepDecisions }
     ensures answers { BodiesKeepAnswers }

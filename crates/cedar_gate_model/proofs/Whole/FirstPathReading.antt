@@ -1,5 +1,6 @@
 pub mod Keys
 pub mod Forms
+pub mod Objects
 pub mod Expressions
 pub mod Schemas
 pub mod Policies

@@ -42,7 +42,7 @@ use Rattle.cedar_gate_model.specs.Whole.ReadingPolicy.{policy_read}
 use Rattle.cedar_gate_model.specs.Whole.ReadingRequest.{request_read, store_read, step_read}
 use Rattle.cedar_gate_model.specs.Whole.ReadingBundle.{bundle_read, input_read}
 
--- what is handed to the gate, with any table
+-- what is handed to the gate, with a table
 abbrev pub whole_submission : Table → small_acceptance.Submission → Submission
 whole_submission x s = record {
   declarations = whole_declarations s.declarations;
@@ -110,19 +110,19 @@ KeysAreInOrder = (bytes : List ℕ) (d : Data) → read bytes ≡ Some d → is_
 abbrev pub UidsReadTheSame : Type 0
 UidsReadTheSame = (d : Data) → small_expression.uid_read d ≡ uid_read d
 
--- what reads as an expression of the first path reads as that expression
+-- what reads as an expression of the first path reads as that expression in the whole language
 abbrev pub ExpressionsReadTheSame : Type 0
 ExpressionsReadTheSame = (d : Data) (t : small_tree.Tree) → small_expression.expression_read d ≡ Some t → expression_read d ≡ Some (whole_tree t)
 
--- a policy as that policy, but that a body that lacks isn't written
+-- what reads as a policy reads as that policy, but that a body that lacks isn't written
 abbrev pub PoliciesReadTheSame : Type 0
 PoliciesReadTheSame = (d : Data) (p : small_policy.Policy) → small.policy_read d ≡ Some p → option_map with_body (policy_read d) ≡ Some (whole_policy p)
 
--- a schema as those declarations, where each object has its keys in order
+-- what reads as a schema reads as those declarations, where each object has its keys in order
 abbrev pub SchemasReadTheSame : Type 0
 SchemasReadTheSame = (d : Data) (s : small_declarations.Declarations) → is_in_order d ≡ true → small_schema.schema_read d ≡ Some s → schema_read d ≡ Some (whole_declarations s)
 
--- a request, a store and a step as these, whatever the functions are
+-- what reads as a request, a store or a step reads as that, whatever the functions are
 abbrev pub RequestsReadTheSame : Type 0
 RequestsReadTheSame = (x : Functions) (d : Data) (r : small_world.Request) → small.request_read d ≡ Some r → request_read x d ≡ Some (start_of r)
 
@@ -132,12 +132,12 @@ StoresReadTheSame = (x : Functions) (d : Data) (us : List Uid) → small.store_r
 abbrev pub StepsReadTheSame : Type 0
 StepsReadTheSame = (x : Functions) (d : Data) (s : small_transcript.Step) → small.step_read d ≡ Some s → step_read x d ≡ Some (whole_step s)
 
--- a bundle as that bundle, but for bodies that lack
+-- what reads as a bundle reads as that bundle, but for bodies that lack
 abbrev pub BundlesReadTheSame : Type 0
 BundlesReadTheSame = (x : Functions) (d : Data) (b : small_bundle.Bundle) → is_in_order d ≡ true → small.bundle_read d ≡ Some b
     → option_map with_bodies (bundle_read x d) ≡ Some (whole_bundle x.table b)
 
--- and a whole input so
+-- the same of a whole input
 abbrev pub InputsReadTheSame : Type 0
 InputsReadTheSame = (x : Functions) (bytes : List ℕ) (b : small_bundle.Bundle) → small.input_read bytes ≡ Some b
     → option_map with_bodies (input_read x bytes) ≡ Some (whole_bundle x.table b)
@@ -160,47 +160,49 @@ BundlesLieInFirstPath = (d : Data) (b : small_bundle.Bundle) → small.bundle_re
 abbrev pub InputsLieInFirstPath : Type 0
 InputsLieInFirstPath = (bytes : List ℕ) (b : small_bundle.Bundle) → small.input_read bytes ≡ Some b → LiesInFirstPath b.submission
 
--- where each body is written, a bundle stays as it is
+-- a bundle whose bodies are all written stays as it is
 abbrev pub WrittenBodiesStay : Type 0
 WrittenBodiesStay = (b : Bundle) → list_all (λ p. is_some p.body) b.submission.policies ≡ true → with_bodies b ≡ b
 
--- Whether a body lacks or is written as `true`, a submission has the same faults and so is accepted or not,
+-- with its bodies written a submission breaks the same rules
+abbrev pub BodiesKeepRules : Type 0
+BodiesKeepRules = (c : Cause) (s : Submission) → is_clear_of c (submission_with_bodies s) ≡ is_clear_of c s
+
+-- it has the same faults
 abbrev pub BodiesKeepFaults : Type 0
-BodiesKeepFaults = (c : Cause) (s : Submission) → is_clear_of c (submission_with_bodies s) ≡ is_clear_of c s
+BodiesKeepFaults = (c : Cause) (s : Submission) → HasFault c (submission_with_bodies s) ↔ HasFault c s
 
-abbrev pub BodiesKeepCauses : Type 0
-BodiesKeepCauses = (c : Cause) (s : Submission) → HasFault c (submission_with_bodies s) ↔ HasFault c s
-
+-- it is accepted or not as before, and so says the test
 abbrev pub BodiesKeepAcceptance : Type 0
 BodiesKeepAcceptance = (s : Submission) → IsAccepted (submission_with_bodies s) ↔ IsAccepted s
 
 abbrev pub BodiesKeepTheTest : Type 0
 BodiesKeepTheTest = (s : Submission) → admits (submission_with_bodies s) ≡ admits s
 
--- has the same warnings, and the same policies for a request's types,
+-- it has the same warnings, and the same policies for a request's types
 abbrev pub BodiesKeepWarnings : Type 0
 BodiesKeepWarnings = (s : Submission) → warnings_of (submission_with_bodies s) ≡ warnings_of s
 
 abbrev pub BodiesKeepPolicies : Type 0
 BodiesKeepPolicies = (s : Submission) (r : RequestType) → policies_for (submission_with_bodies s) r ≡ policies_for s r
 
--- policies have the same decision and the same answer in each world,
+-- policies have the same decision and the same answer in each world
 abbrev pub BodiesKeepDecisions : Type 0
 BodiesKeepDecisions = (w : World) (ps : List Policy) → decision_of w (all_with_bodies ps) ≡ decision_of w ps
 
 abbrev pub BodiesKeepAnswers : Type 0
 BodiesKeepAnswers = (w : World) (ps : List Policy) → answer_of w (all_with_bodies ps) ≡ answer_of w ps
 
--- runs are the same,
+-- their runs are the same
 abbrev pub BodiesKeepRuns : Type 0
 BodiesKeepRuns = (x : Setup) (ps : List Policy) (steps : List Step) (es : List Entry) (end : End)
     → Runs (MayDecide x (all_with_bodies ps)) x (all_with_bodies ps) steps es end ↔ Runs (MayDecide x ps) x ps steps es end
 
--- and the same may be printed.
+-- the same may be printed for a bundle
 abbrev pub BodiesKeepPrinting : Type 0
 BodiesKeepPrinting = (x : Functions) (b : Bundle) (status : Status) (text : Text) → Prints x (Some (with_bodies b)) status text ↔ Prints x (Some b) status text
 
--- What may be printed for an input that the first path reads is what may be printed for its bundle in the whole language.
+-- What may be printed for an input that the first path reads is what may be printed for its bundle, seen in the whole language.
 abbrev pub InputsPrintTheSame : Type 0
 InputsPrintTheSame = (x : Functions) (bytes : List ℕ) (b : small_bundle.Bundle) → small.input_read bytes ≡ Some b
     → (status : Status) (text : Text) → Prints x (input_read x bytes) status text ↔ Prints x (Some (whole_bundle x.table b)) status text

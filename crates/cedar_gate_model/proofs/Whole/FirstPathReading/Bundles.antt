@@ -25,7 +25,8 @@ use Rattle.cedar_gate_model.specs.Whole.FirstPathReading.{whole_submission, star
 use Rattle.cedar_gate_model.proofs.Whole.Reading.Steps.{given_some, map_some, if_some_of}
 use Rattle.cedar_gate_model.proofs.Whole.Reading.Bundles.{in_range}
 use Rattle.cedar_gate_model.proofs.Whole.FirstPathReading.Keys.{keys_are_in_order}
-use Rattle.cedar_gate_model.proofs.Whole.FirstPathReading.Forms.{same_given, given_is, map_is, if_is, given_same, there_same, list_same, value_in_order}
+use Rattle.cedar_gate_model.proofs.Whole.FirstPathReading.Forms.{same_given, given_is, map_is, if_is, given_same, there_same, list_same}
+use Rattle.cedar_gate_model.proofs.Whole.FirstPathReading.Objects.{value_in_order}
 use Rattle.cedar_gate_model.proofs.Whole.FirstPathReading.Schemas.{schema_same, schema_plain}
 use Rattle.cedar_gate_model.proofs.Whole.FirstPathReading.Policies.{policies_alike}
 use Rattle.cedar_gate_model.proofs.Whole.FirstPathReading.Requests.{request_same, store_same, step_same}
@@ -109,7 +110,7 @@ pub bundle_same : (x : Functions) (d : Data) (b : small_bundle.Bundle) → is_in
 bundle_same x d b o e = as_written x (bundle_read x d) b (bundle_alike x d b o e)
 
 -- whole inputs
-pub input_parts : (bytes : List ℕ) (b : small_bundle.Bundle) → small.input_read bytes ≡ Some b → (is_utf8 bytes ≡ true) × (d : Data) × (read bytes ≡ Some d) × (small.bundle_read d ≡ Some b)
+input_parts : (bytes : List ℕ) (b : small_bundle.Bundle) → small.input_read bytes ≡ Some b → (is_utf8 bytes ≡ true) × (d : Data) × (read bytes ≡ Some d) × (small.bundle_read d ≡ Some b)
 unfolding small.input_read
 input_parts bytes b e =
     let p = if_some_of (is_utf8 bytes) (given (read bytes) small.bundle_read) b e in

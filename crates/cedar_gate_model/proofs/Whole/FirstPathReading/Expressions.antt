@@ -18,7 +18,7 @@ use Rattle.cedar_gate_model.specs.Whole.ReadingForms.{if_passing, beside, word_o
 use Rattle.cedar_gate_model.specs.Whole.ReadingName.{any_name_read, plain_name_read, uid_from, uid_in, uid_read}
 use Rattle.cedar_gate_model.specs.Whole.ReadingExpression.{Part, var_words, of_one, of_two, of_word, uid_form, forms, form_read, expression_read, parts_in}
 use Rattle.cedar_gate_model.proofs.Whole.Reading.Steps.{given_some, map_some, if_some_of}
-use Rattle.cedar_gate_model.proofs.Whole.FirstPathReading.Forms.{same_given, given_is, map_is, given_same, same_text}
+use Rattle.cedar_gate_model.proofs.Whole.FirstPathReading.Forms.{same_given, given_is, map_is, Becomes, word_same, same_text}
 
 -- names and uids
 unless_said : (b : Bool) (n : Name) → (if b then None else Some n) ≡ (if not b then Some n else None)
@@ -29,7 +29,7 @@ given_agree : {A B : Type 0} (o : Option A) (next other : A → Option B) → ((
 given_agree None next other h = refl
 given_agree (Some a) next other h = h a
 
-pub type_names_agree : (d : Data) → small.type_name_read d ≡ plain_name_read d
+type_names_agree : (d : Data) → small.type_name_read d ≡ plain_name_read d
 type_names_agree d = given_agree (any_name_read d) small.unless_reserved (if_passing (λ n. not (is_reserved n))) (λ n. unless_said (is_reserved n) n)
 
 uids_from_agree : (kind id : Data) → small.uid_from kind id ≡ uid_from (plain_name_read kind) (as_str id)
@@ -53,9 +53,13 @@ uid_no_text (string s) u e = cc
 uid_no_text (array ds) u e = refl
 uid_no_text (object ms) u e = refl
 
+-- the expression, seen as one of the whole language
+abbrev BecomesTree : Option small_tree.Tree → Option Tree → Type 0
+BecomesTree o p = Becomes whole_tree o p
+
 -- Parts: the same JSON, and what is read as an expression is read as that expression.
 abbrev SamePart : small.Part → Part → Type 0
-SamePart p q = (p.json ≡ q.json) × ((t : small_tree.Tree) → p.tree ≡ Some t → q.tree ≡ Some (whole_tree t))
+SamePart p q = (p.json ≡ q.json) × BecomesTree p.tree q.tree
 
 abbrev AreSame : List small.Part → List Part → Type 0
 AreSame [] [] = Unit {0}
@@ -66,55 +70,63 @@ AreSame ps qs = ⊥
 form_of : (word : Text) (form : List Part → Option Tree) (v : Part) (xs : List Part) → as_str v.json ≡ Some word → beside word forms ≡ Some form → form_read (v ∷ xs) ≡ form xs
 form_of word form v xs e f = ap (λ o. given (given o (λ w. beside w forms)) (λ g. g xs)) e ∙ ap (λ o. given o (λ g. g xs)) f
 
-known_form : (word : Text) (form : List Part → Option Tree) → beside word forms ≡ Some form → (text : Text) (v : Part) (xs : List Part) → bytes_eq text word ≡ true → as_str v.json ≡ Some text → form_read (v ∷ xs) ≡ form xs
+known_form : (word : Text) (form : List Part → Option Tree) → beside word forms ≡ Some form → (text : Text) (v : Part) (xs : List Part)
+    → bytes_eq text word ≡ true → as_str v.json ≡ Some text → form_read (v ∷ xs) ≡ form xs
 known_form word form f text v xs h e = form_of word form v xs (e ∙ ap Some (same_text text word h)) f
 
--- one of two, or of three, tests holds
-abbrev Either : {A : Type 0} → Bool → Option A → Bool → Option A → A → Type 0 → Type 0
-Either b o c p a P = (b ≡ true → o ≡ Some a → P) → (c ≡ true → p ≡ Some a → P) → P
-
-either_of : {A : Type 0} (b c : Bool) (o p : Option A) (a : A) (P : Type 0) → (if b then o else (if c then p else None)) ≡ Some a → Either b o c p a P
+-- one of two tests holds
+either_of : {A : Type 0} (b c : Bool) (o p : Option A) (a : A) (P : Type 0) → (if b then o else (if c then p else None)) ≡ Some a → (b ≡ true → o ≡ Some a → P) → (c ≡ true → p ≡ Some a → P) → P
 either_of true c o p a P e h k = h refl e
 either_of false c o p a P e h k = let q = if_some_of c p a e in k q.0 q.1
 
 -- variables
-var_said : (b c d : Bool) (x : small_tree.Var) → (if b then Some small_tree.principal else (if c then Some small_tree.action else (if d then Some small_tree.resource else None))) ≡ Some x
-    → (o : Option Var) → (if b then Some principal else (if c then Some action else (if d then Some resource else o))) ≡ Some (whole_var x)
-var_said true c d x e o = ap (λ y. Some (whole_var y)) (same_given small_tree.principal x e)
-var_said false true d x e o = ap (λ y. Some (whole_var y)) (same_given small_tree.action x e)
-var_said false false true x e o = ap (λ y. Some (whole_var y)) (same_given small_tree.resource x e)
-var_said false false false x e o = cc
+var_said : (b c d : Bool) (o : Option Var) → Becomes whole_var (if b then Some small_tree.principal else (if c then Some small_tree.action else (if d then Some small_tree.resource else None)))
+    (if b then Some principal else (if c then Some action else (if d then Some resource else o)))
+var_said true c d o x e = ap (λ y. Some (whole_var y)) (same_given small_tree.principal x e)
+var_said false true d o x e = ap (λ y. Some (whole_var y)) (same_given small_tree.action x e)
+var_said false false true o x e = ap (λ y. Some (whole_var y)) (same_given small_tree.resource x e)
+var_said false false false o x e = cc
 
-var_named_same : (word : Text) (x : small_tree.Var) → small.var_named word ≡ Some x → beside word var_words ≡ Some (whole_var x)
-var_named_same word x e = var_said (bytes_eq word (codes "principal")) (bytes_eq word (codes "action")) (bytes_eq word (codes "resource")) x e (beside word ((codes "context", context) ∷ []))
+var_named_same : (word : Text) → Becomes whole_var (small.var_named word) (beside word var_words)
+var_named_same word = var_said (bytes_eq word (codes "principal")) (bytes_eq word (codes "action")) (bytes_eq word (codes "resource")) (beside word ((codes "context", context) ∷ []))
 
 -- one part after the word
-of_var : (x : small.Part) (z : Part) → SamePart x z → (t : small_tree.Tree) → option_map small_tree.var (given (as_str x.json) small.var_named) ≡ Some t → of_word var var_words (z ∷ []) ≡ Some (whole_tree t)
+of_var : (x : small.Part) (z : Part) → SamePart x z → BecomesTree (option_map small_tree.var (given (as_str x.json) small.var_named)) (of_word var var_words (z ∷ []))
 of_var x z h t e =
     let p = map_some small_tree.var (given (as_str x.json) small.var_named) t e in
-    let q = given_same whole_var (as_str x.json) small.var_named (λ word. beside word var_words) var_named_same p.0 p.1 in
+    let q = word_same whole_var small.var_named var_words var_named_same (as_str x.json) p.0 p.1 in
     map_is var (word_of var_words z.json) (whole_var p.0) (ap (λ d. given (as_str d) (λ word. beside word var_words)) (sym h.0) ∙ q) ∙ ap (λ s. Some (whole_tree s)) (sym p.2)
 
-of_not : (x : small.Part) (z : Part) → SamePart x z → (t : small_tree.Tree) → option_map (small_tree.unary small_tree.negation) x.tree ≡ Some t → of_one (unary negation) (z ∷ []) ≡ Some (whole_tree t)
+of_not : (x : small.Part) (z : Part) → SamePart x z → BecomesTree (option_map (small_tree.unary small_tree.negation) x.tree) (of_one (unary negation) (z ∷ []))
 of_not x z h t e =
     let p = map_some (small_tree.unary small_tree.negation) x.tree t e in
     map_is (unary negation) z.tree (whole_tree p.0) (h.1 p.0 p.1) ∙ ap (λ s. Some (whole_tree s)) (sym p.2)
 
-with_one_same : (word : Text) (x : small.Part) (v z : Part) → SamePart x z → as_str v.json ≡ Some word → (t : small_tree.Tree) → small.with_one x word ≡ Some t → form_read (v ∷ z ∷ []) ≡ Some (whole_tree t)
+with_one_same : (word : Text) (x : small.Part) (v z : Part) → SamePart x z → as_str v.json ≡ Some word → BecomesTree (small.with_one x word) (form_read (v ∷ z ∷ []))
 with_one_same word x v z h k t e =
     either_of (bytes_eq word (codes "var")) (bytes_eq word (codes "not")) _ _ t (form_read (v ∷ z ∷ []) ≡ Some (whole_tree t)) e
     (λ b f. known_form (codes "var") (of_word var var_words) refl word v (z ∷ []) b k ∙ of_var x z h t f)
     (λ b f. known_form (codes "not") (of_one (unary negation)) refl word v (z ∷ []) b k ∙ of_not x z h t f)
 
 -- two parts after it
-of_uid : (x y : small.Part) (z u : Part) → SamePart x z → SamePart y u → (t : small_tree.Tree) → option_map (λ e. small_tree.lit (small_value.entity e)) (small.uid_from x.json y.json) ≡ Some t → uid_form (z ∷ u ∷ []) ≡ Some (whole_tree t)
+abbrev uid_tree : Uid → small_tree.Tree
+uid_tree u = small_tree.lit (small_value.entity u)
+
+of_uid : (x y : small.Part) (z u : Part) → SamePart x z → SamePart y u → BecomesTree (option_map uid_tree (small.uid_from x.json y.json)) (uid_form (z ∷ u ∷ []))
 of_uid x y z u h k t e =
-    let p = map_some (λ e. small_tree.lit (small_value.entity e)) (small.uid_from x.json y.json) t e in
-    let q : uid_from (plain_name_read z.json) (as_str u.json) ≡ Some p.0 = (λ i. uid_from (plain_name_read (sym h.0 i)) (as_str (sym k.0 i))) ∙ (sym (uids_from_agree x.json y.json) ∙ p.1) in
+    let p = map_some uid_tree (small.uid_from x.json y.json) t e in
+    let q = (λ i. uid_from (plain_name_read (sym h.0 i)) (as_str (sym k.0 i))) ∙ (sym (uids_from_agree x.json y.json) ∙ p.1) in
     map_is (λ v. lit (entity v)) (uid_from (plain_name_read z.json) (as_str u.json)) p.0 q ∙ ap (λ s. Some (whole_tree s)) (sym p.2)
 
-of_joint : (join : small_tree.Tree → small_tree.Tree → small_tree.Tree) (make : Tree → Tree → Tree) → ((a b : small_tree.Tree) → whole_tree (join a b) ≡ make (whole_tree a) (whole_tree b))
-    → (x y : small.Part) (z u : Part) → SamePart x z → SamePart y u → (t : small_tree.Tree) → small.both_by x y join ≡ Some t → of_two make (z ∷ u ∷ []) ≡ Some (whole_tree t)
+-- how two expressions are joined, here and there
+abbrev Joint : Type 0
+Joint = small_tree.Tree → small_tree.Tree → small_tree.Tree
+
+abbrev JoinsAs : Joint → (Tree → Tree → Tree) → Type 0
+JoinsAs join make = (a b : small_tree.Tree) → whole_tree (join a b) ≡ make (whole_tree a) (whole_tree b)
+
+of_joint : (join : Joint) (make : Tree → Tree → Tree) → JoinsAs join make → (x y : small.Part) (z u : Part) → SamePart x z → SamePart y u
+    → BecomesTree (small.both_by x y join) (of_two make (z ∷ u ∷ []))
 of_joint join make same x y z u h k t e =
     let p = given_some x.tree (λ left. option_map (join left) y.tree) t e in
     let q = map_some (join p.0) y.tree t p.2 in
@@ -122,35 +134,35 @@ of_joint join make same x y z u h k t e =
     (map_is (make (whole_tree p.0)) u.tree (whole_tree q.0) (k.1 q.0 q.1) ∙ ap Some (sym (same p.0 q.0) ∙ ap whole_tree (sym q.2)))
 
 module _ (word : Text) (x y : small.Part) (v z u : Part) (h : SamePart x z) (k : SamePart y u) (w : as_str v.json ≡ Some word) (t : small_tree.Tree) where
-  abbrev Done : Type 0
-  Done = form_read (v ∷ z ∷ u ∷ []) ≡ Some (whole_tree t)
+  abbrev Joined : Option Joint → Type 0
+  Joined o = given o (small.both_by x y) ≡ Some t → form_read (v ∷ z ∷ u ∷ []) ≡ Some (whole_tree t)
 
-  by_joint : (name : Text) (join : small_tree.Tree → small_tree.Tree → small_tree.Tree) (make : Tree → Tree → Tree) → beside name forms ≡ Some (of_two make) → ((a b : small_tree.Tree) → whole_tree (join a b) ≡ make (whole_tree a) (whole_tree b))
-      → bytes_eq word name ≡ true → given (Some join) (small.both_by x y) ≡ Some t → Done
+  by_joint : (name : Text) (join : Joint) (make : Tree → Tree → Tree) → beside name forms ≡ Some (of_two make) → JoinsAs join make → bytes_eq word name ≡ true → Joined (Some join)
   by_joint name join make f same b e = known_form name (of_two make) f word v (z ∷ u ∷ []) b w ∙ of_joint join make same x y z u h k t e
 
-  joints : (b c d : Bool) → (b ≡ true → given (Some small_tree.conjunction) (small.both_by x y) ≡ Some t → Done) → (c ≡ true → given (Some (small_tree.binary small_tree.equal)) (small.both_by x y) ≡ Some t → Done)
-      → (d ≡ true → given (Some (small_tree.binary small_tree.less)) (small.both_by x y) ≡ Some t → Done)
-      → given (if b then Some small_tree.conjunction else (if c then Some (small_tree.binary small_tree.equal) else (if d then Some (small_tree.binary small_tree.less) else None))) (small.both_by x y) ≡ Some t → Done
-  joints true c d f g j e = f refl e
-  joints false true d f g j e = g refl e
-  joints false false true f g j e = j refl e
-  joints false false false f g j e = cc
+  joints : (b c d : Bool) (i j l : Joint) → (b ≡ true → Joined (Some i)) → (c ≡ true → Joined (Some j)) → (d ≡ true → Joined (Some l))
+      → Joined (if b then Some i else (if c then Some j else (if d then Some l else None)))
+  joints true c d i j l f g m e = f refl e
+  joints false true d i j l f g m e = g refl e
+  joints false false true i j l f g m e = m refl e
+  joints false false false i j l f g m e = cc
 
-  with_joint : given (small.joint_named word) (small.both_by x y) ≡ Some t → Done
-  with_joint = joints (bytes_eq word (codes "and")) (bytes_eq word (codes "eq")) (bytes_eq word (codes "less"))
+  with_joint : Joined (small.joint_named word)
+  with_joint =
+      joints (bytes_eq word (codes "and")) (bytes_eq word (codes "eq")) (bytes_eq word (codes "less")) small_tree.conjunction (small_tree.binary small_tree.equal) (small_tree.binary small_tree.less)
       (by_joint (codes "and") small_tree.conjunction conjunction refl conjunction_is_whole)
       (by_joint (codes "eq") (small_tree.binary small_tree.equal) (binary equal) refl (λ a b. refl))
       (by_joint (codes "less") (small_tree.binary small_tree.less) (binary less) refl (λ a b. refl))
 
-  with_uid : (b : Bool) → bytes_eq word (codes "uid") ≡ b → (if b then option_map (λ e. small_tree.lit (small_value.entity e)) (small.uid_from x.json y.json) else given (small.joint_named word) (small.both_by x y)) ≡ Some t → Done
+  with_uid : (b : Bool) → bytes_eq word (codes "uid") ≡ b → (if b then option_map uid_tree (small.uid_from x.json y.json) else given (small.joint_named word) (small.both_by x y)) ≡ Some t
+      → form_read (v ∷ z ∷ u ∷ []) ≡ Some (whole_tree t)
   with_uid true b e = known_form (codes "uid") uid_form refl word v (z ∷ u ∷ []) b w ∙ of_uid x y z u h k t e
   with_uid false b e = with_joint e
 
-  with_two_same : small.with_two x y word ≡ Some t → Done
+  with_two_same : small.with_two x y word ≡ Some t → form_read (v ∷ z ∷ u ∷ []) ≡ Some (whole_tree t)
   with_two_same e = with_uid (bytes_eq word (codes "uid")) refl e
 
-form_same : (ps : List small.Part) (qs : List Part) → AreSame ps qs → (t : small_tree.Tree) → small.form_read ps ≡ Some t → form_read qs ≡ Some (whole_tree t)
+form_same : (ps : List small.Part) (qs : List Part) → AreSame ps qs → BecomesTree (small.form_read ps) (form_read qs)
 form_same [] qs h t e = cc
 form_same (w ∷ []) qs h t e = cc
 form_same (w ∷ x ∷ []) [] h t e = absurd h

@@ -26,11 +26,13 @@ before_put l k d (member m e ms) h b = at (slice_cmp nat_cmp k m)
 after_flip : (k m : Text) → slice_cmp nat_cmp k m ≡ Greater → is_lt (slice_cmp nat_cmp m k) ≡ true
 after_flip k m e = ap is_lt (nat_list_cmp_total.antisymm m k ∙ ap ordering_reverse e)
 
-put_at : (k m : Text) (d e : Data) (ms : Members) (o : Ordering) → slice_cmp nat_cmp k m ≡ o → is_in_order d ≡ true → is_before m ms ≡ true → is_in_order e ≡ true → have_keys_in_order ms ≡ true → have_keys_in_order (put k d ms) ≡ true
+put_at : (k m : Text) (d e : Data) (ms : Members) (o : Ordering) → slice_cmp nat_cmp k m ≡ o → is_in_order d ≡ true → is_before m ms ≡ true → is_in_order e ≡ true
+    → have_keys_in_order ms ≡ true → have_keys_in_order (put k d ms) ≡ true
     → have_keys_in_order (match_ordering o (member k d (member m e ms)) (member m d ms) (member m e (put k d ms))) ≡ true
 put_at k m d e ms Less h a b c f g =
     let rest = hold_both (is_before m ms) (is_in_order e && have_keys_in_order ms) b (hold_both (is_in_order e) (have_keys_in_order ms) c f) in
-    hold_both (is_lt (slice_cmp nat_cmp k m)) (is_in_order d && have_keys_in_order (member m e ms)) (ap is_lt h) (hold_both (is_in_order d) (have_keys_in_order (member m e ms)) a rest)
+    hold_both (is_lt (slice_cmp nat_cmp k m)) (is_in_order d && have_keys_in_order (member m e ms)) (ap is_lt h)
+    (hold_both (is_in_order d) (have_keys_in_order (member m e ms)) a rest)
 put_at k m d e ms Equal h a b c f g = hold_both (is_before m ms) (is_in_order d && have_keys_in_order ms) b (hold_both (is_in_order d) (have_keys_in_order ms) a f)
 put_at k m d e ms Greater h a b c f g =
     hold_both (is_before m (put k d ms)) (is_in_order e && have_keys_in_order (put k d ms)) (before_put m k d ms (after_flip k m h) b)

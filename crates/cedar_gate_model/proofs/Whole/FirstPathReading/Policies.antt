@@ -21,37 +21,39 @@ use Rattle.cedar_gate_model.specs.Whole.ReadingExpression.{expression_read}
 use Rattle.cedar_gate_model.specs.Whole.ReadingPolicy.{effect_words, target_words, named_read, target_read, exactly_read, scope_read, exactly_action_read, action_scope_read, bindings_read, body_read, policy_keys, policy_read}
 use Rattle.cedar_gate_model.specs.Whole.FirstPathReading.{with_body, all_with_bodies}
 use Rattle.cedar_gate_model.proofs.Whole.Reading.Steps.{given_some, map_some, if_some_of}
-use Rattle.cedar_gate_model.proofs.Whole.FirstPathReading.Forms.{same_given, given_is, map_is, if_is, first_is, next_is, Made, given_same, there_same, word_same, bare_or_lacking, reads_empty_object}
+use Rattle.cedar_gate_model.proofs.Whole.FirstPathReading.Forms.{same_given, given_is, map_is, if_is, first_is, next_is, Becomes, ReadsAs, given_same, there_same, word_same, bare_or_lacking}
+use Rattle.cedar_gate_model.proofs.Whole.FirstPathReading.Objects.{reads_empty_object}
 use Rattle.cedar_gate_model.proofs.Whole.FirstPathReading.Expressions.{uids_agree, uid_no_text, expression_same}
 
 -- effects
-effect_said : (b c : Bool) (e : small_policy.Effect) → (if b then Some small_policy.permit else (if c then Some small_policy.forbid else None)) ≡ Some e → (if b then Some permit else (if c then Some forbid else None)) ≡ Some (whole_effect e)
+effect_said : (b c : Bool)
+    → Becomes whole_effect (if b then Some small_policy.permit else (if c then Some small_policy.forbid else None)) (if b then Some permit else (if c then Some forbid else None))
 effect_said true c e h = ap (λ x. Some (whole_effect x)) (same_given small_policy.permit e h)
 effect_said false true e h = ap (λ x. Some (whole_effect x)) (same_given small_policy.forbid e h)
 effect_said false false e h = cc
 
-effect_same : Made whole_effect small.effect_read (word_of effect_words)
-effect_same d = word_same whole_effect small.effect_named effect_words (λ word e h. effect_said (bytes_eq word (codes "permit")) (bytes_eq word (codes "forbid")) e h) (as_str d)
+effect_same : ReadsAs whole_effect small.effect_read (word_of effect_words)
+effect_same d = word_same whole_effect small.effect_named effect_words (λ word. effect_said (bytes_eq word (codes "permit")) (bytes_eq word (codes "forbid"))) (as_str d)
 
 -- scopes
-target_same : (d : Data) (u : Uid) → small_expression.uid_read d ≡ Some u → target_read d ≡ Some (named u)
+target_same : ReadsAs named small_expression.uid_read target_read
 target_same d u e =
     next_is (word_of target_words d) (first_form (named_read ∷ []) d) (named u) (ap (λ o. given o (λ word. beside word target_words)) (uid_no_text d u e))
     (first_is (named_read d) None (named u) (map_is named (uid_read d) u (sym (uids_agree d) ∙ e)))
 
 -- the uid that a part of a scope has to be, read so
-alone_same : {A : Type 0} (f : Uid → A) (read : Data → Option A) → Made f small_expression.uid_read read → Made f small.scope_uid_read (alone (codes "eq") read)
+alone_same : {A : Type 0} (f : Uid → A) (read : Data → Option A) → ReadsAs f small_expression.uid_read read → ReadsAs f small.scope_uid_read (alone (codes "eq") read)
 alone_same f read h d u e =
     let p = if_some_of (has_only (codes "eq" ∷ []) d) (required (codes "eq") small_expression.uid_read d) u e in
     if_is (has_only (codes "eq" ∷ []) d) (required (codes "eq") read d) (f u) p.0 (given_same f (get (codes "eq") d) small_expression.uid_read read h u p.1)
 
-scope_same : Made whole_scope small.scope_read scope_read
+scope_same : ReadsAs whole_scope small.scope_read scope_read
 scope_same d s e =
     let p = map_some small_policy.exactly (small.scope_uid_read d) s e in
     first_is (exactly_read d) _ (whole_scope s)
     (map_is exactly (alone (codes "eq") target_read d) (named p.0) (alone_same named target_read target_same d p.0 p.1) ∙ ap (λ x. Some (whole_scope x)) (sym p.2))
 
-action_scope_same : Made whole_action_scope small.scope_read action_scope_read
+action_scope_same : ReadsAs whole_action_scope small.scope_read action_scope_read
 action_scope_same d s e =
     let p = map_some small_policy.exactly (small.scope_uid_read d) s e in
     first_is (exactly_action_read d) _ (whole_action_scope s)
@@ -122,7 +124,9 @@ each_alike (item d ds) ps e =
     let more = each_alike ds q.0 q.1 in
     record {
       policies = one.policy ∷ more.policies;
-      read = given_is (policy_read d) (λ a. option_map (λ l. a ∷ l) (each policy_read ds)) one.policy (one.policy ∷ more.policies) one.read (map_is (λ l. one.policy ∷ l) (each policy_read ds) more.policies more.read);
+      read =
+          given_is (policy_read d) (λ a. option_map (λ l. a ∷ l) (each policy_read ds)) one.policy (one.policy ∷ more.policies) one.read
+          (map_is (λ l. one.policy ∷ l) (each policy_read ds) more.policies more.read);
       same = (λ i. one.same i ∷ more.same i) ∙ ap whole_policies (sym q.2);
     }
 
@@ -132,7 +136,8 @@ list_alike d ps e =
     let q = each_alike p.0 ps p.2 in
     record { policies = q.policies; read = given_is (as_array d) (each policy_read) p.0 q.policies p.1 q.read; same = q.same }
 
-pub policies_alike : (d : Data) (ps : List small_policy.Policy) → required (codes "policies") (list_of small.policy_read) d ≡ Some ps → AllReadAs (required (codes "policies") (list_of policy_read) d) ps
+pub policies_alike : (d : Data) (ps : List small_policy.Policy) → required (codes "policies") (list_of small.policy_read) d ≡ Some ps
+    → AllReadAs (required (codes "policies") (list_of policy_read) d) ps
 policies_alike d ps e =
     let p = given_some (get (codes "policies") d) (list_of small.policy_read) ps e in
     let q = list_alike p.0 ps p.2 in

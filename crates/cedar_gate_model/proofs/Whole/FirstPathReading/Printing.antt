@@ -1,4 +1,4 @@
--- Whether a body lacks or is written as `true`, runs are the same, and the same may be printed.
+-- Whether bodies lack or are written as `true`, runs are the same, and the same may be printed.
 use Rattle.std.proofs.Common.{◌≡◌, ◌↔◌, ◌++◌, ℕ, List, [], ◌∷◌, Option, Some, None, refl, sym, ap, ◌∙◌, subst, inl, inr, ⊎_elim}
 use Rattle.std.specs.List.{filter_map, flat_map, cons_option}
 use Rattle.cedar_expr_model.specs.Name.{Text}
@@ -21,25 +21,25 @@ use Rattle.cedar_gate_model.specs.Whole.Lines.{Status, is_answered, is_refused, 
 use Rattle.cedar_gate_model.specs.Whole.ReadingBundle.{input_read}
 use Rattle.cedar_gate_model.specs.Whole.FirstPathReading.{whole_bundle, with_body, all_with_bodies, with_bodies}
 use Rattle.cedar_gate_model.proofs.Whole.FirstPathReading.Bundles.{input_alike}
-use Rattle.cedar_gate_model.proofs.Whole.FirstPathReading.Bodies.{acceptance_kept, causes_kept, warnings_kept, decisions_kept, answers_kept}
+use Rattle.cedar_gate_model.proofs.Whole.FirstPathReading.Bodies.{acceptance_kept, faults_kept, warnings_kept, decisions_kept, answers_kept}
 
 -- responses
-gathered_kept : {A : Type 0} (f : Policy → Option A) → ((p : Policy) → f (with_body p) ≡ f p) → (ps : List Policy) → filter_map f (all_with_bodies ps) ≡ filter_map f ps
-gathered_kept f h [] = refl
-gathered_kept f h (p ∷ ps) = λ i. cons_option (h p i) (gathered_kept f h ps i)
+gathered_kept : {A : Type 0} (f : Policy → Option A) (ps : List Policy) → filter_map f (all_with_bodies ps) ≡ filter_map (λ p. f (with_body p)) ps
+gathered_kept f [] = refl
+gathered_kept f (p ∷ ps) = ap (cons_option (f (with_body p))) (gathered_kept f ps)
 
-group_kept : {A : Type 0} (e : Effect) (takes : Policy → Option A) → ((p : Policy) → takes (with_body p) ≡ takes p) → (ps : List Policy) → group e takes (all_with_bodies ps) ≡ group e takes ps
-group_kept e takes h = gathered_kept (λ p. of_effect e p.effect (takes p)) (λ p. ap (of_effect e p.effect) (h p))
+group_kept : {A : Type 0} (e : Effect) (takes : Policy → Option A) (ps : List Policy) → group e takes (all_with_bodies ps) ≡ group e (λ p. takes (with_body p)) ps
+group_kept e takes ps = gathered_kept (λ p. of_effect e p.effect (takes p)) ps
 
 responses_kept : (s : Scope) (n : ℕ) (ps : List Policy) → response_of s n (all_with_bodies ps) ≡ response_of s n ps
 responses_kept s n ps = λ i. record {
-  true_permits = group_kept permit (λ p. if_true p (verdict s n p)) (λ p. refl) ps i;
-  false_permits = group_kept permit (λ p. if_false p (verdict s n p)) (λ p. refl) ps i;
-  residual_permits = group_kept permit (λ p. if_residual p (verdict s n p)) (λ p. refl) ps i;
-  true_forbids = group_kept forbid (λ p. if_true p (verdict s n p)) (λ p. refl) ps i;
-  false_forbids = group_kept forbid (λ p. if_false p (verdict s n p)) (λ p. refl) ps i;
-  residual_forbids = group_kept forbid (λ p. if_residual p (verdict s n p)) (λ p. refl) ps i;
-  errors = gathered_kept (λ p. if_stopped p (verdict s n p)) (λ p. refl) ps i;
+  true_permits = group_kept permit (λ p. if_true p (verdict s n p)) ps i;
+  false_permits = group_kept permit (λ p. if_false p (verdict s n p)) ps i;
+  residual_permits = group_kept permit (λ p. if_residual p (verdict s n p)) ps i;
+  true_forbids = group_kept forbid (λ p. if_true p (verdict s n p)) ps i;
+  false_forbids = group_kept forbid (λ p. if_false p (verdict s n p)) ps i;
+  residual_forbids = group_kept forbid (λ p. if_residual p (verdict s n p)) ps i;
+  errors = gathered_kept (λ p. if_stopped p (verdict s n p)) ps i;
   request = request_of s;
 }
 
@@ -93,7 +93,8 @@ module _ (x : Setup) (ps qs : List Policy) (answers : (w : World) → answer_of 
   finishes s [] (opening_refused f) h = h
   finishes s [] (binding_refused f) h = h
 
-  loads : (next other : State → List Entry → Type 0) → ((s : State) (es : List Entry) → next s es → other s es) → (s : State) (es : List Entry) (end : End) → Loads x s next es end → Loads x s other es end
+  loads : (next other : State → List Entry → Type 0) → ((s : State) (es : List Entry) → next s es → other s es)
+      → (s : State) (es : List Entry) (end : End) → Loads x s next es end → Loads x s other es end
   loads next other k s (round us ∷ es) end h = (h.0, k (with_asked s us) es h.1)
   loads next other k s (bound n ∷ es) end h = absurd h
   loads next other k s (decided d ∷ es) end h = absurd h
@@ -103,7 +104,8 @@ module _ (x : Setup) (ps qs : List Policy) (answers : (w : World) → answer_of 
   loads next other k s [] (opening_refused f) h = h
   loads next other k s [] (binding_refused f) h = h
 
-  binds : (next other : List Entry → Type 0) → ((es : List Entry) → next es → other es) → (s : State) (n : Text) (m : Made) (es : List Entry) (end : End) → Binds x s n m next es end → Binds x s n m other es end
+  binds : (next other : List Entry → Type 0) → ((es : List Entry) → next es → other es)
+      → (s : State) (n : Text) (m : Made) (es : List Entry) (end : End) → Binds x s n m next es end → Binds x s n m other es end
   binds next other k s n m (bound l ∷ es) end h = (h.0, h.1, k es h.2)
   binds next other k s n m (round us ∷ es) end h = absurd h
   binds next other k s n m (decided d ∷ es) end h = absurd h
@@ -113,7 +115,8 @@ module _ (x : Setup) (ps qs : List Policy) (answers : (w : World) → answer_of 
   binds next other k s n m [] (opening_refused f) h = h
   binds next other k s n m [] (supply_refused f) h = h
 
-  decides : (may might : Option Decision → Type 0) (next other : List Entry → Type 0) → ((d : Option Decision) → may d → might d) → ((es : List Entry) → next es → other es) → (es : List Entry) → DecidesNow may next es → DecidesNow might other es
+  decides : (may might : Option Decision → Type 0) (next other : List Entry → Type 0) → ((d : Option Decision) → may d → might d) → ((es : List Entry) → next es → other es)
+      → (es : List Entry) → DecidesNow may next es → DecidesNow might other es
   decides may might next other f k (decided d ∷ es) h = (f d h.0, k es h.1)
   decides may might next other f k (round us ∷ es) h = absurd h
   decides may might next other f k (bound n ∷ es) h = absurd h
@@ -137,7 +140,8 @@ module _ (x : Setup) (ps qs : List Policy) (answers : (w : World) → answer_of 
     runs steps es (supply_refused f) h = (h.0, follows at_start steps es (supply_refused f) h.1)
     runs steps es (binding_refused f) h = (h.0, follows at_start steps es (binding_refused f) h.1)
 
-pub runs_kept : (x : Setup) (ps : List Policy) (steps : List Step) (es : List Entry) (end : End) → Runs (MayDecide x (all_with_bodies ps)) x (all_with_bodies ps) steps es end ↔ Runs (MayDecide x ps) x ps steps es end
+pub runs_kept : (x : Setup) (ps : List Policy) (steps : List Step) (es : List Entry) (end : End)
+    → Runs (MayDecide x (all_with_bodies ps)) x (all_with_bodies ps) steps es end ↔ Runs (MayDecide x ps) x ps steps es end
 runs_kept x ps steps es end = (
   runs x (all_with_bodies ps) ps (λ w. answers_kept w ps) (MayDecide x (all_with_bodies ps)) (MayDecide x ps) (λ s d. (may_kept x ps s d).0) steps es end,
   runs x ps (all_with_bodies ps) (λ w. sym (answers_kept w ps)) (MayDecide x ps) (MayDecide x (all_with_bodies ps)) (λ s d. (may_kept x ps s d).1) steps es end,
@@ -163,7 +167,7 @@ printing_kept x b is_stopped text =
     let p = printed_runs x b is_stopped text in
     (λ h. (a.0 h.0, p.0 h.1), λ h. (a.1 h.0, p.1 h.1))
 printing_kept x b is_unreadable text = (λ h. h, λ h. h)
-printing_kept x b is_refused text = (λ h. (h.0, (causes_kept h.0 b.submission).0 h.1, h.2), λ h. (h.0, (causes_kept h.0 b.submission).1 h.1, h.2))
+printing_kept x b is_refused text = (λ h. (h.0, (faults_kept h.0 b.submission).0 h.1, h.2), λ h. (h.0, (faults_kept h.0 b.submission).1 h.1, h.2))
 
 -- what an input prints
 pub inputs_print_the_same : (x : Functions) (bytes : List ℕ) (b : small_bundle.Bundle) → small.input_read bytes ≡ Some b

@@ -29,7 +29,8 @@ use Rattle.cedar_gate_model.specs.Whole.ReadingValue.{with_functions, context_fr
 use Rattle.cedar_gate_model.specs.Whole.ReadingRequest.{known_entry_read, entry_read, request_keys, request_read, parts_read, entity_keys, entity_read, uids_of, has_distinct_uids, store_read, step_words, step_read}
 use Rattle.cedar_gate_model.specs.Whole.FirstPathReading.{start_of, whole_step}
 use Rattle.cedar_gate_model.proofs.Whole.Reading.Steps.{given_some, map_some, if_some_of}
-use Rattle.cedar_gate_model.proofs.Whole.FirstPathReading.Forms.{same_given, given_is, map_is, if_is, first_is, Made, given_same, list_same, word_same, bare_or_lacking, reads_empty_object, reads_empty_list}
+use Rattle.cedar_gate_model.proofs.Whole.FirstPathReading.Forms.{same_given, given_is, map_is, if_is, first_is, Becomes, ReadsAs, given_same, list_same, word_same, bare_or_lacking}
+use Rattle.cedar_gate_model.proofs.Whole.FirstPathReading.Objects.{reads_empty_object, reads_empty_list}
 use Rattle.cedar_gate_model.proofs.Whole.FirstPathReading.Expressions.{uids_agree}
 
 -- the empty record, which is a value at any depth
@@ -40,7 +41,7 @@ empty_context : (x : Functions) → context_read x (object no_members) ≡ Some 
 empty_context x = ap context_from (empty_left (with_functions x) 511)
 
 -- requests
-entry_same : Made uid small_expression.uid_read entry_read
+entry_same : ReadsAs uid small_expression.uid_read entry_read
 entry_same d u e = first_is (known_entry_read d) _ (uid u) (map_is uid (uid_read d) u (sym (uids_agree d) ∙ e))
 
 required_entry : (key : Text) (d : Data) (u : Uid) → required key small_expression.uid_read d ≡ Some u → required key entry_read d ≡ Some (uid u)
@@ -53,7 +54,8 @@ request_same x d r e =
     let p = given_some (required (codes "principal") small_expression.uid_read d) _ r c.1 in
     let a = given_some (required (codes "action") small_expression.uid_read d) _ r p.2 in
     let o = map_some _ (required (codes "resource") small_expression.uid_read d) r a.2 in
-    let context = bare_or_lacking is_empty_object (context_read x) (closed no_made_fields) (reads_empty_object (context_read x) (closed no_made_fields) (empty_context x)) (get (codes "context") d) k.1 in
+    let empty = reads_empty_object (context_read x) (closed no_made_fields) (empty_context x) in
+    let context = bare_or_lacking is_empty_object (context_read x) (closed no_made_fields) empty (get (codes "context") d) k.1 in
     if_is (has_only request_keys d) _ (start_of r) k.0
     (given_is (required (codes "principal") entry_read d) _ (uid p.0) (start_of r) (required_entry (codes "principal") d p.0 p.1)
     (given_is (required (codes "action") entry_read d) _ (uid a.0) (start_of r) (required_entry (codes "action") d a.0 a.1)
@@ -64,7 +66,7 @@ request_same x d r e =
 abbrev plain_at : Uid → Uid × Entity V
 plain_at u = (u, plain_entity)
 
-entity_same : (x : Functions) → Made plain_at small.entity_read (entity_read x)
+entity_same : (x : Functions) → ReadsAs plain_at small.entity_read (entity_read x)
 entity_same x d u e =
     let c = if_some_of (small.is_bare_entity d) (required (codes "uid") small_expression.uid_read d) u e in
     let k = both_hold (has_only small.entity_keys d) (may_be (codes "attrs") is_empty_object d && (may_be (codes "tags") is_empty_object d && may_be (codes "ancestors") is_empty_list d)) c.0 in
@@ -94,7 +96,8 @@ store_same x d us e =
     (if_is (has_distinct_uids (plain_entities p.0)) (Some (plain_entities p.0)) (plain_entities us) (plain_distinct p.0 ∙ q.0) (ap (λ l. Some (plain_entities l)) (same_given p.0 us q.1)))
 
 -- steps
-step_said : (b c : Bool) (s : small_transcript.Step) → (if b then Some small_transcript.load else (if c then Some small_transcript.decide else None)) ≡ Some s → (if b then Some load else (if c then Some decide else None)) ≡ Some (whole_step s)
+step_said : (b c : Bool)
+    → Becomes whole_step (if b then Some small_transcript.load else (if c then Some small_transcript.decide else None)) (if b then Some load else (if c then Some decide else None))
 step_said true c s h = ap (λ x. Some (whole_step x)) (same_given small_transcript.load s h)
 step_said false true s h = ap (λ x. Some (whole_step x)) (same_given small_transcript.decide s h)
 step_said false false s h = cc
@@ -102,4 +105,4 @@ step_said false false s h = cc
 pub step_same : (x : Functions) (d : Data) (s : small_transcript.Step) → small.step_read d ≡ Some s → step_read x d ≡ Some (whole_step s)
 step_same x d s e =
     first_is (word_of step_words d) _ (whole_step s)
-    (word_same whole_step small.step_named step_words (λ word t h. step_said (bytes_eq word (codes "load")) (bytes_eq word (codes "decide")) t h) (as_str d) s e)
+    (word_same whole_step small.step_named step_words (λ word. step_said (bytes_eq word (codes "load")) (bytes_eq word (codes "decide"))) (as_str d) s e)

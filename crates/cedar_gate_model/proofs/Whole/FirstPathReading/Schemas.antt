@@ -18,7 +18,8 @@ use Rattle.cedar_gate_model.specs.Whole.ReadingName.{names_read, declared_uid_re
 use Rattle.cedar_gate_model.specs.Whole.ReadingSchema.{type_read, attributes_read, tag_type_read, common_read, kind_read, standard_read, entity_type_read, action_keys, action_read, namespace_keys, namespace_read, fragment_read, schema_read}
 use Rattle.cedar_gate_model.specs.Whole.FirstPathReading.{is_in_order, is_before, have_keys_in_order}
 use Rattle.cedar_gate_model.proofs.Whole.Reading.Steps.{given_some, map_some, if_some_of}
-use Rattle.cedar_gate_model.proofs.Whole.FirstPathReading.Forms.{same_given, given_is, map_is, if_is, first_is, Made, there_same, bare_or_lacking, object_same, members_have, empty_object, reads_empty_object, reads_empty_list, only_more, key_lacks, only_key, value_in_order}
+use Rattle.cedar_gate_model.proofs.Whole.FirstPathReading.Forms.{same_given, given_is, map_is, if_is, first_is, Becomes, MemberReadsAs, one_more, there_same, bare_or_lacking, object_same, members_have}
+use Rattle.cedar_gate_model.proofs.Whole.FirstPathReading.Objects.{empty_object, reads_empty_object, reads_empty_list, only_more, key_lacks, only_key, value_in_order}
 
 -- what passes a test at a key is there
 there_at : (test : Data → Bool) (o : Option Data) → unwrap_or (option_map test o) false ≡ true → (d : Data) × (o ≡ Some d) × (test d ≡ true)
@@ -48,7 +49,7 @@ bare_kind d h =
     (given_is (optional (codes "attrs") attributes_read no_field_exprs d) _ no_field_exprs ([], standard_expr no_field_exprs None) fields
     (map_is _ (optional (codes "tags") tag_type_read None d) None tags))))
 
-type_same : (key : Text) → Made whole_entity (small.entity_type_read key) (entity_type_read [] key)
+type_same : MemberReadsAs whole_entity small.entity_type_read (entity_type_read [])
 type_same key d t e =
     let p = if_some_of (is_identifier key && small.is_bare_type d) (Some (record { name = small.plain key })) t e in
     let q = both_hold (is_identifier key) (small.is_bare_type d) p.0 in
@@ -65,13 +66,17 @@ empty_record d o h =
     let q = there_at is_empty_object (get (codes "record") d) p.1 in
     only_key (codes "record") d q.0 p.0 q.1 o ∙ ap (λ e. object (member (codes "record") e no_members)) (empty_object q.0 q.2)
 
-bare_context : (o : Option Data) → ((d : Data) → o ≡ Some d → is_in_order d ≡ true) → unwrap_or (option_map small.is_empty_record o) true ≡ true → if_there type_read (record_expr no_field_exprs) o ≡ Some (record_expr no_field_exprs)
+-- a value that is there is in order
+abbrev InOrder : Option Data → Type 0
+InOrder o = (d : Data) → o ≡ Some d → is_in_order d ≡ true
+
+bare_context : (o : Option Data) → InOrder o → unwrap_or (option_map small.is_empty_record o) true ≡ true → if_there type_read (record_expr no_field_exprs) o ≡ Some (record_expr no_field_exprs)
 bare_context None k h = refl
 bare_context (Some d) k h = ap type_read (empty_record d (k d refl) h)
 
 -- actions
-action_same : (id : Text) (d : Data) (a : small_declarations.ActionDeclaration) → is_in_order d ≡ true → small.action_read id d ≡ Some a → action_read [] id d ≡ Some (whole_action a)
-action_same id d a o e =
+action_same : (id : Text) (d : Data) → is_in_order d ≡ true → Becomes whole_action (small.action_read id d) (action_read [] id d)
+action_same id d o a e =
     let p = if_some_of (small.is_bare_action d) _ a e in
     let q = both_hold (has_only small.action_keys d) (may_be (codes "in") is_empty_list d && may_be (codes "context") small.is_empty_record d) p.0 in
     let r = both_hold (may_be (codes "in") is_empty_list d) (may_be (codes "context") small.is_empty_record d) q.1 in
@@ -85,27 +90,24 @@ action_same id d a o e =
     (given_is (optional (codes "resources") names_read [] d) _ t.0 (whole_action a) t.1
     (map_is _ (optional (codes "context") type_read (record_expr no_field_exprs) d) (record_expr no_field_exprs) context ∙ ap (λ b. Some (whole_action b)) (sym t.2)))))
 
-actions_among : (ms : Members) (as_ : List small_declarations.ActionDeclaration) → have_keys_in_order ms ≡ true → each_member small.action_read ms ≡ Some as_ → each_member (action_read []) ms ≡ Some (map whole_action as_)
-actions_among no_members as_ o e = ap (λ l. Some (map whole_action l)) (same_given [] as_ e)
-actions_among (member k d ms) as_ o e =
-    let p = given_some (small.action_read k d) (λ a. option_map (λ more. a ∷ more) (each_member small.action_read ms)) as_ e in
-    let q = map_some (λ more. p.0 ∷ more) (each_member small.action_read ms) as_ p.2 in
-    let r = both_hold (is_before k ms) (is_in_order d && have_keys_in_order ms) o in
-    let s = both_hold (is_in_order d) (have_keys_in_order ms) r.1 in
-    given_is (action_read [] k d) (λ a. option_map (λ more. a ∷ more) (each_member (action_read []) ms)) (whole_action p.0) (map whole_action as_) (action_same k d p.0 s.0 p.1)
-    (map_is (λ more. whole_action p.0 ∷ more) (each_member (action_read []) ms) (map whole_action q.0) (actions_among ms q.0 s.1 q.1) ∙ ap (λ l. Some (map whole_action l)) (sym q.2))
+actions_among : (ms : Members) → have_keys_in_order ms ≡ true → Becomes (map whole_action) (each_member small.action_read ms) (each_member (action_read []) ms)
+actions_among no_members o as_ e = ap (λ l. Some (map whole_action l)) (same_given [] as_ e)
+actions_among (member k d ms) o as_ e =
+    let p = both_hold (is_before k ms) (is_in_order d && have_keys_in_order ms) o in
+    let q = both_hold (is_in_order d) (have_keys_in_order ms) p.1 in
+    one_more whole_action (small.action_read k d) (action_read [] k d) (each_member small.action_read ms) (each_member (action_read []) ms) (action_same k d q.0) (actions_among ms q.1) as_ e
 
-actions_of : (d : Data) (as_ : List small_declarations.ActionDeclaration) → is_in_order d ≡ true → members_of small.action_read d ≡ Some as_ → members_of (action_read []) d ≡ Some (map whole_action as_)
-actions_of null as_ o e = cc
-actions_of (boolean b) as_ o e = cc
-actions_of (number n) as_ o e = cc
-actions_of (string s) as_ o e = cc
-actions_of (array ds) as_ o e = cc
-actions_of (object ms) as_ o e = actions_among ms as_ o e
+actions_of : (d : Data) → is_in_order d ≡ true → Becomes (map whole_action) (members_of small.action_read d) (members_of (action_read []) d)
+actions_of null o as_ e = cc
+actions_of (boolean b) o as_ e = cc
+actions_of (number n) o as_ e = cc
+actions_of (string s) o as_ e = cc
+actions_of (array ds) o as_ e = cc
+actions_of (object ms) o as_ e = actions_among ms o as_ e
 
-actions_there : (o : Option Data) (as_ : List small_declarations.ActionDeclaration) → ((d : Data) → o ≡ Some d → is_in_order d ≡ true) → if_there (members_of small.action_read) [] o ≡ Some as_ → if_there (members_of (action_read [])) [] o ≡ Some (map whole_action as_)
-actions_there None as_ k e = ap (λ l. Some (map whole_action l)) (same_given [] as_ e)
-actions_there (Some d) as_ k e = actions_of d as_ (k d refl) e
+actions_there : (o : Option Data) → InOrder o → Becomes (map whole_action) (if_there (members_of small.action_read) [] o) (if_there (members_of (action_read [])) [] o)
+actions_there None k as_ e = ap (λ l. Some (map whole_action l)) (same_given [] as_ e)
+actions_there (Some d) k as_ e = actions_of d (k d refl) as_ e
 
 -- the empty namespace
 namespace_same : (d : Data) (s : small_declarations.Declarations) → is_in_order d ≡ true → small.namespace_read d ≡ Some s → namespace_read [] d ≡ Some (whole_declarations s)
@@ -115,8 +117,9 @@ namespace_same d s o e =
     let r = given_some (optional (codes "entityTypes") (members_of small.entity_type_read) [] d) _ s p.1 in
     let t = map_some _ (optional (codes "actions") (members_of small.action_read) [] d) s r.2 in
     let commons = bare_or_lacking is_empty_object (members_of (common_read [])) [] (reads_empty_object (members_of (common_read [])) [] refl) (get (codes "commonTypes") d) q.1 in
-    let types = there_same (map whole_entity) (members_of small.entity_type_read) (members_of (entity_type_read [])) (object_same whole_entity small.entity_type_read (entity_type_read []) type_same) [] (get (codes "entityTypes") d) r.0 r.1 in
-    let actions = actions_there (get (codes "actions") d) t.0 (λ c g. value_in_order (codes "actions") d c o g) t.1 in
+    let each_type = object_same whole_entity small.entity_type_read (entity_type_read []) type_same in
+    let types = there_same (map whole_entity) (members_of small.entity_type_read) (members_of (entity_type_read [])) each_type [] (get (codes "entityTypes") d) r.0 r.1 in
+    let actions = actions_there (get (codes "actions") d) (λ c g. value_in_order (codes "actions") d c o g) t.0 t.1 in
     if_is (has_only namespace_keys d) _ (whole_declarations s) q.0
     (given_is (optional (codes "commonTypes") (members_of (common_read [])) [] d) _ [] (whole_declarations s) commons
     (given_is (optional (codes "entityTypes") (members_of (entity_type_read [])) [] d) _ (map whole_entity r.0) (whole_declarations s) types
@@ -147,12 +150,6 @@ schema_same (array (item d (item c ds))) s o e = cc
 schema_same (object ms) s o e = cc
 
 -- what is read is plain
-abbrev ArePlainTypes : List small_declarations.TypeDeclaration → Type 0
-ArePlainTypes ts = list_all (λ (t : small_declarations.TypeDeclaration). is_unqualified t.name) ts ≡ true
-
-abbrev ArePlainActions : List small_declarations.ActionDeclaration → Type 0
-ArePlainActions as_ = list_all is_plain_action as_ ≡ true
-
 type_plain : (key : Text) (d : Data) (t : small_declarations.TypeDeclaration) → small.entity_type_read key d ≡ Some t → is_unqualified t.name ≡ true
 type_plain key d t e =
     let p = if_some_of (is_identifier key && small.is_bare_type d) (Some (record { name = small.plain key })) t e in
@@ -165,7 +162,8 @@ action_plain id d a e =
     let r = map_some _ (optional (codes "resources") (list_of small_expression.any_name_read) [] d) a q.2 in
     ap is_plain_action r.2
 
-members_plain : {A : Type 0} (test : A → Bool) (read : Text → Data → Option A) → ((k : Text) (d : Data) (a : A) → read k d ≡ Some a → test a ≡ true) → (o : Option Data) (as_ : List A) → if_there (members_of read) [] o ≡ Some as_ → list_all test as_ ≡ true
+members_plain : {A : Type 0} (test : A → Bool) (read : Text → Data → Option A) → ((k : Text) (d : Data) (a : A) → read k d ≡ Some a → test a ≡ true)
+    → (o : Option Data) (as_ : List A) → if_there (members_of read) [] o ≡ Some as_ → list_all test as_ ≡ true
 members_plain test read h None as_ e = ap (list_all test) (sym (same_given [] as_ e))
 members_plain test read h (Some d) as_ e = let p = given_some (as_object d) (each_member read) as_ e in members_have test read h p.0 as_ p.2
 

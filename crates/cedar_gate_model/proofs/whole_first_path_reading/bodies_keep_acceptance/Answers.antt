@@ -1,14 +1,14 @@
-use Rattle.cedar_gate_model.proofs.Whole.FirstPathReading.Bodies.{written_bodies_stay, faults_kept, causes_kept, acceptance_kept, test_kept, warnings_kept, policies_kept}
+use Rattle.cedar_gate_model.proofs.Whole.FirstPathReading.Bodies.{written_bodies_stay, rules_kept, faults_kept, acceptance_kept, test_kept, warnings_kept, policies_kept}
 use Rattle.cedar_gate_model.proofs.whole_first_path_reading.bodies_keep_acceptance.Goals as goal
 
 pub returns-clause-written : goal.returns-clause-written
 returns-clause-written c = written_bodies_stay
 
+pub returns-clause-rules : goal.returns-clause-rules
+returns-clause-rules c = rules_kept
+
 pub returns-clause-faults : goal.returns-clause-faults
 returns-clause-faults c = faults_kept
-
-pub returns-clause-causes : goal.returns-clause-causes
-returns-clause-causes c = causes_kept
 
 pub returns-clause-accepted : goal.returns-clause-accepted
 returns-clause-accepted c = acceptance_kept
