@@ -102,7 +102,7 @@ abbrev mutual
   have_keys_in_order no_members = true
   have_keys_in_order (member k d ms) = is_before k ms && (is_in_order d && have_keys_in_order ms)
 
--- JSON reads so
+-- JSON that is read is so
 abbrev pub KeysAreInOrder : Type 0
 KeysAreInOrder = (bytes : List ℕ) (d : Data) → read bytes ≡ Some d → is_in_order d ≡ true
 
