@@ -22,3 +22,4 @@ pub mod GateLaws
 pub mod RunLaws
 pub mod WorkedGate
 pub mod FirstPath
+pub mod FirstPathReading
