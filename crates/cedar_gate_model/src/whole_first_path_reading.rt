@@ -1,6 +1,6 @@
 //! Laws of reading on the first path. Each function's contract is the theorem; its body does nothing.
 
-ghost use Rattle.cedar_gate_model.specs.Whole.FirstPathReading.{KeysAreInOrder, UidsReadTheSame, ExpressionsReadTheSame, PoliciesReadTheSame, SchemasReadTheSame, RequestsReadTheSame, StoresReadTheSame, StepsReadTheSame, BundlesReadTheSame, InputsReadTheSame, UnreadableStaysSo, BundlesLieInFirstPath, InputsLieInFirstPath, WrittenBodiesStay, BodiesKeepRules, BodiesKeepFaults, BodiesKeepAcceptance, BodiesKeepTheTest, BodiesKeepWarnings, BodiesKeepPolicies, BodiesKeepDecisions, BodiesKeepAnswers, BodiesKeepRuns, BodiesKeepPrinting, InputsPrintTheSame};
+ghost use Rattle.cedar_gate_model.specs.Whole.FirstPathReading.{KeysAreInOrder, UidsReadTheSame, ExpressionsReadTheSame, PoliciesReadTheSame, SchemasReadTheSame, RequestsReadTheSame, StoresReadTheSame, StepsReadTheSame, BundlesReadTheSame, InputsReadTheSame, UnreadableStaysSo, BundlesLieInFirstPath, InputsLieInFirstPath, WrittenBodiesStay, BodiesKeepRules, BodiesKeepFaults, BodiesKeepAcceptance, BodiesKeepTheTest, BodiesKeepWarnings, BodiesKeepPolicies, BodiesKeepDecisions, BodiesKeepAnswers, BodiesKeepRuns, BodiesKeepPrinting, InputsPrintTheSame, ServingIsWhole};
 
 /// JSON is read with the keys of each object in order, each of them once.
 pub fn keys_are_read_in_order()
@@ -66,4 +66,9 @@ pub fn bodies_keep_answers()
 /// What may be printed for an input that the first path reads is what may be printed for its bundle in the whole language.
 pub fn inputs_print_the_same()
     ensures { InputsPrintTheSame }
+{}
+
+/// What the first path prints for an input may be printed in the whole language for what the input is served as.
+pub fn serving_is_whole()
+    ensures { ServingIsWhole }
 {}

@@ -8,3 +8,4 @@ pub mod Requests
 pub mod Bundles
 pub mod Bodies
 pub mod Printing
+pub mod Serving

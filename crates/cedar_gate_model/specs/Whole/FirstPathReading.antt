@@ -1,6 +1,6 @@
 -- What the first path reads, seen as what the whole language reads of the same input, and what the laws say of this.
 -- Rule: what a bundle reads as (docs/RULES.md).
-use Rattle.std.specs.Prelude.{◌≡◌, ◌↔◌, ◌≤◌, ◌&&◌, ℕ, List, map, Bool, true, is_some, Some, None, option_map}
+use Rattle.std.specs.Prelude.{◌≡◌, ◌↔◌, ◌≤◌, ◌&&◌, ℕ, List, map, Bool, true, is_some, Option, Some, None, option_map, if◌then◌else◌}
 use Rattle.std.specs.List.{list_all}
 use Rattle.std.specs.Ordering.{nat_cmp, is_lt}
 use Rattle.std.specs.Cmp.Lexicographic.{slice_cmp}
@@ -28,7 +28,8 @@ use Rattle.cedar_gate_model.specs.Bundle as small_bundle
 use Rattle.cedar_gate_model.specs.ReadingExpression as small_expression
 use Rattle.cedar_gate_model.specs.ReadingSchema as small_schema
 use Rattle.cedar_gate_model.specs.ReadingBundle as small
-use Rattle.cedar_gate_model.specs.Whole.FirstPath.{start_of, whole_step, whole_bundle}
+use Rattle.cedar_gate_model.specs.Lines as small_lines
+use Rattle.cedar_gate_model.specs.Whole.FirstPath.{start_of, whole_step, whole_bundle, whole_status}
 use Rattle.cedar_gate_model.specs.Whole.Acceptance.{Submission, Cause, is_clear_of, IsAccepted, HasFault, admits, warnings_of, policies_for}
 use Rattle.cedar_gate_model.specs.Whole.Moment.{Start}
 use Rattle.cedar_gate_model.specs.Whole.Transcript.{Step, load, decide, Entry}
@@ -181,3 +182,12 @@ BodiesKeepPrinting = (x : Functions) (b : Bundle) (status : Status) (text : Text
 abbrev pub InputsPrintTheSame : Type 0
 InputsPrintTheSame = (x : Functions) (bytes : List ℕ) (b : small_bundle.Bundle) → small.input_read bytes ≡ Some b
     → (status : Status) (text : Text) → Prints x (input_read x bytes) status text ↔ Prints x (Some (whole_bundle x.table b)) status text
+
+-- What an input is served as: what it reads as, where the first path reads it. Any other is served as unreadable.
+abbrev pub input_served : Functions → List ℕ → Option Bundle
+input_served x bytes = if is_some (small.input_read bytes) then input_read x bytes else None
+
+-- what the first path prints for an input may be printed for what it is served as
+abbrev pub ServingIsWhole : Type 0
+ServingIsWhole = (x : Functions) (bytes : List ℕ) (status : small_lines.Status) (text : Text) → small_lines.Prints (small.input_read bytes) status text
+    → Prints x (input_served x bytes) (whole_status status) text
