@@ -15,3 +15,4 @@ pub mod Responses
 pub mod Forced
 pub mod Written
 pub mod Again
+pub mod Residuals

@@ -66,7 +66,7 @@ module _ (P : Text → Option CoreType → Type 0) where
   no_unknown_literals (p ∷ ps) = (tt, no_unknown_literals ps)
 
   mutual
-    no_unknown : (m : Made) → EachUnknown P (written m)
+    pub no_unknown : (m : Made) → EachUnknown P (written m)
     no_unknown (made_prim p) = tt
     no_unknown (made_set ms) = no_unknowns ms
     no_unknown (made_record fs) = no_field_unknowns fs

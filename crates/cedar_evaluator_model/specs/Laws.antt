@@ -146,6 +146,9 @@ PermitForces =
 abbrev pub NoPermitForces : Type 0
 NoPermitForces = (s : Scope) (n : ℕ) (ps : List Policy) → IsReady s n ps → ((p : Policy) → Contains ps p → p.effect ≡ permit → IsUnsatisfied (known_world s) p) → decision_in_session (response_of s n ps) ≡ Some deny
 
--- What evaluation leaves stands for the expression in every completion. This is stated here alone; no law says it yet.
+-- What evaluation leaves stands for the expression in every completion that fits the annotations, and the unknowns of a residual fit too.
 abbrev pub ResidualsStand : Type 0
 ResidualsStand = (s : Scope) → Agrees s → AllMadeWell s → (n : ℕ) (t : Tree) → StandsInAll s t (evaluated s n t)
+
+abbrev pub ResidualsFit : Type 0
+ResidualsFit = (s : Scope) → Agrees s → AllMadeWell s → (n : ℕ) (t r : Tree) → evaluated s n t ≡ residual r → (w : World) → Completes w s → FitsAnnotations w t → FitsAnnotations w r
