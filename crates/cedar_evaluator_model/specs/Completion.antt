@@ -37,9 +37,9 @@ abbrev pub EntryMeans : World → Text → Entry → Option Uid → Type 0
 EntryMeans w n (uid u) o = o ≡ Some u
 EntryMeans w n (unknown_uid k) o = (u : Uid) × (o ≡ Some u) × IsOfKind k u × NameMeans w n u
 
--- The expression means the value there, and its unknowns fit.
+-- The expression means the value there, whatever a policy's slots are bound to, and its unknowns fit.
 abbrev pub PartIs : World → Tree → V → Type 0
-PartIs w t v = Means w t (val v) × FitsAnnotations w t
+PartIs w t v = ((x : SlotId → Option Uid) → Means (record w { slots = x }) t (val v)) × FitsAnnotations w t
 
 -- A context of values keeps them, one with residual fields is what its record means, and an unknown one is the record that the
 -- unknown `context` means.

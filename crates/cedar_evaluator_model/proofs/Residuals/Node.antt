@@ -44,7 +44,7 @@ context_stands : (w : World) (c : Context) (o : Option V) → ContextMeans w c o
 context_stands w (closed fs) o h g = subst (λ x. Stands w (bound_value x) (value_left (made_record fs))) (sym h) (refl, g)
 context_stands w (residual_fields fs) o h g =
     let p = h.2 in
-    subst (λ x. Stands w (bound_value x) (residual (record_literal fs))) (sym h.1) (means_outcome w (record_literal fs) (val h.0) p.0, p.1)
+    subst (λ x. Stands w (bound_value x) (residual (record_literal fs))) (sym h.1) (means_outcome w (record_literal fs) (val h.0) (p.0 w.slots), p.1)
 context_stands w unknown_context o h g = subst (λ x. Stands w (bound_value x) (residual (unknown (codes "context") None))) (sym h.1) (ap bound_value h.2, subst (Fits None) (sym h.2) tt)
 
 slot_stands : (w : World) (o : Option Uid) → Stands w (Some (slot_value o)) (slot_left o)

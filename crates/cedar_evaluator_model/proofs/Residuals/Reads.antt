@@ -52,11 +52,11 @@ stands_known : (w : World) (m : Made) (q : Option (Part V)) → q ≡ Some (know
 stands_known w m q h g = (subst (λ x. Keeps (part_value x) (Some (val (bare m)))) (sym h) refl, g)
 
 stands_residual : (w : World) (t : Tree) (v : V) → PartIs w t v → Stands w (Some (val v)) (residual t)
-stands_residual w t v h = (means_outcome w t (val v) h.0, h.1)
+stands_residual w t v h = (means_outcome w t (val v) (h.0 w.slots), h.1)
 
 stands_left : (w : World) (s : Scope) → ((n : Text) → IsMadeWell w.table (s.values n)) → ((n : Text) → Keeps (option_map bare (s.values n)) (w.unknowns n)) → (t : Tree) (v : V) → PartIs w t v
     → Stands w (Some (val v)) (part_left s (left t))
-stands_left w s g k (unknown n a) v h = subst (λ o. Stands w o (mapped s n a (s.values n))) h.0 (stands_mapped w s n a (s.values n) (g n) (k n) h.1)
+stands_left w s g k (unknown n a) v h = subst (λ o. Stands w o (mapped s n a (s.values n))) (h.0 w.slots) (stands_mapped w s n a (s.values n) (g n) (k n) h.1)
 stands_left w s g k t v h = stands_residual w t v h
 
 stands_part : (w : World) (next : Part Made → Left) → ((m : Made) → next (known m) ≡ value_left m) → ((t : Tree) (v : V) → PartIs w t v → Stands w (Some (val v)) (next (left t)))
@@ -101,7 +101,7 @@ path_fits P t a (b ∷ bs) h = h
 
 path_left : (w : World) (t : Tree) (v : V) (b : Text) (bs : List Text) → PartIs w t v → Stands w (path_tested w b bs v) (residual (path_test t b bs))
 path_left w t v b bs h =
-    let e : outcome_of w (path_test t b bs) ≡ path_tested w b bs v = path_same w t b bs ∙ ap (λ o. bind o (path_tested w b bs)) (means_outcome w t (val v) h.0) in
+    let e : outcome_of w (path_test t b bs) ≡ path_tested w b bs v = path_same w t b bs ∙ ap (λ o. bind o (path_tested w b bs)) (means_outcome w t (val v) (h.0 w.slots)) in
     (subst (Alike (path_tested w b bs v)) (sym e) (alike_same (path_tested w b bs v)), path_fits _ t b bs h.1)
 
 module _ (w : World) (s : Scope) (complete : Completes w s) (well : AllMadeWell s) where
