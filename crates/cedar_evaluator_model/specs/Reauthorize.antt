@@ -66,9 +66,9 @@ context_bound unknown_context (Some (made_record fs)) = makes_it (closed fs)
 context_bound c (Some (made_record fs)) = refuses (known_already context)
 context_bound c (Some m) = refuses (wrong_value context)
 
--- a scope that knows the table alone, in which restricted expressions are evaluated
+-- the scope without slots and values, in which restricted expressions are evaluated
 abbrev pub restricted_scope : Scope → Scope
-restricted_scope s = record s { values = λ n. None }
+restricted_scope s = record s { slots = λ x. None; values = λ n. None }
 
 -- what is left of a restricted expression: the limit on its depth is fixed
 abbrev pub restricted_left : Scope → Tree → Left
