@@ -4,3 +4,6 @@ pub mod Fields
 pub mod Reads
 pub mod Lists
 pub mod Node
+pub mod Rebuilt
+pub mod Slots
+pub mod Completing
