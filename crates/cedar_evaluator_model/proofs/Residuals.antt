@@ -7,3 +7,7 @@ pub mod Node
 pub mod Rebuilt
 pub mod Slots
 pub mod Completing
+pub mod Policies
+pub mod Groups
+pub mod Decisions
+pub mod Kept

@@ -10,6 +10,7 @@ pub mod Members
 pub mod Reauthorize
 pub mod WellMade
 pub mod Laws
+pub mod ResponseLaws
 pub mod Worked
 pub mod WorkedResponses
 pub mod WorkedCompletions
