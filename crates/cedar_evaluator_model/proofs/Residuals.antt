@@ -11,3 +11,5 @@ pub mod Policies
 pub mod Groups
 pub mod Decisions
 pub mod Kept
+pub mod Bound
+pub mod Chains

@@ -11,6 +11,7 @@ pub mod Reauthorize
 pub mod WellMade
 pub mod Laws
 pub mod ResponseLaws
+pub mod ReauthorizeLaws
 pub mod Worked
 pub mod WorkedResponses
 pub mod WorkedCompletions

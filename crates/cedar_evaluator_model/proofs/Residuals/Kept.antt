@@ -30,12 +30,12 @@ use Rattle.cedar_evaluator_model.proofs.Residuals.Groups.{group_has, group_from,
 abbrev InThree : {X : Type 0} → List X → List X → List X → X → Type 0
 InThree a b c x = Contains a x ⊎ (Contains b x ⊎ Contains c x)
 
-three_has : {X : Type 0} (a b c : List X) (x : X) → InThree a b c x → Contains (a ++ (b ++ c)) x
+pub three_has : {X : Type 0} (a b c : List X) (x : X) → InThree a b c x → Contains (a ++ (b ++ c)) x
 three_has a b c x (inl k) = Contains-append_left a (b ++ c) x k
 three_has a b c x (inr (inl k)) = Contains-append_right a (b ++ c) x (Contains-append_left b c x k)
 three_has a b c x (inr (inr k)) = Contains-append_right a (b ++ c) x (Contains-append_right b c x k)
 
-three_from : {X : Type 0} (a b c : List X) (x : X) → Contains (a ++ (b ++ c)) x → InThree a b c x
+pub three_from : {X : Type 0} (a b c : List X) (x : X) → Contains (a ++ (b ++ c)) x → InThree a b c x
 three_from a b c x k = ⊎_elim (λ h. inl h) (λ h. inr (Contains-append_cases b c x h)) (Contains-append_cases a (b ++ c) x k)
 
 last_first : {X : Type 0} (a b c : List X) (x : X) → InThree a b c x → InThree c a b x
@@ -43,7 +43,7 @@ last_first a b c x (inl k) = inr (inl k)
 last_first a b c x (inr (inl k)) = inr (inr k)
 last_first a b c x (inr (inr k)) = inl k
 
-first_last : {X : Type 0} (a b c : List X) (x : X) → InThree c a b x → InThree a b c x
+pub first_last : {X : Type 0} (a b c : List X) (x : X) → InThree c a b x → InThree a b c x
 first_last a b c x (inl k) = inr (inr k)
 first_last a b c x (inr (inl k)) = inl k
 first_last a b c x (inr (inr k)) = inr (inl k)

@@ -1,0 +1,226 @@
+-- Reauthorizing in a completion: each policy is kept, and a decision that is given is the one that follows, along whole chains.
+use Rattle.std.proofs.Common.{◌≡◌, ◌↔◌, ℕ, Bool, true, false, cond, List, [], ◌∷◌, ◌++◌, refl, sym, ap, ◌∙◌, subst, ⊎_elim}
+use Rattle.std.specs.Prelude.{Option, Some, None, Contains, slice_index_or}
+use Rattle.std.specs.List.{list_any}
+use Rattle.std.specs.Str.{bytes_eq}
+use Rattle.std.proofs.lemmas.List.Elements.{All-contains, Contains-get_or, Contains-append_left, Contains-append_right, Contains-append_cases}
+use Rattle.std.proofs.lemmas.Slice.Eq.{bytes_eq-Decides}
+use Rattle.cedar_expr_model.specs.Name.{Text}
+use Rattle.cedar_expr_model.specs.Whole.Repeats.{AreDistinct}
+use Rattle.cedar_expr_model.specs.Whole.Substitution.{Bindings}
+use Rattle.cedar_expr_model.proofs.Lists.{contains_head, contains_tail, contains_cases, contains_none, any_has}
+use Rattle.cedar_store_model.specs.Whole.World.{World}
+use Rattle.cedar_store_model.specs.Whole.Policy.{Policy, permit, forbid, condition}
+use Rattle.cedar_store_model.specs.Whole.Answer.{Decision, allow, deny, IsSatisfied, satisfied, ids, decision_of}
+use Rattle.cedar_store_model.specs.Whole.AnswerLaws.{HasPermit, HasNoForbid}
+use Rattle.cedar_store_model.proofs.Whole.Answers.{allow_is_earned}
+use Rattle.cedar_store_model.proofs.Whole.Conditions.{satisfied-Decides}
+use Rattle.cedar_evaluator_model.specs.Scope.{Scope, Agrees}
+use Rattle.cedar_evaluator_model.specs.WellMade.{AllMadeWell}
+use Rattle.cedar_evaluator_model.specs.Completion.{FitsAnnotations, Completes}
+use Rattle.cedar_evaluator_model.specs.Response.{PartialRequest, Response, verdict, response_of}
+use Rattle.cedar_evaluator_model.specs.Members.{of_true, of_false, of_residual, all_residuals, get, with_id, met_limit, decision_in_session}
+use Rattle.cedar_evaluator_model.specs.Reauthorize.{makes_it, and_next, repeated, distinct_or, distinct, request_bound, resumed, reauthorized}
+use Rattle.cedar_evaluator_model.specs.ResponseLaws.{FitConditions, IsKept}
+use Rattle.cedar_evaluator_model.specs.ReauthorizeLaws.{CompletesResponse, BindsRightly, Chain, BeginsIn}
+use Rattle.cedar_evaluator_model.proofs.Again.{again_is}
+use Rattle.cedar_evaluator_model.proofs.Limits.{not_met}
+use Rattle.cedar_evaluator_model.proofs.Residuals.Policies.{verdict_told, both_ways, kept, left_fits}
+use Rattle.cedar_evaluator_model.proofs.Residuals.Decisions.{given}
+use Rattle.cedar_evaluator_model.proofs.Residuals.Kept.{three_has, three_from, first_last, left_of, left_has, left_from, keeps_satisfied}
+use Rattle.cedar_evaluator_model.proofs.Residuals.Completing.{completes_unbound}
+use Rattle.cedar_evaluator_model.proofs.Residuals.Bound.{made_next, request_completes}
+
+-- ids that reauthorizing doesn't refuse are distinct
+seen_case : (b : Bool) (i : Text) (o : Option Text) → cond b (Some i) o ≡ None → (b ≡ false) × (o ≡ None)
+seen_case true i o e = cc
+seen_case false i o e = (refl, e)
+
+unrepeated : (seen is : List Text) → repeated seen is ≡ None → AreDistinct is × ((i : Text) → Contains is i → Contains seen i → ⊥)
+unrepeated seen [] e = (tt, λ i c d. contains_none i c)
+unrepeated seen (i ∷ is) e =
+    let k = seen_case (list_any (bytes_eq i) seen) i (repeated (i ∷ seen) is) e in
+    let rest = unrepeated (i ∷ seen) is k.1 in
+    let new : Contains seen i → ⊥ = λ d. let t = any_has (bytes_eq i) seen i d ((bytes_eq-Decides i i).1 refl) in let no = k.0 in cc in (
+      (λ d. rest.1 i d (contains_head i seen), rest.0),
+      λ j c d. contains_cases ⊥ i is j c (λ h. new (subst (Contains seen) (sym h) d)) (λ h. rest.1 j h (contains_tail i seen j d)),
+    )
+
+distinct_case : (ps qs : List Policy) (o : Option Text) → repeated [] (ids ps) ≡ o → distinct_or ps o ≡ makes_it qs → AreDistinct (ids ps)
+distinct_case ps qs None e h = (unrepeated [] (ids ps) e).0
+distinct_case ps qs (Some i) e h = cc
+
+-- the request that is bound, and the response that is made
+pub parts_of : (s : Scope) (n : ℕ) (env : Bindings) (r q : Response) → reauthorized s n env r ≡ makes_it q
+    → AreDistinct (ids (all_residuals r)) × ((b : PartialRequest) × (request_bound s env r.request ≡ makes_it b) × (q ≡ response_of (resumed s env b) n (all_residuals r)))
+parts_of s n env r q e =
+    let p = made_next (distinct (all_residuals r)) (λ ps. and_next (request_bound s env r.request) (λ c. makes_it (response_of (resumed s env c) n ps))) q e in
+    let b = made_next (request_bound s env r.request) (λ c. makes_it (response_of (resumed s env c) n p.0)) q p.2 in
+    (distinct_case (all_residuals r) p.0 (repeated [] (ids (all_residuals r))) refl p.1, (b.0, b.1, again_is s n env r q b.0 b.1 e))
+
+-- what is left of the policies decides as they do
+same_decision : (d e : Decision) → (d ≡ allow → e ≡ allow) → (e ≡ allow → d ≡ allow) → d ≡ e
+same_decision allow e h k = sym (h refl)
+same_decision deny allow h k = k refl
+same_decision deny deny h k = refl
+
+module _ (w : World) (s : Scope) (agrees : Agrees s) (complete : Completes w s) (well : AllMadeWell s) (n : ℕ) (ps : List Policy) (fits : FitConditions w ps) where
+  fits_here : (p : Policy) → Contains ps p → FitsAnnotations w (condition p)
+  fits_here p c = All-contains (λ p. FitsAnnotations w (condition p)) ps p fits c
+
+  all_left_fit : FitConditions w (all_residuals (response_of s n ps))
+  all_left_fit j d lt =
+      let q = slice_index_or (all_residuals (response_of s n ps)) j d in
+      let k = left_from s n ps q (Contains-get_or (all_residuals (response_of s n ps)) j d lt) in
+      let p = k.0 in
+      subst (λ x. FitsAnnotations w (condition x)) (sym k.2) (left_fits w p (satisfied w p) (verdict s n p) (verdict_told w s agrees complete well n p (fits_here p k.1)))
+
+  pub response_completed : CompletesResponse w s (response_of s n ps)
+  response_completed = record { request = completes_unbound w s complete; context = well.context; fits = all_left_fit }
+
+  module _ (met : met_limit (response_of s n ps) ≡ false) where
+    left_kept : (p : Policy) → Contains ps p → IsSatisfied w p ↔ IsSatisfied w (left_of s n ps p)
+    left_kept p c =
+        let q = left_of s n ps p in
+        both_ways (satisfied w p) (satisfied w q) (IsSatisfied w p) (IsSatisfied w q) (satisfied-Decides w p) (satisfied-Decides w q)
+        (kept w p (verdict s n p) (not_met s n ps met p c) (verdict_told w s agrees complete well n p (fits_here p c)))
+
+    permit_left : HasPermit w ps → HasPermit w (all_residuals (response_of s n ps))
+    permit_left h = (left_of s n ps h.0, left_has s n ps h.0 h.1, h.2, (left_kept h.0 h.1).0 h.3)
+
+    permit_before : HasPermit w (all_residuals (response_of s n ps)) → HasPermit w ps
+    permit_before h =
+        let k = left_from s n ps h.0 h.1 in
+        (k.0, k.1, ap (λ (q : Policy). q.effect) (sym k.2) ∙ h.2, (left_kept k.0 k.1).1 (subst (IsSatisfied w) k.2 h.3))
+
+    forbid_left : HasNoForbid w ps → HasNoForbid w (all_residuals (response_of s n ps))
+    forbid_left h q c e i = let k = left_from s n ps q c in h k.0 k.1 (ap (λ (x : Policy). x.effect) (sym k.2) ∙ e) ((left_kept k.0 k.1).1 (subst (IsSatisfied w) k.2 i))
+
+    forbid_before : HasNoForbid w (all_residuals (response_of s n ps)) → HasNoForbid w ps
+    forbid_before h p c e i = h (left_of s n ps p) (left_has s n ps p c) e ((left_kept p c).0 i)
+
+    pub left_decision : decision_of w (all_residuals (response_of s n ps)) ≡ decision_of w ps
+    left_decision =
+        let left = all_residuals (response_of s n ps) in
+        same_decision (decision_of w left) (decision_of w ps) (λ e. let h = (allow_is_earned w left).0 e in (allow_is_earned w ps).1 (permit_before h.0, forbid_before h.1))
+        (λ e. let h = (allow_is_earned w ps).0 e in (allow_is_earned w left).1 (permit_left h.0, forbid_left h.1))
+
+pub responses_are_completed : (s : Scope) → Agrees s → AllMadeWell s → (n : ℕ) (ps : List Policy) (w : World) → Completes w s → FitConditions w ps → CompletesResponse w s (response_of s n ps)
+responses_are_completed s agrees well n ps w complete fits = response_completed w s agrees complete well n ps fits
+
+-- a policy that is found by its id is among those that are left
+found_case : (b : Bool) (x p : Policy) (i : Text) (xs : List Policy) → cond b (Some x) (with_id i xs) ≡ Some p → (with_id i xs ≡ Some p → Contains xs p) → Contains (x ∷ xs) p
+found_case true x p i xs e h = let same : x ≡ p = cc in subst (Contains (x ∷ xs)) same (contains_head x xs)
+found_case false x p i xs e h = contains_tail x xs p (h e)
+
+found_in : (i : Text) (xs : List Policy) (p : Policy) → with_id i xs ≡ Some p → Contains xs p
+found_in i [] p e = cc
+found_in i (x ∷ xs) p e = found_case (bytes_eq i x.id) x p i xs e (found_in i xs p)
+
+listed : (a b c d e f : List Policy) (p : Policy) → Contains ((c ++ (a ++ b)) ++ (f ++ (d ++ e))) p → Contains ((a ++ (b ++ c)) ++ (d ++ (e ++ f))) p
+listed a b c d e f p k =
+    ⊎_elim (λ h. Contains-append_left (a ++ (b ++ c)) (d ++ (e ++ f)) p (three_has a b c p (first_last a b c p (three_from c a b p h))))
+    (λ h. Contains-append_right (a ++ (b ++ c)) (d ++ (e ++ f)) p (three_has d e f p (first_last d e f p (three_from f d e p h)))) (Contains-append_cases (c ++ (a ++ b)) (f ++ (d ++ e)) p k)
+
+get_is_left : (r : Response) (i : Text) (p : Policy) → get r i ≡ Some p → Contains (all_residuals r) p
+get_is_left r i p e =
+    listed (of_true permit r.true_permits) (of_false permit r.false_permits) (of_residual permit r.residual_permits) (of_true forbid r.true_forbids) (of_false forbid r.false_forbids)
+    (of_residual forbid r.residual_forbids) p
+    (found_in i ((of_residual permit r.residual_permits ++ (of_true permit r.true_permits ++ of_false permit r.false_permits)) ++
+    (of_residual forbid r.residual_forbids ++ (of_true forbid r.true_forbids ++ of_false forbid r.false_forbids))) p e)
+
+-- One reauthorizing: the world completes the scope of the new response.
+record IsRemade (w : World) (s : Scope) (n : ℕ) (env : Bindings) (r q : Response) : Type 0 where
+  request : PartialRequest
+  completes : Completes w (resumed s env request)
+  well : AllMadeWell (resumed s env request)
+  distinct : AreDistinct (ids (all_residuals r))
+  same : q ≡ response_of (resumed s env request) n (all_residuals r)
+
+remade : (s : Scope) → Agrees s → AllMadeWell s → (w : World) → Completes w s → (n : ℕ) (env : Bindings) (r q : Response) → CompletesResponse w s r → BindsRightly w s env
+    → reauthorized s n env r ≡ makes_it q → IsRemade w s n env r q
+remade s agrees well w complete n env r q h binds e =
+    let p = parts_of s n env r q e in
+    let b = p.1 in
+    let k = request_completes w s agrees well complete env binds r.request b.0 h.request h.context b.1 in
+    record { request = b.0; completes = k.0; well = record { context = k.1; values = binds.made; store = well.store; calls = well.calls }; distinct = p.0; same = b.2 }
+
+module _ (s : Scope) (agrees : Agrees s) (w : World) (n : ℕ) (env : Bindings) (r q : Response) (fits : FitConditions w (all_residuals r)) (new : IsRemade w s n env r q) where
+  remade_completed : CompletesResponse w s q
+  remade_completed =
+      let t = resumed s env new.request in
+      let k = response_completed w t agrees new.completes new.well n (all_residuals r) fits in
+      let here : CompletesResponse w s (response_of t n (all_residuals r)) = record { request = k.request; context = k.context; fits = k.fits } in
+      subst (CompletesResponse w s) (sym new.same) here
+
+  remade_kept : met_limit q ≡ false → (i : Text) (p : Policy) → get r i ≡ Some p → IsKept w q p
+  remade_kept met i p e =
+      subst (λ x. IsKept w x p) (sym new.same)
+      (keeps_satisfied (resumed s env new.request) agrees new.well n (all_residuals r) new.distinct (ap met_limit (sym new.same) ∙ met) w new.completes fits p (get_is_left r i p e))
+
+  remade_decided : (d : Decision) → decision_in_session q ≡ Some d → d ≡ decision_of w (all_residuals r)
+  remade_decided d e = given (resumed s env new.request) agrees new.well n (all_residuals r) d (ap decision_in_session (sym new.same) ∙ e) w new.completes fits
+
+  remade_left : met_limit q ≡ false → decision_of w (all_residuals q) ≡ decision_of w (all_residuals r)
+  remade_left met =
+      ap (λ x. decision_of w (all_residuals x)) new.same ∙ left_decision w (resumed s env new.request) agrees new.completes new.well n (all_residuals r) fits (ap met_limit (sym new.same) ∙ met)
+
+pub reauthorizing_completes : (s : Scope) → Agrees s → AllMadeWell s → (w : World) → Completes w s → (n : ℕ) (env : Bindings) (r q : Response) → CompletesResponse w s r → BindsRightly w s env
+    → reauthorized s n env r ≡ makes_it q → CompletesResponse w s q
+reauthorizing_completes s agrees well w complete n env r q h binds e = remade_completed s agrees w n env r q h.fits (remade s agrees well w complete n env r q h binds e)
+
+pub reauthorizing_keeps : (s : Scope) → Agrees s → AllMadeWell s → (w : World) → Completes w s → (n : ℕ) (env : Bindings) (r q : Response) → CompletesResponse w s r → BindsRightly w s env
+    → reauthorized s n env r ≡ makes_it q → met_limit q ≡ false → (i : Text) (p : Policy) → get r i ≡ Some p → IsKept w q p
+reauthorizing_keeps s agrees well w complete n env r q h binds e = remade_kept s agrees w n env r q h.fits (remade s agrees well w complete n env r q h binds e)
+
+pub reauthorizing_decides : (s : Scope) → Agrees s → AllMadeWell s → (w : World) → Completes w s → (n : ℕ) (env : Bindings) (r q : Response) → CompletesResponse w s r → BindsRightly w s env
+    → reauthorized s n env r ≡ makes_it q → (d : Decision) → decision_in_session q ≡ Some d → d ≡ decision_of w (all_residuals r)
+reauthorizing_decides s agrees well w complete n env r q h binds e = remade_decided s agrees w n env r q h.fits (remade s agrees well w complete n env r q h binds e)
+
+-- What holds at each response of a chain: it is completed, each policy is kept, and it decides as the policies do.
+record Holds (w : World) (s : Scope) (ps : List Policy) (r : Response) : Type 0 where
+  completed : CompletesResponse w s r
+  keeps : (p : Policy) → Contains ps p → IsKept w r p
+  left : decision_of w (all_residuals r) ≡ decision_of w ps
+  decides : (d : Decision) → decision_in_session r ≡ Some d → d ≡ decision_of w ps
+
+kept_again : (w : World) (r q : Response) (p : Policy) → IsKept w r p → ((i : Text) (p : Policy) → get r i ≡ Some p → IsKept w q p) → IsKept w q p
+kept_again w r q p h k =
+    let x = h.0 in
+    let m = k p.id x h.1 in
+    (m.0, ap (get q) (sym h.2) ∙ m.1, m.2 ∙ h.2, m.3 ∙ h.3, (λ i. (m.4).0 ((h.4).0 i), λ i. (h.4).1 ((m.4).1 i)))
+
+module _ (w : World) (s : Scope) (n : ℕ) (ps : List Policy) (begins : BeginsIn w s n ps) where
+  holds_first : Holds w s ps (response_of s n ps)
+  holds_first =
+      record {
+        completed = response_completed w s begins.agrees begins.completes begins.made n ps begins.fits;
+        keeps = keeps_satisfied s begins.agrees begins.made n ps begins.distinct begins.within w begins.completes begins.fits;
+        left = left_decision w s begins.agrees begins.completes begins.made n ps begins.fits begins.within;
+        decides = λ d e. given s begins.agrees begins.made n ps d e w begins.completes begins.fits;
+      }
+
+  holds_next : (env : Bindings) (r q : Response) → Holds w s ps r → BindsRightly w s env → reauthorized s n env r ≡ makes_it q → met_limit q ≡ false → Holds w s ps q
+  holds_next env r q h binds e met =
+      let fits = h.completed.fits in
+      let new = remade s begins.agrees begins.made w begins.completes n env r q h.completed binds e in
+      record {
+        completed = remade_completed s begins.agrees w n env r q fits new;
+        keeps = λ p c. kept_again w r q p (h.keeps p c) (remade_kept s begins.agrees w n env r q fits new met);
+        left = remade_left s begins.agrees w n env r q fits new met ∙ h.left;
+        decides = λ d k. remade_decided s begins.agrees w n env r q fits new d k ∙ h.left;
+      }
+
+  holds_at_end : (r : Response) (envs : List Bindings) (q : Response) → Holds w s ps r → Chain w s n r envs q → Holds w s ps q
+  holds_at_end r [] q h c = subst (Holds w s ps) c h
+  holds_at_end r (env ∷ envs) q h c = holds_at_end c.0 envs q (holds_next env r c.0 h c.1 c.2 c.3) c.4
+
+  pub chains_keep : (envs : List Bindings) (q : Response) → Chain w s n (response_of s n ps) envs q → (p : Policy) → Contains ps p → IsKept w q p
+  chains_keep envs q c = (holds_at_end (response_of s n ps) envs q holds_first c).keeps
+
+  pub chains_decide : (envs : List Bindings) (q : Response) → Chain w s n (response_of s n ps) envs q → (d : Decision) → decision_in_session q ≡ Some d → d ≡ decision_of w ps
+  chains_decide envs q c = (holds_at_end (response_of s n ps) envs q holds_first c).decides
+
+  pub chains_agree : (envs : List Bindings) (q : Response) → Chain w s n (response_of s n ps) envs q → (t : Scope) → Agrees t → AllMadeWell t → Completes w t → (m : ℕ) (d e : Decision)
+      → decision_in_session q ≡ Some d → decision_in_session (response_of t m ps) ≡ Some e → d ≡ e
+  chains_agree envs q c t agrees well complete m d e h k = chains_decide envs q c d h ∙ sym (given t agrees well m ps e k w complete begins.fits)
