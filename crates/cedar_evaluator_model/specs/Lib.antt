@@ -15,3 +15,4 @@ pub mod ReauthorizeLaws
 pub mod Worked
 pub mod WorkedResponses
 pub mod WorkedCompletions
+pub mod WorkedResiduals

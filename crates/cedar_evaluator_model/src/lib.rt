@@ -5,4 +5,5 @@ pub mod laws;
 pub mod residual_laws;
 pub mod worked;
 pub mod worked_completions;
+pub mod worked_residuals;
 pub mod worked_responses;
