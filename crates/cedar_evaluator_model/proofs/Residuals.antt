@@ -13,3 +13,4 @@ pub mod Decisions
 pub mod Kept
 pub mod Bound
 pub mod Chains
+pub mod Worked

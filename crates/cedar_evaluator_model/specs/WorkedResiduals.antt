@@ -11,6 +11,7 @@ use Rattle.cedar_evaluator_model.specs.Scope.{Scope}
 use Rattle.cedar_evaluator_model.specs.Response.{Response, response_of}
 use Rattle.cedar_evaluator_model.specs.Members.{all_residuals}
 use Rattle.cedar_evaluator_model.specs.Reauthorize.{resumed}
+use Rattle.cedar_evaluator_model.specs.ReauthorizeLaws.{Step}
 use Rattle.cedar_evaluator_model.specs.Worked.{user_b, made_truth, scope}
 use Rattle.cedar_evaluator_model.specs.WorkedCompletions.{completed, empty_table}
 use Rattle.cedar_evaluator_model.specs.WorkedResponses.{policy, no_bound, bound}
@@ -44,6 +45,10 @@ ok_world = record completed { table = empty_table; store = one_found (held ok_en
 abbrev pub u_is_true : Bindings
 u_is_true = bound (codes "u") (made_truth true) no_bound
 
--- the response that reauthorizing with it makes
+-- reauthorizing with it
+abbrev pub ok_step : Step
+ok_step = record { scope = one_open; depth = 16; values = u_is_true }
+
+-- the response that it makes
 abbrev pub ok_again : Response
 ok_again = response_of (resumed one_open u_is_true ok_response.request) 16 (all_residuals ok_response)

@@ -9,10 +9,10 @@ ghost use Rattle.cedar_evaluator_model.specs.WellMade.{AllMadeWell};
 ghost use Rattle.cedar_evaluator_model.specs.Completion.{Completes};
 ghost use Rattle.cedar_evaluator_model.specs.Members.{decision_in_session};
 ghost use Rattle.cedar_evaluator_model.specs.ResponseLaws.{FitConditions};
-ghost use Rattle.cedar_evaluator_model.specs.ReauthorizeLaws.{BindsRightly, Chain, BeginsIn};
+ghost use Rattle.cedar_evaluator_model.specs.ReauthorizeLaws.{BindsRightly, FitsStep, Chain, BeginsIn};
 ghost use Rattle.cedar_evaluator_model.specs.Worked.{true_tree, standing_b};
 ghost use Rattle.cedar_evaluator_model.specs.WorkedResponses.{note};
-ghost use Rattle.cedar_evaluator_model.specs.WorkedResiduals.{one_open, unknown_truth, ok_policy, ok_response, ok_world, u_is_true, ok_again};
+ghost use Rattle.cedar_evaluator_model.specs.WorkedResiduals.{one_open, unknown_truth, ok_policy, ok_response, ok_world, u_is_true, ok_step, ok_again};
 
 /// The residual keeps the annotated unknown and what is asked of the entity that isn't loaded, and a world completes all that is open.
 pub fn worked_premises()
@@ -27,8 +27,9 @@ pub fn worked_premises()
 /// Nothing is decided at first; with the unknown's value it is Allow, as in the world.
 pub fn worked_chain()
     ensures open_ { decision_in_session ok_response ≡ None }
-    ensures binds { BindsRightly ok_world one_open u_is_true }
-    ensures chain { Chain ok_world one_open 16 ok_response (u_is_true ∷ []) ok_again }
+    ensures binds { BindsRightly ok_world u_is_true }
+    ensures step { FitsStep ok_world ok_step }
+    ensures chain { Chain ok_world ok_response (ok_step ∷ []) ok_again }
     ensures decided { decision_in_session ok_again ≡ Some allow }
     ensures there { decision_of ok_world (ok_policy ∷ []) ≡ allow }
 {}

@@ -16,20 +16,19 @@ use Rattle.cedar_store_model.specs.Whole.AnswerLaws.{HasPermit, HasNoForbid}
 use Rattle.cedar_store_model.proofs.Whole.Answers.{allow_is_earned}
 use Rattle.cedar_store_model.proofs.Whole.Conditions.{satisfied-Decides}
 use Rattle.cedar_evaluator_model.specs.Scope.{Scope, Agrees}
-use Rattle.cedar_evaluator_model.specs.WellMade.{AllMadeWell}
+use Rattle.cedar_evaluator_model.specs.WellMade.{IsContextMadeWell, AllMadeWell}
 use Rattle.cedar_evaluator_model.specs.Completion.{FitsAnnotations, Completes}
 use Rattle.cedar_evaluator_model.specs.Response.{PartialRequest, Response, verdict, response_of}
 use Rattle.cedar_evaluator_model.specs.Members.{of_true, of_false, of_residual, all_residuals, get, with_id, met_limit, decision_in_session}
 use Rattle.cedar_evaluator_model.specs.Reauthorize.{makes_it, and_next, repeated, distinct_or, distinct, request_bound, resumed, reauthorized}
 use Rattle.cedar_evaluator_model.specs.ResponseLaws.{FitConditions, IsKept}
-use Rattle.cedar_evaluator_model.specs.ReauthorizeLaws.{CompletesResponse, BindsRightly, Chain, BeginsIn}
+use Rattle.cedar_evaluator_model.specs.ReauthorizeLaws.{CompletesResponse, Step, FitsStep, Chain, BeginsIn}
 use Rattle.cedar_evaluator_model.proofs.Again.{again_is}
 use Rattle.cedar_evaluator_model.proofs.Limits.{not_met}
 use Rattle.cedar_evaluator_model.proofs.Residuals.Policies.{verdict_told, both_ways, kept, left_fits}
 use Rattle.cedar_evaluator_model.proofs.Residuals.Decisions.{given}
 use Rattle.cedar_evaluator_model.proofs.Residuals.Kept.{three_has, three_from, first_last, left_of, left_has, left_from, keeps_satisfied}
-use Rattle.cedar_evaluator_model.proofs.Residuals.Completing.{completes_unbound}
-use Rattle.cedar_evaluator_model.proofs.Residuals.Bound.{made_next, request_completes}
+use Rattle.cedar_evaluator_model.proofs.Residuals.Bound.{made_next, request_completes, resumed_completes, resumed_well}
 
 -- ids that reauthorizing doesn't refuse are distinct
 seen_case : (b : Bool) (i : Text) (o : Option Text) → cond b (Some i) o ≡ None → (b ≡ false) × (o ≡ None)
@@ -75,8 +74,10 @@ module _ (w : World) (s : Scope) (agrees : Agrees s) (complete : Completes w s) 
       let p = k.0 in
       subst (λ x. FitsAnnotations w (condition x)) (sym k.2) (left_fits w p (satisfied w p) (verdict s n p) (verdict_told w s agrees complete well n p (fits_here p k.1)))
 
-  pub response_completed : CompletesResponse w s (response_of s n ps)
-  response_completed = record { request = completes_unbound w s complete; context = well.context; fits = all_left_fit }
+  pub response_completed : CompletesResponse w (response_of s n ps)
+  response_completed =
+      let context = subst (λ x. IsContextMadeWell x s.context) (sym complete.table) well.context in
+      record { request = record { principal = complete.principal; action = complete.action; resource = complete.resource; context = complete.context; made = context }; fits = all_left_fit }
 
   module _ (met : met_limit (response_of s n ps) ≡ false) where
     left_kept : (p : Policy) → Contains ps p → IsSatisfied w p ↔ IsSatisfied w (left_of s n ps p)
@@ -105,7 +106,7 @@ module _ (w : World) (s : Scope) (agrees : Agrees s) (complete : Completes w s) 
         same_decision (decision_of w left) (decision_of w ps) (λ e. let h = (allow_is_earned w left).0 e in (allow_is_earned w ps).1 (permit_before h.0, forbid_before h.1))
         (λ e. let h = (allow_is_earned w ps).0 e in (allow_is_earned w left).1 (permit_left h.0, forbid_left h.1))
 
-pub responses_are_completed : (s : Scope) → Agrees s → AllMadeWell s → (n : ℕ) (ps : List Policy) (w : World) → Completes w s → FitConditions w ps → CompletesResponse w s (response_of s n ps)
+pub responses_are_completed : (s : Scope) → Agrees s → AllMadeWell s → (n : ℕ) (ps : List Policy) (w : World) → Completes w s → FitConditions w ps → CompletesResponse w (response_of s n ps)
 responses_are_completed s agrees well n ps w complete fits = response_completed w s agrees complete well n ps fits
 
 -- a policy that is found by its id is among those that are left
@@ -130,56 +131,53 @@ get_is_left r i p e =
     (of_residual forbid r.residual_forbids ++ (of_true forbid r.true_forbids ++ of_false forbid r.false_forbids))) p e)
 
 -- One reauthorizing: the world completes the scope of the new response.
-record IsRemade (w : World) (s : Scope) (n : ℕ) (env : Bindings) (r q : Response) : Type 0 where
+record IsRemade (w : World) (x : Step) (r q : Response) : Type 0 where
   request : PartialRequest
-  completes : Completes w (resumed s env request)
-  well : AllMadeWell (resumed s env request)
+  completes : Completes w (resumed x.scope x.values request)
+  well : AllMadeWell (resumed x.scope x.values request)
   distinct : AreDistinct (ids (all_residuals r))
-  same : q ≡ response_of (resumed s env request) n (all_residuals r)
+  same : q ≡ response_of (resumed x.scope x.values request) x.depth (all_residuals r)
 
-remade : (s : Scope) → Agrees s → AllMadeWell s → (w : World) → Completes w s → (n : ℕ) (env : Bindings) (r q : Response) → CompletesResponse w s r → BindsRightly w s env
-    → reauthorized s n env r ≡ makes_it q → IsRemade w s n env r q
-remade s agrees well w complete n env r q h binds e =
-    let p = parts_of s n env r q e in
+remade : (w : World) (x : Step) → FitsStep w x → (r q : Response) → CompletesResponse w r → reauthorized x.scope x.depth x.values r ≡ makes_it q → IsRemade w x r q
+remade w x f r q h e =
+    let p = parts_of x.scope x.depth x.values r q e in
     let b = p.1 in
-    let k = request_completes w s agrees well complete env binds r.request b.0 h.request h.context b.1 in
-    record { request = b.0; completes = k.0; well = record { context = k.1; values = binds.made; store = well.store; calls = well.calls }; distinct = p.0; same = b.2 }
+    let k = request_completes w x.scope f.agrees f.made f.completes x.values f.binds r.request b.0 h.request b.1 in
+    record {
+      request = b.0;
+      completes = resumed_completes w x.scope f.agrees f.made f.completes x.values f.binds b.0 k;
+      well = resumed_well w x.scope f.agrees f.made f.completes x.values f.binds b.0 k;
+      distinct = p.0;
+      same = b.2;
+    }
 
-module _ (s : Scope) (agrees : Agrees s) (w : World) (n : ℕ) (env : Bindings) (r q : Response) (fits : FitConditions w (all_residuals r)) (new : IsRemade w s n env r q) where
-  remade_completed : CompletesResponse w s q
-  remade_completed =
-      let t = resumed s env new.request in
-      let k = response_completed w t agrees new.completes new.well n (all_residuals r) fits in
-      let here : CompletesResponse w s (response_of t n (all_residuals r)) = record { request = k.request; context = k.context; fits = k.fits } in
-      subst (CompletesResponse w s) (sym new.same) here
+module _ (w : World) (x : Step) (f : FitsStep w x) (r q : Response) (h : CompletesResponse w r) (e : reauthorized x.scope x.depth x.values r ≡ makes_it q) where
+  pub reauthorizing_completes : CompletesResponse w q
+  reauthorizing_completes =
+      let new = remade w x f r q h e in
+      subst (CompletesResponse w) (sym new.same) (response_completed w (resumed x.scope x.values new.request) f.agrees new.completes new.well x.depth (all_residuals r) h.fits)
 
-  remade_kept : met_limit q ≡ false → (i : Text) (p : Policy) → get r i ≡ Some p → IsKept w q p
-  remade_kept met i p e =
-      subst (λ x. IsKept w x p) (sym new.same)
-      (keeps_satisfied (resumed s env new.request) agrees new.well n (all_residuals r) new.distinct (ap met_limit (sym new.same) ∙ met) w new.completes fits p (get_is_left r i p e))
+  pub reauthorizing_keeps : met_limit q ≡ false → (i : Text) (p : Policy) → get r i ≡ Some p → IsKept w q p
+  reauthorizing_keeps met i p k =
+      let new = remade w x f r q h e in
+      subst (λ y. IsKept w y p) (sym new.same)
+      (keeps_satisfied (resumed x.scope x.values new.request) f.agrees new.well x.depth (all_residuals r) new.distinct (ap met_limit (sym new.same) ∙ met) w new.completes h.fits p
+      (get_is_left r i p k))
 
-  remade_decided : (d : Decision) → decision_in_session q ≡ Some d → d ≡ decision_of w (all_residuals r)
-  remade_decided d e = given (resumed s env new.request) agrees new.well n (all_residuals r) d (ap decision_in_session (sym new.same) ∙ e) w new.completes fits
+  pub reauthorizing_decides : (d : Decision) → decision_in_session q ≡ Some d → d ≡ decision_of w (all_residuals r)
+  reauthorizing_decides d k =
+      let new = remade w x f r q h e in
+      given (resumed x.scope x.values new.request) f.agrees new.well x.depth (all_residuals r) d (ap decision_in_session (sym new.same) ∙ k) w new.completes h.fits
 
-  remade_left : met_limit q ≡ false → decision_of w (all_residuals q) ≡ decision_of w (all_residuals r)
-  remade_left met =
-      ap (λ x. decision_of w (all_residuals x)) new.same ∙ left_decision w (resumed s env new.request) agrees new.completes new.well n (all_residuals r) fits (ap met_limit (sym new.same) ∙ met)
-
-pub reauthorizing_completes : (s : Scope) → Agrees s → AllMadeWell s → (w : World) → Completes w s → (n : ℕ) (env : Bindings) (r q : Response) → CompletesResponse w s r → BindsRightly w s env
-    → reauthorized s n env r ≡ makes_it q → CompletesResponse w s q
-reauthorizing_completes s agrees well w complete n env r q h binds e = remade_completed s agrees w n env r q h.fits (remade s agrees well w complete n env r q h binds e)
-
-pub reauthorizing_keeps : (s : Scope) → Agrees s → AllMadeWell s → (w : World) → Completes w s → (n : ℕ) (env : Bindings) (r q : Response) → CompletesResponse w s r → BindsRightly w s env
-    → reauthorized s n env r ≡ makes_it q → met_limit q ≡ false → (i : Text) (p : Policy) → get r i ≡ Some p → IsKept w q p
-reauthorizing_keeps s agrees well w complete n env r q h binds e = remade_kept s agrees w n env r q h.fits (remade s agrees well w complete n env r q h binds e)
-
-pub reauthorizing_decides : (s : Scope) → Agrees s → AllMadeWell s → (w : World) → Completes w s → (n : ℕ) (env : Bindings) (r q : Response) → CompletesResponse w s r → BindsRightly w s env
-    → reauthorized s n env r ≡ makes_it q → (d : Decision) → decision_in_session q ≡ Some d → d ≡ decision_of w (all_residuals r)
-reauthorizing_decides s agrees well w complete n env r q h binds e = remade_decided s agrees w n env r q h.fits (remade s agrees well w complete n env r q h binds e)
+  reauthorizing_leaves : met_limit q ≡ false → decision_of w (all_residuals q) ≡ decision_of w (all_residuals r)
+  reauthorizing_leaves met =
+      let new = remade w x f r q h e in
+      ap (λ y. decision_of w (all_residuals y)) new.same
+      ∙ left_decision w (resumed x.scope x.values new.request) f.agrees new.completes new.well x.depth (all_residuals r) h.fits (ap met_limit (sym new.same) ∙ met)
 
 -- What holds at each response of a chain: it is completed, each policy is kept, and it decides as the policies do.
-record Holds (w : World) (s : Scope) (ps : List Policy) (r : Response) : Type 0 where
-  completed : CompletesResponse w s r
+record Holds (w : World) (ps : List Policy) (r : Response) : Type 0 where
+  completed : CompletesResponse w r
   keeps : (p : Policy) → Contains ps p → IsKept w r p
   left : decision_of w (all_residuals r) ≡ decision_of w ps
   decides : (d : Decision) → decision_in_session r ≡ Some d → d ≡ decision_of w ps
@@ -191,7 +189,7 @@ kept_again w r q p h k =
     (m.0, ap (get q) (sym h.2) ∙ m.1, m.2 ∙ h.2, m.3 ∙ h.3, (λ i. (m.4).0 ((h.4).0 i), λ i. (h.4).1 ((m.4).1 i)))
 
 module _ (w : World) (s : Scope) (n : ℕ) (ps : List Policy) (begins : BeginsIn w s n ps) where
-  holds_first : Holds w s ps (response_of s n ps)
+  holds_first : Holds w ps (response_of s n ps)
   holds_first =
       record {
         completed = response_completed w s begins.agrees begins.completes begins.made n ps begins.fits;
@@ -200,27 +198,26 @@ module _ (w : World) (s : Scope) (n : ℕ) (ps : List Policy) (begins : BeginsIn
         decides = λ d e. given s begins.agrees begins.made n ps d e w begins.completes begins.fits;
       }
 
-  holds_next : (env : Bindings) (r q : Response) → Holds w s ps r → BindsRightly w s env → reauthorized s n env r ≡ makes_it q → met_limit q ≡ false → Holds w s ps q
-  holds_next env r q h binds e met =
-      let fits = h.completed.fits in
-      let new = remade s begins.agrees begins.made w begins.completes n env r q h.completed binds e in
+  holds_next : (x : Step) (r q : Response) → Holds w ps r → FitsStep w x → reauthorized x.scope x.depth x.values r ≡ makes_it q → met_limit q ≡ false → Holds w ps q
+  holds_next x r q h f e met =
+      let c = h.completed in
       record {
-        completed = remade_completed s begins.agrees w n env r q fits new;
-        keeps = λ p c. kept_again w r q p (h.keeps p c) (remade_kept s begins.agrees w n env r q fits new met);
-        left = remade_left s begins.agrees w n env r q fits new met ∙ h.left;
-        decides = λ d k. remade_decided s begins.agrees w n env r q fits new d k ∙ h.left;
+        completed = reauthorizing_completes w x f r q c e;
+        keeps = λ p i. kept_again w r q p (h.keeps p i) (reauthorizing_keeps w x f r q c e met);
+        left = reauthorizing_leaves w x f r q c e met ∙ h.left;
+        decides = λ d k. reauthorizing_decides w x f r q c e d k ∙ h.left;
       }
 
-  holds_at_end : (r : Response) (envs : List Bindings) (q : Response) → Holds w s ps r → Chain w s n r envs q → Holds w s ps q
-  holds_at_end r [] q h c = subst (Holds w s ps) c h
-  holds_at_end r (env ∷ envs) q h c = holds_at_end c.0 envs q (holds_next env r c.0 h c.1 c.2 c.3) c.4
+  holds_at_end : (r : Response) (xs : List Step) (q : Response) → Holds w ps r → Chain w r xs q → Holds w ps q
+  holds_at_end r [] q h c = subst (Holds w ps) c h
+  holds_at_end r (x ∷ xs) q h c = holds_at_end c.0 xs q (holds_next x r c.0 h c.1 c.2 c.3) c.4
 
-  pub chains_keep : (envs : List Bindings) (q : Response) → Chain w s n (response_of s n ps) envs q → (p : Policy) → Contains ps p → IsKept w q p
-  chains_keep envs q c = (holds_at_end (response_of s n ps) envs q holds_first c).keeps
+  pub chains_keep : (xs : List Step) (q : Response) → Chain w (response_of s n ps) xs q → (p : Policy) → Contains ps p → IsKept w q p
+  chains_keep xs q c = (holds_at_end (response_of s n ps) xs q holds_first c).keeps
 
-  pub chains_decide : (envs : List Bindings) (q : Response) → Chain w s n (response_of s n ps) envs q → (d : Decision) → decision_in_session q ≡ Some d → d ≡ decision_of w ps
-  chains_decide envs q c = (holds_at_end (response_of s n ps) envs q holds_first c).decides
+  pub chains_decide : (xs : List Step) (q : Response) → Chain w (response_of s n ps) xs q → (d : Decision) → decision_in_session q ≡ Some d → d ≡ decision_of w ps
+  chains_decide xs q c = (holds_at_end (response_of s n ps) xs q holds_first c).decides
 
-  pub chains_agree : (envs : List Bindings) (q : Response) → Chain w s n (response_of s n ps) envs q → (t : Scope) → Agrees t → AllMadeWell t → Completes w t → (m : ℕ) (d e : Decision)
+  pub chains_agree : (xs : List Step) (q : Response) → Chain w (response_of s n ps) xs q → (t : Scope) → Agrees t → AllMadeWell t → Completes w t → (m : ℕ) (d e : Decision)
       → decision_in_session q ≡ Some d → decision_in_session (response_of t m ps) ≡ Some e → d ≡ e
-  chains_agree envs q c t agrees well complete m d e h k = chains_decide envs q c d h ∙ sym (given t agrees well m ps e k w complete begins.fits)
+  chains_agree xs q c t agrees well complete m d e h k = chains_decide xs q c d h ∙ sym (given t agrees well m ps e k w complete begins.fits)
