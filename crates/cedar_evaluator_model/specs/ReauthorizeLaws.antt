@@ -41,7 +41,7 @@ pub record Step : Type 0 where
   pub depth : ℕ
   pub values : Bindings
 
--- The world completes the scope and the values fit it.
+-- The calls of the scope answer as its table does, its values are well made, the world completes it, and the values fit the world.
 pub record FitsStep (w : World) (x : Step) : Type 0 where
   pub agrees : Agrees x.scope
   pub made : AllMadeWell x.scope
