@@ -5,6 +5,7 @@ pub mod GivenLists
 pub mod Owed
 pub mod Reached
 pub mod Larger
+pub mod SameReads
 pub mod Settled
 pub mod Sure
 pub mod NoLimits

@@ -1,68 +1,27 @@
 -- An expression rebuilt with other expressions in place of its unknowns and slots, in a world with other slots: what relates each of these
 -- to what stands there relates the whole.
-use Rattle.std.proofs.Common.{◌≡◌, true, false, List, [], ◌∷◌, refl, sym, subst}
+use Rattle.std.proofs.Common.{◌≡◌, true, false, List, [], ◌∷◌, sym, subst}
 use Rattle.std.specs.Prelude.{Option, Some}
 use Rattle.cedar_expr_model.specs.Name.{Text}
 use Rattle.cedar_expr_model.specs.Uid.{Uid}
-use Rattle.cedar_expr_model.specs.Whole.Value.{truth, text, entity, V, prim, record_of, Fields, no_fields, field}
+use Rattle.cedar_expr_model.specs.Whole.Value.{truth, V, prim, record_of, Fields, no_fields, field}
 use Rattle.cedar_expr_model.specs.Whole.Canonical.{set_made}
 use Rattle.cedar_expr_model.specs.Whole.Builder.{Builder, trees, tree_fields, tree_builder, built, built_list, built_fields}
-use Rattle.cedar_expr_model.specs.Whole.Tree.{CoreType, SlotId, Tree, lit, var, slot, unknown, choice, both, either, unary, binary, call, get_attr, has_attr, has_path, like, is_type, set_literal, record_literal, Trees, no_trees, tree, TreeFields, no_tree_fields, tree_field, Var, principal, action, resource, context, BinaryOp, is_in, get_tag, has_tag}
+use Rattle.cedar_expr_model.specs.Whole.Tree.{CoreType, SlotId, Tree, lit, var, slot, unknown, choice, both, either, unary, binary, call, get_attr, has_attr, has_path, like, is_type, set_literal, record_literal, Trees, no_trees, tree, TreeFields, no_tree_fields, tree_field}
 use Rattle.cedar_expr_model.specs.Whole.Unknowns.{EachUnknown, EachUnknownAmong, EachUnknownInFields}
 use Rattle.cedar_store_model.specs.Whole.Outcome.{Res, val, bind}
 use Rattle.cedar_store_model.specs.Whole.World.{World}
 use Rattle.cedar_store_model.specs.Whole.Operators.{says, applied, like_pattern, of_type, called, bound_value}
-use Rattle.cedar_store_model.specs.Whole.Reads.{attribute_read, attribute_tested, step_from, path_after, path_tested, tag_read, tag_tested, within}
+use Rattle.cedar_store_model.specs.Whole.Reads.{attribute_read, attribute_tested, path_tested}
 use Rattle.cedar_store_model.specs.Whole.Meaning.{variable, combined, picked, slot_value, truth_asked, outcome_of, outcomes_of, field_outcomes_of}
 use Rattle.cedar_store_model.proofs.Whole.Built.{conjunction_outcome, disjunction_outcome}
+use Rattle.cedar_evaluator_model.proofs.SameReads.{same_variable, same_read, same_tested, same_path, same_combined}
 use Rattle.cedar_evaluator_model.proofs.Residuals.Reads.{path_same, path_fits}
 use Rattle.cedar_evaluator_model.proofs.Residuals.Stands.{each_conjunction, each_disjunction}
 
 -- the builder of trees with these expressions in place of unknowns and slots
 abbrev pub rebuilder : (SlotId → Tree) → (Text → Option CoreType → Tree) → Builder Tree
 rebuilder f g = record tree_builder { of_slot = f; of_unknown = g }
-
--- what is read doesn't ask for slots
-module _ (w : World) (y : SlotId → Option Uid) where
-  same_variable : (x : Var) → variable (record w { slots = y }) x ≡ variable w x
-  same_variable principal = refl
-  same_variable action = refl
-  same_variable resource = refl
-  same_variable context = refl
-
-  same_read : (a : Text) (v : V) → attribute_read (record w { slots = y }) a v ≡ attribute_read w a v
-  same_read a (prim (entity u)) = refl
-  same_read a v = refl
-
-  same_tested : (a : Text) (v : V) → attribute_tested (record w { slots = y }) a v ≡ attribute_tested w a v
-  same_tested a (prim (entity u)) = refl
-  same_tested a v = refl
-
-  same_step : (a : Text) (v : V) → step_from (record w { slots = y }) a v ≡ step_from w a v
-  same_step a (prim (entity u)) = refl
-  same_step a v = refl
-
-  same_path : (a : Text) (bs : List Text) (v : V) → path_tested (record w { slots = y }) a bs v ≡ path_tested w a bs v
-  same_path a [] v = same_tested a v
-  same_path a (b ∷ bs) v = λ i. path_after (λ x. same_path b bs x i) (same_step a v i)
-
-  same_tag_read : (v x : V) → tag_read (record w { slots = y }) v x ≡ tag_read w v x
-  same_tag_read (prim (entity u)) (prim (text a)) = refl
-  same_tag_read v x = refl
-
-  same_tag_tested : (v x : V) → tag_tested (record w { slots = y }) v x ≡ tag_tested w v x
-  same_tag_tested (prim (entity u)) (prim (text a)) = refl
-  same_tag_tested v x = refl
-
-  same_within : (v x : V) → within (record w { slots = y }) v x ≡ within w v x
-  same_within (prim (entity u)) x = refl
-  same_within v x = refl
-
-  same_combined : (o : BinaryOp) (v x : V) → combined (record w { slots = y }) o v x ≡ combined w o v x
-  same_combined is_in v x = same_within v x
-  same_combined get_tag v x = same_tag_read v x
-  same_combined has_tag v x = same_tag_tested v x
-  same_combined o v x = refl
 
 -- `R` relates each outcome to itself, and what follows related outcomes where it is related.
 module _ (R : (A : Type 0) → Option (Res A) → Option (Res A) → Type 0) (same : (A : Type 0) (o : Option (Res A)) → R A o o)
@@ -84,7 +43,7 @@ module _ (R : (A : Type 0) → Option (Res A) → Option (Res A) → Type 0) (sa
     mutual
       pub rebuilt : (t : Tree) → R V (outcome_of w t) (outcome_of (record w { slots = y }) (built (rebuilder f g) t))
       rebuilt (lit p) = same V (Some (val (prim p)))
-      rebuilt (var x) = related_by (variable w x) (variable (record w { slots = y }) x) (same_variable w y x)
+      rebuilt (var x) = related_by (variable w x) (variable (record w { slots = y }) x) (same_variable w y w.unknowns x)
       rebuilt (slot x) = slots x
       rebuilt (unknown n a) = unknowns n a
       rebuilt (choice t a b) = next V V (outcome_of w t) _ _ _ (rebuilt t) (picked_related (outcome_of w a) _ (outcome_of w b) _ (rebuilt a) (rebuilt b))
@@ -98,13 +57,13 @@ module _ (R : (A : Type 0) → Option (Res A) → Option (Res A) → Type 0) (sa
       rebuilt (binary o a b) =
           let right = rebuilt b in
           next V V (outcome_of w a) _ _ _ (rebuilt a)
-          (λ v. next V V (outcome_of w b) _ _ _ right (λ x. related_by (combined w o v x) (combined (record w { slots = y }) o v x) (same_combined w y o v x)))
+          (λ v. next V V (outcome_of w b) _ _ _ right (λ x. related_by (combined w o v x) (combined (record w { slots = y }) o v x) (same_combined w y w.unknowns o v x)))
       rebuilt (call h ts) = next (List V) V (outcomes_of w ts) _ (called w.table w.unknowns h) (called w.table w.unknowns h) (all_rebuilt ts) (λ vs. same V (called w.table w.unknowns h vs))
-      rebuilt (get_attr t a) = next V V (outcome_of w t) _ _ _ (rebuilt t) (λ v. related_by (attribute_read w a v) _ (same_read w y a v))
-      rebuilt (has_attr t a) = next V V (outcome_of w t) _ _ _ (rebuilt t) (λ v. related_by (attribute_tested w a v) _ (same_tested w y a v))
+      rebuilt (get_attr t a) = next V V (outcome_of w t) _ _ _ (rebuilt t) (λ v. related_by (attribute_read w a v) _ (same_read w y w.unknowns a v))
+      rebuilt (has_attr t a) = next V V (outcome_of w t) _ _ _ (rebuilt t) (λ v. related_by (attribute_tested w a v) _ (same_tested w y w.unknowns a v))
       rebuilt (has_path t a bs) =
           subst (R V (outcome_of w (has_path t a bs))) (sym (path_same (record w { slots = y }) (built (rebuilder f g) t) a bs))
-          (next V V (outcome_of w t) _ _ _ (rebuilt t) (λ v. related_by (path_tested w a bs v) _ (same_path w y a bs v)))
+          (next V V (outcome_of w t) _ _ _ (rebuilt t) (λ v. related_by (path_tested w a bs v) _ (same_path w y w.unknowns a bs v)))
       rebuilt (like t p) = next V V (outcome_of w t) _ (λ v. Some (like_pattern p v)) (λ v. Some (like_pattern p v)) (rebuilt t) (λ v. same V (Some (like_pattern p v)))
       rebuilt (is_type t n) = next V V (outcome_of w t) _ (λ v. Some (of_type n v)) (λ v. Some (of_type n v)) (rebuilt t) (λ v. same V (Some (of_type n v)))
       rebuilt (set_literal ts) = next (List V) V (outcomes_of w ts) _ (λ vs. Some (val (set_made vs))) (λ vs. Some (val (set_made vs))) (all_rebuilt ts) (λ vs. same V (Some (val (set_made vs))))
