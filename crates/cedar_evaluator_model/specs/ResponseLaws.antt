@@ -33,7 +33,9 @@ VerdictsHold = (s : Scope) → Agrees s → AllMadeWell s → (n : ℕ) (p : Pol
 
 -- and in every completion that fits those of all policies a decision of a session is the decision there.
 abbrev pub Given : Type 0
-Given = (s : Scope) → Agrees s → AllMadeWell s → (n : ℕ) (ps : List Policy) (d : Decision) → decision_in_session (response_of s n ps) ≡ Some d → (w : World) → Completes w s → FitConditions w ps → d ≡ decision_of w ps
+Given =
+    (s : Scope) → Agrees s → AllMadeWell s → (n : ℕ) (ps : List Policy) (d : Decision) → decision_in_session (response_of s n ps) ≡ Some d → (w : World) → Completes w s → FitConditions w ps
+    → d ≡ decision_of w ps
 
 -- each of the first stands among the second
 abbrev pub AreAmong : {A : Type 0} → List A → List A → Type 0
