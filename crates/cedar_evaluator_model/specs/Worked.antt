@@ -90,7 +90,7 @@ worked_answers f vs = fails f
 abbrev pub worked_table : Table
 worked_table = record { functions = rank_function ∷ later_function ∷ []; ordered = rank ∷ []; answers = worked_answers }
 
--- Entities: `User::"a"` has {boss: User::"b", ok: unknown u, rest: if unknown u then 1 else 2}, the tags {t: 1, later: unknown a}, and
+-- Entities: `User::"a"` has {boss: User::"b", ok: unknown u, rest: {y: unknown u}}, the tags {t: 1, later: unknown a}, and
 -- the ancestor `Doc::"d"`. `Doc::"d"` has {owner: User::"a", place: {x: 1}}. `User::"b"` isn't loaded. Others are missing.
 abbrev pub entity_a : Entity Made
 entity_a =
