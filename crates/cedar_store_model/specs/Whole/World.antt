@@ -1,7 +1,6 @@
 -- Worlds: what is known of a request, of slots and unknowns, and of a store.
 -- Rule: the meaning; the store (docs/RULES.md).
-use Rattle.std.specs.Prelude.{List, [], ◌∷◌, Option, Some, None, if◌then◌else◌}
-use Rattle.std.specs.Str.{bytes_eq}
+use Rattle.std.specs.Prelude.{List, Option}
 use Rattle.cedar_expr_model.specs.Name.{Text}
 use Rattle.cedar_expr_model.specs.Uid.{Uid}
 use Rattle.cedar_expr_model.specs.Whole.Value.{V, Fields}
@@ -24,10 +23,6 @@ pub data Found (A : Type 0) : Type 0 where
   held : Entity A → Found A
   missing : Found A
   not_loaded : Found A
-
-abbrev pub part_named : {A : Type 0} → Text → List (Text × Part A) → Option (Part A)
-part_named a [] = None
-part_named a (p ∷ ps) = if bytes_eq a p.0 then Some p.1 else part_named a ps
 
 -- A request: three uids and the fields of the context.
 pub record Request : Type 0 where
