@@ -1,8 +1,9 @@
 -- What an expression is made of: its subexpressions, slots and unknowns.
 -- Rule: parts of an expression (docs/RULES.md).
-use Rattle.std.specs.Prelude.{List, [], ◌∷◌, ◌++◌, Bool, true, false, Option, Some, None}
+use Rattle.std.specs.Prelude.{List, [], ◌∷◌, ◌++◌, Bool, true, false, Option, Some, None, is_some}
 use Rattle.std.specs.List.{filter_map, list_all}
 use Rattle.cedar_expr_model.specs.Name.{Text}
+use Rattle.cedar_expr_model.specs.Uid.{Uid}
 use Rattle.cedar_expr_model.specs.Whole.Value.{entity}
 use Rattle.cedar_expr_model.specs.Whole.Tree.{CoreType, SlotId, Tree, lit, var, slot, unknown, choice, both, either, unary, binary, call, get_attr, has_attr, has_path, like, is_type, set_literal, record_literal, Trees, no_trees, tree, TreeFields, no_tree_fields, tree_field}
 
@@ -37,7 +38,7 @@ pub record Unknown : Type 0 where
   pub name : Text
   pub annotation : Option CoreType
 
--- the unknown, and the slot, that an expression is
+-- the unknown, the slot, and the uid, that an expression is
 abbrev pub unknown_here : Tree → Option Unknown
 unknown_here (unknown n a) = Some (record { name = n; annotation = a })
 unknown_here t = None
@@ -45,6 +46,10 @@ unknown_here t = None
 abbrev pub slot_here : Tree → Option SlotId
 slot_here (slot s) = Some s
 slot_here t = None
+
+abbrev pub uid_here : Tree → Option Uid
+uid_here (lit (entity u)) = Some u
+uid_here t = None
 
 -- the unknowns and the slots of an expression, each occurrence
 abbrev pub unknowns : Tree → List Unknown
@@ -73,8 +78,7 @@ listed (tree t ts) = t ∷ listed ts
 
 -- a reference, which is a uid as a literal, and a set of references
 abbrev pub is_ref : Tree → Bool
-is_ref (lit (entity u)) = true
-is_ref t = false
+is_ref t = is_some (uid_here t)
 
 abbrev pub is_ref_set : Tree → Bool
 is_ref_set (set_literal ts) = list_all is_ref (listed ts)
