@@ -28,7 +28,7 @@ ghost use Rattle.cedar_expr_model.specs.Whole.Texts.{var_text, unary_text, binar
 ghost use Rattle.cedar_expr_model.specs.Whole.Represented.{IsRepresented};
 ghost use Rattle.cedar_expr_model.specs.Whole.Names.{is_unqualified, namespace_of, within, qualified, possibilities, cedar_name, unreserved_read, name_given, reserved_given, nothing_given};
 ghost use Rattle.cedar_expr_model.specs.Whole.TreeLaws.{is_plain};
-ghost use Rattle.cedar_expr_model.specs.Whole.ValueParts.{value_of_tree, known, residual, split, values_alone, with_residuals};
+ghost use Rattle.cedar_expr_model.specs.Whole.ValueParts.{value_of_tree, known, left, split, values_alone, with_residuals};
 ghost use Rattle.cedar_expr_model.specs.Whole.Worked.{plain, user, doc, rank_name, label_name, deep_name, false_name, alice, bob, number, word, flag, one_two, two_one_one, falling, rising, a_then_b, b_then_a, f_to_r, f_and_more, truth_lit, number_lit, named, named_as, two_unknowns, unrestricted, with_principal, rank_of, rank_of_two, lost_call, made_number, made_truth, made_rank, only_x, x_and_y, nothing_bound, number_for_truth, unknown_as, rank_function, label_function, join_function, unknown_function, other_rank_function, other_label_function, worked_table, typed_table, unfair_table, variable_builder, true_rank, feigned_rank};
 
 /// Texts, names and uids in order: a beginning comes first, and names of one text are told apart by their parts.
@@ -328,7 +328,7 @@ pub fn worked_value_parts()
     ensures a_call { value_of_tree (rank_of (codes "7")) ≡ None }
     ensures an_unknown { value_of_tree (set_literal (tree (named (codes "x")) no_trees)) ≡ None }
     ensures all_known { split (known (made_number 2) ∷ known (made_number 1) ∷ []) ≡ values_alone (made_number 2 ∷ made_number 1 ∷ []) }
-    ensures one_residual { split (known (made_number 2) ∷ residual (named (codes "x")) ∷ known (made_number 1) ∷ []) ≡ with_residuals (number_lit 2 ∷ named (codes "x") ∷ number_lit 1 ∷ []) }
+    ensures one_residual { split (known (made_number 2) ∷ left (named (codes "x")) ∷ known (made_number 1) ∷ []) ≡ with_residuals (number_lit 2 ∷ named (codes "x") ∷ number_lit 1 ∷ []) }
     ensures empty { split [] ≡ values_alone [] }
 {}
 

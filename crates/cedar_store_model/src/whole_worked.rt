@@ -5,7 +5,8 @@ ghost use Rattle.cedar_expr_model.specs.Whole.Value.{Literal, truth, long, text,
 ghost use Rattle.cedar_expr_model.specs.Whole.Pattern.{character, wildcard};
 ghost use Rattle.cedar_expr_model.specs.Whole.Tree.{Tree, lit, var, slot, unknown, choice, both, either, unary, binary, call, get_attr, has_attr, has_path, like, is_type, set_literal, record_literal, no_trees, tree, no_tree_fields, tree_field, principal, action, resource, context, principal_slot, resource_slot, negation, minus, is_empty, equal, less, less_or_equal, plus, difference, times, is_in, contains, contains_all, contains_any, get_tag, has_tag, entity_core, nesting};
 ghost use Rattle.cedar_store_model.specs.Whole.Outcome.{Res, val, err, missing_entity, missing_attribute_or_tag, missing_field, wrong_type, overflow, extension_failed, no_function, wrong_count, unlinked_slot};
-ghost use Rattle.cedar_store_model.specs.Whole.World.{Part, known, left, Found, held, missing, not_loaded};
+ghost use Rattle.cedar_expr_model.specs.Whole.ValueParts.{Part, known, left};
+ghost use Rattle.cedar_store_model.specs.Whole.World.{Found, held, missing, not_loaded};
 ghost use Rattle.cedar_store_model.specs.Whole.Operators.{says};
 ghost use Rattle.cedar_store_model.specs.Whole.Meaning.{outcome_of};
 ghost use Rattle.cedar_store_model.specs.Whole.Looks.{Looks};

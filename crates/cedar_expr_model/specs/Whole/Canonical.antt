@@ -7,6 +7,7 @@ use Rattle.cedar_expr_model.specs.Name.{Text}
 use Rattle.cedar_expr_model.specs.Whole.Value.{V, prim, set_of, record_of, extension, Vs, no_values, value, Fields, no_fields, field, values_list}
 use Rattle.cedar_expr_model.specs.Whole.Order.{value_cmp, text_cmp}
 use Rattle.cedar_expr_model.specs.Whole.Lists.{rises}
+use Rattle.std.specs.List.{list_all}
 
 -- each member stands before the next, so none stands twice
 abbrev pub are_rising : Vs → Bool
@@ -54,10 +55,8 @@ is_member v (value w ws) = match_ordering (value_cmp v w) false true (is_member 
 
 -- each is a member of the other list
 abbrev pub is_subset : Vs → Vs → Bool
-is_subset no_values ws = true
-is_subset (value v vs) ws = is_member v ws && is_subset vs ws
+is_subset vs ws = list_all (λ v. is_member v ws) (values_list vs)
 
 -- none is a member of the other list
 abbrev pub is_disjoint : Vs → Vs → Bool
-is_disjoint no_values ws = true
-is_disjoint (value v vs) ws = not (is_member v ws) && is_disjoint vs ws
+is_disjoint vs ws = list_all (λ v. not (is_member v ws)) (values_list vs)

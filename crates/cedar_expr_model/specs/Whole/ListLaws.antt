@@ -16,7 +16,7 @@ use Rattle.cedar_expr_model.specs.Whole.Names.{namespace_of, within, qualified, 
 use Rattle.cedar_expr_model.specs.Whole.Records.{in_order, names_rise, fields, record_made}
 use Rattle.cedar_expr_model.specs.Whole.Repeats.{repeated, repeated_function, repeated_constructor, table_fault}
 use Rattle.cedar_expr_model.specs.Whole.Table.{Signature, constructed}
-use Rattle.cedar_expr_model.specs.Whole.ValueParts.{PartialValue, known, split, values_alone}
+use Rattle.cedar_expr_model.specs.Whole.ValueParts.{Part, known, split, values_alone}
 
 -- none stands twice
 abbrev pub AreDistinct : {A : Type 0} → List A → Type 0
@@ -82,7 +82,7 @@ DisjointDecides = (vs ws : Vs) → are_rising ws ≡ true → Decides (is_disjoi
 
 -- a list is split into values exactly where it is a list of values, and these are they
 abbrev pub SplitGivesValues : Type 0
-SplitGivesValues = (ps : List PartialValue) (ms : List Made) → (split ps ≡ values_alone ms) ↔ (ps ≡ map known ms)
+SplitGivesValues = (ps : List (Part Made)) (ms : List Made) → (split ps ≡ values_alone ms) ↔ (ps ≡ map known ms)
 
 -- the namespace of a name in a namespace is that one
 abbrev pub NamespaceIsKept : Type 0

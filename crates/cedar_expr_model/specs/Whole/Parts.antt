@@ -71,10 +71,14 @@ may_project t = false
 abbrev pub is_projectable : Tree → Bool
 is_projectable t = list_all may_project (subexpressions t)
 
--- children in a row, as a list
+-- children in a row, and the fields of a record, as lists
 abbrev pub listed : Trees → List Tree
 listed no_trees = []
 listed (tree t ts) = t ∷ listed ts
+
+abbrev pub listed_fields : TreeFields → List (Text × Tree)
+listed_fields no_tree_fields = []
+listed_fields (tree_field a t fs) = (a, t) ∷ listed_fields fs
 
 -- a reference, which is a uid as a literal, and a set of references
 abbrev pub is_ref : Tree → Bool

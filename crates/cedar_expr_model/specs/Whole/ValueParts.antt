@@ -1,4 +1,4 @@
--- Which expressions are values, and values beside residual expressions.
+-- Which expressions are values, and values beside expressions that aren't values yet.
 -- Rule: values and equality; parts of an expression (docs/RULES.md).
 use Rattle.std.specs.Prelude.{List, [], ◌∷◌, map, Option, Some, None, option_map, option_and_then}
 use Rattle.std.specs.Option.{option_map_or}
@@ -6,6 +6,7 @@ use Rattle.cedar_expr_model.specs.Whole.Value.{V, prim, record_of, Fields, no_fi
 use Rattle.cedar_expr_model.specs.Whole.Canonical.{set_made}
 use Rattle.cedar_expr_model.specs.Whole.Tree.{Tree, lit, set_literal, record_literal, Trees, no_trees, tree, TreeFields, no_tree_fields, tree_field}
 use Rattle.cedar_expr_model.specs.Whole.Made.{Made, written}
+use Rattle.cedar_expr_model.specs.Whole.Lists.{all_given}
 
 -- the value that an expression of literals, sets and records is; any other is no value
 abbrev mutual
@@ -23,27 +24,30 @@ abbrev mutual
   fields_of_trees no_tree_fields = Some no_fields
   fields_of_trees (tree_field a t fs) = option_and_then (λ v. option_map (field a v) (fields_of_trees fs)) (value_of_tree t)
 
--- a value, or what is left of an expression
-pub data PartialValue : Type 0 where
-  known : Made → PartialValue
-  residual : Tree → PartialValue
+-- a value, or an expression that isn't one yet
+pub data Part (A : Type 0) : Type 0 where
+  known : A → Part A
+  left : Tree → Part A
+
+-- the value, where it is one
+abbrev pub known_value : {A : Type 0} → Part A → Option A
+known_value (known v) = Some v
+known_value (left t) = None
 
 -- either as an expression
-abbrev pub tree_of_partial : PartialValue → Tree
-tree_of_partial (known m) = written m
-tree_of_partial (residual t) = t
+abbrev pub part_tree : Part Made → Tree
+part_tree (known m) = written m
+part_tree (left t) = t
 
--- the values of a list where nothing is a residual
-abbrev pub all_known : List PartialValue → Option (List Made)
-all_known [] = Some []
-all_known (known m ∷ ps) = option_map (λ ms. m ∷ ms) (all_known ps)
-all_known (residual t ∷ ps) = None
+-- the values of a list where nothing is an expression
+abbrev pub all_known : {A : Type 0} → List (Part A) → Option (List A)
+all_known ps = all_given known_value ps
 
--- A list split: its values, in order, where nothing in it is a residual; else its expressions, in order.
+-- A list split: its values, in order, where all are values; else its expressions, in order.
 pub data Split : Type 0 where
   values_alone : List Made → Split
   with_residuals : List Tree → Split
 
 -- the list split
-abbrev pub split : List PartialValue → Split
-split ps = option_map_or values_alone (all_known ps) (with_residuals (map tree_of_partial ps))
+abbrev pub split : List (Part Made) → Split
+split ps = option_map_or values_alone (all_known ps) (with_residuals (map part_tree ps))

@@ -8,7 +8,8 @@ use Rattle.std.specs.Str.{bytes_eq}
 use Rattle.cedar_expr_model.specs.Name.{Text, Name, name_eq}
 use Rattle.cedar_expr_model.specs.Uid.{Uid, uid_eq}
 use Rattle.cedar_expr_model.specs.Whole.Value.{V}
-use Rattle.cedar_store_model.specs.Whole.World.{Part, known, Entity}
+use Rattle.cedar_expr_model.specs.Whole.ValueParts.{Part, known}
+use Rattle.cedar_store_model.specs.Whole.World.{Entity}
 use Rattle.cedar_store_model.specs.Whole.Knowledge.{holds_values}
 use Rattle.cedar_store_model.specs.Whole.Store.{OpenRequest}
 use Rattle.cedar_schema_model.specs.Whole.Types.{Ty, record_type, is_closed, Attributes, no_attributes, attribute, Declared, attribute_named}

@@ -8,7 +8,8 @@ use Rattle.std.proofs.Common.{◌⊎◌}
 use Rattle.cedar_expr_model.specs.Name.{Text, Name}
 use Rattle.cedar_expr_model.specs.Uid.{Uid}
 use Rattle.cedar_expr_model.specs.Whole.Value.{V, record_of}
-use Rattle.cedar_store_model.specs.Whole.World.{Part, known, Entity, Found, held, Request}
+use Rattle.cedar_expr_model.specs.Whole.ValueParts.{Part, known}
+use Rattle.cedar_store_model.specs.Whole.World.{Entity, Found, held, Request}
 use Rattle.cedar_store_model.specs.Whole.Knowledge.{is_known}
 use Rattle.cedar_store_model.specs.Whole.Store.{OpenRequest, as_open}
 use Rattle.cedar_schema_model.specs.Whole.Types.{Ty, record_type, is_closed, Declared, attribute_named}

@@ -9,7 +9,8 @@ use Rattle.cedar_expr_model.specs.Whole.Value.{V, prim, truth, text, entity, fie
 use Rattle.cedar_expr_model.specs.Whole.Tree.{Tree, lit, var, slot, unknown, choice, both, either, unary, binary, call, get_attr, has_attr, has_path, like, is_type, set_literal, record_literal, Trees, no_trees, tree, TreeFields, no_tree_fields, tree_field, Var, principal, action, resource, context, BinaryOp, less, less_or_equal, is_in, get_tag, has_tag}
 use Rattle.cedar_expr_model.specs.Whole.Table.{Table, Signature, Called, gives, fails, leaves, signature_of, takes_count, are_of_types}
 use Rattle.cedar_store_model.specs.Whole.Outcome.{Res, val, err, bind}
-use Rattle.cedar_store_model.specs.Whole.World.{World, Part, known, left, Entity, Found, held, missing, not_loaded}
+use Rattle.cedar_expr_model.specs.Whole.ValueParts.{Part, known, left}
+use Rattle.cedar_store_model.specs.Whole.World.{World, Entity, Found, held, missing, not_loaded}
 use Rattle.cedar_store_model.specs.Whole.Operators.{says, answered, called}
 use Rattle.cedar_store_model.specs.Whole.Reads.{part_value, part_read, part_tested, attribute_read, attribute_tested, found_in, within, uids_in, is_in_some}
 use Rattle.cedar_store_model.specs.Whole.Meaning.{Means, variable, slot_value, combined, picked, truth_asked, outcome_of, outcomes_of, field_outcomes_of, path_tested}

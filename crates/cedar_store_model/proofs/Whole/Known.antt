@@ -11,7 +11,8 @@ use Rattle.cedar_expr_model.specs.Whole.Tree.{Tree, lit, var, slot, unknown, cho
 use Rattle.cedar_expr_model.specs.Whole.Table.{Table, Signature, Called, gives, fails, leaves, signature_of, takes_count, are_of_types}
 use Rattle.cedar_expr_model.proofs.Lists.{both_hold}
 use Rattle.cedar_store_model.specs.Whole.Outcome.{Res, val, err, bind}
-use Rattle.cedar_store_model.specs.Whole.World.{World, Part, known, left, Entity, Found, held, missing, not_loaded}
+use Rattle.cedar_expr_model.specs.Whole.ValueParts.{Part, known, left}
+use Rattle.cedar_store_model.specs.Whole.World.{World, Entity, Found, held, missing, not_loaded}
 use Rattle.cedar_store_model.specs.Whole.Operators.{says, answered}
 use Rattle.cedar_store_model.specs.Whole.Reads.{part_value, part_read, part_tested, attribute_read, attribute_tested, found_in, within}
 use Rattle.cedar_store_model.specs.Whole.Meaning.{Means, variable, combined, picked, truth_asked, outcome_of, outcomes_of, field_outcomes_of, path_tested}

@@ -9,7 +9,8 @@ use Rattle.cedar_expr_model.specs.Uid.{Uid}
 use Rattle.cedar_expr_model.specs.Whole.Value.{V, prim, truth, long, text, entity, set_of, record_of, extension, field_of, truth_value}
 use Rattle.cedar_expr_model.specs.Whole.Tree.{Tree, lit, var, slot, unknown, choice, both, either, unary, binary, call, get_attr, has_attr, has_path, like, is_type, set_literal, record_literal, Trees, no_trees, tree, TreeFields, no_tree_fields, tree_field, BinaryOp, is_in, get_tag, has_tag}
 use Rattle.cedar_store_model.specs.Whole.Outcome.{Res, val, err, missing_field, bind}
-use Rattle.cedar_store_model.specs.Whole.World.{World, Part, known, left, Found, held, missing, not_loaded}
+use Rattle.cedar_expr_model.specs.Whole.ValueParts.{Part, known, left}
+use Rattle.cedar_store_model.specs.Whole.World.{World, Found, held, missing, not_loaded}
 use Rattle.cedar_store_model.specs.Whole.Operators.{says}
 use Rattle.cedar_store_model.specs.Whole.Reads.{part_value, part_read, part_tested, attribute_read, attribute_tested, found_in, within}
 use Rattle.cedar_store_model.specs.Whole.Meaning.{Means, combined, picked, truth_asked, outcome_of, outcomes_of, field_outcomes_of, path_tested}

@@ -11,7 +11,8 @@ use Rattle.cedar_expr_model.specs.Whole.Shape.{slot_rank}
 use Rattle.cedar_store_model.specs.Whole.Policy.{Policy, scope_tree}
 use Rattle.cedar_expr_model.specs.Whole.Table.{Table, Signature}
 use Rattle.cedar_store_model.specs.Whole.Outcome.{Res, val, err, no_function}
-use Rattle.cedar_store_model.specs.Whole.World.{World, Part, Entity}
+use Rattle.cedar_expr_model.specs.Whole.ValueParts.{Part}
+use Rattle.cedar_store_model.specs.Whole.World.{World, Entity}
 use Rattle.cedar_store_model.specs.Whole.Reads.{part_read, part_tested, tag_asked}
 use Rattle.cedar_store_model.specs.Whole.Operators.{called_with}
 

@@ -11,7 +11,8 @@ use Rattle.cedar_expr_model.specs.Whole.Value.{V}
 use Rattle.cedar_expr_model.specs.Whole.Table.{Table}
 use Rattle.cedar_expr_model.proofs.Equality.{uid_eq-Decides}
 use Rattle.cedar_expr_model.proofs.Lists.{both_hold, contains_head, contains_tail, contains_cases, contains_none, map_has}
-use Rattle.cedar_store_model.specs.Whole.World.{World, Request, Entity, Found, Part, known, left}
+use Rattle.cedar_expr_model.specs.Whole.ValueParts.{Part, known, left}
+use Rattle.cedar_store_model.specs.Whole.World.{World, Request, Entity, Found}
 use Rattle.cedar_store_model.specs.Whole.Looks.{Looks}
 use Rattle.cedar_store_model.specs.Whole.Knowledge.{holds_values, Keeps, KeepsPart, KeepsEntity, KeepsFound, IsSettled, IsWhole, Extends}
 use Rattle.cedar_store_model.specs.Whole.Policy.{Policy, condition}

@@ -1,6 +1,6 @@
 -- Worlds in which everything is known, and worlds that know more than another.
 -- Rule: what is known (docs/RULES.md).
-use Rattle.std.specs.Prelude.{◌≡◌, ◌&&◌, List, Bool, true, false, Option, Some, None, IsSome, IfSome}
+use Rattle.std.specs.Prelude.{◌≡◌, ◌&&◌, List, Bool, true, Option, Some, None, IsSome, IfSome, is_some}
 use Rattle.std.specs.Map.{lookup}
 use Rattle.std.specs.Str.{bytes_eq}
 use Rattle.std.specs.List.{list_all}
@@ -8,12 +8,12 @@ use Rattle.cedar_expr_model.specs.Name.{Text}
 use Rattle.cedar_expr_model.specs.Uid.{Uid}
 use Rattle.cedar_expr_model.specs.Whole.Value.{V}
 use Rattle.cedar_expr_model.specs.Whole.Tree.{SlotId}
-use Rattle.cedar_store_model.specs.Whole.World.{World, Part, known, left, Entity, Found, held, missing, not_loaded}
+use Rattle.cedar_expr_model.specs.Whole.ValueParts.{Part, known, left, known_value}
+use Rattle.cedar_store_model.specs.Whole.World.{World, Entity, Found, held, missing, not_loaded}
 
 -- the part is a value
 abbrev pub is_known : {A : Type 0} → Part A → Bool
-is_known (known v) = true
-is_known (left t) = false
+is_known p = is_some (known_value p)
 
 -- attributes and tags are values alone
 abbrev pub holds_values : Entity V → Bool

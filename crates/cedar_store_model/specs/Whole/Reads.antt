@@ -11,26 +11,21 @@ use Rattle.cedar_expr_model.specs.Uid.{Uid, uid_eq}
 use Rattle.cedar_expr_model.specs.Whole.Lists.{all_given}
 use Rattle.cedar_expr_model.specs.Whole.Value.{text, entity, V, prim, set_of, record_of, values_list, field_of}
 use Rattle.cedar_store_model.specs.Whole.Outcome.{Res, val, err, missing_entity, missing_attribute_or_tag, missing_field, wrong_type}
-use Rattle.cedar_store_model.specs.Whole.World.{World, Part, known, left, Entity, Found, held, missing, not_loaded}
+use Rattle.cedar_expr_model.specs.Whole.ValueParts.{Part, known_value}
+use Rattle.cedar_store_model.specs.Whole.World.{World, Entity, Found, by_found}
 use Rattle.cedar_store_model.specs.Whole.Operators.{says}
 
 -- the value of a part, if it has one by now
 abbrev pub part_value : Option (Part V) → Option (Res V)
-part_value None = Some (err missing_attribute_or_tag)
-part_value (Some (known v)) = Some (val v)
-part_value (Some (left t)) = None
+part_value found = option_map_or (λ p. option_map val (known_value p)) found (Some (err missing_attribute_or_tag))
 
 -- an attribute, or a tag, of an entity that was looked up
 abbrev pub part_read : (Entity V → List (Text × Part V)) → Uid → Text → Found V → Option (Res V)
-part_read parts u a (held e) = part_value (lookup (bytes_eq a) (parts e))
-part_read parts u a missing = Some (err (missing_entity u))
-part_read parts u a not_loaded = None
+part_read parts u a found = by_found (λ e. part_value (lookup (bytes_eq a) (parts e))) (Some (err (missing_entity u))) None found
 
 -- whether it is there; a missing entity has none
 abbrev pub part_tested : (Entity V → List (Text × Part V)) → Uid → Text → Found V → Option (Res V)
-part_tested parts u a (held e) = Some (says (is_some (lookup (bytes_eq a) (parts e))))
-part_tested parts u a missing = Some (says false)
-part_tested parts u a not_loaded = None
+part_tested parts u a found = by_found (λ e. Some (says (is_some (lookup (bytes_eq a) (parts e))))) (Some (says false)) None found
 
 -- the attribute of an entity, or the field of a record
 abbrev pub attribute_read : World → Text → V → Option (Res V)
@@ -64,9 +59,7 @@ is_in_some ancestors u us = option_map_or (λ vs. says (list_any (λ v. uid_eq u
 
 -- what `in` answers where its left uid was looked up; a missing entity has no ancestors
 abbrev pub found_in : Uid → V → Found V → Option (Res V)
-found_in u v (held e) = Some (is_in_some e.ancestors u (uids_in v))
-found_in u v missing = Some (is_in_some [] u (uids_in v))
-found_in u v not_loaded = None
+found_in u v found = by_found (λ e. Some (is_in_some e.ancestors u (uids_in v))) (Some (is_in_some [] u (uids_in v))) None found
 
 abbrev pub within : World → V → V → Option (Res V)
 within w (prim (entity u)) v = found_in u v (w.store u)

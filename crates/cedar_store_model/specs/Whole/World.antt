@@ -4,15 +4,11 @@ use Rattle.std.specs.Prelude.{List, Option}
 use Rattle.cedar_expr_model.specs.Name.{Text}
 use Rattle.cedar_expr_model.specs.Uid.{Uid}
 use Rattle.cedar_expr_model.specs.Whole.Value.{V, Fields}
-use Rattle.cedar_expr_model.specs.Whole.Tree.{Tree, SlotId}
+use Rattle.cedar_expr_model.specs.Whole.Tree.{SlotId}
 use Rattle.cedar_expr_model.specs.Whole.Table.{Table}
+use Rattle.cedar_expr_model.specs.Whole.ValueParts.{Part}
 
--- what an attribute or a tag holds: a value, or an expression that isn't one yet
-pub data Part (A : Type 0) : Type 0 where
-  known : A → Part A
-  left : Tree → Part A
-
--- An entity: attributes and tags by name, and the recorded ancestors.
+-- An entity: attributes and tags by name, each a value or an expression that isn't one yet, and the recorded ancestors.
 pub record Entity (A : Type 0) : Type 0 where
   pub attributes : List (Text × Part A)
   pub tags : List (Text × Part A)
@@ -23,6 +19,12 @@ pub data Found (A : Type 0) : Type 0 where
   held : Entity A → Found A
   missing : Found A
   not_loaded : Found A
+
+-- what is made of such an answer: of an entity, of none, and where it isn't known
+abbrev pub by_found : {A B : Type 0} → (Entity A → B) → B → B → Found A → B
+by_found of_held of_missing of_not_loaded (held e) = of_held e
+by_found of_held of_missing of_not_loaded missing = of_missing
+by_found of_held of_missing of_not_loaded not_loaded = of_not_loaded
 
 -- A request: three uids and the fields of the context.
 pub record Request : Type 0 where

@@ -11,7 +11,8 @@ use Rattle.cedar_expr_model.specs.Uid.{Uid, uid_eq}
 use Rattle.cedar_expr_model.proofs.Equality.{name_eq-Decides, uid_eq-Decides}
 use Rattle.cedar_expr_model.proofs.Lists.{contains_tail, found-Decides, any-Decides, all-Decides, contains_none, contains_head, contains_cases}
 use Rattle.cedar_expr_model.specs.Whole.Value.{V}
-use Rattle.cedar_store_model.specs.Whole.World.{Part, known, left, Entity}
+use Rattle.cedar_expr_model.specs.Whole.ValueParts.{Part, known, left}
+use Rattle.cedar_store_model.specs.Whole.World.{Entity}
 use Rattle.cedar_schema_model.specs.Whole.Types.{Ty, record_type, is_closed, attribute_named}
 use Rattle.cedar_schema_model.specs.Whole.Schema.{standard, enumerated, external, Action, Schema, action_with, declares_action, EntityType, type_named}
 use Rattle.cedar_schema_model.specs.Whole.Descent.{action_descends, ActionDescends, action_uids}

@@ -8,7 +8,8 @@ use Rattle.cedar_expr_model.specs.Uid.{Uid, uid_eq}
 use Rattle.cedar_expr_model.proofs.Equality.{name_eq-Decides, uid_eq-Decides}
 use Rattle.cedar_expr_model.proofs.Lists.{found-Decides}
 use Rattle.cedar_expr_model.specs.Whole.Value.{V, record_of, Fields, prim, truth, long, text, entity, set_of, extension}
-use Rattle.cedar_store_model.specs.Whole.World.{Part, known, left, Entity, Request}
+use Rattle.cedar_expr_model.specs.Whole.ValueParts.{Part, known, left}
+use Rattle.cedar_store_model.specs.Whole.World.{Entity, Request}
 use Rattle.cedar_schema_model.specs.Whole.Types.{Ty, record_type, is_closed, Declared, attribute_named, Attributes, Openness}
 use Rattle.cedar_schema_model.specs.Whole.Schema.{Action, Schema, action_with}
 use Rattle.cedar_schema_model.specs.Whole.HasType.{HasType, has_type}
