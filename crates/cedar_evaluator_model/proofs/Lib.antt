@@ -1,4 +1,4 @@
-pub mod Each
+pub mod Named
 pub mod Given
 pub mod GivenReads
 pub mod GivenLists

@@ -19,7 +19,7 @@ use Rattle.cedar_evaluator_model.specs.Known.{known_world}
 use Rattle.cedar_evaluator_model.specs.Whole.{NothingUnknown, AllLoaded}
 use Rattle.cedar_evaluator_model.specs.Standing.{IsOutcome}
 use Rattle.cedar_evaluator_model.specs.Response.{Noted, ResponseError, stops, with_bindings, verdict, noted, of_effect, if_true, if_residual, if_stopped, group, response_of}
-use Rattle.cedar_evaluator_model.specs.Members.{of_true, of_residual, decided_by, if_none, without_value, concrete_decision, concretize, is_limit, met_limit, decision_in_session, nontrivial_residuals}
+use Rattle.cedar_evaluator_model.specs.Members.{of_true, of_residual, decided_by, if_none, without_value, concretize, is_limit, met_limit, decision_in_session, nontrivial_residuals}
 use Rattle.cedar_evaluator_model.specs.Laws.{IsBound, as_concrete}
 use Rattle.cedar_evaluator_model.proofs.Limits.{not_met, no_limit_within}
 use Rattle.cedar_evaluator_model.proofs.Reached.{outcome_or_limit, owed_unless_limit}
@@ -138,7 +138,7 @@ module _ (w : World) (s : Scope) (n : ℕ) where
   no_limits (p ∷ ps) h = no_limit_error (policy_outcome w p) (verdict s n p) p (filter_map (λ p. if_stopped p (verdict s n p)) ps) (All-head Same p ps h) (no_limits ps (All-tail Same p ps h))
 
 -- decisions and reasons of such groups
-same_decision : (ps fs : List Policy) → concrete_decision (map noted ps) (map noted fs) ≡ decided ps fs
+same_decision : (ps fs : List Policy) → decided (map noted ps) (map noted fs) ≡ decided ps fs
 same_decision [] [] = refl
 same_decision (p ∷ ps) [] = refl
 same_decision ps (f ∷ fs) = refl
@@ -167,7 +167,7 @@ response_is_answer w s n ps h =
     let two = same_reasons (satisfied_permits w ps) (satisfied_forbids w ps) in
     (λ i.
     record {
-      decision = concrete_decision (tp i) (tf i);
+      decision = decided (tp i) (tf i);
       reasons = ids (if_none (tf i) (if_none (rf i) (of_true permit (tp i)) (of_true forbid (tf i))) (of_true forbid (tf i)));
       errors = map without_value (rf i ++ rp i) ++ er i;
     })

@@ -1,13 +1,16 @@
 -- What is read of a world at the values of operands doesn't ask for its slots and unknowns.
 use Rattle.std.proofs.Common.{◌≡◌, List, [], ◌∷◌, refl}
-use Rattle.std.specs.Prelude.{Option}
+use Rattle.std.specs.Prelude.{Option, Some, false}
 use Rattle.cedar_expr_model.specs.Name.{Text}
 use Rattle.cedar_expr_model.specs.Uid.{Uid}
 use Rattle.cedar_expr_model.specs.Whole.Value.{text, entity, V, prim}
 use Rattle.cedar_expr_model.specs.Whole.Tree.{SlotId, Var, principal, action, resource, context, BinaryOp, is_in, get_tag, has_tag}
 use Rattle.cedar_store_model.specs.Whole.World.{World}
-use Rattle.cedar_store_model.specs.Whole.Reads.{attribute_read, attribute_tested, step_from, path_after, path_tested, tag_read, tag_tested, within}
-use Rattle.cedar_store_model.specs.Whole.Meaning.{variable, combined}
+use Rattle.cedar_store_model.specs.Whole.Outcome.{bind}
+use Rattle.cedar_store_model.specs.Whole.Operators.{says}
+use Rattle.cedar_store_model.specs.Whole.Reads.{attribute_read, attribute_tested, within}
+use Rattle.cedar_store_model.specs.Whole.Meaning.{variable, combined, picked, path_tested}
+use Rattle.cedar_store_model.proofs.Whole.Named.{tag_read, tag_tested}
 
 module _ (w : World) (y : SlotId → Option Uid) (z : Text → Option V) where
   pub same_variable : (x : Var) → variable (record w { slots = y; unknowns = z }) x ≡ variable w x
@@ -24,13 +27,9 @@ module _ (w : World) (y : SlotId → Option Uid) (z : Text → Option V) where
   same_tested a (prim (entity u)) = refl
   same_tested a v = refl
 
-  same_step : (a : Text) (v : V) → step_from (record w { slots = y; unknowns = z }) a v ≡ step_from w a v
-  same_step a (prim (entity u)) = refl
-  same_step a v = refl
-
   pub same_path : (a : Text) (bs : List Text) (v : V) → path_tested (record w { slots = y; unknowns = z }) a bs v ≡ path_tested w a bs v
   same_path a [] v = same_tested a v
-  same_path a (b ∷ bs) v = λ i. path_after (λ x. same_path b bs x i) (same_step a v i)
+  same_path a (b ∷ bs) v = λ i. bind (same_tested a v i) (picked (bind (same_read a v i) (λ x. same_path b bs x i)) (Some (says false)))
 
   same_tag_read : (v x : V) → tag_read (record w { slots = y; unknowns = z }) v x ≡ tag_read w v x
   same_tag_read (prim (entity u)) (prim (text a)) = refl

@@ -9,7 +9,8 @@ use Rattle.cedar_expr_model.specs.Whole.Table.{Table, IsFair, all_typed}
 use Rattle.cedar_store_model.specs.Whole.Outcome.{Res, val}
 use Rattle.cedar_store_model.specs.Whole.World.{World}
 use Rattle.cedar_store_model.specs.Whole.Meaning.{Means}
-use Rattle.cedar_store_model.specs.Whole.Knowledge.{Extends, IsGrounded}
+use Rattle.cedar_store_model.specs.Whole.Laws.{IsGrounded}
+use Rattle.cedar_store_model.specs.Whole.Knowledge.{Extends}
 use Rattle.cedar_store_model.specs.Whole.Policy.{Policy, permit, forbid, condition}
 use Rattle.cedar_store_model.specs.Whole.Answer.{allow, deny, PolicyError, Answer, with_slots, IsSatisfied, answer_of, decision_of}
 use Rattle.cedar_evaluator_model.specs.Scope.{Scope, Agrees, fault, limit, value_left, residual, stopped}

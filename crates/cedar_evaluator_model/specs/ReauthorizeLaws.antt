@@ -3,7 +3,7 @@
 use Rattle.std.specs.Prelude.{◌≡◌, ℕ, List, [], ◌∷◌, Contains, Some, option_map, false, codes}
 use Rattle.cedar_expr_model.specs.Name.{Text}
 use Rattle.cedar_expr_model.specs.Whole.Made.{bare}
-use Rattle.cedar_expr_model.specs.Whole.Repeats.{AreDistinct}
+use Rattle.cedar_expr_model.specs.Whole.ListLaws.{AreDistinct}
 use Rattle.cedar_expr_model.specs.Whole.Substitution.{Bindings}
 use Rattle.cedar_store_model.specs.Whole.World.{World}
 use Rattle.cedar_store_model.specs.Whole.Knowledge.{Keeps}

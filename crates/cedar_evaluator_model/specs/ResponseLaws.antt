@@ -2,7 +2,7 @@
 -- Rule: partial responses; completions (docs/RULES.md).
 use Rattle.std.specs.Prelude.{◌≡◌, ◌↔◌, ℕ, List, All, Contains, Some, true, false}
 use Rattle.cedar_expr_model.specs.Whole.Value.{truth}
-use Rattle.cedar_expr_model.specs.Whole.Repeats.{AreDistinct}
+use Rattle.cedar_expr_model.specs.Whole.ListLaws.{AreDistinct}
 use Rattle.cedar_expr_model.specs.Whole.Made.{made_prim}
 use Rattle.cedar_store_model.specs.Whole.World.{World}
 use Rattle.cedar_store_model.specs.Whole.Policy.{Policy, no_bindings, condition}

@@ -8,7 +8,8 @@ use Rattle.cedar_expr_model.specs.Whole.Value.{truth, long, text, entity, V, pri
 use Rattle.cedar_expr_model.specs.Whole.Tree.{Tree, lit, unknown, string_core, extension_core, entity_core, no_tree_fields, tree_field, SlotId, record_literal}
 use Rattle.cedar_expr_model.specs.Whole.Made.{Made, made_prim, made_record, made_extension, no_made_fields, made_field}
 use Rattle.cedar_expr_model.specs.Whole.Table.{Table, Signature, function_style, Called, fails, leaves}
-use Rattle.cedar_store_model.specs.Whole.World.{known, left, Entity, Found, held, missing, not_loaded}
+use Rattle.cedar_expr_model.specs.Whole.ValueParts.{known, left}
+use Rattle.cedar_store_model.specs.Whole.World.{Entity, Found, held, missing, not_loaded}
 use Rattle.cedar_evaluator_model.specs.Scope.{Scope, MadeCalled, makes, faults, leaves_unknown, bare_called, uid, unknown_uid, Context, closed, residual_fields, unknown_context}
 
 abbrev pub named : Text → Name

@@ -5,7 +5,8 @@ use Rattle.cedar_expr_model.specs.Uid.{Uid, uid_eq}
 use Rattle.cedar_expr_model.specs.Whole.Value.{V, entity, truth_value}
 use Rattle.cedar_expr_model.specs.Whole.Tree.{Tree, bool_core, lit, unknown, either, get_attr}
 use Rattle.cedar_expr_model.specs.Whole.Substitution.{Bindings}
-use Rattle.cedar_store_model.specs.Whole.World.{World, known, Entity, Found, held, missing, not_loaded}
+use Rattle.cedar_expr_model.specs.Whole.ValueParts.{known}
+use Rattle.cedar_store_model.specs.Whole.World.{World, Entity, Found, held, missing, not_loaded}
 use Rattle.cedar_store_model.specs.Whole.Policy.{Policy, permit}
 use Rattle.cedar_evaluator_model.specs.Scope.{Scope}
 use Rattle.cedar_evaluator_model.specs.Response.{Response, response_of}

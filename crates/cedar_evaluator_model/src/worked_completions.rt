@@ -6,7 +6,8 @@ ghost use Rattle.cedar_expr_model.specs.Whole.Value.{prim, long, text, entity, r
 ghost use Rattle.cedar_expr_model.specs.Whole.Tree.{bool_core, long_core, principal, context, principal_slot, lit, var, slot, unknown, get_attr, has_attr, both, unary, negation, no_tree_fields, tree_field};
 ghost use Rattle.cedar_expr_model.specs.Whole.Made.{made_set, made_record, made_extension, no_mades, made, no_made_fields, made_field};
 ghost use Rattle.cedar_store_model.specs.Whole.Outcome.{val, err, wrong_type, overflow};
-ghost use Rattle.cedar_store_model.specs.Whole.World.{known, left, held, missing, not_loaded};
+ghost use Rattle.cedar_expr_model.specs.Whole.ValueParts.{known, left};
+ghost use Rattle.cedar_store_model.specs.Whole.World.{held, missing, not_loaded};
 ghost use Rattle.cedar_store_model.specs.Whole.Meaning.{outcome_of};
 ghost use Rattle.cedar_evaluator_model.specs.Scope.{Agrees, unknown_uid, uid, closed, residual_fields, unknown_context, fault, limit, value_left, residual, stopped};
 ghost use Rattle.cedar_evaluator_model.specs.Steps.{truth_left};

@@ -6,7 +6,7 @@ ghost use Rattle.serde_json.specs.Read.{read};
 ghost use Rattle.cedar_expr_model.specs.Whole.Value.{truth, long, text, prim, record_of, field, no_fields, extension};
 ghost use Rattle.cedar_expr_model.specs.Whole.Tree.{bool_core, unknown, lit, call, set_literal, record_literal, no_trees, tree, no_tree_fields, tree_field};
 ghost use Rattle.cedar_expr_model.specs.Whole.Made.{made_prim, made_set, made_record, no_mades, made, no_made_fields, made_field};
-ghost use Rattle.cedar_store_model.specs.Whole.World.{known};
+ghost use Rattle.cedar_expr_model.specs.Whole.ValueParts.{known};
 ghost use Rattle.cedar_evaluator_model.specs.Scope.{uid, unknown_uid, closed, residual_fields, unknown_context};
 ghost use Rattle.cedar_gate_model.specs.Whole.Transcript.{load, bind_name, decide};
 ghost use Rattle.cedar_gate_model.specs.Whole.ReadingValue.{value_read, context_read, record_read};

@@ -18,6 +18,7 @@ use Rattle.cedar_evaluator_model.specs.Completion.{EntryMeans, PartIs, ContextMe
 use Rattle.cedar_evaluator_model.specs.Response.{PartialRequest}
 use Rattle.cedar_evaluator_model.specs.Reauthorize.{Refusal, wrong_value, known_already, other_type, Outcome, makes_it, refuses, and_next, entry_with, entry_bound, context_bound, restricted_scope, restricted_left, context_made, context_substituted, context_under, request_bound, resumed}
 use Rattle.cedar_evaluator_model.specs.ReauthorizeLaws.{CompletesRequest, BindsRightly}
+use Rattle.cedar_evaluator_model.proofs.Named.{fits_in, fits_annotations}
 use Rattle.cedar_evaluator_model.proofs.Residuals.Stands.{Stands}
 use Rattle.cedar_evaluator_model.proofs.Residuals.Node.{evaluated_stands}
 use Rattle.cedar_evaluator_model.proofs.Residuals.Slots.{substituted_outcome, substituted_fits, value_with_slots}
@@ -102,7 +103,7 @@ module _ (w : World) where
   record_made v (residual (record_literal fs)) d h q =
       let same : residual_fields fs ≡ d = cc in
       let m = outcome_means (record w { slots = λ x. None }) (record_literal fs) (val v) h.0 in
-      subst (λ y. IsContext y (Some v)) same ((v, refl, (value_with_slots w (record_literal fs) v m, h.1)), tt)
+      subst (λ y. IsContext y (Some v)) same ((v, refl, (value_with_slots w (record_literal fs) v m, fits_annotations w (record_literal fs) h.1)), tt)
   record_made v (value_left m) d h q = cc
   record_made v (residual r) d h q = cc
   record_made v (stopped r) d h q = cc
@@ -116,7 +117,7 @@ module _ (w : World) (s : Scope) (agrees : Agrees s) (well : AllMadeWell s) (com
       let c = completes_unbound u (record s { slots = λ x. None }) (completes_at w (λ x. None) s complete) in
       let g = well_unbound (record s { slots = λ x. None }) (well_at s (λ x. None) well) in
       let e : outcome_of u (substituted env t) ≡ Some (val v) = sym (substituted_outcome u env binds.made binds.means t) ∙ means_outcome u t (val v) (h.0 (λ x. None)) in
-      subst (λ o. Stands u o (restricted_left s (substituted env t))) e (evaluated_stands u (restricted_scope s) agrees c g 512 (substituted env t) (substituted_fits _ env t h.1))
+      subst (λ o. Stands u o (restricted_left s (substituted env t))) e (evaluated_stands u (restricted_scope s) agrees c g 512 (substituted env t) (substituted_fits _ env t (fits_in w t h.1)))
 
   context_put : (c d : Context) (o : Option V) → IsContext w c o → context_substituted s env c ≡ makes_it d → IsContext w d o
   context_put (closed fs) d o h q = let same : closed fs ≡ d = cc in subst (λ y. IsContext w y o) same h

@@ -1,14 +1,16 @@
 -- Reauthorizing in a completion: each policy is kept, and a decision that is given is the one that follows, along whole chains.
 use Rattle.std.proofs.Common.{◌≡◌, ◌↔◌, ℕ, Bool, true, false, cond, List, [], ◌∷◌, ◌++◌, refl, sym, ap, ◌∙◌, subst, ⊎_elim}
-use Rattle.std.specs.Prelude.{Option, Some, None, Contains, slice_index_or}
-use Rattle.std.specs.List.{list_any}
+use Rattle.std.specs.Prelude.{Option, Some, None, Contains, find, slice_index_or}
+use Rattle.std.specs.Option.{option_map_or}
 use Rattle.std.specs.Str.{bytes_eq}
 use Rattle.std.proofs.lemmas.List.Elements.{All-contains, Contains-get_or, Contains-append_left, Contains-append_right, Contains-append_cases}
 use Rattle.std.proofs.lemmas.Slice.Eq.{bytes_eq-Decides}
 use Rattle.cedar_expr_model.specs.Name.{Text}
-use Rattle.cedar_expr_model.specs.Whole.Repeats.{AreDistinct}
+use Rattle.cedar_expr_model.specs.Whole.ListLaws.{AreDistinct}
+use Rattle.cedar_expr_model.specs.Whole.Repeats.{repeated}
+use Rattle.cedar_expr_model.proofs.Whole.Repeating.{repeats_decide}
 use Rattle.cedar_expr_model.specs.Whole.Substitution.{Bindings}
-use Rattle.cedar_expr_model.proofs.Lists.{contains_head, contains_tail, contains_cases, contains_none, any_has}
+use Rattle.cedar_expr_model.proofs.Lists.{contains_head, contains_tail}
 use Rattle.cedar_store_model.specs.Whole.World.{World}
 use Rattle.cedar_store_model.specs.Whole.Policy.{Policy, permit, forbid, condition}
 use Rattle.cedar_store_model.specs.Whole.Answer.{Decision, allow, deny, IsSatisfied, satisfied, ids, decision_of}
@@ -19,8 +21,8 @@ use Rattle.cedar_evaluator_model.specs.Scope.{Scope, Agrees}
 use Rattle.cedar_evaluator_model.specs.WellMade.{IsContextMadeWell, AllMadeWell}
 use Rattle.cedar_evaluator_model.specs.Completion.{FitsAnnotations, Completes}
 use Rattle.cedar_evaluator_model.specs.Response.{PartialRequest, Response, verdict, response_of}
-use Rattle.cedar_evaluator_model.specs.Members.{of_true, of_false, of_residual, all_residuals, get, with_id, met_limit, decision_in_session}
-use Rattle.cedar_evaluator_model.specs.Reauthorize.{makes_it, and_next, repeated, distinct_or, distinct, request_bound, resumed, reauthorized}
+use Rattle.cedar_evaluator_model.specs.Members.{of_true, of_false, of_residual, all_residuals, get, met_limit, decision_in_session}
+use Rattle.cedar_evaluator_model.specs.Reauthorize.{makes_it, refuses, repeated_id, and_next, distinct, request_bound, resumed, reauthorized}
 use Rattle.cedar_evaluator_model.specs.ResponseLaws.{FitConditions, IsKept}
 use Rattle.cedar_evaluator_model.specs.ReauthorizeLaws.{CompletesResponse, Step, FitsStep, Chain, BeginsIn}
 use Rattle.cedar_evaluator_model.proofs.Again.{again_is}
@@ -31,22 +33,8 @@ use Rattle.cedar_evaluator_model.proofs.Residuals.Kept.{three_has, three_from, f
 use Rattle.cedar_evaluator_model.proofs.Residuals.Bound.{made_next, request_completes, resumed_completes, resumed_well}
 
 -- ids that reauthorizing doesn't refuse are distinct
-seen_case : (b : Bool) (i : Text) (o : Option Text) → cond b (Some i) o ≡ None → (b ≡ false) × (o ≡ None)
-seen_case true i o e = cc
-seen_case false i o e = (refl, e)
-
-unrepeated : (seen is : List Text) → repeated seen is ≡ None → AreDistinct is × ((i : Text) → Contains is i → Contains seen i → ⊥)
-unrepeated seen [] e = (tt, λ i c d. contains_none i c)
-unrepeated seen (i ∷ is) e =
-    let k = seen_case (list_any (bytes_eq i) seen) i (repeated (i ∷ seen) is) e in
-    let rest = unrepeated (i ∷ seen) is k.1 in
-    let new : Contains seen i → ⊥ = λ d. let t = any_has (bytes_eq i) seen i d ((bytes_eq-Decides i i).1 refl) in let no = k.0 in cc in (
-      (λ d. rest.1 i d (contains_head i seen), rest.0),
-      λ j c d. contains_cases ⊥ i is j c (λ h. new (subst (Contains seen) (sym h) d)) (λ h. rest.1 j h (contains_tail i seen j d)),
-    )
-
-distinct_case : (ps qs : List Policy) (o : Option Text) → repeated [] (ids ps) ≡ o → distinct_or ps o ≡ makes_it qs → AreDistinct (ids ps)
-distinct_case ps qs None e h = (unrepeated [] (ids ps) e).0
+distinct_case : (ps qs : List Policy) (o : Option Text) → repeated bytes_eq (ids ps) ≡ o → option_map_or (λ i. refuses (repeated_id i)) o (makes_it ps) ≡ makes_it qs → AreDistinct (ids ps)
+distinct_case ps qs None e h = (repeats_decide bytes_eq bytes_eq-Decides (ids ps)).0 e
 distinct_case ps qs (Some i) e h = cc
 
 -- the request that is bound, and the response that is made
@@ -55,7 +43,7 @@ pub parts_of : (s : Scope) (n : ℕ) (env : Bindings) (r q : Response) → reaut
 parts_of s n env r q e =
     let p = made_next (distinct (all_residuals r)) (λ ps. and_next (request_bound s env r.request) (λ c. makes_it (response_of (resumed s env c) n ps))) q e in
     let b = made_next (request_bound s env r.request) (λ c. makes_it (response_of (resumed s env c) n p.0)) q p.2 in
-    (distinct_case (all_residuals r) p.0 (repeated [] (ids (all_residuals r))) refl p.1, (b.0, b.1, again_is s n env r q b.0 b.1 e))
+    (distinct_case (all_residuals r) p.0 (repeated bytes_eq (ids (all_residuals r))) refl p.1, (b.0, b.1, again_is s n env r q b.0 b.1 e))
 
 -- what is left of the policies decides as they do
 same_decision : (d e : Decision) → (d ≡ allow → e ≡ allow) → (e ≡ allow → d ≡ allow) → d ≡ e
@@ -110,13 +98,13 @@ pub responses_are_completed : (s : Scope) → Agrees s → AllMadeWell s → (n 
 responses_are_completed s agrees well n ps w complete fits = response_completed w s agrees complete well n ps fits
 
 -- a policy that is found by its id is among those that are left
-found_case : (b : Bool) (x p : Policy) (i : Text) (xs : List Policy) → cond b (Some x) (with_id i xs) ≡ Some p → (with_id i xs ≡ Some p → Contains xs p) → Contains (x ∷ xs) p
-found_case true x p i xs e h = let same : x ≡ p = cc in subst (Contains (x ∷ xs)) same (contains_head x xs)
-found_case false x p i xs e h = contains_tail x xs p (h e)
+found_case : (b : Bool) (x p : Policy) (xs : List Policy) (o : Option Policy) → cond b (Some x) o ≡ Some p → (o ≡ Some p → Contains xs p) → Contains (x ∷ xs) p
+found_case true x p xs o e h = let same : x ≡ p = cc in subst (Contains (x ∷ xs)) same (contains_head x xs)
+found_case false x p xs o e h = contains_tail x xs p (h e)
 
-found_in : (i : Text) (xs : List Policy) (p : Policy) → with_id i xs ≡ Some p → Contains xs p
+found_in : (i : Text) (xs : List Policy) (p : Policy) → find (λ p. bytes_eq i p.id) xs ≡ Some p → Contains xs p
 found_in i [] p e = cc
-found_in i (x ∷ xs) p e = found_case (bytes_eq i x.id) x p i xs e (found_in i xs p)
+found_in i (x ∷ xs) p e = found_case (bytes_eq i x.id) x p xs (find (λ p. bytes_eq i p.id) xs) e (found_in i xs p)
 
 listed : (a b c d e f : List Policy) (p : Policy) → Contains ((c ++ (a ++ b)) ++ (f ++ (d ++ e))) p → Contains ((a ++ (b ++ c)) ++ (d ++ (e ++ f))) p
 listed a b c d e f p k =

@@ -1,12 +1,15 @@
 -- A completion of a scope completes it with other slots, without values, and with values that its unknowns mean.
 use Rattle.std.proofs.Common.{refl}
 use Rattle.std.specs.Prelude.{List, Option, Some, None}
+use Rattle.std.specs.Map.{lookup}
+use Rattle.std.specs.Str.{bytes_eq}
 use Rattle.cedar_expr_model.specs.Name.{Text}
 use Rattle.cedar_expr_model.specs.Uid.{Uid}
 use Rattle.cedar_expr_model.specs.Whole.Value.{V}
 use Rattle.cedar_expr_model.specs.Whole.Tree.{SlotId}
 use Rattle.cedar_expr_model.specs.Whole.Made.{Made}
-use Rattle.cedar_store_model.specs.Whole.World.{World, Part, known, left, Found, held, missing, not_loaded, part_named}
+use Rattle.cedar_expr_model.specs.Whole.ValueParts.{Part, known, left}
+use Rattle.cedar_store_model.specs.Whole.World.{World, Found, held, missing, not_loaded}
 use Rattle.cedar_store_model.specs.Whole.Knowledge.{IsWhole}
 use Rattle.cedar_evaluator_model.specs.Scope.{Scope, Entry, uid, unknown_uid, Context, closed, residual_fields, unknown_context}
 use Rattle.cedar_evaluator_model.specs.WellMade.{AllMadeWell}
@@ -28,7 +31,7 @@ module _ (w : World) (y : SlotId → Option Uid) where
   part_at (Some (left t)) q h = h
 
   parts_at : (ps : List (Text × Part Made)) (qs : List (Text × Part V)) → PartsMean w ps qs → PartsMean (record w { slots = y }) ps qs
-  parts_at ps qs h a = part_at (part_named a ps) (part_named a qs) (h a)
+  parts_at ps qs h a = part_at (lookup (bytes_eq a) ps) (lookup (bytes_eq a) qs) (h a)
 
   found_at : (u : Uid) (f : Found Made) (g : Found V) → FoundMeans w u f g → FoundMeans (record w { slots = y }) u f g
   found_at u (held e) g h =

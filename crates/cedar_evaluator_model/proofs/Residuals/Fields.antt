@@ -1,24 +1,27 @@
 -- Attributes of residual records: what their fields mean, and that of a record that may be projected no field errs.
 use Rattle.std.proofs.Common.{◌≡◌, Bool, true, false, cond, ◌∷◌, refl, sym, ap, subst}
 use Rattle.std.specs.Prelude.{Option, Some, None, is_some}
+use Rattle.std.specs.Option.{option_map_or}
+use Rattle.std.specs.List.{list_all}
 use Rattle.std.specs.Str.{bytes_eq}
 use Rattle.cedar_expr_model.specs.Name.{Text}
 use Rattle.cedar_expr_model.specs.Uid.{Uid}
 use Rattle.cedar_expr_model.specs.Whole.Value.{V, record_of, Fields, no_fields, field, field_of}
 use Rattle.cedar_expr_model.specs.Whole.Canonical.{set_made}
 use Rattle.cedar_expr_model.specs.Whole.Tree.{CoreType, Tree, lit, var, slot, unknown, choice, both, either, unary, binary, call, get_attr, has_attr, has_path, like, is_type, set_literal, record_literal, Trees, no_trees, tree, TreeFields, no_tree_fields, tree_field, Var, principal, action, resource, context}
-use Rattle.cedar_expr_model.specs.Whole.Parts.{is_projectable, are_projectable, have_projectable}
-use Rattle.cedar_expr_model.specs.Whole.Unknowns.{EachUnknown, EachUnknownInFields}
-use Rattle.cedar_expr_model.proofs.Lists.{both_hold}
-use Rattle.cedar_store_model.specs.Whole.Outcome.{Fault, Res, val, err, bind}
+use Rattle.cedar_expr_model.specs.Whole.Parts.{is_projectable, may_project, subexpressions, subexpressions_among, subexpressions_in_fields}
+use Rattle.cedar_expr_model.proofs.Whole.Gathering.{EachIn, EachInFields, all_split}
+use Rattle.cedar_store_model.specs.Whole.Outcome.{Fault, Res, val, err, bind, missing_field}
 use Rattle.cedar_store_model.specs.Whole.World.{World}
-use Rattle.cedar_store_model.specs.Whole.Operators.{says, bound_value}
-use Rattle.cedar_store_model.specs.Whole.Reads.{field_value, attribute_read, attribute_tested}
-use Rattle.cedar_store_model.specs.Whole.Meaning.{known_uid, variable, outcome_of, outcomes_of, field_outcomes_of}
+use Rattle.cedar_store_model.specs.Whole.Operators.{says}
+use Rattle.cedar_store_model.proofs.Whole.Named.{bound_value, known_uid}
+use Rattle.cedar_store_model.specs.Whole.Reads.{attribute_read, attribute_tested}
+use Rattle.cedar_store_model.specs.Whole.Meaning.{variable, outcome_of, outcomes_of, field_outcomes_of}
 use Rattle.cedar_evaluator_model.specs.Scope.{Left, residual}
-use Rattle.cedar_evaluator_model.specs.Steps.{truth_left}
-use Rattle.cedar_evaluator_model.specs.Evaluation.{tree_named, projected, get_of_residual, has_of_residual}
-use Rattle.cedar_evaluator_model.specs.Completion.{Fits, FitsAnnotations}
+use Rattle.cedar_evaluator_model.specs.Steps.{errs, truth_left}
+use Rattle.cedar_evaluator_model.specs.Evaluation.{tree_named, get_of_residual, has_of_residual}
+use Rattle.cedar_evaluator_model.specs.Completion.{Fits}
+use Rattle.cedar_evaluator_model.proofs.Named.{FitsIn}
 use Rattle.cedar_evaluator_model.proofs.Residuals.Stands.{Alike, Stands, alike_same, alike_bind, stands_unasked}
 
 -- it is no error
@@ -67,18 +70,18 @@ mutual
   never_errs w (set_literal ts) h = no_error_bind (outcomes_of w ts) (λ vs. Some (val (set_made vs))) (none_err w ts h) (λ vs. tt)
   never_errs w (record_literal fs) h = no_error_bind (field_outcomes_of w fs) (λ vs. Some (val (record_of vs))) (no_field_errs w fs h) (λ vs. tt)
 
-  none_err : (w : World) (ts : Trees) → are_projectable ts ≡ true → IsNoError (outcomes_of w ts)
+  none_err : (w : World) (ts : Trees) → list_all may_project (subexpressions_among ts) ≡ true → IsNoError (outcomes_of w ts)
   none_err w no_trees h = tt
   none_err w (tree t ts) h =
-      let k = both_hold (is_projectable t) (are_projectable ts) h in
+      let k = all_split may_project (subexpressions t) (subexpressions_among ts) h in
       let rest = none_err w ts k.1 in
       no_error_bind (outcome_of w t) (λ v. bind (outcomes_of w ts) (λ vs. Some (val (v ∷ vs)))) (never_errs w t k.0)
       (λ v. no_error_bind (outcomes_of w ts) (λ vs. Some (val (v ∷ vs))) rest (λ vs. tt))
 
-  no_field_errs : (w : World) (fs : TreeFields) → have_projectable fs ≡ true → IsNoError (field_outcomes_of w fs)
+  no_field_errs : (w : World) (fs : TreeFields) → list_all may_project (subexpressions_in_fields fs) ≡ true → IsNoError (field_outcomes_of w fs)
   no_field_errs w no_tree_fields h = tt
   no_field_errs w (tree_field a t fs) h =
-      let k = both_hold (is_projectable t) (have_projectable fs) h in
+      let k = all_split may_project (subexpressions t) (subexpressions_in_fields fs) h in
       let rest = no_field_errs w fs k.1 in
       no_error_bind (outcome_of w t) (λ v. bind (field_outcomes_of w fs) (λ vs. Some (val (field a v vs)))) (never_errs w t k.0)
       (λ v. no_error_bind (field_outcomes_of w fs) (λ vs. Some (val (field a v vs))) rest (λ vs. tt))
@@ -113,21 +116,21 @@ named_means w a (tree_field b t fs) vs e =
 -- what holds of the unknowns of a record holds of those of a field
 abbrev EachNamed : (Text → Option CoreType → Type 0) → Option Tree → Type 0
 EachNamed P None = Unit {0}
-EachNamed P (Some t) = EachUnknown P t
+EachNamed P (Some t) = EachIn P t
 
-each_case : (P : Text → Option CoreType → Type 0) (b : Bool) (t : Tree) (o : Option Tree) → EachUnknown P t → EachNamed P o → EachNamed P (cond b (Some t) o)
+each_case : (P : Text → Option CoreType → Type 0) (b : Bool) (t : Tree) (o : Option Tree) → EachIn P t → EachNamed P o → EachNamed P (cond b (Some t) o)
 each_case P true t o h k = h
 each_case P false t o h k = k
 
-each_named : (P : Text → Option CoreType → Type 0) (a : Text) (fs : TreeFields) → EachUnknownInFields P fs → EachNamed P (tree_named a fs)
+each_named : (P : Text → Option CoreType → Type 0) (a : Text) (fs : TreeFields) → EachInFields P fs → EachNamed P (tree_named a fs)
 each_named P a no_tree_fields h = tt
 each_named P a (tree_field b t fs) h = each_case P (bytes_eq a b) t (tree_named a fs) h.0 (each_named P a fs h.1)
 
 -- the access stays
-get_stays : (w : World) (a : Text) (r : Tree) (o : Option (Res V)) → FitsAnnotations w r → Alike o (outcome_of w r) → Stands w (bind o (attribute_read w a)) (residual (get_attr r a))
+get_stays : (w : World) (a : Text) (r : Tree) (o : Option (Res V)) → FitsIn w r → Alike o (outcome_of w r) → Stands w (bind o (attribute_read w a)) (residual (get_attr r a))
 get_stays w a r o f h = (alike_bind o (outcome_of w r) (attribute_read w a) (attribute_read w a) h (λ v. alike_same (attribute_read w a v)), f)
 
-has_stays : (w : World) (a : Text) (r : Tree) (o : Option (Res V)) → FitsAnnotations w r → Alike o (outcome_of w r) → Stands w (bind o (attribute_tested w a)) (residual (has_attr r a))
+has_stays : (w : World) (a : Text) (r : Tree) (o : Option (Res V)) → FitsIn w r → Alike o (outcome_of w r) → Stands w (bind o (attribute_tested w a)) (residual (has_attr r a))
 has_stays w a r o f h = (alike_bind o (outcome_of w r) (attribute_tested w a) (attribute_tested w a) h (λ v. alike_same (attribute_tested w a v)), f)
 
 -- a value that a record has for its outcome is the record of what its fields mean
@@ -137,39 +140,45 @@ record_value w fs v e =
     let same : record_of k.0 ≡ v = cc in
     (k.0, k.1, same)
 
--- the field that is projected
-module _ (w : World) (go : Tree → Left) (deeper : (t : Tree) → FitsAnnotations w t → Stands w (outcome_of w t) (go t)) where
+-- the field of a record that is read, and of a residual one that is projected
+abbrev field_read : Option V → Option (Res V)
+field_read q = Some (option_map_or val q (err missing_field))
+
+abbrev projected : (Tree → Left) → Text → TreeFields → Bool → Option Tree → Left
+projected go a fs may o = option_map_or (λ t. cond may (go t) (residual (get_attr (record_literal fs) a))) o (errs missing_field)
+
+module _ (w : World) (go : Tree → Left) (deeper : (t : Tree) → FitsIn w t → Stands w (outcome_of w t) (go t)) where
   projected_value : (a : Text) (fs : TreeFields) (vs : Fields) (may : Bool) (o : Option Tree) → EachNamed (λ n b. Fits b (w.unknowns n)) o → NamedMeans w o (field_of a vs)
-      → Stands w (Some (field_value (field_of a vs))) (residual (get_attr (record_literal fs) a)) → Stands w (Some (field_value (field_of a vs))) (projected go a fs may o)
-  projected_value a fs vs may None f h s = subst (λ q. Stands w (Some (field_value q)) (projected go a fs may None)) (sym h) tt
+      → Stands w (field_read (field_of a vs)) (residual (get_attr (record_literal fs) a)) → Stands w (field_read (field_of a vs)) (projected go a fs may o)
+  projected_value a fs vs may None f h s = subst (λ q. Stands w (field_read q) (projected go a fs may None)) (sym h) tt
   projected_value a fs vs true (Some t) f h s =
       let one : Stands w (Some (val h.0)) (go t) = subst (λ o. Stands w o (go t)) h.2 (deeper t f) in
-      subst (λ q. Stands w (Some (field_value q)) (go t)) (sym h.1) one
+      subst (λ q. Stands w (field_read q) (go t)) (sym h.1) one
   projected_value a fs vs false (Some t) f h s = s
 
-  projected_unasked : (a : Text) (fs : TreeFields) (may : Bool) (o : Option Tree) → EachNamed (λ n b. Fits b (w.unknowns n)) o → FitsAnnotations w (record_literal fs)
+  projected_unasked : (a : Text) (fs : TreeFields) (may : Bool) (o : Option Tree) → EachNamed (λ n b. Fits b (w.unknowns n)) o → FitsIn w (record_literal fs)
       → Stands w None (projected go a fs may o)
   projected_unasked a fs may None f h = tt
   projected_unasked a fs true (Some t) f h = stands_unasked w (outcome_of w t) (go t) (deeper t f)
   projected_unasked a fs false (Some t) f h = (tt, h)
 
-  projected_error : (a : Text) (fs : TreeFields) (e : Fault) (may : Bool) (o : Option Tree) → have_projectable fs ≡ may → Alike (Some (err e)) (outcome_of w (record_literal fs))
-      → FitsAnnotations w (record_literal fs) → Stands w (Some (err e)) (projected go a fs may o)
+  projected_error : (a : Text) (fs : TreeFields) (e : Fault) (may : Bool) (o : Option Tree) → is_projectable (record_literal fs) ≡ may → Alike (Some (err e)) (outcome_of w (record_literal fs))
+      → FitsIn w (record_literal fs) → Stands w (Some (err e)) (projected go a fs may o)
   projected_error a fs e may None k h f = tt
   projected_error a fs e true (Some t) k h f = absurd (not_both (outcome_of w (record_literal fs)) h.0 (never_errs w (record_literal fs) k) h.1)
   projected_error a fs e false (Some t) k h f = get_stays w a (record_literal fs) (Some (err e)) f h
 
-  get_of_record : (a : Text) (fs : TreeFields) (o : Option (Res V)) → FitsAnnotations w (record_literal fs) → Alike o (outcome_of w (record_literal fs))
-      → Stands w (bind o (attribute_read w a)) (projected go a fs (have_projectable fs) (tree_named a fs))
-  get_of_record a fs None f h = projected_unasked a fs (have_projectable fs) (tree_named a fs) (each_named _ a fs f) f
+  get_of_record : (a : Text) (fs : TreeFields) (o : Option (Res V)) → FitsIn w (record_literal fs) → Alike o (outcome_of w (record_literal fs))
+      → Stands w (bind o (attribute_read w a)) (projected go a fs (is_projectable (record_literal fs)) (tree_named a fs))
+  get_of_record a fs None f h = projected_unasked a fs (is_projectable (record_literal fs)) (tree_named a fs) (each_named _ a fs f) f
   get_of_record a fs (Some (val v)) f h =
       let k = record_value w fs v h in
       let s = subst (λ x. Stands w (attribute_read w a x) (residual (get_attr (record_literal fs) a))) (sym k.2) (get_stays w a (record_literal fs) (Some (val v)) f h) in
-      subst (λ x. Stands w (attribute_read w a x) (projected go a fs (have_projectable fs) (tree_named a fs))) k.2
-      (projected_value a fs k.0 (have_projectable fs) (tree_named a fs) (each_named _ a fs f) (named_means w a fs k.0 k.1) s)
-  get_of_record a fs (Some (err e)) f h = projected_error a fs e (have_projectable fs) (tree_named a fs) refl h f
+      subst (λ x. Stands w (attribute_read w a x) (projected go a fs (is_projectable (record_literal fs)) (tree_named a fs))) k.2
+      (projected_value a fs k.0 (is_projectable (record_literal fs)) (tree_named a fs) (each_named _ a fs f) (named_means w a fs k.0 k.1) s)
+  get_of_record a fs (Some (err e)) f h = projected_error a fs e (is_projectable (record_literal fs)) (tree_named a fs) refl h f
 
-  pub stands_get : (a : Text) (r : Tree) (o : Option (Res V)) → FitsAnnotations w r → Alike o (outcome_of w r) → Stands w (bind o (attribute_read w a)) (get_of_residual go a r)
+  pub stands_get : (a : Text) (r : Tree) (o : Option (Res V)) → FitsIn w r → Alike o (outcome_of w r) → Stands w (bind o (attribute_read w a)) (get_of_residual go a r)
   stands_get a (record_literal fs) o f h = get_of_record a fs o f h
   stands_get a r o f h = get_stays w a r o f h
 
@@ -178,7 +187,7 @@ named_there : (w : World) (o : Option Tree) (q : Option V) → NamedMeans w o q 
 named_there w None q h = ap is_some (sym h)
 named_there w (Some t) q h = ap is_some (sym h.1)
 
-decided_has : (w : World) (a : Text) (fs : TreeFields) (o : Option (Res V)) → have_projectable fs ≡ true → Alike o (outcome_of w (record_literal fs))
+decided_has : (w : World) (a : Text) (fs : TreeFields) (o : Option (Res V)) → is_projectable (record_literal fs) ≡ true → Alike o (outcome_of w (record_literal fs))
     → Stands w (bind o (attribute_tested w a)) (truth_left (is_some (tree_named a fs)))
 decided_has w a fs None k h = (tt, tt)
 decided_has w a fs (Some (val v)) k h =
@@ -193,6 +202,6 @@ has_case : (w : World) (a : Text) (fs : TreeFields) (o : Option (Res V)) (may : 
 has_case w a fs o true h k = h refl
 has_case w a fs o false h k = k
 
-pub stands_has : (w : World) (a : Text) (r : Tree) (o : Option (Res V)) → FitsAnnotations w r → Alike o (outcome_of w r) → Stands w (bind o (attribute_tested w a)) (has_of_residual a r)
-stands_has w a (record_literal fs) o f h = has_case w a fs o (have_projectable fs) (λ k. decided_has w a fs o k h) (has_stays w a (record_literal fs) o f h)
+pub stands_has : (w : World) (a : Text) (r : Tree) (o : Option (Res V)) → FitsIn w r → Alike o (outcome_of w r) → Stands w (bind o (attribute_tested w a)) (has_of_residual a r)
+stands_has w a (record_literal fs) o f h = has_case w a fs o (is_projectable (record_literal fs)) (λ k. decided_has w a fs o k h) (has_stays w a (record_literal fs) o f h)
 stands_has w a r o f h = has_stays w a r o f h

@@ -1,12 +1,12 @@
 -- What is left of the policies in a response: each has one, which is found by its id and is satisfied exactly where the policy is.
 use Rattle.std.proofs.Common.{◌≡◌, ℕ, Bool, true, false, cond, List, [], ◌∷◌, ◌++◌, refl, sym, ap, ◌∙◌, subst, ◌⊎◌, inl, inr, ⊎_elim}
-use Rattle.std.specs.Prelude.{Some, Contains}
+use Rattle.std.specs.Prelude.{Option, Some, Contains, find}
 use Rattle.std.specs.Str.{bytes_eq}
 use Rattle.std.proofs.lemmas.List.Elements.{All-contains, Contains-append_left, Contains-append_right, Contains-append_cases}
 use Rattle.std.proofs.lemmas.Slice.Eq.{bytes_eq-Decides}
 use Rattle.cedar_expr_model.specs.Name.{Text}
 use Rattle.cedar_expr_model.specs.Whole.Value.{truth}
-use Rattle.cedar_expr_model.specs.Whole.Repeats.{AreDistinct}
+use Rattle.cedar_expr_model.specs.Whole.ListLaws.{AreDistinct}
 use Rattle.cedar_expr_model.specs.Whole.Tree.{Tree, lit}
 use Rattle.cedar_expr_model.specs.Whole.Made.{made_prim}
 use Rattle.cedar_expr_model.proofs.Lists.{contains_head, contains_tail, contains_cases, contains_none, map_has, map_from}
@@ -20,7 +20,7 @@ use Rattle.cedar_evaluator_model.specs.Evaluation.{evaluated}
 use Rattle.cedar_evaluator_model.specs.WellMade.{AllMadeWell}
 use Rattle.cedar_evaluator_model.specs.Completion.{FitsAnnotations, Completes}
 use Rattle.cedar_evaluator_model.specs.Response.{slots_bound, with_bindings, verdict, noted, if_true, if_false, if_residual, group, response_of}
-use Rattle.cedar_evaluator_model.specs.Members.{left_policy, of_true, of_false, of_residual, all_residuals, with_id, get, met_limit}
+use Rattle.cedar_evaluator_model.specs.Members.{left_policy, of_true, of_false, of_residual, all_residuals, get, met_limit}
 use Rattle.cedar_evaluator_model.specs.ResponseLaws.{FitConditions, IsKept}
 use Rattle.cedar_evaluator_model.proofs.Limits.{not_met}
 use Rattle.cedar_evaluator_model.proofs.Residuals.Policies.{verdict_told, both_ways, tree_left, policy_left, kept}
@@ -168,15 +168,15 @@ module _ (s : Scope) (n : ℕ) (ps : List Policy) where
   found_from q c = let k = effect_from by_id q c in stands_left k.0 q (first_last (trues k.0) (falses k.0) (residuals k.0) q (three_from (residuals k.0) (trues k.0) (falses k.0) q k.1))
 
 -- the policy of an id, where policies of that id are the same
-id_case : (b : Bool) (i : Text) (x q : Policy) (xs : List Policy) → bytes_eq i x.id ≡ b → q.id ≡ i → Contains (x ∷ xs) q → (x.id ≡ i → x ≡ q) → (Contains xs q → with_id i xs ≡ Some q)
-    → cond b (Some x) (with_id i xs) ≡ Some q
-id_case true i x q xs e h c same rest = ap Some (same (sym ((bytes_eq-Decides i x.id).0 e)))
-id_case false i x q xs e h c same rest =
-    contains_cases (with_id i xs ≡ Some q) x xs q c (λ k. let j : i ≡ x.id = sym h ∙ ap (λ (y : Policy). y.id) (sym k) in let t = (bytes_eq-Decides i x.id).1 j in cc) rest
+id_case : (b : Bool) (i : Text) (x q : Policy) (xs : List Policy) (o : Option Policy) → bytes_eq i x.id ≡ b → q.id ≡ i → Contains (x ∷ xs) q → (x.id ≡ i → x ≡ q) → (Contains xs q → o ≡ Some q)
+    → cond b (Some x) o ≡ Some q
+id_case true i x q xs o e h c same rest = ap Some (same (sym ((bytes_eq-Decides i x.id).0 e)))
+id_case false i x q xs o e h c same rest =
+    contains_cases (o ≡ Some q) x xs q c (λ k. let j : i ≡ x.id = sym h ∙ ap (λ (y : Policy). y.id) (sym k) in let t = (bytes_eq-Decides i x.id).1 j in cc) rest
 
-with_id_found : (i : Text) (xs : List Policy) (q : Policy) → Contains xs q → q.id ≡ i → ((x : Policy) → Contains xs x → x.id ≡ i → x ≡ q) → with_id i xs ≡ Some q
+with_id_found : (i : Text) (xs : List Policy) (q : Policy) → Contains xs q → q.id ≡ i → ((x : Policy) → Contains xs x → x.id ≡ i → x ≡ q) → find (λ p. bytes_eq i p.id) xs ≡ Some q
 with_id_found i [] q c h same = absurd (contains_none q c)
-with_id_found i (x ∷ xs) q c h same = id_case (bytes_eq i x.id) i x q xs refl h c (same x (contains_head x xs)) (λ d. with_id_found i xs q d h (λ y k. same y (contains_tail x xs y k)))
+with_id_found i (x ∷ xs) q c h same = id_case (bytes_eq i x.id) i x q xs (find (λ p. bytes_eq i p.id) xs) refl h c (same x (contains_head x xs)) (λ d. with_id_found i xs q d h (λ y k. same y (contains_tail x xs y k)))
 
 -- distinct ids tell policies apart
 distinct_case : (z : Policy) (ps : List Policy) (p : Policy) → ¬ (Contains (ids ps) z.id) → Contains ps p → z.id ≡ p.id → ⊥

@@ -11,12 +11,14 @@ use Rattle.cedar_expr_model.proofs.Equality.{name_eq-Decides}
 use Rattle.cedar_expr_model.proofs.Whole.ValueOrder.{values_decide}
 use Rattle.cedar_store_model.specs.Whole.Outcome.{Res, val, err, bind}
 use Rattle.cedar_store_model.specs.Whole.World.{World}
-use Rattle.cedar_store_model.specs.Whole.Operators.{says, of_type, bound_value}
+use Rattle.cedar_store_model.specs.Whole.Operators.{says, of_type}
+use Rattle.cedar_store_model.proofs.Whole.Named.{bound_value}
 use Rattle.cedar_store_model.specs.Whole.Meaning.{combined, outcome_of}
 use Rattle.cedar_store_model.specs.Whole.Knowledge.{Keeps}
 use Rattle.cedar_evaluator_model.specs.Scope.{residual}
 use Rattle.cedar_evaluator_model.specs.Steps.{truth_left, kind_of_value, kind_of_unknown, differ, with_residual, is_of_residual}
-use Rattle.cedar_evaluator_model.specs.Completion.{Fits, FitsAnnotations}
+use Rattle.cedar_evaluator_model.specs.Completion.{Fits}
+use Rattle.cedar_evaluator_model.proofs.Named.{FitsIn}
 use Rattle.cedar_evaluator_model.proofs.Residuals.Stands.{Alike, Stands, alike_same, alike_bind}
 
 -- the outcome is a uid of this entity type, where one is named
@@ -42,7 +44,7 @@ bound_kind k (Some x) (Some (val v)) f h = let same : x ≡ v = cc in subst (λ 
 bound_kind k None (Some (err e)) f h = let g : None ≡ Some (err h.0) = h.1 in cc
 bound_kind k (Some x) (Some (err e)) f h = let g : Some (val x) ≡ Some (err h.0) = h.1 in cc
 
-pub unknown_kind : (w : World) (r : Tree) (o : Option (Res V)) → FitsAnnotations w r → Alike o (outcome_of w r) → IsUidOf (kind_of_unknown r) o
+pub unknown_kind : (w : World) (r : Tree) (o : Option (Res V)) → FitsIn w r → Alike o (outcome_of w r) → IsUidOf (kind_of_unknown r) o
 unknown_kind w (unknown n (Some (entity_core k))) o f h = bound_kind k (w.unknowns n) o f h
 unknown_kind w r o f h = tt
 
@@ -68,7 +70,7 @@ differ_apart w (Some j) (Some k) (Some (val v)) (Some (err e)) h g d = absurd g
 differ_apart w (Some j) (Some k) (Some (val v)) (Some (val x)) h g d = (ap (λ b. Some (says b)) (sym (apart_case (value_eq v x) j k v x refl h g d)), tt)
 
 -- an operator of two operands stays
-pub stays : (w : World) (c : BinaryOp) (o p : Option (Res V)) (a b : Tree) → Alike o (outcome_of w a) → Alike p (outcome_of w b) → FitsAnnotations w a → FitsAnnotations w b
+pub stays : (w : World) (c : BinaryOp) (o p : Option (Res V)) (a b : Tree) → Alike o (outcome_of w a) → Alike p (outcome_of w b) → FitsIn w a → FitsIn w b
     → Stands w (bind o (λ v. bind p (combined w c v))) (residual (binary c a b))
 stays w c o p a b h g f e = (
   alike_bind o (outcome_of w a) (λ v. bind p (combined w c v)) (λ v. bind (outcome_of w b) (combined w c v)) h
@@ -82,8 +84,8 @@ differ_case : (w : World) (d : Bool) (o p : Option (Res V)) (a b : Tree) → (d 
 differ_case w true o p a b h g = h refl
 differ_case w false o p a b h g = g
 
-pub stands_with : (w : World) (c : BinaryOp) (j k : Option Name) (o p : Option (Res V)) (a b : Tree) → Alike o (outcome_of w a) → Alike p (outcome_of w b) → FitsAnnotations w a
-    → FitsAnnotations w b → IsUidOf j o → IsUidOf k p → Stands w (bind o (λ v. bind p (combined w c v))) (with_residual c j k a b)
+pub stands_with : (w : World) (c : BinaryOp) (j k : Option Name) (o p : Option (Res V)) (a b : Tree) → Alike o (outcome_of w a) → Alike p (outcome_of w b) → FitsIn w a
+    → FitsIn w b → IsUidOf j o → IsUidOf k p → Stands w (bind o (λ v. bind p (combined w c v))) (with_residual c j k a b)
 stands_with w equal j k o p a b h g f e x y = differ_case w (differ j k) o p a b (differ_apart w j k o p x y) (stays w equal o p a b h g f e)
 stands_with w c j k o p a b h g f e x y = stays w c o p a b h g f e
 
@@ -102,6 +104,6 @@ is_decided w n k None h = (tt, tt)
 is_decided w n k (Some (val v)) h = (ap Some (sym (is_kind n k v h)), tt)
 is_decided w n k (Some (err e)) h = absurd h
 
-pub stands_is : (w : World) (n : Name) (r : Tree) (o : Option (Res V)) → FitsAnnotations w r → Alike o (outcome_of w r) → Stands w (bind o (λ v. Some (of_type n v))) (is_of_residual n r)
+pub stands_is : (w : World) (n : Name) (r : Tree) (o : Option (Res V)) → FitsIn w r → Alike o (outcome_of w r) → Stands w (bind o (λ v. Some (of_type n v))) (is_of_residual n r)
 stands_is w n (unknown x (Some (entity_core k))) o f h = is_decided w n k o (bound_kind k (w.unknowns x) o f h)
 stands_is w n r o f h = (alike_bind o (outcome_of w r) (λ v. Some (of_type n v)) (λ v. Some (of_type n v)) h (λ v. alike_same (Some (of_type n v))), f)

@@ -1,28 +1,32 @@
 -- What evaluation leaves stands for the expression in every completion: one level, and then by the depth.
 use Rattle.std.proofs.Common.{◌≡◌, ℕ, zero, suc, true, false, List, [], ◌∷◌, refl, sym, ap, ◌∙◌, subst}
-use Rattle.std.specs.Prelude.{Option, Some, None, map, codes}
+use Rattle.std.specs.Prelude.{Option, Some, None, map, codes, zip, IsSome}
 use Rattle.cedar_expr_model.specs.Name.{Text}
 use Rattle.cedar_expr_model.specs.Uid.{Uid}
 use Rattle.cedar_expr_model.specs.Whole.Value.{entity, V, record_of, field}
 use Rattle.cedar_expr_model.specs.Whole.Canonical.{set_made}
 use Rattle.cedar_expr_model.specs.Whole.Tree.{CoreType, entity_core, BinaryOp, Tree, lit, var, slot, unknown, choice, both, either, unary, binary, call, get_attr, has_attr, has_path, like, is_type, set_literal, record_literal, Trees, no_trees, tree, TreeFields, no_tree_fields, tree_field, Var, principal, action, resource, context}
-use Rattle.cedar_expr_model.specs.Whole.Unknowns.{EachUnknownAmong, EachUnknownInFields}
+use Rattle.cedar_expr_model.specs.Whole.Builder.{trees, tree_fields}
+use Rattle.cedar_expr_model.specs.Whole.Parts.{listed}
+use Rattle.cedar_expr_model.proofs.Whole.Gathering.{EachAmong, EachInFields}
 use Rattle.cedar_expr_model.specs.Whole.Made.{Made, made_prim, made_set, made_record, bare, bare_fields, written}
 use Rattle.cedar_store_model.specs.Whole.Outcome.{Res, val, err, bind}
 use Rattle.cedar_store_model.specs.Whole.World.{World}
-use Rattle.cedar_store_model.specs.Whole.Operators.{says, applied, like_pattern, of_type, called, bound_value}
-use Rattle.cedar_store_model.specs.Whole.Reads.{attribute_read, attribute_tested, path_tested}
-use Rattle.cedar_store_model.specs.Whole.Meaning.{Means, known_uid, variable, combined, slot_value, outcome_of, outcomes_of, field_outcomes_of}
-use Rattle.cedar_store_model.specs.Whole.Knowledge.{IsThere, Keeps, IsWhole}
+use Rattle.cedar_store_model.specs.Whole.Operators.{says, applied, like_pattern, of_type, called}
+use Rattle.cedar_store_model.proofs.Whole.Named.{bound_value, known_uid}
+use Rattle.cedar_store_model.specs.Whole.Reads.{attribute_read, attribute_tested}
+use Rattle.cedar_store_model.specs.Whole.Meaning.{Means, variable, combined, slot_value, outcome_of, outcomes_of, field_outcomes_of, path_tested}
+use Rattle.cedar_store_model.specs.Whole.Knowledge.{Keeps, IsWhole}
 use Rattle.cedar_store_model.proofs.Whole.Built.{conjunction_outcome, disjunction_outcome}
 use Rattle.cedar_store_model.proofs.Whole.Known.{there}
 use Rattle.cedar_store_model.proofs.Whole.Meaning.{means_outcome, outcome_means}
 use Rattle.cedar_evaluator_model.specs.Scope.{Scope, Entry, uid, unknown_uid, Context, closed, residual_fields, unknown_context, Agrees, Left, value_left, residual, stopped, fault, limit}
-use Rattle.cedar_evaluator_model.specs.Steps.{truth_left, on_value, best, kind_of_value, kind_of_unknown, with_residual, combined_left, attribute_of, test_of, path_of, is_of_residual, called_left, made_members, made_fields, tree_fields_of}
-use Rattle.cedar_evaluator_model.specs.Evaluation.{entry_left, context_left, variable_left, slot_left, get_of_residual, has_of_residual, binary_left, pieces_of, names_of, trees_of, node, evaluated}
+use Rattle.cedar_evaluator_model.specs.Steps.{truth_left, on_value, best, kind_of_value, kind_of_unknown, with_residual, combined_left, attribute_of, test_of, path_of, is_of_residual, called_left, made_members}
+use Rattle.cedar_evaluator_model.specs.Evaluation.{entry_left, context_left, variable_left, slot_left, get_of_residual, has_of_residual, binary_left, pieces_of, node, evaluated}
 use Rattle.cedar_evaluator_model.specs.WellMade.{IsWellMade, IsContextMadeWell, AllMadeWell}
 use Rattle.cedar_evaluator_model.specs.Completion.{Fits, FitsAnnotations, EntryMeans, ContextMeans, Completes}
 use Rattle.cedar_evaluator_model.specs.Standing.{Errs, MeansLike, StandsFor, StandsInAll}
+use Rattle.cedar_evaluator_model.proofs.Named.{field_names, field_trees, fields_named, FitsIn, FitsAmong, FitsInFields, fits_in, fits_annotations}
 use Rattle.cedar_evaluator_model.proofs.Given.{literal_applied, literal_like, literal_type}
 use Rattle.cedar_evaluator_model.proofs.Residuals.Stands.{Alike, IsNoValue, Stands, alike_same, alike_bind, stands_bind, stands_second, stands_picks, alike_picked, written_alike, written_fits, best_alike, best_fits, alike_asked, each_conjunction, each_disjunction, stands_and, stands_or, stands_literal}
 use Rattle.cedar_evaluator_model.proofs.Residuals.Kinds.{value_kind, unknown_kind, stands_with, stands_is}
@@ -44,7 +48,7 @@ context_stands : (w : World) (c : Context) (o : Option V) → ContextMeans w c o
 context_stands w (closed fs) o h g = subst (λ x. Stands w (bound_value x) (value_left (made_record fs))) (sym h) (refl, g)
 context_stands w (residual_fields fs) o h g =
     let p = h.2 in
-    subst (λ x. Stands w (bound_value x) (residual (record_literal fs))) (sym h.1) (means_outcome w (record_literal fs) (val h.0) (p.0 w.slots), p.1)
+    subst (λ x. Stands w (bound_value x) (residual (record_literal fs))) (sym h.1) (means_outcome w (record_literal fs) (val h.0) (p.0 w.slots), fits_in w (record_literal fs) p.1)
 context_stands w unknown_context o h g = subst (λ x. Stands w (bound_value x) (residual (unknown (codes "context") None))) (sym h.1) (ap bound_value h.2, subst (Fits None) (sym h.2) tt)
 
 slot_stands : (w : World) (o : Option Uid) → Stands w (Some (slot_value o)) (slot_left o)
@@ -66,7 +70,7 @@ module _ (w : World) (s : Scope) (complete : Completes w s) (well : AllMadeWell 
       (λ b f a. stands_with w c (kind_of_value m) (kind_of_unknown b) (Some (val (bare m))) p (written m) b (written_alike w (Some (val (bare m))) m refl g) a (written_fits w m) f
       (value_kind m (Some (val (bare m))) refl) (unknown_kind w b p f a))
 
-  after_residual : (a : Tree) (r : Left) → FitsAnnotations w a → Alike o (outcome_of w a) → Stands w p r
+  after_residual : (a : Tree) (r : Left) → FitsIn w a → Alike o (outcome_of w a) → Stands w p r
       → Stands w (bind o (λ v. bind p (combined w c v)))
       (on_value r (λ n. with_residual c (kind_of_unknown a) (kind_of_value n) a (written n)) (λ b. with_residual c (kind_of_unknown a) (kind_of_unknown b) a b))
   after_residual a r f h g =
@@ -78,33 +82,33 @@ module _ (w : World) (s : Scope) (complete : Completes w s) (well : AllMadeWell 
   binary_stands l r h k = stands_bind w o l (λ v. bind p (combined w c v)) _ _ h (λ m g i. after_value m r g i k) (λ a f i. after_residual a r f i k)
 
 -- what holds of the unknowns of expressions holds of them as fields
-each_field_of : (P : Text → Option CoreType → Type 0) (as_ : List Text) (ts : Trees) → EachUnknownAmong P ts → EachUnknownInFields P (tree_fields_of as_ ts)
+each_field_of : (P : Text → Option CoreType → Type 0) (as_ : List Text) (ts : List Tree) → EachAmong P (trees ts) → EachInFields P (tree_fields (zip as_ ts))
 each_field_of P [] ts h = tt
-each_field_of P (a ∷ as_) no_trees h = tt
-each_field_of P (a ∷ as_) (tree t ts) h = (h.0, each_field_of P as_ ts h.1)
+each_field_of P (a ∷ as_) [] h = tt
+each_field_of P (a ∷ as_) (t ∷ ts) h = (h.0, each_field_of P as_ ts h.1)
 
 -- one level, where what is a level deeper stands
 module _ (w : World) (s : Scope) (agrees : Agrees s) (complete : Completes w s) (well : AllMadeWell s) (go : Tree → Left)
-    (deeper : (t : Tree) → FitsAnnotations w t → Stands w (outcome_of w t) (go t)) where
-  all_stand : (ts : Trees) → EachUnknownAmong (λ n a. Fits a (w.unknowns n)) ts → AllStand w (map bare) (outcomes_of w) (outcomes_of w ts) (pieces_of go ts)
-  all_stand no_trees f = no_pieces w (map bare) (outcomes_of w) refl
+    (deeper : (t : Tree) → FitsIn w t → Stands w (outcome_of w t) (go t)) where
+  all_stand : (ts : Trees) → FitsAmong w ts → AllStand w (map bare) (λ us. outcomes_of w (trees us)) (outcomes_of w ts) (pieces_of go (listed ts))
+  all_stand no_trees f = no_pieces w (map bare) (λ us. outcomes_of w (trees us)) refl
   all_stand (tree t ts) f =
-      all_more w (map bare) (map bare) (outcomes_of w) (outcomes_of w) (λ v vs. v ∷ vs) (λ m ms. refl) (λ t ts. refl) (outcome_of w t) (go t) (outcomes_of w ts) (pieces_of go ts) (deeper t f.0)
-      (all_stand ts f.1)
+      all_more w (map bare) (map bare) (λ us. outcomes_of w (trees us)) (λ us. outcomes_of w (trees us)) (λ v vs. v ∷ vs) (λ m ms. refl) (λ t ts. refl) (outcome_of w t) (go t) (outcomes_of w ts)
+      (pieces_of go (listed ts)) (deeper t f.0) (all_stand ts f.1)
 
-  fields_stand : (fs : TreeFields) → EachUnknownInFields (λ n a. Fits a (w.unknowns n)) fs
-      → AllStand w (λ ms. bare_fields (made_fields (names_of fs) ms)) (λ ts. field_outcomes_of w (tree_fields_of (names_of fs) ts)) (field_outcomes_of w fs) (pieces_of go (trees_of fs))
-  fields_stand no_tree_fields f = no_pieces w (λ ms. bare_fields (made_fields [] ms)) (λ ts. field_outcomes_of w (tree_fields_of [] ts)) refl
+  fields_stand : (fs : TreeFields) → FitsInFields w fs
+      → AllStand w (λ ms. bare_fields (fields_named (field_names fs) ms)) (λ ts. field_outcomes_of w (tree_fields (zip (field_names fs) ts))) (field_outcomes_of w fs) (pieces_of go (field_trees fs))
+  fields_stand no_tree_fields f = no_pieces w (λ ms. bare_fields (fields_named [] ms)) (λ ts. field_outcomes_of w (tree_fields (zip [] ts))) refl
   fields_stand (tree_field a t fs) f =
-      all_more w (λ ms. bare_fields (made_fields (names_of fs) ms)) (λ ms. bare_fields (made_fields (a ∷ names_of fs) ms)) (λ ts. field_outcomes_of w (tree_fields_of (names_of fs) ts))
-      (λ ts. field_outcomes_of w (tree_fields_of (a ∷ names_of fs) ts)) (λ v vs. field a v vs)
-      (λ m ms. refl) (λ t ts. refl) (outcome_of w t) (go t) (field_outcomes_of w fs) (pieces_of go (trees_of fs)) (deeper t f.0) (fields_stand fs f.1)
+      all_more w (λ ms. bare_fields (fields_named (field_names fs) ms)) (λ ms. bare_fields (fields_named (a ∷ field_names fs) ms)) (λ ts. field_outcomes_of w (tree_fields (zip (field_names fs) ts)))
+      (λ ts. field_outcomes_of w (tree_fields (zip (a ∷ field_names fs) ts))) (λ v vs. field a v vs)
+      (λ m ms. refl) (λ t ts. refl) (outcome_of w t) (go t) (field_outcomes_of w fs) (pieces_of go (field_trees fs)) (deeper t f.0) (fields_stand fs f.1)
 
-  node_stands : (t : Tree) → FitsAnnotations w t → Stands w (outcome_of w t) (node s go t)
+  node_stands : (t : Tree) → FitsIn w t → Stands w (outcome_of w t) (node s go t)
   node_stands (lit p) f = (refl, tt)
   node_stands (var x) f = variable_stands w s complete well x
   node_stands (slot x) f = subst (λ o. Stands w (Some (slot_value o)) (slot_left (s.slots x))) (sym (complete.slots x)) (slot_stands w (s.slots x))
-  node_stands (unknown n a) f = stands_mapped w s n a (s.values n) (values_well w s complete well n) (complete.unknowns n) f
+  node_stands (unknown n a) f = stands_mapped w n a (s.values n) (values_well w s complete well n) (complete.unknowns n) f
   node_stands (choice t a b) f =
       let l = deeper a f.1 in
       let r = deeper b f.2 in
@@ -137,9 +141,9 @@ module _ (w : World) (s : Scope) (agrees : Agrees s) (complete : Completes w s) 
       (λ x e h. (alike_bind (outcome_of w a) (outcome_of w x) (λ v. Some (applied o v)) (λ v. Some (applied o v)) h (λ v. alike_same (Some (applied o v))), e))
   node_stands (binary c a b) f = binary_stands w s complete well c (outcome_of w a) (outcome_of w b) (go a) (go b) (deeper a f.0) (deeper b f.1)
   node_stands (call g ts) f =
-      all_from w (map bare) (outcomes_of w) (called w.table w.unknowns g) (called_left s g) (call g) (outcomes_of w ts) (pieces_of go ts) (all_stand ts f)
+      all_from w (map bare) (λ us. outcomes_of w (trees us)) (called w.table w.unknowns g) (called_left s g) (λ us. call g (trees us)) (outcomes_of w ts) (pieces_of go (listed ts)) (all_stand ts f)
       (λ ms h. stands_call w s agrees complete well g ms)
-      (λ us h e. (alike_bind (outcomes_of w ts) (outcomes_of w us) (called w.table w.unknowns g) (called w.table w.unknowns g) h (λ vs. alike_same (called w.table w.unknowns g vs)), e))
+      (λ us h e. (alike_bind (outcomes_of w ts) (outcomes_of w (trees us)) (called w.table w.unknowns g) (called w.table w.unknowns g) h (λ vs. alike_same (called w.table w.unknowns g vs)), e))
   node_stands (get_attr t a) f =
       stands_bind w (outcome_of w t) (go t) (attribute_read w a) (attribute_of s a) (get_of_residual go a) (deeper t f) (λ m g k. stands_attribute w s complete well a m g)
       (λ x e h. stands_get w go deeper a x (outcome_of w t) e h)
@@ -160,33 +164,33 @@ module _ (w : World) (s : Scope) (agrees : Agrees s) (complete : Completes w s) 
       stands_bind w (outcome_of w t) (go t) (λ v. Some (of_type n v)) _ (is_of_residual n) (deeper t f) (λ m g k. stands_literal w (of_type n (bare m)) (literal_type n (bare m)))
       (λ x e h. stands_is w n x (outcome_of w t) e h)
   node_stands (set_literal ts) f =
-      all_from w (map bare) (outcomes_of w) (λ vs. Some (val (set_made vs))) (λ ms. value_left (made_set (made_members ms))) set_literal (outcomes_of w ts) (pieces_of go ts) (all_stand ts f)
-      (stands_set w)
-      (λ us h e. (alike_bind (outcomes_of w ts) (outcomes_of w us) (λ vs. Some (val (set_made vs))) (λ vs. Some (val (set_made vs))) h (λ vs. refl), e))
+      all_from w (map bare) (λ us. outcomes_of w (trees us)) (λ vs. Some (val (set_made vs))) (λ ms. value_left (made_set (made_members ms))) (λ us. set_literal (trees us)) (outcomes_of w ts)
+      (pieces_of go (listed ts)) (all_stand ts f) (stands_set w)
+      (λ us h e. (alike_bind (outcomes_of w ts) (outcomes_of w (trees us)) (λ vs. Some (val (set_made vs))) (λ vs. Some (val (set_made vs))) h (λ vs. refl), e))
   node_stands (record_literal fs) f =
-      all_from w (λ ms. bare_fields (made_fields (names_of fs) ms)) (λ ts. field_outcomes_of w (tree_fields_of (names_of fs) ts)) (λ vs. Some (val (record_of vs)))
-      (λ ms. value_left (made_record (made_fields (names_of fs) ms))) (λ ts. record_literal (tree_fields_of (names_of fs) ts)) (field_outcomes_of w fs) (pieces_of go (trees_of fs))
+      all_from w (λ ms. bare_fields (fields_named (field_names fs) ms)) (λ ts. field_outcomes_of w (tree_fields (zip (field_names fs) ts))) (λ vs. Some (val (record_of vs)))
+      (λ ms. value_left (made_record (fields_named (field_names fs) ms))) (λ ts. record_literal (tree_fields (zip (field_names fs) ts))) (field_outcomes_of w fs) (pieces_of go (field_trees fs))
       (fields_stand fs f)
-      (λ ms h. (refl, fields_well w.table (names_of fs) ms h))
+      (λ ms h. (refl, fields_well w.table (field_names fs) ms h))
       (λ us h e. (
-        alike_bind (field_outcomes_of w fs) (field_outcomes_of w (tree_fields_of (names_of fs) us)) (λ vs. Some (val (record_of vs))) (λ vs. Some (val (record_of vs))) h
+        alike_bind (field_outcomes_of w fs) (field_outcomes_of w (tree_fields (zip (field_names fs) us))) (λ vs. Some (val (record_of vs))) (λ vs. Some (val (record_of vs))) h
             (λ vs. refl),
-        each_field_of (λ n a. Fits a (w.unknowns n)) (names_of fs) us e,
+        each_field_of (λ n a. Fits a (w.unknowns n)) (field_names fs) us e,
       ))
 
 -- What is left of an expression whose unknowns fit stands beside its outcome, and in a residual the unknowns fit too.
-pub evaluated_stands : (w : World) (s : Scope) → Agrees s → Completes w s → AllMadeWell s → (n : ℕ) (t : Tree) → FitsAnnotations w t → Stands w (outcome_of w t) (evaluated s n t)
+pub evaluated_stands : (w : World) (s : Scope) → Agrees s → Completes w s → AllMadeWell s → (n : ℕ) (t : Tree) → FitsIn w t → Stands w (outcome_of w t) (evaluated s n t)
 evaluated_stands w s agrees complete well zero t f = tt
 evaluated_stands w s agrees complete well (suc n) t f = node_stands w s agrees complete well (evaluated s n) (evaluated_stands w s agrees complete well n) t f
 
 -- in a world where everything is known there is an outcome
-errs_there : (w : World) (t : Tree) (o : Option (Res V)) → outcome_of w t ≡ o → IsThere o → IsNoValue o → Errs w t
-errs_there w t None e h k = absurd h
+errs_there : (w : World) (t : Tree) (o : Option (Res V)) → outcome_of w t ≡ o → IsSome o → IsNoValue o → Errs w t
+errs_there w t None e h k = cc
 errs_there w t (Some (val v)) e h k = absurd k
 errs_there w t (Some (err f)) e h k = (f, outcome_means w t (err f) e)
 
-value_there : (w : World) (t : Tree) (v : V) (o : Option (Res V)) → outcome_of w t ≡ o → IsThere o → Keeps o (Some (val v)) → Means w t (val v)
-value_there w t v None e h k = absurd h
+value_there : (w : World) (t : Tree) (v : V) (o : Option (Res V)) → outcome_of w t ≡ o → IsSome o → Keeps o (Some (val v)) → Means w t (val v)
+value_there w t v None e h k = cc
 value_there w t v (Some r) e h k = outcome_means w t (val v) (e ∙ sym k)
 
 means_like : (w : World) (r : Tree) (o : Res V) → Alike (Some o) (outcome_of w r) → MeansLike w r o
@@ -200,7 +204,8 @@ stands_for w whole t (stopped (fault f)) h = errs_there w t (outcome_of w t) ref
 stands_for w whole t (stopped limit) h = tt
 
 pub residuals_stand : (s : Scope) → Agrees s → AllMadeWell s → (n : ℕ) (t : Tree) → StandsInAll s t (evaluated s n t)
-residuals_stand s agrees well n t w complete fits = stands_for w complete.whole t (evaluated s n t) (evaluated_stands w s agrees complete well n t fits)
+residuals_stand s agrees well n t w complete fits = stands_for w complete.whole t (evaluated s n t) (evaluated_stands w s agrees complete well n t (fits_in w t fits))
 
 pub residuals_fit : (s : Scope) → Agrees s → AllMadeWell s → (n : ℕ) (t r : Tree) → evaluated s n t ≡ residual r → (w : World) → Completes w s → FitsAnnotations w t → FitsAnnotations w r
-residuals_fit s agrees well n t r e w complete fits = (subst (Stands w (outcome_of w t)) e (evaluated_stands w s agrees complete well n t fits)).1
+residuals_fit s agrees well n t r e w complete fits =
+    fits_annotations w r (subst (Stands w (outcome_of w t)) e (evaluated_stands w s agrees complete well n t (fits_in w t fits))).1

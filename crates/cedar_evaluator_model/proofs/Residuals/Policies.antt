@@ -1,6 +1,6 @@
 -- What a policy's verdict says of its satisfaction in a completion.
 use Rattle.std.proofs.Common.{◌≡◌, ◌↔◌, ℕ, Bool, true, false, refl, sym, ap, ◌∙◌, subst, ◌⊎◌, inl, inr}
-use Rattle.std.specs.Prelude.{Option, Some, None}
+use Rattle.std.specs.Prelude.{Option, Some, None, IsSome}
 use Rattle.std.specs.Bool.{Decides}
 use Rattle.cedar_expr_model.specs.Whole.Value.{truth, V}
 use Rattle.cedar_expr_model.specs.Whole.Builder.{conjunction}
@@ -9,7 +9,6 @@ use Rattle.cedar_expr_model.specs.Whole.Made.{made_prim}
 use Rattle.cedar_store_model.specs.Whole.Outcome.{Res, val, err}
 use Rattle.cedar_store_model.specs.Whole.World.{World}
 use Rattle.cedar_store_model.specs.Whole.Meaning.{outcome_of}
-use Rattle.cedar_store_model.specs.Whole.Knowledge.{IsThere}
 use Rattle.cedar_store_model.specs.Whole.Policy.{Policy, Effect, SlotBindings, binding_of, no_bindings, condition}
 use Rattle.cedar_store_model.specs.Whole.Answer.{with_slots, IsSatisfied, is_true, satisfied}
 use Rattle.cedar_store_model.specs.Whole.AnswerLaws.{Holds}
@@ -23,6 +22,7 @@ use Rattle.cedar_evaluator_model.specs.Completion.{FitsAnnotations, Completes}
 use Rattle.cedar_evaluator_model.specs.Response.{Noted, slots_bound, with_bindings, verdict, noted}
 use Rattle.cedar_evaluator_model.specs.Members.{left_policy}
 use Rattle.cedar_evaluator_model.specs.ResponseLaws.{Says}
+use Rattle.cedar_evaluator_model.proofs.Named.{FitsIn, fits_in, fits_annotations}
 use Rattle.cedar_evaluator_model.proofs.Residuals.Stands.{Alike, IsNoValue, Stands, each_conjunction}
 use Rattle.cedar_evaluator_model.proofs.Residuals.Node.{evaluated_stands}
 use Rattle.cedar_evaluator_model.proofs.Residuals.Slots.{slots_bound_outcome, slots_bound_fits}
@@ -32,12 +32,12 @@ use Rattle.cedar_evaluator_model.proofs.Residuals.Completing.{completes_at, well
 abbrev pub Told : World → Bool → Left → Type 0
 Told w b (value_left (made_prim (truth c))) = b ≡ c
 Told w b (value_left m) = b ≡ false
-Told w b (residual r) = (b ≡ holds_in (with_slots w no_bindings) r) × FitsAnnotations w r
+Told w b (residual r) = (b ≡ holds_in (with_slots w no_bindings) r) × FitsIn w r
 Told w b (stopped (fault f)) = b ≡ false
 Told w b (stopped limit) = Unit {0}
 
-told_alike : (o p : Option (Res V)) → IsThere o → Alike o p → is_true o ≡ is_true p
-told_alike None p h a = absurd h
+told_alike : (o p : Option (Res V)) → IsSome o → Alike o p → is_true o ≡ is_true p
+told_alike None p h a = cc
 told_alike (Some (val v)) p h a = ap is_true (sym a)
 told_alike (Some (err f)) p h a = ap is_true (sym a.1)
 
@@ -46,9 +46,9 @@ told_none None h = refl
 told_none (Some (val v)) h = absurd h
 told_none (Some (err f)) h = refl
 
-told : (w : World) (b : SlotBindings) (o : Option (Res V)) → IsThere o → (l : Left) → Stands (with_slots w b) o l
+told : (w : World) (b : SlotBindings) (o : Option (Res V)) → IsSome o → (l : Left) → Stands (with_slots w b) o l
     → Told w (is_true o) (on_value l truth_wanted (λ r. residual (slots_bound (binding_of b) r)))
-told w b None h l k = absurd h
+told w b None h l k = cc
 told w b (Some r) h (value_left (made_prim (truth c))) k = ap is_true (sym k.0)
 told w b (Some r) h (value_left m) k = ap is_true (sym k.0)
 told w b (Some q) h (residual r) k = (told_alike (Some q) (outcome_of (with_slots w b) r) h k.0 ∙ ap is_true (slots_bound_outcome w b r), slots_bound_fits _ (binding_of b) r k.1)
@@ -59,7 +59,7 @@ pub verdict_told : (w : World) (s : Scope) → Agrees s → Completes w s → Al
 verdict_told w s agrees complete well n p f =
     let u = with_slots w p.bindings in
     let c = completes_at w (binding_of p.bindings) s complete in
-    let e = evaluated_stands u (with_bindings s p.bindings) agrees c (well_at s (binding_of p.bindings) well) n (condition p) f in
+    let e = evaluated_stands u (with_bindings s p.bindings) agrees c (well_at s (binding_of p.bindings) well) n (condition p) (fits_in w (condition p) f) in
     subst (λ b. Told w b (verdict s n p)) (sym (satisfied_holds w p))
     (told w p.bindings (outcome_of u (condition p)) (there u c.whole (condition p)) (evaluated (with_bindings s p.bindings) n (condition p)) e)
 
@@ -109,7 +109,7 @@ pub kept : (w : World) (p : Policy) (l : Left) → (l ≡ stopped limit → ⊥)
 kept w p l k h = told_left w (satisfied w p) l k h ∙ sym (left_satisfied w p.effect (noted p) (tree_left l))
 
 -- its unknowns fit
-tree_left_fits : (w : World) (b : Bool) (l : Left) → Told w b l → FitsAnnotations w (tree_left l)
+tree_left_fits : (w : World) (b : Bool) (l : Left) → Told w b l → FitsIn w (tree_left l)
 tree_left_fits w b (value_left (made_prim (truth c))) h = tt
 tree_left_fits w b (value_left m) h = tt
 tree_left_fits w b (residual r) h = h.1
@@ -119,7 +119,8 @@ pub left_fits : (w : World) (p : Policy) (b : Bool) (l : Left) → Told w b l �
 left_fits w p b l h =
     let one = lit (truth true) in
     let t = tree_left l in
-    each_conjunction _ one (conjunction one (conjunction one t)) tt (each_conjunction _ one (conjunction one t) tt (each_conjunction _ one t tt (tree_left_fits w b l h)))
+    fits_annotations w (condition (policy_left p l))
+    (each_conjunction _ one (conjunction one (conjunction one t)) tt (each_conjunction _ one (conjunction one t) tt (each_conjunction _ one t tt (tree_left_fits w b l h))))
 
 -- a satisfied policy whose verdict isn't the limit has true or a residual for its verdict
 pub satisfied_verdict : (w : World) (b : Bool) (l : Left) → (l ≡ stopped limit → ⊥) → Told w b l → b ≡ true → (l ≡ truth_left true) ⊎ ((r : Tree) × (l ≡ residual r))

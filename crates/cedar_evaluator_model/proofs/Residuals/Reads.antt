@@ -3,36 +3,44 @@ use Rattle.std.proofs.Common.{◌≡◌, Bool, true, false, cond, List, [], ◌�
 use Rattle.std.specs.Prelude.{Option, Some, None, option_map, is_some, not, ◌+ℤ◌, ◌-ℤ◌, ◌*ℤ◌}
 use Rattle.std.specs.Ordering.{is_lt, is_le}
 use Rattle.std.specs.Str.{bytes_eq}
+use Rattle.std.specs.Map.{lookup}
+use Rattle.std.specs.Option.{option_map_or}
 use Rattle.cedar_expr_model.specs.Name.{Text}
 use Rattle.cedar_expr_model.specs.Uid.{Uid, uid_text}
-use Rattle.cedar_expr_model.specs.Whole.Value.{text, entity, V, prim, field_of}
+use Rattle.cedar_expr_model.specs.Whole.Value.{text, entity, V, prim, field_of, truth_value}
 use Rattle.cedar_expr_model.specs.Whole.Canonical.{is_subset, is_disjoint}
 use Rattle.cedar_expr_model.specs.Whole.Tree.{CoreType, entity_core, Tree, unknown, binary, has_path, BinaryOp, equal, less, less_or_equal, plus, difference, times, is_in, contains, contains_all, contains_any, get_tag, has_tag}
 use Rattle.cedar_expr_model.specs.Whole.Builder.{path_test}
-use Rattle.cedar_expr_model.specs.Whole.Unknowns.{EachUnknown}
+use Rattle.cedar_expr_model.proofs.Whole.Gathering.{EachIn}
 use Rattle.cedar_expr_model.specs.Whole.Made.{Made, made_prim, made_record, MadeFields, no_made_fields, made_field, bare, bare_fields, written}
 use Rattle.cedar_expr_model.specs.Whole.Table.{Table}
+use Rattle.cedar_expr_model.specs.Whole.ValueParts.{Part, known, left}
+use Rattle.cedar_expr_model.specs.Whole.Represented.{HaveMade}
 use Rattle.cedar_expr_model.proofs.Whole.CoreTypes.{fits-Decides}
-use Rattle.cedar_store_model.specs.Whole.Outcome.{Res, val, wrong_type, bind}
-use Rattle.cedar_store_model.specs.Whole.World.{World, Part, known, left, Found, held, missing, not_loaded, part_named}
-use Rattle.cedar_store_model.specs.Whole.Operators.{says, ordered, bound_value}
-use Rattle.cedar_store_model.specs.Whole.Reads.{part_value, part_read, part_tested, attributes_of, tags_of, attribute_read, attribute_tested, field_value, field_step, part_step, found_step, step_from, path_after, path_tested, tag_read, tag_tested, uids_in, is_in_some, found_in, within}
-use Rattle.cedar_store_model.specs.Whole.Meaning.{combined, outcome_of}
+use Rattle.cedar_store_model.specs.Whole.Outcome.{Res, val, err, wrong_type, missing_attribute_or_tag, missing_field, bind}
+use Rattle.cedar_store_model.specs.Whole.World.{World, Found, held, missing, not_loaded}
+use Rattle.cedar_store_model.specs.Whole.Operators.{says, ordered}
+use Rattle.cedar_store_model.proofs.Whole.Named.{bound_value, attributes_of, tags_of, tag_read, tag_tested}
+use Rattle.cedar_store_model.specs.Whole.Reads.{part_value, part_read, part_tested, attribute_read, attribute_tested, uids_in, is_in_some, found_in, within}
+use Rattle.cedar_store_model.specs.Whole.Meaning.{combined, outcome_of, path_tested, picked}
 use Rattle.cedar_store_model.specs.Whole.Knowledge.{Keeps}
 use Rattle.cedar_store_model.proofs.Whole.Meaning.{means_outcome}
+use Rattle.cedar_store_model.specs.Whole.Store.{stand_in}
 use Rattle.cedar_evaluator_model.specs.Scope.{Scope, Left, value_left, residual}
-use Rattle.cedar_evaluator_model.specs.Steps.{errs, truth_left, mapped, stand_in, part_left, tag_left, part_or_missing, attribute_found, made_named, field_or_missing, attribute_of, test_found, test_of, path_step, path_found, path_field, path_from, path_of, get_tag_found, has_tag_found, tag_of, in_found, in_of, left_of, combined_left}
-use Rattle.cedar_evaluator_model.specs.WellMade.{IsWellMade, HaveWellMade, IsMadeWell, IsPartMadeWell, IsFoundMadeWell, AllMadeWell}
-use Rattle.cedar_evaluator_model.specs.Completion.{Fits, FitsAnnotations, NameMeans, PartIs, PartMeans, FoundMeans, Completes}
+use Rattle.cedar_evaluator_model.specs.Steps.{errs, truth_left, mapped, part_left, tag_left, made_named, attribute_of, test_of, path_step, path_of, get_tag_found, has_tag_found, tag_of, in_found, in_of, left_of, combined_left}
+use Rattle.cedar_evaluator_model.specs.WellMade.{IsWellMade, IsMadeWell, IsPartMadeWell, IsFoundMadeWell, AllMadeWell}
+use Rattle.cedar_evaluator_model.specs.Completion.{Fits, NameMeans, PartIs, PartMeans, FoundMeans, Completes}
 use Rattle.cedar_evaluator_model.proofs.Given.{literal_ordered, literal_calculated, literal_among, literal_sets, literal_in}
+use Rattle.cedar_evaluator_model.proofs.Named.{attribute_found, test_found, path_found, FitsIn, fits_in}
 use Rattle.cedar_evaluator_model.proofs.GivenReads.{field_known}
+use Rattle.cedar_evaluator_model.proofs.Written.{Rise}
 use Rattle.cedar_evaluator_model.proofs.Residuals.Stands.{Alike, Stands, alike_same, written_alike, written_fits, stands_literal}
 
 -- unknowns
-pub stands_mapped : (w : World) (s : Scope) (n : Text) (a : Option CoreType) (o : Option Made) → IsMadeWell w.table o → Keeps (option_map bare o) (w.unknowns n) → Fits a (w.unknowns n)
-    → Stands w (bound_value (w.unknowns n)) (mapped s n a o)
-stands_mapped w s n a None g k f = (alike_same (bound_value (w.unknowns n)), f)
-stands_mapped w s n a (Some m) g k f =
+pub stands_mapped : (w : World) (n : Text) (a : Option CoreType) (o : Option Made) → IsMadeWell w.table o → Keeps (option_map bare o) (w.unknowns n) → Fits a (w.unknowns n)
+    → Stands w (bound_value (w.unknowns n)) (mapped n a o)
+stands_mapped w n a None g k f = (alike_same (bound_value (w.unknowns n)), f)
+stands_mapped w n a (Some m) g k f =
     let fits = (fits-Decides a (bare m)).1 (subst (Fits a) k f) in
     let same : Keeps (bound_value (w.unknowns n)) (Some (val (bare m))) = subst (λ q. Keeps (bound_value q) (Some (val (bare m)))) (sym k) refl in
     subst (λ b. Stands w (bound_value (w.unknowns n)) (cond b (value_left m) (errs wrong_type))) (sym fits) (same, g)
@@ -41,7 +49,7 @@ stands_mapped w s n a (Some m) g k f =
 stand_in_means : (w : World) (u : Uid) → NameMeans w (uid_text u) u → outcome_of w (stand_in u) ≡ Some (val (prim (entity u)))
 stand_in_means w u k = ap bound_value k
 
-stand_in_fits : (w : World) (u : Uid) → NameMeans w (uid_text u) u → FitsAnnotations w (stand_in u)
+stand_in_fits : (w : World) (u : Uid) → NameMeans w (uid_text u) u → FitsIn w (stand_in u)
 stand_in_fits w u k = subst (Fits (Some (entity_core u.kind))) (sym k) refl
 
 asked_stand_in : (w : World) (u : Uid) (f : V → Option (Res V)) → NameMeans w (uid_text u) u → Alike (f (prim (entity u))) (bind (outcome_of w (stand_in u)) f)
@@ -52,16 +60,16 @@ stands_known : (w : World) (m : Made) (q : Option (Part V)) → q ≡ Some (know
 stands_known w m q h g = (subst (λ x. Keeps (part_value x) (Some (val (bare m)))) (sym h) refl, g)
 
 stands_residual : (w : World) (t : Tree) (v : V) → PartIs w t v → Stands w (Some (val v)) (residual t)
-stands_residual w t v h = (means_outcome w t (val v) (h.0 w.slots), h.1)
+stands_residual w t v h = (means_outcome w t (val v) (h.0 w.slots), fits_in w t h.1)
 
 stands_left : (w : World) (s : Scope) → ((n : Text) → IsMadeWell w.table (s.values n)) → ((n : Text) → Keeps (option_map bare (s.values n)) (w.unknowns n)) → (t : Tree) (v : V) → PartIs w t v
     → Stands w (Some (val v)) (part_left s (left t))
-stands_left w s g k (unknown n a) v h = subst (λ o. Stands w o (mapped s n a (s.values n))) (h.0 w.slots) (stands_mapped w s n a (s.values n) (g n) (k n) h.1)
+stands_left w s g k (unknown n a) v h = subst (λ o. Stands w o (mapped n a (s.values n))) (h.0 w.slots) (stands_mapped w n a (s.values n) (g n) (k n) (fits_in w (unknown n a) h.1))
 stands_left w s g k t v h = stands_residual w t v h
 
 stands_part : (w : World) (next : Part Made → Left) → ((m : Made) → next (known m) ≡ value_left m) → ((t : Tree) (v : V) → PartIs w t v → Stands w (Some (val v)) (next (left t)))
-    → (p : Option (Part Made)) (q : Option (Part V)) → PartMeans w p q → IsPartMadeWell w.table p → Stands w (part_value q) (part_or_missing next p)
-stands_part w next value other None q h g = subst (λ x. Stands w (part_value x) (part_or_missing next None)) (sym h) tt
+    → (p : Option (Part Made)) (q : Option (Part V)) → PartMeans w p q → IsPartMadeWell w.table p → Stands w (part_value q) (option_map_or next p (errs missing_attribute_or_tag))
+stands_part w next value other None q h g = subst (λ x. Stands w (part_value x) (errs missing_attribute_or_tag)) (sym h) tt
 stands_part w next value other (Some (known m)) q h g = subst (Stands w (part_value q)) (sym (value m)) (stands_known w m q h g)
 stands_part w next value other (Some (left t)) q h g = subst (λ x. Stands w (part_value x) (next (left t))) (sym h.1) (other t h.0 h.2)
 
@@ -78,11 +86,11 @@ named_case : (x : Table) (b : Bool) (m : Made) (o : Option Made) → IsWellMade 
 named_case x true m o h k = h
 named_case x false m o h k = k
 
-named_well : (x : Table) (a : Text) (fs : MadeFields) → HaveWellMade x fs → IsMadeWell x (made_named a fs)
+named_well : (x : Table) (a : Text) (fs : MadeFields) → HaveMade Rise x fs → IsMadeWell x (made_named a fs)
 named_well x a no_made_fields h = tt
 named_well x a (made_field b m fs) h = named_case x (bytes_eq a b) m (made_named a fs) h.0 (named_well x a fs h.1)
 
-stands_field : (w : World) (o : Option Made) → IsMadeWell w.table o → Stands w (Some (field_value (option_map bare o))) (field_or_missing o)
+stands_field : (w : World) (o : Option Made) → IsMadeWell w.table o → Stands w (Some (option_map_or val (option_map bare o) (err missing_field))) (option_map_or value_left o (errs missing_field))
 stands_field w None h = tt
 stands_field w (Some m) h = (refl, h)
 
@@ -95,14 +103,14 @@ pub path_same : (w : World) (t : Tree) (a : Text) (bs : List Text) → outcome_o
 path_same w t a [] = refl
 path_same w t a (b ∷ bs) = refl
 
-pub path_fits : (P : Text → Option CoreType → Type 0) (t : Tree) (a : Text) (bs : List Text) → EachUnknown P t → EachUnknown P (path_test t a bs)
+pub path_fits : (P : Text → Option CoreType → Type 0) (t : Tree) (a : Text) (bs : List Text) → EachIn P t → EachIn P (path_test t a bs)
 path_fits P t a [] h = h
 path_fits P t a (b ∷ bs) h = h
 
 path_left : (w : World) (t : Tree) (v : V) (b : Text) (bs : List Text) → PartIs w t v → Stands w (path_tested w b bs v) (residual (path_test t b bs))
 path_left w t v b bs h =
     let e : outcome_of w (path_test t b bs) ≡ path_tested w b bs v = path_same w t b bs ∙ ap (λ o. bind o (path_tested w b bs)) (means_outcome w t (val v) (h.0 w.slots)) in
-    (subst (Alike (path_tested w b bs v)) (sym e) (alike_same (path_tested w b bs v)), path_fits _ t b bs h.1)
+    (subst (Alike (path_tested w b bs v)) (sym e) (alike_same (path_tested w b bs v)), path_fits _ t b bs (fits_in w t h.1))
 
 module _ (w : World) (s : Scope) (complete : Completes w s) (well : AllMadeWell s) where
   pub values_well : (n : Text) → IsMadeWell w.table (s.values n)
@@ -117,23 +125,25 @@ module _ (w : World) (s : Scope) (complete : Completes w s) (well : AllMadeWell 
   attribute_found_stands u a (held e) h g =
       let d = h.0 in
       subst (λ x. Stands w (part_read attributes_of u a x) (attribute_found s u a (held e))) (sym h.1)
-      (stands_part w (part_left s) (λ m. refl) (stands_left w s values_well complete.unknowns) (part_named a e.attributes) (part_named a d.attributes) ((h.2).attributes a) (g a).0)
+      (stands_part w (part_left s) (λ m. refl) (stands_left w s values_well complete.unknowns) (lookup (bytes_eq a) e.attributes) (lookup (bytes_eq a) d.attributes) ((h.2).attributes a) (g a).0)
   attribute_found_stands u a missing h g = subst (λ x. Stands w (part_read attributes_of u a x) (attribute_found s u a missing)) (sym h) tt
   attribute_found_stands u a not_loaded h g = (asked_stand_in w u (attribute_read w a) h, stand_in_fits w u h)
 
   pub stands_attribute : (a : Text) (m : Made) → IsWellMade w.table m → Stands w (attribute_read w a (bare m)) (attribute_of s a m)
   stands_attribute a (made_prim (entity u)) h = attribute_found_stands u a (s.store u) (complete.store u) (found_well u)
   stands_attribute a (made_record fs) h =
-      subst (λ o. Stands w (Some (field_value o)) (field_or_missing (made_named a fs))) (sym (field_known a fs)) (stands_field w (made_named a fs) (named_well w.table a fs h))
+      subst (λ o. Stands w (Some (option_map_or val o (err missing_field))) (option_map_or value_left (made_named a fs) (errs missing_field))) (sym (field_known a fs))
+      (stands_field w (made_named a fs) (named_well w.table a fs h))
   stands_attribute a m h = tt
 
   -- tests of attributes
-  test_found_stands : (u : Uid) (a : Text) (f : Found Made) → FoundMeans w u f (w.store u) → Stands w (part_tested attributes_of a (w.store u)) (test_found u a f)
+  test_found_stands : (u : Uid) (a : Text) (f : Found Made) → FoundMeans w u f (w.store u) → Stands w (part_tested attributes_of u a (w.store u)) (test_found u a f)
   test_found_stands u a (held e) h =
       let d = h.0 in
-      subst (λ x. Stands w (part_tested attributes_of a x) (test_found u a (held e))) (sym h.1)
-      (stands_there w (is_some (part_named a d.attributes)) (is_some (part_named a e.attributes)) (part_there w (part_named a e.attributes) (part_named a d.attributes) ((h.2).attributes a)))
-  test_found_stands u a missing h = subst (λ x. Stands w (part_tested attributes_of a x) (test_found u a missing)) (sym h) (refl, tt)
+      subst (λ x. Stands w (part_tested attributes_of u a x) (test_found u a (held e))) (sym h.1)
+      (stands_there w (is_some (lookup (bytes_eq a) d.attributes)) (is_some (lookup (bytes_eq a) e.attributes))
+      (part_there w (lookup (bytes_eq a) e.attributes) (lookup (bytes_eq a) d.attributes) ((h.2).attributes a)))
+  test_found_stands u a missing h = subst (λ x. Stands w (part_tested attributes_of u a x) (test_found u a missing)) (sym h) (refl, tt)
   test_found_stands u a not_loaded h = (asked_stand_in w u (attribute_tested w a) h, stand_in_fits w u h)
 
   pub stands_test : (a : Text) (m : Made) → Stands w (attribute_tested w a (bare m)) (test_of s a m)
@@ -143,51 +153,58 @@ module _ (w : World) (s : Scope) (complete : Completes w s) (well : AllMadeWell 
 
   -- paths
   module _ (b : Text) (bs : List Text) (next : Made → Left) (goes : (m : Made) → IsWellMade w.table m → Stands w (path_tested w b bs (bare m)) (next m)) where
-    step_stands : (p : Option (Part Made)) (q : Option (Part V)) → PartMeans w p q → IsPartMadeWell w.table p
-        → Stands w (path_after (path_tested w b bs) (part_step q)) (path_step next (λ t. residual (path_test t b bs)) p)
-    step_stands None q h g = subst (λ x. Stands w (path_after (path_tested w b bs) (part_step x)) (truth_left false)) (sym h) (refl, tt)
-    step_stands (Some (known m)) q h g = subst (λ x. Stands w (path_after (path_tested w b bs) (part_step x)) (next m)) (sym h) (goes m g)
-    step_stands (Some (left t)) q h g = subst (λ x. Stands w (path_after (path_tested w b bs) (part_step x)) (residual (path_test t b bs))) (sym h.1) (path_left w t h.0 b bs h.2)
+    -- the rest of the path after a part that is looked up
+    abbrev after_part : Option (Part V) → Option (Res V)
+    after_part q = picked (bind (part_value q) (path_tested w b bs)) (Some (says false)) (truth_value (is_some q))
 
-    path_found_stands : (u : Uid) (a : Text) (f : Found Made) → FoundMeans w u f (w.store u) → IsFoundMadeWell w.table f
-        → Stands w (path_after (path_tested w b bs) (found_step a (w.store u))) (path_found next (λ t. residual (path_test t b bs)) u a b bs f)
+    step_stands : (p : Option (Part Made)) (q : Option (Part V)) → PartMeans w p q → IsPartMadeWell w.table p → Stands w (after_part q) (path_step next b bs p)
+    step_stands None q h g = subst (λ x. Stands w (after_part x) (truth_left false)) (sym h) (refl, tt)
+    step_stands (Some (known m)) q h g = subst (λ x. Stands w (after_part x) (next m)) (sym h) (goes m g)
+    step_stands (Some (left t)) q h g = subst (λ x. Stands w (after_part x) (residual (path_test t b bs))) (sym h.1) (path_left w t h.0 b bs h.2)
+
+    -- the rest of the path after an entity that is looked up
+    abbrev after_found : Uid → Text → Found V → Option (Res V)
+    after_found u a f = bind (part_tested attributes_of u a f) (picked (bind (part_read attributes_of u a f) (path_tested w b bs)) (Some (says false)))
+
+    path_found_stands : (u : Uid) (a : Text) (f : Found Made) → FoundMeans w u f (w.store u) → IsFoundMadeWell w.table f → Stands w (after_found u a (w.store u)) (path_found next u a b bs f)
     path_found_stands u a (held e) h g =
         let d = h.0 in
-        subst (λ x. Stands w (path_after (path_tested w b bs) (found_step a x)) (path_found next (λ t. residual (path_test t b bs)) u a b bs (held e))) (sym h.1)
-        (step_stands (part_named a e.attributes) (part_named a d.attributes) ((h.2).attributes a) (g a).0)
-    path_found_stands u a missing h g = subst (λ x. Stands w (path_after (path_tested w b bs) (found_step a x)) (truth_left false)) (sym h) (refl, tt)
+        subst (λ x. Stands w (after_found u a x) (path_found next u a b bs (held e))) (sym h.1)
+        (step_stands (lookup (bytes_eq a) e.attributes) (lookup (bytes_eq a) d.attributes) ((h.2).attributes a) (g a).0)
+    path_found_stands u a missing h g = subst (λ x. Stands w (after_found u a x) (truth_left false)) (sym h) (refl, tt)
     path_found_stands u a not_loaded h g = (asked_stand_in w u (path_tested w a (b ∷ bs)) h, stand_in_fits w u h)
 
-    path_field_stands : (o : Option Made) → IsMadeWell w.table o → Stands w (path_after (path_tested w b bs) (Some (val (field_step (option_map bare o))))) (path_field next o)
+    -- the rest of the path after a field
+    abbrev after_field : Option V → Option (Res V)
+    after_field q = picked (bind (Some (option_map_or val q (err missing_field))) (path_tested w b bs)) (Some (says false)) (truth_value (is_some q))
+
+    path_field_stands : (o : Option Made) → IsMadeWell w.table o → Stands w (after_field (option_map bare o)) (option_map_or next o (truth_left false))
     path_field_stands None h = (refl, tt)
     path_field_stands (Some m) h = goes m h
 
-    path_from_stands : (a : Text) (m : Made) → IsWellMade w.table m → Stands w (path_after (path_tested w b bs) (step_from w a (bare m))) (path_from s next a b bs m)
-    path_from_stands a (made_prim (entity u)) h = path_found_stands u a (s.store u) (complete.store u) (found_well u)
-    path_from_stands a (made_record fs) h =
-        subst (λ o. Stands w (path_after (path_tested w b bs) (Some (val (field_step o)))) (path_field next (made_named a fs))) (sym (field_known a fs))
-        (path_field_stands (made_named a fs) (named_well w.table a fs h))
-    path_from_stands a m h = tt
-
   pub stands_path : (a : Text) (bs : List Text) (m : Made) → IsWellMade w.table m → Stands w (path_tested w a bs (bare m)) (path_of s a bs m)
   stands_path a [] m h = stands_test a m
-  stands_path a (b ∷ bs) m h = path_from_stands b bs (path_of s b bs) (λ k g. stands_path b bs k g) a m h
+  stands_path a (b ∷ bs) (made_prim (entity u)) h = path_found_stands b bs (path_of s b bs) (stands_path b bs) u a (s.store u) (complete.store u) (found_well u)
+  stands_path a (b ∷ bs) (made_record fs) h =
+      subst (λ o. Stands w (after_field b bs (path_of s b bs) (stands_path b bs) o) (option_map_or (path_of s b bs) (made_named a fs) (truth_left false))) (sym (field_known a fs))
+      (path_field_stands b bs (path_of s b bs) (stands_path b bs) (made_named a fs) (named_well w.table a fs h))
+  stands_path a (b ∷ bs) m h = tt
 
   -- tags
   get_tag_stands : (u : Uid) (a : Text) (f : Found Made) → FoundMeans w u f (w.store u) → IsFoundMadeWell w.table f → Stands w (part_read tags_of u a (w.store u)) (get_tag_found u a f)
   get_tag_stands u a (held e) h g =
       let d = h.0 in
       subst (λ x. Stands w (part_read tags_of u a x) (get_tag_found u a (held e))) (sym h.1)
-      (stands_part w tag_left (λ m. refl) (stands_residual w) (part_named a e.tags) (part_named a d.tags) ((h.2).tags a) (g a).1)
+      (stands_part w tag_left (λ m. refl) (stands_residual w) (lookup (bytes_eq a) e.tags) (lookup (bytes_eq a) d.tags) ((h.2).tags a) (g a).1)
   get_tag_stands u a missing h g = subst (λ x. Stands w (part_read tags_of u a x) (get_tag_found u a missing)) (sym h) tt
   get_tag_stands u a not_loaded h g = (asked_stand_in w u (λ v. tag_read w v (prim (text a))) h, (stand_in_fits w u h, tt))
 
-  has_tag_stands : (u : Uid) (a : Text) (f : Found Made) → FoundMeans w u f (w.store u) → Stands w (part_tested tags_of a (w.store u)) (has_tag_found u a f)
+  has_tag_stands : (u : Uid) (a : Text) (f : Found Made) → FoundMeans w u f (w.store u) → Stands w (part_tested tags_of u a (w.store u)) (has_tag_found u a f)
   has_tag_stands u a (held e) h =
       let d = h.0 in
-      subst (λ x. Stands w (part_tested tags_of a x) (has_tag_found u a (held e))) (sym h.1)
-      (stands_there w (is_some (part_named a d.tags)) (is_some (part_named a e.tags)) (part_there w (part_named a e.tags) (part_named a d.tags) ((h.2).tags a)))
-  has_tag_stands u a missing h = subst (λ x. Stands w (part_tested tags_of a x) (has_tag_found u a missing)) (sym h) (refl, tt)
+      subst (λ x. Stands w (part_tested tags_of u a x) (has_tag_found u a (held e))) (sym h.1)
+      (stands_there w (is_some (lookup (bytes_eq a) d.tags)) (is_some (lookup (bytes_eq a) e.tags)) (part_there w (lookup (bytes_eq a) e.tags) (lookup (bytes_eq a) d.tags) ((h.2).tags a)))
+  has_tag_stands u a missing h = subst (λ x. Stands w (part_tested tags_of u a x) (has_tag_found u a missing)) (sym h) (refl, tt)
   has_tag_stands u a not_loaded h = (asked_stand_in w u (λ v. tag_tested w v (prim (text a))) h, (stand_in_fits w u h, tt))
 
   stands_tag_read : (m n : Made) → Stands w (tag_read w (bare m) (bare n)) (tag_of get_tag_found s m n)

@@ -8,12 +8,13 @@ use Rattle.cedar_expr_model.specs.Whole.Value.{truth, V, prim, record_of, Fields
 use Rattle.cedar_expr_model.specs.Whole.Canonical.{set_made}
 use Rattle.cedar_expr_model.specs.Whole.Builder.{Builder, trees, tree_fields, tree_builder, built, built_list, built_fields}
 use Rattle.cedar_expr_model.specs.Whole.Tree.{CoreType, SlotId, Tree, lit, var, slot, unknown, choice, both, either, unary, binary, call, get_attr, has_attr, has_path, like, is_type, set_literal, record_literal, Trees, no_trees, tree, TreeFields, no_tree_fields, tree_field}
-use Rattle.cedar_expr_model.specs.Whole.Unknowns.{EachUnknown, EachUnknownAmong, EachUnknownInFields}
+use Rattle.cedar_expr_model.proofs.Whole.Gathering.{EachIn, EachAmong, EachInFields}
 use Rattle.cedar_store_model.specs.Whole.Outcome.{Res, val, bind}
 use Rattle.cedar_store_model.specs.Whole.World.{World}
-use Rattle.cedar_store_model.specs.Whole.Operators.{says, applied, like_pattern, of_type, called, bound_value}
-use Rattle.cedar_store_model.specs.Whole.Reads.{attribute_read, attribute_tested, path_tested}
-use Rattle.cedar_store_model.specs.Whole.Meaning.{variable, combined, picked, slot_value, truth_asked, outcome_of, outcomes_of, field_outcomes_of}
+use Rattle.cedar_store_model.specs.Whole.Operators.{says, applied, like_pattern, of_type, called}
+use Rattle.cedar_store_model.proofs.Whole.Named.{bound_value}
+use Rattle.cedar_store_model.specs.Whole.Reads.{attribute_read, attribute_tested}
+use Rattle.cedar_store_model.specs.Whole.Meaning.{variable, combined, picked, slot_value, truth_asked, outcome_of, outcomes_of, field_outcomes_of, path_tested}
 use Rattle.cedar_store_model.proofs.Whole.Built.{conjunction_outcome, disjunction_outcome}
 use Rattle.cedar_evaluator_model.proofs.SameReads.{same_variable, same_read, same_tested, same_path, same_combined}
 use Rattle.cedar_evaluator_model.proofs.Residuals.Reads.{path_same, path_fits}
@@ -85,10 +86,10 @@ module _ (R : (A : Type 0) → Option (Res A) → Option (Res A) → Type 0) (sa
           (λ v. next Fields Fields (field_outcomes_of w fs) _ (λ vs. Some (val (field a v vs))) (λ vs. Some (val (field a v vs))) rest (λ vs. same Fields (Some (val (field a v vs)))))
 
 -- what holds of the unknowns of an expression, and of those of what stands in their place, holds of the unknowns of the rebuilt one
-module _ (P : Text → Option CoreType → Type 0) (f : SlotId → Tree) (g : Text → Option CoreType → Tree) (slots : (x : SlotId) → EachUnknown P (f x))
-    (unknowns : (n : Text) (a : Option CoreType) → P n a → EachUnknown P (g n a)) where
+module _ (P : Text → Option CoreType → Type 0) (f : SlotId → Tree) (g : Text → Option CoreType → Tree) (slots : (x : SlotId) → EachIn P (f x))
+    (unknowns : (n : Text) (a : Option CoreType) → P n a → EachIn P (g n a)) where
   mutual
-    pub each_rebuilt : (t : Tree) → EachUnknown P t → EachUnknown P (built (rebuilder f g) t)
+    pub each_rebuilt : (t : Tree) → EachIn P t → EachIn P (built (rebuilder f g) t)
     each_rebuilt (lit p) h = tt
     each_rebuilt (var x) h = tt
     each_rebuilt (slot x) h = slots x
@@ -107,10 +108,10 @@ module _ (P : Text → Option CoreType → Type 0) (f : SlotId → Tree) (g : Te
     each_rebuilt (set_literal ts) h = each_among_rebuilt ts h
     each_rebuilt (record_literal fs) h = each_field_rebuilt fs h
 
-    each_among_rebuilt : (ts : Trees) → EachUnknownAmong P ts → EachUnknownAmong P (trees (built_list (rebuilder f g) ts))
+    each_among_rebuilt : (ts : Trees) → EachAmong P ts → EachAmong P (trees (built_list (rebuilder f g) ts))
     each_among_rebuilt no_trees h = tt
     each_among_rebuilt (tree t ts) h = (each_rebuilt t h.0, each_among_rebuilt ts h.1)
 
-    each_field_rebuilt : (fs : TreeFields) → EachUnknownInFields P fs → EachUnknownInFields P (tree_fields (built_fields (rebuilder f g) fs))
+    each_field_rebuilt : (fs : TreeFields) → EachInFields P fs → EachInFields P (tree_fields (built_fields (rebuilder f g) fs))
     each_field_rebuilt no_tree_fields h = tt
     each_field_rebuilt (tree_field a t fs) h = (each_rebuilt t h.0, each_field_rebuilt fs h.1)

@@ -6,12 +6,13 @@ use Rattle.cedar_expr_model.specs.Uid.{Uid}
 use Rattle.cedar_expr_model.specs.Whole.Value.{V}
 use Rattle.cedar_expr_model.specs.Whole.Tree.{CoreType, SlotId, principal_slot, resource_slot, Tree, slot, unknown}
 use Rattle.cedar_expr_model.specs.Whole.Builder.{tree_builder, built}
-use Rattle.cedar_expr_model.specs.Whole.Unknowns.{EachUnknown}
+use Rattle.cedar_expr_model.proofs.Whole.Gathering.{EachIn}
 use Rattle.cedar_expr_model.specs.Whole.Made.{Made, bare, written}
-use Rattle.cedar_expr_model.specs.Whole.Substitution.{Bindings, bound_or, substituted}
+use Rattle.cedar_expr_model.specs.Whole.Substitution.{Bindings, substituted}
+use Rattle.cedar_expr_model.proofs.Whole.Substituting.{bound_or}
 use Rattle.cedar_store_model.specs.Whole.Outcome.{Res, val, err, bind}
 use Rattle.cedar_store_model.specs.Whole.World.{World}
-use Rattle.cedar_store_model.specs.Whole.Operators.{bound_value}
+use Rattle.cedar_store_model.proofs.Whole.Named.{bound_value}
 use Rattle.cedar_store_model.specs.Whole.Meaning.{Means, slot_value, outcome_of}
 use Rattle.cedar_store_model.specs.Whole.Knowledge.{Keeps}
 use Rattle.cedar_store_model.specs.Whole.Policy.{SlotBindings, binding_of, no_bindings}
@@ -37,11 +38,11 @@ pub slots_bound_outcome : (w : World) (b : SlotBindings) (t : Tree) → outcome_
 slots_bound_outcome w b t =
     rebuilt (λ A o p. o ≡ p) (λ A o. refl) same_next (with_slots w b) (binding_of no_bindings) (λ x. slot_or x (binding_of b x)) unknown (λ x. slot_bound w x (binding_of b x)) (λ n a. refl) t
 
-slot_fits : (P : Text → Option CoreType → Type 0) (x : SlotId) (o : Option Uid) → EachUnknown P (slot_or x o)
+slot_fits : (P : Text → Option CoreType → Type 0) (x : SlotId) (o : Option Uid) → EachIn P (slot_or x o)
 slot_fits P x None = tt
 slot_fits P x (Some u) = tt
 
-pub slots_bound_fits : (P : Text → Option CoreType → Type 0) (bound : SlotId → Option Uid) (t : Tree) → EachUnknown P t → EachUnknown P (slots_bound bound t)
+pub slots_bound_fits : (P : Text → Option CoreType → Type 0) (bound : SlotId → Option Uid) (t : Tree) → EachIn P t → EachIn P (slots_bound bound t)
 slots_bound_fits P bound t h = each_rebuilt P (λ x. slot_or x (bound x)) unknown (λ x. slot_fits P x (bound x)) (λ n a k. k) t h
 
 -- values in place of unknowns
@@ -55,11 +56,11 @@ pub substituted_outcome : (w : World) (env : Bindings) → ((n : Text) → IsMad
 substituted_outcome w env g h t =
     rebuilt (λ A o p. o ≡ p) (λ A o. refl) same_next w w.slots slot (λ n a. bound_or tree_builder n a (env n)) (λ x. refl) (λ n a. value_bound w n a (env n) (g n) (h n)) t
 
-value_fits : (P : Text → Option CoreType → Type 0) (n : Text) (a : Option CoreType) (o : Option Made) → P n a → EachUnknown P (bound_or tree_builder n a o)
+value_fits : (P : Text → Option CoreType → Type 0) (n : Text) (a : Option CoreType) (o : Option Made) → P n a → EachIn P (bound_or tree_builder n a o)
 value_fits P n a None h = h
 value_fits P n a (Some m) h = each_rebuilt P slot unknown (λ x. tt) (λ k b i. i) (written m) (no_unknown P m)
 
-pub substituted_fits : (P : Text → Option CoreType → Type 0) (env : Bindings) (t : Tree) → EachUnknown P t → EachUnknown P (substituted env t)
+pub substituted_fits : (P : Text → Option CoreType → Type 0) (env : Bindings) (t : Tree) → EachIn P t → EachIn P (substituted env t)
 substituted_fits P env t h = each_rebuilt P slot (λ n a. bound_or tree_builder n a (env n)) (λ x. tt) (λ n a k. value_fits P n a (env n) k) t h
 
 -- where the first is a value the second is that value

@@ -5,7 +5,7 @@ use Rattle.cedar_expr_model.specs.Name.{Text}
 use Rattle.cedar_expr_model.specs.Whole.Value.{truth, V, prim, set_of, record_of, extension}
 use Rattle.cedar_expr_model.specs.Whole.Tree.{CoreType, Tree, lit, both, either}
 use Rattle.cedar_expr_model.specs.Whole.Builder.{written_truth, folded, conjunction, disjunction}
-use Rattle.cedar_expr_model.specs.Whole.Unknowns.{EachUnknown}
+use Rattle.cedar_expr_model.proofs.Whole.Gathering.{EachIn}
 use Rattle.cedar_expr_model.specs.Whole.Made.{Made, made_prim, bare, written}
 use Rattle.cedar_store_model.specs.Whole.Outcome.{Fault, Res, val, err, wrong_type, bind}
 use Rattle.cedar_store_model.specs.Whole.World.{World}
@@ -17,8 +17,8 @@ use Rattle.cedar_evaluator_model.specs.Scope.{fault, limit, Left, value_left, re
 use Rattle.cedar_evaluator_model.specs.Steps.{on_value, best, left_of, truth_wanted, picks}
 use Rattle.cedar_evaluator_model.specs.Evaluation.{right_left}
 use Rattle.cedar_evaluator_model.specs.WellMade.{IsWellMade}
-use Rattle.cedar_evaluator_model.specs.Completion.{FitsAnnotations}
 use Rattle.cedar_evaluator_model.proofs.Given.{GivesLiteral}
+use Rattle.cedar_evaluator_model.proofs.Named.{FitsIn}
 use Rattle.cedar_evaluator_model.proofs.Written.{written_means, no_unknown}
 
 -- where the first is a value the second is that value, and where it is an error so is the second
@@ -37,7 +37,7 @@ IsNoValue (Some (err f)) = Unit {0}
 -- fit, and where it stopped with an error the outcome is no value.
 abbrev pub Stands : World → Option (Res V) → Left → Type 0
 Stands w o (value_left m) = Keeps o (Some (val (bare m))) × IsWellMade w.table m
-Stands w o (residual r) = Alike o (outcome_of w r) × FitsAnnotations w r
+Stands w o (residual r) = Alike o (outcome_of w r) × FitsIn w r
 Stands w o (stopped (fault f)) = IsNoValue o
 Stands w o (stopped limit) = Unit {0}
 
@@ -77,7 +77,7 @@ stands_next w (Some (err e)) x f l h s = cc
 
 pub stands_bind : (w : World) (o : Option (Res V)) (l : Left) (f : V → Option (Res V)) (next : Made → Left) (other : Tree → Left) → Stands w o l
     → ((m : Made) → IsWellMade w.table m → Keeps o (Some (val (bare m))) → Stands w (f (bare m)) (next m))
-    → ((r : Tree) → FitsAnnotations w r → Alike o (outcome_of w r) → Stands w (bind o f) (other r)) → Stands w (bind o f) (on_value l next other)
+    → ((r : Tree) → FitsIn w r → Alike o (outcome_of w r) → Stands w (bind o f) (other r)) → Stands w (bind o f) (on_value l next other)
 stands_bind w o (value_left m) f next other h n k = stands_next w o (bare m) f (next m) h.0 (n m h.1 h.0)
 stands_bind w o (residual r) f next other h n k = k r h.1 h.0
 stands_bind w o (stopped (fault e)) f next other h n k = none_bind o f h
@@ -86,7 +86,7 @@ stands_bind w o (stopped limit) f next other h n k = tt
 -- the second of two, after any first
 pub stands_second : (w : World) (o p : Option (Res V)) (l : Left) (f : V → V → Option (Res V)) (next : Made → Left) (other : Tree → Left) → Stands w p l
     → ((m : Made) → IsWellMade w.table m → Keeps p (Some (val (bare m))) → Stands w (bind o (λ v. bind p (f v))) (next m))
-    → ((r : Tree) → FitsAnnotations w r → Alike p (outcome_of w r) → Stands w (bind o (λ v. bind p (f v))) (other r)) → Stands w (bind o (λ v. bind p (f v))) (on_value l next other)
+    → ((r : Tree) → FitsIn w r → Alike p (outcome_of w r) → Stands w (bind o (λ v. bind p (f v))) (other r)) → Stands w (bind o (λ v. bind p (f v))) (on_value l next other)
 stands_second w o p (value_left m) f next other h n k = n m h.1 h.0
 stands_second w o p (residual r) f next other h n k = k r h.1 h.0
 stands_second w o p (stopped (fault e)) f next other h n k = none_second o p f h
@@ -109,7 +109,7 @@ written_alike w None m h g = tt
 written_alike w (Some (val v)) m h g = means_outcome w (written m) (val (bare m)) (written_means w m g) ∙ h
 written_alike w (Some (err e)) m h g = cc
 
-pub written_fits : (w : World) (m : Made) → FitsAnnotations w (written m)
+pub written_fits : (w : World) (m : Made) → FitsIn w (written m)
 written_fits w m = no_unknown _ m
 
 -- what best effort makes of an expression is like it
@@ -118,7 +118,7 @@ best_alike w t (value_left m) h = written_alike w (outcome_of w t) m h.0 h.1
 best_alike w t (residual r) h = h.0
 best_alike w t (stopped s) h = alike_same (outcome_of w t)
 
-pub best_fits : (w : World) (t : Tree) (l : Left) → Stands w (outcome_of w t) l → FitsAnnotations w t → FitsAnnotations w (best t l)
+pub best_fits : (w : World) (t : Tree) (l : Left) → Stands w (outcome_of w t) l → FitsIn w t → FitsIn w (best t l)
 best_fits w t (value_left m) h f = written_fits w m
 best_fits w t (residual r) h f = h.1
 best_fits w t (stopped s) h f = f
@@ -132,15 +132,15 @@ pub alike_asked : (o p : Option (Res V)) → Alike o p → Alike (bind o (λ v. 
 alike_asked o p h = alike_bind o p (λ v. Some (truth_asked v)) (λ v. Some (truth_asked v)) h (λ v. alike_same (Some (truth_asked v)))
 
 -- what holds of the unknowns of both sides holds of those of the conjunction and the disjunction
-each_folded : (P : Text → Option CoreType → Type 0) (f : Bool → Bool → Bool) (a b : Option Bool) (t : Tree) → EachUnknown P t → EachUnknown P (folded f a b t)
+each_folded : (P : Text → Option CoreType → Type 0) (f : Bool → Bool → Bool) (a b : Option Bool) (t : Tree) → EachIn P t → EachIn P (folded f a b t)
 each_folded P f (Some a) (Some b) t h = tt
 each_folded P f (Some a) None t h = h
 each_folded P f None b t h = h
 
-pub each_conjunction : (P : Text → Option CoreType → Type 0) (a b : Tree) → EachUnknown P a → EachUnknown P b → EachUnknown P (conjunction a b)
+pub each_conjunction : (P : Text → Option CoreType → Type 0) (a b : Tree) → EachIn P a → EachIn P b → EachIn P (conjunction a b)
 each_conjunction P a b h k = each_folded P _ (written_truth a) (written_truth b) (both a b) (h, k)
 
-pub each_disjunction : (P : Text → Option CoreType → Type 0) (a b : Tree) → EachUnknown P a → EachUnknown P b → EachUnknown P (disjunction a b)
+pub each_disjunction : (P : Text → Option CoreType → Type 0) (a b : Tree) → EachIn P a → EachIn P b → EachIn P (disjunction a b)
 each_disjunction P a b h k = each_folded P _ (written_truth a) (written_truth b) (either a b) (h, k)
 
 -- the right side of `and` and `or`

@@ -28,7 +28,7 @@ found u false e = refl
 pub completed_there : Completes ok_world one_open
 completed_there =
     record {
-      whole = record { principal = tt; action = tt; resource = tt; context = tt; unknowns = λ n. tt; store = λ u. settled (uid_eq u user_b) };
+      whole = record { principal = refl; action = refl; resource = refl; context = refl; unknowns = λ n. refl; store = λ u. settled (uid_eq u user_b) };
       principal = refl;
       action = refl;
       resource = refl;

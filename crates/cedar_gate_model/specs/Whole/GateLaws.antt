@@ -7,7 +7,8 @@ use Rattle.cedar_expr_model.specs.Uid.{Uid}
 use Rattle.cedar_expr_model.specs.Whole.Value.{V}
 use Rattle.cedar_expr_model.specs.Whole.Tree.{SlotId, nesting}
 use Rattle.cedar_expr_model.specs.Whole.Unknowns.{has_unknown}
-use Rattle.cedar_store_model.specs.Whole.World.{World, Part, Entity, held}
+use Rattle.cedar_expr_model.specs.Whole.ValueParts.{Part}
+use Rattle.cedar_store_model.specs.Whole.World.{World, Entity, held}
 use Rattle.cedar_store_model.specs.Whole.Policy.{Policy, binding_of, body_tree, condition, tree_uses, has_slot}
 use Rattle.cedar_store_model.specs.Whole.Knowledge.{IsThere, Extends}
 use Rattle.cedar_store_model.specs.Whole.Answer.{Decision, ids, decision_of}

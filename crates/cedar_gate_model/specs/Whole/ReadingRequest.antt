@@ -7,7 +7,8 @@ use Rattle.cedar_expr_model.specs.Name.{Text}
 use Rattle.cedar_expr_model.specs.Uid.{Uid, uid_eq}
 use Rattle.cedar_expr_model.specs.Whole.Value.{V}
 use Rattle.cedar_expr_model.specs.Whole.Made.{no_made_fields, bare}
-use Rattle.cedar_store_model.specs.Whole.World.{Part, known, Entity}
+use Rattle.cedar_expr_model.specs.Whole.ValueParts.{Part, known}
+use Rattle.cedar_store_model.specs.Whole.World.{Entity}
 use Rattle.cedar_schema_model.specs.Whole.WellFormed.{has_twice}
 use Rattle.cedar_evaluator_model.specs.Scope.{Entry, uid, unknown_uid, closed}
 use Rattle.cedar_gate_model.specs.Reading.{given, required, optional, has_only, list_of, members_of}

@@ -6,7 +6,8 @@ use Rattle.std.proofs.Common.{◌⊎◌}
 use Rattle.cedar_expr_model.specs.Name.{Text}
 use Rattle.cedar_expr_model.specs.Uid.{Uid}
 use Rattle.cedar_expr_model.specs.Whole.Value.{entity, V, prim, set_of, record_of, extension, Fields, no_fields, field}
-use Rattle.cedar_store_model.specs.Whole.World.{World, Part, known, left, Entity, Found, held, missing, not_loaded}
+use Rattle.cedar_expr_model.specs.Whole.ValueParts.{Part, known, left}
+use Rattle.cedar_store_model.specs.Whole.World.{World, Entity, Found, held, missing, not_loaded}
 use Rattle.cedar_schema_model.specs.Whole.Schema.{Schema, declares_action}
 
 -- A value mentions a uid that it is, and a record what its fields mention. Sets and extension values mention none.

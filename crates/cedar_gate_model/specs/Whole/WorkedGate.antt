@@ -8,7 +8,8 @@ use Rattle.cedar_expr_model.specs.Whole.Value.{truth, long, text, entity, V, pri
 use Rattle.cedar_expr_model.specs.Whole.Tree.{principal, action, context, Tree, lit, var, slot, unknown, both, binary, equal, less, plus, call, get_attr, is_type, principal_slot, string_core, extension_core, no_trees, tree, record_literal, no_tree_fields, tree_field}
 use Rattle.cedar_expr_model.specs.Whole.Made.{Made, made_prim, made_extension, no_made_fields}
 use Rattle.cedar_expr_model.specs.Whole.Table.{Table, function_style, Called, gives, fails}
-use Rattle.cedar_store_model.specs.Whole.World.{World, known, Entity, Found, not_loaded}
+use Rattle.cedar_expr_model.specs.Whole.ValueParts.{known}
+use Rattle.cedar_store_model.specs.Whole.World.{World, Entity, Found, not_loaded}
 use Rattle.cedar_store_model.specs.Whole.Store.{Entities, entity_of, found_as, whole}
 use Rattle.cedar_store_model.specs.Whole.Answer.{Answer, answer_of}
 use Rattle.cedar_store_model.specs.Whole.Policy.{Policy, Effect, permit, forbid, exactly, named}

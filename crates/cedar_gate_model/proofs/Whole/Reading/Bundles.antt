@@ -9,7 +9,8 @@ use Rattle.cedar_expr_model.specs.Uid.{Uid, uid_eq}
 use Rattle.cedar_expr_model.specs.Whole.Value.{V}
 use Rattle.cedar_expr_model.proofs.Lists.{both_hold, hold_both, all_each}
 use Rattle.cedar_expr_model.proofs.Equality.{uid_eq-Decides}
-use Rattle.cedar_store_model.specs.Whole.World.{Part, Entity}
+use Rattle.cedar_expr_model.specs.Whole.ValueParts.{Part}
+use Rattle.cedar_store_model.specs.Whole.World.{Entity}
 use Rattle.cedar_store_model.specs.Whole.Knowledge.{is_known, holds_values}
 use Rattle.cedar_schema_model.specs.Whole.WellFormed.{HasTwice, has_twice}
 use Rattle.cedar_schema_model.proofs.Whole.Decls.Faults.{has_twice-Decides}

@@ -13,12 +13,13 @@ use Rattle.cedar_expr_model.proofs.Lists.{found-Decides, any-Decides, all-Decide
 use Rattle.cedar_schema_model.specs.Whole.Descent.{Reaches, reaches}
 use Rattle.cedar_schema_model.specs.Whole.Reference.{Namespace, action_word, Reference, Meant, meant_common, meant_entity, candidates, action_candidates}
 use Rattle.cedar_schema_model.specs.Whole.Declarations.{Declarations, common_name, action_uid, common_names, entity_names, action_uids, is_declared, is_declared_action, meant, parent_meant, references_of_common, references, extensions}
-use Rattle.cedar_schema_model.specs.Whole.WellFormed.{SchemaFault, duplicate_entity_type, duplicate_common_type, duplicate_action, undeclared_type, undeclared_action, cycle_of_common_types, cycle_of_actions, action_as_entity_type, context_not_record, reserved_name, shadowing, unknown_extension_type, unresolved_external, ill_forms, HasTwice, has_twice, is_common, uses, has_parent_action, becomes_record, written_names, unqualified_uid, is_qualified, declared_types, shadows, is_external_kind, has_schema_fault, IsWellFormed, well_formed}
+use Rattle.cedar_schema_model.specs.Whole.WellFormed.{SchemaFault, duplicate_entity_type, duplicate_common_type, duplicate_action, undeclared_type, undeclared_action, cycle_of_common_types, cycle_of_actions, action_as_entity_type, context_not_record, reserved_name, shadowing, unknown_extension_type, unresolved_external, ill_forms, has_twice, is_common, uses, has_parent_action, becomes_record, written_names, unqualified_uid, declared_types, shadows, is_external_kind, has_schema_fault, IsWellFormed, well_formed}
 use Rattle.cedar_schema_model.proofs.Whole.Decls.Descent.{reaches-Decides, Covers, chain_starts}
 use Rattle.cedar_schema_model.proofs.Whole.Decls.Conforming.{not_false, is_none-Decides, is_true-Decides, none_there, is_lacking}
-use Rattle.cedar_schema_model.specs.Whole.BagLaws.{IsFirst, Uses, HasParentAction, Shadows, HasSchemaFault}
+use Rattle.cedar_schema_model.specs.Whole.BagLaws.{IsFirst, Uses, HasParentAction, Shadows, HasSchemaFault, HasTwice}
 use Rattle.cedar_expr_model.specs.Whole.Names.{unqualified}
 use Rattle.std.specs.Option.{option_eq}
+use Rattle.cedar_schema_model.proofs.Whole.Named.{is_qualified}
 
 -- the first that passes
 first_step : {X : Type 0} (test : X → Bool) (x : X) (xs : List X) (y : X) (b : Bool) → test x ≡ b → (find test xs ≡ Some y → IsFirst test xs y) → (if b then Some x else find test xs) ≡ Some y → IsFirst test (x ∷ xs) y

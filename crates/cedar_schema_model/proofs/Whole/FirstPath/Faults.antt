@@ -14,12 +14,13 @@ use Rattle.cedar_schema_model.specs.Declarations as small
 use Rattle.cedar_schema_model.specs.Whole.Descent.{reaches}
 use Rattle.cedar_schema_model.specs.Whole.Reference.{Namespace, action_word, name_in, to_entity, Reference, Meant, meant_entity}
 use Rattle.cedar_schema_model.specs.Whole.Declarations.{EntityDeclaration, ActionDeclaration, entity_name, action_uid, entity_names, action_uids, is_declared, meant, parent_meant, types_in, extensions_in, to_entities, references_of_entity, references_of_action, references, extensions}
-use Rattle.cedar_schema_model.specs.Whole.WellFormed.{SchemaFault, duplicate_entity_type, duplicate_common_type, duplicate_action, undeclared_type, undeclared_action, cycle_of_common_types, cycle_of_actions, action_as_entity_type, context_not_record, reserved_name, shadowing, unknown_extension_type, unresolved_external, has_twice, has_parent_action, is_qualified, unqualified_uid, declared_types, shadows, becomes_record, is_external_kind, written_names, has_schema_fault, IsWellFormed, well_formed}
+use Rattle.cedar_schema_model.specs.Whole.WellFormed.{SchemaFault, duplicate_entity_type, duplicate_common_type, duplicate_action, undeclared_type, undeclared_action, cycle_of_common_types, cycle_of_actions, action_as_entity_type, context_not_record, reserved_name, shadowing, unknown_extension_type, unresolved_external, has_twice, has_parent_action, unqualified_uid, declared_types, shadows, becomes_record, is_external_kind, written_names, has_schema_fault, IsWellFormed, well_formed}
 use Rattle.cedar_schema_model.specs.Whole.FirstPath.{whole_entity, whole_action, whole_declarations, whole_fault, is_first_fault, is_plain_action, is_plain, refers_unreserved, also_asked}
 use Rattle.cedar_schema_model.proofs.Order.{all_agree}
 use Rattle.cedar_schema_model.proofs.WellFormed as small_formed
 use Rattle.cedar_schema_model.proofs.Whole.Decls.Faults.{well_formed-Decides}
 use Rattle.cedar_schema_model.proofs.Whole.FirstPath.Lists.{and_true, and_false, not_or, any_map, any_none, any_none_where, same_said, not_any, all_implied, map_twice, map_agree_where}
+use Rattle.cedar_schema_model.proofs.Whole.Named.{is_qualified}
 
 pub plain_types : (d : small.Declarations) → is_plain d ≡ true → list_all (λ (t : small.TypeDeclaration). is_unqualified t.name) d.types ≡ true
 plain_types d h = (both_hold (list_all (λ (t : small.TypeDeclaration). is_unqualified t.name) d.types) (list_all is_plain_action d.actions) h).0
