@@ -65,12 +65,15 @@ restricted_scope s = record s { slots = λ x. None; values = λ n. None }
 abbrev pub restricted_left : Scope → Tree → Left
 restricted_left s t = evaluated (restricted_scope s) 512 t
 
--- the context that an evaluated record is
+-- the context that an evaluated record is, if it is one
+abbrev pub context_from : Left → Option Context
+context_from (value_left (made_record fs)) = Some (closed fs)
+context_from (residual (record_literal fs)) = Some (residual_fields fs)
+context_from l = None
+
 abbrev pub context_made : Left → Outcome Context
-context_made (value_left (made_record fs)) = makes_it (closed fs)
-context_made (residual (record_literal fs)) = makes_it (residual_fields fs)
 context_made (stopped r) = refuses (context_stops r)
-context_made l = refuses (wrong_value context)
+context_made l = option_map_or makes_it (context_from l) (refuses (wrong_value context))
 
 -- The unknowns of a residual context replaced by their values, whatever their annotations, and what is left evaluated; a context of
 -- values stays, and an unknown one.

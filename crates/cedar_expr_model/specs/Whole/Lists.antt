@@ -1,9 +1,13 @@
--- Lists: what a function finds in them, or gives of them all, and whether they rise.
+-- Lists and options: what a test lets through, what a function finds in a list, or gives of it all, and whether a list rises.
 -- Rule: values and equality; parts of an expression (docs/RULES.md).
-use Rattle.std.specs.Prelude.{◌&&◌, List, [], ◌∷◌, Bool, true, false, Option, Some, None, option_map, option_and_then}
+use Rattle.std.specs.Prelude.{◌&&◌, List, [], ◌∷◌, Bool, true, false, Option, Some, None, option_map, option_and_then, if◌then◌else◌}
 use Rattle.std.specs.Option.{option_or}
 use Rattle.std.specs.Ordering.{is_lt}
 use Rattle.std.specs.declared.cmp.Ordering.{Ordering}
+
+-- what was found, where the test holds
+abbrev pub when : {A : Type 0} → Bool → Option A → Option A
+when test found = if test then found else None
 
 -- it has no item
 abbrev pub is_nil : {A : Type 0} → List A → Bool

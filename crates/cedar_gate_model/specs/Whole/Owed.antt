@@ -30,12 +30,3 @@ NoneTrue k ps e = (p : Policy) → Contains ps p → p.effect ≡ e → IsForced
 abbrev pub IsForced : World → List Policy → Decision → Type 0
 IsForced k ps allow = SomeTrue k ps permit × NoneTrue k ps forbid
 IsForced k ps deny = SomeTrue k ps forbid ⊎ NoneTrue k ps permit
-
--- what must be among the reasons and what may be: bounds that hold in a completion
-pub record Bounds : Type 0 where
-  pub must : List Text
-  pub may : List Text
-
-pub record Holds (b : Bounds) (w : World) (ps : List Policy) : Type 0 where
-  pub within : (id : Text) → Contains b.must id → Contains (reasons_of w ps) id
-  pub covers : (id : Text) → Contains (reasons_of w ps) id → Contains b.may id

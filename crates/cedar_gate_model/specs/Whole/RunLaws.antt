@@ -6,7 +6,7 @@ use Rattle.cedar_expr_model.specs.Whole.Made.{Made}
 use Rattle.cedar_store_model.specs.Whole.World.{World}
 use Rattle.cedar_store_model.specs.Whole.Policy.{Policy}
 use Rattle.cedar_store_model.specs.Whole.Answer.{Answer}
-use Rattle.cedar_schema_model.specs.Whole.WellFormed.{HasTwice}
+use Rattle.cedar_schema_model.specs.Whole.BagLaws.{HasTwice}
 use Rattle.cedar_evaluator_model.specs.Scope.{Context, closed, residual_fields, unknown_context}
 use Rattle.cedar_gate_model.specs.Whole.Acceptance.{IsAccepted}
 use Rattle.cedar_gate_model.specs.Whole.Bundle.{Functions, Bundle}

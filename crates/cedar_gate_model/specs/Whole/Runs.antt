@@ -1,6 +1,6 @@
 -- Runs over a store that answers for every uid: what they do step by step, and how they end.
 -- Rule: runs; legal transcript (docs/RULES.md).
-use Rattle.std.specs.Prelude.{◌≡◌, ◌≢◌, List, [], ◌∷◌, ◌++◌, map, Option, Some, None}
+use Rattle.std.specs.Prelude.{◌≡◌, ◌≢◌, List, [], ◌∷◌, ◌++◌, map, Option, Some, None, option_map}
 use Rattle.std.proofs.Common.{◌⊎◌}
 use Rattle.cedar_expr_model.specs.Name.{Text}
 use Rattle.cedar_expr_model.specs.Uid.{Uid}
@@ -22,12 +22,8 @@ pub data End : Type 0 where
   answer_refused : AnswerRefusal → End
 
 -- what the store supplies for these
-abbrev pub owned : Uid → Option (Entity V) → Option (Uid × Entity V)
-owned u None = None
-owned u (Some e) = Some (u, e)
-
 abbrev pub supplied_by : Setup → List Uid → Supplied
-supplied_by x uids = map (λ u. (u, owned u (x.store u))) uids
+supplied_by x uids = map (λ u. (u, option_map (λ e. (u, e)) (x.store u))) uids
 
 -- A round: these are wanted, at least one, in order, and what the store supplies is taken.
 pub record IsRoundNow (x : Setup) (s : State) (uids : List Uid) : Type 0 where

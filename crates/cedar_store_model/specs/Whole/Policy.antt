@@ -1,6 +1,6 @@
 -- Policies, templates, and their condition.
 -- Rule: conditions; policies and templates (docs/RULES.md).
-use Rattle.std.specs.Prelude.{◌==◌, List, map, Bool, true, Option, None, unwrap_or}
+use Rattle.std.specs.Prelude.{◌==◌, List, map, Bool, true, Option, None, unwrap_or, [], ◌∷◌}
 use Rattle.std.specs.List.{list_any}
 use Rattle.cedar_expr_model.specs.Name.{Text, Name}
 use Rattle.cedar_expr_model.specs.Uid.{Uid}
@@ -83,6 +83,10 @@ body_tree body = unwrap_or body (lit (truth true))
 -- The condition: principal, action and resource part, then the body, joined from the right.
 abbrev pub condition : Policy → Tree
 condition p = conjunction (scope_tree principal principal_slot p.principal) (conjunction (action_tree p.action) (conjunction (scope_tree resource resource_slot p.resource) (body_tree p.body)))
+
+-- the slots that there are
+abbrev pub all_slots : List SlotId
+all_slots = principal_slot ∷ resource_slot ∷ []
 
 -- the slot stands in the expression
 abbrev pub tree_uses : Tree → SlotId → Bool

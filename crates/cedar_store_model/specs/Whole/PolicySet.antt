@@ -9,7 +9,7 @@ use Rattle.cedar_expr_model.specs.Whole.Tree.{SlotId, principal_slot, resource_s
 use Rattle.cedar_expr_model.specs.Whole.Lists.{is_nil}
 use Rattle.cedar_expr_model.specs.Whole.Parts.{slots}
 use Rattle.cedar_expr_model.specs.Whole.Repeats.{repeated}
-use Rattle.cedar_store_model.specs.Whole.Policy.{Policy, SlotBindings, binding_of, condition, has_slot}
+use Rattle.cedar_store_model.specs.Whole.Policy.{Policy, SlotBindings, binding_of, condition, has_slot, all_slots}
 
 pub record PolicySet : Type 0 where
   pub templates : List Policy
@@ -50,10 +50,6 @@ lacks_binding t b s = has_slot t s && is_none (binding_of b s)
 abbrev pub has_stray_binding : Policy → SlotBindings → SlotId → Bool
 has_stray_binding t b s = not (has_slot t s) && is_some (binding_of b s)
 
--- the test holds of one of the slots
-abbrev pub of_some_slot : (SlotId → Bool) → Bool
-of_some_slot test = test principal_slot || test resource_slot
-
 -- why a template isn't linked
 pub data LinkFault : Type 0 where
   id_present : LinkFault
@@ -67,8 +63,8 @@ link_faults = id_present ∷ slot_not_bound ∷ slot_not_of_template ∷ no_temp
 -- The fault is there, where a template of the set is linked under a new id with bindings.
 abbrev pub has_link_fault : PolicySet → Text → Text → SlotBindings → LinkFault → Bool
 has_link_fault s template id b id_present = is_taken id s
-has_link_fault s template id b slot_not_bound = option_map_or (λ t. of_some_slot (lacks_binding t b)) (template_of template s) false
-has_link_fault s template id b slot_not_of_template = option_map_or (λ t. of_some_slot (has_stray_binding t b)) (template_of template s) false
+has_link_fault s template id b slot_not_bound = option_map_or (λ t. list_any (lacks_binding t b) all_slots) (template_of template s) false
+has_link_fault s template id b slot_not_of_template = option_map_or (λ t. list_any (has_stray_binding t b) all_slots) (template_of template s) false
 has_link_fault s template id b no_template = is_none (template_of template s)
 
 -- the set after linking, where none of the faults is there
