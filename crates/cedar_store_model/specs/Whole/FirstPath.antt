@@ -103,9 +103,15 @@ whole_error e = record { id = e.id; fault = whole_fault e.fault }
 abbrev pub whole_answer : small_answer.Answer → Answer
 whole_answer a = record { decision = whole_decision a.decision; reasons = a.reasons; errors = map whole_error a.errors }
 
--- Whatever the table and the unknowns are, this holds of each world of the first path beside that world in the whole language.
+-- A world that knows a request: principal, action and resource are those of the request. The rest may be anything, and may be open.
+pub record KnowsRequest (r : small_world.Request) (w : World) : Type 0 where
+  pub principal : w.principal ≡ Some r.principal
+  pub action : w.action ≡ Some r.action
+  pub resource : w.resource ≡ Some r.resource
+
+-- This holds of each world of the first path beside each world of the whole language that knows its request.
 abbrev pub InEachWorld : (small_world.World → World → Type 0) → Type 0
-InEachWorld P = (x : Table) (unknowns : Text → Option V) (w : small_world.World) → P w (whole_world x unknowns w)
+InEachWorld P = (w : small_world.World) (u : World) → KnowsRequest w.request u → P w u
 
 -- the entities of these uids, each without attributes, tags and ancestors
 abbrev pub plain_entities : List Uid → Entities
@@ -115,6 +121,10 @@ plain_entities us = map (λ u. (u, plain_entity)) us
 abbrev pub WorldsAreOfStores : Type 0
 WorldsAreOfStores = (x : Table) (unknowns : Text → Option V) (r : small_world.Request) (us : List Uid)
     → whole_world x unknowns (record { request = r; holds = λ u. list_any (uid_eq u) us }) ≡ world_of x unknowns (as_open (whole_request r)) (record { extent = whole; entities = plain_entities us })
+
+-- it knows the request
+abbrev pub WorldsKnowTheRequest : Type 0
+WorldsKnowTheRequest = (x : Table) (unknowns : Text → Option V) (w : small_world.World) → KnowsRequest w.request (whole_world x unknowns w)
 
 -- where each unknown is bound everything is known
 abbrev pub WorldsAreWhole : Type 0
@@ -162,3 +172,7 @@ ErrorsAreWhole = InEachWorld (λ w u. (ps : List small_policy.Policy) → errors
 
 abbrev pub AnswerIsWhole : Type 0
 AnswerIsWhole = InEachWorld (λ w u. (ps : List small_policy.Policy) → answer_of u (whole_policies ps) ≡ whole_answer (small_answer.answer_of w ps))
+
+-- answers that are the same in the whole language are the same
+abbrev pub AnswersAreKept : Type 0
+AnswersAreKept = (a b : small_answer.Answer) → whole_answer a ≡ whole_answer b → a ≡ b

@@ -140,7 +140,7 @@ nearer c w m uids r settled (suc j) l u h =
     inr (v, near, subst (λ f. FoundMentions f u) (then ∙ sym now) k.2))
     h
 
-some_item : (uids : List Uid) → uids ≢ [] → (u : Uid) × Contains uids u
+pub some_item : (uids : List Uid) → uids ≢ [] → (u : Uid) × Contains uids u
 some_item [] n = absurd (n refl)
 some_item (u ∷ us) n = (u, contains_head u us)
 
