@@ -30,8 +30,8 @@ use Rattle.cedar_gate_model.specs.ReadingSchema as small_schema
 use Rattle.cedar_gate_model.specs.ReadingBundle as small
 use Rattle.cedar_gate_model.specs.Lines as small_lines
 use Rattle.cedar_gate_model.specs.Whole.FirstPath.{start_of, whole_step, whole_bundle, whole_status}
-use Rattle.cedar_gate_model.specs.Whole.Acceptance.{Submission, Cause, is_clear_of, IsAccepted, HasFault, admits, warnings_of, policies_for}
-use Rattle.cedar_gate_model.specs.Whole.Moment.{Start}
+use Rattle.cedar_gate_model.specs.Whole.Acceptance.{Submission, Cause, is_clear_of, IsAccepted, HasFault, warnings_of, policies_for}
+use Rattle.cedar_gate_model.specs.Whole.GateLaws.{admits}
 use Rattle.cedar_gate_model.specs.Whole.Transcript.{Step, load, decide, Entry}
 use Rattle.cedar_gate_model.specs.Whole.Session.{Setup}
 use Rattle.cedar_gate_model.specs.Whole.Runs.{End, MayDecide, Runs}
