@@ -138,7 +138,7 @@ module _ (word : Text) (x y : small.Part) (v z u : Part) (h : SamePart x z) (k :
   abbrev Joined : Option Joint → Type 0
   Joined o = given o (small.both_by x y) ≡ Some t → form_read (v ∷ z ∷ u ∷ []) ≡ Some (whole_tree t)
 
-  by_joint : (name : Text) (join : Joint) (make : Tree → Tree → Tree) → beside name forms ≡ Some (of_two make) → JoinsAs join make → bytes_eq word name ≡ true → Joined (Some join)
+  by_joint : (name : Text) (join : Joint) (make : Tree → Tree → Tree) → lookup (bytes_eq name) forms ≡ Some (of_two make) → JoinsAs join make → bytes_eq word name ≡ true → Joined (Some join)
   by_joint name join make f same b e = known_form name (of_two make) f word v (z ∷ u ∷ []) b w ∙ of_joint join make same x y z u h k t e
 
   joints : (b c d : Bool) (i j l : Joint) → (b ≡ true → Joined (Some i)) → (c ≡ true → Joined (Some j)) → (d ≡ true → Joined (Some l))
