@@ -19,7 +19,7 @@ use Rattle.cedar_store_model.specs.Answer as small_answer
 use Rattle.cedar_store_model.specs.Whole.Policy.{Policy, binding_of, condition, tree_uses, has_slot, all_slots}
 use Rattle.cedar_store_model.proofs.Whole.Named.{slot_eq}
 use Rattle.cedar_store_model.specs.Whole.Answer.{ids}
-use Rattle.cedar_store_model.specs.Whole.FirstPath.{whole_scope, whole_policy, whole_policies}
+use Rattle.cedar_store_model.specs.Whole.FirstPath.{whole_policy, whole_policies}
 use Rattle.cedar_store_model.proofs.Whole.FirstPathAnswers.{conditions_are_whole, filter_whole, ids_whole}
 use Rattle.cedar_schema_model.specs.Declarations as small
 use Rattle.cedar_schema_model.specs.Whole.Types.{strict}
