@@ -1,11 +1,11 @@
 -- Sets of policies: templates and policies, each in the order of insertion, under ids that are used once.
 -- Rule: policies and templates (docs/RULES.md).
-use Rattle.std.specs.Prelude.{◌&&◌, ◌||◌, map, find, List, [], ◌∷◌, ◌++◌, Bool, false, not, Option, Some, None, is_some, is_none, option_map, if◌then◌else◌}
+use Rattle.std.specs.Prelude.{◌&&◌, map, find, List, [], ◌∷◌, ◌++◌, Bool, false, not, Option, Some, None, is_some, is_none, option_map, if◌then◌else◌}
 use Rattle.std.specs.Option.{option_map_or}
 use Rattle.std.specs.List.{list_any}
 use Rattle.std.specs.Str.{bytes_eq}
 use Rattle.cedar_expr_model.specs.Name.{Text}
-use Rattle.cedar_expr_model.specs.Whole.Tree.{SlotId, principal_slot, resource_slot}
+use Rattle.cedar_expr_model.specs.Whole.Tree.{SlotId}
 use Rattle.cedar_expr_model.specs.Whole.Lists.{is_nil}
 use Rattle.cedar_expr_model.specs.Whole.Parts.{slots}
 use Rattle.cedar_expr_model.specs.Whole.Repeats.{repeated}
