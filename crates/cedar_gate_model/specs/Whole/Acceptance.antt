@@ -1,10 +1,10 @@
 -- What the gate admits: the acceptance rules, each with the fault that breaks it.
 -- Rule: the acceptance rules; impossible policies; statuses and refusal numbers (docs/RULES.md).
-use Rattle.std.specs.Prelude.{◌≡◌, ◌&&◌, ◌||◌, ℕ, List, [], ◌∷◌, ◌++◌, Contains, Bool, true, false, not, is_some, Option, Some, None, nat_le, option_to_list, is_none}
+use Rattle.std.specs.Prelude.{◌≡◌, ◌&&◌, ◌||◌, ℕ, List, [], ◌∷◌, ◌++◌, Contains, Bool, true, false, not, is_some, nat_le, option_to_list, is_none}
 use Rattle.std.specs.List.{list_all, filter, flat_map}
 use Rattle.std.specs.Str.{bytes_eq}
 use Rattle.cedar_expr_model.specs.Name.{Text, Name}
-use Rattle.cedar_expr_model.specs.Whole.Tree.{SlotId, principal_slot, resource_slot, CoreType, extension_core, nesting}
+use Rattle.cedar_expr_model.specs.Whole.Tree.{CoreType, extension_core, nesting}
 use Rattle.cedar_expr_model.specs.Whole.Unknowns.{has_unknown}
 use Rattle.cedar_expr_model.specs.Whole.Table.{Table}
 use Rattle.cedar_store_model.specs.Whole.Policy.{Policy, binding_of, body_tree, condition, tree_uses, has_slot, all_slots}

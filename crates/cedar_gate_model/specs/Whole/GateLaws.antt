@@ -1,27 +1,29 @@
 -- What the laws of acceptance, slices and transcripts say.
 -- Rule: the acceptance rules; impossible policies; the slice; legal transcript (docs/RULES.md).
-use Rattle.std.specs.Prelude.{◌≡◌, ◌↔◌, ◌≤◌, ℕ, suc, List, ◌∷◌, ◌++◌, map, length, Contains, true, false, codes, Some, IsSome}
+use Rattle.std.specs.Prelude.{◌≡◌, ◌↔◌, ◌≤◌, ℕ, suc, List, ◌∷◌, ◌++◌, length, Contains, true, false, codes, Some, IsSome, Bool, [], ◌&&◌}
 use Rattle.std.specs.Bool.{Decides}
 use Rattle.cedar_expr_model.specs.Name.{Text}
 use Rattle.cedar_expr_model.specs.Uid.{Uid}
 use Rattle.cedar_expr_model.specs.Whole.Value.{V}
 use Rattle.cedar_expr_model.specs.Whole.Tree.{SlotId, nesting}
 use Rattle.cedar_expr_model.specs.Whole.Unknowns.{has_unknown}
-use Rattle.cedar_expr_model.specs.Whole.ValueParts.{Part}
 use Rattle.cedar_store_model.specs.Whole.World.{World, Entity, held}
 use Rattle.cedar_store_model.specs.Whole.Policy.{Policy, binding_of, body_tree, condition, tree_uses, has_slot}
 use Rattle.cedar_store_model.specs.Whole.Knowledge.{Extends}
-use Rattle.cedar_store_model.specs.Whole.Answer.{Decision, ids, decision_of}
+use Rattle.cedar_store_model.specs.Whole.Answer.{Decision, ids, decision_of, reasons_of}
 use Rattle.cedar_schema_model.specs.Whole.Schema.{Schema}
-use Rattle.cedar_schema_model.specs.Whole.WellFormed.{IsWellFormed, unresolved_external, HasTwice}
-use Rattle.cedar_schema_model.specs.Whole.BagLaws.{HasSchemaFault}
+use Rattle.cedar_schema_model.specs.Whole.WellFormed.{IsWellFormed, unresolved_external, well_formed}
+use Rattle.cedar_schema_model.specs.Whole.BagLaws.{HasSchemaFault, HasTwice}
 use Rattle.cedar_typechecker_model.specs.Whole.ScopeRules.{NamesKnownTypes, NamesKnownActions, NamesKnownMembers}
 use Rattle.cedar_typechecker_model.specs.Whole.Levels.{Violation}
 use Rattle.cedar_typechecker_model.specs.Whole.Verdicts.{RequestType, Passes, IsImpossible, IsIrrelevant, policy_violations}
-use Rattle.cedar_gate_model.specs.Whole.Acceptance.{Submission, Cause, IsAccepted, HasFault, admits, extension_types, schema_in, warnings_of, policies_for}
-use Rattle.cedar_gate_model.specs.Whole.Slice.{Mentions, mentioned, IsNear, near, InSlice, slice}
-use Rattle.cedar_gate_model.specs.Whole.Moment.{PartialRequest, Moment, at_first, entry_known, context_known}
-use Rattle.cedar_gate_model.specs.Whole.Transcript.{Case, Entry, round, decided, AreLegal, IsWanted, moment_after, asked_in, last_rounds, AsksTheSlice}
+use Rattle.cedar_gate_model.specs.Whole.Acceptance.{Submission, Cause, IsAccepted, HasFault, extension_types, schema_in, warnings_of, policies_for, external, repeated_policy, unlinked_slot, slot_outside_scope, is_clear_of, unknown_in_policy, nests_too_deep, unknown_entity_type, unknown_action, no_member, ill_typed, reaches_too_far}
+use Rattle.cedar_gate_model.specs.Whole.Slice.{IsNear, near, InSlice, slice}
+use Rattle.cedar_evaluator_model.specs.Response.{PartialRequest}
+use Rattle.cedar_gate_model.specs.Whole.Moment.{Moment, at_first, entry_known, context_known}
+use Rattle.cedar_gate_model.specs.Whole.Transcript.{Case, Entry, round, decided, AreLegal, IsWanted, after, bound}
+use Rattle.std.specs.Map.{keys_of}
+use Rattle.std.specs.List.{list_all}
 
 -- acceptance as a test
 abbrev pub policy_causes : List Cause

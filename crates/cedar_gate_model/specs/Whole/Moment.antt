@@ -1,6 +1,6 @@
 -- Requests that may be partly open, the worlds that complete them, and what is known at a moment of a run.
 -- Rule: completions; moments (docs/RULES.md).
-use Rattle.std.specs.Prelude.{◌≡◌, ◌||◌, ℕ, List, [], Bool, true, false, Option, Some, None, codes}
+use Rattle.std.specs.Prelude.{◌≡◌, ◌||◌, ℕ, List, [], Bool, true, Option, Some, codes, if◌then◌else◌}
 use Rattle.std.specs.List.{list_all, list_any}
 use Rattle.std.specs.Str.{bytes_eq}
 use Rattle.cedar_expr_model.specs.Name.{Text}
@@ -10,7 +10,7 @@ use Rattle.cedar_expr_model.specs.Whole.Tree.{record_literal}
 use Rattle.cedar_expr_model.specs.Whole.Made.{bare_fields}
 use Rattle.cedar_expr_model.specs.Whole.Parts.{unknowns}
 use Rattle.cedar_expr_model.specs.Whole.Table.{Table}
-use Rattle.cedar_store_model.specs.Whole.World.{World, Entity, Found, held, missing, not_loaded, by_found}
+use Rattle.cedar_store_model.specs.Whole.World.{World, Entity, Found, held, not_loaded, by_found}
 use Rattle.cedar_store_model.specs.Whole.Knowledge.{IsWhole}
 use Rattle.cedar_schema_model.specs.Whole.Schema.{Schema, declares_action}
 use Rattle.cedar_schema_model.specs.Whole.ActionEntities.{as_entity}

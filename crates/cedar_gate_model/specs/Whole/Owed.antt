@@ -2,12 +2,11 @@
 -- Rule: owed decisions (docs/RULES.md).
 use Rattle.std.specs.Prelude.{◌≡◌, List, Contains, true}
 use Rattle.std.proofs.Common.{◌⊎◌}
-use Rattle.cedar_expr_model.specs.Name.{Text}
 use Rattle.cedar_expr_model.specs.Whole.Value.{V, truth_value}
 use Rattle.cedar_store_model.specs.Whole.Outcome.{Res, val}
 use Rattle.cedar_store_model.specs.Whole.World.{World}
 use Rattle.cedar_store_model.specs.Whole.Policy.{Policy, Effect, permit, forbid}
-use Rattle.cedar_store_model.specs.Whole.Answer.{Decision, allow, deny, PolicyMeans, reasons_of}
+use Rattle.cedar_store_model.specs.Whole.Answer.{Decision, allow, deny, PolicyMeans}
 
 -- what is known makes the policy true
 abbrev pub IsForcedTrue : World → Policy → Type 0

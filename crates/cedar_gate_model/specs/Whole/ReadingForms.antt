@@ -1,11 +1,11 @@
 -- Reading JSON: further forms that parts of a bundle share.
 -- Rule: what a bundle reads as (docs/RULES.md).
-use Rattle.std.specs.Prelude.{◌&&◌, ◌==◌, ℕ, List, [], ◌∷◌, Bool, false, nat_le, if◌then◌else◌, Option, Some, None, option_map, unwrap_or}
+use Rattle.std.specs.Prelude.{◌&&◌, ◌==◌, ℕ, List, [], ◌∷◌, Bool, false, nat_le, Option, Some, option_map, unwrap_or}
 use Rattle.std.specs.Str.{bytes_eq}
 use Rattle.serde_json.specs.Data.{Data}
 use Rattle.serde_json.specs.Find.{as_str}
 use Rattle.cedar_expr_model.specs.Name.{Text}
-use Rattle.cedar_gate_model.specs.Reading.{given, required, has_only, list_of, count_read}
+use Rattle.cedar_gate_model.specs.Reading.{given, required, has_only, count_read}
 use Rattle.std.specs.Map.{lookup}
 use Rattle.cedar_expr_model.specs.Whole.Lists.{first_found, when}
 

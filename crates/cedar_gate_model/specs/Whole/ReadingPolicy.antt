@@ -4,8 +4,6 @@ use Rattle.std.specs.Prelude.{List, [], ◌∷◌, codes, Option, Some, None, op
 use Rattle.serde_json.specs.Data.{Data}
 use Rattle.serde_json.specs.Find.{as_str}
 use Rattle.cedar_expr_model.specs.Name.{Text}
-use Rattle.cedar_expr_model.specs.Uid.{Uid}
-use Rattle.cedar_expr_model.specs.Whole.Tree.{Tree}
 use Rattle.cedar_store_model.specs.Whole.Policy.{Policy, Effect, permit, forbid, Target, named, own_slot, Scope, any, exactly, inside, of_kind, of_kind_inside, ActionScope, any_action, exactly_action, inside_actions, SlotBindings, no_bindings}
 use Rattle.cedar_gate_model.specs.Reading.{given, required, optional, has_only, list_of}
 use Rattle.cedar_gate_model.specs.Whole.ReadingForms.{word_of, first_form, alone, read_as}

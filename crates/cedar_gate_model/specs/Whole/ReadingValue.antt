@@ -1,13 +1,12 @@
 -- Reading values and contexts: restricted expressions, evaluated when they are read.
 -- Rule: what a bundle reads as; restricted expressions (docs/RULES.md).
-use Rattle.std.specs.Prelude.{ℕ, List, [], ◌∷◌, codes, Option, Some, None}
+use Rattle.std.specs.Prelude.{[], ◌∷◌, codes, Option, Some, None}
 use Rattle.serde_json.specs.Data.{Data}
-use Rattle.cedar_expr_model.specs.Name.{Text}
 use Rattle.cedar_expr_model.specs.Whole.Tree.{Tree, record_literal}
-use Rattle.cedar_expr_model.specs.Whole.Made.{Made, made_record}
+use Rattle.cedar_expr_model.specs.Whole.Made.{Made}
 use Rattle.cedar_expr_model.specs.Whole.Restricted.{is_restricted}
 use Rattle.cedar_store_model.specs.Whole.World.{not_loaded}
-use Rattle.cedar_evaluator_model.specs.Scope.{unknown_uid, Context, closed, residual_fields, unknown_context, Scope, Left, value_left, residual}
+use Rattle.cedar_evaluator_model.specs.Scope.{unknown_uid, Context, unknown_context, Scope, Left, value_left}
 use Rattle.cedar_gate_model.specs.Reading.{given}
 use Rattle.cedar_gate_model.specs.Whole.Bundle.{Functions}
 use Rattle.cedar_gate_model.specs.Whole.ReadingForms.{word_of, first_form, if_passing}

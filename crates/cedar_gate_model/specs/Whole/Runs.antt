@@ -5,8 +5,6 @@ use Rattle.std.proofs.Common.{◌⊎◌}
 use Rattle.cedar_expr_model.specs.Name.{Text}
 use Rattle.cedar_expr_model.specs.Uid.{Uid}
 use Rattle.cedar_expr_model.specs.Whole.Made.{Made}
-use Rattle.cedar_expr_model.specs.Whole.Value.{V}
-use Rattle.cedar_store_model.specs.Whole.World.{Entity}
 use Rattle.cedar_store_model.specs.Whole.Policy.{Policy}
 use Rattle.cedar_store_model.specs.Whole.Answer.{Decision, Answer, answer_of}
 use Rattle.cedar_gate_model.specs.Whole.Session.{Setup, State, at_start, known_now, world_now, MeetsLimit, HoldsInAll, IsWantedList, NothingIsWanted, with_bound, OpenFault, OpenRefusal, BindFault, BindRefusal, Supplied, SupplyFault, SupplyRefusal, AnswerFault, AnswerRefusal}

@@ -1,17 +1,18 @@
 -- Sessions: what was bound and asked so far, what is known by it, and what each call refuses.
 -- Rule: sessions; refusals of a session (docs/RULES.md).
-use Rattle.std.specs.Prelude.{◌≡◌, ◌↔◌, ◌&&◌, ◌||◌, ℕ, List, [], ◌∷◌, map, Contains, Bool, true, false, not, is_some, Option, Some, None, option_map, codes, if◌then◌else◌, option_and_then, unwrap_or, IsSome}
+use Rattle.std.specs.Prelude.{◌≡◌, ◌↔◌, ◌&&◌, ◌||◌, ℕ, List, [], ◌∷◌, Contains, Bool, true, false, not, is_some, Option, Some, None, codes, if◌then◌else◌, option_and_then, unwrap_or, IsSome}
 use Rattle.std.specs.List.{list_any}
 use Rattle.std.specs.Str.{bytes_eq}
 use Rattle.std.proofs.Common.{◌⊎◌}
-use Rattle.cedar_expr_model.specs.Name.{Text, Name, name_eq}
+use Rattle.cedar_expr_model.specs.Name.{Text, name_eq}
 use Rattle.cedar_expr_model.specs.Uid.{Uid, uid_eq}
 use Rattle.cedar_expr_model.specs.Order.{are_rising}
-use Rattle.cedar_expr_model.specs.Whole.Value.{entity, V, record_of}
+use Rattle.cedar_expr_model.specs.Whole.Value.{entity, V}
 use Rattle.cedar_expr_model.specs.Whole.Tree.{record_literal, TreeFields}
-use Rattle.cedar_expr_model.specs.Whole.Made.{Made, made_prim, made_record, bare, bare_fields}
+use Rattle.cedar_expr_model.specs.Whole.Made.{Made, made_prim, made_record, bare}
 use Rattle.cedar_expr_model.specs.Whole.Substitution.{fits_annotation, substituted}
 use Rattle.cedar_expr_model.specs.Whole.Parts.{Unknown, unknowns}
+use Rattle.cedar_expr_model.specs.Whole.Repeats as repeats
 use Rattle.cedar_store_model.specs.Whole.World.{World, Entity, Found, held, not_loaded}
 use Rattle.cedar_store_model.specs.Whole.Policy.{Policy}
 use Rattle.cedar_store_model.specs.Whole.Answer.{Decision, decision_of}
@@ -19,15 +20,15 @@ use Rattle.cedar_store_model.specs.Whole.Store.{found_as, whole}
 use Rattle.cedar_schema_model.specs.Whole.Schema.{Schema, declares_action}
 use Rattle.cedar_schema_model.specs.Whole.ActionEntities.{as_entity}
 use Rattle.cedar_schema_model.specs.Whole.Conforming.{EntityConforms, RequestConforms}
-use Rattle.cedar_evaluator_model.specs.Scope.{Scope, Entry, uid, unknown_uid, Context, closed, residual_fields, unknown_context, Left, value_left, residual, stopped, Stop}
+use Rattle.cedar_evaluator_model.specs.Scope.{Scope, Entry, uid, unknown_uid, Context, closed, residual_fields, unknown_context, Left, value_left, stopped, Stop}
 use Rattle.cedar_evaluator_model.specs.Known.{known_found, known_world}
 use Rattle.cedar_evaluator_model.specs.Response.{response_of, PartialRequest}
 use Rattle.cedar_evaluator_model.specs.Members.{met_limit}
 use Rattle.cedar_gate_model.specs.Whole.Bundle.{Functions}
 use Rattle.cedar_gate_model.specs.Whole.Slice.{InSlice}
-use Rattle.cedar_gate_model.specs.Whole.ReadingValue.{left_of_restricted, context_from}
+use Rattle.cedar_evaluator_model.specs.Reauthorize.{context_from}
+use Rattle.cedar_gate_model.specs.Whole.ReadingValue.{left_of_restricted}
 use Rattle.cedar_gate_model.specs.Whole.Moment.{Completes, told, request_of}
-use Rattle.cedar_expr_model.specs.Whole.Repeats.{repeated}
 use Rattle.std.specs.Map.{lookup, keys_of}
 use Rattle.std.specs.Option.{option_map_or}
 use Rattle.cedar_store_model.specs.Whole.Reads.{uid_of}
@@ -220,19 +221,19 @@ IsWrong s (u, Some e) = (uid_eq u e.0 ≡ false) ⊎ (EntityConforms s e.0 e.1 �
 pub data SupplyRefusal : Type 0 where
   not_wanted : SupplyRefusal
   lacking : SupplyRefusal
-  repeated_uid : SupplyRefusal
+  repeated : SupplyRefusal
   wrong_entity : SupplyRefusal
 
 abbrev pub supply_number : SupplyRefusal → ℕ
 supply_number not_wanted = 1
 supply_number lacking = 2
-supply_number repeated_uid = 3
+supply_number repeated = 3
 supply_number wrong_entity = 4
 
 abbrev pub SupplyFault : Setup → State → Supplied → SupplyRefusal → Type 0
 SupplyFault x s ps not_wanted = (u : Uid) × Contains (keys_of ps) u × (IsWantedNow x s u → ⊥)
 SupplyFault x s ps lacking = (u : Uid) × IsWantedNow x s u × (Contains (keys_of ps) u → ⊥)
-SupplyFault x s ps repeated_uid = is_some (repeated uid_eq (keys_of ps)) ≡ true
+SupplyFault x s ps repeated = is_some (repeats.repeated uid_eq (keys_of ps)) ≡ true
 SupplyFault x s ps wrong_entity = (p : Uid × Option (Uid × Entity V)) × Contains ps p × IsWrong x.schema p
 
 -- Refusals of the answer: something isn't bound; something is wanted; all is bound and the request doesn't conform.

@@ -1,13 +1,13 @@
 -- What may be asked: the uids fewer than n steps away from the request, less the declared actions.
 -- Rule: mentions; the slice (docs/RULES.md).
-use Rattle.std.specs.Prelude.{◌≡◌, ℕ, zero, suc, List, [], ◌∷◌, ◌++◌, not, false, Option, Some, None, Contains, option_to_list}
+use Rattle.std.specs.Prelude.{◌≡◌, ℕ, zero, suc, List, [], ◌∷◌, ◌++◌, not, false, Contains, option_to_list}
 use Rattle.std.specs.List.{flat_map, filter}
 use Rattle.std.proofs.Common.{◌⊎◌}
 use Rattle.cedar_expr_model.specs.Name.{Text}
 use Rattle.cedar_expr_model.specs.Uid.{Uid}
 use Rattle.cedar_expr_model.specs.Whole.Value.{entity, V, prim, record_of, Fields, no_fields, field}
-use Rattle.cedar_expr_model.specs.Whole.ValueParts.{Part, known, left, known_value}
-use Rattle.cedar_store_model.specs.Whole.World.{World, Entity, Found, held, missing, not_loaded, by_found}
+use Rattle.cedar_expr_model.specs.Whole.ValueParts.{Part, known_value}
+use Rattle.cedar_store_model.specs.Whole.World.{World, Found, by_found}
 use Rattle.cedar_schema_model.specs.Whole.Schema.{Schema, declares_action}
 use Rattle.std.specs.Option.{option_map_or}
 

@@ -3,7 +3,7 @@
 use Rattle.std.specs.Prelude.{ℕ, pos, List, [], ◌∷◌, ◌++◌, codes, Bool, true, false, Option, Some, None}
 use Rattle.std.specs.List.{flat_map}
 use Rattle.cedar_expr_model.specs.Name.{Text, Name}
-use Rattle.cedar_expr_model.specs.Uid.{Uid}
+use Rattle.cedar_expr_model.specs.Uid.{Uid, uid_eq}
 use Rattle.cedar_expr_model.specs.Whole.Value.{truth, long, text, entity, V, prim, extension}
 use Rattle.cedar_expr_model.specs.Whole.Tree.{principal, action, context, Tree, lit, var, slot, unknown, both, binary, equal, less, plus, call, get_attr, is_type, principal_slot, string_core, extension_core, no_trees, tree, record_literal, no_tree_fields, tree_field}
 use Rattle.cedar_expr_model.specs.Whole.Made.{Made, made_prim, made_extension, no_made_fields}
@@ -24,7 +24,8 @@ use Rattle.cedar_gate_model.specs.Whole.Bundle.{Functions, Bundle}
 use Rattle.cedar_gate_model.specs.Whole.Session.{Setup, State, at_start, known_now, world_now, scope_now, Supplied}
 use Rattle.cedar_gate_model.specs.Whole.Runs.{supplied_by}
 use Rattle.cedar_gate_model.specs.Whole.Lines.{line, setup_of}
-use Rattle.cedar_gate_model.specs.Whole.Owed.{Bounds}
+use Rattle.cedar_gate_model.specs.Whole.GateLaws.{Bounds}
+use Rattle.std.specs.Map.{lookup}
 
 abbrev pub user_b : Uid
 user_b = uid_of user (codes "b")
@@ -117,7 +118,7 @@ below_z = (user_a, person user_z true) ∷ (user_b, person user_a true) ∷ (use
 
 -- the world of a request by this principal on `Doc::"d"`, over a whole store
 abbrev pub world_of : Option Uid → Entities → World
-world_of p es = record { principal = p; action = Some view; resource = Some doc_d; context = None; slots = λ s. None; unknowns = λ n. None; table = no_table; store = λ u. found_as whole (entity_of u es) }
+world_of p es = record { principal = p; action = Some view; resource = Some doc_d; context = None; slots = λ s. None; unknowns = λ n. None; table = no_table; store = λ u. found_as whole (lookup (uid_eq u) es) }
 
 -- requests
 abbrev pub asking : Entry → Context → PartialRequest
@@ -184,7 +185,7 @@ abbrev pub user_text : Text → Text
 user_text id = codes "User::" ++ in_quotes id
 
 abbrev pub setup_with : ℕ → Functions → PartialRequest → Entities → Setup
-setup_with n f r es = record { schema = schema_in (submitted m n []); level = n; limit = 16; functions = f; start = r; store = λ u. entity_of u es }
+setup_with n f r es = record { schema = schema_in (submitted m n []); level = n; limit = 16; functions = f; start = r; store = λ u. lookup (uid_eq u) es }
 
 abbrev pub text_made : Text → Made
 text_made s = made_prim (text s)
