@@ -18,12 +18,14 @@ use Rattle.cedar_schema_model.specs.Whole.WellFormed.{schema_number}
 use Rattle.cedar_schema_model.specs.Whole.FirstPath.{whole_declarations, whole_fault, is_plain, IsFirstPath}
 use Rattle.cedar_typechecker_model.specs.Whole.FirstPath.{first_schema}
 use Rattle.cedar_evaluator_model.specs.Scope.{uid, closed}
+use Rattle.cedar_evaluator_model.specs.Response.{PartialRequest}
 use Rattle.cedar_gate_model.specs.Acceptance as small_acceptance
 use Rattle.cedar_gate_model.specs.Transcript as small_transcript
 use Rattle.cedar_gate_model.specs.Bundle as small_bundle
 use Rattle.cedar_gate_model.specs.Lines as small_lines
-use Rattle.cedar_gate_model.specs.Whole.Acceptance.{Submission, Cause, schema, repeated_policy, nests_too_deep, unknown_entity_type, unknown_action, ill_typed, IsAccepted, HasFault, admits, number_of, warnings_of}
-use Rattle.cedar_gate_model.specs.Whole.Moment.{Start, Completes}
+use Rattle.cedar_gate_model.specs.Whole.Acceptance.{Submission, Cause, schema, repeated_policy, nests_too_deep, unknown_entity_type, unknown_action, ill_typed, IsAccepted, HasFault, number_of, warnings_of}
+use Rattle.cedar_gate_model.specs.Whole.GateLaws.{admits}
+use Rattle.cedar_gate_model.specs.Whole.Moment.{Completes}
 use Rattle.cedar_gate_model.specs.Whole.Transcript.{Step, load, decide, Entry, round, decided, Transcript, Case, IsLegal}
 use Rattle.cedar_gate_model.specs.Whole.Session.{Setup, State, value_of, world_now, NothingIsWanted, OpenFault, OpenRefusal, SupplyFault, SupplyRefusal, AnswerFault, AnswerRefusal, not_conforming}
 use Rattle.cedar_gate_model.specs.Whole.Runs.{End, answered, answer_refused, MayDecide, Runs}
@@ -64,7 +66,7 @@ abbrev pub whole_transcript : small_transcript.Transcript → Transcript
 whole_transcript t = record { entries = whole_entries t.entries; answer = option_map whole_answer t.answer }
 
 -- a request: three uids that are known, and a context without fields
-abbrev pub start_of : small_world.Request → Start
+abbrev pub start_of : small_world.Request → PartialRequest
 start_of r = record { principal = uid r.principal; action = uid r.action; resource = uid r.resource; context = closed no_made_fields }
 
 -- a bundle: of its store the entities have neither attributes nor tags nor ancestors

@@ -9,19 +9,16 @@ use Rattle.serde_json.specs.Read.{read}
 use Rattle.cedar_expr_model.specs.Name.{Text}
 use Rattle.cedar_expr_model.specs.Uid.{Uid}
 use Rattle.cedar_expr_model.specs.Tree as small_tree
-use Rattle.cedar_expr_model.specs.Whole.Made.{no_made_fields}
-use Rattle.cedar_expr_model.specs.Whole.Table.{Table}
 use Rattle.cedar_expr_model.specs.Whole.FirstPath.{whole_tree}
 use Rattle.cedar_store_model.specs.World as small_world
 use Rattle.cedar_store_model.specs.Policy as small_policy
 use Rattle.cedar_store_model.specs.Whole.World.{World}
 use Rattle.cedar_store_model.specs.Whole.Policy.{Policy, body_tree}
 use Rattle.cedar_store_model.specs.Whole.Answer.{decision_of, answer_of}
-use Rattle.cedar_store_model.specs.Whole.FirstPath.{whole_policy, whole_policies, plain_entities}
+use Rattle.cedar_store_model.specs.Whole.FirstPath.{whole_policy, plain_entities}
 use Rattle.cedar_schema_model.specs.Declarations as small_declarations
 use Rattle.cedar_schema_model.specs.Whole.FirstPath.{whole_declarations, is_plain}
 use Rattle.cedar_typechecker_model.specs.Whole.Verdicts.{RequestType}
-use Rattle.cedar_evaluator_model.specs.Scope.{uid, closed}
 use Rattle.cedar_gate_model.specs.Acceptance as small_acceptance
 use Rattle.cedar_gate_model.specs.Transcript as small_transcript
 use Rattle.cedar_gate_model.specs.Bundle as small_bundle
@@ -30,9 +27,9 @@ use Rattle.cedar_gate_model.specs.ReadingSchema as small_schema
 use Rattle.cedar_gate_model.specs.ReadingBundle as small
 use Rattle.cedar_gate_model.specs.Lines as small_lines
 use Rattle.cedar_gate_model.specs.Whole.FirstPath.{start_of, whole_step, whole_bundle, whole_status}
-use Rattle.cedar_gate_model.specs.Whole.Acceptance.{Submission, Cause, is_clear_of, IsAccepted, HasFault, admits, warnings_of, policies_for}
-use Rattle.cedar_gate_model.specs.Whole.Moment.{Start}
-use Rattle.cedar_gate_model.specs.Whole.Transcript.{Step, load, decide, Entry}
+use Rattle.cedar_gate_model.specs.Whole.Acceptance.{Submission, Cause, is_clear_of, IsAccepted, HasFault, warnings_of, policies_for}
+use Rattle.cedar_gate_model.specs.Whole.GateLaws.{admits}
+use Rattle.cedar_gate_model.specs.Whole.Transcript.{Step, Entry}
 use Rattle.cedar_gate_model.specs.Whole.Session.{Setup}
 use Rattle.cedar_gate_model.specs.Whole.Runs.{End, MayDecide, Runs}
 use Rattle.cedar_gate_model.specs.Whole.Bundle.{Functions, Bundle}

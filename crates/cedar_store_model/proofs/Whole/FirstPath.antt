@@ -1,9 +1,10 @@
 -- The meaning of the first path is that of the whole language on its part of it.
 use Rattle.std.proofs.Common.{◌≡◌, ◌↔◌, ℤ, Bool, true, false, cond, List, [], ◌∷◌, refl, sym, ap, ◌∙◌, ⊎_elim}
-use Rattle.std.specs.Prelude.{Option, Some, int_lt, ◌||◌}
+use Rattle.std.specs.Prelude.{Option, Some, int_lt, ◌||◌, IsSome}
 use Rattle.std.specs.List.{list_any}
 use Rattle.std.specs.Ordering.{is_lt, int_cmp}
 use Rattle.std.specs.declared.cmp.Ordering.TheVariants.{Less, Equal, Greater}
+use Rattle.std.specs.Map.{lookup}
 use Rattle.cedar_expr_model.specs.Name.{Text}
 use Rattle.cedar_expr_model.specs.Uid.{Uid, uid_eq}
 use Rattle.cedar_expr_model.specs.Value as small_value
@@ -18,13 +19,14 @@ use Rattle.cedar_store_model.specs.Meaning as small_meaning
 use Rattle.cedar_store_model.specs.Whole.Outcome.{Res, bind}
 use Rattle.cedar_store_model.specs.Whole.World.{World}
 use Rattle.cedar_store_model.specs.Whole.Operators.{says, applied}
-use Rattle.cedar_store_model.specs.Whole.Meaning.{Means, known_uid, variable, truth_asked, picked, combined, outcome_of}
+use Rattle.cedar_store_model.specs.Whole.Meaning.{Means, variable, truth_asked, picked, combined, outcome_of}
 use Rattle.cedar_store_model.specs.Whole.Looks.{Looks}
-use Rattle.cedar_store_model.specs.Whole.Knowledge.{IsThere, IsSettled, IsWhole}
-use Rattle.cedar_store_model.specs.Whole.Store.{whole, as_open, entity_of, found_as, world_of}
+use Rattle.cedar_store_model.specs.Whole.Knowledge.{IsSettled, IsWhole}
+use Rattle.cedar_store_model.specs.Whole.Store.{whole, as_open, found_as, world_of}
 use Rattle.cedar_store_model.specs.Whole.FirstPath.{whole_request, plain_entity, plain_entities, whole_found, whole_world, whole_outcome, KnowsRequest}
 use Rattle.cedar_store_model.proofs.Meaning as small_proofs
 use Rattle.cedar_store_model.proofs.Whole.Meaning.{means_outcome, outcome_means}
+use Rattle.cedar_store_model.proofs.Whole.Named.{known_uid}
 
 -- what comes next takes the same value
 bind_whole : (r : small_outcome.Res small_value.V) (f : small_value.V → small_outcome.Res small_value.V) (g : V → Option (Res V)) → ((v : small_value.V) → g (whole_value v) ≡ Some (whole_outcome (f v))) → bind (Some (whole_outcome r)) g ≡ Some (whole_outcome (small_outcome.bind r f))
@@ -121,11 +123,11 @@ pub nothing_is_looked_up : (w : small_world.World) (u : World) → KnowsRequest 
 nothing_is_looked_up w u k t v h = never_looked_up u t v h
 
 -- worlds and stores
-found_first : (b c : Bool) (u : Uid) (us : List Uid) → whole_found c ≡ found_as whole (entity_of u (plain_entities us)) → whole_found (b || c) ≡ found_as whole (cond b (Some plain_entity) (entity_of u (plain_entities us)))
+found_first : (b c : Bool) (u : Uid) (us : List Uid) → whole_found c ≡ found_as whole (lookup (uid_eq u) (plain_entities us)) → whole_found (b || c) ≡ found_as whole (cond b (Some plain_entity) (lookup (uid_eq u) (plain_entities us)))
 found_first true c u us e = refl
 found_first false c u us e = e
 
-found_whole : (u : Uid) (us : List Uid) → whole_found (list_any (uid_eq u) us) ≡ found_as whole (entity_of u (plain_entities us))
+found_whole : (u : Uid) (us : List Uid) → whole_found (list_any (uid_eq u) us) ≡ found_as whole (lookup (uid_eq u) (plain_entities us))
 found_whole u [] = refl
 found_whole u (v ∷ us) = found_first (uid_eq u v) (list_any (uid_eq u) us) u us (found_whole u us)
 
@@ -139,5 +141,5 @@ settled : (b : Bool) → IsSettled (whole_found b)
 settled true = refl
 settled false = tt
 
-pub worlds_are_whole : (x : Table) (unknowns : Text → Option V) → ((n : Text) → IsThere (unknowns n)) → (w : small_world.World) → IsWhole (whole_world x unknowns w)
-worlds_are_whole x unknowns h w = record { principal = tt; action = tt; resource = tt; context = tt; unknowns = h; store = λ u. settled (w.holds u) }
+pub worlds_are_whole : (x : Table) (unknowns : Text → Option V) → ((n : Text) → IsSome (unknowns n)) → (w : small_world.World) → IsWhole (whole_world x unknowns w)
+worlds_are_whole x unknowns h w = record { principal = refl; action = refl; resource = refl; context = refl; unknowns = h; store = λ u. settled (w.holds u) }

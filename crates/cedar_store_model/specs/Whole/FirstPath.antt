@@ -1,6 +1,6 @@
 -- The worlds, outcomes, policies and answers of the first path, seen as those of the whole language, and what the laws say of this.
 -- Rule: the meaning; conditions; the answer (docs/RULES.md).
-use Rattle.std.specs.Prelude.{◌≡◌, ◌↔◌, List, [], map, Bool, true, false, Option, Some, None}
+use Rattle.std.specs.Prelude.{◌≡◌, ◌↔◌, List, [], map, Bool, true, false, Option, Some, None, IsSome}
 use Rattle.std.specs.List.{list_any}
 use Rattle.cedar_expr_model.specs.Name.{Text}
 use Rattle.cedar_expr_model.specs.Uid.{Uid, uid_eq}
@@ -18,7 +18,7 @@ use Rattle.cedar_store_model.specs.Whole.Outcome.{Res, val, err, Fault, wrong_ty
 use Rattle.cedar_store_model.specs.Whole.World.{World, Request, Entity, Found, held, missing}
 use Rattle.cedar_store_model.specs.Whole.Meaning.{Means, outcome_of}
 use Rattle.cedar_store_model.specs.Whole.Looks.{Looks}
-use Rattle.cedar_store_model.specs.Whole.Knowledge.{IsThere, IsWhole}
+use Rattle.cedar_store_model.specs.Whole.Knowledge.{IsWhole}
 use Rattle.cedar_store_model.specs.Whole.Store.{Entities, whole, as_open, world_of}
 use Rattle.cedar_store_model.specs.Whole.Policy.{Policy, Effect, permit, forbid, Scope, any, exactly, named, ActionScope, any_action, exactly_action, no_bindings, condition}
 use Rattle.cedar_store_model.specs.Whole.Answer.{Decision, allow, deny, PolicyError, Answer, IsSatisfied, satisfied, decision_of, reasons_of, errors_of, answer_of}
@@ -128,7 +128,7 @@ WorldsKnowTheRequest = (x : Table) (unknowns : Text → Option V) (w : small_wor
 
 -- where each unknown is bound everything is known
 abbrev pub WorldsAreWhole : Type 0
-WorldsAreWhole = (x : Table) (unknowns : Text → Option V) → ((n : Text) → IsThere (unknowns n)) → (w : small_world.World) → IsWhole (whole_world x unknowns w)
+WorldsAreWhole = (x : Table) (unknowns : Text → Option V) → ((n : Text) → IsSome (unknowns n)) → (w : small_world.World) → IsWhole (whole_world x unknowns w)
 
 -- an expression has the same outcome
 abbrev pub OutcomesAreWhole : Type 0

@@ -1,25 +1,29 @@
 -- What the first path accepts and warns of, and its faults.
 use Rattle.std.proofs.Common.{◌≡◌, ◌↔◌, ℕ, Bool, true, false, ◌&&◌, ◌||◌, not, List, refl, sym, ap, ◌∙◌, arith, nat_le, is_some}
-use Rattle.std.specs.Prelude.{Contains}
+use Rattle.std.specs.Prelude.{Contains, is_none}
+use Rattle.std.proofs.lemmas.Slice.Eq.{bytes_eq-Decides}
 use Rattle.std.specs.Str.{bytes_eq}
 use Rattle.std.specs.List.{list_all, list_any, filter}
 use Rattle.std.proofs.lemmas.List.Folds.{list_all-map}
 use Rattle.cedar_expr_model.specs.Tree as small_tree
-use Rattle.cedar_expr_model.specs.Whole.Tree.{SlotId, principal_slot, resource_slot, nesting}
+use Rattle.cedar_expr_model.specs.Whole.Tree.{SlotId, nesting}
 use Rattle.cedar_expr_model.specs.Whole.Unknowns.{has_unknown}
 use Rattle.cedar_expr_model.specs.Whole.Table.{Table}
 use Rattle.cedar_expr_model.specs.Whole.FirstPath.{whole_tree}
+use Rattle.cedar_expr_model.specs.Whole.Lists.{is_nil}
+use Rattle.cedar_expr_model.specs.Whole.Repeats.{repeated}
 use Rattle.cedar_expr_model.proofs.Lists.{both_hold, hold_both, all_each}
 use Rattle.cedar_expr_model.proofs.Whole.FirstPath.{nesting_is_whole, no_unknown_stands, no_slot_stands}
 use Rattle.cedar_store_model.specs.Policy as small_policy
 use Rattle.cedar_store_model.specs.Answer as small_answer
-use Rattle.cedar_store_model.specs.Whole.Policy.{Policy, binding_of, condition, slot_eq, scope_has_slot, tree_uses, has_slot}
+use Rattle.cedar_store_model.specs.Whole.Policy.{Policy, binding_of, condition, tree_uses, has_slot, all_slots}
+use Rattle.cedar_store_model.proofs.Whole.Named.{slot_eq}
 use Rattle.cedar_store_model.specs.Whole.Answer.{ids}
-use Rattle.cedar_store_model.specs.Whole.FirstPath.{whole_scope, whole_policy, whole_policies}
+use Rattle.cedar_store_model.specs.Whole.FirstPath.{whole_policy, whole_policies}
 use Rattle.cedar_store_model.proofs.Whole.FirstPathAnswers.{conditions_are_whole, filter_whole, ids_whole}
 use Rattle.cedar_schema_model.specs.Declarations as small
 use Rattle.cedar_schema_model.specs.Whole.Types.{strict}
-use Rattle.cedar_schema_model.specs.Whole.WellFormed.{SchemaFault, ill_forms, unresolved_external, has_twice, has_schema_fault, schema_number, well_formed}
+use Rattle.cedar_schema_model.specs.Whole.WellFormed.{SchemaFault, ill_forms, unresolved_external, has_schema_fault, schema_number, well_formed}
 use Rattle.cedar_schema_model.specs.Whole.FirstPath.{whole_declarations, whole_fault, is_plain, also_asked, IsFirstPath}
 use Rattle.cedar_schema_model.proofs.Order.{all_agree}
 use Rattle.cedar_schema_model.proofs.WellFormed as small_formed
@@ -33,7 +37,8 @@ use Rattle.cedar_typechecker_model.proofs.Whole.FirstPath.Naming.{same_known_typ
 use Rattle.cedar_typechecker_model.proofs.Whole.FirstPath.Verdicts.{same_passing, same_impossible, no_policy_violations}
 use Rattle.cedar_gate_model.specs.Acceptance as small_acceptance
 use Rattle.cedar_gate_model.proofs.Acceptance as small_accepting
-use Rattle.cedar_gate_model.specs.Whole.Acceptance.{Submission, Cause, schema, external, repeated_policy, unlinked_slot, slot_outside_scope, unknown_in_policy, nests_too_deep, unknown_entity_type, unknown_action, no_member, ill_typed, reaches_too_far, extension_types, schema_in, all_slots, is_linked, keeps_slots_in_scope, is_nil, is_clear_of, IsAccepted, has_schema, HasFault, policy_causes, admits, number_of, warnings_of}
+use Rattle.cedar_gate_model.specs.Whole.Acceptance.{Submission, Cause, schema, external, repeated_policy, unlinked_slot, slot_outside_scope, unknown_in_policy, nests_too_deep, unknown_entity_type, unknown_action, no_member, ill_typed, reaches_too_far, extension_types, schema_in, is_linked, keeps_slots_in_scope, is_clear_of, IsAccepted, has_schema, HasFault, number_of, warnings_of}
+use Rattle.cedar_gate_model.specs.Whole.GateLaws.{policy_causes, admits}
 use Rattle.cedar_gate_model.specs.Whole.FirstPath.{whole_submission, whole_cause}
 use Rattle.cedar_gate_model.proofs.Whole.Gate.Accepting.{admits-Decides}
 
@@ -46,16 +51,11 @@ each_true : (f : Policy → Bool) → ((p : small_policy.Policy) → f (whole_po
 each_true f h ps = list_all-map f whole_policy ps ∙ all_true (λ p. f (whole_policy p)) h ps
 
 -- no slot stands in a policy
-slotless_scope : (s : small_policy.Scope) → scope_has_slot (whole_scope s) ≡ false
-slotless_scope small_policy.any = refl
-slotless_scope (small_policy.exactly u) = refl
-
 slotless_tree : (t : small_tree.Tree) (x : SlotId) → tree_uses (whole_tree t) x ≡ false
 slotless_tree t x = ap (list_any (slot_eq x)) (no_slot_stands t)
 
 slotless : (p : small_policy.Policy) (x : SlotId) → has_slot (whole_policy p) x ≡ false
-slotless p principal_slot = λ i. slotless_scope p.principal i || slotless_tree p.body principal_slot i
-slotless p resource_slot = λ i. slotless_scope p.resource i || slotless_tree p.body resource_slot i
+slotless p x = ap (λ t. tree_uses t x) (conditions_are_whole p) ∙ slotless_tree (small_policy.condition p) x
 
 linked : (p : small_policy.Policy) → is_linked (whole_policy p) ≡ true
 linked p =
@@ -115,7 +115,7 @@ module _ (x : Table) (s : small_acceptance.Submission) where
 
   -- the rules that ask no schema: two are those of the first path, and three are never broken
   same_ids : is_clear repeated_policy ≡ is_small_clear small_acceptance.repeated_policy
-  same_ids = ap (λ l. not (has_twice bytes_eq l)) (ids_whole s.policies) ∙ same_distinct bytes_eq (small_answer.ids s.policies)
+  same_ids = ap (λ l. is_none (repeated bytes_eq l)) (ids_whole s.policies) ∙ same_distinct bytes_eq bytes_eq-Decides (small_answer.ids s.policies)
 
   same_depth : is_clear nests_too_deep ≡ is_small_clear small_acceptance.nests_too_deep
   same_depth = each_same (λ p. nat_le (nesting (condition p)) s.limit) (λ p. nat_le (small_tree.nesting (small_policy.condition p)) s.limit) (same_nesting s.limit) s.policies

@@ -4,10 +4,11 @@ use Rattle.std.specs.Prelude.{option_map}
 use Rattle.std.specs.Str.{chars}
 use Rattle.std.specs.Fmt.{digits}
 use Rattle.std.specs.List.{flat_map}
+use Rattle.std.specs.Map.{lookup}
 use Rattle.cedar_expr_model.specs.Name.{Text}
+use Rattle.cedar_expr_model.specs.Uid.{uid_eq}
 use Rattle.cedar_expr_model.specs.Whole.Table.{Table}
 use Rattle.cedar_store_model.specs.Answer as small_answer
-use Rattle.cedar_store_model.specs.Whole.Store.{entity_of}
 use Rattle.cedar_store_model.specs.Whole.FirstPath.{plain_entities, whole_decision, whole_error, whole_answer}
 use Rattle.cedar_schema_model.specs.Whole.FirstPath.{is_plain, IsFirstPath}
 use Rattle.cedar_schema_model.proofs.Conforming.{conforms-Decides}
@@ -103,7 +104,7 @@ lines_are_whole f b small.answered text p e h =
       (
         whole_entries (done b),
         answered (whole_answer a),
-        answering_runs_are_whole f b.submission v (λ u. entity_of u (plain_entities b.store)) b.steps first e h.1,
+        answering_runs_are_whole f b.submission v (λ u. lookup (uid_eq u) (plain_entities b.store)) b.steps first e h.1,
         refl,
         h.2 ∙ same_text f.table b (answered (whole_answer a)) (small.answer_lines a) first (same_answer a clean),
       ),
@@ -115,7 +116,7 @@ lines_are_whole f b small.stopped text p e h =
       (
         whole_entries (done b),
         answer_refused not_conforming,
-        refused_runs_are_whole f b.submission v (λ u. entity_of u (plain_entities b.store)) b.steps first e h.1,
+        refused_runs_are_whole f b.submission v (λ u. lookup (uid_eq u) (plain_entities b.store)) b.steps first e h.1,
         refl,
         h.2 ∙ same_text f.table b (answer_refused not_conforming) small.not_conforming_line first same_stop,
       ),

@@ -44,7 +44,7 @@ nothing_is_wanted x t e u h = none_in_slice x.schema x.level _ u e h.0
 pub nothing_is_supplied : (x : Setup) (t : State) → x.level ≡ 0 → (f : SupplyRefusal) → SupplyFault x t [] f → ⊥
 nothing_is_supplied x t e not_wanted h = contains_none h.0 h.1
 nothing_is_supplied x t e lacking h = nothing_is_wanted x t e h.0 h.1
-nothing_is_supplied x t e repeated h = h
+nothing_is_supplied x t e repeated h = cc
 nothing_is_supplied x t e wrong_entity h = contains_none h.0 h.1
 
 pub completions_know_the_request : (s : Schema) (x : Table) (n : ℕ) (r : small_world.Request) (w : World) → Completes s x n (start_of r) w → KnowsRequest r w

@@ -1,21 +1,24 @@
 -- Whether bodies lack or are written as `true`, policies have the same faults, warnings and answers.
 use Rattle.std.proofs.Common.{◌≡◌, ◌↔◌, ◌&&◌, Bool, true, false, not, List, [], ◌∷◌, cond, Option, Some, None, refl, sym, ap, ◌∙◌}
-use Rattle.std.specs.Prelude.{is_some, nat_le}
+use Rattle.std.specs.Prelude.{is_some, is_none, nat_le}
 use Rattle.std.specs.List.{list_all, filter}
 use Rattle.std.specs.Str.{bytes_eq}
 use Rattle.std.proofs.lemmas.List.Folds.{list_all-map, flat_map-map}
 use Rattle.cedar_expr_model.specs.Whole.Tree.{Tree, nesting}
 use Rattle.cedar_expr_model.specs.Whole.Unknowns.{has_unknown}
+use Rattle.cedar_expr_model.specs.Whole.Lists.{is_nil}
+use Rattle.cedar_expr_model.specs.Whole.Repeats.{repeated}
 use Rattle.cedar_expr_model.proofs.Lists.{both_hold}
 use Rattle.cedar_store_model.specs.Whole.World.{World}
 use Rattle.cedar_store_model.specs.Whole.Policy.{Policy, condition, body_tree}
 use Rattle.cedar_store_model.specs.Whole.Answer.{permits, policy_outcome, satisfied, satisfied_permits, satisfied_forbids, ids, decided, determining, error_of, errors_of, decision_of, reasons_of, answer_of}
-use Rattle.cedar_schema_model.specs.Whole.WellFormed.{has_twice, well_formed}
+use Rattle.cedar_schema_model.specs.Whole.WellFormed.{well_formed}
 use Rattle.cedar_schema_model.proofs.Order.{all_agree}
 use Rattle.cedar_schema_model.proofs.Whole.FirstPath.Lists.{map_twice}
 use Rattle.cedar_typechecker_model.specs.Whole.ScopeRules.{names_known_types, names_known_actions, names_known_members}
 use Rattle.cedar_typechecker_model.specs.Whole.Verdicts.{RequestType, passes, impossible, irrelevant_for, policy_violations}
-use Rattle.cedar_gate_model.specs.Whole.Acceptance.{Submission, Cause, schema, external, repeated_policy, unlinked_slot, slot_outside_scope, unknown_in_policy, nests_too_deep, unknown_entity_type, unknown_action, no_member, ill_typed, reaches_too_far, extension_types, schema_in, is_linked, keeps_slots_in_scope, is_nil, is_clear_of, IsAccepted, HasFault, policy_causes, admits, warnings_of, policies_for}
+use Rattle.cedar_gate_model.specs.Whole.Acceptance.{Submission, Cause, schema, external, repeated_policy, unlinked_slot, slot_outside_scope, unknown_in_policy, nests_too_deep, unknown_entity_type, unknown_action, no_member, ill_typed, reaches_too_far, extension_types, schema_in, is_linked, keeps_slots_in_scope, is_clear_of, IsAccepted, HasFault, warnings_of, policies_for}
+use Rattle.cedar_gate_model.specs.Whole.GateLaws.{policy_causes, admits}
 use Rattle.cedar_gate_model.specs.Whole.Bundle.{Bundle}
 use Rattle.cedar_gate_model.specs.Whole.FirstPathReading.{with_body, all_with_bodies, submission_with_bodies, with_bodies}
 
@@ -40,7 +43,7 @@ ids_kept ps = map_twice with_body (λ (p : Policy). p.id) ps
 pub rules_kept : (c : Cause) (s : Submission) → is_clear_of c (submission_with_bodies s) ≡ is_clear_of c s
 rules_kept (schema f) s = refl
 rules_kept external s = refl
-rules_kept repeated_policy s = ap (λ l. not (has_twice bytes_eq l)) (ids_kept s.policies)
+rules_kept repeated_policy s = ap (λ l. is_none (repeated bytes_eq l)) (ids_kept s.policies)
 rules_kept unlinked_slot s = list_all-map is_linked with_body s.policies
 rules_kept slot_outside_scope s = list_all-map keeps_slots_in_scope with_body s.policies
 rules_kept unknown_in_policy s = list_all-map (λ p. not (has_unknown (condition p))) with_body s.policies

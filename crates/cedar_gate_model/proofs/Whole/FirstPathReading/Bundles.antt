@@ -16,11 +16,11 @@ use Rattle.cedar_gate_model.specs.ReadingSchema as small_schema
 use Rattle.cedar_gate_model.specs.ReadingBundle as small
 use Rattle.cedar_gate_model.specs.Whole.Acceptance.{Submission}
 use Rattle.cedar_gate_model.specs.Whole.Bundle.{Functions, Bundle}
-use Rattle.cedar_gate_model.specs.Whole.ReadingForms.{if_passing, is_between}
+use Rattle.cedar_gate_model.specs.Whole.ReadingForms.{if_passing, number_between}
 use Rattle.cedar_gate_model.specs.Whole.ReadingSchema.{schema_read}
 use Rattle.cedar_gate_model.specs.Whole.ReadingPolicy.{policy_read}
 use Rattle.cedar_gate_model.specs.Whole.ReadingRequest.{request_read, store_read, step_read, steps_read}
-use Rattle.cedar_gate_model.specs.Whole.ReadingBundle.{level_read, limit_read, submission_read, is_bundle, bundle_read, input_read}
+use Rattle.cedar_gate_model.specs.Whole.ReadingBundle.{submission_read, is_bundle, bundle_read, input_read}
 use Rattle.cedar_gate_model.specs.Whole.FirstPath.{whole_submission, start_of, whole_step, whole_steps, whole_bundle}
 use Rattle.cedar_gate_model.specs.Whole.FirstPathReading.{submission_with_bodies, with_bodies, is_in_order, LiesInFirstPath}
 use Rattle.cedar_gate_model.proofs.Whole.Reading.Steps.{given_some, map_some, if_some_of}
@@ -41,12 +41,12 @@ level_zero d n e =
     let zero_read : p.0 ≡ 0 = omega arith in
     sym (same_given p.0 n q.1) ∙ zero_read
 
-level_same : (d : Data) (n : ℕ) → small.number_between 0 0 d ≡ Some n → level_read d ≡ Some n
+level_same : (d : Data) (n : ℕ) → small.number_between 0 0 d ≡ Some n → number_between 0 4294967295 d ≡ Some n
 level_same d n e =
     let p = given_some (count_read d) (small.between 0 0) n e in
     let q = if_some_of (nat_le 0 p.0 && nat_le p.0 0) (Some p.0) n p.2 in
     let none : p.0 ≡ 0 = same_given p.0 n q.1 ∙ level_zero d n e in
-    ap (λ o. given o (if_passing (is_between 0 4294967295))) (p.1 ∙ ap Some none) ∙ ap Some (sym (level_zero d n e))
+    ap (λ o. given o (if_passing (λ m. nat_le 0 m && nat_le m 4294967295))) (p.1 ∙ ap Some none) ∙ ap Some (sym (level_zero d n e))
 
 -- submissions
 pub record SubmissionReadAs (x : Functions) (d : Data) (s : small_acceptance.Submission) : Type 0 where
@@ -61,15 +61,15 @@ submission_alike x d s o e =
     let c = given_some (required (codes "schema") small_schema.schema_read d) _ s m.2 in
     let p = map_some _ (required (codes "policies") (list_of small.policy_read) d) s c.2 in
     let g = given_some (get (codes "schema") d) small_schema.schema_read c.0 c.1 in
-    let level = given_same (λ n. n) (get (codes "level") d) (small.number_between 0 0) level_read level_same l.0 l.1 in
+    let level = given_same (λ n. n) (get (codes "level") d) (small.number_between 0 0) (number_between 0 4294967295) level_same l.0 l.1 in
     let schema = given_is (get (codes "schema") d) schema_read g.0 (whole_declarations c.0) g.1 (schema_same g.0 c.0 (value_in_order (codes "schema") d g.0 o g.1) g.2) in
     let policies = policies_alike d p.0 p.1 in
     let made : Submission = record { declarations = whole_declarations c.0; policies = policies.policies; table = x.table; level = l.0; limit = m.0 } in
     record {
       submission = made;
       read =
-          given_is (required (codes "level") level_read d) _ l.0 made level
-          (given_is (required (codes "limit") limit_read d) _ m.0 made m.1
+          given_is (required (codes "level") (number_between 0 4294967295) d) _ l.0 made level
+          (given_is (required (codes "limit") (number_between 1 512) d) _ m.0 made m.1
           (given_is (required (codes "schema") schema_read d) _ (whole_declarations c.0) made schema
           (map_is _ (required (codes "policies") (list_of policy_read) d) policies.policies policies.read)));
       same = (λ i. record made { policies = policies.same i }) ∙ ap (whole_submission x.table) (sym p.2);

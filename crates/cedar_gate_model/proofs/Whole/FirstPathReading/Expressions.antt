@@ -1,5 +1,6 @@
 -- Names, uids and expressions of the first path read as those in the whole language.
 use Rattle.std.proofs.Common.{◌≡◌, Bool, true, false, not, List, [], ◌∷◌, Option, Some, None, refl, sym, ap, ◌∙◌, option_map, if◌then◌else◌, codes}
+use Rattle.std.specs.Map.{lookup}
 use Rattle.std.specs.Str.{bytes_eq}
 use Rattle.serde_json.specs.Data.{Data, null, boolean, number, string, array, object, Items, no_items, item}
 use Rattle.serde_json.specs.Find.{as_str, as_i64, as_array}
@@ -14,7 +15,7 @@ use Rattle.cedar_expr_model.specs.Whole.FirstPath.{whole_var, whole_tree}
 use Rattle.cedar_expr_model.proofs.Whole.FirstPath.{conjunction_is_whole}
 use Rattle.cedar_gate_model.specs.Reading.{given}
 use Rattle.cedar_gate_model.specs.ReadingExpression as small
-use Rattle.cedar_gate_model.specs.Whole.ReadingForms.{if_passing, beside, word_of}
+use Rattle.cedar_gate_model.specs.Whole.ReadingForms.{if_passing, word_of}
 use Rattle.cedar_gate_model.specs.Whole.ReadingName.{any_name_read, plain_name_read, uid_from, uid_in, uid_read}
 use Rattle.cedar_gate_model.specs.Whole.ReadingExpression.{Part, var_words, of_one, of_two, of_word, uid_form, forms, form_read, expression_read, parts_in}
 use Rattle.cedar_gate_model.proofs.Whole.Reading.Steps.{given_some, map_some, if_some_of}
@@ -67,10 +68,10 @@ AreSame (p ∷ ps) (q ∷ qs) = SamePart p q × AreSame ps qs
 AreSame ps qs = ⊥
 
 -- the word decides the form
-form_of : (word : Text) (form : List Part → Option Tree) (v : Part) (xs : List Part) → as_str v.json ≡ Some word → beside word forms ≡ Some form → form_read (v ∷ xs) ≡ form xs
-form_of word form v xs e f = ap (λ o. given (given o (λ w. beside w forms)) (λ g. g xs)) e ∙ ap (λ o. given o (λ g. g xs)) f
+form_of : (word : Text) (form : List Part → Option Tree) (v : Part) (xs : List Part) → as_str v.json ≡ Some word → lookup (bytes_eq word) forms ≡ Some form → form_read (v ∷ xs) ≡ form xs
+form_of word form v xs e f = ap (λ o. given (given o (λ w. lookup (bytes_eq w) forms)) (λ g. g xs)) e ∙ ap (λ o. given o (λ g. g xs)) f
 
-known_form : (word : Text) (form : List Part → Option Tree) → beside word forms ≡ Some form → (text : Text) (v : Part) (xs : List Part)
+known_form : (word : Text) (form : List Part → Option Tree) → lookup (bytes_eq word) forms ≡ Some form → (text : Text) (v : Part) (xs : List Part)
     → bytes_eq text word ≡ true → as_str v.json ≡ Some text → form_read (v ∷ xs) ≡ form xs
 known_form word form f text v xs h e = form_of word form v xs (e ∙ ap Some (same_text text word h)) f
 
@@ -87,15 +88,15 @@ var_said false true d o x e = ap (λ y. Some (whole_var y)) (same_given small_tr
 var_said false false true o x e = ap (λ y. Some (whole_var y)) (same_given small_tree.resource x e)
 var_said false false false o x e = cc
 
-var_named_same : (word : Text) → Becomes whole_var (small.var_named word) (beside word var_words)
-var_named_same word = var_said (bytes_eq word (codes "principal")) (bytes_eq word (codes "action")) (bytes_eq word (codes "resource")) (beside word ((codes "context", context) ∷ []))
+var_named_same : (word : Text) → Becomes whole_var (small.var_named word) (lookup (bytes_eq word) var_words)
+var_named_same word = var_said (bytes_eq word (codes "principal")) (bytes_eq word (codes "action")) (bytes_eq word (codes "resource")) (lookup (bytes_eq word) ((codes "context", context) ∷ []))
 
 -- one part after the word
 of_var : (x : small.Part) (z : Part) → SamePart x z → BecomesTree (option_map small_tree.var (given (as_str x.json) small.var_named)) (of_word var var_words (z ∷ []))
 of_var x z h t e =
     let p = map_some small_tree.var (given (as_str x.json) small.var_named) t e in
     let q = word_same whole_var small.var_named var_words var_named_same (as_str x.json) p.0 p.1 in
-    map_is var (word_of var_words z.json) (whole_var p.0) (ap (λ d. given (as_str d) (λ word. beside word var_words)) (sym h.0) ∙ q) ∙ ap (λ s. Some (whole_tree s)) (sym p.2)
+    map_is var (word_of var_words z.json) (whole_var p.0) (ap (λ d. given (as_str d) (λ word. lookup (bytes_eq word) var_words)) (sym h.0) ∙ q) ∙ ap (λ s. Some (whole_tree s)) (sym p.2)
 
 of_not : (x : small.Part) (z : Part) → SamePart x z → BecomesTree (option_map (small_tree.unary small_tree.negation) x.tree) (of_one (unary negation) (z ∷ []))
 of_not x z h t e =
@@ -137,7 +138,7 @@ module _ (word : Text) (x y : small.Part) (v z u : Part) (h : SamePart x z) (k :
   abbrev Joined : Option Joint → Type 0
   Joined o = given o (small.both_by x y) ≡ Some t → form_read (v ∷ z ∷ u ∷ []) ≡ Some (whole_tree t)
 
-  by_joint : (name : Text) (join : Joint) (make : Tree → Tree → Tree) → beside name forms ≡ Some (of_two make) → JoinsAs join make → bytes_eq word name ≡ true → Joined (Some join)
+  by_joint : (name : Text) (join : Joint) (make : Tree → Tree → Tree) → lookup (bytes_eq name) forms ≡ Some (of_two make) → JoinsAs join make → bytes_eq word name ≡ true → Joined (Some join)
   by_joint name join make f same b e = known_form name (of_two make) f word v (z ∷ u ∷ []) b w ∙ of_joint join make same x y z u h k t e
 
   joints : (b c d : Bool) (i j l : Joint) → (b ≡ true → Joined (Some i)) → (c ≡ true → Joined (Some j)) → (d ≡ true → Joined (Some l))

@@ -1,6 +1,8 @@
 -- What two readings of one JSON value give, form by form.
 use Rattle.std.proofs.Common.{◌≡◌, Bool, true, false, List, [], ◌∷◌, map, Option, Some, None, refl, sym, ap, ◌∙◌, option_map, unwrap_or, if◌then◌else◌}
 use Rattle.std.specs.List.{list_all}
+use Rattle.std.specs.Map.{lookup}
+use Rattle.std.specs.Option.{option_or}
 use Rattle.std.specs.Str.{bytes_eq}
 use Rattle.std.proofs.lemmas.Slice.Eq.{bytes_eq-Decides}
 use Rattle.serde_json.specs.Data.{Data, Items, no_items, item, Members, no_members, member}
@@ -8,8 +10,6 @@ use Rattle.serde_json.specs.Find.{as_array, as_object}
 use Rattle.cedar_expr_model.specs.Name.{Text}
 use Rattle.cedar_expr_model.proofs.Lists.{hold_both}
 use Rattle.cedar_gate_model.specs.Reading.{given, if_there, each, list_of, each_member, members_of}
-use Rattle.cedar_gate_model.specs.Whole.ReadingForms.{beside}
-use Rattle.cedar_expr_model.specs.Whole.Substitution.{first_of_two}
 use Rattle.cedar_gate_model.proofs.Whole.Reading.Steps.{given_some, map_some}
 
 pub same_given : {A : Type 0} (a b : A) → Some a ≡ Some b → a ≡ b
@@ -26,11 +26,11 @@ pub if_is : {A : Type 0} (c : Bool) (o : Option A) (a : A) → c ≡ true → o 
 if_is true o a h e = e
 if_is false o a h e = cc
 
-pub first_is : {A : Type 0} (o p : Option A) (a : A) → o ≡ Some a → first_of_two o p ≡ Some a
-first_is o p a e = ap (λ q. first_of_two q p) e
+pub first_is : {A : Type 0} (o p : Option A) (a : A) → o ≡ Some a → option_or o p ≡ Some a
+first_is o p a e = ap (λ q. option_or q p) e
 
-pub next_is : {A : Type 0} (o p : Option A) (a : A) → o ≡ None → p ≡ Some a → first_of_two o p ≡ Some a
-next_is o p a e f = ap (λ q. first_of_two q p) e ∙ f
+pub next_is : {A : Type 0} (o p : Option A) (a : A) → o ≡ None → p ≡ Some a → option_or o p ≡ Some a
+next_is o p a e f = ap (λ q. option_or q p) e ∙ f
 
 -- where the first is read as something, the second is what is made of it
 abbrev pub Becomes : {A B : Type 0} → (A → B) → Option A → Option B → Type 0
@@ -95,9 +95,9 @@ members_have test read h (member k d ms) as_ e =
     ap (list_all test) q.2 ∙ hold_both (test p.0) (list_all test q.0) (h k d p.0 p.1) (members_have test read h ms q.0 q.1)
 
 -- words
-pub word_same : {A B : Type 0} (f : A → B) (named : Text → Option A) (words : List (Text × B)) → ((word : Text) → Becomes f (named word) (beside word words))
-    → (o : Option Text) → Becomes f (given o named) (given o (λ word. beside word words))
-word_same f named words h o = given_same f o named (λ word. beside word words) h
+pub word_same : {A B : Type 0} (f : A → B) (named : Text → Option A) (words : List (Text × B)) → ((word : Text) → Becomes f (named word) (lookup (bytes_eq word) words))
+    → (o : Option Text) → Becomes f (given o named) (given o (λ word. lookup (bytes_eq word) words))
+word_same f named words h o = given_same f o named (λ word. lookup (bytes_eq word) words) h
 
 pub same_text : (a b : Text) → bytes_eq a b ≡ true → a ≡ b
 same_text a b = (bytes_eq-Decides a b).0

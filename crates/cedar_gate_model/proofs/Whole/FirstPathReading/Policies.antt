@@ -1,8 +1,10 @@
 -- A policy of the first path reads as that policy in the whole language, but that a body that lacks isn't written.
 use Rattle.std.proofs.Common.{◌≡◌, Bool, true, false, List, [], ◌∷◌, Option, Some, None, refl, sym, ap, ◌∙◌, option_map, if◌then◌else◌, codes}
+use Rattle.std.specs.Map.{lookup}
 use Rattle.std.specs.Str.{bytes_eq}
 use Rattle.serde_json.specs.Data.{Data, Items, no_items, item}
 use Rattle.serde_json.specs.Find.{get, as_str, as_array}
+use Rattle.cedar_expr_model.specs.Name.{Text}
 use Rattle.cedar_expr_model.specs.Uid.{Uid}
 use Rattle.cedar_expr_model.specs.Value as small_value
 use Rattle.cedar_expr_model.specs.Tree as small_tree
@@ -10,15 +12,15 @@ use Rattle.cedar_expr_model.specs.Whole.Tree.{Tree}
 use Rattle.cedar_expr_model.specs.Whole.FirstPath.{whole_tree}
 use Rattle.cedar_expr_model.proofs.Lists.{both_hold}
 use Rattle.cedar_store_model.specs.Policy as small_policy
-use Rattle.cedar_store_model.specs.Whole.Policy.{Policy, permit, forbid, named, any, exactly, any_action, exactly_action, no_bindings, body_tree}
+use Rattle.cedar_store_model.specs.Whole.Policy.{Policy, permit, forbid, Target, named, own_slot, any, exactly, any_action, exactly_action, no_bindings, body_tree}
 use Rattle.cedar_store_model.specs.Whole.FirstPath.{whole_effect, whole_scope, whole_action_scope, whole_policy, whole_policies}
 use Rattle.cedar_gate_model.specs.Reading.{given, required, if_there, optional, may_be, has_only, is_empty_object, each, list_of}
 use Rattle.cedar_gate_model.specs.ReadingExpression as small_expression
 use Rattle.cedar_gate_model.specs.ReadingBundle as small
-use Rattle.cedar_gate_model.specs.Whole.ReadingForms.{beside, word_of, first_form, alone}
+use Rattle.cedar_gate_model.specs.Whole.ReadingForms.{word_of, first_form, alone, read_as}
 use Rattle.cedar_gate_model.specs.Whole.ReadingName.{uid_read}
 use Rattle.cedar_gate_model.specs.Whole.ReadingExpression.{expression_read}
-use Rattle.cedar_gate_model.specs.Whole.ReadingPolicy.{effect_words, target_words, named_read, target_read, exactly_read, scope_read, exactly_action_read, action_scope_read, bindings_read, body_read, policy_keys, policy_read}
+use Rattle.cedar_gate_model.specs.Whole.ReadingPolicy.{effect_words, target_read, scope_read, action_scope_read, bindings_read, policy_keys, policy_read}
 use Rattle.cedar_gate_model.specs.Whole.FirstPathReading.{with_body, all_with_bodies}
 use Rattle.cedar_gate_model.proofs.Whole.Reading.Steps.{given_some, map_some, if_some_of}
 use Rattle.cedar_gate_model.proofs.Whole.FirstPathReading.Forms.{same_given, given_is, map_is, if_is, first_is, next_is, Becomes, ReadsAs, given_same, there_same, word_same, bare_or_lacking}
@@ -36,10 +38,13 @@ effect_same : ReadsAs whole_effect small.effect_read (word_of effect_words)
 effect_same d = word_same whole_effect small.effect_named effect_words (λ word. effect_said (bytes_eq word (codes "permit")) (bytes_eq word (codes "forbid"))) (as_str d)
 
 -- scopes
+abbrev target_words : List (Text × Target)
+target_words = (codes "?", own_slot) ∷ []
+
 target_same : ReadsAs named small_expression.uid_read target_read
 target_same d u e =
-    next_is (word_of target_words d) (first_form (named_read ∷ []) d) (named u) (ap (λ o. given o (λ word. beside word target_words)) (uid_no_text d u e))
-    (first_is (named_read d) None (named u) (map_is named (uid_read d) u (sym (uids_agree d) ∙ e)))
+    next_is (word_of target_words d) (first_form (read_as named uid_read ∷ []) d) (named u) (ap (λ o. given o (λ word. lookup (bytes_eq word) target_words)) (uid_no_text d u e))
+    (first_is (read_as named uid_read d) None (named u) (map_is named (uid_read d) u (sym (uids_agree d) ∙ e)))
 
 -- the uid that a part of a scope has to be, read so
 alone_same : {A : Type 0} (f : Uid → A) (read : Data → Option A) → ReadsAs f small_expression.uid_read read → ReadsAs f small.scope_uid_read (alone (codes "eq") read)
@@ -50,18 +55,18 @@ alone_same f read h d u e =
 scope_same : ReadsAs whole_scope small.scope_read scope_read
 scope_same d s e =
     let p = map_some small_policy.exactly (small.scope_uid_read d) s e in
-    first_is (exactly_read d) _ (whole_scope s)
-    (map_is exactly (alone (codes "eq") target_read d) (named p.0) (alone_same named target_read target_same d p.0 p.1) ∙ ap (λ x. Some (whole_scope x)) (sym p.2))
+    first_is (alone (codes "eq") (read_as exactly target_read) d) _ (whole_scope s)
+    (alone_same (λ u. exactly (named u)) (read_as exactly target_read) (λ c u g. map_is exactly (target_read c) (named u) (target_same c u g)) d p.0 p.1 ∙ ap (λ x. Some (whole_scope x)) (sym p.2))
 
 action_scope_same : ReadsAs whole_action_scope small.scope_read action_scope_read
 action_scope_same d s e =
     let p = map_some small_policy.exactly (small.scope_uid_read d) s e in
-    first_is (exactly_action_read d) _ (whole_action_scope s)
-    (map_is exactly_action (alone (codes "eq") uid_read d) p.0 (alone_same (λ u. u) uid_read (λ c u g. sym (uids_agree c) ∙ g) d p.0 p.1) ∙ ap (λ x. Some (whole_action_scope x)) (sym p.2))
+    first_is (alone (codes "eq") (read_as exactly_action uid_read) d) _ (whole_action_scope s)
+    (alone_same exactly_action (read_as exactly_action uid_read) (λ c u g. map_is exactly_action (uid_read c) u (sym (uids_agree c) ∙ g)) d p.0 p.1 ∙ ap (λ x. Some (whole_action_scope x)) (sym p.2))
 
 -- bodies: one that lacks is read as `true` there, and as none here
 body_same : (o : Option Data) (t : small_tree.Tree) → if_there small_expression.expression_read (small_tree.lit (small_value.truth true)) o ≡ Some t
-    → (b : Option Tree) × (if_there body_read None o ≡ Some b) × (body_tree b ≡ whole_tree t)
+    → (b : Option Tree) × (if_there (read_as Some expression_read) None o ≡ Some b) × (body_tree b ≡ whole_tree t)
 body_same None t e = (None, refl, ap whole_tree (same_given (small_tree.lit (small_value.truth true)) t e))
 body_same (Some d) t e = (Some (whole_tree t), map_is Some (expression_read d) (whole_tree t) (expression_same d t e), refl)
 
@@ -101,7 +106,7 @@ policy_alike d p e =
           (given_is (optional (codes "principal") scope_read any d) _ (whole_scope a.0) q principal
           (given_is (optional (codes "action") action_scope_read any_action d) _ (whole_action_scope m.0) q action
           (given_is (optional (codes "resource") scope_read any d) _ (whole_scope r.0) q resource
-          (given_is (optional (codes "when") body_read None d) _ b.0 q b.1
+          (given_is (optional (codes "when") (read_as Some expression_read) None d) _ b.0 q b.1
           (map_is _ (optional (codes "link") bindings_read no_bindings d) no_bindings bindings ∙ ap (λ x. Some (of_body x b.0)) (sym w.2))))))));
       same = λ i. record (whole_policy p) { body = Some ((b.2 ∙ ap (λ (x : small_policy.Policy). whole_tree x.body) (sym w.2)) i) };
     }

@@ -1,5 +1,6 @@
 -- Requests, stores and steps of the first path read as those in the whole language.
-use Rattle.std.proofs.Common.{◌≡◌, ◌&&◌, ℕ, suc, Bool, true, false, not, List, [], ◌∷◌, Some, None, refl, sym, ap, ◌∙◌, if◌then◌else◌, codes}
+use Rattle.std.proofs.Common.{◌≡◌, ◌&&◌, ℕ, suc, Bool, true, false, is_none, List, [], ◌∷◌, Some, None, refl, sym, ap, ◌∙◌, if◌then◌else◌, codes}
+use Rattle.std.specs.Map.{keys_of}
 use Rattle.std.specs.Str.{bytes_eq}
 use Rattle.serde_json.specs.Data.{Data, object, no_members}
 use Rattle.serde_json.specs.Find.{get, as_str}
@@ -8,25 +9,28 @@ use Rattle.cedar_expr_model.specs.Uid.{Uid, uid_eq}
 use Rattle.cedar_expr_model.specs.Whole.Value.{V}
 use Rattle.cedar_expr_model.specs.Whole.Tree.{record_literal, no_tree_fields}
 use Rattle.cedar_expr_model.specs.Whole.Made.{made_record, no_made_fields}
+use Rattle.cedar_expr_model.specs.Whole.Repeats.{repeated}
 use Rattle.cedar_expr_model.proofs.Lists.{both_hold}
+use Rattle.cedar_expr_model.proofs.Equality.{uid_eq-Decides}
 use Rattle.cedar_store_model.specs.World as small_world
 use Rattle.cedar_store_model.specs.Whole.World.{Entity}
 use Rattle.cedar_store_model.specs.Whole.FirstPath.{plain_entity, plain_entities}
-use Rattle.cedar_schema_model.specs.Declarations.{are_distinct}
-use Rattle.cedar_schema_model.specs.Whole.WellFormed.{has_twice}
+use Rattle.cedar_store_model.specs.Whole.Store.{are_distinct}
+use Rattle.cedar_schema_model.specs.Declarations as small_declarations
 use Rattle.cedar_schema_model.proofs.Whole.FirstPath.Faults.{same_distinct}
 use Rattle.cedar_evaluator_model.specs.Scope.{Scope, uid, closed, value_left}
 use Rattle.cedar_evaluator_model.specs.Evaluation.{evaluated}
+use Rattle.cedar_evaluator_model.specs.Reauthorize.{restricted_scope, context_from}
 use Rattle.cedar_gate_model.specs.Reading.{required, optional, may_be, has_only, is_empty_object, is_empty_list, list_of}
 use Rattle.cedar_gate_model.specs.ReadingExpression as small_expression
 use Rattle.cedar_gate_model.specs.ReadingBundle as small
 use Rattle.cedar_gate_model.specs.Transcript as small_transcript
 use Rattle.cedar_gate_model.specs.Whole.Bundle.{Functions}
 use Rattle.cedar_gate_model.specs.Whole.Transcript.{load, decide}
-use Rattle.cedar_gate_model.specs.Whole.ReadingForms.{word_of, if_passing}
-use Rattle.cedar_gate_model.specs.Whole.ReadingName.{uid_read, uids_read}
-use Rattle.cedar_gate_model.specs.Whole.ReadingValue.{with_functions, context_from, context_read}
-use Rattle.cedar_gate_model.specs.Whole.ReadingRequest.{known_entry_read, entry_read, request_keys, request_read, parts_read, entity_keys, entity_read, uids_of, has_distinct_uids, store_read, step_words, step_read}
+use Rattle.cedar_gate_model.specs.Whole.ReadingForms.{word_of, if_passing, read_as}
+use Rattle.cedar_gate_model.specs.Whole.ReadingName.{uid_read}
+use Rattle.cedar_gate_model.specs.Whole.ReadingValue.{with_functions, context_read}
+use Rattle.cedar_gate_model.specs.Whole.ReadingRequest.{entry_read, request_keys, request_read, parts_read, entity_keys, entity_read, store_read, step_words, step_read}
 use Rattle.cedar_gate_model.specs.Whole.FirstPath.{start_of, whole_step}
 use Rattle.cedar_gate_model.proofs.Whole.Reading.Steps.{given_some, map_some, if_some_of}
 use Rattle.cedar_gate_model.proofs.Whole.FirstPathReading.Forms.{same_given, given_is, map_is, if_is, first_is, Becomes, ReadsAs, given_same, list_same, word_same, bare_or_lacking}
@@ -38,11 +42,11 @@ empty_left : (s : Scope) (n : ℕ) → evaluated s (suc n) (record_literal no_tr
 empty_left s n = refl
 
 empty_context : (x : Functions) → context_read x (object no_members) ≡ Some (closed no_made_fields)
-empty_context x = ap context_from (empty_left (with_functions x) 511)
+empty_context x = ap context_from (empty_left (restricted_scope (with_functions x)) 511)
 
 -- requests
 entry_same : ReadsAs uid small_expression.uid_read entry_read
-entry_same d u e = first_is (known_entry_read d) _ (uid u) (map_is uid (uid_read d) u (sym (uids_agree d) ∙ e))
+entry_same d u e = first_is (read_as uid uid_read d) _ (uid u) (map_is uid (uid_read d) u (sym (uids_agree d) ∙ e))
 
 required_entry : (key : Text) (d : Data) (u : Uid) → required key small_expression.uid_read d ≡ Some u → required key entry_read d ≡ Some (uid u)
 required_entry key d = given_same uid (get key d) small_expression.uid_read entry_read entry_same
@@ -74,26 +78,26 @@ entity_same x d u e =
     let i = both_hold (may_be (codes "tags") is_empty_object d) (may_be (codes "ancestors") is_empty_list d) j.1 in
     let attributes = bare_or_lacking is_empty_object (parts_read x) [] (reads_empty_object (parts_read x) [] refl) (get (codes "attrs") d) j.0 in
     let tags = bare_or_lacking is_empty_object (parts_read x) [] (reads_empty_object (parts_read x) [] refl) (get (codes "tags") d) i.0 in
-    let ancestors = bare_or_lacking is_empty_list uids_read [] (reads_empty_list uids_read [] refl) (get (codes "ancestors") d) i.1 in
+    let ancestors = bare_or_lacking is_empty_list (list_of uid_read) [] (reads_empty_list (list_of uid_read) [] refl) (get (codes "ancestors") d) i.1 in
     if_is (has_only entity_keys d) _ (plain_at u) k.0
     (given_is (required (codes "uid") uid_read d) _ u (plain_at u) (given_same (λ v. v) (get (codes "uid") d) small_expression.uid_read uid_read (λ b v g. sym (uids_agree b) ∙ g) u c.1)
     (given_is (optional (codes "attrs") (parts_read x) [] d) _ [] (plain_at u) attributes
     (given_is (optional (codes "tags") (parts_read x) [] d) _ [] (plain_at u) tags
-    (map_is _ (optional (codes "ancestors") uids_read [] d) [] ancestors))))
+    (map_is _ (optional (codes "ancestors") (list_of uid_read) [] d) [] ancestors))))
 
-uids_of_plain : (us : List Uid) → uids_of (plain_entities us) ≡ us
+uids_of_plain : (us : List Uid) → keys_of (plain_entities us) ≡ us
 uids_of_plain [] = refl
 uids_of_plain (u ∷ us) = ap (λ l. u ∷ l) (uids_of_plain us)
 
-plain_distinct : (us : List Uid) → has_distinct_uids (plain_entities us) ≡ are_distinct uid_eq us
-plain_distinct us = ap (λ l. not (has_twice uid_eq l)) (uids_of_plain us) ∙ same_distinct uid_eq us
+plain_distinct : (us : List Uid) → are_distinct (plain_entities us) ≡ small_declarations.are_distinct uid_eq us
+plain_distinct us = ap (λ l. is_none (repeated uid_eq l)) (uids_of_plain us) ∙ same_distinct uid_eq uid_eq-Decides us
 
 pub store_same : (x : Functions) (d : Data) (us : List Uid) → small.store_read d ≡ Some us → store_read x d ≡ Some (plain_entities us)
 store_same x d us e =
     let p = given_some (list_of small.entity_read d) small.unless_repeated us e in
-    let q = if_some_of (are_distinct uid_eq p.0) (Some p.0) us p.2 in
-    given_is (list_of (entity_read x) d) (if_passing has_distinct_uids) (plain_entities p.0) (plain_entities us) (list_same plain_at small.entity_read (entity_read x) (entity_same x) d p.0 p.1)
-    (if_is (has_distinct_uids (plain_entities p.0)) (Some (plain_entities p.0)) (plain_entities us) (plain_distinct p.0 ∙ q.0) (ap (λ l. Some (plain_entities l)) (same_given p.0 us q.1)))
+    let q = if_some_of (small_declarations.are_distinct uid_eq p.0) (Some p.0) us p.2 in
+    given_is (list_of (entity_read x) d) (if_passing are_distinct) (plain_entities p.0) (plain_entities us) (list_same plain_at small.entity_read (entity_read x) (entity_same x) d p.0 p.1)
+    (if_is (are_distinct (plain_entities p.0)) (Some (plain_entities p.0)) (plain_entities us) (plain_distinct p.0 ∙ q.0) (ap (λ l. Some (plain_entities l)) (same_given p.0 us q.1)))
 
 -- steps
 step_said : (b c : Bool)

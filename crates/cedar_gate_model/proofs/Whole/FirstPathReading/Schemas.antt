@@ -14,8 +14,9 @@ use Rattle.cedar_schema_model.specs.Whole.FirstPath.{whole_entity, whole_action,
 use Rattle.cedar_gate_model.specs.Reading.{given, required, if_there, optional, has_at, may_be, has_only, is_empty_object, is_empty_list, list_of, each_member, members_of}
 use Rattle.cedar_gate_model.specs.ReadingExpression as small_expression
 use Rattle.cedar_gate_model.specs.ReadingSchema as small
-use Rattle.cedar_gate_model.specs.Whole.ReadingName.{names_read, declared_uid_read}
-use Rattle.cedar_gate_model.specs.Whole.ReadingSchema.{type_read, attributes_read, tag_type_read, common_read, kind_read, standard_read, entity_type_read, action_keys, action_read, namespace_keys, namespace_read, fragment_read, schema_read}
+use Rattle.cedar_gate_model.specs.Whole.ReadingForms.{read_as}
+use Rattle.cedar_gate_model.specs.Whole.ReadingName.{any_name_read, declared_uid_read}
+use Rattle.cedar_gate_model.specs.Whole.ReadingSchema.{type_read, attributes_read, common_read, kind_read, standard_read, entity_type_read, action_keys, action_read, namespace_keys, namespace_read, fragment_read, schema_read}
 use Rattle.cedar_gate_model.specs.Whole.FirstPathReading.{is_in_order, is_before, have_keys_in_order}
 use Rattle.cedar_gate_model.proofs.Whole.Reading.Steps.{given_some, map_some, if_some_of}
 use Rattle.cedar_gate_model.proofs.Whole.FirstPathReading.Forms.{same_given, given_is, map_is, if_is, first_is, Becomes, MemberReadsAs, one_more, there_same, bare_or_lacking, object_same, members_have}
@@ -40,14 +41,14 @@ bare_kind d h =
     let p = both_hold (has_only small.type_keys d) (may_be (codes "parents") is_empty_list d && may_be (codes "attrs") is_empty_object d) h in
     let q = both_hold (may_be (codes "parents") is_empty_list d) (may_be (codes "attrs") is_empty_object d) p.1 in
     let keys = only_more small.type_keys wider_keys (λ k g. with_tags (bytes_eq (codes "parents") k) (bytes_eq (codes "attrs") k) (bytes_eq (codes "tags") k) g) d p.0 in
-    let parents = bare_or_lacking is_empty_list names_read [] (reads_empty_list names_read [] refl) (get (codes "parents") d) q.0 in
+    let parents = bare_or_lacking is_empty_list (list_of any_name_read) [] (reads_empty_list (list_of any_name_read) [] refl) (get (codes "parents") d) q.0 in
     let fields = bare_or_lacking is_empty_object attributes_read no_field_exprs (reads_empty_object attributes_read no_field_exprs refl) (get (codes "attrs") d) q.1 in
-    let tags : optional (codes "tags") tag_type_read None d ≡ Some None = ap (if_there tag_type_read None) (key_lacks small.type_keys (codes "tags") refl d p.0) in
+    let tags : optional (codes "tags") (read_as Some type_read) None d ≡ Some None = ap (if_there (read_as Some type_read) None) (key_lacks small.type_keys (codes "tags") refl d p.0) in
     first_is (standard_read d) _ ([], standard_expr no_field_exprs None)
     (if_is (has_only wider_keys d) _ ([], standard_expr no_field_exprs None) keys
-    (given_is (optional (codes "parents") names_read [] d) _ [] ([], standard_expr no_field_exprs None) parents
+    (given_is (optional (codes "parents") (list_of any_name_read) [] d) _ [] ([], standard_expr no_field_exprs None) parents
     (given_is (optional (codes "attrs") attributes_read no_field_exprs d) _ no_field_exprs ([], standard_expr no_field_exprs None) fields
-    (map_is _ (optional (codes "tags") tag_type_read None d) None tags))))
+    (map_is _ (optional (codes "tags") (read_as Some type_read) None d) None tags))))
 
 type_same : MemberReadsAs whole_entity small.entity_type_read (entity_type_read [])
 type_same key d t e =
@@ -86,8 +87,8 @@ action_same id d o a e =
     let context = bare_context (get (codes "context") d) (λ c g. value_in_order (codes "context") d c o g) r.1 in
     if_is (has_only action_keys d) _ (whole_action a) q.0
     (given_is (optional (codes "in") (list_of declared_uid_read) [] d) _ [] (whole_action a) parents
-    (given_is (optional (codes "principals") names_read [] d) _ s.0 (whole_action a) s.1
-    (given_is (optional (codes "resources") names_read [] d) _ t.0 (whole_action a) t.1
+    (given_is (optional (codes "principals") (list_of any_name_read) [] d) _ s.0 (whole_action a) s.1
+    (given_is (optional (codes "resources") (list_of any_name_read) [] d) _ t.0 (whole_action a) t.1
     (map_is _ (optional (codes "context") type_read (record_expr no_field_exprs) d) (record_expr no_field_exprs) context ∙ ap (λ b. Some (whole_action b)) (sym t.2)))))
 
 actions_among : (ms : Members) → have_keys_in_order ms ≡ true → Becomes (map whole_action) (each_member small.action_read ms) (each_member (action_read []) ms)
