@@ -16,7 +16,7 @@ pub use id::{Id, is_normalized_ident};
 pub use internal_name::InternalName;
 pub use loc::Loc;
 pub use name::{Name, RawName};
-pub use quoted::Quoted;
+pub use quoted::{Escaped, Quoted};
 
 #[cfg(test)]
 mod tests;
