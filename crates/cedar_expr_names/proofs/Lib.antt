@@ -1,5 +1,6 @@
 pub mod Equality
 pub mod RoundTrip
+mod Reserving
 mod Splitting
 mod PartByPart
 mod Writing
