@@ -52,7 +52,7 @@ impl EntityType {
     pub fn order(&self, other: &EntityType) -> Ordering
         ensures { result ≡ name_cmp (type_name_of self.now) (type_name_of other.now) }
     {
-        self.cmp(other)
+        self.0.cmp(&other.0)
     }
 
     /// The type's name.
