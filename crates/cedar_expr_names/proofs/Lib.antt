@@ -1,5 +1,4 @@
 pub mod Equality
-pub mod RoundTrip
 mod Reserving
 mod Splitting
 mod PartByPart

@@ -1,3 +1,4 @@
+-- The parts that were copied so far.
 use Rattle.std.proofs.Common.{◌≡◌, map, take}
 use Rattle.cedar_expr_names.specs.Ids.{id_text}
 use Rattle.cedar_expr_names.proofs.reading.copied_parts.Given as goal

@@ -1,3 +1,4 @@
+-- The base of a name that is not reserved is not reserved.
 use Rattle.std.proofs.Common.{rules, ◌≡◌, ap, ◌∙◌}
 use Rattle.std.specs.Str.{bytes_eq}
 use Rattle.cedar_expr_model.specs.Name.{reserved}

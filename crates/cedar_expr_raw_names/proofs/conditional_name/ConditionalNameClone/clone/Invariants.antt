@@ -1,3 +1,4 @@
+-- The names that were copied so far, with their places.
 use Rattle.std.proofs.Common.{◌≡◌, map, take}
 use Rattle.cedar_expr_names.specs.Views.{name_of, name_loc}
 use Rattle.cedar_expr_raw_names.proofs.conditional_name.ConditionalNameClone.clone.Given as goal

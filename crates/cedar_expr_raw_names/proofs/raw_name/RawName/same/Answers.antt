@@ -1,3 +1,4 @@
+-- Names with one text are one name.
 use Rattle.std.proofs.Common.{◌∙◌}
 use Rattle.cedar_expr_names.proofs.Equality.{names_eq_is}
 use Rattle.cedar_expr_raw_names.proofs.raw_name.RawName.same.Goals as goal
