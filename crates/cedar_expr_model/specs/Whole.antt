@@ -25,5 +25,6 @@ pub mod SamenessLaws
 pub mod Laws
 pub mod TreeLaws
 pub mod ListLaws
+pub mod TextLaws
 pub mod FirstPath
 pub mod Worked
