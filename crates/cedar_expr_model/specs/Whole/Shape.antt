@@ -7,7 +7,7 @@ use Rattle.std.specs.Cmp.Lexicographic.{slice_cmp}
 use Rattle.std.specs.declared.cmp.Ordering.{Ordering}
 use Rattle.std.specs.declared.cmp.Ordering.TheVariants.{Less, Equal, Greater}
 use Rattle.cedar_expr_model.specs.Whole.Order.{text_cmp, name_order, literal_cmp, core_cmp}
-use Rattle.cedar_expr_model.specs.Whole.Pattern.{Element, character, wildcard}
+use Rattle.cedar_expr_model.specs.Whole.Pattern.{Pattern, Element, character, wildcard}
 use Rattle.cedar_expr_model.specs.Whole.Tree.{Var, principal, action, resource, context, SlotId, principal_slot, resource_slot, UnaryOp, negation, minus, is_empty, BinaryOp, equal, less, less_or_equal, plus, difference, times, is_in, contains, contains_all, contains_any, get_tag, has_tag, Tree, lit, var, slot, unknown, choice, both, either, unary, binary, call, get_attr, has_attr, has_path, like, is_type, set_literal, record_literal, Trees, no_trees, tree, TreeFields, no_tree_fields, tree_field}
 
 -- variables, slots and operators in the order of their lists
@@ -40,12 +40,29 @@ binary_rank contains_any = 9
 binary_rank get_tag = 10
 binary_rank has_tag = 11
 
+-- the same as orders
+abbrev pub var_cmp : Var → Var → Ordering
+var_cmp x y = nat_cmp (var_rank x) (var_rank y)
+
+abbrev pub slot_cmp : SlotId → SlotId → Ordering
+slot_cmp x y = nat_cmp (slot_rank x) (slot_rank y)
+
+abbrev pub unary_cmp : UnaryOp → UnaryOp → Ordering
+unary_cmp x y = nat_cmp (unary_rank x) (unary_rank y)
+
+abbrev pub binary_cmp : BinaryOp → BinaryOp → Ordering
+binary_cmp x y = nat_cmp (binary_rank x) (binary_rank y)
+
 -- a character comes before a wildcard
 abbrev pub element_cmp : Element → Element → Ordering
 element_cmp (character c) (character d) = nat_cmp c d
 element_cmp (character c) wildcard = Less
 element_cmp wildcard (character d) = Greater
 element_cmp wildcard wildcard = Equal
+
+-- patterns by their elements, from the first that differs
+abbrev pub pattern_cmp : Pattern → Pattern → Ordering
+pattern_cmp p q = slice_cmp element_cmp p q
 
 -- the place of a kind among the kinds
 abbrev pub tree_rank : Tree → ℕ
@@ -71,19 +88,19 @@ tree_rank (record_literal fs) = 16
 abbrev mutual
   pub tree_cmp : Tree → Tree → Ordering
   tree_cmp (lit p) (lit p') = literal_cmp p p'
-  tree_cmp (var x) (var x') = nat_cmp (var_rank x) (var_rank x')
-  tree_cmp (slot s) (slot s') = nat_cmp (slot_rank s) (slot_rank s')
+  tree_cmp (var x) (var x') = var_cmp x x'
+  tree_cmp (slot s) (slot s') = slot_cmp s s'
   tree_cmp (unknown n a) (unknown n' a') = ordering_then (text_cmp n n') (option_cmp core_cmp a a')
   tree_cmp (choice t a b) (choice t' a' b') = ordering_then (tree_cmp t t') (ordering_then (tree_cmp a a') (tree_cmp b b'))
   tree_cmp (both a b) (both a' b') = ordering_then (tree_cmp a a') (tree_cmp b b')
   tree_cmp (either a b) (either a' b') = ordering_then (tree_cmp a a') (tree_cmp b b')
-  tree_cmp (unary o a) (unary o' a') = ordering_then (nat_cmp (unary_rank o) (unary_rank o')) (tree_cmp a a')
-  tree_cmp (binary o a b) (binary o' a' b') = ordering_then (nat_cmp (binary_rank o) (binary_rank o')) (ordering_then (tree_cmp a a') (tree_cmp b b'))
+  tree_cmp (unary o a) (unary o' a') = ordering_then (unary_cmp o o') (tree_cmp a a')
+  tree_cmp (binary o a b) (binary o' a' b') = ordering_then (binary_cmp o o') (ordering_then (tree_cmp a a') (tree_cmp b b'))
   tree_cmp (call f ts) (call f' ts') = ordering_then (name_order f f') (trees_cmp ts ts')
   tree_cmp (get_attr t a) (get_attr t' a') = ordering_then (tree_cmp t t') (text_cmp a a')
   tree_cmp (has_attr t a) (has_attr t' a') = ordering_then (tree_cmp t t') (text_cmp a a')
   tree_cmp (has_path t a as_) (has_path t' a' as_') = ordering_then (tree_cmp t t') (ordering_then (text_cmp a a') (slice_cmp text_cmp as_ as_'))
-  tree_cmp (like t p) (like t' p') = ordering_then (tree_cmp t t') (slice_cmp element_cmp p p')
+  tree_cmp (like t p) (like t' p') = ordering_then (tree_cmp t t') (pattern_cmp p p')
   tree_cmp (is_type t n) (is_type t' n') = ordering_then (tree_cmp t t') (name_order n n')
   tree_cmp (set_literal ts) (set_literal ts') = trees_cmp ts ts'
   tree_cmp (record_literal fs) (record_literal fs') = tree_fields_cmp fs fs'
