@@ -59,9 +59,11 @@ run_of s r steps es fs end e k = subst (λ (gs : List Entry). IsRun s r steps gs
 
 pub run_gives_whole : (s : small_acceptance.Submission) (v : small_world.World) (steps : List small_transcript.Step) (result : Result Transcript RunFault) → IsFirstPath s.declarations → s.level ≡ 0
     → RunGives s v steps result → RunGivesWhole s v.request steps result
-run_gives_whole s v steps (Ok t) first e given =
-    (whole_answer (small_answer.answer_of v s.policies), ap (option_map whole_answer) given.answer,
-    run_of s v.request steps _ _ (answered (whole_answer (small_answer.answer_of v s.policies))) (ap whole_entries given.entries) (λ f store. answering_runs_are_whole f s v store steps first e given.conforming))
+run_gives_whole s v steps (Ok t) first e given = (
+  whole_answer (small_answer.answer_of v s.policies),
+  ap (option_map whole_answer) given.answer,
+  run_of s v.request steps _ _ (answered (whole_answer (small_answer.answer_of v s.policies))) (ap whole_entries given.entries) (λ f store. answering_runs_are_whole f s v store steps first e given.conforming),
+)
 run_gives_whole s v steps (Err (Memory t)) first e given = tt
 run_gives_whole s v steps (Err (Answering n t)) first e given =
     (given.numbered, run_of s v.request steps _ _ (answer_refused not_conforming) (ap whole_entries given.entries) (λ f store. refused_runs_are_whole f s v store steps first e given.conforming))
