@@ -2,3 +2,4 @@ pub mod Reading
 pub mod Gate
 pub mod FirstPath
 pub mod FirstPathReading
+pub mod Runs

@@ -20,6 +20,7 @@ pub mod WorkedReading
 pub mod ReadingLaws
 pub mod GateLaws
 pub mod RunLaws
+pub mod RunsAsk
 pub mod WorkedGate
 pub mod FirstPath
 pub mod FirstPathReading

@@ -108,11 +108,11 @@ found_kept (held e) g u once k h =
 found_kept missing g u once k h = absurd (contains_none u h)
 found_kept not_loaded g u once k h = absurd (contains_none u h)
 
-known_kept : (o p : Option Uid) (u : Uid) → Keeps o p → IsKnown o u → IsKnown p u
+pub known_kept : (o p : Option Uid) (u : Uid) → Keeps o p → IsKnown o u → IsKnown p u
 known_kept None p u k h = absurd (contains_none u h)
 known_kept (Some v) p u k h = subst (λ x. IsKnown x u) (sym k) h
 
-context_kept : (o p : Option V) (u : Uid) → Keeps o p → ContextMentions o u → ContextMentions p u
+pub context_kept : (o p : Option V) (u : Uid) → Keeps o p → ContextMentions o u → ContextMentions p u
 context_kept None p u k h = absurd (contains_none u h)
 context_kept (Some v) p u k h = subst (λ x. ContextMentions x u) (sym k) h
 

@@ -59,17 +59,17 @@ CleanPieces ts (halted s) = Unit {0}
 abbrev parts_of : List Tree → List Tree
 parts_of ts = subexpressions_among (trees ts)
 
-abbrev some_unknown : List Tree → Bool
+abbrev pub some_unknown : List Tree → Bool
 some_unknown ts = list_any (λ e. is_some (unknown_here e)) ts
 
-abbrev feature_of : List Tree → Option Feature
+abbrev pub feature_of : List Tree → Option Feature
 feature_of ts = first_found feature_here ts
 
 or_none : {A : Type 0} (o r : Option A) → option_or o r ≡ None → (o ≡ None) × (r ≡ None)
 or_none None r e = (refl, e)
 or_none (Some a) r e = cc
 
-no_feature_split : (xs ys : List Tree) → feature_of (xs ++ ys) ≡ None → (feature_of xs ≡ None) × (feature_of ys ≡ None)
+pub no_feature_split : (xs ys : List Tree) → feature_of (xs ++ ys) ≡ None → (feature_of xs ≡ None) × (feature_of ys ≡ None)
 no_feature_split [] ys e = (refl, e)
 no_feature_split (x ∷ xs) ys e =
     let p = or_none (feature_here x) (feature_of (xs ++ ys)) e in
@@ -204,7 +204,7 @@ evaluated_clean x zero t e = tt
 evaluated_clean x (suc n) t e = node_clean x (evaluated (with_functions x) n) (evaluated_clean x n) t e
 
 -- what passes the test of restricted expressions has no feature that they lack
-none_is : {A : Type 0} (o : Option A) → is_none o ≡ true → o ≡ None
+pub none_is : {A : Type 0} (o : Option A) → is_none o ≡ true → o ≡ None
 none_is None e = refl
 none_is (Some a) e = cc
 

@@ -1,0 +1,4 @@
+pub mod Loading
+pub mod Did
+pub mod Contexts
+pub mod Asking
