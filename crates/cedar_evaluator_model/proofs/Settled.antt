@@ -1,6 +1,6 @@
 -- Where everything but the unknowns is known, an expression whose unknowns have values has an outcome.
 use Rattle.std.proofs.Common.{◌≡◌, Bool, true, false, cond, List, ◌∷◌, refl, subst}
-use Rattle.std.specs.Prelude.{Option, Some, None, length, IsSome}
+use Rattle.std.specs.Prelude.{Option, Some, None, length, IsSome, unwrap_or}
 use Rattle.cedar_expr_model.specs.Name.{Name}
 use Rattle.cedar_expr_model.specs.Uid.{Uid}
 use Rattle.cedar_expr_model.specs.Whole.Value.{V, record_of, field, truth_value}
@@ -20,14 +20,10 @@ use Rattle.cedar_evaluator_model.specs.Whole.{LeavesNothing}
 use Rattle.cedar_evaluator_model.proofs.SameReads.{same_variable, same_read, same_tested, same_path, same_combined}
 
 -- the world with a value for each unknown
-abbrev some_value : Option V → V
-some_value None = truth_value false
-some_value (Some v) = v
+abbrev pub filled : World → World
+filled w = record w { unknowns = λ n. Some (unwrap_or (w.unknowns n) (truth_value false)) }
 
-abbrev filled : World → World
-filled w = record w { unknowns = λ n. Some (some_value (w.unknowns n)) }
-
-filled_there : (o : Option V) → IsSome o → bound_value (Some (some_value o)) ≡ bound_value o
+filled_there : (o : Option V) → IsSome o → bound_value (Some (unwrap_or o (truth_value false))) ≡ bound_value o
 filled_there None h = cc
 filled_there (Some v) h = refl
 
@@ -47,7 +43,7 @@ module _ (w : World) (leaves_nothing : LeavesNothing w.table) where
   same_call f vs (Some g) q = guarded (takes_count g (length vs)) (are_of_types g.parameters vs) (answered (filled w).unknowns (w.table.answers f vs)) (answered w.unknowns (w.table.answers f vs)) (λ c t. same_answered f vs (w.table.answers f vs) (g, q, c, t) refl)
 
   mutual
-    same_filled : (t : Tree) → EachIn (λ n a. IsSome (w.unknowns n)) t → outcome_of (filled w) t ≡ outcome_of w t
+    pub same_filled : (t : Tree) → EachIn (λ n a. IsSome (w.unknowns n)) t → outcome_of (filled w) t ≡ outcome_of w t
     same_filled (lit p) h = refl
     same_filled (var x) h = same_variable w w.slots (filled w).unknowns x
     same_filled (slot s) h = refl
@@ -74,7 +70,7 @@ module _ (w : World) (leaves_nothing : LeavesNothing w.table) where
     same_fields no_tree_fields h = refl
     same_fields (tree_field a t fs) h = λ i. bind (same_filled t h.0 i) (λ v. bind (same_fields fs h.1 i) (λ vs. Some (val (field a v vs))))
 
-  whole_filled : IsSome w.principal → IsSome w.action → IsSome w.resource → IsSome w.context → ((u : Uid) → IsSettled (w.store u)) → IsWhole (filled w)
+  pub whole_filled : IsSome w.principal → IsSome w.action → IsSome w.resource → IsSome w.context → ((u : Uid) → IsSettled (w.store u)) → IsWhole (filled w)
   whole_filled p a r c f = record { principal = p; action = a; resource = r; context = c; unknowns = λ n. refl; store = f }
 
   pub settled_there : IsSome w.principal → IsSome w.action → IsSome w.resource → IsSome w.context → ((u : Uid) → IsSettled (w.store u)) → (t : Tree) → EachUnknown (λ n a. IsSome (w.unknowns n)) t → IsSome (outcome_of w t)

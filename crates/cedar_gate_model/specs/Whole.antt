@@ -21,6 +21,7 @@ pub mod ReadingLaws
 pub mod GateLaws
 pub mod RunLaws
 pub mod RunsAsk
+pub mod RunsAnswer
 pub mod WorkedGate
 pub mod FirstPath
 pub mod FirstPathReading

@@ -29,7 +29,7 @@ kept_case {X} f z xs y (Some a) e rest c =
     contains_cases ((x : X) × Contains (z ∷ xs) x × (f x ≡ Some y)) a (filter_map f xs) y c (λ i. (z, contains_head z xs, e ∙ ap Some i))
     (λ d. let k = rest d in (k.0, contains_tail z xs k.0 k.1, k.2))
 
-kept_from : {X Y : Type 0} (f : X → Option Y) (xs : List X) (y : Y) → Contains (filter_map f xs) y → (x : X) × Contains xs x × (f x ≡ Some y)
+pub kept_from : {X Y : Type 0} (f : X → Option Y) (xs : List X) (y : Y) → Contains (filter_map f xs) y → (x : X) × Contains xs x × (f x ≡ Some y)
 kept_from f [] y c = absurd (contains_none y c)
 kept_from f (z ∷ xs) y c = kept_case f z xs y (f z) refl (kept_from f xs y) c
 

@@ -2,3 +2,6 @@ pub mod Loading
 pub mod Did
 pub mod Contexts
 pub mod Asking
+pub mod Restricted
+pub mod Completing
+pub mod Deciding

@@ -117,17 +117,16 @@ flat_same f g (p ∷ ps) h =
     ∙ (λ i. h p (contains_head p ps) i ++ flat_same f g ps (λ q m. h q (contains_tail p ps q m)) i)
     ∙ sym (flat_map-cons g p ps)
 
+pub same_answers : (v w : World) (ps : List Policy) → ((p : Policy) → Contains ps p → policy_outcome v p ≡ policy_outcome w p) → answer_of v ps ≡ answer_of w ps
+same_answers v w ps same_outcome =
+    let allowing = filter_same (λ (p : Policy). permits p.effect && is_true (policy_outcome v p)) (λ (p : Policy). permits p.effect && is_true (policy_outcome w p)) ps (λ p m. ap (λ o. permits p.effect && is_true o) (same_outcome p m)) in
+    let denying = filter_same (λ (p : Policy). not (permits p.effect) && is_true (policy_outcome v p)) (λ (p : Policy). not (permits p.effect) && is_true (policy_outcome w p)) ps (λ p m. ap (λ o. not (permits p.effect) && is_true o) (same_outcome p m)) in
+    let failing = flat_same (λ (p : Policy). error_of p.id (policy_outcome v p)) (λ (p : Policy). error_of p.id (policy_outcome w p)) ps (λ p m. ap (error_of p.id) (same_outcome p m)) in
+    λ i. record { decision = decided (allowing i) (denying i); reasons = ids (determining (allowing i) (denying i)); errors = failing i }
+
 pub only_lookups_answer : (w : World) (store : Uid → Found V) (ps : List Policy)
     → ((p : Policy) → Contains ps p → (u : Uid) → Looks (with_slots w p.bindings) (condition p) u → store u ≡ w.store u)
     → answer_of (with_store w store) ps ≡ answer_of w ps
-only_lookups_answer w store ps h = by_parts
-  where
-    outcome_same : (p : Policy) → Contains ps p → policy_outcome (with_store w store) p ≡ policy_outcome w p
-    outcome_same p m = condition_asked (with_store w store) p ∙ same (with_slots w p.bindings) store (condition p) (h p m) ∙ sym (condition_asked w p)
-
-    by_parts : answer_of (with_store w store) ps ≡ answer_of w ps
-    by_parts =
-        let allowing = filter_same (λ (p : Policy). permits p.effect && is_true (policy_outcome (with_store w store) p)) (λ (p : Policy). permits p.effect && is_true (policy_outcome w p)) ps (λ p m. ap (λ o. permits p.effect && is_true o) (outcome_same p m)) in
-        let denying = filter_same (λ (p : Policy). not (permits p.effect) && is_true (policy_outcome (with_store w store) p)) (λ (p : Policy). not (permits p.effect) && is_true (policy_outcome w p)) ps (λ p m. ap (λ o. not (permits p.effect) && is_true o) (outcome_same p m)) in
-        let failing = flat_same (λ (p : Policy). error_of p.id (policy_outcome (with_store w store) p)) (λ (p : Policy). error_of p.id (policy_outcome w p)) ps (λ p m. ap (error_of p.id) (outcome_same p m)) in
-        λ i. record { decision = decided (allowing i) (denying i); reasons = ids (determining (allowing i) (denying i)); errors = failing i }
+only_lookups_answer w store ps h =
+    same_answers (with_store w store) w ps
+    (λ p m. condition_asked (with_store w store) p ∙ same (with_slots w p.bindings) store (condition p) (h p m) ∙ sym (condition_asked w p))

@@ -150,7 +150,7 @@ asked_stays s [] (bound n ∷ es) u k = asked_stays s [] es u k
 asked_stays s (a ∷ bs) (bound n ∷ es) u k = asked_stays (record s { bound = a ∷ s.bound }) bs es u k
 asked_stays s bs (decided d ∷ es) u k = asked_stays s bs es u k
 
-completes_before : (x : Setup) (s : State) (bs : List (Text × Made)) (es : List transcript.Entry) (w : World) → CompletesNow x (last_state s bs es) w → CompletesNow x s w
+pub completes_before : (x : Setup) (s : State) (bs : List (Text × Made)) (es : List transcript.Entry) (w : World) → CompletesNow x (last_state s bs es) w → CompletesNow x s w
 completes_before x s bs es w c = record {
   request = c.request;
   bound = λ b k. c.bound b (bound_stays s bs es b k);

@@ -103,7 +103,7 @@ module _ (env : Bindings) where
   placed_restricted n a (Some m) = ap offence (built_stays (written m) (written_built m)) ∙ written_restricted m
 
   mutual
-    substituted_restricted : (t : Tree) → offence t ≡ None → offence (substituted env t) ≡ None
+    pub substituted_restricted : (t : Tree) → offence t ≡ None → offence (substituted env t) ≡ None
     substituted_restricted (lit p) r = refl
     substituted_restricted (unknown n a) r = placed_restricted n a (env n)
     substituted_restricted (call f ts) r = restricted_among ts r
@@ -156,7 +156,7 @@ pub entry_kept : (s t : State) → Grows (value_of s) (value_of t) → (n : Text
 entry_kept s t grows n (uid u) = refl
 entry_kept s t grows n (unknown_uid k) = unknown_entry_kept k (value_of s n) (value_of t n) (grows n)
 
-abbrev bound_context : Option Made → Context
+abbrev pub bound_context : Option Made → Context
 bound_context o = unwrap_or (option_and_then (λ m. context_from (value_left m)) o) unknown_context
 
 unknown_context_kept : (o p : Option Made) → ((m : Made) → o ≡ Some m → p ≡ Some m) → Keeps (known_context (bound_context o)) (known_context (bound_context p))
@@ -164,7 +164,7 @@ unknown_context_kept None p h = tt
 unknown_context_kept (Some m) p h = kept_same _ _ (ap (λ q. known_context (bound_context q)) (h m refl))
 
 -- the context that is left of fields
-abbrev left_context : Left → Context
+abbrev pub left_context : Left → Context
 left_context l = unwrap_or (context_from l) unknown_context
 
 residual_unknown : (r : Tree) → known_context (left_context (residual r)) ≡ None
