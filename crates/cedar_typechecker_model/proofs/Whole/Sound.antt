@@ -1,3 +1,4 @@
 pub mod Shapes
 pub mod Joins
 pub mod Orderly
+pub mod Typed
