@@ -6,6 +6,7 @@ pub mod Levels
 pub mod ScopeRules
 pub mod Verdicts
 pub mod Simple
+pub mod Soundness
 pub mod Dereferences
 pub mod Laws
 pub mod LevelLaws
