@@ -3,3 +3,7 @@ pub mod Joins
 pub mod Orderly
 pub mod Typed
 pub mod Operators
+pub mod Entities
+pub mod Attributes
+pub mod Tags
+pub mod Membership
