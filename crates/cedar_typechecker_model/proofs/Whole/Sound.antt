@@ -7,3 +7,5 @@ pub mod Entities
 pub mod Attributes
 pub mod Tags
 pub mod Membership
+pub mod Facts
+pub mod Connectives
