@@ -9,3 +9,4 @@ pub mod Tags
 pub mod Membership
 pub mod Facts
 pub mod Connectives
+pub mod Steps

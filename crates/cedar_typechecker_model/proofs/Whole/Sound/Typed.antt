@@ -159,7 +159,7 @@ one_declared : (o : Option Declared) → ((d : Declared) → o ≡ Some d → is
 one_declared None h d e = cc
 one_declared (Some c) h d e = let q : c.type ≡ d.type = cc in subst (λ t. is_simple t ≡ true) q (h c refl)
 
-simple_lookup : (s : Schema) → IsOrderly s → (t : Ty) (a : Text) (d : Declared) → is_simple t ≡ true → lookup_attribute s t a ≡ Some d → is_simple d.type ≡ true
+pub simple_lookup : (s : Schema) → IsOrderly s → (t : Ty) (a : Text) (d : Declared) → is_simple t ≡ true → lookup_attribute s t a ≡ Some d → is_simple d.type ≡ true
 simple_lookup s o (record_type as_ p) a d h e = simple_at as_ h a d e
 simple_lookup s o (entity_types (n ∷ [])) a d h e = one_declared (declared_of s a n) (simple_declared (type_named s n) a (o.types n)) d e
 simple_lookup s o (entity_types []) a d h e = cc
