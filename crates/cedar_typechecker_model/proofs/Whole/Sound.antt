@@ -10,3 +10,4 @@ pub mod Membership
 pub mod Facts
 pub mod Connectives
 pub mod Steps
+pub mod Lists

@@ -53,14 +53,14 @@ simple_at (attribute b t r as_) h n d e =
     named_cases n b t r as_ d e (λ q k. subst (λ (x : Declared). is_simple x.type ≡ true) k p.0) (λ q k. simple_at as_ p.2 n d k)
 
 -- the others are found behind the first too
-still_there : (n b : Text) (t : Ty) (r : Bool) (as_ : Attributes) (d : Declared) → attribute_named b as_ ≡ None → attribute_named n as_ ≡ Some d → attribute_named n (attribute b t r as_) ≡ Some d
+pub still_there : (n b : Text) (t : Ty) (r : Bool) (as_ : Attributes) (d : Declared) → attribute_named b as_ ≡ None → attribute_named n as_ ≡ Some d → attribute_named n (attribute b t r as_) ≡ Some d
 still_there n b t r as_ d h e =
     test_cases (bytes_eq n b)
     (λ q. no_none (sym h ∙ subst (λ x. attribute_named x as_ ≡ Some d) ((bytes_eq-Decides n b).0 q) e))
     (λ q. named_later n b t r as_ q ∙ e)
 
 -- a record has the required attributes where each that is found is there
-required_from : (as_ : Attributes) (fs : Fields) → are_simple as_ ≡ true → ((n : Text) (d : Declared) → attribute_named n as_ ≡ Some d → d.is_required ≡ true → is_some (field_of n fs) ≡ true) → HasRequired as_ fs
+pub required_from : (as_ : Attributes) (fs : Fields) → are_simple as_ ≡ true → ((n : Text) (d : Declared) → attribute_named n as_ ≡ Some d → d.is_required ≡ true → is_some (field_of n fs) ≡ true) → HasRequired as_ fs
 required_from no_attributes fs h f = tt
 required_from (attribute b t r as_) fs h f =
     let p = simple_parts b t r as_ h in
