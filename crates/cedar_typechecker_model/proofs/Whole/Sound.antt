@@ -11,3 +11,5 @@ pub mod Facts
 pub mod Connectives
 pub mod Steps
 pub mod Lists
+pub mod Written
+pub mod Soundness

@@ -139,7 +139,7 @@ is_good n (entity_types ns) ty v e h = let k = entity_value ns v h in subst (λ 
 is_good n t ty v e h = cc
 
 -- equality
-known_good : (b : Bool) → is_of_bool (known_truth b) b ≡ true
+pub known_good : (b : Bool) → is_of_bool (known_truth b) b ≡ true
 known_good true = refl
 known_good false = refl
 

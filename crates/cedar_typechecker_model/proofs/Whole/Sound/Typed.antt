@@ -14,11 +14,11 @@ use Rattle.cedar_schema_model.specs.Whole.Join.{join, are_disjoint, reduce_to_jo
 use Rattle.cedar_schema_model.specs.Whole.Lookup.{attributes_of_kind, lookup_attribute, declared_of, all_declared, declared_by_all}
 use Rattle.cedar_typechecker_model.specs.Whole.Facts.{Facts, no_facts, fact, union, intersection, Part, attribute_part, tag_part}
 use Rattle.cedar_typechecker_model.specs.Whole.Rules.{Setting, literal_type, var_type, slot_type, bound_type, unary_type, written_uid, written_equal, comparable, if_there, equal_type, order_type, number_type, member_type, is_set_type, sets_type, Kinds, entity_kinds, entity_or_set_kinds, written_action, written_actions, within_kinds, in_type, binary_type, like_type, is_type_type, has_type, get_type, attribute_type, kind_tags, tags_of, all_there, tag_type, is_string_type, has_tag_type, get_tag_type, set_literal_type, has_names_once, record_literal_type, core_as_type, arguments_fit, takes_literal, result_type, signature_type, call_type}
-use Rattle.cedar_typechecker_model.specs.Whole.Typing.{Judgement, judged, plain, tested, conjoined, disjoined, chosen, step_type, path_after, path_judged, binary_judged, Types, and_judged, or_judged, choice_judged, judgement, judgements, field_judgements}
+use Rattle.cedar_typechecker_model.specs.Whole.Typing.{Judgement, judged, plain, tested, conjoined, disjoined, chosen, step_type, path_after, path_judged, binary_judged, Types, EachTyped, and_judged, or_judged, choice_judged, judgement, judgements, field_judgements}
 use Rattle.cedar_typechecker_model.specs.Whole.Simple.{is_alone, is_simple, are_simple, is_simple_tag, is_simple_kind, IsOrderly}
 use Rattle.cedar_typechecker_model.specs.Whole.Verdicts.{strictly}
 use Rattle.cedar_typechecker_model.proofs.Whole.Exact.{of_parts}
-use Rattle.cedar_typechecker_model.proofs.Whole.Typing.{exact}
+use Rattle.cedar_typechecker_model.proofs.Whole.Typing.{exact, exact_each}
 use Rattle.cedar_typechecker_model.proofs.Whole.Sound.Joins.{join_keeps, AreSimple, reduction_keeps, simple_at}
 
 abbrev SimpleIf : Option Ty → Type 0
@@ -334,3 +334,8 @@ module _ (s : Schema) (x : Table) (e : Environment) (w : IsOrderly s) (c : are_s
   types_are_simple known t ty out d =
       let q : judgement (strictly s x e) known t ≡ Some (of_parts ty out) = (exact (strictly s x e) known t).only ty out d in
       subst (λ o. SimpleOf o) q (simple_judgement known t)
+
+  pub each_typed_simple : (known : Facts) (ts : Trees) (us : List Ty) → EachTyped (strictly s x e) known ts us → AreSimple us
+  each_typed_simple known ts us d =
+      let q : judgements (strictly s x e) known ts ≡ Some us = (exact_each (strictly s x e) known ts).only us d in
+      subst (λ o. IfSome o AreSimple) q (simple_each known ts)
