@@ -7,6 +7,7 @@ pub mod ScopeRules
 pub mod Verdicts
 pub mod Simple
 pub mod Soundness
+pub mod PolicySoundness
 pub mod Dereferences
 pub mod Laws
 pub mod LevelLaws

@@ -13,3 +13,5 @@ pub mod Steps
 pub mod Lists
 pub mod Written
 pub mod Soundness
+pub mod Scopes
+pub mod Policies

@@ -7,6 +7,9 @@ use Rattle.cedar_expr_model.specs.Uid.{Uid}
 use Rattle.cedar_schema_model.specs.Whole.Types.{Ty, entity_types, set_type, record_type, Attributes, no_attributes, attribute, attribute_named}
 use Rattle.cedar_schema_model.specs.Whole.Schema.{EntityKind, standard, EntityType, Action, Schema, type_named, declares_type, declares_action}
 use Rattle.cedar_schema_model.specs.Whole.Descent.{type_names, Descends}
+use Rattle.cedar_schema_model.specs.Whole.Declarations.{Declarations}
+use Rattle.cedar_schema_model.specs.Whole.WellFormed.{IsWellFormed}
+use Rattle.cedar_schema_model.specs.Whole.Resolved.{schema_of}
 
 -- one name
 abbrev pub is_alone : List Name → Bool
@@ -42,3 +45,7 @@ pub record IsOrderly (s : Schema) : Type 0 where
   pub apart : (u : Uid) → declares_action s u ≡ true → declares_type s u.kind ≡ false
   pub above : (m n : Name) → Descends s m n → Contains (type_names s) n
   pub listed : (a : Action) → Contains s.actions a → (n : Name) → Contains a.principals n ⊎ Contains a.resources n → Contains (type_names s) n
+
+-- the schema of well-formed declarations is orderly
+abbrev pub SchemasAreOrderly : Type 0
+SchemasAreOrderly = (x : List Name) (d : Declarations) → IsWellFormed x d → IsOrderly (schema_of d)

@@ -25,7 +25,7 @@ good_more w t u f g None k n h = record { fine = tt; holds = λ e. cc }
 good_more w t u f g (Some (err x)) k n h = record { fine = h.fine; holds = λ e. cc }
 good_more w t u f g (Some (val v)) k n h = record { fine = k v h.fine; holds = λ e. n e (h.holds e) }
 
-in_any : (b : BoolType) (v : V) → HasType v (bool_type b) → HasType v (bool_type any_bool)
+pub in_any : (b : BoolType) (v : V) → HasType v (bool_type b) → HasType v (bool_type any_bool)
 in_any b v h = let k = bool_value b v h in subst (λ z. HasType z (bool_type any_bool)) (sym k.1) refl
 
 -- false where a conjunction may be false

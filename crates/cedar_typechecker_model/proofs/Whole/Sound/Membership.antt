@@ -68,7 +68,7 @@ pub record Right (l : Kinds) (v : V) : Type 0 where
   pub are : uids_in v ≡ Some list
   pub each : (z : Uid) → Contains list z → InKinds l z.kind
 
-right_one : (l : Kinds) (v : V) (u : Uid) → v ≡ prim (entity u) → InKinds l u.kind → Right l v
+pub right_one : (l : Kinds) (v : V) (u : Uid) → v ≡ prim (entity u) → InKinds l u.kind → Right l v
 right_one l v u e h = record { list = u ∷ []; are = ap uids_in e; each = λ z k. contains_cases (InKinds l z.kind) u [] z k (λ q. subst (λ x. InKinds l x.kind) q h) (λ i. absurd (contains_none z i)) }
 
 right_set : (t : Ty) (l : Kinds) (v : V) (vs : Vs) → v ≡ set_of vs → HaveType vs t → entity_kinds t ≡ Some l → Right l v
@@ -132,7 +132,7 @@ not_among s k l u ancestors zs h each above n =
     clash e f = cc
 
 -- where the types exclude it, it is false
-excluded : (s : Schema) (k l : Kinds) (w : World) (u : Uid) (v : V) (f : Found V) → w.store u ≡ f → ConformsAt s w u → InKinds k u.kind → Right l v → may_be_in s k l ≡ false → Fine (bool_type only_false) (found_in u v f)
+pub excluded : (s : Schema) (k l : Kinds) (w : World) (u : Uid) (v : V) (f : Found V) → w.store u ≡ f → ConformsAt s w u → InKinds k u.kind → Right l v → may_be_in s k l ≡ false → Fine (bool_type only_false) (found_in u v f)
 excluded s k l w u v (held d) q c h r n =
     subst (λ o. Fine (bool_type only_false) (Some (is_in_some d.ancestors u o))) (sym r.are) (not_among s k l u d.ancestors r.list h r.each (λ z i. ancestor_descends s u z d (c d q) i) n)
 excluded s k l w u v missing q c h r n =

@@ -165,7 +165,7 @@ written_good s (Some a) (Some b) t u ty v v' m f g e =
 written_good s None q t u ty v v' m f g e = let k : comparable strict t u ≡ Some ty = rw m at e in there_good (join strict t u) _ ty k
 written_good s (Some a) None t u ty v v' m f g e = let k : comparable strict t u ≡ Some ty = rw m at e in there_good (join strict t u) _ ty k
 
-not_equal : (v v' : V) → (v ≡ v' → ⊥) → not (value_eq v v') ≡ true
+pub not_equal : (v v' : V) → (v ≡ v' → ⊥) → not (value_eq v v') ≡ true
 not_equal v v' n = test_cases (value_eq v v') (λ e. absurd (n ((values_decide v v').0 e))) (λ e. ap not e)
 
 pub equal_good : (s : Setting) (a b : Tree) (t u ty : Ty) (v v' : V) → s.mode ≡ strict → Writes (written_uid s a) v → Writes (written_uid s b) v' → HasType v t → HasType v' u → equal_type s a b t u ≡ Some ty → IsGood ty (says (value_eq v v'))
