@@ -1,6 +1,6 @@
 -- What typing promises of the meaning: an expression with a type means a value of it, or errs in one of three ways.
 -- Rule: typing (docs/RULES.md).
-use Rattle.std.specs.Prelude.{◌≡◌, true, Option, Some, Contains}
+use Rattle.std.specs.Prelude.{◌≡◌, true, Some, Contains}
 use Rattle.cedar_expr_model.specs.Uid.{Uid}
 use Rattle.cedar_expr_model.specs.Whole.Value.{entity, V, prim, truth_value}
 use Rattle.cedar_expr_model.specs.Whole.Tree.{SlotId, has_tag, Tree, binary, has_attr}

@@ -1,30 +1,26 @@
 -- An attribute that may be read has a value of its type, or the entity is missing; and its test says what its type says.
-use Rattle.std.proofs.Common.{◌≡◌, ◌&&◌, ◌||◌, ◌⊎◌, inl, inr, Bool, true, false, not, List, [], ◌∷◌, Option, Some, None, refl, sym, ap, ◌∙◌, subst}
-use Rattle.std.specs.Prelude.{Contains, is_some, option_map, option_and_then, if◌then◌else◌}
-use Rattle.std.specs.List.{list_any}
+use Rattle.std.proofs.Common.{◌≡◌, ◌&&◌, ◌||◌, Bool, true, false, not, [], ◌∷◌, Option, Some, None, refl, sym, ap, ◌∙◌, subst}
+use Rattle.std.specs.Prelude.{is_some, option_and_then, if◌then◌else◌}
 use Rattle.cedar_expr_model.specs.Name.{Name, Text}
 use Rattle.cedar_expr_model.specs.Uid.{Uid}
-use Rattle.cedar_expr_model.specs.Whole.Value.{text, entity, V, prim, record_of, Fields, field_of, truth_value}
+use Rattle.cedar_expr_model.specs.Whole.Value.{entity, V, prim, Fields, field_of, truth_value}
 use Rattle.cedar_expr_model.proofs.Lists.{contains_cases, contains_none}
-use Rattle.cedar_store_model.specs.Whole.Outcome.{Res, val, err}
-use Rattle.cedar_store_model.specs.Whole.World.{World, Part, known, left, Entity, Found, held, missing, not_loaded, part_named}
+use Rattle.cedar_store_model.specs.Whole.Outcome.{Res, val}
+use Rattle.cedar_store_model.specs.Whole.World.{World, Part, known, left, Found, held, missing, not_loaded, part_named}
 use Rattle.cedar_store_model.specs.Whole.Operators.{says}
-use Rattle.cedar_store_model.specs.Whole.Reads.{part_value, part_read, part_tested, attributes_of, tags_of, field_value, attribute_read, attribute_tested, tag_read, tag_tested}
-use Rattle.cedar_schema_model.specs.Whole.Types.{BoolType, any_bool, only_true, only_false, Openness, is_open, is_closed, Ty, bool_type, string_type, any_entity, entity_types, record_type, Attributes, Declared, attribute_named, permissive}
+use Rattle.cedar_store_model.specs.Whole.Reads.{part_value, part_read, part_tested, attributes_of, field_value, attribute_read, attribute_tested}
+use Rattle.cedar_schema_model.specs.Whole.Types.{BoolType, any_bool, only_true, only_false, Openness, is_open, is_closed, Ty, bool_type, any_entity, entity_types, record_type, Attributes, Declared, attribute_named}
 use Rattle.cedar_schema_model.specs.Whole.Schema.{Schema}
-use Rattle.cedar_schema_model.specs.Whole.Join.{reduce_to_join}
-use Rattle.cedar_schema_model.specs.Whole.Lookup.{lookup_attribute, may_have_attribute, declared_of, declared_by_all}
+use Rattle.cedar_schema_model.specs.Whole.Lookup.{lookup_attribute, declared_of, declared_by_all}
 use Rattle.cedar_schema_model.specs.Whole.HasType.{is_of_bool, FieldFits, HasRequired, FieldsFit, HasType}
-use Rattle.cedar_schema_model.specs.Whole.Conforming.{EntityConforms}
 use Rattle.cedar_schema_model.proofs.Whole.Types.Lookups.{inside}
 use Rattle.cedar_schema_model.proofs.Whole.Types.Known.{field_at}
 use Rattle.cedar_schema_model.proofs.Whole.Types.Values.{required_at, field_some}
-use Rattle.cedar_typechecker_model.specs.Whole.Rules.{Setting, has_field, may_have, has_type, attribute_type, may_have_tags, is_string_type, entity_kinds, has_tag_type, tag_type, is_there}
-use Rattle.cedar_typechecker_model.specs.Whole.Rules as rules
+use Rattle.cedar_typechecker_model.specs.Whole.Rules.{Setting, has_field, has_type, attribute_type}
 use Rattle.cedar_typechecker_model.specs.Whole.Simple.{is_simple, IsOrderly}
-use Rattle.cedar_typechecker_model.specs.Whole.Soundness.{IsExpected, IsGood, ConformsAt}
-use Rattle.cedar_typechecker_model.proofs.Whole.Sound.Shapes.{any_value, entity_value, text_value, record_value}
-use Rattle.cedar_typechecker_model.proofs.Whole.Sound.Entities.{Declares, held_attribute, required_attribute, Tags, held_tag}
+use Rattle.cedar_typechecker_model.specs.Whole.Soundness.{IsGood, ConformsAt}
+use Rattle.cedar_typechecker_model.proofs.Whole.Sound.Shapes.{any_value, entity_value, record_value}
+use Rattle.cedar_typechecker_model.proofs.Whole.Sound.Entities.{Declares, held_attribute, required_attribute}
 
 -- the same of what is known of an outcome
 abbrev pub Fine : Ty → Option (Res V) → Type 0

@@ -1,7 +1,7 @@
 -- Conjunctions, disjunctions and choices of good outcomes are good.
 use Rattle.std.proofs.Common.{◌≡◌, Bool, true, false, Option, Some, None, refl, sym, ap, ◌∙◌, subst}
 use Rattle.std.specs.Prelude.{option_map}
-use Rattle.cedar_expr_model.specs.Whole.Value.{truth, V, prim, truth_value}
+use Rattle.cedar_expr_model.specs.Whole.Value.{V, truth_value}
 use Rattle.cedar_store_model.specs.Whole.Outcome.{Res, val, err, bind}
 use Rattle.cedar_store_model.specs.Whole.World.{World}
 use Rattle.cedar_store_model.specs.Whole.Operators.{says}
@@ -11,12 +11,11 @@ use Rattle.cedar_schema_model.specs.Whole.HasType.{is_of_bool, HasType}
 use Rattle.cedar_schema_model.specs.Whole.Join.{join}
 use Rattle.cedar_typechecker_model.specs.Whole.Facts.{Facts, no_facts, union, intersection}
 use Rattle.cedar_typechecker_model.specs.Whole.Rules.{Setting}
-use Rattle.cedar_typechecker_model.specs.Whole.Typing.{judged, conjoined, disjoined, chosen, Gives, Sub, AndTyped, OrTyped, ChoiceTyped}
+use Rattle.cedar_typechecker_model.specs.Whole.Typing.{conjoined, disjoined, Gives, AndTyped, OrTyped, ChoiceTyped}
 use Rattle.cedar_typechecker_model.specs.Whole.Soundness.{Hold}
 use Rattle.cedar_typechecker_model.specs.Whole.Simple.{is_simple}
 use Rattle.cedar_typechecker_model.proofs.Whole.Sound.Shapes.{bool_value}
-use Rattle.cedar_typechecker_model.proofs.Whole.Sound.Joins.{Kept, join_keeps}
-use Rattle.cedar_typechecker_model.proofs.Whole.Sound.Attributes.{Fine}
+use Rattle.cedar_typechecker_model.proofs.Whole.Sound.Joins.{join_keeps}
 use Rattle.cedar_typechecker_model.proofs.Whole.Sound.Facts.{hold_none, hold_union, hold_first, hold_second, Good, good_as, good_bind, good_asked}
 
 -- an outcome that is as good for a greater type, and with other facts that hold

@@ -1,5 +1,5 @@
 -- What a conforming entity has: the attributes and tags that its type declares.
-use Rattle.std.proofs.Common.{◌≡◌, Bool, true, false, List, [], ◌∷◌, Option, Some, None, refl, sym, ap, ◌∙◌, subst}
+use Rattle.std.proofs.Common.{◌≡◌, Bool, true, false, List, [], ◌∷◌, Option, Some, None, refl, sym, ◌∙◌, subst}
 use Rattle.std.specs.Prelude.{Contains, is_some, option_map, option_and_then, if◌then◌else◌}
 use Rattle.std.specs.Option.{option_map_or}
 use Rattle.std.specs.Str.{bytes_eq}
@@ -14,8 +14,8 @@ use Rattle.cedar_schema_model.specs.Whole.Schema.{EntityKind, standard, enumerat
 use Rattle.cedar_schema_model.specs.Whole.Lookup.{attributes_of_kind, declared_of}
 use Rattle.cedar_schema_model.specs.Whole.HasType.{HasType}
 use Rattle.cedar_schema_model.specs.Whole.Conforming.{Place, among_actions, of_kind, nowhere, place_of, attributes_at, tags_at, attribute_list, type_at, EntityConforms}
-use Rattle.cedar_schema_model.specs.Whole.DeclLaws.{IsOf, IsGoodEntity}
-use Rattle.cedar_schema_model.proofs.Whole.Types.Lookups.{named_cases, test_cases}
+use Rattle.cedar_schema_model.specs.Whole.DeclLaws.{IsOf}
+use Rattle.cedar_schema_model.proofs.Whole.Types.Lookups.{named_cases}
 use Rattle.cedar_schema_model.proofs.Whole.Decls.Direct.{good_entity}
 use Rattle.cedar_typechecker_model.specs.Whole.Rules.{kind_tags, tags_of}
 use Rattle.cedar_typechecker_model.specs.Whole.Simple.{IsOrderly}

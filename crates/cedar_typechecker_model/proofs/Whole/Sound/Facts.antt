@@ -1,9 +1,8 @@
 -- Facts that hold, and outcomes that are good: a value of the type, with facts that hold if it is true, or an expected error.
-use Rattle.std.proofs.Common.{◌≡◌, ◌&&◌, ◌||◌, inl, inr, ⊎_elim, Bool, true, false, Option, Some, None, refl, sym, ap, ◌∙◌, subst}
+use Rattle.std.proofs.Common.{◌≡◌, ⊎_elim, true, Option, Some, None, refl, sym, ap, subst}
 use Rattle.std.specs.Prelude.{option_map}
-use Rattle.std.specs.Str.{bytes_eq}
 use Rattle.std.proofs.lemmas.Slice.Eq.{bytes_eq-Decides}
-use Rattle.cedar_expr_model.specs.Whole.Value.{truth, V, prim, truth_value}
+use Rattle.cedar_expr_model.specs.Whole.Value.{V, truth_value}
 use Rattle.cedar_expr_model.specs.Whole.Shape.{tree_eq}
 use Rattle.cedar_expr_model.specs.Whole.Tree.{Tree}
 use Rattle.cedar_expr_model.proofs.Lists.{both_hold}
@@ -16,8 +15,8 @@ use Rattle.cedar_schema_model.specs.Whole.Types.{BoolType, any_bool, only_true, 
 use Rattle.cedar_schema_model.specs.Whole.HasType.{HasType}
 use Rattle.cedar_schema_model.proofs.Whole.Decls.Descent.{either_holds}
 use Rattle.cedar_typechecker_model.specs.Whole.Facts.{Facts, no_facts, fact, union, intersection, Part, attribute_part, tag_part, part_eq}
-use Rattle.cedar_typechecker_model.specs.Whole.Typing.{Judgement, judged, plain, tested, Gives}
-use Rattle.cedar_typechecker_model.specs.Whole.Soundness.{IsExpected, test_of, Hold}
+use Rattle.cedar_typechecker_model.specs.Whole.Typing.{plain, tested, Gives}
+use Rattle.cedar_typechecker_model.specs.Whole.Soundness.{test_of, Hold}
 use Rattle.cedar_typechecker_model.proofs.Whole.Sound.Shapes.{bool_value}
 use Rattle.cedar_typechecker_model.proofs.Whole.Sound.Attributes.{Fine}
 

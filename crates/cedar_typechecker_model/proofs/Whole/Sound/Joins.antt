@@ -1,23 +1,22 @@
 -- The strict join of simple types is simple, and has the values of both.
-use Rattle.std.proofs.Common.{◌≡◌, ⊎_elim, List, [], ◌∷◌, Bool, true, false, cond, not, ◌&&◌, ◌||◌, Option, Some, None, option_map, refl, sym, ap, ◌∙◌, subst, true≢false, Contains, IfSome}
+use Rattle.std.proofs.Common.{◌≡◌, List, [], ◌∷◌, Bool, true, false, ◌&&◌, Option, Some, None, option_map, refl, sym, ap, ◌∙◌, subst, Contains}
 use Rattle.std.specs.Prelude.{is_none, is_some}
 use Rattle.std.specs.Str.{bytes_eq}
 use Rattle.std.specs.Ordering.{match_ordering}
 use Rattle.std.proofs.lemmas.Cmp.{tied_itself}
 use Rattle.std.proofs.lemmas.Slice.Eq.{bytes_eq-Decides}
 use Rattle.cedar_expr_model.specs.Name.{Text, Name, name_eq}
-use Rattle.cedar_expr_model.specs.Order.{name_cmp}
 use Rattle.cedar_expr_model.proofs.Equality.{name_eq-Decides}
 use Rattle.cedar_expr_model.proofs.Lists.{both_hold, hold_both, contains_head, contains_tail, contains_cases, contains_none}
-use Rattle.cedar_expr_model.specs.Whole.Value.{V, prim, truth, long, text, entity, set_of, record_of, extension, Vs, no_values, value, Fields, no_fields, field, field_of}
+use Rattle.cedar_expr_model.specs.Whole.Value.{V, Vs, no_values, value, Fields, no_fields, field, field_of}
 use Rattle.cedar_schema_model.specs.Whole.Types.{BoolType, any_bool, only_true, only_false, Openness, is_open, is_closed, Ty, never, bool_type, long_type, string_type, any_entity, entity_types, entity_type, any_set, set_type, record_type, extension_type, Attributes, no_attributes, attribute, Declared, attribute_named, strict}
-use Rattle.cedar_schema_model.specs.Whole.Subtype.{is_closed_record, are_among, are_named}
+use Rattle.cedar_schema_model.specs.Whole.Subtype.{are_among, are_named}
 use Rattle.cedar_schema_model.specs.Whole.HasType.{is_of_bool, FieldFits, HasRequired, HasType, HaveType, FieldsFit}
-use Rattle.cedar_schema_model.specs.Whole.Join.{bool_join, names_of_both, name_inserted, agree, all_stayed, openness_of_join, joined_with, kept_attribute, join, attributes_join, join_all, reduce_to_join}
+use Rattle.cedar_schema_model.specs.Whole.Join.{bool_join, names_of_both, joined_with, kept_attribute, join, attributes_join, join_all, reduce_to_join}
 use Rattle.cedar_schema_model.proofs.Whole.Types.Lookups.{no_none, inside, test_cases, named_first, named_later, named_cases, Parts, each_type}
 use Rattle.cedar_schema_model.proofs.Whole.Types.Names.{among_at, name_order}
 use Rattle.cedar_schema_model.proofs.Whole.Types.Subtypes.{named_at}
-use Rattle.cedar_schema_model.proofs.Whole.Types.JoinParts.{given_if, declared_join, Joint, joint, agree_strict}
+use Rattle.cedar_schema_model.proofs.Whole.Types.JoinParts.{given_if, declared_join, Joint, joint}
 use Rattle.cedar_schema_model.proofs.Whole.Types.JoinAbove.{allowed, opened, strict_allowed}
 use Rattle.cedar_schema_model.proofs.Whole.Types.Values.{required_at, field_some, never_empty}
 use Rattle.cedar_typechecker_model.specs.Whole.Simple.{is_alone, is_simple, are_simple}
@@ -282,11 +281,13 @@ kept_all (u ∷ us) t j w s e =
     let f = some_join (join strict t u) us j e in
     let k = join_keeps t u f.0 w (s u (contains_head u us)) f.1 in
     let r = kept_all us f.0 j k.simple (λ x i. s x (contains_tail u us x i)) f.2 in
-    let rest = r.1 in
-    (λ v h. r.0 v (k.first v h), record {
-      simple = rest.simple;
-      each = λ x i v h. contains_cases (HasType v j) u us x i (λ q. r.0 v (k.second v (subst (HasType v) (sym q) h))) (λ n. rest.each x n v h);
-    })
+    let rest = r.1 in (
+      λ v h. r.0 v (k.first v h),
+      record {
+        simple = rest.simple;
+        each = λ x i v h. contains_cases (HasType v j) u us x i (λ q. r.0 v (k.second v (subst (HasType v) (sym q) h))) (λ n. rest.each x n v h);
+      },
+    )
 
 pub reduction_keeps : (ts : List Ty) (j : Ty) → AreSimple ts → reduce_to_join strict ts ≡ Some j → KeptAll ts j
 reduction_keeps ts j s e = (kept_all ts never j refl s e).1

@@ -1,31 +1,31 @@
 -- Sets, records and calls of good outcomes are good.
-use Rattle.std.proofs.Common.{◌≡◌, ◌&&◌, ◌⊎◌, inl, inr, ⊎_elim, ℕ, suc, Bool, true, false, List, [], ◌∷◌, map, length, Option, Some, None, refl, sym, ap, ◌∙◌, subst}
-use Rattle.std.specs.Prelude.{is_some, is_none, option_map, option_and_then, if◌then◌else◌, Contains}
+use Rattle.std.proofs.Common.{◌≡◌, ◌&&◌, suc, Bool, true, false, List, [], ◌∷◌, map, length, Option, Some, None, refl, sym, ap, ◌∙◌, subst}
+use Rattle.std.specs.Prelude.{is_some, option_map, option_and_then, if◌then◌else◌, Contains}
 use Rattle.std.specs.Str.{bytes_eq}
 use Rattle.std.proofs.lemmas.Slice.Eq.{bytes_eq-Decides}
-use Rattle.cedar_expr_model.specs.Name.{Text, Name, name_eq}
-use Rattle.cedar_expr_model.specs.Whole.Value.{truth, long, text, entity, V, prim, set_of, record_of, extension, Vs, Fields, no_fields, field, field_of}
-use Rattle.cedar_expr_model.specs.Whole.Canonical.{Among, members_made, set_made}
+use Rattle.cedar_expr_model.specs.Name.{Text, Name}
+use Rattle.cedar_expr_model.specs.Whole.Value.{truth, long, text, entity, V, prim, set_of, record_of, extension, Fields, no_fields, field, field_of}
+use Rattle.cedar_expr_model.specs.Whole.Canonical.{members_made, set_made}
 use Rattle.cedar_expr_model.specs.Whole.Substitution.{core_type_of, core_eq}
-use Rattle.cedar_expr_model.specs.Whole.Table.{Table, Signature, signature_of, takes_count, are_of_types, Called, gives, fails, leaves, IsAnswer, IsFair}
+use Rattle.cedar_expr_model.specs.Whole.Table.{Signature, signature_of, takes_count, are_of_types, Called, gives, fails, leaves, IsAnswer, IsFair}
 use Rattle.cedar_expr_model.specs.Whole.Tree.{CoreType, bool_core, long_core, string_core, set_core, record_core, entity_core, extension_core, Trees}
 use Rattle.cedar_expr_model.proofs.Lists.{both_hold, hold_both, contains_cases, contains_none, contains_head, contains_tail}
 use Rattle.cedar_expr_model.proofs.Whole.CoreTypes.{core_eq-Decides}
 use Rattle.cedar_expr_model.proofs.Whole.Sets.{made_from}
-use Rattle.cedar_store_model.specs.Whole.Outcome.{Res, val, err, bind, wrong_type, wrong_count, no_function}
+use Rattle.cedar_store_model.specs.Whole.Outcome.{Res, val, err, bind, wrong_type, wrong_count}
 use Rattle.cedar_store_model.specs.Whole.Operators.{answered, called_with, called}
-use Rattle.cedar_schema_model.specs.Whole.Types.{any_bool, is_closed, Ty, bool_type, long_type, string_type, set_type, record_type, extension_type, Attributes, no_attributes, attribute, Declared, attribute_named, strict}
+use Rattle.cedar_schema_model.specs.Whole.Types.{any_bool, is_closed, Ty, set_type, record_type, Attributes, no_attributes, attribute, Declared, attribute_named, strict}
 use Rattle.cedar_schema_model.specs.Whole.Subtype.{is_subtype}
 use Rattle.cedar_schema_model.specs.Whole.Join.{reduce_to_join}
-use Rattle.cedar_schema_model.specs.Whole.HasType.{HasType, HaveType, HasRequired, FieldsFit, FieldFits}
-use Rattle.cedar_schema_model.proofs.Whole.Types.Lookups.{inside, test_cases, named_first, named_later, named_cases, no_none}
+use Rattle.cedar_schema_model.specs.Whole.HasType.{HasType, FieldsFit, FieldFits}
+use Rattle.cedar_schema_model.proofs.Whole.Types.Lookups.{inside, named_first, named_cases, no_none}
 use Rattle.cedar_schema_model.proofs.Whole.Types.Values.{sets_by_members, supertypes_keep}
 use Rattle.cedar_typechecker_model.specs.Whole.Rules.{Setting, set_literal_type, record_literal_type, has_names_once, all_there, core_as_type, arguments_fit, takes_literal, result_type, signature_type, call_type}
 use Rattle.cedar_typechecker_model.specs.Whole.Simple.{is_simple, are_simple}
-use Rattle.cedar_typechecker_model.specs.Whole.Soundness.{IsExpected, IsGood}
+use Rattle.cedar_typechecker_model.specs.Whole.Soundness.{IsExpected}
 use Rattle.cedar_typechecker_model.proofs.Whole.Sound.Shapes.{bool_value, long_value, text_value, extension_value}
 use Rattle.cedar_typechecker_model.proofs.Whole.Sound.Joins.{AreSimple, KeptAll, reduction_keeps, required_from, still_there, simple_parts}
-use Rattle.cedar_typechecker_model.proofs.Whole.Sound.Attributes.{Fine, fine_as}
+use Rattle.cedar_typechecker_model.proofs.Whole.Sound.Attributes.{Fine}
 
 -- values of these types, one after the other
 abbrev pub Have : List V → List Ty → Type 0
@@ -97,8 +97,7 @@ field_there (field a v fs) no_attributes h n d e = absurd h
 all_fit : (as_ : Attributes) (fs : Fields) (cs : Attributes) → HaveFields fs cs → are_simple cs ≡ true → ((n : Text) (d : Declared) → attribute_named n cs ≡ Some d → attribute_named n as_ ≡ Some d) → FieldsFit as_ is_closed fs
 all_fit as_ no_fields no_attributes h s f = tt
 all_fit as_ (field a v fs) (attribute b t r cs) h s f =
-    let p = simple_parts b t r cs s in
-    (
+    let p = simple_parts b t r cs s in (
       subst (λ x. FieldFits is_closed (HasType v) (attribute_named x as_)) (sym h.0) (subst (FieldFits is_closed (HasType v)) (sym (f b (record { type = t; is_required = r }) (named_first b t r cs))) h.1),
       all_fit as_ fs cs h.2 p.2 (λ n d e. f n d (still_there n b t r cs d p.1 e)),
     )

@@ -1,24 +1,23 @@
 -- `in` says what its type says.
-use Rattle.std.proofs.Common.{◌≡◌, ◌↔◌, ◌&&◌, ◌||◌, ◌⊎◌, inl, inr, ⊎_elim, Bool, true, false, not, List, [], ◌∷◌, map, Option, Some, None, refl, sym, ap, ◌∙◌, subst}
-use Rattle.std.specs.Prelude.{Contains, is_some, option_map, option_and_then, if◌then◌else◌}
+use Rattle.std.proofs.Common.{◌≡◌, ◌↔◌, ◌||◌, inl, inr, ⊎_elim, Bool, true, false, not, List, [], ◌∷◌, Option, Some, None, refl, sym, ap, ◌∙◌, subst}
+use Rattle.std.specs.Prelude.{Contains, option_map, option_and_then, if◌then◌else◌}
 use Rattle.std.specs.List.{list_any}
 use Rattle.cedar_expr_model.specs.Name.{Name, name_eq}
 use Rattle.cedar_expr_model.specs.Uid.{Uid, uid_eq}
-use Rattle.cedar_expr_model.specs.Whole.Value.{truth, long, text, entity, V, prim, set_of, record_of, extension, Vs, no_values, value}
-use Rattle.cedar_expr_model.specs.Whole.Canonical.{Among, members_made, set_made}
+use Rattle.cedar_expr_model.specs.Whole.Value.{entity, V, prim, set_of, Vs, no_values, value}
+use Rattle.cedar_expr_model.specs.Whole.Canonical.{Among}
 use Rattle.cedar_expr_model.specs.Whole.Tree.{Tree}
-use Rattle.cedar_expr_model.proofs.Equality.{name_eq-Decides, uid_eq-Decides, name_eq_same, uid_eq_same}
+use Rattle.cedar_expr_model.proofs.Equality.{name_eq-Decides, uid_eq-Decides}
 use Rattle.cedar_expr_model.proofs.Lists.{hold_left, hold_right, any_has, any_from, contains_head, contains_tail, contains_cases, contains_none, found-Decides}
-use Rattle.cedar_store_model.specs.Whole.Outcome.{Res, val}
 use Rattle.cedar_store_model.specs.Whole.World.{World, Entity, Found, held, missing, not_loaded}
 use Rattle.cedar_store_model.specs.Whole.Operators.{says}
 use Rattle.cedar_store_model.specs.Whole.Reads.{uids_among, uids_in, is_in_some, found_in, within}
-use Rattle.cedar_schema_model.specs.Whole.Types.{BoolType, any_bool, only_true, only_false, Ty, never, bool_type, any_entity, entity_types, set_type}
+use Rattle.cedar_schema_model.specs.Whole.Types.{any_bool, only_false, Ty, never, bool_type, any_entity, entity_types, set_type}
 use Rattle.cedar_schema_model.specs.Whole.Schema.{EntityKind, standard, enumerated, external, EntityType, Schema, declares_action, type_named}
-use Rattle.cedar_schema_model.specs.Whole.Descent.{action_uids, action_descends, IsActionAncestor, TypeDescends, type_descends}
+use Rattle.cedar_schema_model.specs.Whole.Descent.{action_uids, action_descends, TypeDescends, type_descends}
 use Rattle.cedar_schema_model.specs.Whole.HasType.{HasType, HaveType}
-use Rattle.cedar_schema_model.specs.Whole.Conforming.{Place, among_actions, of_kind, nowhere, place_of, EntityConforms}
-use Rattle.cedar_schema_model.specs.Whole.DeclLaws.{MayDescend, MustDescend, IsActionEntity}
+use Rattle.cedar_schema_model.specs.Whole.Conforming.{of_kind, EntityConforms}
+use Rattle.cedar_schema_model.specs.Whole.DeclLaws.{MayDescend, IsActionEntity}
 use Rattle.cedar_schema_model.proofs.Whole.Types.Lookups.{inside, test_cases}
 use Rattle.cedar_schema_model.proofs.Whole.Types.Values.{sets_by_members, never_empty}
 use Rattle.cedar_schema_model.proofs.Whole.Decls.Descent.{action_descends-Decides, type_descends-Decides, either_holds}
@@ -28,7 +27,6 @@ use Rattle.cedar_schema_model.proofs.Whole.Decls.Store.{action_entity_is}
 use Rattle.cedar_typechecker_model.specs.Whole.Rules.{Setting, known_truth, Kinds, some_kinds, any_kind, entity_kinds, entity_or_set_kinds, may_be_in, written_action, written_actions, within_kinds, in_type}
 use Rattle.cedar_typechecker_model.specs.Whole.Soundness.{ConformsAt}
 use Rattle.cedar_typechecker_model.proofs.Whole.Sound.Shapes.{any_value, entity_value, set_value}
-use Rattle.cedar_typechecker_model.proofs.Whole.Sound.Operators.{Writes}
 use Rattle.cedar_typechecker_model.proofs.Whole.Sound.Attributes.{Fine, fine_as}
 use Rattle.cedar_typechecker_model.proofs.Whole.Sound.Entities.{place_by}
 

@@ -1,21 +1,21 @@
 -- Operators at values of their types give a value of theirs, or overflow.
-use Rattle.std.proofs.Common.{◌≡◌, ◌&&◌, Bool, true, false, not, List, [], ◌∷◌, Option, Some, None, refl, sym, ap, ◌∙◌, subst}
-use Rattle.std.specs.Prelude.{option_map, if◌then◌else◌, ℤ, neg_ℤ, Contains}
+use Rattle.std.proofs.Common.{◌≡◌, ◌&&◌, Bool, true, false, not, List, Option, Some, None, refl, sym, ap, ◌∙◌, subst}
+use Rattle.std.specs.Prelude.{if◌then◌else◌, ℤ, neg_ℤ, Contains}
 use Rattle.std.specs.List.{list_all, list_any}
 use Rattle.std.specs.declared.cmp.Ordering.{Ordering}
 use Rattle.cedar_expr_model.specs.Name.{Name, name_eq}
 use Rattle.cedar_expr_model.specs.Uid.{Uid, uid_eq}
-use Rattle.cedar_expr_model.specs.Whole.Value.{truth, long, text, entity, V, prim, set_of, extension, Vs, truth_value}
+use Rattle.cedar_expr_model.specs.Whole.Value.{truth, long, text, entity, V, prim, set_of, extension, Vs}
 use Rattle.cedar_expr_model.specs.Whole.Order.{value_eq}
 use Rattle.cedar_expr_model.specs.Whole.Pattern.{Pattern}
 use Rattle.cedar_expr_model.specs.Whole.Tree.{UnaryOp, negation, minus, is_empty, Tree}
-use Rattle.cedar_expr_model.specs.Whole.Table.{Table, is_ordered}
-use Rattle.cedar_expr_model.proofs.Equality.{name_eq-Decides, uid_eq-Decides, name_eq_same}
+use Rattle.cedar_expr_model.specs.Whole.Table.{is_ordered}
+use Rattle.cedar_expr_model.proofs.Equality.{name_eq-Decides, uid_eq-Decides}
 use Rattle.cedar_expr_model.proofs.Lists.{all_each, any_has}
 use Rattle.cedar_expr_model.proofs.Whole.ValueOrder.{values_decide}
 use Rattle.cedar_store_model.specs.Whole.Outcome.{Res, val, err, wrong_type, overflow}
 use Rattle.cedar_store_model.specs.Whole.Operators.{is_long, in_range, says, has_no_values, applied, ordered, calculated, among_members, of_sets, like_pattern, of_type}
-use Rattle.cedar_schema_model.specs.Whole.Types.{BoolType, any_bool, only_true, only_false, Ty, never, bool_type, long_type, string_type, any_entity, entity_types, any_set, set_type, record_type, extension_type, strict}
+use Rattle.cedar_schema_model.specs.Whole.Types.{BoolType, any_bool, only_true, only_false, Ty, bool_type, long_type, string_type, any_entity, entity_types, any_set, set_type, extension_type, strict}
 use Rattle.cedar_schema_model.specs.Whole.HasType.{is_of_bool, HasType}
 use Rattle.cedar_schema_model.specs.Whole.Join.{join, are_disjoint}
 use Rattle.cedar_schema_model.proofs.Whole.Types.Lookups.{inside, test_cases}

@@ -1,20 +1,18 @@
 -- The schema of well-formed declarations is orderly.
-use Rattle.std.proofs.Common.{◌≡◌, List, [], ◌∷◌, Bool, true, false, if◌then◌else◌, ◌&&◌, Option, Some, None, refl, sym, ap, ◌∙◌, subst, ⊎_elim, is_lt, Ordering, Less, Equal, Greater}
-use Rattle.std.specs.Prelude.{Contains, is_none, option_map, find, map, ℕ, zero, suc, length}
+use Rattle.std.proofs.Common.{◌≡◌, List, [], ◌∷◌, Bool, true, false, if◌then◌else◌, ◌&&◌, Option, Some, None, refl, ap, ◌∙◌, subst, ⊎_elim, Ordering, Less, Equal, Greater}
+use Rattle.std.specs.Prelude.{Contains, is_none, option_map, find, ℕ, zero, suc, length}
 use Rattle.std.specs.Ordering.{match_ordering}
 use Rattle.cedar_expr_model.specs.Name.{Name, Text, name_eq}
-use Rattle.cedar_expr_model.specs.Uid.{Uid}
 use Rattle.cedar_expr_model.specs.Whole.Order.{text_cmp}
 use Rattle.cedar_expr_model.proofs.Lists.{both_hold, hold_both, map_from, contains_head, contains_tail}
-use Rattle.cedar_schema_model.specs.Whole.Types.{Ty, never, bool_type, long_type, string_type, any_entity, entity_types, any_set, set_type, record_type, extension_type, Openness, Attributes, no_attributes, attribute, attribute_named}
-use Rattle.cedar_schema_model.specs.Whole.Schema.{EntityKind, EntityType, Action, type_named, declares_action}
+use Rattle.cedar_schema_model.specs.Whole.Types.{Ty, entity_types, set_type, record_type, Attributes, no_attributes, attribute, attribute_named}
+use Rattle.cedar_schema_model.specs.Whole.Schema.{EntityType, Action}
 use Rattle.cedar_schema_model.specs.Whole.Subtype.{is_before_attributes}
 use Rattle.cedar_schema_model.specs.Whole.Reference.{Namespace, Meant, meant_common, meant_entity}
 use Rattle.cedar_schema_model.specs.Whole.Declarations.{TypeExpr, bool_expr, long_expr, string_expr, set_expr, record_expr, reference, extension_expr, FieldExprs, no_field_exprs, field_expr, KindExpr, standard_expr, enumerated_expr, external_expr, CommonDeclaration, Declarations, common_name, meant}
 use Rattle.cedar_schema_model.specs.Whole.WellFormed.{IsWellFormed}
 use Rattle.cedar_schema_model.specs.Whole.Resolved.{with_attribute, type_meant, resolved_by, resolved_fields_by, defined_by, common_within, common_of, resolved, attributes_of_record, resolved_kind, resolved_entity, resolved_action, schema_of}
 use Rattle.cedar_schema_model.specs.Whole.BagLaws.{has_rising, are_rising}
-use Rattle.cedar_schema_model.specs.Whole.Descent as descent
 use Rattle.cedar_schema_model.proofs.Whole.Types.Lookups.{less_is, text_less_apart, named_later, before_later}
 use Rattle.cedar_schema_model.proofs.Whole.Decls.Environments.{declares_action-Decides}
 use Rattle.cedar_schema_model.proofs.Whole.Decls.Named.{ancestors_named, principals_named, resources_named}

@@ -1,16 +1,15 @@
 -- The environments of a policy cover its conforming requests; a policy that passes means a truth value or errs as expected.
-use Rattle.std.proofs.Common.{◌≡◌, ◌&&◌, ◌||◌, ◌⊎◌, inl, inr, ⊎_elim, Bool, true, false, List, [], ◌∷◌, Option, Some, None, refl, sym, ap, ◌∙◌, subst}
+use Rattle.std.proofs.Common.{◌≡◌, ◌⊎◌, inl, inr, ⊎_elim, Bool, true, false, List, [], ◌∷◌, Option, Some, None, refl, sym, ap, ◌∙◌, subst}
 use Rattle.std.specs.Prelude.{Contains, is_some, map, find, if◌then◌else◌}
-use Rattle.std.specs.List.{list_any, filter_map}
 use Rattle.cedar_expr_model.specs.Name.{Name, name_eq}
 use Rattle.cedar_expr_model.specs.Uid.{Uid}
-use Rattle.cedar_expr_model.specs.Whole.Value.{entity, V, prim, record_of, truth_value}
+use Rattle.cedar_expr_model.specs.Whole.Value.{entity, V, prim, truth_value}
 use Rattle.cedar_expr_model.specs.Whole.Builder.{conjunction}
 use Rattle.cedar_expr_model.specs.Whole.Parts.{subexpressions, slot_here, slots}
 use Rattle.cedar_expr_model.specs.Whole.Table.{Table}
-use Rattle.cedar_expr_model.specs.Whole.Tree.{Var, principal, action, resource, context, SlotId, principal_slot, resource_slot, Tree, slot}
+use Rattle.cedar_expr_model.specs.Whole.Tree.{principal, action, resource, SlotId, principal_slot, resource_slot, Tree, slot}
 use Rattle.cedar_expr_model.proofs.Equality.{name_eq-Decides}
-use Rattle.cedar_expr_model.proofs.Lists.{both_hold, hold_both, any_has, hold_left, contains_head, contains_cases, contains_none}
+use Rattle.cedar_expr_model.proofs.Lists.{hold_both, any_has, hold_left, contains_head, contains_cases, contains_none}
 use Rattle.cedar_store_model.specs.Whole.Outcome.{Res, val, err}
 use Rattle.cedar_store_model.specs.Whole.World.{Request, World}
 use Rattle.cedar_store_model.specs.Whole.Operators.{says}
@@ -22,11 +21,10 @@ use Rattle.cedar_store_model.specs.Whole.Policy as policy
 use Rattle.cedar_store_model.specs.Whole.Answer.{with_slots, PolicyMeans, IsSatisfied}
 use Rattle.cedar_store_model.proofs.Whole.Conditions.{policies_mean_truth}
 use Rattle.cedar_store_model.proofs.Whole.Known.{an_outcome}
-use Rattle.cedar_store_model.proofs.Whole.Meaning.{means_outcome, outcome_means, one_outcome}
+use Rattle.cedar_store_model.proofs.Whole.Meaning.{means_outcome}
 use Rattle.cedar_store_model.proofs.Whole.Sets.{condition_uses}
 use Rattle.cedar_schema_model.specs.Whole.Types.{BoolType, any_bool, only_false, Ty, bool_type, record_type, is_closed}
-use Rattle.cedar_schema_model.specs.Whole.Schema.{EntityType, Action, Schema, action_with, declares_type}
-use Rattle.cedar_schema_model.specs.Whole.Descent.{type_names}
+use Rattle.cedar_schema_model.specs.Whole.Schema.{EntityType, Action, Schema}
 use Rattle.cedar_schema_model.specs.Whole.HasType.{HasType}
 use Rattle.cedar_schema_model.specs.Whole.Conforming.{RequestParts, parts_of}
 use Rattle.cedar_schema_model.specs.Whole.Environment.{Environment, environment_at, environments}
@@ -39,10 +37,9 @@ use Rattle.cedar_schema_model.proofs.Whole.Decls.Schema.{kept_has}
 use Rattle.cedar_typechecker_model.specs.Whole.Facts.{Facts, no_facts}
 use Rattle.cedar_typechecker_model.specs.Whole.Rules.{bound_type, slot_type}
 use Rattle.cedar_typechecker_model.specs.Whole.Typing.{Types}
-use Rattle.cedar_typechecker_model.specs.Whole.Simple.{IsOrderly}
 use Rattle.cedar_typechecker_model.specs.Whole.Soundness.{IsGood, Hold, ConformsAt, Suits, SlotsAreBound}
-use Rattle.cedar_typechecker_model.specs.Whole.PolicySoundness.{IsOfRequest, IsConforming, IsBound, LookupsConform, IsCovered, IsFalse}
-use Rattle.cedar_typechecker_model.specs.Whole.Verdicts.{strictly, scope_use, policy_environments, fits_slot, fits, Passes, IsImpossible}
+use Rattle.cedar_typechecker_model.specs.Whole.PolicySoundness.{IsConforming, IsBound, LookupsConform, IsCovered, IsFalse}
+use Rattle.cedar_typechecker_model.specs.Whole.Verdicts.{strictly, scope_use, fits_slot, Passes, IsImpossible}
 use Rattle.cedar_typechecker_model.proofs.Whole.Sound.Attributes.{Fine}
 use Rattle.cedar_typechecker_model.proofs.Whole.Sound.Connectives.{in_any}
 use Rattle.cedar_typechecker_model.proofs.Whole.Sound.Facts.{hold_none}
@@ -234,8 +231,7 @@ module _ (s : Schema) (x : Table) (w : World) (p : Policy) (c : IsConforming s x
 
     pub passing_is_sound : IsWhole w → Passes s x p → (r : Res V) × PolicyMeans w p r × IsGood (bool_type any_bool) r
     passing_is_sound h passes =
-        let m = an_outcome (with_slots w p.bindings) (whole_slots h) (condition p) in
-        (
+        let m = an_outcome (with_slots w p.bindings) (whole_slots h) (condition p) in (
           m.0,
           (policies_mean_truth w p m.0).1 m.1,
           ⊎_elim

@@ -1,31 +1,29 @@
 -- The scope of a policy never errs where its slots are bound, and is false where a slot is bound to a uid that no environment has.
-use Rattle.std.proofs.Common.{◌≡◌, ◌&&◌, ◌||◌, ◌⊎◌, inl, inr, ⊎_elim, Bool, true, false, not, List, [], ◌∷◌, map, Option, Some, None, refl, sym, ap, ◌∙◌, subst}
-use Rattle.std.specs.Prelude.{Contains, option_map}
+use Rattle.std.proofs.Common.{◌≡◌, ◌||◌, ◌⊎◌, inl, inr, ⊎_elim, Bool, true, false, not, List, [], ◌∷◌, map, Option, Some, None, refl, sym, ap, subst}
 use Rattle.cedar_expr_model.specs.Name.{Name, name_eq}
-use Rattle.cedar_expr_model.specs.Uid.{Uid, uid_eq}
-use Rattle.cedar_expr_model.specs.Whole.Value.{truth, entity, V, prim, truth_value}
+use Rattle.cedar_expr_model.specs.Uid.{Uid}
+use Rattle.cedar_expr_model.specs.Whole.Value.{entity, V, prim, truth_value}
 use Rattle.cedar_expr_model.specs.Whole.Builder.{written_truth, folded, conjunction}
 use Rattle.cedar_expr_model.specs.Whole.Canonical.{members_made, set_made}
 use Rattle.cedar_expr_model.specs.Whole.Order.{value_eq}
 use Rattle.cedar_expr_model.specs.Whole.Tree.{Var, action, SlotId, equal, is_in, Tree, lit, var, both, binary, is_type, set_literal}
 use Rattle.cedar_expr_model.proofs.Equality.{name_eq-Decides, name_eq_same}
-use Rattle.cedar_expr_model.proofs.Lists.{map_from, contains_head, contains_cases, contains_none}
+use Rattle.cedar_expr_model.proofs.Lists.{map_from, contains_head}
 use Rattle.cedar_expr_model.proofs.Whole.Sets.{made_from}
-use Rattle.cedar_expr_model.proofs.Whole.ValueOrder.{values_decide}
-use Rattle.cedar_store_model.specs.Whole.Outcome.{Res, val, err, bind}
+use Rattle.cedar_store_model.specs.Whole.Outcome.{Res, val, bind}
 use Rattle.cedar_store_model.specs.Whole.World.{World, Found, held, missing, not_loaded}
 use Rattle.cedar_store_model.specs.Whole.Operators.{says, of_type}
-use Rattle.cedar_store_model.specs.Whole.Reads.{uids_in, is_in_some, found_in, within}
-use Rattle.cedar_store_model.specs.Whole.Meaning.{Means, variable, slot_value, combined, picked, truth_asked, outcome_of, outcomes_of}
+use Rattle.cedar_store_model.specs.Whole.Reads.{uids_in, is_in_some, found_in}
+use Rattle.cedar_store_model.specs.Whole.Meaning.{variable, slot_value, combined, picked, truth_asked, outcome_of, outcomes_of}
 use Rattle.cedar_store_model.specs.Whole.Looks.{Looks}
 use Rattle.cedar_store_model.specs.Whole.Knowledge.{IsThere}
 use Rattle.cedar_store_model.specs.Whole.Policy.{Target, named, own_slot, Scope, any, exactly, inside, of_kind, of_kind_inside, ActionScope, any_action, exactly_action, inside_actions, target_tree, scope_tree, uid_trees, action_tree}
 use Rattle.cedar_store_model.proofs.Whole.Built.{conjunction_outcome}
 use Rattle.cedar_store_model.proofs.Whole.Meaning.{outcome_means}
 use Rattle.cedar_schema_model.specs.Whole.Types.{only_false, bool_type}
-use Rattle.cedar_schema_model.specs.Whole.Schema.{Schema, declares_type, declares_action}
-use Rattle.cedar_schema_model.specs.Whole.Descent.{type_names, type_descends}
-use Rattle.cedar_schema_model.specs.Whole.Environment.{SlotUse, no_slot, equal_slot, in_slot}
+use Rattle.cedar_schema_model.specs.Whole.Schema.{Schema, declares_type}
+use Rattle.cedar_schema_model.specs.Whole.Descent.{type_descends}
+use Rattle.cedar_schema_model.specs.Whole.Environment.{equal_slot, in_slot}
 use Rattle.cedar_schema_model.specs.Whole.DeclLaws.{IsAtOrAbove, TakesSlot}
 use Rattle.cedar_schema_model.proofs.Whole.Types.Lookups.{test_cases}
 use Rattle.cedar_schema_model.proofs.Whole.Decls.Descent.{type_descends-Decides}
@@ -33,7 +31,7 @@ use Rattle.cedar_schema_model.proofs.Whole.Decls.Environments.{declares_action-D
 use Rattle.cedar_typechecker_model.specs.Whole.Rules.{some_kinds}
 use Rattle.cedar_typechecker_model.specs.Whole.Simple.{IsOrderly}
 use Rattle.cedar_typechecker_model.specs.Whole.Soundness.{ConformsAt}
-use Rattle.cedar_typechecker_model.specs.Whole.Verdicts.{target_use, scope_use, fits_slot}
+use Rattle.cedar_typechecker_model.specs.Whole.Verdicts.{scope_use, fits_slot}
 use Rattle.cedar_typechecker_model.proofs.Whole.Sound.Attributes.{Fine}
 use Rattle.cedar_typechecker_model.proofs.Whole.Sound.Operators.{not_equal}
 use Rattle.cedar_typechecker_model.proofs.Whole.Sound.Membership.{Uids, uids_of, excluded, right_one}

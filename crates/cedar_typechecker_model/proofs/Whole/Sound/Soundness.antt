@@ -1,36 +1,35 @@
 -- An expression that has a type in Strict means a value of it, or errs as expected, and its facts hold where it is true.
-use Rattle.std.proofs.Common.{◌≡◌, ◌&&◌, inl, inr, ⊎_elim, Bool, true, false, List, [], ◌∷◌, ◌++◌, Option, Some, None, refl, sym, ap, ◌∙◌, subst}
-use Rattle.std.specs.Prelude.{option_map, option_and_then, Contains, ◌-ℤ◌, ◌+ℤ◌, ◌*ℤ◌, not}
-use Rattle.std.specs.List.{list_any, filter_map}
+use Rattle.std.proofs.Common.{◌≡◌, inl, inr, true, List, [], ◌∷◌, ◌++◌, Some, refl, sym, ap, ◌∙◌, subst}
+use Rattle.std.specs.Prelude.{Contains, ◌-ℤ◌, ◌+ℤ◌, ◌*ℤ◌, not}
 use Rattle.std.specs.Ordering.{is_lt, is_le}
 use Rattle.std.proofs.lemmas.List.Elements.{Contains-append_left, Contains-append_right}
 use Rattle.cedar_expr_model.specs.Name.{Text}
 use Rattle.cedar_expr_model.specs.Uid.{Uid}
-use Rattle.cedar_expr_model.specs.Whole.Value.{text, entity, V, prim, record_of, no_fields, field, truth_value}
+use Rattle.cedar_expr_model.specs.Whole.Value.{V, prim, record_of, no_fields, field, truth_value}
 use Rattle.cedar_expr_model.specs.Whole.Canonical.{set_made, is_subset, is_disjoint}
 use Rattle.cedar_expr_model.specs.Whole.Parts.{subexpressions, subexpressions_among, subexpressions_in_fields}
 use Rattle.cedar_expr_model.specs.Whole.Table.{Table}
 use Rattle.cedar_expr_model.specs.Whole.Tree.{SlotId, BinaryOp, equal, less, less_or_equal, plus, difference, times, is_in, contains, contains_all, contains_any, get_tag, has_tag, Tree, lit, var, slot, unknown, choice, both, either, unary, binary, call, get_attr, has_attr, has_path, like, is_type, set_literal, record_literal, Trees, no_trees, tree, TreeFields, no_tree_fields, tree_field}
 use Rattle.cedar_expr_model.proofs.Lists.{contains_head, contains_tail}
-use Rattle.cedar_store_model.specs.Whole.Outcome.{Res, val, err, bind}
+use Rattle.cedar_store_model.specs.Whole.Outcome.{val, bind}
 use Rattle.cedar_store_model.specs.Whole.World.{World}
 use Rattle.cedar_store_model.specs.Whole.Operators.{applied, ordered, like_pattern, of_type, called}
-use Rattle.cedar_store_model.specs.Whole.Reads.{attribute_read, attribute_tested, path_tested, tag_read, tag_tested, within}
-use Rattle.cedar_store_model.specs.Whole.Meaning.{Means, variable, slot_value, combined, picked, truth_asked, outcome_of, outcomes_of, field_outcomes_of}
+use Rattle.cedar_store_model.specs.Whole.Reads.{attribute_read, attribute_tested, path_tested, tag_read, tag_tested}
+use Rattle.cedar_store_model.specs.Whole.Meaning.{Means, variable, slot_value, combined, truth_asked, outcome_of, outcomes_of, field_outcomes_of}
 use Rattle.cedar_store_model.specs.Whole.Looks.{CombinedLooks, Looks, AnyLooks, AnyFieldLooks}
 use Rattle.cedar_store_model.specs.Whole.Knowledge.{IsThere}
 use Rattle.cedar_store_model.proofs.Whole.Meaning.{means_outcome, outcome_means}
-use Rattle.cedar_schema_model.specs.Whole.Types.{only_true, Ty, bool_type, record_type, Attributes, no_attributes, attribute, strict}
+use Rattle.cedar_schema_model.specs.Whole.Types.{Ty, Attributes, strict}
 use Rattle.cedar_schema_model.specs.Whole.Schema.{Schema}
 use Rattle.cedar_schema_model.specs.Whole.Environment.{Environment}
 use Rattle.cedar_schema_model.specs.Whole.HasType.{HasType}
 use Rattle.cedar_schema_model.proofs.Whole.Types.Lookups.{inside}
 use Rattle.cedar_typechecker_model.specs.Whole.Facts.{Facts, no_facts, union, attribute_part, tag_part}
-use Rattle.cedar_typechecker_model.specs.Whole.Rules.{Setting, var_type, slot_type, unary_type, binary_type, like_type, is_type_type, has_type, get_type, has_tag_type, get_tag_type, set_literal_type, record_literal_type, call_type, written_uid, literal_type}
-use Rattle.cedar_typechecker_model.specs.Whole.Typing.{Judgement, plain, tested, path_judged, binary_judged, Gives, Types, EachTyped, FieldsTyped}
+use Rattle.cedar_typechecker_model.specs.Whole.Rules.{var_type, slot_type, unary_type, binary_type, like_type, is_type_type, has_type, get_type, has_tag_type, get_tag_type, set_literal_type, record_literal_type, call_type, literal_type}
+use Rattle.cedar_typechecker_model.specs.Whole.Typing.{plain, binary_judged, Gives, Types, EachTyped, FieldsTyped}
 use Rattle.cedar_typechecker_model.specs.Whole.Simple.{is_simple, are_simple}
 use Rattle.cedar_typechecker_model.specs.Whole.Verdicts.{strictly}
-use Rattle.cedar_typechecker_model.specs.Whole.Soundness.{IsGood, Hold, ConformsAt, Suits}
+use Rattle.cedar_typechecker_model.specs.Whole.Soundness.{Hold, ConformsAt, Suits}
 use Rattle.cedar_typechecker_model.proofs.Whole.Bare.{facts_are_of_bool}
 use Rattle.cedar_typechecker_model.proofs.Whole.Sound.Typed.{types_are_simple, each_typed_simple}
 use Rattle.cedar_typechecker_model.proofs.Whole.Sound.Operators.{unary_good, order_good, number_good, member_good, sets_good, like_good, is_good, equal_good}

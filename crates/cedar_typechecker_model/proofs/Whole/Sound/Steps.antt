@@ -1,23 +1,21 @@
 -- The test of a path is good: it is the conjunction of its tests.
-use Rattle.std.proofs.Common.{◌≡◌, ◌⊎◌, inl, inr, Bool, true, false, List, [], ◌∷◌, Option, Some, None, refl, sym, ap, ◌∙◌, subst}
+use Rattle.std.proofs.Common.{◌≡◌, ◌⊎◌, inl, inr, true, false, List, [], ◌∷◌, Option, Some, None, refl, sym, ap, ◌∙◌, subst}
 use Rattle.std.specs.Prelude.{is_some, option_map, option_and_then}
 use Rattle.cedar_expr_model.specs.Name.{Text}
 use Rattle.cedar_expr_model.specs.Uid.{Uid}
 use Rattle.cedar_expr_model.specs.Whole.Value.{truth, long, text, entity, V, prim, set_of, record_of, extension, field_of, truth_value}
 use Rattle.cedar_expr_model.specs.Whole.Tree.{Tree, get_attr, has_attr}
-use Rattle.cedar_store_model.specs.Whole.Outcome.{Res, val, err, bind}
-use Rattle.cedar_store_model.specs.Whole.World.{World, Part, known, left, Entity, Found, held, missing, not_loaded, part_named}
+use Rattle.cedar_store_model.specs.Whole.Outcome.{Res, val, bind}
+use Rattle.cedar_store_model.specs.Whole.World.{World, Part, known, left, Found, held, missing, not_loaded, part_named}
 use Rattle.cedar_store_model.specs.Whole.Operators.{says}
-use Rattle.cedar_store_model.specs.Whole.Reads.{attributes_of, part_read, part_tested, attribute_read, attribute_tested, Step, goes_on, ends, part_step, part_value, field_step, field_value, found_step, step_from, path_after, path_tested}
+use Rattle.cedar_store_model.specs.Whole.Reads.{attributes_of, part_read, part_tested, attribute_read, attribute_tested, goes_on, part_step, part_value, field_step, field_value, found_step, step_from, path_after, path_tested}
 use Rattle.cedar_store_model.specs.Whole.Meaning.{picked, outcome_of}
 use Rattle.cedar_store_model.specs.Whole.Looks.{PathLooks}
 use Rattle.cedar_store_model.proofs.Whole.Meaning.{outcome_means}
 use Rattle.cedar_schema_model.specs.Whole.Types.{BoolType, any_bool, only_true, only_false, Ty, bool_type, Declared}
 use Rattle.cedar_schema_model.specs.Whole.Schema.{Schema}
-use Rattle.cedar_schema_model.specs.Whole.Environment.{Environment}
 use Rattle.cedar_schema_model.specs.Whole.Lookup.{lookup_attribute}
 use Rattle.cedar_schema_model.specs.Whole.HasType.{HasType}
-use Rattle.cedar_expr_model.specs.Whole.Table.{Table}
 use Rattle.cedar_typechecker_model.specs.Whole.Facts.{Facts, no_facts, fact, attribute_part}
 use Rattle.cedar_typechecker_model.specs.Whole.Rules.{Setting, has_type}
 use Rattle.cedar_typechecker_model.specs.Whole.Typing.{Judgement, judged, tested, conjoined, step_type, path_judged, Gives, Sub, AndTyped}
@@ -25,9 +23,9 @@ use Rattle.cedar_typechecker_model.specs.Whole.Typing as typing
 use Rattle.cedar_typechecker_model.specs.Whole.Simple.{is_simple, IsOrderly}
 use Rattle.cedar_typechecker_model.specs.Whole.Soundness.{ConformsAt}
 use Rattle.cedar_typechecker_model.proofs.Whole.Sound.Typed.{simple_lookup}
-use Rattle.cedar_typechecker_model.proofs.Whole.Sound.Attributes.{Fine, value_read, has_fine}
+use Rattle.cedar_typechecker_model.proofs.Whole.Sound.Attributes.{value_read, has_fine}
 use Rattle.cedar_typechecker_model.proofs.Whole.Sound.Facts.{Good, good_test}
-use Rattle.cedar_typechecker_model.proofs.Whole.Sound.Connectives.{GoodTruth, plain_truth, and_good}
+use Rattle.cedar_typechecker_model.proofs.Whole.Sound.Connectives.{plain_truth, and_good}
 
 -- a path of two steps or more, as a test and what follows it
 by_step : (next : V → Option (Res V)) (f : Found V) (u : Uid) (a : Text) → path_after next (found_step a f) ≡ bind (part_tested attributes_of a f) (picked (bind (part_read attributes_of u a f) next) (Some (says false)))

@@ -1,11 +1,11 @@
 -- A tag that may be read has a value of its type, or the entity is missing; and its test says what its type says.
-use Rattle.std.proofs.Common.{◌≡◌, ◌&&◌, ◌||◌, Bool, true, false, not, List, [], ◌∷◌, Option, Some, None, refl, sym, ap, ◌∙◌, subst}
+use Rattle.std.proofs.Common.{◌≡◌, ◌&&◌, ◌||◌, Bool, true, false, not, [], ◌∷◌, Option, Some, None, refl, sym, ap, ◌∙◌, subst}
 use Rattle.std.specs.Prelude.{is_some, option_map, option_and_then, if◌then◌else◌}
 use Rattle.cedar_expr_model.specs.Name.{Text}
 use Rattle.cedar_expr_model.specs.Uid.{Uid}
 use Rattle.cedar_expr_model.specs.Whole.Value.{text, entity, V, prim, truth_value}
-use Rattle.cedar_store_model.specs.Whole.Outcome.{Res, val}
-use Rattle.cedar_store_model.specs.Whole.World.{World, Part, known, left, Entity, Found, held, missing, not_loaded, part_named}
+use Rattle.cedar_store_model.specs.Whole.Outcome.{val}
+use Rattle.cedar_store_model.specs.Whole.World.{World, Part, known, left, Found, held, missing, not_loaded, part_named}
 use Rattle.cedar_store_model.specs.Whole.Operators.{says}
 use Rattle.cedar_store_model.specs.Whole.Reads.{part_value, part_read, part_tested, tags_of, tag_read, tag_tested}
 use Rattle.cedar_schema_model.specs.Whole.Types.{BoolType, any_bool, only_false, Ty, bool_type, string_type, any_entity, entity_types, permissive}

@@ -1,21 +1,21 @@
 -- In Strict every type of an expression is simple.
-use Rattle.std.proofs.Common.{◌≡◌, ◌&&◌, ◌||◌, Bool, true, false, List, [], ◌∷◌, Option, Some, None, IfSome, refl, ap, ◌∙◌, sym, subst}
-use Rattle.std.specs.Prelude.{option_map, option_and_then, if◌then◌else◌, is_none, map, length, Contains}
+use Rattle.std.proofs.Common.{◌≡◌, ◌&&◌, ◌||◌, Bool, true, false, List, [], ◌∷◌, Option, Some, None, IfSome, refl, subst}
+use Rattle.std.specs.Prelude.{option_map, option_and_then, if◌then◌else◌, is_none, map, length}
 use Rattle.cedar_expr_model.specs.Name.{Text, Name, name_eq}
 use Rattle.cedar_expr_model.specs.Uid.{Uid}
 use Rattle.cedar_expr_model.specs.Whole.Value.{Literal, truth, long, text, entity}
 use Rattle.cedar_expr_model.specs.Whole.Tree.{Var, principal, action, resource, context, SlotId, principal_slot, resource_slot, CoreType, bool_core, long_core, string_core, extension_core, UnaryOp, negation, minus, is_empty, BinaryOp, equal, less, less_or_equal, plus, difference, times, is_in, contains, contains_all, contains_any, get_tag, has_tag, Tree, lit, var, slot, unknown, choice, both, either, unary, binary, call, get_attr, has_attr, has_path, like, is_type, set_literal, record_literal, Trees, no_trees, tree, TreeFields, no_tree_fields, tree_field}
 use Rattle.cedar_expr_model.specs.Whole.Table.{Table, Signature, signature_of, is_ordered, takes_count}
 use Rattle.cedar_expr_model.proofs.Lists.{both_hold, hold_both, contains_none, contains_cases}
-use Rattle.cedar_schema_model.specs.Whole.Types.{BoolType, any_bool, only_true, only_false, Openness, Ty, never, bool_type, long_type, string_type, any_entity, entity_types, any_set, set_type, record_type, extension_type, Attributes, no_attributes, attribute, Declared, attribute_named, is_closed, strict, permissive}
+use Rattle.cedar_schema_model.specs.Whole.Types.{BoolType, any_bool, only_true, only_false, Ty, bool_type, long_type, string_type, any_entity, entity_types, any_set, set_type, record_type, extension_type, Attributes, no_attributes, attribute, Declared, attribute_named, is_closed, strict, permissive}
 use Rattle.cedar_schema_model.specs.Whole.Schema.{EntityKind, standard, EntityType, Schema, type_named, declares_type, declares_action}
 use Rattle.cedar_schema_model.specs.Whole.Environment.{Environment}
 use Rattle.cedar_schema_model.specs.Whole.Join.{join, are_disjoint, reduce_to_join}
-use Rattle.cedar_schema_model.specs.Whole.Lookup.{attributes_of_kind, lookup_attribute, declared_of, all_declared, declared_by_all}
+use Rattle.cedar_schema_model.specs.Whole.Lookup.{attributes_of_kind, lookup_attribute, declared_of, declared_by_all}
 use Rattle.cedar_typechecker_model.specs.Whole.Facts.{Facts, no_facts, fact, union, intersection, Part, attribute_part, tag_part}
-use Rattle.cedar_typechecker_model.specs.Whole.Rules.{Setting, literal_type, var_type, slot_type, bound_type, unary_type, written_uid, written_equal, comparable, if_there, equal_type, order_type, number_type, member_type, is_set_type, sets_type, Kinds, entity_kinds, entity_or_set_kinds, written_action, written_actions, within_kinds, in_type, binary_type, like_type, is_type_type, has_type, get_type, attribute_type, kind_tags, tags_of, all_there, tag_type, is_string_type, has_tag_type, get_tag_type, set_literal_type, has_names_once, record_literal_type, core_as_type, arguments_fit, takes_literal, result_type, signature_type, call_type}
+use Rattle.cedar_typechecker_model.specs.Whole.Rules.{Setting, literal_type, var_type, slot_type, bound_type, unary_type, written_uid, written_equal, if_there, order_type, number_type, member_type, is_set_type, sets_type, Kinds, entity_kinds, entity_or_set_kinds, written_action, written_actions, within_kinds, binary_type, like_type, is_type_type, has_type, get_type, attribute_type, kind_tags, tags_of, all_there, tag_type, is_string_type, has_tag_type, get_tag_type, set_literal_type, has_names_once, record_literal_type, core_as_type, arguments_fit, takes_literal, result_type, signature_type}
 use Rattle.cedar_typechecker_model.specs.Whole.Typing.{Judgement, judged, plain, tested, conjoined, disjoined, chosen, step_type, path_after, path_judged, binary_judged, Types, EachTyped, and_judged, or_judged, choice_judged, judgement, judgements, field_judgements}
-use Rattle.cedar_typechecker_model.specs.Whole.Simple.{is_alone, is_simple, are_simple, is_simple_tag, is_simple_kind, IsOrderly}
+use Rattle.cedar_typechecker_model.specs.Whole.Simple.{is_simple, are_simple, is_simple_tag, is_simple_kind, IsOrderly}
 use Rattle.cedar_typechecker_model.specs.Whole.Verdicts.{strictly}
 use Rattle.cedar_typechecker_model.proofs.Whole.Exact.{of_parts}
 use Rattle.cedar_typechecker_model.proofs.Whole.Typing.{exact, exact_each}

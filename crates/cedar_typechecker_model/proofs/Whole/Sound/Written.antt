@@ -1,5 +1,5 @@
 -- Leaves: what is written, variables and slots mean values of their types.
-use Rattle.std.proofs.Common.{◌≡◌, ◌↔◌, ◌||◌, inl, inr, Bool, true, false, List, [], ◌∷◌, map, Option, Some, None, refl, sym, ap, ◌∙◌, subst}
+use Rattle.std.proofs.Common.{◌≡◌, ◌||◌, Bool, true, false, List, [], ◌∷◌, map, Option, Some, None, refl, sym, ap, ◌∙◌, subst}
 use Rattle.std.specs.Prelude.{option_map, option_and_then, if◌then◌else◌, Contains}
 use Rattle.cedar_expr_model.specs.Name.{Name}
 use Rattle.cedar_expr_model.specs.Uid.{Uid}
@@ -7,15 +7,15 @@ use Rattle.cedar_expr_model.specs.Whole.Value.{Literal, truth, long, text, entit
 use Rattle.cedar_expr_model.specs.Whole.Canonical.{members_made, set_made}
 use Rattle.cedar_expr_model.specs.Whole.Table.{Table}
 use Rattle.cedar_expr_model.specs.Whole.Tree.{Var, principal, action, resource, context, SlotId, Tree, lit, var, set_literal, Trees, no_trees, tree}
-use Rattle.cedar_expr_model.proofs.Lists.{contains_head, contains_tail, contains_cases, contains_none, map_has, map_from}
+use Rattle.cedar_expr_model.proofs.Lists.{contains_head, contains_cases, contains_none, map_has, map_from}
 use Rattle.cedar_expr_model.proofs.Whole.Sets.{made_from, made_has}
-use Rattle.cedar_store_model.specs.Whole.Outcome.{Res, val, bind}
+use Rattle.cedar_store_model.specs.Whole.Outcome.{val, bind}
 use Rattle.cedar_store_model.specs.Whole.World.{World}
 use Rattle.cedar_store_model.specs.Whole.Operators.{bound_value}
 use Rattle.cedar_store_model.specs.Whole.Reads.{uids_in}
 use Rattle.cedar_store_model.specs.Whole.Meaning.{known_uid, slot_value, variable, outcome_of, outcomes_of}
 use Rattle.cedar_store_model.specs.Whole.Knowledge.{IsThere}
-use Rattle.cedar_schema_model.specs.Whole.Types.{Ty, bool_type, entity_type}
+use Rattle.cedar_schema_model.specs.Whole.Types.{Ty, entity_type}
 use Rattle.cedar_schema_model.specs.Whole.Schema.{Schema, declares_type, declares_action}
 use Rattle.cedar_schema_model.specs.Whole.Environment.{Environment}
 use Rattle.cedar_schema_model.specs.Whole.HasType.{HasType}
@@ -25,7 +25,7 @@ use Rattle.cedar_typechecker_model.specs.Whole.Rules.{Setting, literal_type, var
 use Rattle.cedar_typechecker_model.specs.Whole.Verdicts.{strictly}
 use Rattle.cedar_typechecker_model.specs.Whole.Soundness.{Suits}
 use Rattle.cedar_typechecker_model.proofs.Whole.Sound.Operators.{known_good, Writes}
-use Rattle.cedar_typechecker_model.proofs.Whole.Sound.Membership.{Uids, uids_of, WritesAction, Actions, WritesActions}
+use Rattle.cedar_typechecker_model.proofs.Whole.Sound.Membership.{uids_of, WritesAction, Actions, WritesActions}
 use Rattle.cedar_typechecker_model.proofs.Whole.Sound.Attributes.{Fine, fine_as}
 
 pub literal_fine : (s : Setting) (p : Literal) (ty : Ty) → literal_type s p ≡ Some ty → Fine ty (Some (val (prim p)))
@@ -128,9 +128,10 @@ module _ (s : Schema) (x : Table) (e : Environment) (w : World) (suits : Suits s
       by (Some u) f (Some vs) g k =
           let a = f u refl in
           let b = g vs refl in
-          subst (AllWritten (tree t ts)) (inside k)
-          ((λ i. bind (a.0 i) (λ v. bind (b.0 i) (λ l. Some (val (v ∷ l))))),
-          λ z i. contains_cases (declares_action s z ≡ true) u vs z i (λ p. subst (λ y. declares_action s y ≡ true) p a.1) (b.1 z))
+          subst (AllWritten (tree t ts)) (inside k) (
+            (λ i. bind (a.0 i) (λ v. bind (b.0 i) (λ l. Some (val (v ∷ l))))),
+            λ z i. contains_cases (declares_action s z ≡ true) u vs z i (λ p. subst (λ y. declares_action s y ≡ true) p a.1) (b.1 z),
+          )
 
   set_actions : (us : List Uid) → ((z : Uid) → Contains us z → declares_action s z ≡ true) → Actions s us (set_made (map (λ u. prim (entity u)) us))
   set_actions us d =
