@@ -15,3 +15,5 @@ pub mod Written
 pub mod Soundness
 pub mod Scopes
 pub mod Policies
+pub mod Leading
+pub mod Reached

@@ -55,11 +55,11 @@ same_declared : (o : Option Declared) (c d : Declared) → o ≡ Some c → o �
 same_declared o c d e f = inside (sym e ∙ f)
 
 -- reading
-field_is : (o : Option V) (v : V) → Some (field_value o) ≡ Some (val v) → o ≡ Some v
+pub field_is : (o : Option V) (v : V) → Some (field_value o) ≡ Some (val v) → o ≡ Some v
 field_is None v e = cc
 field_is (Some u) v e = (let q : u ≡ v = cc in ap Some q)
 
-part_is : (o : Option (Part V)) (v : V) → part_value o ≡ Some (val v) → o ≡ Some (known v)
+pub part_is : (o : Option (Part V)) (v : V) → part_value o ≡ Some (val v) → o ≡ Some (known v)
 part_is None v e = cc
 part_is (Some (known u)) v e = (let q : u ≡ v = cc in ap (λ x. Some (known x)) q)
 part_is (Some (left t)) v e = cc

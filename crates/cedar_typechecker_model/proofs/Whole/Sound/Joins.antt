@@ -74,7 +74,7 @@ kept_later : (n b : Text) (j : Option Declared) (js : Attributes) → bytes_eq n
 kept_later n b None js h = refl
 kept_later n b (Some d) js h = named_later n b d.type d.is_required js h
 
-join_found : (as_ bs : Attributes) → are_simple as_ ≡ true → (n : Text) → attribute_named n (attributes_join strict as_ bs) ≡ declared_join strict (attribute_named n as_) (attribute_named n bs)
+pub join_found : (as_ bs : Attributes) → are_simple as_ ≡ true → (n : Text) → attribute_named n (attributes_join strict as_ bs) ≡ declared_join strict (attribute_named n as_) (attribute_named n bs)
 join_found no_attributes bs h n = refl
 join_found (attribute b t r as_) bs h n =
     let p = simple_parts b t r as_ h in

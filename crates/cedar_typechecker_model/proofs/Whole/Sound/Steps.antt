@@ -23,7 +23,7 @@ use Rattle.cedar_typechecker_model.specs.Whole.Typing as typing
 use Rattle.cedar_typechecker_model.specs.Whole.Simple.{is_simple, IsOrderly}
 use Rattle.cedar_typechecker_model.specs.Whole.Soundness.{ConformsAt}
 use Rattle.cedar_typechecker_model.proofs.Whole.Sound.Typed.{simple_lookup}
-use Rattle.cedar_typechecker_model.proofs.Whole.Sound.Attributes.{value_read, has_fine}
+use Rattle.cedar_typechecker_model.proofs.Whole.Sound.Attributes.{Fine, value_read, has_fine}
 use Rattle.cedar_typechecker_model.proofs.Whole.Sound.Facts.{Good, good_test}
 use Rattle.cedar_typechecker_model.proofs.Whole.Sound.Connectives.{plain_truth, and_good}
 
@@ -152,3 +152,72 @@ module _ (s : Schema) (o : IsOrderly s) (w : World) (x : Setting) (g : x.schema 
       (ap (λ n. bind n (attribute_read w a)) q ∙ i) (λ p r. c p (inr (v', read_goes_on w a v v' i, r))) u f j)
       (read_true w a v y) r))
       ty out k.3)
+
+-- what goes on is read, where the test is true
+gone_part : (p : Option (Part V)) (v : V) → part_step p ≡ Some (val (goes_on v)) → (part_value p ≡ Some (val v)) × (Some (says (is_some p)) ≡ Some (says true))
+gone_part None v e = cc
+gone_part (Some (known x)) v e = (let q : x ≡ v = cc in (ap (λ y. Some (val y)) q, refl))
+gone_part (Some (left t)) v e = cc
+
+gone_found : (u : Uid) (a : Text) (f : Found V) (v : V) → found_step a f ≡ Some (val (goes_on v)) → (part_read attributes_of u a f ≡ Some (val v)) × (part_tested attributes_of a f ≡ Some (says true))
+gone_found u a (held d) v e = gone_part (part_named a d.attributes) v e
+gone_found u a missing v e = cc
+gone_found u a not_loaded v e = cc
+
+gone_field : (f : Option V) (v : V) → Some (val (field_step f)) ≡ Some (val (goes_on v)) → (Some (field_value f) ≡ Some (val v)) × (Some (says (is_some f)) ≡ Some (says true))
+gone_field None v e = cc
+gone_field (Some x) v e = (let q : x ≡ v = cc in (ap (λ y. Some (val y)) q, refl))
+
+pub goes_read : (w : World) (a : Text) (x v : V) → step_from w a x ≡ Some (val (goes_on v)) → (attribute_read w a x ≡ Some (val v)) × (attribute_tested w a x ≡ Some (says true))
+goes_read w a (prim (entity u)) v e = gone_found u a (w.store u) v e
+goes_read w a (record_of fs) v e = gone_field (field_of a fs) v e
+goes_read w a x v e = cc
+
+-- behind a first test that isn't False the rest has a type
+sub_of : (right : Facts → Ty → Facts → Type 0) (b : BoolType) (t : Ty) (f : Facts) (ty : Ty) (out : Facts) → t ≡ bool_type b → (b ≡ only_false → ⊥) → AndTyped right t f ty out → (u : Ty) × (g : Facts) × right f u g
+sub_of right any_bool t f ty out e n h = let k = subst (λ z. AndTyped right z f ty out) e h in (k.0, k.1, k.2)
+sub_of right only_true t f ty out e n h = let k = subst (λ z. AndTyped right z f ty out) e h in (k.0, k.1, k.2)
+sub_of right only_false t f ty out e n h = absurd (n refl)
+
+rest_typed : (s : Setting) (a b : Text) (bs : List Text) (e : Tree) (t : Ty) (found : Option BoolType) → has_type s t a ≡ found → (found ≡ Some only_false → ⊥) → (ty : Ty) (out : Facts) → Gives (path_judged s a (b ∷ bs) e t) ty out
+    → (d : Declared) × (lookup_attribute s.schema t a ≡ Some d) × ((u : Ty) × (g : Facts) × Gives (path_judged s b bs (get_attr e a) d.type) u g)
+rest_typed s a b bs e t found q n ty out h =
+    let k = path_typed s a b bs e t found q ty out h in
+    let r = by found n k.0 k.1 k.2 k.3 in
+    let d = declared_step (lookup_attribute s.schema t a) (path_judged s b bs (get_attr e a)) r.0 r.1 r.2 in
+    (d.0, d.1, (r.0, r.1, d.2))
+  where
+    by : (o : Option BoolType) → (o ≡ Some only_false → ⊥) → (t0 : Ty) (f : Facts) → Gives (option_map (tested e (attribute_part a)) o) t0 f → AndTyped (Rest s b bs e a t) t0 f ty out
+        → (u : Ty) × (g : Facts) × Gives (option_and_then (path_judged s b bs (get_attr e a)) (step_type s t a)) u g
+    by None m t0 f g i = absurd g
+    by (Some any_bool) m t0 f g i = sub_of (Rest s b bs e a t) any_bool t0 f ty out g.0 (λ k. cc) i
+    by (Some only_true) m t0 f g i = sub_of (Rest s b bs e a t) only_true t0 f ty out g.0 (λ k. cc) i
+    by (Some only_false) m t0 f g i = absurd (m refl)
+
+-- The value that a path goes on with has the type of the next step.
+pub record Onward (s : Setting) (a b : Text) (bs : List Text) (e : Tree) (t : Ty) (v : V) : Type 0 where
+  pub what : Declared
+  pub declared : lookup_attribute s.schema t a ≡ Some what
+  pub of_type : HasType v what.type
+  pub is_simple : is_simple what.type ≡ true
+  pub type : Ty
+  pub facts : Facts
+  pub typed : Gives (path_judged s b bs (get_attr e a) what.type) type facts
+
+pub goes_onward : (s : Setting) → IsOrderly s.schema → (w : World) (a b : Text) (bs : List Text) (e : Tree) (t : Ty) (v x : V) → is_simple t ≡ true → HasType v t → ((u : Uid) → v ≡ prim (entity u) → ConformsAt s.schema w u)
+    → step_from w a v ≡ Some (val (goes_on x)) → (ty : Ty) (out : Facts) → Gives (path_judged s a (b ∷ bs) e t) ty out → Onward s a b bs e t x
+goes_onward s o w a b bs e t v x z h c g ty out d =
+    let r = goes_read w a v x g in
+    let k = rest_typed s a b bs e t (has_type s t a) refl (λ q. absurd (lies (subst (Fine (bool_type only_false)) r.1 (has_fine s.schema o w a s refl t only_false v z h q c)))) ty out d in
+    record {
+      what = k.0;
+      declared = k.1;
+      of_type = value_read s.schema o w a t k.0 v x z h k.1 c r.0;
+      is_simple = simple_lookup s.schema o t a k.0 z k.1;
+      type = k.2.0;
+      facts = k.2.1;
+      typed = k.2.2;
+    }
+  where
+    lies : false ≡ true → ⊥
+    lies q = cc
