@@ -17,3 +17,4 @@ pub mod Scopes
 pub mod Policies
 pub mod Leading
 pub mod Reached
+pub mod Straying
