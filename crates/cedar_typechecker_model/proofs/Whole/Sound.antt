@@ -18,3 +18,4 @@ pub mod Policies
 pub mod Leading
 pub mod Reached
 pub mod Straying
+pub mod Counted

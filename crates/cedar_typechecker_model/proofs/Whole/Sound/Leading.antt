@@ -68,11 +68,11 @@ nowhere_extension n (a ∷ path) = refl
 abbrev LeadBoth : Ty → Ty → List Text → Type 0
 LeadBoth a b path = (leads a path ≡ true) × (leads b path ≡ true)
 
-named_leads : (o : Option Declared) (path : List Text) → option_map_or (λ (d : Declared). leads d.type path) o false ≡ true → (d : Declared) × (o ≡ Some d) × (leads d.type path ≡ true)
+pub named_leads : (o : Option Declared) (path : List Text) → option_map_or (λ (d : Declared). leads d.type path) o false ≡ true → (d : Declared) × (o ≡ Some d) × (leads d.type path ≡ true)
 named_leads None path h = cc
 named_leads (Some d) path h = (d, refl, h)
 
-leads_named : (o : Option Declared) (path : List Text) (d : Declared) → o ≡ Some d → leads d.type path ≡ true → option_map_or (λ (c : Declared). leads c.type path) o false ≡ true
+pub leads_named : (o : Option Declared) (path : List Text) (d : Declared) → o ≡ Some d → leads d.type path ≡ true → option_map_or (λ (c : Declared). leads c.type path) o false ≡ true
 leads_named o path d e h = ap (λ x. option_map_or (λ (c : Declared). leads c.type path) x false) e ∙ h
 
 astray : {P : Type 0} (t j : Ty) (path : List Text) → Some t ≡ Some j → leads t path ≡ false → leads j path ≡ true → P
