@@ -19,3 +19,4 @@ pub mod Leading
 pub mod Reached
 pub mod Straying
 pub mod Counted
+pub mod Reaching

@@ -46,13 +46,13 @@ use Rattle.cedar_typechecker_model.proofs.Whole.Sound.Written.{literal_fine, var
 pub record SlotsIn (w : World) (ts : List Tree) : Type 0 where
   pub bound : (i : SlotId) → Contains ts (slot i) → IsThere (w.slots i)
 
-behind : (w : World) (t : Tree) (ts : List Tree) → SlotsIn w (t ∷ ts) → SlotsIn w ts
+pub behind : (w : World) (t : Tree) (ts : List Tree) → SlotsIn w (t ∷ ts) → SlotsIn w ts
 behind w t ts h = record { bound = λ i k. h.bound i (contains_tail t ts (slot i) k) }
 
-on_left : (w : World) (ts us : List Tree) → SlotsIn w (ts ++ us) → SlotsIn w ts
+pub on_left : (w : World) (ts us : List Tree) → SlotsIn w (ts ++ us) → SlotsIn w ts
 on_left w ts us h = record { bound = λ i k. h.bound i (Contains-append_left ts us (slot i) k) }
 
-on_right : (w : World) (ts us : List Tree) → SlotsIn w (ts ++ us) → SlotsIn w us
+pub on_right : (w : World) (ts us : List Tree) → SlotsIn w (ts ++ us) → SlotsIn w us
 on_right w ts us h = record { bound = λ i k. h.bound i (Contains-append_right ts us (slot i) k) }
 
 -- a fact that holds, at the values of its parts
@@ -66,7 +66,7 @@ module _ (s : Schema) (x : Table) (e : Environment) (w : World) (suits : Suits s
   context_simple : are_simple e.context ≡ true
   context_simple = let a = suits.environment in subst (λ c. are_simple c ≡ true) (sym a.3) (suits.schema.contexts a.0 a.1)
 
-  simple_type : (known : Facts) (t : Tree) (ty : Ty) (out : Facts) → Types (strictly s x e) known t ty out → is_simple ty ≡ true
+  pub simple_type : (known : Facts) (t : Tree) (ty : Ty) (out : Facts) → Types (strictly s x e) known t ty out → is_simple ty ≡ true
   simple_type known t ty out d = types_are_simple s x e suits.schema context_simple known t ty out d
 
   -- an operator of two operands, at values of their types

@@ -53,7 +53,7 @@ slot_fine : (t : Ty) (o : Option Uid) → IsThere o → ((u : Uid) → o ≡ Som
 slot_fine t None h f = absurd h
 slot_fine t (Some u) h f = f u refl
 
-uid_known : (o : Option Uid) (v : V) → known_uid o ≡ Some (val v) → (u : Uid) × (o ≡ Some u) × (v ≡ prim (entity u))
+pub uid_known : (o : Option Uid) (v : V) → known_uid o ≡ Some (val v) → (u : Uid) × (o ≡ Some u) × (v ≡ prim (entity u))
 uid_known None v e = cc
 uid_known (Some u) v e = (u, refl, (let q : prim (entity u) ≡ v = cc in sym q))
 
