@@ -24,7 +24,7 @@ use Rattle.cedar_typechecker_model.proofs.Whole.Typing.{exact}
 use Rattle.cedar_schema_model.proofs.Whole.Types.Lookups.{test_cases}
 use Rattle.cedar_typechecker_model.proofs.Whole.Sound.Attributes.{Fine}
 use Rattle.cedar_typechecker_model.proofs.Whole.Sound.Facts.{Good}
-use Rattle.cedar_typechecker_model.proofs.Whole.Sound.Leading.{leads, leads_named, join_leads}
+use Rattle.cedar_typechecker_model.proofs.Whole.Sound.Leading.{leads, entity_leads, leads_named, join_leads}
 
 pub none_of_both : {A : Type 0} (vs ws : List A) → vs ++ ws ≡ [] → (vs ≡ []) × (ws ≡ [])
 none_of_both [] ws e = (refl, e)
@@ -127,17 +127,12 @@ looked_entity has_tag v v' u h = (refl, h.0)
 looked_entity o v v' u h = absurd h
 
 -- a path leads to its first entity, if it has one
-entity_leads : (t : Ty) → is_entity (Some t) ≡ true → leads t [] ≡ true
-entity_leads any_entity h = refl
-entity_leads (entity_types ns) h = refl
-entity_leads t h = cc
-
 no_steps : (s : Setting) (a : Text) (bs : List Text) → entity_steps s a bs None ≡ 0
 no_steps s a [] = refl
 no_steps s a (b ∷ bs) = refl
 
 -- an attribute of what is no entity is a field
-field_leads : (s : Setting) (t : Ty) (a : Text) (path : List Text) (d : Declared) → is_entity (Some t) ≡ false → lookup_attribute s.schema t a ≡ Some d → leads d.type path ≡ true → leads t (a ∷ path) ≡ true
+pub field_leads : (s : Setting) (t : Ty) (a : Text) (path : List Text) (d : Declared) → is_entity (Some t) ≡ false → lookup_attribute s.schema t a ≡ Some d → leads d.type path ≡ true → leads t (a ∷ path) ≡ true
 field_leads s (record_type as_ o) a path d k e h = leads_named (attribute_named a as_) path d e h
 field_leads s (entity_types ns) a path d k e h = cc
 field_leads s t a path d k e h = cc

@@ -129,3 +129,9 @@ pub entity_typed : (t : Ty) (u : Uid) → HasType (prim (entity u)) t → is_ent
 entity_typed any_entity u h = refl
 entity_typed (entity_types ns) u h = refl
 entity_typed t u h = absurd h
+
+-- and a type of entities leads to one
+pub entity_leads : (t : Ty) → is_entity (Some t) ≡ true → leads t [] ≡ true
+entity_leads any_entity h = refl
+entity_leads (entity_types ns) h = refl
+entity_leads t h = cc

@@ -1,5 +1,5 @@
 -- Without violations at a level each look-up is near, or a declared action.
-use Rattle.std.proofs.Common.{◌≡◌, ◌≤◌, ◌+◌, inl, inr, ⊎_elim, ℕ, zero, suc, arith, Bool, true, false, List, [], ◌∷◌, ◌++◌, Option, Some, None, refl, sym, ap, ◌∙◌, subst}
+use Rattle.std.proofs.Common.{◌≡◌, ◌≤◌, ◌+◌, ◌||◌, ◌⊎◌, inl, inr, ⊎_elim, ℕ, zero, suc, arith, Bool, true, false, List, [], ◌∷◌, ◌++◌, Option, Some, None, refl, sym, ap, ◌∙◌, subst}
 use Rattle.std.specs.Prelude.{option_map, option_and_then, if◌then◌else◌}
 use Rattle.std.specs.Str.{bytes_eq}
 use Rattle.std.proofs.lemmas.Slice.Eq.{bytes_eq-Decides}
@@ -15,30 +15,35 @@ use Rattle.cedar_store_model.specs.Whole.World.{World}
 use Rattle.cedar_store_model.specs.Whole.Operators.{bound_value}
 use Rattle.cedar_store_model.specs.Whole.Meaning.{Means, variable, picked, outcome_of, outcomes_of, field_outcomes_of, combined}
 use Rattle.cedar_store_model.specs.Whole.Reads.{attribute_read, tag_read}
-use Rattle.cedar_store_model.specs.Whole.Looks.{Looks, AnyLooks, AnyFieldLooks}
+use Rattle.cedar_store_model.specs.Whole.Looks.{IsEntity, WithValue, Looks, AnyLooks, AnyFieldLooks}
 use Rattle.cedar_store_model.proofs.Whole.Meaning.{means_outcome}
-use Rattle.cedar_schema_model.specs.Whole.Types.{any_bool, only_true, only_false, is_closed, Ty, bool_type, any_entity, entity_types, record_type, Attributes, attribute, attribute_named, strict}
+use Rattle.cedar_schema_model.specs.Whole.Types.{any_bool, only_true, only_false, is_closed, Ty, bool_type, any_entity, entity_types, record_type, Attributes, no_attributes, attribute, Declared, attribute_named, strict}
 use Rattle.cedar_schema_model.specs.Whole.Schema.{Schema, declares_action}
 use Rattle.cedar_schema_model.specs.Whole.Environment.{Environment}
 use Rattle.cedar_schema_model.specs.Whole.HasType.{HasType}
+use Rattle.cedar_schema_model.specs.Whole.Lookup.{lookup_attribute}
 use Rattle.cedar_schema_model.proofs.Whole.Types.Lookups.{inside, test_cases}
-use Rattle.cedar_typechecker_model.specs.Whole.Facts.{Facts, union, attribute_part}
-use Rattle.cedar_typechecker_model.specs.Whole.Levels.{Violation, Count, count, joined, further, stepped, is_entity, literal_count, after_and, after_or, after_test, greater, target_after_test, entity_steps, fields_before, path_violations, steps_from_left, on_entity, violations, violations_among, violations_in_fields, target, target_in_fields}
-use Rattle.cedar_typechecker_model.specs.Whole.Rules.{Setting, has_type, get_type, call_type}
+use Rattle.cedar_typechecker_model.specs.Whole.Facts.{Facts, union, attribute_part, tag_part}
+use Rattle.cedar_typechecker_model.specs.Whole.Levels.{Violation, Count, count, joined, further, stepped, is_entity, literal_count, branches, after_and, after_or, after_test, greater, target_after_test, entity_steps, fields_before, path_violations, steps_from_left, on_entity, violations, violations_among, violations_in_fields, target, target_in_fields}
+use Rattle.cedar_typechecker_model.specs.Whole.Rules.{Setting, attribute_type, has_names_once, record_literal_type, has_type, get_type, call_type}
 use Rattle.cedar_typechecker_model.specs.Whole.Simple.{is_simple}
 use Rattle.cedar_typechecker_model.specs.Whole.Soundness.{Hold, ConformsAt, Suits}
-use Rattle.cedar_typechecker_model.specs.Whole.Typing.{Judgement, Gives, Types, EachTyped, FieldsTyped, judgement, type_under}
+use Rattle.cedar_typechecker_model.specs.Whole.Typing.{Judgement, plain, path_judged, binary_judged, Gives, Types, EachTyped, FieldsTyped, judgement, type_under}
 use Rattle.cedar_typechecker_model.specs.Whole.Verdicts.{strictly}
 use Rattle.cedar_typechecker_model.proofs.Whole.Exact.{of_parts}
-use Rattle.cedar_typechecker_model.proofs.Whole.Sound.Counted.{none_of_both, step_within, judged_as, type_is, behind_and, behind_or, behind_test, target_branches, not_false, not_true, value_from, looked_entity, before_leads}
+use Rattle.cedar_typechecker_model.proofs.Whole.Sound.Counted.{none_of_both, step_within, judged_as, type_is, behind_and, behind_or, behind_test, target_branches, not_false, not_true, value_from, looked_entity, field_leads, before_leads}
 use Rattle.cedar_typechecker_model.proofs.Whole.Sound.Facts.{Good, hold_union}
-use Rattle.cedar_typechecker_model.proofs.Whole.Sound.Leading.{At, at_entity, leads, named_leads, entity_typed}
+use Rattle.cedar_typechecker_model.proofs.Whole.Sound.Leading.{At, at_entity, leads, named_leads, entity_typed, entity_leads}
 use Rattle.cedar_typechecker_model.proofs.Whole.Sound.Shapes.{any_value, entity_value, record_value}
 use Rattle.cedar_typechecker_model.proofs.Whole.Sound.Written.{uid_known, action_declared}
 use Rattle.cedar_typechecker_model.proofs.Whole.Sound.Attributes.{Fine, field_is}
 use Rattle.cedar_typechecker_model.proofs.Whole.Sound.Reached.{Nearness, Reached, reached_more, conform_at, attribute_reached, tag_reached, path_begins}
 use Rattle.cedar_typechecker_model.proofs.Whole.Sound.Soundness.{SlotsIn, behind, on_left, on_right, sound, simple_type}
-use Rattle.cedar_typechecker_model.proofs.Whole.Sound.Straying.{plain_strays, bool_strays, and_bool, or_bool, tested_bool, path_bool, unary_strays, binary_strays, like_strays, is_strays, set_strays, call_strays, in_leads, get_tag_leads, has_tag_leads}
+use Rattle.cedar_typechecker_model.proofs.Whole.Sound.Straying.{plain_strays, bool_strays, and_bool, or_bool, tested_bool, path_bool, unary_strays, binary_strays, like_strays, is_strays, set_strays, call_strays, in_leads, get_tag_leads, get_tag_entity, has_tag_leads}
+
+-- the value of an outcome is one
+same_value : {A : Type 0} (a b : A) → Some (val a) ≡ Some (val b) → a ≡ b
+same_value {A} a b q = cc
 
 module _ (s : Schema) (x : Table) (e : Environment) (w : World) (suits : Suits s x e w) (Near : ℕ → Uid → Type 0) (near : Nearness w Near) (n : ℕ) (c : (u : Uid) → Near n u → declares_action s u ≡ false → ConformsAt s w u) where
   -- What a target looks up is near enough, and so is the entity that the fields lead to.
@@ -139,3 +144,309 @@ module _ (s : Schema) (x : Table) (e : Environment) (w : World) (suits : Suits s
       text_read : (y : Uid) (v' v : V) → tag_read w (prim (entity y)) v' ≡ Some (val v) → (z : Text) × (v' ≡ prim (text z))
       text_read y (prim (text z)) v q = (z, refl)
       text_read y v' v q = cc
+
+  -- an attribute, or the test of one, by what is shown of the operand
+  attribute_looks : (t whole : Tree) (known : Facts) (ty : Ty) (f : Facts) → Types (strictly s x e) known t ty f
+      → (if on_entity (strictly s x e) known t then stepped n whole (further 1 (target n (strictly s x e) known [] t)) else violations n (strictly s x e) known t) ≡ []
+      → (leads ty [] ≡ true → (target n (strictly s x e) known [] t).found ≡ [] → (target n (strictly s x e) known [] t).steps ≤ n → TargetReached t [] (target n (strictly s x e) known [] t).steps)
+      → (violations n (strictly s x e) known t ≡ [] → (u : Uid) → Looks w t u → Reached s Near n u) → (((u : Uid) → Looks w t u → Reached s Near n u) → Good w ty f (outcome_of w t))
+      → (u : Uid) → Looks w t u ⊎ WithValue (Means w t) (λ v. IsEntity v u) → Reached s Near n u
+  attribute_looks t whole known ty f d h on off g u l =
+      let q : on_entity (strictly s x e) known t ≡ is_entity (Some ty) = ap is_entity (type_is (strictly s x e) known t ty f d) in
+      test_cases (is_entity (Some ty))
+      (λ k. let i = step_within n whole (further 1 (target n (strictly s x e) known [] t)) (subst (λ z. (if z then stepped n whole (further 1 (target n (strictly s x e) known [] t)) else violations n (strictly s x e) known t) ≡ []) (q ∙ k) h) in
+      let m = i.0 in
+      let r = on (entity_leads ty k) i.1 (omega (arith, m)) in
+      ⊎_elim (λ j. r.looks u j) (λ j. reached_more s x e w suits Near near (suc (target n (strictly s x e) known [] t).steps) n u (omega (arith, m)) (r.at j.0 (means_outcome w t (val j.0) j.1) u j.2)) l)
+      (λ k. let r = off (subst (λ z. (if z then stepped n whole (further 1 (target n (strictly s x e) known [] t)) else violations n (strictly s x e) known t) ≡ []) (q ∙ k) h) in
+      ⊎_elim (λ j. r u j) (λ j. absurd (not_an_entity t ty f k (g r) j.0 (means_outcome w t (val j.0) j.1) u j.2)) l)
+
+  left_leads : (known : Facts) (o : BinaryOp) (a b : Tree) (t u ty : Ty) (out : Facts) → steps_from_left o ≡ true → Gives (binary_judged (strictly s x e) known o a b t u) ty out → leads t [] ≡ true
+  left_leads known is_in a b t u ty out q d = in_leads (strictly s x e) known a b t u ty out d
+  left_leads known get_tag a b t u ty out q d = get_tag_leads (strictly s x e) known a b t u ty out d
+  left_leads known has_tag a b t u ty out q d = has_tag_leads (strictly s x e) known a b t u ty out d
+  left_leads known o a b t u ty out q d = cc
+
+  -- the violations of a path: a step from its first entity, or those of its operand where it has none
+  path_cases : (whole : Tree) (k : ℕ) (i : Count) (vs : List Violation) → path_violations n whole k i vs ≡ [] → ((k ≡ 0) × (vs ≡ [])) ⊎ ((m : ℕ) × (k ≡ suc m) × (i.found ≡ []) × (i.steps + k ≤ n))
+  path_cases whole zero i vs h = inl (refl, h)
+  path_cases whole (suc m) i vs h = let r = step_within n whole (further (suc m) i) h in inr (m, refl, r.1, r.0)
+
+  -- a choice, by its branches
+  picked_from : (oa ob : Option (Res V)) (y v : V) → picked oa ob y ≡ Some (val v) → ((y ≡ truth_value true) × (oa ≡ Some (val v))) ⊎ ((y ≡ truth_value false) × (ob ≡ Some (val v)))
+  picked_from oa ob (prim (truth true)) v q = inl (refl, q)
+  picked_from oa ob (prim (truth false)) v q = inr (refl, q)
+  picked_from oa ob y v q = cc
+
+  choice_target : (t a b : Tree) (path : List Text) (k : ℕ) → ((u : Uid) → Looks w t u → Reached s Near n u)
+      → (outcome_of w t ≡ Some (val (truth_value true)) → (i : ℕ) × TargetReached a path i × (i ≤ k)) → (outcome_of w t ≡ Some (val (truth_value false)) → (i : ℕ) × TargetReached b path i × (i ≤ k)) → TargetReached (choice t a b) path k
+  choice_target t a b path k lt first second =
+      record {
+        looks = λ u m. ⊎_elim (λ j. lt u j)
+            (λ j. ⊎_elim (λ i. let r = first (means_outcome w t _ i.0) in let q = r.1 in q.looks u i.1) (λ i. let r = second (means_outcome w t _ i.0) in let q = r.1 in q.looks u i.1) j) m;
+        at = λ v q u h. (
+            let o = value_from (outcome_of w t) (picked (outcome_of w a) (outcome_of w b)) v q in
+            ⊎_elim
+            (λ i. (let r = first (o.1 ∙ ap (λ z. Some (val z)) i.0) in let y = r.1 in let z = r.2 in reached_more s x e w suits Near near (suc r.0) (suc k) u (omega (arith, z)) (y.at v i.1 u h)))
+            (λ i. (let r = second (o.1 ∙ ap (λ z. Some (val z)) i.0) in let y = r.1 in let z = r.2 in reached_more s x e w suits Near near (suc r.0) (suc k) u (omega (arith, z)) (y.at v i.1 u h)))
+            (picked_from (outcome_of w a) (outcome_of w b) o.0 v o.2));
+      }
+
+  -- the attribute of what is no entity is a field
+  record_of_lookup : (t : Ty) (a : Text) (d : Declared) (v : V) → is_entity (Some t) ≡ false → lookup_attribute s t a ≡ Some d → HasType v t → (fs : Fields) × (v ≡ record_of fs)
+  record_of_lookup (record_type as_ o) a d v k q h = let r = record_value as_ o v h in (r.0, r.1)
+  record_of_lookup (entity_types ns) a d v k q h = cc
+  record_of_lookup t a d v k q h = cc
+
+  declared_attribute : (b : Bool) (o : Option Declared) (ty : Ty) (out : Facts) → Gives (plain (attribute_type b o)) ty out → (d : Declared) × (o ≡ Some d) × (d.type ≡ ty)
+  declared_attribute b None ty out h = absurd h
+  declared_attribute b (Some d) ty out h = by (d.is_required || b) h
+    where
+      by : (c : Bool) → Gives (plain (if c then Some d.type else None)) ty out → (k : Declared) × (Some d ≡ Some k) × (k.type ≡ ty)
+      by true g = (d, refl, sym g.0)
+      by false g = absurd g
+
+  -- a record literal, by its fields
+  record_is : (as_ : Attributes) (ty : Ty) (out : Facts) → Gives (plain (record_literal_type as_)) ty out → ty ≡ record_type as_ is_closed
+  record_is as_ ty out d = by (has_names_once as_) d
+    where
+      by : (b : Bool) → Gives (plain (if b then Some (record_type as_ is_closed) else None)) ty out → ty ≡ record_type as_ is_closed
+      by true g = g.0
+      by false g = absurd g
+
+  record_target : (fs : TreeFields) (a : Text) (path : List Text) (k : ℕ) → FieldsReached fs a path k → TargetReached (record_literal fs) (a ∷ path) k
+  record_target fs a path k r =
+      record {
+        looks = λ u m. r.looks u m;
+        at = λ v q u h. (
+            let o = value_from (field_outcomes_of w fs) (λ vs. Some (val (record_of vs))) v q in
+            let i : o.0 ≡ h.0 = (let j : record_of o.0 ≡ v = same_value (record_of o.0) v o.2 in let z : record_of o.0 ≡ record_of h.0 = j ∙ h.1 in cc) in
+            r.at o.0 o.1 h.2.0 (subst (λ z. field_of a z ≡ Some h.2.0) (sym i) h.2.1) u h.2.2);
+      }
+
+  -- two operands, by what is shown of each
+  operands_looks : (o : BinaryOp) (a b : Tree) (i : Count) (whole : Tree) (vs : List Violation) → (if steps_from_left o then stepped n whole (further 1 i) else vs) ≡ []
+      → (steps_from_left o ≡ true → i.found ≡ [] → i.steps ≤ n → TargetReached a [] i.steps) → (steps_from_left o ≡ false → (u : Uid) → Looks w a u → Reached s Near n u) → ((u : Uid) → Looks w b u → Reached s Near n u)
+      → (u : Uid) → Looks w (binary o a b) u → Reached s Near n u
+  operands_looks o a b i whole vs h on off right u l =
+      test_cases (steps_from_left o)
+      (λ q. let k = step_within n whole (further 1 i) (subst (λ z. (if z then stepped n whole (further 1 i) else vs) ≡ []) q h) in
+      let m = k.0 in
+      let r = on q k.1 (omega (arith, m)) in
+      ⊎_elim (λ j. r.looks u j) (λ j. ⊎_elim (λ p. right u p) (λ p. let y = looked_entity o j.0 p.0 u p.2 in reached_more s x e w suits Near near (suc i.steps) n u (omega (arith, m)) (r.at j.0 (means_outcome w a (val j.0) j.1) u y.1)) j.2) l)
+      (λ q. ⊎_elim (λ j. off q u j) (λ j. ⊎_elim (λ p. right u p) (λ p. absurd (clash q (looked_entity o j.0 p.0 u p.2).0)) j.2) l)
+    where
+      clash : steps_from_left o ≡ false → steps_from_left o ≡ true → ⊥
+      clash q k = cc
+
+  tag_entity : (known : Facts) (a b : Tree) (t u ty : Ty) (out : Facts) → Gives (binary_judged (strictly s x e) known get_tag a b t u) ty out → is_entity (Some t) ≡ true
+  tag_entity known a b t u ty out d = get_tag_entity (strictly s x e) known a b t u ty out d
+
+  -- a path, by what is shown of its operand
+  path_looks : (t : Tree) (a : Text) (bs : List Text) (known : Facts) (tt : Ty) (f : Facts) → Types (strictly s x e) known t tt f → (ty : Ty) (out : Facts) → Gives (path_judged (strictly s x e) a bs t tt) ty out → (k : ℕ)
+      → ((u : Uid) → Looks w t u → Reached s Near n u) → Good w tt f (outcome_of w t)
+      → ((v : V) → outcome_of w t ≡ Some (val v) → (entity_steps (strictly s x e) a bs (Some tt) ≡ 0) ⊎ (((u : Uid) → At (fields_before (strictly s x e) a bs (Some tt)) v u → Reached s Near (suc k) u) × (k + entity_steps (strictly s x e) a bs (Some tt) ≤ n)))
+      → (u : Uid) → Looks w (has_path t a bs) u → Reached s Near n u
+  path_looks t a bs known tt f d ty out p k lt g begins u l =
+      ⊎_elim (λ j. lt u j)
+      (λ j. let o = means_outcome w t (val j.0) j.1 in
+      path_begins s x e w suits Near near n c bs a t tt j.0 k (simple known t tt f d) (subst (Fine tt) o g.fine) (begins j.0 o) ty out p u j.2) l
+
+  -- the field on the path, and another
+  field_value_at : (b : Text) (v : V) (vs : Fields) (a : Text) (y : V) → bytes_eq a b ≡ true → field_of a (field b v vs) ≡ Some y → v ≡ y
+  field_value_at b v vs a y m q = inside (subst (λ z. (if z then Some v else field_of a vs) ≡ Some y) m q)
+
+  other_value_at : (b : Text) (v : V) (vs : Fields) (a : Text) (y : V) → bytes_eq a b ≡ false → field_of a (field b v vs) ≡ Some y → field_of a vs ≡ Some y
+  other_value_at b v vs a y m q = subst (λ z. (if z then Some v else field_of a vs) ≡ Some y) m q
+
+  first_field : (b : Text) (t : Tree) (fs : TreeFields) (a : Text) (path : List Text) (k : ℕ) → bytes_eq a b ≡ true → TargetReached t path k → ((u : Uid) → AnyFieldLooks w fs u → Reached s Near n u) → FieldsReached (tree_field b t fs) a path k
+  first_field b t fs a path k m r rest =
+      record {
+        looks = λ u l. ⊎_elim (λ j. r.looks u j) (λ j. rest u j.2) l;
+        at = λ vs q y i u h. (
+            let o = value_from (outcome_of w t) (λ v. bind (field_outcomes_of w fs) (λ ys. Some (val (field b v ys)))) vs q in
+            let p = value_from (field_outcomes_of w fs) (λ ys. Some (val (field b o.0 ys))) vs o.2 in
+            let z : field b o.0 p.0 ≡ vs = same_value (field b o.0 p.0) vs p.2 in
+            let j = field_value_at b o.0 p.0 a y m (subst (λ g. field_of a g ≡ Some y) (sym z) i) in
+            r.at o.0 o.1 u (subst (λ g. At path g u) (sym j) h));
+      }
+
+  later_field : (b : Text) (t : Tree) (fs : TreeFields) (a : Text) (path : List Text) (k : ℕ) → bytes_eq a b ≡ false → FieldsReached fs a path k → ((u : Uid) → Looks w t u → Reached s Near n u) → FieldsReached (tree_field b t fs) a path k
+  later_field b t fs a path k m r first =
+      record {
+        looks = λ u l. ⊎_elim (λ j. first u j) (λ j. r.looks u j.2) l;
+        at = λ vs q y i u h. (
+            let o = value_from (outcome_of w t) (λ v. bind (field_outcomes_of w fs) (λ ys. Some (val (field b v ys)))) vs q in
+            let p = value_from (field_outcomes_of w fs) (λ ys. Some (val (field b o.0 ys))) vs o.2 in
+            let z : field b o.0 p.0 ≡ vs = same_value (field b o.0 p.0) vs p.2 in
+            r.at p.0 p.1 y (other_value_at b o.0 p.0 a y m (subst (λ g. field_of a g ≡ Some y) (sym z) i)) u h);
+      }
+
+  mutual
+    pub looks_reached : (known : Facts) → Hold w known → (t : Tree) → SlotsIn w (subexpressions t) → (ty : Ty) (out : Facts) → Types (strictly s x e) known t ty out → violations n (strictly s x e) known t ≡ [] → (u : Uid) → Looks w t u → Reached s Near n u
+    looks_reached known hold (lit p) sl ty out d h u l = absurd l
+    looks_reached known hold (var y) sl ty out d h u l = absurd l
+    looks_reached known hold (slot i) sl ty out d h u l = absurd l
+    looks_reached known hold (unknown m a) sl ty out d h u l = absurd l
+    looks_reached known hold (choice t a b) sl ty out d h u l =
+        let sr = behind w _ _ sl in
+        let sr2 = on_right w (subexpressions t) _ sr in
+        let k = none_of_both (violations n (strictly s x e) known t) _ h in
+        let lt = looks_reached known hold t (on_left w (subexpressions t) _ sr) d.0 d.1 d.2 k.0 in
+        let g = good known hold t (on_left w (subexpressions t) _ sr) d.0 d.1 d.2 lt in
+        let br = behind_test (strictly s x e) (λ f. Types (strictly s x e) (union known f) a) (Types (strictly s x e) known b) (λ f. violations n (strictly s x e) (union known f) a) (violations n (strictly s x e) known b) d.0 d.1 ty out d.3
+        (subst (λ o. after_test o (λ f. violations n (strictly s x e) (union known f) a) (violations n (strictly s x e) known b) ≡ []) (judged_as (strictly s x e) known t d.0 d.1 d.2) k.1) in
+        ⊎_elim (λ j. lt u j)
+        (λ j. ⊎_elim
+        (λ m. let o = means_outcome w t _ m.0 in let r = br.on_true (not_false w d.0 d.1 (outcome_of w t) g o) in looks_reached (union known d.1) (hold_union w known d.1 hold (g.holds o)) a (on_left w (subexpressions a) _ sr2) r.0 r.1 r.2 r.3 u m.1)
+        (λ m. let o = means_outcome w t _ m.0 in let r = br.on_false (not_true w d.0 d.1 (outcome_of w t) g o) in looks_reached known hold b (on_right w (subexpressions a) _ sr2) r.0 r.1 r.2 r.3 u m.1)
+        j) l
+    looks_reached known hold (both a b) sl ty out d h u l =
+        let sr = behind w _ _ sl in
+        let k = none_of_both (violations n (strictly s x e) known a) _ h in
+        let la = looks_reached known hold a (on_left w (subexpressions a) _ sr) d.0 d.1 d.2 k.0 in
+        let g = good known hold a (on_left w (subexpressions a) _ sr) d.0 d.1 d.2 la in
+        ⊎_elim (λ j. la u j)
+        (λ m. let o = means_outcome w a _ m.0 in
+        let r = behind_and (λ f. Types (strictly s x e) (union known f) b) (λ f. violations n (strictly s x e) (union known f) b) d.0 d.1 ty out d.3
+        (subst (λ z. after_and z (λ f. violations n (strictly s x e) (union known f) b) ≡ []) (judged_as (strictly s x e) known a d.0 d.1 d.2) k.1) (not_false w d.0 d.1 (outcome_of w a) g o) in
+        looks_reached (union known d.1) (hold_union w known d.1 hold (g.holds o)) b (on_right w (subexpressions a) _ sr) r.0 r.1 r.2 r.3 u m.1) l
+    looks_reached known hold (either a b) sl ty out d h u l =
+        let sr = behind w _ _ sl in
+        let k = none_of_both (violations n (strictly s x e) known a) _ h in
+        let la = looks_reached known hold a (on_left w (subexpressions a) _ sr) d.0 d.1 d.2 k.0 in
+        let g = good known hold a (on_left w (subexpressions a) _ sr) d.0 d.1 d.2 la in
+        ⊎_elim (λ j. la u j)
+        (λ m. let r = behind_or (Types (strictly s x e) known b) (violations n (strictly s x e) known b) d.0 d.1 ty out d.3
+        (subst (λ z. after_or z (violations n (strictly s x e) known b) ≡ []) (judged_as (strictly s x e) known a d.0 d.1 d.2) k.1) (not_true w d.0 d.1 (outcome_of w a) g (means_outcome w a _ m.0)) in
+        looks_reached known hold b (on_right w (subexpressions a) _ sr) r.0 r.1 r.2 r.3 u m.1) l
+    looks_reached known hold (unary o a) sl ty out d h u l = looks_reached known hold a (behind w _ _ sl) d.0 d.1 d.2 h u l
+    looks_reached known hold (binary o a b) sl ty out d h u l =
+        let sr = behind w _ _ sl in
+        let r = d.3 in
+        let k = none_of_both (if steps_from_left o then stepped n (binary o a b) (further 1 (target n (strictly s x e) known [] a)) else violations n (strictly s x e) known a) _ h in
+        let right = looks_reached known hold b (on_right w (subexpressions a) _ sr) r.0 r.1 r.2 k.1 in
+        let la = λ (q : steps_from_left o ≡ false). looks_reached known hold a (on_left w (subexpressions a) _ sr) d.0 d.1 d.2
+        (subst (λ z. (if z then stepped n (binary o a b) (further 1 (target n (strictly s x e) known [] a)) else violations n (strictly s x e) known a) ≡ []) q k.0) in
+        let ta = λ (q : steps_from_left o ≡ true) (i : (target n (strictly s x e) known [] a).found ≡ []) (j : (target n (strictly s x e) known [] a).steps ≤ n).
+        target_reached known hold a (on_left w (subexpressions a) _ sr) d.0 d.1 d.2 [] (left_leads known o a b d.0 r.0 ty out q r.3) i j in
+        operands_looks o a b (target n (strictly s x e) known [] a) (binary o a b) (violations n (strictly s x e) known a) k.0 ta la right u l
+    looks_reached known hold (call f ts) sl ty out d h u l = looks_each known hold ts (behind w _ _ sl) d.0 d.1 h u l
+    looks_reached known hold (get_attr t a) sl ty out d h u l =
+        attribute_looks t (get_attr t a) known d.0 d.1 d.2 h (λ i j m. target_reached known hold t (behind w _ _ sl) d.0 d.1 d.2 [] i j m) (λ i. looks_reached known hold t (behind w _ _ sl) d.0 d.1 d.2 i) (λ i. good known hold t (behind w _ _ sl) d.0 d.1 d.2 i) u l
+    looks_reached known hold (has_attr t a) sl ty out d h u l =
+        attribute_looks t (has_attr t a) known d.0 d.1 d.2 h (λ i j m. target_reached known hold t (behind w _ _ sl) d.0 d.1 d.2 [] i j m) (λ i. looks_reached known hold t (behind w _ _ sl) d.0 d.1 d.2 i) (λ i. good known hold t (behind w _ _ sl) d.0 d.1 d.2 i) u l
+    looks_reached known hold (has_path t a bs) sl ty out d h u l =
+        let i = subst (λ o. path_violations n (has_path t a bs) (entity_steps (strictly s x e) a bs o) (target n (strictly s x e) known (fields_before (strictly s x e) a bs o) t) (violations n (strictly s x e) known t) ≡ []) (type_is (strictly s x e) known t d.0 d.1 d.2) h in
+        ⊎_elim
+        (λ k. (let lt = looks_reached known hold t (behind w _ _ sl) d.0 d.1 d.2 k.1 in
+        path_looks t a bs known d.0 d.1 d.2 ty out d.3 0 lt (good known hold t (behind w _ _ sl) d.0 d.1 d.2 lt) (λ v q. inl k.0) u l))
+        (λ k. (let z = k.3 in
+        let r = target_reached known hold t (behind w _ _ sl) d.0 d.1 d.2 (fields_before (strictly s x e) a bs (Some d.0)) (before_leads (strictly s x e) bs a d.0 k.0 k.1) k.2 (omega (arith, z)) in
+        path_looks t a bs known d.0 d.1 d.2 ty out d.3 (target n (strictly s x e) known (fields_before (strictly s x e) a bs (Some d.0)) t).steps (λ y m. r.looks y m) (good known hold t (behind w _ _ sl) d.0 d.1 d.2 (λ y m. r.looks y m)) (λ v q. inr (r.at v q, z)) u l))
+        (path_cases (has_path t a bs) (entity_steps (strictly s x e) a bs (Some d.0)) (target n (strictly s x e) known (fields_before (strictly s x e) a bs (Some d.0)) t) (violations n (strictly s x e) known t) i)
+    looks_reached known hold (like t p) sl ty out d h u l = looks_reached known hold t (behind w _ _ sl) d.0 d.1 d.2 h u l
+    looks_reached known hold (is_type t m) sl ty out d h u l = looks_reached known hold t (behind w _ _ sl) d.0 d.1 d.2 h u l
+    looks_reached known hold (set_literal ts) sl ty out d h u l = looks_each known hold ts (behind w _ _ sl) d.0 d.1 h u l
+    looks_reached known hold (record_literal fs) sl ty out d h u l = looks_fields known hold fs (behind w _ _ sl) d.0 d.1 h u l
+
+    looks_each : (known : Facts) → Hold w known → (ts : Trees) → SlotsIn w (subexpressions_among ts) → (us : List Ty) → EachTyped (strictly s x e) known ts us → violations_among n (strictly s x e) known ts ≡ [] → (u : Uid) → AnyLooks w ts u → Reached s Near n u
+    looks_each known hold no_trees sl us d h u l = absurd l
+    looks_each known hold (tree t ts) sl us d h u l =
+        let k = none_of_both (violations n (strictly s x e) known t) (violations_among n (strictly s x e) known ts) h in
+        ⊎_elim (λ j. looks_reached known hold t (on_left w (subexpressions t) _ sl) d.0 d.1 d.2 k.0 u j) (λ j. looks_each known hold ts (on_right w (subexpressions t) _ sl) d.3 d.4 k.1 u j.2) l
+
+    looks_fields : (known : Facts) → Hold w known → (fs : TreeFields) → SlotsIn w (subexpressions_in_fields fs) → (as_ : Attributes) → FieldsTyped (strictly s x e) known fs as_ → violations_in_fields n (strictly s x e) known fs ≡ [] → (u : Uid) → AnyFieldLooks w fs u → Reached s Near n u
+    looks_fields known hold no_tree_fields sl as_ d h u l = absurd l
+    looks_fields known hold (tree_field a t fs) sl as_ d h u l =
+        let k = none_of_both (violations n (strictly s x e) known t) (violations_in_fields n (strictly s x e) known fs) h in
+        ⊎_elim (λ j. looks_reached known hold t (on_left w (subexpressions t) _ sl) d.0 d.1 d.2 k.0 u j) (λ j. looks_fields known hold fs (on_right w (subexpressions t) _ sl) d.3 d.4 k.1 u j.2) l
+
+    target_reached : (known : Facts) → Hold w known → (t : Tree) → SlotsIn w (subexpressions t) → (ty : Ty) (out : Facts) → Types (strictly s x e) known t ty out → (path : List Text) → leads ty path ≡ true
+        → (target n (strictly s x e) known path t).found ≡ [] → (target n (strictly s x e) known path t).steps ≤ n → TargetReached t path (target n (strictly s x e) known path t).steps
+    target_reached known hold (lit y) sl ty out d path p h l =
+        record {
+          looks = λ u m. absurd m;
+          at = λ v q u a. (let i : prim y ≡ v = same_value (prim y) v q in inr (literal_at y path h u (subst (λ z. At path z u) (sym i) a)));
+        }
+    target_reached known hold (var y) sl ty out d path p h l = record { looks = λ u m. absurd m; at = λ v q u a. variable_at y path v q u a }
+    target_reached known hold (slot i) sl ty out d path p h l = cc
+    target_reached known hold (unknown m a) sl ty out d path p h l = absurd d
+    target_reached known hold (choice t a b) sl ty out d path p h l =
+        let sr = behind w _ _ sl in
+        let sr2 = on_right w (subexpressions t) _ sr in
+        let fa = λ (f : Facts). target n (strictly s x e) (union known f) path a in
+        let fb = target n (strictly s x e) known path b in
+        let j = judged_as (strictly s x e) known t d.0 d.1 d.2 in
+        let k = none_of_both (violations n (strictly s x e) known t) _ h in
+        let lt = looks_reached known hold t (on_left w (subexpressions t) _ sr) d.0 d.1 d.2 k.0 in
+        let g = good known hold t (on_left w (subexpressions t) _ sr) d.0 d.1 d.2 lt in
+        let br = target_branches (strictly s x e) refl (λ f. Types (strictly s x e) (union known f) a) (Types (strictly s x e) known b) (λ f u i o. simple (union known f) a u i o) (λ u i o. simple known b u i o) fa fb path d.0 d.1 ty out d.3 p
+        (subst (λ o. (target_after_test o fa fb).found ≡ []) j k.1) in
+        let z : (branches greater d.0 (fa d.1) fb).steps ≤ n = subst (λ o. (target_after_test o fa fb).steps ≤ n) j l in
+        subst (λ o. TargetReached (choice t a b) path (target_after_test o fa fb).steps) (sym j)
+        (choice_target t a b path (branches greater d.0 (fa d.1) fb).steps lt
+        (λ o. (let r = br.on_true (not_false w d.0 d.1 (outcome_of w t) g o) in let m = r.3.1 in
+        ((fa d.1).steps, target_reached (union known d.1) (hold_union w known d.1 hold (g.holds o)) a (on_left w (subexpressions a) _ sr2) r.0 r.1 r.2.0 path r.2.1 r.3.0 (omega (arith, m, z)), m)))
+        (λ o. (let r = br.on_false (not_true w d.0 d.1 (outcome_of w t) g o) in let m = r.3.1 in
+        (fb.steps, target_reached known hold b (on_right w (subexpressions a) _ sr2) r.0 r.1 r.2.0 path r.2.1 r.3.0 (omega (arith, m, z)), m))))
+    target_reached known hold (both a b) sl ty out d path p h l = bool_strays path ty (and_bool _ d.0 d.1 ty out d.3) p
+    target_reached known hold (either a b) sl ty out d path p h l = bool_strays path ty (or_bool _ d.0 d.1 ty out d.3) p
+    target_reached known hold (unary o a) sl ty out d path p h l = plain_strays _ path ty out (unary_strays o d.0) d.3 p
+    target_reached known hold (binary get_tag a b) sl ty out d path p h l =
+        let sr = behind w _ _ sl in
+        let r = d.3 in
+        let k = none_of_both (violations n (strictly s x e) known b) (target n (strictly s x e) known [] a).found h in
+        let i = get_tag_leads (strictly s x e) known a b d.0 r.0 ty out r.3 in
+        let ta = target_reached known hold a (on_left w (subexpressions a) _ sr) d.0 d.1 d.2 [] i k.1 (omega (arith, l)) in
+        tag_target a b path (target n (strictly s x e) known [] a).steps d.0 d.1 (tag_entity known a b d.0 r.0 ty out r.3) (good known hold a (on_left w (subexpressions a) _ sr) d.0 d.1 d.2 (λ u m. ta.looks u m)) ta
+        (looks_reached known hold b (on_right w (subexpressions a) _ sr) r.0 r.1 r.2 k.0) l
+    target_reached known hold (binary has_tag a b) sl ty out d path p h l = let r = d.3 in bool_strays path ty (tested_bool a (tag_part b) _ ty out r.3) p
+    target_reached known hold (binary o a b) sl ty out d path p h l = let r = d.3 in plain_strays _ path ty out (binary_strays (strictly s x e) o a b d.0 r.0 refl) r.3 p
+    target_reached known hold (call f ts) sl ty out d path p h l = plain_strays _ path ty out (call_strays (strictly s x e) ts d.0 (signature_of x f)) d.2 p
+    target_reached known hold (get_attr t a) sl ty out d path p h l =
+        let q : on_entity (strictly s x e) known t ≡ is_entity (Some d.0) = ap is_entity (type_is (strictly s x e) known t d.0 d.1 d.2) in
+        let on = further 1 (target n (strictly s x e) known [] t) in
+        let off = target n (strictly s x e) known (a ∷ path) t in
+        test_cases (is_entity (Some d.0))
+        (λ k. let i : (target n (strictly s x e) known [] t).found ≡ [] = subst (λ z. (if z then on else off).found ≡ []) (q ∙ k) h in
+        let j : (target n (strictly s x e) known [] t).steps + 1 ≤ n = subst (λ z. (if z then on else off).steps ≤ n) (q ∙ k) l in
+        let r = target_reached known hold t (behind w _ _ sl) d.0 d.1 d.2 [] (entity_leads d.0 k) i (omega (arith, j)) in
+        subst (λ z. TargetReached (get_attr t a) path (if z then on else off).steps) (sym (q ∙ k))
+        (attribute_target t a path (target n (strictly s x e) known [] t).steps d.0 d.1 k (good known hold t (behind w _ _ sl) d.0 d.1 d.2 (λ u m. r.looks u m)) r j))
+        (λ k. let i : off.found ≡ [] = subst (λ z. (if z then on else off).found ≡ []) (q ∙ k) h in
+        let j : off.steps ≤ n = subst (λ z. (if z then on else off).steps ≤ n) (q ∙ k) l in
+        let m = declared_attribute (known t (attribute_part a)) (lookup_attribute s d.0 a) ty out d.3 in
+        let r = target_reached known hold t (behind w _ _ sl) d.0 d.1 d.2 (a ∷ path) (field_leads (strictly s x e) d.0 a path m.0 k m.1 (subst (λ z. leads z path ≡ true) (sym m.2) p)) i j in
+        subst (λ z. TargetReached (get_attr t a) path (if z then on else off).steps) (sym (q ∙ k))
+        (field_target t a path off.steps d.0 d.1 k (λ v o. record_of_lookup d.0 a m.0 v k m.1 o) (good known hold t (behind w _ _ sl) d.0 d.1 d.2 (λ u o. r.looks u o)) r))
+    target_reached known hold (has_attr t a) sl ty out d path p h l = bool_strays path ty (tested_bool t (attribute_part a) _ ty out d.3) p
+    target_reached known hold (has_path t a bs) sl ty out d path p h l = bool_strays path ty (path_bool (strictly s x e) a bs t d.0 ty out d.3) p
+    target_reached known hold (like t m) sl ty out d path p h l = plain_strays _ path ty out (like_strays d.0) d.3 p
+    target_reached known hold (is_type t m) sl ty out d path p h l = plain_strays _ path ty out (is_strays m d.0) d.3 p
+    target_reached known hold (set_literal ts) sl ty out d path p h l = plain_strays _ path ty out (set_strays d.0) d.2 p
+    target_reached known hold (record_literal fs) sl ty out d [] p h l = (let q = subst (λ z. leads z [] ≡ true) (record_is d.0 ty out d.2) p in cc)
+    target_reached known hold (record_literal fs) sl ty out d (a ∷ path) p h l =
+        let k = named_leads (attribute_named a d.0) path (subst (λ z. leads z (a ∷ path) ≡ true) (record_is d.0 ty out d.2) p) in
+        record_target fs a path _ (fields_reached known hold fs (behind w _ _ sl) d.0 d.1 a path k.0 k.1 k.2 h l)
+
+    fields_reached : (known : Facts) → Hold w known → (fs : TreeFields) → SlotsIn w (subexpressions_in_fields fs) → (as_ : Attributes) → FieldsTyped (strictly s x e) known fs as_ → (a : Text) (path : List Text) (k : Declared) → attribute_named a as_ ≡ Some k → leads k.type path ≡ true
+        → (target_in_fields n (strictly s x e) known (a ∷ path) fs).found ≡ [] → (target_in_fields n (strictly s x e) known (a ∷ path) fs).steps ≤ n → FieldsReached fs a path (target_in_fields n (strictly s x e) known (a ∷ path) fs).steps
+    fields_reached known hold no_tree_fields sl as_ d a path k q p h l = (let z : attribute_named a no_attributes ≡ Some k = subst (λ y. attribute_named a y ≡ Some k) d q in cc)
+    fields_reached known hold (tree_field b t fs) sl as_ d a path k q p h l =
+        let z : attribute_named a (attribute b d.0 true d.3) ≡ Some k = subst (λ y. attribute_named a y ≡ Some k) d.5 q in
+        let yes = joined (violations_in_fields n (strictly s x e) known fs) (target n (strictly s x e) known path t) in
+        let no = joined (violations n (strictly s x e) known t) (target_in_fields n (strictly s x e) known (a ∷ path) fs) in
+        test_cases (bytes_eq a b)
+        (λ m. let i = none_of_both (violations_in_fields n (strictly s x e) known fs) _ (subst (λ y. (if y then yes else no).found ≡ []) m h) in
+        let j : (target n (strictly s x e) known path t).steps ≤ n = subst (λ y. (if y then yes else no).steps ≤ n) m l in
+        let o : d.0 ≡ k.type = ap (λ (y : Declared). y.type) (inside (subst (λ y. (if y then Some (record { type = d.0; is_required = true }) else attribute_named a d.3) ≡ Some k) m z)) in
+        let r = target_reached known hold t (on_left w (subexpressions t) _ sl) d.0 d.1 d.2 path (subst (λ y. leads y path ≡ true) (sym o) p) i.1 j in
+        subst (λ y. FieldsReached (tree_field b t fs) a path (if y then yes else no).steps) (sym m)
+        (first_field b t fs a path (target n (strictly s x e) known path t).steps m r (looks_fields known hold fs (on_right w (subexpressions t) _ sl) d.3 d.4 i.0)))
+        (λ m. let i = none_of_both (violations n (strictly s x e) known t) _ (subst (λ y. (if y then yes else no).found ≡ []) m h) in
+        let j : (target_in_fields n (strictly s x e) known (a ∷ path) fs).steps ≤ n = subst (λ y. (if y then yes else no).steps ≤ n) m l in
+        let o : attribute_named a d.3 ≡ Some k = subst (λ y. (if y then Some (record { type = d.0; is_required = true }) else attribute_named a d.3) ≡ Some k) m z in
+        let r = fields_reached known hold fs (on_right w (subexpressions t) _ sl) d.3 d.4 a path k o p i.1 j in
+        subst (λ y. FieldsReached (tree_field b t fs) a path (if y then yes else no).steps) (sym m)
+        (later_field b t fs a path (target_in_fields n (strictly s x e) known (a ∷ path) fs).steps m r (looks_reached known hold t (on_left w (subexpressions t) _ sl) d.0 d.1 d.2 i.0)))

@@ -11,7 +11,7 @@ use Rattle.cedar_typechecker_model.specs.Whole.Facts.{Facts, no_facts, Part, att
 use Rattle.cedar_typechecker_model.specs.Whole.Levels.{is_entity}
 use Rattle.cedar_typechecker_model.specs.Whole.Rules.{Setting, truth_type, if_there, unary_type, written_uid, comparable, written_equal, equal_type, order_type, number_type, member_type, is_set_type, sets_type, Kinds, entity_kinds, entity_or_set_kinds, written_action, written_actions, within_kinds, in_type, binary_type, like_type, is_type_type, has_type, tag_type, may_have_tags, is_string_type, has_tag_type, get_tag_type, set_literal_type, all_there, core_as_type, arguments_fit, takes_literal, result_type, signature_type, call_type}
 use Rattle.cedar_typechecker_model.specs.Whole.Typing.{Judgement, plain, tested, conjoined, disjoined, path_judged, binary_judged, Gives, AndTyped, OrTyped}
-use Rattle.cedar_typechecker_model.proofs.Whole.Sound.Leading.{leads, nowhere_bool, nowhere_long, nowhere_text, nowhere_set, nowhere_extension}
+use Rattle.cedar_typechecker_model.proofs.Whole.Sound.Leading.{leads, entity_leads, nowhere_bool, nowhere_long, nowhere_text, nowhere_set, nowhere_extension}
 use Rattle.cedar_typechecker_model.proofs.Whole.Sound.Steps.{path_typed}
 
 -- no type that the rule gives leads anywhere
@@ -201,16 +201,19 @@ plain_gives (Some t) ty out d = ap Some (sym d.0)
 pub in_leads : (s : Setting) (known : Facts) (a b : Tree) (t u ty : Ty) (out : Facts) → Gives (binary_judged s known is_in a b t u) ty out → leads t [] ≡ true
 in_leads s known a b t u ty out d = some_kinds_lead t _ ty (plain_gives (in_type s a b t u) ty out d)
 
-tag_leads : (s : Setting) (t ty : Ty) → tag_type s t ≡ Some ty → leads t [] ≡ true
-tag_leads s (entity_types ns) ty e = refl
-tag_leads s t ty e = cc
+tag_entity : (s : Setting) (t ty : Ty) → tag_type s t ≡ Some ty → is_entity (Some t) ≡ true
+tag_entity s (entity_types ns) ty e = refl
+tag_entity s t ty e = cc
+
+pub get_tag_entity : (s : Setting) (known : Facts) (a b : Tree) (t u ty : Ty) (out : Facts) → Gives (binary_judged s known get_tag a b t u) ty out → is_entity (Some t) ≡ true
+get_tag_entity s known a b t u ty out d = by (is_string_type u && known a (tag_part b)) (plain_gives (get_tag_type s known a b t u) ty out d)
+  where
+    by : (c : Bool) → (if c then tag_type s t else None) ≡ Some ty → is_entity (Some t) ≡ true
+    by true e = tag_entity s t ty e
+    by false e = cc
 
 pub get_tag_leads : (s : Setting) (known : Facts) (a b : Tree) (t u ty : Ty) (out : Facts) → Gives (binary_judged s known get_tag a b t u) ty out → leads t [] ≡ true
-get_tag_leads s known a b t u ty out d = by (is_string_type u && known a (tag_part b)) (plain_gives (get_tag_type s known a b t u) ty out d)
-  where
-    by : (c : Bool) → (if c then tag_type s t else None) ≡ Some ty → leads t [] ≡ true
-    by true e = tag_leads s t ty e
-    by false e = cc
+get_tag_leads s known a b t u ty out d = entity_leads t (get_tag_entity s known a b t u ty out d)
 
 pub has_tag_leads : (s : Setting) (known : Facts) (a b : Tree) (t u ty : Ty) (out : Facts) → Gives (binary_judged s known has_tag a b t u) ty out → leads t [] ≡ true
 has_tag_leads s known a b t u ty out d = by (has_tag_type s t u) (λ r e. some r e) d
