@@ -19,4 +19,5 @@ pub mod Leading
 pub mod Reached
 pub mod Straying
 pub mod Counted
+pub mod Targets
 pub mod Reaching

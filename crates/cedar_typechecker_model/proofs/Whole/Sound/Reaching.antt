@@ -40,248 +40,9 @@ use Rattle.cedar_typechecker_model.proofs.Whole.Sound.Attributes.{Fine, field_is
 use Rattle.cedar_typechecker_model.proofs.Whole.Sound.Reached.{Nearness, Reached, reached_more, conform_at, attribute_reached, tag_reached, path_begins}
 use Rattle.cedar_typechecker_model.proofs.Whole.Sound.Soundness.{SlotsIn, behind, on_left, on_right, sound, simple_type}
 use Rattle.cedar_typechecker_model.proofs.Whole.Sound.Straying.{plain_strays, bool_strays, and_bool, or_bool, tested_bool, path_bool, unary_strays, binary_strays, like_strays, is_strays, set_strays, call_strays, in_leads, get_tag_leads, get_tag_entity, has_tag_leads}
-
--- the value of an outcome is one
-same_value : {A : Type 0} (a b : A) → Some (val a) ≡ Some (val b) → a ≡ b
-same_value {A} a b q = cc
+use Rattle.cedar_typechecker_model.proofs.Whole.Sound.Targets.{TargetReached, FieldsReached, same_value, good, simple, literal_at, variable_at, attribute_target, field_target, tag_target, attribute_looks, left_leads, path_cases, choice_target, record_of_lookup, declared_attribute, record_is, record_target, operands_looks, path_looks, first_field, later_field}
 
 module _ (s : Schema) (x : Table) (e : Environment) (w : World) (suits : Suits s x e w) (Near : ℕ → Uid → Type 0) (near : Nearness w Near) (n : ℕ) (c : (u : Uid) → Near n u → declares_action s u ≡ false → ConformsAt s w u) where
-  -- What a target looks up is near enough, and so is the entity that the fields lead to.
-  record TargetReached (t : Tree) (path : List Text) (k : ℕ) : Type 0 where
-    looks : (u : Uid) → Looks w t u → Reached s Near n u
-    at : (v : V) → outcome_of w t ≡ Some (val v) → (u : Uid) → At path v u → Reached s Near (suc k) u
-
-  record FieldsReached (fs : TreeFields) (a : Text) (path : List Text) (k : ℕ) : Type 0 where
-    looks : (u : Uid) → AnyFieldLooks w fs u → Reached s Near n u
-    at : (vs : Fields) → field_outcomes_of w fs ≡ Some (val vs) → (y : V) → field_of a vs ≡ Some y → (u : Uid) → At path y u → Reached s Near (suc k) u
-
-  good : (known : Facts) → Hold w known → (t : Tree) → SlotsIn w (subexpressions t) → (ty : Ty) (out : Facts) → Types (strictly s x e) known t ty out → ((u : Uid) → Looks w t u → Reached s Near n u) → Good w ty out (outcome_of w t)
-  good known hold t sl ty out d l = sound s x e w suits known hold t sl (λ u k. conform_at s x e w suits Near near n c u (l u k)) ty out d
-
-  simple : (known : Facts) (t : Tree) (ty : Ty) (out : Facts) → Types (strictly s x e) known t ty out → is_simple ty ≡ true
-  simple known t ty out d = simple_type s x e w suits known t ty out d
-
-  -- leaves as targets
-  uid_at : (y u : Uid) (path : List Text) (b : Bool) → uid_eq y e.action ≡ b → (if b then count 0 [] else count 0 (record { at = lit (entity y); required = None } ∷ [])).found ≡ [] → At path (prim (entity y)) u → declares_action s u ≡ true
-  uid_at y u path true q h a =
-      let p : e.action ≡ u = sym ((uid_eq-Decides y e.action).0 q) ∙ at_entity y path u a in
-      subst (λ z. declares_action s z ≡ true) p (action_declared s x e w suits)
-  uid_at y u path false q h a = cc
-
-  literal_at : (p : Literal) (path : List Text) → (literal_count (strictly s x e) p).found ≡ [] → (u : Uid) → At path (prim p) u → declares_action s u ≡ true
-  literal_at (entity y) path h u a = uid_at y u path (uid_eq y e.action) refl h a
-  literal_at (truth b) [] h u a = cc
-  literal_at (truth b) (m ∷ path) h u a = (let q : prim (truth b) ≡ record_of a.0 = a.1 in cc)
-  literal_at (long i) [] h u a = cc
-  literal_at (long i) (m ∷ path) h u a = (let q : prim (long i) ≡ record_of a.0 = a.1 in cc)
-  literal_at (text t) [] h u a = cc
-  literal_at (text t) (m ∷ path) h u a = (let q : prim (text t) ≡ record_of a.0 = a.1 in cc)
-
-  context_known : (o : Option V) (v : V) → bound_value o ≡ Some (val v) → o ≡ Some v
-  context_known None v h = cc
-  context_known (Some y) v h = (let q : y ≡ v = cc in ap Some q)
-
-  variable_at : (y : Var) (path : List Text) (v : V) → variable w y ≡ Some (val v) → (u : Uid) → At path v u → Reached s Near 1 u
-  variable_at principal path v q u a =
-      let k = uid_known w.principal v q in
-      inl (near.principal u (k.1 ∙ ap Some (at_entity k.0 path u (subst (λ z. At path z u) k.2 a))))
-  variable_at resource path v q u a =
-      let k = uid_known w.resource v q in
-      inl (near.resource u (k.1 ∙ ap Some (at_entity k.0 path u (subst (λ z. At path z u) k.2 a))))
-  variable_at action path v q u a =
-      let k = uid_known w.action v q in
-      let p : e.action ≡ u = sym (suits.action k.0 k.1) ∙ at_entity k.0 path u (subst (λ z. At path z u) k.2 a) in
-      inr (subst (λ z. declares_action s z ≡ true) p (action_declared s x e w suits))
-  variable_at context path v q u a = inl (near.context v u (context_known w.context v q) (path, a))
-
-  -- a value of a type of entities is one
-  an_entity : (t : Ty) (v : V) → is_entity (Some t) ≡ true → HasType v t → (u : Uid) × (v ≡ prim (entity u))
-  an_entity any_entity v k h = any_value v h
-  an_entity (entity_types ns) v k h = let i = entity_value ns v h in (i.0, i.1)
-  an_entity t v k h = cc
-
-  -- an attribute of an entity: one step further
-  attribute_target : (t : Tree) (a : Text) (path : List Text) (k : ℕ) (ty : Ty) (f : Facts) → is_entity (Some ty) ≡ true → Good w ty f (outcome_of w t) → TargetReached t [] k → k + 1 ≤ n → TargetReached (get_attr t a) path (k + 1)
-  attribute_target t a path k ty f i g r l =
-      record {
-        looks = λ u m. ⊎_elim (λ j. r.looks u j) (λ j. reached_more s x e w suits Near near (suc k) n u (omega (arith, l)) (r.at j.0 (means_outcome w t (val j.0) j.1) u j.2)) m;
-        at = λ v q u b. (
-            let o = value_from (outcome_of w t) (attribute_read w a) v q in
-            let y = an_entity ty o.0 i (subst (Fine ty) o.1 g.fine) in
-            let z : attribute_read w a (prim (entity y.0)) ≡ Some (val v) = subst (λ j. attribute_read w a j ≡ Some (val v)) y.1 o.2 in
-            reached_more s x e w suits Near near (suc (suc k)) (suc (k + 1)) u (omega arith) (attribute_reached s x e w suits Near near (suc k) y.0 a v u (r.at o.0 o.1 y.0 y.1) z (path, b)));
-      }
-
-  -- an attribute of a record: the same distance, by one field more
-  not_an_entity : (t : Tree) (ty : Ty) (f : Facts) → is_entity (Some ty) ≡ false → Good w ty f (outcome_of w t) → (v : V) → outcome_of w t ≡ Some (val v) → (u : Uid) → v ≡ prim (entity u) → ⊥
-  not_an_entity t ty f i g v o u q = let k = entity_typed ty u (subst (λ z. HasType z ty) q (subst (Fine ty) o g.fine)) in cc
-
-  field_target : (t : Tree) (a : Text) (path : List Text) (k : ℕ) (ty : Ty) (f : Facts) → is_entity (Some ty) ≡ false → ((v : V) → HasType v ty → (fs : Fields) × (v ≡ record_of fs)) → Good w ty f (outcome_of w t) → TargetReached t (a ∷ path) k → TargetReached (get_attr t a) path k
-  field_target t a path k ty f i fields g r =
-      record {
-        looks = λ u m. ⊎_elim (λ j. r.looks u j) (λ j. absurd (not_an_entity t ty f i g j.0 (means_outcome w t (val j.0) j.1) u j.2)) m;
-        at = λ v q u b. (
-            let o = value_from (outcome_of w t) (attribute_read w a) v q in
-            let y = fields o.0 (subst (Fine ty) o.1 g.fine) in
-            let z : field_of a y.0 ≡ Some v = field_is (field_of a y.0) v (subst (λ j. attribute_read w a j ≡ Some (val v)) y.1 o.2) in
-            r.at o.0 o.1 u (y.0, y.1, (v, z, b)));
-      }
-
-  -- a tag of an entity: one step further
-  tag_target : (a b : Tree) (path : List Text) (k : ℕ) (ty : Ty) (f : Facts) → is_entity (Some ty) ≡ true → Good w ty f (outcome_of w a) → TargetReached a [] k → ((u : Uid) → Looks w b u → Reached s Near n u) → k + 1 ≤ n → TargetReached (binary get_tag a b) path (k + 1)
-  tag_target a b path k ty f i g r right l =
-      record {
-        looks = λ u m. ⊎_elim (λ j. r.looks u j) (λ j. ⊎_elim (λ p. right u p) (λ p. reached_more s x e w suits Near near (suc k) n u (omega (arith, l)) (r.at j.0 (means_outcome w a (val j.0) j.1) u p.2.0)) j.2) m;
-        at = λ v q u h. (
-            let o = value_from (outcome_of w a) (λ j. bind (outcome_of w b) (combined w get_tag j)) v q in
-            let p = value_from (outcome_of w b) (combined w get_tag o.0) v o.2 in
-            let y = an_entity ty o.0 i (subst (Fine ty) o.1 g.fine) in
-            let z = text_read y.0 p.0 v (subst (λ j. tag_read w j p.0 ≡ Some (val v)) y.1 p.2) in
-            reached_more s x e w suits Near near (suc (suc k)) (suc (k + 1)) u (omega arith)
-            (tag_reached s x e w suits Near near (suc k) y.0 z.0 v u (r.at o.0 o.1 y.0 y.1) (subst (λ j. tag_read w (prim (entity y.0)) j ≡ Some (val v)) z.1 (subst (λ j. tag_read w j p.0 ≡ Some (val v)) y.1 p.2)) (path, h)));
-      }
-    where
-      text_read : (y : Uid) (v' v : V) → tag_read w (prim (entity y)) v' ≡ Some (val v) → (z : Text) × (v' ≡ prim (text z))
-      text_read y (prim (text z)) v q = (z, refl)
-      text_read y v' v q = cc
-
-  -- an attribute, or the test of one, by what is shown of the operand
-  attribute_looks : (t whole : Tree) (known : Facts) (ty : Ty) (f : Facts) → Types (strictly s x e) known t ty f
-      → (if on_entity (strictly s x e) known t then stepped n whole (further 1 (target n (strictly s x e) known [] t)) else violations n (strictly s x e) known t) ≡ []
-      → (leads ty [] ≡ true → (target n (strictly s x e) known [] t).found ≡ [] → (target n (strictly s x e) known [] t).steps ≤ n → TargetReached t [] (target n (strictly s x e) known [] t).steps)
-      → (violations n (strictly s x e) known t ≡ [] → (u : Uid) → Looks w t u → Reached s Near n u) → (((u : Uid) → Looks w t u → Reached s Near n u) → Good w ty f (outcome_of w t))
-      → (u : Uid) → Looks w t u ⊎ WithValue (Means w t) (λ v. IsEntity v u) → Reached s Near n u
-  attribute_looks t whole known ty f d h on off g u l =
-      let q : on_entity (strictly s x e) known t ≡ is_entity (Some ty) = ap is_entity (type_is (strictly s x e) known t ty f d) in
-      test_cases (is_entity (Some ty))
-      (λ k. let i = step_within n whole (further 1 (target n (strictly s x e) known [] t)) (subst (λ z. (if z then stepped n whole (further 1 (target n (strictly s x e) known [] t)) else violations n (strictly s x e) known t) ≡ []) (q ∙ k) h) in
-      let m = i.0 in
-      let r = on (entity_leads ty k) i.1 (omega (arith, m)) in
-      ⊎_elim (λ j. r.looks u j) (λ j. reached_more s x e w suits Near near (suc (target n (strictly s x e) known [] t).steps) n u (omega (arith, m)) (r.at j.0 (means_outcome w t (val j.0) j.1) u j.2)) l)
-      (λ k. let r = off (subst (λ z. (if z then stepped n whole (further 1 (target n (strictly s x e) known [] t)) else violations n (strictly s x e) known t) ≡ []) (q ∙ k) h) in
-      ⊎_elim (λ j. r u j) (λ j. absurd (not_an_entity t ty f k (g r) j.0 (means_outcome w t (val j.0) j.1) u j.2)) l)
-
-  left_leads : (known : Facts) (o : BinaryOp) (a b : Tree) (t u ty : Ty) (out : Facts) → steps_from_left o ≡ true → Gives (binary_judged (strictly s x e) known o a b t u) ty out → leads t [] ≡ true
-  left_leads known is_in a b t u ty out q d = in_leads (strictly s x e) known a b t u ty out d
-  left_leads known get_tag a b t u ty out q d = get_tag_leads (strictly s x e) known a b t u ty out d
-  left_leads known has_tag a b t u ty out q d = has_tag_leads (strictly s x e) known a b t u ty out d
-  left_leads known o a b t u ty out q d = cc
-
-  -- the violations of a path: a step from its first entity, or those of its operand where it has none
-  path_cases : (whole : Tree) (k : ℕ) (i : Count) (vs : List Violation) → path_violations n whole k i vs ≡ [] → ((k ≡ 0) × (vs ≡ [])) ⊎ ((m : ℕ) × (k ≡ suc m) × (i.found ≡ []) × (i.steps + k ≤ n))
-  path_cases whole zero i vs h = inl (refl, h)
-  path_cases whole (suc m) i vs h = let r = step_within n whole (further (suc m) i) h in inr (m, refl, r.1, r.0)
-
-  -- a choice, by its branches
-  picked_from : (oa ob : Option (Res V)) (y v : V) → picked oa ob y ≡ Some (val v) → ((y ≡ truth_value true) × (oa ≡ Some (val v))) ⊎ ((y ≡ truth_value false) × (ob ≡ Some (val v)))
-  picked_from oa ob (prim (truth true)) v q = inl (refl, q)
-  picked_from oa ob (prim (truth false)) v q = inr (refl, q)
-  picked_from oa ob y v q = cc
-
-  choice_target : (t a b : Tree) (path : List Text) (k : ℕ) → ((u : Uid) → Looks w t u → Reached s Near n u)
-      → (outcome_of w t ≡ Some (val (truth_value true)) → (i : ℕ) × TargetReached a path i × (i ≤ k)) → (outcome_of w t ≡ Some (val (truth_value false)) → (i : ℕ) × TargetReached b path i × (i ≤ k)) → TargetReached (choice t a b) path k
-  choice_target t a b path k lt first second =
-      record {
-        looks = λ u m. ⊎_elim (λ j. lt u j)
-            (λ j. ⊎_elim (λ i. let r = first (means_outcome w t _ i.0) in let q = r.1 in q.looks u i.1) (λ i. let r = second (means_outcome w t _ i.0) in let q = r.1 in q.looks u i.1) j) m;
-        at = λ v q u h. (
-            let o = value_from (outcome_of w t) (picked (outcome_of w a) (outcome_of w b)) v q in
-            ⊎_elim
-            (λ i. (let r = first (o.1 ∙ ap (λ z. Some (val z)) i.0) in let y = r.1 in let z = r.2 in reached_more s x e w suits Near near (suc r.0) (suc k) u (omega (arith, z)) (y.at v i.1 u h)))
-            (λ i. (let r = second (o.1 ∙ ap (λ z. Some (val z)) i.0) in let y = r.1 in let z = r.2 in reached_more s x e w suits Near near (suc r.0) (suc k) u (omega (arith, z)) (y.at v i.1 u h)))
-            (picked_from (outcome_of w a) (outcome_of w b) o.0 v o.2));
-      }
-
-  -- the attribute of what is no entity is a field
-  record_of_lookup : (t : Ty) (a : Text) (d : Declared) (v : V) → is_entity (Some t) ≡ false → lookup_attribute s t a ≡ Some d → HasType v t → (fs : Fields) × (v ≡ record_of fs)
-  record_of_lookup (record_type as_ o) a d v k q h = let r = record_value as_ o v h in (r.0, r.1)
-  record_of_lookup (entity_types ns) a d v k q h = cc
-  record_of_lookup t a d v k q h = cc
-
-  declared_attribute : (b : Bool) (o : Option Declared) (ty : Ty) (out : Facts) → Gives (plain (attribute_type b o)) ty out → (d : Declared) × (o ≡ Some d) × (d.type ≡ ty)
-  declared_attribute b None ty out h = absurd h
-  declared_attribute b (Some d) ty out h = by (d.is_required || b) h
-    where
-      by : (c : Bool) → Gives (plain (if c then Some d.type else None)) ty out → (k : Declared) × (Some d ≡ Some k) × (k.type ≡ ty)
-      by true g = (d, refl, sym g.0)
-      by false g = absurd g
-
-  -- a record literal, by its fields
-  record_is : (as_ : Attributes) (ty : Ty) (out : Facts) → Gives (plain (record_literal_type as_)) ty out → ty ≡ record_type as_ is_closed
-  record_is as_ ty out d = by (has_names_once as_) d
-    where
-      by : (b : Bool) → Gives (plain (if b then Some (record_type as_ is_closed) else None)) ty out → ty ≡ record_type as_ is_closed
-      by true g = g.0
-      by false g = absurd g
-
-  record_target : (fs : TreeFields) (a : Text) (path : List Text) (k : ℕ) → FieldsReached fs a path k → TargetReached (record_literal fs) (a ∷ path) k
-  record_target fs a path k r =
-      record {
-        looks = λ u m. r.looks u m;
-        at = λ v q u h. (
-            let o = value_from (field_outcomes_of w fs) (λ vs. Some (val (record_of vs))) v q in
-            let i : o.0 ≡ h.0 = (let j : record_of o.0 ≡ v = same_value (record_of o.0) v o.2 in let z : record_of o.0 ≡ record_of h.0 = j ∙ h.1 in cc) in
-            r.at o.0 o.1 h.2.0 (subst (λ z. field_of a z ≡ Some h.2.0) (sym i) h.2.1) u h.2.2);
-      }
-
-  -- two operands, by what is shown of each
-  operands_looks : (o : BinaryOp) (a b : Tree) (i : Count) (whole : Tree) (vs : List Violation) → (if steps_from_left o then stepped n whole (further 1 i) else vs) ≡ []
-      → (steps_from_left o ≡ true → i.found ≡ [] → i.steps ≤ n → TargetReached a [] i.steps) → (steps_from_left o ≡ false → (u : Uid) → Looks w a u → Reached s Near n u) → ((u : Uid) → Looks w b u → Reached s Near n u)
-      → (u : Uid) → Looks w (binary o a b) u → Reached s Near n u
-  operands_looks o a b i whole vs h on off right u l =
-      test_cases (steps_from_left o)
-      (λ q. let k = step_within n whole (further 1 i) (subst (λ z. (if z then stepped n whole (further 1 i) else vs) ≡ []) q h) in
-      let m = k.0 in
-      let r = on q k.1 (omega (arith, m)) in
-      ⊎_elim (λ j. r.looks u j) (λ j. ⊎_elim (λ p. right u p) (λ p. let y = looked_entity o j.0 p.0 u p.2 in reached_more s x e w suits Near near (suc i.steps) n u (omega (arith, m)) (r.at j.0 (means_outcome w a (val j.0) j.1) u y.1)) j.2) l)
-      (λ q. ⊎_elim (λ j. off q u j) (λ j. ⊎_elim (λ p. right u p) (λ p. absurd (clash q (looked_entity o j.0 p.0 u p.2).0)) j.2) l)
-    where
-      clash : steps_from_left o ≡ false → steps_from_left o ≡ true → ⊥
-      clash q k = cc
-
-  tag_entity : (known : Facts) (a b : Tree) (t u ty : Ty) (out : Facts) → Gives (binary_judged (strictly s x e) known get_tag a b t u) ty out → is_entity (Some t) ≡ true
-  tag_entity known a b t u ty out d = get_tag_entity (strictly s x e) known a b t u ty out d
-
-  -- a path, by what is shown of its operand
-  path_looks : (t : Tree) (a : Text) (bs : List Text) (known : Facts) (tt : Ty) (f : Facts) → Types (strictly s x e) known t tt f → (ty : Ty) (out : Facts) → Gives (path_judged (strictly s x e) a bs t tt) ty out → (k : ℕ)
-      → ((u : Uid) → Looks w t u → Reached s Near n u) → Good w tt f (outcome_of w t)
-      → ((v : V) → outcome_of w t ≡ Some (val v) → (entity_steps (strictly s x e) a bs (Some tt) ≡ 0) ⊎ (((u : Uid) → At (fields_before (strictly s x e) a bs (Some tt)) v u → Reached s Near (suc k) u) × (k + entity_steps (strictly s x e) a bs (Some tt) ≤ n)))
-      → (u : Uid) → Looks w (has_path t a bs) u → Reached s Near n u
-  path_looks t a bs known tt f d ty out p k lt g begins u l =
-      ⊎_elim (λ j. lt u j)
-      (λ j. let o = means_outcome w t (val j.0) j.1 in
-      path_begins s x e w suits Near near n c bs a t tt j.0 k (simple known t tt f d) (subst (Fine tt) o g.fine) (begins j.0 o) ty out p u j.2) l
-
-  -- the field on the path, and another
-  field_value_at : (b : Text) (v : V) (vs : Fields) (a : Text) (y : V) → bytes_eq a b ≡ true → field_of a (field b v vs) ≡ Some y → v ≡ y
-  field_value_at b v vs a y m q = inside (subst (λ z. (if z then Some v else field_of a vs) ≡ Some y) m q)
-
-  other_value_at : (b : Text) (v : V) (vs : Fields) (a : Text) (y : V) → bytes_eq a b ≡ false → field_of a (field b v vs) ≡ Some y → field_of a vs ≡ Some y
-  other_value_at b v vs a y m q = subst (λ z. (if z then Some v else field_of a vs) ≡ Some y) m q
-
-  first_field : (b : Text) (t : Tree) (fs : TreeFields) (a : Text) (path : List Text) (k : ℕ) → bytes_eq a b ≡ true → TargetReached t path k → ((u : Uid) → AnyFieldLooks w fs u → Reached s Near n u) → FieldsReached (tree_field b t fs) a path k
-  first_field b t fs a path k m r rest =
-      record {
-        looks = λ u l. ⊎_elim (λ j. r.looks u j) (λ j. rest u j.2) l;
-        at = λ vs q y i u h. (
-            let o = value_from (outcome_of w t) (λ v. bind (field_outcomes_of w fs) (λ ys. Some (val (field b v ys)))) vs q in
-            let p = value_from (field_outcomes_of w fs) (λ ys. Some (val (field b o.0 ys))) vs o.2 in
-            let z : field b o.0 p.0 ≡ vs = same_value (field b o.0 p.0) vs p.2 in
-            let j = field_value_at b o.0 p.0 a y m (subst (λ g. field_of a g ≡ Some y) (sym z) i) in
-            r.at o.0 o.1 u (subst (λ g. At path g u) (sym j) h));
-      }
-
-  later_field : (b : Text) (t : Tree) (fs : TreeFields) (a : Text) (path : List Text) (k : ℕ) → bytes_eq a b ≡ false → FieldsReached fs a path k → ((u : Uid) → Looks w t u → Reached s Near n u) → FieldsReached (tree_field b t fs) a path k
-  later_field b t fs a path k m r first =
-      record {
-        looks = λ u l. ⊎_elim (λ j. first u j) (λ j. r.looks u j.2) l;
-        at = λ vs q y i u h. (
-            let o = value_from (outcome_of w t) (λ v. bind (field_outcomes_of w fs) (λ ys. Some (val (field b v ys)))) vs q in
-            let p = value_from (field_outcomes_of w fs) (λ ys. Some (val (field b o.0 ys))) vs o.2 in
-            let z : field b o.0 p.0 ≡ vs = same_value (field b o.0 p.0) vs p.2 in
-            r.at p.0 p.1 y (other_value_at b o.0 p.0 a y m (subst (λ g. field_of a g ≡ Some y) (sym z) i)) u h);
-      }
-
   mutual
     pub looks_reached : (known : Facts) → Hold w known → (t : Tree) → SlotsIn w (subexpressions t) → (ty : Ty) (out : Facts) → Types (strictly s x e) known t ty out → violations n (strictly s x e) known t ≡ [] → (u : Uid) → Looks w t u → Reached s Near n u
     looks_reached known hold (lit p) sl ty out d h u l = absurd l
@@ -293,7 +54,7 @@ module _ (s : Schema) (x : Table) (e : Environment) (w : World) (suits : Suits s
         let sr2 = on_right w (subexpressions t) _ sr in
         let k = none_of_both (violations n (strictly s x e) known t) _ h in
         let lt = looks_reached known hold t (on_left w (subexpressions t) _ sr) d.0 d.1 d.2 k.0 in
-        let g = good known hold t (on_left w (subexpressions t) _ sr) d.0 d.1 d.2 lt in
+        let g = good s x e w suits Near near n c known hold t (on_left w (subexpressions t) _ sr) d.0 d.1 d.2 lt in
         let br = behind_test (strictly s x e) (λ f. Types (strictly s x e) (union known f) a) (Types (strictly s x e) known b) (λ f. violations n (strictly s x e) (union known f) a) (violations n (strictly s x e) known b) d.0 d.1 ty out d.3
         (subst (λ o. after_test o (λ f. violations n (strictly s x e) (union known f) a) (violations n (strictly s x e) known b) ≡ []) (judged_as (strictly s x e) known t d.0 d.1 d.2) k.1) in
         ⊎_elim (λ j. lt u j)
@@ -305,7 +66,7 @@ module _ (s : Schema) (x : Table) (e : Environment) (w : World) (suits : Suits s
         let sr = behind w _ _ sl in
         let k = none_of_both (violations n (strictly s x e) known a) _ h in
         let la = looks_reached known hold a (on_left w (subexpressions a) _ sr) d.0 d.1 d.2 k.0 in
-        let g = good known hold a (on_left w (subexpressions a) _ sr) d.0 d.1 d.2 la in
+        let g = good s x e w suits Near near n c known hold a (on_left w (subexpressions a) _ sr) d.0 d.1 d.2 la in
         ⊎_elim (λ j. la u j)
         (λ m. let o = means_outcome w a _ m.0 in
         let r = behind_and (λ f. Types (strictly s x e) (union known f) b) (λ f. violations n (strictly s x e) (union known f) b) d.0 d.1 ty out d.3
@@ -315,7 +76,7 @@ module _ (s : Schema) (x : Table) (e : Environment) (w : World) (suits : Suits s
         let sr = behind w _ _ sl in
         let k = none_of_both (violations n (strictly s x e) known a) _ h in
         let la = looks_reached known hold a (on_left w (subexpressions a) _ sr) d.0 d.1 d.2 k.0 in
-        let g = good known hold a (on_left w (subexpressions a) _ sr) d.0 d.1 d.2 la in
+        let g = good s x e w suits Near near n c known hold a (on_left w (subexpressions a) _ sr) d.0 d.1 d.2 la in
         ⊎_elim (λ j. la u j)
         (λ m. let r = behind_or (Types (strictly s x e) known b) (violations n (strictly s x e) known b) d.0 d.1 ty out d.3
         (subst (λ z. after_or z (violations n (strictly s x e) known b) ≡ []) (judged_as (strictly s x e) known a d.0 d.1 d.2) k.1) (not_true w d.0 d.1 (outcome_of w a) g (means_outcome w a _ m.0)) in
@@ -329,22 +90,22 @@ module _ (s : Schema) (x : Table) (e : Environment) (w : World) (suits : Suits s
         let la = λ (q : steps_from_left o ≡ false). looks_reached known hold a (on_left w (subexpressions a) _ sr) d.0 d.1 d.2
         (subst (λ z. (if z then stepped n (binary o a b) (further 1 (target n (strictly s x e) known [] a)) else violations n (strictly s x e) known a) ≡ []) q k.0) in
         let ta = λ (q : steps_from_left o ≡ true) (i : (target n (strictly s x e) known [] a).found ≡ []) (j : (target n (strictly s x e) known [] a).steps ≤ n).
-        target_reached known hold a (on_left w (subexpressions a) _ sr) d.0 d.1 d.2 [] (left_leads known o a b d.0 r.0 ty out q r.3) i j in
-        operands_looks o a b (target n (strictly s x e) known [] a) (binary o a b) (violations n (strictly s x e) known a) k.0 ta la right u l
+        target_reached known hold a (on_left w (subexpressions a) _ sr) d.0 d.1 d.2 [] (left_leads s x e w suits Near near n c known o a b d.0 r.0 ty out q r.3) i j in
+        operands_looks s x e w suits Near near n c o a b (target n (strictly s x e) known [] a) (binary o a b) (violations n (strictly s x e) known a) k.0 ta la right u l
     looks_reached known hold (call f ts) sl ty out d h u l = looks_each known hold ts (behind w _ _ sl) d.0 d.1 h u l
     looks_reached known hold (get_attr t a) sl ty out d h u l =
-        attribute_looks t (get_attr t a) known d.0 d.1 d.2 h (λ i j m. target_reached known hold t (behind w _ _ sl) d.0 d.1 d.2 [] i j m) (λ i. looks_reached known hold t (behind w _ _ sl) d.0 d.1 d.2 i) (λ i. good known hold t (behind w _ _ sl) d.0 d.1 d.2 i) u l
+        attribute_looks s x e w suits Near near n c t (get_attr t a) known d.0 d.1 d.2 h (λ i j m. target_reached known hold t (behind w _ _ sl) d.0 d.1 d.2 [] i j m) (λ i. looks_reached known hold t (behind w _ _ sl) d.0 d.1 d.2 i) (λ i. good s x e w suits Near near n c known hold t (behind w _ _ sl) d.0 d.1 d.2 i) u l
     looks_reached known hold (has_attr t a) sl ty out d h u l =
-        attribute_looks t (has_attr t a) known d.0 d.1 d.2 h (λ i j m. target_reached known hold t (behind w _ _ sl) d.0 d.1 d.2 [] i j m) (λ i. looks_reached known hold t (behind w _ _ sl) d.0 d.1 d.2 i) (λ i. good known hold t (behind w _ _ sl) d.0 d.1 d.2 i) u l
+        attribute_looks s x e w suits Near near n c t (has_attr t a) known d.0 d.1 d.2 h (λ i j m. target_reached known hold t (behind w _ _ sl) d.0 d.1 d.2 [] i j m) (λ i. looks_reached known hold t (behind w _ _ sl) d.0 d.1 d.2 i) (λ i. good s x e w suits Near near n c known hold t (behind w _ _ sl) d.0 d.1 d.2 i) u l
     looks_reached known hold (has_path t a bs) sl ty out d h u l =
         let i = subst (λ o. path_violations n (has_path t a bs) (entity_steps (strictly s x e) a bs o) (target n (strictly s x e) known (fields_before (strictly s x e) a bs o) t) (violations n (strictly s x e) known t) ≡ []) (type_is (strictly s x e) known t d.0 d.1 d.2) h in
         ⊎_elim
         (λ k. (let lt = looks_reached known hold t (behind w _ _ sl) d.0 d.1 d.2 k.1 in
-        path_looks t a bs known d.0 d.1 d.2 ty out d.3 0 lt (good known hold t (behind w _ _ sl) d.0 d.1 d.2 lt) (λ v q. inl k.0) u l))
+        path_looks s x e w suits Near near n c t a bs known d.0 d.1 d.2 ty out d.3 0 lt (good s x e w suits Near near n c known hold t (behind w _ _ sl) d.0 d.1 d.2 lt) (λ v q. inl k.0) u l))
         (λ k. (let z = k.3 in
         let r = target_reached known hold t (behind w _ _ sl) d.0 d.1 d.2 (fields_before (strictly s x e) a bs (Some d.0)) (before_leads (strictly s x e) bs a d.0 k.0 k.1) k.2 (omega (arith, z)) in
-        path_looks t a bs known d.0 d.1 d.2 ty out d.3 (target n (strictly s x e) known (fields_before (strictly s x e) a bs (Some d.0)) t).steps (λ y m. r.looks y m) (good known hold t (behind w _ _ sl) d.0 d.1 d.2 (λ y m. r.looks y m)) (λ v q. inr (r.at v q, z)) u l))
-        (path_cases (has_path t a bs) (entity_steps (strictly s x e) a bs (Some d.0)) (target n (strictly s x e) known (fields_before (strictly s x e) a bs (Some d.0)) t) (violations n (strictly s x e) known t) i)
+        path_looks s x e w suits Near near n c t a bs known d.0 d.1 d.2 ty out d.3 (target n (strictly s x e) known (fields_before (strictly s x e) a bs (Some d.0)) t).steps (λ y m. r.looks y m) (good s x e w suits Near near n c known hold t (behind w _ _ sl) d.0 d.1 d.2 (λ y m. r.looks y m)) (λ v q. inr (r.at v q, z)) u l))
+        (path_cases s x e w suits Near near n c (has_path t a bs) (entity_steps (strictly s x e) a bs (Some d.0)) (target n (strictly s x e) known (fields_before (strictly s x e) a bs (Some d.0)) t) (violations n (strictly s x e) known t) i)
     looks_reached known hold (like t p) sl ty out d h u l = looks_reached known hold t (behind w _ _ sl) d.0 d.1 d.2 h u l
     looks_reached known hold (is_type t m) sl ty out d h u l = looks_reached known hold t (behind w _ _ sl) d.0 d.1 d.2 h u l
     looks_reached known hold (set_literal ts) sl ty out d h u l = looks_each known hold ts (behind w _ _ sl) d.0 d.1 h u l
@@ -363,13 +124,13 @@ module _ (s : Schema) (x : Table) (e : Environment) (w : World) (suits : Suits s
         ⊎_elim (λ j. looks_reached known hold t (on_left w (subexpressions t) _ sl) d.0 d.1 d.2 k.0 u j) (λ j. looks_fields known hold fs (on_right w (subexpressions t) _ sl) d.3 d.4 k.1 u j.2) l
 
     target_reached : (known : Facts) → Hold w known → (t : Tree) → SlotsIn w (subexpressions t) → (ty : Ty) (out : Facts) → Types (strictly s x e) known t ty out → (path : List Text) → leads ty path ≡ true
-        → (target n (strictly s x e) known path t).found ≡ [] → (target n (strictly s x e) known path t).steps ≤ n → TargetReached t path (target n (strictly s x e) known path t).steps
+        → (target n (strictly s x e) known path t).found ≡ [] → (target n (strictly s x e) known path t).steps ≤ n → TargetReached s x e w suits Near near n c t path (target n (strictly s x e) known path t).steps
     target_reached known hold (lit y) sl ty out d path p h l =
         record {
           looks = λ u m. absurd m;
-          at = λ v q u a. (let i : prim y ≡ v = same_value (prim y) v q in inr (literal_at y path h u (subst (λ z. At path z u) (sym i) a)));
+          at = λ v q u a. (let i : prim y ≡ v = same_value (prim y) v q in inr (literal_at s x e w suits Near near n c y path h u (subst (λ z. At path z u) (sym i) a)));
         }
-    target_reached known hold (var y) sl ty out d path p h l = record { looks = λ u m. absurd m; at = λ v q u a. variable_at y path v q u a }
+    target_reached known hold (var y) sl ty out d path p h l = record { looks = λ u m. absurd m; at = λ v q u a. variable_at s x e w suits Near near n c y path v q u a }
     target_reached known hold (slot i) sl ty out d path p h l = cc
     target_reached known hold (unknown m a) sl ty out d path p h l = absurd d
     target_reached known hold (choice t a b) sl ty out d path p h l =
@@ -380,12 +141,12 @@ module _ (s : Schema) (x : Table) (e : Environment) (w : World) (suits : Suits s
         let j = judged_as (strictly s x e) known t d.0 d.1 d.2 in
         let k = none_of_both (violations n (strictly s x e) known t) _ h in
         let lt = looks_reached known hold t (on_left w (subexpressions t) _ sr) d.0 d.1 d.2 k.0 in
-        let g = good known hold t (on_left w (subexpressions t) _ sr) d.0 d.1 d.2 lt in
-        let br = target_branches (strictly s x e) refl (λ f. Types (strictly s x e) (union known f) a) (Types (strictly s x e) known b) (λ f u i o. simple (union known f) a u i o) (λ u i o. simple known b u i o) fa fb path d.0 d.1 ty out d.3 p
+        let g = good s x e w suits Near near n c known hold t (on_left w (subexpressions t) _ sr) d.0 d.1 d.2 lt in
+        let br = target_branches (strictly s x e) refl (λ f. Types (strictly s x e) (union known f) a) (Types (strictly s x e) known b) (λ f u i o. simple s x e w suits Near near n c (union known f) a u i o) (λ u i o. simple s x e w suits Near near n c known b u i o) fa fb path d.0 d.1 ty out d.3 p
         (subst (λ o. (target_after_test o fa fb).found ≡ []) j k.1) in
         let z : (branches greater d.0 (fa d.1) fb).steps ≤ n = subst (λ o. (target_after_test o fa fb).steps ≤ n) j l in
-        subst (λ o. TargetReached (choice t a b) path (target_after_test o fa fb).steps) (sym j)
-        (choice_target t a b path (branches greater d.0 (fa d.1) fb).steps lt
+        subst (λ o. TargetReached s x e w suits Near near n c (choice t a b) path (target_after_test o fa fb).steps) (sym j)
+        (choice_target s x e w suits Near near n c t a b path (branches greater d.0 (fa d.1) fb).steps lt
         (λ o. (let r = br.on_true (not_false w d.0 d.1 (outcome_of w t) g o) in let m = r.3.1 in
         ((fa d.1).steps, target_reached (union known d.1) (hold_union w known d.1 hold (g.holds o)) a (on_left w (subexpressions a) _ sr2) r.0 r.1 r.2.0 path r.2.1 r.3.0 (omega (arith, m, z)), m)))
         (λ o. (let r = br.on_false (not_true w d.0 d.1 (outcome_of w t) g o) in let m = r.3.1 in
@@ -399,7 +160,7 @@ module _ (s : Schema) (x : Table) (e : Environment) (w : World) (suits : Suits s
         let k = none_of_both (violations n (strictly s x e) known b) (target n (strictly s x e) known [] a).found h in
         let i = get_tag_leads (strictly s x e) known a b d.0 r.0 ty out r.3 in
         let ta = target_reached known hold a (on_left w (subexpressions a) _ sr) d.0 d.1 d.2 [] i k.1 (omega (arith, l)) in
-        tag_target a b path (target n (strictly s x e) known [] a).steps d.0 d.1 (tag_entity known a b d.0 r.0 ty out r.3) (good known hold a (on_left w (subexpressions a) _ sr) d.0 d.1 d.2 (λ u m. ta.looks u m)) ta
+        tag_target s x e w suits Near near n c a b path (target n (strictly s x e) known [] a).steps d.0 d.1 (get_tag_entity (strictly s x e) known a b d.0 r.0 ty out r.3) (good s x e w suits Near near n c known hold a (on_left w (subexpressions a) _ sr) d.0 d.1 d.2 (λ u m. ta.looks u m)) ta
         (looks_reached known hold b (on_right w (subexpressions a) _ sr) r.0 r.1 r.2 k.0) l
     target_reached known hold (binary has_tag a b) sl ty out d path p h l = let r = d.3 in bool_strays path ty (tested_bool a (tag_part b) _ ty out r.3) p
     target_reached known hold (binary o a b) sl ty out d path p h l = let r = d.3 in plain_strays _ path ty out (binary_strays (strictly s x e) o a b d.0 r.0 refl) r.3 p
@@ -412,14 +173,14 @@ module _ (s : Schema) (x : Table) (e : Environment) (w : World) (suits : Suits s
         (λ k. let i : (target n (strictly s x e) known [] t).found ≡ [] = subst (λ z. (if z then on else off).found ≡ []) (q ∙ k) h in
         let j : (target n (strictly s x e) known [] t).steps + 1 ≤ n = subst (λ z. (if z then on else off).steps ≤ n) (q ∙ k) l in
         let r = target_reached known hold t (behind w _ _ sl) d.0 d.1 d.2 [] (entity_leads d.0 k) i (omega (arith, j)) in
-        subst (λ z. TargetReached (get_attr t a) path (if z then on else off).steps) (sym (q ∙ k))
-        (attribute_target t a path (target n (strictly s x e) known [] t).steps d.0 d.1 k (good known hold t (behind w _ _ sl) d.0 d.1 d.2 (λ u m. r.looks u m)) r j))
+        subst (λ z. TargetReached s x e w suits Near near n c (get_attr t a) path (if z then on else off).steps) (sym (q ∙ k))
+        (attribute_target s x e w suits Near near n c t a path (target n (strictly s x e) known [] t).steps d.0 d.1 k (good s x e w suits Near near n c known hold t (behind w _ _ sl) d.0 d.1 d.2 (λ u m. r.looks u m)) r j))
         (λ k. let i : off.found ≡ [] = subst (λ z. (if z then on else off).found ≡ []) (q ∙ k) h in
         let j : off.steps ≤ n = subst (λ z. (if z then on else off).steps ≤ n) (q ∙ k) l in
         let m = declared_attribute (known t (attribute_part a)) (lookup_attribute s d.0 a) ty out d.3 in
         let r = target_reached known hold t (behind w _ _ sl) d.0 d.1 d.2 (a ∷ path) (field_leads (strictly s x e) d.0 a path m.0 k m.1 (subst (λ z. leads z path ≡ true) (sym m.2) p)) i j in
-        subst (λ z. TargetReached (get_attr t a) path (if z then on else off).steps) (sym (q ∙ k))
-        (field_target t a path off.steps d.0 d.1 k (λ v o. record_of_lookup d.0 a m.0 v k m.1 o) (good known hold t (behind w _ _ sl) d.0 d.1 d.2 (λ u o. r.looks u o)) r))
+        subst (λ z. TargetReached s x e w suits Near near n c (get_attr t a) path (if z then on else off).steps) (sym (q ∙ k))
+        (field_target s x e w suits Near near n c t a path off.steps d.0 d.1 k (λ v o. record_of_lookup s x e w suits Near near n c d.0 a m.0 v k m.1 o) (good s x e w suits Near near n c known hold t (behind w _ _ sl) d.0 d.1 d.2 (λ u o. r.looks u o)) r))
     target_reached known hold (has_attr t a) sl ty out d path p h l = bool_strays path ty (tested_bool t (attribute_part a) _ ty out d.3) p
     target_reached known hold (has_path t a bs) sl ty out d path p h l = bool_strays path ty (path_bool (strictly s x e) a bs t d.0 ty out d.3) p
     target_reached known hold (like t m) sl ty out d path p h l = plain_strays _ path ty out (like_strays d.0) d.3 p
@@ -428,10 +189,10 @@ module _ (s : Schema) (x : Table) (e : Environment) (w : World) (suits : Suits s
     target_reached known hold (record_literal fs) sl ty out d [] p h l = (let q = subst (λ z. leads z [] ≡ true) (record_is d.0 ty out d.2) p in cc)
     target_reached known hold (record_literal fs) sl ty out d (a ∷ path) p h l =
         let k = named_leads (attribute_named a d.0) path (subst (λ z. leads z (a ∷ path) ≡ true) (record_is d.0 ty out d.2) p) in
-        record_target fs a path _ (fields_reached known hold fs (behind w _ _ sl) d.0 d.1 a path k.0 k.1 k.2 h l)
+        record_target s x e w suits Near near n c fs a path _ (fields_reached known hold fs (behind w _ _ sl) d.0 d.1 a path k.0 k.1 k.2 h l)
 
     fields_reached : (known : Facts) → Hold w known → (fs : TreeFields) → SlotsIn w (subexpressions_in_fields fs) → (as_ : Attributes) → FieldsTyped (strictly s x e) known fs as_ → (a : Text) (path : List Text) (k : Declared) → attribute_named a as_ ≡ Some k → leads k.type path ≡ true
-        → (target_in_fields n (strictly s x e) known (a ∷ path) fs).found ≡ [] → (target_in_fields n (strictly s x e) known (a ∷ path) fs).steps ≤ n → FieldsReached fs a path (target_in_fields n (strictly s x e) known (a ∷ path) fs).steps
+        → (target_in_fields n (strictly s x e) known (a ∷ path) fs).found ≡ [] → (target_in_fields n (strictly s x e) known (a ∷ path) fs).steps ≤ n → FieldsReached s x e w suits Near near n c fs a path (target_in_fields n (strictly s x e) known (a ∷ path) fs).steps
     fields_reached known hold no_tree_fields sl as_ d a path k q p h l = (let z : attribute_named a no_attributes ≡ Some k = subst (λ y. attribute_named a y ≡ Some k) d q in cc)
     fields_reached known hold (tree_field b t fs) sl as_ d a path k q p h l =
         let z : attribute_named a (attribute b d.0 true d.3) ≡ Some k = subst (λ y. attribute_named a y ≡ Some k) d.5 q in
@@ -442,11 +203,11 @@ module _ (s : Schema) (x : Table) (e : Environment) (w : World) (suits : Suits s
         let j : (target n (strictly s x e) known path t).steps ≤ n = subst (λ y. (if y then yes else no).steps ≤ n) m l in
         let o : d.0 ≡ k.type = ap (λ (y : Declared). y.type) (inside (subst (λ y. (if y then Some (record { type = d.0; is_required = true }) else attribute_named a d.3) ≡ Some k) m z)) in
         let r = target_reached known hold t (on_left w (subexpressions t) _ sl) d.0 d.1 d.2 path (subst (λ y. leads y path ≡ true) (sym o) p) i.1 j in
-        subst (λ y. FieldsReached (tree_field b t fs) a path (if y then yes else no).steps) (sym m)
-        (first_field b t fs a path (target n (strictly s x e) known path t).steps m r (looks_fields known hold fs (on_right w (subexpressions t) _ sl) d.3 d.4 i.0)))
+        subst (λ y. FieldsReached s x e w suits Near near n c (tree_field b t fs) a path (if y then yes else no).steps) (sym m)
+        (first_field s x e w suits Near near n c b t fs a path (target n (strictly s x e) known path t).steps m r (looks_fields known hold fs (on_right w (subexpressions t) _ sl) d.3 d.4 i.0)))
         (λ m. let i = none_of_both (violations n (strictly s x e) known t) _ (subst (λ y. (if y then yes else no).found ≡ []) m h) in
         let j : (target_in_fields n (strictly s x e) known (a ∷ path) fs).steps ≤ n = subst (λ y. (if y then yes else no).steps ≤ n) m l in
         let o : attribute_named a d.3 ≡ Some k = subst (λ y. (if y then Some (record { type = d.0; is_required = true }) else attribute_named a d.3) ≡ Some k) m z in
         let r = fields_reached known hold fs (on_right w (subexpressions t) _ sl) d.3 d.4 a path k o p i.1 j in
-        subst (λ y. FieldsReached (tree_field b t fs) a path (if y then yes else no).steps) (sym m)
-        (later_field b t fs a path (target_in_fields n (strictly s x e) known (a ∷ path) fs).steps m r (looks_reached known hold t (on_left w (subexpressions t) _ sl) d.0 d.1 d.2 i.0)))
+        subst (λ y. FieldsReached s x e w suits Near near n c (tree_field b t fs) a path (if y then yes else no).steps) (sym m)
+        (later_field s x e w suits Near near n c b t fs a path (target_in_fields n (strictly s x e) known (a ∷ path) fs).steps m r (looks_reached known hold t (on_left w (subexpressions t) _ sl) d.0 d.1 d.2 i.0)))
