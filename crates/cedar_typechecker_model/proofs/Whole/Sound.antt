@@ -21,3 +21,4 @@ pub mod Straying
 pub mod Counted
 pub mod Targets
 pub mod Reaching
+pub mod Conditions

@@ -54,7 +54,7 @@ slot_same resource_slot = refl
 used_slot : (t : Tree) (i : SlotId) → Contains (subexpressions t) (slot i) → tree_uses t i ≡ true
 used_slot t i h = any_has (slot_eq i) (slots t) i (kept_has slot_here (subexpressions t) (slot i) i h refl) (slot_same i)
 
-slots_in : (w : World) (t : Tree) → SlotsAreBound w t → SlotsIn w (subexpressions t)
+pub slots_in : (w : World) (t : Tree) → SlotsAreBound w t → SlotsIn w (subexpressions t)
 slots_in w t h = record { bound = λ i k. h i (used_slot t i k) }
 
 pub types_are_sound : (s : Schema) (x : Table) (e : Environment) (w : World) → Suits s x e w → (known : Facts) (t : Tree) → Hold w known → SlotsAreBound w t → ((u : Uid) → Looks w t u → ConformsAt s w u)
@@ -139,113 +139,124 @@ module _ (s : Schema) (x : Table) (w : World) (p : Policy) (c : IsConforming s x
   has_scope_slot (of_kind n) h = absurd h
   has_scope_slot (of_kind_inside n (named u)) h = absurd h
 
-  known_principal : variable (with_slots w p.bindings) principal ≡ Some (val (prim (entity c.request.0.principal)))
+  pub known_principal : variable (with_slots w p.bindings) principal ≡ Some (val (prim (entity c.request.0.principal)))
   known_principal = ap known_uid c.request.1.principal
 
-  known_action : variable (with_slots w p.bindings) action ≡ Some (val (prim (entity c.request.0.action)))
+  pub known_action : variable (with_slots w p.bindings) action ≡ Some (val (prim (entity c.request.0.action)))
   known_action = ap known_uid c.request.1.action
 
-  known_resource : variable (with_slots w p.bindings) resource ≡ Some (val (prim (entity c.request.0.resource)))
+  pub known_resource : variable (with_slots w p.bindings) resource ≡ Some (val (prim (entity c.request.0.resource)))
   known_resource = ap known_uid c.request.1.resource
 
-  not_true : (o : Option (Res V)) → OnlyFalse o → o ≡ Some (says true) → ⊥
+  pub not_true : (o : Option (Res V)) → OnlyFalse o → o ≡ Some (says true) → ⊥
   not_true o h e = let q : val (truth_value true) ≡ val (truth_value false) = h (val (truth_value true)) e in cc
 
-  module _ (bound : IsBound p) (conform : LookupsConform s w p) where
-    principal_bound : HasSlot p.principal → IsThere p.bindings.principal
+  -- slots that fit are those of an environment
+  pub covered : IsTaken s p.principal c.request.0.principal.kind p.bindings.principal → IsTaken s p.resource c.request.0.resource.kind p.bindings.resource → IsCovered s x w p
+  covered m n =
+      let good = good_request s x w c in
+      let a = good.0 in
+      let g = good.1 in
+      let e = environment_at a c.request.0.principal.kind c.request.0.resource.kind in (
+        environment.with_slots e m.0 n.0,
+        (slots_covered s (scope_use p.principal) (scope_use p.resource) (environment.with_slots e m.0 n.0)).1 (e, (has_environment s c.request.0 a g).1, (m.0, m.1, (n.0, n.1, refl))),
+        hold_both (fits_slot m.0 p.bindings.principal) (fits_slot n.0 p.bindings.resource) m.2 n.2,
+        suits_with a g m.0 n.0 m.2 n.2,
+      )
+
+  -- the slots of the condition are bound
+  pub condition_bound : IsBound p → SlotsAreBound (with_slots w p.bindings) (condition p)
+  condition_bound bound i h = bound i (sym (condition_uses p i) ∙ h)
+
+  module _ (bound : IsBound p) where
+    pub principal_bound : HasSlot p.principal → IsThere p.bindings.principal
     principal_bound h = bound principal_slot (hold_left _ _ (has_scope_slot p.principal h))
 
-    resource_bound : HasSlot p.resource → IsThere p.bindings.resource
+    pub resource_bound : HasSlot p.resource → IsThere p.bindings.resource
     resource_bound h = bound resource_slot (hold_left _ _ (has_scope_slot p.resource h))
 
     -- the parts of the condition
-    abbrev first : Tree
+    abbrev pub first : Tree
     first = scope_tree principal principal_slot p.principal
 
-    abbrev second : Tree
+    abbrev pub second : Tree
     second = action_tree p.action
 
-    abbrev third : Tree
+    abbrev pub third : Tree
     third = scope_tree resource resource_slot p.resource
 
-    first_truth : IsTruth (outcome_of (with_slots w p.bindings) first)
+    pub first_truth : IsTruth (outcome_of (with_slots w p.bindings) first)
     first_truth = scope_truth (with_slots w p.bindings) principal c.request.0.principal known_principal principal_slot p.principal principal_bound
 
-    second_truth : IsTruth (outcome_of (with_slots w p.bindings) second)
+    pub second_truth : IsTruth (outcome_of (with_slots w p.bindings) second)
     second_truth = action_truth (with_slots w p.bindings) c.request.0.action known_action p.action
 
-    third_truth : IsTruth (outcome_of (with_slots w p.bindings) third)
+    pub third_truth : IsTruth (outcome_of (with_slots w p.bindings) third)
     third_truth = scope_truth (with_slots w p.bindings) resource c.request.0.resource known_resource resource_slot p.resource resource_bound
 
-    principal_unfit : IsUnfit s p.principal c.request.0.principal.kind p.bindings.principal → OnlyFalse (outcome_of (with_slots w p.bindings) (condition p))
-    principal_unfit h =
-        let rest = conjunction second (conjunction third (body_tree p.body)) in
-        let f = scope_false s (with_slots w p.bindings) principal principal_slot c.request.0.principal p.principal known_principal h (λ z l. conform z (looks_left (with_slots w p.bindings) first rest z l)) in
-        conjunction_false (with_slots w p.bindings) first rest first_truth (λ e. absurd (not_true _ f e))
-
-    resource_unfit : IsUnfit s p.resource c.request.0.resource.kind p.bindings.resource → OnlyFalse (outcome_of (with_slots w p.bindings) (condition p))
-    resource_unfit h =
-        let v = with_slots w p.bindings in
-        let last = conjunction third (body_tree p.body) in
-        let rest = conjunction second last in
-        conjunction_false v first rest first_truth
-        (λ e. conjunction_false v second last second_truth
-        (λ k. (let f = scope_false s v resource resource_slot c.request.0.resource p.resource known_resource h (λ z l. conform z (looks_right v first rest z e (looks_right v second last z k (looks_left v third (body_tree p.body) z l)))) in
-        conjunction_false v third (body_tree p.body) third_truth (λ i. absurd (not_true _ f i)))))
-
-    is_false : OnlyFalse (outcome_of (with_slots w p.bindings) (condition p)) → IsFalse w p
-    is_false f r m = f r (means_outcome (with_slots w p.bindings) (condition p) r m)
-
-    covered : (a : Action) → IsGoodFor s c.request.0 a → IsTaken s p.principal c.request.0.principal.kind p.bindings.principal → IsTaken s p.resource c.request.0.resource.kind p.bindings.resource → IsCovered s x w p
-    covered a g m n =
-        let e = environment_at a c.request.0.principal.kind c.request.0.resource.kind in (
-          environment.with_slots e m.0 n.0,
-          (slots_covered s (scope_use p.principal) (scope_use p.resource) (environment.with_slots e m.0 n.0)).1 (e, (has_environment s c.request.0 a g).1, (m.0, m.1, (n.0, n.1, refl))),
-          hold_both (fits_slot m.0 p.bindings.principal) (fits_slot n.0 p.bindings.resource) m.2 n.2,
-          suits_with a g m.0 n.0 m.2 n.2,
-        )
-
-    pub environments_cover : IsCovered s x w p ⊎ IsFalse w p
-    environments_cover =
+    -- whether the slots fit
+    pub principal_choice : IsTaken s p.principal c.request.0.principal.kind p.bindings.principal ⊎ IsUnfit s p.principal c.request.0.principal.kind p.bindings.principal
+    principal_choice =
         let a = good_request s x w c in
         let f = found_as c.request.0.action s.actions a.0 a.1.action in
-        ⊎_elim
-        (λ m. ⊎_elim (λ n. inl (covered a.0 a.1 m n)) (λ u. inr (is_false (resource_unfit u)))
-        (slot_choice s c.schema p.resource c.request.0.resource.kind p.bindings.resource (declared_among c.request.0.resource.kind s.types (c.schema.listed a.0 f.1 c.request.0.resource.kind (inr a.1.resource))) resource_bound))
-        (λ u. inr (is_false (principal_unfit u)))
-        (slot_choice s c.schema p.principal c.request.0.principal.kind p.bindings.principal (declared_among c.request.0.principal.kind s.types (c.schema.listed a.0 f.1 c.request.0.principal.kind (inl a.1.principal))) principal_bound)
+        slot_choice s c.schema p.principal c.request.0.principal.kind p.bindings.principal (declared_among c.request.0.principal.kind s.types (c.schema.listed a.0 f.1 c.request.0.principal.kind (inl a.1.principal))) principal_bound
 
-    -- the slots of the condition are bound
-    condition_bound : SlotsAreBound (with_slots w p.bindings) (condition p)
-    condition_bound i h = bound i (sym (condition_uses p i) ∙ h)
+    pub resource_choice : IsTaken s p.resource c.request.0.resource.kind p.bindings.resource ⊎ IsUnfit s p.resource c.request.0.resource.kind p.bindings.resource
+    resource_choice =
+        let a = good_request s x w c in
+        let f = found_as c.request.0.action s.actions a.0 a.1.action in
+        slot_choice s c.schema p.resource c.request.0.resource.kind p.bindings.resource (declared_among c.request.0.resource.kind s.types (c.schema.listed a.0 f.1 c.request.0.resource.kind (inr a.1.resource))) resource_bound
 
-    typed_sound : (e : Environment) → Suits s x e (with_slots w p.bindings) → (ty : Ty) (out : Facts) → Types (strictly s x e) no_facts (condition p) ty out → (r : Res V) → Means (with_slots w p.bindings) (condition p) r → IsGood ty r
-    typed_sound e suits ty out d r m = (types_are_sound s x e (with_slots w p.bindings) suits no_facts (condition p) (hold_none (with_slots w p.bindings)) condition_bound conform ty out d r m).0
+    module _ (conform : LookupsConform s w p) where
+      principal_unfit : IsUnfit s p.principal c.request.0.principal.kind p.bindings.principal → OnlyFalse (outcome_of (with_slots w p.bindings) (condition p))
+      principal_unfit h =
+          let rest = conjunction second (conjunction third (body_tree p.body)) in
+          let f = scope_false s (with_slots w p.bindings) principal principal_slot c.request.0.principal p.principal known_principal h (λ z l. conform z (looks_left (with_slots w p.bindings) first rest z l)) in
+          conjunction_false (with_slots w p.bindings) first rest first_truth (λ e. absurd (not_true _ f e))
 
-    any_good : (b : BoolType) (r : Res V) → IsGood (bool_type b) r → IsGood (bool_type any_bool) r
-    any_good b (val v) h = in_any b v h
-    any_good b (err f) h = h
+      resource_unfit : IsUnfit s p.resource c.request.0.resource.kind p.bindings.resource → OnlyFalse (outcome_of (with_slots w p.bindings) (condition p))
+      resource_unfit h =
+          let v = with_slots w p.bindings in
+          let last = conjunction third (body_tree p.body) in
+          let rest = conjunction second last in
+          conjunction_false v first rest first_truth
+          (λ e. conjunction_false v second last second_truth
+          (λ k. (let f = scope_false s v resource resource_slot c.request.0.resource p.resource known_resource h (λ z l. conform z (looks_right v first rest z e (looks_right v second last z k (looks_left v third (body_tree p.body) z l)))) in
+          conjunction_false v third (body_tree p.body) third_truth (λ i. absurd (not_true _ f i)))))
 
-    whole_slots : IsWhole w → IsWhole (with_slots w p.bindings)
-    whole_slots h = record { principal = h.principal; action = h.action; resource = h.resource; context = h.context; unknowns = h.unknowns; store = h.store }
+      is_false : OnlyFalse (outcome_of (with_slots w p.bindings) (condition p)) → IsFalse w p
+      is_false f r m = f r (means_outcome (with_slots w p.bindings) (condition p) r m)
 
-    pub passing_is_sound : IsWhole w → Passes s x p → (r : Res V) × PolicyMeans w p r × IsGood (bool_type any_bool) r
-    passing_is_sound h passes =
-        let m = an_outcome (with_slots w p.bindings) (whole_slots h) (condition p) in (
-          m.0,
-          (policies_mean_truth w p m.0).1 m.1,
+      pub environments_cover : IsCovered s x w p ⊎ IsFalse w p
+      environments_cover = ⊎_elim (λ m. ⊎_elim (λ n. inl (covered m n)) (λ u. inr (is_false (resource_unfit u))) resource_choice) (λ u. inr (is_false (principal_unfit u))) principal_choice
+
+      typed_sound : (e : Environment) → Suits s x e (with_slots w p.bindings) → (ty : Ty) (out : Facts) → Types (strictly s x e) no_facts (condition p) ty out → (r : Res V) → Means (with_slots w p.bindings) (condition p) r → IsGood ty r
+      typed_sound e suits ty out d r m = (types_are_sound s x e (with_slots w p.bindings) suits no_facts (condition p) (hold_none (with_slots w p.bindings)) (condition_bound bound) conform ty out d r m).0
+
+      any_good : (b : BoolType) (r : Res V) → IsGood (bool_type b) r → IsGood (bool_type any_bool) r
+      any_good b (val v) h = in_any b v h
+      any_good b (err f) h = h
+
+      whole_slots : IsWhole w → IsWhole (with_slots w p.bindings)
+      whole_slots h = record { principal = h.principal; action = h.action; resource = h.resource; context = h.context; unknowns = h.unknowns; store = h.store }
+
+      pub passing_is_sound : IsWhole w → Passes s x p → (r : Res V) × PolicyMeans w p r × IsGood (bool_type any_bool) r
+      passing_is_sound h passes =
+          let m = an_outcome (with_slots w p.bindings) (whole_slots h) (condition p) in (
+            m.0,
+            (policies_mean_truth w p m.0).1 m.1,
+            ⊎_elim
+                (λ k. (let d = passes k.0 k.1 in any_good d.0 m.0 (typed_sound k.0 k.3 (bool_type d.0) d.1 d.2 m.0 m.1)))
+                (λ f. subst (IsGood (bool_type any_bool)) (sym (f m.0 m.1)) refl)
+                environments_cover,
+          )
+
+      pub impossible_is_sound : IsImpossible s x p → IsSatisfied w p → ⊥
+      impossible_is_sound impossible sat =
           ⊎_elim
-              (λ k. (let d = passes k.0 k.1 in any_good d.0 m.0 (typed_sound k.0 k.3 (bool_type d.0) d.1 d.2 m.0 m.1)))
-              (λ f. subst (IsGood (bool_type any_bool)) (sym (f m.0 m.1)) refl)
-              environments_cover,
-        )
-
-    pub impossible_is_sound : IsImpossible s x p → IsSatisfied w p → ⊥
-    impossible_is_sound impossible sat =
-        ⊎_elim
-        (λ k. (let d = impossible k.0 k.1 k.2 in let g : IsGood (bool_type only_false) (val (truth_value true)) = typed_sound k.0 k.3 (bool_type only_false) d.0 d.1 (val (truth_value true)) sat in lies g))
-        (λ f. (let q = f (val (truth_value true)) sat in cc))
-        environments_cover
-      where
-        lies : false ≡ true → ⊥
-        lies e = cc
+          (λ k. (let d = impossible k.0 k.1 k.2 in let g : IsGood (bool_type only_false) (val (truth_value true)) = typed_sound k.0 k.3 (bool_type only_false) d.0 d.1 (val (truth_value true)) sat in lies g))
+          (λ f. (let q = f (val (truth_value true)) sat in cc))
+          environments_cover
+        where
+          lies : false ≡ true → ⊥
+          lies e = cc

@@ -43,7 +43,7 @@ IsTruth o = (o ≡ None) ⊎ ((b : Bool) × (o ≡ Some (says b)))
 abbrev pub OnlyFalse : Option (Res V) → Type 0
 OnlyFalse o = (r : Res V) → o ≡ Some r → r ≡ val (truth_value false)
 
-abbrev both_outcome : Option (Res V) → Option (Res V) → Option (Res V)
+abbrev pub both_outcome : Option (Res V) → Option (Res V) → Option (Res V)
 both_outcome l r = bind l (picked (bind r (λ v. Some (truth_asked v))) (Some (says false)))
 
 none_false : OnlyFalse None
@@ -99,7 +99,7 @@ found_truth u v us (held d) e = inr (_, ap (λ o. Some (is_in_some d.ancestors u
 found_truth u v us missing e = inr (_, ap (λ o. Some (is_in_some [] u o)) e)
 found_truth u v us not_loaded e = inl refl
 
-target_known : (w : World) (i : SlotId) (t : Target) → IsThere (w.slots i) → (u : Uid) × (outcome_of w (target_tree i t) ≡ Some (val (prim (entity u))))
+pub target_known : (w : World) (i : SlotId) (t : Target) → IsThere (w.slots i) → (u : Uid) × (outcome_of w (target_tree i t) ≡ Some (val (prim (entity u))))
 target_known w i (named u) h = (u, refl)
 target_known w i own_slot h = by (w.slots i) h
   where
@@ -107,18 +107,15 @@ target_known w i own_slot h = by (w.slots i) h
     by None k = absurd k
     by (Some u) k = (u, refl)
 
-named_known : (w : World) (i : SlotId) (u : Uid) → (v : Uid) × (outcome_of w (target_tree i (named u)) ≡ Some (val (prim (entity v))))
-named_known w i u = (u, refl)
-
 module _ (w : World) (y : Var) (u : Uid) (known : variable w y ≡ Some (val (prim (entity u)))) where
   equal_truth : (t : Tree) (v : Uid) → outcome_of w t ≡ Some (val (prim (entity v))) → outcome_of w (binary equal (var y) t) ≡ Some (says (value_eq (prim (entity u)) (prim (entity v))))
   equal_truth t v e = λ i. bind (known i) (λ a. bind (e i) (combined w equal a))
 
-  in_outcome : (t : Tree) (v : Uid) → outcome_of w t ≡ Some (val (prim (entity v))) → outcome_of w (binary is_in (var y) t) ≡ found_in u (prim (entity v)) (w.store u)
+  pub in_outcome : (t : Tree) (v : V) → outcome_of w t ≡ Some (val v) → outcome_of w (binary is_in (var y) t) ≡ found_in u v (w.store u)
   in_outcome t v e = λ i. bind (known i) (λ a. bind (e i) (combined w is_in a))
 
   in_truth : (t : Tree) (v : Uid) → outcome_of w t ≡ Some (val (prim (entity v))) → IsTruth (outcome_of w (binary is_in (var y) t))
-  in_truth t v e = subst IsTruth (sym (in_outcome t v e)) (found_truth u (prim (entity v)) (v ∷ []) (w.store u) refl)
+  in_truth t v e = subst IsTruth (sym (in_outcome t (prim (entity v)) e)) (found_truth u (prim (entity v)) (v ∷ []) (w.store u) refl)
 
   is_outcome : (n : Name) → outcome_of w (is_type (var y) n) ≡ Some (says (name_eq u.kind n))
   is_outcome n = ap (λ o. bind o (λ v. Some (of_type n v))) known
@@ -140,6 +137,9 @@ uids_outcome : (w : World) (us : List Uid) → outcomes_of w (uid_trees us) ≡ 
 uids_outcome w [] = refl
 uids_outcome w (u ∷ us) = ap (λ o. bind o (λ vs. Some (val (prim (entity u) ∷ vs)))) (uids_outcome w us)
 
+pub set_outcome : (w : World) (us : List Uid) → outcome_of w (set_literal (uid_trees us)) ≡ Some (val (set_made (map (λ u. prim (entity u)) us)))
+set_outcome w us = ap (λ o. bind o (λ vs. Some (val (set_made vs)))) (uids_outcome w us)
+
 set_uids : (us : List Uid) → Uids (members_made (map (λ u. prim (entity u)) us))
 set_uids us =
     let vs = map (λ (u : Uid). prim (entity u)) us in
@@ -149,9 +149,8 @@ pub action_truth : (w : World) (u : Uid) → variable w action ≡ Some (val (pr
 action_truth w u known any_action = inr (true, refl)
 action_truth w u known (exactly_action v) = inr (_, equal_truth w action u known (lit (entity v)) v refl)
 action_truth w u known (inside_actions us) =
-    let e : outcome_of w (set_literal (uid_trees us)) ≡ Some (val (set_made (map (λ u. prim (entity u)) us))) = ap (λ o. bind o (λ vs. Some (val (set_made vs)))) (uids_outcome w us) in
     let r = set_uids us in
-    subst IsTruth (sym (λ i. bind (known i) (λ a. bind (e i) (combined w is_in a)))) (found_truth u (set_made (map (λ u. prim (entity u)) us)) r.list (w.store u) r.are)
+    subst IsTruth (sym (in_outcome w action u known (set_literal (uid_trees us)) (set_made (map (λ u. prim (entity u)) us)) (set_outcome w us))) (found_truth u (set_made (map (λ u. prim (entity u)) us)) r.list (w.store u) r.are)
 
 -- The slot fits an environment of the policy, or it has a uid that none has.
 abbrev pub IsTaken : Schema → Scope → Name → Option Uid → Type 0
@@ -222,7 +221,7 @@ module _ (s : Schema) (w : World) (y : Var) (i : SlotId) (u v : Uid) (known : va
   in_false : (name_eq u.kind v.kind || type_descends s u.kind v.kind) ≡ false → ConformsAt s w u → OnlyFalse (outcome_of w (binary is_in (var y) (target_tree i own_slot)))
   in_false n c =
       only_false_of (outcome_of w (binary is_in (var y) (target_tree i own_slot))) (in_truth w y u known (target_tree i own_slot) v slot_is)
-      (subst (Fine (bool_type only_false)) (sym (in_outcome w y u known (target_tree i own_slot) v slot_is))
+      (subst (Fine (bool_type only_false)) (sym (in_outcome w y u known (target_tree i own_slot) (prim (entity v)) slot_is))
       (excluded s (some_kinds (u.kind ∷ [])) (some_kinds (v.kind ∷ [])) w u (prim (entity v)) (w.store u) refl c (contains_head u.kind []) (right_one (some_kinds (v.kind ∷ [])) (prim (entity v)) v refl (contains_head v.kind []))
       (alone (name_eq u.kind v.kind || type_descends s u.kind v.kind) n)))
     where
