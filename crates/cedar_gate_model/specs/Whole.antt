@@ -20,4 +20,5 @@ pub mod WorkedReading
 pub mod ReadingLaws
 pub mod GateLaws
 pub mod RunLaws
+pub mod SliceSoundness
 pub mod WorkedGate

@@ -8,4 +8,5 @@ pub mod whole_reading_declared;
 pub mod whole_reading_laws;
 pub mod whole_reading_started;
 pub mod whole_reading_worked;
+pub mod whole_soundness;
 pub mod worked;

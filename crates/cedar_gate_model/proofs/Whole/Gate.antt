@@ -1,5 +1,7 @@
 pub mod Accepting
 pub mod Slices
+pub mod Reach
+pub mod ReachWorked
 pub mod Transcripts
 pub mod RisingUids
 pub mod AlikeRuns

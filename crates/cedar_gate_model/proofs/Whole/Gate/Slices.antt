@@ -180,7 +180,7 @@ named_once (q ∷ ps) p once k = contains_cases (part_named p.0 (q ∷ ps) ≡ S
     later rest m false e = ap (λ t. cond t (Some q.1) (part_named p.0 ps)) e ∙ rest (λ h. once (inr h)) m
 
 -- a part that is found under a name stands there
-named_there : (ps : List (Text × Part V)) (a : Text) (x : Part V) → part_named a ps ≡ Some x → (p : Text × Part V) × Contains ps p × (p.1 ≡ x)
+pub named_there : (ps : List (Text × Part V)) (a : Text) (x : Part V) → part_named a ps ≡ Some x → (p : Text × Part V) × Contains ps p × (p.1 ≡ x)
 named_there [] a x e = cc
 named_there (q ∷ ps) a x e = go (named_there ps a x) (bytes_eq a q.0) e
   where
