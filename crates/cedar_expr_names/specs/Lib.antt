@@ -1,4 +1,5 @@
 pub mod Ids
 pub mod Parts
 pub mod Views
+pub mod Namespaces
 pub mod Refusals

@@ -22,3 +22,5 @@ pub mod GateLaws
 pub mod RunLaws
 pub mod SliceSoundness
 pub mod WorkedGate
+pub mod FirstPath
+pub mod FirstPathReading

@@ -8,7 +8,8 @@ use Rattle.cedar_expr_model.specs.Whole.Tree.{Tree}
 use Rattle.cedar_expr_model.specs.Whole.Value.{V}
 use Rattle.cedar_store_model.specs.Whole.Outcome.{Res}
 use Rattle.cedar_store_model.specs.Whole.World.{World, Found}
-use Rattle.cedar_store_model.specs.Whole.Looks.{Looks, with_store}
+use Rattle.cedar_store_model.specs.Whole.Looks.{Looks}
+use Rattle.cedar_store_model.specs.Whole.Laws.{with_store}
 use Rattle.cedar_store_model.specs.Whole.Knowledge.{IsWhole}
 use Rattle.cedar_store_model.specs.Whole.Policy.{Policy, condition}
 use Rattle.cedar_store_model.specs.Whole.Answer.{with_slots, PolicyMeans, IsSatisfied, answer_of}

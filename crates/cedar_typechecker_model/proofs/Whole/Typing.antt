@@ -8,7 +8,7 @@ use Rattle.cedar_typechecker_model.specs.Whole.Rules.{Setting, literal_type, var
 use Rattle.cedar_typechecker_model.specs.Whole.Typing.{Judgement, judged, plain, tested, conjoined, disjoined, chosen, path_judged, binary_judged, Gives, Sub, AndTyped, OrTyped, ChoiceTyped, Types, EachTyped, FieldsTyped, and_judged, or_judged, choice_judged, judgement, judgements, field_judgements, type_of}
 use Rattle.cedar_typechecker_model.proofs.Whole.Exact.{Exact, ExactAt, of_parts, exact_gives, exact_sub, exact_found, exact_at, exact_next, same_type, same_facts}
 
-exact_and : (right : Facts → Ty → Facts → Type 0) (r : Facts → Option Judgement) → ((f : Facts) → Exact (right f) (r f)) → (t : Ty) (f : Facts) → Exact (AndTyped right t f) (and_judged r t f)
+pub exact_and : (right : Facts → Ty → Facts → Type 0) (r : Facts → Option Judgement) → ((f : Facts) → Exact (right f) (r f)) → (t : Ty) (f : Facts) → Exact (AndTyped right t f) (and_judged r t f)
 exact_and right r h (bool_type only_false) f = exact_gives _
 exact_and right r h (bool_type b) f = exact_sub (right f) (λ u g. Gives (conjoined b f u g)) (r f) (conjoined b f) (h f) (λ u g. exact_gives (conjoined b f u g))
 exact_and right r h t f = exact_gives None

@@ -1,6 +1,6 @@
 -- What typing promises of policies: one that passes means a truth value or errs as expected, and an impossible one is never satisfied.
 -- Rule: typing; impossible policies; environments (docs/RULES.md).
-use Rattle.std.specs.Prelude.{◌≡◌, true, false, Some, Contains}
+use Rattle.std.specs.Prelude.{◌≡◌, true, false, Some, Contains, IsSome}
 use Rattle.std.proofs.Common.{◌⊎◌}
 use Rattle.cedar_expr_model.specs.Uid.{Uid}
 use Rattle.cedar_expr_model.specs.Whole.Value.{V, record_of, truth_value}
@@ -10,12 +10,13 @@ use Rattle.cedar_store_model.specs.Whole.Outcome.{Res, val}
 use Rattle.cedar_store_model.specs.Whole.World.{Request, World, Entity, held}
 use Rattle.cedar_store_model.specs.Whole.Meaning.{Means}
 use Rattle.cedar_store_model.specs.Whole.Looks.{Looks}
-use Rattle.cedar_store_model.specs.Whole.Knowledge.{IsThere, IsWhole}
+use Rattle.cedar_store_model.specs.Whole.Knowledge.{IsWhole}
 use Rattle.cedar_store_model.specs.Whole.Policy.{Policy, binding_of, condition, has_slot}
 use Rattle.cedar_store_model.specs.Whole.Answer.{with_slots, PolicyMeans, IsSatisfied}
 use Rattle.cedar_schema_model.specs.Whole.Types.{any_bool, bool_type}
 use Rattle.cedar_schema_model.specs.Whole.Schema.{Schema, declares_action}
-use Rattle.cedar_schema_model.specs.Whole.Conforming.{EntityConforms, parts_of, RequestConforms}
+use Rattle.cedar_schema_model.specs.Whole.Conforming.{EntityConforms, RequestConforms}
+use Rattle.cedar_store_model.specs.Whole.Store.{as_open}
 use Rattle.cedar_schema_model.specs.Whole.Environment.{Environment}
 use Rattle.cedar_typechecker_model.specs.Whole.Simple.{IsOrderly}
 use Rattle.cedar_typechecker_model.specs.Whole.Soundness.{IsGood, ConformsAt, Suits}
@@ -33,12 +34,12 @@ pub record IsConforming (s : Schema) (x : Table) (w : World) : Type 0 where
   pub schema : IsOrderly s
   pub fair : IsFair x
   pub table : w.table ≡ x
-  pub request : (r : Request) × IsOfRequest w r × RequestConforms s (parts_of r)
+  pub request : (r : Request) × IsOfRequest w r × RequestConforms s (as_open r)
   pub actions : (u : Uid) → declares_action s u ≡ true → (d : Entity V) × (w.store u ≡ held d) × EntityConforms s u d
 
 -- each slot of the policy is bound
 abbrev pub IsBound : Policy → Type 0
-IsBound p = (i : SlotId) → has_slot p i ≡ true → IsThere (binding_of p.bindings i)
+IsBound p = (i : SlotId) → has_slot p i ≡ true → IsSome (binding_of p.bindings i)
 
 -- each entity that the policy's condition looks up conforms
 abbrev pub LookupsConform : Schema → World → Policy → Type 0

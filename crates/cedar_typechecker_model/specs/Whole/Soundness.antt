@@ -1,6 +1,6 @@
 -- What typing promises of the meaning: an expression with a type means a value of it, or errs in one of three ways.
 -- Rule: typing (docs/RULES.md).
-use Rattle.std.specs.Prelude.{◌≡◌, true, Some, Contains}
+use Rattle.std.specs.Prelude.{◌≡◌, true, Some, Contains, IsSome}
 use Rattle.cedar_expr_model.specs.Uid.{Uid}
 use Rattle.cedar_expr_model.specs.Whole.Value.{entity, V, prim, truth_value}
 use Rattle.cedar_expr_model.specs.Whole.Tree.{SlotId, has_tag, Tree, binary, has_attr}
@@ -9,7 +9,6 @@ use Rattle.cedar_store_model.specs.Whole.Outcome.{Fault, missing_entity, overflo
 use Rattle.cedar_store_model.specs.Whole.World.{World, Entity, held}
 use Rattle.cedar_store_model.specs.Whole.Meaning.{Means}
 use Rattle.cedar_store_model.specs.Whole.Looks.{Looks}
-use Rattle.cedar_store_model.specs.Whole.Knowledge.{IsThere}
 use Rattle.cedar_store_model.specs.Whole.Policy.{tree_uses}
 use Rattle.cedar_store_model.specs.Whole.AnswerLaws.{Holds}
 use Rattle.cedar_schema_model.specs.Whole.Types.{is_closed, Ty, record_type}
@@ -68,7 +67,7 @@ pub record Suits (s : Schema) (x : Table) (e : Environment) (w : World) : Type 0
 
 -- each slot that stands in the expression is bound
 abbrev pub SlotsAreBound : World → Tree → Type 0
-SlotsAreBound w t = (i : SlotId) → tree_uses t i ≡ true → IsThere (w.slots i)
+SlotsAreBound w t = (i : SlotId) → tree_uses t i ≡ true → IsSome (w.slots i)
 
 -- In Strict each type of an expression is simple: no union arises.
 abbrev pub TypesAreSimple : Type 0

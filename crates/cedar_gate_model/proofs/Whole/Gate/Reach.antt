@@ -9,8 +9,10 @@ use Rattle.cedar_expr_model.specs.Whole.Tree.{Tree}
 use Rattle.cedar_expr_model.specs.Whole.Value.{V, Fields, no_fields, field, field_of}
 use Rattle.cedar_expr_model.proofs.Lists.{contains_head}
 use Rattle.cedar_store_model.specs.Whole.Outcome.{Res}
-use Rattle.cedar_store_model.specs.Whole.World.{World, Part, known, Entity, Found, held, part_named}
-use Rattle.cedar_store_model.specs.Whole.Looks.{Looks, with_store}
+use Rattle.cedar_store_model.specs.Whole.World.{World, Entity, Found, held}
+use Rattle.cedar_expr_model.specs.Whole.ValueParts.{Part, known}
+use Rattle.cedar_store_model.specs.Whole.Looks.{Looks}
+use Rattle.cedar_store_model.specs.Whole.Laws.{with_store}
 use Rattle.cedar_store_model.specs.Whole.Knowledge.{IsWhole}
 use Rattle.cedar_store_model.specs.Whole.Policy.{Policy, condition}
 use Rattle.cedar_store_model.specs.Whole.Answer.{with_slots, PolicyMeans, IsSatisfied, answer_of}
@@ -32,10 +34,11 @@ use Rattle.cedar_typechecker_model.proofs.Whole.Sound.Policies.{slots_in, passin
 use Rattle.cedar_typechecker_model.proofs.Whole.Sound.Reached.{Nearness, Reached, conform_at}
 use Rattle.cedar_typechecker_model.proofs.Whole.Sound.Reaching.{looks_reached}
 use Rattle.cedar_gate_model.specs.Whole.Acceptance.{Submission, IsAccepted, schema_in}
-use Rattle.cedar_gate_model.specs.Whole.Slice.{Mentions, FieldsMention, PartMentions, PartsMention, FoundMentions, IsKnown, ContextMentions, IsNear, InSlice}
+use Rattle.cedar_gate_model.specs.Whole.Slice.{IsNear, InSlice}
+use Rattle.cedar_gate_model.proofs.Whole.Gate.Mentions.{PartMentions, PartsMention, FoundMentions, IsKnown, ContextMentions, mentioned_there}
 use Rattle.cedar_gate_model.specs.Whole.SliceSoundness.{IsInReach, SliceConforms, IsFitFor}
 use Rattle.cedar_gate_model.proofs.Whole.Gate.Accepting.{accepted_good}
-use Rattle.cedar_gate_model.proofs.Whole.Gate.Slices.{mentioned_there, named_there, near_within}
+use Rattle.cedar_gate_model.proofs.Whole.Gate.Slices.{named_there, near_within}
 
 -- what stands in a value is mentioned by it
 field_mentions : (a : Text) (fs : Fields) (v : V) (u : Uid) → field_of a fs ≡ Some v → Mentions v u → FieldsMention fs u

@@ -14,7 +14,8 @@ use Rattle.cedar_store_model.specs.Whole.Policy.{condition}
 use Rattle.cedar_store_model.proofs.Whole.Meaning.{outcome_means}
 use Rattle.cedar_schema_model.specs.Whole.Schema.{Schema, declares_action}
 use Rattle.cedar_schema_model.specs.Whole.ActionEntities.{as_entity}
-use Rattle.cedar_schema_model.specs.Whole.Conforming.{EntityConforms, entity_conforms, parts_of}
+use Rattle.cedar_schema_model.specs.Whole.Conforming.{EntityConforms, entity_conforms}
+use Rattle.cedar_evaluator_model.proofs.Residuals.Chains.{parts_of}
 use Rattle.cedar_schema_model.proofs.Whole.Decls.Conforming.{entity_conforms-Decides, request_conforms-Decides}
 use Rattle.cedar_schema_model.proofs.Whole.Decls.Environments.{declares_action-Decides}
 use Rattle.cedar_typechecker_model.specs.Whole.PolicySoundness.{IsConforming}

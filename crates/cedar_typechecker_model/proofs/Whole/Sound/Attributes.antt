@@ -6,9 +6,11 @@ use Rattle.cedar_expr_model.specs.Uid.{Uid}
 use Rattle.cedar_expr_model.specs.Whole.Value.{entity, V, prim, Fields, field_of, truth_value}
 use Rattle.cedar_expr_model.proofs.Lists.{contains_cases, contains_none}
 use Rattle.cedar_store_model.specs.Whole.Outcome.{Res, val}
-use Rattle.cedar_store_model.specs.Whole.World.{World, Part, known, left, Found, held, missing, not_loaded, part_named}
+use Rattle.cedar_store_model.specs.Whole.World.{World, Found, held, missing, not_loaded}
+use Rattle.cedar_expr_model.specs.Whole.ValueParts.{Part, known, left}
 use Rattle.cedar_store_model.specs.Whole.Operators.{says}
-use Rattle.cedar_store_model.specs.Whole.Reads.{part_value, part_read, part_tested, attributes_of, field_value, attribute_read, attribute_tested}
+use Rattle.cedar_store_model.specs.Whole.Reads.{part_value, part_read, part_tested, attribute_read, attribute_tested}
+use Rattle.cedar_store_model.proofs.Whole.Named.{attributes_of}
 use Rattle.cedar_schema_model.specs.Whole.Types.{BoolType, any_bool, only_true, only_false, Openness, is_open, is_closed, Ty, bool_type, any_entity, entity_types, record_type, Attributes, Declared, attribute_named}
 use Rattle.cedar_schema_model.specs.Whole.Schema.{Schema}
 use Rattle.cedar_schema_model.specs.Whole.Lookup.{lookup_attribute, declared_of, declared_by_all}
@@ -21,6 +23,9 @@ use Rattle.cedar_typechecker_model.specs.Whole.Simple.{is_simple, IsOrderly}
 use Rattle.cedar_typechecker_model.specs.Whole.Soundness.{IsGood, ConformsAt}
 use Rattle.cedar_typechecker_model.proofs.Whole.Sound.Shapes.{any_value, entity_value, record_value}
 use Rattle.cedar_typechecker_model.proofs.Whole.Sound.Entities.{Declares, held_attribute, required_attribute}
+use Rattle.cedar_typechecker_model.proofs.Whole.Named.{field_value}
+use Rattle.std.specs.Map.{lookup}
+use Rattle.std.specs.Str.{bytes_eq}
 
 -- the same of what is known of an outcome
 abbrev pub Fine : Ty → Option (Res V) → Type 0
@@ -73,7 +78,7 @@ not_lacking false false e f g = cc
 module _ (s : Schema) (o : IsOrderly s) (w : World) (a : Text) where
   held_read : (u : Uid) (f : Found V) (d : Declared) (v : V) → w.store u ≡ f → ConformsAt s w u → declared_of s a u.kind ≡ Some d → part_read attributes_of u a f ≡ Some (val v) → HasType v d.type
   held_read u (held e) d v q c h r =
-      let k = held_attribute s o u e (c e q) a (known v) (part_is (part_named a e.attributes) v r) in
+      let k = held_attribute s o u e (c e q) a (known v) (part_is (lookup (bytes_eq a) e.attributes) v r) in
       let p : k.held ≡ v = (let z : known v ≡ known k.held = k.is_held in cc) in
       let t : k.what ≡ d = same_declared (declared_of s a u.kind) k.what d k.is_what h in
       subst (HasType v) (ap (λ (x : Declared). x.type) t) (subst (λ z. HasType z k.what.type) p k.of_type)
@@ -105,9 +110,9 @@ module _ (s : Schema) (o : IsOrderly s) (w : World) (a : Text) where
     part_there (Some (left t)) r k h = tt
     part_there None r k h = absurd (not_lacking d.is_required is_known there r k)
 
-    found_there : (u : Uid) (f : Found V) → w.store u ≡ f → ConformsAt s w u → DeclaredAs (declared_of s a u.kind) d → (is_known ≡ true → part_tested attributes_of a f ≡ Some (val (truth_value true))) → Fine d.type (part_read attributes_of u a f)
+    found_there : (u : Uid) (f : Found V) → w.store u ≡ f → ConformsAt s w u → DeclaredAs (declared_of s a u.kind) d → (is_known ≡ true → part_tested attributes_of u a f ≡ Some (val (truth_value true))) → Fine d.type (part_read attributes_of u a f)
     found_there u (held e) q c h k =
-        part_there (part_named a e.attributes) (λ r. required_attribute s o u e (c e q) a h.what h.is_what (h.required r)) k
+        part_there (lookup (bytes_eq a) e.attributes) (λ r. required_attribute s o u e (c e q) a h.what h.is_what (h.required r)) k
         (λ v p. subst (HasType v) h.same (held_read u (held e) h.what v q c h.is_what (ap part_value p)))
     found_there u missing q c h k = tt
     found_there u not_loaded q c h k = tt
@@ -151,8 +156,8 @@ module _ (s : Schema) (o : IsOrderly s) (w : World) (a : Text) where
       by None n = refl
       by (Some v) n = absurd (n v refl)
 
-  found_tested : (u : Uid) (f : Found V) → w.store u ≡ f → ConformsAt s w u → is_some (declared_of s a u.kind) ≡ false → Fine (bool_type only_false) (part_tested attributes_of a f)
-  found_tested u (held e) q c n = by (part_named a e.attributes) (λ p h. held_attribute s o u e (c e q) a p h)
+  found_tested : (u : Uid) (f : Found V) → w.store u ≡ f → ConformsAt s w u → is_some (declared_of s a u.kind) ≡ false → Fine (bool_type only_false) (part_tested attributes_of u a f)
+  found_tested u (held e) q c n = by (lookup (bytes_eq a) e.attributes) (λ p h. held_attribute s o u e (c e q) a p h)
     where
       by : (p : Option (Part V)) → ((x : Part V) → p ≡ Some x → Declares (declared_of s a u.kind) x) → not (is_some p) ≡ true
       by None f = refl
@@ -160,13 +165,13 @@ module _ (s : Schema) (o : IsOrderly s) (w : World) (a : Text) where
   found_tested u missing q c n = refl
   found_tested u not_loaded q c n = tt
 
-  any_tested : (f : Found V) → Fine (bool_type any_bool) (part_tested attributes_of a f)
-  any_tested (held e) = refl
-  any_tested missing = refl
-  any_tested not_loaded = tt
+  any_tested : (u : Uid) (f : Found V) → Fine (bool_type any_bool) (part_tested attributes_of u a f)
+  any_tested u (held e) = refl
+  any_tested u missing = refl
+  any_tested u not_loaded = tt
 
-  may_tested : (u : Uid) (b : Bool) → ConformsAt s w u → (b ≡ false → is_some (declared_of s a u.kind) ≡ false) → Fine (bool_type (if b then any_bool else only_false)) (part_tested attributes_of a (w.store u))
-  may_tested u true c n = any_tested (w.store u)
+  may_tested : (u : Uid) (b : Bool) → ConformsAt s w u → (b ≡ false → is_some (declared_of s a u.kind) ≡ false) → Fine (bool_type (if b then any_bool else only_false)) (part_tested attributes_of u a (w.store u))
+  may_tested u true c n = any_tested u (w.store u)
   may_tested u false c n = found_tested u (w.store u) refl c (n refl)
 
   pub has_fine : (x : Setting) → x.schema ≡ s → (t : Ty) (b : BoolType) (v : V) → is_simple t ≡ true → HasType v t → has_type x t a ≡ Some b → ((u : Uid) → v ≡ prim (entity u) → ConformsAt s w u) → Fine (bool_type b) (attribute_tested w a v)
@@ -177,13 +182,13 @@ module _ (s : Schema) (o : IsOrderly s) (w : World) (a : Text) where
   has_fine x g any_entity b v z h e c =
       let i = any_value v h in
       let q : any_bool ≡ b = inside e in
-      subst (λ y. Fine (bool_type b) (attribute_tested w a y)) (sym i.1) (fine_as (bool_type any_bool) (bool_type b) (part_tested attributes_of a (w.store i.0)) (ap bool_type q) (any_tested (w.store i.0)))
+      subst (λ y. Fine (bool_type b) (attribute_tested w a y)) (sym i.1) (fine_as (bool_type any_bool) (bool_type b) (part_tested attributes_of i.0 a (w.store i.0)) (ap bool_type q) (any_tested i.0 (w.store i.0)))
   has_fine x g (entity_types (n ∷ [])) b v z h e c =
       let i = one_kind n v h in
       let q : (if is_some (declared_of x.schema a n) || false then any_bool else only_false) ≡ b = inside e in
       let r : (if is_some (declared_of s a i.0.kind) || false then any_bool else only_false) ≡ b = (λ j. if is_some (declared_of (sym g j) a (i.2 j)) || false then any_bool else only_false) ∙ q in
       subst (λ y. Fine (bool_type b) (attribute_tested w a y)) (sym i.1)
-      (fine_as _ (bool_type b) (part_tested attributes_of a (w.store i.0)) (ap bool_type r) (may_tested i.0 (is_some (declared_of s a i.0.kind) || false) (c i.0 i.1) (neither (is_some (declared_of s a i.0.kind)))))
+      (fine_as _ (bool_type b) (part_tested attributes_of i.0 a (w.store i.0)) (ap bool_type r) (may_tested i.0 (is_some (declared_of s a i.0.kind) || false) (c i.0 i.1) (neither (is_some (declared_of s a i.0.kind)))))
     where
       neither : (d : Bool) → (d || false) ≡ false → d ≡ false
       neither true e = e

@@ -1,6 +1,6 @@
 -- What the condition of a policy looks up is near or a declared action, whatever its slots are bound to.
 use Rattle.std.proofs.Common.{◌≡◌, ◌⊎◌, inl, inr, ⊎_elim, ℕ, Bool, true, false, List, [], ◌∷◌, ◌++◌, map, Option, Some, None, refl, sym, ap, ◌∙◌, subst}
-use Rattle.std.specs.Prelude.{Contains}
+use Rattle.std.specs.Prelude.{Contains, IsSome}
 use Rattle.std.specs.List.{flat_map}
 use Rattle.std.proofs.lemmas.List.Concat.{flat_map-cons}
 use Rattle.cedar_expr_model.specs.Name.{Name}
@@ -15,10 +15,10 @@ use Rattle.cedar_expr_model.proofs.Lists.{contains_cases, contains_none}
 use Rattle.cedar_store_model.specs.Whole.Outcome.{Res, val, bind}
 use Rattle.cedar_store_model.specs.Whole.World.{World}
 use Rattle.cedar_store_model.specs.Whole.Operators.{says, of_type}
-use Rattle.cedar_store_model.specs.Whole.Meaning.{Means, known_uid, slot_value, variable, combined, outcome_of}
+use Rattle.cedar_store_model.specs.Whole.Meaning.{Means, slot_value, variable, combined, outcome_of}
+use Rattle.cedar_store_model.proofs.Whole.Named.{known_uid, uid_trees, principal_tree, resource_tree}
 use Rattle.cedar_store_model.specs.Whole.Looks.{Looks, AnyLooks}
-use Rattle.cedar_store_model.specs.Whole.Knowledge.{IsThere}
-use Rattle.cedar_store_model.specs.Whole.Policy.{Policy, SlotBindings, binding_of, Target, named, own_slot, Scope, any, exactly, inside, of_kind, of_kind_inside, target_tree, scope_tree, ActionScope, any_action, exactly_action, inside_actions, action_tree, uid_trees, principal_tree, resource_tree, body_tree, condition, has_slot}
+use Rattle.cedar_store_model.specs.Whole.Policy.{Policy, SlotBindings, binding_of, Target, named, own_slot, Scope, any, exactly, inside, of_kind, of_kind_inside, target_tree, scope_tree, ActionScope, any_action, exactly_action, inside_actions, action_tree, body_tree, condition, has_slot}
 use Rattle.cedar_store_model.specs.Whole.Answer.{with_slots}
 use Rattle.cedar_store_model.proofs.Whole.Meaning.{means_outcome, outcome_means}
 use Rattle.cedar_schema_model.specs.Whole.Types.{Ty, bool_type, strict}
@@ -29,7 +29,8 @@ use Rattle.cedar_typechecker_model.specs.Whole.Levels.{Violation, violations}
 use Rattle.cedar_typechecker_model.specs.Whole.Typing.{Types, type_of}
 use Rattle.cedar_typechecker_model.specs.Whole.Soundness.{ConformsAt, Suits, SlotsAreBound}
 use Rattle.cedar_typechecker_model.specs.Whole.PolicySoundness.{IsConforming, IsBound, IsCovered}
-use Rattle.cedar_typechecker_model.specs.Whole.Verdicts.{strictly, policy_environments, if_typed, violations_in, policy_violations, Passes}
+use Rattle.cedar_typechecker_model.specs.Whole.Verdicts.{strictly, policy_environments, violations_in, policy_violations, Passes}
+use Rattle.cedar_typechecker_model.proofs.Whole.Named.{if_typed}
 use Rattle.cedar_typechecker_model.proofs.Whole.Sound.Counted.{none_of_both, type_is}
 use Rattle.cedar_typechecker_model.proofs.Whole.Sound.Facts.{hold_none}
 use Rattle.cedar_typechecker_model.proofs.Whole.Sound.Leading.{at_entity}
@@ -90,7 +91,7 @@ module _ (w v : World) (y : Var) (i : SlotId) (same : variable w y ≡ variable 
   within_both n t z u e (inr (m, h)) =
       inr (outcome_means v (is_type (var y) n) (says true) (ap (λ o. bind o (λ k. Some (of_type n k))) (sym same) ∙ means_outcome w (is_type (var y) n) (says true) m), in_both t z u e h)
 
-  scope_looks : (c : Scope) → (HasSlot c → IsThere (v.slots i)) → (u : Uid) → Looks w (scope_tree y i c) u → Looks v (scope_tree y i c) u
+  scope_looks : (c : Scope) → (HasSlot c → IsSome (v.slots i)) → (u : Uid) → Looks w (scope_tree y i c) u → Looks v (scope_tree y i c) u
   scope_looks any h u l = absurd l
   scope_looks (exactly t) h u l = absurd (equal_looks w y (target_tree i t) u (target_looks w i t u) l)
   scope_looks (inside (named z)) h u l = in_both (named z) z u refl l
@@ -113,7 +114,7 @@ module _ (w : World) (b d : SlotBindings) (same : d.principal ≡ b.principal) w
   within_same n t e = ap (both_outcome (outcome_of (with_slots w b) (is_type (var principal) n))) e
 
   module _ (u : Uid) (known : variable (with_slots w b) principal ≡ Some (val (prim (entity u)))) where
-    principal_same : (c : Scope) → (HasSlot c → IsThere b.principal) → outcome_of (with_slots w b) (scope_tree principal principal_slot c) ≡ outcome_of (with_slots w d) (scope_tree principal principal_slot c)
+    principal_same : (c : Scope) → (HasSlot c → IsSome b.principal) → outcome_of (with_slots w b) (scope_tree principal principal_slot c) ≡ outcome_of (with_slots w d) (scope_tree principal principal_slot c)
     principal_same any h = refl
     principal_same (exactly (named z)) h = refl
     principal_same (exactly own_slot) h = ap (λ o. bind (known_uid w.principal) (λ a. bind (Some (slot_value o)) (combined (with_slots w b) equal a))) (sym same)
@@ -190,7 +191,7 @@ module _ (s : Schema) (x : Table) (w : World) (p : Policy) (c : IsConforming s x
     action_looked z q e k = subst (λ y. declares_action s y ≡ true) (sym ((k.3).action z e)) (action_declared s x k.0 (with_slots w q.bindings) k.3)
 
     -- where the slot of the principal doesn't fit
-    principal_unfit : (o : Option Uid) → (has_slot p resource_slot ≡ true → IsThere o) → IsTaken s p.resource c.request.0.resource.kind o → IsUnfit s p.principal c.request.0.principal.kind p.bindings.principal
+    principal_unfit : (o : Option Uid) → (has_slot p resource_slot ≡ true → IsSome o) → IsTaken s p.resource c.request.0.resource.kind o → IsUnfit s p.principal c.request.0.principal.kind p.bindings.principal
         → (u : Uid) → Looks here (condition p) u → Reached s Near n u
     principal_unfit o h k f u l =
         let b : SlotBindings = record { principal = Some c.request.0.principal; resource = o } in
@@ -200,7 +201,7 @@ module _ (s : Schema) (x : Table) (w : World) (p : Policy) (c : IsConforming s x
         let r = scope_false s here principal principal_slot c.request.0.principal p.principal (known_principal s x w p c) f (λ z m. fit_conform b there cov z (moved z m)) in
         ⊎_elim (λ m. fit_reached b there cov u (moved u m)) (λ m. absurd (not_true s x w p c _ r m.0)) (looks_parts here (principal_tree p) after_first u l)
       where
-        bindings_there : (o : Option Uid) → (has_slot p resource_slot ≡ true → IsThere o) → IsBound (rebound p (record { principal = Some c.request.0.principal; resource = o }))
+        bindings_there : (o : Option Uid) → (has_slot p resource_slot ≡ true → IsSome o) → IsBound (rebound p (record { principal = Some c.request.0.principal; resource = o }))
         bindings_there o h principal_slot k = tt
         bindings_there o h resource_slot k = h k
 

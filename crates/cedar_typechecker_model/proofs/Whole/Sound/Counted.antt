@@ -9,13 +9,13 @@ use Rattle.cedar_expr_model.specs.Whole.Tree.{Tree, BinaryOp, equal, less, less_
 use Rattle.cedar_expr_model.specs.Whole.Value.{entity, V, prim, truth_value}
 use Rattle.cedar_store_model.specs.Whole.Outcome.{Res, val, err, bind}
 use Rattle.cedar_store_model.specs.Whole.World.{World}
-use Rattle.cedar_store_model.specs.Whole.Looks.{CombinedLooks}
+use Rattle.cedar_store_model.specs.Whole.Looks.{CombinedLooks, looks_up}
 use Rattle.cedar_schema_model.specs.Whole.Types.{BoolType, any_bool, only_true, only_false, Ty, never, bool_type, any_entity, entity_types, record_type, Declared, attribute_named, strict}
 use Rattle.cedar_schema_model.specs.Whole.HasType.{HasType}
 use Rattle.cedar_schema_model.specs.Whole.Join.{join}
 use Rattle.cedar_schema_model.specs.Whole.Lookup.{lookup_attribute}
 use Rattle.cedar_typechecker_model.specs.Whole.Facts.{Facts, union, intersection}
-use Rattle.cedar_typechecker_model.specs.Whole.Levels.{Violation, Count, further, needed, stepped, is_entity, unless_false, unless_true, branches, after_and, after_or, after_test, greater, target_after_test, one_if, entity_steps, fields_before, steps_from_left, on_entity}
+use Rattle.cedar_typechecker_model.specs.Whole.Levels.{Violation, Count, further, needed, stepped, is_entity, unless_false, unless_true, branches, after_and, after_or, after_test, greater, target_after_test, entity_steps, fields_before, on_entity}
 use Rattle.cedar_typechecker_model.specs.Whole.Rules.{Setting}
 use Rattle.cedar_typechecker_model.specs.Whole.Simple.{is_simple}
 use Rattle.cedar_typechecker_model.specs.Whole.Typing.{Judgement, chosen, step_type, Gives, Types, AndTyped, OrTyped, ChoiceTyped, judgement, type_under}
@@ -25,6 +25,7 @@ use Rattle.cedar_schema_model.proofs.Whole.Types.Lookups.{test_cases}
 use Rattle.cedar_typechecker_model.proofs.Whole.Sound.Attributes.{Fine}
 use Rattle.cedar_typechecker_model.proofs.Whole.Sound.Facts.{Good}
 use Rattle.cedar_typechecker_model.proofs.Whole.Sound.Leading.{leads, entity_leads, leads_named, join_leads}
+use Rattle.cedar_typechecker_model.proofs.Whole.Named.{one_if}
 
 pub none_of_both : {A : Type 0} (vs ws : List A) → vs ++ ws ≡ [] → (vs ≡ []) × (ws ≡ [])
 none_of_both [] ws e = (refl, e)
@@ -120,7 +121,7 @@ value_from (Some (err x)) f r e = cc
 value_from (Some (val v)) f r e = (v, refl, e)
 
 -- which operands are looked up
-pub looked_entity : (o : BinaryOp) (v v' : V) (u : Uid) → CombinedLooks o v v' u → (steps_from_left o ≡ true) × (v ≡ prim (entity u))
+pub looked_entity : (o : BinaryOp) (v v' : V) (u : Uid) → CombinedLooks o v v' u → (looks_up o ≡ true) × (v ≡ prim (entity u))
 looked_entity is_in v v' u h = (refl, h)
 looked_entity get_tag v v' u h = (refl, h.0)
 looked_entity has_tag v v' u h = (refl, h.0)

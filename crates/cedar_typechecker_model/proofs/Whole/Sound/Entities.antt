@@ -8,7 +8,8 @@ use Rattle.cedar_expr_model.specs.Name.{Text}
 use Rattle.cedar_expr_model.specs.Uid.{Uid}
 use Rattle.cedar_expr_model.specs.Whole.Value.{V}
 use Rattle.cedar_expr_model.proofs.Lists.{contains_head, contains_tail}
-use Rattle.cedar_store_model.specs.Whole.World.{Part, known, left, Entity, part_named}
+use Rattle.cedar_store_model.specs.Whole.World.{Entity}
+use Rattle.cedar_expr_model.specs.Whole.ValueParts.{Part, known, left}
 use Rattle.cedar_schema_model.specs.Whole.Types.{Ty, Attributes, no_attributes, attribute, Declared, attribute_named}
 use Rattle.cedar_schema_model.specs.Whole.Schema.{EntityKind, standard, enumerated, external, EntityType, Schema, type_named, declares_action}
 use Rattle.cedar_schema_model.specs.Whole.Lookup.{attributes_of_kind, declared_of}
@@ -19,6 +20,7 @@ use Rattle.cedar_schema_model.proofs.Whole.Types.Lookups.{named_cases}
 use Rattle.cedar_schema_model.proofs.Whole.Decls.Direct.{good_entity}
 use Rattle.cedar_typechecker_model.specs.Whole.Rules.{kind_tags, tags_of}
 use Rattle.cedar_typechecker_model.specs.Whole.Simple.{IsOrderly}
+use Rattle.std.specs.Map.{lookup}
 
 -- where a schema speaks of an entity is where it declares its type
 kind_declared : (k : EntityKind) (a : Text) → attribute_named a (attributes_at (of_kind k)) ≡ attribute_named a (attributes_of_kind k)
@@ -60,9 +62,9 @@ found_by true a c p q ps rest f g e =
     subst (Contains ((c, p) ∷ ps)) (λ i. (sym s i, r i)) (contains_head (c, p) ps)
 found_by false a c p q ps rest f g e = contains_tail (c, p) ps (a, q) (g e)
 
-pub part_stands : {A : Type 0} (a : Text) (ps : List (Text × Part A)) (q : Part A) → part_named a ps ≡ Some q → Contains ps (a, q)
+pub part_stands : {A : Type 0} (a : Text) (ps : List (Text × Part A)) (q : Part A) → lookup (bytes_eq a) ps ≡ Some q → Contains ps (a, q)
 part_stands a [] q e = cc
-part_stands a (p ∷ ps) q e = found_by (bytes_eq a p.0) a p.0 p.1 q ps (part_named a ps) (bytes_eq-Decides a p.0).0 (part_stands a ps q) e
+part_stands a (p ∷ ps) q e = found_by (bytes_eq a p.0) a p.0 p.1 q ps (lookup (bytes_eq a) ps) (bytes_eq-Decides a p.0).0 (part_stands a ps q) e
 
 attribute_stands : (as_ : Attributes) (a : Text) (d : Declared) → attribute_named a as_ ≡ Some d → Contains (attribute_list as_) (a, d)
 attribute_stands no_attributes a d e = cc
@@ -89,13 +91,13 @@ pub record Declares (o : Option Declared) (p : Part V) : Type 0 where
   pub is_held : p ≡ known held
   pub of_type : HasType held what.type
 
-pub held_attribute : (s : Schema) → IsOrderly s → (u : Uid) (e : Entity V) → EntityConforms s u e → (a : Text) (p : Part V) → part_named a e.attributes ≡ Some p → Declares (declared_of s a u.kind) p
+pub held_attribute : (s : Schema) → IsOrderly s → (u : Uid) (e : Entity V) → EntityConforms s u e → (a : Text) (p : Part V) → lookup (bytes_eq a) e.attributes ≡ Some p → Declares (declared_of s a u.kind) p
 held_attribute s o u e c a p h =
     let k = known_of (type_at (attributes_at (place_of s u)) a) p ((good_entity s u e c).attributes (a, p) (part_stands a e.attributes p h)) in
     let d = declared_type (attribute_named a (attributes_at (place_of s u))) k.0 k.2 in
     record { what = d.0; is_what = sym (declared_there s o u a) ∙ d.1; held = k.1; is_held = k.3; of_type = subst (HasType k.1) (sym d.2) k.4 }
 
-pub required_attribute : (s : Schema) → IsOrderly s → (u : Uid) (e : Entity V) → EntityConforms s u e → (a : Text) (d : Declared) → declared_of s a u.kind ≡ Some d → d.is_required ≡ true → is_some (part_named a e.attributes) ≡ true
+pub required_attribute : (s : Schema) → IsOrderly s → (u : Uid) (e : Entity V) → EntityConforms s u e → (a : Text) (d : Declared) → declared_of s a u.kind ≡ Some d → d.is_required ≡ true → is_some (lookup (bytes_eq a) e.attributes) ≡ true
 required_attribute s o u e c a d h r = (good_entity s u e c).required (a, d) (attribute_stands (attributes_at (place_of s u)) a d (declared_there s o u a ∙ h)) r
 
 -- a tag likewise
@@ -106,7 +108,7 @@ pub record Tags (o : Option Ty) (p : Part V) : Type 0 where
   pub is_held : p ≡ known held
   pub of_type : HasType held what
 
-pub held_tag : (s : Schema) → IsOrderly s → (u : Uid) (e : Entity V) → EntityConforms s u e → (a : Text) (p : Part V) → part_named a e.tags ≡ Some p → Tags (tags_of s u.kind) p
+pub held_tag : (s : Schema) → IsOrderly s → (u : Uid) (e : Entity V) → EntityConforms s u e → (a : Text) (p : Part V) → lookup (bytes_eq a) e.tags ≡ Some p → Tags (tags_of s u.kind) p
 held_tag s o u e c a p h =
     let k = known_of (tags_at (place_of s u)) p ((good_entity s u e c).tags (a, p) (part_stands a e.tags p h)) in
     record { what = k.0; is_what = sym (tagged_there s o u) ∙ k.2; held = k.1; is_held = k.3; of_type = k.4 }

@@ -12,7 +12,8 @@ use Rattle.cedar_expr_model.specs.Whole.Value.{V, Vs, no_values, value, Fields, 
 use Rattle.cedar_schema_model.specs.Whole.Types.{BoolType, any_bool, only_true, only_false, Openness, is_open, is_closed, Ty, never, bool_type, long_type, string_type, any_entity, entity_types, entity_type, any_set, set_type, record_type, extension_type, Attributes, no_attributes, attribute, Declared, attribute_named, strict}
 use Rattle.cedar_schema_model.specs.Whole.Subtype.{are_among, are_named}
 use Rattle.cedar_schema_model.specs.Whole.HasType.{is_of_bool, FieldFits, HasRequired, HasType, HaveType, FieldsFit}
-use Rattle.cedar_schema_model.specs.Whole.Join.{bool_join, names_of_both, joined_with, kept_attribute, join, attributes_join, join_all, reduce_to_join}
+use Rattle.cedar_schema_model.specs.Whole.Join.{bool_join, names_of_both, joined_with, kept_attribute, join, attributes_join, reduce_to_join}
+use Rattle.cedar_schema_model.proofs.Whole.Named.{join_all}
 use Rattle.cedar_schema_model.proofs.Whole.Types.Lookups.{no_none, inside, test_cases, named_first, named_later, named_cases, Parts, each_type}
 use Rattle.cedar_schema_model.proofs.Whole.Types.Names.{among_at, name_order}
 use Rattle.cedar_schema_model.proofs.Whole.Types.Subtypes.{named_at}

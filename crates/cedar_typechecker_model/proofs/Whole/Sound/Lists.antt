@@ -6,7 +6,8 @@ use Rattle.std.proofs.lemmas.Slice.Eq.{bytes_eq-Decides}
 use Rattle.cedar_expr_model.specs.Name.{Text, Name}
 use Rattle.cedar_expr_model.specs.Whole.Value.{truth, long, text, entity, V, prim, set_of, record_of, extension, Fields, no_fields, field, field_of}
 use Rattle.cedar_expr_model.specs.Whole.Canonical.{members_made, set_made}
-use Rattle.cedar_expr_model.specs.Whole.Substitution.{core_type_of, core_eq}
+use Rattle.cedar_expr_model.specs.Whole.Substitution.{core_type_of}
+use Rattle.cedar_expr_model.specs.Whole.Order.{core_eq}
 use Rattle.cedar_expr_model.specs.Whole.Table.{Signature, signature_of, takes_count, are_of_types, Called, gives, fails, leaves, IsAnswer, IsFair}
 use Rattle.cedar_expr_model.specs.Whole.Tree.{CoreType, bool_core, long_core, string_core, set_core, record_core, entity_core, extension_core, Trees}
 use Rattle.cedar_expr_model.proofs.Lists.{both_hold, hold_both, contains_cases, contains_none, contains_head, contains_tail}
@@ -20,12 +21,14 @@ use Rattle.cedar_schema_model.specs.Whole.Join.{reduce_to_join}
 use Rattle.cedar_schema_model.specs.Whole.HasType.{HasType, FieldsFit, FieldFits}
 use Rattle.cedar_schema_model.proofs.Whole.Types.Lookups.{inside, named_first, named_cases, no_none}
 use Rattle.cedar_schema_model.proofs.Whole.Types.Values.{sets_by_members, supertypes_keep}
-use Rattle.cedar_typechecker_model.specs.Whole.Rules.{Setting, set_literal_type, record_literal_type, has_names_once, all_there, core_as_type, arguments_fit, takes_literal, result_type, signature_type, call_type}
+use Rattle.cedar_typechecker_model.specs.Whole.Rules.{Setting, set_literal_type, record_literal_type, has_names_once, core_as_type, arguments_fit, takes_literal, signature_type, call_type}
 use Rattle.cedar_typechecker_model.specs.Whole.Simple.{is_simple, are_simple}
 use Rattle.cedar_typechecker_model.specs.Whole.Soundness.{IsExpected}
 use Rattle.cedar_typechecker_model.proofs.Whole.Sound.Shapes.{bool_value, long_value, text_value, extension_value}
 use Rattle.cedar_typechecker_model.proofs.Whole.Sound.Joins.{AreSimple, KeptAll, reduction_keeps, required_from, still_there, simple_parts}
 use Rattle.cedar_typechecker_model.proofs.Whole.Sound.Attributes.{Fine}
+use Rattle.cedar_typechecker_model.proofs.Whole.Named.{result_type}
+use Rattle.cedar_expr_model.specs.Whole.Lists.{all_given}
 
 -- values of these types, one after the other
 abbrev pub Have : List V → List Ty → Type 0
@@ -138,13 +141,13 @@ pub record Parts (c : CoreType) (cs : List CoreType) (ps : List Ty) : Type 0 whe
   pub first : Ty
   pub rest : List Ty
   pub is_first : core_as_type c ≡ Some first
-  pub are_rest : all_there (map core_as_type cs) ≡ Some rest
+  pub are_rest : all_given core_as_type cs ≡ Some rest
   pub both : ps ≡ first ∷ rest
 
-parts_of : (c : CoreType) (cs : List CoreType) (ps : List Ty) → all_there (map core_as_type (c ∷ cs)) ≡ Some ps → Parts c cs ps
-parts_of c cs ps e = by (core_as_type c) refl (all_there (map core_as_type cs)) refl e
+parts_of : (c : CoreType) (cs : List CoreType) (ps : List Ty) → all_given core_as_type (c ∷ cs) ≡ Some ps → Parts c cs ps
+parts_of c cs ps e = by (core_as_type c) refl (all_given core_as_type cs) refl e
   where
-    by : (o : Option Ty) → core_as_type c ≡ o → (p : Option (List Ty)) → all_there (map core_as_type cs) ≡ p → option_and_then (λ a. option_map (λ as_. a ∷ as_) p) o ≡ Some ps → Parts c cs ps
+    by : (o : Option Ty) → core_as_type c ≡ o → (p : Option (List Ty)) → all_given core_as_type cs ≡ p → option_and_then (λ a. option_map (λ as_. a ∷ as_) p) o ≡ Some ps → Parts c cs ps
     by None q p r k = cc
     by (Some t) q None r k = cc
     by (Some t) q (Some ts) r k = record { first = t; rest = ts; is_first = q; are_rest = r; both = sym (inside k) }
@@ -161,7 +164,7 @@ last_fits c p e (t ∷ ts) (v ∷ vs) h f =
 last_fits c p e [] (v ∷ vs) h f = absurd h
 last_fits c p e (t ∷ ts) [] h f = absurd h
 
-all_fits : (cs : List CoreType) (ps : List Ty) → all_there (map core_as_type cs) ≡ Some ps → (ts : List Ty) (vs : List V) → Have vs ts → arguments_fit ps ts ≡ true → are_of_types cs vs ≡ true
+all_fits : (cs : List CoreType) (ps : List Ty) → all_given core_as_type cs ≡ Some ps → (ts : List Ty) (vs : List V) → Have vs ts → arguments_fit ps ts ≡ true → are_of_types cs vs ≡ true
 all_fits [] ps e ts vs h f = refl
 all_fits (c ∷ []) ps e ts vs h f =
     let k = parts_of c [] ps e in
@@ -197,7 +200,7 @@ taken_fine unknowns f c ty false t p q h e = cc
 module _ (s : Setting) (fair : IsFair s.table) (n : Name) (unknowns : Text → Option V) (es : Trees) (ts : List Ty) (vs : List V) (h : Have vs ts) where
   called_fine : (o : Option Signature) → signature_of s.table n ≡ o → (ty : Ty) → option_and_then (signature_type s es ts) o ≡ Some ty → Fine ty (called_with s.table unknowns n vs o)
   called_fine None q ty e = cc
-  called_fine (Some f) q ty e = by (all_there (map core_as_type f.parameters)) refl e
+  called_fine (Some f) q ty e = by (all_given core_as_type f.parameters) refl e
     where
       parts : (a b c : Bool) (o : Option Ty) → (if a && (b && c) then o else None) ≡ Some ty → (a ≡ true) × (b ≡ true) × (o ≡ Some ty)
       parts true true true o k = (refl, refl, k)
@@ -205,7 +208,7 @@ module _ (s : Setting) (fair : IsFair s.table) (n : Name) (unknowns : Text → O
       parts true false c o k = cc
       parts false b c o k = cc
 
-      by : (ps : Option (List Ty)) → all_there (map core_as_type f.parameters) ≡ ps → option_and_then (λ ps. if takes_count f (length ts) && (arguments_fit ps ts && takes_literal s.mode f es) then result_type f else None) ps ≡ Some ty
+      by : (ps : Option (List Ty)) → all_given core_as_type f.parameters ≡ ps → option_and_then (λ ps. if takes_count f (length ts) && (arguments_fit ps ts && takes_literal s.mode f es) then result_type f else None) ps ≡ Some ty
           → Fine ty (if takes_count f (length vs) then (if are_of_types f.parameters vs then answered unknowns (s.table.answers n vs) else Some (err wrong_type)) else Some (err wrong_count))
       by None p k = cc
       by (Some ps) p k =

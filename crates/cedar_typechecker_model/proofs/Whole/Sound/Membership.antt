@@ -5,35 +5,36 @@ use Rattle.std.specs.List.{list_any}
 use Rattle.cedar_expr_model.specs.Name.{Name, name_eq}
 use Rattle.cedar_expr_model.specs.Uid.{Uid, uid_eq}
 use Rattle.cedar_expr_model.specs.Whole.Value.{entity, V, prim, set_of, Vs, no_values, value}
-use Rattle.cedar_expr_model.specs.Whole.Canonical.{Among}
+use Rattle.cedar_expr_model.specs.Whole.SamenessLaws.{Among}
 use Rattle.cedar_expr_model.specs.Whole.Tree.{Tree}
 use Rattle.cedar_expr_model.proofs.Equality.{name_eq-Decides, uid_eq-Decides}
 use Rattle.cedar_expr_model.proofs.Lists.{hold_left, hold_right, any_has, any_from, contains_head, contains_tail, contains_cases, contains_none, found-Decides}
 use Rattle.cedar_store_model.specs.Whole.World.{World, Entity, Found, held, missing, not_loaded}
 use Rattle.cedar_store_model.specs.Whole.Operators.{says}
-use Rattle.cedar_store_model.specs.Whole.Reads.{uids_among, uids_in, is_in_some, found_in, within}
+use Rattle.cedar_store_model.specs.Whole.Reads.{uids_in, is_in_some, found_in, within}
 use Rattle.cedar_schema_model.specs.Whole.Types.{any_bool, only_false, Ty, never, bool_type, any_entity, entity_types, set_type}
 use Rattle.cedar_schema_model.specs.Whole.Schema.{EntityKind, standard, enumerated, external, EntityType, Schema, declares_action, type_named}
-use Rattle.cedar_schema_model.specs.Whole.Descent.{action_uids, action_descends, TypeDescends, type_descends}
+use Rattle.cedar_schema_model.specs.Whole.Descent.{action_uids, action_descends, type_descends}
 use Rattle.cedar_schema_model.specs.Whole.HasType.{HasType, HaveType}
 use Rattle.cedar_schema_model.specs.Whole.Conforming.{of_kind, EntityConforms}
-use Rattle.cedar_schema_model.specs.Whole.DeclLaws.{MayDescend, IsActionEntity}
+use Rattle.cedar_schema_model.specs.Whole.DeclLaws.{MayDescend, IsActionEntity, TypeDescends}
 use Rattle.cedar_schema_model.proofs.Whole.Types.Lookups.{inside, test_cases}
 use Rattle.cedar_schema_model.proofs.Whole.Types.Values.{sets_by_members, never_empty}
 use Rattle.cedar_schema_model.proofs.Whole.Decls.Descent.{action_descends-Decides, type_descends-Decides, either_holds}
 use Rattle.cedar_schema_model.proofs.Whole.Decls.Environments.{declares_action-Decides}
 use Rattle.cedar_schema_model.proofs.Whole.Decls.Direct.{good_entity}
 use Rattle.cedar_schema_model.proofs.Whole.Decls.Store.{action_entity_is}
-use Rattle.cedar_typechecker_model.specs.Whole.Rules.{Setting, known_truth, Kinds, some_kinds, any_kind, entity_kinds, entity_or_set_kinds, may_be_in, written_action, written_actions, within_kinds, in_type}
+use Rattle.cedar_typechecker_model.specs.Whole.Rules.{Setting, known_truth, entity_kinds, entity_or_set_kinds, may_be_in, written_action, written_actions, within_kinds, in_type}
 use Rattle.cedar_typechecker_model.specs.Whole.Soundness.{ConformsAt}
 use Rattle.cedar_typechecker_model.proofs.Whole.Sound.Shapes.{any_value, entity_value, set_value}
 use Rattle.cedar_typechecker_model.proofs.Whole.Sound.Attributes.{Fine, fine_as}
 use Rattle.cedar_typechecker_model.proofs.Whole.Sound.Entities.{place_by}
+use Rattle.cedar_typechecker_model.proofs.Whole.Named.{Kinds, uids_among}
 
 -- the type is one of these
 abbrev pub InKinds : Kinds → Name → Type 0
-InKinds (some_kinds ns) n = Contains ns n
-InKinds any_kind n = Unit {0}
+InKinds (Some ns) n = Contains ns n
+InKinds None n = Unit {0}
 
 pub kinds_of_value : (t : Ty) (k : Kinds) (v : V) → entity_kinds t ≡ Some k → HasType v t → (u : Uid) × (v ≡ prim (entity u)) × InKinds k u.kind
 kinds_of_value any_entity k v e h = let i = any_value v h in (i.0, i.1, subst (λ x. InKinds x i.0.kind) (inside e) tt)
@@ -107,9 +108,9 @@ ancestor_descends s u v d c h =
     (type_descends-Decides s u.kind v.kind).1 (may_descend_by s u v (declares_action s u) (type_named s u.kind) (declares_action-Decides s u).0 ((good_entity s u d c).allowed v h))
 
 may_be : (s : Schema) (k l : Kinds) (m n : Name) → InKinds k m → InKinds l n → (name_eq m n || type_descends s m n) ≡ true → may_be_in s k l ≡ true
-may_be s (some_kinds ms) (some_kinds ns) m n h i e = any_has (λ x. list_any (λ y. name_eq x y || type_descends s x y) ns) ms m h (any_has (λ y. name_eq m y || type_descends s m y) ns n i e)
-may_be s (some_kinds ms) any_kind m n h i e = refl
-may_be s any_kind l m n h i e = refl
+may_be s (Some ms) (Some ns) m n h i e = any_has (λ x. list_any (λ y. name_eq x y || type_descends s x y) ns) ms m h (any_has (λ y. name_eq m y || type_descends s m y) ns n i e)
+may_be s (Some ms) None m n h i e = refl
+may_be s None l m n h i e = refl
 
 -- the test of `in`
 abbrev is_among : Uid → List Uid → List Uid → Bool

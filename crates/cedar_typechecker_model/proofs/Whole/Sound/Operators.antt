@@ -14,7 +14,7 @@ use Rattle.cedar_expr_model.proofs.Equality.{name_eq-Decides, uid_eq-Decides}
 use Rattle.cedar_expr_model.proofs.Lists.{all_each, any_has}
 use Rattle.cedar_expr_model.proofs.Whole.ValueOrder.{values_decide}
 use Rattle.cedar_store_model.specs.Whole.Outcome.{Res, val, err, wrong_type, overflow}
-use Rattle.cedar_store_model.specs.Whole.Operators.{is_long, in_range, says, has_no_values, applied, ordered, calculated, among_members, of_sets, like_pattern, of_type}
+use Rattle.cedar_store_model.specs.Whole.Operators.{is_long, in_range, says, applied, ordered, calculated, among_members, of_sets, like_pattern, of_type}
 use Rattle.cedar_schema_model.specs.Whole.Types.{BoolType, any_bool, only_true, only_false, Ty, bool_type, long_type, string_type, any_entity, entity_types, any_set, set_type, extension_type, strict}
 use Rattle.cedar_schema_model.specs.Whole.HasType.{is_of_bool, HasType}
 use Rattle.cedar_schema_model.specs.Whole.Join.{join, are_disjoint}
@@ -23,6 +23,7 @@ use Rattle.cedar_schema_model.proofs.Whole.Types.Values.{disjoint_apart}
 use Rattle.cedar_typechecker_model.specs.Whole.Rules.{Setting, known_truth, truth_type, if_there, negated, unary_type, comparable, written_uid, written_equal, equal_type, order_type, number_type, member_type, is_set_type, sets_type, like_type, kinds_are, is_type_type}
 use Rattle.cedar_typechecker_model.specs.Whole.Soundness.{IsGood}
 use Rattle.cedar_typechecker_model.proofs.Whole.Sound.Shapes.{bool_value, long_value, text_value, any_value, entity_value, set_value, extension_value}
+use Rattle.cedar_typechecker_model.proofs.Whole.Named.{has_no_values}
 
 -- an outcome of a type that a rule gives
 pub given_good : (t ty : Ty) (r : Res V) → Some t ≡ Some ty → IsGood t r → IsGood ty r

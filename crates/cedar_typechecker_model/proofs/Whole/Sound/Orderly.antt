@@ -11,7 +11,8 @@ use Rattle.cedar_schema_model.specs.Whole.Subtype.{is_before_attributes}
 use Rattle.cedar_schema_model.specs.Whole.Reference.{Namespace, Meant, meant_common, meant_entity}
 use Rattle.cedar_schema_model.specs.Whole.Declarations.{TypeExpr, bool_expr, long_expr, string_expr, set_expr, record_expr, reference, extension_expr, FieldExprs, no_field_exprs, field_expr, KindExpr, standard_expr, enumerated_expr, external_expr, CommonDeclaration, Declarations, common_name, meant}
 use Rattle.cedar_schema_model.specs.Whole.WellFormed.{IsWellFormed}
-use Rattle.cedar_schema_model.specs.Whole.Resolved.{with_attribute, type_meant, resolved_by, resolved_fields_by, defined_by, common_within, common_of, resolved, attributes_of_record, resolved_kind, resolved_entity, resolved_action, schema_of}
+use Rattle.cedar_schema_model.specs.Whole.Resolved.{with_attribute, type_meant, resolved_by, resolved_fields_by, common_within, common_of, resolved, attributes_of_record, resolved_kind, resolved_entity, resolved_action, schema_of}
+use Rattle.cedar_schema_model.proofs.Whole.Named.{defined_by}
 use Rattle.cedar_schema_model.specs.Whole.BagLaws.{has_rising, are_rising}
 use Rattle.cedar_schema_model.proofs.Whole.Types.Lookups.{less_is, text_less_apart, named_later, before_later}
 use Rattle.cedar_schema_model.proofs.Whole.Decls.Environments.{declares_action-Decides}

@@ -1,6 +1,6 @@
 -- The environments of a policy cover its conforming requests; a policy that passes means a truth value or errs as expected.
 use Rattle.std.proofs.Common.{◌≡◌, ◌⊎◌, inl, inr, ⊎_elim, Bool, true, false, List, [], ◌∷◌, Option, Some, None, refl, sym, ap, ◌∙◌, subst}
-use Rattle.std.specs.Prelude.{Contains, is_some, map, find, if◌then◌else◌}
+use Rattle.std.specs.Prelude.{Contains, is_some, map, find, if◌then◌else◌, IsSome}
 use Rattle.cedar_expr_model.specs.Name.{Name, name_eq}
 use Rattle.cedar_expr_model.specs.Uid.{Uid}
 use Rattle.cedar_expr_model.specs.Whole.Value.{entity, V, prim, truth_value}
@@ -13,11 +13,12 @@ use Rattle.cedar_expr_model.proofs.Lists.{hold_both, any_has, hold_left, contain
 use Rattle.cedar_store_model.specs.Whole.Outcome.{Res, val, err}
 use Rattle.cedar_store_model.specs.Whole.World.{Request, World}
 use Rattle.cedar_store_model.specs.Whole.Operators.{says}
-use Rattle.cedar_store_model.specs.Whole.Meaning.{Means, known_uid, variable, outcome_of}
+use Rattle.cedar_store_model.specs.Whole.Meaning.{Means, variable, outcome_of}
+use Rattle.cedar_store_model.proofs.Whole.Named.{known_uid, slot_eq}
 use Rattle.cedar_store_model.specs.Whole.Looks.{Looks}
-use Rattle.cedar_store_model.specs.Whole.Knowledge.{IsThere, IsWhole}
-use Rattle.cedar_store_model.specs.Whole.Policy.{Policy, Scope, own_slot, exactly, of_kind_inside, any, of_kind, named, scope_has_slot, scope_tree, action_tree, body_tree, condition, binding_of, slot_eq, tree_uses, has_slot}
-use Rattle.cedar_store_model.specs.Whole.Policy as policy
+use Rattle.cedar_store_model.specs.Whole.Knowledge.{IsWhole}
+use Rattle.cedar_store_model.specs.Whole.Policy.{Policy, Scope, own_slot, exactly, of_kind_inside, any, of_kind, named, scope_tree, action_tree, body_tree, condition, binding_of, tree_uses, has_slot}
+use Rattle.cedar_store_model.specs.Whole.AnswerLaws.{scope_has_slot}
 use Rattle.cedar_store_model.specs.Whole.Answer.{with_slots, PolicyMeans, IsSatisfied}
 use Rattle.cedar_store_model.proofs.Whole.Conditions.{policies_mean_truth}
 use Rattle.cedar_store_model.proofs.Whole.Known.{an_outcome}
@@ -26,16 +27,15 @@ use Rattle.cedar_store_model.proofs.Whole.Sets.{condition_uses}
 use Rattle.cedar_schema_model.specs.Whole.Types.{BoolType, any_bool, only_false, Ty, bool_type, record_type, is_closed}
 use Rattle.cedar_schema_model.specs.Whole.Schema.{EntityType, Action, Schema}
 use Rattle.cedar_schema_model.specs.Whole.HasType.{HasType}
-use Rattle.cedar_schema_model.specs.Whole.Conforming.{RequestParts, parts_of}
+use Rattle.cedar_store_model.specs.Whole.Store.{as_open}
 use Rattle.cedar_schema_model.specs.Whole.Environment.{Environment, environment_at, environments}
-use Rattle.cedar_schema_model.specs.Whole.Environment as environment
 use Rattle.cedar_schema_model.specs.Whole.DeclLaws.{IsGoodFor, IsGoodRequest}
 use Rattle.cedar_schema_model.proofs.Whole.Types.Lookups.{inside}
 use Rattle.cedar_schema_model.proofs.Whole.Decls.Direct.{requests_read}
 use Rattle.cedar_schema_model.proofs.Whole.Decls.Environments.{found_as, has_environment, slots_covered}
 use Rattle.cedar_schema_model.proofs.Whole.Decls.Schema.{kept_has}
 use Rattle.cedar_typechecker_model.specs.Whole.Facts.{Facts, no_facts}
-use Rattle.cedar_typechecker_model.specs.Whole.Rules.{bound_type, slot_type}
+use Rattle.cedar_typechecker_model.specs.Whole.Rules.{slot_type}
 use Rattle.cedar_typechecker_model.specs.Whole.Typing.{Types}
 use Rattle.cedar_typechecker_model.specs.Whole.Soundness.{IsGood, Hold, ConformsAt, Suits, SlotsAreBound}
 use Rattle.cedar_typechecker_model.specs.Whole.PolicySoundness.{IsConforming, IsBound, LookupsConform, IsCovered, IsFalse}
@@ -45,6 +45,9 @@ use Rattle.cedar_typechecker_model.proofs.Whole.Sound.Connectives.{in_any}
 use Rattle.cedar_typechecker_model.proofs.Whole.Sound.Facts.{hold_none}
 use Rattle.cedar_typechecker_model.proofs.Whole.Sound.Soundness.{SlotsIn, sound}
 use Rattle.cedar_typechecker_model.proofs.Whole.Sound.Scopes.{IsTruth, OnlyFalse, conjunction_false, looks_left, looks_right, HasSlot, scope_truth, action_truth, IsTaken, IsUnfit, slot_choice, scope_false}
+use Rattle.cedar_store_model.specs.Whole.Policy as policy
+use Rattle.cedar_schema_model.specs.Whole.Environment as environment
+use Rattle.cedar_typechecker_model.proofs.Whole.Named.{bound_type}
 
 -- a slot that stands in an expression is one that it uses
 slot_same : (i : SlotId) → slot_eq i i ≡ true
@@ -65,7 +68,7 @@ types_are_sound s x e w suits known t hold bound c ty out d r m =
     (subst (Fine ty) q g.fine, λ k. g.holds (q ∙ ap Some k))
 
 -- a conforming request, read directly
-same_request : (r q : Request) → parts_of r ≡ parts_of q → q ≡ r
+same_request : (r q : Request) → as_open r ≡ as_open q → q ≡ r
 same_request r q e =
     let a : q.principal ≡ r.principal = inside (ap (λ (x : RequestParts). x.principal) (sym e)) in
     let b : q.action ≡ r.action = inside (ap (λ (x : RequestParts). x.action) (sym e)) in
@@ -76,7 +79,7 @@ same_request r q e =
 good_request : (s : Schema) (x : Table) (w : World) → (c : IsConforming s x w) → IsGoodRequest s c.request.0
 good_request s x w c =
     let r = c.request in
-    let k = (requests_read s (parts_of r.0)).0 r.2 in
+    let k = (requests_read s (as_open r.0)).0 r.2 in
     subst (IsGoodRequest s) (same_request r.0 k.0 k.1) k.2
 
 -- the slot of an environment that fits has the type that is bound
@@ -169,10 +172,10 @@ module _ (s : Schema) (x : Table) (w : World) (p : Policy) (c : IsConforming s x
   condition_bound bound i h = bound i (sym (condition_uses p i) ∙ h)
 
   module _ (bound : IsBound p) where
-    pub principal_bound : HasSlot p.principal → IsThere p.bindings.principal
+    pub principal_bound : HasSlot p.principal → IsSome p.bindings.principal
     principal_bound h = bound principal_slot (hold_left _ _ (has_scope_slot p.principal h))
 
-    pub resource_bound : HasSlot p.resource → IsThere p.bindings.resource
+    pub resource_bound : HasSlot p.resource → IsSome p.bindings.resource
     resource_bound h = bound resource_slot (hold_left _ _ (has_scope_slot p.resource h))
 
     -- the parts of the condition

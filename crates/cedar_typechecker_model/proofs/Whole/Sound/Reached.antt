@@ -7,8 +7,10 @@ use Rattle.cedar_expr_model.specs.Whole.Table.{Table}
 use Rattle.cedar_expr_model.specs.Whole.Tree.{Tree, get_attr}
 use Rattle.cedar_expr_model.specs.Whole.Value.{text, entity, V, prim, record_of, field_of}
 use Rattle.cedar_store_model.specs.Whole.Outcome.{Res, val}
-use Rattle.cedar_store_model.specs.Whole.World.{World, Part, known, left, Entity, Found, held, missing, not_loaded, part_named}
-use Rattle.cedar_store_model.specs.Whole.Reads.{part_value, part_read, attributes_of, tags_of, attribute_read, goes_on, step_from, tag_read}
+use Rattle.cedar_store_model.specs.Whole.World.{World, Entity, Found, held, missing, not_loaded}
+use Rattle.cedar_expr_model.specs.Whole.ValueParts.{Part, known, left}
+use Rattle.cedar_store_model.specs.Whole.Reads.{part_value, part_read, attribute_read}
+use Rattle.cedar_store_model.proofs.Whole.Named.{attributes_of, tag_read, tags_of}
 use Rattle.cedar_store_model.specs.Whole.Looks.{PathLooks}
 use Rattle.cedar_schema_model.specs.Whole.Types.{Ty, any_entity, entity_types, record_type, Declared}
 use Rattle.cedar_schema_model.specs.Whole.Schema.{EntityType, Schema, type_named, declares_action}
@@ -18,9 +20,8 @@ use Rattle.cedar_schema_model.specs.Whole.HasType.{HasType}
 use Rattle.cedar_schema_model.specs.Whole.Conforming.{EntityConforms}
 use Rattle.cedar_schema_model.proofs.Whole.Types.Lookups.{inside, test_cases}
 use Rattle.cedar_typechecker_model.specs.Whole.Facts.{Facts}
-use Rattle.cedar_typechecker_model.specs.Whole.Levels.{is_entity, one_if, entity_steps, fields_before}
+use Rattle.cedar_typechecker_model.specs.Whole.Levels.{is_entity, entity_steps, fields_before}
 use Rattle.cedar_typechecker_model.specs.Whole.Rules.{Setting}
-use Rattle.cedar_typechecker_model.specs.Whole.Rules as rules
 use Rattle.cedar_typechecker_model.specs.Whole.Simple.{is_simple, IsOrderly}
 use Rattle.cedar_typechecker_model.specs.Whole.Soundness.{ConformsAt, Suits}
 use Rattle.cedar_typechecker_model.specs.Whole.Typing.{step_type, path_judged, Gives}
@@ -29,15 +30,19 @@ use Rattle.cedar_typechecker_model.proofs.Whole.Sound.Attributes.{one_kind, fiel
 use Rattle.cedar_typechecker_model.proofs.Whole.Sound.Entities.{held_attribute, held_tag}
 use Rattle.cedar_typechecker_model.proofs.Whole.Sound.Leading.{At, Stands, stands_itself, stands_within, at_entity, entity_typed}
 use Rattle.cedar_typechecker_model.proofs.Whole.Sound.Shapes.{any_value, entity_value, record_value}
-use Rattle.cedar_typechecker_model.proofs.Whole.Sound.Steps.{Onward, goes_read, goes_onward}
+use Rattle.cedar_typechecker_model.proofs.Whole.Sound.Steps.{Onward, goes_onward}
+use Rattle.cedar_typechecker_model.specs.Whole.Rules as rules
+use Rattle.cedar_typechecker_model.proofs.Whole.Named.{one_if}
+use Rattle.std.specs.Map.{lookup}
+use Rattle.std.specs.Str.{bytes_eq}
 
 -- What is near: the entities of the request, and one step further what stands in an attribute or a tag of what is near.
 pub record Nearness (w : World) (Near : ℕ → Uid → Type 0) : Type 0 where
   pub principal : (u : Uid) → w.principal ≡ Some u → Near 1 u
   pub resource : (u : Uid) → w.resource ≡ Some u → Near 1 u
   pub context : (v : V) (u : Uid) → w.context ≡ Some v → Stands v u → Near 1 u
-  pub attribute : (k : ℕ) (y : Uid) (d : Entity V) (a : Text) (v : V) (u : Uid) → Near k y → w.store y ≡ held d → part_named a d.attributes ≡ Some (known v) → Stands v u → Near (suc k) u
-  pub tag : (k : ℕ) (y : Uid) (d : Entity V) (a : Text) (v : V) (u : Uid) → Near k y → w.store y ≡ held d → part_named a d.tags ≡ Some (known v) → Stands v u → Near (suc k) u
+  pub attribute : (k : ℕ) (y : Uid) (d : Entity V) (a : Text) (v : V) (u : Uid) → Near k y → w.store y ≡ held d → lookup (bytes_eq a) d.attributes ≡ Some (known v) → Stands v u → Near (suc k) u
+  pub tag : (k : ℕ) (y : Uid) (d : Entity V) (a : Text) (v : V) (u : Uid) → Near k y → w.store y ≡ held d → lookup (bytes_eq a) d.tags ≡ Some (known v) → Stands v u → Near (suc k) u
   pub more : (m n : ℕ) (u : Uid) → m ≤ n → Near m u → Near n u
 
 -- near, or a declared action
@@ -67,9 +72,9 @@ module _ (s : Schema) (x : Table) (e : Environment) (w : World) (suits : Suits s
 
   -- what stands in an attribute is one step further
   found_attribute : (k : ℕ) (y : Uid) (f : Found V) (a : Text) (v : V) (u : Uid) → Reached s Near k y → w.store y ≡ f → part_read attributes_of y a f ≡ Some (val v) → Stands v u → Reached s Near (suc k) u
-  found_attribute k y (held d) a v u (inl h) q r l = inl (near.attribute k y d a v u h q (part_is (part_named a d.attributes) v r) l)
+  found_attribute k y (held d) a v u (inl h) q r l = inl (near.attribute k y d a v u h q (part_is (lookup (bytes_eq a) d.attributes) v r) l)
   found_attribute k y (held d) a v u (inr h) q r l =
-      let i = held_attribute s suits.schema y d (action_conforms y h d q) a (known v) (part_is (part_named a d.attributes) v r) in
+      let i = held_attribute s suits.schema y d (action_conforms y h d q) a (known v) (part_is (lookup (bytes_eq a) d.attributes) v r) in
       absurd (nothing_declared (type_named s y.kind) _ i.what (suits.schema.apart y h) i.is_what)
   found_attribute k y missing a v u h q r l = cc
   found_attribute k y not_loaded a v u h q r l = cc
@@ -78,9 +83,9 @@ module _ (s : Schema) (x : Table) (e : Environment) (w : World) (suits : Suits s
   attribute_reached k y a v u h r l = found_attribute k y (w.store y) a v u h refl r l
 
   found_tag : (k : ℕ) (y : Uid) (f : Found V) (a : Text) (v : V) (u : Uid) → Reached s Near k y → w.store y ≡ f → part_read tags_of y a f ≡ Some (val v) → Stands v u → Reached s Near (suc k) u
-  found_tag k y (held d) a v u (inl h) q r l = inl (near.tag k y d a v u h q (part_is (part_named a d.tags) v r) l)
+  found_tag k y (held d) a v u (inl h) q r l = inl (near.tag k y d a v u h q (part_is (lookup (bytes_eq a) d.tags) v r) l)
   found_tag k y (held d) a v u (inr h) q r l =
-      let i = held_tag s suits.schema y d (action_conforms y h d q) a (known v) (part_is (part_named a d.tags) v r) in
+      let i = held_tag s suits.schema y d (action_conforms y h d q) a (known v) (part_is (lookup (bytes_eq a) d.tags) v r) in
       absurd (nothing_declared (type_named s y.kind) _ i.what (suits.schema.apart y h) i.is_what)
   found_tag k y missing a v u h q r l = cc
   found_tag k y not_loaded a v u h q r l = cc
@@ -127,7 +132,7 @@ module _ (s : Schema) (x : Table) (e : Environment) (w : World) (suits : Suits s
     path_reached (m ∷ bs) a b t v j z h f l ty out d u (inr (y, g, q)) =
         let rest = entity_steps (strictly s x e) m bs (step_type (strictly s x e) t a) in
         let o = goes_onward (strictly s x e) suits.schema w a m bs b t v y z h (λ u0 q0. conform_at n c u0 (here t j rest v u0 h f l q0)) g ty out d in
-        let k = next_value t a o.what v y j rest z h o.declared (goes_read w a v y g).0 f l in
+        let k = next_value t a o.what v y j rest z h o.declared g f l in
         path_reached bs m (get_attr b a) o.what.type y k.0 o.is_simple o.of_type k.1 (subst (λ i. k.0 + i ≤ n) (steps_onward m bs t a o.what o.declared) k.2) o.type o.facts o.typed u q
 
     -- the same where only the first entity of the path is reached, or where the path has no entity
@@ -186,4 +191,4 @@ module _ (s : Schema) (x : Table) (e : Environment) (w : World) (suits : Suits s
         test_cases (is_entity (Some t))
         (λ k. let i = entity_begins a (m ∷ bs) t v j k z h f in path_reached (m ∷ bs) a b t v j z h i.0 i.1 ty out d u (inr (y, g, q)))
         (λ k. (let o = goes_onward (strictly s x e) suits.schema w a m bs b t v y z h (λ u0 q0. absurd (not_entity t v u0 k h q0)) g ty out d in
-        path_begins bs m (get_attr b a) o.what.type y j o.is_simple o.of_type (field_begins t a m bs o.what v y j k h o.declared (goes_read w a v y g).0 f) o.type o.facts o.typed u q))
+        path_begins bs m (get_attr b a) o.what.type y j o.is_simple o.of_type (field_begins t a m bs o.what v y j k h o.declared g f) o.type o.facts o.typed u q))

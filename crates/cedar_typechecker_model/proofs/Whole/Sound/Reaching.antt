@@ -12,10 +12,10 @@ use Rattle.cedar_expr_model.specs.Whole.Value.{Literal, truth, long, text, entit
 use Rattle.cedar_expr_model.proofs.Equality.{uid_eq-Decides}
 use Rattle.cedar_store_model.specs.Whole.Outcome.{Res, val, bind}
 use Rattle.cedar_store_model.specs.Whole.World.{World}
-use Rattle.cedar_store_model.specs.Whole.Operators.{bound_value}
+use Rattle.cedar_store_model.proofs.Whole.Named.{bound_value, tag_read}
 use Rattle.cedar_store_model.specs.Whole.Meaning.{Means, variable, picked, outcome_of, outcomes_of, field_outcomes_of, combined}
-use Rattle.cedar_store_model.specs.Whole.Reads.{attribute_read, tag_read}
-use Rattle.cedar_store_model.specs.Whole.Looks.{IsEntity, WithValue, Looks, AnyLooks, AnyFieldLooks}
+use Rattle.cedar_store_model.specs.Whole.Reads.{attribute_read}
+use Rattle.cedar_store_model.specs.Whole.Looks.{WithValue, Looks, AnyLooks, AnyFieldLooks, looks_up}
 use Rattle.cedar_store_model.proofs.Whole.Meaning.{means_outcome}
 use Rattle.cedar_schema_model.specs.Whole.Types.{any_bool, only_true, only_false, is_closed, Ty, bool_type, any_entity, entity_types, record_type, Attributes, no_attributes, attribute, Declared, attribute_named, strict}
 use Rattle.cedar_schema_model.specs.Whole.Schema.{Schema, declares_action}
@@ -24,7 +24,7 @@ use Rattle.cedar_schema_model.specs.Whole.HasType.{HasType}
 use Rattle.cedar_schema_model.specs.Whole.Lookup.{lookup_attribute}
 use Rattle.cedar_schema_model.proofs.Whole.Types.Lookups.{inside, test_cases}
 use Rattle.cedar_typechecker_model.specs.Whole.Facts.{Facts, union, attribute_part, tag_part}
-use Rattle.cedar_typechecker_model.specs.Whole.Levels.{Violation, Count, count, joined, further, stepped, is_entity, literal_count, branches, after_and, after_or, after_test, greater, target_after_test, entity_steps, fields_before, path_violations, steps_from_left, on_entity, violations, violations_among, violations_in_fields, target, target_in_fields}
+use Rattle.cedar_typechecker_model.specs.Whole.Levels.{Violation, Count, count, joined, further, stepped, is_entity, literal_count, branches, after_and, after_or, after_test, greater, target_after_test, entity_steps, fields_before, path_violations, on_entity, violations, violations_among, violations_in_fields, target, target_in_fields}
 use Rattle.cedar_typechecker_model.specs.Whole.Rules.{Setting, attribute_type, has_names_once, record_literal_type, has_type, get_type, call_type}
 use Rattle.cedar_typechecker_model.specs.Whole.Simple.{is_simple}
 use Rattle.cedar_typechecker_model.specs.Whole.Soundness.{Hold, ConformsAt, Suits}
@@ -85,11 +85,11 @@ module _ (s : Schema) (x : Table) (e : Environment) (w : World) (suits : Suits s
     looks_reached known hold (binary o a b) sl ty out d h u l =
         let sr = behind w _ _ sl in
         let r = d.3 in
-        let k = none_of_both (if steps_from_left o then stepped n (binary o a b) (further 1 (target n (strictly s x e) known [] a)) else violations n (strictly s x e) known a) _ h in
+        let k = none_of_both (if looks_up o then stepped n (binary o a b) (further 1 (target n (strictly s x e) known [] a)) else violations n (strictly s x e) known a) _ h in
         let right = looks_reached known hold b (on_right w (subexpressions a) _ sr) r.0 r.1 r.2 k.1 in
-        let la = λ (q : steps_from_left o ≡ false). looks_reached known hold a (on_left w (subexpressions a) _ sr) d.0 d.1 d.2
+        let la = λ (q : looks_up o ≡ false). looks_reached known hold a (on_left w (subexpressions a) _ sr) d.0 d.1 d.2
         (subst (λ z. (if z then stepped n (binary o a b) (further 1 (target n (strictly s x e) known [] a)) else violations n (strictly s x e) known a) ≡ []) q k.0) in
-        let ta = λ (q : steps_from_left o ≡ true) (i : (target n (strictly s x e) known [] a).found ≡ []) (j : (target n (strictly s x e) known [] a).steps ≤ n).
+        let ta = λ (q : looks_up o ≡ true) (i : (target n (strictly s x e) known [] a).found ≡ []) (j : (target n (strictly s x e) known [] a).steps ≤ n).
         target_reached known hold a (on_left w (subexpressions a) _ sr) d.0 d.1 d.2 [] (left_leads s x e w suits Near near n c known o a b d.0 r.0 ty out q r.3) i j in
         operands_looks s x e w suits Near near n c o a b (target n (strictly s x e) known [] a) (binary o a b) (violations n (strictly s x e) known a) k.0 ta la right u l
     looks_reached known hold (call f ts) sl ty out d h u l = looks_each known hold ts (behind w _ _ sl) d.0 d.1 h u l

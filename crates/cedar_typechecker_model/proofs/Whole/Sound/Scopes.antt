@@ -16,8 +16,8 @@ use Rattle.cedar_store_model.specs.Whole.Operators.{says, of_type}
 use Rattle.cedar_store_model.specs.Whole.Reads.{uids_in, is_in_some, found_in}
 use Rattle.cedar_store_model.specs.Whole.Meaning.{variable, slot_value, combined, picked, truth_asked, outcome_of, outcomes_of}
 use Rattle.cedar_store_model.specs.Whole.Looks.{Looks}
-use Rattle.cedar_store_model.specs.Whole.Knowledge.{IsThere}
-use Rattle.cedar_store_model.specs.Whole.Policy.{Target, named, own_slot, Scope, any, exactly, inside, of_kind, of_kind_inside, ActionScope, any_action, exactly_action, inside_actions, target_tree, scope_tree, uid_trees, action_tree}
+use Rattle.cedar_store_model.specs.Whole.Policy.{Target, named, own_slot, Scope, any, exactly, inside, of_kind, of_kind_inside, ActionScope, any_action, exactly_action, inside_actions, target_tree, scope_tree, action_tree}
+use Rattle.cedar_store_model.proofs.Whole.Named.{uid_trees}
 use Rattle.cedar_store_model.proofs.Whole.Built.{conjunction_outcome}
 use Rattle.cedar_store_model.proofs.Whole.Meaning.{outcome_means}
 use Rattle.cedar_schema_model.specs.Whole.Types.{only_false, bool_type}
@@ -28,13 +28,13 @@ use Rattle.cedar_schema_model.specs.Whole.DeclLaws.{IsAtOrAbove, TakesSlot}
 use Rattle.cedar_schema_model.proofs.Whole.Types.Lookups.{test_cases}
 use Rattle.cedar_schema_model.proofs.Whole.Decls.Descent.{type_descends-Decides}
 use Rattle.cedar_schema_model.proofs.Whole.Decls.Environments.{declares_action-Decides}
-use Rattle.cedar_typechecker_model.specs.Whole.Rules.{some_kinds}
 use Rattle.cedar_typechecker_model.specs.Whole.Simple.{IsOrderly}
 use Rattle.cedar_typechecker_model.specs.Whole.Soundness.{ConformsAt}
 use Rattle.cedar_typechecker_model.specs.Whole.Verdicts.{scope_use, fits_slot}
 use Rattle.cedar_typechecker_model.proofs.Whole.Sound.Attributes.{Fine}
 use Rattle.cedar_typechecker_model.proofs.Whole.Sound.Operators.{not_equal}
 use Rattle.cedar_typechecker_model.proofs.Whole.Sound.Membership.{Uids, uids_of, excluded, right_one}
+use Rattle.std.specs.Prelude.{IsSome}
 
 -- A truth value, if anything; and nothing else than false.
 abbrev pub IsTruth : Option (Res V) → Type 0
@@ -99,11 +99,11 @@ found_truth u v us (held d) e = inr (_, ap (λ o. Some (is_in_some d.ancestors u
 found_truth u v us missing e = inr (_, ap (λ o. Some (is_in_some [] u o)) e)
 found_truth u v us not_loaded e = inl refl
 
-pub target_known : (w : World) (i : SlotId) (t : Target) → IsThere (w.slots i) → (u : Uid) × (outcome_of w (target_tree i t) ≡ Some (val (prim (entity u))))
+pub target_known : (w : World) (i : SlotId) (t : Target) → IsSome (w.slots i) → (u : Uid) × (outcome_of w (target_tree i t) ≡ Some (val (prim (entity u))))
 target_known w i (named u) h = (u, refl)
 target_known w i own_slot h = by (w.slots i) h
   where
-    by : (o : Option Uid) → IsThere o → (u : Uid) × (Some (slot_value o) ≡ Some (val (prim (entity u))))
+    by : (o : Option Uid) → IsSome o → (u : Uid) × (Some (slot_value o) ≡ Some (val (prim (entity u))))
     by None k = absurd k
     by (Some u) k = (u, refl)
 
@@ -120,7 +120,7 @@ module _ (w : World) (y : Var) (u : Uid) (known : variable w y ≡ Some (val (pr
   is_outcome : (n : Name) → outcome_of w (is_type (var y) n) ≡ Some (says (name_eq u.kind n))
   is_outcome n = ap (λ o. bind o (λ v. Some (of_type n v))) known
 
-  pub scope_truth : (i : SlotId) (c : Scope) → (HasSlot c → IsThere (w.slots i)) → IsTruth (outcome_of w (scope_tree y i c))
+  pub scope_truth : (i : SlotId) (c : Scope) → (HasSlot c → IsSome (w.slots i)) → IsTruth (outcome_of w (scope_tree y i c))
   scope_truth i any h = inr (true, refl)
   scope_truth i (exactly (named v)) h = inr (_, equal_truth (lit (entity v)) v refl)
   scope_truth i (exactly own_slot) h = let k = target_known w i own_slot (h tt) in inr (_, equal_truth (target_tree i own_slot) k.0 k.1)
@@ -176,18 +176,18 @@ at_or_above s o n m d h =
     clash : {b : Bool} → b ≡ true → b ≡ false → ⊥
     clash e f = cc
 
-slot_in : (s : Schema) → IsOrderly s → (n : Name) (b : Option Uid) → declares_type s n ≡ true → IsThere b → ((t : Option Name) × TakesSlot s in_slot n t × (fits_slot t b ≡ true)) ⊎ ((u : Uid) × (b ≡ Some u) × ((name_eq n u.kind || type_descends s n u.kind) ≡ false))
+slot_in : (s : Schema) → IsOrderly s → (n : Name) (b : Option Uid) → declares_type s n ≡ true → IsSome b → ((t : Option Name) × TakesSlot s in_slot n t × (fits_slot t b ≡ true)) ⊎ ((u : Uid) × (b ≡ Some u) × ((name_eq n u.kind || type_descends s n u.kind) ≡ false))
 slot_in s o n None d h = absurd h
 slot_in s o n (Some u) d h =
     test_cases (name_eq n u.kind || type_descends s n u.kind)
     (λ e. inl (Some u.kind, (u.kind, at_or_above s o n u.kind d e, refl), name_eq_same u.kind))
     (λ e. inr (u, refl, e))
 
-slot_equal : (s : Schema) (n : Name) (b : Option Uid) → IsThere b → ((t : Option Name) × TakesSlot s equal_slot n t × (fits_slot t b ≡ true)) ⊎ ((u : Uid) × (b ≡ Some u) × (name_eq n u.kind ≡ false))
+slot_equal : (s : Schema) (n : Name) (b : Option Uid) → IsSome b → ((t : Option Name) × TakesSlot s equal_slot n t × (fits_slot t b ≡ true)) ⊎ ((u : Uid) × (b ≡ Some u) × (name_eq n u.kind ≡ false))
 slot_equal s n None h = absurd h
 slot_equal s n (Some u) h = test_cases (name_eq n u.kind) (λ e. inl (Some n, refl, e)) (λ e. inr (u, refl, e))
 
-pub slot_choice : (s : Schema) → IsOrderly s → (c : Scope) (n : Name) (b : Option Uid) → declares_type s n ≡ true → (HasSlot c → IsThere b) → IsTaken s c n b ⊎ IsUnfit s c n b
+pub slot_choice : (s : Schema) → IsOrderly s → (c : Scope) (n : Name) (b : Option Uid) → declares_type s n ≡ true → (HasSlot c → IsSome b) → IsTaken s c n b ⊎ IsUnfit s c n b
 slot_choice s o any n b d h = inl (None, refl, refl)
 slot_choice s o (exactly (named v)) n b d h = inl (None, refl, refl)
 slot_choice s o (exactly own_slot) n b d h = slot_equal s n b (h tt)
@@ -222,7 +222,7 @@ module _ (s : Schema) (w : World) (y : Var) (i : SlotId) (u v : Uid) (known : va
   in_false n c =
       only_false_of (outcome_of w (binary is_in (var y) (target_tree i own_slot))) (in_truth w y u known (target_tree i own_slot) v slot_is)
       (subst (Fine (bool_type only_false)) (sym (in_outcome w y u known (target_tree i own_slot) (prim (entity v)) slot_is))
-      (excluded s (some_kinds (u.kind ∷ [])) (some_kinds (v.kind ∷ [])) w u (prim (entity v)) (w.store u) refl c (contains_head u.kind []) (right_one (some_kinds (v.kind ∷ [])) (prim (entity v)) v refl (contains_head v.kind []))
+      (excluded s (Some (u.kind ∷ [])) (Some (v.kind ∷ [])) w u (prim (entity v)) (w.store u) refl c (contains_head u.kind []) (right_one (Some (v.kind ∷ [])) (prim (entity v)) v refl (contains_head v.kind []))
       (alone (name_eq u.kind v.kind || type_descends s u.kind v.kind) n)))
     where
       alone : (b : Bool) → b ≡ false → ((b || false) || false) ≡ false

@@ -1,6 +1,6 @@
 -- An expression that has a type in Strict means a value of it, or errs as expected, and its facts hold where it is true.
 use Rattle.std.proofs.Common.{◌≡◌, inl, inr, true, List, [], ◌∷◌, ◌++◌, Some, refl, sym, ap, ◌∙◌, subst}
-use Rattle.std.specs.Prelude.{Contains, ◌-ℤ◌, ◌+ℤ◌, ◌*ℤ◌, not}
+use Rattle.std.specs.Prelude.{Contains, ◌-ℤ◌, ◌+ℤ◌, ◌*ℤ◌, not, IsSome}
 use Rattle.std.specs.Ordering.{is_lt, is_le}
 use Rattle.std.proofs.lemmas.List.Elements.{Contains-append_left, Contains-append_right}
 use Rattle.cedar_expr_model.specs.Name.{Text}
@@ -14,10 +14,10 @@ use Rattle.cedar_expr_model.proofs.Lists.{contains_head, contains_tail}
 use Rattle.cedar_store_model.specs.Whole.Outcome.{val, bind}
 use Rattle.cedar_store_model.specs.Whole.World.{World}
 use Rattle.cedar_store_model.specs.Whole.Operators.{applied, ordered, like_pattern, of_type, called}
-use Rattle.cedar_store_model.specs.Whole.Reads.{attribute_read, attribute_tested, path_tested, tag_read, tag_tested}
-use Rattle.cedar_store_model.specs.Whole.Meaning.{Means, variable, slot_value, combined, truth_asked, outcome_of, outcomes_of, field_outcomes_of}
+use Rattle.cedar_store_model.specs.Whole.Reads.{attribute_read, attribute_tested}
+use Rattle.cedar_store_model.proofs.Whole.Named.{tag_read, tag_tested}
+use Rattle.cedar_store_model.specs.Whole.Meaning.{Means, variable, slot_value, combined, truth_asked, outcome_of, outcomes_of, field_outcomes_of, path_tested}
 use Rattle.cedar_store_model.specs.Whole.Looks.{CombinedLooks, Looks, AnyLooks, AnyFieldLooks}
-use Rattle.cedar_store_model.specs.Whole.Knowledge.{IsThere}
 use Rattle.cedar_store_model.proofs.Whole.Meaning.{means_outcome, outcome_means}
 use Rattle.cedar_schema_model.specs.Whole.Types.{Ty, Attributes, strict}
 use Rattle.cedar_schema_model.specs.Whole.Schema.{Schema}
@@ -44,7 +44,7 @@ use Rattle.cedar_typechecker_model.proofs.Whole.Sound.Written.{literal_fine, var
 
 -- each slot that stands among these is bound
 pub record SlotsIn (w : World) (ts : List Tree) : Type 0 where
-  pub bound : (i : SlotId) → Contains ts (slot i) → IsThere (w.slots i)
+  pub bound : (i : SlotId) → Contains ts (slot i) → IsSome (w.slots i)
 
 pub behind : (w : World) (t : Tree) (ts : List Tree) → SlotsIn w (t ∷ ts) → SlotsIn w ts
 behind w t ts h = record { bound = λ i k. h.bound i (contains_tail t ts (slot i) k) }

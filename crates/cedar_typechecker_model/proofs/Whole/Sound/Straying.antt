@@ -9,10 +9,12 @@ use Rattle.cedar_schema_model.specs.Whole.Types.{BoolType, any_bool, only_true, 
 use Rattle.cedar_schema_model.specs.Whole.Join.{join, are_disjoint, reduce_to_join}
 use Rattle.cedar_typechecker_model.specs.Whole.Facts.{Facts, no_facts, Part, attribute_part, tag_part}
 use Rattle.cedar_typechecker_model.specs.Whole.Levels.{is_entity}
-use Rattle.cedar_typechecker_model.specs.Whole.Rules.{Setting, truth_type, if_there, unary_type, written_uid, comparable, written_equal, equal_type, order_type, number_type, member_type, is_set_type, sets_type, Kinds, entity_kinds, entity_or_set_kinds, written_action, written_actions, within_kinds, in_type, binary_type, like_type, is_type_type, has_type, tag_type, may_have_tags, is_string_type, has_tag_type, get_tag_type, set_literal_type, all_there, core_as_type, arguments_fit, takes_literal, result_type, signature_type, call_type}
+use Rattle.cedar_typechecker_model.specs.Whole.Rules.{Setting, truth_type, if_there, unary_type, written_uid, comparable, written_equal, equal_type, order_type, number_type, member_type, is_set_type, sets_type, entity_kinds, entity_or_set_kinds, written_action, written_actions, within_kinds, in_type, binary_type, like_type, is_type_type, has_type, tag_type, may_have_tags, is_string_type, has_tag_type, get_tag_type, set_literal_type, core_as_type, arguments_fit, takes_literal, signature_type, call_type}
 use Rattle.cedar_typechecker_model.specs.Whole.Typing.{Judgement, plain, tested, conjoined, disjoined, path_judged, binary_judged, Gives, AndTyped, OrTyped}
 use Rattle.cedar_typechecker_model.proofs.Whole.Sound.Leading.{leads, entity_leads, nowhere_bool, nowhere_long, nowhere_text, nowhere_set, nowhere_extension}
 use Rattle.cedar_typechecker_model.proofs.Whole.Sound.Steps.{path_typed}
+use Rattle.cedar_typechecker_model.proofs.Whole.Named.{Kinds, result_type}
+use Rattle.cedar_expr_model.specs.Whole.Lists.{all_given}
 
 -- no type that the rule gives leads anywhere
 abbrev pub Strays : Option Ty → Type 0
@@ -92,7 +94,7 @@ tested_bool e p (Some only_false) ty out d = (only_false, d.0)
 
 pub path_bool : (s : Setting) (a : Text) (bs : List Text) (e : Tree) (t : Ty) (ty : Ty) (out : Facts) → Gives (path_judged s a bs e t) ty out → IsBool ty
 path_bool s a [] e t ty out d = tested_bool e (attribute_part a) (has_type s t a) ty out d
-path_bool s a (b ∷ bs) e t ty out d = let k = path_typed s a b bs e t (has_type s t a) refl ty out d in and_bool _ k.0 k.1 ty out k.3
+path_bool s a (b ∷ bs) e t ty out d = let k = path_typed s a b bs e t ty out d in and_bool _ k.0 k.1 ty out k.3
 
 -- operators
 pub unary_strays : (o : UnaryOp) (t : Ty) → Strays (unary_type o t)
@@ -179,7 +181,7 @@ signature_strays s es ts f (Some ps) = strays_if (takes_count f (length ts) && (
 
 pub call_strays : (s : Setting) (es : Trees) (ts : List Ty) (o : Option Signature) → Strays (option_and_then (signature_type s es ts) o)
 call_strays s es ts None = strays_none
-call_strays s es ts (Some f) = signature_strays s es ts f (all_there (map core_as_type f.parameters))
+call_strays s es ts (Some f) = signature_strays s es ts f (all_given core_as_type f.parameters)
 
 -- what is reached from is an entity
 kinds_lead : (t : Ty) (k : Kinds) → entity_kinds t ≡ Some k → leads t [] ≡ true

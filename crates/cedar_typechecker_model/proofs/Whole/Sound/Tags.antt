@@ -5,21 +5,25 @@ use Rattle.cedar_expr_model.specs.Name.{Text}
 use Rattle.cedar_expr_model.specs.Uid.{Uid}
 use Rattle.cedar_expr_model.specs.Whole.Value.{text, entity, V, prim, truth_value}
 use Rattle.cedar_store_model.specs.Whole.Outcome.{val}
-use Rattle.cedar_store_model.specs.Whole.World.{World, Part, known, left, Found, held, missing, not_loaded, part_named}
+use Rattle.cedar_store_model.specs.Whole.World.{World, Found, held, missing, not_loaded}
+use Rattle.cedar_expr_model.specs.Whole.ValueParts.{Part, known, left}
 use Rattle.cedar_store_model.specs.Whole.Operators.{says}
-use Rattle.cedar_store_model.specs.Whole.Reads.{part_value, part_read, part_tested, tags_of, tag_read, tag_tested}
+use Rattle.cedar_store_model.specs.Whole.Reads.{part_value, part_read, part_tested}
+use Rattle.cedar_store_model.proofs.Whole.Named.{tag_read, tag_tested, tags_of}
 use Rattle.cedar_schema_model.specs.Whole.Types.{BoolType, any_bool, only_false, Ty, bool_type, string_type, any_entity, entity_types, permissive}
 use Rattle.cedar_schema_model.specs.Whole.Schema.{Schema}
 use Rattle.cedar_schema_model.specs.Whole.Join.{reduce_to_join}
 use Rattle.cedar_schema_model.specs.Whole.HasType.{HasType}
 use Rattle.cedar_schema_model.proofs.Whole.Types.Lookups.{inside}
-use Rattle.cedar_typechecker_model.specs.Whole.Rules.{Setting, Kinds, tag_type, may_have_tags, is_string_type, is_there, entity_kinds, has_tag_type}
-use Rattle.cedar_typechecker_model.specs.Whole.Rules as rules
+use Rattle.cedar_typechecker_model.specs.Whole.Rules.{Setting, tag_type, may_have_tags, is_string_type, entity_kinds, has_tag_type}
 use Rattle.cedar_typechecker_model.specs.Whole.Simple.{is_simple, IsOrderly}
 use Rattle.cedar_typechecker_model.specs.Whole.Soundness.{ConformsAt}
 use Rattle.cedar_typechecker_model.proofs.Whole.Sound.Shapes.{any_value, text_value}
 use Rattle.cedar_typechecker_model.proofs.Whole.Sound.Entities.{Tags, held_tag}
 use Rattle.cedar_typechecker_model.proofs.Whole.Sound.Attributes.{Fine, fine_as, one_kind}
+use Rattle.cedar_typechecker_model.specs.Whole.Rules as rules
+use Rattle.std.specs.Map.{lookup}
+use Rattle.std.specs.Str.{bytes_eq}
 
 -- the type of the tags of one entity type
 one_tag : (o : Option Ty) (t : Ty) → option_and_then (reduce_to_join permissive) (option_and_then (λ a. Some (a ∷ [])) o) ≡ Some t → o ≡ Some t
@@ -46,8 +50,8 @@ module _ (s : Schema) (o : IsOrderly s) (w : World) where
       let t : k.what ≡ ty = inside (sym k.is_what ∙ h) in
       subst (HasType v) t (subst (λ z. HasType z k.what) q k.of_type)
 
-  found_tag : (a : Text) (u : Uid) (ty : Ty) (f : Found V) → w.store u ≡ f → ConformsAt s w u → rules.tags_of s u.kind ≡ Some ty → part_tested tags_of a f ≡ Some (val (truth_value true)) → Fine ty (part_read tags_of u a f)
-  found_tag a u ty (held e) q c h k = part_typed a u ty (part_named a e.tags) h (λ p i. held_tag s o u e (c e q) a p i) k
+  found_tag : (a : Text) (u : Uid) (ty : Ty) (f : Found V) → w.store u ≡ f → ConformsAt s w u → rules.tags_of s u.kind ≡ Some ty → part_tested tags_of u a f ≡ Some (val (truth_value true)) → Fine ty (part_read tags_of u a f)
+  found_tag a u ty (held e) q c h k = part_typed a u ty (lookup (bytes_eq a) e.tags) h (λ p i. held_tag s o u e (c e q) a p i) k
   found_tag a u ty missing q c h k = tt
   found_tag a u ty not_loaded q c h k = tt
 
@@ -66,22 +70,22 @@ module _ (s : Schema) (o : IsOrderly s) (w : World) where
       by false b e f k = cc
 
   -- the test of a tag
-  found_none : (a : Text) (u : Uid) (f : Found V) → w.store u ≡ f → ConformsAt s w u → is_there (rules.tags_of s u.kind) ≡ false → Fine (bool_type only_false) (part_tested tags_of a f)
-  found_none a u (held e) q c n = by (part_named a e.tags) (λ p i. held_tag s o u e (c e q) a p i)
+  found_none : (a : Text) (u : Uid) (f : Found V) → w.store u ≡ f → ConformsAt s w u → is_some (rules.tags_of s u.kind) ≡ false → Fine (bool_type only_false) (part_tested tags_of u a f)
+  found_none a u (held e) q c n = by (lookup (bytes_eq a) e.tags) (λ p i. held_tag s o u e (c e q) a p i)
     where
       by : (p : Option (Part V)) → ((x : Part V) → p ≡ Some x → Tags (rules.tags_of s u.kind) x) → not (is_some p) ≡ true
       by None f = refl
-      by (Some x) f = (let k = f x refl in let z = ap is_there k.is_what in cc)
+      by (Some x) f = (let k = f x refl in let z = ap is_some k.is_what in cc)
   found_none a u missing q c n = refl
   found_none a u not_loaded q c n = tt
 
-  any_tested : (a : Text) (f : Found V) → Fine (bool_type any_bool) (part_tested tags_of a f)
-  any_tested a (held e) = refl
-  any_tested a missing = refl
-  any_tested a not_loaded = tt
+  any_tested : (a : Text) (u : Uid) (f : Found V) → Fine (bool_type any_bool) (part_tested tags_of u a f)
+  any_tested a u (held e) = refl
+  any_tested a u missing = refl
+  any_tested a u not_loaded = tt
 
-  may_tested : (a : Text) (u : Uid) (b : Bool) → ConformsAt s w u → (b ≡ false → is_there (rules.tags_of s u.kind) ≡ false) → Fine (bool_type (if b then any_bool else only_false)) (part_tested tags_of a (w.store u))
-  may_tested a u true c n = any_tested a (w.store u)
+  may_tested : (a : Text) (u : Uid) (b : Bool) → ConformsAt s w u → (b ≡ false → is_some (rules.tags_of s u.kind) ≡ false) → Fine (bool_type (if b then any_bool else only_false)) (part_tested tags_of u a (w.store u))
+  may_tested a u true c n = any_tested a u (w.store u)
   may_tested a u false c n = found_none a u (w.store u) refl c (n refl)
 
   text_tested : (x : Setting) → x.schema ≡ s → (t : Ty) (b : BoolType) (v : V) (a : Text) → is_simple t ≡ true → HasType v t → option_map (λ k. if may_have_tags x t then any_bool else only_false) (entity_kinds t) ≡ Some b
@@ -89,13 +93,13 @@ module _ (s : Schema) (o : IsOrderly s) (w : World) where
   text_tested x g any_entity b v a z h e c =
       let i = any_value v h in
       let q : any_bool ≡ b = inside e in
-      subst (λ y. Fine (bool_type b) (tag_tested w y (prim (text a)))) (sym i.1) (fine_as (bool_type any_bool) (bool_type b) (part_tested tags_of a (w.store i.0)) (ap bool_type q) (any_tested a (w.store i.0)))
+      subst (λ y. Fine (bool_type b) (tag_tested w y (prim (text a)))) (sym i.1) (fine_as (bool_type any_bool) (bool_type b) (part_tested tags_of i.0 a (w.store i.0)) (ap bool_type q) (any_tested a i.0 (w.store i.0)))
   text_tested x g (entity_types (n ∷ [])) b v a z h e c =
       let i = one_kind n v h in
-      let q : (if is_there (rules.tags_of x.schema n) || false then any_bool else only_false) ≡ b = inside e in
-      let r : (if is_there (rules.tags_of s i.0.kind) || false then any_bool else only_false) ≡ b = (λ j. if is_there (rules.tags_of (sym g j) (i.2 j)) || false then any_bool else only_false) ∙ q in
+      let q : (if is_some (rules.tags_of x.schema n) || false then any_bool else only_false) ≡ b = inside e in
+      let r : (if is_some (rules.tags_of s i.0.kind) || false then any_bool else only_false) ≡ b = (λ j. if is_some (rules.tags_of (sym g j) (i.2 j)) || false then any_bool else only_false) ∙ q in
       subst (λ y. Fine (bool_type b) (tag_tested w y (prim (text a)))) (sym i.1)
-      (fine_as _ (bool_type b) (part_tested tags_of a (w.store i.0)) (ap bool_type r) (may_tested a i.0 (is_there (rules.tags_of s i.0.kind) || false) (c i.0 i.1) (neither (is_there (rules.tags_of s i.0.kind)))))
+      (fine_as _ (bool_type b) (part_tested tags_of i.0 a (w.store i.0)) (ap bool_type r) (may_tested a i.0 (is_some (rules.tags_of s i.0.kind) || false) (c i.0 i.1) (neither (is_some (rules.tags_of s i.0.kind)))))
     where
       neither : (d : Bool) → (d || false) ≡ false → d ≡ false
       neither true e = e

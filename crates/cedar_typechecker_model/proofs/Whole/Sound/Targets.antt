@@ -12,10 +12,10 @@ use Rattle.cedar_expr_model.specs.Whole.Value.{Literal, truth, long, text, entit
 use Rattle.cedar_expr_model.proofs.Equality.{uid_eq-Decides}
 use Rattle.cedar_store_model.specs.Whole.Outcome.{Res, val, bind}
 use Rattle.cedar_store_model.specs.Whole.World.{World}
-use Rattle.cedar_store_model.specs.Whole.Operators.{bound_value}
+use Rattle.cedar_store_model.proofs.Whole.Named.{bound_value, tag_read}
 use Rattle.cedar_store_model.specs.Whole.Meaning.{Means, variable, picked, outcome_of, outcomes_of, field_outcomes_of, combined}
-use Rattle.cedar_store_model.specs.Whole.Reads.{attribute_read, tag_read}
-use Rattle.cedar_store_model.specs.Whole.Looks.{IsEntity, WithValue, Looks, AnyLooks, AnyFieldLooks}
+use Rattle.cedar_store_model.specs.Whole.Reads.{attribute_read}
+use Rattle.cedar_store_model.specs.Whole.Looks.{WithValue, Looks, AnyLooks, AnyFieldLooks, looks_up}
 use Rattle.cedar_store_model.proofs.Whole.Meaning.{means_outcome}
 use Rattle.cedar_schema_model.specs.Whole.Types.{any_bool, only_true, only_false, is_closed, Ty, bool_type, any_entity, entity_types, record_type, Attributes, no_attributes, attribute, Declared, attribute_named, strict}
 use Rattle.cedar_schema_model.specs.Whole.Schema.{Schema, declares_action}
@@ -24,7 +24,7 @@ use Rattle.cedar_schema_model.specs.Whole.HasType.{HasType}
 use Rattle.cedar_schema_model.specs.Whole.Lookup.{lookup_attribute}
 use Rattle.cedar_schema_model.proofs.Whole.Types.Lookups.{inside, test_cases}
 use Rattle.cedar_typechecker_model.specs.Whole.Facts.{Facts, union, attribute_part, tag_part}
-use Rattle.cedar_typechecker_model.specs.Whole.Levels.{Violation, Count, count, joined, further, stepped, is_entity, literal_count, branches, after_and, after_or, after_test, greater, target_after_test, entity_steps, fields_before, path_violations, steps_from_left, on_entity, violations, violations_among, violations_in_fields, target, target_in_fields}
+use Rattle.cedar_typechecker_model.specs.Whole.Levels.{Violation, Count, count, joined, further, stepped, is_entity, literal_count, branches, after_and, after_or, after_test, greater, target_after_test, entity_steps, fields_before, path_violations, on_entity, violations, violations_among, violations_in_fields, target, target_in_fields}
 use Rattle.cedar_typechecker_model.specs.Whole.Rules.{Setting, attribute_type, has_names_once, record_literal_type, has_type, get_type, call_type}
 use Rattle.cedar_typechecker_model.specs.Whole.Simple.{is_simple}
 use Rattle.cedar_typechecker_model.specs.Whole.Soundness.{Hold, ConformsAt, Suits}
@@ -40,6 +40,7 @@ use Rattle.cedar_typechecker_model.proofs.Whole.Sound.Attributes.{Fine, field_is
 use Rattle.cedar_typechecker_model.proofs.Whole.Sound.Reached.{Nearness, Reached, reached_more, conform_at, attribute_reached, tag_reached, path_begins}
 use Rattle.cedar_typechecker_model.proofs.Whole.Sound.Soundness.{SlotsIn, behind, on_left, on_right, sound, simple_type}
 use Rattle.cedar_typechecker_model.proofs.Whole.Sound.Straying.{plain_strays, bool_strays, and_bool, or_bool, tested_bool, path_bool, unary_strays, binary_strays, like_strays, is_strays, set_strays, call_strays, in_leads, get_tag_leads, get_tag_entity, has_tag_leads}
+use Rattle.cedar_typechecker_model.proofs.Whole.Named.{IsEntity}
 
 -- the value of an outcome is one
 pub same_value : {A : Type 0} (a b : A) → Some (val a) ≡ Some (val b) → a ≡ b
@@ -190,7 +191,7 @@ module _ (s : Schema) (x : Table) (e : Environment) (w : World) (suits : Suits s
       (λ k. let r = off (subst (λ z. (if z then stepped n whole (further 1 (target n (strictly s x e) known [] t)) else violations n (strictly s x e) known t) ≡ []) (q ∙ k) h) in
       ⊎_elim (λ j. r u j) (λ j. absurd (not_an_entity t ty f k (g r) j.0 (means_outcome w t (val j.0) j.1) u j.2)) l)
 
-  pub left_leads : (known : Facts) (o : BinaryOp) (a b : Tree) (t u ty : Ty) (out : Facts) → steps_from_left o ≡ true → Gives (binary_judged (strictly s x e) known o a b t u) ty out → leads t [] ≡ true
+  pub left_leads : (known : Facts) (o : BinaryOp) (a b : Tree) (t u ty : Ty) (out : Facts) → looks_up o ≡ true → Gives (binary_judged (strictly s x e) known o a b t u) ty out → leads t [] ≡ true
   left_leads known is_in a b t u ty out q d = in_leads (strictly s x e) known a b t u ty out d
   left_leads known get_tag a b t u ty out q d = get_tag_leads (strictly s x e) known a b t u ty out d
   left_leads known has_tag a b t u ty out q d = has_tag_leads (strictly s x e) known a b t u ty out d
@@ -232,18 +233,18 @@ module _ (s : Schema) (x : Table) (e : Environment) (w : World) (suits : Suits s
       }
 
   -- two operands, by what is shown of each
-  pub operands_looks : (o : BinaryOp) (a b : Tree) (i : Count) (whole : Tree) (vs : List Violation) → (if steps_from_left o then stepped n whole (further 1 i) else vs) ≡ []
-      → (steps_from_left o ≡ true → i.found ≡ [] → i.steps ≤ n → TargetReached a [] i.steps) → (steps_from_left o ≡ false → (u : Uid) → Looks w a u → Reached s Near n u) → ((u : Uid) → Looks w b u → Reached s Near n u)
+  pub operands_looks : (o : BinaryOp) (a b : Tree) (i : Count) (whole : Tree) (vs : List Violation) → (if looks_up o then stepped n whole (further 1 i) else vs) ≡ []
+      → (looks_up o ≡ true → i.found ≡ [] → i.steps ≤ n → TargetReached a [] i.steps) → (looks_up o ≡ false → (u : Uid) → Looks w a u → Reached s Near n u) → ((u : Uid) → Looks w b u → Reached s Near n u)
       → (u : Uid) → Looks w (binary o a b) u → Reached s Near n u
   operands_looks o a b i whole vs h on off right u l =
-      test_cases (steps_from_left o)
+      test_cases (looks_up o)
       (λ q. let k = step_within n whole (further 1 i) (subst (λ z. (if z then stepped n whole (further 1 i) else vs) ≡ []) q h) in
       let m = k.0 in
       let r = on q k.1 (omega (arith, m)) in
       ⊎_elim (λ j. r.looks u j) (λ j. ⊎_elim (λ p. right u p) (λ p. let y = looked_entity o j.0 p.0 u p.2 in reached_more s x e w suits Near near (suc i.steps) n u (omega (arith, m)) (r.at j.0 (means_outcome w a (val j.0) j.1) u y.1)) j.2) l)
       (λ q. ⊎_elim (λ j. off q u j) (λ j. ⊎_elim (λ p. right u p) (λ p. absurd (clash q (looked_entity o j.0 p.0 u p.2).0)) j.2) l)
     where
-      clash : steps_from_left o ≡ false → steps_from_left o ≡ true → ⊥
+      clash : looks_up o ≡ false → looks_up o ≡ true → ⊥
       clash q k = cc
 
   -- a path, by what is shown of its operand

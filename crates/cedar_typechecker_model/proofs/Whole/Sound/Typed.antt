@@ -13,13 +13,15 @@ use Rattle.cedar_schema_model.specs.Whole.Environment.{Environment}
 use Rattle.cedar_schema_model.specs.Whole.Join.{join, are_disjoint, reduce_to_join}
 use Rattle.cedar_schema_model.specs.Whole.Lookup.{attributes_of_kind, lookup_attribute, declared_of, declared_by_all}
 use Rattle.cedar_typechecker_model.specs.Whole.Facts.{Facts, no_facts, fact, union, intersection, Part, attribute_part, tag_part}
-use Rattle.cedar_typechecker_model.specs.Whole.Rules.{Setting, literal_type, var_type, slot_type, bound_type, unary_type, written_uid, written_equal, if_there, order_type, number_type, member_type, is_set_type, sets_type, Kinds, entity_kinds, entity_or_set_kinds, written_action, written_actions, within_kinds, binary_type, like_type, is_type_type, has_type, get_type, attribute_type, kind_tags, tags_of, all_there, tag_type, is_string_type, has_tag_type, get_tag_type, set_literal_type, has_names_once, record_literal_type, core_as_type, arguments_fit, takes_literal, result_type, signature_type}
-use Rattle.cedar_typechecker_model.specs.Whole.Typing.{Judgement, judged, plain, tested, conjoined, disjoined, chosen, step_type, path_after, path_judged, binary_judged, Types, EachTyped, and_judged, or_judged, choice_judged, judgement, judgements, field_judgements}
+use Rattle.cedar_typechecker_model.specs.Whole.Rules.{Setting, literal_type, var_type, slot_type, unary_type, written_uid, written_equal, if_there, order_type, number_type, member_type, is_set_type, sets_type, entity_kinds, entity_or_set_kinds, written_action, written_actions, within_kinds, binary_type, like_type, is_type_type, has_type, get_type, attribute_type, kind_tags, tags_of, tag_type, is_string_type, has_tag_type, get_tag_type, set_literal_type, has_names_once, record_literal_type, core_as_type, arguments_fit, takes_literal, signature_type}
+use Rattle.cedar_typechecker_model.specs.Whole.Typing.{Judgement, judged, plain, tested, conjoined, disjoined, chosen, step_type, path_judged, binary_judged, Types, EachTyped, and_judged, or_judged, choice_judged, judgement, judgements, field_judgements}
 use Rattle.cedar_typechecker_model.specs.Whole.Simple.{is_simple, are_simple, is_simple_tag, is_simple_kind, IsOrderly}
 use Rattle.cedar_typechecker_model.specs.Whole.Verdicts.{strictly}
 use Rattle.cedar_typechecker_model.proofs.Whole.Exact.{of_parts}
 use Rattle.cedar_typechecker_model.proofs.Whole.Typing.{exact, exact_each}
 use Rattle.cedar_typechecker_model.proofs.Whole.Sound.Joins.{join_keeps, AreSimple, reduction_keeps, simple_at}
+use Rattle.cedar_typechecker_model.proofs.Whole.Named.{Kinds, result_type, bound_type}
+use Rattle.cedar_expr_model.specs.Whole.Lists.{all_given}
 
 abbrev SimpleIf : Option Ty → Type 0
 SimpleIf o = IfSome o (λ t. is_simple t ≡ true)
@@ -117,8 +119,7 @@ simple_binary s is_in a b t u e = simple_in s a b (entity_kinds t) (entity_or_se
 simple_binary s contains a b t u e = simple_member s t u
 simple_binary s contains_all a b t u e = simple_sets s t u
 simple_binary s contains_any a b t u e = simple_sets s t u
-simple_binary s get_tag a b t u e = tt
-simple_binary s has_tag a b t u e = tt
+simple_binary s o a b t u e = tt
 
 simple_like : (t : Ty) → SimpleIf (like_type t)
 simple_like string_type = refl
@@ -233,7 +234,7 @@ simple_signature s es ts f (Some ps) = simple_if (takes_count f (length ts) && (
 
 simple_call : (s : Setting) (es : Trees) (ts : List Ty) (o : Option Signature) → SimpleIf (option_and_then (signature_type s es ts) o)
 simple_call s es ts None = tt
-simple_call s es ts (Some f) = simple_signature s es ts f (all_there (map core_as_type f.parameters))
+simple_call s es ts (Some f) = simple_signature s es ts f (all_given core_as_type f.parameters)
 
 -- conjunctions, disjunctions, choices, paths
 simple_conjoined : (b : BoolType) (f : Facts) (t : Ty) (g : Facts) → SimpleOf (conjoined b f t g)
@@ -274,14 +275,9 @@ simple_choice s r q e n m (bool_type any_bool) f =
     (λ t h i. simple_then q (chosen s t (union f h)) m (λ u g j. rw e (simple_chosen t u (union f h) g i j)))
 simple_choice s r q e n m t f = tt
 
-simple_after : (e : Tree) (p : Part) (rest : Ty → Option Judgement) (found : Option Ty) (left : BoolType) → SimpleOf (path_after rest found (tested e p left) left)
-simple_after e p rest found only_false = refl
-simple_after e p rest found any_bool = simple_found found _ (λ t. simple_found (rest t) _ (λ r. simple_conjoined any_bool (fact e p) r.type r.facts))
-simple_after e p rest found only_true = simple_found found _ (λ t. simple_found (rest t) _ (λ r. simple_conjoined only_true no_facts r.type r.facts))
-
 simple_path : (s : Setting) (a : Text) (bs : List Text) (e : Tree) (t : Ty) → SimpleOf (path_judged s a bs e t)
 simple_path s a [] e t = simple_test e (attribute_part a) (has_type s t a)
-simple_path s a (b ∷ bs) e t = simple_found (has_type s t a) _ (λ left. simple_after e (attribute_part a) (path_judged s b bs (get_attr e a)) (step_type s t a) left)
+simple_path s a (b ∷ bs) e t = simple_found (option_map (tested e (attribute_part a)) (has_type s t a)) _ (λ j. simple_and (λ f. option_and_then (path_judged s b bs (get_attr e a)) (step_type s t a)) j.type j.facts)
 
 each_simple : (o : Option Judgement) (p : Option (List Ty)) → SimpleOf o → IfSome p AreSimple → IfSome (option_and_then (λ (j : Judgement). option_map (λ ts. j.type ∷ ts) p) o) AreSimple
 each_simple None p h k = tt

@@ -1,6 +1,6 @@
 -- Leaves: what is written, variables and slots mean values of their types.
 use Rattle.std.proofs.Common.{◌≡◌, ◌||◌, Bool, true, false, List, [], ◌∷◌, map, Option, Some, None, refl, sym, ap, ◌∙◌, subst}
-use Rattle.std.specs.Prelude.{option_map, option_and_then, if◌then◌else◌, Contains}
+use Rattle.std.specs.Prelude.{option_map, option_and_then, if◌then◌else◌, Contains, IsSome}
 use Rattle.cedar_expr_model.specs.Name.{Name}
 use Rattle.cedar_expr_model.specs.Uid.{Uid}
 use Rattle.cedar_expr_model.specs.Whole.Value.{Literal, truth, long, text, entity, V, prim}
@@ -11,22 +11,23 @@ use Rattle.cedar_expr_model.proofs.Lists.{contains_head, contains_cases, contain
 use Rattle.cedar_expr_model.proofs.Whole.Sets.{made_from, made_has}
 use Rattle.cedar_store_model.specs.Whole.Outcome.{val, bind}
 use Rattle.cedar_store_model.specs.Whole.World.{World}
-use Rattle.cedar_store_model.specs.Whole.Operators.{bound_value}
+use Rattle.cedar_store_model.proofs.Whole.Named.{bound_value, known_uid}
 use Rattle.cedar_store_model.specs.Whole.Reads.{uids_in}
-use Rattle.cedar_store_model.specs.Whole.Meaning.{known_uid, slot_value, variable, outcome_of, outcomes_of}
-use Rattle.cedar_store_model.specs.Whole.Knowledge.{IsThere}
+use Rattle.cedar_store_model.specs.Whole.Meaning.{slot_value, variable, outcome_of, outcomes_of}
 use Rattle.cedar_schema_model.specs.Whole.Types.{Ty, entity_type}
 use Rattle.cedar_schema_model.specs.Whole.Schema.{Schema, declares_type, declares_action}
 use Rattle.cedar_schema_model.specs.Whole.Environment.{Environment}
 use Rattle.cedar_schema_model.specs.Whole.HasType.{HasType}
 use Rattle.cedar_schema_model.proofs.Whole.Decls.Environments.{declares_action-Decides}
 use Rattle.cedar_schema_model.proofs.Whole.Types.Lookups.{inside}
-use Rattle.cedar_typechecker_model.specs.Whole.Rules.{Setting, literal_type, var_type, slot_type, written_uid, written_action, action_literal, action_literals, written_actions}
+use Rattle.cedar_typechecker_model.specs.Whole.Rules.{Setting, literal_type, var_type, slot_type, written_uid, written_action, action_literal, written_actions}
 use Rattle.cedar_typechecker_model.specs.Whole.Verdicts.{strictly}
 use Rattle.cedar_typechecker_model.specs.Whole.Soundness.{Suits}
 use Rattle.cedar_typechecker_model.proofs.Whole.Sound.Operators.{known_good, Writes}
 use Rattle.cedar_typechecker_model.proofs.Whole.Sound.Membership.{uids_of, WritesAction, Actions, WritesActions}
 use Rattle.cedar_typechecker_model.proofs.Whole.Sound.Attributes.{Fine, fine_as}
+use Rattle.cedar_expr_model.specs.Whole.Lists.{all_given}
+use Rattle.cedar_expr_model.specs.Whole.Parts.{listed}
 
 pub literal_fine : (s : Setting) (p : Literal) (ty : Ty) → literal_type s p ≡ Some ty → Fine ty (Some (val (prim p)))
 literal_fine s (truth b) ty e = fine_as _ ty (Some (val (prim (truth b)))) (inside e) (known_good b)
@@ -49,7 +50,7 @@ context_fine : (t : Ty) (o : Option V) → ((v : V) → o ≡ Some v → HasType
 context_fine t None f = tt
 context_fine t (Some v) f = f v refl
 
-slot_fine : (t : Ty) (o : Option Uid) → IsThere o → ((u : Uid) → o ≡ Some u → HasType (prim (entity u)) t) → Fine t (Some (slot_value o))
+slot_fine : (t : Ty) (o : Option Uid) → IsSome o → ((u : Uid) → o ≡ Some u → HasType (prim (entity u)) t) → Fine t (Some (slot_value o))
 slot_fine t None h f = absurd h
 slot_fine t (Some u) h f = f u refl
 
@@ -64,7 +65,7 @@ module _ (s : Schema) (x : Table) (e : Environment) (w : World) (suits : Suits s
   variable_fine resource = known_fine e.resource w.resource suits.resource
   variable_fine context = context_fine _ w.context suits.context
 
-  pub bound_fine : (i : SlotId) → IsThere (w.slots i) → Fine (slot_type (strictly s x e) i) (Some (slot_value (w.slots i)))
+  pub bound_fine : (i : SlotId) → IsSome (w.slots i) → Fine (slot_type (strictly s x e) i) (Some (slot_value (w.slots i)))
   bound_fine i h = slot_fine (slot_type (strictly s x e) i) (w.slots i) h (suits.slots i)
 
   pub action_declared : declares_action s e.action ≡ true
@@ -117,9 +118,9 @@ module _ (s : Schema) (x : Table) (e : Environment) (w : World) (suits : Suits s
   abbrev AllWritten : Trees → List Uid → Type 0
   AllWritten ts us = (outcomes_of w ts ≡ Some (val (map (λ u. prim (entity u)) us))) × ((z : Uid) → Contains us z → declares_action s z ≡ true)
 
-  all_written : (ts : Trees) (us : List Uid) → action_literals (strictly s x e) ts ≡ Some us → AllWritten ts us
+  all_written : (ts : Trees) (us : List Uid) → all_given (action_literal (strictly s x e)) (listed ts ≡ Some us → AllWritten ts us
   all_written no_trees us h = subst (AllWritten no_trees) (inside h) (refl, λ z i. absurd (contains_none z i))
-  all_written (tree t ts) us h = by (action_literal (strictly s x e) t) (literal_action t) (action_literals (strictly s x e) ts) (all_written ts) h
+  all_written (tree t ts) us h = by (action_literal (strictly s x e) t) (literal_action t) (all_given (action_literal (strictly s x e)) (listed ts) (all_written ts) h
     where
       by : (o : Option Uid) → ((u : Uid) → o ≡ Some u → (outcome_of w t ≡ Some (val (prim (entity u)))) × (declares_action s u ≡ true)) → (p : Option (List Uid)) → ((vs : List Uid) → p ≡ Some vs → AllWritten ts vs)
           → option_and_then (λ u. option_map (λ vs. u ∷ vs) p) o ≡ Some us → AllWritten (tree t ts) us
