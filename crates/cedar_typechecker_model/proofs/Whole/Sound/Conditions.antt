@@ -1,5 +1,5 @@
 -- What the condition of a policy looks up is near or a declared action, whatever its slots are bound to.
-use Rattle.std.proofs.Common.{◌≡◌, ◌⊎◌, inl, inr, ⊎_elim, ℕ, Bool, true, false, List, [], ◌∷◌, ◌++◌, map, Option, Some, None, refl, sym, ap, ◌∙◌, subst}
+use Rattle.std.proofs.Common.{◌≡◌, ◌⊎◌, inl, inr, ⊎_elim, ℕ, Bool, true, false, List, [], ◌∷◌, map, Option, Some, None, refl, sym, ap, ◌∙◌, subst}
 use Rattle.std.specs.Prelude.{Contains, IsSome}
 use Rattle.std.specs.List.{flat_map}
 use Rattle.std.proofs.lemmas.List.Concat.{flat_map-cons}
@@ -12,13 +12,13 @@ use Rattle.cedar_expr_model.specs.Whole.Tree.{Var, principal, action, resource, 
 use Rattle.cedar_expr_model.specs.Whole.Value.{entity, V, prim}
 use Rattle.cedar_expr_model.proofs.Equality.{name_eq_same}
 use Rattle.cedar_expr_model.proofs.Lists.{contains_cases, contains_none}
-use Rattle.cedar_store_model.specs.Whole.Outcome.{Res, val, bind}
+use Rattle.cedar_store_model.specs.Whole.Outcome.{val, bind}
 use Rattle.cedar_store_model.specs.Whole.World.{World}
 use Rattle.cedar_store_model.specs.Whole.Operators.{says, of_type}
-use Rattle.cedar_store_model.specs.Whole.Meaning.{Means, slot_value, variable, combined, outcome_of}
+use Rattle.cedar_store_model.specs.Whole.Meaning.{slot_value, variable, combined, outcome_of}
 use Rattle.cedar_store_model.proofs.Whole.Named.{known_uid, uid_trees, principal_tree, resource_tree}
 use Rattle.cedar_store_model.specs.Whole.Looks.{Looks, AnyLooks}
-use Rattle.cedar_store_model.specs.Whole.Policy.{Policy, SlotBindings, binding_of, Target, named, own_slot, Scope, any, exactly, inside, of_kind, of_kind_inside, target_tree, scope_tree, ActionScope, any_action, exactly_action, inside_actions, action_tree, body_tree, condition, has_slot}
+use Rattle.cedar_store_model.specs.Whole.Policy.{Policy, SlotBindings, Target, named, own_slot, Scope, any, exactly, inside, of_kind, of_kind_inside, target_tree, scope_tree, ActionScope, any_action, exactly_action, inside_actions, action_tree, body_tree, condition, has_slot}
 use Rattle.cedar_store_model.specs.Whole.Answer.{with_slots}
 use Rattle.cedar_store_model.proofs.Whole.Meaning.{means_outcome, outcome_means}
 use Rattle.cedar_schema_model.specs.Whole.Types.{Ty, bool_type, strict}
@@ -27,17 +27,17 @@ use Rattle.cedar_schema_model.specs.Whole.Environment.{Environment}
 use Rattle.cedar_typechecker_model.specs.Whole.Facts.{Facts, no_facts}
 use Rattle.cedar_typechecker_model.specs.Whole.Levels.{Violation, violations}
 use Rattle.cedar_typechecker_model.specs.Whole.Typing.{Types, type_of}
-use Rattle.cedar_typechecker_model.specs.Whole.Soundness.{ConformsAt, Suits, SlotsAreBound}
+use Rattle.cedar_typechecker_model.specs.Whole.Soundness.{ConformsAt}
 use Rattle.cedar_typechecker_model.specs.Whole.PolicySoundness.{IsConforming, IsBound, IsCovered}
 use Rattle.cedar_typechecker_model.specs.Whole.Verdicts.{strictly, policy_environments, violations_in, policy_violations, Passes}
 use Rattle.cedar_typechecker_model.proofs.Whole.Named.{if_typed}
 use Rattle.cedar_typechecker_model.proofs.Whole.Sound.Counted.{none_of_both, type_is}
 use Rattle.cedar_typechecker_model.proofs.Whole.Sound.Facts.{hold_none}
 use Rattle.cedar_typechecker_model.proofs.Whole.Sound.Leading.{at_entity}
-use Rattle.cedar_typechecker_model.proofs.Whole.Sound.Policies.{slots_in, known_principal, known_action, known_resource, not_true, covered, condition_bound, principal_bound, resource_bound, first_truth, second_truth, third_truth, principal_choice, resource_choice}
+use Rattle.cedar_typechecker_model.proofs.Whole.Sound.Policies.{slots_in, known_principal, known_action, known_resource, not_true, covered, condition_bound, principal_bound, principal_choice, resource_choice}
 use Rattle.cedar_typechecker_model.proofs.Whole.Sound.Reached.{Nearness, Reached, conform_at}
 use Rattle.cedar_typechecker_model.proofs.Whole.Sound.Reaching.{looks_reached}
-use Rattle.cedar_typechecker_model.proofs.Whole.Sound.Scopes.{both_outcome, OnlyFalse, looks_left, looks_right, HasSlot, in_outcome, target_known, set_outcome, IsTaken, IsUnfit, scope_false}
+use Rattle.cedar_typechecker_model.proofs.Whole.Sound.Scopes.{both_outcome, looks_left, looks_right, HasSlot, in_outcome, target_known, set_outcome, IsTaken, IsUnfit, scope_false}
 use Rattle.cedar_typechecker_model.proofs.Whole.Sound.Written.{uid_known, action_declared}
 
 -- what a conjunction looks up
@@ -197,12 +197,12 @@ module _ (s : Schema) (x : Table) (w : World) (p : Policy) (c : IsConforming s x
         let b : SlotBindings = record { principal = Some c.request.0.principal; resource = o } in
         let there = bindings_there o h in
         let cov = covered s x w (rebound p b) c (own_fits s p.principal c.request.0.principal p.bindings.principal f) k in
-        let moved = λ (z : Uid) (m : Looks here (principal_tree p) z). looks_left (with_slots w b) (principal_tree p) after_first z (scope_looks here (with_slots w b) principal principal_slot refl p.principal (λ i. tt) z m) in
+        let moved = λ (z : Uid) (m : Looks here (principal_tree p) z). looks_left (with_slots w b) (principal_tree p) after_first z (scope_looks here (with_slots w b) principal principal_slot refl p.principal (λ i. refl) z m) in
         let r = scope_false s here principal principal_slot c.request.0.principal p.principal (known_principal s x w p c) f (λ z m. fit_conform b there cov z (moved z m)) in
         ⊎_elim (λ m. fit_reached b there cov u (moved u m)) (λ m. absurd (not_true s x w p c _ r m.0)) (looks_parts here (principal_tree p) after_first u l)
       where
         bindings_there : (o : Option Uid) → (has_slot p resource_slot ≡ true → IsSome o) → IsBound (rebound p (record { principal = Some c.request.0.principal; resource = o }))
-        bindings_there o h principal_slot k = tt
+        bindings_there o h principal_slot k = refl
         bindings_there o h resource_slot k = h k
 
     -- where that of the resource doesn't
@@ -216,7 +216,7 @@ module _ (s : Schema) (x : Table) (w : World) (p : Policy) (c : IsConforming s x
         let second_same = action_same w p.bindings b refl c.request.0.action (known_action s x w p c) p.action in
         let third_moved = λ (z : Uid) (i : outcome_of here (principal_tree p) ≡ Some (says true)) (j : outcome_of here (action_tree p.action) ≡ Some (says true)) (m : Looks here (resource_tree p) z).
         looks_right (with_slots w b) (principal_tree p) after_first z (sym first_same ∙ i) (looks_right (with_slots w b) (action_tree p.action) after_second z (sym second_same ∙ j)
-        (looks_left (with_slots w b) (resource_tree p) (body_tree p.body) z (scope_looks here (with_slots w b) resource resource_slot refl p.resource (λ i. tt) z m))) in
+        (looks_left (with_slots w b) (resource_tree p) (body_tree p.body) z (scope_looks here (with_slots w b) resource resource_slot refl p.resource (λ i. refl) z m))) in
         ⊎_elim (λ m. reached u (first_moved u m))
         (λ m. ⊎_elim (λ j. inr (action_looked u (rebound p b) (action_uid here p.action u j) cov))
         (λ j. (let r = scope_false s here resource resource_slot c.request.0.resource p.resource (known_resource s x w p c) f (λ z i. fit_conform b bindings_there cov z (third_moved z m.0 j.0 i)) in
@@ -226,11 +226,11 @@ module _ (s : Schema) (x : Table) (w : World) (p : Policy) (c : IsConforming s x
       where
         bindings_there : IsBound (rebound p (record { principal = p.bindings.principal; resource = Some c.request.0.resource }))
         bindings_there principal_slot k = bound principal_slot k
-        bindings_there resource_slot k = tt
+        bindings_there resource_slot k = refl
 
     pub condition_reached : (u : Uid) → Looks here (condition p) u → Reached s Near n u
     condition_reached u l =
         ⊎_elim
         (λ k. ⊎_elim (λ m. fit_reached p.bindings bound (covered s x w p c k m) u l) (λ f. resource_unfit k f u l) (resource_choice s x w p c bound))
-        (λ f. ⊎_elim (λ m. principal_unfit p.bindings.resource (bound resource_slot) m f u l) (λ g. principal_unfit (Some c.request.0.resource) (λ i. tt) (own_fits s p.resource c.request.0.resource p.bindings.resource g) f u l) (resource_choice s x w p c bound))
+        (λ f. ⊎_elim (λ m. principal_unfit p.bindings.resource (bound resource_slot) m f u l) (λ g. principal_unfit (Some c.request.0.resource) (λ i. refl) (own_fits s p.resource c.request.0.resource p.bindings.resource g) f u l) (resource_choice s x w p c bound))
         (principal_choice s x w p c bound)

@@ -1,24 +1,23 @@
 -- What no violations say of the parts of an expression.
-use Rattle.std.proofs.Common.{◌≡◌, ◌≤◌, ◌+◌, ◌&&◌, ℕ, zero, suc, arith, Bool, true, false, List, [], ◌∷◌, ◌++◌, Option, Some, None, refl, sym, ap, ◌∙◌, subst}
-use Rattle.std.specs.Prelude.{max, nat_le, option_map, option_and_then, if◌then◌else◌}
-use Rattle.std.specs.Option.{option_map_or}
+use Rattle.std.proofs.Common.{◌≡◌, ◌≤◌, ◌+◌, ℕ, suc, arith, Bool, true, false, List, [], ◌∷◌, ◌++◌, Option, Some, None, refl, sym, ap, ◌∙◌, subst}
+use Rattle.std.specs.Prelude.{nat_le, option_map, if◌then◌else◌}
 use Rattle.std.proofs.lemmas.Bool.{leb-true}
 use Rattle.cedar_expr_model.specs.Name.{Text}
 use Rattle.cedar_expr_model.specs.Uid.{Uid}
-use Rattle.cedar_expr_model.specs.Whole.Tree.{Tree, BinaryOp, equal, less, less_or_equal, plus, difference, times, is_in, contains, contains_all, contains_any, get_tag, has_tag}
+use Rattle.cedar_expr_model.specs.Whole.Tree.{Tree, BinaryOp, is_in, get_tag, has_tag}
 use Rattle.cedar_expr_model.specs.Whole.Value.{entity, V, prim, truth_value}
 use Rattle.cedar_store_model.specs.Whole.Outcome.{Res, val, err, bind}
 use Rattle.cedar_store_model.specs.Whole.World.{World}
 use Rattle.cedar_store_model.specs.Whole.Looks.{CombinedLooks, looks_up}
-use Rattle.cedar_schema_model.specs.Whole.Types.{BoolType, any_bool, only_true, only_false, Ty, never, bool_type, any_entity, entity_types, record_type, Declared, attribute_named, strict}
+use Rattle.cedar_schema_model.specs.Whole.Types.{any_bool, only_true, only_false, Ty, bool_type, entity_types, record_type, Declared, attribute_named, strict}
 use Rattle.cedar_schema_model.specs.Whole.HasType.{HasType}
 use Rattle.cedar_schema_model.specs.Whole.Join.{join}
 use Rattle.cedar_schema_model.specs.Whole.Lookup.{lookup_attribute}
 use Rattle.cedar_typechecker_model.specs.Whole.Facts.{Facts, union, intersection}
-use Rattle.cedar_typechecker_model.specs.Whole.Levels.{Violation, Count, further, needed, stepped, is_entity, unless_false, unless_true, branches, after_and, after_or, after_test, greater, target_after_test, entity_steps, fields_before, on_entity}
+use Rattle.cedar_typechecker_model.specs.Whole.Levels.{Violation, Count, needed, stepped, is_entity, unless_false, unless_true, branches, greater, entity_steps, fields_before}
 use Rattle.cedar_typechecker_model.specs.Whole.Rules.{Setting}
 use Rattle.cedar_typechecker_model.specs.Whole.Simple.{is_simple}
-use Rattle.cedar_typechecker_model.specs.Whole.Typing.{Judgement, chosen, step_type, Gives, Types, AndTyped, OrTyped, ChoiceTyped, judgement, type_under}
+use Rattle.cedar_typechecker_model.specs.Whole.Typing.{Judgement, step_type, Gives, Types, AndTyped, OrTyped, ChoiceTyped, judgement, type_under}
 use Rattle.cedar_typechecker_model.proofs.Whole.Exact.{of_parts}
 use Rattle.cedar_typechecker_model.proofs.Whole.Typing.{exact}
 use Rattle.cedar_schema_model.proofs.Whole.Types.Lookups.{test_cases}

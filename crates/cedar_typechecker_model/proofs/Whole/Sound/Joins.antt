@@ -270,8 +270,12 @@ pub record KeptAll (ts : List Ty) (j : Ty) : Type 0 where
   pub simple : is_simple j ≡ true
   pub each : (t : Ty) → Contains ts t → (v : V) → HasType v t → HasType v j
 
+none_stays : (us : List Ty) (j : Ty) → join_all strict None us ≡ Some j → ⊥
+none_stays [] j e = cc
+none_stays (u ∷ us) j e = none_stays us j e
+
 some_join : (o : Option Ty) (us : List Ty) (j : Ty) → join_all strict o us ≡ Some j → (k : Ty) × (o ≡ Some k) × (join_all strict (Some k) us ≡ Some j)
-some_join None us j e = cc
+some_join None us j e = absurd (none_stays us j e)
 some_join (Some k) us j e = (k, refl, e)
 
 kept_all : (ts : List Ty) (t j : Ty) → is_simple t ≡ true → AreSimple ts → join_all strict (Some t) ts ≡ Some j → ((v : V) → HasType v t → HasType v j) × KeptAll ts j

@@ -1,11 +1,11 @@
 -- Where the fields of a value lead to an entity, and which types lead to one.
-use Rattle.std.proofs.Common.{◌≡◌, ◌&&◌, ◌||◌, Bool, true, false, List, [], ◌∷◌, Option, Some, None, refl, sym, ap, ◌∙◌, subst}
-use Rattle.std.specs.Prelude.{option_map, option_and_then, if◌then◌else◌}
+use Rattle.std.proofs.Common.{◌≡◌, ◌&&◌, Bool, true, false, List, [], ◌∷◌, Option, Some, None, refl, sym, ap, ◌∙◌}
+use Rattle.std.specs.Prelude.{option_map}
 use Rattle.std.specs.Option.{option_map_or}
 use Rattle.cedar_expr_model.specs.Name.{Text, Name, name_eq}
 use Rattle.cedar_expr_model.specs.Uid.{Uid}
-use Rattle.cedar_expr_model.specs.Whole.Value.{truth, long, text, entity, V, prim, set_of, record_of, extension, Fields, field_of}
-use Rattle.cedar_schema_model.specs.Whole.Types.{BoolType, Openness, Ty, never, bool_type, long_type, string_type, any_entity, entity_types, any_set, set_type, record_type, extension_type, Attributes, Declared, attribute_named, strict}
+use Rattle.cedar_expr_model.specs.Whole.Value.{entity, V, prim, record_of, Fields, field_of}
+use Rattle.cedar_schema_model.specs.Whole.Types.{BoolType, Ty, never, bool_type, long_type, string_type, any_entity, entity_types, any_set, set_type, record_type, extension_type, Declared, attribute_named, strict}
 use Rattle.cedar_schema_model.specs.Whole.Subtype.{are_among}
 use Rattle.cedar_schema_model.specs.Whole.HasType.{HasType}
 use Rattle.cedar_schema_model.specs.Whole.Join.{bool_join, join, names_of_both, attributes_join}
@@ -13,7 +13,7 @@ use Rattle.cedar_schema_model.proofs.Whole.Types.Lookups.{inside}
 use Rattle.cedar_schema_model.proofs.Whole.Types.JoinParts.{given_if, joint}
 use Rattle.cedar_schema_model.proofs.Whole.Types.JoinAbove.{allowed, opened}
 use Rattle.cedar_typechecker_model.specs.Whole.Levels.{is_entity}
-use Rattle.cedar_typechecker_model.specs.Whole.Simple.{is_simple, are_simple}
+use Rattle.cedar_typechecker_model.specs.Whole.Simple.{is_simple}
 use Rattle.cedar_typechecker_model.proofs.Whole.Sound.Joins.{join_found, simple_at}
 
 -- The entity stands in the value at the end of these fields.

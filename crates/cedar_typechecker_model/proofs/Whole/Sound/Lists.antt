@@ -1,5 +1,5 @@
 -- Sets, records and calls of good outcomes are good.
-use Rattle.std.proofs.Common.{◌≡◌, ◌&&◌, suc, Bool, true, false, List, [], ◌∷◌, map, length, Option, Some, None, refl, sym, ap, ◌∙◌, subst}
+use Rattle.std.proofs.Common.{◌≡◌, ◌&&◌, suc, Bool, true, false, List, [], ◌∷◌, length, Option, Some, None, refl, sym, ap, ◌∙◌, subst}
 use Rattle.std.specs.Prelude.{is_some, option_map, option_and_then, if◌then◌else◌, Contains}
 use Rattle.std.specs.Str.{bytes_eq}
 use Rattle.std.proofs.lemmas.Slice.Eq.{bytes_eq-Decides}
@@ -14,7 +14,8 @@ use Rattle.cedar_expr_model.proofs.Lists.{both_hold, hold_both, contains_cases, 
 use Rattle.cedar_expr_model.proofs.Whole.CoreTypes.{core_eq-Decides}
 use Rattle.cedar_expr_model.proofs.Whole.Sets.{made_from}
 use Rattle.cedar_store_model.specs.Whole.Outcome.{Res, val, err, bind, wrong_type, wrong_count}
-use Rattle.cedar_store_model.specs.Whole.Operators.{answered, called_with, called}
+use Rattle.cedar_store_model.proofs.Whole.Named.{called_of}
+use Rattle.cedar_store_model.specs.Whole.Operators.{answered, called}
 use Rattle.cedar_schema_model.specs.Whole.Types.{any_bool, is_closed, Ty, set_type, record_type, Attributes, no_attributes, attribute, Declared, attribute_named, strict}
 use Rattle.cedar_schema_model.specs.Whole.Subtype.{is_subtype}
 use Rattle.cedar_schema_model.specs.Whole.Join.{reduce_to_join}
@@ -198,7 +199,7 @@ taken_fine unknowns f c ty true false p q h e = cc
 taken_fine unknowns f c ty false t p q h e = cc
 
 module _ (s : Setting) (fair : IsFair s.table) (n : Name) (unknowns : Text → Option V) (es : Trees) (ts : List Ty) (vs : List V) (h : Have vs ts) where
-  called_fine : (o : Option Signature) → signature_of s.table n ≡ o → (ty : Ty) → option_and_then (signature_type s es ts) o ≡ Some ty → Fine ty (called_with s.table unknowns n vs o)
+  called_fine : (o : Option Signature) → signature_of s.table n ≡ o → (ty : Ty) → option_and_then (signature_type s es ts) o ≡ Some ty → Fine ty (called_of s.table unknowns n vs o)
   called_fine None q ty e = cc
   called_fine (Some f) q ty e = by (all_given core_as_type f.parameters) refl e
     where

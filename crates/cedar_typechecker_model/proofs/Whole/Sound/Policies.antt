@@ -3,7 +3,7 @@ use Rattle.std.proofs.Common.{◌≡◌, ◌⊎◌, inl, inr, ⊎_elim, Bool, tr
 use Rattle.std.specs.Prelude.{Contains, is_some, map, find, if◌then◌else◌, IsSome}
 use Rattle.cedar_expr_model.specs.Name.{Name, name_eq}
 use Rattle.cedar_expr_model.specs.Uid.{Uid}
-use Rattle.cedar_expr_model.specs.Whole.Value.{entity, V, prim, truth_value}
+use Rattle.cedar_expr_model.specs.Whole.Value.{entity, V, prim, record_of, truth_value}
 use Rattle.cedar_expr_model.specs.Whole.Builder.{conjunction}
 use Rattle.cedar_expr_model.specs.Whole.Parts.{subexpressions, slot_here, slots}
 use Rattle.cedar_expr_model.specs.Whole.Table.{Table}
@@ -27,7 +27,7 @@ use Rattle.cedar_store_model.proofs.Whole.Sets.{condition_uses}
 use Rattle.cedar_schema_model.specs.Whole.Types.{BoolType, any_bool, only_false, Ty, bool_type, record_type, is_closed}
 use Rattle.cedar_schema_model.specs.Whole.Schema.{EntityType, Action, Schema}
 use Rattle.cedar_schema_model.specs.Whole.HasType.{HasType}
-use Rattle.cedar_store_model.specs.Whole.Store.{as_open}
+use Rattle.cedar_store_model.specs.Whole.Store.{OpenRequest, as_open}
 use Rattle.cedar_schema_model.specs.Whole.Environment.{Environment, environment_at, environments}
 use Rattle.cedar_schema_model.specs.Whole.DeclLaws.{IsGoodFor, IsGoodRequest}
 use Rattle.cedar_schema_model.proofs.Whole.Types.Lookups.{inside}
@@ -70,10 +70,10 @@ types_are_sound s x e w suits known t hold bound c ty out d r m =
 -- a conforming request, read directly
 same_request : (r q : Request) → as_open r ≡ as_open q → q ≡ r
 same_request r q e =
-    let a : q.principal ≡ r.principal = inside (ap (λ (x : RequestParts). x.principal) (sym e)) in
-    let b : q.action ≡ r.action = inside (ap (λ (x : RequestParts). x.action) (sym e)) in
-    let c : q.resource ≡ r.resource = inside (ap (λ (x : RequestParts). x.resource) (sym e)) in
-    let d : q.context ≡ r.context = inside (ap (λ (x : RequestParts). x.context) (sym e)) in
+    let a : q.principal ≡ r.principal = inside (ap (λ (x : OpenRequest). x.principal) (sym e)) in
+    let b : q.action ≡ r.action = inside (ap (λ (x : OpenRequest). x.action) (sym e)) in
+    let c : q.resource ≡ r.resource = inside (ap (λ (x : OpenRequest). x.resource) (sym e)) in
+    let d : q.context ≡ r.context = (let k : record_of q.context ≡ record_of r.context = inside (ap (λ (x : OpenRequest). x.context) (sym e)) in cc) in
     λ i. record { principal = a i; action = b i; resource = c i; context = d i }
 
 good_request : (s : Schema) (x : Table) (w : World) → (c : IsConforming s x w) → IsGoodRequest s c.request.0
@@ -169,14 +169,14 @@ module _ (s : Schema) (x : Table) (w : World) (p : Policy) (c : IsConforming s x
 
   -- the slots of the condition are bound
   pub condition_bound : IsBound p → SlotsAreBound (with_slots w p.bindings) (condition p)
-  condition_bound bound i h = bound i (sym (condition_uses p i) ∙ h)
+  condition_bound bound i h = bound i h
 
   module _ (bound : IsBound p) where
     pub principal_bound : HasSlot p.principal → IsSome p.bindings.principal
-    principal_bound h = bound principal_slot (hold_left _ _ (has_scope_slot p.principal h))
+    principal_bound h = bound principal_slot (condition_uses p principal_slot ∙ hold_left _ (tree_uses (body_tree p.body) principal_slot) (has_scope_slot p.principal h))
 
     pub resource_bound : HasSlot p.resource → IsSome p.bindings.resource
-    resource_bound h = bound resource_slot (hold_left _ _ (has_scope_slot p.resource h))
+    resource_bound h = bound resource_slot (condition_uses p resource_slot ∙ hold_left _ (tree_uses (body_tree p.body) resource_slot) (has_scope_slot p.resource h))
 
     -- the parts of the condition
     abbrev pub first : Tree

@@ -1,28 +1,27 @@
 -- How near the entities lie that attributes, tags and paths lead to.
-use Rattle.std.proofs.Common.{◌≡◌, ◌≤◌, ◌+◌, ◌⊎◌, inl, inr, ⊎_elim, ℕ, zero, suc, arith, Bool, true, false, List, [], ◌∷◌, Option, Some, None, refl, sym, ap, ◌∙◌, subst}
+use Rattle.std.proofs.Common.{◌≡◌, ◌≤◌, ◌+◌, ◌⊎◌, inl, inr, ⊎_elim, ℕ, suc, arith, true, false, List, [], ◌∷◌, Option, Some, None, refl, sym, ap, ◌∙◌, subst}
 use Rattle.std.specs.Prelude.{is_some, option_map, option_and_then, if◌then◌else◌}
 use Rattle.cedar_expr_model.specs.Name.{Text}
 use Rattle.cedar_expr_model.specs.Uid.{Uid}
 use Rattle.cedar_expr_model.specs.Whole.Table.{Table}
 use Rattle.cedar_expr_model.specs.Whole.Tree.{Tree, get_attr}
-use Rattle.cedar_expr_model.specs.Whole.Value.{text, entity, V, prim, record_of, field_of}
-use Rattle.cedar_store_model.specs.Whole.Outcome.{Res, val}
+use Rattle.cedar_expr_model.specs.Whole.Value.{text, entity, V, prim, field_of}
+use Rattle.cedar_store_model.specs.Whole.Outcome.{val}
 use Rattle.cedar_store_model.specs.Whole.World.{World, Entity, Found, held, missing, not_loaded}
-use Rattle.cedar_expr_model.specs.Whole.ValueParts.{Part, known, left}
-use Rattle.cedar_store_model.specs.Whole.Reads.{part_value, part_read, attribute_read}
+use Rattle.cedar_expr_model.specs.Whole.ValueParts.{known}
+use Rattle.cedar_store_model.specs.Whole.Reads.{part_read, attribute_read}
 use Rattle.cedar_store_model.proofs.Whole.Named.{attributes_of, tag_read, tags_of}
 use Rattle.cedar_store_model.specs.Whole.Looks.{PathLooks}
 use Rattle.cedar_schema_model.specs.Whole.Types.{Ty, any_entity, entity_types, record_type, Declared}
 use Rattle.cedar_schema_model.specs.Whole.Schema.{EntityType, Schema, type_named, declares_action}
 use Rattle.cedar_schema_model.specs.Whole.Environment.{Environment}
-use Rattle.cedar_schema_model.specs.Whole.Lookup.{lookup_attribute, declared_of}
+use Rattle.cedar_schema_model.specs.Whole.Lookup.{lookup_attribute}
 use Rattle.cedar_schema_model.specs.Whole.HasType.{HasType}
 use Rattle.cedar_schema_model.specs.Whole.Conforming.{EntityConforms}
-use Rattle.cedar_schema_model.proofs.Whole.Types.Lookups.{inside, test_cases}
+use Rattle.cedar_schema_model.proofs.Whole.Types.Lookups.{test_cases}
 use Rattle.cedar_typechecker_model.specs.Whole.Facts.{Facts}
 use Rattle.cedar_typechecker_model.specs.Whole.Levels.{is_entity, entity_steps, fields_before}
-use Rattle.cedar_typechecker_model.specs.Whole.Rules.{Setting}
-use Rattle.cedar_typechecker_model.specs.Whole.Simple.{is_simple, IsOrderly}
+use Rattle.cedar_typechecker_model.specs.Whole.Simple.{is_simple}
 use Rattle.cedar_typechecker_model.specs.Whole.Soundness.{ConformsAt, Suits}
 use Rattle.cedar_typechecker_model.specs.Whole.Typing.{step_type, path_judged, Gives}
 use Rattle.cedar_typechecker_model.specs.Whole.Verdicts.{strictly}
@@ -30,8 +29,7 @@ use Rattle.cedar_typechecker_model.proofs.Whole.Sound.Attributes.{one_kind, fiel
 use Rattle.cedar_typechecker_model.proofs.Whole.Sound.Entities.{held_attribute, held_tag}
 use Rattle.cedar_typechecker_model.proofs.Whole.Sound.Leading.{At, Stands, stands_itself, stands_within, at_entity, entity_typed}
 use Rattle.cedar_typechecker_model.proofs.Whole.Sound.Shapes.{any_value, entity_value, record_value}
-use Rattle.cedar_typechecker_model.proofs.Whole.Sound.Steps.{Onward, goes_onward}
-use Rattle.cedar_typechecker_model.specs.Whole.Rules as rules
+use Rattle.cedar_typechecker_model.proofs.Whole.Sound.Steps.{goes_onward}
 use Rattle.cedar_typechecker_model.proofs.Whole.Named.{one_if}
 use Rattle.std.specs.Map.{lookup}
 use Rattle.std.specs.Str.{bytes_eq}

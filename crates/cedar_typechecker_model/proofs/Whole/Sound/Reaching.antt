@@ -1,45 +1,33 @@
 -- Without violations at a level each look-up is near, or a declared action.
-use Rattle.std.proofs.Common.{◌≡◌, ◌≤◌, ◌+◌, ◌||◌, ◌⊎◌, inl, inr, ⊎_elim, ℕ, zero, suc, arith, Bool, true, false, List, [], ◌∷◌, ◌++◌, Option, Some, None, refl, sym, ap, ◌∙◌, subst}
-use Rattle.std.specs.Prelude.{option_map, option_and_then, if◌then◌else◌}
+use Rattle.std.proofs.Common.{◌≡◌, ◌≤◌, ◌+◌, inl, inr, ⊎_elim, ℕ, arith, true, false, List, [], ◌∷◌, Some, refl, sym, ap, ◌∙◌, subst}
+use Rattle.std.specs.Prelude.{if◌then◌else◌}
 use Rattle.std.specs.Str.{bytes_eq}
-use Rattle.std.proofs.lemmas.Slice.Eq.{bytes_eq-Decides}
 use Rattle.cedar_expr_model.specs.Name.{Text}
-use Rattle.cedar_expr_model.specs.Uid.{Uid, uid_eq}
+use Rattle.cedar_expr_model.specs.Uid.{Uid}
 use Rattle.cedar_expr_model.specs.Whole.Parts.{subexpressions, subexpressions_among, subexpressions_in_fields}
 use Rattle.cedar_expr_model.specs.Whole.Table.{Table, signature_of}
-use Rattle.cedar_expr_model.specs.Whole.Tree.{Var, principal, action, resource, context, BinaryOp, equal, less, less_or_equal, plus, difference, times, is_in, contains, contains_all, contains_any, get_tag, has_tag, Tree, lit, var, slot, unknown, choice, both, either, unary, binary, call, get_attr, has_attr, has_path, like, is_type, set_literal, record_literal, Trees, no_trees, tree, TreeFields, no_tree_fields, tree_field}
-use Rattle.cedar_expr_model.specs.Whole.Value.{Literal, truth, long, text, entity, V, prim, record_of, Fields, field, field_of, truth_value}
-use Rattle.cedar_expr_model.proofs.Equality.{uid_eq-Decides}
-use Rattle.cedar_store_model.specs.Whole.Outcome.{Res, val, bind}
+use Rattle.cedar_expr_model.specs.Whole.Tree.{get_tag, has_tag, Tree, lit, var, slot, unknown, choice, both, either, unary, binary, call, get_attr, has_attr, has_path, like, is_type, set_literal, record_literal, Trees, no_trees, tree, TreeFields, no_tree_fields, tree_field}
+use Rattle.cedar_expr_model.specs.Whole.Value.{prim}
 use Rattle.cedar_store_model.specs.Whole.World.{World}
-use Rattle.cedar_store_model.proofs.Whole.Named.{bound_value, tag_read}
-use Rattle.cedar_store_model.specs.Whole.Meaning.{Means, variable, picked, outcome_of, outcomes_of, field_outcomes_of, combined}
-use Rattle.cedar_store_model.specs.Whole.Reads.{attribute_read}
-use Rattle.cedar_store_model.specs.Whole.Looks.{WithValue, Looks, AnyLooks, AnyFieldLooks, looks_up}
+use Rattle.cedar_store_model.specs.Whole.Meaning.{outcome_of}
+use Rattle.cedar_store_model.specs.Whole.Looks.{Looks, AnyLooks, AnyFieldLooks, looks_up}
 use Rattle.cedar_store_model.proofs.Whole.Meaning.{means_outcome}
-use Rattle.cedar_schema_model.specs.Whole.Types.{any_bool, only_true, only_false, is_closed, Ty, bool_type, any_entity, entity_types, record_type, Attributes, no_attributes, attribute, Declared, attribute_named, strict}
+use Rattle.cedar_schema_model.specs.Whole.Types.{Ty, Attributes, no_attributes, attribute, Declared, attribute_named}
 use Rattle.cedar_schema_model.specs.Whole.Schema.{Schema, declares_action}
 use Rattle.cedar_schema_model.specs.Whole.Environment.{Environment}
-use Rattle.cedar_schema_model.specs.Whole.HasType.{HasType}
 use Rattle.cedar_schema_model.specs.Whole.Lookup.{lookup_attribute}
 use Rattle.cedar_schema_model.proofs.Whole.Types.Lookups.{inside, test_cases}
 use Rattle.cedar_typechecker_model.specs.Whole.Facts.{Facts, union, attribute_part, tag_part}
-use Rattle.cedar_typechecker_model.specs.Whole.Levels.{Violation, Count, count, joined, further, stepped, is_entity, literal_count, branches, after_and, after_or, after_test, greater, target_after_test, entity_steps, fields_before, path_violations, on_entity, violations, violations_among, violations_in_fields, target, target_in_fields}
-use Rattle.cedar_typechecker_model.specs.Whole.Rules.{Setting, attribute_type, has_names_once, record_literal_type, has_type, get_type, call_type}
-use Rattle.cedar_typechecker_model.specs.Whole.Simple.{is_simple}
+use Rattle.cedar_typechecker_model.specs.Whole.Levels.{joined, further, stepped, is_entity, branches, after_and, after_or, after_test, greater, target_after_test, entity_steps, fields_before, path_violations, on_entity, violations, violations_among, violations_in_fields, target, target_in_fields}
 use Rattle.cedar_typechecker_model.specs.Whole.Soundness.{Hold, ConformsAt, Suits}
-use Rattle.cedar_typechecker_model.specs.Whole.Typing.{Judgement, plain, path_judged, binary_judged, Gives, Types, EachTyped, FieldsTyped, judgement, type_under}
+use Rattle.cedar_typechecker_model.specs.Whole.Typing.{Types, EachTyped, FieldsTyped}
 use Rattle.cedar_typechecker_model.specs.Whole.Verdicts.{strictly}
-use Rattle.cedar_typechecker_model.proofs.Whole.Exact.{of_parts}
-use Rattle.cedar_typechecker_model.proofs.Whole.Sound.Counted.{none_of_both, step_within, judged_as, type_is, behind_and, behind_or, behind_test, target_branches, not_false, not_true, value_from, looked_entity, field_leads, before_leads}
-use Rattle.cedar_typechecker_model.proofs.Whole.Sound.Facts.{Good, hold_union}
-use Rattle.cedar_typechecker_model.proofs.Whole.Sound.Leading.{At, at_entity, leads, named_leads, entity_typed, entity_leads}
-use Rattle.cedar_typechecker_model.proofs.Whole.Sound.Shapes.{any_value, entity_value, record_value}
-use Rattle.cedar_typechecker_model.proofs.Whole.Sound.Written.{uid_known, action_declared}
-use Rattle.cedar_typechecker_model.proofs.Whole.Sound.Attributes.{Fine, field_is}
-use Rattle.cedar_typechecker_model.proofs.Whole.Sound.Reached.{Nearness, Reached, reached_more, conform_at, attribute_reached, tag_reached, path_begins}
-use Rattle.cedar_typechecker_model.proofs.Whole.Sound.Soundness.{SlotsIn, behind, on_left, on_right, sound, simple_type}
-use Rattle.cedar_typechecker_model.proofs.Whole.Sound.Straying.{plain_strays, bool_strays, and_bool, or_bool, tested_bool, path_bool, unary_strays, binary_strays, like_strays, is_strays, set_strays, call_strays, in_leads, get_tag_leads, get_tag_entity, has_tag_leads}
+use Rattle.cedar_typechecker_model.proofs.Whole.Sound.Counted.{none_of_both, judged_as, type_is, behind_and, behind_or, behind_test, target_branches, not_false, not_true, field_leads, before_leads}
+use Rattle.cedar_typechecker_model.proofs.Whole.Sound.Facts.{hold_union}
+use Rattle.cedar_typechecker_model.proofs.Whole.Sound.Leading.{At, leads, named_leads, entity_leads}
+use Rattle.cedar_typechecker_model.proofs.Whole.Sound.Reached.{Nearness, Reached}
+use Rattle.cedar_typechecker_model.proofs.Whole.Sound.Soundness.{SlotsIn, behind, on_left, on_right}
+use Rattle.cedar_typechecker_model.proofs.Whole.Sound.Straying.{plain_strays, bool_strays, and_bool, or_bool, tested_bool, path_bool, unary_strays, binary_strays, like_strays, is_strays, set_strays, call_strays, get_tag_leads, get_tag_entity}
 use Rattle.cedar_typechecker_model.proofs.Whole.Sound.Targets.{TargetReached, FieldsReached, same_value, good, simple, literal_at, variable_at, attribute_target, field_target, tag_target, attribute_looks, left_leads, path_cases, choice_target, record_of_lookup, declared_attribute, record_is, record_target, operands_looks, path_looks, first_field, later_field}
 
 module _ (s : Schema) (x : Table) (e : Environment) (w : World) (suits : Suits s x e w) (Near : ℕ → Uid → Type 0) (near : Nearness w Near) (n : ℕ) (c : (u : Uid) → Near n u → declares_action s u ≡ false → ConformsAt s w u) where

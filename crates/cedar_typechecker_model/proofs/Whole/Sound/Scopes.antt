@@ -104,7 +104,7 @@ target_known w i (named u) h = (u, refl)
 target_known w i own_slot h = by (w.slots i) h
   where
     by : (o : Option Uid) → IsSome o → (u : Uid) × (Some (slot_value o) ≡ Some (val (prim (entity u))))
-    by None k = absurd k
+    by None k = cc
     by (Some u) k = (u, refl)
 
 module _ (w : World) (y : Var) (u : Uid) (known : variable w y ≡ Some (val (prim (entity u)))) where
@@ -177,14 +177,14 @@ at_or_above s o n m d h =
     clash e f = cc
 
 slot_in : (s : Schema) → IsOrderly s → (n : Name) (b : Option Uid) → declares_type s n ≡ true → IsSome b → ((t : Option Name) × TakesSlot s in_slot n t × (fits_slot t b ≡ true)) ⊎ ((u : Uid) × (b ≡ Some u) × ((name_eq n u.kind || type_descends s n u.kind) ≡ false))
-slot_in s o n None d h = absurd h
+slot_in s o n None d h = cc
 slot_in s o n (Some u) d h =
     test_cases (name_eq n u.kind || type_descends s n u.kind)
     (λ e. inl (Some u.kind, (u.kind, at_or_above s o n u.kind d e, refl), name_eq_same u.kind))
     (λ e. inr (u, refl, e))
 
 slot_equal : (s : Schema) (n : Name) (b : Option Uid) → IsSome b → ((t : Option Name) × TakesSlot s equal_slot n t × (fits_slot t b ≡ true)) ⊎ ((u : Uid) × (b ≡ Some u) × (name_eq n u.kind ≡ false))
-slot_equal s n None h = absurd h
+slot_equal s n None h = cc
 slot_equal s n (Some u) h = test_cases (name_eq n u.kind) (λ e. inl (Some n, refl, e)) (λ e. inr (u, refl, e))
 
 pub slot_choice : (s : Schema) → IsOrderly s → (c : Scope) (n : Name) (b : Option Uid) → declares_type s n ≡ true → (HasSlot c → IsSome b) → IsTaken s c n b ⊎ IsUnfit s c n b

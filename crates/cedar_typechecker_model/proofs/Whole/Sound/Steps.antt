@@ -3,7 +3,7 @@ use Rattle.std.proofs.Common.{◌≡◌, ◌⊎◌, inl, inr, true, false, List,
 use Rattle.std.specs.Prelude.{is_some, option_map, option_and_then}
 use Rattle.cedar_expr_model.specs.Name.{Text}
 use Rattle.cedar_expr_model.specs.Uid.{Uid}
-use Rattle.cedar_expr_model.specs.Whole.Value.{truth, long, text, entity, V, prim, set_of, record_of, extension, field_of, truth_value}
+use Rattle.cedar_expr_model.specs.Whole.Value.{entity, V, prim, record_of, field_of, truth_value}
 use Rattle.cedar_expr_model.specs.Whole.Tree.{Tree, get_attr, has_attr}
 use Rattle.cedar_store_model.specs.Whole.Outcome.{Res, val, bind}
 use Rattle.cedar_store_model.specs.Whole.World.{World, Found, held, missing, not_loaded}
@@ -11,16 +11,16 @@ use Rattle.cedar_expr_model.specs.Whole.ValueParts.{Part, known, left}
 use Rattle.cedar_store_model.specs.Whole.Operators.{says}
 use Rattle.cedar_store_model.specs.Whole.Reads.{part_read, part_tested, attribute_read, attribute_tested, part_value}
 use Rattle.cedar_store_model.proofs.Whole.Named.{attributes_of}
-use Rattle.cedar_store_model.specs.Whole.Meaning.{picked, outcome_of, path_tested}
+use Rattle.cedar_store_model.specs.Whole.Meaning.{outcome_of, path_tested}
 use Rattle.cedar_store_model.specs.Whole.Looks.{PathLooks}
 use Rattle.cedar_store_model.proofs.Whole.Meaning.{outcome_means}
 use Rattle.cedar_schema_model.specs.Whole.Types.{BoolType, any_bool, only_true, only_false, Ty, bool_type, Declared}
 use Rattle.cedar_schema_model.specs.Whole.Schema.{Schema}
 use Rattle.cedar_schema_model.specs.Whole.Lookup.{lookup_attribute}
 use Rattle.cedar_schema_model.specs.Whole.HasType.{HasType}
-use Rattle.cedar_typechecker_model.specs.Whole.Facts.{Facts, no_facts, fact, attribute_part}
+use Rattle.cedar_typechecker_model.specs.Whole.Facts.{Facts, attribute_part}
 use Rattle.cedar_typechecker_model.specs.Whole.Rules.{Setting, has_type}
-use Rattle.cedar_typechecker_model.specs.Whole.Typing.{Judgement, judged, tested, conjoined, step_type, path_judged, and_judged, Gives, Sub, AndTyped}
+use Rattle.cedar_typechecker_model.specs.Whole.Typing.{Judgement, tested, step_type, path_judged, and_judged, Gives, Sub, AndTyped}
 use Rattle.cedar_typechecker_model.specs.Whole.Simple.{is_simple, IsOrderly}
 use Rattle.cedar_typechecker_model.specs.Whole.Soundness.{ConformsAt}
 use Rattle.cedar_typechecker_model.proofs.Whole.Sound.Typed.{simple_lookup}

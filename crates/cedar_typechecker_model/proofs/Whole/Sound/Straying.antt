@@ -1,16 +1,16 @@
 -- Expressions of other kinds than targets have types that lead to no entity.
-use Rattle.std.proofs.Common.{◌≡◌, ◌&&◌, ◌||◌, Bool, true, false, List, [], ◌∷◌, map, length, Option, Some, None, refl, sym, ap, ◌∙◌, subst}
+use Rattle.std.proofs.Common.{◌≡◌, ◌&&◌, Bool, true, false, List, [], ◌∷◌, length, Option, Some, None, refl, sym, ap, ◌∙◌, subst}
 use Rattle.std.specs.Prelude.{option_map, option_and_then, if◌then◌else◌}
 use Rattle.cedar_expr_model.specs.Name.{Name, Text, name_eq}
 use Rattle.cedar_expr_model.specs.Uid.{Uid}
-use Rattle.cedar_expr_model.specs.Whole.Table.{Signature, signature_of, is_ordered, takes_count}
-use Rattle.cedar_expr_model.specs.Whole.Tree.{CoreType, bool_core, long_core, string_core, extension_core, UnaryOp, negation, minus, is_empty, BinaryOp, equal, less, less_or_equal, plus, difference, times, is_in, contains, contains_all, contains_any, get_tag, has_tag, Tree, get_attr, Trees}
-use Rattle.cedar_schema_model.specs.Whole.Types.{BoolType, any_bool, only_true, only_false, Ty, never, bool_type, long_type, string_type, any_entity, entity_types, any_set, set_type, record_type, extension_type, strict}
+use Rattle.cedar_expr_model.specs.Whole.Table.{Signature, is_ordered, takes_count}
+use Rattle.cedar_expr_model.specs.Whole.Tree.{CoreType, bool_core, long_core, string_core, extension_core, UnaryOp, negation, minus, is_empty, BinaryOp, equal, less, less_or_equal, plus, difference, times, is_in, contains, contains_all, contains_any, get_tag, has_tag, Tree, Trees}
+use Rattle.cedar_schema_model.specs.Whole.Types.{BoolType, any_bool, only_true, only_false, Ty, bool_type, long_type, string_type, any_entity, entity_types, any_set, set_type, extension_type, strict}
 use Rattle.cedar_schema_model.specs.Whole.Join.{join, are_disjoint, reduce_to_join}
-use Rattle.cedar_typechecker_model.specs.Whole.Facts.{Facts, no_facts, Part, attribute_part, tag_part}
+use Rattle.cedar_typechecker_model.specs.Whole.Facts.{Facts, Part, attribute_part, tag_part}
 use Rattle.cedar_typechecker_model.specs.Whole.Levels.{is_entity}
-use Rattle.cedar_typechecker_model.specs.Whole.Rules.{Setting, truth_type, if_there, unary_type, written_uid, comparable, written_equal, equal_type, order_type, number_type, member_type, is_set_type, sets_type, entity_kinds, entity_or_set_kinds, written_action, written_actions, within_kinds, in_type, binary_type, like_type, is_type_type, has_type, tag_type, may_have_tags, is_string_type, has_tag_type, get_tag_type, set_literal_type, core_as_type, arguments_fit, takes_literal, signature_type, call_type}
-use Rattle.cedar_typechecker_model.specs.Whole.Typing.{Judgement, plain, tested, conjoined, disjoined, path_judged, binary_judged, Gives, AndTyped, OrTyped}
+use Rattle.cedar_typechecker_model.specs.Whole.Rules.{Setting, if_there, unary_type, written_uid, comparable, written_equal, order_type, number_type, member_type, is_set_type, entity_kinds, entity_or_set_kinds, written_action, written_actions, within_kinds, in_type, binary_type, like_type, is_type_type, has_type, tag_type, may_have_tags, is_string_type, has_tag_type, get_tag_type, set_literal_type, core_as_type, arguments_fit, takes_literal, signature_type}
+use Rattle.cedar_typechecker_model.specs.Whole.Typing.{plain, tested, conjoined, disjoined, path_judged, binary_judged, Gives, AndTyped, OrTyped}
 use Rattle.cedar_typechecker_model.proofs.Whole.Sound.Leading.{leads, entity_leads, nowhere_bool, nowhere_long, nowhere_text, nowhere_set, nowhere_extension}
 use Rattle.cedar_typechecker_model.proofs.Whole.Sound.Steps.{path_typed}
 use Rattle.cedar_typechecker_model.proofs.Whole.Named.{Kinds, result_type}

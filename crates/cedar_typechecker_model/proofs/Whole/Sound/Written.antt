@@ -51,7 +51,7 @@ context_fine t None f = tt
 context_fine t (Some v) f = f v refl
 
 slot_fine : (t : Ty) (o : Option Uid) → IsSome o → ((u : Uid) → o ≡ Some u → HasType (prim (entity u)) t) → Fine t (Some (slot_value o))
-slot_fine t None h f = absurd h
+slot_fine t None h f = cc
 slot_fine t (Some u) h f = f u refl
 
 pub uid_known : (o : Option Uid) (v : V) → known_uid o ≡ Some (val v) → (u : Uid) × (o ≡ Some u) × (v ≡ prim (entity u))
@@ -118,9 +118,9 @@ module _ (s : Schema) (x : Table) (e : Environment) (w : World) (suits : Suits s
   abbrev AllWritten : Trees → List Uid → Type 0
   AllWritten ts us = (outcomes_of w ts ≡ Some (val (map (λ u. prim (entity u)) us))) × ((z : Uid) → Contains us z → declares_action s z ≡ true)
 
-  all_written : (ts : Trees) (us : List Uid) → all_given (action_literal (strictly s x e)) (listed ts ≡ Some us → AllWritten ts us
+  all_written : (ts : Trees) (us : List Uid) → all_given (action_literal (strictly s x e)) (listed ts) ≡ Some us → AllWritten ts us
   all_written no_trees us h = subst (AllWritten no_trees) (inside h) (refl, λ z i. absurd (contains_none z i))
-  all_written (tree t ts) us h = by (action_literal (strictly s x e) t) (literal_action t) (all_given (action_literal (strictly s x e)) (listed ts) (all_written ts) h
+  all_written (tree t ts) us h = by (action_literal (strictly s x e) t) (literal_action t) (all_given (action_literal (strictly s x e)) (listed ts)) (all_written ts) h
     where
       by : (o : Option Uid) → ((u : Uid) → o ≡ Some u → (outcome_of w t ≡ Some (val (prim (entity u)))) × (declares_action s u ≡ true)) → (p : Option (List Uid)) → ((vs : List Uid) → p ≡ Some vs → AllWritten ts vs)
           → option_and_then (λ u. option_map (λ vs. u ∷ vs) p) o ≡ Some us → AllWritten (tree t ts) us
