@@ -1,7 +1,8 @@
 -- What is looked up where there is no violation is in the slice, or a declared action.
-use Rattle.std.proofs.Common.{◌≡◌, ◌≤◌, ◌⊎◌, inl, inr, ⊎_elim, ℕ, zero, suc, Bool, true, false, List, [], ◌∷◌, Option, Some, None, refl, sym, ◌∙◌, subst}
+use Rattle.std.proofs.Common.{◌≡◌, ◌≤◌, ◌⊎◌, inl, inr, ⊎_elim, ℕ, zero, suc, Bool, true, false, List, [], ◌∷◌, ◌++◌, Option, Some, None, refl, sym, ◌∙◌, subst}
 use Rattle.std.specs.Prelude.{Contains, if◌then◌else◌}
 use Rattle.std.specs.Str.{bytes_eq}
+use Rattle.std.proofs.lemmas.List.Elements.{Contains-append_left, Contains-append_right}
 use Rattle.cedar_expr_model.specs.Name.{Text}
 use Rattle.cedar_expr_model.specs.Uid.{Uid}
 use Rattle.cedar_expr_model.specs.Whole.Table.{Table}
@@ -34,43 +35,52 @@ use Rattle.cedar_typechecker_model.proofs.Whole.Sound.Policies.{slots_in, passin
 use Rattle.cedar_typechecker_model.proofs.Whole.Sound.Reached.{Nearness, Reached, conform_at}
 use Rattle.cedar_typechecker_model.proofs.Whole.Sound.Reaching.{looks_reached}
 use Rattle.cedar_gate_model.specs.Whole.Acceptance.{Submission, IsAccepted, schema_in}
-use Rattle.cedar_gate_model.specs.Whole.Slice.{IsNear, InSlice}
-use Rattle.cedar_gate_model.proofs.Whole.Gate.Mentions.{PartMentions, PartsMention, FoundMentions, IsKnown, ContextMentions, mentioned_there}
+use Rattle.cedar_gate_model.specs.Whole.Slice.{mentioned, mentioned_in_fields, mentioned_by_parts, IsNear, InSlice}
+use Rattle.cedar_gate_model.proofs.Whole.Gate.Mentions.{PartMentions, PartsMention, FoundMentions, IsKnown, ContextMentions, mentioned_there, root_from}
 use Rattle.cedar_gate_model.specs.Whole.SliceSoundness.{IsInReach, SliceConforms, IsFitFor}
 use Rattle.cedar_gate_model.proofs.Whole.Gate.Accepting.{accepted_good}
 use Rattle.cedar_gate_model.proofs.Whole.Gate.Slices.{named_there, near_within}
+use Rattle.std.specs.Map.{lookup}
 
 -- what stands in a value is mentioned by it
-field_mentions : (a : Text) (fs : Fields) (v : V) (u : Uid) → field_of a fs ≡ Some v → Mentions v u → FieldsMention fs u
+field_mentions : (a : Text) (fs : Fields) (v : V) (u : Uid) → field_of a fs ≡ Some v → Contains (mentioned v) u → Contains (mentioned_in_fields fs) u
 field_mentions a no_fields v u e m = cc
 field_mentions a (field b z fs) v u e m = by (bytes_eq a b) e (field_mentions a fs v u)
   where
-    by : (c : Bool) → (if c then Some z else field_of a fs) ≡ Some v → (field_of a fs ≡ Some v → Mentions v u → FieldsMention fs u) → Mentions z u ⊎ FieldsMention fs u
-    by true q f = inl (subst (λ y. Mentions y u) (sym (inside q)) m)
-    by false q f = inr (f q m)
+    by : (c : Bool) → (if c then Some z else field_of a fs) ≡ Some v → (field_of a fs ≡ Some v → Contains (mentioned v) u → Contains (mentioned_in_fields fs) u) → Contains (mentioned z ++ mentioned_in_fields fs) u
+    by true q f = Contains-append_left (mentioned z) (mentioned_in_fields fs) u (subst (λ y. Contains (mentioned y) u) (sym (inside q)) m)
+    by false q f = Contains-append_right (mentioned z) (mentioned_in_fields fs) u (f q m)
 
-at_mentions : (path : List Text) (v : V) (u : Uid) → At path v u → Mentions v u
-at_mentions [] v u h = subst (λ y. Mentions y u) (sym h) refl
+at_mentions : (path : List Text) (v : V) (u : Uid) → At path v u → Contains (mentioned v) u
+at_mentions [] v u h = subst (λ y. Contains (mentioned y) u) (sym h) (contains_head u [])
 at_mentions (a ∷ path) v u h =
     let r = h.2 in
-    subst (λ y. Mentions y u) (sym h.1) (field_mentions a h.0 r.0 u r.1 (at_mentions path r.0 u r.2))
+    subst (λ y. Contains (mentioned y) u) (sym h.1) (field_mentions a h.0 r.0 u r.1 (at_mentions path r.0 u r.2))
 
-stands_mentions : (v : V) (u : Uid) → Stands v u → Mentions v u
+stands_mentions : (v : V) (u : Uid) → Stands v u → Contains (mentioned v) u
 stands_mentions v u h = at_mentions h.0 v u h.1
 
-part_mentions : (a : Text) (ps : List (Text × Part V)) (v : V) (u : Uid) → part_named a ps ≡ Some (known v) → Stands v u → PartsMention ps u
+part_mentions : (a : Text) (ps : List (Text × Part V)) (v : V) (u : Uid) → lookup (bytes_eq a) ps ≡ Some (known v) → Stands v u → PartsMention ps u
 part_mentions a ps v u e h =
     let r = named_there ps a (known v) e in
     mentioned_there ps r.0 u r.1 (subst (λ (y : Part V). PartMentions y u) (sym r.2) (stands_mentions v u h))
 
 -- what is near, one step after the other
+known_itself : (o : Option Uid) (u : Uid) → o ≡ Some u → IsKnown o u
+known_itself o u e = subst (λ p. IsKnown p u) (sym e) (contains_head u [])
+
+found_mentions : (f : Found V) (d : Entity V) (u : Uid) → f ≡ held d → PartsMention d.attributes u ⊎ PartsMention d.tags u → FoundMentions f u
+found_mentions f d u q h =
+    subst (λ g. FoundMentions g u) (sym q)
+    (⊎_elim (Contains-append_left (mentioned_by_parts d.attributes) (mentioned_by_parts d.tags) u) (Contains-append_right (mentioned_by_parts d.attributes) (mentioned_by_parts d.tags) u) h)
+
 pub nearness : (w : World) → Nearness w (λ k u. IsNear k w u)
 nearness w = record {
-  principal = λ u e. inl (inl (subst (λ o. IsKnown o u) (sym e) refl));
-  resource = λ u e. inl (inr (inl (subst (λ o. IsKnown o u) (sym e) refl)));
-  context = λ v u e h. inl (inr (inr (subst (λ o. ContextMentions o u) (sym e) (stands_mentions v u h))));
-  attribute = λ k y d a v u h q e m. inr (y, h, subst (λ f. FoundMentions f u) (sym q) (inl (part_mentions a d.attributes v u e m)));
-  tag = λ k y d a v u h q e m. inr (y, h, subst (λ f. FoundMentions f u) (sym q) (inr (part_mentions a d.tags v u e m)));
+  principal = λ u e. inl (root_from w u (inl (known_itself w.principal u e)));
+  resource = λ u e. inl (root_from w u (inr (inl (known_itself w.resource u e))));
+  context = λ v u e h. inl (root_from w u (inr (inr (subst (λ o. ContextMentions o u) (sym e) (stands_mentions v u h)))));
+  attribute = λ k y d a v u h q e m. inr (y, h, found_mentions (w.store y) d u q (inl (part_mentions a d.attributes v u e m)));
+  tag = λ k y d a v u h q e m. inr (y, h, found_mentions (w.store y) d u q (inr (part_mentions a d.tags v u e m)));
   more = λ m n u l h. near_within m n w u l h;
 }
 

@@ -15,12 +15,12 @@ use Rattle.cedar_store_model.proofs.Whole.Meaning.{outcome_means}
 use Rattle.cedar_schema_model.specs.Whole.Schema.{Schema, declares_action}
 use Rattle.cedar_schema_model.specs.Whole.ActionEntities.{as_entity}
 use Rattle.cedar_schema_model.specs.Whole.Conforming.{EntityConforms, entity_conforms}
-use Rattle.cedar_evaluator_model.proofs.Residuals.Chains.{parts_of}
+use Rattle.cedar_store_model.specs.Whole.Store.{as_open}
 use Rattle.cedar_schema_model.proofs.Whole.Decls.Conforming.{entity_conforms-Decides, request_conforms-Decides}
 use Rattle.cedar_schema_model.proofs.Whole.Decls.Environments.{declares_action-Decides}
 use Rattle.cedar_typechecker_model.specs.Whole.PolicySoundness.{IsConforming}
 use Rattle.cedar_typechecker_model.specs.Whole.Soundness.{ConformsAt}
-use Rattle.cedar_typechecker_model.specs.Whole.Worked.{user_a, doc_d, view, no_table}
+use Rattle.cedar_typechecker_model.specs.Whole.Worked.{user_a, doc_d, view, owner, no_table}
 use Rattle.cedar_typechecker_model.proofs.Whole.Sound.Orderly.{schemas_are_orderly}
 use Rattle.cedar_gate_model.specs.Whole.Acceptance.{IsAccepted, extension_types, schema_in}
 use Rattle.cedar_gate_model.specs.Whole.Slice.{InSlice, slice}
@@ -42,6 +42,7 @@ found_conforms s u missing = true
 found_conforms s u not_loaded = true
 
 found_conform : (s : Schema) (u : Uid) (f : Found V) → found_conforms s u f ≡ true → (d : Entity V) → f ≡ held d → EntityConforms s u d
+unfolding found_conforms
 found_conform s u (held e) h d q = (let p : e ≡ d = cc in subst (EntityConforms s u) p ((entity_conforms-Decides s u e).0 h))
 found_conform s u missing h d q = cc
 found_conform s u not_loaded h d q = cc
@@ -67,7 +68,7 @@ level_two_fit = (
     schema = schemas_are_orderly (extension_types level_two.table) level_two.declarations (accepted_good level_two level_two_accepted).well_formed;
     fair = no_table_fair;
     table = refl;
-    request = (a_views, record { principal = refl; action = refl; resource = refl; context = refl }, (request_conforms-Decides (schema_in level_two) (parts_of a_views)).0 refl);
+    request = (a_views, record { principal = refl; action = refl; resource = refl; context = refl }, (request_conforms-Decides (schema_in level_two) (as_open a_views)).0 refl);
     actions = λ u h. subst (λ y. (d : Entity V) × ((viewed_by_a three_and_z).store y ≡ held d) × EntityConforms (schema_in level_two) y d) (view_alone u h) view_held;
   },
   slice_conforms,
@@ -75,4 +76,11 @@ level_two_fit = (
 
 -- `resource.owner.boss` looks up the owner
 pub owner_looked_up : Looks (viewed_by_a three_and_z) (condition p0) user_b
-owner_looked_up = ?
+owner_looked_up =
+    inr (
+      refl,
+      inr (
+        refl,
+        inr (refl, inl (inr (prim (entity user_b), outcome_means (viewed_by_a three_and_z) (get_attr (var resource) owner) (val (prim (entity user_b))) refl, refl))),
+      ),
+    )
