@@ -11,4 +11,5 @@ pub mod whole_reading_laws;
 pub mod whole_reading_started;
 pub mod whole_reading_worked;
 pub mod whole_runs;
+pub mod whole_soundness;
 pub mod worked;

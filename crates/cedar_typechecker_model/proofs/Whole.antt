@@ -10,4 +10,5 @@ pub mod Naming
 pub mod Counting
 pub mod Levels
 pub mod Larger
+pub mod Sound
 pub mod FirstPath

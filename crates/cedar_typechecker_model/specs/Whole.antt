@@ -5,6 +5,9 @@ pub mod Typing
 pub mod Levels
 pub mod ScopeRules
 pub mod Verdicts
+pub mod Simple
+pub mod Soundness
+pub mod PolicySoundness
 pub mod Dereferences
 pub mod Laws
 pub mod LevelLaws

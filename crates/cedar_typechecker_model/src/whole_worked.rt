@@ -140,6 +140,8 @@ pub fn worked_sets()
     ensures other_subset { type_of here (binary contains_any (set_literal (tree true_ no_trees)) (set_literal (tree (lit (long (pos 1))) no_trees))) ≡ None }
     ensures a_record { type_of here (record_literal (tree_field ok is_ok (tree_field owner (var principal) no_tree_fields))) ≡ Some (record_type (attribute ok (bool_type any_bool) true (attribute owner (entity_type user) true no_attributes)) is_closed) }
     ensures bad_record { type_of here (record_literal (tree_field ok is_ok (tree_field owner nick_is_x no_tree_fields))) ≡ None }
+    ensures a_name_twice { type_of here (record_literal (tree_field ok is_ok (tree_field owner (var principal) (tree_field ok (lit (long (pos 1))) no_tree_fields)))) ≡ None }
+    ensures the_same_twice { type_of here (record_literal (tree_field ok is_ok (tree_field ok is_ok no_tree_fields))) ≡ None }
     ensures no_facts_of_fields { judgement here no_facts (set_literal (tree has_nick no_trees)) ≡ judged (set_type (bool_type any_bool)) no_facts }
 {}
 

@@ -1,6 +1,8 @@
 pub mod Accepting
 pub mod Mentions
 pub mod Slices
+pub mod Reach
+pub mod ReachWorked
 pub mod Transcripts
 pub mod RisingUids
 pub mod AlikeRuns

@@ -4,7 +4,7 @@ use Rattle.std.specs.Prelude.{ℕ, pos, List, [], ◌∷◌, ◌++◌, codes, Bo
 use Rattle.std.specs.List.{flat_map}
 use Rattle.cedar_expr_model.specs.Name.{Text, Name}
 use Rattle.cedar_expr_model.specs.Uid.{Uid, uid_eq}
-use Rattle.cedar_expr_model.specs.Whole.Value.{truth, long, text, entity, V, prim, extension}
+use Rattle.cedar_expr_model.specs.Whole.Value.{truth, long, text, entity, V, prim, record_of, extension, no_fields}
 use Rattle.cedar_expr_model.specs.Whole.Tree.{principal, action, context, Tree, lit, var, slot, unknown, both, binary, equal, less, plus, call, get_attr, is_type, principal_slot, string_core, extension_core, no_trees, tree, record_literal, no_tree_fields, tree_field}
 use Rattle.cedar_expr_model.specs.Whole.Made.{Made, made_prim, made_extension, no_made_fields}
 use Rattle.cedar_expr_model.specs.Whole.Table.{Table, function_style, Called, gives, fails}
@@ -14,6 +14,7 @@ use Rattle.cedar_store_model.specs.Whole.Store.{Entities, found_as, whole}
 use Rattle.cedar_store_model.specs.Whole.Answer.{Answer, answer_of}
 use Rattle.cedar_store_model.specs.Whole.Policy.{Policy, Effect, permit, forbid, exactly, named}
 use Rattle.cedar_schema_model.specs.Whole.Declarations.{Declarations, ActionDeclaration, bag, standard_expr, no_field_exprs}
+use Rattle.cedar_schema_model.specs.Whole.ActionEntities.{as_entity}
 use Rattle.cedar_schema_model.specs.Whole.DeclWorked.{m, user_fragment, view_declared, plain}
 use Rattle.cedar_typechecker_model.specs.Whole.Worked.{user, doc, user_a, doc_d, view, edit, blue, no_table, permits_when, is_ok, owned_by_staff, false_, in_slot_of, plain_name, uid_of, function}
 use Rattle.cedar_typechecker_model.specs.Whole.Verdicts.{RequestType}
@@ -310,3 +311,16 @@ without_ok = record (person user_a true) { attributes = (codes "boss", known (pr
 
 abbrev pub lacks_ok : Supplied
 lacks_ok = (user_a, Some (user_a, without_ok)) ∷ []
+
+-- A policy at level 2 over a store of three entities, the action that is asked for, and a user who doesn't conform.
+abbrev pub level_two : Submission
+level_two = submitted m 2 (p0 ∷ [])
+
+abbrev pub three : Entities
+three = (user_a, person user_a true) ∷ (user_b, person user_a true) ∷ (doc_d, document user_b) ∷ (view, as_entity (schema_in level_two) view) ∷ []
+
+abbrev pub three_and_z : Entities
+three_and_z = (user_z, without_ok) ∷ three
+
+abbrev pub viewed_by_a : Entities → World
+viewed_by_a es = record (world_of (Some user_a) es) { context = Some (record_of no_fields) }

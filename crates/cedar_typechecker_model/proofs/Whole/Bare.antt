@@ -6,7 +6,7 @@ use Rattle.cedar_expr_model.specs.Whole.Tree.{BinaryOp, get_tag, has_tag, Tree, 
 use Rattle.cedar_schema_model.specs.Whole.Types.{BoolType, any_bool, only_true, only_false, Ty, bool_type, never, Mode}
 use Rattle.cedar_schema_model.specs.Whole.Join.{join}
 use Rattle.cedar_typechecker_model.specs.Whole.Facts.{Facts, no_facts, union, intersection, Part, attribute_part, tag_part}
-use Rattle.cedar_typechecker_model.specs.Whole.Rules.{Setting, literal_type, var_type, slot_type, unary_type, binary_type, like_type, is_type_type, has_type, get_type, has_tag_type, get_tag_type, set_literal_type, call_type}
+use Rattle.cedar_typechecker_model.specs.Whole.Rules.{Setting, literal_type, var_type, slot_type, unary_type, binary_type, like_type, is_type_type, has_type, get_type, has_tag_type, get_tag_type, set_literal_type, record_literal_type, call_type}
 use Rattle.cedar_typechecker_model.specs.Whole.Typing.{Judgement, judged, plain, tested, conjoined, disjoined, chosen, step_type, path_judged, binary_judged, Types, and_judged, or_judged, choice_judged, judgement, judgements, field_judgements}
 use Rattle.cedar_typechecker_model.proofs.Whole.Exact.{of_parts}
 use Rattle.cedar_typechecker_model.proofs.Whole.Typing.{exact}
@@ -136,7 +136,7 @@ bare s known (has_path e a bs) = bare_found (judgement s known e) _ (λ j. bare_
 bare s known (like e p) = bare_found (judgement s known e) _ (λ j. bare_plain (like_type j.type))
 bare s known (is_type e n) = bare_found (judgement s known e) _ (λ j. bare_plain (is_type_type n j.type))
 bare s known (set_literal ts) = bare_found (judgements s known ts) _ (λ us. bare_plain (set_literal_type s.mode us))
-bare s known (record_literal fs) = bare_found (field_judgements s known fs) _ (λ as_. refl)
+bare s known (record_literal fs) = bare_found (field_judgements s known fs) _ (λ as_. bare_plain (record_literal_type as_))
 
 not_bool : (t : Ty) (f : Facts) → Bare t f → (t ≡ bool_type any_bool → ⊥) → f ≡ no_facts
 not_bool (bool_type any_bool) f h n = absurd (n refl)

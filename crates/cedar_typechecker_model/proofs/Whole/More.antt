@@ -2,10 +2,10 @@
 use Rattle.std.proofs.Common.{◌≡◌, ◌&&◌, ◌||◌, Bool, true, false, ◌∷◌, Option, Some, None, refl, ap, ◌∙◌}
 use Rattle.std.specs.Prelude.{option_map, option_and_then, if◌then◌else◌}
 use Rattle.cedar_expr_model.specs.Whole.Tree.{BinaryOp, get_tag, Tree, lit, var, slot, unknown, choice, both, either, unary, binary, call, get_attr, has_attr, has_path, like, is_type, set_literal, record_literal, Trees, no_trees, tree, TreeFields, no_tree_fields, tree_field}
-use Rattle.cedar_schema_model.specs.Whole.Types.{any_bool, only_true, only_false, is_closed, Ty, bool_type, record_type, attribute, Declared}
+use Rattle.cedar_schema_model.specs.Whole.Types.{any_bool, only_true, only_false, Ty, bool_type, attribute, Declared}
 use Rattle.cedar_schema_model.specs.Whole.Lookup.{lookup_attribute}
 use Rattle.cedar_typechecker_model.specs.Whole.Facts.{Facts, union, attribute_part, tag_part}
-use Rattle.cedar_typechecker_model.specs.Whole.Rules.{Setting, unary_type, like_type, is_type_type, has_type, get_type, attribute_type, tag_type, is_string_type, set_literal_type, call_type}
+use Rattle.cedar_typechecker_model.specs.Whole.Rules.{Setting, unary_type, like_type, is_type_type, has_type, get_type, attribute_type, tag_type, is_string_type, set_literal_type, record_literal_type, call_type}
 use Rattle.cedar_typechecker_model.specs.Whole.Typing.{Judgement, judged, plain, tested, conjoined, disjoined, chosen, path_judged, binary_judged, Types, and_judged, or_judged, choice_judged, judgement, judgements, field_judgements}
 use Rattle.cedar_typechecker_model.specs.Whole.Laws.{FactsAmong}
 use Rattle.cedar_typechecker_model.proofs.Whole.Typing.{exact}
@@ -102,7 +102,7 @@ mutual
   more s f g h (like e p) = stays_one (judgement s f e) (judgement s g e) (λ j. plain (like_type j.type)) (more s f g h e)
   more s f g h (is_type e n) = stays_one (judgement s f e) (judgement s g e) (λ j. plain (is_type_type n j.type)) (more s f g h e)
   more s f g h (set_literal ts) = stays_one (judgements s f ts) (judgements s g ts) (λ us. plain (set_literal_type s.mode us)) (more_each s f g h ts)
-  more s f g h (record_literal fs) = stays_one (field_judgements s f fs) (field_judgements s g fs) (λ as_. plain (Some (record_type as_ is_closed))) (more_fields s f g h fs)
+  more s f g h (record_literal fs) = stays_one (field_judgements s f fs) (field_judgements s g fs) (λ as_. plain (record_literal_type as_)) (more_fields s f g h fs)
 
   more_each : (s : Setting) (f g : Facts) → FactsAmong f g → (ts : Trees) → Stays (judgements s f ts) (judgements s g ts)
   more_each s f g h no_trees = stays_itself _

@@ -1,9 +1,17 @@
 -- Names for parts of the definitions that proofs take apart.
-use Rattle.std.proofs.Common.{Bool, true, List, [], Option}
+use Rattle.std.proofs.Common.{◌≡◌, ℕ, Bool, true, if◌then◌else◌, List, [], Option}
+use Rattle.std.specs.Prelude.{option_and_then}
 use Rattle.std.specs.Option.{option_map_or}
-use Rattle.cedar_expr_model.specs.Name.{Text}
-use Rattle.cedar_schema_model.specs.Whole.Types.{Ty}
+use Rattle.cedar_expr_model.specs.Name.{Text, Name}
+use Rattle.cedar_expr_model.specs.Uid.{Uid}
+use Rattle.cedar_expr_model.specs.Whole.Value.{entity, V, prim, Vs, values_list}
+use Rattle.cedar_expr_model.specs.Whole.Lists.{all_given, is_nil}
+use Rattle.cedar_expr_model.specs.Whole.Table.{Signature}
+use Rattle.cedar_store_model.specs.Whole.Outcome.{Res, val, err, missing_field}
+use Rattle.cedar_store_model.specs.Whole.Reads.{uid_of}
+use Rattle.cedar_schema_model.specs.Whole.Types.{Ty, any_entity, entity_type}
 use Rattle.cedar_schema_model.specs.Whole.Schema.{EntityType}
+use Rattle.cedar_typechecker_model.specs.Whole.Rules.{core_as_type}
 use Rattle.cedar_typechecker_model.specs.Whole.ScopeRules.{has_id}
 
 -- nothing of an expression without a type
@@ -13,3 +21,33 @@ if_typed o vs = option_map_or (λ _. vs) o []
 -- the id of an enumerated type, if it is one, is a declared member
 abbrev pub is_id_of : Option EntityType → Text → Bool
 is_id_of o id = option_map_or (λ t. has_id t.kind id) o true
+
+-- the entity types of an entity, or of the members of a set of them
+abbrev pub Kinds : Type 0
+Kinds = Option (List Name)
+
+-- the type of a slot
+abbrev pub bound_type : Option Name → Ty
+bound_type o = option_map_or entity_type o any_entity
+
+-- the type of the result of a function
+abbrev pub result_type : Signature → Option Ty
+result_type f = option_and_then core_as_type f.result
+
+abbrev pub one_if : Bool → ℕ
+one_if b = if b then 1 else 0
+
+-- the field that is found
+abbrev pub field_value : Option V → Res V
+field_value o = option_map_or val o (err missing_field)
+
+-- the value is the uid
+abbrev pub IsEntity : V → Uid → Type 0
+IsEntity v u = v ≡ prim (entity u)
+
+-- members that are all entities, as uids
+abbrev pub uids_among : Vs → Option (List Uid)
+uids_among vs = all_given uid_of (values_list vs)
+
+abbrev pub has_no_values : Vs → Bool
+has_no_values vs = is_nil (values_list vs)

@@ -2,13 +2,13 @@
 use Rattle.std.proofs.Common.{◌≡◌, ◌↔◌, List, [], ◌∷◌, Option, Some, None, sym, ap, ◌∙◌}
 use Rattle.std.specs.Prelude.{option_map, option_and_then, true}
 use Rattle.cedar_expr_model.specs.Whole.Tree.{Tree, lit, var, slot, unknown, choice, both, either, unary, binary, call, get_attr, has_attr, has_path, like, is_type, set_literal, record_literal, Trees, no_trees, tree, TreeFields, no_tree_fields, tree_field}
-use Rattle.cedar_schema_model.specs.Whole.Types.{any_bool, only_true, only_false, is_closed, Ty, bool_type, record_type, Attributes, no_attributes, attribute}
+use Rattle.cedar_schema_model.specs.Whole.Types.{any_bool, only_true, only_false, Ty, bool_type, Attributes, no_attributes, attribute}
 use Rattle.cedar_typechecker_model.specs.Whole.Facts.{Facts, no_facts, union, attribute_part}
-use Rattle.cedar_typechecker_model.specs.Whole.Rules.{Setting, literal_type, var_type, slot_type, unary_type, like_type, is_type_type, has_type, get_type, set_literal_type, call_type}
+use Rattle.cedar_typechecker_model.specs.Whole.Rules.{Setting, literal_type, var_type, slot_type, unary_type, like_type, is_type_type, has_type, get_type, set_literal_type, record_literal_type, call_type}
 use Rattle.cedar_typechecker_model.specs.Whole.Typing.{Judgement, judged, plain, tested, conjoined, disjoined, chosen, path_judged, binary_judged, Gives, Sub, AndTyped, OrTyped, ChoiceTyped, Types, EachTyped, FieldsTyped, and_judged, or_judged, choice_judged, judgement, judgements, field_judgements, type_of}
 use Rattle.cedar_typechecker_model.proofs.Whole.Exact.{Exact, ExactAt, of_parts, exact_gives, exact_sub, exact_found, exact_at, exact_next, same_type, same_facts}
 
-exact_and : (right : Facts → Ty → Facts → Type 0) (r : Facts → Option Judgement) → ((f : Facts) → Exact (right f) (r f)) → (t : Ty) (f : Facts) → Exact (AndTyped right t f) (and_judged r t f)
+pub exact_and : (right : Facts → Ty → Facts → Type 0) (r : Facts → Option Judgement) → ((f : Facts) → Exact (right f) (r f)) → (t : Ty) (f : Facts) → Exact (AndTyped right t f) (and_judged r t f)
 exact_and right r h (bool_type only_false) f = exact_gives _
 exact_and right r h (bool_type b) f = exact_sub (right f) (λ u g. Gives (conjoined b f u g)) (r f) (conjoined b f) (h f) (λ u g. exact_gives (conjoined b f u g))
 exact_and right r h t f = exact_gives None
@@ -58,7 +58,7 @@ mutual
   exact s known (like e p) = exact_one (Types s known e) (judgement s known e) (exact s known e) (λ t. plain (like_type t))
   exact s known (is_type e n) = exact_one (Types s known e) (judgement s known e) (exact s known e) (λ t. plain (is_type_type n t))
   exact s known (set_literal ts) = exact_found (EachTyped s known ts) (judgements s known ts) (λ us. plain (set_literal_type s.mode us)) (exact_each s known ts)
-  exact s known (record_literal fs) = exact_found (FieldsTyped s known fs) (field_judgements s known fs) (λ as_. plain (Some (record_type as_ is_closed))) (exact_fields s known fs)
+  exact s known (record_literal fs) = exact_found (FieldsTyped s known fs) (field_judgements s known fs) (λ as_. plain (record_literal_type as_)) (exact_fields s known fs)
 
   pub exact_each : (s : Setting) (known : Facts) (ts : Trees) → ExactAt (EachTyped s known ts) (judgements s known ts)
   exact_each s known no_trees = exact_at []

@@ -1,6 +1,6 @@
 -- The rules of typing for each kind, on the types of the parts. Where no clause says otherwise there is no type.
 -- Rule: typing (docs/RULES.md).
-use Rattle.std.specs.Prelude.{◌&&◌, ◌||◌, List, [], ◌∷◌, length, Bool, true, false, not, Option, Some, None, is_some, option_map, option_and_then, if◌then◌else◌}
+use Rattle.std.specs.Prelude.{◌&&◌, ◌||◌, List, [], ◌∷◌, length, Bool, true, false, not, Option, Some, None, is_some, is_none, option_map, option_and_then, if◌then◌else◌}
 use Rattle.std.specs.Option.{option_map_or}
 use Rattle.std.specs.List.{list_all, list_any}
 use Rattle.cedar_expr_model.specs.Name.{Text, Name, name_eq}
@@ -10,7 +10,7 @@ use Rattle.cedar_expr_model.specs.Whole.Tree.{Var, principal, action, resource, 
 use Rattle.cedar_expr_model.specs.Whole.Lists.{all_given}
 use Rattle.cedar_expr_model.specs.Whole.Parts.{uid_here, listed}
 use Rattle.cedar_expr_model.specs.Whole.Table.{Table, Signature, signature_of, is_ordered, takes_count, is_constructor}
-use Rattle.cedar_schema_model.specs.Whole.Types.{BoolType, any_bool, only_true, only_false, Openness, is_open, is_closed, Ty, never, bool_type, long_type, string_type, any_entity, entity_types, any_set, set_type, record_type, extension_type, entity_type, Declared, attribute_named, Mode, strict, permissive}
+use Rattle.cedar_schema_model.specs.Whole.Types.{BoolType, any_bool, only_true, only_false, Openness, is_open, is_closed, Ty, never, bool_type, long_type, string_type, any_entity, entity_types, any_set, set_type, record_type, extension_type, entity_type, Attributes, no_attributes, attribute, Declared, attribute_named, Mode, strict, permissive}
 use Rattle.cedar_schema_model.specs.Whole.Schema.{Schema, EntityKind, standard, type_named, declares_type, declares_action}
 use Rattle.cedar_schema_model.specs.Whole.Environment.{Environment}
 use Rattle.cedar_schema_model.specs.Whole.Subtype.{is_subtype}
@@ -226,6 +226,15 @@ get_tag_type s known a b t u = if is_string_type u && known a (tag_part b) then 
 abbrev pub set_literal_type : Mode → List Ty → Option Ty
 set_literal_type strict [] = None
 set_literal_type m ts = option_map set_type (reduce_to_join m ts)
+
+-- no attribute stands twice
+abbrev pub has_names_once : Attributes → Bool
+has_names_once no_attributes = true
+has_names_once (attribute n t r as_) = is_none (attribute_named n as_) && has_names_once as_
+
+-- A record literal is closed, its fields required, and no name stands twice in it.
+abbrev pub record_literal_type : Attributes → Option Ty
+record_literal_type as_ = if has_names_once as_ then Some (record_type as_ is_closed) else None
 
 -- the types that arguments and results of functions may have
 abbrev pub core_as_type : CoreType → Option Ty

@@ -3,11 +3,11 @@
 use Rattle.std.specs.Prelude.{◌≡◌, List, [], ◌∷◌, true, Option, Some, None, option_map, option_and_then}
 use Rattle.cedar_expr_model.specs.Name.{Text}
 use Rattle.cedar_expr_model.specs.Whole.Tree.{BinaryOp, get_tag, has_tag, Tree, lit, var, slot, unknown, choice, both, either, unary, binary, call, get_attr, has_attr, has_path, like, is_type, set_literal, record_literal, Trees, no_trees, tree, TreeFields, no_tree_fields, tree_field}
-use Rattle.cedar_schema_model.specs.Whole.Types.{BoolType, any_bool, only_true, only_false, is_closed, Ty, bool_type, record_type, Attributes, no_attributes, attribute}
+use Rattle.cedar_schema_model.specs.Whole.Types.{BoolType, any_bool, only_true, only_false, Ty, bool_type, Attributes, no_attributes, attribute}
 use Rattle.cedar_schema_model.specs.Whole.Join.{join}
 use Rattle.cedar_schema_model.specs.Whole.Lookup.{lookup_attribute}
 use Rattle.cedar_typechecker_model.specs.Whole.Facts.{Facts, no_facts, fact, union, intersection, Part, attribute_part, tag_part}
-use Rattle.cedar_typechecker_model.specs.Whole.Rules.{Setting, literal_type, var_type, slot_type, unary_type, binary_type, like_type, is_type_type, has_type, get_type, has_tag_type, get_tag_type, set_literal_type, call_type}
+use Rattle.cedar_typechecker_model.specs.Whole.Rules.{Setting, literal_type, var_type, slot_type, unary_type, binary_type, like_type, is_type_type, has_type, get_type, has_tag_type, get_tag_type, set_literal_type, record_literal_type, call_type}
 
 -- a type, and the facts that hold where the expression is true
 pub record Judgement : Type 0 where
@@ -114,7 +114,7 @@ abbrev mutual
   Types s known (like e p) = Sub (Types s known e) (λ t f. Gives (plain (like_type t)))
   Types s known (is_type e n) = Sub (Types s known e) (λ t f. Gives (plain (is_type_type n t)))
   Types s known (set_literal ts) = λ t out. (us : List Ty) × EachTyped s known ts us × Gives (plain (set_literal_type s.mode us)) t out
-  Types s known (record_literal fs) = λ t out. (as_ : Attributes) × FieldsTyped s known fs as_ × Gives (plain (Some (record_type as_ is_closed))) t out
+  Types s known (record_literal fs) = λ t out. (as_ : Attributes) × FieldsTyped s known fs as_ × Gives (plain (record_literal_type as_)) t out
 
   -- the types of expressions, one after the other
   pub EachTyped : Setting → Facts → Trees → List Ty → Type 0
@@ -157,7 +157,7 @@ abbrev mutual
   judgement s known (like e p) = option_and_then (λ j. plain (like_type j.type)) (judgement s known e)
   judgement s known (is_type e n) = option_and_then (λ j. plain (is_type_type n j.type)) (judgement s known e)
   judgement s known (set_literal ts) = option_and_then (λ us. plain (set_literal_type s.mode us)) (judgements s known ts)
-  judgement s known (record_literal fs) = option_and_then (λ as_. plain (Some (record_type as_ is_closed))) (field_judgements s known fs)
+  judgement s known (record_literal fs) = option_and_then (λ as_. plain (record_literal_type as_)) (field_judgements s known fs)
 
   pub judgements : Setting → Facts → Trees → Option (List Ty)
   judgements s known no_trees = Some []

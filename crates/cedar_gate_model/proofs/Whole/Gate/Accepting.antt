@@ -185,7 +185,7 @@ fits_schema s h p k = record {
   near_enough = nil_none (policy_violations s.level (schema_in s) s.table p) (all_each (λ p. is_nil (policy_violations s.level (schema_in s) s.table p)) s.policies (h reaches_too_far tt) p k);
 }
 
-accepted_good : (s : Submission) → IsAccepted s → IsGood s
+pub accepted_good : (s : Submission) → IsAccepted s → IsGood s
 accepted_good s h = record {
   well_formed = (well_formed-Decides (extension_types s.table) s.declarations).0 (all_from (λ f. not (has_schema_fault (extension_types s.table) s.declarations f)) ill_forms (λ f k. h (schema f) k));
   resolved = not_there _ _ (schema_fault-Decides (extension_types s.table) s.declarations unresolved_external) (h external tt);

@@ -22,7 +22,6 @@ use Rattle.cedar_gate_model.specs.Whole.Slice.{IsNear, InSlice}
 use Rattle.cedar_evaluator_model.specs.Response.{PartialRequest}
 use Rattle.cedar_expr_model.specs.Whole.Lists.{when}
 use Rattle.cedar_gate_model.specs.Whole.Moment.{EntryCompleted, ContextCompleted, Moment, at_first, entry_known, context_known, told, known_at}
-use Rattle.cedar_gate_model.specs.Whole.Transcript as transcript
 use Rattle.cedar_gate_model.specs.Whole.Transcript.{Step, load, bind_name, decide, round, bound, decided, Case, after, IsWanted, IsRound, IsLegalEntry, AreLegal}
 use Rattle.cedar_gate_model.specs.Whole.Session.{Setup, State, at_start, uid_in, whole_store, known_now, NothingIsWanted, is_open_entry, is_open_context, entry_named, HasOpenName, with_bound, not_bound, MeansBound, CompletesNow, entry_now, context_now, value_of}
 use Rattle.cedar_gate_model.specs.Whole.Runs.{End, answered, opening_refused, supply_refused, binding_refused, answer_refused, IsRoundNow, with_asked, Finishes, Loads, Binds, DecidesNow, Follows, MayDecide, Runs}
@@ -36,6 +35,7 @@ use Rattle.cedar_evaluator_model.specs.Known.{known_entry, known_context}
 use Rattle.cedar_evaluator_model.specs.Reauthorize.{context_from}
 use Rattle.std.specs.Map.{lookup}
 use Rattle.std.specs.Option.{option_map_or}
+use Rattle.cedar_gate_model.specs.Whole.Transcript as transcript
 
 -- what was bound and asked, without the values
 abbrev moment_of : State → Moment

@@ -80,7 +80,7 @@ named_once (q ∷ ps) p once k = contains_cases (lookup (bytes_eq p.0) (q ∷ ps
     later rest m false e = ap (λ t. cond t (Some q.1) (lookup (bytes_eq p.0) ps)) e ∙ rest (λ h. once (inr h)) m
 
 -- a part that is found under a name stands there
-named_there : (ps : List (Text × Part V)) (a : Text) (x : Part V) → lookup (bytes_eq a) ps ≡ Some x → (p : Text × Part V) × Contains ps p × (p.1 ≡ x)
+pub named_there : (ps : List (Text × Part V)) (a : Text) (x : Part V) → lookup (bytes_eq a) ps ≡ Some x → (p : Text × Part V) × Contains ps p × (p.1 ≡ x)
 named_there [] a x e = cc
 named_there (q ∷ ps) a x e = go (named_there ps a x) (bytes_eq a q.0) e
   where

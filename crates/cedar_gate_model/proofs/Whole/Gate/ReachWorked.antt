@@ -1,0 +1,86 @@
+-- An accepted submission at level 2 and a world that is fit for it.
+use Rattle.std.proofs.Common.{◌≡◌, Bool, true, false, List, [], ◌∷◌, Option, Some, inl, inr, refl, sym, ◌∙◌, subst}
+use Rattle.std.specs.Prelude.{Contains}
+use Rattle.std.specs.List.{list_all}
+use Rattle.cedar_expr_model.specs.Uid.{Uid}
+use Rattle.cedar_expr_model.specs.Whole.Table.{IsFair}
+use Rattle.cedar_expr_model.specs.Whole.Tree.{get_attr, var, resource}
+use Rattle.cedar_expr_model.specs.Whole.Value.{V, prim, entity, no_fields}
+use Rattle.cedar_expr_model.proofs.Lists.{all_each, contains_cases, contains_none}
+use Rattle.cedar_store_model.specs.Whole.Outcome.{val}
+use Rattle.cedar_store_model.specs.Whole.World.{World, Entity, Found, held, missing, not_loaded, Request}
+use Rattle.cedar_store_model.specs.Whole.Looks.{Looks}
+use Rattle.cedar_store_model.specs.Whole.Policy.{condition}
+use Rattle.cedar_store_model.proofs.Whole.Meaning.{outcome_means}
+use Rattle.cedar_schema_model.specs.Whole.Schema.{Schema, declares_action}
+use Rattle.cedar_schema_model.specs.Whole.ActionEntities.{as_entity}
+use Rattle.cedar_schema_model.specs.Whole.Conforming.{EntityConforms, entity_conforms}
+use Rattle.cedar_store_model.specs.Whole.Store.{as_open}
+use Rattle.cedar_schema_model.proofs.Whole.Decls.Conforming.{entity_conforms-Decides, request_conforms-Decides}
+use Rattle.cedar_schema_model.proofs.Whole.Decls.Environments.{declares_action-Decides}
+use Rattle.cedar_typechecker_model.specs.Whole.PolicySoundness.{IsConforming}
+use Rattle.cedar_typechecker_model.specs.Whole.Soundness.{ConformsAt}
+use Rattle.cedar_typechecker_model.specs.Whole.Worked.{user_a, doc_d, view, owner, no_table}
+use Rattle.cedar_typechecker_model.proofs.Whole.Sound.Orderly.{schemas_are_orderly}
+use Rattle.cedar_gate_model.specs.Whole.Acceptance.{IsAccepted, extension_types, schema_in}
+use Rattle.cedar_gate_model.specs.Whole.Slice.{InSlice, slice}
+use Rattle.cedar_gate_model.specs.Whole.SliceSoundness.{SliceConforms, IsFitFor}
+use Rattle.cedar_gate_model.specs.Whole.WorkedGate.{user_b, p0, level_two, three_and_z, viewed_by_a}
+use Rattle.cedar_gate_model.proofs.Whole.Gate.Accepting.{admitted_accepted, accepted_good}
+use Rattle.cedar_gate_model.proofs.Whole.Gate.Slices.{slice_is_listed}
+
+pub level_two_accepted : IsAccepted level_two
+level_two_accepted = admitted_accepted level_two refl
+
+no_table_fair : IsFair no_table
+no_table_fair f s vs e = cc
+
+-- what is found conforms
+found_conforms : Schema → Uid → Found V → Bool
+found_conforms s u (held d) = entity_conforms s u d
+found_conforms s u missing = true
+found_conforms s u not_loaded = true
+
+found_conform : (s : Schema) (u : Uid) (f : Found V) → found_conforms s u f ≡ true → (d : Entity V) → f ≡ held d → EntityConforms s u d
+unfolding found_conforms
+found_conform s u (held e) h d q = (let p : e ≡ d = cc in subst (EntityConforms s u) p ((entity_conforms-Decides s u e).0 h))
+found_conform s u missing h d q = cc
+found_conform s u not_loaded h d q = cc
+
+slice_conforms : SliceConforms (schema_in level_two) 2 (viewed_by_a three_and_z)
+unfolding found_conforms
+slice_conforms u h =
+    found_conform (schema_in level_two) u ((viewed_by_a three_and_z).store u)
+    (all_each (λ y. found_conforms (schema_in level_two) y ((viewed_by_a three_and_z).store y)) (slice (schema_in level_two) 2 (viewed_by_a three_and_z)) refl u ((slice_is_listed (schema_in level_two) 2 (viewed_by_a three_and_z) u).1 h))
+
+view_alone : (u : Uid) → declares_action (schema_in level_two) u ≡ true → view ≡ u
+view_alone u h = contains_cases (view ≡ u) view [] u ((declares_action-Decides (schema_in level_two) u).0 h) (λ e. e) (λ k. absurd (contains_none u k))
+
+abbrev a_views : Request
+a_views = record { principal = user_a; action = view; resource = doc_d; context = no_fields }
+
+view_held : (d : Entity V) × ((viewed_by_a three_and_z).store view ≡ held d) × EntityConforms (schema_in level_two) view d
+view_held = (as_entity (schema_in level_two) view, refl, (entity_conforms-Decides (schema_in level_two) view (as_entity (schema_in level_two) view)).0 refl)
+
+pub level_two_fit : IsFitFor level_two (viewed_by_a three_and_z)
+level_two_fit = (
+  record {
+    schema = schemas_are_orderly (extension_types level_two.table) level_two.declarations (accepted_good level_two level_two_accepted).well_formed;
+    fair = no_table_fair;
+    table = refl;
+    request = (a_views, record { principal = refl; action = refl; resource = refl; context = refl }, (request_conforms-Decides (schema_in level_two) (as_open a_views)).0 refl);
+    actions = λ u h. subst (λ y. (d : Entity V) × ((viewed_by_a three_and_z).store y ≡ held d) × EntityConforms (schema_in level_two) y d) (view_alone u h) view_held;
+  },
+  slice_conforms,
+)
+
+-- `resource.owner.boss` looks up the owner
+pub owner_looked_up : Looks (viewed_by_a three_and_z) (condition p0) user_b
+owner_looked_up =
+    inr (
+      refl,
+      inr (
+        refl,
+        inr (refl, inl (inr (prim (entity user_b), outcome_means (viewed_by_a three_and_z) (get_attr (var resource) owner) (val (prim (entity user_b))) refl, refl))),
+      ),
+    )

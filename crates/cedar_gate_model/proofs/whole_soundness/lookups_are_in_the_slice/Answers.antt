@@ -1,0 +1,8 @@
+use Rattle.cedar_gate_model.proofs.Whole.Gate.Reach.{lookups_are_in_reach, conditions_are_in_reach}
+use Rattle.cedar_gate_model.proofs.whole_soundness.lookups_are_in_the_slice.Goals as goal
+
+pub returns-clause-expressions : goal.returns-clause-expressions
+returns-clause-expressions c = lookups_are_in_reach
+
+pub returns-clause-conditions : goal.returns-clause-conditions
+returns-clause-conditions c = conditions_are_in_reach
