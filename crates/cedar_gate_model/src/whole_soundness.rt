@@ -9,7 +9,9 @@ ghost use Rattle.cedar_typechecker_model.specs.Whole.Worked.{user_a, doc_d};
 ghost use Rattle.cedar_gate_model.specs.Whole.Acceptance.{IsAccepted, schema_in};
 ghost use Rattle.cedar_gate_model.specs.Whole.Slice.{slice};
 ghost use Rattle.cedar_gate_model.specs.Whole.SliceSoundness.{LookupsAreInReach, ConditionsAreInReach, CompletionsFit, AcceptedAreSound, OnlyTheSliceAnswers, LargerLevelsAccept, IsFitFor};
-ghost use Rattle.cedar_gate_model.specs.Whole.WorkedGate.{user_b, user_z, p0, without_ok, level_two, three_and_z, viewed_by_a};
+ghost use Rattle.cedar_gate_model.specs.Whole.Transcript.{round};
+ghost use Rattle.cedar_gate_model.specs.Whole.Runs.{answered, MayDecide, Runs};
+ghost use Rattle.cedar_gate_model.specs.Whole.WorkedGate.{user_b, user_z, p0, without_ok, level_two, three_and_z, viewed_by_a, loading, p0_allows};
 
 /// What a typed expression looks up is in the slice at a level where it has no violation, or is a declared action; the same of the
 /// condition of a policy. Entities outside of the slice may be anything.
@@ -51,4 +53,9 @@ pub fn worked_slice_members()
     ensures members { slice (schema_in level_two) 2 (viewed_by_a three_and_z) ≡ user_a ∷ doc_d ∷ user_a ∷ user_b ∷ [] }
     ensures outside { entity_conforms (schema_in level_two) user_z without_ok ≡ false }
     ensures allowed { decision_of (viewed_by_a three_and_z) (p0 ∷ []) ≡ allow }
+{}
+
+/// The run that loads it: the document and the principal, then the owner, and the answer.
+pub fn worked_rounds()
+    ensures { Runs (MayDecide loading (p0 ∷ [])) loading (p0 ∷ []) [] (round (doc_d ∷ user_a ∷ []) ∷ round (user_b ∷ []) ∷ []) (answered p0_allows) }
 {}
