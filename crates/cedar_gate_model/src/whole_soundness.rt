@@ -8,14 +8,21 @@ ghost use Rattle.cedar_schema_model.specs.Whole.Conforming.{entity_conforms};
 ghost use Rattle.cedar_typechecker_model.specs.Whole.Worked.{user_a, doc_d};
 ghost use Rattle.cedar_gate_model.specs.Whole.Acceptance.{IsAccepted, schema_in};
 ghost use Rattle.cedar_gate_model.specs.Whole.Slice.{slice};
-ghost use Rattle.cedar_gate_model.specs.Whole.SliceSoundness.{LookupsAreInReach, ConditionsAreInReach, AcceptedAreSound, OnlyTheSliceAnswers, IsFitFor};
-ghost use Rattle.cedar_gate_model.specs.Whole.WorkedGate.{user_b, user_z, p0, without_ok, level_two, three_and_z, viewed_by_a};
+ghost use Rattle.cedar_gate_model.specs.Whole.SliceSoundness.{LookupsAreInReach, ConditionsAreInReach, CompletionsFit, AcceptedAreSound, OnlyTheSliceAnswers, LargerLevelsAccept, IsFitFor};
+ghost use Rattle.cedar_gate_model.specs.Whole.Transcript.{round};
+ghost use Rattle.cedar_gate_model.specs.Whole.Runs.{answered, MayDecide, Runs};
+ghost use Rattle.cedar_gate_model.specs.Whole.WorkedGate.{user_b, user_z, p0, without_ok, level_two, three_and_z, viewed_by_a, loading, p0_allows};
 
 /// What a typed expression looks up is in the slice at a level where it has no violation, or is a declared action; the same of the
 /// condition of a policy. Entities outside of the slice may be anything.
 pub fn lookups_are_in_the_slice()
     ensures expressions { LookupsAreInReach }
     ensures conditions { ConditionsAreInReach }
+{}
+
+/// A world that completes a request is fit for a submission, where the table is fair.
+pub fn completions_are_fit()
+    ensures { CompletionsFit }
 {}
 
 /// Where the slice at its level conforms, each policy of an accepted submission means a truth value or errs as expected, and an
@@ -27,6 +34,11 @@ pub fn accepted_policies_are_sound()
 /// Stores that agree on the slice and on the declared actions give an accepted submission the same answer.
 pub fn only_the_slice_answers()
     ensures { OnlyTheSliceAnswers }
+{}
+
+/// A submission that is accepted at a level is accepted at every larger one.
+pub fn larger_levels_accept()
+    ensures { LargerLevelsAccept }
 {}
 
 /// An accepted policy at level 2 over a store whose slice conforms. It looks up the owner of the document.
@@ -41,4 +53,9 @@ pub fn worked_slice_members()
     ensures members { slice (schema_in level_two) 2 (viewed_by_a three_and_z) ≡ user_a ∷ doc_d ∷ user_a ∷ user_b ∷ [] }
     ensures outside { entity_conforms (schema_in level_two) user_z without_ok ≡ false }
     ensures allowed { decision_of (viewed_by_a three_and_z) (p0 ∷ []) ≡ allow }
+{}
+
+/// The run that loads it: the document and the principal, then the owner, and the answer.
+pub fn worked_rounds()
+    ensures { Runs (MayDecide loading (p0 ∷ [])) loading (p0 ∷ []) [] (round (doc_d ∷ user_a ∷ []) ∷ round (user_b ∷ []) ∷ []) (answered p0_allows) }
 {}

@@ -9,4 +9,5 @@ pub mod AlikeRuns
 pub mod Printing
 pub mod LegalRuns
 pub mod Computed
+pub mod RoundsWorked
 pub mod Supplying

@@ -1,9 +1,9 @@
 -- What levels promise of the slice: what is looked up where there is no violation is in it, so what is outside of it doesn't count.
 -- Rule: the slice; levels (docs/RULES.md).
-use Rattle.std.specs.Prelude.{◌≡◌, ℕ, [], true, Contains}
+use Rattle.std.specs.Prelude.{◌≡◌, ◌≤◌, ℕ, [], true, Contains}
 use Rattle.std.proofs.Common.{◌⊎◌}
 use Rattle.cedar_expr_model.specs.Uid.{Uid}
-use Rattle.cedar_expr_model.specs.Whole.Table.{Table}
+use Rattle.cedar_expr_model.specs.Whole.Table.{Table, IsFair}
 use Rattle.cedar_expr_model.specs.Whole.Tree.{Tree}
 use Rattle.cedar_expr_model.specs.Whole.Value.{V}
 use Rattle.cedar_store_model.specs.Whole.Outcome.{Res}
@@ -20,9 +20,12 @@ use Rattle.cedar_typechecker_model.specs.Whole.Facts.{Facts}
 use Rattle.cedar_typechecker_model.specs.Whole.Typing.{Types}
 use Rattle.cedar_typechecker_model.specs.Whole.Levels.{violations}
 use Rattle.cedar_typechecker_model.specs.Whole.Verdicts.{strictly, Passes, IsImpossible, policy_violations}
+use Rattle.cedar_typechecker_model.specs.Whole.Simple.{IsOrderly}
 use Rattle.cedar_typechecker_model.specs.Whole.Soundness.{IsGood, Hold, ConformsAt, Suits, SlotsAreBound}
 use Rattle.cedar_typechecker_model.specs.Whole.PolicySoundness.{IsConforming, IsBound}
 use Rattle.cedar_gate_model.specs.Whole.Acceptance.{Submission, IsAccepted, schema_in}
+use Rattle.cedar_evaluator_model.specs.Response.{PartialRequest}
+use Rattle.cedar_gate_model.specs.Whole.Moment.{Completes}
 use Rattle.cedar_gate_model.specs.Whole.Slice.{InSlice}
 
 -- in the slice, or a declared action
@@ -42,12 +45,16 @@ LookupsAreInReach = (n : ℕ) (s : Schema) (x : Table) (e : Environment) (w : Wo
 
 -- the same of the condition of a policy that passes without violations, whatever its slots are bound to
 abbrev pub ConditionsAreInReach : Type 0
-ConditionsAreInReach = (n : ℕ) (s : Schema) (x : Table) (w : World) (p : Policy) → IsConforming s x w → SliceConforms s n w → IsBound p
+ConditionsAreInReach = (n : ℕ) (s : Schema) (x : Table) (w : World) (p : Policy) → IsOrderly s → IsConforming s x w → SliceConforms s n w → IsBound p
     → Passes s x p → policy_violations n s x p ≡ [] → (u : Uid) → Looks (with_slots w p.bindings) (condition p) u → IsInReach s n w u
 
--- A world for an accepted submission: the request conforms, and so do the declared actions and each entity in the slice at its level.
+-- A world for a submission: the table is fair, the request conforms, and so do the declared actions and each entity in the slice at its level.
 abbrev pub IsFitFor : Submission → World → Type 0
 IsFitFor b w = IsConforming (schema_in b) b.table w × SliceConforms (schema_in b) b.level w
+
+-- a world that completes a request is fit, where the table is fair
+abbrev pub CompletionsFit : Type 0
+CompletionsFit = (b : Submission) (start : PartialRequest) (w : World) → IsFair b.table → Completes (schema_in b) b.table b.level start w → IsFitFor b w
 
 -- Each policy of an accepted submission means a truth value or errs as expected, and an impossible one isn't satisfied.
 abbrev pub AcceptedAreSound : Type 0
@@ -58,3 +65,7 @@ AcceptedAreSound = (b : Submission) (w : World) (p : Policy) → IsAccepted b �
 abbrev pub OnlyTheSliceAnswers : Type 0
 OnlyTheSliceAnswers = (b : Submission) (w : World) (store : Uid → Found V) → IsAccepted b → IsFitFor b w
     → ((u : Uid) → IsInReach (schema_in b) b.level w u → store u ≡ w.store u) → answer_of (with_store w store) b.policies ≡ answer_of w b.policies
+
+-- what is accepted at a level is accepted at every larger one
+abbrev pub LargerLevelsAccept : Type 0
+LargerLevelsAccept = (b : Submission) (n : ℕ) → b.level ≤ n → IsAccepted b → IsAccepted (record b { level = n })

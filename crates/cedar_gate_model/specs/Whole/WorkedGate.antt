@@ -11,7 +11,7 @@ use Rattle.cedar_expr_model.specs.Whole.Table.{Table, function_style, Called, gi
 use Rattle.cedar_expr_model.specs.Whole.ValueParts.{known}
 use Rattle.cedar_store_model.specs.Whole.World.{World, Entity, Found, not_loaded}
 use Rattle.cedar_store_model.specs.Whole.Store.{Entities, found_as, whole}
-use Rattle.cedar_store_model.specs.Whole.Answer.{Answer, answer_of}
+use Rattle.cedar_store_model.specs.Whole.Answer.{Answer, allow, answer_of}
 use Rattle.cedar_store_model.specs.Whole.Policy.{Policy, Effect, permit, forbid, exactly, named}
 use Rattle.cedar_schema_model.specs.Whole.Declarations.{Declarations, ActionDeclaration, bag, standard_expr, no_field_exprs}
 use Rattle.cedar_schema_model.specs.Whole.ActionEntities.{as_entity}
@@ -324,3 +324,10 @@ three_and_z = (user_z, without_ok) ∷ three
 
 abbrev pub viewed_by_a : Entities → World
 viewed_by_a es = record (world_of (Some user_a) es) { context = Some (record_of no_fields) }
+
+-- the session that loads it, and the answer
+abbrev pub loading : Setup
+loading = setup_with 2 no_functions by_a three_and_z
+
+abbrev pub p0_allows : Answer
+p0_allows = record { decision = allow; reasons = codes "p0" ∷ []; errors = [] }

@@ -1,13 +1,13 @@
--- What typing promises of policies: one that passes means a truth value or errs as expected, and an impossible one is never satisfied.
+-- What typing promises of policies where the schema is orderly: one that passes means a truth value or errs as expected, and an impossible one is never satisfied.
 -- Rule: typing; impossible policies; environments (docs/RULES.md).
-use Rattle.std.specs.Prelude.{◌≡◌, true, false, Some, Contains, IsSome}
+use Rattle.std.specs.Prelude.{◌≡◌, true, false, Contains, IsSome}
 use Rattle.std.proofs.Common.{◌⊎◌}
 use Rattle.cedar_expr_model.specs.Uid.{Uid}
-use Rattle.cedar_expr_model.specs.Whole.Value.{V, record_of, truth_value}
+use Rattle.cedar_expr_model.specs.Whole.Value.{V, truth_value}
 use Rattle.cedar_expr_model.specs.Whole.Table.{Table, IsFair}
 use Rattle.cedar_expr_model.specs.Whole.Tree.{SlotId}
 use Rattle.cedar_store_model.specs.Whole.Outcome.{Res, val}
-use Rattle.cedar_store_model.specs.Whole.World.{Request, World, Entity, held}
+use Rattle.cedar_store_model.specs.Whole.World.{World, Entity, held}
 use Rattle.cedar_store_model.specs.Whole.Meaning.{Means}
 use Rattle.cedar_store_model.specs.Whole.Looks.{Looks}
 use Rattle.cedar_store_model.specs.Whole.Knowledge.{IsWhole}
@@ -16,25 +16,16 @@ use Rattle.cedar_store_model.specs.Whole.Answer.{with_slots, PolicyMeans, IsSati
 use Rattle.cedar_schema_model.specs.Whole.Types.{any_bool, bool_type}
 use Rattle.cedar_schema_model.specs.Whole.Schema.{Schema, declares_action}
 use Rattle.cedar_schema_model.specs.Whole.Conforming.{EntityConforms, RequestConforms}
-use Rattle.cedar_store_model.specs.Whole.Store.{as_open}
 use Rattle.cedar_schema_model.specs.Whole.Environment.{Environment}
 use Rattle.cedar_typechecker_model.specs.Whole.Simple.{IsOrderly}
 use Rattle.cedar_typechecker_model.specs.Whole.Soundness.{IsGood, ConformsAt, Suits}
 use Rattle.cedar_typechecker_model.specs.Whole.Verdicts.{policy_environments, Passes, fits, IsImpossible}
 
--- the request of a world
-pub record IsOfRequest (w : World) (r : Request) : Type 0 where
-  pub principal : w.principal ≡ Some r.principal
-  pub action : w.action ≡ Some r.action
-  pub resource : w.resource ≡ Some r.resource
-  pub context : w.context ≡ Some (record_of r.context)
-
--- A world in which the request conforms, and the declared actions are held and conform; the schema is orderly, and the table fair.
+-- A world in which the table is fair, the request conforms, and the declared actions are held and conform.
 pub record IsConforming (s : Schema) (x : Table) (w : World) : Type 0 where
-  pub schema : IsOrderly s
   pub fair : IsFair x
   pub table : w.table ≡ x
-  pub request : (r : Request) × IsOfRequest w r × RequestConforms s (as_open r)
+  pub request : RequestConforms s (record { principal = w.principal; action = w.action; resource = w.resource; context = w.context })
   pub actions : (u : Uid) → declares_action s u ≡ true → (d : Entity V) × (w.store u ≡ held d) × EntityConforms s u d
 
 -- each slot of the policy is bound
@@ -55,13 +46,13 @@ IsFalse w p = (r : Res V) → Means (with_slots w p.bindings) (condition p) r �
 
 -- Where the request conforms, an environment of the policy fits and suits it, or the scope doesn't match and the condition is false.
 abbrev pub EnvironmentsCover : Type 0
-EnvironmentsCover = (s : Schema) (x : Table) (w : World) (p : Policy) → IsConforming s x w → IsBound p → LookupsConform s w p → IsCovered s x w p ⊎ IsFalse w p
+EnvironmentsCover = (s : Schema) (x : Table) (w : World) (p : Policy) → IsOrderly s → IsConforming s x w → IsBound p → LookupsConform s w p → IsCovered s x w p ⊎ IsFalse w p
 
 -- The condition of a policy that passes means a truth value, or errs as expected.
 abbrev pub PassingIsSound : Type 0
-PassingIsSound = (s : Schema) (x : Table) (w : World) (p : Policy) → IsConforming s x w → IsWhole w → IsBound p → LookupsConform s w p
+PassingIsSound = (s : Schema) (x : Table) (w : World) (p : Policy) → IsOrderly s → IsConforming s x w → IsWhole w → IsBound p → LookupsConform s w p
     → Passes s x p → (r : Res V) × PolicyMeans w p r × IsGood (bool_type any_bool) r
 
 -- An impossible policy isn't satisfied.
 abbrev pub ImpossibleIsSound : Type 0
-ImpossibleIsSound = (s : Schema) (x : Table) (w : World) (p : Policy) → IsConforming s x w → IsBound p → LookupsConform s w p → IsImpossible s x p → IsSatisfied w p → ⊥
+ImpossibleIsSound = (s : Schema) (x : Table) (w : World) (p : Policy) → IsOrderly s → IsConforming s x w → IsBound p → LookupsConform s w p → IsImpossible s x p → IsSatisfied w p → ⊥

@@ -91,7 +91,7 @@ pub not_yet : IsForced nothing_known (p0 ∷ p1 ∷ p2 ∷ []) allow → ⊥
 not_yet h = not_known nothing_known p2 refl (h.1 p2 (contains_tail p0 (p1 ∷ p2 ∷ []) p2 (contains_tail p1 (p2 ∷ []) p2 (contains_head p2 []))) refl)
 
 -- whole outputs
-no_entry_open : (a b c : Bool) (p q r : Uid) → is_open_entry (cond a (Some (uid p)) (cond b (Some (uid q)) (cond c (Some (uid r)) None))) ≡ false
+pub no_entry_open : (a b c : Bool) (p q r : Uid) → is_open_entry (cond a (Some (uid p)) (cond b (Some (uid q)) (cond c (Some (uid r)) None))) ≡ false
 no_entry_open true b c p q r = refl
 no_entry_open false true c p q r = refl
 no_entry_open false false true p q r = refl
@@ -100,7 +100,7 @@ no_entry_open false false false p q r = refl
 abbrev good_setup : Setup
 good_setup = setup_of no_functions good_bundle
 
-none_open : (n : Text) (t : Bool) → t ≡ false → (not false && (t || false)) ≡ true → ⊥
+pub none_open : (n : Text) (t : Bool) → t ≡ false → (not false && (t || false)) ≡ true → ⊥
 none_open n t e h = cc
 
 no_open_name : HasOpenName good_setup.start at_start → ⊥

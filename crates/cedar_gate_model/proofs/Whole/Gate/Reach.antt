@@ -1,14 +1,14 @@
 -- What is looked up where there is no violation is in the slice, or a declared action.
-use Rattle.std.proofs.Common.{◌≡◌, ◌≤◌, ◌⊎◌, inl, inr, ⊎_elim, ℕ, zero, suc, Bool, true, false, List, [], ◌∷◌, ◌++◌, Option, Some, None, refl, sym, ◌∙◌, subst}
+use Rattle.std.proofs.Common.{◌≡◌, ◌≤◌, ◌⊎◌, inl, inr, ⊎_elim, ℕ, zero, suc, Bool, true, false, List, [], ◌∷◌, ◌++◌, Option, Some, None, refl, sym, ap, ◌∙◌, subst}
 use Rattle.std.specs.Prelude.{Contains, if◌then◌else◌}
 use Rattle.std.specs.Str.{bytes_eq}
 use Rattle.std.proofs.lemmas.List.Elements.{Contains-append_left, Contains-append_right}
 use Rattle.cedar_expr_model.specs.Name.{Text}
 use Rattle.cedar_expr_model.specs.Uid.{Uid}
-use Rattle.cedar_expr_model.specs.Whole.Table.{Table}
+use Rattle.cedar_expr_model.specs.Whole.Table.{Table, IsFair}
 use Rattle.cedar_expr_model.specs.Whole.Tree.{Tree}
 use Rattle.cedar_expr_model.specs.Whole.Value.{V, Fields, no_fields, field, field_of}
-use Rattle.cedar_expr_model.proofs.Lists.{contains_head}
+use Rattle.cedar_expr_model.proofs.Lists.{contains_head, contains_none}
 use Rattle.cedar_store_model.specs.Whole.Outcome.{Res}
 use Rattle.cedar_store_model.specs.Whole.World.{World, Entity, Found, held}
 use Rattle.cedar_expr_model.specs.Whole.ValueParts.{Part, known}
@@ -18,27 +18,34 @@ use Rattle.cedar_store_model.specs.Whole.Knowledge.{IsWhole}
 use Rattle.cedar_store_model.specs.Whole.Policy.{Policy, condition}
 use Rattle.cedar_store_model.specs.Whole.Answer.{with_slots, PolicyMeans, IsSatisfied, answer_of}
 use Rattle.cedar_store_model.proofs.Whole.Stores.{only_lookups_answer}
-use Rattle.cedar_schema_model.specs.Whole.Types.{any_bool, Ty, bool_type}
+use Rattle.cedar_schema_model.specs.Whole.Types.{any_bool, Ty, bool_type, strict}
 use Rattle.cedar_schema_model.specs.Whole.Schema.{Schema, declares_action}
 use Rattle.cedar_schema_model.specs.Whole.Environment.{Environment}
+use Rattle.cedar_schema_model.specs.Whole.ActionEntities.{as_entity}
+use Rattle.cedar_schema_model.proofs.Whole.Decls.Environments.{actions_conform}
 use Rattle.cedar_schema_model.specs.Whole.Conforming.{EntityConforms}
 use Rattle.cedar_schema_model.proofs.Whole.Types.Lookups.{inside, test_cases}
 use Rattle.cedar_typechecker_model.specs.Whole.Facts.{Facts}
 use Rattle.cedar_typechecker_model.specs.Whole.Typing.{Types}
 use Rattle.cedar_typechecker_model.specs.Whole.Levels.{violations}
 use Rattle.cedar_typechecker_model.specs.Whole.Verdicts.{strictly, Passes, IsImpossible, policy_violations}
+use Rattle.cedar_typechecker_model.specs.Whole.Simple.{IsOrderly}
 use Rattle.cedar_typechecker_model.specs.Whole.Soundness.{IsGood, Hold, ConformsAt, Suits, SlotsAreBound}
 use Rattle.cedar_typechecker_model.specs.Whole.PolicySoundness.{IsConforming, IsBound, LookupsConform}
 use Rattle.cedar_typechecker_model.proofs.Whole.Sound.Conditions.{condition_reached}
+use Rattle.cedar_typechecker_model.proofs.Whole.Larger.{larger_levels_pass_policies}
+use Rattle.cedar_typechecker_model.proofs.Whole.Sound.Orderly.{schemas_are_orderly}
 use Rattle.cedar_typechecker_model.proofs.Whole.Sound.Leading.{At, Stands}
-use Rattle.cedar_typechecker_model.proofs.Whole.Sound.Policies.{slots_in, passing_is_sound, impossible_is_sound}
+use Rattle.cedar_typechecker_model.proofs.Whole.Sound.Policies.{slots_in, conforming, passing_is_sound, impossible_is_sound}
 use Rattle.cedar_typechecker_model.proofs.Whole.Sound.Reached.{Nearness, Reached, conform_at}
 use Rattle.cedar_typechecker_model.proofs.Whole.Sound.Reaching.{looks_reached}
-use Rattle.cedar_gate_model.specs.Whole.Acceptance.{Submission, IsAccepted, schema_in}
+use Rattle.cedar_gate_model.specs.Whole.Acceptance.{Submission, IsAccepted, extension_types, schema_in}
+use Rattle.cedar_evaluator_model.specs.Response.{PartialRequest}
+use Rattle.cedar_gate_model.specs.Whole.Moment.{Completes}
 use Rattle.cedar_gate_model.specs.Whole.Slice.{mentioned, mentioned_in_fields, mentioned_by_parts, IsNear, InSlice}
 use Rattle.cedar_gate_model.proofs.Whole.Gate.Mentions.{PartMentions, PartsMention, FoundMentions, IsKnown, ContextMentions, mentioned_there, root_from}
 use Rattle.cedar_gate_model.specs.Whole.SliceSoundness.{IsInReach, SliceConforms, IsFitFor}
-use Rattle.cedar_gate_model.proofs.Whole.Gate.Accepting.{accepted_good}
+use Rattle.cedar_gate_model.proofs.Whole.Gate.Accepting.{accepted_good, acceptance_reads}
 use Rattle.cedar_gate_model.proofs.Whole.Gate.Slices.{named_there, near_within}
 use Rattle.std.specs.Map.{lookup}
 
@@ -93,10 +100,10 @@ pub lookups_are_in_reach : (n : ℕ) (s : Schema) (x : Table) (e : Environment) 
 lookups_are_in_reach n s x e w suits conform before t hold bound ty out d none u l =
     in_reach s n w u (looks_reached s x e w suits (λ k y. IsNear k w y) (nearness w) n (λ y h q. conform y (h, q)) before hold t (slots_in w t bound) ty out d none u l)
 
-pub conditions_are_in_reach : (n : ℕ) (s : Schema) (x : Table) (w : World) (p : Policy) → IsConforming s x w → SliceConforms s n w → IsBound p
+pub conditions_are_in_reach : (n : ℕ) (s : Schema) (x : Table) (w : World) (p : Policy) → IsOrderly s → IsConforming s x w → SliceConforms s n w → IsBound p
     → Passes s x p → policy_violations n s x p ≡ [] → (u : Uid) → Looks (with_slots w p.bindings) (condition p) u → IsInReach s n w u
-conditions_are_in_reach n s x w p c conform bound passes none u l =
-    in_reach s n w u (condition_reached s x w p c bound (λ k y. IsNear k w y) (nearness w) n (λ y h q. conform y (h, q)) passes none u l)
+conditions_are_in_reach n s x w p o c conform bound passes none u l =
+    in_reach s n w u (condition_reached s x w p (conforming s x w o c) bound (λ k y. IsNear k w y) (nearness w) n (λ y h q. conform y (h, q)) passes none u l)
 
 -- what is in reach conforms
 reach_conforms : (s : Schema) (x : Table) (n : ℕ) (w : World) → IsConforming s x w → SliceConforms s n w → (u : Uid) → IsInReach s n w u → ConformsAt s w u
@@ -110,11 +117,14 @@ none_listed (y ∷ ys) h = absurd (h y (contains_head y ys))
 
 -- the policies of accepted submissions
 module _ (b : Submission) (w : World) (a : IsAccepted b) (f : IsFitFor b w) where
+  orderly : IsOrderly (schema_in b)
+  orderly = schemas_are_orderly (extension_types b.table) b.declarations (accepted_good b a).well_formed
+
   pub accepted_in_reach : (p : Policy) → Contains b.policies p → (u : Uid) → Looks (with_slots w p.bindings) (condition p) u → IsInReach (schema_in b) b.level w u
   accepted_in_reach p k u l =
       let g = accepted_good b a in
       let fits = g.fits p k in
-      conditions_are_in_reach b.level (schema_in b) b.table w p f.0 f.1 (g.each p k).linked fits.typed (none_listed (policy_violations b.level (schema_in b) b.table p) fits.near_enough) u l
+      conditions_are_in_reach b.level (schema_in b) b.table w p orderly f.0 f.1 (g.each p k).linked fits.typed (none_listed (policy_violations b.level (schema_in b) b.table p) fits.near_enough) u l
 
   accepted_conform : (p : Policy) → Contains b.policies p → LookupsConform (schema_in b) w p
   accepted_conform p k u l = reach_conforms (schema_in b) b.table b.level w f.0 f.1 u (accepted_in_reach p k u l)
@@ -123,9 +133,43 @@ module _ (b : Submission) (w : World) (a : IsAccepted b) (f : IsFitFor b w) wher
       → (IsWhole w → (r : Res V) × PolicyMeans w p r × IsGood (bool_type any_bool) r) × (IsImpossible (schema_in b) b.table p → IsSatisfied w p → ⊥)
   accepted_are_sound p k =
       let g = accepted_good b a in (
-        λ h. passing_is_sound (schema_in b) b.table w p f.0 (g.each p k).linked (accepted_conform p k) h (g.fits p k).typed,
-        λ h m. impossible_is_sound (schema_in b) b.table w p f.0 (g.each p k).linked (accepted_conform p k) h m,
+        λ h. passing_is_sound (schema_in b) b.table w p (conforming (schema_in b) b.table w orderly f.0) (g.each p k).linked (accepted_conform p k) h (g.fits p k).typed,
+        λ h m. impossible_is_sound (schema_in b) b.table w p (conforming (schema_in b) b.table w orderly f.0) (g.each p k).linked (accepted_conform p k) h m,
       )
 
   pub only_the_slice_answers : (store : Uid → Found V) → ((u : Uid) → IsInReach (schema_in b) b.level w u → store u ≡ w.store u) → answer_of (with_store w store) b.policies ≡ answer_of w b.policies
   only_the_slice_answers store same = only_lookups_answer w store b.policies (λ p k u l. same u (accepted_in_reach p k u l))
+
+-- a world that completes a request
+pub completions_fit : (b : Submission) (start : PartialRequest) (w : World) → IsFair b.table → Completes (schema_in b) b.table b.level start w → IsFitFor b w
+completions_fit b start w fair c = (
+  record {
+    fair = fair;
+    table = c.table;
+    request = c.request;
+    actions = λ u h. (as_entity (schema_in b) u, c.actions u h, actions_conform (schema_in b) u (as_entity (schema_in b) u) (ap (λ d. if d then Some (as_entity (schema_in b) u) else None) h));
+  },
+  λ u k d q. c.slice u d k q,
+)
+
+-- larger levels
+pub larger_levels_accept : (b : Submission) (n : ℕ) → b.level ≤ n → IsAccepted b → IsAccepted (record b { level = n })
+larger_levels_accept b n l a =
+    let g = accepted_good b a in
+    (acceptance_reads (record b { level = n })).1
+    (record {
+      well_formed = g.well_formed;
+      resolved = g.resolved;
+      distinct = g.distinct;
+      each = g.each;
+      fits = λ p k. (
+          let f = g.fits p k in
+          let none = larger_levels_pass_policies strict b.level n (schema_in b) b.table p l (none_listed (policy_violations b.level (schema_in b) b.table p) f.near_enough) in
+          record {
+            types = f.types;
+            actions = f.actions;
+            members = f.members;
+            typed = f.typed;
+            near_enough = λ v h. contains_none v (subst (λ vs. Contains vs v) none h);
+          });
+    })

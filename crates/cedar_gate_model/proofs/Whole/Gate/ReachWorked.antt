@@ -23,6 +23,7 @@ use Rattle.cedar_typechecker_model.specs.Whole.Soundness.{ConformsAt}
 use Rattle.cedar_typechecker_model.specs.Whole.Worked.{user_a, doc_d, view, owner, no_table}
 use Rattle.cedar_typechecker_model.proofs.Whole.Sound.Orderly.{schemas_are_orderly}
 use Rattle.cedar_gate_model.specs.Whole.Acceptance.{IsAccepted, extension_types, schema_in}
+use Rattle.cedar_gate_model.specs.Whole.Moment.{request_of}
 use Rattle.cedar_gate_model.specs.Whole.Slice.{InSlice, slice}
 use Rattle.cedar_gate_model.specs.Whole.SliceSoundness.{SliceConforms, IsFitFor}
 use Rattle.cedar_gate_model.specs.Whole.WorkedGate.{user_b, p0, level_two, three_and_z, viewed_by_a}
@@ -56,19 +57,15 @@ slice_conforms u h =
 view_alone : (u : Uid) → declares_action (schema_in level_two) u ≡ true → view ≡ u
 view_alone u h = contains_cases (view ≡ u) view [] u ((declares_action-Decides (schema_in level_two) u).0 h) (λ e. e) (λ k. absurd (contains_none u k))
 
-abbrev a_views : Request
-a_views = record { principal = user_a; action = view; resource = doc_d; context = no_fields }
-
 view_held : (d : Entity V) × ((viewed_by_a three_and_z).store view ≡ held d) × EntityConforms (schema_in level_two) view d
 view_held = (as_entity (schema_in level_two) view, refl, (entity_conforms-Decides (schema_in level_two) view (as_entity (schema_in level_two) view)).0 refl)
 
 pub level_two_fit : IsFitFor level_two (viewed_by_a three_and_z)
 level_two_fit = (
   record {
-    schema = schemas_are_orderly (extension_types level_two.table) level_two.declarations (accepted_good level_two level_two_accepted).well_formed;
     fair = no_table_fair;
     table = refl;
-    request = (a_views, record { principal = refl; action = refl; resource = refl; context = refl }, (request_conforms-Decides (schema_in level_two) (as_open a_views)).0 refl);
+    request = (request_conforms-Decides (schema_in level_two) (request_of (viewed_by_a three_and_z))).0 refl;
     actions = λ u h. subst (λ y. (d : Entity V) × ((viewed_by_a three_and_z).store y ≡ held d) × EntityConforms (schema_in level_two) y d) (view_alone u h) view_held;
   },
   slice_conforms,

@@ -28,13 +28,13 @@ use Rattle.cedar_typechecker_model.specs.Whole.Facts.{Facts, no_facts}
 use Rattle.cedar_typechecker_model.specs.Whole.Levels.{Violation, violations}
 use Rattle.cedar_typechecker_model.specs.Whole.Typing.{Types, type_of}
 use Rattle.cedar_typechecker_model.specs.Whole.Soundness.{ConformsAt}
-use Rattle.cedar_typechecker_model.specs.Whole.PolicySoundness.{IsConforming, IsBound, IsCovered}
+use Rattle.cedar_typechecker_model.specs.Whole.PolicySoundness.{IsBound, IsCovered}
 use Rattle.cedar_typechecker_model.specs.Whole.Verdicts.{strictly, policy_environments, violations_in, policy_violations, Passes}
 use Rattle.cedar_typechecker_model.proofs.Whole.Named.{if_typed}
 use Rattle.cedar_typechecker_model.proofs.Whole.Sound.Counted.{none_of_both, type_is}
 use Rattle.cedar_typechecker_model.proofs.Whole.Sound.Facts.{hold_none}
 use Rattle.cedar_typechecker_model.proofs.Whole.Sound.Leading.{at_entity}
-use Rattle.cedar_typechecker_model.proofs.Whole.Sound.Policies.{slots_in, known_principal, known_action, known_resource, not_true, covered, condition_bound, principal_bound, principal_choice, resource_choice}
+use Rattle.cedar_typechecker_model.proofs.Whole.Sound.Policies.{IsConforming, slots_in, known_principal, known_action, known_resource, not_true, covered, condition_bound, principal_bound, principal_choice, resource_choice}
 use Rattle.cedar_typechecker_model.proofs.Whole.Sound.Reached.{Nearness, Reached, conform_at}
 use Rattle.cedar_typechecker_model.proofs.Whole.Sound.Reaching.{looks_reached}
 use Rattle.cedar_typechecker_model.proofs.Whole.Sound.Scopes.{both_outcome, looks_left, looks_right, HasSlot, in_outcome, target_known, set_outcome, IsTaken, IsUnfit, scope_false}

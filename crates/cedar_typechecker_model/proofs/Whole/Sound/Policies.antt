@@ -6,12 +6,12 @@ use Rattle.cedar_expr_model.specs.Uid.{Uid}
 use Rattle.cedar_expr_model.specs.Whole.Value.{entity, V, prim, record_of, truth_value}
 use Rattle.cedar_expr_model.specs.Whole.Builder.{conjunction}
 use Rattle.cedar_expr_model.specs.Whole.Parts.{subexpressions, slot_here, slots}
-use Rattle.cedar_expr_model.specs.Whole.Table.{Table}
+use Rattle.cedar_expr_model.specs.Whole.Table.{Table, IsFair}
 use Rattle.cedar_expr_model.specs.Whole.Tree.{principal, action, resource, SlotId, principal_slot, resource_slot, Tree, slot}
 use Rattle.cedar_expr_model.proofs.Equality.{name_eq-Decides}
 use Rattle.cedar_expr_model.proofs.Lists.{hold_both, any_has, hold_left, contains_head, contains_cases, contains_none}
 use Rattle.cedar_store_model.specs.Whole.Outcome.{Res, val, err}
-use Rattle.cedar_store_model.specs.Whole.World.{Request, World}
+use Rattle.cedar_store_model.specs.Whole.World.{Request, World, Entity, held}
 use Rattle.cedar_store_model.specs.Whole.Operators.{says}
 use Rattle.cedar_store_model.specs.Whole.Meaning.{Means, variable, outcome_of}
 use Rattle.cedar_store_model.proofs.Whole.Named.{known_uid, slot_eq}
@@ -25,9 +25,10 @@ use Rattle.cedar_store_model.proofs.Whole.Known.{an_outcome}
 use Rattle.cedar_store_model.proofs.Whole.Meaning.{means_outcome}
 use Rattle.cedar_store_model.proofs.Whole.Sets.{condition_uses}
 use Rattle.cedar_schema_model.specs.Whole.Types.{BoolType, any_bool, only_false, Ty, bool_type, record_type, is_closed}
-use Rattle.cedar_schema_model.specs.Whole.Schema.{EntityType, Action, Schema}
+use Rattle.cedar_schema_model.specs.Whole.Schema.{EntityType, Action, Schema, declares_action}
 use Rattle.cedar_schema_model.specs.Whole.HasType.{HasType}
 use Rattle.cedar_store_model.specs.Whole.Store.{OpenRequest, as_open}
+use Rattle.cedar_schema_model.specs.Whole.Conforming.{EntityConforms, RequestConforms}
 use Rattle.cedar_schema_model.specs.Whole.Environment.{Environment, environment_at, environments}
 use Rattle.cedar_schema_model.specs.Whole.DeclLaws.{IsGoodFor, IsGoodRequest}
 use Rattle.cedar_schema_model.proofs.Whole.Types.Lookups.{inside}
@@ -37,8 +38,10 @@ use Rattle.cedar_schema_model.proofs.Whole.Decls.Schema.{kept_has}
 use Rattle.cedar_typechecker_model.specs.Whole.Facts.{Facts, no_facts}
 use Rattle.cedar_typechecker_model.specs.Whole.Rules.{slot_type}
 use Rattle.cedar_typechecker_model.specs.Whole.Typing.{Types}
+use Rattle.cedar_typechecker_model.specs.Whole.Simple.{IsOrderly}
 use Rattle.cedar_typechecker_model.specs.Whole.Soundness.{IsGood, Hold, ConformsAt, Suits, SlotsAreBound}
-use Rattle.cedar_typechecker_model.specs.Whole.PolicySoundness.{IsConforming, IsBound, LookupsConform, IsCovered, IsFalse}
+use Rattle.cedar_typechecker_model.specs.Whole.PolicySoundness as policies
+use Rattle.cedar_typechecker_model.specs.Whole.PolicySoundness.{IsBound, LookupsConform, IsCovered, IsFalse}
 use Rattle.cedar_typechecker_model.specs.Whole.Verdicts.{strictly, scope_use, fits_slot, Passes, IsImpossible}
 use Rattle.cedar_typechecker_model.proofs.Whole.Sound.Attributes.{Fine}
 use Rattle.cedar_typechecker_model.proofs.Whole.Sound.Connectives.{in_any}
@@ -66,6 +69,41 @@ types_are_sound s x e w suits known t hold bound c ty out d r m =
     let g = sound s x e w suits known hold t (slots_in w t bound) c ty out d in
     let q = means_outcome w t r m in
     (subst (Fine ty) q g.fine, λ k. g.holds (q ∙ ap Some k))
+
+-- The request of a world, and a world in which it conforms under an orderly schema, taken apart.
+pub record IsOfRequest (w : World) (r : Request) : Type 0 where
+  pub principal : w.principal ≡ Some r.principal
+  pub action : w.action ≡ Some r.action
+  pub resource : w.resource ≡ Some r.resource
+  pub context : w.context ≡ Some (record_of r.context)
+
+pub record IsConforming (s : Schema) (x : Table) (w : World) : Type 0 where
+  pub schema : IsOrderly s
+  pub fair : IsFair x
+  pub table : w.table ≡ x
+  pub request : (r : Request) × IsOfRequest w r × RequestConforms s (as_open r)
+  pub actions : (u : Uid) → declares_action s u ≡ true → (d : Entity V) × (w.store u ≡ held d) × EntityConforms s u d
+
+pub conforming : (s : Schema) (x : Table) (w : World) → IsOrderly s → policies.IsConforming s x w → IsConforming s x w
+conforming s x w o c =
+    let k = (requests_read s (record { principal = w.principal; action = w.action; resource = w.resource; context = w.context })).0 c.request in
+    let e = k.1 in
+    record {
+      schema = o;
+      fair = c.fair;
+      table = c.table;
+      request = (
+        k.0,
+        record {
+          principal = ap (λ (r : OpenRequest). r.principal) e;
+          action = ap (λ (r : OpenRequest). r.action) e;
+          resource = ap (λ (r : OpenRequest). r.resource) e;
+          context = ap (λ (r : OpenRequest). r.context) e;
+        },
+        subst (RequestConforms s) e c.request,
+      );
+      actions = c.actions;
+    }
 
 -- a conforming request, read directly
 same_request : (r q : Request) → as_open r ≡ as_open q → q ≡ r
