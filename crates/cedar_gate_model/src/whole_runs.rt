@@ -1,7 +1,7 @@
 //! Laws of runs: what they ask for, decide and answer. Each function's contract is the theorem; its body does nothing.
 
 ghost use Rattle.cedar_gate_model.specs.Whole.RunsAsk.{RunsAskOnce, RunsAskInTheSlice, RunsAskTheSlice, RunsHaveFewRounds};
-ghost use Rattle.cedar_gate_model.specs.Whole.RunsAnswer.{AnsweredRunsAreCompleted, GivenDecisionsAreTheAnswers};
+ghost use Rattle.cedar_gate_model.specs.Whole.RunsAnswer.{AnsweredRunsAreCompleted, GivenDecisionsAreTheAnswers, AnswersAreTheWholeStores, AnswersNeedTheLoadedAlone, ErrorsAreExpected};
 
 /// A run asks for no uid twice, and only for what is in the slice of what was bound by its end, over the whole store: an answered run for
 /// exactly that, though a late binding may bring uids nearer. At most as many rounds as the level follow the last binding.
@@ -20,4 +20,12 @@ pub fn answered_runs_are_completed()
 /// Each decision that is given on the way of an answered run is that of its answer.
 pub fn given_decisions_are_the_answers()
     ensures { GivenDecisionsAreTheAnswers }
+{}
+
+/// The answer of a run is that of the whole store, whatever stands in it outside the slice, and so that of the loaded entities and the
+/// declared actions alone. Its errors are missing entities, overflows and failures of extensions.
+pub fn answers_need_the_slice_alone()
+    ensures whole { AnswersAreTheWholeStores }
+    ensures loaded { AnswersNeedTheLoadedAlone }
+    ensures errors { ErrorsAreExpected }
 {}

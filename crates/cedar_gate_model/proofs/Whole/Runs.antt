@@ -5,3 +5,4 @@ pub mod Asking
 pub mod Restricted
 pub mod Completing
 pub mod Deciding
+pub mod Answering

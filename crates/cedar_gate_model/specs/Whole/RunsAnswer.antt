@@ -1,23 +1,27 @@
 -- What the laws say of what runs decide and answer.
 -- Rule: runs; completions; the answer (docs/RULES.md).
-use Rattle.std.specs.Prelude.{◌≡◌, List, Contains, true, Option, Some, unwrap_or}
+use Rattle.std.specs.Prelude.{◌≡◌, ◌||◌, ◌++◌, ◌∷◌, List, Contains, true, false, Option, Some, IsSome, unwrap_or, if◌then◌else◌}
+use Rattle.std.specs.List.{list_any}
 use Rattle.cedar_expr_model.specs.Name.{Text}
-use Rattle.cedar_expr_model.specs.Uid.{Uid}
+use Rattle.cedar_expr_model.specs.Uid.{Uid, uid_eq}
 use Rattle.cedar_expr_model.specs.Whole.Made.{Made}
 use Rattle.cedar_expr_model.specs.Whole.Table.{IsFair, all_typed}
 use Rattle.cedar_expr_model.specs.Whole.Value.{V, truth_value}
-use Rattle.std.specs.Prelude.{false}
-use Rattle.cedar_store_model.specs.Whole.World.{World, Entity}
+use Rattle.cedar_store_model.specs.Whole.World.{World, Entity, missing}
 use Rattle.cedar_store_model.specs.Whole.Knowledge.{holds_values}
-use Rattle.cedar_store_model.specs.Whole.Answer.{Decision, Answer}
+use Rattle.cedar_store_model.specs.Whole.Answer.{Decision, Answer, PolicyError, answer_of}
+use Rattle.cedar_schema_model.specs.Whole.Schema.{declares_action}
+use Rattle.cedar_schema_model.specs.Whole.Conforming.{RequestConforms}
+use Rattle.cedar_typechecker_model.specs.Whole.Soundness.{IsExpected}
 use Rattle.cedar_evaluator_model.specs.Scope.{Agrees}
 use Rattle.cedar_evaluator_model.specs.Response.{PartialRequest}
 use Rattle.cedar_evaluator_model.specs.WellMade.{IsWellMade}
 use Rattle.cedar_gate_model.specs.Whole.Acceptance.{Submission, IsAccepted, schema_in}
 use Rattle.cedar_gate_model.specs.Whole.Bundle.{Functions}
+use Rattle.cedar_gate_model.specs.Whole.Moment.{request_of}
 use Rattle.cedar_gate_model.specs.Whole.ReadingValue.{with_functions}
 use Rattle.cedar_gate_model.specs.Whole.Transcript.{Step, Entry, decided}
-use Rattle.cedar_gate_model.specs.Whole.Session.{Setup, State, world_now, CompletesNow}
+use Rattle.cedar_gate_model.specs.Whole.Session.{Setup, State, whole_store, world_now, NothingIsWanted, HasOpenName, CompletesNow}
 use Rattle.cedar_gate_model.specs.Whole.Runs.{End, answered, MayDecide, Runs}
 use Rattle.cedar_gate_model.specs.Whole.RunLaws.{bindings_in}
 use Rattle.cedar_gate_model.specs.Whole.RunsAsk.{IsMadeContext, end_state}
@@ -75,3 +79,30 @@ AnsweredRunsAreCompleted = (c : Course) (es : List Entry) (a : Answer) → IsPro
 -- each decision that is given on the way is that of the answer
 abbrev pub GivenDecisionsAreTheAnswers : Type 0
 GivenDecisionsAreTheAnswers = (c : Course) (es : List Entry) (a : Answer) (d : Decision) → IsProper c → IsRun c es (answered a) → Contains es (decided (Some d)) → d ≡ a.decision
+
+-- What was loaded by the end, as a whole store: the declared actions and the entities that were asked for and are there, and nothing else.
+abbrev pub loaded_world : Course → List Entry → World
+loaded_world c es =
+    record (end_world c es) { store = λ u. if declares_action (schema_in c.submission) u || list_any (uid_eq u) (end_state c.steps es).asked then whole_store (session_of c) u else missing }
+
+-- The answer is that of the whole store, whatever stands in it, and that of what was loaded.
+abbrev pub AnswersAreTheWholeStores : Type 0
+AnswersAreTheWholeStores = (c : Course) (es : List Entry) (a : Answer) → IsRun c es (answered a) → a ≡ answer_of (end_world c es) c.submission.policies
+
+abbrev pub AnswersNeedTheLoadedAlone : Type 0
+AnswersNeedTheLoadedAlone = (c : Course) (es : List Entry) (a : Answer) → IsProper c → IsRun c es (answered a) → a ≡ answer_of (loaded_world c es) c.submission.policies
+
+-- its errors are missing entities, overflows and failures of extensions
+abbrev pub ErrorsAreExpected : Type 0
+ErrorsAreExpected = (c : Course) (es : List Entry) (a : Answer) (e : PolicyError) → IsProper c → IsRun c es (answered a) → Contains a.errors e → IsExpected e.fault
+
+-- All is bound and loaded: the request conforms, nothing is wanted, and each uid that was asked for has an entity.
+pub record IsReady (c : Course) (s : State) : Type 0 where
+  pub bound : HasOpenName c.start s → ⊥
+  pub loaded : NothingIsWanted (session_of c) s
+  pub conforms : RequestConforms (schema_in c.submission) (request_of (world_now (session_of c) s))
+  pub there : (u : Uid) → Contains s.asked u → IsSome (c.store u)
+
+-- then a decision that is asked for is given
+abbrev pub ReadyDecisionsAreOwed : Type 0
+ReadyDecisionsAreOwed = (c : Course) (before after : List Entry) (d : Option Decision) (end : End) → IsProper c → IsRun c (before ++ decided d ∷ after) end → IsReady c (end_state c.steps before) → IsSome d

@@ -74,6 +74,13 @@ module _ (c : Course) (proper : IsProper c) where
   pub leaves_nothing : LeavesNothing c.functions.table
   leaves_nothing = subst LeavesNothing (sym (proper.fair).table) (typed_tables_leave_nothing c.submission.table (proper.fair).fair (proper.fair).typed)
 
+module _ (c : Course) (es : List transcript.Entry) (a : Answer) (run : IsRun c es (answered a)) where
+  pub answer_is : a ≡ answer_of (end_world c es) c.submission.policies
+  answer_is =
+      let x = session_of c in
+      let ps = c.submission.policies in
+      ⊎_elim (λ b. let q : answered a ≡ opening_refused b.0 = b.1 in cc) (λ b. ((b.1).1).2) (run_did (MayDecide x ps) x ps c.steps es (answered a) run)
+
 module _ (c : Course) (proper : IsProper c) (es : List transcript.Entry) (a : Answer) (run : IsRun c es (answered a)) where
   pub completes_end : CompletesNow (session_of c) (end_state c.steps es) (with_unknowns (end_world c es))
   completes_end =
@@ -87,12 +94,6 @@ module _ (c : Course) (proper : IsProper c) (es : List transcript.Entry) (a : An
       completed x t stands (d.1).0 (d.1).1 b.0 (proper.fair).agrees proper.context proper.store)
       (run_did (MayDecide x ps) x ps c.steps es (answered a) run)
 
-  pub answer_is : a ≡ answer_of (end_world c es) c.submission.policies
-  answer_is =
-      let x = session_of c in
-      let ps = c.submission.policies in
-      ⊎_elim (λ b. let q : answered a ≡ opening_refused b.0 = b.1 in cc) (λ b. ((b.1).1).2) (run_did (MayDecide x ps) x ps c.steps es (answered a) run)
-
   pub given_decisions : (d : Decision) → Contains es (decided (Some d)) → d ≡ a.decision
   given_decisions d k =
       let x = session_of c in
@@ -101,5 +102,5 @@ module _ (c : Course) (proper : IsProper c) (es : List transcript.Entry) (a : An
       ⊎_elim (λ b. let q : answered a ≡ opening_refused b.0 = b.1 in cc)
       (λ b.
       given x ps (with_unknowns w) at_start (bindings_in c.steps) es d (b.1).0 completes_end k
-      ∙ ap (λ z. z.decision) (unknowns_say_nothing w ps (leaves_nothing c proper) (none_has_unknowns c proper)) ∙ ap (λ z. z.decision) (sym answer_is))
+      ∙ ap (λ z. z.decision) (unknowns_say_nothing w ps (leaves_nothing c proper) (none_has_unknowns c proper)) ∙ ap (λ z. z.decision) (sym (answer_is c es a run)))
       (run_did (MayDecide x ps) x ps c.steps es (answered a) run)
