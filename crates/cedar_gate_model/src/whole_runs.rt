@@ -1,7 +1,7 @@
 //! Laws of runs: what they ask for, decide and answer. Each function's contract is the theorem; its body does nothing.
 
 ghost use Rattle.cedar_gate_model.specs.Whole.RunsAsk.{RunsAskOnce, RunsAskInTheSlice, RunsAskTheSlice, RunsHaveFewRounds};
-ghost use Rattle.cedar_gate_model.specs.Whole.RunsAnswer.{AnsweredRunsAreCompleted, GivenDecisionsAreTheAnswers, AnswersAreTheWholeStores, AnswersNeedTheLoadedAlone, ErrorsAreExpected};
+ghost use Rattle.cedar_gate_model.specs.Whole.RunsAnswer.{AnsweredRunsAreCompleted, GivenDecisionsAreTheAnswers, AnswersAreTheWholeStores, AnswersNeedTheLoadedAlone, ErrorsAreExpected, ReadyDecisionsAreOwed};
 
 /// A run asks for no uid twice, and only for what is in the slice of what was bound by its end, over the whole store: an answered run for
 /// exactly that, though a late binding may bring uids nearer. At most as many rounds as the level follow the last binding.
@@ -28,4 +28,10 @@ pub fn answers_need_the_slice_alone()
     ensures whole { AnswersAreTheWholeStores }
     ensures loaded { AnswersNeedTheLoadedAlone }
     ensures errors { ErrorsAreExpected }
+{}
+
+/// A decision that is asked for is given where all is bound, the request conforms, nothing is wanted and each uid that was asked for has
+/// an entity.
+pub fn ready_decisions_are_owed()
+    ensures { ReadyDecisionsAreOwed }
 {}

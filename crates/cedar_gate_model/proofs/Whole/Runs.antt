@@ -6,3 +6,4 @@ pub mod Restricted
 pub mod Completing
 pub mod Deciding
 pub mod Answering
+pub mod Owing

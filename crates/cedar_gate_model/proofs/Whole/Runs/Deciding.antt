@@ -30,7 +30,7 @@ use Rattle.cedar_gate_model.proofs.Whole.Runs.Did.{Did, run_did}
 use Rattle.cedar_gate_model.proofs.Whole.Runs.Completing.{stands_at_start, stands_after, completed}
 
 -- an expression without unknowns means the same whatever unknowns mean
-none_unknown : (t : Tree) → has_unknown t ≡ false → (P : Text → Option CoreType → Type 0) → EachIn P t
+pub none_unknown : (t : Tree) → has_unknown t ≡ false → (P : Text → Option CoreType → Type 0) → EachIn P t
 none_unknown t e P =
     (each_in P t).0
     (λ u k.
