@@ -22,6 +22,7 @@ pub mod GateLaws
 pub mod RunLaws
 pub mod RunsAsk
 pub mod RunsAnswer
+pub mod RunsAlike
 pub mod SliceSoundness
 pub mod WorkedGate
 pub mod FirstPath

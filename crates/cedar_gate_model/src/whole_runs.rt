@@ -1,6 +1,7 @@
 //! Laws of runs: what they ask for, decide and answer. Each function's contract is the theorem; its body does nothing.
 
 ghost use Rattle.cedar_gate_model.specs.Whole.RunsAsk.{RunsAskOnce, RunsAskInTheSlice, RunsAskTheSlice, RunsHaveFewRounds};
+ghost use Rattle.cedar_gate_model.specs.Whole.RunsAlike.{EndsAreTheCourses, StepsMayMove, LevelsAnswerAlike, OutsideSaysNothing, MovedPoliciesAnswerAlike};
 ghost use Rattle.cedar_gate_model.specs.Whole.RunsAnswer.{AnsweredRunsAreCompleted, GivenDecisionsAreTheAnswers, AnswersAreTheWholeStores, AnswersNeedTheLoadedAlone, ErrorsAreExpected, ReadyDecisionsAreOwed};
 
 /// A run asks for no uid twice, and only for what is in the slice of what was bound by its end, over the whole store: an answered run for
@@ -34,4 +35,22 @@ pub fn answers_need_the_slice_alone()
 /// an entity.
 pub fn ready_decisions_are_owed()
     ensures { ReadyDecisionsAreOwed }
+{}
+
+/// An answered run ends with all that its steps bind, over the whole store. So its answer doesn't depend on the order of the steps that
+/// bind, nor on where among them loads and decisions stand, nor on the level.
+pub fn steps_and_levels_are_free()
+    ensures ends { EndsAreTheCourses }
+    ensures steps { StepsMayMove }
+    ensures levels { LevelsAnswerAlike }
+{}
+
+/// What a store has outside of the slice doesn't change the answer.
+pub fn outside_says_nothing()
+    ensures { OutsideSaysNothing }
+{}
+
+/// Policies in another order give the same decision, the same reasons and the same errors.
+pub fn moved_policies_answer_alike()
+    ensures { MovedPoliciesAnswerAlike }
 {}

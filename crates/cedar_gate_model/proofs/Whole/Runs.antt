@@ -7,3 +7,4 @@ pub mod Completing
 pub mod Deciding
 pub mod Answering
 pub mod Owing
+pub mod Alike

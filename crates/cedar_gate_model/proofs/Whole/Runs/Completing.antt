@@ -78,7 +78,7 @@ is_there None e = cc
 is_there (Some a) e = refl
 
 -- a value that is found stands under its name
-found_bound : (bs : List (Text × Made)) (n : Text) (m : Made) → lookup (bytes_eq n) bs ≡ Some m → (b : Text × Made) × Contains bs b × (b.0 ≡ n) × (b.1 ≡ m)
+pub found_bound : (bs : List (Text × Made)) (n : Text) (m : Made) → lookup (bytes_eq n) bs ≡ Some m → (b : Text × Made) × Contains bs b × (b.0 ≡ n) × (b.1 ≡ m)
 found_bound [] n m e = cc
 found_bound (b ∷ bs) n m e = by_test (bytes_eq n b.0) refl e (found_bound bs n m)
   where
@@ -128,7 +128,7 @@ module _ (x : Setup) where
     conform = λ u e k q. ⊎_elim (λ a. h.conform u e a q) (λ a. supplied_conform s uids ok u e a q) (Contains-append_cases s.asked uids u k);
   }
 
-  head_value : (s : State) (n : Text) (m : Made) → value_of (with_bound s n m) n ≡ Some m
+  pub head_value : (s : State) (n : Text) (m : Made) → value_of (with_bound s n m) n ≡ Some m
   head_value s n m = ap (λ t. cond t (Some m) (value_of s n)) ((bytes_eq-Decides n n).1 refl)
 
   bound_more : (s : State) (b : Text × Made) → ((f : BindRefusal) → BindFault x s b.0 b.1 f → ⊥) → IsWellMade x.functions.table b.1 → Stands s → Stands (with_bound s b.0 b.1)

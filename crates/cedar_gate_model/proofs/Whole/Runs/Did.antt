@@ -27,51 +27,66 @@ module _ (may : State → Option Decision → Type 0) (x : Setup) (ps : List Pol
   Ended s (binding_refused f) = Unit {0}
   Ended s (answer_refused f) = Unit {0}
 
-  abbrev pub DidAll : State → List (Text × Made) → List Entry → End → Type 0
-  DidAll s bs es end = Did s bs es × Ended (last_state s bs es) end
+  -- an answered run did all bindings
+  abbrev pub Consumed : List (Text × Made) → List Entry → End → Type 0
+  Consumed bs [] (answered a) = bs ≡ []
+  Consumed bs [] (opening_refused f) = Unit {0}
+  Consumed bs [] (supply_refused f) = Unit {0}
+  Consumed bs [] (binding_refused f) = Unit {0}
+  Consumed bs [] (answer_refused f) = Unit {0}
+  Consumed bs (round uids ∷ es) end = Consumed bs es end
+  Consumed [] (bound k ∷ es) end = ⊥
+  Consumed (b ∷ bs) (bound k ∷ es) end = Consumed bs es end
+  Consumed bs (decided d ∷ es) end = Consumed bs es end
 
-  finished : (s : State) (end : End) → Finishes x ps s [] end → Ended s end
-  finished s (answered a) h = h
-  finished s (opening_refused f) h = tt
-  finished s (supply_refused f) h = tt
-  finished s (binding_refused f) h = tt
-  finished s (answer_refused f) h = tt
+  abbrev pub DidAll : State → List (Text × Made) → List Entry → End → Type 0
+  DidAll s bs es end = Did s bs es × Ended (last_state s bs es) end × Consumed bs es end
+
+  abbrev Stopped : State → List (Text × Made) → End → Type 0
+  Stopped s bs end = Ended s end × Consumed bs [] end
+
+  finished : (s : State) (end : End) → Finishes x ps s [] end → Stopped s [] end
+  finished s (answered a) h = (h, refl)
+  finished s (opening_refused f) h = (tt, tt)
+  finished s (supply_refused f) h = (tt, tt)
+  finished s (binding_refused f) h = (tt, tt)
+  finished s (answer_refused f) h = (tt, tt)
 
   finish_did : (s : State) (es : List Entry) (end : End) → Finishes x ps s es end → DidAll s [] es end
-  finish_did s [] end h = (tt, finished s end h)
-  finish_did s (round uids ∷ es) end h = let r = finish_did (with_asked s uids) es end h.1 in ((h.0, r.0), r.1)
+  finish_did s [] end h = let f = finished s end h in (tt, f.0, f.1)
+  finish_did s (round uids ∷ es) end h = let r = finish_did (with_asked s uids) es end h.1 in ((h.0, r.0), r.1, r.2)
   finish_did s (bound k ∷ es) end h = absurd h
   finish_did s (decided d ∷ es) end h = absurd h
 
-  unloaded : (s : State) (next : State → List Entry → Type 0) (end : End) → Loads x s next [] end → Ended s end
-  unloaded s next (answered a) h = absurd h
-  unloaded s next (opening_refused f) h = tt
-  unloaded s next (supply_refused f) h = tt
-  unloaded s next (binding_refused f) h = tt
-  unloaded s next (answer_refused f) h = tt
+  unloaded : (s : State) (next : State → List Entry → Type 0) (bs : List (Text × Made)) (end : End) → Loads x s next [] end → Stopped s bs end
+  unloaded s next bs (answered a) h = absurd h
+  unloaded s next bs (opening_refused f) h = (tt, tt)
+  unloaded s next bs (supply_refused f) h = (tt, tt)
+  unloaded s next bs (binding_refused f) h = (tt, tt)
+  unloaded s next bs (answer_refused f) h = (tt, tt)
 
   load_did : (s : State) (bs : List (Text × Made)) (end : End) (next : State → List Entry → Type 0) → ((t : State) (es : List Entry) → next t es → DidAll t bs es end) → (es : List Entry) → Loads x s next es end → DidAll s bs es end
-  load_did s bs end next then [] h = (tt, unloaded s next end h)
-  load_did s bs end next then (round uids ∷ es) h = let r = then (with_asked s uids) es h.1 in ((h.0, r.0), r.1)
+  load_did s bs end next then [] h = let f = unloaded s next bs end h in (tt, f.0, f.1)
+  load_did s bs end next then (round uids ∷ es) h = let r = then (with_asked s uids) es h.1 in ((h.0, r.0), r.1, r.2)
   load_did s bs end next then (bound k ∷ es) h = absurd h
   load_did s bs end next then (decided d ∷ es) h = absurd h
 
-  unbound : (s : State) (n : Text) (m : Made) (next : List Entry → Type 0) (end : End) → Binds x s n m next [] end → Ended s end
-  unbound s n m next (answered a) h = absurd h
-  unbound s n m next (opening_refused f) h = tt
-  unbound s n m next (supply_refused f) h = tt
-  unbound s n m next (binding_refused f) h = tt
-  unbound s n m next (answer_refused f) h = tt
+  unbound : (s : State) (n : Text) (m : Made) (next : List Entry → Type 0) (bs : List (Text × Made)) (end : End) → Binds x s n m next [] end → Stopped s bs end
+  unbound s n m next bs (answered a) h = absurd h
+  unbound s n m next bs (opening_refused f) h = (tt, tt)
+  unbound s n m next bs (supply_refused f) h = (tt, tt)
+  unbound s n m next bs (binding_refused f) h = (tt, tt)
+  unbound s n m next bs (answer_refused f) h = (tt, tt)
 
   bind_did : (s : State) (n : Text) (m : Made) (bs : List (Text × Made)) (end : End) (next : List Entry → Type 0) → ((es : List Entry) → next es → DidAll (with_bound s n m) bs es end) → (es : List Entry) → Binds x s n m next es end
       → DidAll s ((n, m) ∷ bs) es end
-  bind_did s n m bs end next then [] h = (tt, unbound s n m next end h)
-  bind_did s n m bs end next then (bound k ∷ es) h = let r = then es h.2 in ((h.0, h.1, r.0), r.1)
+  bind_did s n m bs end next then [] h = let f = unbound s n m next ((n, m) ∷ bs) end h in (tt, f.0, f.1)
+  bind_did s n m bs end next then (bound k ∷ es) h = let r = then es h.2 in ((h.0, h.1, r.0), r.1, r.2)
   bind_did s n m bs end next then (round uids ∷ es) h = absurd h
   bind_did s n m bs end next then (decided d ∷ es) h = absurd h
 
   decide_did : (s : State) (bs : List (Text × Made)) (end : End) (next : List Entry → Type 0) → ((es : List Entry) → next es → DidAll s bs es end) → (es : List Entry) → DecidesNow (may s) next es → DidAll s bs es end
-  decide_did s bs end next then (decided d ∷ es) h = let r = then es h.1 in ((h.0, r.0), r.1)
+  decide_did s bs end next then (decided d ∷ es) h = let r = then es h.1 in ((h.0, r.0), r.1, r.2)
   decide_did s bs end next then [] h = absurd h
   decide_did s bs end next then (round uids ∷ es) h = absurd h
   decide_did s bs end next then (bound k ∷ es) h = absurd h

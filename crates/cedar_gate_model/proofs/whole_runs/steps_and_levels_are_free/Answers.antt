@@ -1,0 +1,11 @@
+use Rattle.cedar_gate_model.proofs.Whole.Runs.Alike.{ends_are_the_courses, steps_may_move, levels_answer_alike}
+use Rattle.cedar_gate_model.proofs.whole_runs.steps_and_levels_are_free.Goals as goal
+
+pub returns-clause-ends : goal.returns-clause-ends
+returns-clause-ends c = ends_are_the_courses
+
+pub returns-clause-steps : goal.returns-clause-steps
+returns-clause-steps c = steps_may_move
+
+pub returns-clause-levels : goal.returns-clause-levels
+returns-clause-levels c = levels_answer_alike
