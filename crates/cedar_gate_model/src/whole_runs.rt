@@ -1,7 +1,7 @@
 //! Laws of runs: what they ask for, decide and answer. Each function's contract is the theorem; its body does nothing.
 
 ghost use Rattle.cedar_gate_model.specs.Whole.RunsAsk.{RunsAskOnce, RunsAskInTheSlice, RunsAskTheSlice, RunsHaveFewRounds};
-ghost use Rattle.cedar_gate_model.specs.Whole.RunsAlike.{EndsAreTheCourses, StepsMayMove, LevelsAnswerAlike, OutsideSaysNothing, MovedPoliciesAnswerAlike};
+ghost use Rattle.cedar_gate_model.specs.Whole.RunsAlike.{EndsAreTheCourses, StepsMayMove, LevelsAnswerAlike, OutsideSaysNothing, PoliciesMayMove, MovedPoliciesAnswerAlike, PrunedAnswersAlike, WarnedAreNoReasons};
 ghost use Rattle.cedar_gate_model.specs.Whole.RunsAnswer.{AnsweredRunsAreCompleted, GivenDecisionsAreTheAnswers, AnswersAreTheWholeStores, AnswersNeedTheLoadedAlone, ErrorsAreExpected, ReadyDecisionsAreOwed};
 
 /// A run asks for no uid twice, and only for what is in the slice of what was bound by its end, over the whole store: an answered run for
@@ -50,7 +50,15 @@ pub fn outside_says_nothing()
     ensures { OutsideSaysNothing }
 {}
 
-/// Policies in another order give the same decision, the same reasons and the same errors.
+/// Policies in another order are accepted alike, and give the same decision, the same reasons and the same errors.
 pub fn moved_policies_answer_alike()
-    ensures { MovedPoliciesAnswerAlike }
+    ensures accepted { PoliciesMayMove }
+    ensures answers { MovedPoliciesAnswerAlike }
+{}
+
+/// The policies that aren't irrelevant for the request's types give the same decision and the same reasons alone, and none that is
+/// warned of is a reason.
+pub fn pruned_answers_are_alike()
+    ensures pruned { PrunedAnswersAlike }
+    ensures warned { WarnedAreNoReasons }
 {}

@@ -8,3 +8,4 @@ pub mod Deciding
 pub mod Answering
 pub mod Owing
 pub mod Alike
+pub mod Pruning

@@ -117,7 +117,7 @@ none_listed (y ∷ ys) h = absurd (h y (contains_head y ys))
 
 -- the policies of accepted submissions
 module _ (b : Submission) (w : World) (a : IsAccepted b) (f : IsFitFor b w) where
-  orderly : IsOrderly (schema_in b)
+  pub orderly : IsOrderly (schema_in b)
   orderly = schemas_are_orderly (extension_types b.table) b.declarations (accepted_good b a).well_formed
 
   pub accepted_in_reach : (p : Policy) → Contains b.policies p → (u : Uid) → Looks (with_slots w p.bindings) (condition p) u → IsInReach (schema_in b) b.level w u
@@ -126,7 +126,7 @@ module _ (b : Submission) (w : World) (a : IsAccepted b) (f : IsFitFor b w) wher
       let fits = g.fits p k in
       conditions_are_in_reach b.level (schema_in b) b.table w p orderly f.0 f.1 (g.each p k).linked fits.typed (none_listed (policy_violations b.level (schema_in b) b.table p) fits.near_enough) u l
 
-  accepted_conform : (p : Policy) → Contains b.policies p → LookupsConform (schema_in b) w p
+  pub accepted_conform : (p : Policy) → Contains b.policies p → LookupsConform (schema_in b) w p
   accepted_conform p k u l = reach_conforms (schema_in b) b.table b.level w f.0 f.1 u (accepted_in_reach p k u l)
 
   pub accepted_are_sound : (p : Policy) → Contains b.policies p

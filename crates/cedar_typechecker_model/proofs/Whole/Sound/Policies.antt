@@ -1,14 +1,14 @@
 -- The environments of a policy cover its conforming requests; a policy that passes means a truth value or errs as expected.
-use Rattle.std.proofs.Common.{◌≡◌, ◌⊎◌, inl, inr, ⊎_elim, Bool, true, false, List, [], ◌∷◌, Option, Some, None, refl, sym, ap, ◌∙◌, subst}
+use Rattle.std.proofs.Common.{◌≡◌, ◌&&◌, ◌⊎◌, inl, inr, ⊎_elim, Bool, true, false, List, [], ◌∷◌, Option, Some, None, refl, sym, ap, ◌∙◌, subst}
 use Rattle.std.specs.Prelude.{Contains, is_some, map, find, if◌then◌else◌, IsSome}
 use Rattle.cedar_expr_model.specs.Name.{Name, name_eq}
-use Rattle.cedar_expr_model.specs.Uid.{Uid}
+use Rattle.cedar_expr_model.specs.Uid.{Uid, uid_eq}
 use Rattle.cedar_expr_model.specs.Whole.Value.{entity, V, prim, record_of, truth_value}
 use Rattle.cedar_expr_model.specs.Whole.Builder.{conjunction}
 use Rattle.cedar_expr_model.specs.Whole.Parts.{subexpressions, slot_here, slots}
 use Rattle.cedar_expr_model.specs.Whole.Table.{Table, IsFair}
 use Rattle.cedar_expr_model.specs.Whole.Tree.{principal, action, resource, SlotId, principal_slot, resource_slot, Tree, slot}
-use Rattle.cedar_expr_model.proofs.Equality.{name_eq-Decides}
+use Rattle.cedar_expr_model.proofs.Equality.{name_eq-Decides, uid_eq-Decides}
 use Rattle.cedar_expr_model.proofs.Lists.{hold_both, any_has, hold_left, contains_head, contains_cases, contains_none}
 use Rattle.cedar_store_model.specs.Whole.Outcome.{Res, val, err}
 use Rattle.cedar_store_model.specs.Whole.World.{Request, World, Entity, held}
@@ -42,7 +42,7 @@ use Rattle.cedar_typechecker_model.specs.Whole.Simple.{IsOrderly}
 use Rattle.cedar_typechecker_model.specs.Whole.Soundness.{IsGood, Hold, ConformsAt, Suits, SlotsAreBound}
 use Rattle.cedar_typechecker_model.specs.Whole.PolicySoundness as policies
 use Rattle.cedar_typechecker_model.specs.Whole.PolicySoundness.{IsBound, LookupsConform, IsCovered, IsFalse}
-use Rattle.cedar_typechecker_model.specs.Whole.Verdicts.{strictly, scope_use, fits_slot, Passes, IsImpossible}
+use Rattle.cedar_typechecker_model.specs.Whole.Verdicts.{strictly, scope_use, fits_slot, Passes, IsImpossible, RequestType, IsIrrelevant}
 use Rattle.cedar_typechecker_model.proofs.Whole.Sound.Attributes.{Fine}
 use Rattle.cedar_typechecker_model.proofs.Whole.Sound.Connectives.{in_any}
 use Rattle.cedar_typechecker_model.proofs.Whole.Sound.Facts.{hold_none}
@@ -301,3 +301,20 @@ module _ (s : Schema) (x : Table) (w : World) (p : Policy) (c : IsConforming s x
         where
           lies : false ≡ true → ⊥
           lies e = cc
+
+      -- nor is one that is irrelevant for the types of the request
+      pub irrelevant_is_sound : (r : RequestType) → c.request.0.principal.kind ≡ r.principal → c.request.0.action ≡ r.action → c.request.0.resource.kind ≡ r.resource → IsIrrelevant s x r p → IsSatisfied w p → ⊥
+      irrelevant_is_sound r a b d irrelevant sat =
+          ⊎_elim
+          (λ k.
+          let e = k.0 in
+          let suits = k.3 in
+          let first = (name_eq-Decides r.principal e.principal).1 (sym a ∙ suits.principal c.request.0.principal c.request.1.principal) in
+          let second = (uid_eq-Decides r.action e.action).1 (sym b ∙ suits.action c.request.0.action c.request.1.action) in
+          let third = (name_eq-Decides r.resource e.resource).1 (sym d ∙ suits.resource c.request.0.resource c.request.1.resource) in
+          let of_types = hold_both (name_eq r.principal e.principal) (uid_eq r.action e.action && name_eq r.resource e.resource) first (hold_both (uid_eq r.action e.action) (name_eq r.resource e.resource) second third) in
+          let f = irrelevant e k.1 k.2 of_types in
+          let lie : false ≡ true = typed_sound e suits (bool_type only_false) f.0 f.1 (val (truth_value true)) sat in
+          cc)
+          (λ f. (let q = f (val (truth_value true)) sat in cc))
+          environments_cover
