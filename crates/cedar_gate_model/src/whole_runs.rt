@@ -2,7 +2,7 @@
 
 ghost use Rattle.cedar_gate_model.specs.Whole.RunsAsk.{RunsAskOnce, RunsAskInTheSlice, RunsAskTheSlice, RunsHaveFewRounds};
 ghost use Rattle.cedar_gate_model.specs.Whole.RunsAlike.{EndsAreTheCourses, StepsMayMove, LevelsAnswerAlike, OutsideSaysNothing, PoliciesMayMove, MovedPoliciesAnswerAlike, PrunedAnswersAlike, WarnedAreNoReasons};
-ghost use Rattle.cedar_gate_model.specs.Whole.RunsAnswer.{AnsweredRunsAreCompleted, GivenDecisionsAreTheAnswers, AnswersAreTheWholeStores, AnswersNeedTheLoadedAlone, ErrorsAreExpected, ReadyDecisionsAreOwed};
+ghost use Rattle.cedar_gate_model.specs.Whole.RunsAnswer.{AnsweredRunsAreCompleted, GivenDecisionsAreTheAnswers, AnswersAreTheWholeStores, AnswersNeedTheLoadedAlone, ErrorsAreExpected, ReadyDecisionsAreOwed, RunsAreLegal};
 
 /// A run asks for no uid twice, and only for what is in the slice of what was bound by its end, over the whole store: an answered run for
 /// exactly that, though a late binding may bring uids nearer. At most as many rounds as the level follow the last binding.
@@ -61,4 +61,9 @@ pub fn moved_policies_answer_alike()
 pub fn pruned_answers_are_alike()
     ensures pruned { PrunedAnswersAlike }
     ensures warned { WarnedAreNoReasons }
+{}
+
+/// What a run does, a refused one too, is legal against each world that completes what was bound and answered by its end.
+pub fn proper_runs_are_legal()
+    ensures { RunsAreLegal }
 {}

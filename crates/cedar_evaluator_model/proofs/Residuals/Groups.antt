@@ -16,7 +16,7 @@ cons_has : {X : Type 0} (o : Option X) (xs : List X) (x : X) → Contains xs x �
 cons_has None xs x c = c
 cons_has (Some y) xs x c = contains_tail y xs x c
 
-kept_has : {X Y : Type 0} (f : X → Option Y) (xs : List X) (x : X) (y : Y) → Contains xs x → f x ≡ Some y → Contains (filter_map f xs) y
+pub kept_has : {X Y : Type 0} (f : X → Option Y) (xs : List X) (x : X) (y : Y) → Contains xs x → f x ≡ Some y → Contains (filter_map f xs) y
 kept_has f [] x y c e = absurd (contains_none x c)
 kept_has f (z ∷ xs) x y c e =
     contains_cases (Contains (filter_map f (z ∷ xs)) y) z xs x c (λ i. subst (λ o. Contains (cons_option o (filter_map f xs)) y) (sym (ap f i ∙ e)) (contains_head y (filter_map f xs)))

@@ -9,3 +9,5 @@ pub mod Answering
 pub mod Owing
 pub mod Alike
 pub mod Pruning
+pub mod Closing
+pub mod Legal

@@ -18,12 +18,12 @@ use Rattle.cedar_evaluator_model.specs.Response.{PartialRequest}
 use Rattle.cedar_evaluator_model.specs.WellMade.{IsWellMade}
 use Rattle.cedar_gate_model.specs.Whole.Acceptance.{Submission, IsAccepted, schema_in}
 use Rattle.cedar_gate_model.specs.Whole.Bundle.{Functions}
-use Rattle.cedar_gate_model.specs.Whole.Moment.{request_of}
+use Rattle.cedar_gate_model.specs.Whole.Moment.{request_of, at_first}
 use Rattle.cedar_gate_model.specs.Whole.ReadingValue.{with_functions}
-use Rattle.cedar_gate_model.specs.Whole.Transcript.{Step, Entry, decided}
+use Rattle.cedar_gate_model.specs.Whole.Transcript.{Step, Entry, decided, AreLegal}
 use Rattle.cedar_gate_model.specs.Whole.Session.{Setup, State, whole_store, world_now, NothingIsWanted, HasOpenName, CompletesNow}
 use Rattle.cedar_gate_model.specs.Whole.Runs.{End, answered, MayDecide, Runs}
-use Rattle.cedar_gate_model.specs.Whole.RunLaws.{bindings_in}
+use Rattle.cedar_gate_model.specs.Whole.RunLaws.{bindings_in, case_of}
 use Rattle.cedar_gate_model.specs.Whole.RunsAsk.{IsMadeContext, end_state}
 
 -- What a run is of: what is handed to the gate, the functions, the request, the store that answers, and the steps.
@@ -106,3 +106,8 @@ pub record IsReady (c : Course) (s : State) : Type 0 where
 -- then a decision that is asked for is given
 abbrev pub ReadyDecisionsAreOwed : Type 0
 ReadyDecisionsAreOwed = (c : Course) (before after : List Entry) (d : Option Decision) (end : End) → IsProper c → IsRun c (before ++ decided d ∷ after) end → IsReady c (end_state c.steps before) → IsSome d
+
+-- What a run did, a refused one too, is legal against each world that completes its last state.
+abbrev pub RunsAreLegal : Type 0
+RunsAreLegal = (c : Course) (es : List Entry) (end : End) → IsProper c → IsRun c es end
+    → (w : World) → CompletesNow (session_of c) (end_state c.steps es) w → AreLegal (case_of (session_of c) c.submission.policies) w at_first es

@@ -38,15 +38,15 @@ use Rattle.std.specs.Option.{option_map_or}
 use Rattle.cedar_gate_model.specs.Whole.Transcript as transcript
 
 -- what was bound and asked, without the values
-abbrev moment_of : State → Moment
+abbrev pub moment_of : State → Moment
 moment_of s = record { bound = map (λ b. b.0) s.bound; asked = s.asked }
 
 -- a name is bound, to what it means, or it isn't
-abbrev BoundOrOpen : World → Text → List (Text × Made) → Type 0
+abbrev pub BoundOrOpen : World → Text → List (Text × Made) → Type 0
 BoundOrOpen w n bs = ((m : Made) × (lookup (bytes_eq n) bs ≡ Some m) × (list_any (bytes_eq n) (map (λ b. b.0) bs) ≡ true) × MeansBound w (n, m))
     ⊎ ((lookup (bytes_eq n) bs ≡ None) × (list_any (bytes_eq n) (map (λ b. b.0) bs) ≡ false))
 
-bound_or_open : (w : World) (n : Text) (bs : List (Text × Made)) → ((b : Text × Made) → Contains bs b → MeansBound w b) → BoundOrOpen w n bs
+pub bound_or_open : (w : World) (n : Text) (bs : List (Text × Made)) → ((b : Text × Made) → Contains bs b → MeansBound w b) → BoundOrOpen w n bs
 bound_or_open w n [] h = inr (refl, refl)
 bound_or_open w n (b ∷ bs) h = by_test (bound_or_open w n bs (λ c k. h c (contains_tail b bs c k))) (bytes_eq n b.0) refl
   where
@@ -68,7 +68,7 @@ bound_entry : (k : Option Name) (o : Option Uid) → known_entry (option_map_or 
 bound_entry k None = refl
 bound_entry k (Some u) = refl
 
-entry_same : (s : State) (w : World) (n : Text) (e : Entry) (o : Option Uid) → BoundOrOpen w n s.bound → ((m : Made) → MeansBound w (n, m) → o ≡ uid_in (Some m)) → EntryCompleted e o → known_entry (entry_now s n e) ≡ when (entry_known (moment_of s) n e) o
+pub entry_same : (s : State) (w : World) (n : Text) (e : Entry) (o : Option Uid) → BoundOrOpen w n s.bound → ((m : Made) → MeansBound w (n, m) → o ≡ uid_in (Some m)) → EntryCompleted e o → known_entry (entry_now s n e) ≡ when (entry_known (moment_of s) n e) o
 entry_same s w n (uid u) o b means c = sym c
 entry_same s w n (unknown_uid k) o b means c =
     ⊎_elim
@@ -86,7 +86,7 @@ bound_context (made_prim p) fs e = cc
 bound_context (made_set ms) fs e = cc
 bound_context (made_extension n k f ps) fs e = cc
 
-context_same : (x : Setup) (s : State) (w : World) (c : Context) → HasNoResidual c → BoundOrOpen w (codes "context") s.bound → ContextCompleted w c → known_context (context_now x.functions s c) ≡ when (context_known (moment_of s) c) w.context
+pub context_same : (x : Setup) (s : State) (w : World) (c : Context) → HasNoResidual c → BoundOrOpen w (codes "context") s.bound → ContextCompleted w c → known_context (context_now x.functions s c) ≡ when (context_known (moment_of s) c) w.context
 context_same x s w (closed fs) h b c = sym c
 context_same x s w (residual_fields fs) h b c = absurd h
 context_same x s w unknown_context h b c =
@@ -96,7 +96,7 @@ context_same x s w unknown_context h b c =
     b
 
 -- what is known of the world at the moment of a state
-abbrev seen : Setup → World → State → World
+abbrev pub seen : Setup → World → State → World
 seen x w s = known_at x.schema x.start w (moment_of s)
 
 roots_same : (x : Setup) (s : State) (w : World) → HasNoResidual x.start.context → CompletesNow x s w → SameRoots (known_now x s) (seen x w s)
@@ -111,13 +111,13 @@ same_told true r f g a b = ap told (a refl)
 same_told false true f g a b = ap told (b refl)
 same_told false false f g a b = refl
 
-store_same : (x : Setup) (s : State) (w : World) → CompletesNow x s w → (u : Uid) → (known_now x s).store u ≡ (seen x w s).store u
+pub store_same : (x : Setup) (s : State) (w : World) → CompletesNow x s w → (u : Uid) → (known_now x s).store u ≡ (seen x w s).store u
 store_same x s w c u =
     same_told (declares_action x.schema u) (list_any (uid_eq u) s.asked) (whole_store x u) (w.store u)
     (λ e. ap (λ t. cond t (held (as_entity x.schema u)) (found_as whole (x.store u))) e ∙ sym (c.request.actions u e))
     (λ e. sym (c.asked u ((found-Decides uid_eq uid_eq-Decides u s.asked).0 e)))
 
-near_same : (v w : World) → SameRoots v w → ((x : Uid) → v.store x ≡ w.store x) → (n : ℕ) (u : Uid) → IsNear n w u ↔ IsNear n v u
+pub near_same : (v w : World) → SameRoots v w → ((x : Uid) → v.store x ≡ w.store x) → (n : ℕ) (u : Uid) → IsNear n w u ↔ IsNear n v u
 near_same v w r same n u = (
   near_kept w v (λ x. (same_root v w r x).0) (λ y x. subst (λ f. FoundMentions f x) (sym (same y))) n u,
   near_kept v w (λ x. (same_root v w r x).1) (λ y x. subst (λ f. FoundMentions f x) (same y)) n u,
@@ -188,7 +188,7 @@ unbound x s n m next (supply_refused f) h = tt
 unbound x s n m next (binding_refused f) h = tt
 unbound x s n m next (answer_refused f) h = tt
 
-decision_is_legal : (x : Setup) (ps : List Policy) (s : State) (w : World) (d : Option Decision) → CompletesNow x s w → MayDecide x ps s d → IsLegalEntry (case_of x ps) w (moment_of s) (decided d)
+pub decision_is_legal : (x : Setup) (ps : List Policy) (s : State) (w : World) (d : Option Decision) → CompletesNow x s w → MayDecide x ps s d → IsLegalEntry (case_of x ps) w (moment_of s) (decided d)
 decision_is_legal x ps s w None c h = tt
 decision_is_legal x ps s w (Some d) c h = h w c
 
@@ -256,7 +256,7 @@ pub runs_are_legal : (x : Setup) (ps : List Policy) (steps : List Step) (es : Li
 runs_are_legal = run_is_good
 
 -- where no name is open, all roots are known
-entry_is_known : (r : PartialRequest) (s : State) (w : World) (n : Text) (e : Entry) → entry_named r n ≡ Some e → (HasOpenName r s → ⊥) → BoundOrOpen w n s.bound → entry_known (moment_of s) n e ≡ true
+pub entry_is_known : (r : PartialRequest) (s : State) (w : World) (n : Text) (e : Entry) → entry_named r n ≡ Some e → (HasOpenName r s → ⊥) → BoundOrOpen w n s.bound → entry_known (moment_of s) n e ≡ true
 entry_is_known r s w n (uid u) q none b = refl
 entry_is_known r s w n (unknown_uid k) q none b =
     ⊎_elim (λ t. t.2)

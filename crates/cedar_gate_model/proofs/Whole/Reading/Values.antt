@@ -56,7 +56,7 @@ CleanPieces ts (pieces qs) = CleanList ts qs
 CleanPieces ts (halted s) = Unit {0}
 
 -- the subexpressions of several, whether one is an unknown, and the first feature in them
-abbrev parts_of : List Tree → List Tree
+abbrev pub parts_of : List Tree → List Tree
 parts_of ts = subexpressions_among (trees ts)
 
 abbrev pub some_unknown : List Tree → Bool
@@ -146,11 +146,11 @@ fields_restricted (a ∷ names) (t ∷ ts) h =
     let p = no_feature_split (subexpressions t) (parts_of ts) h in
     found_none_join feature_here (subexpressions t) (parts_of_fields names ts) p.0 (fields_restricted names ts p.1)
 
-listed_same : (ts : Trees) → subexpressions_among ts ≡ parts_of (listed ts)
+pub listed_same : (ts : Trees) → subexpressions_among ts ≡ parts_of (listed ts)
 listed_same no_trees = refl
 listed_same (tree t ts) = ap (λ l. subexpressions t ++ l) (listed_same ts)
 
-fields_same : (fs : TreeFields) → subexpressions_in_fields fs ≡ parts_of (field_trees fs)
+pub fields_same : (fs : TreeFields) → subexpressions_in_fields fs ≡ parts_of (field_trees fs)
 fields_same no_tree_fields = refl
 fields_same (tree_field a t fs) = ap (λ l. subexpressions t ++ l) (fields_same fs)
 

@@ -121,7 +121,7 @@ module _ (x : Setup) where
       let there : Contains (supplied_by x uids) (u, Some (u, e)) = subst (λ o. Contains (supplied_by x uids) (u, option_map (λ f. (u, f)) o)) q (map_has (λ v. (v, option_map (λ f. (v, f)) (x.store v))) uids u k) in
       held_true (entity_conforms x.schema u e) d.0 d.1 (λ no. ok wrong_entity ((u, Some (u, e)), there, inr no))
 
-  asked_more : (s : State) (uids : List Uid) → ((f : SupplyRefusal) → SupplyFault x s (supplied_by x uids) f → ⊥) → Stands s → Stands (with_asked s uids)
+  pub asked_more : (s : State) (uids : List Uid) → ((f : SupplyRefusal) → SupplyFault x s (supplied_by x uids) f → ⊥) → Stands s → Stands (with_asked s uids)
   asked_more s uids ok h = record {
     values = h.values;
     each = h.each;
@@ -131,7 +131,7 @@ module _ (x : Setup) where
   pub head_value : (s : State) (n : Text) (m : Made) → value_of (with_bound s n m) n ≡ Some m
   head_value s n m = ap (λ t. cond t (Some m) (value_of s n)) ((bytes_eq-Decides n n).1 refl)
 
-  bound_more : (s : State) (b : Text × Made) → ((f : BindRefusal) → BindFault x s b.0 b.1 f → ⊥) → IsWellMade x.functions.table b.1 → Stands s → Stands (with_bound s b.0 b.1)
+  pub bound_more : (s : State) (b : Text × Made) → ((f : BindRefusal) → BindFault x s b.0 b.1 f → ⊥) → IsWellMade x.functions.table b.1 → Stands s → Stands (with_bound s b.0 b.1)
   bound_more s b ok well h = record {
     values = λ c k. contains_cases (value_of (with_bound s b.0 b.1) c.0 ≡ Some c.1) b s.bound c k
         (λ e. subst (λ z. value_of (with_bound s b.0 b.1) z.0 ≡ Some z.1) e (head_value s b.0 b.1))
@@ -152,7 +152,7 @@ module _ (x : Setup) where
   stands_after may ps s bs (decided o ∷ es) well d h = stands_after may ps s bs es well d.1 h
 
   module _ (t : State) (stands : Stands t) where
-    taken_value : (n : Text) (m : Made) → value_of t n ≡ Some m → IsTaken n m × IsWellMade x.functions.table m
+    pub taken_value : (n : Text) (m : Made) → value_of t n ≡ Some m → IsTaken n m × IsWellMade x.functions.table m
     taken_value n m e =
         let r = found_bound t.bound n m e in
         let h = stands.each r.0 r.1 in

@@ -60,14 +60,14 @@ neither : (a b : Bool) → (a || b) ≡ false → (a ≡ false) × (b ≡ false)
 neither true b e = cc
 neither false b e = (refl, e)
 
-no_unknown_split : (xs ys : List Tree) → some_unknown (xs ++ ys) ≡ false → (some_unknown xs ≡ false) × (some_unknown ys ≡ false)
+pub no_unknown_split : (xs ys : List Tree) → some_unknown (xs ++ ys) ≡ false → (some_unknown xs ≡ false) × (some_unknown ys ≡ false)
 no_unknown_split xs ys e = neither (some_unknown xs) (some_unknown ys) (sym (list_any-append (λ e. is_some (unknown_here e)) xs ys) ∙ e)
 
 module _ (env : Bindings) where
   abbrev pub HasValue : Text → Option CoreType → Type 0
   HasValue n a = (m : Made) × (env n ≡ Some m)
 
-  abbrev puts : Builder Tree
+  abbrev pub puts : Builder Tree
   puts = builder_with (placed env)
 
   valued : (n : Text) (a : Option CoreType) (o : Option Made) → env n ≡ o → has_unknown (bound_or tree_builder n a o) ≡ false → HasValue n a
@@ -167,7 +167,7 @@ unknown_context_kept (Some m) p h = kept_same _ _ (ap (λ q. known_context (boun
 abbrev pub left_context : Left → Context
 left_context l = unwrap_or (context_from l) unknown_context
 
-residual_unknown : (r : Tree) → known_context (left_context (residual r)) ≡ None
+pub residual_unknown : (r : Tree) → known_context (left_context (residual r)) ≡ None
 residual_unknown (record_literal fs) = refl
 residual_unknown r = refl
 
