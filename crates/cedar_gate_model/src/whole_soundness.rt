@@ -8,16 +8,17 @@ ghost use Rattle.cedar_schema_model.specs.Whole.Conforming.{entity_conforms};
 ghost use Rattle.cedar_typechecker_model.specs.Whole.Worked.{user_a, doc_d};
 ghost use Rattle.cedar_gate_model.specs.Whole.Acceptance.{IsAccepted, schema_in};
 ghost use Rattle.cedar_gate_model.specs.Whole.Slice.{slice};
-ghost use Rattle.cedar_gate_model.specs.Whole.SliceSoundness.{LookupsAreInReach, ConditionsAreInReach, CompletionsFit, AcceptedAreSound, OnlyTheSliceAnswers, LargerLevelsAccept, IsFitFor};
+ghost use Rattle.cedar_gate_model.specs.Whole.SliceSoundness.{LookupsAreInReach, ConditionsAreInReach, AcceptedAreInReach, CompletionsFit, AcceptedAreSound, OnlyTheSliceAnswers, LargerLevelsAccept, IsFitFor};
 ghost use Rattle.cedar_gate_model.specs.Whole.Transcript.{round};
 ghost use Rattle.cedar_gate_model.specs.Whole.Runs.{answered, MayDecide, Runs};
 ghost use Rattle.cedar_gate_model.specs.Whole.WorkedGate.{user_b, user_z, p0, without_ok, level_two, three_and_z, viewed_by_a, loading, p0_allows};
 
 /// What a typed expression looks up is in the slice at a level where it has no violation, or is a declared action; the same of the
-/// condition of a policy. Entities outside of the slice may be anything.
+/// condition of a policy, so of each policy of an accepted submission. Entities outside of the slice may be anything.
 pub fn lookups_are_in_the_slice()
     ensures expressions { LookupsAreInReach }
     ensures conditions { ConditionsAreInReach }
+    ensures accepted { AcceptedAreInReach }
 {}
 
 /// A world that completes a request is fit for a submission, where the table is fair.

@@ -330,6 +330,7 @@ pub fn worked_reach()
     ensures both_sides { violations 0 here no_facts (either is_ok (get_attr the_boss ok)) ≡ needs is_ok 1 ∷ needs (get_attr the_boss ok) 2 ∷ [] }
     ensures taken { violations 0 here no_facts (choice true_ is_ok (get_attr the_boss ok)) ≡ needs is_ok 1 ∷ [] }
     ensures test_counts { violations 0 here no_facts (choice (both is_ok false_) the_boss true_) ≡ needs is_ok 1 ∷ [] }
+    ensures true_test_counts { violations 0 here no_facts (choice (either is_ok true_) true_ the_boss) ≡ needs is_ok 1 ∷ [] }
     ensures taken_target { violations 1 here no_facts (get_attr (choice true_ (var principal) the_boss) ok) ≡ [] }
     ensures greater_target { violations 1 here no_facts (get_attr (choice is_ok (var principal) the_boss) ok) ≡ needs (get_attr (choice is_ok (var principal) the_boss) ok) 2 ∷ [] }
     ensures guarded_target { violations 1 there no_facts (get_attr (choice (has_attr (var principal) boss) (get_attr (var principal) boss) (var principal)) info) ≡ needs (get_attr (choice (has_attr (var principal) boss) (get_attr (var principal) boss) (var principal)) info) 2 ∷ [] }

@@ -56,6 +56,11 @@ IsFitFor b w = IsConforming (schema_in b) b.table w × SliceConforms (schema_in 
 abbrev pub CompletionsFit : Type 0
 CompletionsFit = (b : Submission) (start : PartialRequest) (w : World) → IsFair b.table → Completes (schema_in b) b.table b.level start w → IsFitFor b w
 
+-- What the condition of a policy of an accepted submission looks up is in reach.
+abbrev pub AcceptedAreInReach : Type 0
+AcceptedAreInReach = (b : Submission) (w : World) (p : Policy) → IsAccepted b → IsFitFor b w → Contains b.policies p
+    → (u : Uid) → Looks (with_slots w p.bindings) (condition p) u → IsInReach (schema_in b) b.level w u
+
 -- Each policy of an accepted submission means a truth value or errs as expected, and an impossible one isn't satisfied.
 abbrev pub AcceptedAreSound : Type 0
 AcceptedAreSound = (b : Submission) (w : World) (p : Policy) → IsAccepted b → IsFitFor b w → Contains b.policies p

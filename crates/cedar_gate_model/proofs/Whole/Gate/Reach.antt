@@ -1,5 +1,5 @@
 -- What is looked up where there is no violation is in the slice, or a declared action.
-use Rattle.std.proofs.Common.{◌≡◌, ◌≤◌, ◌⊎◌, inl, inr, ⊎_elim, ℕ, zero, suc, Bool, true, false, List, [], ◌∷◌, ◌++◌, Option, Some, None, refl, sym, ap, ◌∙◌, subst}
+use Rattle.std.proofs.Common.{◌≡◌, ◌≤◌, ◌⊎◌, inl, inr, ⊎_elim, ℕ, Bool, true, false, List, [], ◌∷◌, ◌++◌, Option, Some, None, refl, sym, ap, ◌∙◌, subst}
 use Rattle.std.specs.Prelude.{Contains, if◌then◌else◌}
 use Rattle.std.specs.Str.{bytes_eq}
 use Rattle.std.proofs.lemmas.List.Elements.{Contains-append_left, Contains-append_right}
@@ -37,12 +37,12 @@ use Rattle.cedar_typechecker_model.proofs.Whole.Larger.{larger_levels_pass_polic
 use Rattle.cedar_typechecker_model.proofs.Whole.Sound.Orderly.{schemas_are_orderly}
 use Rattle.cedar_typechecker_model.proofs.Whole.Sound.Leading.{At, Stands}
 use Rattle.cedar_typechecker_model.proofs.Whole.Sound.Policies.{slots_in, conforming, passing_is_sound, impossible_is_sound}
-use Rattle.cedar_typechecker_model.proofs.Whole.Sound.Reached.{Nearness, Reached, conform_at}
+use Rattle.cedar_typechecker_model.proofs.Whole.Sound.Reached.{Nearness, Reached}
 use Rattle.cedar_typechecker_model.proofs.Whole.Sound.Reaching.{looks_reached}
 use Rattle.cedar_gate_model.specs.Whole.Acceptance.{Submission, IsAccepted, extension_types, schema_in}
 use Rattle.cedar_evaluator_model.specs.Response.{PartialRequest}
 use Rattle.cedar_gate_model.specs.Whole.Moment.{Completes}
-use Rattle.cedar_gate_model.specs.Whole.Slice.{mentioned, mentioned_in_fields, mentioned_by_parts, IsNear, InSlice}
+use Rattle.cedar_gate_model.specs.Whole.Slice.{mentioned, mentioned_in_fields, mentioned_by_parts, IsNear}
 use Rattle.cedar_gate_model.proofs.Whole.Gate.Mentions.{PartMentions, PartsMention, FoundMentions, IsKnown, ContextMentions, mentioned_there, root_from}
 use Rattle.cedar_gate_model.specs.Whole.SliceSoundness.{IsInReach, SliceConforms, IsFitFor}
 use Rattle.cedar_gate_model.proofs.Whole.Gate.Accepting.{accepted_good, acceptance_reads}

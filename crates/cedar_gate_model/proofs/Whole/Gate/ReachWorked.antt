@@ -1,33 +1,27 @@
 -- An accepted submission at level 2 and a world that is fit for it.
-use Rattle.std.proofs.Common.{◌≡◌, Bool, true, false, List, [], ◌∷◌, Option, Some, inl, inr, refl, sym, ◌∙◌, subst}
-use Rattle.std.specs.Prelude.{Contains}
-use Rattle.std.specs.List.{list_all}
+use Rattle.std.proofs.Common.{◌≡◌, Bool, true, [], inl, inr, refl, subst}
 use Rattle.cedar_expr_model.specs.Uid.{Uid}
 use Rattle.cedar_expr_model.specs.Whole.Table.{IsFair}
 use Rattle.cedar_expr_model.specs.Whole.Tree.{get_attr, var, resource}
-use Rattle.cedar_expr_model.specs.Whole.Value.{V, prim, entity, no_fields}
+use Rattle.cedar_expr_model.specs.Whole.Value.{V, prim, entity}
 use Rattle.cedar_expr_model.proofs.Lists.{all_each, contains_cases, contains_none}
 use Rattle.cedar_store_model.specs.Whole.Outcome.{val}
-use Rattle.cedar_store_model.specs.Whole.World.{World, Entity, Found, held, missing, not_loaded, Request}
+use Rattle.cedar_store_model.specs.Whole.World.{Entity, Found, held, missing, not_loaded}
 use Rattle.cedar_store_model.specs.Whole.Looks.{Looks}
 use Rattle.cedar_store_model.specs.Whole.Policy.{condition}
 use Rattle.cedar_store_model.proofs.Whole.Meaning.{outcome_means}
 use Rattle.cedar_schema_model.specs.Whole.Schema.{Schema, declares_action}
 use Rattle.cedar_schema_model.specs.Whole.ActionEntities.{as_entity}
 use Rattle.cedar_schema_model.specs.Whole.Conforming.{EntityConforms, entity_conforms}
-use Rattle.cedar_store_model.specs.Whole.Store.{as_open}
 use Rattle.cedar_schema_model.proofs.Whole.Decls.Conforming.{entity_conforms-Decides, request_conforms-Decides}
 use Rattle.cedar_schema_model.proofs.Whole.Decls.Environments.{declares_action-Decides}
-use Rattle.cedar_typechecker_model.specs.Whole.PolicySoundness.{IsConforming}
-use Rattle.cedar_typechecker_model.specs.Whole.Soundness.{ConformsAt}
-use Rattle.cedar_typechecker_model.specs.Whole.Worked.{user_a, doc_d, view, owner, no_table}
-use Rattle.cedar_typechecker_model.proofs.Whole.Sound.Orderly.{schemas_are_orderly}
-use Rattle.cedar_gate_model.specs.Whole.Acceptance.{IsAccepted, extension_types, schema_in}
+use Rattle.cedar_typechecker_model.specs.Whole.Worked.{view, owner, no_table}
+use Rattle.cedar_gate_model.specs.Whole.Acceptance.{IsAccepted, schema_in}
 use Rattle.cedar_gate_model.specs.Whole.Moment.{request_of}
-use Rattle.cedar_gate_model.specs.Whole.Slice.{InSlice, slice}
+use Rattle.cedar_gate_model.specs.Whole.Slice.{slice}
 use Rattle.cedar_gate_model.specs.Whole.SliceSoundness.{SliceConforms, IsFitFor}
 use Rattle.cedar_gate_model.specs.Whole.WorkedGate.{user_b, p0, level_two, three_and_z, viewed_by_a}
-use Rattle.cedar_gate_model.proofs.Whole.Gate.Accepting.{admitted_accepted, accepted_good}
+use Rattle.cedar_gate_model.proofs.Whole.Gate.Accepting.{admitted_accepted}
 use Rattle.cedar_gate_model.proofs.Whole.Gate.Slices.{slice_is_listed}
 
 pub level_two_accepted : IsAccepted level_two
