@@ -2,7 +2,12 @@
 
 ghost use Rattle.cedar_gate_model.specs.Whole.RunsAsk.{RunsAskOnce, RunsAskInTheSlice, RunsAskTheSlice, RunsHaveFewRounds};
 ghost use Rattle.cedar_gate_model.specs.Whole.RunsAlike.{EndsAreTheCourses, StepsMayMove, LevelsAnswerAlike, OutsideSaysNothing, PoliciesMayMove, MovedPoliciesAnswerAlike, PrunedAnswersAlike, WarnedAreNoReasons};
-ghost use Rattle.cedar_gate_model.specs.Whole.RunsAnswer.{AnsweredRunsAreCompleted, GivenDecisionsAreTheAnswers, AnswersAreTheWholeStores, AnswersNeedTheLoadedAlone, ErrorsAreExpected, ReadyDecisionsAreOwed, RunsAreLegal};
+ghost use Rattle.cedar_gate_model.specs.Whole.RunsAnswer.{AnsweredRunsAreCompleted, GivenDecisionsAreTheAnswers, AnswersAreTheWholeStores, AnswersNeedTheLoadedAlone, ErrorsAreExpected, ReadyDecisionsAreOwed, RunsAreLegal, IsProper, IsRun};
+ghost use Rattle.std.specs.Prelude.{[], ◌∷◌};
+ghost use Rattle.cedar_typechecker_model.specs.Whole.Worked.{user_a, doc_d};
+ghost use Rattle.cedar_gate_model.specs.Whole.Runs.{answered};
+ghost use Rattle.cedar_gate_model.specs.Whole.Transcript.{round};
+ghost use Rattle.cedar_gate_model.specs.Whole.WorkedGate.{user_b, p0_allows, loaded_course};
 
 /// A run asks for no uid twice, and only for what is in the slice of what was bound by its end, over the whole store: an answered run for
 /// exactly that, though a late binding may bring uids nearer. At most as many rounds as the level follow the last binding.
@@ -66,4 +71,10 @@ pub fn pruned_answers_are_alike()
 /// What a run does, a refused one too, is legal against each world that completes what was bound and answered by its end.
 pub fn proper_runs_are_legal()
     ensures { RunsAreLegal }
+{}
+
+/// The premises of these laws are met: a policy at level 2 over a store of three entities and one that doesn't conform, in two rounds.
+pub fn worked_course()
+    ensures proper { IsProper loaded_course }
+    ensures run { IsRun loaded_course (round (doc_d ∷ user_a ∷ []) ∷ round (user_b ∷ []) ∷ []) (answered p0_allows) }
 {}

@@ -11,3 +11,4 @@ pub mod Alike
 pub mod Pruning
 pub mod Closing
 pub mod Legal
+pub mod Worked

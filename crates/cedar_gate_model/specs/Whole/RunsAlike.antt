@@ -1,6 +1,6 @@
 -- What the laws say of runs that differ in what doesn't matter for the answer.
 -- Rule: runs; the answer; the slice; impossible policies (docs/RULES.md).
-use Rattle.std.specs.Prelude.{◌≡◌, ◌↔◌, ℕ, List, [], ◌∷◌, Contains, Option, Some, not}
+use Rattle.std.specs.Prelude.{◌≡◌, ℕ, List, [], ◌∷◌, Contains, Option, Some, not}
 use Rattle.std.specs.List.{filter}
 use Rattle.std.specs.List.Sorted.{IsPermutation}
 use Rattle.cedar_expr_model.specs.Name.{Text}
@@ -9,7 +9,7 @@ use Rattle.cedar_expr_model.specs.Whole.Made.{Made}
 use Rattle.cedar_expr_model.specs.Whole.Value.{V}
 use Rattle.cedar_store_model.specs.Whole.World.{World, Entity}
 use Rattle.cedar_store_model.specs.Whole.Policy.{Policy}
-use Rattle.cedar_store_model.specs.Whole.Answer.{Answer, answer_of, decision_of, reasons_of}
+use Rattle.cedar_store_model.specs.Whole.Answer.{Answer, decision_of, reasons_of}
 use Rattle.cedar_store_model.specs.Whole.AnswerLaws.{SameMembers}
 use Rattle.cedar_typechecker_model.specs.Whole.Verdicts.{RequestType, irrelevant_for}
 use Rattle.cedar_gate_model.specs.Whole.Acceptance.{Submission, IsAccepted, schema_in, warnings_of}

@@ -24,6 +24,7 @@ use Rattle.cedar_gate_model.specs.Whole.Acceptance.{Submission, schema_in}
 use Rattle.cedar_gate_model.specs.Whole.Bundle.{Functions, Bundle}
 use Rattle.cedar_gate_model.specs.Whole.Session.{Setup, State, at_start, known_now, world_now, scope_now, Supplied}
 use Rattle.cedar_gate_model.specs.Whole.Runs.{supplied_by}
+use Rattle.cedar_gate_model.specs.Whole.RunsAnswer.{Course}
 use Rattle.cedar_gate_model.specs.Whole.Lines.{line, setup_of}
 use Rattle.cedar_gate_model.specs.Whole.GateLaws.{Bounds}
 use Rattle.std.specs.Map.{lookup}
@@ -331,3 +332,7 @@ loading = setup_with 2 no_functions by_a three_and_z
 
 abbrev pub p0_allows : Answer
 p0_allows = record { decision = allow; reasons = codes "p0" ∷ []; errors = [] }
+
+-- its course, without steps
+abbrev pub loaded_course : Course
+loaded_course = record { submission = level_two; functions = no_functions; start = by_a; store = loading.store; steps = [] }

@@ -1,9 +1,9 @@
 -- Runs that differ in the order of their steps or policies, in level, or in the store outside of the slice answer alike.
-use Rattle.std.proofs.Common.{◌≡◌, ◌↔◌, ◌∙◌, ℕ, Bool, true, false, cond, ◌||◌, List, [], ◌∷◌, Option, Some, None, codes, inl, inr, ⊎_elim, ◌⊎◌, refl, sym, ap, subst, if◌then◌else◌}
+use Rattle.std.proofs.Common.{◌≡◌, ◌∙◌, ℕ, Bool, true, false, cond, List, [], ◌∷◌, Option, Some, None, codes, inl, inr, ⊎_elim, ◌⊎◌, refl, sym, ap, subst}
 use Rattle.std.specs.Prelude.{Contains, unwrap_or, option_map, option_and_then}
 use Rattle.std.specs.Option.{option_map_or}
 use Rattle.std.specs.List.Sorted.{IsPermutation}
-use Rattle.std.proofs.lemmas.List.Sorted.{IsPermutation-sym, IsPermutation-map, Contains-permutation}
+use Rattle.std.proofs.lemmas.List.Sorted.{IsPermutation-sym, Contains-permutation}
 use Rattle.cedar_expr_model.specs.Name.{Text}
 use Rattle.cedar_expr_model.specs.Uid.{Uid}
 use Rattle.cedar_expr_model.specs.Whole.Made.{Made, bare}
@@ -11,11 +11,11 @@ use Rattle.cedar_expr_model.specs.Whole.Value.{V}
 use Rattle.cedar_expr_model.specs.Whole.Tree.{record_literal}
 use Rattle.cedar_expr_model.specs.Whole.Substitution.{Bindings, substituted}
 use Rattle.cedar_expr_model.proofs.Lists.{contains_head, contains_tail, contains_cases, contains_none}
-use Rattle.cedar_store_model.specs.Whole.World.{World, Entity, Found, held}
+use Rattle.cedar_store_model.specs.Whole.World.{Entity, held}
 use Rattle.cedar_store_model.specs.Whole.Store.{found_as, whole}
 use Rattle.cedar_store_model.specs.Whole.Laws.{with_store}
 use Rattle.cedar_store_model.specs.Whole.Policy.{Policy}
-use Rattle.cedar_store_model.specs.Whole.Answer.{Decision, Answer, PolicyError, answer_of}
+use Rattle.cedar_store_model.specs.Whole.Answer.{Decision, Answer, answer_of}
 use Rattle.cedar_store_model.specs.Whole.AnswerLaws.{SameMembers}
 use Rattle.cedar_store_model.proofs.Whole.Reports.{order_is_free}
 use Rattle.cedar_schema_model.specs.Whole.Schema.{declares_action}
@@ -30,7 +30,7 @@ use Rattle.cedar_gate_model.specs.Whole.Slice.{InSlice}
 use Rattle.cedar_gate_model.specs.Whole.SliceSoundness.{IsInReach}
 use Rattle.cedar_gate_model.specs.Whole.Transcript as transcript
 use Rattle.cedar_gate_model.specs.Whole.Transcript.{Step, round, bound, decided}
-use Rattle.cedar_gate_model.specs.Whole.Runs.{End, answered, opening_refused, MayDecide, with_asked}
+use Rattle.cedar_gate_model.specs.Whole.Runs.{answered, opening_refused, MayDecide, with_asked}
 use Rattle.cedar_gate_model.specs.Whole.RunLaws.{bindings_in, last_state}
 use Rattle.cedar_gate_model.specs.Whole.RunsAsk.{end_state}
 use Rattle.cedar_gate_model.specs.Whole.RunsAnswer.{Course, session_of, IsProper, IsRun, end_world, with_unknowns}

@@ -1,57 +1,37 @@
 -- What the answer of a run rests on: the slice alone; and that a decision is owed where all is bound and loaded.
-use Rattle.std.proofs.Common.{◌≡◌, ◌∙◌, Bool, true, false, ◌||◌, ◌&&◌, not, cond, List, [], ◌∷◌, ◌++◌, Option, Some, None, inl, inr, ⊎_elim, ◌⊎◌, refl, sym, ap, subst, if◌then◌else◌}
-use Rattle.std.specs.Prelude.{Contains, IsSome, All}
+use Rattle.std.proofs.Common.{◌≡◌, ◌∙◌, Bool, true, false, ◌||◌, List, inl, inr, ⊎_elim, refl, sym, subst, if◌then◌else◌}
+use Rattle.std.specs.Prelude.{Contains}
 use Rattle.std.specs.List.{list_any}
-use Rattle.cedar_expr_model.specs.Name.{Text}
 use Rattle.cedar_expr_model.specs.Uid.{Uid, uid_eq}
-use Rattle.cedar_expr_model.specs.Whole.Made.{Made}
-use Rattle.cedar_expr_model.specs.Whole.Value.{V, truth_value}
-use Rattle.cedar_expr_model.specs.Whole.Unknowns.{EachUnknown, has_unknown}
-use Rattle.cedar_expr_model.proofs.Lists.{contains_head, contains_tail, any_from, any_has, both_hold, hold_both, hold_left, hold_right, found-Decides}
+use Rattle.cedar_expr_model.specs.Whole.Value.{V}
+use Rattle.cedar_expr_model.proofs.Lists.{hold_left, hold_right, found-Decides}
 use Rattle.cedar_expr_model.proofs.Equality.{uid_eq-Decides}
-use Rattle.cedar_expr_model.proofs.Whole.Gathering.{each_in}
-use Rattle.cedar_store_model.specs.Whole.Outcome.{Res, val, err}
-use Rattle.cedar_store_model.specs.Whole.World.{World, Entity, Found, held, missing, not_loaded}
-use Rattle.cedar_store_model.specs.Whole.Meaning.{Means, outcome_of}
-use Rattle.cedar_store_model.specs.Whole.Looks.{Looks}
+use Rattle.cedar_store_model.specs.Whole.Outcome.{Res, err}
+use Rattle.cedar_store_model.specs.Whole.World.{World, Found, missing}
 use Rattle.cedar_store_model.specs.Whole.Laws.{with_store}
-use Rattle.cedar_store_model.specs.Whole.Store.{found_as, whole}
-use Rattle.cedar_store_model.specs.Whole.Policy.{Policy, Effect, permit, forbid, condition}
-use Rattle.cedar_store_model.specs.Whole.Answer.{Decision, allow, deny, Answer, PolicyError, with_slots, PolicyMeans, IsSatisfied, satisfied, permits, answer_of}
-use Rattle.cedar_store_model.proofs.Whole.Answers.{is_permit, is_forbid}
-use Rattle.cedar_store_model.proofs.Whole.Conditions.{policies_mean_truth, satisfied-Decides}
-use Rattle.cedar_store_model.proofs.Whole.Meaning.{one_outcome, means_outcome, outcome_means}
+use Rattle.cedar_store_model.specs.Whole.Policy.{Policy, condition}
+use Rattle.cedar_store_model.specs.Whole.Answer.{Answer, PolicyError, with_slots, PolicyMeans, answer_of}
+use Rattle.cedar_store_model.proofs.Whole.Conditions.{policies_mean_truth}
+use Rattle.cedar_store_model.proofs.Whole.Meaning.{one_outcome}
 use Rattle.cedar_store_model.proofs.Whole.Reports.{errors_are_those}
-use Rattle.cedar_store_model.proofs.Whole.Slices.{same_means}
 use Rattle.cedar_schema_model.specs.Whole.Schema.{declares_action}
-use Rattle.cedar_schema_model.specs.Whole.ActionEntities.{as_entity}
 use Rattle.cedar_typechecker_model.specs.Whole.Soundness.{IsExpected, IsGood}
 use Rattle.cedar_schema_model.specs.Whole.Types.{any_bool, bool_type}
-use Rattle.cedar_evaluator_model.specs.Scope.{Scope}
-use Rattle.cedar_evaluator_model.specs.Known.{known_found}
-use Rattle.cedar_evaluator_model.specs.Members.{met_limit}
-use Rattle.cedar_evaluator_model.specs.Response.{response_of}
-use Rattle.cedar_evaluator_model.specs.Whole.{NothingUnknown, HoldsValues, BoundTo}
-use Rattle.cedar_evaluator_model.specs.Laws.{WithinLimit}
-use Rattle.cedar_evaluator_model.proofs.Limits.{none_met}
-use Rattle.cedar_evaluator_model.proofs.Settled.{same_filled}
-use Rattle.cedar_gate_model.specs.Whole.Moment.{Completes, told}
-use Rattle.cedar_gate_model.specs.Whole.Owed.{IsForced, IsForcedTrue, IsForcedFalse}
-use Rattle.cedar_gate_model.specs.Whole.Session.{Setup, State, at_start, known_now, world_now, whole_store, scope_now, OpenRefusal, OpenFault, AnswerRefusal, AnswerFault, not_bound, still_wanted, not_conforming, IsWantedNow, MeetsLimit, CompletesNow, with_bound}
+use Rattle.cedar_gate_model.specs.Whole.Moment.{Completes}
+use Rattle.cedar_gate_model.specs.Whole.Session.{State, at_start, world_now, whole_store, OpenRefusal, OpenFault, AnswerRefusal, AnswerFault, IsWantedNow}
 use Rattle.cedar_gate_model.specs.Whole.Slice.{InSlice}
 use Rattle.cedar_gate_model.specs.Whole.SliceSoundness.{IsInReach, IsFitFor}
 use Rattle.cedar_gate_model.specs.Whole.Transcript as transcript
 use Rattle.cedar_gate_model.specs.Whole.Transcript.{round, bound, decided}
-use Rattle.cedar_gate_model.specs.Whole.Runs.{End, answered, opening_refused, MayDecide, with_asked}
-use Rattle.cedar_gate_model.specs.Whole.RunLaws.{bindings_in, last_state}
+use Rattle.cedar_gate_model.specs.Whole.Runs.{answered, opening_refused, MayDecide}
+use Rattle.cedar_gate_model.specs.Whole.RunLaws.{bindings_in}
 use Rattle.cedar_gate_model.specs.Whole.RunsAsk.{end_state}
-use Rattle.cedar_gate_model.specs.Whole.RunsAnswer.{Course, session_of, IsProper, IsRun, IsReady, end_world, loaded_world, with_unknowns}
-use Rattle.cedar_gate_model.proofs.Whole.Gate.Accepting.{accepted_good}
-use Rattle.cedar_gate_model.proofs.Whole.Gate.Reach.{completions_fit, accepted_in_reach, accepted_are_sound, only_the_slice_answers}
+use Rattle.cedar_gate_model.specs.Whole.RunsAnswer.{Course, session_of, IsProper, IsRun, loaded_world, with_unknowns}
+use Rattle.cedar_gate_model.proofs.Whole.Gate.Reach.{completions_fit, accepted_are_sound, only_the_slice_answers}
 use Rattle.cedar_gate_model.proofs.Whole.Gate.Slices.{near_kept}
-use Rattle.cedar_gate_model.proofs.Whole.Runs.Completing.{Stands, stands_at_start, stands_after, parts_there, completed}
-use Rattle.cedar_gate_model.proofs.Whole.Runs.Deciding.{none_unknown, unknowns_say_nothing, none_has_unknowns, leaves_nothing, answer_is}
-use Rattle.cedar_gate_model.proofs.Whole.Runs.Did.{Did, run_did}
+use Rattle.cedar_gate_model.proofs.Whole.Runs.Completing.{Stands, stands_at_start, stands_after, completed}
+use Rattle.cedar_gate_model.proofs.Whole.Runs.Deciding.{unknowns_say_nothing, none_has_unknowns, leaves_nothing, answer_is}
+use Rattle.cedar_gate_model.proofs.Whole.Runs.Did.{run_did}
 use Rattle.cedar_gate_model.proofs.Whole.Runs.Loading.{slice_is_loaded}
 
 if_true : {A : Type 0} (b : Bool) (x y : A) → b ≡ true → (if b then x else y) ≡ x

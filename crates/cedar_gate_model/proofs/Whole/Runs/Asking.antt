@@ -1,30 +1,27 @@
 -- What runs ask for.
-use Rattle.std.proofs.Common.{◌≡◌, ◌≢◌, ◌≤◌, ◌<◌, ◌↔◌, ◌∙◌, ℕ, zero, suc, true, List, [], ◌∷◌, ◌++◌, length, inl, inr, ⊎_elim, ◌⊎◌, refl, sym, ap, subst, arith, Option, Some, None, codes}
+use Rattle.std.proofs.Common.{◌≡◌, ◌≤◌, ◌↔◌, suc, List, [], ◌∷◌, ◌++◌, length, inl, inr, ⊎_elim, ◌⊎◌, refl, sym, ap, subst, arith, Option, codes}
 use Rattle.std.specs.Prelude.{Contains}
 use Rattle.std.proofs.lemmas.List.{length-append}
 use Rattle.std.proofs.lemmas.List.Elements.{Contains-append_cases}
 use Rattle.cedar_expr_model.specs.Name.{Text}
 use Rattle.cedar_expr_model.specs.Uid.{Uid}
-use Rattle.cedar_expr_model.specs.Whole.Value.{V}
 use Rattle.cedar_expr_model.specs.Whole.Made.{Made}
 use Rattle.cedar_expr_model.proofs.Lists.{contains_none}
-use Rattle.cedar_store_model.specs.Whole.World.{World}
-use Rattle.cedar_store_model.specs.Whole.Knowledge.{Keeps}
 use Rattle.cedar_store_model.specs.Whole.Policy.{Policy}
 use Rattle.cedar_store_model.specs.Whole.Answer.{Decision, Answer}
 use Rattle.cedar_schema_model.specs.Whole.BagLaws.{HasTwice}
-use Rattle.cedar_gate_model.specs.Whole.Slice.{IsNear, InSlice}
+use Rattle.cedar_gate_model.specs.Whole.Slice.{InSlice}
 use Rattle.cedar_gate_model.specs.Whole.Transcript.{Step, Entry, round, bound, decided, after}
 use Rattle.cedar_gate_model.specs.Whole.Moment.{Moment, at_first}
-use Rattle.cedar_gate_model.specs.Whole.Session.{Setup, State, at_start, value_of, known_now, world_now, IsWantedNow, with_bound}
-use Rattle.cedar_gate_model.specs.Whole.Runs.{End, answered, opening_refused, IsRoundNow, with_asked, Runs}
+use Rattle.cedar_gate_model.specs.Whole.Session.{Setup, State, at_start, value_of, world_now, IsWantedNow, with_bound}
+use Rattle.cedar_gate_model.specs.Whole.Runs.{End, answered, opening_refused, with_asked, Runs}
 use Rattle.cedar_gate_model.specs.Whole.GateLaws.{moment_after, asked_in, rounds_after, last_rounds}
 use Rattle.cedar_gate_model.specs.Whole.RunLaws.{bindings_in, last_state}
 use Rattle.cedar_gate_model.specs.Whole.RunsAsk.{IsMadeContext, end_state}
 use Rattle.cedar_gate_model.proofs.Whole.Gate.Slices.{near_kept, known_kept, context_kept}
 use Rattle.cedar_gate_model.proofs.Whole.Gate.Mentions.{IsRoot, root_cases, root_from}
 use Rattle.cedar_gate_model.proofs.Whole.Gate.RisingUids.{rising_once, apart_once}
-use Rattle.cedar_gate_model.proofs.Whole.Runs.Loading.{loading, IsNext, Settled, near_of_loaded, round_is_below, settles_more, slice_is_loaded}
+use Rattle.cedar_gate_model.proofs.Whole.Runs.Loading.{Settled, near_of_loaded, round_is_below, settles_more, slice_is_loaded}
 use Rattle.cedar_gate_model.proofs.Whole.Runs.Did.{Did, run_did}
 use Rattle.cedar_gate_model.proofs.Whole.Runs.Contexts as contexts
 use Rattle.cedar_gate_model.proofs.Whole.Runs.Contexts.{Grows, was_open, binding_grows, entry_kept}
@@ -128,9 +125,9 @@ module _ (may : State → Option Decision → Type 0) (x : Setup) (ps : List Pol
   runs_ask_the_slice a made h u = (
     runs_ask_in_the_slice (answered a) made h u,
     λ k.
-    ⊎_elim (λ b. let q : answered a ≡ opening_refused b.0 = b.1 in cc)
-    (λ b.
-    let t = end_state steps es in
-    subst (λ l. Contains l u) (sym (asked_last may x at_first at_start (bindings_in steps) es refl (b.1).0)) (slice_is_loaded x.schema (world_now x t) x.level t.asked ((b.1).1).0 u k))
-    (run_did may x ps steps es (answered a) h),
+        ⊎_elim (λ b. let q : answered a ≡ opening_refused b.0 = b.1 in cc)
+        (λ b.
+        let t = end_state steps es in
+        subst (λ l. Contains l u) (sym (asked_last may x at_first at_start (bindings_in steps) es refl (b.1).0)) (slice_is_loaded x.schema (world_now x t) x.level t.asked ((b.1).1).0 u k))
+        (run_did may x ps steps es (answered a) h),
   )

@@ -1,5 +1,5 @@
 -- A restricted expression without unknowns is left open by no call of a fair table; so a context is a value exactly once all in it is bound.
-use Rattle.std.proofs.Common.{◌≡◌, ◌∙◌, ℕ, zero, suc, Bool, true, false, cond, List, [], ◌∷◌, map, length, Option, Some, None, refl, sym, ap, subst, option_map, ◌⊎◌, inl, inr, ⊎_elim}
+use Rattle.std.proofs.Common.{◌≡◌, ◌∙◌, ℕ, zero, suc, Bool, true, false, cond, List, [], ◌∷◌, map, length, Option, Some, None, refl, sym, ap, option_map}
 use Rattle.std.specs.Option.{option_map_or}
 use Rattle.cedar_expr_model.specs.Name.{Text, Name}
 use Rattle.cedar_expr_model.specs.Whole.Tree.{Tree, lit, unknown, call, set_literal, record_literal, TreeFields}
@@ -9,10 +9,10 @@ use Rattle.cedar_expr_model.specs.Whole.Parts.{subexpressions, listed}
 use Rattle.cedar_expr_model.specs.Whole.Restricted.{offence}
 use Rattle.cedar_expr_model.specs.Whole.Table.{Signature, signature_of, takes_count, are_of_types, IsTaken}
 use Rattle.cedar_expr_model.specs.Whole.Unknowns.{has_unknown}
-use Rattle.cedar_expr_model.specs.Whole.ValueParts.{Part, known, left, all_known, part_tree}
+use Rattle.cedar_expr_model.specs.Whole.ValueParts.{all_known, part_tree}
 use Rattle.cedar_store_model.specs.Whole.Outcome.{wrong_type, wrong_count}
 use Rattle.cedar_evaluator_model.specs.Scope.{Scope, MadeCalled, makes, faults, leaves_unknown, Left, value_left, residual, stopped}
-use Rattle.cedar_evaluator_model.specs.Steps.{errs, answer_left, call_left, called_left, made_members, Pieces, pieces, halted, with_piece, from_pieces}
+use Rattle.cedar_evaluator_model.specs.Steps.{errs, answer_left, called_left, made_members, Pieces, pieces, halted, with_piece, from_pieces}
 use Rattle.cedar_evaluator_model.specs.Evaluation.{pieces_of, node, evaluated}
 use Rattle.cedar_evaluator_model.proofs.GivenReads.{length_bare}
 use Rattle.cedar_evaluator_model.proofs.Named.{call_of, field_names, field_trees, fields_named}

@@ -1,6 +1,6 @@
 -- What was bound and answered by the end of an answered run makes a world that completes it.
-use Rattle.std.proofs.Common.{◌≡◌, ◌≢◌, ◌↔◌, ◌∙◌, Bool, true, false, cond, not, ◌&&◌, ◌||◌, is_some, List, [], ◌∷◌, ◌++◌, map, Option, Some, None, codes, inl, inr, ⊎_elim, ◌⊎◌, refl, sym, ap, subst, option_map, if◌then◌else◌}
-use Rattle.std.specs.Prelude.{Contains, unwrap_or, option_and_then, is_none, IsSome}
+use Rattle.std.proofs.Common.{◌≡◌, ◌∙◌, Bool, true, false, cond, not, ◌&&◌, ◌||◌, is_some, List, [], ◌∷◌, Option, Some, None, codes, inl, inr, ⊎_elim, ◌⊎◌, refl, sym, ap, subst, option_map, if◌then◌else◌}
+use Rattle.std.specs.Prelude.{Contains, unwrap_or, is_none, IsSome}
 use Rattle.std.specs.Option.{option_map_or}
 use Rattle.std.specs.List.{list_any}
 use Rattle.std.specs.Map.{lookup}
@@ -9,21 +9,18 @@ use Rattle.std.proofs.lemmas.List.Elements.{Contains-append_cases}
 use Rattle.std.proofs.lemmas.Slice.Eq.{bytes_eq-Decides}
 use Rattle.cedar_expr_model.specs.Name.{Text, Name, name_eq}
 use Rattle.cedar_expr_model.specs.Uid.{Uid}
-use Rattle.cedar_expr_model.specs.Whole.Value.{V, entity, prim, record_of, Fields, truth_value}
-use Rattle.cedar_expr_model.specs.Whole.Tree.{CoreType, SlotId, Tree, record_literal, TreeFields}
+use Rattle.cedar_expr_model.specs.Whole.Value.{V, entity, record_of, Fields, truth_value}
+use Rattle.cedar_expr_model.specs.Whole.Tree.{record_literal, TreeFields}
 use Rattle.cedar_expr_model.specs.Whole.Made.{Made, made_prim, made_set, made_record, made_extension, bare, bare_fields}
-use Rattle.cedar_expr_model.specs.Whole.Laws.{IsOfType}
 use Rattle.cedar_expr_model.specs.Whole.Parts.{Unknown, unknowns}
 use Rattle.cedar_expr_model.specs.Whole.Restricted.{is_restricted, offence}
 use Rattle.cedar_expr_model.specs.Whole.Substitution.{substituted, fits_annotation}
-use Rattle.cedar_expr_model.specs.Whole.Unknowns.{EachUnknown}
 use Rattle.cedar_expr_model.proofs.Lists.{contains_head, contains_tail, contains_cases, contains_none, any_from, map_has, found-Decides}
 use Rattle.cedar_expr_model.proofs.Equality.{name_eq-Decides}
 use Rattle.cedar_expr_model.proofs.Whole.CoreTypes.{fits-Decides}
 use Rattle.cedar_store_model.specs.Whole.Outcome.{val}
-use Rattle.cedar_store_model.specs.Whole.World.{World, Entity, Found, held, missing}
+use Rattle.cedar_store_model.specs.Whole.World.{Entity, held}
 use Rattle.cedar_store_model.specs.Whole.Knowledge.{Keeps, IsSettled, holds_values}
-use Rattle.cedar_store_model.specs.Whole.Meaning.{Means, outcome_of}
 use Rattle.cedar_store_model.specs.Whole.Store.{found_as, whole}
 use Rattle.cedar_store_model.specs.Whole.Reads.{uid_of}
 use Rattle.cedar_store_model.specs.Whole.Policy.{Policy}
@@ -31,28 +28,27 @@ use Rattle.cedar_store_model.specs.Whole.Answer.{Decision}
 use Rattle.cedar_store_model.proofs.Whole.Meaning.{outcome_means}
 use Rattle.cedar_schema_model.specs.Whole.Schema.{declares_action}
 use Rattle.cedar_schema_model.specs.Whole.ActionEntities.{as_entity}
-use Rattle.cedar_schema_model.specs.Whole.Conforming.{EntityConforms, entity_conforms, RequestConforms, request_conforms, open_part, has_request_fault}
+use Rattle.cedar_schema_model.specs.Whole.Conforming.{EntityConforms, entity_conforms, RequestConforms, request_conforms, open_part}
 use Rattle.cedar_schema_model.proofs.Whole.Decls.Conforming.{entity_conforms-Decides, request_conforms-Decides}
-use Rattle.cedar_evaluator_model.specs.Completion.{IsOfKind, PartIs, Fits, FitsAnnotations}
+use Rattle.cedar_evaluator_model.specs.Completion.{IsOfKind, PartIs, Fits}
 use Rattle.cedar_evaluator_model.specs.Known.{known_entry, known_context}
-use Rattle.cedar_evaluator_model.specs.Reauthorize.{context_from, restricted_scope}
 use Rattle.cedar_evaluator_model.specs.Scope.{Agrees, Entry, uid, unknown_uid, Context, closed, residual_fields, unknown_context, Left, value_left, residual, stopped}
 use Rattle.cedar_evaluator_model.specs.WellMade.{IsWellMade, IsMadeWell}
 use Rattle.cedar_evaluator_model.proofs.Residuals.Slots.{substituted_outcome}
 use Rattle.cedar_gate_model.specs.Whole.Moment.{EntryCompleted, ContextCompleted, Completes, request_of}
-use Rattle.cedar_gate_model.specs.Whole.ReadingValue.{with_functions, left_of_restricted}
-use Rattle.cedar_gate_model.specs.Whole.Session.{Setup, State, at_start, IsWantedNow, value_of, uid_in, context_left, entry_now, context_now, whole_store, world_now, context_unknowns, variable_names, OpenRefusal, OpenFault, name_of_variable, entry_named, is_open_entry, is_open_context, is_open_name, IsOtherKind, IsNoEntity, BreaksAnnotation, IsNoRecord, with_bound, BindRefusal, BindFault, not_open, against_annotation, no_entity_or_record, IsWrong, SupplyRefusal, SupplyFault, wrong_entity, AnswerRefusal, AnswerFault, not_bound, not_conforming, VariableMeansBound, MeansBound, CompletesNow}
+use Rattle.cedar_gate_model.specs.Whole.ReadingValue.{with_functions}
+use Rattle.cedar_gate_model.specs.Whole.Session.{Setup, State, at_start, IsWantedNow, value_of, uid_in, context_left, entry_now, context_now, whole_store, world_now, context_unknowns, variable_names, OpenRefusal, OpenFault, name_of_variable, entry_named, is_open_entry, is_open_context, IsOtherKind, IsNoEntity, BreaksAnnotation, IsNoRecord, with_bound, BindRefusal, BindFault, not_open, against_annotation, no_entity_or_record, SupplyRefusal, SupplyFault, wrong_entity, AnswerRefusal, AnswerFault, not_bound, not_conforming, MeansBound, CompletesNow}
 use Rattle.cedar_gate_model.specs.Whole.Transcript as transcript
 use Rattle.cedar_gate_model.specs.Whole.Transcript.{round, bound, decided}
-use Rattle.cedar_gate_model.specs.Whole.Runs.{End, answered, opening_refused, with_asked, supplied_by}
-use Rattle.cedar_gate_model.specs.Whole.RunLaws.{bindings_in, last_state}
-use Rattle.cedar_gate_model.specs.Whole.RunsAsk.{IsMadeContext, end_state}
-use Rattle.cedar_gate_model.specs.Whole.RunsAnswer.{Course, session_of, IsProper, IsRun, end_world, with_unknowns}
+use Rattle.cedar_gate_model.specs.Whole.Runs.{with_asked, supplied_by}
+use Rattle.cedar_gate_model.specs.Whole.RunLaws.{last_state}
+use Rattle.cedar_gate_model.specs.Whole.RunsAsk.{IsMadeContext}
+use Rattle.cedar_gate_model.specs.Whole.RunsAnswer.{with_unknowns}
 use Rattle.cedar_gate_model.specs.Whole.Slice.{InSlice}
 use Rattle.cedar_gate_model.proofs.Whole.Gate.Slices.{near_kept}
 use Rattle.cedar_gate_model.proofs.Whole.Reading.Values.{none_is}
-use Rattle.cedar_gate_model.proofs.Whole.Runs.Contexts.{Grows, was_open, binding_grows, entry_value, value_is_valued, substituted_restricted, bound_context, left_context}
-use Rattle.cedar_gate_model.proofs.Whole.Runs.Did.{Did, Ended, DidAll, run_did}
+use Rattle.cedar_gate_model.proofs.Whole.Runs.Contexts.{was_open, binding_grows, entry_value, value_is_valued, substituted_restricted, bound_context, left_context}
+use Rattle.cedar_gate_model.proofs.Whole.Runs.Did.{Did}
 use Rattle.cedar_gate_model.proofs.Whole.Runs.Loading.{slice_is_loaded}
 use Rattle.cedar_gate_model.proofs.Whole.Runs.Restricted.{value_is_meant}
 
@@ -209,21 +205,26 @@ module _ (x : Setup) where
     context_means opened m h e (closed fs) q o = cc
     context_means opened m h e (residual_fields fs) q o =
         let r = any_from (λ (u : Unknown). bytes_eq (codes "context") u.name) (unknowns (record_literal fs)) o in
-        absurd (opened name_of_variable (r.0, subst (λ c. Contains (context_unknowns c) r.0) (sym q) r.1,
-        subst (Contains variable_names) ((bytes_eq-Decides (codes "context") (r.0).name).0 r.2) (any_name (codes "context") refl)))
+        absurd (opened name_of_variable (
+          r.0,
+          subst (λ c. Contains (context_unknowns c) r.0) (sym q) r.1,
+          subst (Contains variable_names) ((bytes_eq-Decides (codes "context") (r.0).name).0 r.2) (any_name (codes "context") refl),
+        ))
     context_means opened m h e unknown_context q o = ap (λ z. known_context (bound_context z)) e ∙ record_context m h
 
     pub bound_means : ((f : OpenRefusal) → OpenFault x.start f → ⊥) → (b : Text × Made) → Contains t.bound b → MeansBound (with_unknowns (world_now x t)) b
     bound_means opened b k = (
-      ap (λ o. Some (unwrap_or (option_map bare o) (truth_value false))) (stands.values b k), (
-      (λ s. variable_means opened (codes "principal") x.start.principal (any_name (codes "principal") refl) refl refl b k s),
-      (λ s. variable_means opened (codes "action") x.start.action (any_name (codes "action") refl) refl refl b k s),
-      (λ s. variable_means opened (codes "resource") x.start.resource (any_name (codes "resource") refl) refl refl b k s),
-      (λ s.
-      let h = (stands.each b k).0 in
-      let o = subst (λ z. (is_open_entry (entry_named x.start z) || is_open_context x.start.context z) ≡ true) s h.was_open in
-      context_means opened b.1 (λ no. h.right (inr (s, no))) (subst (λ z. value_of t z ≡ Some b.1) s (stands.values b k)) x.start.context refl o),
-    ))
+      ap (λ o. Some (unwrap_or (option_map bare o) (truth_value false))) (stands.values b k),
+      (
+        (λ s. variable_means opened (codes "principal") x.start.principal (any_name (codes "principal") refl) refl refl b k s),
+        (λ s. variable_means opened (codes "action") x.start.action (any_name (codes "action") refl) refl refl b k s),
+        (λ s. variable_means opened (codes "resource") x.start.resource (any_name (codes "resource") refl) refl refl b k s),
+        (λ s.
+            let h = (stands.each b k).0 in
+            let o = subst (λ z. (is_open_entry (entry_named x.start z) || is_open_context x.start.context z) ≡ true) s h.was_open in
+            context_means opened b.1 (λ no. h.right (inr (s, no))) (subst (λ z. value_of t z ≡ Some b.1) s (stands.values b k)) x.start.context refl o),
+      ),
+    )
 
     -- contexts
     value_context : (o : Option Made) → IsSome (known_context (bound_context o)) → (fs : Fields) × (known_context (bound_context o) ≡ Some (record_of fs))
@@ -254,15 +255,15 @@ module _ (x : Setup) where
           let w = with_unknowns (world_now x t) in
           let clear = none_is (offence tree) r in (
             λ slots.
-            let u = record w { slots = slots } in
-            outcome_means u tree (val (bare m))
-            (substituted_outcome u env (λ n. well_valued n (env n) refl) (λ n. keeps_filled (option_map bare (env n))) tree
-            ∙ value_is_meant (with_functions x.functions) u agrees (λ n. refl) refl 512 (substituted env tree) (substituted_restricted env tree clear) m e),
+                let u = record w { slots = slots } in
+                outcome_means u tree (val (bare m))
+                (substituted_outcome u env (λ n. well_valued n (env n) refl) (λ n. keeps_filled (option_map bare (env n))) tree
+                ∙ value_is_meant (with_functions x.functions) u agrees (λ n. refl) refl 512 (substituted env tree) (substituted_restricted env tree clear) m e),
             λ u k.
-            let v = value_is_valued x.functions env tree r m e u k in
-            let h = (taken_value u.name v.0 v.1).0 in
-            let fits : fits_annotation u.annotation (bare v.0) ≡ true = is_true (fits_annotation u.annotation (bare v.0)) (λ f. h.annotated (inr (u, subst (λ c. Contains (context_unknowns c) u) (sym q) k, refl, f))) in
-            subst (λ o. Fits u.annotation (Some (unwrap_or (option_map bare o) (truth_value false)))) (sym v.1) ((fits-Decides u.annotation (bare v.0)).0 fits),
+                let v = value_is_valued x.functions env tree r m e u k in
+                let h = (taken_value u.name v.0 v.1).0 in
+                let fits : fits_annotation u.annotation (bare v.0) ≡ true = is_true (fits_annotation u.annotation (bare v.0)) (λ f. h.annotated (inr (u, subst (λ c. Contains (context_unknowns c) u) (sym q) k, refl, f))) in
+                subst (λ o. Fits u.annotation (Some (unwrap_or (option_map bare o) (truth_value false)))) (sym v.1) ((fits-Decides u.annotation (bare v.0)).0 fits),
           )
 
       pub context_completed : (c : Context) → x.start.context ≡ c → IsMadeContext c → IsSome (known_context (context_now x.functions t c)) → ContextCompleted (with_unknowns (world_now x t)) c

@@ -1,21 +1,17 @@
 -- What was bound stays bound, and what a context was by then it stays.
-use Rattle.std.proofs.Common.{◌≡◌, ◌∙◌, Bool, true, false, cond, not, ◌&&◌, ◌||◌, is_some, List, [], ◌∷◌, ◌++◌, Option, Some, None, codes, refl, sym, ap, subst}
-use Rattle.std.specs.Prelude.{unwrap_or, option_and_then, is_none}
+use Rattle.std.proofs.Common.{◌≡◌, ◌∙◌, Bool, true, false, cond, not, ◌&&◌, ◌||◌, is_some, List, ◌++◌, Option, Some, None, codes, refl, sym, ap, subst}
+use Rattle.std.specs.Prelude.{unwrap_or, option_and_then}
 use Rattle.std.specs.Option.{option_map_or}
-use Rattle.std.specs.List.{list_any}
-use Rattle.std.specs.Map.{lookup}
 use Rattle.std.specs.Str.{bytes_eq}
 use Rattle.std.proofs.lemmas.List.Folds.{list_any-append}
 use Rattle.std.proofs.lemmas.Slice.Eq.{bytes_eq-Decides}
 use Rattle.cedar_expr_model.specs.Name.{Text, Name}
 use Rattle.cedar_expr_model.specs.Uid.{Uid}
-use Rattle.cedar_expr_model.specs.Whole.Value.{V}
-use Rattle.cedar_expr_model.specs.Whole.Lists.{first_found}
 use Rattle.cedar_expr_model.specs.Whole.Tree.{CoreType, Tree, lit, unknown, call, set_literal, record_literal, Trees, no_trees, tree, TreeFields, no_tree_fields, tree_field}
 use Rattle.cedar_expr_model.specs.Whole.Builder.{Builder, built, built_list, built_fields, tree_builder, trees, tree_fields}
-use Rattle.cedar_expr_model.specs.Whole.Made.{Made, made_prim, made_set, made_record, made_extension, bare, written}
+use Rattle.cedar_expr_model.specs.Whole.Made.{Made, written}
 use Rattle.cedar_expr_model.specs.Whole.Parts.{subexpressions, subexpressions_among, subexpressions_in_fields, unknown_here}
-use Rattle.cedar_expr_model.specs.Whole.Restricted.{is_restricted, offence, feature_here, Feature}
+use Rattle.cedar_expr_model.specs.Whole.Restricted.{is_restricted, offence, feature_here}
 use Rattle.cedar_expr_model.specs.Whole.Substitution.{Bindings, substituted}
 use Rattle.cedar_expr_model.specs.Whole.Unknowns.{has_unknown, EachUnknown}
 use Rattle.cedar_store_model.specs.Whole.Knowledge.{Keeps}

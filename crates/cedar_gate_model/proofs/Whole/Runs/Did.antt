@@ -1,5 +1,5 @@
 -- What a run did, entry by entry, and how it ended.
-use Rattle.std.proofs.Common.{◌≡◌, Option, List, [], ◌∷◌, inl, inr, ⊎_elim, ◌⊎◌, refl, sym, ap, subst, ◌∙◌}
+use Rattle.std.proofs.Common.{◌≡◌, Option, List, [], ◌∷◌, inl, inr, ⊎_elim, ◌⊎◌, refl}
 use Rattle.cedar_expr_model.specs.Name.{Text}
 use Rattle.cedar_expr_model.specs.Whole.Made.{Made}
 use Rattle.cedar_store_model.specs.Whole.Policy.{Policy}

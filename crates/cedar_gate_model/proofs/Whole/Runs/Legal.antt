@@ -1,5 +1,5 @@
 -- What a run of a proper course does is legal, whatever its context.
-use Rattle.std.proofs.Common.{◌≡◌, ◌↔◌, ◌∙◌, ℕ, Bool, true, false, cond, List, [], ◌∷◌, map, Option, Some, None, codes, inl, inr, ⊎_elim, ◌⊎◌, refl, sym, ap, subst, option_map, is_some}
+use Rattle.std.proofs.Common.{◌≡◌, ◌↔◌, ◌∙◌, ℕ, Bool, true, false, List, [], ◌∷◌, map, Option, Some, None, codes, inl, inr, ⊎_elim, ◌⊎◌, refl, sym, ap, subst, option_map, is_some}
 use Rattle.std.specs.Prelude.{Contains}
 use Rattle.std.specs.List.{list_any, list_all}
 use Rattle.std.specs.Str.{bytes_eq}
@@ -8,7 +8,7 @@ use Rattle.cedar_expr_model.specs.Uid.{Uid}
 use Rattle.cedar_expr_model.specs.Whole.Value.{V}
 use Rattle.cedar_expr_model.specs.Whole.Builder.{built_fields, tree_fields}
 use Rattle.cedar_expr_model.specs.Whole.Lists.{when}
-use Rattle.cedar_expr_model.specs.Whole.Made.{Made, made_record, bare}
+use Rattle.cedar_expr_model.specs.Whole.Made.{Made, bare}
 use Rattle.cedar_expr_model.specs.Whole.Parts.{Unknown, subexpressions, unknown_here, unknowns}
 use Rattle.cedar_expr_model.specs.Whole.Restricted.{is_restricted}
 use Rattle.cedar_expr_model.specs.Whole.Substitution.{substituted}
@@ -22,12 +22,11 @@ use Rattle.cedar_store_model.specs.Whole.World.{World}
 use Rattle.cedar_store_model.specs.Whole.Knowledge.{Keeps}
 use Rattle.cedar_store_model.specs.Whole.Meaning.{outcome_of}
 use Rattle.cedar_store_model.specs.Whole.Policy.{Policy}
-use Rattle.cedar_store_model.specs.Whole.Answer.{Decision}
 use Rattle.cedar_store_model.proofs.Whole.Known.{what_is_there}
 use Rattle.cedar_store_model.proofs.Whole.Meaning.{means_outcome}
 use Rattle.cedar_evaluator_model.proofs.Residuals.Groups.{kept_has}
 use Rattle.cedar_evaluator_model.specs.Known.{known_context}
-use Rattle.cedar_evaluator_model.specs.Scope.{Context, closed, residual_fields, unknown_context, bare_called, leaves_unknown, Left, value_left, residual, stopped, Stop}
+use Rattle.cedar_evaluator_model.specs.Scope.{Context, closed, residual_fields, unknown_context, bare_called, leaves_unknown, Left, value_left, residual, stopped}
 use Rattle.cedar_evaluator_model.specs.WellMade.{IsWellMade, IsMadeWell}
 use Rattle.cedar_evaluator_model.proofs.Residuals.Slots.{substituted_outcome}
 use Rattle.cedar_gate_model.specs.Whole.GateLaws.{SameRoots}
@@ -37,7 +36,7 @@ use Rattle.cedar_gate_model.specs.Whole.RunLaws.{bindings_in, last_state, case_o
 use Rattle.cedar_gate_model.specs.Whole.Runs.{End, MayDecide, IsRoundNow, with_asked}
 use Rattle.cedar_gate_model.specs.Whole.RunsAnswer.{Course, session_of, IsProper, IsRun}
 use Rattle.cedar_gate_model.specs.Whole.RunsAsk.{IsMadeContext, end_state}
-use Rattle.cedar_gate_model.specs.Whole.Session.{Setup, State, at_start, value_of, context_left, context_now, known_now, ContextFails, BindRefusal, BindFault, context_fails, with_bound, CompletesNow}
+use Rattle.cedar_gate_model.specs.Whole.Session.{Setup, State, at_start, value_of, context_left, context_now, known_now, ContextFails, context_fails, with_bound, CompletesNow}
 use Rattle.cedar_gate_model.specs.Whole.Slice.{InSlice}
 use Rattle.cedar_gate_model.specs.Whole.Transcript as transcript
 use Rattle.cedar_gate_model.specs.Whole.Transcript.{round, bound, decided, IsRound, AreLegal}
@@ -46,7 +45,7 @@ use Rattle.cedar_gate_model.proofs.Whole.Gate.LegalRuns.{moment_of, seen, BoundO
 use Rattle.cedar_gate_model.proofs.Whole.Reading.Values.{none_is}
 use Rattle.cedar_gate_model.proofs.Whole.Runs.Closing.{IsShut, evaluated_shut, record_evaluated}
 use Rattle.cedar_gate_model.proofs.Whole.Runs.Completing.{Stands, stands_at_start, asked_more, bound_more, taken_value}
-use Rattle.cedar_gate_model.proofs.Whole.Runs.Contexts.{puts, value_is_valued, substituted_restricted, left_context, residual_unknown, bound_context}
+use Rattle.cedar_gate_model.proofs.Whole.Runs.Contexts.{puts, value_is_valued, substituted_restricted, left_context, residual_unknown}
 use Rattle.cedar_gate_model.proofs.Whole.Runs.Deciding.{leaves_nothing}
 use Rattle.cedar_gate_model.proofs.Whole.Runs.Did.{Did, run_did}
 use Rattle.cedar_gate_model.proofs.Whole.Runs.Restricted.{value_is_meant}
@@ -166,9 +165,10 @@ module _ (c : Course) (proper : IsProper c) where
   legal : (w : World) (s : State) (bs : List (Text × Made)) (es : List transcript.Entry) → ((b : Text × Made) → Contains bs b → IsWellMade x.functions.table b.1) → Did (MayDecide x ps) x ps s bs es → Stands x s → Sound s → CompletesNow x (last_state s bs es) w
       → AreLegal (case_of x ps) w (moment_of s) es
   legal w s bs [] well d stands sound done = tt
-  legal w s bs (round uids ∷ es) well d stands sound done =
-      (round_is_legal s w stands sound (completes_before x s bs (round uids ∷ es) w done) uids d.0,
-      legal w (with_asked s uids) bs es well d.1 (asked_more x s uids (d.0).taken stands) (sound_asked s uids sound) done)
+  legal w s bs (round uids ∷ es) well d stands sound done = (
+    round_is_legal s w stands sound (completes_before x s bs (round uids ∷ es) w done) uids d.0,
+    legal w (with_asked s uids) bs es well d.1 (asked_more x s uids (d.0).taken stands) (sound_asked s uids sound) done,
+  )
   legal w s [] (bound k ∷ es) well d stands sound done = absurd d
   legal w s (b ∷ bs) (bound k ∷ es) well d stands sound done =
       let rest = legal w (with_bound s b.0 b.1) bs es (λ e m. well e (contains_tail b bs e m)) d.2 (bound_more x s b d.1 (well b (contains_head b bs)) stands) (inr (d.1 context_fails)) done in

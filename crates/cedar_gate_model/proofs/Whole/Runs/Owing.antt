@@ -1,5 +1,5 @@
 -- Where all is bound and loaded a decision is owed.
-use Rattle.std.proofs.Common.{◌≡◌, ◌∙◌, Bool, true, false, ◌||◌, ◌&&◌, not, cond, List, [], ◌∷◌, ◌++◌, Option, Some, None, inl, inr, ⊎_elim, ◌⊎◌, refl, sym, ap, subst, if◌then◌else◌}
+use Rattle.std.proofs.Common.{◌≡◌, ◌∙◌, Bool, true, false, ◌||◌, ◌&&◌, not, cond, List, [], ◌∷◌, ◌++◌, Option, Some, None, inl, inr, ⊎_elim, refl, sym, ap, subst}
 use Rattle.std.specs.Prelude.{Contains, IsSome, All, slice_index_or}
 use Rattle.std.specs.List.{list_any}
 use Rattle.std.proofs.lemmas.List.Elements.{All-contains_itself}
@@ -7,15 +7,13 @@ use Rattle.cedar_expr_model.specs.Name.{Text}
 use Rattle.cedar_expr_model.specs.Uid.{Uid, uid_eq}
 use Rattle.cedar_expr_model.specs.Whole.Made.{Made}
 use Rattle.cedar_expr_model.specs.Whole.Value.{V, truth_value}
-use Rattle.cedar_expr_model.proofs.Lists.{contains_head, contains_tail, any_from, any_has, both_hold, hold_both, found-Decides}
+use Rattle.cedar_expr_model.proofs.Lists.{any_from, any_has, both_hold, hold_both, found-Decides}
 use Rattle.cedar_expr_model.proofs.Equality.{uid_eq-Decides}
 use Rattle.cedar_expr_model.proofs.Whole.Gathering.{each_in}
 use Rattle.cedar_store_model.specs.Whole.Outcome.{Res, val}
-use Rattle.cedar_store_model.specs.Whole.World.{World, Entity, Found, held, missing, not_loaded}
+use Rattle.cedar_store_model.specs.Whole.World.{World, Entity, Found, held, not_loaded}
 use Rattle.cedar_store_model.specs.Whole.Knowledge.{holds_values}
-use Rattle.cedar_store_model.specs.Whole.Meaning.{Means}
 use Rattle.cedar_store_model.specs.Whole.Looks.{Looks}
-use Rattle.cedar_store_model.specs.Whole.Laws.{with_store}
 use Rattle.cedar_store_model.specs.Whole.Store.{found_as, whole}
 use Rattle.cedar_store_model.specs.Whole.Policy.{Policy, Effect, permit, forbid, condition}
 use Rattle.cedar_store_model.specs.Whole.Answer.{Decision, allow, deny, with_slots, PolicyMeans, satisfied, permits}
@@ -26,18 +24,16 @@ use Rattle.cedar_store_model.proofs.Whole.Slices.{same_means}
 use Rattle.cedar_schema_model.specs.Whole.Schema.{declares_action}
 use Rattle.cedar_schema_model.specs.Whole.ActionEntities.{as_entity}
 use Rattle.cedar_evaluator_model.specs.Known.{known_found}
-use Rattle.cedar_evaluator_model.specs.Members.{met_limit}
-use Rattle.cedar_evaluator_model.specs.Response.{response_of}
-use Rattle.cedar_evaluator_model.specs.Whole.{NothingUnknown, HoldsValues, BoundTo}
-use Rattle.cedar_evaluator_model.specs.Laws.{IsBound, WithinLimit}
+use Rattle.cedar_evaluator_model.specs.Whole.{NothingUnknown, HoldsValues}
+use Rattle.cedar_evaluator_model.specs.Laws.{WithinLimit}
 use Rattle.cedar_evaluator_model.proofs.Limits.{none_met}
 use Rattle.cedar_evaluator_model.proofs.Settled.{same_filled}
 use Rattle.cedar_gate_model.specs.Whole.Moment.{told}
 use Rattle.cedar_gate_model.specs.Whole.Owed.{IsForced, IsForcedTrue, IsForcedFalse}
-use Rattle.cedar_gate_model.specs.Whole.Session.{Setup, State, at_start, known_now, world_now, whole_store, scope_now, OpenRefusal, OpenFault, AnswerRefusal, AnswerFault, not_bound, still_wanted, not_conforming, IsWantedNow, MeetsLimit, with_bound}
+use Rattle.cedar_gate_model.specs.Whole.Session.{Setup, State, at_start, known_now, world_now, scope_now, OpenRefusal, OpenFault, AnswerRefusal, AnswerFault, not_bound, still_wanted, not_conforming, MeetsLimit, with_bound}
 use Rattle.cedar_gate_model.specs.Whole.Transcript as transcript
 use Rattle.cedar_gate_model.specs.Whole.Transcript.{round, bound, decided}
-use Rattle.cedar_gate_model.specs.Whole.Runs.{End, opening_refused, MayDecide, with_asked}
+use Rattle.cedar_gate_model.specs.Whole.Runs.{End, MayDecide, with_asked}
 use Rattle.cedar_gate_model.specs.Whole.RunLaws.{bindings_in, last_state}
 use Rattle.cedar_gate_model.specs.Whole.RunsAsk.{end_state}
 use Rattle.cedar_gate_model.specs.Whole.RunsAnswer.{Course, session_of, IsProper, IsRun, IsReady, with_unknowns}

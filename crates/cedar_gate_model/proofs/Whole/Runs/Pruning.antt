@@ -1,5 +1,5 @@
 -- Policies that are irrelevant for a request's types, or warned of, don't decide; and policies in another order are accepted alike.
-use Rattle.std.proofs.Common.{◌≡◌, ◌∙◌, Bool, true, false, cond, not, ◌&&◌, List, [], ◌∷◌, Option, Some, inl, inr, ⊎_elim, refl, sym, ap, subst}
+use Rattle.std.proofs.Common.{◌≡◌, ◌∙◌, Bool, true, false, cond, not, ◌&&◌, List, [], ◌∷◌, Some, inl, inr, refl, sym, ap, subst}
 use Rattle.std.specs.Prelude.{Contains}
 use Rattle.std.specs.Bool.{Decides}
 use Rattle.std.specs.List.{filter}
@@ -8,16 +8,15 @@ use Rattle.std.proofs.lemmas.List.Sorted.{IsPermutation-sym, IsPermutation-map, 
 use Rattle.std.specs.Str.{bytes_eq}
 use Rattle.std.proofs.lemmas.Slice.Eq.{bytes_eq-Decides}
 use Rattle.cedar_expr_model.specs.Name.{Text}
-use Rattle.cedar_expr_model.specs.Uid.{Uid}
 use Rattle.cedar_expr_model.proofs.Lists.{contains_head, contains_tail, contains_cases, contains_none, map_has, filter_only}
 use Rattle.cedar_store_model.specs.Whole.World.{World}
 use Rattle.cedar_store_model.specs.Whole.Policy.{Policy}
-use Rattle.cedar_store_model.specs.Whole.Answer.{Answer, IsSatisfied, satisfied, permits, ids, decided, determining, answer_of, decision_of, reasons_of}
+use Rattle.cedar_store_model.specs.Whole.Answer.{Answer, IsSatisfied, satisfied, permits, ids, decided, determining, decision_of, reasons_of}
 use Rattle.cedar_store_model.proofs.Whole.Conditions.{satisfied-Decides}
 use Rattle.cedar_store_model.proofs.Whole.Reports.{reasons_are_those}
 use Rattle.cedar_schema_model.specs.Whole.BagLaws.{HasTwice}
 use Rattle.cedar_schema_model.proofs.Whole.Decls.Reordered.{twice_moved}
-use Rattle.cedar_typechecker_model.specs.Whole.Verdicts.{RequestType, IsIrrelevant, irrelevant_for}
+use Rattle.cedar_typechecker_model.specs.Whole.Verdicts.{RequestType, irrelevant_for}
 use Rattle.cedar_typechecker_model.proofs.Whole.Sound.Policies.{conforming, irrelevant_is_sound}
 use Rattle.cedar_typechecker_model.proofs.Whole.Verdicts.{irrelevant-Decides}
 use Rattle.cedar_gate_model.specs.Whole.Acceptance.{Submission, IsAccepted, schema_in, warnings_of}
@@ -25,7 +24,7 @@ use Rattle.cedar_gate_model.specs.Whole.SliceSoundness.{IsFitFor}
 use Rattle.cedar_gate_model.specs.Whole.Transcript.{Entry}
 use Rattle.cedar_gate_model.specs.Whole.Runs.{answered}
 use Rattle.cedar_gate_model.specs.Whole.RunsAsk.{end_state}
-use Rattle.cedar_gate_model.specs.Whole.RunsAnswer.{Course, session_of, IsProper, IsRun, with_unknowns}
+use Rattle.cedar_gate_model.specs.Whole.RunsAnswer.{Course, IsProper, IsRun, with_unknowns}
 use Rattle.cedar_gate_model.specs.Whole.RunsAlike.{course_world, with_policies, IsOfTypes, kept_for}
 use Rattle.cedar_gate_model.proofs.Whole.Gate.Accepting.{acceptance_reads, accepted_good, warned_are_impossible}
 use Rattle.cedar_gate_model.proofs.Whole.Gate.Reach.{orderly, accepted_conform, accepted_are_sound}

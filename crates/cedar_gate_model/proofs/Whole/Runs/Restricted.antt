@@ -3,7 +3,7 @@ use Rattle.std.proofs.Common.{◌≡◌, ◌∙◌, ℕ, zero, suc, Bool, true, 
 use Rattle.std.specs.Prelude.{zip}
 use Rattle.std.specs.Option.{option_map_or}
 use Rattle.cedar_expr_model.specs.Name.{Text, Name}
-use Rattle.cedar_expr_model.specs.Whole.Value.{V, prim, set_of, record_of, field}
+use Rattle.cedar_expr_model.specs.Whole.Value.{V, set_of, record_of, field}
 use Rattle.cedar_expr_model.specs.Whole.Canonical.{set_made}
 use Rattle.cedar_expr_model.specs.Whole.Tree.{Tree, lit, unknown, call, set_literal, record_literal, Trees, no_trees, tree, TreeFields, no_tree_fields, tree_field}
 use Rattle.cedar_expr_model.specs.Whole.Builder.{trees, tree_fields}
@@ -11,14 +11,14 @@ use Rattle.cedar_expr_model.specs.Whole.Made.{Made, made_prim, made_set, made_re
 use Rattle.cedar_expr_model.specs.Whole.Parts.{subexpressions, subexpressions_among, subexpressions_in_fields, listed}
 use Rattle.cedar_expr_model.specs.Whole.Restricted.{offence}
 use Rattle.cedar_expr_model.specs.Whole.Table.{Signature, signature_of, takes_count, are_of_types, IsTaken}
-use Rattle.cedar_expr_model.specs.Whole.ValueParts.{Part, known, left, all_known, part_tree}
+use Rattle.cedar_expr_model.specs.Whole.ValueParts.{Part, all_known, part_tree}
 use Rattle.cedar_store_model.specs.Whole.Outcome.{Res, val, err, bind, wrong_type, wrong_count}
 use Rattle.cedar_store_model.specs.Whole.World.{World}
 use Rattle.cedar_store_model.specs.Whole.Operators.{answered, called}
 use Rattle.cedar_store_model.specs.Whole.Meaning.{outcome_of, outcomes_of, field_outcomes_of}
 use Rattle.cedar_store_model.proofs.Whole.Named.{called_of}
 use Rattle.cedar_evaluator_model.specs.Scope.{Scope, Agrees, MadeCalled, makes, faults, leaves_unknown, bare_called, Left, value_left, residual, stopped}
-use Rattle.cedar_evaluator_model.specs.Steps.{errs, mapped, answer_left, call_left, called_left, made_members, Pieces, pieces, halted, with_piece, from_pieces}
+use Rattle.cedar_evaluator_model.specs.Steps.{errs, mapped, answer_left, called_left, made_members, Pieces, pieces, halted, with_piece, from_pieces}
 use Rattle.cedar_evaluator_model.specs.Evaluation.{pieces_of, node, evaluated}
 use Rattle.cedar_evaluator_model.proofs.GivenLists.{bare_members}
 use Rattle.cedar_evaluator_model.proofs.GivenReads.{length_bare}

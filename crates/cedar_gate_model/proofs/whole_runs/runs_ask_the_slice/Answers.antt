@@ -1,4 +1,3 @@
-use Rattle.cedar_gate_model.specs.Whole.Session.{State}
 use Rattle.cedar_gate_model.specs.Whole.Runs.{MayDecide}
 use Rattle.cedar_gate_model.proofs.Whole.Runs.Asking.{runs_ask_once, runs_ask_in_the_slice, runs_ask_the_slice, runs_have_few_rounds}
 use Rattle.cedar_gate_model.proofs.whole_runs.runs_ask_the_slice.Goals as goal
