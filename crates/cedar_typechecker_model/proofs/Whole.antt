@@ -12,3 +12,4 @@ pub mod Levels
 pub mod Larger
 pub mod Sound
 pub mod FirstPath
+pub mod Moved

@@ -11,5 +11,6 @@ pub mod PolicySoundness
 pub mod Dereferences
 pub mod Laws
 pub mod LevelLaws
+pub mod OrderLaws
 pub mod Worked
 pub mod FirstPath

@@ -1,6 +1,7 @@
 //! Laws of the definitions for every kind of expression. Each function's contract is the theorem; its body does nothing.
 
 ghost use Rattle.cedar_typechecker_model.specs.Whole.Laws.{TypingIsAFunction, ListsAreTyped, FieldsAreTyped, OneJudgement, FactsAreOfBool, TruthHasNoFacts, MoreFactsKeepTypes, PathsAreConjunctions, PassingDecides, WarningDecides, ImpossibleDecides, IrrelevantDecides, VerdictDecides, UidsAreNamed, TypesAreNamed, KnownTypesDecide, KnownActionsDecide, KnownMembersDecide};
+ghost use Rattle.cedar_typechecker_model.specs.Whole.OrderLaws.{OrderPassesTheSame, OrderFindsTheSame};
 ghost use Rattle.cedar_typechecker_model.specs.Whole.LevelLaws.{ViolationsAreListed, CountsAreExact, TargetsAreListed, PolicyViolationsAreListed, LargerLevelsKeep, LargerLevelsPass, LargerLevelsPassPolicies};
 
 /// An expression has a type with facts exactly where the function gives them: so it has one type at most, with one set of facts.
@@ -59,4 +60,10 @@ pub fn larger_levels_pass()
     ensures each { LargerLevelsKeep }
     ensures expressions { LargerLevelsPass }
     ensures policies { LargerLevelsPassPolicies }
+{}
+
+/// Well-formed declarations in another order pass the same policies, and find the same violations of each.
+pub fn order_of_declarations_is_free()
+    ensures typing { OrderPassesTheSame }
+    ensures levels { OrderFindsTheSame }
 {}

@@ -172,3 +172,14 @@ same_actions_found x d e m w u =
     let apart : HasTwice (map (λ (a : Action). a.uid) actions) → ⊥ = λ t. no_schema_fault x d w duplicate_action (2, omega arith, refl) (subst HasTwice (same_actions d) t) in
     same_first (λ a. uid_eq u a.uid) actions (map (resolved_action d) e.actions) (IsPermutation-map (resolved_action d) d.actions e.actions m.actions) (one_passes (λ (a : Action). a.uid) uid_eq uid_eq-Decides actions apart u)
     ∙ ap (find (λ (a : Action). uid_eq u a.uid)) (map_agree (resolved_action d) (resolved_action e) (same_action d e m once) e.actions)
+
+-- its types and actions are the same, in another order
+pub types_moved : (x : List Name) (d e : Declarations) → IsReordered d e → IsWellFormed x d → IsPermutation (schema_of d).types (schema_of e).types
+types_moved x d e m w =
+    let once = no_schema_fault x d w duplicate_common_type (1, omega arith, refl) in
+    subst (IsPermutation (schema_of d).types) (map_agree (resolved_entity d) (resolved_entity e) (same_type d e m once) e.entities) (IsPermutation-map (resolved_entity d) d.entities e.entities m.entities)
+
+pub actions_moved : (x : List Name) (d e : Declarations) → IsReordered d e → IsWellFormed x d → IsPermutation (schema_of d).actions (schema_of e).actions
+actions_moved x d e m w =
+    let once = no_schema_fault x d w duplicate_common_type (1, omega arith, refl) in
+    subst (IsPermutation (schema_of d).actions) (map_agree (resolved_action d) (resolved_action e) (same_action d e m once) e.actions) (IsPermutation-map (resolved_action d) d.actions e.actions m.actions)
