@@ -12,3 +12,5 @@ pub mod Pruning
 pub mod Closing
 pub mod Legal
 pub mod Worked
+pub mod Ancestors
+pub mod Reordered

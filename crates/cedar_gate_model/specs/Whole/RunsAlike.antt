@@ -11,6 +11,8 @@ use Rattle.cedar_store_model.specs.Whole.World.{World, Entity}
 use Rattle.cedar_store_model.specs.Whole.Policy.{Policy}
 use Rattle.cedar_store_model.specs.Whole.Answer.{Answer, decision_of, reasons_of}
 use Rattle.cedar_store_model.specs.Whole.AnswerLaws.{SameMembers}
+use Rattle.cedar_schema_model.specs.Whole.BagLaws.{IsReordered}
+use Rattle.cedar_schema_model.specs.Whole.Declarations.{Declarations}
 use Rattle.cedar_typechecker_model.specs.Whole.Verdicts.{RequestType, irrelevant_for}
 use Rattle.cedar_gate_model.specs.Whole.Acceptance.{Submission, IsAccepted, schema_in, warnings_of}
 use Rattle.cedar_gate_model.specs.Whole.Slice.{InSlice}
@@ -65,6 +67,20 @@ PoliciesMayMove = (b : Submission) (qs : List Policy) → IsPermutation b.polici
 abbrev pub MovedPoliciesAnswerAlike : Type 0
 MovedPoliciesAnswerAlike = (c : Course) (qs : List Policy) (es fs : List Entry) (a b : Answer) → IsPermutation c.submission.policies qs
     → IsRun c es (answered a) → IsRun (by_policies c qs) fs (answered b) → (a.decision ≡ b.decision) × SameMembers a.reasons b.reasons × SameMembers a.errors b.errors
+
+-- Declarations in another order are accepted alike, and come to the same answer.
+abbrev pub with_declarations : Submission → Declarations → Submission
+with_declarations b d = record b { declarations = d }
+
+abbrev pub by_declarations : Course → Declarations → Course
+by_declarations c d = record c { submission = with_declarations c.submission d }
+
+abbrev pub DeclarationsMayMove : Type 0
+DeclarationsMayMove = (b : Submission) (d : Declarations) → IsReordered b.declarations d → IsAccepted b → IsAccepted (with_declarations b d)
+
+abbrev pub MovedDeclarationsAnswerAlike : Type 0
+MovedDeclarationsAnswerAlike = (c : Course) (d : Declarations) (es fs : List Entry) (a b : Answer) → IsAccepted c.submission → IsReordered c.submission.declarations d
+    → IsRun c es (answered a) → IsRun (by_declarations c d) fs (answered b) → a ≡ b
 
 -- A store that has the same in the slice gives the same answer, whatever stands in it elsewhere.
 abbrev pub OutsideSaysNothing : Type 0
