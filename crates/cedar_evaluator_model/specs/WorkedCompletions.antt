@@ -1,12 +1,13 @@
 -- The values of the worked examples of completions and of standing for an expression.
 -- Rule: completions; partial evaluation (docs/RULES.md).
-use Rattle.std.specs.Prelude.{[], codes, true, Some, if◌then◌else◌}
+use Rattle.std.specs.Prelude.{◌≡◌, [], ◌∷◌, codes, true, Some, if◌then◌else◌}
 use Rattle.std.specs.Str.{bytes_eq}
 use Rattle.cedar_expr_model.specs.Name.{Text}
-use Rattle.cedar_expr_model.specs.Uid.{uid_text}
+use Rattle.cedar_expr_model.specs.Uid.{Uid, uid_text}
 use Rattle.cedar_expr_model.specs.Whole.Value.{V, prim, entity, record_of, no_fields, truth_value}
 use Rattle.cedar_expr_model.specs.Whole.Table.{Table, fails}
-use Rattle.cedar_store_model.specs.Whole.World.{World, missing}
+use Rattle.cedar_store_model.specs.Whole.World.{World, missing, not_loaded}
+use Rattle.cedar_evaluator_model.specs.Completion.{Completes}
 use Rattle.cedar_evaluator_model.specs.Scope.{Scope}
 use Rattle.cedar_evaluator_model.specs.Worked.{user_a, user_b, doc_d, view, no_slot, worked_table, scope, open_scope}
 
@@ -55,3 +56,14 @@ empty_table = record { functions = []; ordered = []; answers = λ f vs. fails f 
 -- nothing is unknown, and there are no functions
 abbrev pub whole_scope : Scope
 whole_scope = record scope { table = empty_table; store = λ u. missing }
+
+-- two uids of one text, of which the second has no well-formed type
+abbrev pub twin : Uid
+twin = record { kind = record { path = codes "a" ∷ []; base = codes "b" }; id = [] }
+
+abbrev pub other_twin : Uid
+other_twin = record { kind = record { path = []; base = codes "a::b" }; id = [] }
+
+-- no world completes a scope in which neither is loaded, since the unknown of their text can't mean both
+abbrev pub TwinsAreNeverOpen : Type 0
+TwinsAreNeverOpen = (w : World) (s : Scope) → s.store twin ≡ not_loaded → s.store other_twin ≡ not_loaded → Completes w s → ⊥

@@ -17,7 +17,8 @@ ghost use Rattle.cedar_evaluator_model.specs.WellMade.{IsWellMade, AllMadeWell};
 ghost use Rattle.cedar_evaluator_model.specs.Completion.{FitsAnnotations, EntryMeans, ContextMeans, PartMeans, FoundMeans, Completes};
 ghost use Rattle.cedar_evaluator_model.specs.Standing.{StandsFor, IsOutcome, LeavesUnbound, NoLimit};
 ghost use Rattle.cedar_evaluator_model.specs.Worked.{user, doc, user_a, user_b, doc_d, number, made_number, made_truth, true_tree, false_tree, unknown_a, unknown_u, rank, entity_d, scope, open_scope, with_value, with_context, deep_context};
-ghost use Rattle.cedar_evaluator_model.specs.WorkedCompletions.{open_request, completed, bound_slots, other_kind, other_name, whole_scope};
+ghost use Rattle.cedar_expr_model.specs.Uid.{uid_text};
+ghost use Rattle.cedar_evaluator_model.specs.WorkedCompletions.{twin, other_twin, TwinsAreNeverOpen, open_request, completed, bound_slots, other_kind, other_name, whole_scope};
 
 /// What a scope knows as values: known parts, and nothing of the unknown ones.
 pub fn worked_known()
@@ -110,4 +111,11 @@ pub fn worked_well_made()
     ensures all { AllMadeWell whole_scope }
     ensures not_all { AllMadeWell (with_context (closed (made_field (codes "x") (made_set (made (made_number 2) (made (made_number 1) no_mades))) no_made_fields))) → ⊥ }
     ensures not_value { AllMadeWell (with_value (codes "u") (made_set (made (made_number 2) (made (made_number 1) no_mades)))) → ⊥ }
+{}
+
+/// Two uids of one text are never both open in a scope that a world completes, so of what is no uid a partial store has to say that it
+/// is missing.
+pub fn worked_twins()
+    ensures text { uid_text twin ≡ uid_text other_twin }
+    ensures never { TwinsAreNeverOpen }
 {}
