@@ -1,7 +1,7 @@
 //! Laws of runs: what they ask for, decide and answer. Each function's contract is the theorem; its body does nothing.
 
 ghost use Rattle.cedar_gate_model.specs.Whole.RunsAsk.{RunsAskOnce, RunsAskInTheSlice, RunsAskTheSlice, RunsHaveFewRounds};
-ghost use Rattle.cedar_gate_model.specs.Whole.RunsAlike.{EndsAreTheCourses, StepsMayMove, LevelsAnswerAlike, OutsideSaysNothing, PoliciesMayMove, MovedPoliciesAnswerAlike, PrunedAnswersAlike, WarnedAreNoReasons, DeclarationsMayMove, MovedDeclarationsAnswerAlike};
+ghost use Rattle.cedar_gate_model.specs.Whole.RunsAlike.{EndsAreTheCourses, StepsMayMove, LevelsAnswerAlike, OutsideSaysNothing, PoliciesMayMove, MovedPoliciesAnswerAlike, PrunedAnswersAlike, WarnedAreNoReasons, DeclarationsMayMove, FragmentsMaySplit, MovedDeclarationsAnswerAlike};
 ghost use Rattle.cedar_gate_model.specs.Whole.RunsAnswer.{AnsweredRunsAreCompleted, GivenDecisionsAreTheAnswers, AnswersAreTheWholeStores, AnswersNeedTheLoadedAlone, ErrorsAreExpected, ReadyDecisionsAreOwed, RunsAreLegal, IsProper, IsRun};
 ghost use Rattle.std.specs.Prelude.{[], ◌∷◌};
 ghost use Rattle.cedar_typechecker_model.specs.Whole.Worked.{user_a, doc_d};
@@ -61,9 +61,10 @@ pub fn moved_policies_answer_alike()
     ensures answers { MovedPoliciesAnswerAlike }
 {}
 
-/// Declarations in another order are accepted alike, and come to the same answer.
+/// Declarations in another order are accepted alike, and come to the same answer; split among fragments they are the same.
 pub fn moved_declarations_answer_alike()
     ensures accepted { DeclarationsMayMove }
+    ensures split { FragmentsMaySplit }
     ensures answers { MovedDeclarationsAnswerAlike }
 {}
 

@@ -1,6 +1,6 @@
 -- What the laws say of runs that differ in what doesn't matter for the answer.
 -- Rule: runs; the answer; the slice; impossible policies (docs/RULES.md).
-use Rattle.std.specs.Prelude.{◌≡◌, ℕ, List, [], ◌∷◌, Contains, Option, Some, not}
+use Rattle.std.specs.Prelude.{◌≡◌, ◌++◌, ℕ, List, [], ◌∷◌, Contains, Option, Some, not}
 use Rattle.std.specs.List.{filter}
 use Rattle.std.specs.List.Sorted.{IsPermutation}
 use Rattle.cedar_expr_model.specs.Name.{Text}
@@ -12,7 +12,7 @@ use Rattle.cedar_store_model.specs.Whole.Policy.{Policy}
 use Rattle.cedar_store_model.specs.Whole.Answer.{Answer, decision_of, reasons_of}
 use Rattle.cedar_store_model.specs.Whole.AnswerLaws.{SameMembers}
 use Rattle.cedar_schema_model.specs.Whole.BagLaws.{IsReordered}
-use Rattle.cedar_schema_model.specs.Whole.Declarations.{Declarations}
+use Rattle.cedar_schema_model.specs.Whole.Declarations.{Declarations, bag}
 use Rattle.cedar_typechecker_model.specs.Whole.Verdicts.{RequestType, irrelevant_for}
 use Rattle.cedar_gate_model.specs.Whole.Acceptance.{Submission, IsAccepted, schema_in, warnings_of}
 use Rattle.cedar_gate_model.specs.Whole.Slice.{InSlice}
@@ -77,6 +77,11 @@ by_declarations c d = record c { submission = with_declarations c.submission d }
 
 abbrev pub DeclarationsMayMove : Type 0
 DeclarationsMayMove = (b : Submission) (d : Declarations) → IsReordered b.declarations d → IsAccepted b → IsAccepted (with_declarations b d)
+
+-- a fragment may be split, wherever it stands
+abbrev pub FragmentsMaySplit : Type 0
+FragmentsMaySplit = (b : Submission) (before after : List Declarations) (d e : Declarations)
+    → with_declarations b (bag (before ++ bag (d ∷ e ∷ []) ∷ after)) ≡ with_declarations b (bag (before ++ d ∷ e ∷ after))
 
 abbrev pub MovedDeclarationsAnswerAlike : Type 0
 MovedDeclarationsAnswerAlike = (c : Course) (d : Declarations) (es fs : List Entry) (a b : Answer) → IsAccepted c.submission → IsReordered c.submission.declarations d

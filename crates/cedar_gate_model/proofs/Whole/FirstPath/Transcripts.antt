@@ -14,7 +14,7 @@ use Rattle.cedar_gate_model.specs.Transcript as small
 use Rattle.cedar_gate_model.specs.Whole.Moment.{Moment, at_first}
 use Rattle.cedar_gate_model.specs.Whole.Transcript.{IsRound, AreLegal, IsLegal}
 use Rattle.cedar_gate_model.specs.Whole.FirstPath.{whole_entries, whole_transcript, first_case}
-use Rattle.cedar_gate_model.proofs.Whole.Gate.Transcripts.{some_item}
+use Rattle.cedar_gate_model.proofs.Whole.Runs.Loading.{some_item}
 use Rattle.cedar_gate_model.proofs.Whole.FirstPath.Sessions.{none_in_slice}
 
 module _ (s : small_acceptance.Submission) (v : small_world.World) (w : World) (e : s.level ≡ 0) (k : KnowsRequest v.request w) where

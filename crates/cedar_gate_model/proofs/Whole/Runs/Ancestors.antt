@@ -1,5 +1,5 @@
 -- Stores whose entities differ at most in the order of their ancestors give the same answers.
-use Rattle.std.proofs.Common.{◌≡◌, ◌∙◌, Bool, ◌||◌, List, [], ◌∷◌, Option, Some, None, refl, sym, ap, subst, inl, inr, ⊎_elim, ◌⊎◌}
+use Rattle.std.proofs.Common.{◌≡◌, ◌∙◌, ◌||◌, List, [], ◌∷◌, Some, refl, sym, ap, ⊎_elim, ◌⊎◌}
 use Rattle.std.specs.Prelude.{true, false, is_some}
 use Rattle.std.specs.List.{list_any}
 use Rattle.std.specs.Map.{lookup}
@@ -14,7 +14,7 @@ use Rattle.cedar_expr_model.specs.Whole.ValueParts.{Part}
 use Rattle.cedar_store_model.specs.Whole.Laws.{with_store}
 use Rattle.cedar_store_model.specs.Whole.Meaning.{variable, combined, picked, truth_asked, path_tested, outcome_of, outcomes_of, field_outcomes_of}
 use Rattle.cedar_store_model.specs.Whole.Operators.{says, applied, like_pattern, of_type, called}
-use Rattle.cedar_store_model.specs.Whole.Outcome.{Res, val, err, bind, wrong_type}
+use Rattle.cedar_store_model.specs.Whole.Outcome.{val, err, bind, wrong_type}
 use Rattle.cedar_store_model.specs.Whole.Policy.{Policy, condition}
 use Rattle.cedar_store_model.specs.Whole.Answer.{with_slots, answer_of}
 use Rattle.cedar_store_model.specs.Whole.Reads.{part_value, part_read, part_tested, attribute_read, attribute_tested, uids_in, found_in, within}

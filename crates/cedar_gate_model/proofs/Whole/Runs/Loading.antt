@@ -1,12 +1,12 @@
 -- What is loaded of a world by what was asked for, and how each round brings what is near a step further.
-use Rattle.std.proofs.Common.{◌≡◌, ◌≢◌, ◌≤◌, ◌<◌, ◌↔◌, ◌∙◌, ℕ, zero, suc, Bool, true, false, cond, ◌||◌, List, [], ◌++◌, inl, inr, ⊎_elim, ◌⊎◌, refl, sym, ap, subst, arith, if◌then◌else◌}
+use Rattle.std.proofs.Common.{◌≡◌, ◌≢◌, ◌≤◌, ◌<◌, ◌↔◌, ◌∙◌, ℕ, zero, suc, Bool, true, false, cond, ◌||◌, List, [], ◌∷◌, ◌++◌, inl, inr, ⊎_elim, ◌⊎◌, refl, sym, ap, subst, arith, if◌then◌else◌}
 use Rattle.std.specs.Prelude.{Contains, leb}
 use Rattle.std.specs.List.{list_any}
 use Rattle.std.proofs.lemmas.Bool.{leb-true, leb-false}
 use Rattle.std.proofs.lemmas.List.Elements.{Contains-append_left, Contains-append_right}
 use Rattle.cedar_expr_model.specs.Uid.{Uid, uid_eq}
 use Rattle.cedar_expr_model.specs.Whole.Value.{V}
-use Rattle.cedar_expr_model.proofs.Lists.{contains_none, found-Decides}
+use Rattle.cedar_expr_model.proofs.Lists.{contains_head, contains_none, found-Decides}
 use Rattle.cedar_expr_model.proofs.Equality.{uid_eq-Decides}
 use Rattle.cedar_store_model.specs.Whole.World.{World, Found, held, missing, not_loaded}
 use Rattle.cedar_schema_model.specs.Whole.Schema.{Schema, declares_action}
@@ -14,7 +14,6 @@ use Rattle.cedar_gate_model.specs.Whole.Slice.{IsNear, InSlice}
 use Rattle.cedar_gate_model.specs.Whole.Moment.{told}
 use Rattle.cedar_gate_model.proofs.Whole.Gate.Slices.{near_within, near_kept}
 use Rattle.cedar_gate_model.proofs.Whole.Gate.Mentions.{FoundMentions}
-use Rattle.cedar_gate_model.proofs.Whole.Gate.Transcripts.{told_all, some_item}
 
 -- the world with the declared actions and the answers alone
 abbrev pub loading : Schema → World → List Uid → World
@@ -43,6 +42,15 @@ told_only : (f : Found V) (u : Uid) → FoundMentions (told f) u → FoundMentio
 told_only (held e) u h = h
 told_only missing u h = absurd (contains_none u h)
 told_only not_loaded u h = absurd (contains_none u h)
+
+told_all : (f : Found V) (u : Uid) → FoundMentions f u → FoundMentions (told f) u
+told_all (held e) u h = h
+told_all missing u h = absurd (contains_none u h)
+told_all not_loaded u h = absurd (contains_none u h)
+
+pub some_item : (uids : List Uid) → uids ≢ [] → (u : Uid) × Contains uids u
+some_item [] n = absurd (n refl)
+some_item (u ∷ us) n = (u, contains_head u us)
 
 loaded_only : (t : Bool) (f : Found V) (u : Uid) → FoundMentions (cond t (told f) not_loaded) u → FoundMentions f u
 loaded_only true f u h = told_only f u h
@@ -95,10 +103,10 @@ module _ (s : Schema) (w : World) where
         ⊎_elim (λ a. Contains-append_left asked uids u a) (λ a. Contains-append_right asked uids u ((exact u).1 ((near, e), a))) (was_asked asked u)
 
     -- where nothing is left to ask for, all in the slice of the whole world was asked for
-    nothing_left : (asked : List Uid) → ((u : Uid) → IsNext s n w asked u → ⊥) → Settled asked n
+    pub nothing_left : (asked : List Uid) → ((u : Uid) → IsNext s n w asked u → ⊥) → Settled asked n
     nothing_left asked none u k e = ⊎_elim (λ a. a) (λ a. absurd (none u ((k, e), a))) (was_asked asked u)
 
-    near_loaded : (asked : List Uid) → Settled asked n → (m : ℕ) → m ≤ n → (u : Uid) → IsNear m w u → IsNear m (loading s w asked) u
+    pub near_loaded : (asked : List Uid) → Settled asked n → (m : ℕ) → m ≤ n → (u : Uid) → IsNear m w u → IsNear m (loading s w asked) u
     near_loaded asked settled zero l u h = absurd h
     near_loaded asked settled (suc m) l u h =
         ⊎_elim (λ k. inl k)

@@ -1,18 +1,17 @@
 -- Declarations in another order are accepted alike, and come to the same answer.
-use Rattle.std.proofs.Common.{◌≡◌, ◌∙◌, Bool, true, false, cond, List, [], ◌∷◌, Option, Some, None, refl, sym, ap, subst, inl, inr}
-use Rattle.std.specs.Prelude.{Contains}
+use Rattle.std.proofs.Common.{◌≡◌, ◌∙◌, Bool, true, false, cond, List, Option, refl, sym, inl, inr}
 use Rattle.std.specs.List.{list_any}
 use Rattle.cedar_expr_model.specs.Uid.{Uid, uid_eq}
 use Rattle.cedar_expr_model.specs.Whole.Value.{V}
-use Rattle.cedar_store_model.specs.Whole.Answer.{Answer, answer_of}
+use Rattle.cedar_store_model.specs.Whole.Answer.{Answer}
 use Rattle.cedar_store_model.specs.Whole.Store.{found_as, whole}
-use Rattle.cedar_store_model.specs.Whole.World.{Entity, Found, held}
+use Rattle.cedar_store_model.specs.Whole.World.{Entity, held}
 use Rattle.cedar_schema_model.specs.Whole.ActionEntities.{action_ancestors, as_entity}
 use Rattle.cedar_schema_model.specs.Whole.BagLaws.{IsReordered}
 use Rattle.cedar_schema_model.specs.Whole.Declarations.{Declarations}
 use Rattle.cedar_schema_model.specs.Whole.Resolved.{schema_of}
 use Rattle.cedar_schema_model.specs.Whole.Schema.{Schema, declares_action}
-use Rattle.cedar_schema_model.specs.Whole.WellFormed.{SchemaFault, unresolved_external}
+use Rattle.cedar_schema_model.specs.Whole.WellFormed.{unresolved_external}
 use Rattle.cedar_schema_model.proofs.Whole.Decls.Environments.{ancestors_declared}
 use Rattle.cedar_schema_model.proofs.Whole.Decls.Faults.{no_schema_fault, where_no_schema_fault}
 use Rattle.cedar_schema_model.proofs.Whole.Decls.Reordered.{same_faults}
