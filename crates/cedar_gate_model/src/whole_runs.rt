@@ -2,7 +2,7 @@
 
 ghost use Rattle.cedar_gate_model.specs.Whole.RunsAsk.{RunsAskOnce, RunsAskInTheSlice, RunsAskTheSlice, RunsHaveFewRounds};
 ghost use Rattle.cedar_gate_model.specs.Whole.RunsAlike.{EndsAreTheCourses, StepsMayMove, LevelsAnswerAlike, OutsideSaysNothing, PoliciesMayMove, MovedPoliciesAnswerAlike, PrunedAnswersAlike, WarnedAreNoReasons, DeclarationsMayMove, FragmentsMaySplit, MovedDeclarationsAnswerAlike};
-ghost use Rattle.cedar_gate_model.specs.Whole.RunsAnswer.{AnsweredRunsAreCompleted, GivenDecisionsAreTheAnswers, AnswersAreTheWholeStores, AnswersNeedTheLoadedAlone, ErrorsAreExpected, ReadyDecisionsAreOwed, RunsAreLegal, IsProper, IsRun};
+ghost use Rattle.cedar_gate_model.specs.Whole.RunsAnswer.{AnsweredRunsAreCompleted, GivenDecisionsAreTheAnswers, AnswersAreTheWholeStores, AnswersNeedTheLoadedAlone, ErrorsAreExpected, ReadyDecisionsAreOwed, ForcedDecisionsAreGiven, RunsAreLegal, IsProper, IsRun};
 ghost use Rattle.std.specs.Prelude.{[], ◌∷◌};
 ghost use Rattle.cedar_typechecker_model.specs.Whole.Worked.{user_a, doc_d};
 ghost use Rattle.cedar_gate_model.specs.Whole.Runs.{answered};
@@ -73,6 +73,11 @@ pub fn moved_declarations_answer_alike()
 pub fn pruned_answers_are_alike()
     ensures pruned { PrunedAnswersAlike }
     ensures warned { WarnedAreNoReasons }
+{}
+
+/// Evaluating the policies over what is known gives each decision that is owed.
+pub fn forced_decisions_are_given()
+    ensures { ForcedDecisionsAreGiven }
 {}
 
 /// What a run does, a refused one too, is legal against each world that completes what was bound and answered by its end.

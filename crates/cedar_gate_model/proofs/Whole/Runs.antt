@@ -14,3 +14,4 @@ pub mod Legal
 pub mod Worked
 pub mod Ancestors
 pub mod Reordered
+pub mod Forcing

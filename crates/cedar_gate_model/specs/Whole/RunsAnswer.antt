@@ -1,27 +1,29 @@
 -- What the laws say of what runs decide and answer.
 -- Rule: runs; completions; the answer (docs/RULES.md).
-use Rattle.std.specs.Prelude.{◌≡◌, ◌||◌, ◌++◌, ◌∷◌, List, Contains, true, false, Option, Some, IsSome, unwrap_or, if◌then◌else◌}
+use Rattle.std.specs.Prelude.{◌≡◌, ◌||◌, ◌++◌, ◌∷◌, List, Contains, true, false, Option, Some, None, IsSome, unwrap_or, if◌then◌else◌}
 use Rattle.std.specs.List.{list_any}
 use Rattle.cedar_expr_model.specs.Name.{Text}
 use Rattle.cedar_expr_model.specs.Uid.{Uid, uid_eq}
 use Rattle.cedar_expr_model.specs.Whole.Made.{Made}
 use Rattle.cedar_expr_model.specs.Whole.Table.{IsFair, all_typed}
 use Rattle.cedar_expr_model.specs.Whole.Value.{V, truth_value}
-use Rattle.cedar_store_model.specs.Whole.World.{World, Entity, missing}
+use Rattle.cedar_store_model.specs.Whole.World.{World, Entity, Found, missing}
 use Rattle.cedar_store_model.specs.Whole.Knowledge.{holds_values}
 use Rattle.cedar_store_model.specs.Whole.Answer.{Decision, Answer, PolicyError, answer_of}
 use Rattle.cedar_schema_model.specs.Whole.Schema.{declares_action}
 use Rattle.cedar_schema_model.specs.Whole.Conforming.{RequestConforms}
 use Rattle.cedar_typechecker_model.specs.Whole.Soundness.{IsExpected}
 use Rattle.cedar_evaluator_model.specs.Scope.{Agrees}
-use Rattle.cedar_evaluator_model.specs.Response.{PartialRequest}
+use Rattle.cedar_evaluator_model.specs.Known.{known_found}
+use Rattle.cedar_evaluator_model.specs.Members.{decision_in_session}
+use Rattle.cedar_evaluator_model.specs.Response.{PartialRequest, response_of}
 use Rattle.cedar_evaluator_model.specs.WellMade.{IsWellMade}
 use Rattle.cedar_gate_model.specs.Whole.Acceptance.{Submission, IsAccepted, schema_in}
 use Rattle.cedar_gate_model.specs.Whole.Bundle.{Functions}
 use Rattle.cedar_gate_model.specs.Whole.Moment.{request_of, at_first}
 use Rattle.cedar_gate_model.specs.Whole.ReadingValue.{with_functions}
 use Rattle.cedar_gate_model.specs.Whole.Transcript.{Step, Entry, decided, AreLegal}
-use Rattle.cedar_gate_model.specs.Whole.Session.{Setup, State, whole_store, world_now, NothingIsWanted, HasOpenName, CompletesNow}
+use Rattle.cedar_gate_model.specs.Whole.Session.{Setup, State, scope_now, known_now, whole_store, world_now, NothingIsWanted, HasOpenName, CompletesNow}
 use Rattle.cedar_gate_model.specs.Whole.Runs.{End, answered, MayDecide, Runs}
 use Rattle.cedar_gate_model.specs.Whole.RunLaws.{bindings_in, case_of}
 use Rattle.cedar_gate_model.specs.Whole.RunsAsk.{IsMadeContext, end_state}
@@ -111,3 +113,8 @@ ReadyDecisionsAreOwed = (c : Course) (before after : List Entry) (d : Option Dec
 abbrev pub RunsAreLegal : Type 0
 RunsAreLegal = (c : Course) (es : List Entry) (end : End) → IsProper c → IsRun c es end
     → (w : World) → CompletesNow (session_of c) (end_state c.steps es) w → AreLegal (case_of (session_of c) c.submission.policies) w at_first es
+
+-- What evaluating in part gives: where it gives no decision, none is owed. The store is what is known of it, with the values as they are made.
+abbrev pub ForcedDecisionsAreGiven : Type 0
+ForcedDecisionsAreGiven = (c : Course) (s : State) (store : Uid → Found Made) → IsProper c → ((u : Uid) → known_found (store u) ≡ (known_now (session_of c) s).store u)
+    → decision_in_session (response_of (scope_now (session_of c) s store) c.submission.limit c.submission.policies) ≡ None → MayDecide (session_of c) c.submission.policies s None

@@ -104,7 +104,7 @@ asked_of : (d a : Bool) → (d || a) ≡ true → d ≡ false → a ≡ true
 asked_of true a e f = cc
 asked_of false a e f = e
 
-each_all : (P : Policy → Type 0) (ps : List Policy) → ((p : Policy) → Contains ps p → P p) → All P ps
+pub each_all : (P : Policy → Type 0) (ps : List Policy) → ((p : Policy) → Contains ps p → P p) → All P ps
 each_all P ps h = λ k d l. h (slice_index_or ps k d) (All-contains_itself ps k d l)
 
 module _ (c : Course) (proper : IsProper c) (s : State) (stands : Stands (session_of c) s) (opened : (f : OpenRefusal) → OpenFault c.start f → ⊥) (ready : IsReady c s) where
