@@ -3,11 +3,11 @@
 ghost use Rattle.cedar_gate_model.specs.Whole.RunsAsk.{RunsAskOnce, RunsAskInTheSlice, RunsAskTheSlice, RunsHaveFewRounds};
 ghost use Rattle.cedar_gate_model.specs.Whole.RunsAlike.{EndsAreTheCourses, StepsMayMove, LevelsAnswerAlike, OutsideSaysNothing, PoliciesMayMove, MovedPoliciesAnswerAlike, PrunedAnswersAlike, WarnedAreNoReasons, DeclarationsMayMove, FragmentsMaySplit, MovedDeclarationsAnswerAlike};
 ghost use Rattle.cedar_gate_model.specs.Whole.RunsAnswer.{AnsweredRunsAreCompleted, GivenDecisionsAreTheAnswers, AnswersAreTheWholeStores, AnswersNeedTheLoadedAlone, ErrorsAreExpected, ReadyDecisionsAreOwed, ForcedDecisionsAreGiven, RunsAreLegal, IsProper, IsRun};
-ghost use Rattle.std.specs.Prelude.{[], ◌∷◌};
+ghost use Rattle.std.specs.Prelude.{[], ◌∷◌, codes};
 ghost use Rattle.cedar_typechecker_model.specs.Whole.Worked.{user_a, doc_d};
 ghost use Rattle.cedar_gate_model.specs.Whole.Runs.{answered};
-ghost use Rattle.cedar_gate_model.specs.Whole.Transcript.{round};
-ghost use Rattle.cedar_gate_model.specs.Whole.WorkedGate.{user_b, p0_allows, loaded_course};
+ghost use Rattle.cedar_gate_model.specs.Whole.Transcript.{round, bound};
+ghost use Rattle.cedar_gate_model.specs.Whole.WorkedGate.{user_b, p0_allows, loaded_course, late_course, p0_denies};
 
 /// A run asks for no uid twice, and only for what is in the slice of what was bound by its end, over the whole store: an answered run for
 /// exactly that, though a late binding may bring uids nearer. At most as many rounds as the level follow the last binding.
@@ -89,4 +89,11 @@ pub fn proper_runs_are_legal()
 pub fn worked_course()
     ensures proper { IsProper loaded_course }
     ensures run { IsRun loaded_course (round (doc_d ∷ user_a ∷ []) ∷ round (user_b ∷ []) ∷ []) (answered p0_allows) }
+{}
+
+/// The same where the principal is bound late. The owner of the document was met at distance 1; once the owner is the principal its boss
+/// is near, and is asked for in one round more.
+pub fn worked_late_binding()
+    ensures proper { IsProper late_course }
+    ensures run { IsRun late_course (round (doc_d ∷ []) ∷ round (user_b ∷ []) ∷ bound (codes "principal") ∷ round (user_a ∷ []) ∷ []) (answered p0_denies) }
 {}

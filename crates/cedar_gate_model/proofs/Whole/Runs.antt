@@ -15,3 +15,4 @@ pub mod Worked
 pub mod Ancestors
 pub mod Reordered
 pub mod Forcing
+pub mod LateWorked

@@ -11,7 +11,7 @@ use Rattle.cedar_expr_model.specs.Whole.Table.{Table, function_style, Called, gi
 use Rattle.cedar_expr_model.specs.Whole.ValueParts.{known}
 use Rattle.cedar_store_model.specs.Whole.World.{World, Entity, Found, not_loaded}
 use Rattle.cedar_store_model.specs.Whole.Store.{Entities, found_as, whole}
-use Rattle.cedar_store_model.specs.Whole.Answer.{Answer, allow, answer_of}
+use Rattle.cedar_store_model.specs.Whole.Answer.{Answer, allow, deny, answer_of}
 use Rattle.cedar_store_model.specs.Whole.Policy.{Policy, Effect, permit, forbid, exactly, named}
 use Rattle.cedar_schema_model.specs.Whole.Declarations.{Declarations, ActionDeclaration, bag, standard_expr, no_field_exprs}
 use Rattle.cedar_schema_model.specs.Whole.ActionEntities.{as_entity}
@@ -25,6 +25,7 @@ use Rattle.cedar_gate_model.specs.Whole.Bundle.{Functions, Bundle}
 use Rattle.cedar_gate_model.specs.Whole.Session.{Setup, State, at_start, known_now, world_now, scope_now, Supplied}
 use Rattle.cedar_gate_model.specs.Whole.Runs.{supplied_by}
 use Rattle.cedar_gate_model.specs.Whole.RunsAnswer.{Course}
+use Rattle.cedar_gate_model.specs.Whole.Transcript.{load, bind_name}
 use Rattle.cedar_gate_model.specs.Whole.Lines.{line, setup_of}
 use Rattle.cedar_gate_model.specs.Whole.GateLaws.{Bounds}
 use Rattle.std.specs.Map.{lookup}
@@ -336,3 +337,10 @@ p0_allows = record { decision = allow; reasons = codes "p0" ∷ []; errors = [] 
 -- its course, without steps
 abbrev pub loaded_course : Course
 loaded_course = record { submission = level_two; functions = no_functions; start = by_a; store = loading.store; steps = [] }
+
+-- the same by some user, who is bound late: to the owner of the document, who isn't the boss
+abbrev pub late_course : Course
+late_course = record loaded_course { start = by_some_user; steps = load ∷ load ∷ bind_name (codes "principal") (uid_made user_b) ∷ [] }
+
+abbrev pub p0_denies : Answer
+p0_denies = record { decision = deny; reasons = []; errors = [] }
