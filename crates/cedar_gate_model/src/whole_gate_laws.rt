@@ -1,7 +1,7 @@
 //! Laws of acceptance, slices, transcripts, runs and lines. Each function's contract is the theorem; its body does nothing.
 
 ghost use Rattle.cedar_gate_model.specs.Whole.GateLaws.{AcceptanceDecides, FaultsExclude, RefusalHasFault, AcceptanceReads, WarnedAreImpossible, GivenAreRelevant, ImpossibleIsIrrelevant, NearAreListed, SliceIsListed, SliceIsEmpty, SliceGrows, KnowledgeKeepsTheSlice, SliceIsLocal, AskedIsInSlice, AskedOnce, DecisionsAreFinal, OneDecision, RoundsAreFew, SliceIsAsked};
-ghost use Rattle.cedar_gate_model.specs.Whole.RunLaws.{NothingTwice, RunsAreAlike, OneStatus, OneAnswer, UnreadableAlone, OnlyUnreadable, RefusalsAreFaults, RunsAreLegal, AnsweredRunsAskTheSlice};
+ghost use Rattle.cedar_gate_model.specs.Whole.RunLaws.{NothingTwice, RunsAreAlike, OneStatus, OneAnswer, UnreadableAlone, OnlyUnreadable, RefusalsAreFaults};
 
 /// The test of a submission is true exactly where it is accepted, which is where the acceptance rules hold as they are read.
 /// A fault excludes acceptance, and a submission that the test refuses has a fault.
@@ -54,13 +54,6 @@ pub fn given_decisions_are_final()
 /// Two runs of the same steps have the same rounds and bindings, and end in the same way.
 pub fn runs_are_alike()
     ensures { RunsAreAlike }
-{}
-
-/// What a run does, a refused one too, is legal against each world that completes what was bound and answered by its end; and a run
-/// that answered asked for the slice. This is where the context is known or wholly unknown; each other part may be open.
-pub fn runs_are_legal()
-    ensures legal { RunsAreLegal }
-    ensures asked { AnsweredRunsAskTheSlice }
 {}
 
 /// An input has one status, and a bundle that is answered one answer. What doesn't read prints `unreadable` alone, and nothing else does; a refusal by the gate is printed

@@ -2,7 +2,9 @@
 
 ghost use Rattle.cedar_gate_model.specs.Whole.RunsAsk.{RunsAskOnce, RunsAskInTheSlice, RunsAskTheSlice, RunsHaveFewRounds};
 ghost use Rattle.cedar_gate_model.specs.Whole.RunsAlike.{EndsAreTheCourses, StepsMayMove, LevelsAnswerAlike, OutsideSaysNothing, PoliciesMayMove, MovedPoliciesAnswerAlike, PrunedAnswersAlike, WarnedAreNoReasons, DeclarationsMayMove, FragmentsMaySplit, MovedDeclarationsAnswerAlike};
-ghost use Rattle.cedar_gate_model.specs.Whole.RunsAnswer.{AnsweredRunsAreCompleted, GivenDecisionsAreTheAnswers, AnswersAreTheWholeStores, AnswersNeedTheLoadedAlone, ErrorsAreExpected, ReadyDecisionsAreOwed, ForcedDecisionsAreGiven, RunsAreLegal, IsProper, IsRun};
+ghost use Rattle.cedar_gate_model.specs.Whole.RunsAnswer.{AnsweredRunsAreCompleted, GivenDecisionsAreTheAnswers, AnswersAreTheWholeStores, AnswersNeedTheLoadedAlone, ErrorsAreExpected, ReadyDecisionsAreOwed, ForcedDecisionsAreGiven, ProperRunsAreLegal, IsProper, IsRun};
+ghost use Rattle.cedar_gate_model.specs.Whole.RunLaws.{RunsAreLegal, AnsweredRunsAskTheSlice};
+ghost use Rattle.cedar_gate_model.specs.Whole.SliceSoundness.{LargerLevelsAccept};
 ghost use Rattle.std.specs.Prelude.{[], ◌∷◌, codes};
 ghost use Rattle.cedar_typechecker_model.specs.Whole.Worked.{user_a, doc_d};
 ghost use Rattle.cedar_gate_model.specs.Whole.Runs.{answered};
@@ -18,14 +20,23 @@ pub fn runs_ask_the_slice()
     ensures few { RunsHaveFewRounds }
 {}
 
-/// What was bound and answered by the end of an answered run, over the whole store, is a world that completes it.
-pub fn answered_runs_are_completed()
-    ensures { AnsweredRunsAreCompleted }
+/// What a run does, a refused one too, is legal against each world that completes what was bound and answered by its end; what was
+/// bound and answered by the end of an answered run, over the whole store, is such a world. Where the context has no field with an
+/// unknown in it, runs are legal whatever the gate accepted, and one that answered asked for the slice.
+pub fn runs_are_legal()
+    ensures legal { ProperRunsAreLegal }
+    ensures completed { AnsweredRunsAreCompleted }
+    ensures closed_contexts { RunsAreLegal }
+    ensures asked { AnsweredRunsAskTheSlice }
 {}
 
-/// Each decision that is given on the way of an answered run is that of its answer.
-pub fn given_decisions_are_the_answers()
-    ensures { GivenDecisionsAreTheAnswers }
+/// Each decision that is given on the way of an answered run is that of its answer. One that is asked for is given where all is bound,
+/// the request conforms, nothing is wanted and each uid that was asked for has an entity. Evaluating the policies over what is known
+/// gives each decision that is owed.
+pub fn decisions_are_the_answers()
+    ensures given { GivenDecisionsAreTheAnswers }
+    ensures owed { ReadyDecisionsAreOwed }
+    ensures forced { ForcedDecisionsAreGiven }
 {}
 
 /// The answer of a run is that of the whole store, whatever stands in it outside the slice, and so that of the loaded entities and the
@@ -34,38 +45,26 @@ pub fn answers_need_the_slice_alone()
     ensures whole { AnswersAreTheWholeStores }
     ensures loaded { AnswersNeedTheLoadedAlone }
     ensures errors { ErrorsAreExpected }
-{}
-
-/// A decision that is asked for is given where all is bound, the request conforms, nothing is wanted and each uid that was asked for has
-/// an entity.
-pub fn ready_decisions_are_owed()
-    ensures { ReadyDecisionsAreOwed }
+    ensures outside { OutsideSaysNothing }
 {}
 
 /// An answered run ends with all that its steps bind, over the whole store. So its answer doesn't depend on the order of the steps that
-/// bind, nor on where among them loads and decisions stand, nor on the level.
+/// bind, nor on where among them loads and decisions stand, nor on the level. What is accepted at a level is so at every larger one.
 pub fn steps_and_levels_are_free()
     ensures ends { EndsAreTheCourses }
     ensures steps { StepsMayMove }
     ensures levels { LevelsAnswerAlike }
+    ensures larger { LargerLevelsAccept }
 {}
 
-/// What a store has outside of the slice doesn't change the answer.
-pub fn outside_says_nothing()
-    ensures { OutsideSaysNothing }
-{}
-
-/// Policies in another order are accepted alike, and give the same decision, the same reasons and the same errors.
-pub fn moved_policies_answer_alike()
-    ensures accepted { PoliciesMayMove }
-    ensures answers { MovedPoliciesAnswerAlike }
-{}
-
-/// Declarations in another order are accepted alike, and come to the same answer; split among fragments they are the same.
-pub fn moved_declarations_answer_alike()
-    ensures accepted { DeclarationsMayMove }
+/// Policies in another order are accepted alike, and give the same decision, the same reasons and the same errors. Declarations in
+/// another order are accepted alike, and come to the same answer; split among fragments they are the same.
+pub fn order_is_free()
+    ensures policies { PoliciesMayMove }
+    ensures policies_answer { MovedPoliciesAnswerAlike }
+    ensures declarations { DeclarationsMayMove }
+    ensures declarations_answer { MovedDeclarationsAnswerAlike }
     ensures split { FragmentsMaySplit }
-    ensures answers { MovedDeclarationsAnswerAlike }
 {}
 
 /// The policies that aren't irrelevant for the request's types give the same decision and the same reasons alone, and none that is
@@ -75,25 +74,12 @@ pub fn pruned_answers_are_alike()
     ensures warned { WarnedAreNoReasons }
 {}
 
-/// Evaluating the policies over what is known gives each decision that is owed.
-pub fn forced_decisions_are_given()
-    ensures { ForcedDecisionsAreGiven }
-{}
-
-/// What a run does, a refused one too, is legal against each world that completes what was bound and answered by its end.
-pub fn proper_runs_are_legal()
-    ensures { RunsAreLegal }
-{}
-
 /// The premises of these laws are met: a policy at level 2 over a store of three entities and one that doesn't conform, in two rounds.
-pub fn worked_course()
+/// The same where the principal is bound late: the owner of the document was met at distance 1; once the owner is the principal its
+/// boss is near, and is asked for in one round more.
+pub fn worked_courses()
     ensures proper { IsProper loaded_course }
     ensures run { IsRun loaded_course (round (doc_d ∷ user_a ∷ []) ∷ round (user_b ∷ []) ∷ []) (answered p0_allows) }
-{}
-
-/// The same where the principal is bound late. The owner of the document was met at distance 1; once the owner is the principal its boss
-/// is near, and is asked for in one round more.
-pub fn worked_late_binding()
-    ensures proper { IsProper late_course }
-    ensures run { IsRun late_course (round (doc_d ∷ []) ∷ round (user_b ∷ []) ∷ bound (codes "principal") ∷ round (user_a ∷ []) ∷ []) (answered p0_denies) }
+    ensures late { IsProper late_course }
+    ensures late_run { IsRun late_course (round (doc_d ∷ []) ∷ round (user_b ∷ []) ∷ bound (codes "principal") ∷ round (user_a ∷ []) ∷ []) (answered p0_denies) }
 {}

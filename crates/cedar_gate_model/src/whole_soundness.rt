@@ -8,10 +8,8 @@ ghost use Rattle.cedar_schema_model.specs.Whole.Conforming.{entity_conforms};
 ghost use Rattle.cedar_typechecker_model.specs.Whole.Worked.{user_a, doc_d};
 ghost use Rattle.cedar_gate_model.specs.Whole.Acceptance.{IsAccepted, schema_in};
 ghost use Rattle.cedar_gate_model.specs.Whole.Slice.{slice};
-ghost use Rattle.cedar_gate_model.specs.Whole.SliceSoundness.{LookupsAreInReach, ConditionsAreInReach, AcceptedAreInReach, CompletionsFit, AcceptedAreSound, OnlyTheSliceAnswers, LargerLevelsAccept, IsFitFor};
-ghost use Rattle.cedar_gate_model.specs.Whole.Transcript.{round};
-ghost use Rattle.cedar_gate_model.specs.Whole.Runs.{answered, MayDecide, Runs};
-ghost use Rattle.cedar_gate_model.specs.Whole.WorkedGate.{user_b, user_z, p0, without_ok, level_two, three_and_z, viewed_by_a, loading, p0_allows};
+ghost use Rattle.cedar_gate_model.specs.Whole.SliceSoundness.{LookupsAreInReach, ConditionsAreInReach, AcceptedAreInReach, CompletionsFit, AcceptedAreSound, OnlyTheSliceAnswers, IsFitFor};
+ghost use Rattle.cedar_gate_model.specs.Whole.WorkedGate.{user_b, user_z, p0, without_ok, level_two, three_and_z, viewed_by_a};
 
 /// What a typed expression looks up is in the slice at a level where it has no violation, or is a declared action; the same of the
 /// condition of a policy, so of each policy of an accepted submission. Entities outside of the slice may be anything.
@@ -37,26 +35,13 @@ pub fn only_the_slice_answers()
     ensures { OnlyTheSliceAnswers }
 {}
 
-/// A submission that is accepted at a level is accepted at every larger one.
-pub fn larger_levels_accept()
-    ensures { LargerLevelsAccept }
-{}
-
-/// An accepted policy at level 2 over a store whose slice conforms. It looks up the owner of the document.
+/// An accepted policy at level 2 over a store whose slice conforms. It looks up the owner of the document. Its slice has three entities
+/// and not a user who doesn't conform; the answer is Allow.
 pub fn worked_slice()
     ensures accepted { IsAccepted level_two }
     ensures fit { IsFitFor level_two (viewed_by_a three_and_z) }
     ensures looked_up { Looks (viewed_by_a three_and_z) (condition p0) user_b }
-{}
-
-/// Its slice has three entities and not a user who doesn't conform; the answer is Allow.
-pub fn worked_slice_members()
     ensures members { slice (schema_in level_two) 2 (viewed_by_a three_and_z) ≡ user_a ∷ doc_d ∷ user_a ∷ user_b ∷ [] }
     ensures outside { entity_conforms (schema_in level_two) user_z without_ok ≡ false }
     ensures allowed { decision_of (viewed_by_a three_and_z) (p0 ∷ []) ≡ allow }
-{}
-
-/// The run that loads it: the document and the principal, then the owner, and the answer.
-pub fn worked_rounds()
-    ensures { Runs (MayDecide loading (p0 ∷ [])) loading (p0 ∷ []) [] (round (doc_d ∷ user_a ∷ []) ∷ round (user_b ∷ []) ∷ []) (answered p0_allows) }
 {}

@@ -110,8 +110,8 @@ abbrev pub ReadyDecisionsAreOwed : Type 0
 ReadyDecisionsAreOwed = (c : Course) (before after : List Entry) (d : Option Decision) (end : End) → IsProper c → IsRun c (before ++ decided d ∷ after) end → IsReady c (end_state c.steps before) → IsSome d
 
 -- What a run did, a refused one too, is legal against each world that completes its last state.
-abbrev pub RunsAreLegal : Type 0
-RunsAreLegal = (c : Course) (es : List Entry) (end : End) → IsProper c → IsRun c es end
+abbrev pub ProperRunsAreLegal : Type 0
+ProperRunsAreLegal = (c : Course) (es : List Entry) (end : End) → IsProper c → IsRun c es end
     → (w : World) → CompletesNow (session_of c) (end_state c.steps es) w → AreLegal (case_of (session_of c) c.submission.policies) w at_first es
 
 -- What evaluating in part gives: where it gives no decision, none is owed. The store is what is known of it, with the values as they are made.

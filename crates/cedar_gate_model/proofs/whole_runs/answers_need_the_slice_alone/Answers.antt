@@ -1,5 +1,6 @@
-use Rattle.cedar_gate_model.proofs.Whole.Runs.Deciding.{answer_is}
+use Rattle.cedar_gate_model.proofs.Whole.Runs.Alike.{outside_says_nothing}
 use Rattle.cedar_gate_model.proofs.Whole.Runs.Answering.{answer_is_loaded, errors_are_expected}
+use Rattle.cedar_gate_model.proofs.Whole.Runs.Deciding.{answer_is}
 use Rattle.cedar_gate_model.proofs.whole_runs.answers_need_the_slice_alone.Goals as goal
 
 pub returns-clause-whole : goal.returns-clause-whole
@@ -10,3 +11,6 @@ returns-clause-loaded c = λ k es a proper run. answer_is_loaded k proper es a r
 
 pub returns-clause-errors : goal.returns-clause-errors
 returns-clause-errors c = λ k es a e proper run. errors_are_expected k proper es a run e
+
+pub returns-clause-outside : goal.returns-clause-outside
+returns-clause-outside c = outside_says_nothing

@@ -1,3 +1,4 @@
+use Rattle.cedar_gate_model.proofs.Whole.Gate.Reach.{larger_levels_accept}
 use Rattle.cedar_gate_model.proofs.Whole.Runs.Alike.{ends_are_the_courses, steps_may_move, levels_answer_alike}
 use Rattle.cedar_gate_model.proofs.whole_runs.steps_and_levels_are_free.Goals as goal
 
@@ -9,3 +10,6 @@ returns-clause-steps c = steps_may_move
 
 pub returns-clause-levels : goal.returns-clause-levels
 returns-clause-levels c = levels_answer_alike
+
+pub returns-clause-larger : goal.returns-clause-larger
+returns-clause-larger c = larger_levels_accept

@@ -1,0 +1,13 @@
+use Rattle.cedar_gate_model.proofs.Whole.Runs.Deciding.{given_decisions}
+use Rattle.cedar_gate_model.proofs.Whole.Runs.Forcing.{forced_decisions_are_given}
+use Rattle.cedar_gate_model.proofs.Whole.Runs.Owing.{ready_decisions}
+use Rattle.cedar_gate_model.proofs.whole_runs.decisions_are_the_answers.Goals as goal
+
+pub returns-clause-given : goal.returns-clause-given
+returns-clause-given c = λ k es a d proper run m. given_decisions k proper es a run d m
+
+pub returns-clause-owed : goal.returns-clause-owed
+returns-clause-owed c = ready_decisions
+
+pub returns-clause-forced : goal.returns-clause-forced
+returns-clause-forced c = λ k s store proper same. forced_decisions_are_given k s store proper same

@@ -1,9 +1,0 @@
-use Rattle.cedar_gate_model.proofs.Whole.Gate.RoundsWorked.{two_rounds}
-use Rattle.cedar_gate_model.proofs.Whole.Runs.Worked.{loaded_proper}
-use Rattle.cedar_gate_model.proofs.whole_runs.worked_course.Goals as goal
-
-pub returns-clause-proper : goal.returns-clause-proper
-returns-clause-proper c = loaded_proper
-
-pub returns-clause-run : goal.returns-clause-run
-returns-clause-run c = two_rounds

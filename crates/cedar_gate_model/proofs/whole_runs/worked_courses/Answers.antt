@@ -1,0 +1,16 @@
+use Rattle.cedar_gate_model.proofs.Whole.Gate.RoundsWorked.{two_rounds}
+use Rattle.cedar_gate_model.proofs.Whole.Runs.LateWorked.{late_proper, late_run}
+use Rattle.cedar_gate_model.proofs.Whole.Runs.Worked.{loaded_proper}
+use Rattle.cedar_gate_model.proofs.whole_runs.worked_courses.Goals as goal
+
+pub returns-clause-proper : goal.returns-clause-proper
+returns-clause-proper c = loaded_proper
+
+pub returns-clause-run : goal.returns-clause-run
+returns-clause-run c = two_rounds
+
+pub returns-clause-late : goal.returns-clause-late
+returns-clause-late c = late_proper
+
+pub returns-clause-late_run : goal.returns-clause-late_run
+returns-clause-late_run c = late_run
