@@ -2,7 +2,7 @@
 
 ghost use Rattle.cedar_gate_model.specs.Whole.RunsAsk.{RunsAskOnce, RunsAskInTheSlice, RunsAskTheSlice, RunsHaveFewRounds};
 ghost use Rattle.cedar_gate_model.specs.Whole.RunsAlike.{EndsAreTheCourses, StepsMayMove, LevelsAnswerAlike, OutsideSaysNothing, PoliciesMayMove, MovedPoliciesAnswerAlike, PrunedAnswersAlike, WarnedAreNoReasons, DeclarationsMayMove, FragmentsMaySplit, MovedDeclarationsAnswerAlike};
-ghost use Rattle.cedar_gate_model.specs.Whole.RunsAnswer.{AnsweredRunsAreCompleted, GivenDecisionsAreTheAnswers, AnswersAreTheWholeStores, AnswersNeedTheLoadedAlone, ErrorsAreExpected, ReadyDecisionsAreOwed, ForcedDecisionsAreGiven, ProperRunsAreLegal, IsProper, IsRun};
+ghost use Rattle.cedar_gate_model.specs.Whole.RunsAnswer.{AnsweredRunsAreCompleted, GivenDecisionsAreTheAnswers, AnswersAreTheWholeStores, AnswersNeedTheLoadedAlone, ErrorsAreExpected, ReadyDecisionsAreOwed, ForcedDecisionsAreGiven, ProperRunsAreLegal, IsProper, IsRun, BundlesAreProper};
 ghost use Rattle.cedar_gate_model.specs.Whole.RunLaws.{RunsAreLegal, AnsweredRunsAskTheSlice};
 ghost use Rattle.cedar_gate_model.specs.Whole.SliceSoundness.{LargerLevelsAccept};
 ghost use Rattle.std.specs.Prelude.{[], ◌∷◌, codes};
@@ -74,10 +74,11 @@ pub fn pruned_answers_are_alike()
     ensures warned { WarnedAreNoReasons }
 {}
 
-/// The premises of these laws are met: a policy at level 2 over a store of three entities and one that doesn't conform, in two rounds.
+/// The premises of these laws are met by each bundle that is read and accepted, where the functions are fair. They are met here: a policy at level 2 over a store of three entities and one that doesn't conform, in two rounds.
 /// The same where the principal is bound late: the owner of the document was met at distance 1; once the owner is the principal its
 /// boss is near, and is asked for in one round more.
 pub fn worked_courses()
+    ensures bundles { BundlesAreProper }
     ensures proper { IsProper loaded_course }
     ensures run { IsRun loaded_course (round (doc_d ∷ user_a ∷ []) ∷ round (user_b ∷ []) ∷ []) (answered p0_allows) }
     ensures late { IsProper late_course }

@@ -16,3 +16,5 @@ pub mod Ancestors
 pub mod Reordered
 pub mod Forcing
 pub mod LateWorked
+pub mod WellMade
+pub mod Read

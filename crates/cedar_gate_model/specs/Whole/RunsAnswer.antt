@@ -1,11 +1,13 @@
 -- What the laws say of what runs decide and answer.
 -- Rule: runs; completions; the answer (docs/RULES.md).
-use Rattle.std.specs.Prelude.{◌≡◌, ◌||◌, ◌++◌, ◌∷◌, List, Contains, true, false, Option, Some, None, IsSome, unwrap_or, if◌then◌else◌}
+use Rattle.std.specs.Prelude.{◌≡◌, map, ◌||◌, ◌++◌, ◌∷◌, List, Contains, true, false, Option, Some, None, IsSome, unwrap_or, if◌then◌else◌}
 use Rattle.std.specs.List.{list_any}
-use Rattle.cedar_expr_model.specs.Name.{Text}
+use Rattle.std.specs.Map.{lookup}
+use Rattle.serde_json.specs.Data.{Data}
+use Rattle.cedar_expr_model.specs.Name.{Text, Name}
 use Rattle.cedar_expr_model.specs.Uid.{Uid, uid_eq}
-use Rattle.cedar_expr_model.specs.Whole.Made.{Made}
-use Rattle.cedar_expr_model.specs.Whole.Table.{IsFair, all_typed}
+use Rattle.cedar_expr_model.specs.Whole.Made.{Made, bare}
+use Rattle.cedar_expr_model.specs.Whole.Table.{IsFair, IsTaken, all_typed}
 use Rattle.cedar_expr_model.specs.Whole.Value.{V, truth_value}
 use Rattle.cedar_store_model.specs.Whole.World.{World, Entity, Found, missing}
 use Rattle.cedar_store_model.specs.Whole.Knowledge.{holds_values}
@@ -13,14 +15,15 @@ use Rattle.cedar_store_model.specs.Whole.Answer.{Decision, Answer, PolicyError, 
 use Rattle.cedar_schema_model.specs.Whole.Schema.{declares_action}
 use Rattle.cedar_schema_model.specs.Whole.Conforming.{RequestConforms}
 use Rattle.cedar_typechecker_model.specs.Whole.Soundness.{IsExpected}
-use Rattle.cedar_evaluator_model.specs.Scope.{Agrees}
+use Rattle.cedar_evaluator_model.specs.Scope.{makes, Agrees}
 use Rattle.cedar_evaluator_model.specs.Known.{known_found}
 use Rattle.cedar_evaluator_model.specs.Members.{decision_in_session}
 use Rattle.cedar_evaluator_model.specs.Response.{PartialRequest, response_of}
 use Rattle.cedar_evaluator_model.specs.WellMade.{IsWellMade}
 use Rattle.cedar_gate_model.specs.Whole.Acceptance.{Submission, IsAccepted, schema_in}
-use Rattle.cedar_gate_model.specs.Whole.Bundle.{Functions}
+use Rattle.cedar_gate_model.specs.Whole.Bundle.{Functions, Bundle}
 use Rattle.cedar_gate_model.specs.Whole.Moment.{request_of, at_first}
+use Rattle.cedar_gate_model.specs.Whole.ReadingBundle.{bundle_read}
 use Rattle.cedar_gate_model.specs.Whole.ReadingValue.{with_functions}
 use Rattle.cedar_gate_model.specs.Whole.Transcript.{Step, Entry, decided, AreLegal}
 use Rattle.cedar_gate_model.specs.Whole.Session.{Setup, State, scope_now, known_now, whole_store, world_now, NothingIsWanted, HasOpenName, CompletesNow}
@@ -118,3 +121,18 @@ ProperRunsAreLegal = (c : Course) (es : List Entry) (end : End) → IsProper c �
 abbrev pub ForcedDecisionsAreGiven : Type 0
 ForcedDecisionsAreGiven = (c : Course) (s : State) (store : Uid → Found Made) → IsProper c → ((u : Uid) → known_found (store u) ≡ (known_now (session_of c) s).store u)
     → decision_in_session (response_of (scope_now (session_of c) s store) c.submission.limit c.submission.policies) ≡ None → MayDecide (session_of c) c.submission.policies s None
+
+-- the course of a bundle
+abbrev pub course_of : Functions → Bundle → Course
+course_of x b = record { submission = b.submission; functions = x; start = b.start; store = λ u. lookup (uid_eq u) b.store; steps = b.steps }
+
+-- Fair functions, each with a result type, whose calls answer as the table does, with values as they are written.
+pub record MakeFairly (x : Functions) : Type 0 where
+  pub fair : IsFair x.table
+  pub typed : all_typed x.table ≡ true
+  pub agrees : Agrees (with_functions x)
+  pub well : (f : Name) (ms : List Made) (m : Made) → IsTaken x.table f (map bare ms) → x.calls f ms ≡ makes m → IsWellMade x.table m
+
+-- the course of a bundle that is read and accepted is proper
+abbrev pub BundlesAreProper : Type 0
+BundlesAreProper = (x : Functions) (d : Data) (b : Bundle) → MakeFairly x → bundle_read x d ≡ Some b → IsAccepted b.submission → IsProper (course_of x b)

@@ -82,7 +82,7 @@ lacking_is : {A : Type 0} (read : Data → Option A) (usual : A) (o : Option Dat
 lacking_is read usual None a e q = cc
 lacking_is read usual (Some d) a e q = cc
 
-there_has : {A : Type 0} (Q : A → Type 0) (read : Data → Option A) (usual : A) → Q usual → ((d : Data) (a : A) → read d ≡ Some a → Q a) → (o : Option Data) (a : A) → if_there read usual o ≡ Some a → Q a
+pub there_has : {A : Type 0} (Q : A → Type 0) (read : Data → Option A) (usual : A) → Q usual → ((d : Data) (a : A) → read d ≡ Some a → Q a) → (o : Option Data) (a : A) → if_there read usual o ≡ Some a → Q a
 there_has Q read usual h k None a e = let q : usual ≡ a = cc in subst Q q h
 there_has Q read usual h k (Some d) a e = k d a e
 

@@ -231,7 +231,7 @@ context_clean t (residual (record_literal gs)) fs e h = let q : gs ≡ fs = cc i
 context_clean t (value_left (made_record gs)) fs e h = cc
 context_clean t l fs e h = cc
 
-first_some : {A : Type 0} (a b : Option A) (c : A) → option_or a b ≡ Some c → (a ≡ Some c) ⊎ (b ≡ Some c)
+pub first_some : {A : Type 0} (a b : Option A) (c : A) → option_or a b ≡ Some c → (a ≡ Some c) ⊎ (b ≡ Some c)
 first_some None b c e = inr e
 first_some (Some a) b c e = inl e
 

@@ -25,15 +25,15 @@ use Rattle.cedar_evaluator_model.proofs.GivenReads.{length_bare}
 use Rattle.cedar_evaluator_model.proofs.Named.{call_of, field_names, field_trees, fields_named}
 use Rattle.cedar_gate_model.proofs.Whole.Reading.Values.{no_feature_split, feature_of}
 
-mapped_some : {A B : Type 0} (f : A → B) (q : Option A) (y : B) → option_map f q ≡ Some y → (x : A) × (q ≡ Some x) × (f x ≡ y)
+pub mapped_some : {A B : Type 0} (f : A → B) (q : Option A) (y : B) → option_map f q ≡ Some y → (x : A) × (q ≡ Some x) × (f x ≡ y)
 mapped_some f None y e = cc
 mapped_some f (Some x) y e = let k : f x ≡ y = cc in (x, refl, k)
 
 -- what is made of pieces is a value where each is one
-abbrev ComesOf : (List Made → Left) → Pieces → Made → Type 0
+abbrev pub ComesOf : (List Made → Left) → Pieces → Made → Type 0
 ComesOf next ps m = (qs : List (Part Made)) × (ps ≡ pieces qs) × ((ms : List Made) × (all_known qs ≡ Some ms) × (next ms ≡ value_left m))
 
-comes_of : (next : List Made → Left) (rebuilt : List Tree → Tree) (ps : Pieces) (m : Made) → from_pieces next rebuilt ps ≡ value_left m → ComesOf next ps m
+pub comes_of : (next : List Made → Left) (rebuilt : List Tree → Tree) (ps : Pieces) (m : Made) → from_pieces next rebuilt ps ≡ value_left m → ComesOf next ps m
 comes_of next rebuilt (halted s) m e = cc
 comes_of next rebuilt (pieces qs) m e = by_all (all_known qs) refl e
   where

@@ -1,7 +1,11 @@
 use Rattle.cedar_gate_model.proofs.Whole.Gate.RoundsWorked.{two_rounds}
 use Rattle.cedar_gate_model.proofs.Whole.Runs.LateWorked.{late_proper, late_run}
+use Rattle.cedar_gate_model.proofs.Whole.Runs.Read.{bundles_are_proper}
 use Rattle.cedar_gate_model.proofs.Whole.Runs.Worked.{loaded_proper}
 use Rattle.cedar_gate_model.proofs.whole_runs.worked_courses.Goals as goal
+
+pub returns-clause-bundles : goal.returns-clause-bundles
+returns-clause-bundles c = bundles_are_proper
 
 pub returns-clause-proper : goal.returns-clause-proper
 returns-clause-proper c = loaded_proper
