@@ -1,19 +1,17 @@
 -- Policies by schemas that answer alike: the same pass, and none reaches further.
-use Rattle.std.proofs.Common.{◌≡◌, ◌↔◌, ◌∙◌, ℕ, Bool, true, false, List, [], ◌∷◌, Option, Some, None, refl, sym, ap, subst, inl, inr, ⊎_elim, ◌⊎◌}
+use Rattle.std.proofs.Common.{◌≡◌, ◌↔◌, ◌∙◌, ℕ, true, List, Option, sym, subst, inl, inr, ⊎_elim}
 use Rattle.std.specs.Prelude.{Contains}
-use Rattle.std.specs.List.{list_all, flat_map}
-use Rattle.std.specs.List.Sorted.{IsPermutation}
 use Rattle.std.proofs.lemmas.List.Sorted.{Contains-permutation}
 use Rattle.cedar_expr_model.specs.Name.{Name}
 use Rattle.cedar_expr_model.specs.Whole.Table.{Table}
-use Rattle.cedar_expr_model.proofs.Lists.{all_each, all_from, flat_from, flat_has, contains_none}
+use Rattle.cedar_expr_model.proofs.Lists.{all_each, all_from, flat_from, flat_has}
 use Rattle.cedar_store_model.specs.Whole.Policy.{Policy, condition}
 use Rattle.cedar_schema_model.specs.Whole.BagLaws.{IsReordered}
 use Rattle.cedar_schema_model.specs.Whole.Declarations.{Declarations}
 use Rattle.cedar_schema_model.specs.Whole.Resolved.{schema_of}
 use Rattle.cedar_schema_model.specs.Whole.WellFormed.{IsWellFormed}
 use Rattle.cedar_schema_model.proofs.Whole.Decls.SameSchema.{same_types_found, same_actions_found, types_moved, actions_moved}
-use Rattle.cedar_schema_model.specs.Whole.DeclLaws.{IsProduct, IsAtOrAbove, TakesSlot, IsLinked}
+use Rattle.cedar_schema_model.specs.Whole.DeclLaws.{IsAtOrAbove, TakesSlot}
 use Rattle.cedar_schema_model.specs.Whole.Environment.{Environment, SlotUse, no_slot, equal_slot, in_slot, environments}
 use Rattle.cedar_schema_model.specs.Whole.Schema.{Schema}
 use Rattle.cedar_schema_model.specs.Whole.Types.{strict}

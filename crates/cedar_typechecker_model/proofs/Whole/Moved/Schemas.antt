@@ -1,5 +1,5 @@
 -- Schemas with the same types and actions in another order answer alike.
-use Rattle.std.proofs.Common.{◌≡◌, ◌∙◌, Bool, true, false, cond, ◌||◌, ◌&&◌, not, List, [], ◌∷◌, map, Option, Some, None, is_some, refl, sym, ap, subst, inl, inr, ⊎_elim, ◌⊎◌, if◌then◌else◌}
+use Rattle.std.proofs.Common.{◌≡◌, Bool, true, false, ◌||◌, not, List, Option, Some, None, is_some, refl, sym, ap, inl, inr, ⊎_elim}
 use Rattle.std.specs.Prelude.{Contains, option_and_then}
 use Rattle.std.specs.Bool.{Decides}
 use Rattle.std.specs.List.{list_any}
@@ -10,12 +10,12 @@ use Rattle.cedar_expr_model.specs.Name.{Text, Name, name_eq}
 use Rattle.cedar_expr_model.specs.Uid.{Uid}
 use Rattle.cedar_expr_model.specs.Whole.Lists.{all_given}
 use Rattle.cedar_expr_model.proofs.Lists.{any_from, any_has}
-use Rattle.cedar_schema_model.specs.Whole.Types.{Ty, never, any_entity, bool_type, long_type, string_type, any_set, set_type, extension_type, entity_types, record_type, is_open, is_closed, Declared, attribute_named}
+use Rattle.cedar_schema_model.specs.Whole.Types.{Ty, entity_types, record_type, is_open, is_closed, attribute_named}
 use Rattle.cedar_schema_model.specs.Whole.Schema.{EntityType, Action, Schema, type_named, action_with, declares_type, declares_action}
-use Rattle.cedar_schema_model.specs.Whole.Descent.{type_names, action_uids, HasParent, HasActionParent, Descends, ActionDescends, descends, action_descends, IsActionAncestor, type_descends}
+use Rattle.cedar_schema_model.specs.Whole.Descent.{type_names, action_uids, HasParent, HasActionParent, Descends, ActionDescends, action_descends, IsActionAncestor, type_descends}
 use Rattle.cedar_schema_model.specs.Whole.DeclLaws.{ActionTypeDescends, TypeDescends}
 use Rattle.cedar_schema_model.specs.Whole.Lookup.{attributes_of_kind, declared_of, declared_by_all, lookup_attribute, may_have_attribute}
-use Rattle.cedar_schema_model.proofs.Whole.Decls.Descent.{descends-Decides, action_descends-Decides, type_descends-Decides}
+use Rattle.cedar_schema_model.proofs.Whole.Decls.Descent.{action_descends-Decides, type_descends-Decides}
 use Rattle.cedar_schema_model.proofs.Whole.Decls.Reordered.{reaches_along}
 use Rattle.cedar_typechecker_model.specs.Whole.Rules.{may_be_in, kind_tags, tags_of}
 use Rattle.cedar_typechecker_model.specs.Whole.ScopeRules.{is_action_type, is_known_type, is_no_unknown_action, has_id, is_no_unknown_member}
