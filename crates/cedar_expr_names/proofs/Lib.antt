@@ -3,3 +3,4 @@ pub mod RoundTrip
 mod Splitting
 mod PartByPart
 mod Writing
+pub mod Literals

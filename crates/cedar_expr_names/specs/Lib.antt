@@ -2,3 +2,4 @@ pub mod Ids
 pub mod Parts
 pub mod Views
 pub mod Refusals
+pub mod Literals
