@@ -1,0 +1,3 @@
+pub mod Types
+pub mod Extension
+pub mod Extensions

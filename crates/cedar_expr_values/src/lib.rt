@@ -1,0 +1,12 @@
+//! Values of Cedar's expressions: core types, extension values, values with places, and sets.
+#![tactic(auto)]
+
+pub mod extension;
+pub mod types;
+
+pub use cedar_expr_names::{
+    Eid, EntityType, EntityUID, Id, InternalName, Literal, Loc, Name, NameError, Quoted, RawName,
+    ReservedNameError, is_normalized_ident,
+};
+pub use extension::{ExtValue, ExtensionValue, InternalExtensionValue};
+pub use types::{StaticallyTyped, Type};
