@@ -29,10 +29,10 @@ pub Lacks-append : (q : ℕ) (a b : Text) → Lacks q a → Lacks q b → Lacks 
 Lacks-append q [] b h k = k
 Lacks-append q (x ∷ a) b h k = (h.0, Lacks-append q a b h.1 k)
 
-same_heads : (x y : ℕ) (a b : Text) → x ∷ a ≡ y ∷ b → (x ≡ y) × (a ≡ b)
+pub same_heads : (x y : ℕ) (a b : Text) → x ∷ a ≡ y ∷ b → (x ≡ y) × (a ≡ b)
 same_heads x y a b e = (cc, cc)
 
-two_heads : (x y v w : ℕ) (a b : Text) → x ∷ v ∷ a ≡ y ∷ w ∷ b → (v ≡ w) × (a ≡ b)
+pub two_heads : (x y v w : ℕ) (a b : Text) → x ∷ v ∷ a ≡ y ∷ w ∷ b → (v ≡ w) × (a ≡ b)
 two_heads x y v w a b e = (cc, cc)
 
 -- two texts are the same up to the first such byte
@@ -48,11 +48,11 @@ split_at q (x ∷ a) (y ∷ b) r s h k e =
     (cc, u.1)
 
 -- the escape by a character's number
-abbrev hexed : ℕ → Text
+abbrev pub hexed : ℕ → Text
 hexed c = 92 ∷ 117 ∷ 123 ∷ (digits 16 false c ++ 125 ∷ [])
 
 -- How a character is escaped.
-data Form : ℕ → Text → Type 0 where
+pub data Form : ℕ → Text → Type 0 where
   quote : Form 34 (92 ∷ 34 ∷ [])
   slash : Form 92 (92 ∷ 92 ∷ [])
   plain : {c : ℕ} → c ≢ 34 → c ≢ 92 → Form c (c ∷ [])
@@ -64,7 +64,7 @@ form_of c false true p e f = subst (λ x. Form x (92 ∷ 92 ∷ [])) (sym ((Deci
 form_of c false false true e f = plain (apart_from c 34 e) (apart_from c 92 f)
 form_of c false false false e f = number
 
-form : (c : ℕ) → Form c (escaped c)
+pub form : (c : ℕ) → Form c (escaped c)
 form c = form_of c (c == 34) (c == 92) (nat_le 32 c && nat_le c 126) refl refl
 
 -- digits hold no brace
@@ -88,7 +88,7 @@ numbers_apart c d r s m n e =
     (sym u.1 ∙ (ap (digits_value 16) w.0 ∙ v.1), w.1)
 
 -- equal texts begin with the same character
-forms_apart : (c d : ℕ) (t u r s : Text) → c < 16 ^ 64 → d < 16 ^ 64 → Form c t → Form d u → t ++ r ≡ u ++ s → (c ≡ d) × (r ≡ s)
+pub forms_apart : (c d : ℕ) (t u r s : Text) → c < 16 ^ 64 → d < 16 ^ 64 → Form c t → Form d u → t ++ r ≡ u ++ s → (c ≡ d) × (r ≡ s)
 forms_apart c d t u r s m n quote quote e = (refl, (two_heads 92 92 34 34 r s e).1)
 forms_apart c d t u r s m n quote slash e = absurd (differ 34 92 refl (two_heads 92 92 34 92 r s e).0)
 forms_apart c d t u r s m n quote (plain {c = x} p q) e = absurd (q (sym (same_heads 92 x (34 ∷ r) s e).0))
@@ -113,7 +113,7 @@ form_goes_on c t r slash e = differ 92 34 refl (same_heads 92 34 (92 ∷ r) [] e
 form_goes_on c t r (plain {c = x} p q) e = p (same_heads x 34 r [] e).0
 form_goes_on c t r (number {c = x}) e = differ 92 34 refl (same_heads 92 34 _ [] e).0
 
-scalar_small : (c : ℕ) → IsScalar c → c < 16 ^ 64
+pub scalar_small : (c : ℕ) → IsScalar c → c < 16 ^ 64
 scalar_small c h = lt_trans (scalar_fits c h) (lit< tt)
 
 -- equal escaped texts are of the same characters

@@ -4,6 +4,7 @@ pub mod Rising
 pub mod Sets
 pub mod Sameness
 pub mod Patterns
+pub mod PatternTexts
 pub mod CoreTypes
 pub mod WellFormed
 pub mod Building

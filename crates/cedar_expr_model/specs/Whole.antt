@@ -24,5 +24,6 @@ pub mod Represented
 pub mod Laws
 pub mod TreeLaws
 pub mod ListLaws
+pub mod TextLaws
 pub mod FirstPath
 pub mod Worked

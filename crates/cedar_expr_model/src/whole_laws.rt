@@ -6,6 +6,7 @@ ghost use Rattle.cedar_expr_model.specs.Whole.Laws.{IsLinear, NamesByText, UidsB
 ghost use Rattle.cedar_expr_model.specs.Whole.Builder.{tree_builder};
 ghost use Rattle.cedar_expr_model.specs.Whole.BuilderForm.{IsLawful};
 ghost use Rattle.cedar_expr_model.specs.Whole.TreeLaws.{BuiltIsBuilt, SubstitutedIsBuilt, BuiltStays, BuiltTwice, UnboundStays, BoundLeavesNone, BuildersAgree, WrittenIsRestricted, WrittenHasNoUnknown, WrittenIsBuilt, MismatchDecides, MismatchIsFirst, UnknownsAreListed, UnknownIsPart, ProjectableByParts, RestrictedDecides, WrittenShowsType, WrittenIsValue, ShapesDecide, RepresentedHasResult, RepresentedIsValid};
+ghost use Rattle.cedar_expr_model.specs.Whole.TextLaws.{PatternsHaveTheirText};
 ghost use Rattle.cedar_expr_model.specs.Whole.ListLaws.{RepeatsDecide, RepeatIsFirst, TableFaultDecides, FunctionFault, ConstructorFault, InOrderRises, InOrderFinds, InOrderStays, RecordsAreCanonical, RecordsHaveLast, SubsetDecides, DisjointDecides, SplitGivesValues, NamespaceIsKept, QualifiedStays, QualifiedOnce};
 
 /// Texts, names, uids, literals and values are totally ordered, and the order finds no difference exactly between equal ones.
@@ -43,6 +44,11 @@ pub fn sets_are_made_of_members()
 /// The test of a pattern is true exactly where the pattern matches.
 pub fn patterns_decide()
     ensures { PatternsDecide }
+{}
+
+/// Two patterns of characters with the same text are the same.
+pub fn pattern_texts_tell_apart()
+    ensures { PatternsHaveTheirText }
 {}
 
 /// The tests of core types and of annotations are true exactly where the types are the same.

@@ -11,6 +11,7 @@ use Rattle.cedar_expr_names.specs.declared.name.Name.{Name}
 use Rattle.cedar_expr_names.specs.declared.name.RawName.{RawName}
 use Rattle.cedar_expr_names.specs.declared.err.ReservedNameError.{ReservedNameError}
 use Rattle.cedar_expr_names.specs.declared.quoted.Quoted.{Quoted}
+use Rattle.cedar_expr_names.specs.declared.quoted.Escaped.{Escaped}
 use Rattle.cedar_expr_names.specs.declared.entity.EntityType.{EntityType}
 use Rattle.cedar_expr_names.specs.declared.entity.Eid.{Eid}
 use Rattle.cedar_expr_names.specs.declared.entity.EntityUID.{EntityUID}
@@ -63,3 +64,7 @@ refused_name_of e = name_of e.name
 -- the text that is shown in quotes
 abbrev pub quoted_text : Quoted → Text
 quoted_text q = q.0.now
+
+-- the character that is shown as in quotes
+abbrev pub escaped_char : Escaped → ℕ
+escaped_char e = e.0

@@ -18,7 +18,7 @@ pub use internal_name::InternalName;
 pub use literal::Literal;
 pub use loc::Loc;
 pub use name::{Name, RawName};
-pub use quoted::Quoted;
+pub use quoted::{Escaped, Quoted};
 
 #[cfg(test)]
 mod tests;

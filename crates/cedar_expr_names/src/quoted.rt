@@ -2,7 +2,7 @@
 
 ghost use Rattle.std.specs.Prelude.{◌≡◌, Some};
 ghost use Rattle.cedar_expr_model.specs.Uid.{escaped, quoted};
-ghost use Rattle.cedar_expr_names.specs.Views.{quoted_text};
+ghost use Rattle.cedar_expr_names.specs.Views.{quoted_text, escaped_char};
 
 use std::fmt;
 use std::fmt::{Display, Formatter, Write};
@@ -27,18 +27,27 @@ impl<'a> Display for Quoted<'a> {
     fn fmt<W: Write>(&self, f: &mut Formatter<W>) -> fmt::Result {
         write!(f, "\"")?;
         for c in self.0.chars() {
-            write!(f, "{}", Escaped(c))?;
+            write!(f, "{}", Escaped::new(c))?;
         }
         write!(f, "\"")
     }
 }
 
-// A character that is shown as it stands in a quoted text.
-#[derive(Drop)]
-struct Escaped(char);
+/// A character that is shown as it stands in a quoted text.
+#[derive(Debug, Clone, Copy, Drop)]
+pub struct Escaped(char);
+
+impl Escaped {
+    /// This character, to be shown as in quotes.
+    pub fn new(c: char) -> Escaped
+        ensures { escaped_char result ≡ c }
+    {
+        Escaped(c)
+    }
+}
 
 impl Display for Escaped {
-    ghost output = { λ e. Some (escaped e.0) };
+    ghost output = { λ e. Some (escaped (escaped_char e)) };
 
     fn fmt<W: Write>(&self, f: &mut Formatter<W>) -> fmt::Result {
         match self.0 {

@@ -1,0 +1,3 @@
+mod Comparing
+mod Walking
+mod Turning

@@ -1,0 +1,4 @@
+pub mod Patterns
+pub mod Turns
+pub mod Slots
+pub mod Variables
