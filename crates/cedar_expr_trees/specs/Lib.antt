@@ -1,2 +1,4 @@
 pub mod Operators
+pub mod Unknowns
 pub mod Trees
+pub mod Refusals
