@@ -2,6 +2,7 @@
 #![tactic(auto)]
 
 pub mod constructors;
+pub mod contents;
 pub mod err;
 pub mod expr;
 pub mod non_empty;
