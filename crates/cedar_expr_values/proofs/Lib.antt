@@ -1,1 +1,9 @@
 mod CoreTypes
+mod Layers
+mod Derived
+mod Compared
+mod Places
+mod Deduplicated
+mod Searched
+mod Walked
+mod Members

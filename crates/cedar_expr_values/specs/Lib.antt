@@ -1,3 +1,5 @@
 pub mod Types
 pub mod Extension
 pub mod Extensions
+pub mod Values
+pub mod Rising
