@@ -13,7 +13,8 @@ use Rattle.cedar_expr_model.specs.Whole.Made as model
 use Rattle.cedar_expr_model.specs.Whole.Made.{Made, Mades}
 use Rattle.cedar_expr_names.proofs.Literals.{literals_cmp_is}
 use Rattle.cedar_expr_values.specs.Extension.{Extension, extension_cmp}
-use Rattle.cedar_expr_values.specs.Values.{made, made_kind, mades, bare, bare_kind, bares, made_list, made_fields, by_text, kind_step, set_step, value_step}
+use Rattle.cedar_expr_values.specs.Fields.{by_text}
+use Rattle.cedar_expr_values.specs.Values.{made, made_kind, mades, bare, bare_kind, bares, made_list, made_fields, kind_step, set_step, value_step}
 use Rattle.cedar_expr_values.specs.declared.value.Value.{Value, Value-F, map-Value, out-Value, roll-Value, ind-Value, fold-roll-Value, fold_out-Value}
 use Rattle.cedar_expr_values.specs.declared.value.ValueKind.{ValueKind, ValueKind-F, map-ValueKind, out-ValueKind, roll-ValueKind, out-roll-ValueKind, fold-roll-ValueKind, fold_out-ValueKind}
 use Rattle.cedar_expr_values.specs.declared.value.Set.{Set, Set-F, map-Set, out-Set, roll-Set, out-roll-Set, fold-roll-Set, fold_out-Set}

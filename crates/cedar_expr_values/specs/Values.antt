@@ -17,6 +17,7 @@ use Rattle.cedar_expr_names.specs.Literals.{literal_of}
 use Rattle.cedar_expr_names.specs.declared.loc.Loc.{Loc}
 use Rattle.cedar_expr_values.specs.Extension.{Extension, made_of_extension}
 use Rattle.cedar_expr_values.specs.Rising.{in_rising}
+use Rattle.cedar_expr_values.specs.Fields.{by_text}
 use Rattle.cedar_expr_values.specs.declared.value.Value.{Value, Value-F, fold-Value}
 use Rattle.cedar_expr_values.specs.declared.value.ValueKind.{ValueKind, ValueKind-F, fold-ValueKind}
 use Rattle.cedar_expr_values.specs.declared.value.Set.{Set, Set-F, fold-Set}
@@ -29,10 +30,6 @@ made_list (m ∷ ms) = model.made m (made_list ms)
 abbrev pub made_fields : List (Text × Made) → MadeFields
 made_fields [] = no_made_fields
 made_fields (p ∷ ps) = made_field p.0 p.1 (made_fields ps)
-
--- a name and what stands under it
-abbrev pub by_text : {A : Type 0} → RcStr Global × A → Text × A
-by_text p = (rc_str_bytes p.0, p.1)
 
 -- made values in the order of what they are, whatever call made them
 abbrev pub made_cmp : Made → Made → Ordering
@@ -85,6 +82,10 @@ made_pair seen p = (rc_str_bytes p.0, made seen p.1)
 
 abbrev pub bare_pair : {X : Type 0} → (X → Extension) → RcStr Global × Value X → Text × V
 bare_pair seen p = (rc_str_bytes p.0, bare seen p.1)
+
+-- the values alone
+abbrev pub values_of : {X : Type 0} → List (RcStr Global × Value X) → List (Value X)
+values_of ps = map (λ p. p.1) ps
 
 -- each of these values is canonical
 abbrev pub all_canonical : {X : Type 0} → (X → Extension) → List (Value X) → Bool

@@ -2,6 +2,7 @@
 #![tactic(auto)]
 
 pub mod extension;
+mod fields;
 mod rising;
 pub mod types;
 pub mod value;

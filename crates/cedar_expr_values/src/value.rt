@@ -6,6 +6,7 @@ ghost use Rattle.cedar_expr_names.specs.Literals.{literal_of};
 ghost use Rattle.cedar_expr_values.specs.Values.{made};
 
 use crate::extension::ExtensionValue;
+use crate::fields::field_map;
 use crate::rising::{all_among, in_rising, is_among, none_among};
 use crate::types::{StaticallyTyped, Type};
 use cedar_expr_names::{Literal, Loc};
@@ -154,6 +155,72 @@ impl<X: Drop> Clone for Set<X> {
         Ok(Set {
             members: self.members.clone()?,
         })
+    }
+}
+
+impl<X: ExtensionValue> ValueKind<X> {
+    ghost use Rattle.std.specs.Prelude.{◌≡◌, true, map, IfOk};
+    ghost use Rattle.std.specs.BTreeMap.{IsOrdered};
+    ghost use Rattle.cedar_expr_model.specs.Whole.Value.{prim};
+    ghost use Rattle.cedar_expr_model.specs.Whole.Canonical.{is_canonical, set_made};
+    ghost use Rattle.cedar_expr_model.specs.Whole.Records.{record_made};
+    ghost use Rattle.cedar_expr_model.specs.Whole.Made.{made_prim, made_set, made_record, no_mades, no_made_fields};
+    ghost use Rattle.cedar_expr_names.specs.Literals.{literal_of};
+    ghost use Rattle.cedar_expr_values.specs.Values.{made, made_kind, made_fields, made_pair, bare, bare_kind, bare_pair, all_canonical, values_of, members_as_made, record_as_made};
+
+    /// The empty set. Answers want of memory.
+    pub fn empty_set(alloc: Global) -> Result<ValueKind<X>, AllocError>
+        ensures { IfOk result (λ k. made_kind X.seen k ≡ made_set no_mades) }
+    {
+        let set = Set::empty(alloc)?;
+        Ok(ValueKind::Set(set))
+    }
+
+    /// The empty record. Answers want of memory.
+    pub fn empty_record(alloc: Global) -> Result<ValueKind<X>, AllocError>
+        ensures { IfOk result (λ k. made_kind X.seen k ≡ made_record no_made_fields) }
+    {
+        let fields = Rc::new(alloc, BTreeMap::new(alloc))?;
+        Ok(ValueKind::Record(fields))
+    }
+
+    /// The set of these values. Of equal ones it keeps the first. Answers want of memory.
+    pub fn set(alloc: Global, values: Vec<Value<X>>) -> Result<ValueKind<X>, AllocError>
+        ensures members { IfOk result (λ k. bare_kind X.seen k ≡ set_made (map (bare X.seen) values.items)) }
+        ensures canonical { IfOk result (λ k. all_canonical X.seen values.items ≡ true → is_canonical (bare_kind X.seen k) ≡ true) }
+        ensures as_made { IfOk result (λ k. made_kind X.seen k ≡ made_set (members_as_made (map (made X.seen) values.items))) }
+    {
+        let set = Set::new(alloc, values)?;
+        Ok(ValueKind::Set(set))
+    }
+
+    /// The set of these literals. Answers want of memory.
+    pub fn set_of_lits(alloc: Global, literals: Vec<Literal>) -> Result<ValueKind<X>, AllocError>
+        ensures members { IfOk result (λ k. bare_kind X.seen k ≡ set_made (map (λ l. prim (literal_of l)) literals.items)) }
+        ensures canonical { IfOk result (λ k. is_canonical (bare_kind X.seen k) ≡ true) }
+        ensures as_made { IfOk result (λ k. made_kind X.seen k ≡ made_set (members_as_made (map (λ l. made_prim (literal_of l)) literals.items))) }
+    {
+        let set = Set::from_lits(alloc, literals)?;
+        Ok(ValueKind::Set(set))
+    }
+
+    /// The record of these values by name. Of a repeated name the last stands. Answers want of memory.
+    pub fn record(alloc: Global, pairs: Vec<(RcStr, Value<X>)>) -> Result<ValueKind<X>, AllocError>
+        ensures fields { IfOk result (λ k. bare_kind X.seen k ≡ record_made (map (bare_pair X.seen) pairs.items)) }
+        ensures canonical { IfOk result (λ k. all_canonical X.seen (values_of pairs.items) ≡ true → is_canonical (bare_kind X.seen k) ≡ true) }
+        ensures as_made { IfOk result (λ k. made_kind X.seen k ≡ record_as_made (map (made_pair X.seen) pairs.items)) }
+    {
+        let fields = field_map(alloc, pairs)?;
+        let fields = Rc::new(alloc, fields)?;
+        Ok(ValueKind::record_arc(fields))
+    }
+
+    /// The record of these fields.
+    pub fn record_arc(fields: Rc<BTreeMap<RcStr, Value<X>>>) -> ValueKind<X>
+        ensures as_made { made_kind X.seen result ≡ made_record (made_fields (map (made_pair X.seen) fields.value.entries)) }
+        ensures canonical { IsOrdered ⟦<RcStr as Ord>⟧.cmp fields.value → all_canonical X.seen (values_of fields.value.entries) ≡ true → is_canonical (bare_kind X.seen result) ≡ true }
+    {
+        ValueKind::Record(fields)
     }
 }
 
