@@ -1,1 +1,11 @@
 mod CoreTypes
+mod Layers
+mod Derived
+mod Compared
+mod Places
+mod Deduplicated
+mod Searched
+mod Walked
+mod Members
+mod Pairs
+mod Recorded

@@ -1,3 +1,6 @@
 pub mod Types
 pub mod Extension
 pub mod Extensions
+pub mod Fields
+pub mod Values
+pub mod Rising

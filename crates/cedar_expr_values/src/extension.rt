@@ -15,7 +15,7 @@ use std::cmp::Ordering;
 
 /// An extension value. It has a type, a key, and a call that makes it, and is ordered by the name of the type and then by the
 /// bytes of the key.
-pub trait ExtensionValue: Ord {
+pub trait ExtensionValue: Ord + Drop {
     /// What the value is.
     ghost seen: { Self → Extension };
 

@@ -2,7 +2,10 @@
 #![tactic(auto)]
 
 pub mod extension;
+mod fields;
+mod rising;
 pub mod types;
+pub mod value;
 
 pub use cedar_expr_names::{
     Eid, EntityType, EntityUID, Id, InternalName, Literal, Loc, Name, NameError, Quoted, RawName,
@@ -10,3 +13,4 @@ pub use cedar_expr_names::{
 };
 pub use extension::{ExtValue, ExtensionValue, InternalExtensionValue};
 pub use types::{StaticallyTyped, Type};
+pub use value::{Set, Value, ValueKind};
