@@ -1,3 +1,5 @@
 pub mod Trees
 pub mod ByParts
 pub mod Sizes
+mod Repeated
+mod Ordered

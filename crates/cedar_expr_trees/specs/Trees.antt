@@ -10,6 +10,7 @@ use Rattle.cedar_expr_names.specs.Literals.{literal_of}
 use Rattle.cedar_expr_leaves.specs.Patterns.{pattern_of}
 use Rattle.cedar_expr_leaves.specs.Slots.{slot_of}
 use Rattle.cedar_expr_leaves.specs.Variables.{var_of}
+use Rattle.cedar_expr_values.specs.Fields.{by_text}
 use Rattle.cedar_expr_model.specs.Name.{Text}
 use Rattle.cedar_expr_model.specs.Whole.Tree.{Tree, lit, var, slot, unknown, choice, both, either, unary, binary, call, get_attr, has_attr, has_path, like, is_type, set_literal, record_literal, Trees, no_trees, tree, TreeFields, no_tree_fields, tree_field}
 use Rattle.cedar_expr_trees.specs.Operators.{unary_op_of, binary_op_of}
@@ -19,7 +20,7 @@ use Rattle.cedar_expr_trees.specs.declared.expr.ExprKind.{ExprKind, Row_of-Expr,
 
 -- the fields of a record, by the texts of their names
 abbrev pub named : {A : Type 0} → List (RcStr Global × A) → List (Text × A)
-named es = map (λ e. (rc_str_bytes e.0, e.1)) es
+named es = map by_text es
 
 -- the names of entries
 abbrev names_of : {A : Type 0} → List (RcStr Global × A) → List Text

@@ -3,7 +3,9 @@
 ghost use Rattle.std.specs.Prelude.{◌≡◌};
 ghost use Rattle.std.specs.Rc.{rc_str_bytes};
 ghost use Rattle.cedar_expr_trees.specs.Refusals.{repeated_key, repeated_context};
+ghost use Rattle.cedar_expr_trees.specs.declared.err.ExpressionConstructionError.TheVariants.{OutOfMemory};
 
+use std::alloc::{AllocError, AllocFailed};
 use std::rc::RcStr;
 use thiserror::Error;
 
@@ -60,4 +62,20 @@ pub enum ExpressionConstructionError {
     /// A key stands twice in a record.
     #[error(transparent)]
     DuplicateKey(DuplicateKeyError),
+}
+
+impl From<AllocError> for ExpressionConstructionError {
+    ghost from_gives = { λ _ e. e ≡ OutOfMemory };
+
+    fn from(_error: AllocError) -> ExpressionConstructionError {
+        ExpressionConstructionError::OutOfMemory
+    }
+}
+
+impl<T: Drop> From<AllocFailed<T>> for ExpressionConstructionError {
+    ghost from_gives = { λ _ e. e ≡ OutOfMemory };
+
+    fn from(_error: AllocFailed<T>) -> ExpressionConstructionError {
+        ExpressionConstructionError::OutOfMemory
+    }
 }

@@ -7,6 +7,7 @@ pub mod err;
 pub mod expr;
 pub mod non_empty;
 pub mod ops;
+pub mod records;
 
 pub use cedar_expr_leaves::{Pattern, PatternElem, Slot, SlotId, Var};
 pub use cedar_expr_values::{

@@ -7,5 +7,5 @@ mod Deduplicated
 mod Searched
 mod Walked
 mod Members
-mod Pairs
-mod Recorded
+pub mod Pairs
+pub mod Recorded

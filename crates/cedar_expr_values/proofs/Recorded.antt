@@ -29,7 +29,7 @@ use Rattle.cedar_expr_values.specs.declared.value.ValueKind.{ValueKind, ValueKin
 use Rattle.cedar_expr_values.specs.declared.value.ValueKind.TheVariants.{Record, rolls-Record}
 
 -- what stands under the names, changed
-abbrev under : {A B : Type 0} → (A → B) → Text × A → Text × B
+abbrev pub under : {A B : Type 0} → (A → B) → Text × A → Text × B
 under f p = (p.0, f p.1)
 
 placed_under : {A B : Type 0} (f : A → B) (p : Text × A) (qs : List (Text × A)) → pair_placed p.0 (f p.1) (map (under f) qs) ≡ map (under f) (pair_placed p.0 p.1 qs)
@@ -41,7 +41,7 @@ placed_under f p (q ∷ qs) = go (text_cmp p.0 q.0) (placed_under f p qs)
     go Equal h = refl
     go Greater h = ap (λ us. under f q ∷ us) h
 
-in_order_under : {A B : Type 0} (f : A → B) (ps : List (Text × A)) → in_order (map (under f) ps) ≡ map (under f) (in_order ps)
+pub in_order_under : {A B : Type 0} (f : A → B) (ps : List (Text × A)) → in_order (map (under f) ps) ≡ map (under f) (in_order ps)
 in_order_under f [] = refl
 in_order_under f (p ∷ ps) = ap (pair_placed p.0 (f p.1)) (in_order_under f ps) ∙ placed_under f p (in_order ps)
 
