@@ -3,3 +3,5 @@ pub mod ByParts
 pub mod Sizes
 mod Repeated
 mod Ordered
+mod Walked
+mod Gathered

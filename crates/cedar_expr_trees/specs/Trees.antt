@@ -23,7 +23,7 @@ abbrev pub named : {A : Type 0} → List (RcStr Global × A) → List (Text × A
 named es = map by_text es
 
 -- the names of entries
-abbrev names_of : {A : Type 0} → List (RcStr Global × A) → List Text
+abbrev pub names_of : {A : Type 0} → List (RcStr Global × A) → List Text
 names_of es = map (λ e. rc_str_bytes e.0) es
 
 -- the tree of a kind
@@ -53,7 +53,7 @@ abbrev mutual
 
   pub row_fields : {T : Type 0} {n : _} → List Text → Row_of-Expr T n → TreeFields
   row_fields names end_of-Expr = no_tree_fields
-  row_fields [] (more_of-Expr k l d rest) = no_tree_fields
+  row_fields [] (more_of-Expr k l d rest) = tree_field [] (kind_tree k) (row_fields [] rest)
   row_fields (a ∷ names) (more_of-Expr k l d rest) = tree_field a (kind_tree k) (row_fields names rest)
 
 -- the tree of an expression

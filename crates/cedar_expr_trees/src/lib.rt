@@ -5,6 +5,7 @@ pub mod constructors;
 pub mod contents;
 pub mod err;
 pub mod expr;
+pub mod expr_iterator;
 pub mod non_empty;
 pub mod ops;
 pub mod records;
@@ -16,5 +17,6 @@ pub use cedar_expr_values::{
 };
 pub use err::{DuplicateKeyError, ExpressionConstructionError};
 pub use expr::{Expr, ExprKind, Unknown};
+pub use expr_iterator::{ExprIterator, Slots, Unknowns};
 pub use non_empty::NonEmpty;
 pub use ops::{BinaryOp, UnaryOp};
