@@ -1,4 +1,4 @@
-mod CoreTypes
+pub mod CoreTypes
 mod Layers
 mod Derived
 mod Compared
