@@ -1,5 +1,5 @@
 pub mod Equality
-pub mod RoundTrip
+mod Reserving
 mod Splitting
 mod PartByPart
 mod Writing

@@ -1,5 +1,6 @@
 pub mod Ids
 pub mod Parts
 pub mod Views
+pub mod Namespaces
 pub mod Refusals
 pub mod Literals

@@ -5,10 +5,11 @@ use Rattle.std.specs.Rc.{rc_str_bytes}
 use Rattle.cedar_expr_model.specs.Name as model
 use Rattle.cedar_expr_model.specs.Name.{Text}
 use Rattle.cedar_expr_model.specs.Uid.{Uid}
-use Rattle.cedar_expr_names.specs.Parts.{name_of, name_loc}
+use Rattle.cedar_expr_names.specs.Parts.{id_text, name_of, name_loc}
 use Rattle.cedar_expr_names.specs.declared.loc.Loc.{Loc}
+use Rattle.cedar_expr_names.specs.declared.unreserved_id.UnreservedId.{UnreservedId}
+use Rattle.cedar_expr_names.specs.declared.any_id.AnyId.{AnyId}
 use Rattle.cedar_expr_names.specs.declared.name.Name.{Name}
-use Rattle.cedar_expr_names.specs.declared.name.RawName.{RawName}
 use Rattle.cedar_expr_names.specs.declared.err.ReservedNameError.{ReservedNameError}
 use Rattle.cedar_expr_names.specs.declared.quoted.Quoted.{Quoted}
 use Rattle.cedar_expr_names.specs.declared.quoted.Escaped.{Escaped}
@@ -23,20 +24,20 @@ loc_start l = l.start
 abbrev pub loc_end : Loc → ℕ
 loc_end l = l.end
 
+-- the texts of the other kinds of identifiers
+abbrev pub unreserved_id_text : UnreservedId → Text
+unreserved_id_text u = id_text u.id
+
+abbrev pub any_id_text : AnyId → Text
+any_id_text i = rc_str_bytes i.text
+
 -- the name that is not reserved
 abbrev pub plain_name_of : Name → model.Name
 plain_name_of n = name_of n.internal
 
--- the name of a schema before it is resolved
-abbrev pub raw_name_of : RawName → model.Name
-raw_name_of n = name_of n.0
-
 -- the places of these
 abbrev pub plain_name_loc : Name → Option Loc
 plain_name_loc n = name_loc n.internal
-
-abbrev pub raw_name_loc : RawName → Option Loc
-raw_name_loc n = name_loc n.0
 
 abbrev pub type_loc : EntityType → Option Loc
 type_loc t = plain_name_loc t.0

@@ -6,7 +6,7 @@ ghost use Rattle.std.specs.Rc.{rc_str_bytes};
 ghost use Rattle.cedar_expr_model.specs.Name.{name_read, name_text, name_eq, is_reserved};
 ghost use Rattle.cedar_expr_model.specs.Uid.{uid_eq, uid_text, quoted};
 ghost use Rattle.cedar_expr_names.specs.Views.{plain_name_of, plain_name_loc, type_name_of, type_loc, eid_text, uid_of, uid_loc};
-ghost use Rattle.cedar_expr_model.specs.Order.{uid_cmp};
+ghost use Rattle.cedar_expr_model.specs.Order.{name_cmp, uid_cmp};
 ghost use Rattle.cedar_expr_names.specs.Refusals.{RefusesPlainText};
 
 use crate::{Loc, Name, NameError, Quoted};
@@ -32,6 +32,7 @@ impl EntityType {
     /// Reads an entity type, whose name has to be the whole text. Refuses any other text and a reserved name, and answers want of memory.
     pub fn from_normalized_str(alloc: Global, text: &str) -> Result<EntityType, NameError>
         ensures read { IfOk result (λ t. name_read text.now ≡ Some (type_name_of t)) }
+        ensures shown { IfOk result (λ t. name_text (type_name_of t) ≡ text.now) }
         ensures unreserved { IfOk result (λ t. is_reserved (type_name_of t) ≡ false) }
         ensures place { IfOk result (λ t. type_loc t ≡ None) }
         ensures refused { IfErr result (λ e. RefusesPlainText text.now e) }
@@ -45,6 +46,13 @@ impl EntityType {
         ensures { result ≡ name_eq (type_name_of self.now) (type_name_of other.now) }
     {
         self == other
+    }
+
+    /// The order of this type and the other: what `cmp` answers, that of the texts of their names in byte order.
+    pub fn order(&self, other: &EntityType) -> Ordering
+        ensures { result ≡ name_cmp (type_name_of self.now) (type_name_of other.now) }
+    {
+        self.0.cmp(&other.0)
     }
 
     /// The type's name.

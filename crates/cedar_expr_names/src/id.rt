@@ -36,6 +36,14 @@ impl Id {
         Ok(Id { text })
     }
 
+    // The reserved identifier `__cedar`. Answers want of memory.
+    pub(crate) fn reserved_id(alloc: Global) -> Result<Id, AllocError>
+        ensures { IfOk result (λ i. id_text i ≡ reserved) }
+    {
+        let text = RcStr::from_str(alloc, "__cedar")?;
+        Ok(Id { text })
+    }
+
     /// Whether this is the same identifier as the other: what `==` answers, which doesn't look at places.
     pub fn same(&self, other: &Id) -> bool
         ensures { result ≡ bytes_eq (id_text self.now) (id_text other.now) }
@@ -95,7 +103,7 @@ pub fn is_normalized_ident(text: &str) -> bool
 }
 
 // Whether the text is letters, digits and underscores, with no digit first.
-fn is_word(text: &str) -> bool
+pub(crate) fn is_word(text: &str) -> bool
     ensures { result ≡ is_word text.now }
 {
     match text.as_bytes() {

@@ -5,13 +5,14 @@ ghost use Rattle.std.specs.Rc.{rc_str_bytes};
 ghost use Rattle.cedar_expr_model.specs.Name.{joined};
 ghost use Rattle.cedar_expr_names.specs.Ids.{id_text};
 
-use crate::reading::{any_reserved, joined_text, read_part, split_part};
-use crate::{Id, Loc, NameError};
+use crate::reading::{any_reserved, copied_parts, joined_text, read_part, split_part};
+use crate::{Id, Loc, Name, NameError};
 use std::alloc::{AllocError, Global};
 use std::cmp::Ordering;
 use std::fmt;
 use std::fmt::{Display, Formatter, Write};
 use std::rc::{Rc, RcStr};
+use std::slice::Iter;
 
 /// A name of any kind: a path of identifiers and its base, joined by `::`. Names are compared by their texts, in byte
 /// order; places don't count.
@@ -29,11 +30,14 @@ pub struct InternalName {
 }
 
 impl InternalName {
-    ghost use Rattle.std.specs.Prelude.{[], length, nat_eq, IfOk, IfErr, Some, None};
-    ghost use Rattle.cedar_expr_model.specs.Name.{name_read, name_text, name_eq, is_reserved};
+    ghost use Rattle.std.specs.Prelude.{[], true, IfOk, IfErr, Some, None, string_bytes};
+    ghost use Rattle.std.specs.Slice.Iter.{iter_rest};
+    ghost use Rattle.cedar_expr_model.specs.Name.{name_read, name_text, name_eq, is_identifier, is_reserved};
+    ghost use Rattle.cedar_expr_model.specs.Whole.Names.{is_unqualified, unqualified, within, qualified, cedar_name};
     ghost use Rattle.cedar_expr_names.specs.Parts.{name_of, name_loc};
+    ghost use Rattle.cedar_expr_names.specs.Namespaces.{namespace_text, space_of, plain_space_of};
     ghost use Rattle.cedar_expr_model.specs.Order.{name_cmp};
-    ghost use Rattle.cedar_expr_names.specs.Refusals.{RefusesText};
+    ghost use Rattle.cedar_expr_names.specs.Refusals.{RefusesIdentifier, RefusesText};
 
     /// The name of a base under a path, at a place. Answers want of memory.
     pub fn new(
@@ -60,6 +64,7 @@ impl InternalName {
     /// Reads a name, which has to be the whole text. Refuses any other text, and answers want of memory.
     pub fn from_normalized_str(alloc: Global, text: &str) -> Result<InternalName, NameError>
         ensures read { IfOk result (λ n. name_read text.now ≡ Some (name_of n)) }
+        ensures shown { IfOk result (λ n. name_text (name_of n) ≡ text.now) }
         ensures place { IfOk result (λ n. name_loc n ≡ None) }
         ensures refused { IfErr result (λ e. RefusesText text.now e) }
     {
@@ -71,6 +76,40 @@ impl InternalName {
         }
         let base = Id::from_normalized_str(alloc, rest)?;
         InternalName::new(alloc, base, path, None).map_err(|_| NameError::OutOfMemory)
+    }
+
+    /// Reads a name of one identifier, which has to be the whole text. Refuses any other text, and answers want of memory.
+    pub fn parse_unqualified_name(alloc: Global, text: &str) -> Result<InternalName, NameError>
+        ensures read { IfOk result (λ n. name_of n ≡ unqualified text.now) }
+        ensures identifies { IfOk result (λ n. is_identifier text.now ≡ true) }
+        ensures place { IfOk result (λ n. name_loc n ≡ None) }
+        ensures refused { IfErr result (λ e. RefusesIdentifier text.now e) }
+    {
+        let id = Id::from_normalized_str(alloc, text)?;
+        InternalName::unqualified_name(alloc, id).map_err(|_| NameError::OutOfMemory)
+    }
+
+    /// The reserved name `__cedar`. Answers want of memory.
+    pub fn cedar(alloc: Global) -> Result<InternalName, AllocError>
+        ensures value { IfOk result (λ n. name_of n ≡ cedar_name) }
+        ensures place { IfOk result (λ n. name_loc n ≡ None) }
+    {
+        let id = Id::reserved_id(alloc)?;
+        InternalName::unqualified_name(alloc, id)
+    }
+
+    /// The name of this base in a namespace, at a place. Answers want of memory.
+    pub fn type_in_namespace(
+        alloc: Global,
+        basename: Id,
+        namespace: InternalName,
+        loc: Option<Loc>,
+    ) -> Result<InternalName, AllocError>
+        ensures value { IfOk result (λ n. name_of n ≡ within (name_of namespace) (id_text basename)) }
+        ensures place { IfOk result (λ n. name_loc n ≡ loc) }
+    {
+        let path = copied_parts(alloc, namespace.path.as_slice(), &namespace.id)?;
+        InternalName::new(alloc, basename, path, loc)
     }
 
     /// The name's text, from which it is read back.
@@ -90,9 +129,64 @@ impl InternalName {
 
     /// Whether the name has no path.
     pub fn is_unqualified(&self) -> bool
-        ensures { result ≡ nat_eq (length (name_of self.now).path) 0 }
+        ensures { result ≡ is_unqualified (name_of self.now) }
     {
         self.path.is_empty()
+    }
+
+    /// Goes over the identifiers of the name's path, in order.
+    pub fn namespace_components(&self) -> Iter<'_, Id>
+        ensures { map id_text (iter_rest result) ≡ (name_of self.now).path }
+    {
+        self.path.iter()
+    }
+
+    /// The text of the name's namespace: empty where it has none. Answers want of memory.
+    pub fn namespace(&self, alloc: Global) -> Result<String, AllocError>
+        ensures { IfOk result (λ t. string_bytes t ≡ namespace_text (name_of self.now)) }
+    {
+        match self.path.as_slice() {
+            [] => Ok(String::new(alloc)),
+            [path @ .., base] => joined_text(alloc, path, base),
+        }
+    }
+
+    /// The name in a namespace, if there is one; a name that has a namespace stays as it is. Answers want of memory.
+    pub fn qualify_with(
+        &self,
+        alloc: Global,
+        namespace: Option<&InternalName>,
+    ) -> Result<InternalName, AllocError>
+        ensures value { IfOk result (λ n. name_of n ≡ qualified (space_of namespace.entry) (name_of self.now)) }
+        ensures place { IfOk result (λ n. name_loc n ≡ name_loc self.now) }
+    {
+        if !self.is_unqualified() {
+            return self.clone();
+        }
+        match namespace {
+            None => self.clone(),
+            Some(space) => {
+                let path = copied_parts(alloc, space.path.as_slice(), &space.id)?;
+                let base = self.id.clone()?;
+                InternalName::new(alloc, base, path, self.loc)
+            }
+        }
+    }
+
+    /// The name in a namespace that is not reserved, if there is one; a name that has a namespace stays as it is. Answers
+    /// want of memory.
+    pub fn qualify_with_name(
+        &self,
+        alloc: Global,
+        namespace: Option<&Name>,
+    ) -> Result<InternalName, AllocError>
+        ensures value { IfOk result (λ n. name_of n ≡ qualified (plain_space_of namespace.entry) (name_of self.now)) }
+        ensures place { IfOk result (λ n. name_loc n ≡ name_loc self.now) }
+    {
+        match namespace {
+            None => self.qualify_with(alloc, None),
+            Some(space) => self.qualify_with(alloc, Some(space.as_internal())),
+        }
     }
 
     /// Whether a part of the name is the reserved `__cedar`.
@@ -130,6 +224,23 @@ impl InternalName {
         ensures place { IfOk result (λ n. name_loc n ≡ None) }
     {
         InternalName::new(alloc, id, Vec::new(alloc), None)
+    }
+}
+
+impl TryFrom<InternalName> for Id {
+    type Error = ();
+
+    ghost use Rattle.cedar_expr_names.specs.Parts.{name_of};
+    ghost use Rattle.cedar_expr_names.specs.Namespaces.{GivesBase};
+
+    ghost try_from_gives = { λ n r. GivesBase id_text (name_of n) r };
+
+    fn try_from(value: InternalName) -> Result<Id, ()> {
+        if value.is_unqualified() {
+            Ok(value.id)
+        } else {
+            Err(())
+        }
     }
 }
 

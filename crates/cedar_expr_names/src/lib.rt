@@ -1,24 +1,29 @@
 //! Identifiers, names, entity types, ids and uids of entities, and places in a source text.
 #![tactic(auto)]
 
+mod any_id;
 mod entity;
 mod err;
 mod id;
 mod internal_name;
+pub mod laws;
 mod literal;
 mod loc;
 mod name;
 mod quoted;
 mod reading;
+mod unreserved_id;
 
+pub use any_id::AnyId;
 pub use entity::{Eid, EntityType, EntityUID};
 pub use err::{NameError, ReservedNameError};
 pub use id::{Id, is_normalized_ident};
 pub use internal_name::InternalName;
 pub use literal::Literal;
 pub use loc::Loc;
-pub use name::{Name, RawName};
+pub use name::Name;
 pub use quoted::{Escaped, Quoted};
+pub use unreserved_id::UnreservedId;
 
 #[cfg(test)]
 mod tests;

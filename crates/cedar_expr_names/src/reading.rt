@@ -34,6 +34,18 @@ pub fn read_part(alloc: Global, mut path: Vec<Id>, text: &str) -> Result<Vec<Id>
     Ok(path)
 }
 
+// Copies of these identifiers, and then of the last.
+pub fn copied_parts(alloc: Global, path: &[Id], last: &Id) -> Result<Vec<Id>, AllocError>
+    ensures { IfOk result (λ p. map id_text p.items ≡ map id_text path.now ++ id_text last.now ∷ []) }
+{
+    let mut parts = Vec::new(alloc);
+    for part in path {
+        parts.push(part.clone()?)?;
+    }
+    parts.push(last.clone()?)?;
+    Ok(parts)
+}
+
 // Whether one of these is the reserved identifier.
 pub fn any_reserved(parts: &[Id]) -> bool
     ensures { result ≡ list_any (bytes_eq reserved) (map id_text parts.now) }

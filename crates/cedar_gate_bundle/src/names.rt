@@ -2,7 +2,8 @@
 ghost use Rattle.std.specs.Prelude.{◌≡◌, Some, None, IfOk, IfErr};
 ghost use Rattle.serde_json.specs.Find.{as_str};
 ghost use Rattle.serde_json.specs.View.{view};
-ghost use Rattle.cedar_expr_names.specs.Views.{raw_name_of, type_name_of, uid_of};
+ghost use Rattle.cedar_expr_names.specs.Views.{type_name_of, uid_of};
+ghost use Rattle.cedar_expr_raw_names.specs.Views.{raw_name_of};
 ghost use Rattle.cedar_gate_model.specs.ReadingExpression.{any_name_read, type_name_read, uid_from, uid_read};
 ghost use Rattle.cedar_gate_bundle.specs.declared.fault.ReadFault.TheVariants.{Unreadable};
 

@@ -3,7 +3,7 @@ ghost use Rattle.std.specs.Prelude.{◌≡◌, [], true, Option, Some, None, IfO
 ghost use Rattle.std.specs.List.{list_all};
 ghost use Rattle.serde_json.specs.Find.{as_array};
 ghost use Rattle.serde_json.specs.View.{view};
-ghost use Rattle.cedar_expr_names.specs.Views.{raw_name_of};
+ghost use Rattle.cedar_expr_raw_names.specs.Views.{raw_name_of};
 ghost use Rattle.cedar_schema_model.specs.Declarations.{TypeDeclaration, ActionDeclaration};
 ghost use Rattle.cedar_gate_types.specs.Schemas.{type_declaration, action_declaration, declarations_of, is_plain_type, is_plain_action, is_plain_namespace, is_first_path, namespace_types, namespace_actions};
 ghost use Rattle.cedar_gate_model.specs.Reading.{given, may_be, has_at, is_empty_object, if_there, list_of, members_of};

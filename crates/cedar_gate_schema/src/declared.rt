@@ -2,7 +2,8 @@
 
 ghost use Rattle.std.specs.Prelude.{◌≡◌, IfOk, MatchOption, None, [], map, true, false};
 ghost use Rattle.std.specs.Rc.{rc_str_bytes};
-ghost use Rattle.cedar_expr_names.specs.Views.{id_text, name_of, raw_name_of, type_name_of};
+ghost use Rattle.cedar_expr_names.specs.Views.{id_text, name_of, type_name_of};
+ghost use Rattle.cedar_expr_raw_names.specs.Views.{raw_name_of};
 ghost use Rattle.cedar_schema_model.specs.Declarations.{action_word};
 ghost use Rattle.cedar_gate_types.specs.Schemas.{declarations_of, is_first_path, is_plain_namespace, type_declaration, action_declaration};
 ghost use Rattle.cedar_gate_schema.specs.Schema.{action_of, declared_in};

@@ -4,7 +4,8 @@ use Rattle.std.specs.List.{flat_map, list_all}
 use Rattle.std.specs.Rc.{rc_str_bytes}
 use Rattle.std.specs.declared.rc.RcStr.{RcStr}
 use Rattle.std.specs.declared.alloc.Global.{Global}
-use Rattle.cedar_expr_names.specs.Views.{id_text, name_of, raw_name_of}
+use Rattle.cedar_expr_names.specs.Views.{id_text, name_of}
+use Rattle.cedar_expr_raw_names.specs.Views.{raw_name_of}
 use Rattle.cedar_expr_names.specs.declared.internal_name.InternalName.{InternalName}
 use Rattle.cedar_expr_names.specs.declared.id.Id.{Id}
 use Rattle.cedar_expr_model.specs.Name as model

@@ -1,3 +1,4 @@
+-- What is known where the walk stands, and how many turns are left at most.
 use denote.Shadow.{shadow}
 use denote.Text.{Utf8}
 use Rattle.std.specs.Str.{chars}

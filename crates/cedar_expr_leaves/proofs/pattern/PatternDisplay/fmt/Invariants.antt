@@ -1,3 +1,4 @@
+-- The elements that were written so far.
 use Rattle.std.proofs.Common.{take}
 use Rattle.std.specs.Fmt.{HasWritten, IsPlainFormatter}
 use Rattle.cedar_expr_model.specs.Whole.Texts.{pattern_text}
