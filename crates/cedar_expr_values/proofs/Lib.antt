@@ -9,3 +9,4 @@ mod Walked
 mod Members
 mod Pairs
 mod Recorded
+mod Located
