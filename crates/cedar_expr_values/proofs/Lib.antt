@@ -10,3 +10,5 @@ mod Members
 mod Pairs
 mod Recorded
 mod Located
+mod Gathered
+mod Calls

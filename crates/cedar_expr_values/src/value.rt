@@ -1,5 +1,7 @@
 //! Values with their places, and sets of them.
 
+mod uids;
+
 ghost use Rattle.std.specs.Prelude.{◌≡◌, map, IfOk};
 ghost use Rattle.cedar_expr_model.specs.Whole.Made.{made_prim};
 ghost use Rattle.cedar_expr_names.specs.Literals.{literal_of};
