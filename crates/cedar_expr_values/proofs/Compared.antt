@@ -1,6 +1,6 @@
 -- The derived order of values is that of the model's values.
-use Rattle.std.proofs.Common.{◌≡◌, List, [], ◌∷◌, map, refl, sym, ap, ◌∙◌, subst}
-use Rattle.std.specs.Ordering.{ordering_then, nat_cmp}
+use Rattle.std.proofs.Common.{◌≡◌, List, [], ◌∷◌, map, refl, sym, ap, ◌∙◌}
+use Rattle.std.specs.Ordering.{ordering_then}
 use Rattle.std.specs.Rc.{rc_str_bytes}
 use Rattle.std.specs.Cmp.Lexicographic.{slice_cmp}
 use Rattle.std.specs.declared.alloc.Global.{Global}
@@ -15,10 +15,10 @@ use Rattle.cedar_expr_names.proofs.Literals.{literals_cmp_is}
 use Rattle.cedar_expr_values.specs.Extension.{Extension, extension_cmp}
 use Rattle.cedar_expr_values.specs.Fields.{by_text}
 use Rattle.cedar_expr_values.specs.Values.{made, made_kind, mades, bare, bare_kind, bares, made_list, made_fields, kind_step, set_step, value_step}
-use Rattle.cedar_expr_values.specs.declared.value.Value.{Value, Value-F, map-Value, out-Value, roll-Value, ind-Value, fold-roll-Value, fold_out-Value}
-use Rattle.cedar_expr_values.specs.declared.value.ValueKind.{ValueKind, ValueKind-F, map-ValueKind, out-ValueKind, roll-ValueKind, out-roll-ValueKind, fold-roll-ValueKind, fold_out-ValueKind}
-use Rattle.cedar_expr_values.specs.declared.value.Set.{Set, Set-F, map-Set, out-Set, roll-Set, out-roll-Set, fold-roll-Set, fold_out-Set}
-use Rattle.cedar_expr_values.proofs.Layers.{layer_cmp}
+use Rattle.cedar_expr_values.specs.declared.value.Value.{Value, Value-F, map-Value, roll-Value, ind-Value}
+use Rattle.cedar_expr_values.specs.declared.value.ValueKind.{ValueKind, ValueKind-F, map-ValueKind, out-ValueKind, roll-ValueKind, out-roll-ValueKind, fold_out-ValueKind}
+use Rattle.cedar_expr_values.specs.declared.value.Set.{Set, Set-F, map-Set, out-Set, roll-Set, out-roll-Set}
+use Rattle.cedar_expr_values.proofs.Layers.{layer_cmp, set_seen, value_seen}
 
 -- by the first, then by the second, then by the rest
 then_then : (r s t : Ordering) → ordering_then (ordering_then r s) t ≡ ordering_then r (ordering_then s t)
@@ -94,9 +94,6 @@ module _ {X : Type 0} (seen : X → Extension) (E : X → X → Ordering) (K : V
       ∙ sym (ap (λ v. value_cmp v (model.bare (seen_layer (out-ValueKind X l)))) (kind_seen (roll-ValueKind X x)))
       ∙ sym (ap (value_cmp (bare_kind seen (roll-ValueKind X x))) (kind_seen l))
 
-  set_seen : (s : Set X) → bares seen s ≡ model.bares (made_list (map (made seen) (out-Set X s).members.value.items))
-  set_seen s = ap model.bares (fold_out-Set X Made Mades Made (kind_step seen) set_step value_step s)
-
   sets_agree : (x : Set-F X (ValueKind X) (Set X) (Value X)) (y : Set-F X ((k : ValueKind X) × KindAgrees k) ((s : Set X) × SetAgrees s) ((v : Value X) × Agrees seen R v))
       → map-Set X ((k : ValueKind X) × KindAgrees k) ((s : Set X) × SetAgrees s) ((v : Value X) × Agrees seen R v) (ValueKind X) (Set X) (Value X) (λ e. e.0) (λ e. e.0) (λ e. e.0) y ≡ x → SetAgrees (roll-Set X x)
   sets_agree x y e t =
@@ -105,12 +102,8 @@ module _ {X : Type 0} (seen : X → Extension) (E : X → X → Ordering) (K : V
       ∙ ap (λ vs. slice_cmp R vs (out-Set X t).members.value.items) (sym items)
       ∙ lists_agree seen R y.members.value.items (out-Set X t).members.value.items
       ∙ ap (λ vs. values_cmp (model.bares (made_list (map (made seen) vs))) (model.bares (made_list (map (made seen) (out-Set X t).members.value.items)))) items
-      ∙ sym (ap (λ vs. values_cmp vs (model.bares (made_list (map (made seen) (out-Set X t).members.value.items)))) (set_seen (roll-Set X x)))
-      ∙ sym (ap (values_cmp (bares seen (roll-Set X x))) (set_seen t))
-
-  value_seen : (v : Value X) → bare seen v ≡ bare_kind seen v.kind
-  unfolding Carrier.out
-  value_seen v = ap model.bare (fold_out-Value X Made Mades Made (kind_step seen) set_step value_step v)
+      ∙ sym (ap (λ vs. values_cmp vs (model.bares (made_list (map (made seen) (out-Set X t).members.value.items)))) (set_seen seen (roll-Set X x)))
+      ∙ sym (ap (values_cmp (bares seen (roll-Set X x))) (set_seen seen t))
 
   values_agree : (x : Value-F X (ValueKind X) (Set X) (Value X)) (y : Value-F X ((k : ValueKind X) × KindAgrees k) ((s : Set X) × SetAgrees s) ((v : Value X) × Agrees seen R v))
       → map-Value X ((k : ValueKind X) × KindAgrees k) ((s : Set X) × SetAgrees s) ((v : Value X) × Agrees seen R v) (ValueKind X) (Set X) (Value X) (λ e. e.0) (λ e. e.0) (λ e. e.0) y ≡ x → Agrees seen R (roll-Value X x)
@@ -121,8 +114,8 @@ module _ {X : Type 0} (seen : X → Extension) (E : X → X → Ordering) (K : V
       ∙ ap (λ k. K k w.kind) (sym kind)
       ∙ y.kind.1 w.kind
       ∙ ap (λ k. value_cmp (bare_kind seen k) (bare_kind seen w.kind)) kind
-      ∙ sym (ap (λ v. value_cmp v (bare_kind seen w.kind)) (value_seen (roll-Value X x)))
-      ∙ sym (ap (value_cmp (bare seen (roll-Value X x))) (value_seen w))
+      ∙ sym (ap (λ v. value_cmp v (bare_kind seen w.kind)) (value_seen seen (roll-Value X x)))
+      ∙ sym (ap (value_cmp (bare seen (roll-Value X x))) (value_seen seen w))
 
   -- values are compared as the model's
   pub all_agree : (v w : Value X) → R v w ≡ value_cmp (bare seen v) (bare seen w)

@@ -1,6 +1,5 @@
 -- Equality and order of core types are the model's.
-use Rattle.std.proofs.Common.{◌≡◌, refl, ap, ◌∙◌}
-use Rattle.std.specs.Ordering.{is_eq}
+use Rattle.std.proofs.Common.{◌≡◌, refl}
 use Rattle.cedar_expr_model.specs.Whole.Substitution.{core_eq}
 use Rattle.cedar_expr_model.specs.Whole.Shape.{core_cmp}
 use Rattle.cedar_expr_values.specs.Types.{core_of}

@@ -1,7 +1,7 @@
 -- What the derived order of values computes, level by level.
 use denote.RattleType.{RattleType}
 use mir.Syntax.{Dict}
-use Rattle.std.proofs.Common.{◌≡◌, List, map, refl, sym, ap, ◌∙◌}
+use Rattle.std.proofs.Common.{◌≡◌, ap, ◌∙◌}
 use Rattle.std.specs.Ordering.{is_eq}
 use Rattle.std.specs.Cmp.Lexicographic.{slice_cmp}
 use Rattle.std.specs.declared.cmp.Ordering.{Ordering}
@@ -20,9 +20,9 @@ use Rattle.cedar_expr_values.specs.contracts.value.ValueKindOrd.TheImpl as kind_
 use Rattle.cedar_expr_values.specs.contracts.value.ValueKindOrd.TheImpl.Laws as kind_laws
 use Rattle.cedar_expr_values.specs.contracts.value.SetOrd.TheImpl as set_order
 use Rattle.cedar_expr_values.specs.contracts.value.SetOrd.TheImpl.Laws as set_laws
-use Rattle.cedar_expr_values.specs.declared.value.Value.{Value, Value-F, out-Value}
-use Rattle.cedar_expr_values.specs.declared.value.ValueKind.{ValueKind, ValueKind-F, Lit, Set as SetKind, Record', ExtensionValue, out-ValueKind}
-use Rattle.cedar_expr_values.specs.declared.value.Set.{Set, Set-F, Set', out-Set}
+use Rattle.cedar_expr_values.specs.declared.value.Value.{Value}
+use Rattle.cedar_expr_values.specs.declared.value.ValueKind.{ValueKind, Lit, Set as SetKind, Record', ExtensionValue, out-ValueKind}
+use Rattle.cedar_expr_values.specs.declared.value.Set.{Set, Set', out-Set}
 use Rattle.cedar_expr_model.specs.Whole.Order.{value_cmp, value_eq}
 use Rattle.cedar_expr_values.specs.Extension.{Extension, extension_cmp}
 use Rattle.cedar_expr_values.specs.Values.{bare}

@@ -9,3 +9,6 @@ mod Walked
 mod Members
 pub mod Pairs
 pub mod Recorded
+mod Located
+mod Gathered
+mod Calls

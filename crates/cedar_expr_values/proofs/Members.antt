@@ -1,11 +1,11 @@
 -- The members of a code set are those of the model's: what is asked of rising members, and the set that is made.
-use Rattle.std.proofs.Common.{◌≡◌, suc, Bool, true, false, not, ◌&&◌, List, [], ◌∷◌, map, length, Result, Ok, Err, IfOk, refl, sym, ap, ◌∙◌, subst}
+use Rattle.std.proofs.Common.{◌≡◌, suc, Bool, true, false, not, ◌&&◌, List, [], ◌∷◌, map, length, Result, Ok, Err, IfOk, refl, sym, ap, ◌∙◌}
 use Rattle.std.specs.Ordering.{match_ordering}
 use Rattle.std.specs.List.{AllByRecursion, list_all}
 use Rattle.std.specs.List.Sorted.{IsStrictlySortedBy}
 use Rattle.std.specs.declared.cmp.Ordering.{Ordering}
 use Rattle.std.specs.declared.cmp.Ordering.TheVariants.{Less, Equal, Greater}
-use Rattle.cedar_expr_model.specs.Whole.Value.{Vs, prim, no_values, value, values_list}
+use Rattle.cedar_expr_model.specs.Whole.Value.{Vs, prim, value, values_list}
 use Rattle.cedar_expr_model.specs.Whole.Order.{value_cmp}
 use Rattle.cedar_expr_model.specs.Whole.Canonical.{is_below, are_rising, is_canonical, are_canonical, inserted, members_made, is_member, is_subset, is_disjoint}
 use Rattle.cedar_expr_model.specs.Whole.Made as model

@@ -1,12 +1,12 @@
 -- Rising lists: two with the same first elements are one, and what is put in its place.
-use Rattle.std.proofs.Common.{◌≡◌, Bool, true, false, cond, not, ◌&&◌, List, [], ◌∷◌, Option, Some, None, refl, sym, ap, ◌∙◌, subst}
-use Rattle.std.specs.Ordering.{match_ordering, is_eq, is_lt, ordering_reverse}
+use Rattle.std.proofs.Common.{◌≡◌, cond, List, [], ◌∷◌, Option, Some, None, refl, sym, ap, ◌∙◌, subst}
+use Rattle.std.specs.Ordering.{match_ordering, is_eq, ordering_reverse}
 use Rattle.std.specs.Cmp.{IsTotalOrder}
-use Rattle.std.specs.List.{filter, AllByRecursion}
-use Rattle.std.specs.List.Sorted.{IsStrictlySortedBy, ties}
+use Rattle.std.specs.List.{AllByRecursion}
+use Rattle.std.specs.List.Sorted.{IsStrictlySortedBy}
 use Rattle.std.specs.declared.cmp.Ordering.{Ordering}
 use Rattle.std.specs.declared.cmp.Ordering.TheVariants.{Less, Equal, Greater}
-use Rattle.std.proofs.lemmas.Cmp.{tied_itself, tied_back, alike_right}
+use Rattle.std.proofs.lemmas.Cmp.{tied_itself, alike_right}
 use Rattle.cedar_expr_values.specs.Rising.{placed, in_rising}
 
 module _ {A : Type 0} {R : A → A → Ordering} (o : IsTotalOrder R) where

@@ -1,5 +1,5 @@
 -- The fields of a code record are those of the model's, and the record that is made of pairs.
-use Rattle.std.proofs.Common.{◌≡◌, Bool, true, ◌&&◌, List, [], ◌∷◌, map, Result, Ok, Err, IfOk, refl, sym, ap, ◌∙◌}
+use Rattle.std.proofs.Common.{◌≡◌, true, ◌&&◌, List, [], ◌∷◌, map, refl, sym, ap, ◌∙◌}
 use Rattle.std.specs.List.{list_all, AllByRecursion}
 use Rattle.std.specs.List.Sorted.{IsStrictlySortedBy}
 use Rattle.std.specs.Map.{keys_of}
@@ -23,9 +23,9 @@ use Rattle.cedar_expr_model.proofs.Whole.Rising.{is_less}
 use Rattle.cedar_expr_model.proofs.Whole.Ordering.{record_canonical}
 use Rattle.cedar_expr_values.specs.Extension.{Extension}
 use Rattle.cedar_expr_values.specs.Fields.{by_text}
-use Rattle.cedar_expr_values.specs.Values.{made, made_kind, bare, bare_kind, made_fields, made_pair, bare_pair, values_of, all_canonical, record_as_made, kind_step, set_step, value_step}
+use Rattle.cedar_expr_values.specs.Values.{made, made_kind, bare, made_fields, made_pair, bare_pair, values_of, all_canonical, record_as_made, kind_step, set_step, value_step}
 use Rattle.cedar_expr_values.specs.declared.value.Value.{Value}
-use Rattle.cedar_expr_values.specs.declared.value.ValueKind.{ValueKind, ValueKind-F, fold-roll-ValueKind}
+use Rattle.cedar_expr_values.specs.declared.value.ValueKind.{ValueKind-F, fold-roll-ValueKind}
 use Rattle.cedar_expr_values.specs.declared.value.ValueKind.TheVariants.{Record, rolls-Record}
 
 -- what stands under the names, changed

@@ -1,6 +1,5 @@
 -- Names of the code with what stands under them.
 -- Rule: values and equality (docs/RULES.md).
-use Rattle.std.specs.Prelude.{List}
 use Rattle.std.specs.Rc.{rc_str_bytes}
 use Rattle.std.specs.declared.alloc.Global.{Global}
 use Rattle.std.specs.declared.rc.RcStr.{RcStr}

@@ -12,6 +12,7 @@ use crate::types::{StaticallyTyped, Type};
 use cedar_expr_names::{Literal, Name};
 use std::alloc::AllocError;
 use std::cmp::Ordering;
+use std::rc::Rc;
 
 /// An extension value. It has a type, a key, and a call that makes it, and is ordered by the name of the type and then by the
 /// bytes of the key.
@@ -119,6 +120,94 @@ impl StaticallyTyped for ExtValue {
     fn type_of(&self) -> Result<Type, AllocError> {
         Ok(Type::Extension {
             name: self.type_name.clone()?,
+        })
+    }
+}
+
+/// An extension value with the function and the literals of a call that makes it. It is compared by the value alone.
+#[derive(Drop)]
+#[derive_where(PartialEq, Eq, PartialOrd, Ord, Hash; X)]
+pub struct RepresentableExtensionValue<X> {
+    value: Rc<X>,
+    #[derive_where(skip(EqHashOrd))]
+    func: Name,
+    #[derive_where(skip(EqHashOrd))]
+    args: Vec<Literal>,
+}
+
+impl<X: ExtensionValue> RepresentableExtensionValue<X> {
+    ghost use Rattle.cedar_expr_values.specs.Extensions.{with_call};
+
+    /// The value with the call of this function on these literals.
+    pub fn new(value: Rc<X>, func: Name, args: Vec<Literal>) -> RepresentableExtensionValue<X>
+        ensures kind { (with_call X.seen result).kind ≡ (X.seen value.value).kind }
+        ensures key { (with_call X.seen result).key ≡ (X.seen value.value).key }
+        ensures function { (with_call X.seen result).function ≡ plain_name_of func }
+        ensures arguments { (with_call X.seen result).arguments ≡ map literal_of args.items }
+    {
+        RepresentableExtensionValue { value, func, args }
+    }
+
+    /// The value without the call.
+    pub fn value(&self) -> &X
+        ensures kind { (X.seen result.now).kind ≡ (with_call X.seen self.now).kind }
+        ensures key { (X.seen result.now).key ≡ (with_call X.seen self.now).key }
+    {
+        self.value.as_ref()
+    }
+
+    /// The function of the call.
+    pub fn func(&self) -> &Name
+        ensures { plain_name_of result.now ≡ (with_call X.seen self.now).function }
+    {
+        &self.func
+    }
+
+    /// The arguments of the call.
+    pub fn args(&self) -> &[Literal]
+        ensures { map literal_of result.now ≡ (with_call X.seen self.now).arguments }
+    {
+        self.args.as_slice()
+    }
+}
+
+impl<X: Drop> Clone for RepresentableExtensionValue<X> {
+    ghost use Rattle.cedar_expr_values.specs.Extensions.{with_call};
+
+    ghost is_clone = { λ x copy. (seen : X → Extension) → with_call seen copy ≡ with_call seen x };
+
+    /// The same value, which is shared, with a copy of the call.
+    fn clone(&self) -> Result<RepresentableExtensionValue<X>, AllocError> {
+        Ok(RepresentableExtensionValue {
+            value: self.value.clone()?,
+            func: self.func.clone()?,
+            args: self.args.clone()?,
+        })
+    }
+}
+
+impl<X: ExtensionValue> ExtensionValue for RepresentableExtensionValue<X> {
+    ghost use Rattle.cedar_expr_values.specs.Extensions.{with_call};
+
+    ghost seen = { with_call X.seen };
+
+    ghost ordered = { λ x y. X.ordered x.value.value y.value.value };
+
+    fn typename(&self) -> &Name {
+        self.value.typename()
+    }
+}
+
+impl<X: ExtensionValue> InternalExtensionValue for RepresentableExtensionValue<X> {}
+
+impl<X: ExtensionValue> StaticallyTyped for RepresentableExtensionValue<X> {
+    ghost use Rattle.cedar_expr_values.specs.Extensions.{with_call};
+
+    ghost core_type = { λ x. extension_core (with_call X.seen x).kind };
+
+    fn type_of(&self) -> Result<Type, AllocError> {
+        Ok(Type::Extension {
+            name: self.value.typename().clone()?,
         })
     }
 }

@@ -3,6 +3,7 @@
 
 pub mod extension;
 mod fields;
+pub mod laws;
 mod rising;
 pub mod types;
 pub mod value;
@@ -10,6 +11,8 @@ pub mod value;
 pub use cedar_expr_names::{
     Eid, EntityType, EntityUID, Id, InternalName, Literal, Loc, Name, NameError, Quoted,     ReservedNameError, is_normalized_ident,
 };
-pub use extension::{ExtValue, ExtensionValue, InternalExtensionValue};
+pub use extension::{
+    ExtValue, ExtensionValue, InternalExtensionValue, RepresentableExtensionValue,
+};
 pub use types::{StaticallyTyped, Type};
 pub use value::{Set, Value, ValueKind};

@@ -1,5 +1,7 @@
 //! Values with their places, and sets of them.
 
+mod uids;
+
 ghost use Rattle.std.specs.Prelude.{◌≡◌, map, IfOk};
 ghost use Rattle.cedar_expr_model.specs.Whole.Made.{made_prim};
 ghost use Rattle.cedar_expr_names.specs.Literals.{literal_of};
@@ -225,9 +227,87 @@ impl<X: ExtensionValue> ValueKind<X> {
 }
 
 impl<X: ExtensionValue> Value<X> {
-    ghost use Rattle.std.specs.Prelude.{◌≡◌, IfOk, map};
-    ghost use Rattle.cedar_expr_values.specs.Values.{made, made_kind, made_list, mades, bare, bare_kind, bares, place_of};
+    ghost use Rattle.std.specs.Prelude.{◌≡◌, ◌↔◌, true, map, IfOk, IsTrue};
+    ghost use Rattle.std.specs.BTreeMap.{IsOrdered};
+    ghost use Rattle.cedar_expr_model.specs.Whole.Value.{prim};
     ghost use Rattle.cedar_expr_model.specs.Whole.Order.{value_cmp, value_eq};
+    ghost use Rattle.cedar_expr_model.specs.Whole.Canonical.{is_canonical, set_made};
+    ghost use Rattle.cedar_expr_model.specs.Whole.Records.{record_made};
+    ghost use Rattle.cedar_expr_model.specs.Whole.Made.{made_prim, made_set, made_record, no_mades, no_made_fields};
+    ghost use Rattle.cedar_expr_names.specs.Literals.{literal_of};
+    ghost use Rattle.cedar_expr_values.specs.Values.{made, made_kind, made_fields, made_pair, bare, bare_pair, all_canonical, values_of, members_as_made, record_as_made, place_of};
+
+    /// The empty set, at a place. Answers want of memory.
+    pub fn empty_set(alloc: Global, loc: Option<Loc>) -> Result<Value<X>, AllocError>
+        ensures value { IfOk result (λ v. made X.seen v ≡ made_set no_mades) }
+        ensures place { IfOk result (λ v. place_of v ≡ loc) }
+    {
+        let kind = ValueKind::empty_set(alloc)?;
+        Ok(Value::new(kind, loc))
+    }
+
+    /// The empty record, at a place. Answers want of memory.
+    pub fn empty_record(alloc: Global, loc: Option<Loc>) -> Result<Value<X>, AllocError>
+        ensures value { IfOk result (λ v. made X.seen v ≡ made_record no_made_fields) }
+        ensures place { IfOk result (λ v. place_of v ≡ loc) }
+    {
+        let kind = ValueKind::empty_record(alloc)?;
+        Ok(Value::new(kind, loc))
+    }
+
+    /// The set of these values, at a place. Of equal ones it keeps the first. Answers want of memory.
+    pub fn set(
+        alloc: Global,
+        values: Vec<Value<X>>,
+        loc: Option<Loc>,
+    ) -> Result<Value<X>, AllocError>
+        ensures members { IfOk result (λ v. bare X.seen v ≡ set_made (map (bare X.seen) values.items)) }
+        ensures canonical { IfOk result (λ v. all_canonical X.seen values.items ≡ true → is_canonical (bare X.seen v) ≡ true) }
+        ensures as_made { IfOk result (λ v. made X.seen v ≡ made_set (members_as_made (map (made X.seen) values.items))) }
+        ensures place { IfOk result (λ v. place_of v ≡ loc) }
+    {
+        let kind = ValueKind::set(alloc, values)?;
+        Ok(Value::new(kind, loc))
+    }
+
+    /// The set of these literals, at a place. Answers want of memory.
+    pub fn set_of_lits(
+        alloc: Global,
+        literals: Vec<Literal>,
+        loc: Option<Loc>,
+    ) -> Result<Value<X>, AllocError>
+        ensures members { IfOk result (λ v. bare X.seen v ≡ set_made (map (λ l. prim (literal_of l)) literals.items)) }
+        ensures canonical { IfOk result (λ v. is_canonical (bare X.seen v) ≡ true) }
+        ensures as_made { IfOk result (λ v. made X.seen v ≡ made_set (members_as_made (map (λ l. made_prim (literal_of l)) literals.items))) }
+        ensures place { IfOk result (λ v. place_of v ≡ loc) }
+    {
+        let kind = ValueKind::set_of_lits(alloc, literals)?;
+        Ok(Value::new(kind, loc))
+    }
+
+    /// The record of these values by name, at a place. Of a repeated name the last stands. Answers want of memory.
+    pub fn record(
+        alloc: Global,
+        pairs: Vec<(RcStr, Value<X>)>,
+        loc: Option<Loc>,
+    ) -> Result<Value<X>, AllocError>
+        ensures fields { IfOk result (λ v. bare X.seen v ≡ record_made (map (bare_pair X.seen) pairs.items)) }
+        ensures canonical { IfOk result (λ v. all_canonical X.seen (values_of pairs.items) ≡ true → is_canonical (bare X.seen v) ≡ true) }
+        ensures as_made { IfOk result (λ v. made X.seen v ≡ record_as_made (map (made_pair X.seen) pairs.items)) }
+        ensures place { IfOk result (λ v. place_of v ≡ loc) }
+    {
+        let kind = ValueKind::record(alloc, pairs)?;
+        Ok(Value::new(kind, loc))
+    }
+
+    /// The record of these fields, at a place.
+    pub fn record_arc(fields: Rc<BTreeMap<RcStr, Value<X>>>, loc: Option<Loc>) -> Value<X>
+        ensures as_made { made X.seen result ≡ made_record (made_fields (map (made_pair X.seen) fields.value.entries)) }
+        ensures canonical { IsOrdered ⟦<RcStr as Ord>⟧.cmp fields.value → all_canonical X.seen (values_of fields.value.entries) ≡ true → is_canonical (bare X.seen result) ≡ true }
+        ensures place { place_of result ≡ loc }
+    {
+        Value::new(ValueKind::record_arc(fields), loc)
+    }
 
     /// The value of a kind, at a place.
     pub fn new(kind: ValueKind<X>, loc: Option<Loc>) -> Value<X>
@@ -274,6 +354,39 @@ impl<X: ExtensionValue> Value<X> {
         ensures { result ≡ value_eq (bare X.seen self.now) (bare X.seen other.now) }
     {
         self == other
+    }
+
+    /// Whether this is the same value as the other, at the same place.
+    pub fn eq_and_same_source_loc(&self, other: &Value<X>) -> bool
+        ensures { IsTrue result ↔ (bare X.seen self.now ≡ bare X.seen other.now) × (place_of self.now ≡ place_of other.now) }
+    {
+        self.same(other) && self.loc == other.loc
+    }
+}
+
+impl<X: ExtensionValue> From<Literal> for ValueKind<X> {
+    ghost use Rattle.std.specs.Prelude.{◌≡◌};
+    ghost use Rattle.cedar_expr_model.specs.Whole.Made.{made_prim};
+    ghost use Rattle.cedar_expr_names.specs.Literals.{literal_of};
+    ghost use Rattle.cedar_expr_values.specs.Values.{made_kind};
+
+    ghost from_gives = { λ l k. made_kind X.seen k ≡ made_prim (literal_of l) };
+
+    fn from(literal: Literal) -> ValueKind<X> {
+        ValueKind::Lit(literal)
+    }
+}
+
+impl<X: ExtensionValue> From<Literal> for Value<X> {
+    ghost use Rattle.std.specs.Prelude.{◌≡◌, None};
+    ghost use Rattle.cedar_expr_model.specs.Whole.Made.{made_prim};
+    ghost use Rattle.cedar_expr_names.specs.Literals.{literal_of};
+    ghost use Rattle.cedar_expr_values.specs.Values.{made, place_of};
+
+    ghost from_gives = { λ l v. (made X.seen v ≡ made_prim (literal_of l)) × (place_of v ≡ None) };
+
+    fn from(literal: Literal) -> Value<X> {
+        Value::new(ValueKind::Lit(literal), None)
     }
 }
 

@@ -1,5 +1,4 @@
-use Rattle.std.proofs.Common.{◌∙◌, ap}
-use Rattle.std.specs.Ordering.{is_eq}
+use Rattle.std.proofs.Common.{◌∙◌}
 use Rattle.cedar_expr_values.proofs.Derived.{equal_is}
 use Rattle.cedar_expr_values.proofs.value.Value.same.Goals as goal
 
