@@ -12,7 +12,8 @@ pub mod records;
 
 pub use cedar_expr_leaves::{Pattern, PatternElem, Slot, SlotId, Var};
 pub use cedar_expr_values::{
-    Eid, EntityType, EntityUID, Id, InternalName, Literal, Loc, Name, NameError, Quoted,     ReservedNameError, Type, is_normalized_ident,
+    Eid, EntityType, EntityUID, Id, InternalName, Literal, Loc, Name, NameError, Quoted,
+    ReservedNameError, Type, is_normalized_ident,
 };
 pub use err::{DuplicateKeyError, ExpressionConstructionError};
 pub use expr::{Expr, ExprKind, Unknown};

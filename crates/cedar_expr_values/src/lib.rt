@@ -9,7 +9,8 @@ pub mod types;
 pub mod value;
 
 pub use cedar_expr_names::{
-    Eid, EntityType, EntityUID, Id, InternalName, Literal, Loc, Name, NameError, Quoted,     ReservedNameError, is_normalized_ident,
+    Eid, EntityType, EntityUID, Id, InternalName, Literal, Loc, Name, NameError, Quoted,
+    ReservedNameError, is_normalized_ident,
 };
 pub use extension::{
     ExtValue, ExtensionValue, InternalExtensionValue, RepresentableExtensionValue,

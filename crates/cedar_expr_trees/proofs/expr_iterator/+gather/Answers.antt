@@ -40,7 +40,7 @@ pub gather-returns-in-GetAttr : goal.gather-returns-in-GetAttr
 gather-returns-in-GetAttr g t c =
     let child = c.in-GetAttr in
     let one : below {T = g.row.T.Denot} c.args.expr.now.expr_kind ≡ positions {T = g.row.T.Denot} child.expr.value =
-        ⊎_elim (λ p. ap below p.1) (⊎_elim (λ p. ap below p.1) (⊎_elim (λ p. ap below p.1) (⊎_elim (λ p. ap below p.1) (λ p. ap below p.1)))) child.is in
+    ⊎_elim (λ p. ap below p.1) (⊎_elim (λ p. ap below p.1) (⊎_elim (λ p. ap below p.1) (⊎_elim (λ p. ap below p.1) (λ p. ap below p.1)))) child.is in
     with_below {T = g.row.T.Denot} c.gather-in-GetAttr.result c.args.found.now.items c.push.new.self.items c.gather-in-GetAttr.new.found.items c.args.expr (positions {T = g.row.T.Denot} c.deref-in-GetAttr.result.now) c.in_ok-push.ensures.items
     (one ∙ ap (positions {T = g.row.T.Denot}) (sym c.deref-in-GetAttr.ensures))
     c.gather-in-GetAttr.ensures
