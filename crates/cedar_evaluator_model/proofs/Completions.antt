@@ -1,16 +1,19 @@
 -- A completion knows all that the scope knows as values.
-use Rattle.std.proofs.Common.{List, sym, subst}
+use Rattle.std.proofs.Common.{List, sym, subst, ap, is_some}
 use Rattle.std.specs.Prelude.{Option, Some, None, option_map}
 use Rattle.cedar_expr_model.specs.Name.{Text}
 use Rattle.cedar_expr_model.specs.Uid.{Uid}
 use Rattle.cedar_expr_model.specs.Whole.Value.{V}
 use Rattle.cedar_expr_model.specs.Whole.Made.{Made}
-use Rattle.cedar_store_model.specs.Whole.World.{World, Part, known, left, Found, held, missing, not_loaded, part_named}
-use Rattle.cedar_store_model.specs.Whole.Knowledge.{IsThere, Keeps, KeepsPart, KeepsParts, KeepsFound, Extends}
+use Rattle.cedar_expr_model.specs.Whole.ValueParts.{Part, known, left}
+use Rattle.cedar_store_model.specs.Whole.World.{World, Found, held, missing, not_loaded}
+use Rattle.cedar_store_model.specs.Whole.Knowledge.{Keeps, KeepsPart, KeepsParts, KeepsFound, Extends}
 use Rattle.cedar_evaluator_model.specs.Scope.{Scope, Entry, uid, unknown_uid, Context, closed, residual_fields, unknown_context}
 use Rattle.cedar_evaluator_model.specs.Known.{known_entry, known_context, known_part, known_parts, known_found, known_world}
 use Rattle.cedar_evaluator_model.specs.Completion.{EntryMeans, ContextMeans, PartMeans, PartsMean, FoundMeans, Completes}
 use Rattle.cedar_evaluator_model.proofs.GivenReads.{named_known}
+use Rattle.std.specs.Map.{lookup}
+use Rattle.std.specs.Str.{bytes_eq}
 
 entry_keeps : (w : World) (n : Text) (e : Entry) (o : Option Uid) → EntryMeans w n e o → Keeps (known_entry e) o
 entry_keeps w n (uid u) o h = h
@@ -24,10 +27,10 @@ context_keeps w unknown_context o h = tt
 part_keeps : (w : World) (p : Option (Part Made)) (q : Option (Part V)) → PartMeans w p q → KeepsPart (option_map known_part p) q
 part_keeps w None q h = h
 part_keeps w (Some (known m)) q h = h
-part_keeps w (Some (left t)) q h = subst IsThere (sym h.1) tt
+part_keeps w (Some (left t)) q h = ap is_some h.1
 
 parts_keep : (w : World) (ps : List (Text × Part Made)) (qs : List (Text × Part V)) → PartsMean w ps qs → KeepsParts (known_parts ps) qs
-parts_keep w ps qs h a = subst (λ o. KeepsPart o (part_named a qs)) (sym (named_known a ps)) (part_keeps w (part_named a ps) (part_named a qs) (h a))
+parts_keep w ps qs h a = subst (λ o. KeepsPart o (lookup (bytes_eq a) qs)) (sym (named_known a ps)) (part_keeps w (lookup (bytes_eq a) ps) (lookup (bytes_eq a) qs) (h a))
 
 found_keeps : (w : World) (u : Uid) (f : Found Made) (g : Found V) → FoundMeans w u f g → KeepsFound (known_found f) g
 found_keeps w u (held e) g h =

@@ -1,18 +1,16 @@
 -- Where nothing is unknown evaluation is the meaning.
-use Rattle.std.proofs.Common.{◌≡◌, ℕ, ◌≤◌, Bool, true, false, cond, List, [], ◌∷◌, sym, ap, ◌∙◌, subst}
-use Rattle.std.specs.Prelude.{Option, Some, map, is_some}
+use Rattle.std.proofs.Common.{◌≡◌, ℕ, ◌≤◌, Bool, true, false, cond, List, [], ◌∷◌, sym, ap, ◌∙◌, subst, find}
+use Rattle.std.specs.Prelude.{Option, Some, map, is_some, IsSome}
 use Rattle.std.specs.List.{list_all}
 use Rattle.cedar_expr_model.specs.Name.{Text, Name, name_eq}
 use Rattle.cedar_expr_model.specs.Whole.Value.{V}
 use Rattle.cedar_expr_model.specs.Whole.Tree.{CoreType, Tree, nesting}
 use Rattle.cedar_expr_model.specs.Whole.Made.{bare}
-use Rattle.cedar_expr_model.specs.Whole.Table.{Table, Signature, leaves, IsAnswer, IsFair, all_typed, signature_among}
+use Rattle.cedar_expr_model.specs.Whole.Table.{Table, Signature, leaves, IsAnswer, IsFair, all_typed}
 use Rattle.cedar_expr_model.specs.Whole.Unknowns.{EachUnknown}
 use Rattle.cedar_expr_model.proofs.Lists.{both_hold}
-use Rattle.cedar_expr_model.proofs.Whole.Substituting.{each_follows}
 use Rattle.cedar_store_model.specs.Whole.Outcome.{Res, val, err}
 use Rattle.cedar_store_model.specs.Whole.Meaning.{Means, outcome_of}
-use Rattle.cedar_store_model.specs.Whole.Knowledge.{IsThere}
 use Rattle.cedar_store_model.proofs.Whole.Known.{what_is_there}
 use Rattle.cedar_store_model.proofs.Whole.Meaning.{outcome_means}
 use Rattle.cedar_evaluator_model.specs.Scope.{Scope, bare_called, Agrees, fault, Left, value_left, residual, stopped}
@@ -30,11 +28,11 @@ typed_case : (b : Bool) (s g : Signature) (o : Option Signature) → cond b (Som
 typed_case true s g o q i r = let same : s ≡ g = cc in subst (λ x. is_some x.result ≡ true) same i
 typed_case false s g o q i r = r q
 
-typed_among : (f : Name) (ss : List Signature) (g : Signature) → signature_among f ss ≡ Some g → list_all (λ s. is_some s.result) ss ≡ true → is_some g.result ≡ true
+typed_among : (f : Name) (ss : List Signature) (g : Signature) → find (λ (x : Signature). name_eq f x.name) ss ≡ Some g → list_all (λ s. is_some s.result) ss ≡ true → is_some g.result ≡ true
 typed_among f [] g e h = cc
 typed_among f (s ∷ ss) g e h =
     let k = both_hold (is_some s.result) (list_all (λ s. is_some s.result) ss) h in
-    typed_case (name_eq f s.name) s g (signature_among f ss) e k.0 (λ q. typed_among f ss g q k.1)
+    typed_case (name_eq f s.name) s g (find (λ (x : Signature). name_eq f x.name) ss) e k.0 (λ q. typed_among f ss g q k.1)
 
 pub typed_tables_leave_nothing : (x : Table) → IsFair x → all_typed x ≡ true → LeavesNothing x
 typed_tables_leave_nothing x fair typed f vs n t e =
@@ -47,17 +45,17 @@ pub leaves_unbound : (s : Scope) → Agrees s → LeavesNothing s.table → Leav
 leaves_unbound s agrees nothing f ms n t e = absurd (nothing f (map bare ms) n t (sym (agrees f ms t) ∙ ap bare_called e))
 
 -- bindings
-there_bound : (s : Scope) (n : Text) (a : Option CoreType) → BoundTo s n a → IsThere ((known_world s).unknowns n)
-there_bound s n a h = subst IsThere (sym h.1) tt
+there_bound : (s : Scope) (n : Text) (a : Option CoreType) → BoundTo s n a → IsSome ((known_world s).unknowns n)
+there_bound s n a h = ap is_some h.1
 
 fits_bound : (s : Scope) (n : Text) (a : Option CoreType) → BoundTo s n a → Fits a ((known_world s).unknowns n)
 fits_bound s n a h = subst (Fits a) (sym h.1) h.2
 
-pub all_there : (s : Scope) (t : Tree) → AllBoundTo s t → EachUnknown (λ n a. IsThere ((known_world s).unknowns n)) t
-all_there s t h = each_follows (BoundTo s) (λ n a. IsThere ((known_world s).unknowns n)) (there_bound s) t h
+pub all_there : (s : Scope) (t : Tree) → AllBoundTo s t → EachUnknown (λ n a. IsSome ((known_world s).unknowns n)) t
+all_there s t h = λ u c. there_bound s u.name u.annotation (h u c)
 
 pub all_fit : (s : Scope) (t : Tree) → AllBoundTo s t → FitsAnnotations (known_world s) t
-all_fit s t h = each_follows (BoundTo s) (λ n a. Fits a ((known_world s).unknowns n)) (fits_bound s) t h
+all_fit s t h = λ u c. fits_bound s u.name u.annotation (h u c)
 
 -- outcomes
 pub grounded : (s : Scope) → NothingUnknown s → AllLoaded s → (t : Tree) → AllBoundTo s t → (r : Res V) × Means (known_world s) t r

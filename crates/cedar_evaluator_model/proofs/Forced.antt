@@ -31,7 +31,7 @@ left_there s n ps h p c r m = owed_unless_limit (with_bindings s p.bindings) h.a
 
 -- the verdict that goes with an outcome of the policy
 verdict_there : (s : Scope) (n : ℕ) (ps : List Policy) → IsReady s n ps → (p : Policy) → Contains ps p → (r : Res V) → Means (with_slots (known_world s) p.bindings) (condition p) r → SameVerdict (policy_outcome (known_world s) p) (verdict s n p)
-verdict_there s n ps h p c r m = same_verdict r (outcome_of (with_slots (known_world s) p.bindings) (condition p)) (evaluated (with_bindings s p.bindings) n (condition p)) (means_outcome (with_slots (known_world s) p.bindings) (condition p) r m) (left_there s n ps h p c r m)
+verdict_there s n ps h p c r m = same_verdict _ r (outcome_of (with_slots (known_world s) p.bindings) (condition p)) (evaluated (with_bindings s p.bindings) n (condition p)) (means_outcome (with_slots (known_world s) p.bindings) (condition p) r m) (left_there s n ps h p c r m)
 
 -- the verdict on a satisfied policy is true
 true_of : (o : Option (Res V)) (l : Left) → o ≡ Some (val (truth_value true)) → SameVerdict o l → l ≡ truth_left true

@@ -7,13 +7,15 @@ use Rattle.std.specs.declared.cmp.Ordering.TheVariants.{Less, Equal, Greater}
 use Rattle.cedar_expr_model.specs.Whole.Value.{V, value}
 use Rattle.cedar_expr_model.specs.Whole.Order.{value_cmp}
 use Rattle.cedar_expr_model.specs.Whole.Canonical.{inserted, members_made}
-use Rattle.cedar_expr_model.specs.Whole.Tree.{Tree, Trees}
+use Rattle.cedar_expr_model.specs.Whole.Tree.{Tree}
 use Rattle.cedar_expr_model.specs.Whole.Made.{Made, Mades, no_mades, made, bare, bares}
 use Rattle.cedar_expr_model.proofs.Whole.ValueOrder.{value_exact}
 use Rattle.cedar_store_model.specs.Whole.Outcome.{Res, val, err, bind}
-use Rattle.cedar_evaluator_model.specs.Scope.{Stop, fault, Left, value_left, stopped}
-use Rattle.cedar_evaluator_model.specs.Steps.{whole, Pieces, pieces, halted, with_piece, all_whole, made_or, from_pieces, made_inserted, made_members}
+use Rattle.cedar_evaluator_model.specs.Scope.{Stop, fault, Left, value_left, stopped, residual}
+use Rattle.cedar_evaluator_model.specs.Steps.{Pieces, pieces, halted, with_piece, from_pieces, made_inserted, made_members}
 use Rattle.cedar_evaluator_model.proofs.Given.{Given}
+use Rattle.cedar_expr_model.specs.Whole.ValueParts.{all_known, known, part_tree}
+use Rattle.std.specs.Option.{option_map_or}
 
 -- sets of values as they were made have the bare sets
 inserted_case : (m n : Made) (ns : Mades) (r : Ordering) → value_cmp (bare m) (bare n) ≡ r → bares (made_inserted m ns) ≡ inserted (bare m) (bares ns) → bares (match_ordering r (made m (made n ns)) (made m ns) (made n (made_inserted m ns))) ≡ match_ordering r (value (bare m) (value (bare n) (bares ns))) (value (bare n) (bares ns)) (value (bare n) (inserted (bare m) (bares ns)))
@@ -32,18 +34,18 @@ bare_members (m ∷ ms) = bare_inserted m (made_members ms) ∙ ap (inserted (ba
 -- the pieces are the values of an outcome of many, or stopped with its error
 abbrev pub GivenAs : {A : Type 0} → (List Made → A) → Option (Res A) → Pieces → Type 0
 GivenAs view None ps = Unit {0}
-GivenAs view (Some (val x)) ps = (ms : List Made) × (ps ≡ pieces (map whole ms)) × (view ms ≡ x)
+GivenAs view (Some (val x)) ps = (ms : List Made) × (ps ≡ pieces (map known ms)) × (view ms ≡ x)
 GivenAs view (Some (err f)) ps = ps ≡ halted (fault f)
 
-all_are_whole : (ms : List Made) → all_whole (map whole ms) ≡ Some ms
-all_are_whole [] = refl
-all_are_whole (m ∷ ms) = ap (option_map (λ ns. m ∷ ns)) (all_are_whole ms)
+all_are_known : (ms : List Made) → all_known (map known ms) ≡ Some ms
+all_are_known [] = refl
+all_are_known (m ∷ ms) = ap (option_map (λ ns. m ∷ ns)) (all_are_known ms)
 
-pub given_from : {A : Type 0} (view : List Made → A) (o : Option (Res A)) (ps : Pieces) (f : A → Option (Res V)) (next : List Made → Left) (rebuilt : Trees → Tree) → GivenAs view o ps → ((ms : List Made) → Given (f (view ms)) (next ms)) → Given (bind o f) (from_pieces next rebuilt ps)
+pub given_from : {A : Type 0} (view : List Made → A) (o : Option (Res A)) (ps : Pieces) (f : A → Option (Res V)) (next : List Made → Left) (rebuilt : List Tree → Tree) → GivenAs view o ps → ((ms : List Made) → Given (f (view ms)) (next ms)) → Given (bind o f) (from_pieces next rebuilt ps)
 given_from view None ps f next rebuilt h n = tt
 given_from view (Some (val x)) ps f next rebuilt h n =
     let k : Given (f x) (next h.0) = subst (λ y. Given (f y) (next h.0)) h.2 (n h.0) in
-    let e : from_pieces next rebuilt ps ≡ next h.0 = ap (from_pieces next rebuilt) h.1 ∙ ap (made_or next _) (all_are_whole h.0) in
+    let e : from_pieces next rebuilt ps ≡ next h.0 = ap (from_pieces next rebuilt) h.1 ∙ ap (λ o. option_map_or next o (residual (rebuilt (map part_tree (map known h.0))))) (all_are_known h.0) in
     subst (Given (f x)) (sym e) k
 given_from view (Some (err e)) ps f next rebuilt h n = ap (from_pieces next rebuilt) h
 

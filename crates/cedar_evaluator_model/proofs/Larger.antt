@@ -1,23 +1,24 @@
 -- Where what is known gives an expression an outcome and the limit isn't met, every larger limit leaves the same.
-use Rattle.std.proofs.Common.{◌≡◌, ℕ, zero, suc, ◌+◌, ◌-◌, ◌≤◌, Bool, true, false, List, ◌∷◌, refl, sym, ap, ◌∙◌, inl, inr, arith}
+use Rattle.std.proofs.Common.{◌≡◌, ℕ, zero, suc, ◌+◌, ◌-◌, ◌≤◌, Bool, true, false, List, ◌∷◌, refl, sym, ap, ◌∙◌, inl, inr, arith, zip}
 use Rattle.std.specs.Prelude.{Option, Some, None}
 use Rattle.cedar_expr_model.specs.Whole.Value.{truth, V, field}
 use Rattle.cedar_expr_model.specs.Whole.Tree.{Tree, choice, both, either, unary, binary, call, get_attr, has_attr, has_path, like, is_type, set_literal, record_literal, Trees, no_trees, tree, TreeFields, no_tree_fields, tree_field}
-use Rattle.cedar_expr_model.specs.Whole.Unknowns.{EachUnknownAmong, EachUnknownInFields}
-use Rattle.cedar_expr_model.specs.Whole.Builder.{conjunction, disjunction}
+use Rattle.cedar_expr_model.specs.Whole.Builder.{conjunction, disjunction, trees, tree_fields}
 use Rattle.cedar_expr_model.specs.Whole.Made.{Made, made_prim, made_set, made_record, bare}
 use Rattle.cedar_store_model.specs.Whole.Outcome.{Res, val, err, bind}
 use Rattle.cedar_store_model.specs.Whole.Operators.{says}
 use Rattle.cedar_store_model.specs.Whole.Meaning.{picked, combined, truth_asked, outcome_of, outcomes_of, field_outcomes_of}
-use Rattle.cedar_store_model.specs.Whole.Knowledge.{IsGrounded}
+use Rattle.cedar_store_model.specs.Whole.Laws.{IsGrounded}
 use Rattle.cedar_store_model.proofs.Whole.Meaning.{means_outcome}
 use Rattle.cedar_evaluator_model.specs.Scope.{Scope, Agrees, limit, Left, value_left, stopped}
-use Rattle.cedar_evaluator_model.specs.Steps.{truth_left, on_value, picks, truth_wanted, combined_left, called_left, made_members, made_fields, tree_fields_of, Pieces, halted, with_piece, from_pieces}
-use Rattle.cedar_evaluator_model.specs.Evaluation.{right_left, pieces_of, names_of, trees_of, node, evaluated}
+use Rattle.cedar_evaluator_model.specs.Steps.{truth_left, on_value, picks, truth_wanted, combined_left, called_left, made_members, Pieces, halted, with_piece, from_pieces}
+use Rattle.cedar_evaluator_model.specs.Evaluation.{right_left, pieces_of, node, evaluated}
 use Rattle.cedar_evaluator_model.specs.Known.{known_world}
-use Rattle.cedar_evaluator_model.specs.Completion.{Fits, FitsAnnotations}
+use Rattle.cedar_evaluator_model.specs.Completion.{FitsAnnotations}
 use Rattle.cedar_evaluator_model.specs.Standing.{LeavesUnbound, NoLimit}
 use Rattle.cedar_evaluator_model.proofs.Reached.{Reached, reached}
+use Rattle.cedar_evaluator_model.proofs.Named.{field_names, field_trees, fields_named, FitsIn, FitsAmong, FitsInFields, fits_in}
+use Rattle.cedar_expr_model.specs.Whole.Parts.{listed}
 
 -- where there is an outcome and the limit isn't met, the other is the same
 abbrev Stays : Option (Res V) → Left → Left → Type 0
@@ -62,21 +63,21 @@ stays_more joined (Some (err f)) l l' os ps ps' (inr g) h n r q k =
     let same : l' ≡ l = h (err f) refl (λ i. k (ap (λ x. with_piece x ps) i)) in
     ap (λ x. with_piece x ps') (same ∙ g) ∙ sym (ap (λ x. with_piece x ps) g)
 
-stays_from : {A : Type 0} (o : Option (Res A)) (ps ps' : Pieces) (f : A → Option (Res V)) (next : List Made → Left) (rebuilt : Trees → Tree) → StaysAs o ps ps' → Stays (bind o f) (from_pieces next rebuilt ps) (from_pieces next rebuilt ps')
+stays_from : {A : Type 0} (o : Option (Res A)) (ps ps' : Pieces) (f : A → Option (Res V)) (next : List Made → Left) (rebuilt : List Tree → Tree) → StaysAs o ps ps' → Stays (bind o f) (from_pieces next rebuilt ps) (from_pieces next rebuilt ps')
 stays_from None ps ps' f next rebuilt h r q k = cc
 stays_from (Some x) ps ps' f next rebuilt h r q k = ap (from_pieces next rebuilt) (h x refl (λ e. k (ap (from_pieces next rebuilt) e)))
 
 -- one level
-module _ (s : Scope) (go go' : Tree → Left) (reaches : (t : Tree) → FitsAnnotations (known_world s) t → Reached (outcome_of (known_world s) t) (go t)) (deeper : (t : Tree) → FitsAnnotations (known_world s) t → Stays (outcome_of (known_world s) t) (go t) (go' t)) where
-  stays_all : (ts : Trees) → EachUnknownAmong (λ x a. Fits a ((known_world s).unknowns x)) ts → StaysAs (outcomes_of (known_world s) ts) (pieces_of go ts) (pieces_of go' ts)
+module _ (s : Scope) (go go' : Tree → Left) (reaches : (t : Tree) → FitsIn (known_world s) t → Reached (outcome_of (known_world s) t) (go t)) (deeper : (t : Tree) → FitsIn (known_world s) t → Stays (outcome_of (known_world s) t) (go t) (go' t)) where
+  stays_all : (ts : Trees) → FitsAmong (known_world s) ts → StaysAs (outcomes_of (known_world s) ts) (pieces_of go (listed ts)) (pieces_of go' (listed ts))
   stays_all no_trees f = λ r e k. refl
-  stays_all (tree t ts) f = stays_more (λ v vs. v ∷ vs) (outcome_of (known_world s) t) (go t) (go' t) (outcomes_of (known_world s) ts) (pieces_of go ts) (pieces_of go' ts) (reaches t f.0) (deeper t f.0) (stays_all ts f.1)
+  stays_all (tree t ts) f = stays_more (λ v vs. v ∷ vs) (outcome_of (known_world s) t) (go t) (go' t) (outcomes_of (known_world s) ts) (pieces_of go (listed ts)) (pieces_of go' (listed ts)) (reaches t f.0) (deeper t f.0) (stays_all ts f.1)
 
-  stays_fields : (fs : TreeFields) → EachUnknownInFields (λ x a. Fits a ((known_world s).unknowns x)) fs → StaysAs (field_outcomes_of (known_world s) fs) (pieces_of go (trees_of fs)) (pieces_of go' (trees_of fs))
+  stays_fields : (fs : TreeFields) → FitsInFields (known_world s) fs → StaysAs (field_outcomes_of (known_world s) fs) (pieces_of go (field_trees fs)) (pieces_of go' (field_trees fs))
   stays_fields no_tree_fields f = λ r e k. refl
-  stays_fields (tree_field x t fs) f = stays_more (λ v vs. field x v vs) (outcome_of (known_world s) t) (go t) (go' t) (field_outcomes_of (known_world s) fs) (pieces_of go (trees_of fs)) (pieces_of go' (trees_of fs)) (reaches t f.0) (deeper t f.0) (stays_fields fs f.1)
+  stays_fields (tree_field x t fs) f = stays_more (λ v vs. field x v vs) (outcome_of (known_world s) t) (go t) (go' t) (field_outcomes_of (known_world s) fs) (pieces_of go (field_trees fs)) (pieces_of go' (field_trees fs)) (reaches t f.0) (deeper t f.0) (stays_fields fs f.1)
 
-  stays_node : (t : Tree) → FitsAnnotations (known_world s) t → Stays (outcome_of (known_world s) t) (node s go t) (node s go' t)
+  stays_node : (t : Tree) → FitsIn (known_world s) t → Stays (outcome_of (known_world s) t) (node s go t) (node s go' t)
   stays_node (choice t a b) f = stays_bind _ (go t) (go' t) (picked (outcome_of (known_world s) a) (outcome_of (known_world s) b)) _ _ _ _ (reaches t f.0) (deeper t f.0) (stays_picks _ _ (go a) (go' a) (go b) (go' b) (deeper a f.1) (deeper b f.2))
   stays_node (both a b) f =
       stays_bind _ (go a) (go' a) (picked (bind (outcome_of (known_world s) b) (λ v. Some (truth_asked v))) (Some (says false))) _ _ _ _ (reaches a f.0) (deeper a f.0)
@@ -90,22 +91,22 @@ module _ (s : Scope) (go go' : Tree → Left) (reaches : (t : Tree) → FitsAnno
       let d = deeper b f.1 in
       stays_bind _ (go a) (go' a) (λ v. bind (outcome_of (known_world s) b) (combined (known_world s) o v)) _ _ _ _ (reaches a f.0) (deeper a f.0)
       (λ m. stays_bind (outcome_of (known_world s) b) (go b) (go' b) (combined (known_world s) o (bare m)) (combined_left s o m) (combined_left s o m) _ _ r d (λ x q e k. refl))
-  stays_node (call g ts) f = stays_from (outcomes_of (known_world s) ts) (pieces_of go ts) (pieces_of go' ts) _ (called_left s g) (call g) (stays_all ts f)
+  stays_node (call g ts) f = stays_from (outcomes_of (known_world s) ts) (pieces_of go (listed ts)) (pieces_of go' (listed ts)) _ (called_left s g) (λ us. call g (trees us)) (stays_all ts f)
   stays_node (get_attr t a) f = stays_bind _ (go t) (go' t) _ _ _ _ _ (reaches t f) (deeper t f) (λ m r e k. refl)
   stays_node (has_attr t a) f = stays_bind _ (go t) (go' t) _ _ _ _ _ (reaches t f) (deeper t f) (λ m r e k. refl)
   stays_node (has_path t a bs) f = stays_bind _ (go t) (go' t) _ _ _ _ _ (reaches t f) (deeper t f) (λ m r e k. refl)
   stays_node (like t p) f = stays_bind _ (go t) (go' t) _ _ _ _ _ (reaches t f) (deeper t f) (λ m r e k. refl)
   stays_node (is_type t x) f = stays_bind _ (go t) (go' t) _ _ _ _ _ (reaches t f) (deeper t f) (λ m r e k. refl)
-  stays_node (set_literal ts) f = stays_from (outcomes_of (known_world s) ts) (pieces_of go ts) (pieces_of go' ts) _ (λ ms. value_left (made_set (made_members ms))) set_literal (stays_all ts f)
-  stays_node (record_literal fs) f = stays_from (field_outcomes_of (known_world s) fs) (pieces_of go (trees_of fs)) (pieces_of go' (trees_of fs)) _ (λ ms. value_left (made_record (made_fields (names_of fs) ms))) (λ ts. record_literal (tree_fields_of (names_of fs) ts)) (stays_fields fs f)
+  stays_node (set_literal ts) f = stays_from (outcomes_of (known_world s) ts) (pieces_of go (listed ts)) (pieces_of go' (listed ts)) _ (λ ms. value_left (made_set (made_members ms))) (λ us. set_literal (trees us)) (stays_all ts f)
+  stays_node (record_literal fs) f = stays_from (field_outcomes_of (known_world s) fs) (pieces_of go (field_trees fs)) (pieces_of go' (field_trees fs)) _ (λ ms. value_left (made_record (fields_named (field_names fs) ms))) (λ ts. record_literal (tree_fields (zip (field_names fs) ts))) (stays_fields fs f)
   stays_node t f = λ r e k. refl
 
-stays : (s : Scope) → Agrees s → LeavesUnbound s → (n : ℕ) (t : Tree) → FitsAnnotations (known_world s) t → Stays (outcome_of (known_world s) t) (evaluated s n t) (evaluated s (suc n) t)
+stays : (s : Scope) → Agrees s → LeavesUnbound s → (n : ℕ) (t : Tree) → FitsIn (known_world s) t → Stays (outcome_of (known_world s) t) (evaluated s n t) (evaluated s (suc n) t)
 stays s agrees unbound zero t f = λ r e k. absurd (k refl)
 stays s agrees unbound (suc n) t f = stays_node s (evaluated s n) (evaluated s (suc n)) (reached s agrees unbound n) (stays s agrees unbound n) t f
 
 -- one limit more, and then any
-steps : (s : Scope) → Agrees s → LeavesUnbound s → (n : ℕ) (t : Tree) → FitsAnnotations (known_world s) t → (r : Res V) → outcome_of (known_world s) t ≡ Some r → NoLimit s n t → (k : ℕ) → evaluated s (k + n) t ≡ evaluated s n t
+steps : (s : Scope) → Agrees s → LeavesUnbound s → (n : ℕ) (t : Tree) → FitsIn (known_world s) t → (r : Res V) → outcome_of (known_world s) t ≡ Some r → NoLimit s n t → (k : ℕ) → evaluated s (k + n) t ≡ evaluated s n t
 steps s agrees unbound n t f r e h zero = ap (λ m. evaluated s m t) (omega arith)
 steps s agrees unbound n t f r e h (suc k) =
     let before = steps s agrees unbound n t f r e h k in
@@ -116,4 +117,4 @@ steps s agrees unbound n t f r e h (suc k) =
 pub larger_limits_keep : (s : Scope) → Agrees s → LeavesUnbound s → (n m : ℕ) (t : Tree) → FitsAnnotations (known_world s) t → IsGrounded (known_world s) t → NoLimit s n t → n ≤ m → evaluated s m t ≡ evaluated s n t
 larger_limits_keep s agrees unbound n m t f g h le =
     let count : m ≡ (m - n) + n = omega (arith, le) in
-    ap (λ k. evaluated s k t) count ∙ steps s agrees unbound n t f g.0 (means_outcome (known_world s) t g.0 g.1) h (m - n)
+    ap (λ k. evaluated s k t) count ∙ steps s agrees unbound n t (fits_in (known_world s) t f) g.0 (means_outcome (known_world s) t g.0 g.1) h (m - n)

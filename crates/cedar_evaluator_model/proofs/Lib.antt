@@ -1,10 +1,11 @@
-pub mod Each
+pub mod Named
 pub mod Given
 pub mod GivenReads
 pub mod GivenLists
 pub mod Owed
 pub mod Reached
 pub mod Larger
+pub mod SameReads
 pub mod Settled
 pub mod Sure
 pub mod NoLimits
@@ -15,3 +16,4 @@ pub mod Responses
 pub mod Forced
 pub mod Written
 pub mod Again
+pub mod Residuals

@@ -4,15 +4,16 @@ use Rattle.std.specs.Prelude.{All}
 use Rattle.std.specs.List.{filter_map, cons_option, list_any}
 use Rattle.std.proofs.lemmas.List.Elements.{All-head, All-tail}
 use Rattle.cedar_expr_model.specs.Whole.Value.{truth}
+use Rattle.cedar_expr_model.specs.Whole.Tree.{Tree}
 use Rattle.cedar_expr_model.specs.Whole.Made.{made_prim}
 use Rattle.cedar_expr_model.proofs.Lists.{contains_cases, contains_none}
-use Rattle.cedar_store_model.specs.Whole.Policy.{Policy, condition}
+use Rattle.cedar_store_model.specs.Whole.Policy.{Policy, binding_of, condition}
 use Rattle.cedar_evaluator_model.specs.Scope.{Scope, Agrees, fault, limit, Left, value_left, residual, stopped}
 use Rattle.cedar_evaluator_model.specs.Steps.{on_value, truth_wanted}
 use Rattle.cedar_evaluator_model.specs.Evaluation.{evaluated}
 use Rattle.cedar_evaluator_model.specs.Whole.{NothingUnknown}
 use Rattle.cedar_evaluator_model.specs.Standing.{NoLimit}
-use Rattle.cedar_evaluator_model.specs.Response.{ResponseError, with_bindings, verdict, if_stopped, response_of}
+use Rattle.cedar_evaluator_model.specs.Response.{ResponseError, with_bindings, slots_bound, verdict, if_stopped, response_of}
 use Rattle.cedar_evaluator_model.specs.Members.{is_limit, met_limit}
 use Rattle.cedar_evaluator_model.specs.Laws.{WithinLimit}
 use Rattle.cedar_evaluator_model.proofs.NoLimits.{no_limit}
@@ -32,14 +33,14 @@ not_met s n (q ∷ ps) h p c =
 
 -- the condition doesn't meet the limit where the verdict doesn't
 pub no_limit_within : (s : Scope) (n : ℕ) (p : Policy) → (verdict s n p ≡ stopped limit → ⊥) → NoLimit (with_bindings s p.bindings) n (condition p)
-no_limit_within s n p h e = h (ap (λ l. on_value l truth_wanted residual) e)
+no_limit_within s n p h e = h (ap (λ l. on_value l truth_wanted (λ r. residual (slots_bound (binding_of p.bindings) r))) e)
 
 -- the verdict doesn't meet the limit where the condition doesn't
-verdict_limit : (l : Left) → (l ≡ stopped limit → ⊥) → on_value l truth_wanted residual ≡ stopped limit → ⊥
-verdict_limit (value_left (made_prim (truth b))) h e = cc
-verdict_limit (value_left m) h e = cc
-verdict_limit (residual r) h e = cc
-verdict_limit (stopped x) h e = h e
+verdict_limit : (bound : Tree → Tree) (l : Left) → (l ≡ stopped limit → ⊥) → on_value l truth_wanted (λ r. residual (bound r)) ≡ stopped limit → ⊥
+verdict_limit bound (value_left (made_prim (truth b))) h e = cc
+verdict_limit bound (value_left m) h e = cc
+verdict_limit bound (residual r) h e = cc
+verdict_limit bound (stopped x) h e = h e
 
 unmet_case : (l : Left) (p : Policy) (es : List ResponseError) → (l ≡ stopped limit → ⊥) → list_any (λ e. is_limit e.cause) es ≡ false → list_any (λ e. is_limit e.cause) (cons_option (if_stopped p l) es) ≡ false
 unmet_case (value_left m) p es h k = k
@@ -54,4 +55,4 @@ none_met s agrees k n (p ∷ ps) h =
     let t = with_bindings s p.bindings in
     let known : NothingUnknown t = record { principal = k.principal; action = k.action; resource = k.resource; context = k.context; store = k.store; calls = k.calls } in
     let x = All-head (WithinLimit s n) p ps h in
-    unmet_case (verdict s n p) p (filter_map (λ p. if_stopped p (verdict s n p)) ps) (verdict_limit (evaluated t n (condition p)) (no_limit t agrees known n (condition p) x.0 x.1)) (none_met s agrees k n ps (All-tail (WithinLimit s n) p ps h))
+    unmet_case (verdict s n p) p (filter_map (λ p. if_stopped p (verdict s n p)) ps) (verdict_limit (slots_bound (binding_of p.bindings)) (evaluated t n (condition p)) (no_limit t agrees known n (condition p) x.0 x.1)) (none_met s agrees k n ps (All-tail (WithinLimit s n) p ps h))

@@ -1,28 +1,29 @@
 -- At every limit: where what is known gives an expression an outcome, that outcome is left, or the limit is met.
-use Rattle.std.proofs.Common.{◌≡◌, ℕ, zero, suc, Bool, true, false, List, [], ◌∷◌, refl, sym, ap, ◌∙◌, subst, ◌⊎◌, inl, inr, ⊎_elim}
+use Rattle.std.proofs.Common.{◌≡◌, ℕ, zero, suc, Bool, true, false, List, [], ◌∷◌, refl, sym, ap, ◌∙◌, subst, ◌⊎◌, inl, inr, ⊎_elim, zip}
 use Rattle.std.specs.Prelude.{Option, Some, None, map}
 use Rattle.cedar_expr_model.specs.Whole.Value.{truth, V, set_of, record_of, field}
 use Rattle.cedar_expr_model.specs.Whole.Canonical.{set_made}
-use Rattle.cedar_expr_model.specs.Whole.Builder.{conjunction, disjunction}
+use Rattle.cedar_expr_model.specs.Whole.Builder.{conjunction, disjunction, trees, tree_fields}
 use Rattle.cedar_expr_model.specs.Whole.Tree.{Tree, lit, var, slot, unknown, choice, both, either, unary, binary, call, get_attr, has_attr, has_path, like, is_type, set_literal, record_literal, Trees, no_trees, tree, TreeFields, no_tree_fields, tree_field}
-use Rattle.cedar_expr_model.specs.Whole.Unknowns.{EachUnknownAmong, EachUnknownInFields}
 use Rattle.cedar_expr_model.specs.Whole.Made.{Made, made_prim, made_set, made_record, bare, bare_fields}
 use Rattle.cedar_expr_model.specs.Whole.Table.{signature_of}
 use Rattle.cedar_store_model.specs.Whole.Outcome.{Res, val, err, bind}
 use Rattle.cedar_store_model.specs.Whole.Operators.{says, applied, like_pattern, of_type, called}
-use Rattle.cedar_store_model.specs.Whole.Reads.{attribute_read, attribute_tested, path_tested}
-use Rattle.cedar_store_model.specs.Whole.Meaning.{Means, combined, picked, truth_asked, outcome_of, outcomes_of, field_outcomes_of}
+use Rattle.cedar_store_model.specs.Whole.Reads.{attribute_read, attribute_tested}
+use Rattle.cedar_store_model.specs.Whole.Meaning.{Means, combined, picked, truth_asked, outcome_of, outcomes_of, field_outcomes_of, path_tested}
 use Rattle.cedar_store_model.proofs.Whole.Meaning.{means_outcome}
 use Rattle.cedar_evaluator_model.specs.Scope.{Scope, Agrees, limit, Left, value_left, stopped}
-use Rattle.cedar_evaluator_model.specs.Steps.{truth_left, left_of, on_value, picks, truth_wanted, combined_left, attribute_of, test_of, path_of, called_left, made_members, made_fields, tree_fields_of, Pieces, halted, with_piece, from_pieces}
-use Rattle.cedar_evaluator_model.specs.Evaluation.{right_left, pieces_of, names_of, trees_of, node, evaluated}
+use Rattle.cedar_evaluator_model.specs.Steps.{truth_left, left_of, on_value, picks, truth_wanted, combined_left, attribute_of, test_of, path_of, called_left, made_members, Pieces, halted, with_piece, from_pieces}
+use Rattle.cedar_evaluator_model.specs.Evaluation.{right_left, pieces_of, node, evaluated}
 use Rattle.cedar_evaluator_model.specs.Known.{known_world}
-use Rattle.cedar_evaluator_model.specs.Completion.{Fits, FitsAnnotations}
+use Rattle.cedar_evaluator_model.specs.Completion.{FitsAnnotations}
 use Rattle.cedar_evaluator_model.specs.Standing.{IsOutcome, LeavesUnbound, NoLimit}
 use Rattle.cedar_evaluator_model.proofs.Given.{Given, given_value, given_asked, given_literal, literal_applied, literal_like, literal_type}
 use Rattle.cedar_evaluator_model.proofs.GivenReads.{given_mapped, given_attribute, given_test, given_path, given_combined, given_call}
 use Rattle.cedar_evaluator_model.proofs.GivenLists.{bare_members, GivenAs, given_from, given_more}
 use Rattle.cedar_evaluator_model.proofs.Owed.{given_variable, given_slot}
+use Rattle.cedar_evaluator_model.proofs.Named.{field_names, field_trees, fields_named, FitsIn, FitsAmong, FitsInFields, fits_in}
+use Rattle.cedar_expr_model.specs.Whole.Parts.{listed}
 
 -- the limit is met, or the outcome is left, where there is one
 abbrev pub Reached : Option (Res V) → Left → Type 0
@@ -48,7 +49,7 @@ reached_truth join b o l h = reached_bind o l (λ v. Some (truth_asked v)) truth
 abbrev ReachedAs : {A : Type 0} → (List Made → A) → Option (Res A) → Pieces → Type 0
 ReachedAs view o ps = (ps ≡ halted limit) ⊎ GivenAs view o ps
 
-reached_from : {A : Type 0} (view : List Made → A) (o : Option (Res A)) (ps : Pieces) (f : A → Option (Res V)) (next : List Made → Left) (rebuilt : Trees → Tree) → ReachedAs view o ps → ((ms : List Made) → Given (f (view ms)) (next ms)) → Reached (bind o f) (from_pieces next rebuilt ps)
+reached_from : {A : Type 0} (view : List Made → A) (o : Option (Res A)) (ps : Pieces) (f : A → Option (Res V)) (next : List Made → Left) (rebuilt : List Tree → Tree) → ReachedAs view o ps → ((ms : List Made) → Given (f (view ms)) (next ms)) → Reached (bind o f) (from_pieces next rebuilt ps)
 reached_from view o ps f next rebuilt (inl e) n = inl (ap (from_pieces next rebuilt) e)
 reached_from view o ps f next rebuilt (inr h) n = inr (given_from view o ps f next rebuilt h n)
 
@@ -64,22 +65,22 @@ reached_more view wider joined step (Some (val v)) l os ps (inr h) (inl e) = inl
 reached_more view wider joined step (Some (err f)) l os ps (inr h) (inl e) = inr (ap (λ x. with_piece x ps) h)
 
 -- one level
-module _ (s : Scope) (agrees : Agrees s) (unbound : LeavesUnbound s) (go : Tree → Left) (deeper : (t : Tree) → FitsAnnotations (known_world s) t → Reached (outcome_of (known_world s) t) (go t)) where
-  reached_all : (ts : Trees) → EachUnknownAmong (λ x a. Fits a ((known_world s).unknowns x)) ts → ReachedAs (map bare) (outcomes_of (known_world s) ts) (pieces_of go ts)
+module _ (s : Scope) (agrees : Agrees s) (unbound : LeavesUnbound s) (go : Tree → Left) (deeper : (t : Tree) → FitsIn (known_world s) t → Reached (outcome_of (known_world s) t) (go t)) where
+  reached_all : (ts : Trees) → FitsAmong (known_world s) ts → ReachedAs (map bare) (outcomes_of (known_world s) ts) (pieces_of go (listed ts))
   reached_all no_trees f = inr ([], refl, refl)
-  reached_all (tree t ts) f = reached_more (map bare) (map bare) (λ v vs. v ∷ vs) (λ m ms. refl) (outcome_of (known_world s) t) (go t) (outcomes_of (known_world s) ts) (pieces_of go ts) (deeper t f.0) (reached_all ts f.1)
+  reached_all (tree t ts) f = reached_more (map bare) (map bare) (λ v vs. v ∷ vs) (λ m ms. refl) (outcome_of (known_world s) t) (go t) (outcomes_of (known_world s) ts) (pieces_of go (listed ts)) (deeper t f.0) (reached_all ts f.1)
 
-  reached_fields : (fs : TreeFields) → EachUnknownInFields (λ x a. Fits a ((known_world s).unknowns x)) fs → ReachedAs (λ ms. bare_fields (made_fields (names_of fs) ms)) (field_outcomes_of (known_world s) fs) (pieces_of go (trees_of fs))
+  reached_fields : (fs : TreeFields) → FitsInFields (known_world s) fs → ReachedAs (λ ms. bare_fields (fields_named (field_names fs) ms)) (field_outcomes_of (known_world s) fs) (pieces_of go (field_trees fs))
   reached_fields no_tree_fields f = inr ([], refl, refl)
   reached_fields (tree_field x t fs) f =
-      reached_more (λ ms. bare_fields (made_fields (names_of fs) ms)) (λ ms. bare_fields (made_fields (x ∷ names_of fs) ms)) (λ v vs. field x v vs) (λ m ms. refl) (outcome_of (known_world s) t) (go t) (field_outcomes_of (known_world s) fs) (pieces_of go (trees_of fs))
+      reached_more (λ ms. bare_fields (fields_named (field_names fs) ms)) (λ ms. bare_fields (fields_named (x ∷ field_names fs) ms)) (λ v vs. field x v vs) (λ m ms. refl) (outcome_of (known_world s) t) (go t) (field_outcomes_of (known_world s) fs) (pieces_of go (field_trees fs))
       (deeper t f.0) (reached_fields fs f.1)
 
-  reached_node : (t : Tree) → FitsAnnotations (known_world s) t → Reached (outcome_of (known_world s) t) (node s go t)
+  reached_node : (t : Tree) → FitsIn (known_world s) t → Reached (outcome_of (known_world s) t) (node s go t)
   reached_node (lit p) f = inr (given_value (made_prim p))
   reached_node (var x) f = inr (given_variable s x)
   reached_node (slot x) f = inr (given_slot (s.slots x))
-  reached_node (unknown x a) f = inr (given_mapped s x a (s.values x) f)
+  reached_node (unknown x a) f = inr (given_mapped x a (s.values x) f)
   reached_node (choice t a b) f = reached_bind _ (go t) _ _ _ (deeper t f.0) (reached_picks _ _ (go a) (go b) (deeper a f.1) (deeper b f.2))
   reached_node (both a b) f =
       reached_bind _ (go a) _ _ _ (deeper a f.0)
@@ -92,20 +93,20 @@ module _ (s : Scope) (agrees : Agrees s) (unbound : LeavesUnbound s) (go : Tree 
       let r = deeper b f.1 in
       reached_bind _ (go a) (λ v. bind (outcome_of (known_world s) b) (combined (known_world s) o v)) _ _ (deeper a f.0)
       (λ m. reached_bind (outcome_of (known_world s) b) (go b) (combined (known_world s) o (bare m)) (combined_left s o m) _ r (λ x. inr (given_combined s o m x)))
-  reached_node (call g ts) f = reached_from (map bare) (outcomes_of (known_world s) ts) (pieces_of go ts) (called s.table (known_world s).unknowns g) (called_left s g) (call g) (reached_all ts f) (λ ms. given_call s agrees unbound g ms (signature_of s.table g) refl)
+  reached_node (call g ts) f = reached_from (map bare) (outcomes_of (known_world s) ts) (pieces_of go (listed ts)) (called s.table (known_world s).unknowns g) (called_left s g) (λ us. call g (trees us)) (reached_all ts f) (λ ms. given_call s agrees unbound g ms (signature_of s.table g) refl)
   reached_node (get_attr t a) f = reached_bind _ (go t) (attribute_read (known_world s) a) (attribute_of s a) _ (deeper t f) (λ m. inr (given_attribute s a m))
   reached_node (has_attr t a) f = reached_bind _ (go t) (attribute_tested (known_world s) a) (test_of s a) _ (deeper t f) (λ m. inr (given_test s a m))
   reached_node (has_path t a bs) f = reached_bind _ (go t) (path_tested (known_world s) a bs) (path_of s a bs) _ (deeper t f) (λ m. inr (given_path s a bs m))
   reached_node (like t p) f = reached_bind _ (go t) (λ v. Some (like_pattern p v)) (λ m. left_of (like_pattern p (bare m))) _ (deeper t f) (λ m. inr (given_literal (like_pattern p (bare m)) (literal_like p (bare m))))
   reached_node (is_type t k) f = reached_bind _ (go t) (λ v. Some (of_type k v)) (λ m. left_of (of_type k (bare m))) _ (deeper t f) (λ m. inr (given_literal (of_type k (bare m)) (literal_type k (bare m))))
   reached_node (set_literal ts) f =
-      reached_from (map bare) (outcomes_of (known_world s) ts) (pieces_of go ts) (λ vs. Some (val (set_made vs))) (λ ms. value_left (made_set (made_members ms))) set_literal (reached_all ts f)
+      reached_from (map bare) (outcomes_of (known_world s) ts) (pieces_of go (listed ts)) (λ vs. Some (val (set_made vs))) (λ ms. value_left (made_set (made_members ms))) (λ us. set_literal (trees us)) (reached_all ts f)
       (λ ms. (made_set (made_members ms), refl, ap set_of (bare_members ms)))
   reached_node (record_literal fs) f =
-      reached_from (λ ms. bare_fields (made_fields (names_of fs) ms)) (field_outcomes_of (known_world s) fs) (pieces_of go (trees_of fs)) (λ vs. Some (val (record_of vs))) (λ ms. value_left (made_record (made_fields (names_of fs) ms))) (λ ts. record_literal (tree_fields_of (names_of fs) ts)) (reached_fields fs f)
-      (λ ms. given_value (made_record (made_fields (names_of fs) ms)))
+      reached_from (λ ms. bare_fields (fields_named (field_names fs) ms)) (field_outcomes_of (known_world s) fs) (pieces_of go (field_trees fs)) (λ vs. Some (val (record_of vs))) (λ ms. value_left (made_record (fields_named (field_names fs) ms))) (λ ts. record_literal (tree_fields (zip (field_names fs) ts))) (reached_fields fs f)
+      (λ ms. given_value (made_record (fields_named (field_names fs) ms)))
 
-pub reached : (s : Scope) → Agrees s → LeavesUnbound s → (n : ℕ) (t : Tree) → FitsAnnotations (known_world s) t → Reached (outcome_of (known_world s) t) (evaluated s n t)
+pub reached : (s : Scope) → Agrees s → LeavesUnbound s → (n : ℕ) (t : Tree) → FitsIn (known_world s) t → Reached (outcome_of (known_world s) t) (evaluated s n t)
 reached s agrees unbound zero t f = inl refl
 reached s agrees unbound (suc n) t f = reached_node s agrees unbound (evaluated s n) (reached s agrees unbound n) t f
 
@@ -114,7 +115,7 @@ reached_outcome o l r e (inl h) = inl h
 reached_outcome o l r e (inr h) = inr (subst (λ x. Given x l) e h)
 
 pub outcome_or_limit : (s : Scope) → Agrees s → LeavesUnbound s → (n : ℕ) (t : Tree) → FitsAnnotations (known_world s) t → (r : Res V) → Means (known_world s) t r → (evaluated s n t ≡ stopped limit) ⊎ IsOutcome r (evaluated s n t)
-outcome_or_limit s agrees unbound n t f r m = reached_outcome (outcome_of (known_world s) t) (evaluated s n t) r (means_outcome (known_world s) t r m) (reached s agrees unbound n t f)
+outcome_or_limit s agrees unbound n t f r m = reached_outcome (outcome_of (known_world s) t) (evaluated s n t) r (means_outcome (known_world s) t r m) (reached s agrees unbound n t (fits_in (known_world s) t f))
 
 pub owed_unless_limit : (s : Scope) → Agrees s → LeavesUnbound s → (n : ℕ) (t : Tree) → FitsAnnotations (known_world s) t → NoLimit s n t → (r : Res V) → Means (known_world s) t r → IsOutcome r (evaluated s n t)
 owed_unless_limit s agrees unbound n t f k r m = ⊎_elim (λ e. absurd (k e)) (λ h. h) (outcome_or_limit s agrees unbound n t f r m)

@@ -12,14 +12,14 @@ use Rattle.cedar_store_model.specs.Whole.Meaning.{outcome_of, truth_asked}
 use Rattle.cedar_store_model.specs.Whole.Policy.{Policy, Effect, permit, forbid, condition}
 use Rattle.cedar_store_model.specs.Whole.Answer.{PolicyError, with_slots, policy_outcome, is_true, satisfied, permits, satisfied_permits, satisfied_forbids, ids, decided, determining, error_of, errors_of, decision_of, answer_of}
 use Rattle.cedar_store_model.proofs.Whole.Meaning.{means_outcome}
-use Rattle.cedar_evaluator_model.specs.Scope.{Scope, Agrees, fault, limit, Left, residual, stopped}
+use Rattle.cedar_evaluator_model.specs.Scope.{Scope, Agrees, fault, limit, Left, stopped}
 use Rattle.cedar_evaluator_model.specs.Steps.{errs, truth_left, on_value, truth_wanted}
 use Rattle.cedar_evaluator_model.specs.Evaluation.{evaluated}
 use Rattle.cedar_evaluator_model.specs.Known.{known_world}
 use Rattle.cedar_evaluator_model.specs.Whole.{NothingUnknown, AllLoaded}
 use Rattle.cedar_evaluator_model.specs.Standing.{IsOutcome}
 use Rattle.cedar_evaluator_model.specs.Response.{Noted, ResponseError, stops, with_bindings, verdict, noted, of_effect, if_true, if_residual, if_stopped, group, response_of}
-use Rattle.cedar_evaluator_model.specs.Members.{of_true, of_residual, decided_by, if_none, without_value, concrete_decision, concretize, is_limit, met_limit, decision_in_session, nontrivial_residuals}
+use Rattle.cedar_evaluator_model.specs.Members.{of_true, of_residual, decided_by, if_none, without_value, concretize, is_limit, met_limit, decision_in_session, nontrivial_residuals}
 use Rattle.cedar_evaluator_model.specs.Laws.{IsBound, as_concrete}
 use Rattle.cedar_evaluator_model.proofs.Limits.{not_met, no_limit_within}
 use Rattle.cedar_evaluator_model.proofs.Reached.{outcome_or_limit, owed_unless_limit}
@@ -33,12 +33,12 @@ same_asked : (m : Made) → SameVerdict (Some (truth_asked (bare m))) (truth_wan
 same_asked (made_prim (truth b)) = inl (b, refl, refl)
 same_asked m = inr (wrong_type, refl, refl)
 
-pub same_verdict : (r : Res V) (o : Option (Res V)) (l : Left) → o ≡ Some r → IsOutcome r l → SameVerdict (bind o (λ v. Some (truth_asked v))) (on_value l truth_wanted residual)
-same_verdict (val v) o l e h =
+pub same_verdict : (other : Tree → Left) (r : Res V) (o : Option (Res V)) (l : Left) → o ≡ Some r → IsOutcome r l → SameVerdict (bind o (λ v. Some (truth_asked v))) (on_value l truth_wanted other)
+same_verdict other (val v) o l e h =
     let one : SameVerdict (Some (truth_asked v)) (truth_wanted h.0) = subst (λ x. SameVerdict (Some (truth_asked x)) (truth_wanted h.0)) h.2 (same_asked h.0) in
     let two = subst (λ x. SameVerdict (bind x (λ v. Some (truth_asked v))) (truth_wanted h.0)) (sym e) one in
-    subst (λ x. SameVerdict (bind o (λ v. Some (truth_asked v))) (on_value x truth_wanted residual)) (sym h.1) two
-same_verdict (err f) o l e h = inr (f, ap (λ x. bind x (λ v. Some (truth_asked v))) e, ap (λ x. on_value x truth_wanted residual) h)
+    subst (λ x. SameVerdict (bind o (λ v. Some (truth_asked v))) (on_value x truth_wanted other)) (sym h.1) two
+same_verdict other (err f) o l e h = inr (f, ap (λ x. bind x (λ v. Some (truth_asked v))) e, ap (λ x. on_value x truth_wanted other) h)
 
 -- what a group takes of such a policy
 module _ (p : Policy) where
@@ -138,7 +138,7 @@ module _ (w : World) (s : Scope) (n : ℕ) where
   no_limits (p ∷ ps) h = no_limit_error (policy_outcome w p) (verdict s n p) p (filter_map (λ p. if_stopped p (verdict s n p)) ps) (All-head Same p ps h) (no_limits ps (All-tail Same p ps h))
 
 -- decisions and reasons of such groups
-same_decision : (ps fs : List Policy) → concrete_decision (map noted ps) (map noted fs) ≡ decided ps fs
+same_decision : (ps fs : List Policy) → decided (map noted ps) (map noted fs) ≡ decided ps fs
 same_decision [] [] = refl
 same_decision (p ∷ ps) [] = refl
 same_decision ps (f ∷ fs) = refl
@@ -167,7 +167,7 @@ response_is_answer w s n ps h =
     let two = same_reasons (satisfied_permits w ps) (satisfied_forbids w ps) in
     (λ i.
     record {
-      decision = concrete_decision (tp i) (tf i);
+      decision = decided (tp i) (tf i);
       reasons = ids (if_none (tf i) (if_none (rf i) (of_true permit (tp i)) (of_true forbid (tf i))) (of_true forbid (tf i)));
       errors = map without_value (rf i ++ rp i) ++ er i;
     })
@@ -189,7 +189,7 @@ one_same : (s : Scope) → Agrees s → NothingUnknown s → AllLoaded s → (n 
 one_same s agrees k l n p x e =
     let t = with_bindings s p.bindings in
     let o = grounded t (known_with s k p) l (condition p) x in
-    same_verdict o.0 (outcome_of (with_slots (known_world s) p.bindings) (condition p)) (evaluated t n (condition p)) (means_outcome (known_world t) (condition p) o.0 o.1)
+    same_verdict _ o.0 (outcome_of (with_slots (known_world s) p.bindings) (condition p)) (evaluated t n (condition p)) (means_outcome (known_world t) (condition p) o.0 o.1)
     (owed_unless_limit t agrees (leaves_unbound s agrees k.calls) n (condition p) (all_fit t (condition p) x) (no_limit_within s n p e) o.0 o.1)
 
 pub all_same : (s : Scope) → Agrees s → NothingUnknown s → AllLoaded s → (n : ℕ) (ps : List Policy) → All (IsBound s) ps → met_limit (response_of s n ps) ≡ false → All (Same (known_world s) s n) ps
@@ -204,20 +204,20 @@ pub decisions : (s : Scope) → Agrees s → NothingUnknown s → AllLoaded s �
 decisions s agrees k l n ps h e = decision_is_given (known_world s) s n ps (all_same s agrees k l n ps h e)
 
 -- no policy is residual, at any limit
-verdict_no_residual : (q : Res V) (l : Left) (p : Policy) → (l ≡ stopped limit) ⊎ IsOutcome q l → if_residual p (on_value l truth_wanted residual) ≡ None
-verdict_no_residual q l p (inl e) = ap (λ x. if_residual p (on_value x truth_wanted residual)) e
-verdict_no_residual (val v) l p (inr h) = ap (λ x. if_residual p (on_value x truth_wanted residual)) h.1 ∙ go h.0
+verdict_no_residual : (other : Tree → Left) (q : Res V) (l : Left) (p : Policy) → (l ≡ stopped limit) ⊎ IsOutcome q l → if_residual p (on_value l truth_wanted other) ≡ None
+verdict_no_residual other q l p (inl e) = ap (λ x. if_residual p (on_value x truth_wanted other)) e
+verdict_no_residual other (val v) l p (inr h) = ap (λ x. if_residual p (on_value x truth_wanted other)) h.1 ∙ go h.0
   where
     go : (m : Made) → if_residual p (truth_wanted m) ≡ None
     go (made_prim (truth b)) = refl
     go m = refl
-verdict_no_residual (err f) l p (inr h) = ap (λ x. if_residual p (on_value x truth_wanted residual)) h
+verdict_no_residual other (err f) l p (inr h) = ap (λ x. if_residual p (on_value x truth_wanted other)) h
 
 one_no_residual : (s : Scope) → Agrees s → NothingUnknown s → AllLoaded s → (n : ℕ) (p : Policy) → IsBound s p → if_residual p (verdict s n p) ≡ None
 one_no_residual s agrees k l n p x =
     let t = with_bindings s p.bindings in
     let o = grounded t (known_with s k p) l (condition p) x in
-    verdict_no_residual o.0 (evaluated t n (condition p)) p (outcome_or_limit t agrees (leaves_unbound s agrees k.calls) n (condition p) (all_fit t (condition p) x) o.0 o.1)
+    verdict_no_residual _ o.0 (evaluated t n (condition p)) p (outcome_or_limit t agrees (leaves_unbound s agrees k.calls) n (condition p) (all_fit t (condition p) x) o.0 o.1)
 
 took_none : {A : Type 0} (e d : Effect) → of_effect {A = A} e d None ≡ None
 took_none permit permit = refl

@@ -1,22 +1,23 @@
 -- Where everything but the unknowns is known, an expression whose unknowns have values has an outcome.
-use Rattle.std.proofs.Common.{◌≡◌, Bool, true, false, cond, List, [], ◌∷◌, refl, subst}
-use Rattle.std.specs.Prelude.{Option, Some, None, length}
-use Rattle.cedar_expr_model.specs.Name.{Text, Name}
+use Rattle.std.proofs.Common.{◌≡◌, Bool, true, false, cond, List, ◌∷◌, refl, subst}
+use Rattle.std.specs.Prelude.{Option, Some, None, length, IsSome}
+use Rattle.cedar_expr_model.specs.Name.{Name}
 use Rattle.cedar_expr_model.specs.Uid.{Uid}
-use Rattle.cedar_expr_model.specs.Whole.Value.{V, prim, text, entity, record_of, field, truth_value}
+use Rattle.cedar_expr_model.specs.Whole.Value.{V, record_of, field, truth_value}
 use Rattle.cedar_expr_model.specs.Whole.Canonical.{set_made}
-use Rattle.cedar_expr_model.specs.Whole.Tree.{Tree, lit, var, slot, unknown, choice, both, either, unary, binary, call, get_attr, has_attr, has_path, like, is_type, set_literal, record_literal, Trees, no_trees, tree, TreeFields, no_tree_fields, tree_field, Var, principal, action, resource, context, BinaryOp, is_in, get_tag, has_tag}
-use Rattle.cedar_expr_model.specs.Whole.Unknowns.{EachUnknown, EachUnknownAmong, EachUnknownInFields}
-use Rattle.cedar_expr_model.specs.Whole.Table.{Signature, Called, gives, fails, leaves, signature_of, takes_count, are_of_types}
+use Rattle.cedar_expr_model.specs.Whole.Tree.{Tree, lit, var, slot, unknown, choice, both, either, unary, binary, call, get_attr, has_attr, has_path, like, is_type, set_literal, record_literal, Trees, no_trees, tree, TreeFields, no_tree_fields, tree_field}
+use Rattle.cedar_expr_model.specs.Whole.Unknowns.{EachUnknown}
+use Rattle.cedar_expr_model.specs.Whole.Table.{Signature, Called, gives, fails, leaves, signature_of, takes_count, are_of_types, IsTaken}
+use Rattle.cedar_expr_model.proofs.Whole.Gathering.{EachIn, each_in, EachAmong, EachInFields}
 use Rattle.cedar_store_model.specs.Whole.Outcome.{Res, val, err, bind, wrong_type, wrong_count}
 use Rattle.cedar_store_model.specs.Whole.World.{World}
-use Rattle.cedar_store_model.specs.Whole.Operators.{says, applied, like_pattern, of_type, bound_value, answered, called_with}
-use Rattle.cedar_store_model.specs.Whole.Reads.{attribute_read, attribute_tested, step_from, path_after, path_tested, tag_read, tag_tested, within}
-use Rattle.cedar_store_model.specs.Whole.Meaning.{variable, combined, picked, truth_asked, outcome_of, outcomes_of, field_outcomes_of}
-use Rattle.cedar_store_model.specs.Whole.Knowledge.{IsThere, IsSettled, IsWhole}
+use Rattle.cedar_store_model.specs.Whole.Operators.{says, applied, like_pattern, of_type, answered}
+use Rattle.cedar_store_model.proofs.Whole.Named.{bound_value, called_of}
+use Rattle.cedar_store_model.specs.Whole.Meaning.{picked, truth_asked, outcome_of, outcomes_of, field_outcomes_of}
+use Rattle.cedar_store_model.specs.Whole.Knowledge.{IsSettled, IsWhole}
 use Rattle.cedar_store_model.proofs.Whole.Known.{there}
-use Rattle.cedar_evaluator_model.specs.Scope.{IsTaken}
 use Rattle.cedar_evaluator_model.specs.Whole.{LeavesNothing}
+use Rattle.cedar_evaluator_model.proofs.SameReads.{same_variable, same_read, same_tested, same_path, same_combined}
 
 -- the world with a value for each unknown
 abbrev some_value : Option V → V
@@ -26,51 +27,11 @@ some_value (Some v) = v
 abbrev filled : World → World
 filled w = record w { unknowns = λ n. Some (some_value (w.unknowns n)) }
 
-filled_there : (o : Option V) → IsThere o → bound_value (Some (some_value o)) ≡ bound_value o
-filled_there None h = absurd h
+filled_there : (o : Option V) → IsSome o → bound_value (Some (some_value o)) ≡ bound_value o
+filled_there None h = cc
 filled_there (Some v) h = refl
 
 module _ (w : World) (leaves_nothing : LeavesNothing w.table) where
-  same_variable : (x : Var) → variable (filled w) x ≡ variable w x
-  same_variable principal = refl
-  same_variable action = refl
-  same_variable resource = refl
-  same_variable context = refl
-
-  same_read : (a : Text) (v : V) → attribute_read (filled w) a v ≡ attribute_read w a v
-  same_read a (prim (entity u)) = refl
-  same_read a v = refl
-
-  same_tested : (a : Text) (v : V) → attribute_tested (filled w) a v ≡ attribute_tested w a v
-  same_tested a (prim (entity u)) = refl
-  same_tested a v = refl
-
-  same_step : (a : Text) (v : V) → step_from (filled w) a v ≡ step_from w a v
-  same_step a (prim (entity u)) = refl
-  same_step a v = refl
-
-  same_path : (a : Text) (bs : List Text) (v : V) → path_tested (filled w) a bs v ≡ path_tested w a bs v
-  same_path a [] v = same_tested a v
-  same_path a (b ∷ bs) v = λ i. path_after (λ x. same_path b bs x i) (same_step a v i)
-
-  same_tag_read : (v x : V) → tag_read (filled w) v x ≡ tag_read w v x
-  same_tag_read (prim (entity u)) (prim (text a)) = refl
-  same_tag_read v x = refl
-
-  same_tag_tested : (v x : V) → tag_tested (filled w) v x ≡ tag_tested w v x
-  same_tag_tested (prim (entity u)) (prim (text a)) = refl
-  same_tag_tested v x = refl
-
-  same_within : (v x : V) → within (filled w) v x ≡ within w v x
-  same_within (prim (entity u)) x = refl
-  same_within v x = refl
-
-  same_combined : (o : BinaryOp) (v x : V) → combined (filled w) o v x ≡ combined w o v x
-  same_combined is_in v x = same_within v x
-  same_combined get_tag v x = same_tag_read v x
-  same_combined has_tag v x = same_tag_tested v x
-  same_combined o v x = refl
-
   same_answered : (f : Name) (vs : List V) (c : Called) → IsTaken w.table f vs → w.table.answers f vs ≡ c → answered (filled w).unknowns c ≡ answered w.unknowns c
   same_answered f vs (gives v) k e = refl
   same_answered f vs (fails x) k e = refl
@@ -81,40 +42,40 @@ module _ (w : World) (leaves_nothing : LeavesNothing w.table) where
   guarded true false o p h = refl
   guarded false types o p h = refl
 
-  same_call : (f : Name) (vs : List V) (g : Option Signature) → signature_of w.table f ≡ g → called_with w.table (filled w).unknowns f vs g ≡ called_with w.table w.unknowns f vs g
+  same_call : (f : Name) (vs : List V) (g : Option Signature) → signature_of w.table f ≡ g → called_of w.table (filled w).unknowns f vs g ≡ called_of w.table w.unknowns f vs g
   same_call f vs None q = refl
   same_call f vs (Some g) q = guarded (takes_count g (length vs)) (are_of_types g.parameters vs) (answered (filled w).unknowns (w.table.answers f vs)) (answered w.unknowns (w.table.answers f vs)) (λ c t. same_answered f vs (w.table.answers f vs) (g, q, c, t) refl)
 
   mutual
-    same_filled : (t : Tree) → EachUnknown (λ n a. IsThere (w.unknowns n)) t → outcome_of (filled w) t ≡ outcome_of w t
+    same_filled : (t : Tree) → EachIn (λ n a. IsSome (w.unknowns n)) t → outcome_of (filled w) t ≡ outcome_of w t
     same_filled (lit p) h = refl
-    same_filled (var x) h = same_variable x
+    same_filled (var x) h = same_variable w w.slots (filled w).unknowns x
     same_filled (slot s) h = refl
     same_filled (unknown n a) h = filled_there (w.unknowns n) h
     same_filled (choice t a b) h = λ i. bind (same_filled t h.0 i) (picked (same_filled a h.1 i) (same_filled b h.2 i))
     same_filled (both a b) h = λ i. bind (same_filled a h.0 i) (picked (bind (same_filled b h.1 i) (λ v. Some (truth_asked v))) (Some (says false)))
     same_filled (either a b) h = λ i. bind (same_filled a h.0 i) (picked (Some (says true)) (bind (same_filled b h.1 i) (λ v. Some (truth_asked v))))
     same_filled (unary o a) h = λ i. bind (same_filled a h i) (λ v. Some (applied o v))
-    same_filled (binary o a b) h = λ i. bind (same_filled a h.0 i) (λ v. bind (same_filled b h.1 i) (λ x. same_combined o v x i))
+    same_filled (binary o a b) h = λ i. bind (same_filled a h.0 i) (λ v. bind (same_filled b h.1 i) (λ x. same_combined w w.slots (filled w).unknowns o v x i))
     same_filled (call f ts) h = λ i. bind (same_among ts h i) (λ vs. same_call f vs (signature_of w.table f) refl i)
-    same_filled (get_attr t a) h = λ i. bind (same_filled t h i) (λ v. same_read a v i)
-    same_filled (has_attr t a) h = λ i. bind (same_filled t h i) (λ v. same_tested a v i)
-    same_filled (has_path t a bs) h = λ i. bind (same_filled t h i) (λ v. same_path a bs v i)
+    same_filled (get_attr t a) h = λ i. bind (same_filled t h i) (λ v. same_read w w.slots (filled w).unknowns a v i)
+    same_filled (has_attr t a) h = λ i. bind (same_filled t h i) (λ v. same_tested w w.slots (filled w).unknowns a v i)
+    same_filled (has_path t a bs) h = λ i. bind (same_filled t h i) (λ v. same_path w w.slots (filled w).unknowns a bs v i)
     same_filled (like t p) h = λ i. bind (same_filled t h i) (λ v. Some (like_pattern p v))
     same_filled (is_type t n) h = λ i. bind (same_filled t h i) (λ v. Some (of_type n v))
     same_filled (set_literal ts) h = λ i. bind (same_among ts h i) (λ vs. Some (val (set_made vs)))
     same_filled (record_literal fs) h = λ i. bind (same_fields fs h i) (λ vs. Some (val (record_of vs)))
 
-    same_among : (ts : Trees) → EachUnknownAmong (λ n a. IsThere (w.unknowns n)) ts → outcomes_of (filled w) ts ≡ outcomes_of w ts
+    same_among : (ts : Trees) → EachAmong (λ n a. IsSome (w.unknowns n)) ts → outcomes_of (filled w) ts ≡ outcomes_of w ts
     same_among no_trees h = refl
     same_among (tree t ts) h = λ i. bind (same_filled t h.0 i) (λ v. bind (same_among ts h.1 i) (λ vs. Some (val (v ∷ vs))))
 
-    same_fields : (fs : TreeFields) → EachUnknownInFields (λ n a. IsThere (w.unknowns n)) fs → field_outcomes_of (filled w) fs ≡ field_outcomes_of w fs
+    same_fields : (fs : TreeFields) → EachInFields (λ n a. IsSome (w.unknowns n)) fs → field_outcomes_of (filled w) fs ≡ field_outcomes_of w fs
     same_fields no_tree_fields h = refl
     same_fields (tree_field a t fs) h = λ i. bind (same_filled t h.0 i) (λ v. bind (same_fields fs h.1 i) (λ vs. Some (val (field a v vs))))
 
-  whole_filled : IsThere w.principal → IsThere w.action → IsThere w.resource → IsThere w.context → ((u : Uid) → IsSettled (w.store u)) → IsWhole (filled w)
-  whole_filled p a r c f = record { principal = p; action = a; resource = r; context = c; unknowns = λ n. tt; store = f }
+  whole_filled : IsSome w.principal → IsSome w.action → IsSome w.resource → IsSome w.context → ((u : Uid) → IsSettled (w.store u)) → IsWhole (filled w)
+  whole_filled p a r c f = record { principal = p; action = a; resource = r; context = c; unknowns = λ n. refl; store = f }
 
-  pub settled_there : IsThere w.principal → IsThere w.action → IsThere w.resource → IsThere w.context → ((u : Uid) → IsSettled (w.store u)) → (t : Tree) → EachUnknown (λ n a. IsThere (w.unknowns n)) t → IsThere (outcome_of w t)
-  settled_there p a r c f t h = subst IsThere (same_filled t h) (there (filled w) (whole_filled p a r c f) t)
+  pub settled_there : IsSome w.principal → IsSome w.action → IsSome w.resource → IsSome w.context → ((u : Uid) → IsSettled (w.store u)) → (t : Tree) → EachUnknown (λ n a. IsSome (w.unknowns n)) t → IsSome (outcome_of w t)
+  settled_there p a r c f t h = subst IsSome (same_filled t ((each_in (λ n a. IsSome (w.unknowns n)) t).0 h)) (there (filled w) (whole_filled p a r c f) t)

@@ -7,18 +7,22 @@ use Rattle.std.specs.Str.{bytes_eq}
 use Rattle.cedar_expr_model.specs.Name.{Text, Name}
 use Rattle.cedar_expr_model.specs.Uid.{Uid}
 use Rattle.cedar_expr_model.specs.Whole.Value.{truth, text, entity, V, prim}
-use Rattle.cedar_expr_model.specs.Whole.Tree.{entity_core, BinaryOp, equal, less, less_or_equal, plus, difference, times, is_in, contains, contains_all, contains_any, get_tag, has_tag, Tree, lit, unknown, binary, has_attr, record_literal, TreeFields}
+use Rattle.cedar_expr_model.specs.Whole.Tree.{entity_core, BinaryOp, equal, less, less_or_equal, plus, difference, times, is_in, contains, contains_all, contains_any, get_tag, has_tag, Tree, lit, unknown, binary, has_attr, record_literal, TreeFields, get_attr}
 use Rattle.cedar_expr_model.specs.Whole.Builder.{conjunction, disjunction, path_test}
-use Rattle.cedar_expr_model.specs.Whole.Parts.{is_projectable, have_projectable}
+use Rattle.cedar_expr_model.specs.Whole.Parts.{is_projectable}
 use Rattle.cedar_expr_model.specs.Whole.Made.{Made, made_prim, made_record, bare}
 use Rattle.cedar_expr_model.proofs.Lists.{both_hold}
-use Rattle.cedar_store_model.specs.Whole.Outcome.{Res, val, err}
-use Rattle.cedar_store_model.specs.Whole.World.{Part, known, left, Found, held, missing, not_loaded, part_named}
+use Rattle.cedar_store_model.specs.Whole.Outcome.{Res, val, err, missing_attribute_or_tag, missing_field}
+use Rattle.cedar_expr_model.specs.Whole.ValueParts.{Part, known, left}
+use Rattle.cedar_store_model.specs.Whole.World.{Found, held, missing, not_loaded}
 use Rattle.cedar_store_model.specs.Whole.Reads.{is_in_some, uids_in}
 use Rattle.cedar_store_model.specs.Whole.Knowledge.{is_known}
 use Rattle.cedar_evaluator_model.specs.Scope.{Scope, fault, limit, Left, value_left, residual, stopped}
-use Rattle.cedar_evaluator_model.specs.Steps.{truth_left, on_value, left_of, truth_wanted, picks, part_left, tag_left, part_or_missing, attribute_found, made_named, field_or_missing, attribute_of, test_found, test_of, path_step, path_found, path_field, path_from, path_of, get_tag_found, has_tag_found, tag_of, in_found, in_of, combined_left, differ, with_residual, is_of_residual}
-use Rattle.cedar_evaluator_model.specs.Evaluation.{tree_named, projected, get_of_residual, has_of_residual, right_left}
+use Rattle.cedar_evaluator_model.specs.Steps.{truth_left, on_value, left_of, truth_wanted, picks, part_left, tag_left, made_named, attribute_of, test_of, path_step, path_of, get_tag_found, has_tag_found, tag_of, in_found, in_of, combined_left, differ, with_residual, is_of_residual, errs}
+use Rattle.cedar_evaluator_model.specs.Evaluation.{tree_named, get_of_residual, has_of_residual, right_left}
+use Rattle.std.specs.Map.{lookup}
+use Rattle.cedar_evaluator_model.proofs.Named.{attribute_found, test_found, path_found}
+use Rattle.std.specs.Option.{option_map_or}
 
 -- a value, an error, or a residual that can't be projected
 abbrev pub Sure : Left → Type 0
@@ -90,34 +94,34 @@ value_case : (b : Bool) (p : Part Made) (o : Option (Part Made)) → is_known p 
 value_case true p o h k = h
 value_case false p o h k = k
 
-value_named : (a : Text) (ps : List (Text × Part Made)) → AreKnown ps → IsValue (part_named a ps)
+value_named : (a : Text) (ps : List (Text × Part Made)) → AreKnown ps → IsValue (lookup (bytes_eq a) ps)
 value_named a [] h = tt
 value_named a (p ∷ ps) h =
     let k = both_hold (is_known p.1) (list_all (λ p. is_known p.1) ps) h in
-    value_case (bytes_eq a p.0) p.1 (part_named a ps) k.0 (value_named a ps k.1)
+    value_case (bytes_eq a p.0) p.1 (lookup (bytes_eq a) ps) k.0 (value_named a ps k.1)
 
 -- an entity that is held holds values alone
 abbrev pub ValuesHeld : Found Made → Type 0
 ValuesHeld (held e) = AreKnown e.attributes × AreKnown e.tags
 ValuesHeld f = Unit {0}
 
-sure_part : (s : Scope) (o : Option (Part Made)) → IsValue o → Sure (part_or_missing (part_left s) o)
+sure_part : (s : Scope) (o : Option (Part Made)) → IsValue o → Sure (option_map_or (part_left s) o (errs missing_attribute_or_tag))
 sure_part s None h = tt
 sure_part s (Some (known m)) h = tt
 sure_part s (Some (left t)) h = cc
 
-sure_tag : (o : Option (Part Made)) → IsValue o → Sure (part_or_missing tag_left o)
+sure_tag : (o : Option (Part Made)) → IsValue o → Sure (option_map_or tag_left o (errs missing_attribute_or_tag))
 sure_tag None h = tt
 sure_tag (Some (known m)) h = tt
 sure_tag (Some (left t)) h = cc
 
 module _ (s : Scope) (holds : (u : Uid) → ValuesHeld (s.store u)) where
   sure_attribute_found : (u : Uid) (a : Text) (f : Found Made) → ValuesHeld f → Sure (attribute_found s u a f)
-  sure_attribute_found u a (held e) h = sure_part s (part_named a e.attributes) (value_named a e.attributes h.0)
+  sure_attribute_found u a (held e) h = sure_part s (lookup (bytes_eq a) e.attributes) (value_named a e.attributes h.0)
   sure_attribute_found u a missing h = tt
   sure_attribute_found u a not_loaded h = refl
 
-  sure_field : (o : Option Made) → Sure (field_or_missing o)
+  sure_field : (o : Option Made) → Sure (option_map_or value_left o (errs missing_field))
   sure_field None = tt
   sure_field (Some m) = tt
 
@@ -136,31 +140,28 @@ module _ (s : Scope) (holds : (u : Uid) → ValuesHeld (s.store u)) where
   sure_test a (made_record fs) = tt
   sure_test a m = tt
 
-  sure_step : (next : Made → Left) (other : Tree → Left) → ((m : Made) → Sure (next m)) → (o : Option (Part Made)) → IsValue o → Sure (path_step next other o)
-  sure_step next other n None h = tt
-  sure_step next other n (Some (known m)) h = n m
-  sure_step next other n (Some (left t)) h = cc
+  sure_step : (next : Made → Left) → ((m : Made) → Sure (next m)) → (b : Text) (bs : List Text) (o : Option (Part Made)) → IsValue o → Sure (path_step next b bs o)
+  sure_step next n b bs None h = tt
+  sure_step next n b bs (Some (known m)) h = n m
+  sure_step next n b bs (Some (left t)) h = cc
 
-  sure_path_found : (next : Made → Left) (other : Tree → Left) → ((m : Made) → Sure (next m)) → (u : Uid) (a b : Text) (bs : List Text) (f : Found Made) → ValuesHeld f → Sure (path_found next other u a b bs f)
-  sure_path_found next other n u a b bs (held e) h = sure_step next other n (part_named a e.attributes) (value_named a e.attributes h.0)
-  sure_path_found next other n u a b bs missing h = tt
-  sure_path_found next other n u a b bs not_loaded h = refl
+  sure_path_found : (next : Made → Left) → ((m : Made) → Sure (next m)) → (u : Uid) (a b : Text) (bs : List Text) (f : Found Made) → ValuesHeld f → Sure (path_found next u a b bs f)
+  sure_path_found next n u a b bs (held e) h = sure_step next n b bs (lookup (bytes_eq a) e.attributes) (value_named a e.attributes h.0)
+  sure_path_found next n u a b bs missing h = tt
+  sure_path_found next n u a b bs not_loaded h = refl
 
-  sure_path_field : (next : Made → Left) → ((m : Made) → Sure (next m)) → (o : Option Made) → Sure (path_field next o)
+  sure_path_field : (next : Made → Left) → ((m : Made) → Sure (next m)) → (o : Option Made) → Sure (option_map_or next o (truth_left false))
   sure_path_field next n None = tt
   sure_path_field next n (Some m) = n m
 
-  sure_path_from : (next : Made → Left) → ((m : Made) → Sure (next m)) → (a b : Text) (bs : List Text) (m : Made) → Sure (path_from s next a b bs m)
-  sure_path_from next n a b bs (made_prim (entity u)) = sure_path_found next (λ t. residual (path_test t b bs)) n u a b bs (s.store u) (holds u)
-  sure_path_from next n a b bs (made_record fs) = sure_path_field next n (made_named a fs)
-  sure_path_from next n a b bs m = tt
-
   pub sure_path : (a : Text) (bs : List Text) (m : Made) → Sure (path_of s a bs m)
   sure_path a [] m = sure_test a m
-  sure_path a (b ∷ bs) m = sure_path_from (path_of s b bs) (λ k. sure_path b bs k) a b bs m
+  sure_path a (b ∷ bs) (made_prim (entity u)) = sure_path_found (path_of s b bs) (sure_path b bs) u a b bs (s.store u) (holds u)
+  sure_path a (b ∷ bs) (made_record fs) = sure_path_field (path_of s b bs) (sure_path b bs) (made_named a fs)
+  sure_path a (b ∷ bs) m = tt
 
   sure_get_tag : (u : Uid) (a : Text) (f : Found Made) → ValuesHeld f → Sure (get_tag_found u a f)
-  sure_get_tag u a (held e) h = sure_tag (part_named a e.tags) (value_named a e.tags h.1)
+  sure_get_tag u a (held e) h = sure_tag (lookup (bytes_eq a) e.tags) (value_named a e.tags h.1)
   sure_get_tag u a missing h = tt
   sure_get_tag u a not_loaded h = refl
 
@@ -214,15 +215,15 @@ path_unprojectable t a [] = refl
 path_unprojectable t a (b ∷ bs) = refl
 
 -- fields of residual records that can't be projected
-sure_kept : (go : Tree → Left) (a : Text) (fs : TreeFields) (b : Bool) (o : Option Tree) → b ≡ false → Sure (projected go a fs b o)
+sure_kept : (go : Tree → Left) (a : Text) (fs : TreeFields) (b : Bool) (o : Option Tree) → b ≡ false → Sure (option_map_or (λ t. cond b (go t) (residual (get_attr (record_literal fs) a))) o (errs missing_field))
 sure_kept go a fs b None e = tt
 sure_kept go a fs true (Some t) e = cc
 sure_kept go a fs false (Some t) e = refl
 
 pub sure_get : (go : Tree → Left) (a : Text) (r : Tree) → is_projectable r ≡ false → Sure (get_of_residual go a r)
-sure_get go a (record_literal fs) h = sure_kept go a fs (have_projectable fs) (tree_named a fs) h
+sure_get go a (record_literal fs) h = sure_kept go a fs (is_projectable (record_literal fs)) (tree_named a fs) h
 sure_get go a r h = refl
 
 pub sure_has : (a : Text) (r : Tree) → is_projectable r ≡ false → Sure (has_of_residual a r)
-sure_has a (record_literal fs) h = sure_if (have_projectable fs) (truth_left (is_some (tree_named a fs))) (residual (has_attr (record_literal fs) a)) tt refl
+sure_has a (record_literal fs) h = sure_if (is_projectable (record_literal fs)) (truth_left (is_some (tree_named a fs))) (residual (has_attr (record_literal fs) a)) tt refl
 sure_has a r h = refl

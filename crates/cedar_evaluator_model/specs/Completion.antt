@@ -1,6 +1,6 @@
 -- When a world in which everything is known completes what an evaluation knows.
 -- Rule: completions (docs/RULES.md).
-use Rattle.std.specs.Prelude.{◌≡◌, List, Option, Some, None, option_map, codes}
+use Rattle.std.specs.Prelude.{◌≡◌, List, Option, Some, None, option_map, codes, IfSome}
 use Rattle.cedar_expr_model.specs.Name.{Text, Name}
 use Rattle.cedar_expr_model.specs.Uid.{Uid, uid_text}
 use Rattle.cedar_expr_model.specs.Whole.Value.{V, prim, entity, record_of, Fields}
@@ -9,15 +9,17 @@ use Rattle.cedar_expr_model.specs.Whole.Made.{Made, bare, bare_fields}
 use Rattle.cedar_expr_model.specs.Whole.Unknowns.{EachUnknown}
 use Rattle.cedar_expr_model.specs.Whole.Laws.{IsOfType}
 use Rattle.cedar_store_model.specs.Whole.Outcome.{val}
-use Rattle.cedar_store_model.specs.Whole.World.{World, Part, known, left, Entity, Found, held, missing, not_loaded, part_named}
+use Rattle.cedar_expr_model.specs.Whole.ValueParts.{Part, known, left}
+use Rattle.cedar_store_model.specs.Whole.World.{World, Entity, Found, held, missing, not_loaded}
 use Rattle.cedar_store_model.specs.Whole.Meaning.{Means}
 use Rattle.cedar_store_model.specs.Whole.Knowledge.{IsWhole, Keeps}
 use Rattle.cedar_evaluator_model.specs.Scope.{Scope, Entry, uid, unknown_uid, Context, closed, residual_fields, unknown_context}
+use Rattle.std.specs.Map.{lookup}
+use Rattle.std.specs.Str.{bytes_eq}
 
 -- a value, where there is one, of the annotation's type, where there is one
 abbrev pub Fits : Option CoreType → Option V → Type 0
-Fits a None = Unit {0}
-Fits a (Some v) = IsOfType a v
+Fits a found = IfSome found (IsOfType a)
 
 -- each annotated unknown of the expression means a value of that type
 abbrev pub FitsAnnotations : World → Tree → Type 0
@@ -29,17 +31,16 @@ NameMeans w n u = w.unknowns n ≡ Some (prim (entity u))
 
 -- the type of the uid, where it is known
 abbrev pub IsOfKind : Option Name → Uid → Type 0
-IsOfKind None u = Unit {0}
-IsOfKind (Some k) u = u.kind ≡ k
+IsOfKind found u = IfSome found (λ k. u.kind ≡ k)
 
 -- A known entry keeps its uid. An unknown one is a uid of its type, which the unknown of the variable's name means as well.
 abbrev pub EntryMeans : World → Text → Entry → Option Uid → Type 0
 EntryMeans w n (uid u) o = o ≡ Some u
 EntryMeans w n (unknown_uid k) o = (u : Uid) × (o ≡ Some u) × IsOfKind k u × NameMeans w n u
 
--- The expression means the value there, and its unknowns fit.
+-- The expression means the value there, whatever a policy's slots are bound to, and its unknowns fit.
 abbrev pub PartIs : World → Tree → V → Type 0
-PartIs w t v = Means w t (val v) × FitsAnnotations w t
+PartIs w t v = ((x : SlotId → Option Uid) → Means (record w { slots = x }) t (val v)) × FitsAnnotations w t
 
 -- A context of values keeps them, one with residual fields is what its record means, and an unknown one is the record that the
 -- unknown `context` means.
@@ -55,7 +56,7 @@ PartMeans w (Some (known m)) q = q ≡ Some (known (bare m))
 PartMeans w (Some (left t)) q = (v : V) × (q ≡ Some (known v)) × PartIs w t v
 
 abbrev pub PartsMean : World → List (Text × Part Made) → List (Text × Part V) → Type 0
-PartsMean w ps qs = (a : Text) → PartMeans w (part_named a ps) (part_named a qs)
+PartsMean w ps qs = (a : Text) → PartMeans w (lookup (bytes_eq a) ps) (lookup (bytes_eq a) qs)
 
 -- the entity has the same ancestors, and its parts are what the known ones mean
 pub record EntityMeans (w : World) (e : Entity Made) (d : Entity V) : Type 0 where

@@ -1,24 +1,25 @@
 -- Partial evaluation: one level of an expression, given what is left of expressions a level deeper; and the whole, within a limit on
 -- the depth. The root has depth 1.
 -- Rule: partial evaluation; the recursion limit (docs/RULES.md).
-use Rattle.std.specs.Prelude.{ℕ, zero, suc, List, [], ◌∷◌, Bool, true, false, Option, Some, None, is_some, if◌then◌else◌, codes}
+use Rattle.std.specs.Prelude.{ℕ, zero, suc, List, [], ◌∷◌, Bool, true, false, Option, None, is_some, if◌then◌else◌, codes, option_map}
 use Rattle.std.specs.Str.{bytes_eq}
 use Rattle.cedar_expr_model.specs.Name.{Text}
 use Rattle.cedar_expr_model.specs.Uid.{Uid}
 use Rattle.cedar_expr_model.specs.Whole.Value.{truth, entity}
-use Rattle.cedar_expr_model.specs.Whole.Tree.{Var, principal, action, resource, context, entity_core, BinaryOp, Tree, lit, var, slot, unknown, choice, both, either, unary, binary, call, get_attr, has_attr, has_path, like, is_type, set_literal, record_literal, Trees, no_trees, tree, TreeFields, no_tree_fields, tree_field}
-use Rattle.cedar_expr_model.specs.Whole.Builder.{conjunction, disjunction, path_test}
-use Rattle.cedar_expr_model.specs.Whole.Parts.{have_projectable}
+use Rattle.cedar_expr_model.specs.Whole.Tree.{Var, principal, action, resource, context, entity_core, BinaryOp, Tree, lit, var, slot, unknown, choice, both, either, unary, binary, call, get_attr, has_attr, has_path, like, is_type, set_literal, record_literal, TreeFields}
+use Rattle.cedar_expr_model.specs.Whole.Builder.{conjunction, disjunction, path_test, trees}
+use Rattle.cedar_expr_model.specs.Whole.Parts.{is_projectable, listed, listed_fields}
 use Rattle.cedar_expr_model.specs.Whole.Made.{made_prim, made_set, made_record, bare, written}
 use Rattle.cedar_store_model.specs.Whole.Outcome.{missing_field, unlinked_slot}
 use Rattle.cedar_store_model.specs.Whole.Operators.{applied, like_pattern, of_type}
 use Rattle.cedar_evaluator_model.specs.Scope.{Scope, Entry, uid, unknown_uid, Context, closed, residual_fields, unknown_context, limit, Left, value_left, residual, stopped}
-use Rattle.cedar_evaluator_model.specs.Steps.{errs, truth_left, on_value, best, left_of, truth_wanted, picks, mapped, attribute_of, test_of, path_of, combined_left, kind_of_value, kind_of_unknown, with_residual, is_of_residual, called_left, made_members, Pieces, pieces, with_piece, from_pieces, made_fields, tree_fields_of}
+use Rattle.cedar_evaluator_model.specs.Steps.{errs, truth_left, on_value, best, left_of, truth_wanted, picks, mapped, attribute_of, test_of, path_of, combined_left, kind_of_value, kind_of_unknown, with_residual, is_of_residual, called_left, made_members, Pieces, pieces, with_piece, from_pieces, record_left}
+use Rattle.std.specs.Map.{lookup, keys_of, values_of}
+use Rattle.std.specs.Option.{option_map_or}
 
 abbrev pub entry_left : Text → Entry → Left
 entry_left name (uid u) = value_left (made_prim (entity u))
-entry_left name (unknown_uid None) = residual (unknown name None)
-entry_left name (unknown_uid (Some k)) = residual (unknown name (Some (entity_core k)))
+entry_left name (unknown_uid k) = residual (unknown name (option_map entity_core k))
 
 abbrev pub context_left : Context → Left
 context_left (closed fs) = value_left (made_record fs)
@@ -32,25 +33,19 @@ variable_left s resource = entry_left (codes "resource") s.resource
 variable_left s context = context_left s.context
 
 abbrev pub slot_left : Option Uid → Left
-slot_left None = errs unlinked_slot
-slot_left (Some u) = value_left (made_prim (entity u))
+slot_left bound = option_map_or (λ u. value_left (made_prim (entity u))) bound (errs unlinked_slot)
 
+-- The field of a residual record.
 abbrev pub tree_named : Text → TreeFields → Option Tree
-tree_named a no_tree_fields = None
-tree_named a (tree_field b t fs) = if bytes_eq a b then Some t else tree_named a fs
+tree_named a fs = lookup (bytes_eq a) (listed_fields fs)
 
 -- an attribute of a residual record: one that may be projected gives the field, which is evaluated again
-abbrev pub projected : (Tree → Left) → Text → TreeFields → Bool → Option Tree → Left
-projected go a fs may None = errs missing_field
-projected go a fs true (Some t) = go t
-projected go a fs false (Some t) = residual (get_attr (record_literal fs) a)
-
 abbrev pub get_of_residual : (Tree → Left) → Text → Tree → Left
-get_of_residual go a (record_literal fs) = projected go a fs (have_projectable fs) (tree_named a fs)
+get_of_residual go a (record_literal fs) = option_map_or (λ t. if is_projectable (record_literal fs) then go t else residual (get_attr (record_literal fs) a)) (tree_named a fs) (errs missing_field)
 get_of_residual go a r = residual (get_attr r a)
 
 abbrev pub has_of_residual : Text → Tree → Left
-has_of_residual a (record_literal fs) = if have_projectable fs then truth_left (is_some (tree_named a fs)) else residual (has_attr (record_literal fs) a)
+has_of_residual a (record_literal fs) = if is_projectable (record_literal fs) then truth_left (is_some (tree_named a fs)) else residual (has_attr (record_literal fs) a)
 has_of_residual a r = residual (has_attr r a)
 
 -- the right side of `and` and `or`, of which a truth value is wanted
@@ -64,38 +59,29 @@ binary_left s o l r = on_value l
     (λ a. on_value r (λ n. with_residual o (kind_of_unknown a) (kind_of_value n) a (written n)) (λ b. with_residual o (kind_of_unknown a) (kind_of_unknown b) a b))
 
 -- what is left of several, one after the other
-abbrev pub pieces_of : (Tree → Left) → Trees → Pieces
-pieces_of go no_trees = pieces []
-pieces_of go (tree t ts) = with_piece (go t) (pieces_of go ts)
-
-abbrev pub names_of : TreeFields → List Text
-names_of no_tree_fields = []
-names_of (tree_field a t fs) = a ∷ names_of fs
-
-abbrev pub trees_of : TreeFields → Trees
-trees_of no_tree_fields = no_trees
-trees_of (tree_field a t fs) = tree t (trees_of fs)
+abbrev pub pieces_of : (Tree → Left) → List Tree → Pieces
+pieces_of go [] = pieces []
+pieces_of go (t ∷ ts) = with_piece (go t) (pieces_of go ts)
 
 -- One level: `go` is what is left of an expression a level deeper.
 abbrev pub node : Scope → (Tree → Left) → Tree → Left
 node s go (lit p) = value_left (made_prim p)
 node s go (var x) = variable_left s x
 node s go (slot x) = slot_left (s.slots x)
-node s go (unknown n a) = mapped s n a (s.values n)
+node s go (unknown n a) = mapped n a (s.values n)
 node s go (choice t a b) = on_value (go t) (picks (go a) (go b)) (λ r. residual (choice r (best a (go a)) (best b (go b))))
 node s go (both a b) = on_value (go a) (picks (right_left conjunction true (go b)) (truth_left false)) (λ r. residual (conjunction r (best b (go b))))
 node s go (either a b) = on_value (go a) (picks (truth_left true) (right_left disjunction false (go b))) (λ r. residual (disjunction r (best b (go b))))
 node s go (unary o a) = on_value (go a) (λ m. left_of (applied o (bare m))) (λ r. residual (unary o r))
 node s go (binary o a b) = binary_left s o (go a) (go b)
-node s go (call f ts) = from_pieces (called_left s f) (call f) (pieces_of go ts)
+node s go (call f ts) = from_pieces (called_left s f) (λ us. call f (trees us)) (pieces_of go (listed ts))
 node s go (get_attr e a) = on_value (go e) (attribute_of s a) (get_of_residual go a)
 node s go (has_attr e a) = on_value (go e) (test_of s a) (has_of_residual a)
 node s go (has_path e a bs) = on_value (go e) (path_of s a bs) (λ r. residual (path_test r a bs))
 node s go (like e p) = on_value (go e) (λ m. left_of (like_pattern p (bare m))) (λ r. residual (like r p))
 node s go (is_type e n) = on_value (go e) (λ m. left_of (of_type n (bare m))) (is_of_residual n)
-node s go (set_literal ts) = from_pieces (λ ms. value_left (made_set (made_members ms))) set_literal (pieces_of go ts)
-node s go (record_literal fs) =
-    from_pieces (λ ms. value_left (made_record (made_fields (names_of fs) ms))) (λ ts. record_literal (tree_fields_of (names_of fs) ts)) (pieces_of go (trees_of fs))
+node s go (set_literal ts) = from_pieces (λ ms. value_left (made_set (made_members ms))) (λ us. set_literal (trees us)) (pieces_of go (listed ts))
+node s go (record_literal fs) = record_left (keys_of (listed_fields fs)) (pieces_of go (values_of (listed_fields fs)))
 
 -- What is left of an expression within a limit on its depth.
 abbrev pub evaluated : Scope → ℕ → Tree → Left

@@ -5,7 +5,8 @@ use Rattle.cedar_expr_model.specs.Name.{Text}
 use Rattle.cedar_expr_model.specs.Uid.{Uid}
 use Rattle.cedar_expr_model.specs.Whole.Value.{V, record_of}
 use Rattle.cedar_expr_model.specs.Whole.Made.{Made, bare, bare_fields}
-use Rattle.cedar_store_model.specs.Whole.World.{World, Part, known, left, Entity, Found, held, missing, not_loaded}
+use Rattle.cedar_expr_model.specs.Whole.ValueParts.{Part, known, left}
+use Rattle.cedar_store_model.specs.Whole.World.{World, Entity, Found, held, missing, not_loaded, by_found}
 use Rattle.cedar_evaluator_model.specs.Scope.{Scope, Entry, uid, unknown_uid, Context, closed}
 
 -- the uid, where it is known
@@ -30,9 +31,7 @@ abbrev pub known_entity : Entity Made → Entity V
 known_entity e = record { attributes = known_parts e.attributes; tags = known_parts e.tags; ancestors = e.ancestors }
 
 abbrev pub known_found : Found Made → Found V
-known_found (held e) = held (known_entity e)
-known_found missing = missing
-known_found not_loaded = not_loaded
+known_found found = by_found (λ e. held (known_entity e)) missing not_loaded found
 
 -- What a scope knows as a world. An expression that means something in it needs nothing else.
 abbrev pub known_world : Scope → World

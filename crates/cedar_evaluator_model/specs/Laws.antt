@@ -9,7 +9,8 @@ use Rattle.cedar_expr_model.specs.Whole.Table.{Table, IsFair, all_typed}
 use Rattle.cedar_store_model.specs.Whole.Outcome.{Res, val}
 use Rattle.cedar_store_model.specs.Whole.World.{World}
 use Rattle.cedar_store_model.specs.Whole.Meaning.{Means}
-use Rattle.cedar_store_model.specs.Whole.Knowledge.{Extends, IsGrounded}
+use Rattle.cedar_store_model.specs.Whole.Laws.{IsGrounded}
+use Rattle.cedar_store_model.specs.Whole.Knowledge.{Extends}
 use Rattle.cedar_store_model.specs.Whole.Policy.{Policy, permit, forbid, condition}
 use Rattle.cedar_store_model.specs.Whole.Answer.{allow, deny, PolicyError, Answer, with_slots, IsSatisfied, answer_of, decision_of}
 use Rattle.cedar_evaluator_model.specs.Scope.{Scope, Agrees, fault, limit, value_left, residual, stopped}
@@ -146,6 +147,9 @@ PermitForces =
 abbrev pub NoPermitForces : Type 0
 NoPermitForces = (s : Scope) (n : ℕ) (ps : List Policy) → IsReady s n ps → ((p : Policy) → Contains ps p → p.effect ≡ permit → IsUnsatisfied (known_world s) p) → decision_in_session (response_of s n ps) ≡ Some deny
 
--- What evaluation leaves stands for the expression in every completion. This is stated here alone; no law says it yet.
+-- What evaluation leaves stands for the expression in every completion that fits the annotations, and the unknowns of a residual fit too.
 abbrev pub ResidualsStand : Type 0
 ResidualsStand = (s : Scope) → Agrees s → AllMadeWell s → (n : ℕ) (t : Tree) → StandsInAll s t (evaluated s n t)
+
+abbrev pub ResidualsFit : Type 0
+ResidualsFit = (s : Scope) → Agrees s → AllMadeWell s → (n : ℕ) (t r : Tree) → evaluated s n t ≡ residual r → (w : World) → Completes w s → FitsAnnotations w t → FitsAnnotations w r

@@ -10,6 +10,9 @@ pub mod Members
 pub mod Reauthorize
 pub mod WellMade
 pub mod Laws
+pub mod ResponseLaws
+pub mod ReauthorizeLaws
 pub mod Worked
 pub mod WorkedResponses
 pub mod WorkedCompletions
+pub mod WorkedResiduals

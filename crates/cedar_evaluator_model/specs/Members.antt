@@ -1,13 +1,13 @@
 -- What a partial response answers: decisions, policies that may or must determine them, residual policies.
 -- Rule: partial responses (docs/RULES.md).
-use Rattle.std.specs.Prelude.{List, [], ◌∷◌, ◌++◌, map, Bool, true, false, Option, Some, None, if◌then◌else◌}
+use Rattle.std.specs.Prelude.{List, [], ◌∷◌, ◌++◌, map, Bool, true, false, Option, Some, None, if◌then◌else◌, find}
 use Rattle.std.specs.List.{filter, filter_map, list_any}
 use Rattle.std.specs.Str.{bytes_eq}
 use Rattle.cedar_expr_model.specs.Name.{Text}
 use Rattle.cedar_expr_model.specs.Whole.Value.{truth}
 use Rattle.cedar_expr_model.specs.Whole.Tree.{Tree, lit}
 use Rattle.cedar_store_model.specs.Whole.Policy.{Policy, Effect, permit, forbid, any, any_action, no_bindings}
-use Rattle.cedar_store_model.specs.Whole.Answer.{Decision, allow, deny, ids}
+use Rattle.cedar_store_model.specs.Whole.Answer.{Decision, allow, deny, ids, decided}
 use Rattle.cedar_evaluator_model.specs.Scope.{limit}
 use Rattle.cedar_evaluator_model.specs.Response.{Noted, ErrorState, no_error, with_error, Cause, stops, no_value, ResponseError, Response}
 
@@ -87,15 +87,10 @@ all_residuals r =
     (of_true permit r.true_permits ++ (of_false permit r.false_permits ++ of_residual permit r.residual_permits))
     ++ (of_true forbid r.true_forbids ++ (of_false forbid r.false_forbids ++ of_residual forbid r.residual_forbids))
 
--- the first of the policies that has the id
-abbrev pub with_id : Text → List Policy → Option Policy
-with_id i [] = None
-with_id i (p ∷ ps) = if bytes_eq i p.id then Some p else with_id i ps
-
 -- The policy of an id: permits first, and of each effect the residual ones, then the true, then the false.
 abbrev pub get : Response → Text → Option Policy
 get r i =
-    with_id i
+    find (λ p. bytes_eq i p.id)
     ((of_residual permit r.residual_permits ++ (of_true permit r.true_permits ++ of_false permit r.false_permits))
     ++ (of_residual forbid r.residual_forbids ++ (of_true forbid r.true_forbids ++ of_false forbid r.false_forbids)))
 
@@ -111,15 +106,10 @@ pub record Concrete : Type 0 where
 
 -- Allow exactly with a satisfied permit and no satisfied forbid; the reasons are those that must determine it; the residual
 -- forbids and then permits are errors, before the errors listed.
-abbrev pub concrete_decision : {A B : Type 0} → List A → List B → Decision
-concrete_decision (p ∷ ps) [] = allow
-concrete_decision [] [] = deny
-concrete_decision ps (f ∷ fs) = deny
-
 abbrev pub concretize : Response → Concrete
 concretize r =
     record {
-      decision = concrete_decision r.true_permits r.true_forbids;
+      decision = decided r.true_permits r.true_forbids;
       reasons = ids (must_be_determining r);
       errors = map without_value (r.residual_forbids ++ r.residual_permits) ++ r.errors;
     }

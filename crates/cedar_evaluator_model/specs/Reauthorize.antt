@@ -1,7 +1,6 @@
 -- Reauthorizing: what is left of the policies is evaluated again, with values for unknowns.
 -- Rule: reauthorizing (docs/RULES.md).
-use Rattle.std.specs.Prelude.{List, [], ◌∷◌, ℕ, Option, Some, None, if◌then◌else◌, codes}
-use Rattle.std.specs.List.{list_any}
+use Rattle.std.specs.Prelude.{List, ℕ, Option, Some, None, if◌then◌else◌, codes, true}
 use Rattle.std.specs.Str.{bytes_eq}
 use Rattle.cedar_expr_model.specs.Name.{Text, name_eq}
 use Rattle.cedar_expr_model.specs.Uid.{Uid}
@@ -15,6 +14,8 @@ use Rattle.cedar_evaluator_model.specs.Scope.{Scope, Entry, uid, unknown_uid, Co
 use Rattle.cedar_evaluator_model.specs.Evaluation.{evaluated}
 use Rattle.cedar_evaluator_model.specs.Response.{PartialRequest, Response, response_of}
 use Rattle.cedar_evaluator_model.specs.Members.{all_residuals}
+use Rattle.std.specs.Option.{option_map_or}
+use Rattle.cedar_expr_model.specs.Whole.Repeats.{repeated}
 
 -- Why a response isn't reauthorized: an id stands twice; a variable gets no uid, or the context no record; a variable that is known
 -- already; a uid of another type than is known of it; the context doesn't evaluate with the values.
@@ -34,24 +35,14 @@ abbrev pub and_next : {A B : Type 0} → Outcome A → (A → Outcome B) → Out
 and_next (makes_it a) next = next a
 and_next (refuses r) next = refuses r
 
--- the first id that stands before it already
-abbrev pub repeated : List Text → List Text → Option Text
-repeated seen [] = None
-repeated seen (i ∷ is) = if list_any (bytes_eq i) seen then Some i else repeated (i ∷ seen) is
-
 -- the policies, of distinct ids
-abbrev pub distinct_or : List Policy → Option Text → Outcome (List Policy)
-distinct_or ps None = makes_it ps
-distinct_or ps (Some i) = refuses (repeated_id i)
-
 abbrev pub distinct : List Policy → Outcome (List Policy)
-distinct ps = distinct_or ps (repeated [] (ids ps))
+distinct ps = option_map_or (λ i. refuses (repeated_id i)) (repeated bytes_eq (ids ps)) (makes_it ps)
 
 -- an entry with a uid for it
 abbrev pub entry_with : Var → Uid → Entry → Outcome Entry
 entry_with x u (uid v) = refuses (known_already x)
-entry_with x u (unknown_uid None) = makes_it (uid u)
-entry_with x u (unknown_uid (Some k)) = if name_eq k u.kind then makes_it (uid u) else refuses (other_type x)
+entry_with x u (unknown_uid k) = if option_map_or (λ n. name_eq n u.kind) k true then makes_it (uid u) else refuses (other_type x)
 
 -- An entry with the value for its name, if there is one: it must be a uid, and the entry unknown and of the uid's type.
 abbrev pub entry_bound : Var → Entry → Option Made → Outcome Entry
@@ -66,20 +57,23 @@ context_bound unknown_context (Some (made_record fs)) = makes_it (closed fs)
 context_bound c (Some (made_record fs)) = refuses (known_already context)
 context_bound c (Some m) = refuses (wrong_value context)
 
--- a scope that knows the table alone, in which restricted expressions are evaluated
+-- the scope without slots and values, in which restricted expressions are evaluated
 abbrev pub restricted_scope : Scope → Scope
-restricted_scope s = record s { values = λ n. None }
+restricted_scope s = record s { slots = λ x. None; values = λ n. None }
 
 -- what is left of a restricted expression: the limit on its depth is fixed
 abbrev pub restricted_left : Scope → Tree → Left
 restricted_left s t = evaluated (restricted_scope s) 512 t
 
--- the context that an evaluated record is
+-- the context that an evaluated record is, if it is one
+abbrev pub context_from : Left → Option Context
+context_from (value_left (made_record fs)) = Some (closed fs)
+context_from (residual (record_literal fs)) = Some (residual_fields fs)
+context_from l = None
+
 abbrev pub context_made : Left → Outcome Context
-context_made (value_left (made_record fs)) = makes_it (closed fs)
-context_made (residual (record_literal fs)) = makes_it (residual_fields fs)
 context_made (stopped r) = refuses (context_stops r)
-context_made l = refuses (wrong_value context)
+context_made l = option_map_or makes_it (context_from l) (refuses (wrong_value context))
 
 -- The unknowns of a residual context replaced by their values, whatever their annotations, and what is left evaluated; a context of
 -- values stays, and an unknown one.

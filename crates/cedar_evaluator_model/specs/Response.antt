@@ -3,8 +3,10 @@
 use Rattle.std.specs.Prelude.{ℕ, List, true, false, Option, Some, None}
 use Rattle.std.specs.List.{filter_map}
 use Rattle.cedar_expr_model.specs.Name.{Text}
-use Rattle.cedar_expr_model.specs.Whole.Value.{truth}
-use Rattle.cedar_expr_model.specs.Whole.Tree.{Tree}
+use Rattle.cedar_expr_model.specs.Uid.{Uid}
+use Rattle.cedar_expr_model.specs.Whole.Value.{truth, entity}
+use Rattle.cedar_expr_model.specs.Whole.Tree.{SlotId, Tree, lit, slot}
+use Rattle.cedar_expr_model.specs.Whole.Builder.{built, tree_builder}
 use Rattle.cedar_expr_model.specs.Whole.Made.{made_prim}
 use Rattle.cedar_store_model.specs.Whole.Policy.{Policy, Effect, permit, forbid, SlotBindings, binding_of, condition}
 use Rattle.cedar_evaluator_model.specs.Scope.{Scope, Entry, Context, Stop, Left, value_left, residual, stopped}
@@ -56,9 +58,19 @@ request_of s = record { principal = s.principal; action = s.action; resource = s
 abbrev pub with_bindings : Scope → SlotBindings → Scope
 with_bindings s b = record s { slots = binding_of b }
 
--- What is left of a policy's condition: a truth value, a residual, or why it stopped. Any other value is a type error.
+-- what a slot stands for: the uid that is bound to it, or itself where there is none
+abbrev pub slot_or : SlotId → Option Uid → Tree
+slot_or x None = slot x
+slot_or x (Some u) = lit (entity u)
+
+-- the expression with the uids that slots are bound to in place of the slots
+abbrev pub slots_bound : (SlotId → Option Uid) → Tree → Tree
+slots_bound bound t = built (record tree_builder { of_slot = λ x. slot_or x (bound x) }) t
+
+-- What is left of a policy's condition: a truth value, a residual with the policy's slots bound in it, or why it stopped. Any other
+-- value is a type error.
 abbrev pub verdict : Scope → ℕ → Policy → Left
-verdict s n p = on_value (evaluated (with_bindings s p.bindings) n (condition p)) truth_wanted residual
+verdict s n p = on_value (evaluated (with_bindings s p.bindings) n (condition p)) truth_wanted (λ r. residual (slots_bound (binding_of p.bindings) r))
 
 abbrev pub noted : Policy → Noted
 noted p = record { id = p.id; annotations = p.annotations }

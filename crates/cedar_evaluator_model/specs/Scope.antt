@@ -1,12 +1,11 @@
 -- What an evaluation knows: request, context, slots, values for unknowns, store and functions; and what it leaves.
 -- Rule: partial evaluation (docs/RULES.md).
-use Rattle.std.specs.Prelude.{◌≡◌, List, map, length, true, Option, Some}
+use Rattle.std.specs.Prelude.{◌≡◌, List, map, Option}
 use Rattle.cedar_expr_model.specs.Name.{Text, Name}
 use Rattle.cedar_expr_model.specs.Uid.{Uid}
-use Rattle.cedar_expr_model.specs.Whole.Value.{V}
 use Rattle.cedar_expr_model.specs.Whole.Tree.{Tree, SlotId, TreeFields}
 use Rattle.cedar_expr_model.specs.Whole.Made.{Made, MadeFields, bare}
-use Rattle.cedar_expr_model.specs.Whole.Table.{Table, Signature, signature_of, takes_count, are_of_types, Called, gives, fails, leaves}
+use Rattle.cedar_expr_model.specs.Whole.Table.{Table, Called, gives, fails, leaves, IsTaken}
 use Rattle.cedar_store_model.specs.Whole.Outcome.{Fault}
 use Rattle.cedar_store_model.specs.Whole.World.{Found}
 
@@ -42,10 +41,6 @@ pub record Scope : Type 0 where
   pub table : Table
   pub calls : Name → List Made → MadeCalled
   pub store : Uid → Found Made
-
--- the table has the function, which takes these arguments
-abbrev pub IsTaken : Table → Name → List V → Type 0
-IsTaken x f vs = (g : Signature) × (signature_of x f ≡ Some g) × (takes_count g (length vs) ≡ true) × (are_of_types g.parameters vs ≡ true)
 
 -- the calls answer as the table does, on arguments that their functions take
 abbrev pub Agrees : Scope → Type 0

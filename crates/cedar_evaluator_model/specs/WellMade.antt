@@ -1,51 +1,35 @@
 -- Values as they are made: the members of a set rise, and the call that an extension value is written as answers it.
 -- Rule: values and equality; extension functions (docs/RULES.md).
-use Rattle.std.specs.Prelude.{◌≡◌, List, map, true, Option, Some, None}
+use Rattle.std.specs.Prelude.{◌≡◌, List, map, true, Option, IfSome, option_and_then}
 use Rattle.cedar_expr_model.specs.Name.{Text, Name}
 use Rattle.cedar_expr_model.specs.Uid.{Uid}
-use Rattle.cedar_expr_model.specs.Whole.Value.{V, prim, extension}
 use Rattle.cedar_expr_model.specs.Whole.Canonical.{are_rising}
-use Rattle.cedar_expr_model.specs.Whole.Made.{Made, made_prim, made_set, made_record, made_extension, Mades, no_mades, made, MadeFields, no_made_fields, made_field, bare, bares}
-use Rattle.cedar_expr_model.specs.Whole.Table.{Table}
-use Rattle.cedar_store_model.specs.Whole.Outcome.{val}
-use Rattle.cedar_store_model.specs.Whole.World.{Part, known, Found, held, part_named}
-use Rattle.cedar_store_model.specs.Whole.Operators.{called}
-use Rattle.cedar_evaluator_model.specs.Scope.{Scope, IsTaken, makes, Context, closed}
+use Rattle.cedar_expr_model.specs.Whole.Made.{Made, made_record, bare}
+use Rattle.cedar_expr_model.specs.Whole.Table.{Table, IsTaken}
+use Rattle.cedar_expr_model.specs.Whole.ValueParts.{Part, known_value}
+use Rattle.cedar_store_model.specs.Whole.World.{Found, held}
+use Rattle.cedar_evaluator_model.specs.Scope.{Scope, makes, Context, closed}
+use Rattle.std.specs.Map.{lookup}
+use Rattle.std.specs.Str.{bytes_eq}
+use Rattle.cedar_expr_model.specs.Whole.Represented.{IsMade}
 
--- no unknown means anything
-abbrev pub no_meaning : Text → Option V
-no_meaning n = None
-
-abbrev mutual
-  pub IsWellMade : Table → Made → Type 0
-  IsWellMade x (made_prim p) = Unit {0}
-  IsWellMade x (made_set ms) = AreWellMade x ms × (are_rising (bares ms) ≡ true)
-  IsWellMade x (made_record fs) = HaveWellMade x fs
-  IsWellMade x (made_extension n k f ps) = called x no_meaning f (map prim ps) ≡ Some (val (extension n k))
-
-  pub AreWellMade : Table → Mades → Type 0
-  AreWellMade x no_mades = Unit {0}
-  AreWellMade x (made m ms) = IsWellMade x m × AreWellMade x ms
-
-  pub HaveWellMade : Table → MadeFields → Type 0
-  HaveWellMade x no_made_fields = Unit {0}
-  HaveWellMade x (made_field a m fs) = IsWellMade x m × HaveWellMade x fs
+-- the members of each set in it rise, and each extension value is what its call gives
+abbrev pub IsWellMade : Table → Made → Type 0
+IsWellMade x m = IsMade (λ vs. are_rising vs ≡ true) x m
 
 -- a value that is there, or a part that is a value, is well made
 abbrev pub IsMadeWell : Table → Option Made → Type 0
-IsMadeWell x None = Unit {0}
-IsMadeWell x (Some m) = IsWellMade x m
+IsMadeWell x found = IfSome found (IsWellMade x)
 
 abbrev pub IsPartMadeWell : Table → Option (Part Made) → Type 0
-IsPartMadeWell x (Some (known m)) = IsWellMade x m
-IsPartMadeWell x p = Unit {0}
+IsPartMadeWell x found = IsMadeWell x (option_and_then known_value found)
 
 abbrev pub IsContextMadeWell : Table → Context → Type 0
-IsContextMadeWell x (closed fs) = HaveWellMade x fs
+IsContextMadeWell x (closed fs) = IsWellMade x (made_record fs)
 IsContextMadeWell x c = Unit {0}
 
 abbrev pub IsFoundMadeWell : Table → Found Made → Type 0
-IsFoundMadeWell x (held e) = (a : Text) → IsPartMadeWell x (part_named a e.attributes) × IsPartMadeWell x (part_named a e.tags)
+IsFoundMadeWell x (held e) = (a : Text) → IsPartMadeWell x (lookup (bytes_eq a) e.attributes) × IsPartMadeWell x (lookup (bytes_eq a) e.tags)
 IsFoundMadeWell x f = Unit {0}
 
 -- The values that a scope knows, and those that its calls make, are well made.

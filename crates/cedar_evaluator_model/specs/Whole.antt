@@ -1,16 +1,16 @@
 -- Scopes in which nothing is unknown, and those in which only the loading of entities is.
 -- Rule: partial evaluation; what is known (docs/RULES.md).
-use Rattle.std.specs.Prelude.{◌≡◌, List, true, Option, Some}
+use Rattle.std.specs.Prelude.{◌≡◌, List, true, Option, Some, IsSome}
 use Rattle.cedar_expr_model.specs.Name.{Text, Name}
 use Rattle.cedar_expr_model.specs.Uid.{Uid}
 use Rattle.cedar_expr_model.specs.Whole.Value.{V}
 use Rattle.cedar_expr_model.specs.Whole.Tree.{CoreType, Tree}
 use Rattle.cedar_expr_model.specs.Whole.Unknowns.{EachUnknown}
-use Rattle.cedar_expr_model.specs.Whole.Table.{Table, leaves}
+use Rattle.cedar_expr_model.specs.Whole.Table.{Table, leaves, IsTaken}
 use Rattle.cedar_expr_model.specs.Whole.Laws.{IsOfType}
 use Rattle.cedar_store_model.specs.Whole.World.{Found, held}
-use Rattle.cedar_store_model.specs.Whole.Knowledge.{IsThere, IsSettled, holds_values}
-use Rattle.cedar_evaluator_model.specs.Scope.{Scope, IsTaken}
+use Rattle.cedar_store_model.specs.Whole.Knowledge.{IsSettled, holds_values}
+use Rattle.cedar_evaluator_model.specs.Scope.{Scope}
 use Rattle.cedar_evaluator_model.specs.Known.{known_world}
 
 -- no call that the table takes leaves an unknown
@@ -24,10 +24,10 @@ HoldsValues f = Unit {0}
 
 -- The request is known, the context is one of values, and the entities that are held hold values alone. Others may not be loaded.
 pub record NothingUnknown (s : Scope) : Type 0 where
-  pub principal : IsThere (known_world s).principal
-  pub action : IsThere (known_world s).action
-  pub resource : IsThere (known_world s).resource
-  pub context : IsThere (known_world s).context
+  pub principal : IsSome (known_world s).principal
+  pub action : IsSome (known_world s).action
+  pub resource : IsSome (known_world s).resource
+  pub context : IsSome (known_world s).context
   pub store : (u : Uid) → HoldsValues ((known_world s).store u)
   pub calls : LeavesNothing s.table
 

@@ -8,7 +8,8 @@ use Rattle.cedar_expr_model.specs.Whole.Value.{truth, long, text, entity, V, pri
 use Rattle.cedar_expr_model.specs.Whole.Tree.{Tree, lit, unknown, string_core, extension_core, entity_core, no_tree_fields, tree_field, SlotId, record_literal}
 use Rattle.cedar_expr_model.specs.Whole.Made.{Made, made_prim, made_record, made_extension, no_made_fields, made_field}
 use Rattle.cedar_expr_model.specs.Whole.Table.{Table, Signature, function_style, Called, fails, leaves}
-use Rattle.cedar_store_model.specs.Whole.World.{known, left, Entity, Found, held, missing, not_loaded}
+use Rattle.cedar_expr_model.specs.Whole.ValueParts.{known, left}
+use Rattle.cedar_store_model.specs.Whole.World.{Entity, Found, held, missing, not_loaded}
 use Rattle.cedar_evaluator_model.specs.Scope.{Scope, MadeCalled, makes, faults, leaves_unknown, bare_called, uid, unknown_uid, Context, closed, residual_fields, unknown_context}
 
 abbrev pub named : Text → Name
@@ -90,7 +91,7 @@ worked_answers f vs = fails f
 abbrev pub worked_table : Table
 worked_table = record { functions = rank_function ∷ later_function ∷ []; ordered = rank ∷ []; answers = worked_answers }
 
--- Entities: `User::"a"` has {boss: User::"b", ok: unknown u, rest: if unknown u then 1 else 2}, the tags {t: 1, later: unknown a}, and
+-- Entities: `User::"a"` has {boss: User::"b", ok: unknown u, rest: {y: unknown u}}, the tags {t: 1, later: unknown a}, and
 -- the ancestor `Doc::"d"`. `Doc::"d"` has {owner: User::"a", place: {x: 1}}. `User::"b"` isn't loaded. Others are missing.
 abbrev pub entity_a : Entity Made
 entity_a =

@@ -44,6 +44,10 @@ other_kind = record completed { principal = Some doc_d }
 abbrev pub other_name : World
 other_name = record completed { principal = Some user_b }
 
+-- each slot is bound to `User::"a"`
+abbrev pub bound_slots : World
+bound_slots = record completed { slots = λ x. Some user_a }
+
 -- no functions
 abbrev pub empty_table : Table
 empty_table = record { functions = []; ordered = []; answers = λ f vs. fails f }

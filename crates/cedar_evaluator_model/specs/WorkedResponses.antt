@@ -5,7 +5,7 @@ use Rattle.std.specs.Str.{bytes_eq}
 use Rattle.cedar_expr_model.specs.Name.{Text}
 use Rattle.cedar_expr_model.specs.Uid.{Uid}
 use Rattle.cedar_expr_model.specs.Whole.Value.{entity}
-use Rattle.cedar_expr_model.specs.Whole.Tree.{Tree, lit, var, unknown, both, binary, equal, get_attr, principal, resource, context, no_tree_fields, tree_field}
+use Rattle.cedar_expr_model.specs.Whole.Tree.{Tree, principal_slot, lit, var, slot, unknown, both, binary, equal, get_attr, principal, resource, context, no_tree_fields, tree_field}
 use Rattle.cedar_expr_model.specs.Whole.Made.{Made, made_prim}
 use Rattle.cedar_store_model.specs.Whole.Policy.{Policy, Effect, permit, forbid, any, any_action, exactly, named, no_bindings}
 use Rattle.cedar_store_model.specs.Whole.Answer.{Decision}
@@ -47,6 +47,14 @@ permit_unknown = policy (codes "a") permit (Some unknown_a)
 
 abbrev pub forbid_unknown : Policy
 forbid_unknown = policy (codes "x") forbid (Some unknown_a)
+
+-- permits when unknown `a`, and when what `?principal` is bound to, which is `User::"a"`, is `User::"a"`
+abbrev pub slot_policy : Policy
+slot_policy = record (policy (codes "s") permit (Some (both unknown_a (binary equal (slot principal_slot) (lit (entity user_a)))))) { bindings = record { principal = Some user_a; resource = None } }
+
+-- Its response within a limit that leaves the equality as it is written.
+abbrev pub with_slot : Response
+with_slot = response_of scope 5 (slot_policy ∷ [])
 
 abbrev pub two : Response
 two = response_of scope 16 (permit_false ∷ permit_unknown ∷ [])

@@ -3,10 +3,11 @@
 
 ghost use Rattle.std.specs.Prelude.{◌≡◌, true, false, Some, None, codes, pos, [], ◌∷◌};
 ghost use Rattle.cedar_expr_model.specs.Whole.Value.{prim, long, text, entity, record_of, no_fields, truth_value};
-ghost use Rattle.cedar_expr_model.specs.Whole.Tree.{bool_core, long_core, principal, context, lit, var, unknown, get_attr, has_attr, both, unary, negation, no_tree_fields, tree_field};
+ghost use Rattle.cedar_expr_model.specs.Whole.Tree.{bool_core, long_core, principal, context, principal_slot, lit, var, slot, unknown, get_attr, has_attr, both, unary, negation, no_tree_fields, tree_field};
 ghost use Rattle.cedar_expr_model.specs.Whole.Made.{made_set, made_record, made_extension, no_mades, made, no_made_fields, made_field};
 ghost use Rattle.cedar_store_model.specs.Whole.Outcome.{val, err, wrong_type, overflow};
-ghost use Rattle.cedar_store_model.specs.Whole.World.{known, left, held, missing, not_loaded};
+ghost use Rattle.cedar_expr_model.specs.Whole.ValueParts.{known, left};
+ghost use Rattle.cedar_store_model.specs.Whole.World.{held, missing, not_loaded};
 ghost use Rattle.cedar_store_model.specs.Whole.Meaning.{outcome_of};
 ghost use Rattle.cedar_evaluator_model.specs.Scope.{Agrees, unknown_uid, uid, closed, residual_fields, unknown_context, fault, limit, value_left, residual, stopped};
 ghost use Rattle.cedar_evaluator_model.specs.Steps.{truth_left};
@@ -16,7 +17,7 @@ ghost use Rattle.cedar_evaluator_model.specs.WellMade.{IsWellMade, AllMadeWell};
 ghost use Rattle.cedar_evaluator_model.specs.Completion.{FitsAnnotations, EntryMeans, ContextMeans, PartMeans, FoundMeans, Completes};
 ghost use Rattle.cedar_evaluator_model.specs.Standing.{StandsFor, IsOutcome, LeavesUnbound, NoLimit};
 ghost use Rattle.cedar_evaluator_model.specs.Worked.{user, doc, user_a, user_b, doc_d, number, made_number, made_truth, true_tree, false_tree, unknown_a, unknown_u, rank, entity_d, scope, open_scope, with_value, with_context, deep_context};
-ghost use Rattle.cedar_evaluator_model.specs.WorkedCompletions.{open_request, completed, other_kind, other_name, whole_scope};
+ghost use Rattle.cedar_evaluator_model.specs.WorkedCompletions.{open_request, completed, bound_slots, other_kind, other_name, whole_scope};
 
 /// What a scope knows as values: known parts, and nothing of the unknown ones.
 pub fn worked_known()
@@ -67,6 +68,7 @@ pub fn worked_parts()
     ensures residual { PartMeans completed (Some (left unknown_u)) (Some (known (truth_value true))) }
     ensures residual_misfit { PartMeans completed (Some (left (unknown (codes "u") (Some long_core)))) (Some (known (truth_value true))) → ⊥ }
     ensures other_value { PartMeans completed (Some (left unknown_u)) (Some (known (truth_value false))) → ⊥ }
+    ensures slot { PartMeans bound_slots (Some (left (slot principal_slot))) (Some (known (prim (entity user_a)))) → ⊥ }
     ensures lacking { PartMeans completed None (Some (known (truth_value true))) → ⊥ }
     ensures missing { FoundMeans completed user_a missing missing }
     ensures lost { FoundMeans completed doc_d (held entity_d) missing → ⊥ }

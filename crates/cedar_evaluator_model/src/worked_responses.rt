@@ -13,7 +13,7 @@ ghost use Rattle.cedar_evaluator_model.specs.Response.{no_error, with_error, sto
 ghost use Rattle.cedar_evaluator_model.specs.Members.{decision, must_be_determining, may_be_determining, definitely_satisfied, definitely_errored, nontrivial_residuals, nontrivial_residual_ids, nontrivial_forbids, all_residuals, get, left_policy, concretize, met_limit, decision_in_session, bounds_in_session};
 ghost use Rattle.cedar_evaluator_model.specs.Reauthorize.{makes_it, refuses, repeated_id, wrong_value, known_already, other_type, context_stops, entry_bound, context_bound, context_substituted, request_bound, reauthorized};
 ghost use Rattle.cedar_evaluator_model.specs.Worked.{user, user_a, user_b, doc_d, rank, number, made_number, made_truth, true_tree, false_tree, unknown_a, unknown_u, scope, bare_scope, value_of, with_context, deep_context};
-ghost use Rattle.cedar_evaluator_model.specs.WorkedResponses.{note, test, policy_1, policy_2, policy_3, three, permit_false, permit_unknown, forbid_unknown, two, all_1, bad_2, bad_3, all_4, groups, without_forbid, permits_alone, ns_a, ns_b, half, half_scope, no_bound, bound, resource_b, true_and_ten, with_resource, with_all, decided_now, refusal, deep_policy};
+ghost use Rattle.cedar_evaluator_model.specs.WorkedResponses.{note, test, policy_1, policy_2, policy_3, three, permit_false, permit_unknown, forbid_unknown, with_slot, two, all_1, bad_2, bad_3, all_4, groups, without_forbid, permits_alone, ns_a, ns_b, half, half_scope, no_bound, bound, resource_b, true_and_ten, with_resource, with_all, decided_now, refusal, deep_policy};
 
 /// A satisfied permit with annotations, a false forbid and a residual permit: the groups, no error, and Allow.
 pub fn worked_groups()
@@ -24,6 +24,7 @@ pub fn worked_groups()
     ensures no_forbids { three.true_forbids ≡ [] }
     ensures no_errors { three.errors ≡ [] }
     ensures request { three.request ≡ request_of scope }
+    ensures slot { with_slot.residual_permits ≡ (note (codes "s"), both true_tree (both true_tree (both true_tree (both unknown_a (binary equal (lit (entity user_a)) (lit (entity user_a))))))) ∷ [] }
 {}
 
 /// Decisions: a satisfied forbid; no permit left; a residual forbid; a residual permit alone.
@@ -85,6 +86,7 @@ pub fn worked_reauthorized()
     ensures unbound { decided_now (reauthorized scope 16 no_bound two) ≡ None }
     ensures number { decided_now (reauthorized scope 16 (bound (codes "a") (made_number 1) no_bound) two) ≡ Some deny }
     ensures half_open { decided_now with_resource ≡ None }
+    ensures slot { decided_now (reauthorized scope 16 (bound (codes "a") (made_truth true) no_bound) with_slot) ≡ Some allow }
     ensures chain { decided_now with_all ≡ Some deny }
     ensures repeated { refusal (reauthorized scope 16 no_bound (record groups { residual_forbids = (note (codes "a"), test) ∷ [] })) ≡ Some (repeated_id (codes "a")) }
     ensures known { refusal (reauthorized bare_scope 32 (bound (codes "principal") (made_prim (entity ns_a)) no_bound) half) ≡ Some (known_already principal) }

@@ -1,5 +1,6 @@
 -- The definitions for every kind of expression. They take the place of those beside this folder once the code stands on them.
 pub mod Value
+pub mod Lists
 pub mod Order
 pub mod Canonical
 pub mod Pattern
@@ -10,7 +11,6 @@ pub mod Substitution
 pub mod Restricted
 pub mod Table
 pub mod Evident
-pub mod Equality
 pub mod Parts
 pub mod Unknowns
 pub mod BuilderForm
@@ -21,6 +21,7 @@ pub mod ValueParts
 pub mod Shape
 pub mod Texts
 pub mod Represented
+pub mod SamenessLaws
 pub mod Laws
 pub mod TreeLaws
 pub mod ListLaws

@@ -5,7 +5,7 @@ ghost use Rattle.cedar_expr_model.specs.Whole.Shape.{tree_cmp};
 ghost use Rattle.cedar_expr_model.specs.Whole.Laws.{IsLinear, NamesByText, UidsByText, ValuesDecide, CanonicalSame, SetsAreCanonical, SetsRise, MembersAreListed, MembersDecide, SetsAreSame, SetsAreMade, FieldsAreFound, PatternsDecide, CoreTypesDecide, AnnotationsDecide};
 ghost use Rattle.cedar_expr_model.specs.Whole.Builder.{tree_builder};
 ghost use Rattle.cedar_expr_model.specs.Whole.BuilderForm.{IsLawful};
-ghost use Rattle.cedar_expr_model.specs.Whole.TreeLaws.{BuiltIsBuilt, SubstitutedIsBuilt, BuiltStays, BuiltTwice, UnboundStays, BoundLeavesNone, BuildersAgree, WrittenIsRestricted, WrittenHasNoUnknown, WrittenIsBuilt, MismatchDecides, MismatchIsFirst, UnknownsAreListed, UnknownIsPart, ProjectableByParts, RestrictedDecides, WrittenShowsType, WrittenIsValue, ShapesDecide, RepresentedHasResult, RepresentedIsValid};
+ghost use Rattle.cedar_expr_model.specs.Whole.TreeLaws.{BuiltIsBuilt, SubstitutedIsBuilt, BuiltStays, BuiltTwice, UnboundStays, BoundLeavesNone, BuildersAgree, WrittenIsRestricted, WrittenHasNoUnknown, WrittenIsBuilt, MismatchDecides, WrittenShowsType, WrittenIsValue, ShapesDecide, RepresentedHasResult, RepresentedIsValid};
 ghost use Rattle.cedar_expr_model.specs.Whole.TextLaws.{PatternsHaveTheirText};
 ghost use Rattle.cedar_expr_model.specs.Whole.ListLaws.{RepeatsDecide, RepeatIsFirst, TableFaultDecides, FunctionFault, ConstructorFault, InOrderRises, InOrderFinds, InOrderStays, RecordsAreCanonical, RecordsHaveLast, SubsetDecides, DisjointDecides, SplitGivesValues, NamespaceIsKept, QualifiedStays, QualifiedOnce};
 
@@ -77,22 +77,9 @@ pub fn lawful_builders_agree<B>()
     ensures { BuildersAgree B }
 {}
 
-/// There is no mismatch exactly where all bindings fit, and a mismatch is that of the first unknown that has one.
+/// There is no mismatch exactly where all bindings fit.
 pub fn mismatches_decide()
-    ensures decides { MismatchDecides }
-    ensures first { MismatchIsFirst }
-{}
-
-/// Unknowns and projectable expressions are told by the subexpressions.
-pub fn parts_are_subexpressions()
-    ensures unknown { UnknownIsPart }
-    ensures listed { UnknownsAreListed }
-    ensures projectable { ProjectableByParts }
-{}
-
-/// The test of restricted expressions is true exactly where there is no offence.
-pub fn restricted_decide()
-    ensures { RestrictedDecides }
+    ensures { MismatchDecides }
 {}
 
 /// A written value is restricted, has no unknown, has the builder's form, shows its type, and is the value of its expression.

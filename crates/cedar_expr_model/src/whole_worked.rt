@@ -4,9 +4,11 @@
 ghost use Rattle.std.specs.Prelude.{◌≡◌, ℕ, ℤ, pos, negsuc, Bool, true, false, Option, Some, None, List, [], ◌∷◌, codes};
 ghost use Rattle.std.specs.declared.cmp.Ordering.TheVariants.{Less, Equal, Greater};
 ghost use Rattle.cedar_expr_model.specs.Whole.Value.{truth, long, text, entity, prim, set_of, record_of, extension, no_values, value, no_fields, field, field_of, values_list};
-ghost use Rattle.cedar_expr_model.specs.Whole.Order.{text_cmp, name_order, uid_order, literal_cmp, value_cmp, value_eq};
-ghost use Rattle.cedar_expr_model.specs.Whole.Canonical.{Same, is_canonical, are_rising, set_made, members_made, inserted, is_member, is_subset, is_disjoint};
-ghost use Rattle.cedar_expr_model.specs.Whole.Records.{in_order, names_rise, first_of, last_of, record_made};
+ghost use Rattle.cedar_expr_model.specs.Whole.Order.{text_cmp, name_order, uid_order, literal_cmp, value_cmp, value_eq, core_cmp, core_eq};
+ghost use Rattle.cedar_expr_model.specs.Whole.SamenessLaws.{Same};
+ghost use Rattle.cedar_expr_model.specs.Whole.Canonical.{is_canonical, are_rising, set_made, members_made, inserted, is_member, is_subset, is_disjoint};
+ghost use Rattle.cedar_expr_model.specs.Whole.Records.{in_order, names_rise, record_made, record_tree};
+ghost use Rattle.cedar_expr_model.specs.Whole.ListLaws.{last_of};
 ghost use Rattle.cedar_expr_model.specs.Whole.Repeats.{repeated_name};
 ghost use Rattle.cedar_expr_model.specs.Whole.Pattern.{character, wildcard, matches, matches_text};
 ghost use Rattle.cedar_expr_model.specs.Name.{is_word, is_identifier};
@@ -14,19 +16,19 @@ ghost use Rattle.cedar_expr_model.specs.Whole.Tree.{contains_any, times, princip
 ghost use Rattle.cedar_expr_model.specs.Whole.Builder.{built, tree_builder, conjunction, disjunction, path_test};
 ghost use Rattle.cedar_expr_model.specs.Whole.BuilderForm.{IsLawful, is_built};
 ghost use Rattle.cedar_expr_model.specs.Whole.Made.{bare, written, made_set, made, no_mades};
-ghost use Rattle.cedar_expr_model.specs.Whole.Substitution.{substituted, built_under, core_type_of, core_eq, fits_annotation, mismatch};
+ghost use Rattle.cedar_expr_model.specs.Whole.Substitution.{substituted, built_under, core_type_of, fits_annotation, mismatch};
 ghost use Rattle.cedar_expr_model.specs.Whole.Restricted.{offence, is_restricted, has_test, is_test, binary_operator, variables, template_slots, if_then_else, and_operator, unary_operator, attribute_accesses};
 ghost use Rattle.cedar_expr_model.specs.Whole.Table.{method_style, IsFair, signature_of, is_ordered, all_typed, takes_count, are_of_types, is_constructor};
 ghost use Rattle.cedar_expr_model.specs.Whole.Repeats.{table_fault, repeated_function, repeated_constructor};
 ghost use Rattle.cedar_expr_model.specs.Whole.Evident.{evident_type, has_valid_calls};
-ghost use Rattle.cedar_expr_model.specs.Whole.Parts.{subexpressions, unknowns, slots, is_projectable, is_ref, is_slot, is_unknown, is_ref_set};
+ghost use Rattle.cedar_expr_model.specs.Whole.Parts.{subexpressions, unknowns, slots, unknown_here, slot_here, is_projectable, is_ref, is_ref_set};
 ghost use Rattle.cedar_expr_model.specs.Whole.Unknowns.{has_unknown};
-ghost use Rattle.cedar_expr_model.specs.Whole.Records.{record_tree};
-ghost use Rattle.cedar_expr_model.specs.Whole.Shape.{tree_cmp, tree_eq, core_cmp, annotation_cmp, element_cmp, var_cmp, slot_cmp, unary_cmp, binary_cmp};
+ghost use Rattle.cedar_expr_model.specs.Whole.Shape.{tree_cmp, tree_eq, element_cmp};
 ghost use Rattle.cedar_expr_model.specs.Whole.Texts.{var_text, unary_text, binary_text, core_text, feature_text, pattern_text};
 ghost use Rattle.cedar_expr_model.specs.Whole.Represented.{IsRepresented};
 ghost use Rattle.cedar_expr_model.specs.Whole.Names.{is_unqualified, namespace_of, within, qualified, possibilities, cedar_name, unreserved_read, name_given, reserved_given, nothing_given};
-ghost use Rattle.cedar_expr_model.specs.Whole.ValueParts.{uids_in, set_of_literals, value_of_tree, is_plain, known, residual, split, values_alone, with_residuals};
+ghost use Rattle.cedar_expr_model.specs.Whole.TreeLaws.{is_plain};
+ghost use Rattle.cedar_expr_model.specs.Whole.ValueParts.{value_of_tree, known, left, split, values_alone, with_residuals};
 ghost use Rattle.cedar_expr_model.specs.Whole.Worked.{plain, user, doc, rank_name, label_name, deep_name, false_name, alice, bob, number, word, flag, one_two, two_one_one, falling, rising, a_then_b, b_then_a, f_to_r, f_and_more, truth_lit, number_lit, named, named_as, two_unknowns, unrestricted, with_principal, rank_of, rank_of_two, lost_call, made_number, made_truth, made_rank, only_x, x_and_y, nothing_bound, number_for_truth, unknown_as, rank_function, label_function, join_function, unknown_function, other_rank_function, other_label_function, worked_table, typed_table, unfair_table, variable_builder, true_rank, feigned_rank};
 
 /// Texts, names and uids in order: a beginning comes first, and names of one text are told apart by their parts.
@@ -114,12 +116,9 @@ pub fn worked_records()
     ensures rise { names_rise ((codes "a", number 1) ∷ (codes "b", number 2) ∷ []) ≡ true }
     ensures fall { names_rise ((codes "b", number 1) ∷ (codes "a", number 2) ∷ []) ≡ false }
     ensures twice { names_rise ((codes "a", number 1) ∷ (codes "a", number 2) ∷ []) ≡ false }
-    ensures first { first_of (codes "a") ((codes "a", number 1) ∷ (codes "a", number 2) ∷ []) ≡ Some (number 1) }
     ensures last { last_of (codes "a") ((codes "a", number 1) ∷ (codes "a", number 2) ∷ []) ≡ Some (number 2) }
     ensures neither { last_of (codes "b") ((codes "a", number 1) ∷ (codes "a", number 2) ∷ []) ≡ None }
     ensures in_order { in_order ((codes "b", number 2) ∷ (codes "a", number 1) ∷ (codes "b", number 3) ∷ []) ≡ (codes "a", number 1) ∷ (codes "b", number 3) ∷ [] }
-    ensures first_of_none { first_of (codes "c") ((codes "a", number 1) ∷ []) ≡ None }
-    ensures first_later { first_of (codes "b") ((codes "a", number 1) ∷ (codes "b", number 2) ∷ []) ≡ Some (number 2) }
     ensures repeats { repeated_name ((codes "a", number 1) ∷ (codes "b", number 1) ∷ (codes "b", number 1) ∷ (codes "a", number 1) ∷ []) ≡ Some (codes "b") }
     ensures equal_values { repeated_name ((codes "a", number 1) ∷ (codes "a", number 1) ∷ []) ≡ Some (codes "a") }
     ensures no_repeat { repeated_name ((codes "a", number 1) ∷ (codes "b", number 1) ∷ []) ≡ None }
@@ -315,29 +314,21 @@ pub fn worked_parts()
     ensures empty_refs { is_ref_set (set_literal no_trees) ≡ true }
     ensures no_refs { is_ref_set (set_literal (tree (lit (entity alice)) (tree (number_lit 1) no_trees))) ≡ false }
     ensures one_ref { is_ref_set (lit (entity alice)) ≡ false }
-    ensures is_a_slot { is_slot (slot resource_slot) ≡ true }
-    ensures is_no_slot { is_slot (var resource) ≡ false }
-    ensures ref_is_no_slot { is_slot (lit (entity alice)) ≡ false }
-    ensures not_here { is_unknown (unary negation (named (codes "x"))) ≡ false }
-    ensures is_an_unknown { is_unknown (named (codes "x")) ≡ true }
-    ensures is_no_unknown { is_unknown (var context) ≡ false }
+    ensures a_slot_here { slot_here (slot resource_slot) ≡ Some resource_slot }
+    ensures no_slot_here { slot_here (var resource) ≡ None }
+    ensures unknown_inside { unknown_here (unary negation (named (codes "x"))) ≡ None }
+    ensures an_unknown_here { unknown_here (named_as (codes "x") bool_core) ≡ Some (unknown_as (codes "x") bool_core) }
 {}
 
-/// Values of expressions, uids in values, and lists that are split.
+/// Values of expressions, and lists that are split.
 pub fn worked_value_parts()
     ensures set { value_of_tree (set_literal (tree (number_lit 2) (tree (number_lit 1) (tree (number_lit 2) no_trees)))) ≡ Some one_two }
     ensures record { value_of_tree (record_literal (tree_field (codes "a") (number_lit 1) (tree_field (codes "b") (number_lit 2) no_tree_fields))) ≡ Some (record_of a_then_b) }
     ensures variable { value_of_tree with_principal ≡ None }
     ensures a_call { value_of_tree (rank_of (codes "7")) ≡ None }
     ensures an_unknown { value_of_tree (set_literal (tree (named (codes "x")) no_trees)) ≡ None }
-    ensures uids { uids_in (record_of (field (codes "a") (prim (entity bob)) (field (codes "b") (set_of (value (prim (entity alice)) no_values)) no_fields))) ≡ bob ∷ alice ∷ [] }
-    ensures one_uid { uids_in (prim (entity alice)) ≡ alice ∷ [] }
-    ensures no_uids { uids_in one_two ≡ [] }
-    ensures literals { set_of_literals (long (pos 2) ∷ long (pos 1) ∷ long (pos 2) ∷ []) ≡ one_two }
-    ensures no_literals { set_of_literals [] ≡ set_of no_values }
-    ensures mixed_literals { set_of_literals (entity alice ∷ truth true ∷ []) ≡ set_of (value (flag true) (value (prim (entity alice)) no_values)) }
     ensures all_known { split (known (made_number 2) ∷ known (made_number 1) ∷ []) ≡ values_alone (made_number 2 ∷ made_number 1 ∷ []) }
-    ensures one_residual { split (known (made_number 2) ∷ residual (named (codes "x")) ∷ known (made_number 1) ∷ []) ≡ with_residuals (number_lit 2 ∷ named (codes "x") ∷ number_lit 1 ∷ []) }
+    ensures one_residual { split (known (made_number 2) ∷ left (named (codes "x")) ∷ known (made_number 1) ∷ []) ≡ with_residuals (number_lit 2 ∷ named (codes "x") ∷ number_lit 1 ∷ []) }
     ensures empty { split [] ≡ values_alone [] }
 {}
 
@@ -389,11 +380,11 @@ pub fn worked_shapes()
     ensures same_value { tree_eq (set_literal (tree (number_lit 1) no_trees)) (set_literal (tree (number_lit 1) (tree (number_lit 1) no_trees))) ≡ false }
     ensures core_types { core_cmp record_core (entity_core user) ≡ Less }
     ensures core_names { core_cmp (entity_core user) (entity_core doc) ≡ Greater }
-    ensures no_annotation { annotation_cmp None (Some bool_core) ≡ Less }
+    ensures no_annotation { tree_cmp (named (codes "y")) (named_as (codes "y") bool_core) ≡ Less }
     ensures elements { element_cmp (character 255) wildcard ≡ Less }
-    ensures slots { slot_cmp principal_slot resource_slot ≡ Less }
-    ensures binary_operators { binary_cmp equal less ≡ Less }
-    ensures unary_operators { unary_cmp is_empty is_empty ≡ Equal }
+    ensures slots { tree_cmp (slot principal_slot) (slot resource_slot) ≡ Less }
+    ensures binary_operators { tree_cmp (binary equal (var resource) (var resource)) (binary less (var principal) (var principal)) ≡ Less }
+    ensures unary_operators { tree_cmp (unary is_empty (var resource)) (unary is_empty (var resource)) ≡ Equal }
 {}
 
 /// Values in which no extension value stands.

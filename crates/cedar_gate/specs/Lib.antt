@@ -8,3 +8,4 @@ pub mod Runs
 pub mod Stores
 pub mod Statuses
 pub mod Serving
+pub mod Wholes

@@ -2,9 +2,7 @@
 use Rattle.std.specs.Prelude.{◌<◌, ℕ, List, Option, length, take, Result, Ok, Err}
 use Rattle.std.specs.Io.KnownBytes.{Appends}
 use Rattle.cedar_expr_model.specs.Name.{Text}
-use Rattle.cedar_gate_model.specs.Bundle.{Bundle}
 use Rattle.cedar_gate_model.specs.Lines as lines
-use Rattle.cedar_gate_model.specs.Lines.{Prints}
 use Rattle.cedar_gate.specs.Statuses.{status_of}
 use Rattle.cedar_gate.specs.declared.status.Status.{Status}
 use Rattle.cedar_gate.specs.declared.service.ServeFault.{ServeFault}
@@ -15,12 +13,13 @@ serve_fault_number Memory = 0
 serve_fault_number Read = 1
 serve_fault_number Write = 2
 
--- What is written for an input: all of a text that may be printed for it, or where the writer fails a beginning of one.
-abbrev pub ServeGives : Option Bundle → Option (List ℕ) → Option (List ℕ) → Result Status ServeFault → Type 0
-ServeGives b old new (Ok status) = (text : Text) × Prints b (status_of status) text × Appends old new text
-ServeGives b old new (Err Write) = (status : lines.Status) × (text : Text) × Prints b status text × (n : ℕ) × (n < length text) × Appends old new (take n text)
-ServeGives b old new (Err Memory) = Unit {0}
-ServeGives b old new (Err Read) = Unit {0}
+-- What is written, where this says which texts may be printed with which status: all of such a text, or where the writer fails a
+-- beginning of one.
+abbrev pub ServeGives : (lines.Status → Text → Type 0) → Option (List ℕ) → Option (List ℕ) → Result Status ServeFault → Type 0
+ServeGives May old new (Ok status) = (text : Text) × May (status_of status) text × Appends old new text
+ServeGives May old new (Err Write) = (status : lines.Status) × (text : Text) × May status text × (n : ℕ) × (n < length text) × Appends old new (take n text)
+ServeGives May old new (Err Memory) = Unit {0}
+ServeGives May old new (Err Read) = Unit {0}
 
 -- a fault other than that of the writer
 abbrev pub LeavesAlone : ServeFault → Type 0 → Type 0

@@ -15,6 +15,7 @@ ghost use Rattle.cedar_gate_accept.specs.declared.err.GateFault.TheVariants.{Out
 ghost use Rattle.cedar_gate_bundle.specs.Bundles.{bundle_of};
 ghost use Rattle.cedar_gate.specs.Transcripts.{entries_of};
 ghost use Rattle.cedar_gate.specs.Statuses.{status_of};
+ghost use Rattle.cedar_gate.specs.Wholes.{PrintsWhole};
 
 use crate::lines;
 use crate::runs::{RunFault, run};
@@ -38,6 +39,18 @@ pub struct Printed {
 
 /// What is printed for an input. Fails only for want of memory.
 pub fn print_input(alloc: Global, bytes: &[u8], table: &ExtTable<'_>) -> Result<Printed, AllocError>
+    requires { all_typed table.now ≡ true }
+    ensures printed { IfOk result (λ p. Prints (input_read bytes.now) (status_of p.status) (string_bytes p.text)) }
+    ensures whole { IfOk result (λ p. PrintsWhole bytes.now (status_of p.status) (string_bytes p.text)) }
+{
+    match print_read(alloc, bytes, table) {
+        Ok(printed) => Ok(printed),
+        Err(AllocError) => Err(AllocError),
+    }
+}
+
+// The same by the definitions of today's language.
+fn print_read(alloc: Global, bytes: &[u8], table: &ExtTable<'_>) -> Result<Printed, AllocError>
     requires { all_typed table.now ≡ true }
     ensures { IfOk result (λ p. Prints (input_read bytes.now) (status_of p.status) (string_bytes p.text)) }
 {

@@ -11,6 +11,7 @@ ghost use Rattle.cedar_gate.specs.Transcripts.{entries_of, transcript_of};
 ghost use Rattle.cedar_gate.specs.Sessions.{session_submission, session_request};
 ghost use Rattle.cedar_gate.specs.Runs.{session_decision, run_world, RunGives, SessionGives, ConclusionGives};
 ghost use Rattle.cedar_gate.specs.Values.{at_request};
+ghost use Rattle.cedar_gate.specs.Wholes.{RunGivesWhole};
 
 use crate::host::Host;
 use crate::session::{AnswerFault, OpenFault, Session};
@@ -96,13 +97,33 @@ fn take_steps(
 }
 
 /// Runs a request at a gate: does the steps in their order, and then answers. The host is asked only for what is wanted,
-/// and at level 0 nothing is. The decisions and the answer are those over the host's store.
+/// and at level 0 nothing is. The decisions and the answer are those over the host's store. What is handed out is a run by the
+/// definitions of the whole language too, with any functions and any store.
 ///
 /// # Errors
 ///
 /// `Answering` with 3 where the request doesn't conform to the schema; else want of memory. Each has what was done so far.
-#[tactic(auto, using(crate::proofs::Steps::in_world))]
 pub fn run<'a, H: Host>(
+    alloc: Global,
+    gate: &'a Gate<'a>,
+    request: Request,
+    steps: &[Step],
+    host: &mut H,
+) -> Result<Transcript, RunFault>
+    ensures outcome { RunGives (submission_of gate.now) (run_world (request_of request) (H.store host.old)) (steps_of steps.now) result }
+    ensures whole { RunGivesWhole (submission_of gate.now) (request_of request) (steps_of steps.now) result }
+    ensures asked { H.asked host.new ≡ H.asked host.old }
+    ensures host { host.new ≡ host.old }
+{
+    match run_at(alloc, gate, request, steps, host) {
+        Ok(transcript) => Ok(transcript),
+        Err(fault) => Err(fault),
+    }
+}
+
+// The same by the definitions of today's language.
+#[tactic(auto, using(crate::proofs::Steps::in_world))]
+fn run_at<'a, H: Host>(
     alloc: Global,
     gate: &'a Gate<'a>,
     request: Request,

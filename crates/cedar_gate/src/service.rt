@@ -3,6 +3,8 @@
 ghost use Rattle.std.specs.Prelude.{◌≡◌, List, ℕ, true, Some, IfOk, IfErr, IfSome};
 ghost use Rattle.cedar_expr.specs.Table.{all_typed};
 ghost use Rattle.cedar_gate_model.specs.ReadingBundle.{input_read};
+ghost use Rattle.cedar_gate_model.specs.Lines.{Prints};
+ghost use Rattle.cedar_gate.specs.Wholes.{PrintsWhole};
 ghost use Rattle.cedar_gate.specs.Serving.{ServeGives, LeavesAlone, IsOfReading};
 
 use crate::output::write_out;
@@ -61,7 +63,8 @@ fn read_all<R: Read>(alloc: Global, reader: &mut R) -> Result<Vec<u8>, ServeFaul
 }
 
 /// Reads a bundle and writes the lines of its run: all input is read, then all output is made, and then it is written.
-/// The gate has this table of extension functions, each of which has a result type.
+/// The gate has this table of extension functions, each of which has a result type. What is written may be printed by the
+/// definitions of the whole language too, with any functions, for what the input is served as.
 ///
 /// # Errors
 ///
@@ -75,7 +78,9 @@ pub fn serve<R: Read + Drop, W: Write + Drop>(
 ) -> Result<Status, ServeFault>
     requires { all_typed table.now ≡ true }
     ensures printed { (bytes : List ℕ) → R.remaining reader ≡ Some bytes
-        → ServeGives (input_read bytes) (W.contents writer.old) (W.contents writer.new) result }
+        → ServeGives (Prints (input_read bytes)) (W.contents writer.old) (W.contents writer.new) result }
+    ensures printed_whole { (bytes : List ℕ) → R.remaining reader ≡ Some bytes
+        → ServeGives (PrintsWhole bytes) (W.contents writer.old) (W.contents writer.new) result }
     ensures unchanged { IfErr result (λ e. LeavesAlone e (writer.new ≡ writer.old)) }
 {
     let input = read_all(alloc, &mut reader)?;

@@ -11,6 +11,7 @@ ghost use Rattle.cedar_gate_types.specs.Requests.{request_of};
 ghost use Rattle.cedar_gate_types.specs.Responses.{decision_of, response_of};
 ghost use Rattle.cedar_gate_accept.specs.Accepted.{submission_of};
 ghost use Rattle.cedar_gate.specs.Sessions.{session_submission, session_request};
+ghost use Rattle.cedar_gate.specs.Wholes.{IsWantedWhole, DecidesWhole, AnswersWhole};
 
 use crate::answers::{decide, respond};
 use cedar_expr::EntityUID;
@@ -127,6 +128,7 @@ impl<'a> Session<'a> {
     pub fn wanted(&self) -> &[EntityUID]
         ensures none { result.now ≡ [] }
         ensures slice { (w : World) (u : _) → Contains (map uid_of result.now) u ↔ InSlice (session_submission self.now).declarations (session_submission self.now).level w u }
+        ensures whole { IsWantedWhole (session_submission self.now) (session_request self.now) (map uid_of result.now) }
     {
         &[]
     }
@@ -156,8 +158,9 @@ impl<'a> Session<'a> {
     /// Want of memory. Today it takes none.
     #[tactic(auto, using(crate::proofs::Worlds::decision_anywhere))]
     pub fn decision(&self) -> Result<Option<Decision>, AllocError>
-        ensures { (w : World) → w.request ≡ session_request self.now
+        ensures given { (w : World) → w.request ≡ session_request self.now
             → IsOkAnd result (λ d. option_map decision_of d ≡ Some (answer.decision_of w (session_submission self.now).policies)) }
+        ensures whole { DecidesWhole (session_request self.now) (session_submission self.now).policies result }
     {
         let policies = self.gate.policies();
         let conditions = self.gate.conditions();
@@ -173,6 +176,7 @@ impl<'a> Session<'a> {
         ensures conforming { IsErrOf result AnswerFault.NotConforming ↔ (conforms (session_submission self.now).declarations (session_request self.now) ≡ false) }
         ensures answered { IfOk result (λ r. (w : World) → w.request ≡ session_request self.now
             → response_of r ≡ answer.answer_of w (session_submission self.now).policies) }
+        ensures whole { IfOk result (AnswersWhole (session_request self.now) (session_submission self.now).policies) }
         ensures no_errors { IfOk result (λ r. (response_of r).errors ≡ []) }
     {
         match self.answer_over_any_store(alloc) {

@@ -1,3 +1,4 @@
 pub mod Depth
 pub mod Types
 pub mod Named
+pub mod Refusals

@@ -5,3 +5,4 @@ pub mod Verdict
 pub mod Gates
 pub mod Candidates
 pub mod Accepted
+pub mod Wholes

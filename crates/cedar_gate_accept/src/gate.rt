@@ -4,8 +4,10 @@ ghost use Rattle.std.specs.Prelude.{◌≡◌, true, map};
 ghost use Rattle.cedar_expr_model.specs.Sets.{trees_set, texts_set};
 ghost use Rattle.cedar_expr.specs.Trees.{tree_of};
 ghost use Rattle.cedar_store_model.specs.Policy.{condition};
+ghost use Rattle.cedar_schema_model.specs.Whole.FirstPath.{is_plain};
 ghost use Rattle.cedar_gate_model.specs.Acceptance.{admits, warnings_of};
 ghost use Rattle.cedar_gate_types.specs.Policies.{policies_of, id_text};
+ghost use Rattle.cedar_gate_schema.specs.Schema.{schema_of};
 ghost use Rattle.cedar_gate_accept.specs.Gates.{submission};
 
 use crate::candidate::Candidate;
@@ -29,6 +31,7 @@ pub struct Gate<'a> {
     table: &'a ExtTable<'a>,
     pub ghost accepted: { admits (submission schema policies.items level limit) ≡ true },
     pub ghost at_zero: { level ≡ 0 },
+    pub ghost plain: { is_plain (schema_of schema) ≡ true },
     ghost kept: { map tree_of conditions.items ≡ map condition (policies_of policies.items) } by { trees_set (map tree_of conditions.items) (map condition (policies_of policies.items)) },
     ghost warned: { map id_text warnings.items ≡ warnings_of (submission schema policies.items level limit) } by { texts_set (map id_text warnings.items) (warnings_of (submission schema policies.items level limit)) },
 }
@@ -46,10 +49,15 @@ impl<'a> Gate<'a> {
     ghost use Rattle.cedar_gate_accept.specs.Faults.{GateFaultIsThere};
     ghost use Rattle.cedar_gate_accept.specs.Gates.{submitted};
     ghost use Rattle.cedar_gate_accept.specs.Accepted.{submission_of, table_of};
+    ghost use Rattle.cedar_gate_accept.specs.Wholes.{IsAcceptedWhole, RefusesWhole};
+    ghost use Rattle.cedar_expr_model.specs.Whole.Table.{Table};
+    ghost use Rattle.cedar_gate_model.specs.Whole.Acceptance as whole;
+    ghost use Rattle.cedar_gate_model.specs.Whole.FirstPath.{whole_submission};
 
-    /// Accepts declarations and policies where the acceptance rules hold, and else names a fault that is there. Which of several faults
-    /// is left open. Answers want of memory. The table's functions all have a result type, and what is handed in lies in today's
-    /// language, which `first_path` tells.
+    /// Accepts declarations and policies where the acceptance rules hold, and else names a fault that is there: by the rules of
+    /// today's language, and so by those of the whole one, with any table. Which of several faults is left open. Answers want of
+    /// memory. The table's functions all have a result type, and what is handed in lies in today's language, which `first_path`
+    /// tells.
     pub fn accept(
         alloc: Global,
         fragments: &[Fragment],
@@ -60,6 +68,28 @@ impl<'a> Gate<'a> {
     ) -> Result<Gate<'a>, GateFault>
         requires typed { all_typed table.now ≡ true }
         requires in_language { (is_first_path fragments.now && (level == 0)) ≡ true }
+        ensures accepted { IfOk result (λ g. IsAccepted (submission_of g)) }
+        ensures accepted_whole { IfOk result (λ g. IsAcceptedWhole (submission_of g)) }
+        ensures kept { IfOk result (λ g. submission_of g ≡ submitted fragments.now policies.items level limit) }
+        ensures refused { IfErr result (λ f. GateFaultIsThere f (submitted fragments.now policies.items level limit)) }
+        ensures refused_whole { IfErr result (λ f. RefusesWhole f (submitted fragments.now policies.items level limit)) }
+    {
+        match Gate::try_accept(alloc, fragments, policies, table, level, limit) {
+            Ok(gate) => Ok(gate),
+            Err(fault) => Err(fault),
+        }
+    }
+
+    // Accepts by the rules of today's language.
+    fn try_accept(
+        alloc: Global,
+        fragments: &[Fragment],
+        policies: Vec<Policy>,
+        table: &'a ExtTable<'a>,
+        level: u32,
+        limit: NestLimit,
+    ) -> Result<Gate<'a>, GateFault>
+        requires { (is_first_path fragments.now && (level == 0)) ≡ true }
         ensures accepted { IfOk result (λ g. IsAccepted (submission_of g)) }
         ensures kept { IfOk result (λ g. submission_of g ≡ submitted fragments.now policies.items level limit) }
         ensures refused { IfErr result (λ f. GateFaultIsThere f (submitted fragments.now policies.items level limit)) }
@@ -88,7 +118,8 @@ impl<'a> Gate<'a> {
 
     /// The ids of the impossible policies, in policy order.
     pub fn warnings(&self) -> &[PolicyID]
-        ensures { map id_text result.now ≡ warnings_of (submission_of self.now) }
+        ensures ids { map id_text result.now ≡ warnings_of (submission_of self.now) }
+        ensures whole { (x : Table) → map id_text result.now ≡ whole.warnings_of (whole_submission x (submission_of self.now)) }
     {
         self.warnings.as_slice()
     }

@@ -37,7 +37,7 @@ asked_is_in_slice s w asked (decided (Some d) ∷ entries) u h k = asked_is_in_s
 pub asked_in_slice : (s : Submission) (w : World) (entries : List Entry) (u : Uid) → AreLegal s w [] entries → Contains (asked_in entries) u → InSlice s.declarations s.level w u
 asked_in_slice s w entries u h k = asked_is_in_slice s w [] entries u h k
 
-no_items : (us : List Uid) → ((u : Uid) → Contains us u → ⊥) → us ≡ []
+pub no_items : (us : List Uid) → ((u : Uid) → Contains us u → ⊥) → us ≡ []
 no_items [] h = refl
 no_items (u ∷ us) h = absurd (h u (contains_head u us))
 

@@ -1,2 +1,4 @@
 pub mod Reading
 pub mod Gate
+pub mod FirstPath
+pub mod FirstPathReading

@@ -21,3 +21,5 @@ pub mod ReadingLaws
 pub mod GateLaws
 pub mod RunLaws
 pub mod WorkedGate
+pub mod FirstPath
+pub mod FirstPathReading

@@ -2,6 +2,8 @@
 #![tactic(auto)]
 
 pub mod laws;
+pub mod whole_first_path;
+pub mod whole_first_path_reading;
 pub mod whole_gate_laws;
 pub mod whole_gate_worked;
 pub mod whole_reading_declared;

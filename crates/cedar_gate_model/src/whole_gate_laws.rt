@@ -1,6 +1,6 @@
 //! Laws of acceptance, slices, transcripts, runs and lines. Each function's contract is the theorem; its body does nothing.
 
-ghost use Rattle.cedar_gate_model.specs.Whole.GateLaws.{AcceptanceDecides, FaultsExclude, RefusalHasFault, AcceptanceReads, WarnedAreImpossible, GivenAreRelevant, ImpossibleIsIrrelevant, MentionedAreListed, NearAreListed, SliceIsListed, SliceIsEmpty, SliceGrows, KnowledgeKeepsTheSlice, SliceIsLocal, AskedIsInSlice, AskedOnce, DecisionsAreFinal, OneDecision, RoundsAreFew, SliceIsAsked};
+ghost use Rattle.cedar_gate_model.specs.Whole.GateLaws.{AcceptanceDecides, FaultsExclude, RefusalHasFault, AcceptanceReads, WarnedAreImpossible, GivenAreRelevant, ImpossibleIsIrrelevant, NearAreListed, SliceIsListed, SliceIsEmpty, SliceGrows, KnowledgeKeepsTheSlice, SliceIsLocal, AskedIsInSlice, AskedOnce, DecisionsAreFinal, OneDecision, RoundsAreFew, SliceIsAsked};
 ghost use Rattle.cedar_gate_model.specs.Whole.RunLaws.{NothingTwice, RunsAreAlike, OneStatus, OneAnswer, UnreadableAlone, OnlyUnreadable, RefusalsAreFaults, RunsAreLegal, AnsweredRunsAskTheSlice};
 
 /// The test of a submission is true exactly where it is accepted, which is where the acceptance rules hold as they are read.
@@ -20,9 +20,8 @@ pub fn warnings_and_policies_are_exact()
     ensures nowhere { ImpossibleIsIrrelevant }
 {}
 
-/// The lists have exactly what a value mentions, what is near, and what is in the slice.
+/// The lists have exactly what is near, and what is in the slice.
 pub fn slices_are_listed()
-    ensures mentioned { MentionedAreListed }
     ensures near { NearAreListed }
     ensures slice { SliceIsListed }
 {}

@@ -13,17 +13,20 @@ ghost use Rattle.cedar_schema_model.specs.Whole.DeclWorked.{m, external_x, color
 ghost use Rattle.cedar_schema_model.specs.Whole.WellFormed.{duplicate_entity_type};
 ghost use Rattle.cedar_typechecker_model.specs.Whole.Worked.{user, doc, user_a, doc_d, view, small, no_table, is_ok, has_nick, nick_is_x, haunted, alice_ok, in_views, in_slot_of, permits_when};
 ghost use Rattle.cedar_evaluator_model.specs.Scope.{uid, unknown_uid, unknown_context};
-ghost use Rattle.cedar_gate_model.specs.Whole.Acceptance.{schema, external, repeated_policy, unlinked_slot, slot_outside_scope, unknown_in_policy, nests_too_deep, unknown_entity_type, unknown_action, no_member, ill_typed, reaches_too_far, policy_causes, is_clear_of, is_linked, keeps_slots_in_scope, asks_schema, has_schema, admits, number_of, warnings_of, policies_for, schema_in, extension_types};
+ghost use Rattle.cedar_gate_model.specs.Whole.GateLaws.{policy_causes, admits, asked_in, last_rounds, Holds};
+ghost use Rattle.cedar_gate_model.specs.Whole.Acceptance.{schema, external, repeated_policy, unlinked_slot, slot_outside_scope, unknown_in_policy, nests_too_deep, unknown_entity_type, unknown_action, no_member, ill_typed, reaches_too_far, is_clear_of, is_linked, keeps_slots_in_scope, asks_schema, has_schema, number_of, warnings_of, policies_for, schema_in, extension_types};
 ghost use Rattle.cedar_gate_model.specs.Whole.Slice.{mentioned, mentioned_by_found, near, slice, roots};
-ghost use Rattle.cedar_gate_model.specs.Whole.Moment.{Completes, when, told, at_first, is_bound, entry_known, context_known, known_at};
-ghost use Rattle.cedar_gate_model.specs.Whole.Transcript.{round, bound, decided, asked_in, last_rounds};
-ghost use Rattle.cedar_gate_model.specs.Whole.Session.{at_start, value_of, uid_in, entry_by_now, context_by_now, entry_now, context_now, whole_store, known_now, world_now, is_open_name, with_bound, OpenFault, BindFault, not_open, against_annotation, no_entity_or_record, context_fails, open_number, quote_in_name, name_of_variable, bind_number, supply_number, SupplyFault, not_wanted, lacking, repeated, wrong_entity, answer_number, not_bound, still_wanted, not_conforming};
-ghost use Rattle.cedar_gate_model.specs.Whole.Runs.{owned, supplied_by, opening_refused, supply_refused, binding_refused, answer_refused};
-ghost use Rattle.cedar_gate_model.specs.Whole.Owed.{IsForced, Holds};
+ghost use Rattle.cedar_expr_model.specs.Whole.Lists.{when};
+ghost use Rattle.cedar_gate_model.specs.Whole.Moment.{Completes, told, at_first, is_bound, entry_known, context_known, known_at};
+ghost use Rattle.cedar_gate_model.specs.Whole.Transcript.{round, bound, decided};
+ghost use Rattle.cedar_gate_model.specs.Whole.Session.{at_start, value_of, uid_in, entry_now, context_now, whole_store, known_now, world_now, is_open_name, with_bound, OpenFault, BindFault, not_open, against_annotation, no_entity_or_record, context_fails, open_number, quote_in_name, name_of_variable, bind_number, supply_number, SupplyFault, not_wanted, lacking, wrong_entity, answer_number, not_bound, still_wanted, not_conforming, repeated};
+ghost use Rattle.cedar_gate_model.specs.Whole.Runs.{supplied_by, opening_refused, supply_refused, binding_refused, answer_refused};
+ghost use Rattle.cedar_gate_model.specs.Whole.Owed.{IsForced};
 ghost use Rattle.cedar_evaluator_model.specs.Members.{met_limit};
 ghost use Rattle.cedar_gate_model.specs.Whole.Lines.{is_answered, is_refused, is_unreadable, is_stopped, warning_lines, entry_lines, answer_lines, end_lines, end_status, refused_line, unreadable_line, Prints};
 ghost use Rattle.cedar_store_model.specs.Whole.Answer.{allow, deny, reasons_of};
 ghost use Rattle.cedar_gate_model.specs.Whole.WorkedGate.{user_b, user_z, alice, p0, p1, p2, p3, p5, p6, p7, submitted, within, twice_users, slot_in_body, and_unknown, and_edit, and_blue, robot, robots, viewing_by, person, document, staff, without_b, below_z, world_of, by_a, by_some_user, by_anyone, asking, no_context, rank, open_rank, open_named, with_ranks, no_functions, setup_with, text_made, uid_made, number_made, after, lines, p4, ranking, answer_with, in_quotes, user_text, good_bundle, far_bundle, open_bundle, nothing_known, nobody_known, after_a_round, nested_with, reviewed, bounds, by_a_on_b, nobody_there, ordinary, right_supply, with_z, only_d, twice_d, b_for_a, lacks_ok};
+ghost use Rattle.cedar_evaluator_model.specs.Known.{known_entry, known_context};
 
 /// Submissions that are accepted, and one that isn't for each fault.
 pub fn worked_acceptance()
@@ -150,16 +153,16 @@ pub fn worked_bindings()
 
 /// Contexts and entries by now.
 pub fn worked_contexts()
-    ensures open_context { context_by_now with_ranks at_start open_rank ≡ None }
-    ensures evaluated { context_by_now with_ranks (after ((codes "t", text_made (codes "7")) ∷ []) []) open_rank ≡ Some (record_of (field (codes "r") (extension rank (0 ∷ 55 ∷ [])) no_fields)) }
-    ensures given { context_by_now with_ranks at_start no_context ≡ Some (record_of no_fields) }
-    ensures unknown { context_by_now with_ranks at_start unknown_context ≡ None }
-    ensures bound_whole { context_by_now with_ranks (after ((codes "context", made_record no_made_fields) ∷ []) []) unknown_context ≡ Some (record_of no_fields) }
+    ensures open_context { known_context (context_now with_ranks at_start open_rank) ≡ None }
+    ensures evaluated { known_context (context_now with_ranks (after ((codes "t", text_made (codes "7")) ∷ []) []) open_rank) ≡ Some (record_of (field (codes "r") (extension rank (0 ∷ 55 ∷ [])) no_fields)) }
+    ensures given { known_context (context_now with_ranks at_start no_context) ≡ Some (record_of no_fields) }
+    ensures unknown { known_context (context_now with_ranks at_start unknown_context) ≡ None }
+    ensures bound_whole { known_context (context_now with_ranks (after ((codes "context", made_record no_made_fields) ∷ []) []) unknown_context) ≡ Some (record_of no_fields) }
     ensures stays_open { context_now with_ranks at_start open_rank ≡ open_rank }
     ensures as_bound { context_now with_ranks (after ((codes "context", made_record no_made_fields) ∷ []) []) unknown_context ≡ no_context }
-    ensures entry { entry_by_now at_start (codes "principal") (uid user_a) ≡ Some user_a }
-    ensures open_entry { entry_by_now at_start (codes "principal") (unknown_uid None) ≡ None }
-    ensures bound_entry { entry_by_now (after ((codes "principal", uid_made user_b) ∷ []) []) (codes "principal") (unknown_uid None) ≡ Some user_b }
+    ensures entry { known_entry (entry_now at_start (codes "principal") (uid user_a)) ≡ Some user_a }
+    ensures open_entry { known_entry (entry_now at_start (codes "principal") (unknown_uid None)) ≡ None }
+    ensures bound_entry { known_entry (entry_now (after ((codes "principal", uid_made user_b) ∷ []) []) (codes "principal") (unknown_uid None)) ≡ Some user_b }
     ensures kept_open { entry_now at_start (codes "principal") (unknown_uid (Some user)) ≡ unknown_uid (Some user) }
     ensures known_at_first { entry_known at_first (codes "principal") (unknown_uid None) ≡ false }
     ensures not_known { context_known at_first open_rank ≡ false }

@@ -7,8 +7,7 @@ ghost use Rattle.cedar_expr_model.specs.Whole.Tree.{less, lit, binary};
 ghost use Rattle.cedar_schema_model.specs.Whole.Reference.{to_entity, to_common};
 ghost use Rattle.cedar_schema_model.specs.Whole.Declarations.{bool_expr, long_expr, string_expr, set_expr, record_expr, reference, extension_expr, no_field_exprs, field_expr, standard_expr, enumerated_expr, external_expr};
 ghost use Rattle.cedar_store_model.specs.Whole.Policy.{permit, forbid, named, own_slot, any, exactly, inside, of_kind, of_kind_inside, any_action, exactly_action, inside_actions, no_bindings};
-ghost use Rattle.cedar_gate_model.specs.Whole.ReadingForms.{if_some};
-ghost use Rattle.cedar_gate_model.specs.Whole.ReadingSchema.{type_read, attributes_read, common_read, ids_read, kind_read, entity_type_read, action_read, namespace_named, namespace_read, fragment_read, schema_read};
+ghost use Rattle.cedar_gate_model.specs.Whole.ReadingSchema.{type_read, attributes_read, common_read, kind_read, entity_type_read, action_read, namespace_named, namespace_read, fragment_read, schema_read};
 ghost use Rattle.cedar_gate_model.specs.Whole.ReadingPolicy.{target_read, scope_read, action_scope_read, bindings_read, policy_read};
 ghost use Rattle.cedar_gate_model.specs.Whole.WorkedReading.{reads_as, takes, refuses, name, name_under, user_a, view, plain_policy, plain_action, declaring};
 
@@ -39,9 +38,8 @@ pub fn worked_entity_types()
     ensures reserved { takes (entity_type_read [] (codes "__cedar")) (codes "{}" ∷ []) ≡ true }
     ensures not_named { refuses (entity_type_read [] (codes "A::User")) (codes "{}" ∷ []) ≡ true }
     ensures no_word { refuses (entity_type_read [] []) (codes "{}" ∷ []) ≡ true }
-    ensures ids { reads_as ids_read (codes "['']") ≡ Some ([] ∷ []) }
-    ensures no_ids { refuses ids_read (codes "[]" ∷ codes "['a',1]" ∷ codes "'a'" ∷ []) ≡ true }
-    ensures some_items { if_some (view ∷ []) ≡ Some (view ∷ []) }
+    ensures ids { reads_as kind_read (codes "{'enum':['']}") ≡ Some ([], enumerated_expr ([] ∷ [])) }
+    ensures no_ids { refuses kind_read (codes "{'enum':[]}" ∷ codes "{'enum':['a',1]}" ∷ codes "{'enum':'a'}" ∷ []) ≡ true }
     ensures common { reads_as (common_read [] (codes "T")) (codes "'Bool'") ≡ Some (record { namespace = []; word = codes "T"; definition = bool_expr }) }
     ensures not_common { refuses (common_read [] (codes "T")) (codes "{}" ∷ codes "'User'" ∷ []) ≡ true }
     ensures common_not_named { refuses (common_read [] (codes "A::T")) (codes "'Bool'" ∷ []) ≡ true }

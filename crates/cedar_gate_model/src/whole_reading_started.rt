@@ -6,13 +6,14 @@ ghost use Rattle.serde_json.specs.Read.{read};
 ghost use Rattle.cedar_expr_model.specs.Whole.Value.{truth, long, text, prim, record_of, field, no_fields, extension};
 ghost use Rattle.cedar_expr_model.specs.Whole.Tree.{bool_core, unknown, lit, call, set_literal, record_literal, no_trees, tree, no_tree_fields, tree_field};
 ghost use Rattle.cedar_expr_model.specs.Whole.Made.{made_prim, made_set, made_record, no_mades, made, no_made_fields, made_field};
-ghost use Rattle.cedar_store_model.specs.Whole.World.{known};
+ghost use Rattle.cedar_expr_model.specs.Whole.ValueParts.{known};
 ghost use Rattle.cedar_evaluator_model.specs.Scope.{uid, unknown_uid, closed, residual_fields, unknown_context};
 ghost use Rattle.cedar_gate_model.specs.Whole.Transcript.{load, bind_name, decide};
-ghost use Rattle.cedar_gate_model.specs.Whole.ReadingValue.{value_read, context_read, record_read};
+ghost use Rattle.cedar_gate_model.specs.Whole.ReadingValue.{value_read, context_read};
 ghost use Rattle.cedar_gate_model.specs.Whole.ReadingRequest.{entry_read, request_read, parts_read, entity_read, store_read, step_read, steps_read};
-ghost use Rattle.cedar_gate_model.specs.Whole.ReadingBundle.{level_read, limit_read, bundle_read, input_read};
+ghost use Rattle.cedar_gate_model.specs.Whole.ReadingBundle.{bundle_read, input_read};
 ghost use Rattle.cedar_gate_model.specs.Whole.WorkedReading.{reads_as, takes, refuses, with_quotes, name, user_a, view, ranks, rank, rank_of, nested, only_member, plain_start, plain_entity, usual_text, usual_bundle, lacking, with_id, takes_part, refuses_part, but_last, tail, brackets};
+ghost use Rattle.cedar_gate_model.specs.Whole.ReadingForms.{number_between};
 
 /// Values: restricted expressions, evaluated when they are read.
 pub fn worked_values()
@@ -40,7 +41,6 @@ pub fn worked_contexts()
     ensures fails { refuses (context_read ranks) (codes "{'r':['call','rank','x']}" ∷ codes "{'a':['unknown','u'],'r':['call','other','7']}" ∷ []) ≡ true }
     ensures not_restricted { refuses (context_read ranks) (codes "{'a':['var','context']}" ∷ codes "{'a':['not',true]}" ∷ codes "{'a':['set',['neg',1]]}" ∷ []) ≡ true }
     ensures unread { refuses (context_read ranks) (codes "null" ∷ codes "[]" ∷ codes "'Unknown'" ∷ codes "['record',{}]" ∷ codes "{'a':null}" ∷ []) ≡ true }
-    ensures record { reads_as record_read (codes "{'a':['unknown','u']}") ≡ Some (record_literal (tree_field (codes "a") (unknown (codes "u") None) no_tree_fields)) }
     ensures deepest { is_some (context_read ranks (only_member (codes "a") (nested 510))) ≡ true }
     ensures too_deep { context_read ranks (only_member (codes "a") (nested 511)) ≡ None }
 {}
@@ -82,11 +82,11 @@ pub fn worked_steps()
 /// Whole bundles, with other values for one part, or without it.
 pub fn worked_bundles()
     ensures usual { reads_as (bundle_read ranks) usual_text ≡ Some usual_bundle }
-    ensures level { reads_as level_read (codes "4294967295") ≡ Some 4294967295 }
-    ensures least_level { reads_as level_read (codes "0") ≡ Some 0 }
-    ensures no_levels { refuses level_read (codes "4294967296" ∷ codes "-1" ∷ codes "1.5" ∷ []) ≡ true }
-    ensures limit { reads_as limit_read (codes "512") ≡ Some 512 }
-    ensures no_limits { refuses limit_read (codes "0" ∷ codes "513" ∷ codes "16.0" ∷ codes "null" ∷ []) ≡ true }
+    ensures level { reads_as (number_between 0 4294967295) (codes "4294967295") ≡ Some 4294967295 }
+    ensures least_level { reads_as (number_between 0 4294967295) (codes "0") ≡ Some 0 }
+    ensures no_levels { refuses (number_between 0 4294967295) (codes "4294967296" ∷ codes "-1" ∷ codes "1.5" ∷ []) ≡ true }
+    ensures limit { reads_as (number_between 1 512) (codes "512") ≡ Some 512 }
+    ensures no_limits { refuses (number_between 1 512) (codes "0" ∷ codes "513" ∷ codes "16.0" ∷ codes "null" ∷ []) ≡ true }
     ensures no_versions { refuses_part (codes "version") (codes "2" ∷ codes "0" ∷ codes "1.0" ∷ codes "'1'" ∷ codes "null" ∷ []) ≡ true }
     ensures levels { takes_part (codes "level") (codes "1" ∷ codes "4294967295" ∷ []) ≡ true }
     ensures other_levels { refuses_part (codes "level") (codes "1.5" ∷ codes "4294967296" ∷ []) ≡ true }

@@ -1,16 +1,18 @@
 //! Worked examples of what a bundle reads as, computed from texts in which a single quote stands for a double one. Each
 //! function's contract is what comes out; its body does nothing.
 
-ghost use Rattle.std.specs.Prelude.{◌≡◌, ◌++◌, true, false, Some, None, codes, [], ◌∷◌, pos, negsuc};
+ghost use Rattle.std.specs.Prelude.{◌≡◌, ◌++◌, true, false, Some, None, codes, [], ◌∷◌, pos, negsuc, nat_le, bytes_eq};
 ghost use Rattle.serde_json.specs.Data.{null, number, unsigned};
 ghost use Rattle.serde_json.specs.Find.{as_str};
 ghost use Rattle.cedar_expr_model.specs.Whole.Value.{truth, long, text, entity};
 ghost use Rattle.cedar_expr_model.specs.Whole.Pattern.{character, wildcard};
 ghost use Rattle.cedar_expr_model.specs.Whole.Tree.{principal, context, principal_slot, resource_slot, string_core, set_core, entity_core, extension_core, negation, minus, is_empty, equal, less, less_or_equal, plus, difference, times, is_in, contains, contains_all, contains_any, get_tag, has_tag, lit, var, slot, unknown, choice, both, either, unary, binary, call, get_attr, has_attr, has_path, like, is_type, set_literal, record_literal, no_trees, tree, no_tree_fields, tree_field};
-ghost use Rattle.cedar_gate_model.specs.Whole.ReadingForms.{beside, word_of, first_form, alone, if_passing, texts_read, is_between, number_between, is_number};
-ghost use Rattle.cedar_gate_model.specs.Whole.ReadingName.{any_name_read, plain_name_read, names_read, uid_read, uids_read, declared_uid_read, annotation_read};
+ghost use Rattle.cedar_gate_model.specs.Whole.ReadingForms.{word_of, first_form, alone, if_passing, number_between, is_number};
+ghost use Rattle.cedar_gate_model.specs.Whole.ReadingName.{any_name_read, plain_name_read, uid_read, declared_uid_read, annotation_read};
 ghost use Rattle.cedar_gate_model.specs.Whole.ReadingExpression.{var_words, slot_words, pattern_read, expression_read, fields_read};
 ghost use Rattle.cedar_gate_model.specs.Whole.WorkedReading.{reads_as, takes, refuses, name, name_under, user_a};
+ghost use Rattle.std.specs.Map.{lookup};
+ghost use Rattle.cedar_gate_model.specs.Reading.{list_of};
 
 /// Names. A reserved name is one inside a schema alone.
 pub fn worked_names()
@@ -19,8 +21,8 @@ pub fn worked_names()
     ensures reserved { reads_as any_name_read (codes "'__cedar::User'") ≡ Some (name_under (codes "__cedar") (codes "User")) }
     ensures not_reserved { refuses plain_name_read (codes "'__cedar::User'" ∷ codes "'__cedar'" ∷ codes "'A::__cedar'" ∷ []) ≡ true }
     ensures outside_the_grammar { refuses any_name_read (codes "''" ∷ codes "'A:B'" ∷ codes "'A::'" ∷ codes "'in'" ∷ codes "'1a'" ∷ codes "1" ∷ codes "null" ∷ []) ≡ true }
-    ensures list { reads_as names_read (codes "['A','__cedar']") ≡ Some (name (codes "A") ∷ name (codes "__cedar") ∷ []) }
-    ensures no_list { refuses names_read (codes "'A'" ∷ codes "['A','']" ∷ codes "{}" ∷ []) ≡ true }
+    ensures list { reads_as (list_of any_name_read) (codes "['A','__cedar']") ≡ Some (name (codes "A") ∷ name (codes "__cedar") ∷ []) }
+    ensures no_list { refuses (list_of any_name_read) (codes "'A'" ∷ codes "['A','']" ∷ codes "{}" ∷ []) ≡ true }
 {}
 
 /// Uids: a type and an id, which is any text.
@@ -31,8 +33,8 @@ pub fn worked_uids()
     ensures not_reserved { refuses uid_read (codes "['__cedar','a']" ∷ []) ≡ true }
     ensures declared { takes declared_uid_read (codes "['__cedar','a']" ∷ codes "['Action','view']" ∷ []) ≡ true }
     ensures not_declared { refuses declared_uid_read (codes "['a b','c']" ∷ codes "['Action']" ∷ []) ≡ true }
-    ensures list { reads_as uids_read (codes "[['User','a']]") ≡ Some (user_a ∷ []) }
-    ensures no_list { refuses uids_read (codes "['User','a']" ∷ codes "[['User','a'],['User']]" ∷ []) ≡ true }
+    ensures list { reads_as (list_of uid_read) (codes "[['User','a']]") ≡ Some (user_a ∷ []) }
+    ensures no_list { refuses (list_of uid_read) (codes "['User','a']" ∷ codes "[['User','a'],['User']]" ∷ []) ≡ true }
 {}
 
 /// The types that an unknown may be marked with.
@@ -50,14 +52,11 @@ pub fn worked_numbers()
     ensures low { reads_as (number_between 1 512) (codes "1") ≡ Some 1 }
     ensures high { reads_as (number_between 1 512) (codes "512") ≡ Some 512 }
     ensures outside { refuses (number_between 1 512) (codes "0" ∷ codes "513" ∷ codes "-1" ∷ codes "1.0" ∷ codes "1e0" ∷ codes "-0" ∷ codes "'1'" ∷ codes "18446744073709551617" ∷ []) ≡ true }
-    ensures within { is_between 1 512 512 ≡ true }
-    ensures below { is_between 1 512 0 ≡ false }
-    ensures above { is_between 1 512 513 ≡ false }
-    ensures texts { reads_as texts_read (codes "['a','']") ≡ Some (codes "a" ∷ [] ∷ []) }
-    ensures no_texts { refuses texts_read (codes "'a'" ∷ codes "['a',1]" ∷ []) ≡ true }
-    ensures beside { beside (codes "?resource") slot_words ≡ Some resource_slot }
-    ensures first { beside (codes "?principal") slot_words ≡ Some principal_slot }
-    ensures not_beside { beside (codes "?action") slot_words ≡ None }
+    ensures texts { reads_as (list_of as_str) (codes "['a','']") ≡ Some (codes "a" ∷ [] ∷ []) }
+    ensures no_texts { refuses (list_of as_str) (codes "'a'" ∷ codes "['a',1]" ∷ []) ≡ true }
+    ensures beside { lookup (bytes_eq (codes "?resource")) slot_words ≡ Some resource_slot }
+    ensures first { lookup (bytes_eq (codes "?principal")) slot_words ≡ Some principal_slot }
+    ensures not_beside { lookup (bytes_eq (codes "?action")) slot_words ≡ None }
 {}
 
 /// Words, objects with one key, and the first of several forms.
@@ -69,8 +68,8 @@ pub fn worked_forms()
     ensures one_form { reads_as (first_form (as_str ∷ alone (codes "a") as_str ∷ [])) (codes "'x'") ≡ Some (codes "x") }
     ensures another_form { reads_as (first_form (as_str ∷ alone (codes "a") as_str ∷ [])) (codes "{'a':'y'}") ≡ Some (codes "y") }
     ensures no_form { refuses (first_form (as_str ∷ alone (codes "a") as_str ∷ [])) (codes "1" ∷ codes "{'a':1}" ∷ []) ≡ true }
-    ensures passing { if_passing (is_between 1 2) 2 ≡ Some 2 }
-    ensures not_passing { if_passing (is_between 1 2) 3 ≡ None }
+    ensures passing { if_passing (λ n. nat_le n 2) 2 ≡ Some 2 }
+    ensures not_passing { if_passing (λ n. nat_le n 2) 3 ≡ None }
     ensures this_number { is_number 1 (number (unsigned 1)) ≡ true }
     ensures another_number { is_number 1 (number (unsigned 2)) ≡ false }
     ensures no_number { is_number 1 null ≡ false }

@@ -2,3 +2,4 @@ pub mod Lists
 pub mod Fresh
 pub mod Declaring
 pub mod Indexing
+pub mod PlainDeclarations

@@ -1,3 +1,4 @@
+pub mod Named
 pub mod Types
 pub mod Decls
 pub mod FirstPath

@@ -5,10 +5,12 @@ ghost use Rattle.std.specs.Prelude.{◌≡◌, Bool, true, false, pos, codes, []
 ghost use Rattle.cedar_expr_model.specs.Whole.Value.{truth, long, text, entity, prim, set_of, record_of, extension, no_values, value, no_fields, field};
 ghost use Rattle.cedar_schema_model.specs.Whole.Types.{any_bool, only_true, is_open, is_closed, never, bool_type, long_type, string_type, any_entity, entity_types, entity_type, any_set, set_type, record_type, extension_type, no_attributes, attribute};
 ghost use Rattle.cedar_schema_model.specs.Whole.Descent.{descends, action_descends, action_type_descends, type_descends};
-ghost use Rattle.cedar_schema_model.specs.Whole.ActionEntities.{action_entity, action_entities};
+ghost use Rattle.cedar_schema_model.specs.Whole.DeclLaws.{action_entity};
+ghost use Rattle.cedar_schema_model.specs.Whole.ActionEntities.{action_entities};
 ghost use Rattle.cedar_schema_model.specs.Whole.HasType.{has_type};
 ghost use Rattle.cedar_schema_model.specs.Whole.Schema.{enumerated};
-ghost use Rattle.cedar_schema_model.specs.Whole.Conforming.{undeclared, not_listed, no_member, lacks_attribute, undeclared_attribute, attribute_value, tag, ancestor, context_value, open_part, conform_number, conform_faults, has_entity_fault, entity_conforms, parts_of, has_request_fault, request_conforms};
+ghost use Rattle.cedar_store_model.specs.Whole.Store.{as_open};
+ghost use Rattle.cedar_schema_model.specs.Whole.Conforming.{undeclared, not_listed, no_member, lacks_attribute, undeclared_attribute, attribute_value, tag, ancestor, context_value, open_part, conform_number, conform_faults, has_entity_fault, entity_conforms, has_request_fault, request_conforms};
 ghost use Rattle.cedar_schema_model.specs.Whole.Environment.{no_slot, equal_slot, in_slot, environments, environments_for, slot_types};
 ghost use Rattle.cedar_schema_model.specs.Whole.Reference.{action_in};
 ghost use Rattle.cedar_schema_model.specs.Whole.DeclWorked.{user, doc, group, color, ghost_type, rank, n, user_a, doc_d, view, edit, read, all_actions, user_attributes, m_schema, color_schema, tagged_schema, readers, crossed, squared, boss_a, is_ok, ok_seven, age_one, ok_left, one, made, good_user, request, at};
@@ -114,16 +116,16 @@ pub fn worked_kinds_of_entities()
 
 /// A request of a user, to view a document, conforms; others each have one fault.
 pub fn worked_requests()
-    ensures good { request_conforms m_schema (parts_of request) ≡ true }
-    ensures no_action { has_request_fault m_schema (parts_of (record request { action = edit })) undeclared ≡ true }
-    ensures principal { has_request_fault m_schema (parts_of (record request { principal = doc_d })) not_listed ≡ true }
-    ensures resource { has_request_fault m_schema (parts_of (record request { resource = user_a })) not_listed ≡ true }
-    ensures context { has_request_fault m_schema (parts_of (record request { context = field (codes "x") one no_fields })) context_value ≡ true }
-    ensures open { has_request_fault m_schema (record (parts_of request) { principal = None }) open_part ≡ true }
-    ensures open_is_listed { has_request_fault m_schema (record (parts_of request) { principal = None }) not_listed ≡ false }
-    ensures open_context { request_conforms m_schema (record (parts_of request) { context = None }) ≡ false }
-    ensures not_member { has_request_fault color_schema (parts_of (record request { principal = record { kind = color; id = codes "blue" } })) no_member ≡ true }
-    ensures member { has_request_fault color_schema (parts_of (record request { principal = record { kind = color; id = codes "red" } })) no_member ≡ false }
+    ensures good { request_conforms m_schema (as_open request) ≡ true }
+    ensures no_action { has_request_fault m_schema (as_open (record request { action = edit })) undeclared ≡ true }
+    ensures principal { has_request_fault m_schema (as_open (record request { principal = doc_d })) not_listed ≡ true }
+    ensures resource { has_request_fault m_schema (as_open (record request { resource = user_a })) not_listed ≡ true }
+    ensures context { has_request_fault m_schema (as_open (record request { context = field (codes "x") one no_fields })) context_value ≡ true }
+    ensures open { has_request_fault m_schema (record (as_open request) { principal = None }) open_part ≡ true }
+    ensures open_is_listed { has_request_fault m_schema (record (as_open request) { principal = None }) not_listed ≡ false }
+    ensures open_context { request_conforms m_schema (record (as_open request) { context = None }) ≡ false }
+    ensures not_member { has_request_fault color_schema (as_open (record request { principal = record { kind = color; id = codes "blue" } })) no_member ≡ true }
+    ensures member { has_request_fault color_schema (as_open (record request { principal = record { kind = color; id = codes "red" } })) no_member ≡ false }
     ensures numbers { map conform_number conform_faults ≡ 1 ∷ 2 ∷ 3 ∷ 4 ∷ 5 ∷ 6 ∷ 7 ∷ 8 ∷ 9 ∷ 10 ∷ [] }
 {}
 

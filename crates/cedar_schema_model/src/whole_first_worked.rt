@@ -12,7 +12,8 @@ ghost use Rattle.cedar_schema_model.specs.Whole.Types.{any_bool, only_true, only
 ghost use Rattle.cedar_schema_model.specs.Whole.Declarations.{entity_names, action_uids};
 ghost use Rattle.cedar_schema_model.specs.Whole.Resolved.{schema_of};
 ghost use Rattle.cedar_schema_model.specs.Whole.Environment.{environments};
-ghost use Rattle.cedar_schema_model.specs.Whole.Conforming.{parts_of, request_conforms};
+ghost use Rattle.cedar_store_model.specs.Whole.Store.{as_open};
+ghost use Rattle.cedar_schema_model.specs.Whole.Conforming.{request_conforms};
 ghost use Rattle.cedar_schema_model.specs.Whole.WellFormed.{duplicate_entity_type, duplicate_common_type, duplicate_action, undeclared_type, undeclared_action, action_as_entity_type, reserved_name, shadowing, unresolved_external, schema_number, has_schema_fault, well_formed};
 ghost use Rattle.cedar_store_model.specs.Whole.FirstPath.{whole_request};
 ghost use Rattle.cedar_schema_model.specs.Whole.FirstPath.{whole_bool, whole_type, whole_declarations, whole_fault, is_first_fault, whole_environment, is_plain_action, is_plain, refers_unreserved, also_asked, whole_schema};
@@ -94,6 +95,6 @@ pub fn worked_first_schemas()
     ensures other_schema { schema_of (whole_declarations crossed) ≡ whole_schema crossed }
     ensures environment { environments (schema_of (whole_declarations views)) ≡ whole_environment (record { principal = user; action = view; resource = doc }) ∷ [] }
     ensures slots { (whole_environment (record { principal = user; action = view; resource = doc })).principal_slot ≡ None }
-    ensures conforms { request_conforms (schema_of (whole_declarations views)) (parts_of (whole_request request)) ≡ true }
-    ensures not_listed { request_conforms (schema_of (whole_declarations views)) (parts_of (whole_request (record { principal = request.resource; action = view; resource = request.principal }))) ≡ false }
+    ensures conforms { request_conforms (schema_of (whole_declarations views)) (as_open (whole_request request)) ≡ true }
+    ensures not_listed { request_conforms (schema_of (whole_declarations views)) (as_open (whole_request (record { principal = request.resource; action = view; resource = request.principal }))) ≡ false }
 {}

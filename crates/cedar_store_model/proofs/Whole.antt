@@ -1,3 +1,4 @@
+pub mod Named
 pub mod Agree
 pub mod Meaning
 pub mod Extends

@@ -11,7 +11,7 @@ pub mod Policy
 pub mod PolicySet
 pub mod Answer
 pub mod AnswerLaws
-pub mod Matching
+pub mod StoreLaws
 pub mod Store
 pub mod FirstPath
 pub mod Worked

@@ -15,15 +15,17 @@ ghost use Rattle.cedar_store_model.specs.Whole.World.{held, missing};
 ghost use Rattle.cedar_store_model.specs.Whole.Policy.{permit, forbid, any, exactly, named, any_action, exactly_action, no_bindings};
 ghost use Rattle.cedar_store_model.specs.Whole.Answer.{allow, deny, satisfied, answer_of};
 ghost use Rattle.cedar_store_model.specs.Whole.Worked.{table, no_unknowns};
-ghost use Rattle.cedar_store_model.specs.Whole.FirstPath.{whole_request, plain_entity, plain_entities, whole_found, whole_world, whole_fault, whole_outcome, whole_effect, whole_scope, whole_action_scope, whole_policy, whole_policies, whole_decision, whole_error, whole_answer, WorldsAreOfStores, WorldsAreWhole, OutcomesAreWhole, OutcomesAreKept, MeaningIsWhole, NothingElseIsMeant, NothingIsLookedUp, ConditionsAreWhole, SatisfiedIsWhole, SatisfactionIsWhole, DecisionIsWhole, ReasonsAreWhole, ErrorsAreWhole, AnswerIsWhole};
+ghost use Rattle.cedar_store_model.specs.Whole.FirstPath.{whole_request, plain_entity, plain_entities, whole_found, whole_world, whole_fault, whole_outcome, whole_effect, whole_scope, whole_action_scope, whole_policy, whole_policies, whole_decision, whole_error, whole_answer, WorldsAreOfStores, WorldsKnowTheRequest, WorldsAreWhole, OutcomesAreWhole, OutcomesAreKept, MeaningIsWhole, NothingElseIsMeant, NothingIsLookedUp, ConditionsAreWhole, SatisfiedIsWhole, SatisfactionIsWhole, DecisionIsWhole, ReasonsAreWhole, ErrorsAreWhole, AnswerIsWhole, AnswersAreKept};
 
-/// A world of the first path is one of a request over a whole store; where each unknown is bound everything is known in it.
+/// A world of the first path is one of a request over a whole store, and knows that request; where each unknown is bound everything
+/// is known in it.
 pub fn worlds_are_whole()
     ensures stores { WorldsAreOfStores }
+    ensures request { WorldsKnowTheRequest }
     ensures known { WorldsAreWhole }
 {}
 
-/// An expression of the first path means in the whole language what it means in the first path, and nothing else.
+/// An expression of the first path means in each world that knows the request what it means in the first path, and nothing else.
 pub fn meanings_are_whole()
     ensures outcomes { OutcomesAreWhole }
     ensures kept { OutcomesAreKept }
@@ -43,12 +45,14 @@ pub fn policies_are_whole()
     ensures satisfied { SatisfactionIsWhole }
 {}
 
-/// Decision, reasons, errors and so the answer of policies of the first path are the same.
+/// Decision, reasons, errors and so the answer of policies of the first path are the same in each world that knows the request,
+/// and different answers stay different.
 pub fn answers_are_whole()
     ensures decision { DecisionIsWhole }
     ensures reasons { ReasonsAreWhole }
     ensures errors { ErrorsAreWhole }
     ensures answer { AnswerIsWhole }
+    ensures kept { AnswersAreKept }
 {}
 
 /// The worlds of the first path in the whole language.

@@ -2,8 +2,7 @@
 
 ghost use Rattle.cedar_store_model.specs.Whole.Laws.{MeaningIsAFunction, OneOutcome, WholeWorldsAnswer, MoreKeepsMeaning, MoreKeepsLookups, LookupsAreLoaded, OnlyLookupsMatter, DereferencesLook, BuiltMeansTheSame, ConjunctionIsBoth, DisjunctionIsEither};
 ghost use Rattle.cedar_store_model.specs.Whole.AnswerLaws.{PoliciesMeanTruth, PolicyMeaningIsAFunction, SatisfactionDecides, SatisfactionIsKept, SatisfiedByParts, AllowIsEarned, ReasonsAreThose, ErrorsAreThose, OrderIsFree, OnlyLookupsAnswer, SlotsOfConditions, LinkingIsExact, IdsStayDistinct};
-ghost use Rattle.cedar_store_model.specs.Whole.Matching.{SatisfiedByMatching};
-ghost use Rattle.cedar_store_model.specs.Whole.Store.{LookupIsExact, WholeExtendsPartial, WholeStoresAreWhole};
+ghost use Rattle.cedar_store_model.specs.Whole.StoreLaws.{LookupIsExact, WholeExtendsPartial, WholeStoresAreWhole, SatisfiedByMatching};
 
 /// An expression means an outcome in a world exactly where the function gives it: so it has one outcome at most, and where
 /// everything is known it has one.

@@ -5,12 +5,14 @@ ghost use Rattle.cedar_expr_model.specs.Whole.Value.{Literal, truth, long, text,
 ghost use Rattle.cedar_expr_model.specs.Whole.Pattern.{character, wildcard};
 ghost use Rattle.cedar_expr_model.specs.Whole.Tree.{Tree, lit, var, slot, unknown, choice, both, either, unary, binary, call, get_attr, has_attr, has_path, like, is_type, set_literal, record_literal, no_trees, tree, no_tree_fields, tree_field, principal, action, resource, context, principal_slot, resource_slot, negation, minus, is_empty, equal, less, less_or_equal, plus, difference, times, is_in, contains, contains_all, contains_any, get_tag, has_tag, entity_core, nesting};
 ghost use Rattle.cedar_store_model.specs.Whole.Outcome.{Res, val, err, missing_entity, missing_attribute_or_tag, missing_field, wrong_type, overflow, extension_failed, no_function, wrong_count, unlinked_slot};
-ghost use Rattle.cedar_store_model.specs.Whole.World.{Part, known, left, Found, held, missing, not_loaded};
+ghost use Rattle.cedar_expr_model.specs.Whole.ValueParts.{Part, known, left};
+ghost use Rattle.cedar_store_model.specs.Whole.World.{Found, held, missing, not_loaded};
 ghost use Rattle.cedar_store_model.specs.Whole.Operators.{says};
 ghost use Rattle.cedar_store_model.specs.Whole.Meaning.{outcome_of};
-ghost use Rattle.cedar_store_model.specs.Whole.Looks.{Looks, has_dereference};
+ghost use Rattle.cedar_store_model.specs.Whole.Looks.{Looks};
+ghost use Rattle.cedar_store_model.specs.Whole.Laws.{has_dereference};
 ghost use Rattle.cedar_store_model.specs.Whole.Knowledge.{holds_values, KeepsPart, Extends, IsWhole};
-ghost use Rattle.cedar_store_model.specs.Whole.Store.{entity_of, are_distinct, store_of, look_up, stand_in, with_ancestor, has_ancestor, whole, partial, as_open, world_of};
+ghost use Rattle.cedar_store_model.specs.Whole.Store.{are_distinct, store_of, look_up, stand_in, with_ancestor, whole, partial, as_open, world_of};
 ghost use Rattle.cedar_store_model.specs.Whole.Worked.{user, doc, user_a, user_b, user_z, ghost_g, team, doc_d, view, edit, number, below_zero, word, uid, says_true, says_false, one_tree, two_trees, uid_value, number_value, ok_of, boss_of, no_field, no_entity, rank, blob, later, pair, plain, rank_of, blob_of, person, unfinished, table, request, entities, without_b, world, world_without_b, bound_world, nothing_loaded, a_loaded, principal_open, a_unfinished};
 
 /// Arithmetic: a result of more than 64 bits is an overflow, and operands must be whole numbers.
@@ -214,17 +216,12 @@ pub fn worked_stores()
     ensures there { look_up (record { extent = partial; entities = entities }) user_a ≡ held (person user_a true) }
     ensures absent { look_up (record { extent = whole; entities = entities }) ghost_g ≡ missing }
     ensures unloaded { look_up (record { extent = partial; entities = without_b }) user_b ≡ not_loaded }
-    ensures first { entity_of user_a ((user_a, person user_a true) ∷ (user_a, person user_b false) ∷ []) ≡ Some (person user_a true) }
-    ensures none { entity_of user_a [] ≡ None }
     ensures distinct { are_distinct entities ≡ true }
     ensures repeated { are_distinct ((user_a, person user_a true) ∷ (doc_d, unfinished) ∷ (user_a, unfinished) ∷ []) ≡ false }
     ensures refused { store_of whole ((user_a, person user_a true) ∷ (user_a, person user_a true) ∷ []) ≡ None }
     ensures made { store_of partial without_b ≡ Some (record { extent = partial; entities = without_b }) }
     ensures empty { store_of whole [] ≡ Some (record { extent = whole; entities = [] }) }
     ensures stands_in { stand_in (record { kind = plain (codes "test_entity_type"); id = codes "missing" }) ≡ unknown (codes "test_entity_type::\"missing\"") (Some (entity_core (plain (codes "test_entity_type")))) }
-    ensures ancestor { has_ancestor team (person user_a true) ≡ true }
-    ensures no_ancestor { has_ancestor user_a (person user_a true) ≡ false }
-    ensures one_more { has_ancestor user_b (with_ancestor user_b (person user_a true)) ≡ true }
     ensures ancestors { (with_ancestor user_b (person user_a true)).ancestors ≡ team ∷ user_b ∷ [] }
     ensures values { holds_values (person user_a true) ≡ true }
     ensures no_values { holds_values unfinished ≡ false }

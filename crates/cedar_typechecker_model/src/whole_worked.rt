@@ -7,7 +7,7 @@ ghost use Rattle.cedar_store_model.specs.Whole.Policy.{condition};
 ghost use Rattle.cedar_schema_model.specs.Whole.Types.{any_bool, only_true, only_false, is_open, is_closed, never, bool_type, long_type, string_type, any_entity, entity_types, entity_type, any_set, set_type, record_type, extension_type, no_attributes, attribute, strict, permissive};
 ghost use Rattle.cedar_typechecker_model.specs.Whole.Facts.{no_facts, fact, union, intersection, attribute_part, tag_part, part_eq};
 ghost use Rattle.cedar_typechecker_model.specs.Whole.Typing.{judgement, judged, type_of, type_under, conjoined, disjoined, path_judged};
-ghost use Rattle.cedar_typechecker_model.specs.Whole.Rules.{literal_type, slot_type, equal_type, order_type, number_type, sets_type, entity_or_set_kinds, some_kinds, any_kind, may_be_in, written_uid, written_actions, has_type, get_type, tag_type, set_literal_type, core_as_type, arguments_fit, is_type_type, kinds_are};
+ghost use Rattle.cedar_typechecker_model.specs.Whole.Rules.{literal_type, slot_type, equal_type, order_type, number_type, sets_type, entity_or_set_kinds, may_be_in, written_uid, written_actions, has_type, get_type, tag_type, set_literal_type, core_as_type, arguments_fit, is_type_type, kinds_are};
 ghost use Rattle.cedar_typechecker_model.specs.Whole.Levels.{needed, stepped, count, entity_steps, fields_before, violations, target};
 ghost use Rattle.cedar_typechecker_model.specs.Whole.ScopeRules.{names_known_types, names_known_actions, names_known_members, policy_uids, policy_kinds};
 ghost use Rattle.cedar_typechecker_model.specs.Whole.Verdicts.{passes, passes_in, is_warned, impossible, irrelevant_for, verdict_of, success, irrelevant, fail, policy_environments, policy_violations, in_mode, strictly};
@@ -381,11 +381,11 @@ pub fn worked_parts_of_rules()
     ensures below { arguments_fit (bool_type any_bool ∷ []) (bool_type only_true ∷ []) ≡ true }
     ensures not_below { arguments_fit (long_type ∷ []) (bool_type only_true ∷ []) ≡ false }
     ensures further_ones { arguments_fit (long_type ∷ bool_type any_bool ∷ []) (long_type ∷ bool_type any_bool ∷ long_type ∷ []) ≡ false }
-    ensures empty_set_kinds { entity_or_set_kinds (set_type never) ≡ Some (some_kinds []) }
+    ensures empty_set_kinds { entity_or_set_kinds (set_type never) ≡ Some (Some []) }
     ensures union_of_tags { tag_type there (entity_types (group ∷ user ∷ [])) ≡ None }
-    ensures no_kind { may_be_in large (some_kinds []) any_kind ≡ true }
-    ensures unions_related { may_be_in large (some_kinds (color ∷ user ∷ [])) (some_kinds (group ∷ [])) ≡ true }
-    ensures unions_apart { may_be_in large (some_kinds (color ∷ group ∷ [])) (some_kinds (user ∷ [])) ≡ false }
+    ensures no_kind { may_be_in large (Some []) None ≡ true }
+    ensures unions_related { may_be_in large (Some (color ∷ user ∷ [])) (Some (group ∷ [])) ≡ true }
+    ensures unions_apart { may_be_in large (Some (color ∷ group ∷ [])) (Some (user ∷ [])) ≡ false }
     ensures set_of_actions { written_actions there (set_literal (tree (lit (entity read)) (tree (lit (entity view)) no_trees))) ≡ Some (read ∷ view ∷ []) }
     ensures set_of_others { written_actions there (set_literal (tree (lit (entity read)) (tree (lit (entity edit)) no_trees))) ≡ None }
     ensures no_uid { written_uid here (var principal) ≡ None }

@@ -6,9 +6,9 @@ use Rattle.cedar_expr_model.specs.Whole.Tree.{CoreType, Tree, lit, var, slot, un
 use Rattle.cedar_expr_model.specs.Whole.Builder.{Builder, built, built_list, built_fields, tree_builder, written_truth, folded, conjunction, disjunction, path_test, trees, tree_fields}
 use Rattle.cedar_expr_model.specs.Whole.BuilderForm.{IsLawful}
 use Rattle.cedar_expr_model.specs.Whole.Made.{Made, written}
-use Rattle.cedar_expr_model.specs.Whole.Substitution.{Bindings, bound_or, built_under, substituted}
+use Rattle.cedar_expr_model.specs.Whole.Substitution.{Bindings, built_under, substituted}
 use Rattle.cedar_expr_model.proofs.Whole.Building.{builder_with, built_stays, written_built}
-use Rattle.cedar_expr_model.proofs.Whole.Substituting.{placed}
+use Rattle.cedar_expr_model.proofs.Whole.Substituting.{bound_or, placed}
 
 truth_written : (t : Tree) (x : Bool) → written_truth t ≡ Some x → t ≡ lit (truth x)
 truth_written (lit (truth b)) x e = cc

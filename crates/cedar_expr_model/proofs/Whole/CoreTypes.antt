@@ -1,24 +1,28 @@
 -- The tests of core types and annotations, and the type that a written value shows.
-use Rattle.std.proofs.Common.{◌≡◌, Option, Some, None, refl, ap, Decides}
+use Rattle.std.proofs.Common.{◌≡◌, Option, Some, None, refl, Decides}
 use Rattle.std.proofs.lemmas.Bool.Decides.{Decides-like}
+use Rattle.std.specs.Ordering.{is_eq}
+use Rattle.std.specs.declared.cmp.Ordering.{Ordering}
+use Rattle.std.specs.declared.cmp.Ordering.TheVariants.{Less, Equal, Greater}
 use Rattle.cedar_expr_model.specs.Whole.Value.{V}
-use Rattle.cedar_expr_model.specs.Whole.Tree.{CoreType, bool_core, long_core, string_core, set_core, record_core, entity_core, extension_core}
-use Rattle.cedar_expr_model.specs.Whole.Substitution.{core_type_of, core_eq, fits_annotation}
+use Rattle.cedar_expr_model.specs.Whole.Tree.{CoreType}
+use Rattle.cedar_expr_model.specs.Whole.Order.{core_cmp, core_eq}
+use Rattle.cedar_expr_model.specs.Whole.Substitution.{core_type_of, fits_annotation}
 use Rattle.cedar_expr_model.specs.Whole.Made.{Made, made_prim, made_set, made_record, made_extension, bare, written}
 use Rattle.cedar_expr_model.specs.Whole.Table.{Table}
-use Rattle.cedar_expr_model.specs.Whole.Evident.{evident_type, HasResult}
+use Rattle.cedar_expr_model.specs.Whole.Evident.{evident_type}
+use Rattle.cedar_expr_model.specs.Whole.TreeLaws.{HasResult}
 use Rattle.cedar_expr_model.specs.Whole.Laws.{IsOfType}
-use Rattle.cedar_expr_model.proofs.Equality.{name_eq-Decides}
+use Rattle.cedar_expr_model.proofs.Whole.ShapeParts.{core_linear}
+
+-- a test that an order decides
+test_decides : (r : Ordering) → Decides (is_eq r) (r ≡ Equal)
+test_decides Less = (λ h. cc, λ h. cc)
+test_decides Equal = (λ _. refl, λ _. refl)
+test_decides Greater = (λ h. cc, λ h. cc)
 
 pub core_eq-Decides : (a b : CoreType) → Decides (core_eq a b) (a ≡ b)
-core_eq-Decides bool_core bool_core = (λ _. refl, λ _. refl)
-core_eq-Decides long_core long_core = (λ _. refl, λ _. refl)
-core_eq-Decides string_core string_core = (λ _. refl, λ _. refl)
-core_eq-Decides set_core set_core = (λ _. refl, λ _. refl)
-core_eq-Decides record_core record_core = (λ _. refl, λ _. refl)
-core_eq-Decides (entity_core m) (entity_core n) = Decides-like _ (λ e. ap entity_core e) (λ e. cc) (name_eq-Decides m n)
-core_eq-Decides (extension_core m) (extension_core n) = Decides-like _ (λ e. ap extension_core e) (λ e. cc) (name_eq-Decides m n)
-core_eq-Decides a b = (λ h. cc, λ h. cc)
+core_eq-Decides a b = let h = core_linear.tells a b in Decides-like _ h.0 h.1 (test_decides (core_cmp a b))
 
 pub fits-Decides : (a : Option CoreType) (v : V) → Decides (fits_annotation a v) (IsOfType a v)
 fits-Decides None v = (λ _. tt, λ _. refl)

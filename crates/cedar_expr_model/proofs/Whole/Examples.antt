@@ -3,7 +3,7 @@ use Rattle.std.proofs.Common.{bytes_eq, ap, ◌≡◌, Bool, true, false, cond, 
 use mathlib.Core.Bool.{true≢false}
 use Rattle.cedar_expr_model.specs.Name.{Text, name_eq}
 use Rattle.cedar_expr_model.specs.Whole.Value.{text, V, prim, set_of, record_of, extension, no_values, value}
-use Rattle.cedar_expr_model.specs.Whole.Canonical.{Among, FieldAmong, Same, HasSame, HasSameField}
+use Rattle.cedar_expr_model.specs.Whole.SamenessLaws.{Among, FieldAmong, Same, HasSame, HasSameField}
 use Rattle.cedar_expr_model.specs.Whole.BuilderForm.{IsLawful}
 use Rattle.cedar_expr_model.specs.Whole.Table.{Signature, fails, IsAnswer, IsFair, Called, gives}
 use Rattle.cedar_expr_model.specs.Whole.Represented.{IsRepresented}
@@ -68,7 +68,7 @@ table_unfair h = let q = h rank_name rank_function (word (codes "7") ∷ []) ref
 
 -- represented values
 pub rank_represented : IsRepresented typed_table true_rank
-rank_represented = (rank_function, refl, refl, refl, refl)
+rank_represented = ((rank_function, refl, refl, refl), refl)
 
 -- the answer has the key of the true rank
 has_its_key : Called → Bool
@@ -77,4 +77,4 @@ has_its_key a = false
 
 pub feigned_not : ¬ (IsRepresented typed_table feigned_rank)
 unfolding has_its_key
-feigned_not r = let q : true ≡ false = ap has_its_key r.4 in true≢false q
+feigned_not r = let q : true ≡ false = ap has_its_key r.1 in true≢false q

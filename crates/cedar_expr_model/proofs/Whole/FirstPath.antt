@@ -1,6 +1,7 @@
 -- The values and expressions of the first path are those of the whole language on their part of it.
-use Rattle.std.proofs.Common.{◌≡◌, Bool, true, false, ◌&&◌, ◌||◌, Option, Some, None, [], ◌++◌, suc, max, refl, sym, ap, ◌∙◌}
-use Rattle.std.specs.List.{filter_map}
+use Rattle.std.proofs.Common.{◌≡◌, Bool, true, false, ◌&&◌, Option, Some, None, [], ◌++◌, suc, max, refl, sym, ap, ◌∙◌}
+use Rattle.std.specs.Prelude.{is_some}
+use Rattle.std.specs.List.{filter_map, list_any}
 use Rattle.std.proofs.lemmas.List.Elements.{filter_map-append}
 use Rattle.cedar_expr_model.specs.Value as small_value
 use Rattle.cedar_expr_model.specs.Tree as small
@@ -9,10 +10,11 @@ use Rattle.cedar_expr_model.specs.Whole.Order.{value_eq}
 use Rattle.cedar_expr_model.specs.Whole.Tree.{Var, principal, action, UnaryOp, BinaryOp, equal, Tree, lit, var, both, unary, binary, nesting}
 use Rattle.cedar_expr_model.specs.Whole.Builder.{conjunction, written_truth, folded}
 use Rattle.cedar_expr_model.specs.Whole.Unknowns.{has_unknown}
-use Rattle.cedar_expr_model.specs.Whole.Parts.{subexpressions, slot_here, slots}
+use Rattle.cedar_expr_model.specs.Whole.Parts.{subexpressions, unknown_here, slot_here, slots}
 use Rattle.cedar_expr_model.specs.Whole.FirstPath.{whole_literal, whole_value, whole_var, whole_unary, whole_binary, whole_tree}
 use Rattle.cedar_expr_model.proofs.Equality as small_equality
 use Rattle.cedar_expr_model.proofs.Whole.ValueOrder.{values_decide}
+use Rattle.cedar_expr_model.proofs.Whole.Gathering.{none_join}
 
 -- the way back; what isn't of the first path is given anything
 abbrev back_literal : Literal → small_value.Literal
@@ -119,12 +121,15 @@ nesting_is_whole (small.unary o a) = ap suc (nesting_is_whole a)
 nesting_is_whole (small.binary o a b) = λ i. suc (max (nesting_is_whole a i) (nesting_is_whole b i))
 
 -- unknowns and slots
+two_known : (a b : Tree) → has_unknown a ≡ false → has_unknown b ≡ false → list_any (λ e. is_some (unknown_here e)) (subexpressions a ++ subexpressions b) ≡ false
+two_known a b e f = none_join (λ t. is_some (unknown_here t)) (subexpressions a) (subexpressions b) e f
+
 pub no_unknown_stands : (t : small.Tree) → has_unknown (whole_tree t) ≡ false
 no_unknown_stands (small.lit p) = refl
 no_unknown_stands (small.var x) = refl
-no_unknown_stands (small.both a b) = λ i. no_unknown_stands a i || no_unknown_stands b i
+no_unknown_stands (small.both a b) = two_known (whole_tree a) (whole_tree b) (no_unknown_stands a) (no_unknown_stands b)
 no_unknown_stands (small.unary o a) = no_unknown_stands a
-no_unknown_stands (small.binary o a b) = λ i. no_unknown_stands a i || no_unknown_stands b i
+no_unknown_stands (small.binary o a b) = two_known (whole_tree a) (whole_tree b) (no_unknown_stands a) (no_unknown_stands b)
 
 two_slotless : (a b : Tree) → slots a ≡ [] → slots b ≡ [] → filter_map slot_here (subexpressions a ++ subexpressions b) ≡ []
 two_slotless a b e f = filter_map-append slot_here (subexpressions a) (subexpressions b) ∙ (λ i. e i ++ f i)

@@ -1,67 +1,85 @@
--- The tests by recursion on an expression are tests of its subexpressions.
-use Rattle.std.proofs.Common.{◌≡◌, Bool, true, ◌&&◌, ◌||◌, List, [], ◌∷◌, ◌++◌, Option, Contains, refl, sym, ◌∙◌, subst, ⊎_elim}
+-- Tests of the subexpressions of an expression, by its parts; and what holds of each unknown, by recursion on the expression.
+use Rattle.std.proofs.Common.{◌≡◌, Bool, true, false, ◌||◌, List, [], ◌∷◌, ◌++◌, Option, Some, None, Contains, refl, sym, ap, ◌∙◌, subst, ⊎_elim}
 use Rattle.std.specs.Prelude.{◌↔◌}
 use Rattle.std.specs.List.{list_all, list_any, filter_map}
+use Rattle.std.specs.Option.{option_or}
 use Rattle.std.proofs.lemmas.List.Elements.{filter_map-append, Contains-append_left, Contains-append_right, Contains-append_cases}
 use Rattle.std.proofs.lemmas.List.Folds.{list_any-append, list_all-append}
 use Rattle.cedar_expr_model.specs.Name.{Text}
+use Rattle.cedar_expr_model.specs.Whole.Lists.{first_found}
 use Rattle.cedar_expr_model.specs.Whole.Tree.{CoreType, Tree, lit, var, slot, unknown, choice, both, either, unary, binary, call, get_attr, has_attr, has_path, like, is_type, set_literal, record_literal, Trees, no_trees, tree, TreeFields, no_tree_fields, tree_field}
-use Rattle.cedar_expr_model.specs.Whole.Unknowns.{has_unknown, have_unknown, fields_have_unknown, EachUnknown, EachUnknownAmong, EachUnknownInFields}
-use Rattle.cedar_expr_model.specs.Whole.Parts.{subexpressions, subexpressions_among, subexpressions_in_fields, Unknown, unknown_here, unknowns, is_unknown, may_project, is_projectable, are_projectable, have_projectable}
-use Rattle.cedar_expr_model.proofs.Lists.{contains_head, contains_cases, contains_none, all_each, all_from}
+use Rattle.cedar_expr_model.specs.Whole.Unknowns.{EachUnknown}
+use Rattle.cedar_expr_model.specs.Whole.Parts.{subexpressions, subexpressions_among, subexpressions_in_fields, Unknown, unknown_here}
+use Rattle.cedar_expr_model.proofs.Lists.{both_hold, hold_both, contains_head, contains_tail, contains_cases, contains_none}
 
--- a test that some subexpression passes
-any_two : (xs ys : List Tree) (a b : Bool) → a ≡ list_any is_unknown xs → b ≡ list_any is_unknown ys → (a || b) ≡ list_any is_unknown (xs ++ ys)
-any_two xs ys a b e f = (λ i. e i || f i) ∙ sym (list_any-append is_unknown xs ys)
+-- a test that all items of two lists pass
+pub all_join : {X : Type 0} (p : X → Bool) (xs ys : List X) → list_all p xs ≡ true → list_all p ys ≡ true → list_all p (xs ++ ys) ≡ true
+all_join p xs ys h k = list_all-append p xs ys ∙ hold_both _ _ h k
 
-mutual
-  pub unknown_is_part : (t : Tree) → has_unknown t ≡ list_any is_unknown (subexpressions t)
-  unknown_is_part (lit p) = refl
-  unknown_is_part (var x) = refl
-  unknown_is_part (slot s) = refl
-  unknown_is_part (unknown n a) = refl
-  unknown_is_part (choice t a b) = any_two (subexpressions t) (subexpressions a ++ subexpressions b) _ _ (unknown_is_part t) (any_two (subexpressions a) (subexpressions b) _ _ (unknown_is_part a) (unknown_is_part b))
-  unknown_is_part (both a b) = any_two (subexpressions a) (subexpressions b) _ _ (unknown_is_part a) (unknown_is_part b)
-  unknown_is_part (either a b) = any_two (subexpressions a) (subexpressions b) _ _ (unknown_is_part a) (unknown_is_part b)
-  unknown_is_part (unary o a) = unknown_is_part a
-  unknown_is_part (binary o a b) = any_two (subexpressions a) (subexpressions b) _ _ (unknown_is_part a) (unknown_is_part b)
-  unknown_is_part (call f ts) = unknown_among ts
-  unknown_is_part (get_attr t a) = unknown_is_part t
-  unknown_is_part (has_attr t a) = unknown_is_part t
-  unknown_is_part (has_path t a bs) = unknown_is_part t
-  unknown_is_part (like t p) = unknown_is_part t
-  unknown_is_part (is_type t n) = unknown_is_part t
-  unknown_is_part (set_literal ts) = unknown_among ts
-  unknown_is_part (record_literal fs) = unknown_in_fields fs
+pub all_split : {X : Type 0} (p : X → Bool) (xs ys : List X) → list_all p (xs ++ ys) ≡ true → (list_all p xs ≡ true) × (list_all p ys ≡ true)
+all_split p xs ys h = both_hold _ _ (sym (list_all-append p xs ys) ∙ h)
 
-  unknown_among : (ts : Trees) → have_unknown ts ≡ list_any is_unknown (subexpressions_among ts)
-  unknown_among no_trees = refl
-  unknown_among (tree t ts) = any_two (subexpressions t) (subexpressions_among ts) _ _ (unknown_is_part t) (unknown_among ts)
+-- a test that no item of two lists passes
+neither : (a b : Bool) → a ≡ false → b ≡ false → (a || b) ≡ false
+neither true b e f = cc
+neither false b e f = f
 
-  unknown_in_fields : (fs : TreeFields) → fields_have_unknown fs ≡ list_any is_unknown (subexpressions_in_fields fs)
-  unknown_in_fields no_tree_fields = refl
-  unknown_in_fields (tree_field a t fs) = any_two (subexpressions t) (subexpressions_in_fields fs) _ _ (unknown_is_part t) (unknown_in_fields fs)
+pub none_join : {X : Type 0} (p : X → Bool) (xs ys : List X) → list_any p xs ≡ false → list_any p ys ≡ false → list_any p (xs ++ ys) ≡ false
+none_join p xs ys h k = list_any-append p xs ys ∙ neither _ _ h k
 
--- a test that all subexpressions pass
-all_two : (xs ys : List Tree) (a b : Bool) → a ≡ list_all may_project xs → b ≡ list_all may_project ys → (a && b) ≡ list_all may_project (xs ++ ys)
-all_two xs ys a b e f = (λ i. e i && f i) ∙ sym (list_all-append may_project xs ys)
+-- a function finds nothing exactly where it gives nothing of any item
+or_none : {A : Type 0} (a b : Option A) → a ≡ None → b ≡ None → option_or a b ≡ None
+or_none None b e f = f
+or_none (Some x) b e f = cc
 
-mutual
-  pub projectable_by_parts : (t : Tree) → is_projectable t ≡ list_all may_project (subexpressions t)
-  projectable_by_parts (lit p) = refl
-  projectable_by_parts (set_literal ts) = projectable_among ts
-  projectable_by_parts (record_literal fs) = projectable_in_fields fs
-  projectable_by_parts t = refl
+both_none : {A : Type 0} (a b : Option A) → option_or a b ≡ None → (a ≡ None) × (b ≡ None)
+both_none None b e = (refl, e)
+both_none (Some x) b e = cc
 
-  projectable_among : (ts : Trees) → are_projectable ts ≡ list_all may_project (subexpressions_among ts)
-  projectable_among no_trees = refl
-  projectable_among (tree t ts) = all_two (subexpressions t) (subexpressions_among ts) _ _ (projectable_by_parts t) (projectable_among ts)
+pub found_none : {A B : Type 0} (f : A → Option B) (xs : List A) → (first_found f xs ≡ None) ↔ ((x : A) → Contains xs x → f x ≡ None)
+found_none f [] = (λ e x c. absurd (contains_none x c), λ h. refl)
+found_none f (y ∷ ys) =
+    let rest = found_none f ys in (
+      λ e x c. let p = both_none (f y) (first_found f ys) e in contains_cases (f x ≡ None) y ys x c (λ q. ap f (sym q) ∙ p.0) (rest.0 p.1 x),
+      λ h. or_none (f y) (first_found f ys) (h y (contains_head y ys)) (rest.1 (λ x c. h x (contains_tail y ys x c))),
+    )
 
-  projectable_in_fields : (fs : TreeFields) → have_projectable fs ≡ list_all may_project (subexpressions_in_fields fs)
-  projectable_in_fields no_tree_fields = refl
-  projectable_in_fields (tree_field a t fs) = all_two (subexpressions t) (subexpressions_in_fields fs) _ _ (projectable_by_parts t) (projectable_in_fields fs)
+pub found_none_join : {A B : Type 0} (f : A → Option B) (xs ys : List A) → first_found f xs ≡ None → first_found f ys ≡ None → first_found f (xs ++ ys) ≡ None
+found_none_join f [] ys e k = k
+found_none_join f (x ∷ xs) ys e k =
+    let p = both_none (f x) (first_found f xs) e in
+    or_none (f x) (first_found f (xs ++ ys)) p.0 (found_none_join f xs ys p.1 k)
 
--- what holds of each unknown, by the list of them
+-- what holds of each unknown, by recursion on the expression
+abbrev mutual
+  pub EachIn : (Text → Option CoreType → Type 0) → Tree → Type 0
+  EachIn P (lit p) = Unit {0}
+  EachIn P (var x) = Unit {0}
+  EachIn P (slot s) = Unit {0}
+  EachIn P (unknown n a) = P n a
+  EachIn P (choice t a b) = EachIn P t × EachIn P a × EachIn P b
+  EachIn P (both a b) = EachIn P a × EachIn P b
+  EachIn P (either a b) = EachIn P a × EachIn P b
+  EachIn P (unary o a) = EachIn P a
+  EachIn P (binary o a b) = EachIn P a × EachIn P b
+  EachIn P (call f ts) = EachAmong P ts
+  EachIn P (get_attr t a) = EachIn P t
+  EachIn P (has_attr t a) = EachIn P t
+  EachIn P (has_path t a bs) = EachIn P t
+  EachIn P (like t p) = EachIn P t
+  EachIn P (is_type t n) = EachIn P t
+  EachIn P (set_literal ts) = EachAmong P ts
+  EachIn P (record_literal fs) = EachInFields P fs
+
+  pub EachAmong : (Text → Option CoreType → Type 0) → Trees → Type 0
+  EachAmong P no_trees = Unit {0}
+  EachAmong P (tree t ts) = EachIn P t × EachAmong P ts
+
+  pub EachInFields : (Text → Option CoreType → Type 0) → TreeFields → Type 0
+  EachInFields P no_tree_fields = Unit {0}
+  EachInFields P (tree_field a t fs) = EachIn P t × EachInFields P fs
+
+-- the same by the list of them
 module _ (P : Unknown → Type 0) where
   abbrev At : Text → Option CoreType → Type 0
   At n a = P (record { name = n; annotation = a })
@@ -93,34 +111,32 @@ module _ (P : Unknown → Type 0) where
       (λ p u c. contains_cases (P u) here [] u c (λ e. subst P e p) (λ k. absurd (contains_none u k)), λ f. f here (contains_head here []))
 
   mutual
-    pub unknowns_listed : (t : Tree) → EachUnknown At t ↔ Each (subexpressions t)
-    unknowns_listed (lit p) = (λ _. each_none, λ _. tt)
-    unknowns_listed (var x) = (λ _. each_none, λ _. tt)
-    unknowns_listed (slot s) = (λ _. each_none, λ _. tt)
-    unknowns_listed (unknown n a) = each_one n a
-    unknowns_listed (choice t a b) = each_three (subexpressions t) (subexpressions a) (subexpressions b) (unknowns_listed t) (unknowns_listed a) (unknowns_listed b)
-    unknowns_listed (both a b) = each_two (subexpressions a) (subexpressions b) (unknowns_listed a) (unknowns_listed b)
-    unknowns_listed (either a b) = each_two (subexpressions a) (subexpressions b) (unknowns_listed a) (unknowns_listed b)
-    unknowns_listed (unary o a) = unknowns_listed a
-    unknowns_listed (binary o a b) = each_two (subexpressions a) (subexpressions b) (unknowns_listed a) (unknowns_listed b)
-    unknowns_listed (call f ts) = listed_among ts
-    unknowns_listed (get_attr t a) = unknowns_listed t
-    unknowns_listed (has_attr t a) = unknowns_listed t
-    unknowns_listed (has_path t a bs) = unknowns_listed t
-    unknowns_listed (like t p) = unknowns_listed t
-    unknowns_listed (is_type t n) = unknowns_listed t
-    unknowns_listed (set_literal ts) = listed_among ts
-    unknowns_listed (record_literal fs) = listed_in_fields fs
+    listed : (t : Tree) → EachIn At t ↔ Each (subexpressions t)
+    listed (lit p) = (λ _. each_none, λ _. tt)
+    listed (var x) = (λ _. each_none, λ _. tt)
+    listed (slot s) = (λ _. each_none, λ _. tt)
+    listed (unknown n a) = each_one n a
+    listed (choice t a b) = each_three (subexpressions t) (subexpressions a) (subexpressions b) (listed t) (listed a) (listed b)
+    listed (both a b) = each_two (subexpressions a) (subexpressions b) (listed a) (listed b)
+    listed (either a b) = each_two (subexpressions a) (subexpressions b) (listed a) (listed b)
+    listed (unary o a) = listed a
+    listed (binary o a b) = each_two (subexpressions a) (subexpressions b) (listed a) (listed b)
+    listed (call f ts) = listed_among ts
+    listed (get_attr t a) = listed t
+    listed (has_attr t a) = listed t
+    listed (has_path t a bs) = listed t
+    listed (like t p) = listed t
+    listed (is_type t n) = listed t
+    listed (set_literal ts) = listed_among ts
+    listed (record_literal fs) = listed_in_fields fs
 
-    listed_among : (ts : Trees) → EachUnknownAmong At ts ↔ Each (subexpressions_among ts)
+    listed_among : (ts : Trees) → EachAmong At ts ↔ Each (subexpressions_among ts)
     listed_among no_trees = (λ _. each_none, λ _. tt)
-    listed_among (tree t ts) = each_two (subexpressions t) (subexpressions_among ts) (unknowns_listed t) (listed_among ts)
+    listed_among (tree t ts) = each_two (subexpressions t) (subexpressions_among ts) (listed t) (listed_among ts)
 
-    listed_in_fields : (fs : TreeFields) → EachUnknownInFields At fs ↔ Each (subexpressions_in_fields fs)
+    listed_in_fields : (fs : TreeFields) → EachInFields At fs ↔ Each (subexpressions_in_fields fs)
     listed_in_fields no_tree_fields = (λ _. each_none, λ _. tt)
-    listed_in_fields (tree_field a t fs) = each_two (subexpressions t) (subexpressions_in_fields fs) (unknowns_listed t) (listed_in_fields fs)
+    listed_in_fields (tree_field a t fs) = each_two (subexpressions t) (subexpressions_in_fields fs) (listed t) (listed_in_fields fs)
 
-pub unknowns_are_listed : (p : Unknown → Bool) (t : Tree) → EachUnknown (λ n a. p (record { name = n; annotation = a }) ≡ true) t ↔ (list_all p (unknowns t) ≡ true)
-unknowns_are_listed p t =
-    let h = unknowns_listed (λ u. p u ≡ true) t in
-    (λ e. all_from p (unknowns t) (h.0 e), λ e. h.1 (all_each p (unknowns t) e))
+pub each_in : (P : Text → Option CoreType → Type 0) (t : Tree) → EachUnknown P t ↔ EachIn P t
+each_in P t = let h = listed (λ u. P u.name u.annotation) t in (h.1, h.0)

@@ -2,13 +2,14 @@
 use Rattle.std.proofs.Common.{◌≡◌, Bool, true, false, cond, List, [], ◌∷◌, ◌++◌, Contains, Option, Some, None, Decides, append_assoc, refl, sym, ap, ◌∙◌, subst, ⊎_elim, option_map}
 use Rattle.std.specs.Prelude.{◌↔◌}
 use Rattle.std.specs.List.{list_any, filter_map}
+use Rattle.std.specs.Option.{option_or}
 use Rattle.std.proofs.lemmas.List.Elements.{Contains-append_left, Contains-append_right, Contains-append_cases}
 use Rattle.cedar_expr_model.specs.Name.{Name, name_eq}
 use Rattle.cedar_expr_model.specs.Whole.Tree.{CoreType}
-use Rattle.cedar_expr_model.specs.Whole.Substitution.{core_eq, first_of_two}
-use Rattle.cedar_expr_model.specs.Whole.Table.{Signature}
-use Rattle.cedar_expr_model.specs.Whole.Repeats.{first_again, repeated, AreDistinct, IsMetAgain, TableFault, repeated_function, repeated_constructor, constructed, table_fault}
-use Rattle.cedar_expr_model.specs.Whole.ListLaws.{function_names}
+use Rattle.cedar_expr_model.specs.Whole.Order.{core_eq}
+use Rattle.cedar_expr_model.specs.Whole.Table.{Signature, constructed}
+use Rattle.cedar_expr_model.specs.Whole.Repeats.{first_again, repeated, TableFault, repeated_function, repeated_constructor, table_fault}
+use Rattle.cedar_expr_model.specs.Whole.ListLaws.{AreDistinct, IsMetAgain, function_names}
 use Rattle.cedar_expr_model.proofs.Lists.{contains_head, contains_tail, contains_cases, contains_none, found-Decides}
 use Rattle.cedar_expr_model.proofs.Equality.{name_eq-Decides}
 use Rattle.cedar_expr_model.proofs.Whole.CoreTypes.{core_eq-Decides}
@@ -100,7 +101,7 @@ module _ {A : Type 0} where
 
 -- the fault of a table, by its two parts
 abbrev fault_of : Option Name → Option CoreType → Option TableFault
-fault_of a b = first_of_two (option_map repeated_function a) (option_map repeated_constructor b)
+fault_of a b = option_or (option_map repeated_function a) (option_map repeated_constructor b)
 
 fault_none : (a : Option Name) (b : Option CoreType) → (fault_of a b ≡ None) ↔ ((a ≡ None) × (b ≡ None))
 fault_none None None = (λ _. (refl, refl), λ _. refl)

@@ -1,14 +1,28 @@
 -- Rising lists of values: what stands in them, and that two with the same members are one.
-use Rattle.std.proofs.Common.{◌≡◌, true, false, refl, sym, ap, ◌∙◌, ◌⊎◌, inl, inr, ⊎_elim}
+use Rattle.std.proofs.Common.{◌≡◌, Bool, true, false, refl, sym, ap, ◌∙◌, ◌⊎◌, inl, inr, ⊎_elim}
 use Rattle.std.specs.Bool.{Decides}
 use Rattle.std.specs.Ordering.{match_ordering, is_lt}
 use Rattle.std.specs.declared.cmp.Ordering.{Ordering}
 use Rattle.std.specs.declared.cmp.Ordering.TheVariants.{Less, Equal, Greater}
 use Rattle.cedar_expr_model.specs.Whole.Value.{V, Vs, no_values, value}
 use Rattle.cedar_expr_model.specs.Whole.Order.{value_cmp}
-use Rattle.cedar_expr_model.specs.Whole.Canonical.{is_below, are_rising, is_member, Among}
-use Rattle.cedar_expr_model.proofs.Lists.{both_hold}
+use Rattle.cedar_expr_model.specs.Whole.Canonical.{are_rising, is_member}
+use Rattle.cedar_expr_model.specs.Whole.SamenessLaws.{Among}
+use Rattle.cedar_expr_model.proofs.Lists.{both_hold, hold_both}
 use Rattle.cedar_expr_model.proofs.Whole.ValueOrder.{value_linear, value_exact, value_itself}
+
+-- A rising list by its first value and the others: the value stands before the first of them, and they rise.
+abbrev pub is_below : V → Vs → Bool
+is_below v no_values = true
+is_below v (value w ws) = is_lt (value_cmp v w)
+
+pub rising_parts : (v : V) (vs : Vs) → are_rising (value v vs) ≡ true → (is_below v vs ≡ true) × (are_rising vs ≡ true)
+rising_parts v no_values r = (refl, refl)
+rising_parts v (value w ws) r = both_hold (is_lt (value_cmp v w)) (are_rising (value w ws)) r
+
+pub rising_more : (v : V) (vs : Vs) → is_below v vs ≡ true → are_rising vs ≡ true → are_rising (value v vs) ≡ true
+rising_more v no_values b r = refl
+rising_more v (value w ws) b r = hold_both (is_lt (value_cmp v w)) (are_rising (value w ws)) b r
 
 -- what an answer of the order says, as the tests say it
 pub less_is : (r : Ordering) → is_lt r ≡ true → r ≡ Less
@@ -33,7 +47,7 @@ pub below_each : (v : V) (ws : Vs) → is_below v ws ≡ true → are_rising ws 
 below_each v no_values b r u a = absurd a
 below_each v (value w ws) b r u (inl e) = ap (value_cmp v) e ∙ less_is (value_cmp v w) b
 below_each v (value w ws) b r u (inr a) =
-    let p = both_hold (is_below w ws) (are_rising ws) r in
+    let p = rising_parts w ws r in
     below_next v w u (less_is (value_cmp v w) b) (below_each w ws p.0 p.1 u a)
 
 -- the test of a member decides what stands in a rising list
@@ -45,7 +59,7 @@ member_case v w ws Greater e b r d = (λ h. inr (d.0 h), λ h. ⊎_elim (λ q. a
 pub member_Decides : (v : V) (ws : Vs) → are_rising ws ≡ true → Decides (is_member v ws) (Among v ws)
 member_Decides v no_values r = (λ h. cc, λ h. absurd h)
 member_Decides v (value w ws) r =
-    let p = both_hold (is_below w ws) (are_rising ws) r in
+    let p = rising_parts w ws r in
     member_case v w ws (value_cmp v w) refl p.0 p.1 (member_Decides v ws p.1)
 
 -- rising lists with the same members are one
@@ -63,8 +77,8 @@ same_rising no_values no_values r s f g = refl
 same_rising no_values (value w ws) r s f g = absurd (g w (inl refl))
 same_rising (value v vs) no_values r s f g = absurd (f v (inl refl))
 same_rising (value v vs) (value w ws) r s f g =
-    let p = both_hold (is_below v vs) (are_rising vs) r in
-    let q = both_hold (is_below w ws) (are_rising ws) s in
+    let p = rising_parts v vs r in
+    let q = rising_parts w ws s in
     let e = head_is v w vs ws p.0 p.1 q.0 q.1 (f v (inl refl)) (g w (inl refl)) in
     let rest = same_rising vs ws p.1 q.1 (λ u a. later v w u vs ws e p.0 p.1 a (f u (inr a))) (λ u a. later w v u ws vs (sym e) q.0 q.1 a (g u (inr a))) in
     λ i. value (e i) (rest i)

@@ -7,11 +7,12 @@ use Rattle.std.specs.declared.cmp.Ordering.TheVariants.{Less}
 use Rattle.cedar_expr_model.specs.Name.{Text}
 use Rattle.cedar_expr_model.specs.Whole.Value.{V, prim, set_of, record_of, extension, Vs, no_values, value, Fields, no_fields, field, field_of}
 use Rattle.cedar_expr_model.specs.Whole.Order.{text_cmp}
-use Rattle.cedar_expr_model.specs.Whole.Canonical.{is_before, is_canonical, are_canonical, have_canonical, Among, FieldAmong, Same, HasSame, EachAmong, HasSameField, EachFieldAmong}
+use Rattle.cedar_expr_model.specs.Whole.Canonical.{is_before, are_rising, is_canonical, are_canonical, have_canonical}
+use Rattle.cedar_expr_model.specs.Whole.SamenessLaws.{Among, FieldAmong, Same, HasSame, EachAmong, HasSameField, EachFieldAmong}
 use Rattle.cedar_expr_model.proofs.Lists.{both_hold}
 use Rattle.cedar_expr_model.proofs.Whole.Linear.{text_total}
 use Rattle.cedar_expr_model.proofs.Whole.Rising.{less_is, same_rising}
-use Rattle.cedar_expr_model.proofs.Whole.Sets.{canonical_parts, canonical_rises, canonical_member}
+use Rattle.cedar_expr_model.proofs.Whole.Sets.{canonical_member}
 
 -- records
 never_before_itself : (a : Text) → text_cmp a a ≡ Less → ⊥
@@ -96,9 +97,11 @@ mutual
   pub same_is : (v w : V) → is_canonical v ≡ true → is_canonical w ≡ true → Same v w → v ≡ w
   same_is (prim p) (prim q) h k s = ap prim s
   same_is (set_of vs) (set_of ws) h k s =
-      ap set_of (same_rising vs ws (canonical_rises vs h) (canonical_rises ws k)
-      (members_of vs ws h k s.0)
-      (λ u a. has_is vs u h (canonical_member ws k u a) (s.1 u a)))
+      let p = both_hold (are_rising vs) (are_canonical vs) h in
+      let q = both_hold (are_rising ws) (are_canonical ws) k in
+      ap set_of (same_rising vs ws p.0 q.0
+      (members_of vs ws p.1 q.1 s.0)
+      (λ u a. has_is vs u p.1 (canonical_member ws q.1 u a) (s.1 u a)))
   same_is (record_of fs) (record_of gs) h k s =
       ap record_of (same_fields fs gs h k
       (fields_of fs gs h k s.0)
@@ -110,14 +113,14 @@ mutual
   members_of no_values ws h k s u a = absurd a
   members_of (value v vs) ws h k s u (inl e) =
       let r = s.0 in
-      let q = same_is v r.0 (canonical_parts v vs h).0 (canonical_member ws k r.0 r.1) r.2 in
+      let q = same_is v r.0 (both_hold (is_canonical v) (are_canonical vs) h).0 (canonical_member ws k r.0 r.1) r.2 in
       subst (λ x. Among x ws) (sym (e ∙ q)) r.1
-  members_of (value v vs) ws h k s u (inr a) = members_of vs ws (canonical_parts v vs h).2 k s.1 u a
+  members_of (value v vs) ws h k s u (inr a) = members_of vs ws (both_hold (is_canonical v) (are_canonical vs) h).1 k s.1 u a
 
   has_is : (vs : Vs) (w : V) → are_canonical vs ≡ true → is_canonical w ≡ true → HasSame vs w → Among w vs
   has_is no_values w h k s = s
-  has_is (value v vs) w h k (inl s) = inl (sym (same_is v w (canonical_parts v vs h).0 k s))
-  has_is (value v vs) w h k (inr s) = inr (has_is vs w (canonical_parts v vs h).2 k s)
+  has_is (value v vs) w h k (inl s) = inl (sym (same_is v w (both_hold (is_canonical v) (are_canonical vs) h).0 k s))
+  has_is (value v vs) w h k (inr s) = inr (has_is vs w (both_hold (is_canonical v) (are_canonical vs) h).1 k s)
 
   fields_of : (fs gs : Fields) → have_canonical fs ≡ true → have_canonical gs ≡ true → EachFieldAmong fs gs → (a : Text) (u : V) → FieldAmong a u fs → FieldAmong a u gs
   fields_of no_fields gs h k s a u m = absurd m

@@ -1,5 +1,5 @@
 -- The set that is made of values: it rises, and it has those members and no other.
-use Rattle.std.proofs.Common.{◌≡◌, true, ◌&&◌, List, [], ◌∷◌, Contains, refl, sym, ap, ◌∙◌, subst, ◌⊎◌, inl, inr, ⊎_elim, Decides}
+use Rattle.std.proofs.Common.{◌≡◌, true, List, [], ◌∷◌, Contains, refl, sym, ap, ◌∙◌, subst, ◌⊎◌, inl, inr, ⊎_elim, Decides}
 use Rattle.std.specs.Prelude.{◌↔◌}
 use Rattle.std.specs.List.{list_all}
 use Rattle.std.specs.Ordering.{match_ordering}
@@ -7,10 +7,11 @@ use Rattle.std.specs.declared.cmp.Ordering.{Ordering}
 use Rattle.std.specs.declared.cmp.Ordering.TheVariants.{Less, Equal, Greater}
 use Rattle.cedar_expr_model.specs.Whole.Value.{V, Vs, no_values, value, set_of, values_list}
 use Rattle.cedar_expr_model.specs.Whole.Order.{value_cmp}
-use Rattle.cedar_expr_model.specs.Whole.Canonical.{is_below, are_rising, is_canonical, are_canonical, inserted, members_made, set_made, is_member, Among}
+use Rattle.cedar_expr_model.specs.Whole.Canonical.{are_rising, is_canonical, are_canonical, inserted, members_made, set_made, is_member}
+use Rattle.cedar_expr_model.specs.Whole.SamenessLaws.{Among}
 use Rattle.cedar_expr_model.proofs.Lists.{both_hold, hold_both, contains_head, contains_tail, contains_cases, contains_none}
 use Rattle.cedar_expr_model.proofs.Whole.ValueOrder.{value_exact}
-use Rattle.cedar_expr_model.proofs.Whole.Rising.{is_less, less_is, turned, member_Decides, same_rising}
+use Rattle.cedar_expr_model.proofs.Whole.Rising.{is_below, rising_parts, rising_more, is_less, less_is, turned, member_Decides, same_rising}
 
 -- with one more it still rises
 below_inserted : (u v : V) (ws : Vs) → value_cmp u v ≡ Less → is_below u ws ≡ true → is_below u (inserted v ws) ≡ true
@@ -23,14 +24,14 @@ below_inserted u v (value w ws) e b = go (value_cmp v w)
     go Greater = b
 
 rises_case : (v w : V) (ws : Vs) (r : Ordering) → value_cmp v w ≡ r → is_below w ws ≡ true → are_rising ws ≡ true → are_rising (inserted v ws) ≡ true → are_rising (match_ordering r (value v (value w ws)) (value w ws) (value w (inserted v ws))) ≡ true
-rises_case v w ws Less e b r h = hold_both _ _ (is_less (value_cmp v w) e) (hold_both _ _ b r)
-rises_case v w ws Equal e b r h = hold_both _ _ b r
-rises_case v w ws Greater e b r h = hold_both _ _ (below_inserted w v ws (turned v w e) b) h
+rises_case v w ws Less e b r h = rising_more v (value w ws) (is_less (value_cmp v w) e) (rising_more w ws b r)
+rises_case v w ws Equal e b r h = rising_more w ws b r
+rises_case v w ws Greater e b r h = rising_more w (inserted v ws) (below_inserted w v ws (turned v w e) b) h
 
 pub inserted_rises : (v : V) (ws : Vs) → are_rising ws ≡ true → are_rising (inserted v ws) ≡ true
 inserted_rises v no_values r = refl
 inserted_rises v (value w ws) r =
-    let p = both_hold (is_below w ws) (are_rising ws) r in
+    let p = rising_parts w ws r in
     rises_case v w ws (value_cmp v w) refl p.0 p.1 (inserted_rises v ws p.1)
 
 pub made_rises : (vs : List V) → are_rising (members_made vs) ≡ true
@@ -98,30 +99,18 @@ inserted_first v (value w ws) b = let e = less_is (value_cmp v w) b in rw e refl
 pub made_of_rising : (vs : Vs) → are_rising vs ≡ true → members_made (values_list vs) ≡ vs
 made_of_rising no_values r = refl
 made_of_rising (value v vs) r =
-    let p = both_hold (is_below v vs) (are_rising vs) r in
+    let p = rising_parts v vs r in
     ap (inserted v) (made_of_rising vs p.1) ∙ inserted_first v vs p.0
 
--- canonical lists rise, and their members are canonical
-pub canonical_parts : (v : V) (vs : Vs) → are_canonical (value v vs) ≡ true → (is_canonical v ≡ true) × (is_below v vs ≡ true) × (are_canonical vs ≡ true)
-canonical_parts v vs h =
-    let p = both_hold (is_canonical v) (is_below v vs && are_canonical vs) h in
-    let q = both_hold (is_below v vs) (are_canonical vs) p.1 in
-    (p.0, q.0, q.1)
-
-pub canonical_rises : (vs : Vs) → are_canonical vs ≡ true → are_rising vs ≡ true
-canonical_rises no_values h = refl
-canonical_rises (value v vs) h = let p = canonical_parts v vs h in hold_both _ _ p.1 (canonical_rises vs p.2)
-
+-- the members of a canonical set are canonical
 pub canonical_member : (vs : Vs) → are_canonical vs ≡ true → (u : V) → Among u vs → is_canonical u ≡ true
 canonical_member no_values h u a = absurd a
-canonical_member (value v vs) h u (inl e) = ap is_canonical e ∙ (canonical_parts v vs h).0
-canonical_member (value v vs) h u (inr a) = canonical_member vs (canonical_parts v vs h).2 u a
+canonical_member (value v vs) h u (inl e) = ap is_canonical e ∙ (both_hold (is_canonical v) (are_canonical vs) h).0
+canonical_member (value v vs) h u (inr a) = canonical_member vs (both_hold (is_canonical v) (are_canonical vs) h).1 u a
 
-pub rising_canonical : (vs : Vs) → are_rising vs ≡ true → ((u : V) → Among u vs → is_canonical u ≡ true) → are_canonical vs ≡ true
-rising_canonical no_values r f = refl
-rising_canonical (value v vs) r f =
-    let p = both_hold (is_below v vs) (are_rising vs) r in
-    hold_both _ _ (f v (inl refl)) (hold_both _ _ p.0 (rising_canonical vs p.1 (λ u a. f u (inr a))))
+members_canonical : (vs : Vs) → ((u : V) → Among u vs → is_canonical u ≡ true) → are_canonical vs ≡ true
+members_canonical no_values f = refl
+members_canonical (value v vs) f = hold_both _ _ (f v (inl refl)) (members_canonical vs (λ u a. f u (inr a)))
 
 list_member : (vs : List V) → list_all is_canonical vs ≡ true → (u : V) → Contains vs u → is_canonical u ≡ true
 list_member [] h u a = absurd (contains_none u a)
@@ -130,4 +119,4 @@ list_member (v ∷ vs) h u a =
     contains_cases (is_canonical u ≡ true) v vs u a (λ e. ap is_canonical (sym e) ∙ p.0) (list_member vs p.1 u)
 
 pub made_canonical : (vs : List V) → list_all is_canonical vs ≡ true → is_canonical (set_made vs) ≡ true
-made_canonical vs h = rising_canonical (members_made vs) (made_rises vs) (λ u a. list_member vs h u (made_from u vs a))
+made_canonical vs h = hold_both _ _ (made_rises vs) (members_canonical (members_made vs) (λ u a. list_member vs h u (made_from u vs a)))

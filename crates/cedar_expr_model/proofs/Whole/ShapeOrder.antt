@@ -6,11 +6,11 @@ use Rattle.std.proofs.lemmas.Cmp.{tied_itself}
 use Rattle.std.specs.declared.cmp.Ordering.TheVariants.{Less, Equal}
 use Rattle.cedar_expr_model.specs.Whole.Order.{text_cmp, name_order}
 use Rattle.cedar_expr_model.specs.Whole.Tree.{Tree, lit, var, slot, unknown, choice, both, either, unary, binary, call, get_attr, has_attr, has_path, like, is_type, set_literal, record_literal, Trees, no_trees, tree, TreeFields, no_tree_fields, tree_field}
-use Rattle.cedar_expr_model.specs.Whole.Shape.{unary_cmp, binary_cmp, annotation_cmp, pattern_cmp, path_cmp, tree_rank, tree_cmp, trees_cmp, tree_fields_cmp, tree_eq}
+use Rattle.cedar_expr_model.specs.Whole.Shape.{tree_rank, tree_cmp, trees_cmp, tree_fields_cmp, tree_eq}
 use Rattle.cedar_expr_model.specs.Whole.Laws.{IsLinear}
 use Rattle.cedar_expr_model.proofs.Whole.Linear.{own_reverse, both_equal, then_reverse, chain, linear, text_total, text_exact, name_total, name_exact}
 use Rattle.cedar_expr_model.proofs.Whole.ValueOrder.{literal_linear, literal_exact}
-use Rattle.cedar_expr_model.proofs.Whole.ShapeParts.{nat_less_up, var_total, var_exact, slot_total, slot_exact, unary_total, unary_exact, binary_total, binary_exact, annotation_total, annotation_exact, pattern_total, pattern_exact, path_total, path_exact}
+use Rattle.cedar_expr_model.proofs.Whole.ShapeParts.{unary_cmp, binary_cmp, annotation_cmp, pattern_cmp, path_cmp, nat_less_up, var_total, var_exact, slot_total, slot_exact, unary_total, unary_exact, binary_total, binary_exact, annotation_total, annotation_exact, pattern_total, pattern_exact, path_total, path_exact}
 
 mutual
   tree_back : (t u : Tree) → tree_cmp t u ≡ ordering_reverse (tree_cmp u t)

@@ -1,14 +1,18 @@
 -- The orders of the parts of expressions tell them apart.
-use Rattle.std.proofs.Common.{◌≡◌, ◌<◌, ◌≤◌, arith, ℕ, zero, suc, Some, None, refl, sym, ap, ◌∙◌}
+use Rattle.std.proofs.Common.{◌≡◌, ◌<◌, ◌≤◌, arith, ℕ, zero, suc, List, Option, Some, None, refl, sym, ap, ◌∙◌}
 use Rattle.std.specs.Ordering.{nat_cmp, ordering_reverse}
 use Rattle.std.specs.Cmp.{IsTotalOrder, nat_cmp_is}
-use Rattle.std.specs.Cmp.Lexicographic.{options_total}
+use Rattle.std.specs.Option.{option_cmp}
+use Rattle.std.specs.Cmp.Lexicographic.{options_total, slice_cmp}
 use Rattle.std.specs.FinMap.{nat_cmp-IsAntisymmetric, slice_cmp-IsAntisymmetric}
 use Rattle.std.proofs.lemmas.Cmp.{nat_cmp_total, lists_total, on_total, ranked}
+use Rattle.std.specs.declared.cmp.Ordering.{Ordering}
 use Rattle.std.specs.declared.cmp.Ordering.TheVariants.{Less}
-use Rattle.cedar_expr_model.specs.Whole.Pattern.{Element, character, wildcard}
+use Rattle.cedar_expr_model.specs.Name.{Text}
+use Rattle.cedar_expr_model.specs.Whole.Pattern.{Pattern, Element, character, wildcard}
 use Rattle.cedar_expr_model.specs.Whole.Tree.{Var, principal, action, resource, context, SlotId, principal_slot, resource_slot, CoreType, bool_core, long_core, string_core, set_core, record_core, entity_core, extension_core, UnaryOp, negation, minus, is_empty, BinaryOp, equal, less, less_or_equal, plus, difference, times, is_in, contains, contains_all, contains_any, get_tag, has_tag}
-use Rattle.cedar_expr_model.specs.Whole.Shape.{var_rank, slot_rank, unary_rank, binary_rank, var_cmp, slot_cmp, unary_cmp, binary_cmp, core_rank, core_cmp, annotation_cmp, element_cmp, pattern_cmp, path_cmp}
+use Rattle.cedar_expr_model.specs.Whole.Order.{text_cmp, core_rank, core_cmp}
+use Rattle.cedar_expr_model.specs.Whole.Shape.{var_rank, slot_rank, unary_rank, binary_rank, element_cmp}
 use Rattle.cedar_expr_model.specs.Whole.Laws.{IsLinear}
 use Rattle.cedar_expr_model.proofs.Whole.Linear.{Exact, linear, text_total, text_exact, name_total, name_exact}
 
@@ -18,6 +22,19 @@ numbered rank back again x y e = sym (again x) ∙ (ap back (nat_cmp-IsAntisymme
 
 pub nat_less_up : (m n : ℕ) → nat_cmp m n ≡ Less → m ≤ n
 nat_less_up m n e = let h = ranked m n Less (sym e) in omega (arith, h)
+
+-- variables, slots and operators by their places
+abbrev pub var_cmp : Var → Var → Ordering
+var_cmp x y = nat_cmp (var_rank x) (var_rank y)
+
+abbrev pub slot_cmp : SlotId → SlotId → Ordering
+slot_cmp x y = nat_cmp (slot_rank x) (slot_rank y)
+
+abbrev pub unary_cmp : UnaryOp → UnaryOp → Ordering
+unary_cmp x y = nat_cmp (unary_rank x) (unary_rank y)
+
+abbrev pub binary_cmp : BinaryOp → BinaryOp → Ordering
+binary_cmp x y = nat_cmp (binary_rank x) (binary_rank y)
 
 abbrev var_at : ℕ → Var
 var_at zero = principal
@@ -154,6 +171,9 @@ core_steps a b c e f = core_below a c (omega (arith, core_up a b e, core_up b c 
 pub core_linear : IsLinear core_cmp
 core_linear = linear core_cmp core_back core_steps core_exact
 
+abbrev pub annotation_cmp : Option CoreType → Option CoreType → Ordering
+annotation_cmp a b = option_cmp core_cmp a b
+
 pub annotation_total : IsTotalOrder annotation_cmp
 annotation_total = options_total core_linear.total
 
@@ -188,6 +208,13 @@ element_steps wildcard wildcard z e f = cc
 
 element_linear : IsLinear element_cmp
 element_linear = linear element_cmp element_back element_steps element_exact
+
+-- patterns and paths
+abbrev pub pattern_cmp : Pattern → Pattern → Ordering
+pattern_cmp p q = slice_cmp element_cmp p q
+
+abbrev pub path_cmp : List Text → List Text → Ordering
+path_cmp a b = slice_cmp text_cmp a b
 
 pub pattern_total : IsTotalOrder pattern_cmp
 pattern_total = lists_total element_linear.total

@@ -1,13 +1,15 @@
 -- Sets side by side, lists that are split, and names in namespaces.
 use Rattle.std.proofs.Common.{◌≡◌, Bool, true, false, List, [], ◌∷◌, ◌++◌, map, Option, Some, None, Decides, refl, sym, ap, ◌∙◌, subst, inl, inr}
-use Rattle.std.specs.Prelude.{◌↔◌}
+use Rattle.std.specs.Prelude.{◌↔◌, option_map}
+use Rattle.std.specs.Option.{option_map_or}
 use Rattle.std.proofs.lemmas.Bool.Decides.{Decides-and, Decides-like, Decides-not}
 use Rattle.cedar_expr_model.specs.Name.{Text, Name}
 use Rattle.cedar_expr_model.specs.Whole.Value.{V, Vs, no_values, value}
-use Rattle.cedar_expr_model.specs.Whole.Canonical.{are_rising, is_subset, is_disjoint, Among}
+use Rattle.cedar_expr_model.specs.Whole.Canonical.{are_rising, is_subset, is_disjoint}
+use Rattle.cedar_expr_model.specs.Whole.SamenessLaws.{Among}
 use Rattle.cedar_expr_model.specs.Whole.Made.{Made}
 use Rattle.cedar_expr_model.specs.Whole.Names.{is_unqualified, namespace_of, within, qualified}
-use Rattle.cedar_expr_model.specs.Whole.ValueParts.{PartialValue, known, residual, joined_with, all_known, values_alone, split, split_into}
+use Rattle.cedar_expr_model.specs.Whole.ValueParts.{Part, known, left, part_tree, all_known, values_alone, with_residuals, split}
 use Rattle.cedar_expr_model.proofs.Reading.{name_of_all}
 use Rattle.cedar_expr_model.proofs.Whole.Rising.{member_Decides}
 
@@ -27,30 +29,30 @@ disjoint_Decides no_values ws r = (λ _ u a. absurd a, λ _. refl)
 disjoint_Decides (value v vs) ws r = Decides-like _ (each_head v vs (λ u. ¬ (Among u ws))) (head_each v vs (λ u. ¬ (Among u ws))) (Decides-and _ _ (Decides-not _ (member_Decides v ws r)) (disjoint_Decides vs ws r))
 
 -- lists that are split
-known_case : (n : Made) (ps : List PartialValue) (ms : List Made) (o : Option (List Made)) → ((ns : List Made) → o ≡ Some ns → ps ≡ map known ns) → joined_with (λ x xs. x ∷ xs) (Some n) o ≡ Some ms → known n ∷ ps ≡ map known ms
+known_case : (n : Made) (ps : List (Part Made)) (ms : List Made) (o : Option (List Made)) → ((ns : List Made) → o ≡ Some ns → ps ≡ map known ns) → option_map (λ ns. n ∷ ns) o ≡ Some ms → known n ∷ ps ≡ map known ms
 known_case n ps ms None f h = cc
 known_case n ps ms (Some ns) f h =
     let q : n ∷ ns ≡ ms = cc in
     ap (λ l. known n ∷ l) (f ns refl) ∙ ap (map known) q
 
-known_from : (ps : List PartialValue) (ms : List Made) → all_known ps ≡ Some ms → ps ≡ map known ms
+known_from : (ps : List (Part Made)) (ms : List Made) → all_known ps ≡ Some ms → ps ≡ map known ms
 known_from [] [] e = refl
 known_from [] (m ∷ ms) e = cc
 known_from (known n ∷ ps) ms e = known_case n ps ms (all_known ps) (λ ns f. known_from ps ns f) e
-known_from (residual t ∷ ps) ms e = cc
+known_from (left t ∷ ps) ms e = cc
 
 known_to : (ms : List Made) → all_known (map known ms) ≡ Some ms
 known_to [] = refl
 known_to (m ∷ ms) = let e = known_to ms in rw e refl
 
-into_values : (ps : List PartialValue) (o : Option (List Made)) (ms : List Made) → split_into ps o ≡ values_alone ms → o ≡ Some ms
+into_values : (ps : List (Part Made)) (o : Option (List Made)) (ms : List Made) → option_map_or values_alone o (with_residuals (map part_tree ps)) ≡ values_alone ms → o ≡ Some ms
 into_values ps None ms e = cc
 into_values ps (Some ns) ms e = cc
 
-pub split_gives : (ps : List PartialValue) (ms : List Made) → (split ps ≡ values_alone ms) ↔ (ps ≡ map known ms)
+pub split_gives : (ps : List (Part Made)) (ms : List Made) → (split ps ≡ values_alone ms) ↔ (ps ≡ map known ms)
 split_gives ps ms = (
   λ e. known_from ps ms (into_values ps (all_known ps) ms e),
-  λ e. ap split e ∙ ap (split_into (map known ms)) (known_to ms),
+  λ e. ap split e ∙ ap (λ o. option_map_or values_alone o (with_residuals (map part_tree (map known ms)))) (known_to ms),
 )
 
 -- names in namespaces

@@ -1,16 +1,25 @@
 -- Substitution: what stays where nothing is bound, what is left where all is, and that every lawful builder agrees.
-use Rattle.std.proofs.Common.{◌≡◌, Bool, true, false, ◌||◌, List, [], ◌∷◌, Option, Some, None, refl, ap, ◌∙◌}
+use Rattle.std.proofs.Common.{◌≡◌, Bool, true, false, List, [], ◌∷◌, ◌++◌, map, Option, Some, None, refl, ap, ◌∙◌}
+use Rattle.std.specs.Prelude.{is_some}
+use Rattle.std.specs.Option.{option_map_or}
+use Rattle.std.specs.List.{list_any}
 use Rattle.cedar_expr_model.specs.Name.{Text}
 use Rattle.cedar_expr_model.specs.Whole.Value.{Literal}
 use Rattle.cedar_expr_model.specs.Whole.Tree.{CoreType, Tree, lit, var, slot, unknown, choice, both, either, unary, binary, call, get_attr, has_attr, has_path, like, is_type, set_literal, record_literal, Trees, no_trees, tree, TreeFields, no_tree_fields, tree_field}
-use Rattle.cedar_expr_model.specs.Whole.Builder.{built, built_list, built_fields, tree_builder, written_truth, folded, conjunction, disjunction, path_test, trees, tree_fields}
+use Rattle.cedar_expr_model.specs.Whole.Builder.{Builder, built, built_list, built_fields, tree_builder, written_truth, folded, conjunction, disjunction, path_test, trees, tree_fields}
 use Rattle.cedar_expr_model.specs.Whole.BuilderForm.{is_built}
-use Rattle.cedar_expr_model.specs.Whole.Made.{Made, made_prim, made_set, made_record, made_extension, Mades, no_mades, made, MadeFields, no_made_fields, made_field, written, writtens, written_fields, literals}
-use Rattle.cedar_expr_model.specs.Whole.Substitution.{Bindings, bound_or, substituted}
-use Rattle.cedar_expr_model.specs.Whole.Unknowns.{has_unknown, have_unknown, fields_have_unknown, EachUnknown, EachUnknownAmong, EachUnknownInFields, AllBound, NoneBound}
+use Rattle.cedar_expr_model.specs.Whole.Made.{Made, made_prim, made_set, made_record, made_extension, Mades, no_mades, made, MadeFields, no_made_fields, made_field, written, writtens, written_fields}
+use Rattle.cedar_expr_model.specs.Whole.Substitution.{Bindings, substituted}
+use Rattle.cedar_expr_model.specs.Whole.Unknowns.{has_unknown}
+use Rattle.cedar_expr_model.specs.Whole.Parts.{subexpressions, subexpressions_among, subexpressions_in_fields, unknown_here}
+use Rattle.cedar_expr_model.specs.Whole.TreeLaws.{AllBound, NoneBound}
+use Rattle.cedar_expr_model.proofs.Whole.Gathering.{EachIn, EachAmong, EachInFields, each_in, none_join}
 use Rattle.cedar_expr_model.proofs.Whole.Building.{builder_with, makes_form, built_stays, written_built}
 
--- what substitution puts in the place of an unknown
+-- what a builder makes of an unknown under bindings, and what substitution puts in its place
+abbrev pub bound_or : {B : Type 0} → Builder B → Text → Option CoreType → Option Made → B
+bound_or b n a o = option_map_or (λ m. built b (written m)) o (b.of_unknown n a)
+
 abbrev pub placed : Bindings → Text → Option CoreType → Tree
 placed env n a = bound_or tree_builder n a (env n)
 
@@ -24,7 +33,7 @@ substituted_built env t = makes_form (placed env) (λ n a. placed_built n a (env
 -- builders that make the same of each unknown in the expression make the same of it
 module _ (f g : Text → Option CoreType → Tree) where
   mutual
-    pub makes_same : (t : Tree) → EachUnknown (λ n a. f n a ≡ g n a) t → built (builder_with f) t ≡ built (builder_with g) t
+    pub makes_same : (t : Tree) → EachIn (λ n a. f n a ≡ g n a) t → built (builder_with f) t ≡ built (builder_with g) t
     makes_same (lit p) h = refl
     makes_same (var x) h = refl
     makes_same (slot s) h = refl
@@ -43,55 +52,24 @@ module _ (f g : Text → Option CoreType → Tree) where
     makes_same (set_literal ts) h = ap (λ x. set_literal (trees x)) (make_same ts h)
     makes_same (record_literal fs) h = ap (λ x. record_literal (tree_fields x)) (fields_make_same fs h)
 
-    make_same : (ts : Trees) → EachUnknownAmong (λ n a. f n a ≡ g n a) ts → built_list (builder_with f) ts ≡ built_list (builder_with g) ts
+    make_same : (ts : Trees) → EachAmong (λ n a. f n a ≡ g n a) ts → built_list (builder_with f) ts ≡ built_list (builder_with g) ts
     make_same no_trees h = refl
     make_same (tree t ts) h = λ i. makes_same t h.0 i ∷ make_same ts h.1 i
 
-    fields_make_same : (fs : TreeFields) → EachUnknownInFields (λ n a. f n a ≡ g n a) fs → built_fields (builder_with f) fs ≡ built_fields (builder_with g) fs
+    fields_make_same : (fs : TreeFields) → EachInFields (λ n a. f n a ≡ g n a) fs → built_fields (builder_with f) fs ≡ built_fields (builder_with g) fs
     fields_make_same no_tree_fields h = refl
     fields_make_same (tree_field a t fs) h = λ i. (a, makes_same t h.0 i) ∷ fields_make_same fs h.1 i
 
--- what follows at each unknown follows of them all
-module _ (P Q : Text → Option CoreType → Type 0) (f : (n : Text) (a : Option CoreType) → P n a → Q n a) where
-  mutual
-    pub each_follows : (t : Tree) → EachUnknown P t → EachUnknown Q t
-    each_follows (lit p) h = tt
-    each_follows (var x) h = tt
-    each_follows (slot s) h = tt
-    each_follows (unknown n a) h = f n a h
-    each_follows (choice t a b) h = (each_follows t h.0, each_follows a h.1, each_follows b h.2)
-    each_follows (both a b) h = (each_follows a h.0, each_follows b h.1)
-    each_follows (either a b) h = (each_follows a h.0, each_follows b h.1)
-    each_follows (unary o a) h = each_follows a h
-    each_follows (binary o a b) h = (each_follows a h.0, each_follows b h.1)
-    each_follows (call k ts) h = among_follows ts h
-    each_follows (get_attr t a) h = each_follows t h
-    each_follows (has_attr t a) h = each_follows t h
-    each_follows (has_path t a bs) h = each_follows t h
-    each_follows (like t p) h = each_follows t h
-    each_follows (is_type t n) h = each_follows t h
-    each_follows (set_literal ts) h = among_follows ts h
-    each_follows (record_literal fs) h = fields_follow fs h
-
-    among_follows : (ts : Trees) → EachUnknownAmong P ts → EachUnknownAmong Q ts
-    among_follows no_trees h = tt
-    among_follows (tree t ts) h = (each_follows t h.0, among_follows ts h.1)
-
-    fields_follow : (fs : TreeFields) → EachUnknownInFields P fs → EachUnknownInFields Q fs
-    fields_follow no_tree_fields h = tt
-    fields_follow (tree_field a t fs) h = (each_follows t h.0, fields_follow fs h.1)
-
 pub unbound_stays : (env : Bindings) (t : Tree) → NoneBound env t → substituted env t ≡ built tree_builder t
-unbound_stays env t h = makes_same (placed env) unknown t (each_follows (λ n a. env n ≡ None) (λ n a. placed env n a ≡ unknown n a) (λ n a e. ap (bound_or tree_builder n a) e) t h)
+unbound_stays env t h = makes_same (placed env) unknown t ((each_in (λ n a. placed env n a ≡ unknown n a) t).0 (λ u c. ap (bound_or tree_builder u.name u.annotation) (h u c)))
 
 -- written values have no unknowns
-literals_known : (ps : List Literal) → have_unknown (literals ps) ≡ false
+abbrev is_unknown : Tree → Bool
+is_unknown t = is_some (unknown_here t)
+
+literals_known : (ps : List Literal) → list_any is_unknown (subexpressions_among (trees (map lit ps))) ≡ false
 literals_known [] = refl
 literals_known (p ∷ ps) = literals_known ps
-
-neither : (a b : Bool) → a ≡ false → b ≡ false → (a || b) ≡ false
-neither true b e f = cc
-neither false b e f = f
 
 mutual
   pub written_known : (m : Made) → has_unknown (written m) ≡ false
@@ -100,13 +78,13 @@ mutual
   written_known (made_record fs) = written_fields_known fs
   written_known (made_extension n k f ps) = literals_known ps
 
-  writtens_known : (ms : Mades) → have_unknown (writtens ms) ≡ false
+  writtens_known : (ms : Mades) → list_any is_unknown (subexpressions_among (writtens ms)) ≡ false
   writtens_known no_mades = refl
-  writtens_known (made m ms) = neither _ _ (written_known m) (writtens_known ms)
+  writtens_known (made m ms) = none_join is_unknown (subexpressions (written m)) (subexpressions_among (writtens ms)) (written_known m) (writtens_known ms)
 
-  written_fields_known : (fs : MadeFields) → fields_have_unknown (written_fields fs) ≡ false
+  written_fields_known : (fs : MadeFields) → list_any is_unknown (subexpressions_in_fields (written_fields fs)) ≡ false
   written_fields_known no_made_fields = refl
-  written_fields_known (made_field a m fs) = neither _ _ (written_known m) (written_fields_known fs)
+  written_fields_known (made_field a m fs) = none_join is_unknown (subexpressions (written m)) (subexpressions_in_fields (written_fields fs)) (written_known m) (written_fields_known fs)
 
 -- where each unknown is made into something without, none is left
 folded_known : (f : Bool → Bool → Bool) (a b : Option Bool) (t : Tree) → has_unknown t ≡ false → has_unknown (folded f a b t) ≡ false
@@ -122,17 +100,20 @@ module _ (f : Text → Option CoreType → Tree) where
   abbrev made_of : Tree → Tree
   made_of t = built (builder_with f) t
 
+  abbrev below : Tree → List Tree
+  below t = subexpressions (made_of t)
+
   mutual
-    pub none_left : (t : Tree) → EachUnknown (λ n a. has_unknown (f n a) ≡ false) t → has_unknown (made_of t) ≡ false
+    pub none_left : (t : Tree) → EachIn (λ n a. has_unknown (f n a) ≡ false) t → has_unknown (made_of t) ≡ false
     none_left (lit p) h = refl
     none_left (var x) h = refl
     none_left (slot s) h = refl
     none_left (unknown n a) h = h
-    none_left (choice t a b) h = neither _ _ (none_left t h.0) (neither _ _ (none_left a h.1) (none_left b h.2))
-    none_left (both a b) h = folded_known _ (written_truth (made_of a)) (written_truth (made_of b)) (both (made_of a) (made_of b)) (neither _ _ (none_left a h.0) (none_left b h.1))
-    none_left (either a b) h = folded_known _ (written_truth (made_of a)) (written_truth (made_of b)) (either (made_of a) (made_of b)) (neither _ _ (none_left a h.0) (none_left b h.1))
+    none_left (choice t a b) h = none_join is_unknown (below t) (below a ++ below b) (none_left t h.0) (none_join is_unknown (below a) (below b) (none_left a h.1) (none_left b h.2))
+    none_left (both a b) h = folded_known _ (written_truth (made_of a)) (written_truth (made_of b)) (both (made_of a) (made_of b)) (none_join is_unknown (below a) (below b) (none_left a h.0) (none_left b h.1))
+    none_left (either a b) h = folded_known _ (written_truth (made_of a)) (written_truth (made_of b)) (either (made_of a) (made_of b)) (none_join is_unknown (below a) (below b) (none_left a h.0) (none_left b h.1))
     none_left (unary o a) h = none_left a h
-    none_left (binary o a b) h = neither _ _ (none_left a h.0) (none_left b h.1)
+    none_left (binary o a b) h = none_join is_unknown (below a) (below b) (none_left a h.0) (none_left b h.1)
     none_left (call k ts) h = none_left_among ts h
     none_left (get_attr t a) h = none_left t h
     none_left (has_attr t a) h = none_left t h
@@ -142,13 +123,13 @@ module _ (f : Text → Option CoreType → Tree) where
     none_left (set_literal ts) h = none_left_among ts h
     none_left (record_literal fs) h = none_left_in_fields fs h
 
-    none_left_among : (ts : Trees) → EachUnknownAmong (λ n a. has_unknown (f n a) ≡ false) ts → have_unknown (trees (built_list (builder_with f) ts)) ≡ false
+    none_left_among : (ts : Trees) → EachAmong (λ n a. has_unknown (f n a) ≡ false) ts → list_any is_unknown (subexpressions_among (trees (built_list (builder_with f) ts))) ≡ false
     none_left_among no_trees h = refl
-    none_left_among (tree t ts) h = neither _ _ (none_left t h.0) (none_left_among ts h.1)
+    none_left_among (tree t ts) h = none_join is_unknown (below t) (subexpressions_among (trees (built_list (builder_with f) ts))) (none_left t h.0) (none_left_among ts h.1)
 
-    none_left_in_fields : (fs : TreeFields) → EachUnknownInFields (λ n a. has_unknown (f n a) ≡ false) fs → fields_have_unknown (tree_fields (built_fields (builder_with f) fs)) ≡ false
+    none_left_in_fields : (fs : TreeFields) → EachInFields (λ n a. has_unknown (f n a) ≡ false) fs → list_any is_unknown (subexpressions_in_fields (tree_fields (built_fields (builder_with f) fs))) ≡ false
     none_left_in_fields no_tree_fields h = refl
-    none_left_in_fields (tree_field a t fs) h = neither _ _ (none_left t h.0) (none_left_in_fields fs h.1)
+    none_left_in_fields (tree_field a t fs) h = none_join is_unknown (below t) (subexpressions_in_fields (tree_fields (built_fields (builder_with f) fs))) (none_left t h.0) (none_left_in_fields fs h.1)
 
 placed_known : (n : Text) (a : Option CoreType) (m : Made) → has_unknown (bound_or tree_builder n a (Some m)) ≡ false
 placed_known n a m = ap has_unknown (built_stays (written m) (written_built m)) ∙ written_known m
@@ -156,4 +137,4 @@ placed_known n a m = ap has_unknown (built_stays (written m) (written_built m)) 
 pub bound_leaves_none : (env : Bindings) (t : Tree) → AllBound env t → has_unknown (substituted env t) ≡ false
 bound_leaves_none env t h =
     none_left (placed env) t
-    (each_follows (λ n a. (m : Made) × (env n ≡ Some m)) (λ n a. has_unknown (placed env n a) ≡ false) (λ n a e. ap (λ m. has_unknown (bound_or tree_builder n a m)) e.1 ∙ placed_known n a e.0) t h)
+    ((each_in (λ n a. has_unknown (placed env n a) ≡ false) t).0 (λ u c. let e = h u c in ap (λ m. has_unknown (bound_or tree_builder u.name u.annotation m)) e.1 ∙ placed_known u.name u.annotation e.0))

@@ -64,8 +64,7 @@ written_truth t = None
 -- of two truth values their literal, else the tree as it is
 abbrev pub folded : (Bool → Bool → Bool) → Option Bool → Option Bool → Tree → Tree
 folded f (Some a) (Some b) t = lit (truth (f a b))
-folded f (Some a) None t = t
-folded f None b t = t
+folded f a b t = t
 
 -- The conjunction and the disjunction that a lawful builder makes.
 abbrev pub conjunction : Tree → Tree → Tree

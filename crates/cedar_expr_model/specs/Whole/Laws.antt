@@ -11,9 +11,10 @@ use Rattle.cedar_expr_model.specs.Uid.{Uid}
 use Rattle.cedar_expr_model.specs.Order.{name_cmp, uid_cmp}
 use Rattle.cedar_expr_model.specs.Whole.Value.{V, Vs, Fields, values_list, field_of}
 use Rattle.cedar_expr_model.specs.Whole.Tree.{CoreType}
-use Rattle.cedar_expr_model.specs.Whole.Substitution.{core_type_of, core_eq, fits_annotation}
-use Rattle.cedar_expr_model.specs.Whole.Order.{name_order, uid_order, value_eq}
-use Rattle.cedar_expr_model.specs.Whole.Canonical.{is_canonical, are_canonical, have_canonical, are_rising, members_made, set_made, is_member, Among, FieldAmong, Same}
+use Rattle.cedar_expr_model.specs.Whole.Substitution.{core_type_of, fits_annotation}
+use Rattle.cedar_expr_model.specs.Whole.Order.{name_order, uid_order, value_eq, core_eq}
+use Rattle.cedar_expr_model.specs.Whole.Canonical.{is_canonical, have_canonical, are_rising, members_made, set_made, is_member}
+use Rattle.cedar_expr_model.specs.Whole.SamenessLaws.{Among, FieldAmong, Same}
 use Rattle.cedar_expr_model.specs.Whole.Pattern.{Pattern, Matches, matches}
 
 -- The order is total, and it finds no difference between two things exactly where they are the same.
@@ -56,9 +57,9 @@ MembersDecide = (v : V) (vs : Vs) → are_rising vs ≡ true → Decides (is_mem
 abbrev pub SetsAreSame : Type 0
 SetsAreSame = (vs ws : List V) → ((u : V) → Contains vs u ↔ Contains ws u) → set_made vs ≡ set_made ws
 
--- a canonical set is what is made of its members
+-- a rising list is what is made of its members
 abbrev pub SetsAreMade : Type 0
-SetsAreMade = (vs : Vs) → are_canonical vs ≡ true → members_made (values_list vs) ≡ vs
+SetsAreMade = (vs : Vs) → are_rising vs ≡ true → members_made (values_list vs) ≡ vs
 
 -- In a canonical record the value that is found for a name is the one that stands there.
 abbrev pub FieldsAreFound : Type 0

@@ -1,18 +1,31 @@
 -- What the laws of repeated names, records of pairs, sets side by side and names say.
 -- Rule: repeated names; extension functions; values and equality; identifiers and names (docs/RULES.md).
-use Rattle.std.specs.Prelude.{◌≡◌, ◌↔◌, Bool, true, false, List, map, Option, Some, None}
+use Rattle.std.specs.Prelude.{◌≡◌, ◌↔◌, Bool, true, false, List, [], ◌∷◌, ◌++◌, map, Contains, Option, Some, None, if◌then◌else◌}
+use Rattle.std.specs.Option.{option_or}
+use Rattle.std.specs.Str.{bytes_eq}
+use Rattle.std.specs.Map.{lookup}
 use Rattle.std.specs.Bool.{Decides}
 use Rattle.std.specs.List.{list_all, filter_map}
 use Rattle.cedar_expr_model.specs.Name.{Text, Name}
 use Rattle.cedar_expr_model.specs.Whole.Value.{V, Vs, field_of}
 use Rattle.cedar_expr_model.specs.Whole.Tree.{CoreType}
-use Rattle.cedar_expr_model.specs.Whole.Canonical.{is_canonical, are_rising, is_subset, is_disjoint, Among}
+use Rattle.cedar_expr_model.specs.Whole.Canonical.{is_canonical, are_rising, is_subset, is_disjoint}
+use Rattle.cedar_expr_model.specs.Whole.SamenessLaws.{Among}
 use Rattle.cedar_expr_model.specs.Whole.Made.{Made}
 use Rattle.cedar_expr_model.specs.Whole.Names.{namespace_of, within, qualified, is_unqualified}
-use Rattle.cedar_expr_model.specs.Whole.Records.{in_order, names_rise, first_of, last_of, fields, record_made}
-use Rattle.cedar_expr_model.specs.Whole.Repeats.{repeated, AreDistinct, IsMetAgain, repeated_function, repeated_constructor, constructed, table_fault}
-use Rattle.cedar_expr_model.specs.Whole.Table.{Signature}
-use Rattle.cedar_expr_model.specs.Whole.ValueParts.{PartialValue, known, split, values_alone}
+use Rattle.cedar_expr_model.specs.Whole.Records.{in_order, names_rise, fields, record_made}
+use Rattle.cedar_expr_model.specs.Whole.Repeats.{repeated, repeated_function, repeated_constructor, table_fault}
+use Rattle.cedar_expr_model.specs.Whole.Table.{Signature, constructed}
+use Rattle.cedar_expr_model.specs.Whole.ValueParts.{Part, known, split, values_alone}
+
+-- none stands twice
+abbrev pub AreDistinct : {A : Type 0} → List A → Type 0
+AreDistinct [] = Unit {0}
+AreDistinct (x ∷ xs) = ¬ (Contains xs x) × AreDistinct xs
+
+-- It stands behind a beginning of which all are distinct, and in which it stands.
+abbrev pub IsMetAgain : {A : Type 0} → A → List A → Type 0
+IsMetAgain {A} x xs = (front : List A) × (back : List A) × (xs ≡ front ++ x ∷ back) × AreDistinct front × Contains front x
 
 -- where a test decides equality, none is found again exactly where all are distinct
 abbrev pub RepeatsDecide : Type 0 → Type 0
@@ -37,12 +50,17 @@ FunctionFault = (ss : List Signature) (f : Name) → (table_fault ss ≡ Some (r
 abbrev pub ConstructorFault : Type 0
 ConstructorFault = (ss : List Signature) (t : CoreType) → (table_fault ss ≡ Some (repeated_constructor t)) ↔ (AreDistinct (function_names ss) × IsMetAgain t (filter_map constructed ss))
 
+-- what stands in the last pair of this name
+abbrev pub last_of : {A : Type 0} → Text → List (Text × A) → Option A
+last_of a [] = None
+last_of a (p ∷ ps) = option_or (last_of a ps) (if bytes_eq a p.0 then Some p.1 else None)
+
 -- the pairs in order rise, and have of each name the last
 abbrev pub InOrderRises : Type 0 → Type 0
 InOrderRises A = (ps : List (Text × A)) → names_rise (in_order ps) ≡ true
 
 abbrev pub InOrderFinds : Type 0 → Type 0
-InOrderFinds A = (a : Text) (ps : List (Text × A)) → first_of a (in_order ps) ≡ last_of a ps
+InOrderFinds A = (a : Text) (ps : List (Text × A)) → lookup (bytes_eq a) (in_order ps) ≡ last_of a ps
 
 -- pairs whose names rise are in order
 abbrev pub InOrderStays : Type 0 → Type 0
@@ -64,7 +82,7 @@ DisjointDecides = (vs ws : Vs) → are_rising ws ≡ true → Decides (is_disjoi
 
 -- a list is split into values exactly where it is a list of values, and these are they
 abbrev pub SplitGivesValues : Type 0
-SplitGivesValues = (ps : List PartialValue) (ms : List Made) → (split ps ≡ values_alone ms) ↔ (ps ≡ map known ms)
+SplitGivesValues = (ps : List (Part Made)) (ms : List Made) → (split ps ≡ values_alone ms) ↔ (ps ≡ map known ms)
 
 -- the namespace of a name in a namespace is that one
 abbrev pub NamespaceIsKept : Type 0

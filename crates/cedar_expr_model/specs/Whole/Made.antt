@@ -1,8 +1,9 @@
 -- Values with the calls that make their extension values, and the expressions that they are written as.
 -- Rule: values and equality; extension functions (docs/RULES.md).
-use Rattle.std.specs.Prelude.{List, [], ◌∷◌}
+use Rattle.std.specs.Prelude.{List, map}
 use Rattle.cedar_expr_model.specs.Name.{Text, Name}
 use Rattle.cedar_expr_model.specs.Whole.Value.{Literal, V, prim, set_of, record_of, extension, Vs, no_values, value, Fields, no_fields, field}
+use Rattle.cedar_expr_model.specs.Whole.Builder.{trees}
 use Rattle.cedar_expr_model.specs.Whole.Tree.{Tree, lit, call, set_literal, record_literal, Trees, no_trees, tree, TreeFields, no_tree_fields, tree_field}
 
 -- A value as it was made. An extension value has its type, its key, and the function and literals of a call that makes it.
@@ -37,18 +38,13 @@ abbrev mutual
   bare_fields no_made_fields = no_fields
   bare_fields (made_field a m fs) = field a (bare m) (bare_fields fs)
 
--- literals as expressions
-abbrev pub literals : List Literal → Trees
-literals [] = no_trees
-literals (p ∷ ps) = tree (lit p) (literals ps)
-
 -- the expression that a value is written as
 abbrev mutual
   pub written : Made → Tree
   written (made_prim p) = lit p
   written (made_set ms) = set_literal (writtens ms)
   written (made_record fs) = record_literal (written_fields fs)
-  written (made_extension n k f ps) = call f (literals ps)
+  written (made_extension n k f ps) = call f (trees (map lit ps))
 
   pub writtens : Mades → Trees
   writtens no_mades = no_trees

@@ -1,11 +1,13 @@
 -- Names with and without a namespace, and names that hold no reserved part.
 -- Rule: identifiers and names (docs/RULES.md).
-use Rattle.std.specs.Prelude.{List, [], ◌∷◌, ◌++◌, Bool, true, false, Option, Some, None, if◌then◌else◌}
+use Rattle.std.specs.Prelude.{List, [], ◌∷◌, ◌++◌, Bool, Option, Some, None, if◌then◌else◌}
+use Rattle.std.specs.Option.{option_map_or}
 use Rattle.cedar_expr_model.specs.Name.{Text, Name, reserved, is_reserved, name_read, name_of_parts}
+use Rattle.cedar_expr_model.specs.Whole.Lists.{is_nil}
 
 -- whether a name is of one identifier
 abbrev pub is_unqualified : Name → Bool
-is_unqualified n = elim n.path as (λ p. Bool) [ [] ↦ true | p ∷ ps ↦ false ]
+is_unqualified n = is_nil n.path
 
 -- the name of one identifier
 abbrev pub unqualified : Text → Name
@@ -39,11 +41,6 @@ pub data NameRead : Type 0 where
   reserved_given : Name → NameRead
   nothing_given : NameRead
 
--- a name as it is read, told by whether it has the reserved part
-abbrev pub unreserved : Option Name → NameRead
-unreserved None = nothing_given
-unreserved (Some n) = if is_reserved n then reserved_given n else name_given n
-
 -- what a text gives where a name without a reserved part is due
 abbrev pub unreserved_read : Text → NameRead
-unreserved_read text = unreserved (name_read text)
+unreserved_read text = option_map_or (λ n. if is_reserved n then reserved_given n else name_given n) (name_read text) nothing_given

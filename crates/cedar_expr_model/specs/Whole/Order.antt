@@ -1,4 +1,4 @@
--- The order of literals and values: by kind, and in one kind by what it holds.
+-- The order of literals, values and core types: by kind, and in one kind by what it holds.
 -- Rule: values and equality (docs/RULES.md).
 use Rattle.std.specs.Prelude.{ℕ, Bool}
 use Rattle.std.specs.Ordering.{nat_cmp, int_cmp, bool_cmp, ordering_then, is_eq}
@@ -7,6 +7,7 @@ use Rattle.std.specs.declared.cmp.Ordering.{Ordering}
 use Rattle.std.specs.declared.cmp.Ordering.TheVariants.{Less, Equal, Greater}
 use Rattle.cedar_expr_model.specs.Name.{Text, Name, name_text}
 use Rattle.cedar_expr_model.specs.Uid.{Uid}
+use Rattle.cedar_expr_model.specs.Whole.Tree.{CoreType, bool_core, long_core, string_core, set_core, record_core, entity_core, extension_core}
 use Rattle.cedar_expr_model.specs.Whole.Value.{Literal, truth, long, text, entity, V, prim, set_of, record_of, extension, Vs, no_values, value, Fields, no_fields, field}
 
 -- texts in byte order
@@ -68,3 +69,22 @@ abbrev mutual
 -- equal values are those between which the order finds no difference
 abbrev pub value_eq : V → V → Bool
 value_eq v w = is_eq (value_cmp v w)
+
+-- core types: the plain ones, then entities and extension values by name
+abbrev pub core_rank : CoreType → ℕ
+core_rank bool_core = 0
+core_rank long_core = 1
+core_rank string_core = 2
+core_rank set_core = 3
+core_rank record_core = 4
+core_rank (entity_core n) = 5
+core_rank (extension_core n) = 6
+
+abbrev pub core_cmp : CoreType → CoreType → Ordering
+core_cmp (entity_core m) (entity_core n) = name_order m n
+core_cmp (extension_core m) (extension_core n) = name_order m n
+core_cmp a b = nat_cmp (core_rank a) (core_rank b)
+
+-- equal core types
+abbrev pub core_eq : CoreType → CoreType → Bool
+core_eq a b = is_eq (core_cmp a b)

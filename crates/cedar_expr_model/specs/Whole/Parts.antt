@@ -1,18 +1,15 @@
 -- What an expression is made of: its subexpressions, slots and unknowns.
 -- Rule: parts of an expression (docs/RULES.md).
-use Rattle.std.specs.Prelude.{◌&&◌, List, [], ◌∷◌, ◌++◌, Bool, true, false, Option, Some, None}
-use Rattle.std.specs.List.{filter_map}
+use Rattle.std.specs.Prelude.{List, [], ◌∷◌, ◌++◌, Bool, true, false, Option, Some, None, is_some}
+use Rattle.std.specs.List.{filter_map, list_all}
 use Rattle.cedar_expr_model.specs.Name.{Text}
+use Rattle.cedar_expr_model.specs.Uid.{Uid}
 use Rattle.cedar_expr_model.specs.Whole.Value.{entity}
 use Rattle.cedar_expr_model.specs.Whole.Tree.{CoreType, SlotId, Tree, lit, var, slot, unknown, choice, both, either, unary, binary, call, get_attr, has_attr, has_path, like, is_type, set_literal, record_literal, Trees, no_trees, tree, TreeFields, no_tree_fields, tree_field}
 
 -- The subexpressions, each place once: the expression itself, and then those of its children, in order.
 abbrev mutual
   pub subexpressions : Tree → List Tree
-  subexpressions (lit p) = lit p ∷ []
-  subexpressions (var x) = var x ∷ []
-  subexpressions (slot s) = slot s ∷ []
-  subexpressions (unknown n a) = unknown n a ∷ []
   subexpressions (choice t a b) = choice t a b ∷ (subexpressions t ++ (subexpressions a ++ subexpressions b))
   subexpressions (both a b) = both a b ∷ (subexpressions a ++ subexpressions b)
   subexpressions (either a b) = either a b ∷ (subexpressions a ++ subexpressions b)
@@ -26,6 +23,7 @@ abbrev mutual
   subexpressions (is_type t n) = is_type t n ∷ subexpressions t
   subexpressions (set_literal ts) = set_literal ts ∷ subexpressions_among ts
   subexpressions (record_literal fs) = record_literal fs ∷ subexpressions_in_fields fs
+  subexpressions t = t ∷ []
 
   pub subexpressions_among : Trees → List Tree
   subexpressions_among no_trees = []
@@ -40,15 +38,18 @@ pub record Unknown : Type 0 where
   pub name : Text
   pub annotation : Option CoreType
 
--- the unknown that an expression is
+-- the unknown, the slot, and the uid, that an expression is
 abbrev pub unknown_here : Tree → Option Unknown
 unknown_here (unknown n a) = Some (record { name = n; annotation = a })
 unknown_here t = None
 
--- the slot that an expression is
 abbrev pub slot_here : Tree → Option SlotId
 slot_here (slot s) = Some s
 slot_here t = None
+
+abbrev pub uid_here : Tree → Option Uid
+uid_here (lit (entity u)) = Some u
+uid_here t = None
 
 -- the unknowns and the slots of an expression, each occurrence
 abbrev pub unknowns : Tree → List Unknown
@@ -67,43 +68,22 @@ may_project (record_literal fs) = true
 may_project t = false
 
 -- projectable: each subexpression is such a one
-abbrev mutual
-  pub is_projectable : Tree → Bool
-  is_projectable (lit p) = true
-  is_projectable (var x) = true
-  is_projectable (unknown n a) = true
-  is_projectable (set_literal ts) = are_projectable ts
-  is_projectable (record_literal fs) = have_projectable fs
-  is_projectable t = false
+abbrev pub is_projectable : Tree → Bool
+is_projectable t = list_all may_project (subexpressions t)
 
-  pub are_projectable : Trees → Bool
-  are_projectable no_trees = true
-  are_projectable (tree t ts) = is_projectable t && are_projectable ts
+-- children in a row, and the fields of a record, as lists
+abbrev pub listed : Trees → List Tree
+listed no_trees = []
+listed (tree t ts) = t ∷ listed ts
 
-  pub have_projectable : TreeFields → Bool
-  have_projectable no_tree_fields = true
-  have_projectable (tree_field a t fs) = is_projectable t && have_projectable fs
+abbrev pub listed_fields : TreeFields → List (Text × Tree)
+listed_fields no_tree_fields = []
+listed_fields (tree_field a t fs) = (a, t) ∷ listed_fields fs
 
--- a reference: a uid as a literal
+-- a reference, which is a uid as a literal, and a set of references
 abbrev pub is_ref : Tree → Bool
-is_ref (lit (entity u)) = true
-is_ref t = false
+is_ref t = is_some (uid_here t)
 
--- an unknown, or a slot
-abbrev pub is_unknown : Tree → Bool
-is_unknown (unknown n a) = true
-is_unknown t = false
-
-abbrev pub is_slot : Tree → Bool
-is_slot (slot s) = true
-is_slot t = false
-
--- each is a reference
-abbrev pub are_refs : Trees → Bool
-are_refs no_trees = true
-are_refs (tree t ts) = is_ref t && are_refs ts
-
--- a set of references
 abbrev pub is_ref_set : Tree → Bool
-is_ref_set (set_literal ts) = are_refs ts
+is_ref_set (set_literal ts) = list_all is_ref (listed ts)
 is_ref_set t = false

@@ -1,14 +1,13 @@
 -- Records made of pairs: the fields in the order of their names.
 -- Rule: repeated names; expressions; values and equality (docs/RULES.md).
-use Rattle.std.specs.Prelude.{◌&&◌, List, [], ◌∷◌, Bool, true, Option, Some, None, if◌then◌else◌}
-use Rattle.std.specs.Ordering.{match_ordering, is_lt}
-use Rattle.std.specs.Str.{bytes_eq}
+use Rattle.std.specs.Prelude.{List, [], ◌∷◌, map, Bool}
+use Rattle.std.specs.Ordering.{match_ordering}
 use Rattle.cedar_expr_model.specs.Name.{Text}
 use Rattle.cedar_expr_model.specs.Whole.Value.{V, record_of, Fields, no_fields, field}
 use Rattle.cedar_expr_model.specs.Whole.Tree.{Tree, record_literal}
 use Rattle.cedar_expr_model.specs.Whole.Order.{text_cmp}
 use Rattle.cedar_expr_model.specs.Whole.Builder.{tree_fields}
-use Rattle.cedar_expr_model.specs.Whole.Substitution.{first_of_two}
+use Rattle.cedar_expr_model.specs.Whole.Lists.{rises}
 
 -- the pairs with one more in its place, unless one of its name is there
 abbrev pub pair_placed : {A : Type 0} → Text → A → List (Text × A) → List (Text × A)
@@ -20,28 +19,9 @@ abbrev pub in_order : {A : Type 0} → List (Text × A) → List (Text × A)
 in_order [] = []
 in_order (p ∷ ps) = pair_placed p.0 p.1 (in_order ps)
 
--- the name stands before the first of these
-abbrev pub is_first_name : {A : Type 0} → Text → List (Text × A) → Bool
-is_first_name a [] = true
-is_first_name a (p ∷ ps) = is_lt (text_cmp a p.0)
-
 -- the names rise, so none stands twice
 abbrev pub names_rise : {A : Type 0} → List (Text × A) → Bool
-names_rise [] = true
-names_rise (p ∷ ps) = is_first_name p.0 ps && names_rise ps
-
--- what stands in the pair, if it is of this name
-abbrev pub in_pair : {A : Type 0} → Text → Text × A → Option A
-in_pair a p = if bytes_eq a p.0 then Some p.1 else None
-
--- what stands in the first pair of this name, and in the last
-abbrev pub first_of : {A : Type 0} → Text → List (Text × A) → Option A
-first_of a [] = None
-first_of a (p ∷ ps) = first_of_two (in_pair a p) (first_of a ps)
-
-abbrev pub last_of : {A : Type 0} → Text → List (Text × A) → Option A
-last_of a [] = None
-last_of a (p ∷ ps) = first_of_two (last_of a ps) (in_pair a p)
+names_rise ps = rises text_cmp (map (λ p. p.0) ps)
 
 -- these values as the fields of a record
 abbrev pub fields : List (Text × V) → Fields

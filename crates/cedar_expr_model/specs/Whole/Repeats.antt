@@ -1,12 +1,13 @@
 -- What is met again in a list, and which fault a list of functions has.
 -- Rule: repeated names; extension functions (docs/RULES.md).
-use Rattle.std.specs.Prelude.{◌≡◌, List, [], ◌∷◌, ◌++◌, Bool, Option, Some, None, if◌then◌else◌, map, Contains, option_map}
+use Rattle.std.specs.Prelude.{List, [], ◌∷◌, ◌++◌, Bool, Option, Some, None, if◌then◌else◌, map, option_map}
+use Rattle.std.specs.Option.{option_or}
 use Rattle.std.specs.List.{list_any, filter_map}
 use Rattle.std.specs.Str.{bytes_eq}
 use Rattle.cedar_expr_model.specs.Name.{Text, Name, name_eq}
 use Rattle.cedar_expr_model.specs.Whole.Tree.{CoreType}
-use Rattle.cedar_expr_model.specs.Whole.Substitution.{core_eq, first_of_two}
-use Rattle.cedar_expr_model.specs.Whole.Table.{Signature, is_constructor}
+use Rattle.cedar_expr_model.specs.Whole.Order.{core_eq}
+use Rattle.cedar_expr_model.specs.Whole.Table.{Signature, constructed}
 
 -- the first that is met again, where these were met before
 abbrev pub first_again : {A : Type 0} → (A → A → Bool) → List A → List A → Option A
@@ -17,15 +18,6 @@ first_again eq before (x ∷ xs) = if list_any (eq x) before then Some x else fi
 abbrev pub repeated : {A : Type 0} → (A → A → Bool) → List A → Option A
 repeated eq xs = first_again eq [] xs
 
--- none stands twice
-abbrev pub AreDistinct : {A : Type 0} → List A → Type 0
-AreDistinct [] = Unit {0}
-AreDistinct (x ∷ xs) = ¬ (Contains xs x) × AreDistinct xs
-
--- It stands behind a beginning of which all are distinct, and in which it stands.
-abbrev pub IsMetAgain : {A : Type 0} → A → List A → Type 0
-IsMetAgain {A} x xs = (front : List A) × (back : List A) × (xs ≡ front ++ x ∷ back) × AreDistinct front × Contains front x
-
 -- the name that a list of pairs repeats first
 abbrev pub repeated_name : {A : Type 0} → List (Text × A) → Option Text
 repeated_name ps = repeated bytes_eq (map (λ p. p.0) ps)
@@ -35,10 +27,6 @@ pub data TableFault : Type 0 where
   repeated_function : Name → TableFault
   repeated_constructor : CoreType → TableFault
 
--- the type that the function constructs, if it is a constructor
-abbrev pub constructed : Signature → Option CoreType
-constructed s = if is_constructor s then s.result else None
-
 -- The fault of a list of functions: a name that stands twice, and then a type with two constructors.
 abbrev pub table_fault : List Signature → Option TableFault
-table_fault ss = first_of_two (option_map repeated_function (repeated name_eq (map (λ s. s.name) ss))) (option_map repeated_constructor (repeated core_eq (filter_map constructed ss)))
+table_fault ss = option_or (option_map repeated_function (repeated name_eq (map (λ s. s.name) ss))) (option_map repeated_constructor (repeated core_eq (filter_map constructed ss)))

@@ -1,15 +1,14 @@
 -- The order of expressions by their shape: by kind, and in one kind by its parts from the first that differs.
 -- Rule: shapes (docs/RULES.md).
-use Rattle.std.specs.Prelude.{ℕ, Bool, List, Option}
+use Rattle.std.specs.Prelude.{ℕ, Bool}
 use Rattle.std.specs.Ordering.{nat_cmp, ordering_then, is_eq}
 use Rattle.std.specs.Option.{option_cmp}
 use Rattle.std.specs.Cmp.Lexicographic.{slice_cmp}
 use Rattle.std.specs.declared.cmp.Ordering.{Ordering}
 use Rattle.std.specs.declared.cmp.Ordering.TheVariants.{Less, Equal, Greater}
-use Rattle.cedar_expr_model.specs.Name.{Text}
-use Rattle.cedar_expr_model.specs.Whole.Order.{text_cmp, name_order, literal_cmp}
+use Rattle.cedar_expr_model.specs.Whole.Order.{text_cmp, name_order, literal_cmp, core_cmp}
 use Rattle.cedar_expr_model.specs.Whole.Pattern.{Pattern, Element, character, wildcard}
-use Rattle.cedar_expr_model.specs.Whole.Tree.{Var, principal, action, resource, context, SlotId, principal_slot, resource_slot, CoreType, bool_core, long_core, string_core, set_core, record_core, entity_core, extension_core, UnaryOp, negation, minus, is_empty, BinaryOp, equal, less, less_or_equal, plus, difference, times, is_in, contains, contains_all, contains_any, get_tag, has_tag, Tree, lit, var, slot, unknown, choice, both, either, unary, binary, call, get_attr, has_attr, has_path, like, is_type, set_literal, record_literal, Trees, no_trees, tree, TreeFields, no_tree_fields, tree_field}
+use Rattle.cedar_expr_model.specs.Whole.Tree.{Var, principal, action, resource, context, SlotId, principal_slot, resource_slot, UnaryOp, negation, minus, is_empty, BinaryOp, equal, less, less_or_equal, plus, difference, times, is_in, contains, contains_all, contains_any, get_tag, has_tag, Tree, lit, var, slot, unknown, choice, both, either, unary, binary, call, get_attr, has_attr, has_path, like, is_type, set_literal, record_literal, Trees, no_trees, tree, TreeFields, no_tree_fields, tree_field}
 
 -- variables, slots and operators in the order of their lists
 abbrev pub var_rank : Var → ℕ
@@ -54,25 +53,6 @@ unary_cmp x y = nat_cmp (unary_rank x) (unary_rank y)
 abbrev pub binary_cmp : BinaryOp → BinaryOp → Ordering
 binary_cmp x y = nat_cmp (binary_rank x) (binary_rank y)
 
--- core types: the plain ones, then entities and extension values by name
-abbrev pub core_rank : CoreType → ℕ
-core_rank bool_core = 0
-core_rank long_core = 1
-core_rank string_core = 2
-core_rank set_core = 3
-core_rank record_core = 4
-core_rank (entity_core n) = 5
-core_rank (extension_core n) = 6
-
-abbrev pub core_cmp : CoreType → CoreType → Ordering
-core_cmp (entity_core m) (entity_core n) = name_order m n
-core_cmp (extension_core m) (extension_core n) = name_order m n
-core_cmp a b = nat_cmp (core_rank a) (core_rank b)
-
--- an annotation that lacks comes first
-abbrev pub annotation_cmp : Option CoreType → Option CoreType → Ordering
-annotation_cmp a b = option_cmp core_cmp a b
-
 -- a character comes before a wildcard
 abbrev pub element_cmp : Element → Element → Ordering
 element_cmp (character c) (character d) = nat_cmp c d
@@ -80,12 +60,9 @@ element_cmp (character c) wildcard = Less
 element_cmp wildcard (character d) = Greater
 element_cmp wildcard wildcard = Equal
 
--- patterns and paths from the first element that differs
+-- patterns by their elements, from the first that differs
 abbrev pub pattern_cmp : Pattern → Pattern → Ordering
 pattern_cmp p q = slice_cmp element_cmp p q
-
-abbrev pub path_cmp : List Text → List Text → Ordering
-path_cmp a b = slice_cmp text_cmp a b
 
 -- the place of a kind among the kinds
 abbrev pub tree_rank : Tree → ℕ
@@ -113,7 +90,7 @@ abbrev mutual
   tree_cmp (lit p) (lit p') = literal_cmp p p'
   tree_cmp (var x) (var x') = var_cmp x x'
   tree_cmp (slot s) (slot s') = slot_cmp s s'
-  tree_cmp (unknown n a) (unknown n' a') = ordering_then (text_cmp n n') (annotation_cmp a a')
+  tree_cmp (unknown n a) (unknown n' a') = ordering_then (text_cmp n n') (option_cmp core_cmp a a')
   tree_cmp (choice t a b) (choice t' a' b') = ordering_then (tree_cmp t t') (ordering_then (tree_cmp a a') (tree_cmp b b'))
   tree_cmp (both a b) (both a' b') = ordering_then (tree_cmp a a') (tree_cmp b b')
   tree_cmp (either a b) (either a' b') = ordering_then (tree_cmp a a') (tree_cmp b b')
@@ -122,7 +99,7 @@ abbrev mutual
   tree_cmp (call f ts) (call f' ts') = ordering_then (name_order f f') (trees_cmp ts ts')
   tree_cmp (get_attr t a) (get_attr t' a') = ordering_then (tree_cmp t t') (text_cmp a a')
   tree_cmp (has_attr t a) (has_attr t' a') = ordering_then (tree_cmp t t') (text_cmp a a')
-  tree_cmp (has_path t a as_) (has_path t' a' as_') = ordering_then (tree_cmp t t') (ordering_then (text_cmp a a') (path_cmp as_ as_'))
+  tree_cmp (has_path t a as_) (has_path t' a' as_') = ordering_then (tree_cmp t t') (ordering_then (text_cmp a a') (slice_cmp text_cmp as_ as_'))
   tree_cmp (like t p) (like t' p') = ordering_then (tree_cmp t t') (pattern_cmp p p')
   tree_cmp (is_type t n) (is_type t' n') = ordering_then (tree_cmp t t') (name_order n n')
   tree_cmp (set_literal ts) (set_literal ts') = trees_cmp ts ts'

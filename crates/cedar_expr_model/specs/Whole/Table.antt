@@ -1,11 +1,12 @@
 -- Extension functions: signatures, and what a call of one answers.
 -- Rule: extension functions (docs/RULES.md).
-use Rattle.std.specs.Prelude.{◌≡◌, ◌&&◌, ◌==◌, ℕ, List, [], ◌∷◌, length, nat_le, Bool, true, false, not, Option, Some, None, if◌then◌else◌, is_some}
+use Rattle.std.specs.Prelude.{◌≡◌, ◌&&◌, ◌==◌, ℕ, List, [], ◌∷◌, length, nat_le, find, Bool, true, false, Option, Some, None, if◌then◌else◌, is_some}
 use Rattle.std.specs.List.{list_all, list_any}
 use Rattle.cedar_expr_model.specs.Name.{Text, Name, name_eq}
 use Rattle.cedar_expr_model.specs.Whole.Value.{V}
 use Rattle.cedar_expr_model.specs.Whole.Tree.{CoreType, string_core, extension_core}
-use Rattle.cedar_expr_model.specs.Whole.Substitution.{core_type_of, core_eq}
+use Rattle.cedar_expr_model.specs.Whole.Order.{core_eq}
+use Rattle.cedar_expr_model.specs.Whole.Substitution.{core_type_of}
 
 -- how a call is written
 pub data CallStyle : Type 0 where
@@ -32,14 +33,9 @@ pub record Table : Type 0 where
   pub ordered : List Name
   pub answers : Name → List V → Called
 
--- the first function of this name
-abbrev pub signature_among : Name → List Signature → Option Signature
-signature_among f [] = None
-signature_among f (s ∷ ss) = if name_eq f s.name then Some s else signature_among f ss
-
--- the function of this name in a table
+-- the first function of this name in a table
 abbrev pub signature_of : Table → Name → Option Signature
-signature_of t f = signature_among f t.functions
+signature_of t f = find (λ s. name_eq f s.name) t.functions
 
 -- whether values of the extension type are ordered
 abbrev pub is_ordered : Table → Name → Bool
@@ -60,6 +56,10 @@ are_of_types (a ∷ as_) [] = true
 are_of_types (a ∷ []) (v ∷ vs) = core_eq a (core_type_of v) && are_of_types (a ∷ []) vs
 are_of_types (a ∷ b ∷ bs) (v ∷ vs) = core_eq a (core_type_of v) && are_of_types (b ∷ bs) vs
 
+-- the table has the function, which takes these arguments
+abbrev pub IsTaken : Table → Name → List V → Type 0
+IsTaken t f vs = (s : Signature) × (signature_of t f ≡ Some s) × (takes_count s (length vs) ≡ true) × (are_of_types s.parameters vs ≡ true)
+
 -- a value of the function's result type, or a failure; one without a result type may leave an unknown
 abbrev pub IsAnswer : Signature → Called → Type 0
 IsAnswer s (gives v) = s.result ≡ Some (core_type_of v)
@@ -70,21 +70,13 @@ IsAnswer s (leaves n) = s.result ≡ None
 abbrev pub IsFair : Table → Type 0
 IsFair t = (f : Name) (s : Signature) (vs : List V) → signature_of t f ≡ Some s → takes_count s (length vs) ≡ true → are_of_types s.parameters vs ≡ true → IsAnswer s (t.answers f vs)
 
--- the type of extension values
-abbrev pub is_extension_type : Option CoreType → Bool
-is_extension_type (Some (extension_core n)) = true
-is_extension_type t = false
+-- what a constructor makes: it is a function in function style, of one text, that isn't variadic and gives an extension value
+abbrev pub constructs : CallStyle → List CoreType → Bool → Option CoreType → Option CoreType
+constructs function_style (string_core ∷ []) false (Some (extension_core n)) = Some (extension_core n)
+constructs style parameters is_variadic result = None
 
--- written as a function
-abbrev pub is_function_style : CallStyle → Bool
-is_function_style function_style = true
-is_function_style method_style = false
+abbrev pub constructed : Signature → Option CoreType
+constructed s = constructs s.style s.parameters s.is_variadic s.result
 
--- one text is the argument
-abbrev pub takes_one_text : List CoreType → Bool
-takes_one_text (string_core ∷ []) = true
-takes_one_text ts = false
-
--- a constructor: a function, in function style, of one text, that gives an extension value
 abbrev pub is_constructor : Signature → Bool
-is_constructor s = is_function_style s.style && (not s.is_variadic && (takes_one_text s.parameters && is_extension_type s.result))
+is_constructor s = is_some (constructed s)

@@ -83,10 +83,6 @@ mutual
 -- The nesting: 1 for a leaf, and for a node 1 more than its deepest child.
 abbrev mutual
   pub nesting : Tree → ℕ
-  nesting (lit p) = 1
-  nesting (var x) = 1
-  nesting (slot s) = 1
-  nesting (unknown n a) = 1
   nesting (choice t a b) = suc (max (nesting t) (max (nesting a) (nesting b)))
   nesting (both a b) = suc (max (nesting a) (nesting b))
   nesting (either a b) = suc (max (nesting a) (nesting b))
@@ -100,6 +96,7 @@ abbrev mutual
   nesting (is_type a n) = suc (nesting a)
   nesting (set_literal ts) = suc (nestings ts)
   nesting (record_literal fs) = suc (field_nestings fs)
+  nesting t = 1
 
   pub nestings : Trees → ℕ
   nestings no_trees = 0

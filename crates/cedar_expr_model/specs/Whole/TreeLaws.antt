@@ -1,22 +1,20 @@
 -- What the laws of expressions say: builders, substitution, unknowns, parts, restricted expressions, evident types.
 -- Rule: expressions; substitution; parts of an expression; restricted expressions; the evident type (docs/RULES.md).
-use Rattle.std.specs.Prelude.{◌≡◌, ◌↔◌, Bool, true, false, List, [], ◌∷◌, Option, Some, None}
+use Rattle.std.specs.Prelude.{◌≡◌, ◌↔◌, ◌&&◌, Bool, true, false, Option, Some, None, option_and_then}
 use Rattle.std.specs.Bool.{Decides}
-use Rattle.std.specs.List.{list_all, list_any}
-use Rattle.cedar_expr_model.specs.Whole.Tree.{Tree}
+use Rattle.cedar_expr_model.specs.Whole.Tree.{CoreType, extension_core, Tree}
 use Rattle.cedar_expr_model.specs.Whole.Builder.{Builder, built, tree_builder}
 use Rattle.cedar_expr_model.specs.Whole.BuilderForm.{IsLawful, is_built}
-use Rattle.cedar_expr_model.specs.Whole.Made.{Made, bare, written}
-use Rattle.cedar_expr_model.specs.Whole.Substitution.{Bindings, built_under, substituted, core_type_of, mismatch, mismatch_at, first_of_two}
-use Rattle.cedar_expr_model.specs.Whole.Unknowns.{has_unknown, EachUnknown, AllBound, NoneBound, FitsAll}
-use Rattle.cedar_expr_model.specs.Whole.Parts.{subexpressions, Unknown, unknowns, may_project, is_projectable, is_unknown}
-use Rattle.cedar_expr_model.specs.Whole.Restricted.{IsRestricted, offence, is_restricted}
-use Rattle.cedar_expr_model.specs.Whole.Table.{Table, IsFair}
+use Rattle.cedar_expr_model.specs.Whole.Made.{Made, made_prim, made_set, made_record, made_extension, Mades, no_mades, made, MadeFields, no_made_fields, made_field, bare, written}
+use Rattle.cedar_expr_model.specs.Whole.Substitution.{Bindings, built_under, substituted, core_type_of, mismatch}
+use Rattle.cedar_expr_model.specs.Whole.Unknowns.{has_unknown, EachUnknown}
+use Rattle.cedar_expr_model.specs.Whole.Restricted.{offence}
+use Rattle.cedar_expr_model.specs.Whole.Table.{Table, IsFair, signature_of}
 use Rattle.cedar_expr_model.specs.Whole.Canonical.{is_canonical}
-use Rattle.cedar_expr_model.specs.Whole.ValueParts.{is_plain, value_of_tree}
+use Rattle.cedar_expr_model.specs.Whole.ValueParts.{value_of_tree}
 use Rattle.cedar_expr_model.specs.Whole.Represented.{IsRepresented}
 use Rattle.cedar_expr_model.specs.Whole.Shape.{tree_eq}
-use Rattle.cedar_expr_model.specs.Whole.Evident.{evident_type, HasResult, has_valid_calls}
+use Rattle.cedar_expr_model.specs.Whole.Evident.{evident_type, has_valid_calls}
 
 -- what the builder of trees makes is in the builder's form, and so is what substitution makes
 abbrev pub BuiltIsBuilt : Type 0
@@ -32,6 +30,14 @@ BuiltStays = (t : Tree) → is_built t ≡ true → built tree_builder t ≡ t
 -- making twice is making once
 abbrev pub BuiltTwice : Type 0
 BuiltTwice = (t : Tree) → built tree_builder (built tree_builder t) ≡ built tree_builder t
+
+-- each unknown is bound
+abbrev pub AllBound : Bindings → Tree → Type 0
+AllBound env t = EachUnknown (λ n a. (m : Made) × (env n ≡ Some m)) t
+
+-- no unknown is bound
+abbrev pub NoneBound : Bindings → Tree → Type 0
+NoneBound env t = EachUnknown (λ n a. env n ≡ None) t
 
 -- where nothing in the expression is bound, substitution only makes it
 abbrev pub UnboundStays : Type 0
@@ -55,37 +61,43 @@ WrittenHasNoUnknown = (m : Made) → has_unknown (written m) ≡ false
 abbrev pub WrittenIsBuilt : Type 0
 WrittenIsBuilt = (m : Made) → is_built (written m) ≡ true
 
+-- The value, where there is one, is of the annotation's type, where there is one.
+abbrev pub FitsBound : Option CoreType → Option Made → Type 0
+FitsBound (Some a) (Some m) = a ≡ core_type_of (bare m)
+FitsBound a m = Unit {0}
+
+-- each unknown that is bound and annotated is bound to a value of that type
+abbrev pub FitsAll : Bindings → Tree → Type 0
+FitsAll env t = EachUnknown (λ n a. FitsBound a (env n)) t
+
 -- there is no mismatch exactly where all bindings fit
 abbrev pub MismatchDecides : Type 0
 MismatchDecides = (env : Bindings) (t : Tree) → (mismatch env t ≡ None) ↔ FitsAll env t
 
--- the first that the function finds in the list
-abbrev pub first_found : {A B : Type 0} → (A → Option B) → List A → Option B
-first_found f [] = None
-first_found f (x ∷ xs) = first_of_two (f x) (first_found f xs)
-
--- the mismatch is that of the first unknown that has one
-abbrev pub MismatchIsFirst : Type 0
-MismatchIsFirst = (env : Bindings) (t : Tree) → mismatch env t ≡ first_found (λ (u : Unknown). mismatch_at u.name u.annotation (env u.name)) (unknowns t)
-
--- what holds of each unknown holds of each in the list of them
-abbrev pub UnknownsAreListed : Type 0
-UnknownsAreListed = (p : Unknown → Bool) (t : Tree) → EachUnknown (λ n a. p (record { name = n; annotation = a }) ≡ true) t ↔ (list_all p (unknowns t) ≡ true)
-
--- the tests of unknowns and of projectable expressions are those of each subexpression
-abbrev pub UnknownIsPart : Type 0
-UnknownIsPart = (t : Tree) → has_unknown t ≡ list_any is_unknown (subexpressions t)
-
-abbrev pub ProjectableByParts : Type 0
-ProjectableByParts = (t : Tree) → is_projectable t ≡ list_all may_project (subexpressions t)
-
--- the test of restricted expressions decides
-abbrev pub RestrictedDecides : Type 0
-RestrictedDecides = (t : Tree) → Decides (is_restricted t) (IsRestricted t)
+-- an extension value's function is in the table and gives its type
+abbrev pub HasResult : Table → Made → Type 0
+HasResult x (made_extension n k f ps) = option_and_then (λ s. s.result) (signature_of x f) ≡ Some (extension_core n)
+HasResult x m = Unit {0}
 
 -- a written value shows its type, where the function of an extension value has it for its result
 abbrev pub WrittenShowsType : Type 0
 WrittenShowsType = (x : Table) (m : Made) → HasResult x m → evident_type x (written m) ≡ Some (core_type_of (bare m))
+
+-- no extension value stands in it
+abbrev mutual
+  pub is_plain : Made → Bool
+  is_plain (made_prim p) = true
+  is_plain (made_set ms) = are_plain ms
+  is_plain (made_record fs) = have_plain fs
+  is_plain (made_extension n k f ps) = false
+
+  pub are_plain : Mades → Bool
+  are_plain no_mades = true
+  are_plain (made m ms) = is_plain m && are_plain ms
+
+  pub have_plain : MadeFields → Bool
+  have_plain no_made_fields = true
+  have_plain (made_field a m fs) = is_plain m && have_plain fs
 
 -- the expression of a canonical value is that value, where no extension value stands in it
 abbrev pub WrittenIsValue : Type 0

@@ -1,4 +1,5 @@
 pub mod Accepting
+pub mod Mentions
 pub mod Slices
 pub mod Transcripts
 pub mod RisingUids

@@ -1,20 +1,22 @@
 -- What the gate admits: the acceptance rules, each with the fault that breaks it.
 -- Rule: the acceptance rules; impossible policies; statuses and refusal numbers (docs/RULES.md).
-use Rattle.std.specs.Prelude.{◌≡◌, ◌&&◌, ◌||◌, ℕ, List, [], ◌∷◌, ◌++◌, Contains, Bool, true, false, not, is_some, Option, Some, None, nat_le}
+use Rattle.std.specs.Prelude.{◌≡◌, ◌&&◌, ◌||◌, ℕ, List, [], ◌∷◌, ◌++◌, Contains, Bool, true, false, not, is_some, nat_le, option_to_list, is_none}
 use Rattle.std.specs.List.{list_all, filter, flat_map}
 use Rattle.std.specs.Str.{bytes_eq}
 use Rattle.cedar_expr_model.specs.Name.{Text, Name}
-use Rattle.cedar_expr_model.specs.Whole.Tree.{SlotId, principal_slot, resource_slot, CoreType, extension_core, nesting}
+use Rattle.cedar_expr_model.specs.Whole.Tree.{CoreType, extension_core, nesting}
 use Rattle.cedar_expr_model.specs.Whole.Unknowns.{has_unknown}
 use Rattle.cedar_expr_model.specs.Whole.Table.{Table}
-use Rattle.cedar_store_model.specs.Whole.Policy.{Policy, binding_of, body_tree, condition, tree_uses, has_slot}
+use Rattle.cedar_store_model.specs.Whole.Policy.{Policy, binding_of, body_tree, condition, tree_uses, has_slot, all_slots}
 use Rattle.cedar_store_model.specs.Whole.Answer.{ids}
 use Rattle.cedar_schema_model.specs.Whole.Schema.{Schema}
 use Rattle.cedar_schema_model.specs.Whole.Declarations.{Declarations}
-use Rattle.cedar_schema_model.specs.Whole.WellFormed.{SchemaFault, unresolved_external, ill_forms, has_twice, has_schema_fault, well_formed}
+use Rattle.cedar_schema_model.specs.Whole.WellFormed.{SchemaFault, unresolved_external, ill_forms, has_schema_fault, well_formed}
 use Rattle.cedar_schema_model.specs.Whole.Resolved.{schema_of}
 use Rattle.cedar_typechecker_model.specs.Whole.ScopeRules.{names_known_types, names_known_actions, names_known_members}
 use Rattle.cedar_typechecker_model.specs.Whole.Verdicts.{RequestType, passes, impossible, irrelevant_for, policy_violations}
+use Rattle.cedar_expr_model.specs.Whole.Lists.{is_nil}
+use Rattle.cedar_expr_model.specs.Whole.Repeats.{repeated}
 
 -- What is handed to the gate: declarations, policies, the functions, the level and the limit on nesting.
 pub record Submission : Type 0 where
@@ -43,19 +45,12 @@ abbrev pub extension_of : CoreType → List Name
 extension_of (extension_core n) = n ∷ []
 extension_of t = []
 
-abbrev pub extension_of_result : Option CoreType → List Name
-extension_of_result None = []
-extension_of_result (Some t) = extension_of t
-
 -- the extension types of a table: those that its functions take or give
 abbrev pub extension_types : Table → List Name
-extension_types x = flat_map (λ f. flat_map extension_of f.parameters ++ extension_of_result f.result) x.functions
+extension_types x = flat_map (λ f. flat_map extension_of (f.parameters ++ option_to_list f.result)) x.functions
 
 abbrev pub schema_in : Submission → Schema
 schema_in s = schema_of s.declarations
-
-abbrev pub all_slots : List SlotId
-all_slots = principal_slot ∷ resource_slot ∷ []
 
 -- each slot that the policy has is bound
 abbrev pub is_linked : Policy → Bool
@@ -65,15 +60,11 @@ is_linked p = list_all (λ s. not (has_slot p s) || is_some (binding_of p.bindin
 abbrev pub keeps_slots_in_scope : Policy → Bool
 keeps_slots_in_scope p = list_all (λ s. not (tree_uses (body_tree p.body) s)) all_slots
 
-abbrev pub is_nil : {A : Type 0} → List A → Bool
-is_nil [] = true
-is_nil (a ∷ as_) = false
-
 -- Which submissions don't have the fault.
 abbrev pub is_clear_of : Cause → Submission → Bool
 is_clear_of (schema f) s = not (has_schema_fault (extension_types s.table) s.declarations f)
 is_clear_of external s = not (has_schema_fault (extension_types s.table) s.declarations unresolved_external)
-is_clear_of repeated_policy s = not (has_twice bytes_eq (ids s.policies))
+is_clear_of repeated_policy s = is_none (repeated bytes_eq (ids s.policies))
 is_clear_of unlinked_slot s = list_all is_linked s.policies
 is_clear_of slot_outside_scope s = list_all keeps_slots_in_scope s.policies
 is_clear_of unknown_in_policy s = list_all (λ p. not (has_unknown (condition p))) s.policies
@@ -84,14 +75,24 @@ is_clear_of no_member s = list_all (names_known_members (schema_in s)) s.policie
 is_clear_of ill_typed s = list_all (passes (schema_in s) s.table) s.policies
 is_clear_of reaches_too_far s = list_all (λ p. is_nil (policy_violations s.level (schema_in s) s.table p)) s.policies
 
--- whether the fault is one of policies against the schema
+-- the number of a fault among the gate's refusals
+abbrev pub number_of : Cause → ℕ
+number_of (schema f) = 1
+number_of external = 2
+number_of repeated_policy = 3
+number_of unlinked_slot = 4
+number_of slot_outside_scope = 5
+number_of unknown_in_policy = 6
+number_of nests_too_deep = 7
+number_of unknown_entity_type = 8
+number_of unknown_action = 9
+number_of no_member = 10
+number_of ill_typed = 11
+number_of reaches_too_far = 12
+
+-- whether the fault is one of policies against the schema: these have the last numbers
 abbrev pub asks_schema : Cause → Bool
-asks_schema unknown_entity_type = true
-asks_schema unknown_action = true
-asks_schema no_member = true
-asks_schema ill_typed = true
-asks_schema reaches_too_far = true
-asks_schema c = false
+asks_schema c = nat_le 8 (number_of c)
 
 -- the faults that the gate knows: of the schema those of ill-formed declarations
 abbrev pub IsCause : Cause → Type 0
@@ -109,29 +110,6 @@ has_schema s = well_formed (extension_types s.table) s.declarations && is_clear_
 -- The fault is there. What policies lack against the schema is a fault only where there is a schema.
 abbrev pub HasFault : Cause → Submission → Type 0
 HasFault c s = IsCause c × (is_clear_of c s ≡ false) × (asks_schema c ≡ true → has_schema s ≡ true)
-
--- the same as a test
-abbrev pub policy_causes : List Cause
-policy_causes = external ∷ repeated_policy ∷ unlinked_slot ∷ slot_outside_scope ∷ unknown_in_policy ∷ nests_too_deep ∷ unknown_entity_type
-    ∷ unknown_action ∷ no_member ∷ ill_typed ∷ reaches_too_far ∷ []
-
-abbrev pub admits : Submission → Bool
-admits s = well_formed (extension_types s.table) s.declarations && list_all (λ c. is_clear_of c s) policy_causes
-
--- the number of a fault among the gate's refusals
-abbrev pub number_of : Cause → ℕ
-number_of (schema f) = 1
-number_of external = 2
-number_of repeated_policy = 3
-number_of unlinked_slot = 4
-number_of slot_outside_scope = 5
-number_of unknown_in_policy = 6
-number_of nests_too_deep = 7
-number_of unknown_entity_type = 8
-number_of unknown_action = 9
-number_of no_member = 10
-number_of ill_typed = 11
-number_of reaches_too_far = 12
 
 -- the ids of the impossible policies, in policy order
 abbrev pub warnings_of : Submission → List Text

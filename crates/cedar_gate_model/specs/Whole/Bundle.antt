@@ -9,8 +9,8 @@ use Rattle.cedar_expr_model.specs.Whole.Table.{Table}
 use Rattle.cedar_store_model.specs.Whole.World.{Entity}
 use Rattle.cedar_evaluator_model.specs.Scope.{MadeCalled}
 use Rattle.cedar_gate_model.specs.Whole.Acceptance.{Submission}
-use Rattle.cedar_gate_model.specs.Whole.Moment.{Start}
 use Rattle.cedar_gate_model.specs.Whole.Transcript.{Step}
+use Rattle.cedar_evaluator_model.specs.Response.{PartialRequest}
 
 -- The extension functions: their table, and what their calls answer with the calls that make it.
 pub record Functions : Type 0 where
@@ -20,6 +20,6 @@ pub record Functions : Type 0 where
 -- What is handed to the gate, the request, the whole store, and the steps of the run.
 pub record Bundle : Type 0 where
   pub submission : Submission
-  pub start : Start
+  pub start : PartialRequest
   pub store : List (Uid × Entity V)
   pub steps : List Step

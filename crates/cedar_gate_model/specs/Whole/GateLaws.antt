@@ -1,26 +1,37 @@
 -- What the laws of acceptance, slices and transcripts say.
 -- Rule: the acceptance rules; impossible policies; the slice; legal transcript (docs/RULES.md).
-use Rattle.std.specs.Prelude.{◌≡◌, ◌↔◌, ◌≤◌, ℕ, suc, List, ◌∷◌, ◌++◌, map, length, Contains, true, false, codes, Some}
+use Rattle.std.specs.Prelude.{◌≡◌, ◌↔◌, ◌≤◌, ℕ, suc, List, ◌∷◌, ◌++◌, length, Contains, true, false, codes, Some, IsSome, Bool, [], ◌&&◌}
 use Rattle.std.specs.Bool.{Decides}
 use Rattle.cedar_expr_model.specs.Name.{Text}
 use Rattle.cedar_expr_model.specs.Uid.{Uid}
 use Rattle.cedar_expr_model.specs.Whole.Value.{V}
 use Rattle.cedar_expr_model.specs.Whole.Tree.{SlotId, nesting}
 use Rattle.cedar_expr_model.specs.Whole.Unknowns.{has_unknown}
-use Rattle.cedar_store_model.specs.Whole.World.{World, Part, Entity, held}
+use Rattle.cedar_store_model.specs.Whole.World.{World, Entity, held}
 use Rattle.cedar_store_model.specs.Whole.Policy.{Policy, binding_of, body_tree, condition, tree_uses, has_slot}
-use Rattle.cedar_store_model.specs.Whole.Knowledge.{IsThere, Extends}
-use Rattle.cedar_store_model.specs.Whole.Answer.{Decision, ids, decision_of}
+use Rattle.cedar_store_model.specs.Whole.Knowledge.{Extends}
+use Rattle.cedar_store_model.specs.Whole.Answer.{Decision, ids, decision_of, reasons_of}
 use Rattle.cedar_schema_model.specs.Whole.Schema.{Schema}
-use Rattle.cedar_schema_model.specs.Whole.WellFormed.{IsWellFormed, unresolved_external, HasTwice}
-use Rattle.cedar_schema_model.specs.Whole.BagLaws.{HasSchemaFault}
+use Rattle.cedar_schema_model.specs.Whole.WellFormed.{IsWellFormed, unresolved_external, well_formed}
+use Rattle.cedar_schema_model.specs.Whole.BagLaws.{HasSchemaFault, HasTwice}
 use Rattle.cedar_typechecker_model.specs.Whole.ScopeRules.{NamesKnownTypes, NamesKnownActions, NamesKnownMembers}
 use Rattle.cedar_typechecker_model.specs.Whole.Levels.{Violation}
 use Rattle.cedar_typechecker_model.specs.Whole.Verdicts.{RequestType, Passes, IsImpossible, IsIrrelevant, policy_violations}
-use Rattle.cedar_gate_model.specs.Whole.Acceptance.{Submission, Cause, IsAccepted, HasFault, admits, extension_types, schema_in, warnings_of, policies_for}
-use Rattle.cedar_gate_model.specs.Whole.Slice.{Mentions, mentioned, IsNear, near, InSlice, slice}
-use Rattle.cedar_gate_model.specs.Whole.Moment.{Start, Moment, at_first, entry_known, context_known}
-use Rattle.cedar_gate_model.specs.Whole.Transcript.{Case, Entry, round, decided, AreLegal, IsWanted, moment_after, asked_in, last_rounds, AsksTheSlice}
+use Rattle.cedar_gate_model.specs.Whole.Acceptance.{Submission, Cause, IsAccepted, HasFault, extension_types, schema_in, warnings_of, policies_for, external, repeated_policy, unlinked_slot, slot_outside_scope, is_clear_of, unknown_in_policy, nests_too_deep, unknown_entity_type, unknown_action, no_member, ill_typed, reaches_too_far}
+use Rattle.cedar_gate_model.specs.Whole.Slice.{IsNear, near, InSlice, slice}
+use Rattle.cedar_evaluator_model.specs.Response.{PartialRequest}
+use Rattle.cedar_gate_model.specs.Whole.Moment.{Moment, at_first, entry_known, context_known}
+use Rattle.cedar_gate_model.specs.Whole.Transcript.{Case, Entry, round, decided, AreLegal, IsWanted, after, bound}
+use Rattle.std.specs.Map.{keys_of}
+use Rattle.std.specs.List.{list_all}
+
+-- acceptance as a test
+abbrev pub policy_causes : List Cause
+policy_causes = external ∷ repeated_policy ∷ unlinked_slot ∷ slot_outside_scope ∷ unknown_in_policy ∷ nests_too_deep ∷ unknown_entity_type
+    ∷ unknown_action ∷ no_member ∷ ill_typed ∷ reaches_too_far ∷ []
+
+abbrev pub admits : Submission → Bool
+admits s = well_formed (extension_types s.table) s.declarations && list_all (λ c. is_clear_of c s) policy_causes
 
 -- the test of a submission decides whether it is accepted
 abbrev pub AcceptanceDecides : Type 0
@@ -36,7 +47,7 @@ RefusalHasFault = (s : Submission) → admits s ≡ false → (c : Cause) × Has
 
 -- What is asked of a policy alone: its slots are bound and stand in its scope, it has no unknown, and nests no deeper than the limit.
 pub record IsGoodPolicy (limit : ℕ) (p : Policy) : Type 0 where
-  pub linked : (x : SlotId) → has_slot p x ≡ true → IsThere (binding_of p.bindings x)
+  pub linked : (x : SlotId) → has_slot p x ≡ true → IsSome (binding_of p.bindings x)
   pub in_scope : (x : SlotId) → tree_uses (body_tree p.body) x ≡ false
   pub known : has_unknown (condition p) ≡ false
   pub shallow : nesting (condition p) ≤ limit
@@ -74,10 +85,7 @@ GivenAreRelevant = (s : Submission) (r : RequestType) (id : Text) → Contains (
 abbrev pub ImpossibleIsIrrelevant : Type 0
 ImpossibleIsIrrelevant = (s : Submission) (r : RequestType) (p : Policy) → IsImpossible (schema_in s) s.table p → IsIrrelevant (schema_in s) s.table r p
 
--- the lists have exactly what is mentioned, near, or in the slice
-abbrev pub MentionedAreListed : Type 0
-MentionedAreListed = (v : V) (u : Uid) → Contains (mentioned v) u ↔ Mentions v u
-
+-- the lists have exactly what is near, or in the slice
 abbrev pub NearAreListed : Type 0
 NearAreListed = (n : ℕ) (w : World) (u : Uid) → Contains (near n w) u ↔ IsNear n w u
 
@@ -92,11 +100,8 @@ abbrev pub SliceGrows : Type 0
 SliceGrows = (s : Schema) (m n : ℕ) (w : World) (u : Uid) → m ≤ n → InSlice s m w u → InSlice s n w u
 
 -- each held entity has each attribute and each tag once
-abbrev pub names_of : List (Text × Part V) → List Text
-names_of ps = map (λ p. p.0) ps
-
 abbrev pub HasNamesOnce : Entity V → Type 0
-HasNamesOnce e = (HasTwice (names_of e.attributes) → ⊥) × (HasTwice (names_of e.tags) → ⊥)
+HasNamesOnce e = (HasTwice (keys_of e.attributes) → ⊥) × (HasTwice (keys_of e.tags) → ⊥)
 
 abbrev pub HoldsNamesOnce : World → Type 0
 HoldsNamesOnce w = (u : Uid) (e : Entity V) → w.store u ≡ held e → HasNamesOnce e
@@ -115,6 +120,30 @@ pub record SameRoots (v w : World) : Type 0 where
 abbrev pub SliceIsLocal : Type 0
 SliceIsLocal = (s : Schema) (n : ℕ) (v w : World) → SameRoots v w → ((x : Uid) → IsNear n w x → v.store x ≡ w.store x)
     → (u : Uid) → InSlice s (suc n) w u ↔ InSlice s (suc n) v u
+
+-- the moment at the end of entries
+abbrev pub moment_after : Moment → List Entry → Moment
+moment_after m [] = m
+moment_after m (e ∷ es) = moment_after (after m e) es
+
+-- the uids that a transcript asked for
+abbrev pub asked_in : List Entry → List Uid
+asked_in es = (moment_after at_first es).asked
+
+-- the rounds after the last binding
+abbrev pub rounds_after : List Entry → List (List Uid) → List (List Uid)
+rounds_after [] found = found
+rounds_after (round uids ∷ es) found = rounds_after es (found ++ uids ∷ [])
+rounds_after (bound n ∷ es) found = rounds_after es []
+rounds_after (decided d ∷ es) found = rounds_after es found
+
+abbrev pub last_rounds : List Entry → List (List Uid)
+last_rounds es = rounds_after es []
+
+-- What is promised of the questions of a run that answered: what was asked is the slice, and few rounds follow the last binding.
+pub record AsksTheSlice (c : Case) (w : World) (es : List Entry) : Type 0 where
+  pub exact : (u : Uid) → Contains (asked_in es) u ↔ InSlice c.schema c.level w u
+  pub few : length (last_rounds es) ≤ c.level
 
 -- what a legal transcript asked for is in the slice of the whole world
 abbrev pub AskedIsInSlice : Type 0
@@ -137,10 +166,19 @@ abbrev pub RoundsAreFew : Type 0
 RoundsAreFew = (c : Case) (w : World) (es : List Entry) → AreLegal c w at_first es → length (last_rounds es) ≤ c.level
 
 -- principal, resource and context are known
-abbrev pub KnowsRoots : Start → Moment → Type 0
+abbrev pub KnowsRoots : PartialRequest → Moment → Type 0
 KnowsRoots r m = (entry_known m (codes "principal") r.principal ≡ true) × (entry_known m (codes "resource") r.resource ≡ true) × (context_known m r.context ≡ true)
 
 -- where all is known and nothing is wanted any more, what was asked for is the slice
 abbrev pub SliceIsAsked : Type 0
 SliceIsAsked = (c : Case) (w : World) (es : List Entry) → AreLegal c w at_first es → KnowsRoots c.start (moment_after at_first es)
     → ((u : Uid) → IsWanted c w (moment_after at_first es) u → ⊥) → AsksTheSlice c w es
+
+-- what must be among the reasons and what may be: bounds that hold in a completion
+pub record Bounds : Type 0 where
+  pub must : List Text
+  pub may : List Text
+
+pub record Holds (b : Bounds) (w : World) (ps : List Policy) : Type 0 where
+  pub within : (id : Text) → Contains b.must id → Contains (reasons_of w ps) id
+  pub covers : (id : Text) → Contains (reasons_of w ps) id → Contains b.may id

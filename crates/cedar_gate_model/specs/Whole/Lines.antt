@@ -4,15 +4,16 @@ use Rattle.std.specs.Prelude.{◌≡◌, ◌+◌, ℕ, List, [], ◌∷◌, ◌+
 use Rattle.std.specs.List.{flat_map}
 use Rattle.std.specs.Fmt.{decimal}
 use Rattle.cedar_expr_model.specs.Name.{Text, name_text}
-use Rattle.cedar_expr_model.specs.Uid.{Uid, uid_text, quoted}
+use Rattle.cedar_expr_model.specs.Uid.{Uid, uid_text, quoted, uid_eq}
 use Rattle.cedar_store_model.specs.Whole.Outcome.{Fault, missing_entity, overflow, extension_failed}
-use Rattle.cedar_store_model.specs.Whole.Store.{entity_of}
 use Rattle.cedar_store_model.specs.Whole.Answer.{Decision, allow, deny, PolicyError, Answer}
 use Rattle.cedar_gate_model.specs.Whole.Acceptance.{Submission, Cause, HasFault, IsAccepted, number_of, warnings_of, schema_in}
 use Rattle.cedar_gate_model.specs.Whole.Session.{Setup, open_number, bind_number, supply_number, answer_number}
 use Rattle.cedar_gate_model.specs.Whole.Transcript.{Entry, round, bound, decided}
 use Rattle.cedar_gate_model.specs.Whole.Runs.{End, answered, opening_refused, supply_refused, binding_refused, answer_refused, MayDecide, Runs}
 use Rattle.cedar_gate_model.specs.Whole.Bundle.{Functions, Bundle}
+use Rattle.std.specs.Option.{option_map_or}
+use Rattle.std.specs.Map.{lookup}
 
 pub data Status : Type 0 where
   is_answered : Status
@@ -51,8 +52,7 @@ abbrev pub round_line : ℕ → List Uid → Text
 round_line k uids = line (codes "round " ++ (decimal k ++ flat_map (λ u. 32 ∷ uid_text u) uids))
 
 abbrev pub decided_line : Option Decision → Text
-decided_line None = line (codes "decision None")
-decided_line (Some d) = line (codes "decision " ++ decision_word d)
+decided_line found = line (codes "decision " ++ option_map_or decision_word found (codes "None"))
 
 -- the lines of a transcript whose next round has this number; a binding prints nothing
 abbrev pub entry_lines : ℕ → List Entry → Text
@@ -95,7 +95,7 @@ setup_of f b = record {
   limit = b.submission.limit;
   functions = f;
   start = b.start;
-  store = λ u. entity_of u b.store;
+  store = λ u. lookup (uid_eq u) b.store;
 }
 
 -- the lines of a run, after acceptance

@@ -1,67 +1,52 @@
 -- Requests that may be partly open, the worlds that complete them, and what is known at a moment of a run.
 -- Rule: completions; moments (docs/RULES.md).
-use Rattle.std.specs.Prelude.{◌≡◌, ◌||◌, ℕ, List, [], Bool, true, false, Option, Some, None, codes, if◌then◌else◌}
+use Rattle.std.specs.Prelude.{◌≡◌, ◌||◌, ℕ, List, [], Bool, true, Option, Some, codes, if◌then◌else◌}
 use Rattle.std.specs.List.{list_all, list_any}
 use Rattle.std.specs.Str.{bytes_eq}
 use Rattle.cedar_expr_model.specs.Name.{Text}
 use Rattle.cedar_expr_model.specs.Uid.{Uid, uid_eq}
 use Rattle.cedar_expr_model.specs.Whole.Value.{V, record_of, Fields}
-use Rattle.cedar_expr_model.specs.Whole.Tree.{CoreType, record_literal}
+use Rattle.cedar_expr_model.specs.Whole.Tree.{record_literal}
 use Rattle.cedar_expr_model.specs.Whole.Made.{bare_fields}
-use Rattle.cedar_expr_model.specs.Whole.Substitution.{fits_annotation}
 use Rattle.cedar_expr_model.specs.Whole.Parts.{unknowns}
-use Rattle.cedar_expr_model.specs.Whole.Unknowns.{EachUnknown}
 use Rattle.cedar_expr_model.specs.Whole.Table.{Table}
-use Rattle.cedar_store_model.specs.Whole.Outcome.{val}
-use Rattle.cedar_store_model.specs.Whole.World.{World, Entity, Found, held, missing, not_loaded}
-use Rattle.cedar_store_model.specs.Whole.Meaning.{Means}
+use Rattle.cedar_store_model.specs.Whole.World.{World, Entity, Found, held, not_loaded, by_found}
 use Rattle.cedar_store_model.specs.Whole.Knowledge.{IsWhole}
 use Rattle.cedar_schema_model.specs.Whole.Schema.{Schema, declares_action}
 use Rattle.cedar_schema_model.specs.Whole.ActionEntities.{as_entity}
-use Rattle.cedar_schema_model.specs.Whole.Conforming.{EntityConforms, RequestConforms, RequestParts}
+use Rattle.cedar_schema_model.specs.Whole.Conforming.{EntityConforms, RequestConforms}
 use Rattle.cedar_evaluator_model.specs.Scope.{Entry, uid, unknown_uid, Context, closed, residual_fields, unknown_context}
 use Rattle.cedar_gate_model.specs.Whole.Slice.{InSlice}
-
--- A request as a session is opened with it.
-pub record Start : Type 0 where
-  pub principal : Entry
-  pub action : Entry
-  pub resource : Entry
-  pub context : Context
+use Rattle.cedar_evaluator_model.specs.Response.{PartialRequest}
+use Rattle.cedar_evaluator_model.specs.Completion.{IsOfKind, PartIs}
+use Rattle.cedar_store_model.specs.Whole.Store.{OpenRequest}
+use Rattle.cedar_expr_model.specs.Whole.Lists.{when}
 
 -- the uid that completes an entry: the one given, or any of its type
 abbrev pub EntryCompleted : Entry → Option Uid → Type 0
 EntryCompleted (uid u) found = found ≡ Some u
-EntryCompleted (unknown_uid None) found = (u : Uid) × (found ≡ Some u)
-EntryCompleted (unknown_uid (Some n)) found = (u : Uid) × (found ≡ Some u) × (u.kind ≡ n)
-
--- the unknown of this name has a value of this type
-abbrev pub HasValue : World → Text → Option CoreType → Type 0
-HasValue w n a = (v : V) × (w.unknowns n ≡ Some v) × (fits_annotation a v ≡ true)
+EntryCompleted (unknown_uid k) found = (u : Uid) × (found ≡ Some u) × IsOfKind k u
 
 -- the context is the one given; or what its fields mean, each unknown in them having a value of its type; or any record
 abbrev pub ContextCompleted : World → Context → Type 0
 ContextCompleted w (closed fs) = w.context ≡ Some (record_of (bare_fields fs))
-ContextCompleted w (residual_fields fs) = (v : V) × (w.context ≡ Some v) × Means w (record_literal fs) (val v) × EachUnknown (HasValue w) (record_literal fs)
+ContextCompleted w (residual_fields fs) = (v : V) × (w.context ≡ Some v) × PartIs w (record_literal fs) v
 ContextCompleted w unknown_context = (fs : Fields) × (w.context ≡ Some (record_of fs))
 
-abbrev pub fields_of : Option V → Option Fields
-fields_of (Some (record_of fs)) = Some fs
-fields_of v = None
-
-abbrev pub parts_of_world : World → RequestParts
-parts_of_world w = record { principal = w.principal; action = w.action; resource = w.resource; context = fields_of w.context }
+-- the request that is asked in a world
+abbrev pub request_of : World → OpenRequest
+request_of w = record { principal = w.principal; action = w.action; resource = w.resource; context = w.context }
 
 -- A whole world that completes a request, for a schema and a level: the request conforms, the declared actions stand in the store as
 -- they are declared, and the entities of the slice conform; those outside it may be as they are.
-pub record Completes (s : Schema) (x : Table) (n : ℕ) (start : Start) (w : World) : Type 0 where
+pub record Completes (s : Schema) (x : Table) (n : ℕ) (start : PartialRequest) (w : World) : Type 0 where
   pub whole : IsWhole w
   pub principal : EntryCompleted start.principal w.principal
   pub action : EntryCompleted start.action w.action
   pub resource : EntryCompleted start.resource w.resource
   pub context : ContextCompleted w start.context
   pub table : w.table ≡ x
-  pub request : RequestConforms s (parts_of_world w)
+  pub request : RequestConforms s (request_of w)
   pub actions : (u : Uid) → declares_action s u ≡ true → w.store u ≡ held (as_entity s u)
   pub slice : (u : Uid) (e : Entity V) → InSlice s n w u → w.store u ≡ held e → EntityConforms s u e
 
@@ -87,18 +72,12 @@ context_known m (closed fs) = true
 context_known m (residual_fields fs) = list_all (λ u. is_bound m u.name) (unknowns (record_literal fs))
 context_known m unknown_context = is_bound m (codes "context")
 
-abbrev pub when : {A : Type 0} → Bool → Option A → Option A
-when true found = found
-when false found = None
-
 -- What an answer tells: an entity. That there is none counts for nothing before the end.
 abbrev pub told : Found V → Found V
-told (held e) = held e
-told missing = not_loaded
-told not_loaded = not_loaded
+told found = by_found held not_loaded not_loaded found
 
 -- what is known of a world at a moment: what was given or bound, and the declared actions and the answers
-abbrev pub known_at : Schema → Start → World → Moment → World
+abbrev pub known_at : Schema → PartialRequest → World → Moment → World
 known_at s start w m = record w {
   principal = when (entry_known m (codes "principal") start.principal) w.principal;
   action = when (entry_known m (codes "action") start.action) w.action;

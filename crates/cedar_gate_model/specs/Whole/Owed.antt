@@ -2,12 +2,11 @@
 -- Rule: owed decisions (docs/RULES.md).
 use Rattle.std.specs.Prelude.{◌≡◌, List, Contains, true}
 use Rattle.std.proofs.Common.{◌⊎◌}
-use Rattle.cedar_expr_model.specs.Name.{Text}
 use Rattle.cedar_expr_model.specs.Whole.Value.{V, truth_value}
 use Rattle.cedar_store_model.specs.Whole.Outcome.{Res, val}
 use Rattle.cedar_store_model.specs.Whole.World.{World}
 use Rattle.cedar_store_model.specs.Whole.Policy.{Policy, Effect, permit, forbid}
-use Rattle.cedar_store_model.specs.Whole.Answer.{Decision, allow, deny, PolicyMeans, reasons_of}
+use Rattle.cedar_store_model.specs.Whole.Answer.{Decision, allow, deny, PolicyMeans}
 
 -- what is known makes the policy true
 abbrev pub IsForcedTrue : World → Policy → Type 0
@@ -30,12 +29,3 @@ NoneTrue k ps e = (p : Policy) → Contains ps p → p.effect ≡ e → IsForced
 abbrev pub IsForced : World → List Policy → Decision → Type 0
 IsForced k ps allow = SomeTrue k ps permit × NoneTrue k ps forbid
 IsForced k ps deny = SomeTrue k ps forbid ⊎ NoneTrue k ps permit
-
--- what must be among the reasons and what may be: bounds that hold in a completion
-pub record Bounds : Type 0 where
-  pub must : List Text
-  pub may : List Text
-
-pub record Holds (b : Bounds) (w : World) (ps : List Policy) : Type 0 where
-  pub within : (id : Text) → Contains b.must id → Contains (reasons_of w ps) id
-  pub covers : (id : Text) → Contains (reasons_of w ps) id → Contains b.may id

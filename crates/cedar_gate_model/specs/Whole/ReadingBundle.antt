@@ -1,6 +1,6 @@
 -- Reading a bundle.
 -- Rule: what a bundle reads as (docs/RULES.md).
-use Rattle.std.specs.Prelude.{◌&&◌, ℕ, List, [], ◌∷◌, Bool, codes, if◌then◌else◌, Option, None, option_map}
+use Rattle.std.specs.Prelude.{◌&&◌, ℕ, List, [], ◌∷◌, Bool, codes, Option, option_map}
 use Rattle.std.specs.Str.{is_utf8}
 use Rattle.serde_json.specs.Data.{Data}
 use Rattle.serde_json.specs.Read.{read}
@@ -12,18 +12,13 @@ use Rattle.cedar_gate_model.specs.Whole.ReadingForms.{number_between, is_number}
 use Rattle.cedar_gate_model.specs.Whole.ReadingSchema.{schema_read}
 use Rattle.cedar_gate_model.specs.Whole.ReadingPolicy.{policy_read}
 use Rattle.cedar_gate_model.specs.Whole.ReadingRequest.{request_read, store_read, steps_read}
-
-abbrev pub level_read : Data → Option ℕ
-level_read d = number_between 0 4294967295 d
-
-abbrev pub limit_read : Data → Option ℕ
-limit_read d = number_between 1 512 d
+use Rattle.cedar_expr_model.specs.Whole.Lists.{when}
 
 -- what is handed to the gate
 abbrev pub submission_read : Functions → Data → Option Submission
 submission_read x d =
-    given (required (codes "level") level_read d) (λ level.
-    given (required (codes "limit") limit_read d) (λ limit.
+    given (required (codes "level") (number_between 0 4294967295) d) (λ level.
+    given (required (codes "limit") (number_between 1 512) d) (λ limit.
     given (required (codes "schema") schema_read d) (λ declarations.
     option_map (λ policies. record { declarations = declarations; policies = policies; table = x.table; level = level; limit = limit })
     (required (codes "policies") (list_of policy_read) d))))
@@ -39,13 +34,12 @@ is_bundle d = has_only bundle_keys d && has_at (codes "version") (is_number 1) d
 -- a bundle
 abbrev pub bundle_read : Functions → Data → Option Bundle
 bundle_read x d =
-    if is_bundle d then
-    given (submission_read x d) (λ submission.
+    when (is_bundle d)
+    (given (submission_read x d) (λ submission.
     given (required (codes "request") (request_read x) d) (λ start.
     given (required (codes "store") (store_read x) d) (λ store.
-    option_map (λ steps. record { submission = submission; start = start; store = store; steps = steps }) (steps_read x d))))
-    else None
+    option_map (λ steps. record { submission = submission; start = start; store = store; steps = steps }) (steps_read x d)))))
 
 -- A whole input, which is UTF-8 and JSON.
 unfoldable pub input_read : Functions → List ℕ → Option Bundle
-input_read x bytes = if is_utf8 bytes then given (read bytes) (bundle_read x) else None
+input_read x bytes = when (is_utf8 bytes) (given (read bytes) (bundle_read x))

@@ -8,11 +8,12 @@ use Rattle.serde_json.specs.Find.{as_str, as_i64}
 use Rattle.cedar_expr_model.specs.Name.{Text}
 use Rattle.cedar_expr_model.specs.Whole.Value.{truth, long, text, entity}
 use Rattle.cedar_expr_model.specs.Whole.Pattern.{Pattern, Element, character, wildcard}
-use Rattle.cedar_expr_model.specs.Whole.Tree.{Var, principal, action, resource, context, SlotId, principal_slot, resource_slot, negation, minus, is_empty, equal, less, less_or_equal, plus, difference, times, is_in, contains, contains_all, contains_any, get_tag, has_tag, Tree, lit, var, slot, unknown, choice, unary, binary, call, get_attr, like, is_type, set_literal, record_literal, Trees, no_trees, tree, TreeFields, no_tree_fields, tree_field}
-use Rattle.cedar_expr_model.specs.Whole.Builder.{conjunction, disjunction, path_test}
+use Rattle.cedar_expr_model.specs.Whole.Tree.{Var, principal, action, resource, context, SlotId, principal_slot, resource_slot, negation, minus, is_empty, equal, less, less_or_equal, plus, difference, times, is_in, contains, contains_all, contains_any, get_tag, has_tag, Tree, lit, var, slot, unknown, choice, unary, binary, call, get_attr, like, is_type, set_literal, record_literal, Trees, TreeFields, no_tree_fields, tree_field}
+use Rattle.cedar_expr_model.specs.Whole.Builder.{conjunction, disjunction, path_test, trees}
 use Rattle.cedar_gate_model.specs.Reading.{given, list_of}
 use Rattle.cedar_gate_model.specs.Whole.ReadingForms.{word_of}
 use Rattle.cedar_gate_model.specs.Whole.ReadingName.{plain_name_read, uid_from, annotation_read}
+use Rattle.cedar_expr_model.specs.Whole.Lists.{all_given}
 
 -- A part of a list: its JSON; the expression that it is read as, if it is one; and, if it is an object of expressions, its fields.
 pub record Part : Type 0 where
@@ -37,12 +38,10 @@ pattern_read d = option_map (flat_map (λ es. es)) (list_of elements_read d)
 
 -- the expressions that the parts are, and the texts
 abbrev pub trees_in : List Part → Option Trees
-trees_in [] = Some no_trees
-trees_in (x ∷ xs) = given x.tree (λ t. option_map (tree t) (trees_in xs))
+trees_in xs = option_map trees (all_given (λ x. x.tree) xs)
 
 abbrev pub texts_in : List Part → Option (List Text)
-texts_in [] = Some []
-texts_in (x ∷ xs) = given (as_str x.json) (λ a. option_map (λ as_. a ∷ as_) (texts_in xs))
+texts_in xs = all_given (λ x. as_str x.json) xs
 
 -- one expression, two or three, of which this is made
 abbrev pub of_one : (Tree → Tree) → List Part → Option Tree
@@ -88,9 +87,6 @@ abbrev pub has_form : List Part → Option Tree
 has_form (x ∷ y ∷ more) = given x.tree (λ t. given (as_str y.json) (λ a. option_map (path_test t a) (texts_in more)))
 has_form xs = None
 
-abbrev pub set_form : List Part → Option Tree
-set_form xs = option_map set_literal (trees_in xs)
-
 -- an object of expressions
 abbrev pub record_form : List Part → Option Tree
 record_form (x ∷ []) = option_map record_literal x.fields
@@ -126,7 +122,7 @@ forms =
     ∷ (codes "has", has_form)
     ∷ (codes "like", of_tree_and like pattern_read)
     ∷ (codes "is", of_tree_and is_type plain_name_read)
-    ∷ (codes "set", set_form)
+    ∷ (codes "set", λ xs. option_map set_literal (trees_in xs))
     ∷ (codes "record", record_form)
     ∷ []
 

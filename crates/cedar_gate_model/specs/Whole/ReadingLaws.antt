@@ -7,21 +7,21 @@ use Rattle.serde_json.specs.Find.{get}
 use Rattle.cedar_expr_model.specs.Name.{Text}
 use Rattle.cedar_expr_model.specs.Uid.{Uid}
 use Rattle.cedar_expr_model.specs.Whole.Value.{V}
-use Rattle.cedar_expr_model.specs.Whole.Tree.{SlotId, principal_slot, resource_slot, Tree, TreeFields}
+use Rattle.cedar_expr_model.specs.Whole.Tree.{SlotId, principal_slot, resource_slot, Tree, TreeFields, record_literal}
 use Rattle.cedar_expr_model.specs.Whole.BuilderForm.{is_built}
 use Rattle.cedar_expr_model.specs.Whole.Made.{Made}
-use Rattle.cedar_expr_model.specs.Whole.Restricted.{IsRestricted, have_restricted}
-use Rattle.cedar_expr_model.specs.Whole.Unknowns.{has_unknown, fields_have_unknown}
+use Rattle.cedar_expr_model.specs.Whole.Unknowns.{has_unknown}
 use Rattle.cedar_store_model.specs.Whole.World.{Entity}
 use Rattle.cedar_store_model.specs.Whole.Knowledge.{holds_values}
 use Rattle.cedar_store_model.specs.Whole.Policy.{tree_uses}
-use Rattle.cedar_schema_model.specs.Whole.WellFormed.{HasTwice}
+use Rattle.cedar_schema_model.specs.Whole.BagLaws.{HasTwice}
 use Rattle.cedar_evaluator_model.specs.Scope.{residual_fields}
 use Rattle.cedar_gate_model.specs.Whole.Bundle.{Functions, Bundle}
 use Rattle.cedar_gate_model.specs.Whole.ReadingExpression.{expression_read}
 use Rattle.cedar_gate_model.specs.Whole.ReadingValue.{value_read, context_read}
-use Rattle.cedar_gate_model.specs.Whole.ReadingRequest.{uids_of}
 use Rattle.cedar_gate_model.specs.Whole.ReadingBundle.{bundle_read}
+use Rattle.std.specs.Map.{keys_of}
+use Rattle.cedar_expr_model.specs.Whole.Restricted.{is_restricted}
 
 -- what is read as an expression has the form that builders make
 abbrev pub ReadIsBuilt : Type 0
@@ -71,7 +71,7 @@ TableIsGiven = (x : Functions) (d : Data) (b : Bundle) → bundle_read x d ≡ S
 
 -- no uid stands twice in the store of a bundle
 abbrev pub StoredOnce : Type 0
-StoredOnce = (x : Functions) (d : Data) (b : Bundle) → bundle_read x d ≡ Some b → HasTwice (uids_of b.store) → ⊥
+StoredOnce = (x : Functions) (d : Data) (b : Bundle) → bundle_read x d ≡ Some b → HasTwice (keys_of b.store) → ⊥
 
 -- attributes and tags of the store of a bundle are values alone
 abbrev pub StoreHoldsValues : Type 0
@@ -80,9 +80,9 @@ StoreHoldsValues = (x : Functions) (d : Data) (b : Bundle) → bundle_read x d �
 -- a value is read of a restricted expression that has no unknown
 abbrev pub ValuesAreRestricted : Type 0
 ValuesAreRestricted = (x : Functions) (d : Data) (m : Made) → value_read x d ≡ Some m
-    → (t : Tree) × (expression_read d ≡ Some t) × IsRestricted t × (has_unknown t ≡ false)
+    → (t : Tree) × (expression_read d ≡ Some t) × (is_restricted t ≡ true) × (has_unknown t ≡ false)
 
 -- a context that isn't a value has an unknown, and its fields are restricted
 abbrev pub OpenContextsHaveUnknowns : Type 0
 OpenContextsHaveUnknowns = (x : Functions) (d : Data) (fs : TreeFields) → context_read x d ≡ Some (residual_fields fs)
-    → (fields_have_unknown fs ≡ true) × (have_restricted fs ≡ true)
+    → (has_unknown (record_literal fs) ≡ true) × (is_restricted (record_literal fs) ≡ true)

@@ -6,8 +6,8 @@ use Rattle.serde_json.specs.Find.{as_str, as_array}
 use Rattle.cedar_expr_model.specs.Name.{Text, Name, name_read, is_reserved}
 use Rattle.cedar_expr_model.specs.Uid.{Uid}
 use Rattle.cedar_expr_model.specs.Whole.Tree.{CoreType, bool_core, long_core, string_core, set_core, record_core, entity_core, extension_core}
-use Rattle.cedar_gate_model.specs.Reading.{given, list_of}
-use Rattle.cedar_gate_model.specs.Whole.ReadingForms.{word_of, first_form, alone, if_passing}
+use Rattle.cedar_gate_model.specs.Reading.{given}
+use Rattle.cedar_gate_model.specs.Whole.ReadingForms.{word_of, first_form, alone, if_passing, read_as}
 
 -- a name of the grammar
 abbrev pub any_name_read : Data → Option Name
@@ -16,10 +16,6 @@ any_name_read d = given (as_str d) name_read
 -- the same, but no reserved name
 abbrev pub plain_name_read : Data → Option Name
 plain_name_read d = given (any_name_read d) (if_passing (λ n. not (is_reserved n)))
-
--- a list of names, as they stand in a schema
-abbrev pub names_read : Data → Option (List Name)
-names_read d = list_of any_name_read d
 
 -- the uid of a type and an id
 abbrev pub uid_from : Option Name → Option Text → Option Uid
@@ -34,9 +30,6 @@ uid_in kind_read ds = None
 abbrev pub uid_read : Data → Option Uid
 uid_read d = given (as_array d) (uid_in plain_name_read)
 
-abbrev pub uids_read : Data → Option (List Uid)
-uids_read d = list_of uid_read d
-
 -- a uid as it stands in a schema
 abbrev pub declared_uid_read : Data → Option Uid
 declared_uid_read d = given (as_array d) (uid_in any_name_read)
@@ -46,12 +39,6 @@ abbrev pub core_words : List (Text × CoreType)
 core_words =
     (codes "Bool", bool_core) ∷ (codes "Long", long_core) ∷ (codes "String", string_core) ∷ (codes "Set", set_core) ∷ (codes "Record", record_core) ∷ []
 
-abbrev pub entity_core_read : Data → Option CoreType
-entity_core_read d = option_map entity_core (plain_name_read d)
-
-abbrev pub extension_core_read : Data → Option CoreType
-extension_core_read d = option_map extension_core (plain_name_read d)
-
 -- the type of an unknown
 abbrev pub annotation_read : Data → Option CoreType
-annotation_read d = first_form (word_of core_words ∷ alone (codes "entity") entity_core_read ∷ alone (codes "ext") extension_core_read ∷ []) d
+annotation_read d = first_form (word_of core_words ∷ alone (codes "entity") (read_as entity_core plain_name_read) ∷ alone (codes "ext") (read_as extension_core plain_name_read) ∷ []) d

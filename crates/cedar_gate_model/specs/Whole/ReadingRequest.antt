@@ -1,56 +1,46 @@
 -- Reading requests, stores and steps.
 -- Rule: what a bundle reads as (docs/RULES.md).
-use Rattle.std.specs.Prelude.{List, [], ◌∷◌, map, Bool, not, codes, if◌then◌else◌, Option, Some, None, option_map}
+use Rattle.std.specs.Prelude.{List, [], ◌∷◌, codes, Option, Some, None, option_map}
 use Rattle.serde_json.specs.Data.{Data}
 use Rattle.serde_json.specs.Find.{as_str}
 use Rattle.cedar_expr_model.specs.Name.{Text}
-use Rattle.cedar_expr_model.specs.Uid.{Uid, uid_eq}
+use Rattle.cedar_expr_model.specs.Uid.{Uid}
 use Rattle.cedar_expr_model.specs.Whole.Value.{V}
 use Rattle.cedar_expr_model.specs.Whole.Made.{no_made_fields, bare}
-use Rattle.cedar_store_model.specs.Whole.World.{Part, known, Entity}
-use Rattle.cedar_schema_model.specs.Whole.WellFormed.{has_twice}
+use Rattle.cedar_expr_model.specs.Whole.ValueParts.{Part, known}
+use Rattle.cedar_store_model.specs.Whole.World.{Entity}
 use Rattle.cedar_evaluator_model.specs.Scope.{Entry, uid, unknown_uid, closed}
 use Rattle.cedar_gate_model.specs.Reading.{given, required, optional, has_only, list_of, members_of}
 use Rattle.cedar_gate_model.specs.Whole.Bundle.{Functions}
-use Rattle.cedar_gate_model.specs.Whole.Moment.{Start}
 use Rattle.cedar_gate_model.specs.Whole.Transcript.{Step, load, bind_name, decide}
-use Rattle.cedar_gate_model.specs.Whole.ReadingForms.{word_of, first_form, alone, if_passing}
-use Rattle.cedar_gate_model.specs.Whole.ReadingName.{plain_name_read, uid_read, uids_read}
+use Rattle.cedar_gate_model.specs.Whole.ReadingForms.{word_of, first_form, alone, if_passing, read_as}
+use Rattle.cedar_gate_model.specs.Whole.ReadingName.{plain_name_read, uid_read}
 use Rattle.cedar_gate_model.specs.Whole.ReadingValue.{value_read, context_read}
-
-abbrev pub entry_words : List (Text × Entry)
-entry_words = (codes "unknown", unknown_uid None) ∷ []
-
-abbrev pub known_entry_read : Data → Option Entry
-known_entry_read d = option_map uid (uid_read d)
-
-abbrev pub typed_entry_read : Data → Option Entry
-typed_entry_read d = option_map (λ n. unknown_uid (Some n)) (alone (codes "unknown") plain_name_read d)
+use Rattle.cedar_store_model.specs.Whole.Store.{are_distinct}
+use Rattle.cedar_evaluator_model.specs.Response.{PartialRequest}
+use Rattle.cedar_expr_model.specs.Whole.Lists.{when}
 
 -- a principal, action or resource: a uid, an unknown one, or an unknown one of a type
 abbrev pub entry_read : Data → Option Entry
-entry_read d = first_form (known_entry_read ∷ word_of entry_words ∷ typed_entry_read ∷ []) d
+entry_read d =
+    first_form (read_as uid uid_read ∷ word_of ((codes "unknown", unknown_uid None) ∷ []) ∷ alone (codes "unknown") (read_as (λ n. unknown_uid (Some n)) plain_name_read) ∷ []) d
 
 abbrev pub request_keys : List Text
 request_keys = codes "principal" ∷ codes "action" ∷ codes "resource" ∷ codes "context" ∷ []
 
 -- A request. A context that lacks is empty.
-abbrev pub request_read : Functions → Data → Option Start
+abbrev pub request_read : Functions → Data → Option PartialRequest
 request_read x d =
-    if has_only request_keys d then
-    given (required (codes "principal") entry_read d) (λ principal.
+    when (has_only request_keys d)
+    (given (required (codes "principal") entry_read d) (λ principal.
     given (required (codes "action") entry_read d) (λ action.
     given (required (codes "resource") entry_read d) (λ resource.
     option_map (λ context. record { principal = principal; action = action; resource = resource; context = context })
-    (optional (codes "context") (context_read x) (closed no_made_fields) d))))
-    else None
+    (optional (codes "context") (context_read x) (closed no_made_fields) d)))))
 
--- an attribute or a tag
-abbrev pub part_read : Functions → Text → Data → Option (Text × Part V)
-part_read x name d = option_map (λ m. (name, known (bare m))) (value_read x d)
-
+-- attributes, or tags
 abbrev pub parts_read : Functions → Data → Option (List (Text × Part V))
-parts_read x d = members_of (part_read x) d
+parts_read x d = members_of (λ name e. option_map (λ m. (name, known (bare m))) (value_read x e)) d
 
 abbrev pub entity_keys : List Text
 entity_keys = codes "uid" ∷ codes "attrs" ∷ codes "tags" ∷ codes "ancestors" ∷ []
@@ -58,24 +48,16 @@ entity_keys = codes "uid" ∷ codes "attrs" ∷ codes "tags" ∷ codes "ancestor
 -- an entity and its uid
 abbrev pub entity_read : Functions → Data → Option (Uid × Entity V)
 entity_read x d =
-    if has_only entity_keys d then
-    given (required (codes "uid") uid_read d) (λ u.
+    when (has_only entity_keys d)
+    (given (required (codes "uid") uid_read d) (λ u.
     given (optional (codes "attrs") (parts_read x) [] d) (λ attributes.
     given (optional (codes "tags") (parts_read x) [] d) (λ tags.
     option_map (λ ancestors. (u, record { attributes = attributes; tags = tags; ancestors = ancestors }))
-    (optional (codes "ancestors") uids_read [] d))))
-    else None
-
-abbrev pub uids_of : List (Uid × Entity V) → List Uid
-uids_of entities = map (λ e. e.0) entities
-
--- no uid stands twice
-abbrev pub has_distinct_uids : List (Uid × Entity V) → Bool
-has_distinct_uids entities = not (has_twice uid_eq (uids_of entities))
+    (optional (codes "ancestors") (list_of uid_read) [] d)))))
 
 -- a store, in which no uid is repeated
 abbrev pub store_read : Functions → Data → Option (List (Uid × Entity V))
-store_read x d = given (list_of (entity_read x) d) (if_passing has_distinct_uids)
+store_read x d = given (list_of (entity_read x) d) (if_passing are_distinct)
 
 abbrev pub step_words : List (Text × Step)
 step_words = (codes "load", load) ∷ (codes "decide", decide) ∷ []
@@ -83,9 +65,7 @@ step_words = (codes "load", load) ∷ (codes "decide", decide) ∷ []
 -- a binding of a name, which is any text, to a value
 abbrev pub binding_read : Functions → Data → Option Step
 binding_read x d =
-    if has_only (codes "bind" ∷ codes "value" ∷ []) d then
-    given (required (codes "bind") as_str d) (λ name. option_map (bind_name name) (required (codes "value") (value_read x) d))
-    else None
+    when (has_only (codes "bind" ∷ codes "value" ∷ []) d) (given (required (codes "bind") as_str d) (λ name. option_map (bind_name name) (required (codes "value") (value_read x) d)))
 
 abbrev pub step_read : Functions → Data → Option Step
 step_read x d = first_form (word_of step_words ∷ binding_read x ∷ []) d

@@ -1,14 +1,18 @@
 -- Reading declarations. Among them a reserved name reads: it is refused later.
 -- Rule: what a bundle reads as; declarations (docs/RULES.md).
-use Rattle.std.specs.Prelude.{◌++◌, List, [], ◌∷◌, true, false, codes, if◌then◌else◌, Option, Some, None, option_map}
+use Rattle.std.specs.Prelude.{◌++◌, List, [], ◌∷◌, true, false, codes, Option, Some, None, option_map, not}
 use Rattle.std.specs.Str.{bytes_eq}
 use Rattle.serde_json.specs.Data.{Data, string, object, Members, no_members, member}
 use Rattle.cedar_expr_model.specs.Name.{Text, Name, name_read, is_identifier}
 use Rattle.cedar_schema_model.specs.Whole.Reference.{Namespace, to_entity, to_common}
 use Rattle.cedar_schema_model.specs.Whole.Declarations.{TypeExpr, bool_expr, long_expr, string_expr, set_expr, record_expr, reference, extension_expr, FieldExprs, no_field_exprs, field_expr, CommonDeclaration, KindExpr, standard_expr, enumerated_expr, external_expr, EntityDeclaration, ActionDeclaration, Declarations, bag}
 use Rattle.cedar_gate_model.specs.Reading.{given, optional, has_only, list_of, members_of}
-use Rattle.cedar_gate_model.specs.Whole.ReadingForms.{beside, first_form, alone, texts_read, if_some}
-use Rattle.cedar_gate_model.specs.Whole.ReadingName.{any_name_read, names_read, declared_uid_read}
+use Rattle.cedar_gate_model.specs.Whole.ReadingForms.{first_form, alone, if_passing, read_as}
+use Rattle.cedar_gate_model.specs.Whole.ReadingName.{any_name_read, declared_uid_read}
+use Rattle.std.specs.Option.{option_or}
+use Rattle.std.specs.Map.{lookup}
+use Rattle.cedar_expr_model.specs.Whole.Lists.{when, is_nil}
+use Rattle.serde_json.specs.Find.{as_str}
 
 abbrev pub type_words : List (Text × TypeExpr)
 type_words = (codes "Bool", bool_expr) ∷ (codes "Long", long_expr) ∷ (codes "String", string_expr) ∷ []
@@ -29,23 +33,19 @@ type_forms =
     ∷ (codes "ext", λ x. option_map extension_expr (any_name_read x.json))
     ∷ []
 
-abbrev pub type_form_read : Text → TypePart → Option TypeExpr
-type_form_read key x = given (beside key type_forms) (λ form. form x)
-
 -- a field: required where a type stands, else an optional one
 abbrev pub field_from : Text → Option TypeExpr → Option TypeExpr → Option (FieldExprs → FieldExprs)
-field_from a (Some t) optional = Some (field_expr a t true)
-field_from a None optional = option_map (λ t. field_expr a t false) optional
+field_from a required optional = option_or (option_map (λ t. field_expr a t true) required) (option_map (λ t. field_expr a t false) optional)
 
 -- A type: a word, or an object with one key.
 abbrev mutual
   pub type_read : Data → Option TypeExpr
-  type_read (string s) = beside s type_words
+  type_read (string s) = lookup (bytes_eq s) type_words
   type_read (object ms) = type_in ms
   type_read d = None
 
   pub type_in : Members → Option TypeExpr
-  type_in (member k d no_members) = type_form_read k (record { json = d; type = type_read d; fields = attributes_read d })
+  type_in (member k d no_members) = given (lookup (bytes_eq k) type_forms) (λ form. form (record { json = d; type = type_read d; fields = attributes_read d }))
   type_in ms = None
 
   -- an object of types, each alone or marked as optional
@@ -63,37 +63,30 @@ abbrev mutual
   marked_read d = None
 
   pub marked_in : Members → Option TypeExpr
-  marked_in (member k d no_members) = if bytes_eq k (codes "optional") then type_read d else None
+  marked_in (member k d no_members) = when (bytes_eq k (codes "optional")) (type_read d)
   marked_in ms = None
 
 -- a common type, whose key is one identifier
 abbrev pub common_read : Namespace → Text → Data → Option CommonDeclaration
-common_read ns word d = if is_identifier word then option_map (λ t. record { namespace = ns; word = word; definition = t }) (type_read d) else None
+common_read ns word d = when (is_identifier word) (option_map (λ t. record { namespace = ns; word = word; definition = t }) (type_read d))
 
 -- An entity type without its name: parents, and the kind.
 abbrev pub Kind : Type 0
 Kind = List Name × KindExpr
 
-abbrev pub tag_type_read : Data → Option (Option TypeExpr)
-tag_type_read d = option_map Some (type_read d)
-
 abbrev pub standard_read : Data → Option Kind
 standard_read d =
-    if has_only (codes "parents" ∷ codes "attrs" ∷ codes "tags" ∷ []) d then
-    given (optional (codes "parents") names_read [] d) (λ parents.
+    when (has_only (codes "parents" ∷ codes "attrs" ∷ codes "tags" ∷ []) d)
+    (given (optional (codes "parents") (list_of any_name_read) [] d) (λ parents.
     given (optional (codes "attrs") attributes_read no_field_exprs d) (λ attributes.
-    option_map (λ tags. (parents, standard_expr attributes tags)) (optional (codes "tags") tag_type_read None d)))
-    else None
+    option_map (λ tags. (parents, standard_expr attributes tags)) (optional (codes "tags") (read_as Some type_read) None d))))
 
 -- one id or more, which may be repeated
-abbrev pub ids_read : Data → Option (List Text)
-ids_read d = given (texts_read d) if_some
-
 abbrev pub enumerated_read : Data → Option Kind
-enumerated_read d = option_map (λ ids. ([], enumerated_expr ids)) (alone (codes "enum") ids_read d)
+enumerated_read d = option_map (λ ids. ([], enumerated_expr ids)) (alone (codes "enum") (λ e. given (list_of as_str e) (if_passing (λ ids. not (is_nil ids)))) d)
 
 abbrev pub external_read : Data → Option Kind
-external_read d = option_map (λ parents. (parents, external_expr)) (alone (codes "external") names_read d)
+external_read d = option_map (λ parents. (parents, external_expr)) (alone (codes "external") (list_of any_name_read) d)
 
 abbrev pub kind_read : Data → Option Kind
 kind_read d = first_form (standard_read ∷ enumerated_read ∷ external_read ∷ []) d
@@ -101,7 +94,7 @@ kind_read d = first_form (standard_read ∷ enumerated_read ∷ external_read �
 -- an entity type, whose key is one identifier
 abbrev pub entity_type_read : Namespace → Text → Data → Option EntityDeclaration
 entity_type_read ns word d =
-    if is_identifier word then option_map (λ k. record { namespace = ns; word = word; parents = k.0; kind = k.1 }) (kind_read d) else None
+    when (is_identifier word) (option_map (λ k. record { namespace = ns; word = word; parents = k.0; kind = k.1 }) (kind_read d))
 
 abbrev pub action_keys : List Text
 action_keys = codes "in" ∷ codes "principals" ∷ codes "resources" ∷ codes "context" ∷ []
@@ -109,10 +102,10 @@ action_keys = codes "in" ∷ codes "principals" ∷ codes "resources" ∷ codes 
 -- an action, whose id is any text
 abbrev pub action_read : Namespace → Text → Data → Option ActionDeclaration
 action_read ns id d =
-    if has_only action_keys d then
-    given (optional (codes "in") (list_of declared_uid_read) [] d) (λ parents.
-    given (optional (codes "principals") names_read [] d) (λ principals.
-    given (optional (codes "resources") names_read [] d) (λ resources.
+    when (has_only action_keys d)
+    (given (optional (codes "in") (list_of declared_uid_read) [] d) (λ parents.
+    given (optional (codes "principals") (list_of any_name_read) [] d) (λ principals.
+    given (optional (codes "resources") (list_of any_name_read) [] d) (λ resources.
     option_map (λ context. record {
       namespace = ns;
       id = id;
@@ -122,8 +115,7 @@ action_read ns id d =
       context = context;
       is_external = false;
     })
-    (optional (codes "context") type_read (record_expr no_field_exprs) d))))
-    else None
+    (optional (codes "context") type_read (record_expr no_field_exprs) d)))))
 
 -- the namespace that a key names; the empty text names the empty one
 abbrev pub namespace_named : Text → Option Namespace
@@ -142,7 +134,7 @@ declared_in d ns =
     (optional (codes "actions") (members_of (action_read ns)) [] d)))
 
 abbrev pub namespace_read : Text → Data → Option Declarations
-namespace_read key d = if has_only namespace_keys d then given (namespace_named key) (declared_in d) else None
+namespace_read key d = when (has_only namespace_keys d) (given (namespace_named key) (declared_in d))
 
 -- a fragment, which is an object of namespaces
 abbrev pub fragment_read : Data → Option Declarations

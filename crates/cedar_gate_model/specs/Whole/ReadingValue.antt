@@ -1,22 +1,17 @@
 -- Reading values and contexts: restricted expressions, evaluated when they are read.
 -- Rule: what a bundle reads as; restricted expressions (docs/RULES.md).
-use Rattle.std.specs.Prelude.{ℕ, List, [], ◌∷◌, codes, Option, Some, None}
+use Rattle.std.specs.Prelude.{[], ◌∷◌, codes, Option, Some, None}
 use Rattle.serde_json.specs.Data.{Data}
-use Rattle.cedar_expr_model.specs.Name.{Text}
 use Rattle.cedar_expr_model.specs.Whole.Tree.{Tree, record_literal}
-use Rattle.cedar_expr_model.specs.Whole.Made.{Made, made_record}
+use Rattle.cedar_expr_model.specs.Whole.Made.{Made}
 use Rattle.cedar_expr_model.specs.Whole.Restricted.{is_restricted}
 use Rattle.cedar_store_model.specs.Whole.World.{not_loaded}
-use Rattle.cedar_evaluator_model.specs.Scope.{unknown_uid, Context, closed, residual_fields, unknown_context, Scope, Left, value_left, residual}
-use Rattle.cedar_evaluator_model.specs.Evaluation.{evaluated}
+use Rattle.cedar_evaluator_model.specs.Scope.{unknown_uid, Context, unknown_context, Scope, Left, value_left}
 use Rattle.cedar_gate_model.specs.Reading.{given}
 use Rattle.cedar_gate_model.specs.Whole.Bundle.{Functions}
 use Rattle.cedar_gate_model.specs.Whole.ReadingForms.{word_of, first_form, if_passing}
 use Rattle.cedar_gate_model.specs.Whole.ReadingExpression.{expression_read, fields_read}
-
--- the limit on the depth of a restricted expression
-abbrev pub restricted_limit : ℕ
-restricted_limit = 512
+use Rattle.cedar_evaluator_model.specs.Reauthorize.{restricted_left, context_from}
 
 -- a scope that knows nothing but the functions
 abbrev pub with_functions : Functions → Scope
@@ -34,7 +29,7 @@ with_functions x = record {
 
 -- what is left of a restricted expression
 abbrev pub left_of_restricted : Functions → Tree → Left
-left_of_restricted x t = evaluated (with_functions x) restricted_limit t
+left_of_restricted x t = restricted_left (with_functions x) t
 
 abbrev pub if_value : Left → Option Made
 if_value (value_left m) = Some m
@@ -44,22 +39,10 @@ if_value l = None
 abbrev pub value_read : Functions → Data → Option Made
 value_read x d = given (given (expression_read d) (if_passing is_restricted)) (λ t. if_value (left_of_restricted x t))
 
--- the context that is left of a record
-abbrev pub context_from : Left → Option Context
-context_from (value_left (made_record fs)) = Some (closed fs)
-context_from (residual (record_literal fs)) = Some (residual_fields fs)
-context_from l = None
-
--- the record of these fields, where each is restricted
-abbrev pub record_read : Data → Option Tree
-record_read d = given (fields_read d) (λ fs. if_passing is_restricted (record_literal fs))
-
+-- the record of an object of restricted expressions, evaluated
 abbrev pub fields_context_read : Functions → Data → Option Context
-fields_context_read x d = given (record_read d) (λ t. context_from (left_of_restricted x t))
-
-abbrev pub context_words : List (Text × Context)
-context_words = (codes "unknown", unknown_context) ∷ []
+fields_context_read x d = given (given (fields_read d) (λ fs. if_passing is_restricted (record_literal fs))) (λ t. context_from (left_of_restricted x t))
 
 -- A context: unknown, or an object of restricted expressions, whose evaluation doesn't fail.
 abbrev pub context_read : Functions → Data → Option Context
-context_read x d = first_form (word_of context_words ∷ fields_context_read x ∷ []) d
+context_read x d = first_form (word_of ((codes "unknown", unknown_context) ∷ []) ∷ fields_context_read x ∷ []) d

@@ -6,12 +6,13 @@ use Rattle.cedar_expr_model.specs.Whole.Made.{Made}
 use Rattle.cedar_store_model.specs.Whole.World.{World}
 use Rattle.cedar_store_model.specs.Whole.Policy.{Policy}
 use Rattle.cedar_store_model.specs.Whole.Answer.{Answer}
-use Rattle.cedar_schema_model.specs.Whole.WellFormed.{HasTwice}
+use Rattle.cedar_schema_model.specs.Whole.BagLaws.{HasTwice}
 use Rattle.cedar_evaluator_model.specs.Scope.{Context, closed, residual_fields, unknown_context}
 use Rattle.cedar_gate_model.specs.Whole.Acceptance.{IsAccepted}
 use Rattle.cedar_gate_model.specs.Whole.Bundle.{Functions, Bundle}
 use Rattle.cedar_gate_model.specs.Whole.Moment.{at_first}
-use Rattle.cedar_gate_model.specs.Whole.Transcript.{Step, load, bind_name, decide, Entry, round, bound, decided, Case, AreLegal, asked_in, AsksTheSlice}
+use Rattle.cedar_gate_model.specs.Whole.GateLaws.{asked_in, AsksTheSlice}
+use Rattle.cedar_gate_model.specs.Whole.Transcript.{Step, load, bind_name, decide, Entry, round, bound, decided, Case, AreLegal}
 use Rattle.cedar_gate_model.specs.Whole.Session.{Setup, State, at_start, CompletesNow}
 use Rattle.cedar_gate_model.specs.Whole.Runs.{End, answered, opening_refused, supply_refused, binding_refused, answer_refused, with_asked, MayDecide, Runs}
 use Rattle.cedar_gate_model.specs.Whole.Lines.{Status, is_answered, is_refused, run_lines, is_unreadable, unreadable_line, Prints}

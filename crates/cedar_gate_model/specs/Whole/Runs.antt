@@ -1,12 +1,10 @@
 -- Runs over a store that answers for every uid: what they do step by step, and how they end.
 -- Rule: runs; legal transcript (docs/RULES.md).
-use Rattle.std.specs.Prelude.{◌≡◌, ◌≢◌, List, [], ◌∷◌, ◌++◌, map, Option, Some, None}
+use Rattle.std.specs.Prelude.{◌≡◌, ◌≢◌, List, [], ◌∷◌, ◌++◌, map, Option, Some, None, option_map}
 use Rattle.std.proofs.Common.{◌⊎◌}
 use Rattle.cedar_expr_model.specs.Name.{Text}
 use Rattle.cedar_expr_model.specs.Uid.{Uid}
 use Rattle.cedar_expr_model.specs.Whole.Made.{Made}
-use Rattle.cedar_expr_model.specs.Whole.Value.{V}
-use Rattle.cedar_store_model.specs.Whole.World.{Entity}
 use Rattle.cedar_store_model.specs.Whole.Policy.{Policy}
 use Rattle.cedar_store_model.specs.Whole.Answer.{Decision, Answer, answer_of}
 use Rattle.cedar_gate_model.specs.Whole.Session.{Setup, State, at_start, known_now, world_now, MeetsLimit, HoldsInAll, IsWantedList, NothingIsWanted, with_bound, OpenFault, OpenRefusal, BindFault, BindRefusal, Supplied, SupplyFault, SupplyRefusal, AnswerFault, AnswerRefusal}
@@ -22,12 +20,8 @@ pub data End : Type 0 where
   answer_refused : AnswerRefusal → End
 
 -- what the store supplies for these
-abbrev pub owned : Uid → Option (Entity V) → Option (Uid × Entity V)
-owned u None = None
-owned u (Some e) = Some (u, e)
-
 abbrev pub supplied_by : Setup → List Uid → Supplied
-supplied_by x uids = map (λ u. (u, owned u (x.store u))) uids
+supplied_by x uids = map (λ u. (u, option_map (λ e. (u, e)) (x.store u))) uids
 
 -- A round: these are wanted, at least one, in order, and what the store supplies is taken.
 pub record IsRoundNow (x : Setup) (s : State) (uids : List Uid) : Type 0 where

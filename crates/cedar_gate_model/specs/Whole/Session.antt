@@ -1,33 +1,37 @@
 -- Sessions: what was bound and asked so far, what is known by it, and what each call refuses.
 -- Rule: sessions; refusals of a session (docs/RULES.md).
-use Rattle.std.specs.Prelude.{◌≡◌, ◌↔◌, ◌&&◌, ◌||◌, ℕ, List, [], ◌∷◌, map, Contains, Bool, true, false, not, is_some, Option, Some, None, option_map, codes, if◌then◌else◌}
+use Rattle.std.specs.Prelude.{◌≡◌, ◌↔◌, ◌&&◌, ◌||◌, ℕ, List, [], ◌∷◌, Contains, Bool, true, false, not, is_some, Option, Some, None, codes, if◌then◌else◌, option_and_then, unwrap_or, IsSome}
 use Rattle.std.specs.List.{list_any}
 use Rattle.std.specs.Str.{bytes_eq}
 use Rattle.std.proofs.Common.{◌⊎◌}
-use Rattle.cedar_expr_model.specs.Name.{Text, Name, name_eq}
+use Rattle.cedar_expr_model.specs.Name.{Text, name_eq}
 use Rattle.cedar_expr_model.specs.Uid.{Uid, uid_eq}
 use Rattle.cedar_expr_model.specs.Order.{are_rising}
-use Rattle.cedar_expr_model.specs.Whole.Value.{entity, V, record_of}
+use Rattle.cedar_expr_model.specs.Whole.Value.{entity, V}
 use Rattle.cedar_expr_model.specs.Whole.Tree.{record_literal, TreeFields}
-use Rattle.cedar_expr_model.specs.Whole.Made.{Made, made_prim, made_record, bare, bare_fields}
+use Rattle.cedar_expr_model.specs.Whole.Made.{Made, made_prim, made_record, bare}
 use Rattle.cedar_expr_model.specs.Whole.Substitution.{fits_annotation, substituted}
 use Rattle.cedar_expr_model.specs.Whole.Parts.{Unknown, unknowns}
+use Rattle.cedar_expr_model.specs.Whole.Repeats as repeats
 use Rattle.cedar_store_model.specs.Whole.World.{World, Entity, Found, held, not_loaded}
 use Rattle.cedar_store_model.specs.Whole.Policy.{Policy}
 use Rattle.cedar_store_model.specs.Whole.Answer.{Decision, decision_of}
 use Rattle.cedar_store_model.specs.Whole.Store.{found_as, whole}
-use Rattle.cedar_schema_model.specs.Whole.WellFormed.{HasTwice}
 use Rattle.cedar_schema_model.specs.Whole.Schema.{Schema, declares_action}
 use Rattle.cedar_schema_model.specs.Whole.ActionEntities.{as_entity}
 use Rattle.cedar_schema_model.specs.Whole.Conforming.{EntityConforms, RequestConforms}
-use Rattle.cedar_evaluator_model.specs.Scope.{Scope, Entry, uid, unknown_uid, Context, closed, residual_fields, unknown_context, Left, value_left, residual, stopped, Stop}
-use Rattle.cedar_evaluator_model.specs.Known.{known_found}
-use Rattle.cedar_evaluator_model.specs.Response.{response_of}
+use Rattle.cedar_evaluator_model.specs.Scope.{Scope, Entry, uid, unknown_uid, Context, closed, residual_fields, unknown_context, Left, value_left, stopped, Stop}
+use Rattle.cedar_evaluator_model.specs.Known.{known_found, known_world}
+use Rattle.cedar_evaluator_model.specs.Response.{response_of, PartialRequest}
 use Rattle.cedar_evaluator_model.specs.Members.{met_limit}
 use Rattle.cedar_gate_model.specs.Whole.Bundle.{Functions}
 use Rattle.cedar_gate_model.specs.Whole.Slice.{InSlice}
+use Rattle.cedar_evaluator_model.specs.Reauthorize.{context_from}
 use Rattle.cedar_gate_model.specs.Whole.ReadingValue.{left_of_restricted}
-use Rattle.cedar_gate_model.specs.Whole.Moment.{Start, Completes, parts_of_world, told}
+use Rattle.cedar_gate_model.specs.Whole.Moment.{Completes, told, request_of}
+use Rattle.std.specs.Map.{lookup, keys_of}
+use Rattle.std.specs.Option.{option_map_or}
+use Rattle.cedar_store_model.specs.Whole.Reads.{uid_of}
 
 -- What a session stands on: schema, level, the limit on nesting, functions, the request that it was opened with, and the store
 -- that answers.
@@ -36,7 +40,7 @@ pub record Setup : Type 0 where
   pub level : ℕ
   pub limit : ℕ
   pub functions : Functions
-  pub start : Start
+  pub start : PartialRequest
   pub store : Uid → Option (Entity V)
 
 -- What was done by now: the names that were bound, with their values, and the uids that were asked for.
@@ -47,34 +51,40 @@ pub record State : Type 0 where
 abbrev pub at_start : State
 at_start = record { bound = []; asked = [] }
 
-abbrev pub value_among : Text → List (Text × Made) → Option Made
-value_among n [] = None
-value_among n (b ∷ bs) = if bytes_eq n b.0 then Some b.1 else value_among n bs
-
 abbrev pub value_of : State → Text → Option Made
-value_of s n = value_among n s.bound
+value_of s n = lookup (bytes_eq n) s.bound
 
 -- the fields of a context with the bound values in the place of its unknowns, evaluated
 abbrev pub context_left : Functions → State → TreeFields → Left
 context_left f s fs = left_of_restricted f (substituted (value_of s) (record_literal fs))
 
-abbrev pub value_if_whole : Left → Option V
-value_if_whole (value_left m) = Some (bare m)
-value_if_whole l = None
-
+-- the uid that a value is
 abbrev pub uid_in : Option Made → Option Uid
-uid_in (Some (made_prim (entity u))) = Some u
-uid_in o = None
+uid_in found = option_and_then (λ m. uid_of (bare m)) found
 
--- an entry, as far as it is known by now
-abbrev pub entry_by_now : State → Text → Entry → Option Uid
-entry_by_now s name (uid u) = Some u
-entry_by_now s name (unknown_uid k) = uid_in (value_of s name)
+-- an entry and a context as they are now, with what was bound in its place
+abbrev pub entry_now : State → Text → Entry → Entry
+entry_now s name (uid u) = uid u
+entry_now s name (unknown_uid k) = option_map_or uid (uid_in (value_of s name)) (unknown_uid k)
 
-abbrev pub context_by_now : Functions → State → Context → Option V
-context_by_now f s (closed fs) = Some (record_of (bare_fields fs))
-context_by_now f s (residual_fields fs) = value_if_whole (context_left f s fs)
-context_by_now f s unknown_context = option_map bare (value_of s (codes "context"))
+abbrev pub context_now : Functions → State → Context → Context
+context_now f s (closed fs) = closed fs
+context_now f s (residual_fields fs) = unwrap_or (context_from (context_left f s fs)) unknown_context
+context_now f s unknown_context = unwrap_or (option_and_then (λ m. context_from (value_left m)) (value_of s (codes "context"))) unknown_context
+
+-- what an evaluation knows now, over a store with the calls that make its values
+abbrev pub scope_now : Setup → State → (Uid → Found Made) → Scope
+scope_now x s store = record {
+  principal = entry_now s (codes "principal") x.start.principal;
+  action = entry_now s (codes "action") x.start.action;
+  resource = entry_now s (codes "resource") x.start.resource;
+  context = context_now x.functions s x.start.context;
+  slots = λ s'. None;
+  values = value_of s;
+  table = x.functions.table;
+  calls = x.functions.calls;
+  store = store;
+}
 
 -- what the whole store answers: at declared actions these stand, whatever is said of them
 abbrev pub whole_store : Setup → Uid → Found V
@@ -82,16 +92,8 @@ whole_store x u = if declares_action x.schema u then held (as_entity x.schema u)
 
 -- what is known by now
 abbrev pub known_now : Setup → State → World
-known_now x s = record {
-  principal = entry_by_now s (codes "principal") x.start.principal;
-  action = entry_by_now s (codes "action") x.start.action;
-  resource = entry_by_now s (codes "resource") x.start.resource;
-  context = context_by_now x.functions s x.start.context;
-  slots = λ s'. None;
-  unknowns = λ n. option_map bare (value_of s n);
-  table = x.functions.table;
-  store = λ u. if declares_action x.schema u || list_any (uid_eq u) s.asked then told (whole_store x u) else not_loaded;
-}
+known_now x s =
+    record (known_world (scope_now x s (λ u. not_loaded))) { store = λ u. if declares_action x.schema u || list_any (uid_eq u) s.asked then told (whole_store x u) else not_loaded }
 
 -- the same with the whole store, which the answer stands on
 abbrev pub world_now : Setup → State → World
@@ -108,43 +110,6 @@ NothingIsWanted x s = (u : Uid) → IsWantedNow x s u → ⊥
 pub record IsWantedList (x : Setup) (s : State) (uids : List Uid) : Type 0 where
   pub in_order : are_rising uids ≡ true
   pub exact : (u : Uid) → Contains uids u ↔ IsWantedNow x s u
-
--- an entry and a context as they are now, with what was bound in its place
-abbrev pub entry_with : Option Name → Option Uid → Entry
-entry_with k (Some u) = uid u
-entry_with k None = unknown_uid k
-
-abbrev pub entry_now : State → Text → Entry → Entry
-entry_now s name (uid u) = uid u
-entry_now s name (unknown_uid k) = entry_with k (uid_in (value_of s name))
-
-abbrev pub context_with : Option Made → Context
-context_with (Some (made_record fs)) = closed fs
-context_with o = unknown_context
-
-abbrev pub context_if_record : Left → Context
-context_if_record (value_left m) = context_with (Some m)
-context_if_record (residual (record_literal fs)) = residual_fields fs
-context_if_record l = unknown_context
-
-abbrev pub context_now : Functions → State → Context → Context
-context_now f s (closed fs) = closed fs
-context_now f s (residual_fields fs) = context_if_record (context_left f s fs)
-context_now f s unknown_context = context_with (value_of s (codes "context"))
-
--- what an evaluation knows now, over a store with the calls that make its values
-abbrev pub scope_now : Setup → State → (Uid → Found Made) → Scope
-scope_now x s store = record {
-  principal = entry_now s (codes "principal") x.start.principal;
-  action = entry_now s (codes "action") x.start.action;
-  resource = entry_now s (codes "resource") x.start.resource;
-  context = context_now x.functions s x.start.context;
-  slots = λ s'. None;
-  values = value_of s;
-  table = x.functions.table;
-  calls = x.functions.calls;
-  store = store;
-}
 
 -- Some policy is evaluated to the limit on nesting now: such a policy counts as open, and no decision is owed.
 abbrev pub MeetsLimit : Setup → List Policy → State → Type 0
@@ -169,12 +134,12 @@ abbrev pub open_number : OpenRefusal → ℕ
 open_number quote_in_name = 1
 open_number name_of_variable = 2
 
-abbrev pub OpenFault : Start → OpenRefusal → Type 0
+abbrev pub OpenFault : PartialRequest → OpenRefusal → Type 0
 OpenFault r quote_in_name = (u : Unknown) × Contains (context_unknowns r.context) u × Contains u.name 34
 OpenFault r name_of_variable = (u : Unknown) × Contains (context_unknowns r.context) u × Contains variable_names u.name
 
 -- the entry of a variable, where the name is that of one
-abbrev pub entry_named : Start → Text → Option Entry
+abbrev pub entry_named : PartialRequest → Text → Option Entry
 entry_named r n =
     if bytes_eq n (codes "principal") then Some r.principal
     else (if bytes_eq n (codes "action") then Some r.action
@@ -190,11 +155,11 @@ is_open_context (residual_fields fs) n = list_any (λ u. bytes_eq n u.name) (unk
 is_open_context unknown_context n = bytes_eq n (codes "context")
 
 -- the name was open at the start, and is not bound yet
-abbrev pub is_open_name : Start → State → Text → Bool
+abbrev pub is_open_name : PartialRequest → State → Text → Bool
 is_open_name r s n = not (is_some (value_of s n)) && (is_open_entry (entry_named r n) || is_open_context r.context n)
 
 -- something is not bound yet
-abbrev pub HasOpenName : Start → State → Type 0
+abbrev pub HasOpenName : PartialRequest → State → Type 0
 HasOpenName r s = (n : Text) × (is_open_name r s n ≡ true)
 
 -- an entity of another type than the unknown entry has
@@ -204,8 +169,7 @@ IsOtherKind e m = ⊥
 
 -- a value that is no entity, for a variable that is one
 abbrev pub IsNoEntity : Option Entry → Made → Type 0
-IsNoEntity None m = ⊥
-IsNoEntity (Some e) m = uid_in (Some m) ≡ None
+IsNoEntity e m = IsSome e × (uid_of (bare m) ≡ None)
 
 -- a value that isn't of the annotation of an unknown of this name
 abbrev pub BreaksAnnotation : Context → Text → Made → Type 0
@@ -248,9 +212,6 @@ BindFault x s n m context_fails = ContextFails x.functions (with_bound s n m) x.
 abbrev pub Supplied : Type 0
 Supplied = List (Uid × Option (Uid × Entity V))
 
-abbrev pub supplied_ids : Supplied → List Uid
-supplied_ids ps = map (λ p. p.0) ps
-
 -- an entity under another uid than its own, or one that doesn't conform
 abbrev pub IsWrong : Schema → Uid × Option (Uid × Entity V) → Type 0
 IsWrong s (u, None) = ⊥
@@ -270,9 +231,9 @@ supply_number repeated = 3
 supply_number wrong_entity = 4
 
 abbrev pub SupplyFault : Setup → State → Supplied → SupplyRefusal → Type 0
-SupplyFault x s ps not_wanted = (u : Uid) × Contains (supplied_ids ps) u × (IsWantedNow x s u → ⊥)
-SupplyFault x s ps lacking = (u : Uid) × IsWantedNow x s u × (Contains (supplied_ids ps) u → ⊥)
-SupplyFault x s ps repeated = HasTwice (supplied_ids ps)
+SupplyFault x s ps not_wanted = (u : Uid) × Contains (keys_of ps) u × (IsWantedNow x s u → ⊥)
+SupplyFault x s ps lacking = (u : Uid) × IsWantedNow x s u × (Contains (keys_of ps) u → ⊥)
+SupplyFault x s ps repeated = is_some (repeats.repeated uid_eq (keys_of ps)) ≡ true
 SupplyFault x s ps wrong_entity = (p : Uid × Option (Uid × Entity V)) × Contains ps p × IsWrong x.schema p
 
 -- Refusals of the answer: something isn't bound; something is wanted; all is bound and the request doesn't conform.
@@ -289,12 +250,12 @@ answer_number not_conforming = 3
 abbrev pub AnswerFault : Setup → State → AnswerRefusal → Type 0
 AnswerFault x s not_bound = HasOpenName x.start s
 AnswerFault x s still_wanted = (u : Uid) × IsWantedNow x s u
-AnswerFault x s not_conforming = (HasOpenName x.start s → ⊥) × (RequestConforms x.schema (parts_of_world (world_now x s)) → ⊥)
+AnswerFault x s not_conforming = (HasOpenName x.start s → ⊥) × (RequestConforms x.schema (request_of (world_now x s)) → ⊥)
 
 -- a variable of the request means its value, where the name is that of one
 abbrev pub VariableMeansBound : World → Text → Made → Type 0
-VariableMeansBound w n m = (n ≡ codes "principal" → w.principal ≡ uid_in (Some m)) × (n ≡ codes "action" → w.action ≡ uid_in (Some m))
-    × (n ≡ codes "resource" → w.resource ≡ uid_in (Some m)) × (n ≡ codes "context" → w.context ≡ Some (bare m))
+VariableMeansBound w n m = (n ≡ codes "principal" → w.principal ≡ uid_of (bare m)) × (n ≡ codes "action" → w.action ≡ uid_of (bare m))
+    × (n ≡ codes "resource" → w.resource ≡ uid_of (bare m)) × (n ≡ codes "context" → w.context ≡ Some (bare m))
 
 -- A bound name means its value in a world: a variable its uid, the context its record, an unknown itself.
 abbrev pub MeansBound : World → Text × Made → Type 0

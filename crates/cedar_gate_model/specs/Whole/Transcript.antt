@@ -1,6 +1,6 @@
 -- Runs: steps, the entries of a transcript, and which transcripts are legal.
 -- Rule: legal transcript (docs/RULES.md).
-use Rattle.std.specs.Prelude.{◌≡◌, ◌≢◌, ◌↔◌, ◌≤◌, ℕ, true, List, [], ◌∷◌, ◌++◌, length, Option, Some, None, Contains, IfSome}
+use Rattle.std.specs.Prelude.{◌≡◌, ◌≢◌, ◌↔◌, ℕ, true, List, [], ◌∷◌, ◌++◌, Option, Some, None, Contains, IfSome}
 use Rattle.cedar_expr_model.specs.Name.{Text}
 use Rattle.cedar_expr_model.specs.Uid.{Uid}
 use Rattle.cedar_expr_model.specs.Order.{are_rising}
@@ -10,7 +10,8 @@ use Rattle.cedar_store_model.specs.Whole.Policy.{Policy}
 use Rattle.cedar_store_model.specs.Whole.Answer.{Decision, Answer, decision_of, answer_of}
 use Rattle.cedar_schema_model.specs.Whole.Schema.{Schema}
 use Rattle.cedar_gate_model.specs.Whole.Slice.{InSlice}
-use Rattle.cedar_gate_model.specs.Whole.Moment.{Start, Moment, at_first, known_at}
+use Rattle.cedar_gate_model.specs.Whole.Moment.{Moment, at_first, known_at}
+use Rattle.cedar_evaluator_model.specs.Response.{PartialRequest}
 
 -- what a caller asks of a run: to load, to bind a name, to decide
 pub data Step : Type 0 where
@@ -33,7 +34,7 @@ pub record Case : Type 0 where
   pub schema : Schema
   pub level : ℕ
   pub policies : List Policy
-  pub start : Start
+  pub start : PartialRequest
 
 -- the moment after an entry
 abbrev pub after : Moment → Entry → Moment
@@ -67,27 +68,3 @@ AreLegal c w m (e ∷ es) = IsLegalEntry c w m e × AreLegal c w (after m e) es
 pub record IsLegal (c : Case) (w : World) (t : Transcript) : Type 0 where
   pub entries : AreLegal c w at_first t.entries
   pub answer : IfSome t.answer (λ a. a ≡ answer_of w c.policies)
-
--- the moment at the end of entries
-abbrev pub moment_after : Moment → List Entry → Moment
-moment_after m [] = m
-moment_after m (e ∷ es) = moment_after (after m e) es
-
--- the uids that a transcript asked for
-abbrev pub asked_in : List Entry → List Uid
-asked_in es = (moment_after at_first es).asked
-
--- the rounds after the last binding
-abbrev pub rounds_after : List Entry → List (List Uid) → List (List Uid)
-rounds_after [] found = found
-rounds_after (round uids ∷ es) found = rounds_after es (found ++ uids ∷ [])
-rounds_after (bound n ∷ es) found = rounds_after es []
-rounds_after (decided d ∷ es) found = rounds_after es found
-
-abbrev pub last_rounds : List Entry → List (List Uid)
-last_rounds es = rounds_after es []
-
--- What is promised of the questions of a run that answered: what was asked is the slice, and few rounds follow the last binding.
-pub record AsksTheSlice (c : Case) (w : World) (es : List Entry) : Type 0 where
-  pub exact : (u : Uid) → Contains (asked_in es) u ↔ InSlice c.schema c.level w u
-  pub few : length (last_rounds es) ≤ c.level

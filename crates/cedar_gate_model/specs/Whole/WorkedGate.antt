@@ -3,13 +3,14 @@
 use Rattle.std.specs.Prelude.{ℕ, pos, List, [], ◌∷◌, ◌++◌, codes, Bool, true, false, Option, Some, None}
 use Rattle.std.specs.List.{flat_map}
 use Rattle.cedar_expr_model.specs.Name.{Text, Name}
-use Rattle.cedar_expr_model.specs.Uid.{Uid}
+use Rattle.cedar_expr_model.specs.Uid.{Uid, uid_eq}
 use Rattle.cedar_expr_model.specs.Whole.Value.{truth, long, text, entity, V, prim, extension}
 use Rattle.cedar_expr_model.specs.Whole.Tree.{principal, action, context, Tree, lit, var, slot, unknown, both, binary, equal, less, plus, call, get_attr, is_type, principal_slot, string_core, extension_core, no_trees, tree, record_literal, no_tree_fields, tree_field}
 use Rattle.cedar_expr_model.specs.Whole.Made.{Made, made_prim, made_extension, no_made_fields}
 use Rattle.cedar_expr_model.specs.Whole.Table.{Table, function_style, Called, gives, fails}
-use Rattle.cedar_store_model.specs.Whole.World.{World, known, Entity, Found, not_loaded}
-use Rattle.cedar_store_model.specs.Whole.Store.{Entities, entity_of, found_as, whole}
+use Rattle.cedar_expr_model.specs.Whole.ValueParts.{known}
+use Rattle.cedar_store_model.specs.Whole.World.{World, Entity, Found, not_loaded}
+use Rattle.cedar_store_model.specs.Whole.Store.{Entities, found_as, whole}
 use Rattle.cedar_store_model.specs.Whole.Answer.{Answer, answer_of}
 use Rattle.cedar_store_model.specs.Whole.Policy.{Policy, Effect, permit, forbid, exactly, named}
 use Rattle.cedar_schema_model.specs.Whole.Declarations.{Declarations, ActionDeclaration, bag, standard_expr, no_field_exprs}
@@ -17,14 +18,14 @@ use Rattle.cedar_schema_model.specs.Whole.DeclWorked.{m, user_fragment, view_dec
 use Rattle.cedar_typechecker_model.specs.Whole.Worked.{user, doc, user_a, doc_d, view, edit, blue, no_table, permits_when, is_ok, owned_by_staff, false_, in_slot_of, plain_name, uid_of, function}
 use Rattle.cedar_typechecker_model.specs.Whole.Verdicts.{RequestType}
 use Rattle.cedar_evaluator_model.specs.Scope.{MadeCalled, makes, faults, Entry, uid, unknown_uid, Context, closed, residual_fields}
-use Rattle.cedar_evaluator_model.specs.Response.{Response, response_of}
+use Rattle.cedar_evaluator_model.specs.Response.{Response, response_of, PartialRequest}
 use Rattle.cedar_gate_model.specs.Whole.Acceptance.{Submission, schema_in}
 use Rattle.cedar_gate_model.specs.Whole.Bundle.{Functions, Bundle}
-use Rattle.cedar_gate_model.specs.Whole.Moment.{Start}
 use Rattle.cedar_gate_model.specs.Whole.Session.{Setup, State, at_start, known_now, world_now, scope_now, Supplied}
 use Rattle.cedar_gate_model.specs.Whole.Runs.{supplied_by}
 use Rattle.cedar_gate_model.specs.Whole.Lines.{line, setup_of}
-use Rattle.cedar_gate_model.specs.Whole.Owed.{Bounds}
+use Rattle.cedar_gate_model.specs.Whole.GateLaws.{Bounds}
+use Rattle.std.specs.Map.{lookup}
 
 abbrev pub user_b : Uid
 user_b = uid_of user (codes "b")
@@ -117,22 +118,22 @@ below_z = (user_a, person user_z true) ∷ (user_b, person user_a true) ∷ (use
 
 -- the world of a request by this principal on `Doc::"d"`, over a whole store
 abbrev pub world_of : Option Uid → Entities → World
-world_of p es = record { principal = p; action = Some view; resource = Some doc_d; context = None; slots = λ s. None; unknowns = λ n. None; table = no_table; store = λ u. found_as whole (entity_of u es) }
+world_of p es = record { principal = p; action = Some view; resource = Some doc_d; context = None; slots = λ s. None; unknowns = λ n. None; table = no_table; store = λ u. found_as whole (lookup (uid_eq u) es) }
 
 -- requests
-abbrev pub asking : Entry → Context → Start
+abbrev pub asking : Entry → Context → PartialRequest
 asking p c = record { principal = p; action = uid view; resource = uid doc_d; context = c }
 
 abbrev pub no_context : Context
 no_context = closed no_made_fields
 
-abbrev pub by_a : Start
+abbrev pub by_a : PartialRequest
 by_a = asking (uid user_a) no_context
 
-abbrev pub by_some_user : Start
+abbrev pub by_some_user : PartialRequest
 by_some_user = asking (unknown_uid (Some user)) no_context
 
-abbrev pub by_anyone : Start
+abbrev pub by_anyone : PartialRequest
 by_anyone = asking (unknown_uid None) no_context
 
 -- `rank` of a text of one digit; its key is the number in two bytes
@@ -183,8 +184,8 @@ in_quotes id = 34 ∷ (id ++ 34 ∷ [])
 abbrev pub user_text : Text → Text
 user_text id = codes "User::" ++ in_quotes id
 
-abbrev pub setup_with : ℕ → Functions → Start → Entities → Setup
-setup_with n f r es = record { schema = schema_in (submitted m n []); level = n; limit = 16; functions = f; start = r; store = λ u. entity_of u es }
+abbrev pub setup_with : ℕ → Functions → PartialRequest → Entities → Setup
+setup_with n f r es = record { schema = schema_in (submitted m n []); level = n; limit = 16; functions = f; start = r; store = λ u. lookup (uid_eq u) es }
 
 abbrev pub text_made : Text → Made
 text_made s = made_prim (text s)
@@ -227,10 +228,10 @@ users = record { commons = []; entities = plain [] (codes "User") ∷ []; action
 abbrev pub holds : Policy
 holds = record (when (binary less (lit (long (pos 1))) (lit (long (pos 2))))) { principal = exactly (named user_a) }
 
-abbrev pub by_a_on_b : Start
+abbrev pub by_a_on_b : PartialRequest
 by_a_on_b = record by_a { resource = uid user_b }
 
-abbrev pub bundle_of : Declarations → ℕ → List Policy → Start → Bundle
+abbrev pub bundle_of : Declarations → ℕ → List Policy → PartialRequest → Bundle
 bundle_of d n ps r = record { submission = submitted d n ps; start = r; store = []; steps = [] }
 
 abbrev pub good_bundle : Bundle

@@ -18,7 +18,7 @@ use Rattle.cedar_evaluator_model.specs.Scope.{MadeCalled, makes, faults, uid, un
 use Rattle.cedar_gate_model.specs.Reading.{given}
 use Rattle.cedar_gate_model.specs.Whole.Acceptance.{Submission}
 use Rattle.cedar_gate_model.specs.Whole.Bundle.{Functions, Bundle}
-use Rattle.cedar_gate_model.specs.Whole.Moment.{Start}
+use Rattle.cedar_evaluator_model.specs.Response.{PartialRequest}
 use Rattle.cedar_gate_model.specs.Whole.ReadingBundle.{bundle_read}
 
 -- the text with a double quote for each single one
@@ -156,7 +156,7 @@ abbrev pub refuses_part : Text → List Text → Bool
 refuses_part key values = refuses (bundle_read ranks) (map (with_part key) values)
 
 -- the request of the user a to view, with an unknown resource
-abbrev pub plain_start : Start
+abbrev pub plain_start : PartialRequest
 plain_start = record { principal = uid user_a; action = uid view; resource = unknown_uid None; context = closed no_made_fields }
 
 abbrev pub plain_entity : Entity V

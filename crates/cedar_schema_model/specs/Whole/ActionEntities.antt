@@ -1,11 +1,11 @@
 -- Declared actions as entities.
 -- Rule: action entities (docs/RULES.md).
-use Rattle.std.specs.Prelude.{List, [], map, Option, Some, None, if◌then◌else◌}
+use Rattle.std.specs.Prelude.{List, [], map}
 use Rattle.std.specs.List.{filter}
 use Rattle.cedar_expr_model.specs.Uid.{Uid}
 use Rattle.cedar_expr_model.specs.Whole.Value.{V}
 use Rattle.cedar_store_model.specs.Whole.World.{Entity}
-use Rattle.cedar_schema_model.specs.Whole.Schema.{Schema, declares_action}
+use Rattle.cedar_schema_model.specs.Whole.Schema.{Schema}
 use Rattle.cedar_schema_model.specs.Whole.Descent.{action_uids, action_descends}
 
 -- the declared actions that the action descends from
@@ -16,10 +16,6 @@ action_ancestors s u = filter (action_descends s u) (action_uids s)
 abbrev pub as_entity : Schema → Uid → Entity V
 as_entity s u = record { attributes = []; tags = []; ancestors = action_ancestors s u }
 
--- the entity that a declared action is
-abbrev pub action_entity : Schema → Uid → Option (Entity V)
-action_entity s u = if declares_action s u then Some (as_entity s u) else None
-
--- all of them
+-- the declared actions as entities
 abbrev pub action_entities : Schema → List (Uid × Entity V)
 action_entities s = map (λ u. (u, as_entity s u)) (action_uids s)

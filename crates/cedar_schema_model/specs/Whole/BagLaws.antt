@@ -1,6 +1,6 @@
 -- What the laws on bags of declarations and on their schemas say.
 -- Rule: references; declarations; well-formed declarations; schemas (docs/RULES.md).
-use Rattle.std.specs.Prelude.{◌≡◌, ◌↔◌, suc, List, [], ◌∷◌, ◌++◌, length, true, false, Option, Some, Contains, is_some, ◌&&◌, Bool, None}
+use Rattle.std.specs.Prelude.{◌≡◌, ◌↔◌, suc, List, [], ◌∷◌, ◌++◌, length, true, false, not, Option, Some, Contains, is_some, ◌&&◌, Bool, None}
 use Rattle.std.specs.Bool.{Decides}
 use Rattle.std.specs.List.Sorted.{IsPermutation}
 use Rattle.std.proofs.Common.{◌⊎◌}
@@ -12,10 +12,10 @@ use Rattle.cedar_schema_model.specs.Whole.Descent.{type_names, Reaches, HasParen
 use Rattle.cedar_schema_model.specs.Whole.Descent as descent
 use Rattle.cedar_schema_model.specs.Whole.Reference.{Namespace, Reference, Meant, candidates, action_candidates, action_word, meant_common}
 use Rattle.cedar_schema_model.specs.Whole.Declarations.{CommonDeclaration, EntityDeclaration, ActionDeclaration, Declarations, bag, common_name, entity_name, entity_names, action_uids, is_declared, is_declared_action, meant, parent_meant, TypeExpr, action_uid, common_names, references_of_common, references, extensions}
-use Rattle.cedar_schema_model.specs.Whole.WellFormed.{SchemaFault, ill_forms, has_schema_fault, IsWellFormed, well_formed, duplicate_entity_type, duplicate_common_type, duplicate_action, undeclared_type, undeclared_action, cycle_of_common_types, cycle_of_actions, action_as_entity_type, context_not_record, reserved_name, shadowing, unknown_extension_type, unresolved_external, HasTwice, becomes_record, written_names, is_qualified, unqualified_uid, declared_types, is_external_kind}
+use Rattle.cedar_schema_model.specs.Whole.WellFormed.{SchemaFault, ill_forms, has_schema_fault, IsWellFormed, well_formed, duplicate_entity_type, duplicate_common_type, duplicate_action, undeclared_type, undeclared_action, cycle_of_common_types, cycle_of_actions, action_as_entity_type, context_not_record, reserved_name, shadowing, unknown_extension_type, unresolved_external, becomes_record, written_names, unqualified_uid, declared_types, is_external_kind}
 use Rattle.cedar_schema_model.specs.Whole.Resolved.{common_within, common_of, resolved, entity_meant, resolved_action, schema_of}
 use Rattle.cedar_schema_model.specs.Whole.Subtype.{is_before_attributes}
-use Rattle.cedar_expr_model.specs.Whole.Names.{unqualified}
+use Rattle.cedar_expr_model.specs.Whole.Names.{unqualified, is_unqualified}
 
 -- It is the first that passes: those before it don't.
 abbrev pub IsFirst : {X : Type 0} → (X → Bool) → List X → X → Type 0
@@ -29,6 +29,11 @@ FirstDeclaredIsMeant = (d : Declarations) (r : Reference) (m : Meant) → (meant
 abbrev pub FirstActionIsMeant : Type 0
 FirstActionIsMeant = (d : Declarations) (ns : Namespace) (u v : Uid) → (parent_meant d ns u ≡ Some v) ↔ IsFirst (is_declared_action d) (action_candidates ns u) v
 
+-- one of them stands twice
+abbrev pub HasTwice : {X : Type 0} → List X → Type 0
+HasTwice [] = ⊥
+HasTwice (x ∷ xs) = Contains xs x ⊎ HasTwice xs
+
 -- The faults of declarations, read directly. The definition of a common type refers to another.
 abbrev pub Uses : Declarations → Name → Name → Type 0
 Uses d m n = (c : CommonDeclaration) × Contains d.commons c × (m ≡ common_name c) × ((r : Reference) × Contains (references_of_common c) r × (meant d r ≡ Some (meant_common n)))
@@ -39,8 +44,8 @@ HasParentAction d u v = (a : ActionDeclaration) × Contains d.actions a × (u �
 
 -- a type or an action of a namespace stands in the empty one too
 abbrev pub Shadows : Declarations → Type 0
-Shadows d = ((n : Name) × Contains (declared_types d) n × (is_qualified n ≡ true) × Contains (declared_types d) (unqualified n.base))
-    ⊎ ((u : Uid) × Contains (action_uids d) u × (is_qualified u.kind ≡ true) × Contains (action_uids d) (unqualified_uid u))
+Shadows d = ((n : Name) × Contains (declared_types d) n × (not (is_unqualified n) ≡ true) × Contains (declared_types d) (unqualified n.base))
+    ⊎ ((u : Uid) × Contains (action_uids d) u × (not (is_unqualified u.kind) ≡ true) × Contains (action_uids d) (unqualified_uid u))
 
 abbrev pub HasSchemaFault : List Name → Declarations → SchemaFault → Type 0
 HasSchemaFault x d duplicate_entity_type = HasTwice (entity_names d)

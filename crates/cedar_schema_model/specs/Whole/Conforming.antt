@@ -1,15 +1,19 @@
 -- Which entities and requests conform to a schema. A fault says what is wrong; what has none conforms.
 -- Rule: conforming entities; conforming requests (docs/RULES.md).
-use Rattle.std.specs.Prelude.{◌≡◌, ◌&&◌, ◌||◌, ℕ, List, [], ◌∷◌, Bool, true, false, not, Option, Some, None, is_none, option_map, if◌then◌else◌}
+use Rattle.std.specs.Prelude.{◌≡◌, ◌&&◌, ◌||◌, ℕ, List, [], ◌∷◌, Bool, false, not, Option, Some, None, is_none, option_map, if◌then◌else◌}
 use Rattle.std.specs.Option.{option_map_or}
 use Rattle.std.specs.List.{list_any, list_all}
+use Rattle.std.specs.Map.{lookup}
 use Rattle.std.specs.Str.{bytes_eq}
 use Rattle.cedar_expr_model.specs.Name.{Text, Name, name_eq}
 use Rattle.cedar_expr_model.specs.Uid.{Uid, uid_eq}
-use Rattle.cedar_expr_model.specs.Whole.Value.{V, record_of, Fields}
-use Rattle.cedar_store_model.specs.Whole.World.{Part, known, left, Entity, Found, held, Request, part_named}
+use Rattle.cedar_expr_model.specs.Whole.Value.{V}
+use Rattle.cedar_expr_model.specs.Whole.ValueParts.{Part, known}
+use Rattle.cedar_store_model.specs.Whole.World.{Entity}
+use Rattle.cedar_store_model.specs.Whole.Knowledge.{holds_values}
+use Rattle.cedar_store_model.specs.Whole.Store.{OpenRequest}
 use Rattle.cedar_schema_model.specs.Whole.Types.{Ty, record_type, is_closed, Attributes, no_attributes, attribute, Declared, attribute_named}
-use Rattle.cedar_schema_model.specs.Whole.Schema.{EntityKind, standard, enumerated, Action, Schema, type_named, action_with, declares_action}
+use Rattle.cedar_schema_model.specs.Whole.Schema.{EntityKind, standard, enumerated, Action, Schema, type_named, action_with, declares_type, declares_action}
 use Rattle.cedar_schema_model.specs.Whole.Descent.{descends, action_descends, is_action_ancestor, action_uids}
 use Rattle.cedar_schema_model.specs.Whole.HasType.{has_type}
 
@@ -67,11 +71,6 @@ attribute_list (attribute a t r as_) = (a, record { type = t; is_required = r })
 abbrev pub type_at : Attributes → Text → Option Ty
 type_at as_ a = option_map (λ d. d.type) (attribute_named a as_)
 
--- nothing is declared there
-abbrev pub is_nowhere : Place → Bool
-is_nowhere nowhere = true
-is_nowhere p = false
-
 -- an enumerated type doesn't have this member
 abbrev pub is_no_member : Place → Text → Bool
 is_no_member (of_kind (enumerated ids)) id = not (list_any (bytes_eq id) ids)
@@ -81,11 +80,6 @@ is_no_member p id = false
 abbrev pub is_refused : Option Ty → Part V → Bool
 is_refused (Some t) (known v) = not (has_type v t)
 is_refused t x = false
-
--- a part that isn't a value yet
-abbrev pub is_left : Part V → Bool
-is_left (known v) = false
-is_left (left t) = true
 
 -- What may be an ancestor: of an action its declared ancestors; of an enumerated member nothing; else what has a type that its
 -- type descends from.
@@ -102,14 +96,14 @@ lacks_ancestor s u p vs = false
 -- The fault is there, in an entity: a required attribute lacks, or an attribute isn't declared; a value isn't of its type, or
 -- there is a tag where none may be; an ancestor is wrong or lacks; a part isn't a value yet.
 abbrev pub entity_fault_at : Schema → Uid → Entity V → Place → ConformFault → Bool
-entity_fault_at s u e p undeclared = is_nowhere p
+entity_fault_at s u e p undeclared = not (declares_action s u || declares_type s u.kind)
 entity_fault_at s u e p no_member = is_no_member p u.id
-entity_fault_at s u e p lacks_attribute = list_any (λ d. d.1.is_required && is_none (part_named d.0 e.attributes)) (attribute_list (attributes_at p))
+entity_fault_at s u e p lacks_attribute = list_any (λ d. d.1.is_required && is_none (lookup (bytes_eq d.0) e.attributes)) (attribute_list (attributes_at p))
 entity_fault_at s u e p undeclared_attribute = list_any (λ x. is_none (attribute_named x.0 (attributes_at p))) e.attributes
 entity_fault_at s u e p attribute_value = list_any (λ x. is_refused (type_at (attributes_at p) x.0) x.1) e.attributes
 entity_fault_at s u e p tag = list_any (λ x. is_none (tags_at p) || is_refused (tags_at p) x.1) e.tags
 entity_fault_at s u e p ancestor = list_any (λ v. not (may_descend s u p v)) e.ancestors || lacks_ancestor s u p e.ancestors
-entity_fault_at s u e p open_part = list_any (λ x. is_left x.1) e.attributes || list_any (λ x. is_left x.1) e.tags
+entity_fault_at s u e p open_part = not (holds_values e)
 entity_fault_at s u e p f = false
 
 abbrev pub has_entity_fault : Schema → Uid → Entity V → ConformFault → Bool
@@ -122,28 +116,12 @@ EntityConforms s u e = (f : ConformFault) → has_entity_fault s u e f ≡ false
 abbrev pub entity_conforms : Schema → Uid → Entity V → Bool
 entity_conforms s u e = list_all (λ f. not (has_entity_fault s u e f)) conform_faults
 
--- A store conforms: each entity that it holds does, and it holds each declared action.
-pub record StoreConforms (s : Schema) (store : Uid → Found V) : Type 0 where
-  pub each : (u : Uid) (e : Entity V) → store u ≡ held e → EntityConforms s u e
-  pub actions : (u : Uid) → declares_action s u ≡ true → (e : Entity V) × (store u ≡ held e)
-
--- A request of which parts may be unknown.
-pub record RequestParts : Type 0 where
-  pub principal : Option Uid
-  pub action : Option Uid
-  pub resource : Option Uid
-  pub context : Option Fields
-
--- the parts of a request that is known
-abbrev pub parts_of : Request → RequestParts
-parts_of r = record { principal = Some r.principal; action = Some r.action; resource = Some r.resource; context = Some r.context }
-
 -- this holds of what is known
 abbrev pub where_known : {A : Type 0} → Option A → (A → Bool) → Bool
 where_known a test = option_map_or test a false
 
 -- this holds of the action of a request, where it is known and declared
-abbrev pub of_action : Schema → RequestParts → (Action → Bool) → Bool
+abbrev pub of_action : Schema → OpenRequest → (Action → Bool) → Bool
 of_action s r test = where_known r.action (λ u. where_known (action_with s u) test)
 
 -- the type isn't among those listed
@@ -151,17 +129,17 @@ abbrev pub is_not_listed : List Name → Option Uid → Bool
 is_not_listed ns u = where_known u (λ v. not (list_any (name_eq v.kind) ns))
 
 -- The fault is there, in a request.
-abbrev pub has_request_fault : Schema → RequestParts → ConformFault → Bool
+abbrev pub has_request_fault : Schema → OpenRequest → ConformFault → Bool
 has_request_fault s r undeclared = where_known r.action (λ u. not (declares_action s u))
 has_request_fault s r not_listed = of_action s r (λ a. is_not_listed a.principals r.principal || is_not_listed a.resources r.resource)
 has_request_fault s r no_member = where_known r.principal (λ u. is_no_member (place_of s u) u.id) || where_known r.resource (λ u. is_no_member (place_of s u) u.id)
-has_request_fault s r context_value = of_action s r (λ a. where_known r.context (λ fs. not (has_type (record_of fs) (record_type a.context is_closed))))
+has_request_fault s r context_value = of_action s r (λ a. where_known r.context (λ v. not (has_type v (record_type a.context is_closed))))
 has_request_fault s r open_part = (is_none r.principal || is_none r.action) || (is_none r.resource || is_none r.context)
 has_request_fault s r f = false
 
 -- A request conforms where no fault is there.
-abbrev pub RequestConforms : Schema → RequestParts → Type 0
+abbrev pub RequestConforms : Schema → OpenRequest → Type 0
 RequestConforms s r = (f : ConformFault) → has_request_fault s r f ≡ false
 
-abbrev pub request_conforms : Schema → RequestParts → Bool
+abbrev pub request_conforms : Schema → OpenRequest → Bool
 request_conforms s r = list_all (λ f. not (has_request_fault s r f)) conform_faults

@@ -1,19 +1,33 @@
 -- What the laws on declarations, entities and requests say.
 -- Rule: descent; action entities; conforming entities; conforming requests; environments (docs/RULES.md).
-use Rattle.std.specs.Prelude.{◌≡◌, ◌↔◌, List, [], true, false, Option, Some, None, is_some, Contains}
+use Rattle.std.specs.Prelude.{◌≡◌, ◌↔◌, List, [], true, false, Option, Some, None, is_some, Contains, if◌then◌else◌}
+use Rattle.std.specs.Map.{lookup}
+use Rattle.std.specs.Str.{bytes_eq}
 use Rattle.std.specs.Bool.{Decides}
 use Rattle.std.proofs.Common.{◌⊎◌}
 use Rattle.cedar_expr_model.specs.Name.{Text, Name}
 use Rattle.cedar_expr_model.specs.Uid.{Uid}
 use Rattle.cedar_expr_model.specs.Whole.Value.{V, record_of}
-use Rattle.cedar_store_model.specs.Whole.World.{Part, known, Entity, Found, held, Request, part_named}
+use Rattle.cedar_expr_model.specs.Whole.ValueParts.{Part, known}
+use Rattle.cedar_store_model.specs.Whole.World.{Entity, Found, held, Request}
+use Rattle.cedar_store_model.specs.Whole.Knowledge.{is_known}
+use Rattle.cedar_store_model.specs.Whole.Store.{OpenRequest, as_open}
 use Rattle.cedar_schema_model.specs.Whole.Types.{Ty, record_type, is_closed, Declared, attribute_named}
 use Rattle.cedar_schema_model.specs.Whole.Schema.{enumerated, Schema, Action, action_with, declares_action}
-use Rattle.cedar_schema_model.specs.Whole.Descent.{type_names, Descends, descends, ActionDescends, action_descends, ActionTypeDescends, action_type_descends, TypeDescends, type_descends, IsActionAncestor}
-use Rattle.cedar_schema_model.specs.Whole.ActionEntities.{action_ancestors, action_entity, action_entities}
+use Rattle.cedar_schema_model.specs.Whole.Descent.{type_names, action_uids, Descends, descends, ActionDescends, action_descends, action_type_descends, type_descends, IsActionAncestor}
+use Rattle.cedar_schema_model.specs.Whole.ActionEntities.{action_ancestors, as_entity, action_entities}
 use Rattle.cedar_schema_model.specs.Whole.HasType.{HasType}
-use Rattle.cedar_schema_model.specs.Whole.Conforming.{ConformFault, undeclared, not_listed, no_member, lacks_attribute, undeclared_attribute, attribute_value, tag, ancestor, context_value, open_part, Place, among_actions, of_kind, nowhere, place_of, attributes_at, tags_at, attribute_list, type_at, is_left, has_entity_fault, EntityConforms, entity_conforms, StoreConforms, RequestParts, parts_of, has_request_fault, RequestConforms, request_conforms}
+use Rattle.cedar_schema_model.specs.Whole.Conforming.{ConformFault, undeclared, not_listed, no_member, lacks_attribute, undeclared_attribute, attribute_value, tag, ancestor, context_value, open_part, Place, among_actions, of_kind, nowhere, place_of, attributes_at, tags_at, attribute_list, type_at, has_entity_fault, EntityConforms, entity_conforms, has_request_fault, RequestConforms, request_conforms}
 use Rattle.cedar_schema_model.specs.Whole.Environment.{Environment, environment_at, environments, SlotUse, no_slot, equal_slot, in_slot, with_slots, environments_for}
+
+-- A chain of declared parents, read directly: the type of an action descends from another if some declared action of the first has
+-- a declared ancestor of the second.
+abbrev pub ActionTypeDescends : Schema → Name → Name → Type 0
+ActionTypeDescends s m n = (u : Uid) × Contains (action_uids s) u × (m ≡ u.kind) × ((v : Uid) × IsActionAncestor s u v × (n ≡ v.kind))
+
+-- one type, of entities or of actions, descends from another
+abbrev pub TypeDescends : Schema → Name → Name → Type 0
+TypeDescends s m n = Descends s m n ⊎ ActionTypeDescends s m n
 
 -- the tests decide descent
 abbrev pub DescentDecides : Type 0
@@ -35,6 +49,10 @@ DescentIsTransitive = (s : Schema) (l m n : Name) → Descends s l m → Descend
 -- the ancestors of an action as an entity are its declared ancestors
 abbrev pub AncestorsAreDeclared : Type 0
 AncestorsAreDeclared = (s : Schema) (u v : Uid) → Contains (action_ancestors s u) v ↔ IsActionAncestor s u v
+
+-- the entity that a declared action is
+abbrev pub action_entity : Schema → Uid → Option (Entity V)
+action_entity s u = if declares_action s u then Some (as_entity s u) else None
 
 -- the entities are those of the declared actions
 abbrev pub EntitiesAreActions : Type 0
@@ -65,12 +83,12 @@ MustDescend s u among_actions v = IsActionAncestor s u v
 MustDescend s u p v = ⊥
 
 abbrev pub HasLeft : List (Text × Part V) → Type 0
-HasLeft ps = (x : Text × Part V) × Contains ps x × (is_left x.1 ≡ true)
+HasLeft ps = (x : Text × Part V) × Contains ps x × (is_known x.1 ≡ false)
 
 abbrev pub EntityFaultAt : Schema → Uid → Entity V → Place → ConformFault → Type 0
 EntityFaultAt s u e p undeclared = p ≡ nowhere
 EntityFaultAt s u e p no_member = IsNoMember p u.id
-EntityFaultAt s u e p lacks_attribute = (d : Text × Declared) × Contains (attribute_list (attributes_at p)) d × (d.1.is_required ≡ true) × (part_named d.0 e.attributes ≡ None)
+EntityFaultAt s u e p lacks_attribute = (d : Text × Declared) × Contains (attribute_list (attributes_at p)) d × (d.1.is_required ≡ true) × (lookup (bytes_eq d.0) e.attributes ≡ None)
 EntityFaultAt s u e p undeclared_attribute = (x : Text × Part V) × Contains e.attributes x × (attribute_named x.0 (attributes_at p) ≡ None)
 EntityFaultAt s u e p attribute_value = (x : Text × Part V) × Contains e.attributes x × IsRefused (type_at (attributes_at p) x.0) x.1
 EntityFaultAt s u e p tag = (x : Text × Part V) × Contains e.tags x × ((tags_at p ≡ None) ⊎ IsRefused (tags_at p) x.1)
@@ -86,17 +104,17 @@ abbrev pub WhereKnown : {A : Type 0} → Option A → (A → Type 0) → Type 0
 WhereKnown None holds = ⊥
 WhereKnown (Some a) holds = holds a
 
-abbrev pub OfAction : Schema → RequestParts → (Action → Type 0) → Type 0
+abbrev pub OfAction : Schema → OpenRequest → (Action → Type 0) → Type 0
 OfAction s r holds = WhereKnown r.action (λ u. WhereKnown (action_with s u) holds)
 
 abbrev pub IsNotListed : List Name → Option Uid → Type 0
 IsNotListed ns u = WhereKnown u (λ v. Contains ns v.kind → ⊥)
 
-abbrev pub HasRequestFault : Schema → RequestParts → ConformFault → Type 0
+abbrev pub HasRequestFault : Schema → OpenRequest → ConformFault → Type 0
 HasRequestFault s r undeclared = WhereKnown r.action (λ u. declares_action s u ≡ false)
 HasRequestFault s r not_listed = OfAction s r (λ a. IsNotListed a.principals r.principal ⊎ IsNotListed a.resources r.resource)
 HasRequestFault s r no_member = WhereKnown r.principal (λ u. IsNoMember (place_of s u) u.id) ⊎ WhereKnown r.resource (λ u. IsNoMember (place_of s u) u.id)
-HasRequestFault s r context_value = OfAction s r (λ a. WhereKnown r.context (λ fs. HasType (record_of fs) (record_type a.context is_closed) → ⊥))
+HasRequestFault s r context_value = OfAction s r (λ a. WhereKnown r.context (λ v. HasType v (record_type a.context is_closed) → ⊥))
 HasRequestFault s r open_part = ((r.principal ≡ None) ⊎ (r.action ≡ None)) ⊎ ((r.resource ≡ None) ⊎ (r.context ≡ None))
 HasRequestFault s r f = ⊥
 
@@ -111,13 +129,13 @@ abbrev pub ConformingIsFaultless : Type 0
 ConformingIsFaultless = (s : Schema) (u : Uid) (e : Entity V) → EntityConforms s u e ↔ ((f : ConformFault) → HasEntityFault s u e f → ⊥)
 
 abbrev pub RequestFaultsDecide : Type 0
-RequestFaultsDecide = (s : Schema) (r : RequestParts) (f : ConformFault) → Decides (has_request_fault s r f) (HasRequestFault s r f)
+RequestFaultsDecide = (s : Schema) (r : OpenRequest) (f : ConformFault) → Decides (has_request_fault s r f) (HasRequestFault s r f)
 
 abbrev pub RequestConformingDecides : Type 0
-RequestConformingDecides = (s : Schema) (r : RequestParts) → Decides (request_conforms s r) (RequestConforms s r)
+RequestConformingDecides = (s : Schema) (r : OpenRequest) → Decides (request_conforms s r) (RequestConforms s r)
 
 abbrev pub RequestIsFaultless : Type 0
-RequestIsFaultless = (s : Schema) (r : RequestParts) → RequestConforms s r ↔ ((f : ConformFault) → HasRequestFault s r f → ⊥)
+RequestIsFaultless = (s : Schema) (r : OpenRequest) → RequestConforms s r ↔ ((f : ConformFault) → HasRequestFault s r f → ⊥)
 
 -- Conforming, read directly: this is known and of the type.
 abbrev pub IsOf : Option Ty → Part V → Type 0
@@ -129,7 +147,7 @@ IsOf t x = ⊥
 pub record IsGoodEntity (s : Schema) (u : Uid) (e : Entity V) : Type 0 where
   pub is_declared : place_of s u ≡ nowhere → ⊥
   pub member : IsNoMember (place_of s u) u.id → ⊥
-  pub required : (d : Text × Declared) → Contains (attribute_list (attributes_at (place_of s u))) d → d.1.is_required ≡ true → is_some (part_named d.0 e.attributes) ≡ true
+  pub required : (d : Text × Declared) → Contains (attribute_list (attributes_at (place_of s u))) d → d.1.is_required ≡ true → is_some (lookup (bytes_eq d.0) e.attributes) ≡ true
   pub attributes : (p : Text × Part V) → Contains e.attributes p → IsOf (type_at (attributes_at (place_of s u)) p.0) p.1
   pub tags : (p : Text × Part V) → Contains e.tags p → IsOf (tags_at (place_of s u)) p.1
   pub allowed : (v : Uid) → Contains e.ancestors v → MayDescend s u (place_of s u) v
@@ -153,11 +171,16 @@ abbrev pub EntitiesReadDirectly : Type 0
 EntitiesReadDirectly = (s : Schema) (u : Uid) (e : Entity V) → EntityConforms s u e ↔ IsGoodEntity s u e
 
 -- a request conforms exactly where it is known and does so by the direct reading
-abbrev pub IsKnownAndGood : Schema → RequestParts → Type 0
-IsKnownAndGood s r = (q : Request) × (r ≡ parts_of q) × IsGoodRequest s q
+abbrev pub IsKnownAndGood : Schema → OpenRequest → Type 0
+IsKnownAndGood s r = (q : Request) × (r ≡ as_open q) × IsGoodRequest s q
 
 abbrev pub RequestsReadDirectly : Type 0
-RequestsReadDirectly = (s : Schema) (r : RequestParts) → RequestConforms s r ↔ IsKnownAndGood s r
+RequestsReadDirectly = (s : Schema) (r : OpenRequest) → RequestConforms s r ↔ IsKnownAndGood s r
+
+-- A store conforms: each entity that it holds does, and it holds each declared action.
+pub record StoreConforms (s : Schema) (store : Uid → Found V) : Type 0 where
+  pub each : (u : Uid) (e : Entity V) → store u ≡ held e → EntityConforms s u e
+  pub actions : (u : Uid) → declares_action s u ≡ true → (e : Entity V) × (store u ≡ held e)
 
 -- an environment is that of a declared action with one of its principal and one of its resource types
 abbrev pub IsProduct : Schema → Environment → Type 0

@@ -5,7 +5,8 @@ use Rattle.cedar_expr_model.specs.Name.{Text, Name}
 use Rattle.cedar_expr_model.specs.Uid.{Uid}
 use Rattle.cedar_expr_model.specs.Whole.Value.{V, prim, truth, long, entity, no_fields}
 use Rattle.cedar_expr_model.specs.Whole.Tree.{lit}
-use Rattle.cedar_store_model.specs.Whole.World.{Part, known, left, Entity, Request}
+use Rattle.cedar_expr_model.specs.Whole.ValueParts.{Part, known, left}
+use Rattle.cedar_store_model.specs.Whole.World.{Entity, Request}
 use Rattle.cedar_schema_model.specs.Whole.Types.{bool_type, any_bool, string_type, long_type, entity_type, Attributes, no_attributes, attribute}
 use Rattle.cedar_schema_model.specs.Whole.Schema.{standard, enumerated, external, EntityType, Action, Schema}
 use Rattle.cedar_schema_model.specs.Whole.Environment.{Environment}

@@ -2,7 +2,6 @@
 -- Rule: descent (docs/RULES.md).
 use Rattle.std.specs.Prelude.{◌≡◌, ◌&&◌, ◌||◌, List, [], ◌∷◌, map, Bool, Contains}
 use Rattle.std.specs.List.{list_any}
-use Rattle.std.proofs.Common.{◌⊎◌}
 use Rattle.cedar_expr_model.specs.Name.{Name, name_eq}
 use Rattle.cedar_expr_model.specs.Uid.{Uid, uid_eq}
 use Rattle.cedar_schema_model.specs.Whole.Schema.{EntityType, Action, Schema}
@@ -64,18 +63,9 @@ abbrev pub is_action_ancestor : Schema → Uid → Uid → Bool
 is_action_ancestor s u v = list_any (uid_eq v) (action_uids s) && action_descends s u v
 
 -- The type of an action descends from another if some declared action of the first has a declared ancestor of the second.
-abbrev pub ActionTypeDescends : Schema → Name → Name → Type 0
-ActionTypeDescends s m n = (u : Uid) × Contains (action_uids s) u × (m ≡ u.kind) × ((v : Uid) × IsActionAncestor s u v × (n ≡ v.kind))
-
-abbrev pub has_ancestor_of : Schema → Name → Uid → Bool
-has_ancestor_of s n u = list_any (λ v. action_descends s u v && name_eq n v.kind) (action_uids s)
-
 abbrev pub action_type_descends : Schema → Name → Name → Bool
-action_type_descends s m n = list_any (λ u. name_eq m u.kind && has_ancestor_of s n u) (action_uids s)
+action_type_descends s m n = list_any (λ u. name_eq m u.kind && list_any (λ v. action_descends s u v && name_eq n v.kind) (action_uids s)) (action_uids s)
 
 -- one type, of entities or of actions, descends from another
-abbrev pub TypeDescends : Schema → Name → Name → Type 0
-TypeDescends s m n = Descends s m n ⊎ ActionTypeDescends s m n
-
 abbrev pub type_descends : Schema → Name → Name → Bool
 type_descends s m n = descends s m n || action_type_descends s m n

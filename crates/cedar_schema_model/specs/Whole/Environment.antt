@@ -20,11 +20,8 @@ pub record Environment : Type 0 where
 abbrev pub environment_at : Action → Name → Name → Environment
 environment_at a p r = record { principal = p; action = a.uid; resource = r; context = a.context; principal_slot = None; resource_slot = None }
 
-abbrev pub environments_of : Action → List Environment
-environments_of a = flat_map (λ p. map (environment_at a p) a.resources) a.principals
-
 abbrev pub environments : Schema → List Environment
-environments s = flat_map environments_of s.actions
+environments s = flat_map (λ a. flat_map (λ p. map (environment_at a p) a.resources) a.principals) s.actions
 
 -- How a policy's scope uses the slot of a variable: not at all, in an equality, or after `in`.
 pub data SlotUse : Type 0 where
@@ -46,10 +43,6 @@ slot_types s in_slot n = map (λ m. Some m) (n ∷ types_above s n)
 abbrev pub with_slots : Environment → Option Name → Option Name → Environment
 with_slots e p r = record e { principal_slot = p; resource_slot = r }
 
--- the environments of an environment for a policy's slots
-abbrev pub linked : Schema → SlotUse → SlotUse → Environment → List Environment
-linked s p r e = flat_map (λ m. map (with_slots e m) (slot_types s r e.resource)) (slot_types s p e.principal)
-
 -- the environments of a policy that uses the two slots so
 abbrev pub environments_for : Schema → SlotUse → SlotUse → List Environment
-environments_for s p r = flat_map (linked s p r) (environments s)
+environments_for s p r = flat_map (λ e. flat_map (λ m. map (with_slots e m) (slot_types s r e.resource)) (slot_types s p e.principal)) (environments s)

@@ -5,9 +5,7 @@ use Rattle.std.specs.List.{list_all}
 use Rattle.cedar_expr_model.specs.Name.{Name, name_eq, is_reserved}
 use Rattle.cedar_expr_model.specs.Uid.{Uid}
 use Rattle.cedar_expr_model.specs.Whole.Names.{is_unqualified, unqualified}
-use Rattle.cedar_expr_model.specs.Whole.Value.{no_fields}
 use Rattle.cedar_store_model.specs.World as small_world
-use Rattle.cedar_store_model.specs.Whole.World.{Request}
 use Rattle.cedar_store_model.specs.Whole.FirstPath.{whole_request}
 use Rattle.cedar_schema_model.specs.Declarations as small
 use Rattle.cedar_schema_model.specs.Types as small_types
@@ -20,7 +18,8 @@ use Rattle.cedar_schema_model.specs.Whole.Reference.{action_word}
 use Rattle.cedar_schema_model.specs.Whole.Declarations.{record_expr, no_field_exprs, standard_expr, EntityDeclaration, ActionDeclaration, Declarations}
 use Rattle.cedar_schema_model.specs.Whole.WellFormed.{SchemaFault, duplicate_entity_type, duplicate_action, undeclared_type, action_as_entity_type, reserved_name, has_schema_fault, IsWellFormed, well_formed}
 use Rattle.cedar_schema_model.specs.Whole.Resolved.{schema_of}
-use Rattle.cedar_schema_model.specs.Whole.Conforming.{parts_of, RequestConforms, request_conforms}
+use Rattle.cedar_store_model.specs.Whole.Store.{as_open}
+use Rattle.cedar_schema_model.specs.Whole.Conforming.{RequestConforms, request_conforms}
 use Rattle.cedar_schema_model.specs.Whole.Join.{join}
 
 -- the Boolean types
@@ -148,11 +147,11 @@ EnvironmentsAreTheSame = (d : small.Declarations) → IsFirstPath d → environm
 -- the same requests conform
 abbrev pub RequestsConformTheSame : Type 0
 RequestsConformTheSame = (d : small.Declarations) (r : small_world.Request) → IsFirstPath d
-    → request_conforms (schema_of (whole_declarations d)) (parts_of (whole_request r)) ≡ small_conforming.conforms d r
+    → request_conforms (schema_of (whole_declarations d)) (as_open (whole_request r)) ≡ small_conforming.conforms d r
 
 abbrev pub ConformingSaysTheSame : Type 0
 ConformingSaysTheSame = (d : small.Declarations) (r : small_world.Request) → IsFirstPath d
-    → RequestConforms (schema_of (whole_declarations d)) (parts_of (whole_request r)) ↔ small_conforming.Conforms d r
+    → RequestConforms (schema_of (whole_declarations d)) (as_open (whole_request r)) ↔ small_conforming.Conforms d r
 
 -- the Strict join of two types is the same
 abbrev pub JoinsAreTheSame : Type 0

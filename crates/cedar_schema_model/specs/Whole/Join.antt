@@ -1,6 +1,7 @@
 -- Joins: the type that two types have in common above them, and types without a common value.
 -- Rule: joins (docs/RULES.md).
-use Rattle.std.specs.Prelude.{◌&&◌, ◌||◌, List, [], ◌∷◌, Bool, false, not, Option, Some, None, option_map, if◌then◌else◌}
+use Rattle.std.specs.Prelude.{◌&&◌, ◌||◌, List, [], ◌∷◌, fold, Bool, false, not, Option, Some, None, option_map, option_and_then, if◌then◌else◌}
+use Rattle.std.specs.Option.{option_map_or}
 use Rattle.std.specs.Bool.{beq}
 use Rattle.std.specs.List.{list_any}
 use Rattle.std.specs.Ordering.{match_ordering}
@@ -34,16 +35,13 @@ agree m x y = is_permissive m || beq x y
 
 -- what is declared of an attribute in common: the join of its types, required where both require it
 abbrev pub declared_in_common : Mode → Bool → Bool → Option Ty → Option Declared
-declared_in_common m r s None = None
-declared_in_common m r s (Some t) = if agree m r s then Some (record { type = t; is_required = r && s }) else None
+declared_in_common m r s joined = option_and_then (λ t. if agree m r s then Some (record { type = t; is_required = r && s }) else None) joined
 
 abbrev pub joined_with : Mode → Bool → (Ty → Option Ty) → Option Declared → Option Declared
-joined_with m r join_type None = None
-joined_with m r join_type (Some d) = declared_in_common m r d.is_required (join_type d.type)
+joined_with m r join_type declared = option_and_then (λ d. declared_in_common m r d.is_required (join_type d.type)) declared
 
 abbrev pub kept_attribute : Text → Option Declared → Attributes → Attributes
-kept_attribute n None js = js
-kept_attribute n (Some d) js = attribute n d.type d.is_required js
+kept_attribute n declared js = option_map_or (λ d. attribute n d.type d.is_required js) declared js
 
 -- all names of both are names of the join
 abbrev pub all_stayed : Attributes → Attributes → Attributes → Bool
@@ -84,15 +82,9 @@ abbrev mutual
   attributes_join m no_attributes bs = no_attributes
   attributes_join m (attribute n t r as_) bs = kept_attribute n (joined_with m r (join m t) (attribute_named n bs)) (attributes_join m as_ bs)
 
--- the join of a type with these, one after the other
-abbrev pub join_all : Mode → Option Ty → List Ty → Option Ty
-join_all m None ts = None
-join_all m (Some t) [] = Some t
-join_all m (Some t) (u ∷ us) = join_all m (join m t u) us
-
--- The join of all these; of none, `never`.
+-- The join of all these, one after the other; of none, `never`.
 abbrev pub reduce_to_join : Mode → List Ty → Option Ty
-reduce_to_join m ts = join_all m (Some never) ts
+reduce_to_join m ts = fold (λ joined t. option_and_then (λ j. join m j t) joined) (Some never) ts
 
 -- No value is of both: two unions with no common member.
 abbrev pub are_disjoint : Ty → Ty → Bool

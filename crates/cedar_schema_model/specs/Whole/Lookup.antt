@@ -1,8 +1,9 @@
 -- What is declared of an attribute, for the values of a type.
 -- Rule: attributes of a type (docs/RULES.md).
-use Rattle.std.specs.Prelude.{List, [], ◌∷◌, Bool, true, false, Option, Some, None, is_some, map, option_map, option_and_then}
+use Rattle.std.specs.Prelude.{List, Bool, true, false, Option, None, is_some, map, option_map, option_and_then}
 use Rattle.std.specs.List.{list_all, list_any}
 use Rattle.cedar_expr_model.specs.Name.{Text, Name}
+use Rattle.cedar_expr_model.specs.Whole.Lists.{all_given}
 use Rattle.cedar_schema_model.specs.Whole.Types.{is_open, is_closed, Ty, never, any_entity, entity_types, record_type, Attributes, no_attributes, Declared, attribute_named, permissive}
 use Rattle.cedar_schema_model.specs.Whole.Schema.{EntityKind, standard, Schema, type_named}
 use Rattle.cedar_schema_model.specs.Whole.Join.{reduce_to_join}
@@ -16,11 +17,6 @@ attributes_of_kind k = no_attributes
 abbrev pub declared_of : Schema → Text → Name → Option Declared
 declared_of s a n = option_and_then (λ e. attribute_named a (attributes_of_kind e.kind)) (type_named s n)
 
--- what each of these entity types declares of the attribute, if all do
-abbrev pub all_declared : Schema → Text → List Name → Option (List Declared)
-all_declared s a [] = Some []
-all_declared s a (n ∷ ns) = option_and_then (λ d. option_map (λ ds. d ∷ ds) (all_declared s a ns)) (declared_of s a n)
-
 -- the permissive join of the types, required where all require it
 abbrev pub declared_by_all : List Declared → Option Declared
 declared_by_all ds = option_map (λ t. record { type = t; is_required = list_all (λ (d : Declared). d.is_required) ds }) (reduce_to_join permissive (map (λ (d : Declared). d.type) ds))
@@ -28,7 +24,7 @@ declared_by_all ds = option_map (λ t. record { type = t; is_required = list_all
 -- For a record what it lists, for entities what all members of the union declare.
 abbrev pub lookup_attribute : Schema → Ty → Text → Option Declared
 lookup_attribute s (record_type as_ o) a = attribute_named a as_
-lookup_attribute s (entity_types ns) a = option_and_then declared_by_all (all_declared s a ns)
+lookup_attribute s (entity_types ns) a = option_and_then declared_by_all (all_given (declared_of s a) ns)
 lookup_attribute s t a = None
 
 -- whether some value of the type may have the attribute

@@ -1,6 +1,7 @@
 -- The schema that declarations make: references resolved, common types replaced.
 -- Rule: schemas (docs/RULES.md).
 use Rattle.std.specs.Prelude.{ℕ, zero, suc, map, length, Bool, Option, Some, None, find, option_map}
+use Rattle.std.specs.Option.{option_map_or}
 use Rattle.std.specs.List.{filter_map}
 use Rattle.std.specs.Ordering.{match_ordering}
 use Rattle.cedar_expr_model.specs.Name.{Text, Name, name_eq}
@@ -8,7 +9,7 @@ use Rattle.cedar_expr_model.specs.Whole.Order.{text_cmp}
 use Rattle.cedar_schema_model.specs.Whole.Types.{Ty, never, bool_type, any_bool, long_type, string_type, entity_type, set_type, record_type, extension_type, is_closed, Attributes, no_attributes, attribute}
 use Rattle.cedar_schema_model.specs.Whole.Schema.{EntityKind, standard, enumerated, external, EntityType, Action, Schema}
 use Rattle.cedar_schema_model.specs.Whole.Reference.{Namespace, to_entity, Meant, meant_common, meant_entity}
-use Rattle.cedar_schema_model.specs.Whole.Declarations.{TypeExpr, bool_expr, long_expr, string_expr, set_expr, record_expr, reference, extension_expr, FieldExprs, no_field_exprs, field_expr, CommonDeclaration, KindExpr, standard_expr, enumerated_expr, external_expr, EntityDeclaration, ActionDeclaration, Declarations, common_name, entity_name, action_uid, meant, parent_meant}
+use Rattle.cedar_schema_model.specs.Whole.Declarations.{TypeExpr, bool_expr, long_expr, string_expr, set_expr, record_expr, reference, extension_expr, FieldExprs, no_field_exprs, field_expr, KindExpr, standard_expr, enumerated_expr, external_expr, EntityDeclaration, ActionDeclaration, Declarations, common_name, entity_name, action_uid, meant, parent_meant}
 
 -- the attributes with one more, in its place; one of that name that stands already stays
 abbrev pub with_attribute : Text → Ty → Bool → Attributes → Attributes
@@ -36,15 +37,10 @@ abbrev mutual
   resolved_fields_by commons d ns no_field_exprs = no_attributes
   resolved_fields_by commons d ns (field_expr a t r fs) = with_attribute a (resolved_by commons d ns t) r (resolved_fields_by commons d ns fs)
 
--- the type that a declaration of a common type defines
-abbrev pub defined_by : (Name → Ty) → Declarations → Option CommonDeclaration → Ty
-defined_by commons d None = never
-defined_by commons d (Some c) = resolved_by commons d c.namespace c.definition
-
 -- The type of a common type, replaced this many times; and as often as there are common types.
 abbrev pub common_within : ℕ → Declarations → Name → Ty
 common_within zero d n = never
-common_within (suc m) d n = defined_by (common_within m d) d (find (λ c. name_eq n (common_name c)) d.commons)
+common_within (suc m) d n = option_map_or (λ c. resolved_by (common_within m d) d c.namespace c.definition) (find (λ c. name_eq n (common_name c)) d.commons) never
 
 abbrev pub common_of : Declarations → Name → Ty
 common_of d n = common_within (length d.commons) d n

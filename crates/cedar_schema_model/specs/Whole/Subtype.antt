@@ -1,11 +1,13 @@
 -- Which types are below which others.
 -- Rule: subtypes (docs/RULES.md).
-use Rattle.std.specs.Prelude.{◌≡◌, ◌&&◌, ◌||◌, List, [], ◌∷◌, Bool, true, false, not, Option, Some, None, is_some}
+use Rattle.std.specs.Prelude.{◌≡◌, ◌&&◌, ◌||◌, List, Bool, true, false, not, Option, is_some}
+use Rattle.std.specs.Option.{option_map_or}
 use Rattle.std.specs.Bool.{beq}
 use Rattle.std.specs.List.{list_all, list_any}
 use Rattle.std.specs.Ordering.{is_lt}
 use Rattle.cedar_expr_model.specs.Name.{Text, Name, name_eq, is_well_formed}
 use Rattle.cedar_expr_model.specs.Order.{name_cmp}
+use Rattle.cedar_expr_model.specs.Whole.Lists.{is_nil, rises}
 use Rattle.cedar_expr_model.specs.Whole.Order.{text_cmp}
 use Rattle.cedar_schema_model.specs.Whole.Types.{BoolType, any_bool, only_true, only_false, Openness, is_open, is_closed, Ty, never, bool_type, long_type, string_type, any_entity, entity_types, any_set, set_type, record_type, extension_type, Attributes, no_attributes, attribute, Declared, attribute_named, Mode, strict, permissive}
 
@@ -49,8 +51,7 @@ is_frame_below m as_ o bs p = carries m (is_closed_record o) (is_closed_record p
 
 -- The attribute is declared, with a type that passes, and required where that is asked.
 abbrev pub is_declared_below : Mode → (Ty → Bool) → Bool → Option Declared → Bool
-is_declared_below m test r None = false
-is_declared_below m test r (Some d) = test d.type && carries m d.is_required r
+is_declared_below m test r declared = option_map_or (λ d. test d.type && carries m d.is_required r) declared false
 
 -- `never` is below all types. A set is below the sets of a greater element type, and below `any_set`. A record is below
 -- another if it has all the other's attributes, each of a type below, and is as closed as the other.
@@ -79,16 +80,9 @@ abbrev mutual
 abbrev pub Below : Mode → Ty → Ty → Type 0
 Below m a b = is_subtype m a b ≡ true
 
--- each name stands before the next
-abbrev pub are_rising_names : List Name → Bool
-are_rising_names [] = true
-are_rising_names (n ∷ []) = true
-are_rising_names (n ∷ m ∷ ms) = is_lt (name_cmp n m) && are_rising_names (m ∷ ms)
-
 -- A union: at least one name, each well-formed, rising.
 abbrev pub is_union : List Name → Bool
-is_union [] = false
-is_union (n ∷ ns) = list_all is_well_formed (n ∷ ns) && are_rising_names (n ∷ ns)
+is_union ns = not (is_nil ns) && (list_all is_well_formed ns && rises name_cmp ns)
 
 -- the name stands before the first of these
 abbrev pub is_before_attributes : Text → Attributes → Bool

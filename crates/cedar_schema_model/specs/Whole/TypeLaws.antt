@@ -4,7 +4,8 @@ use Rattle.std.specs.Prelude.{◌≡◌, ◌↔◌, List, true, false, Option, S
 use Rattle.std.specs.Bool.{Decides, beq}
 use Rattle.std.specs.List.{list_all}
 use Rattle.cedar_expr_model.specs.Name.{Text, Name}
-use Rattle.cedar_expr_model.specs.Whole.Canonical.{is_canonical, Among}
+use Rattle.cedar_expr_model.specs.Whole.SamenessLaws.{Among}
+use Rattle.cedar_expr_model.specs.Whole.Canonical.{is_canonical}
 use Rattle.cedar_expr_model.specs.Whole.Value.{V, Vs, set_of, record_of, Fields, field_of}
 use Rattle.cedar_schema_model.specs.Whole.Types.{Ty, never, entity_types, set_type, Declared, attribute_named, Mode, strict, permissive, any_entity, any_set, record_type, Attributes, no_attributes, attribute}
 use Rattle.cedar_schema_model.specs.Whole.Schema.{Schema}

@@ -1,9 +1,8 @@
 -- When declarations are well-formed: the faults of a bag.
 -- Rule: well-formed declarations (docs/RULES.md).
-use Rattle.std.specs.Prelude.{◌≡◌, ◌&&◌, ◌||◌, ℕ, zero, suc, List, [], ◌∷◌, ◌++◌, map, length, Bool, true, false, not, Option, Some, Contains, is_none}
+use Rattle.std.specs.Prelude.{◌≡◌, ◌&&◌, ◌||◌, ℕ, zero, suc, List, [], ◌∷◌, ◌++◌, map, length, Bool, true, false, not, Option, Some, Contains, is_none, is_some}
 use Rattle.std.specs.List.{flat_map, list_any, list_all}
 use Rattle.std.specs.Str.{bytes_eq}
-use Rattle.std.proofs.Common.{◌⊎◌}
 use Rattle.cedar_expr_model.specs.Name.{Name, name_eq, is_reserved}
 use Rattle.cedar_expr_model.specs.Uid.{Uid, uid_eq}
 use Rattle.cedar_schema_model.specs.Whole.Descent.{reaches}
@@ -11,6 +10,7 @@ use Rattle.cedar_schema_model.specs.Whole.Reference.{Namespace, action_word, Ref
 use Rattle.cedar_schema_model.specs.Whole.Declarations.{TypeExpr, record_expr, reference, CommonDeclaration, KindExpr, external_expr, ActionDeclaration, Declarations, common_name, action_uid, common_names, entity_names, action_uids, meant, parent_meant, references_of_common, references, extensions}
 use Rattle.std.specs.Option.{option_eq}
 use Rattle.cedar_expr_model.specs.Whole.Names.{is_unqualified, unqualified}
+use Rattle.cedar_expr_model.specs.Whole.Repeats.{repeated}
 
 -- The faults of declarations, with their numbers.
 pub data SchemaFault : Type 0 where
@@ -47,15 +47,6 @@ schema_number unresolved_external = 13
 abbrev pub ill_forms : List SchemaFault
 ill_forms = duplicate_entity_type ∷ duplicate_common_type ∷ duplicate_action ∷ undeclared_type ∷ undeclared_action ∷ cycle_of_common_types
     ∷ cycle_of_actions ∷ action_as_entity_type ∷ context_not_record ∷ reserved_name ∷ shadowing ∷ unknown_extension_type ∷ []
-
--- one of them stands twice
-abbrev pub HasTwice : {X : Type 0} → List X → Type 0
-HasTwice [] = ⊥
-HasTwice (x ∷ xs) = Contains xs x ⊎ HasTwice xs
-
-abbrev pub has_twice : {X : Type 0} → (X → X → Bool) → List X → Bool
-has_twice eq [] = false
-has_twice eq (x ∷ xs) = list_any (eq x) xs || has_twice eq xs
 
 -- a reference means this common type
 abbrev pub is_common : Name → Option Meant → Bool
@@ -95,10 +86,6 @@ becomes_record d a = is_record_within (length d.commons) d a.namespace a.context
 abbrev pub written_names : Declarations → List Name
 written_names d = common_names d ++ (entity_names d ++ (map (λ u. u.kind) (action_uids d) ++ (map (λ r. r.name) (references d) ++ (extensions d ++ flat_map (λ a. map (λ u. u.kind) a.parents) d.actions))))
 
--- the name stands in a namespace that isn't the empty one
-abbrev pub is_qualified : Name → Bool
-is_qualified n = not (is_unqualified n)
-
 -- the uid as it is in the empty namespace
 abbrev pub unqualified_uid : Uid → Uid
 unqualified_uid u = record { kind = unqualified u.kind.base; id = u.id }
@@ -109,8 +96,8 @@ declared_types d = common_names d ++ entity_names d
 
 -- a type or an action of a namespace stands in the empty one too
 abbrev pub shadows : Declarations → Bool
-shadows d = list_any (λ n. is_qualified n && list_any (name_eq (unqualified n.base)) (declared_types d)) (declared_types d)
-    || list_any (λ u. is_qualified u.kind && list_any (uid_eq (unqualified_uid u)) (action_uids d)) (action_uids d)
+shadows d = list_any (λ n. not (is_unqualified n) && list_any (name_eq (unqualified n.base)) (declared_types d)) (declared_types d)
+    || list_any (λ u. not (is_unqualified u.kind) && list_any (uid_eq (unqualified_uid u)) (action_uids d)) (action_uids d)
 
 abbrev pub is_external_kind : KindExpr → Bool
 is_external_kind external_expr = true
@@ -118,9 +105,9 @@ is_external_kind k = false
 
 -- The fault is there. The extension types are those of the table.
 abbrev pub has_schema_fault : List Name → Declarations → SchemaFault → Bool
-has_schema_fault x d duplicate_entity_type = has_twice name_eq (entity_names d)
-has_schema_fault x d duplicate_common_type = has_twice name_eq (common_names d)
-has_schema_fault x d duplicate_action = has_twice uid_eq (action_uids d)
+has_schema_fault x d duplicate_entity_type = is_some (repeated name_eq (entity_names d))
+has_schema_fault x d duplicate_common_type = is_some (repeated name_eq (common_names d))
+has_schema_fault x d duplicate_action = is_some (repeated uid_eq (action_uids d))
 has_schema_fault x d undeclared_type = list_any (λ r. is_none (meant d r)) (references d)
 has_schema_fault x d undeclared_action = list_any (λ a. list_any (λ u. is_none (parent_meant d a.namespace u)) a.parents) d.actions
 has_schema_fault x d cycle_of_common_types = list_any (λ n. reaches (uses d) (common_names d) n n) (common_names d)

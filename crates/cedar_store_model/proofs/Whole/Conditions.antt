@@ -11,13 +11,14 @@ use Rattle.cedar_store_model.specs.Whole.World.{World}
 use Rattle.cedar_store_model.specs.Whole.Operators.{says}
 use Rattle.cedar_store_model.specs.Whole.Meaning.{Means, picked, truth_asked, outcome_of}
 use Rattle.cedar_store_model.specs.Whole.Knowledge.{Extends}
-use Rattle.cedar_store_model.specs.Whole.Policy.{Policy, principal_tree, action_tree, resource_tree, body_tree, condition}
+use Rattle.cedar_store_model.specs.Whole.Policy.{Policy, action_tree, body_tree, condition}
 use Rattle.cedar_store_model.specs.Whole.Answer.{with_slots, PolicyMeans, policy_outcome, IsSatisfied, is_true, satisfied}
 use Rattle.cedar_store_model.specs.Whole.AnswerLaws.{Holds}
 use Rattle.cedar_store_model.proofs.Whole.Agree.{Agree, agree_is, agree_then}
 use Rattle.cedar_store_model.proofs.Whole.Meaning.{agree, means_outcome, outcome_means}
 use Rattle.cedar_store_model.proofs.Whole.Extends.{more_keeps}
 use Rattle.cedar_store_model.proofs.Whole.Built.{conjunction_outcome}
+use Rattle.cedar_store_model.proofs.Whole.Named.{principal_tree, resource_tree}
 
 -- a truth value is asked for
 abbrev asked : Option (Res V) → Option (Res V)

@@ -3,9 +3,10 @@ use Rattle.std.proofs.Common.{◌≡◌, Bool, List, [], ◌∷◌, ◌++◌, re
 use Rattle.std.specs.Prelude.{Option, Some, None, Contains, is_none}
 use Rattle.std.specs.Bool.{Decides}
 use Rattle.std.proofs.lemmas.List.Elements.{Contains-append_left, Contains-append_right, Contains-append_cases}
-use Rattle.cedar_expr_model.specs.Whole.Repeats.{repeated, AreDistinct}
+use Rattle.cedar_expr_model.specs.Whole.Repeats.{repeated}
 use Rattle.cedar_expr_model.proofs.Lists.{contains_head, contains_tail, contains_cases}
 use Rattle.cedar_expr_model.proofs.Whole.Repeating.{repeats_decide}
+use Rattle.cedar_expr_model.specs.Whole.ListLaws.{AreDistinct}
 
 none-Decides : {A : Type 0} (o : Option A) → Decides (is_none o) (o ≡ None)
 none-Decides None = (λ h. refl, λ h. refl)

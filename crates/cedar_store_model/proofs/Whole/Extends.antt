@@ -1,18 +1,22 @@
 -- A world that knows more gives the same outcomes.
 use Rattle.std.proofs.Common.{◌≡◌, Bool, true, false, cond, List, [], ◌∷◌, refl, sym, ap, ◌∙◌, subst}
 use Rattle.std.specs.Prelude.{Option, Some, None, is_some, length}
+use Rattle.std.specs.Map.{lookup}
+use Rattle.std.specs.Str.{bytes_eq}
 use Rattle.cedar_expr_model.specs.Name.{Text, Name}
 use Rattle.cedar_expr_model.specs.Uid.{Uid}
 use Rattle.cedar_expr_model.specs.Whole.Value.{V, prim, truth, text, entity, field}
 use Rattle.cedar_expr_model.specs.Whole.Tree.{Tree, lit, var, slot, unknown, choice, both, either, unary, binary, call, get_attr, has_attr, has_path, like, is_type, set_literal, record_literal, Trees, no_trees, tree, TreeFields, no_tree_fields, tree_field, Var, principal, action, resource, context, BinaryOp, less, less_or_equal, is_in, get_tag, has_tag}
 use Rattle.cedar_expr_model.specs.Whole.Table.{Table, Signature, Called, gives, fails, leaves, signature_of, takes_count, are_of_types}
 use Rattle.cedar_store_model.specs.Whole.Outcome.{Res, val, err, bind}
-use Rattle.cedar_store_model.specs.Whole.World.{World, Part, known, left, Entity, Found, held, missing, not_loaded, part_named}
-use Rattle.cedar_store_model.specs.Whole.Operators.{says, bound_value, answered, called_with, called}
-use Rattle.cedar_store_model.specs.Whole.Reads.{part_value, part_read, part_tested, attributes_of, tags_of, attribute_read, attribute_tested, Step, goes_on, ends, part_step, found_step, step_from, path_after, path_tested, tag_read, tag_tested, found_in, within, uids_in, is_in_some}
-use Rattle.cedar_store_model.specs.Whole.Meaning.{Means, known_uid, variable, slot_value, combined, picked, truth_asked, outcome_of, outcomes_of, field_outcomes_of}
-use Rattle.cedar_store_model.specs.Whole.Knowledge.{IsThere, Keeps, KeepsPart, KeepsParts, KeepsEntity, KeepsFound, Extends}
+use Rattle.cedar_expr_model.specs.Whole.ValueParts.{Part, known, left}
+use Rattle.cedar_store_model.specs.Whole.World.{World, Entity, Found, held, missing, not_loaded}
+use Rattle.cedar_store_model.specs.Whole.Operators.{says, answered, called}
+use Rattle.cedar_store_model.specs.Whole.Reads.{part_value, part_read, part_tested, attribute_read, attribute_tested, found_in, within, uids_in, is_in_some}
+use Rattle.cedar_store_model.specs.Whole.Meaning.{Means, variable, slot_value, combined, picked, truth_asked, outcome_of, outcomes_of, field_outcomes_of, path_tested}
+use Rattle.cedar_store_model.specs.Whole.Knowledge.{Keeps, KeepsPart, KeepsParts, KeepsEntity, KeepsFound, Extends}
 use Rattle.cedar_store_model.proofs.Whole.Meaning.{means_outcome, outcome_means}
+use Rattle.cedar_store_model.proofs.Whole.Named.{called_of, attributes_of, tags_of, tag_read, tag_tested, bound_value, known_uid}
 
 pub keeps_same : {A : Type 0} (o p : Option A) → p ≡ o → Keeps o p
 keeps_same None p e = tt
@@ -51,35 +55,21 @@ keeps_value None p h = ap part_value h
 keeps_value (Some (known v)) p h = ap part_value h
 keeps_value (Some (left t)) p h = tt
 
-there_same : {A : Type 0} (p : Option A) → IsThere p → is_some p ≡ true
-there_same None h = absurd h
-there_same (Some a) h = refl
-
 same_there : (o p : Option (Part V)) → KeepsPart o p → is_some p ≡ is_some o
 same_there None p h = ap is_some h
 same_there (Some (known v)) p h = ap is_some h
-same_there (Some (left t)) p h = there_same p h
-
-keeps_part_step : (o p : Option (Part V)) → KeepsPart o p → Keeps (part_step o) (part_step p)
-keeps_part_step None p h = ap part_step h
-keeps_part_step (Some (known v)) p h = ap part_step h
-keeps_part_step (Some (left t)) p h = tt
+same_there (Some (left t)) p h = h
 
 -- what is read of an entity
 keeps_read : (parts : Entity V → List (Text × Part V)) → ((e d : Entity V) → KeepsEntity e d → KeepsParts (parts e) (parts d)) → (u : Uid) (a : Text) (f g : Found V) → KeepsFound f g → Keeps (part_read parts u a f) (part_read parts u a g)
-keeps_read parts same u a (held e) g h = subst (λ x. Keeps (part_read parts u a (held e)) (part_read parts u a x)) (sym h.1) (keeps_value (part_named a (parts e)) (part_named a (parts h.0)) (same e h.0 h.2 a))
+keeps_read parts same u a (held e) g h = subst (λ x. Keeps (part_read parts u a (held e)) (part_read parts u a x)) (sym h.1) (keeps_value (lookup (bytes_eq a) (parts e)) (lookup (bytes_eq a) (parts h.0)) (same e h.0 h.2 a))
 keeps_read parts same u a missing g h = ap (part_read parts u a) h
 keeps_read parts same u a not_loaded g h = tt
 
-keeps_tested : (parts : Entity V → List (Text × Part V)) → ((e d : Entity V) → KeepsEntity e d → KeepsParts (parts e) (parts d)) → (a : Text) (f g : Found V) → KeepsFound f g → Keeps (part_tested parts a f) (part_tested parts a g)
-keeps_tested parts same a (held e) g h = ap (part_tested parts a) h.1 ∙ ap (λ b. Some (says b)) (same_there (part_named a (parts e)) (part_named a (parts h.0)) (same e h.0 h.2 a))
-keeps_tested parts same a missing g h = ap (part_tested parts a) h
-keeps_tested parts same a not_loaded g h = tt
-
-keeps_found_step : (a : Text) (f g : Found V) → KeepsFound f g → Keeps (found_step a f) (found_step a g)
-keeps_found_step a (held e) g h = subst (λ x. Keeps (found_step a (held e)) (found_step a x)) (sym h.1) (keeps_part_step (part_named a e.attributes) (part_named a (h.0).attributes) ((h.2).attributes a))
-keeps_found_step a missing g h = ap (found_step a) h
-keeps_found_step a not_loaded g h = tt
+keeps_tested : (parts : Entity V → List (Text × Part V)) → ((e d : Entity V) → KeepsEntity e d → KeepsParts (parts e) (parts d)) → (u : Uid) (a : Text) (f g : Found V) → KeepsFound f g → Keeps (part_tested parts u a f) (part_tested parts u a g)
+keeps_tested parts same u a (held e) g h = ap (part_tested parts u a) h.1 ∙ ap (λ b. Some (says b)) (same_there (lookup (bytes_eq a) (parts e)) (lookup (bytes_eq a) (parts h.0)) (same e h.0 h.2 a))
+keeps_tested parts same u a missing g h = ap (part_tested parts u a) h
+keeps_tested parts same u a not_loaded g h = tt
 
 keeps_in : (u : Uid) (v : V) (f g : Found V) → KeepsFound f g → Keeps (found_in u v f) (found_in u v g)
 keeps_in u v (held e) g h = ap (found_in u v) h.1 ∙ ap (λ us. Some (is_in_some us u (uids_in v))) (h.2).ancestors
@@ -92,12 +82,12 @@ attributes_same e d h = h.attributes
 tags_same : (e d : Entity V) → KeepsEntity e d → KeepsParts (tags_of e) (tags_of d)
 tags_same e d h = h.tags
 
-keeps_attribute : (k w : World) → Extends k w → (a : Text) (v : V) → Keeps (attribute_read k a v) (attribute_read w a v)
+pub keeps_attribute : (k w : World) → Extends k w → (a : Text) (v : V) → Keeps (attribute_read k a v) (attribute_read w a v)
 keeps_attribute k w h a (prim (entity u)) = keeps_read attributes_of attributes_same u a (k.store u) (w.store u) (h.store u)
 keeps_attribute k w h a v = refl
 
 keeps_has : (k w : World) → Extends k w → (a : Text) (v : V) → Keeps (attribute_tested k a v) (attribute_tested w a v)
-keeps_has k w h a (prim (entity u)) = keeps_tested attributes_of attributes_same a (k.store u) (w.store u) (h.store u)
+keeps_has k w h a (prim (entity u)) = keeps_tested attributes_of attributes_same u a (k.store u) (w.store u) (h.store u)
 keeps_has k w h a v = refl
 
 keeps_tag : (k w : World) → Extends k w → (v x : V) → Keeps (tag_read k v x) (tag_read w v x)
@@ -105,7 +95,7 @@ keeps_tag k w h (prim (entity u)) (prim (text a)) = keeps_read tags_of tags_same
 keeps_tag k w h v x = refl
 
 keeps_has_tag : (k w : World) → Extends k w → (v x : V) → Keeps (tag_tested k v x) (tag_tested w v x)
-keeps_has_tag k w h (prim (entity u)) (prim (text a)) = keeps_tested tags_of tags_same a (k.store u) (w.store u) (h.store u)
+keeps_has_tag k w h (prim (entity u)) (prim (text a)) = keeps_tested tags_of tags_same u a (k.store u) (w.store u) (h.store u)
 keeps_has_tag k w h v x = refl
 
 keeps_within : (k w : World) → Extends k w → (v x : V) → Keeps (within k v x) (within w v x)
@@ -113,19 +103,17 @@ keeps_within k w h (prim (entity u)) x = keeps_in u x (k.store u) (w.store u) (h
 keeps_within k w h v x = refl
 
 -- paths
-pub keeps_step : (k w : World) → Extends k w → (a : Text) (v : V) → Keeps (step_from k a v) (step_from w a v)
-keeps_step k w h a (prim (entity u)) = keeps_found_step a (k.store u) (w.store u) (h.store u)
-keeps_step k w h a v = refl
-
-keeps_after : (f g : V → Option (Res V)) → ((v : V) → Keeps (f v) (g v)) → (o p : Option (Res Step)) → Keeps o p → Keeps (path_after f o) (path_after g p)
-keeps_after f g n None p h = tt
-keeps_after f g n (Some (err e)) p h = ap (path_after g) h
-keeps_after f g n (Some (val ends)) p h = ap (path_after g) h
-keeps_after f g n (Some (val (goes_on v))) p h = subst (λ x. Keeps (f v) (path_after g x)) (sym h) (n v)
+keeps_picked : (a b c d : Option (Res V)) → Keeps a b → Keeps c d → (v : V) → Keeps (picked a c v) (picked b d v)
+keeps_picked a b c d h n (prim (truth true)) = h
+keeps_picked a b c d h n (prim (truth false)) = n
+keeps_picked a b c d h n v = refl
 
 keeps_path : (k w : World) → Extends k w → (a : Text) (bs : List Text) (v : V) → Keeps (path_tested k a bs v) (path_tested w a bs v)
 keeps_path k w h a [] v = keeps_has k w h a v
-keeps_path k w h a (b ∷ bs) v = keeps_after (path_tested k b bs) (path_tested w b bs) (λ x. keeps_path k w h b bs x) (step_from k a v) (step_from w a v) (keeps_step k w h a v)
+keeps_path k w h a (b ∷ bs) v =
+    keeps_bind (attribute_tested k a v) (attribute_tested w a v) _ _ (keeps_has k w h a v)
+    (keeps_picked _ _ (Some (says false)) (Some (says false))
+    (keeps_bind (attribute_read k a v) (attribute_read w a v) (path_tested k b bs) (path_tested w b bs) (keeps_attribute k w h a v) (λ x. keeps_path k w h b bs x)) refl)
 
 -- calls
 keeps_answered : (m n : Text → Option V) → ((x : Text) → Keeps (m x) (n x)) → (c : Called) → Keeps (answered m c) (answered n c)
@@ -133,7 +121,7 @@ keeps_answered m n h (gives v) = refl
 keeps_answered m n h (fails e) = refl
 keeps_answered m n h (leaves x) = keeps_bound (m x) (n x) (h x)
 
-keeps_called_with : (x : Table) (m n : Text → Option V) → ((y : Text) → Keeps (m y) (n y)) → (f : Name) (vs : List V) (s : Option Signature) → Keeps (called_with x m f vs s) (called_with x n f vs s)
+keeps_called_with : (x : Table) (m n : Text → Option V) → ((y : Text) → Keeps (m y) (n y)) → (f : Name) (vs : List V) (s : Option Signature) → Keeps (called_of x m f vs s) (called_of x n f vs s)
 keeps_called_with x m n h f vs None = refl
 keeps_called_with x m n h f vs (Some s) =
     keeps_if (takes_count s (length vs)) _ _ _ (keeps_if (are_of_types s.parameters vs) _ _ _ (keeps_answered m n h (x.answers f vs)))
@@ -148,11 +136,6 @@ keeps_combined k w h is_in v x = keeps_within k w h v x
 keeps_combined k w h get_tag v x = keeps_tag k w h v x
 keeps_combined k w h has_tag v x = keeps_has_tag k w h v x
 keeps_combined k w h o v x = refl
-
-keeps_picked : (a b c d : Option (Res V)) → Keeps a b → Keeps c d → (v : V) → Keeps (picked a c v) (picked b d v)
-keeps_picked a b c d h n (prim (truth true)) = h
-keeps_picked a b c d h n (prim (truth false)) = n
-keeps_picked a b c d h n v = refl
 
 keeps_truth : (o p : Option (Res V)) → Keeps o p → Keeps (bind o (λ v. Some (truth_asked v))) (bind p (λ v. Some (truth_asked v)))
 keeps_truth o p h = keeps_bind o p (λ v. Some (truth_asked v)) (λ v. Some (truth_asked v)) h (λ v. refl)

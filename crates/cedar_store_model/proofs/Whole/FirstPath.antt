@@ -1,9 +1,10 @@
 -- The meaning of the first path is that of the whole language on its part of it.
 use Rattle.std.proofs.Common.{◌≡◌, ◌↔◌, ℤ, Bool, true, false, cond, List, [], ◌∷◌, refl, sym, ap, ◌∙◌, ⊎_elim}
-use Rattle.std.specs.Prelude.{Option, Some, int_lt, ◌||◌}
+use Rattle.std.specs.Prelude.{Option, Some, int_lt, ◌||◌, IsSome}
 use Rattle.std.specs.List.{list_any}
 use Rattle.std.specs.Ordering.{is_lt, int_cmp}
 use Rattle.std.specs.declared.cmp.Ordering.TheVariants.{Less, Equal, Greater}
+use Rattle.std.specs.Map.{lookup}
 use Rattle.cedar_expr_model.specs.Name.{Text}
 use Rattle.cedar_expr_model.specs.Uid.{Uid, uid_eq}
 use Rattle.cedar_expr_model.specs.Value as small_value
@@ -20,11 +21,12 @@ use Rattle.cedar_store_model.specs.Whole.World.{World}
 use Rattle.cedar_store_model.specs.Whole.Operators.{says, applied}
 use Rattle.cedar_store_model.specs.Whole.Meaning.{Means, variable, truth_asked, picked, combined, outcome_of}
 use Rattle.cedar_store_model.specs.Whole.Looks.{Looks}
-use Rattle.cedar_store_model.specs.Whole.Knowledge.{IsThere, IsSettled, IsWhole}
-use Rattle.cedar_store_model.specs.Whole.Store.{whole, as_open, entity_of, found_as, world_of}
-use Rattle.cedar_store_model.specs.Whole.FirstPath.{whole_request, plain_entity, plain_entities, whole_found, whole_world, whole_outcome}
+use Rattle.cedar_store_model.specs.Whole.Knowledge.{IsSettled, IsWhole}
+use Rattle.cedar_store_model.specs.Whole.Store.{whole, as_open, found_as, world_of}
+use Rattle.cedar_store_model.specs.Whole.FirstPath.{whole_request, plain_entity, plain_entities, whole_found, whole_world, whole_outcome, KnowsRequest}
 use Rattle.cedar_store_model.proofs.Meaning as small_proofs
 use Rattle.cedar_store_model.proofs.Whole.Meaning.{means_outcome, outcome_means}
+use Rattle.cedar_store_model.proofs.Whole.Named.{known_uid}
 
 -- what comes next takes the same value
 bind_whole : (r : small_outcome.Res small_value.V) (f : small_value.V → small_outcome.Res small_value.V) (g : V → Option (Res V)) → ((v : small_value.V) → g (whole_value v) ≡ Some (whole_outcome (f v))) → bind (Some (whole_outcome r)) g ≡ Some (whole_outcome (small_outcome.bind r f))
@@ -34,10 +36,10 @@ bind_whole (small_outcome.err e) f g h = refl
 bind_from : (o : Option (Res V)) (r : small_outcome.Res small_value.V) (f : small_value.V → small_outcome.Res small_value.V) (g : V → Option (Res V)) → o ≡ Some (whole_outcome r) → ((v : small_value.V) → g (whole_value v) ≡ Some (whole_outcome (f v))) → bind o g ≡ Some (whole_outcome (small_outcome.bind r f))
 bind_from o r f g e h = ap (λ q. bind q g) e ∙ bind_whole r f g h
 
-variable_whole : (x : Table) (unknowns : Text → Option V) (w : small_world.World) (v : small_tree.Var) → variable (whole_world x unknowns w) (whole_var v) ≡ Some (whole_outcome (small_meaning.outcome_of w (small_tree.var v)))
-variable_whole x unknowns w small_tree.principal = refl
-variable_whole x unknowns w small_tree.action = refl
-variable_whole x unknowns w small_tree.resource = refl
+variable_whole : (w : small_world.World) (u : World) → KnowsRequest w.request u → (v : small_tree.Var) → variable u (whole_var v) ≡ Some (whole_outcome (small_meaning.outcome_of w (small_tree.var v)))
+variable_whole w u k small_tree.principal = ap known_uid k.principal
+variable_whole w u k small_tree.action = ap known_uid k.action
+variable_whole w u k small_tree.resource = ap known_uid k.resource
 
 truth_whole : (v : small_value.V) → Some (truth_asked (whole_value v)) ≡ Some (whole_outcome (small_meaning.truth_of v))
 truth_whole (small_value.prim (small_value.truth b)) = refl
@@ -72,20 +74,17 @@ combined_whole u small_tree.less (small_value.prim (small_value.truth a)) v' = r
 combined_whole u small_tree.less (small_value.prim (small_value.entity e)) v' = refl
 
 -- an expression has the same outcome
-pub outcomes_are_whole : (x : Table) (unknowns : Text → Option V) (w : small_world.World) (t : small_tree.Tree) → outcome_of (whole_world x unknowns w) (whole_tree t) ≡ Some (whole_outcome (small_meaning.outcome_of w t))
-outcomes_are_whole x unknowns w (small_tree.lit p) = refl
-outcomes_are_whole x unknowns w (small_tree.var v) = variable_whole x unknowns w v
-outcomes_are_whole x unknowns w (small_tree.both a b) =
-    let u = whole_world x unknowns w in
-    bind_from (outcome_of u (whole_tree a)) (small_meaning.outcome_of w a) (small_meaning.and_then (small_meaning.outcome_of w b)) (picked (bind (outcome_of u (whole_tree b)) (λ v. Some (truth_asked v))) (Some (says false))) (outcomes_are_whole x unknowns w a)
-    (picked_whole (outcome_of u (whole_tree b)) (small_meaning.outcome_of w b) (outcomes_are_whole x unknowns w b))
-outcomes_are_whole x unknowns w (small_tree.unary o a) =
-    let u = whole_world x unknowns w in
-    bind_from (outcome_of u (whole_tree a)) (small_meaning.outcome_of w a) (small_meaning.applied o) (λ v. Some (applied (whole_unary o) v)) (outcomes_are_whole x unknowns w a) (applied_whole o)
-outcomes_are_whole x unknowns w (small_tree.binary o a b) =
-    let u = whole_world x unknowns w in
-    let right = outcomes_are_whole x unknowns w b in
-    bind_from (outcome_of u (whole_tree a)) (small_meaning.outcome_of w a) (λ v. small_outcome.bind (small_meaning.outcome_of w b) (small_meaning.compared o v)) (λ v. bind (outcome_of u (whole_tree b)) (combined u (whole_binary o) v)) (outcomes_are_whole x unknowns w a)
+pub outcomes_are_whole : (w : small_world.World) (u : World) → KnowsRequest w.request u → (t : small_tree.Tree) → outcome_of u (whole_tree t) ≡ Some (whole_outcome (small_meaning.outcome_of w t))
+outcomes_are_whole w u k (small_tree.lit p) = refl
+outcomes_are_whole w u k (small_tree.var v) = variable_whole w u k v
+outcomes_are_whole w u k (small_tree.both a b) =
+    bind_from (outcome_of u (whole_tree a)) (small_meaning.outcome_of w a) (small_meaning.and_then (small_meaning.outcome_of w b)) (picked (bind (outcome_of u (whole_tree b)) (λ v. Some (truth_asked v))) (Some (says false))) (outcomes_are_whole w u k a)
+    (picked_whole (outcome_of u (whole_tree b)) (small_meaning.outcome_of w b) (outcomes_are_whole w u k b))
+outcomes_are_whole w u k (small_tree.unary o a) =
+    bind_from (outcome_of u (whole_tree a)) (small_meaning.outcome_of w a) (small_meaning.applied o) (λ v. Some (applied (whole_unary o) v)) (outcomes_are_whole w u k a) (applied_whole o)
+outcomes_are_whole w u k (small_tree.binary o a b) =
+    let right = outcomes_are_whole w u k b in
+    bind_from (outcome_of u (whole_tree a)) (small_meaning.outcome_of w a) (λ v. small_outcome.bind (small_meaning.outcome_of w b) (small_meaning.compared o v)) (λ v. bind (outcome_of u (whole_tree b)) (combined u (whole_binary o) v)) (outcomes_are_whole w u k a)
     (λ v. bind_from (outcome_of u (whole_tree b)) (small_meaning.outcome_of w b) (small_meaning.compared o v) (combined u (whole_binary o) (whole_value v)) right (combined_whole u o v))
 
 -- outcomes stay apart
@@ -100,42 +99,47 @@ outcomes_are_kept (small_outcome.err small_outcome.wrong_type) (small_outcome.er
 same_given : (r s : Res V) → Some r ≡ Some s → r ≡ s
 same_given r s e = cc
 
-pub meaning_is_whole : (x : Table) (unknowns : Text → Option V) (w : small_world.World) (t : small_tree.Tree) (r : small_outcome.Res small_value.V) → small_meaning.Means w t r ↔ Means (whole_world x unknowns w) (whole_tree t) (whole_outcome r)
-meaning_is_whole x unknowns w t r =
-    let u = whole_world x unknowns w in (
-      λ m. outcome_means u (whole_tree t) (whole_outcome r) (outcomes_are_whole x unknowns w t ∙ ap (λ o. Some (whole_outcome o)) (small_proofs.means_outcome w t r m)),
-      λ m. small_proofs.outcome_means w t r (outcomes_are_kept _ _ (same_given _ _ (sym (outcomes_are_whole x unknowns w t) ∙ means_outcome u (whole_tree t) (whole_outcome r) m))),
-    )
+pub meaning_is_whole : (w : small_world.World) (u : World) → KnowsRequest w.request u → (t : small_tree.Tree) (r : small_outcome.Res small_value.V) → small_meaning.Means w t r ↔ Means u (whole_tree t) (whole_outcome r)
+meaning_is_whole w u k t r = (
+  λ m. outcome_means u (whole_tree t) (whole_outcome r) (outcomes_are_whole w u k t ∙ ap (λ o. Some (whole_outcome o)) (small_proofs.means_outcome w t r m)),
+  λ m. small_proofs.outcome_means w t r (outcomes_are_kept _ _ (same_given _ _ (sym (outcomes_are_whole w u k t) ∙ means_outcome u (whole_tree t) (whole_outcome r) m))),
+)
 
-pub nothing_else_is_meant : (x : Table) (unknowns : Text → Option V) (w : small_world.World) (t : small_tree.Tree) (r : Res V) → Means (whole_world x unknowns w) (whole_tree t) r → (s : small_outcome.Res small_value.V) × (r ≡ whole_outcome s) × small_meaning.Means w t s
-nothing_else_is_meant x unknowns w t r m =
-    let e = sym (means_outcome (whole_world x unknowns w) (whole_tree t) r m) ∙ outcomes_are_whole x unknowns w t in
+pub nothing_else_is_meant : (w : small_world.World) (u : World) → KnowsRequest w.request u → (t : small_tree.Tree) (r : Res V) → Means u (whole_tree t) r → (s : small_outcome.Res small_value.V) × (r ≡ whole_outcome s) × small_meaning.Means w t s
+nothing_else_is_meant w u k t r m =
+    let e = sym (means_outcome u (whole_tree t) r m) ∙ outcomes_are_whole w u k t in
     (small_meaning.outcome_of w t, same_given _ _ e, small_proofs.outcome_means w t _ refl)
 
 -- nothing is looked up
-pub nothing_is_looked_up : (x : Table) (unknowns : Text → Option V) (w : small_world.World) (t : small_tree.Tree) (v : Uid) → Looks (whole_world x unknowns w) (whole_tree t) v → ⊥
-nothing_is_looked_up x unknowns w (small_tree.lit p) v h = h
-nothing_is_looked_up x unknowns w (small_tree.var y) v h = h
-nothing_is_looked_up x unknowns w (small_tree.both a b) v h = ⊎_elim (λ k. nothing_is_looked_up x unknowns w a v k) (λ k. nothing_is_looked_up x unknowns w b v k.1) h
-nothing_is_looked_up x unknowns w (small_tree.unary o a) v h = nothing_is_looked_up x unknowns w a v h
-nothing_is_looked_up x unknowns w (small_tree.binary small_tree.equal a b) v h = ⊎_elim (λ k. nothing_is_looked_up x unknowns w a v k) (λ k. ⊎_elim (λ j. nothing_is_looked_up x unknowns w b v j) (λ j. absurd j.2) k.2) h
-nothing_is_looked_up x unknowns w (small_tree.binary small_tree.less a b) v h = ⊎_elim (λ k. nothing_is_looked_up x unknowns w a v k) (λ k. ⊎_elim (λ j. nothing_is_looked_up x unknowns w b v j) (λ j. absurd j.2) k.2) h
+never_looked_up : (u : World) (t : small_tree.Tree) (v : Uid) → Looks u (whole_tree t) v → ⊥
+never_looked_up u (small_tree.lit p) v h = h
+never_looked_up u (small_tree.var y) v h = h
+never_looked_up u (small_tree.both a b) v h = ⊎_elim (λ k. never_looked_up u a v k) (λ k. never_looked_up u b v k.1) h
+never_looked_up u (small_tree.unary o a) v h = never_looked_up u a v h
+never_looked_up u (small_tree.binary small_tree.equal a b) v h = ⊎_elim (λ k. never_looked_up u a v k) (λ k. ⊎_elim (λ j. never_looked_up u b v j) (λ j. absurd j.2) k.2) h
+never_looked_up u (small_tree.binary small_tree.less a b) v h = ⊎_elim (λ k. never_looked_up u a v k) (λ k. ⊎_elim (λ j. never_looked_up u b v j) (λ j. absurd j.2) k.2) h
+
+pub nothing_is_looked_up : (w : small_world.World) (u : World) → KnowsRequest w.request u → (t : small_tree.Tree) (v : Uid) → Looks u (whole_tree t) v → ⊥
+nothing_is_looked_up w u k t v h = never_looked_up u t v h
 
 -- worlds and stores
-found_first : (b c : Bool) (u : Uid) (us : List Uid) → whole_found c ≡ found_as whole (entity_of u (plain_entities us)) → whole_found (b || c) ≡ found_as whole (cond b (Some plain_entity) (entity_of u (plain_entities us)))
+found_first : (b c : Bool) (u : Uid) (us : List Uid) → whole_found c ≡ found_as whole (lookup (uid_eq u) (plain_entities us)) → whole_found (b || c) ≡ found_as whole (cond b (Some plain_entity) (lookup (uid_eq u) (plain_entities us)))
 found_first true c u us e = refl
 found_first false c u us e = e
 
-found_whole : (u : Uid) (us : List Uid) → whole_found (list_any (uid_eq u) us) ≡ found_as whole (entity_of u (plain_entities us))
+found_whole : (u : Uid) (us : List Uid) → whole_found (list_any (uid_eq u) us) ≡ found_as whole (lookup (uid_eq u) (plain_entities us))
 found_whole u [] = refl
 found_whole u (v ∷ us) = found_first (uid_eq u v) (list_any (uid_eq u) us) u us (found_whole u us)
 
 pub worlds_are_of_stores : (x : Table) (unknowns : Text → Option V) (r : small_world.Request) (us : List Uid) → whole_world x unknowns (record { request = r; holds = λ u. list_any (uid_eq u) us }) ≡ world_of x unknowns (as_open (whole_request r)) (record { extent = whole; entities = plain_entities us })
 worlds_are_of_stores x unknowns r us = λ i. record (whole_world x unknowns (record { request = r; holds = λ u. list_any (uid_eq u) us })) { store = λ u. found_whole u us i }
 
+pub worlds_know_the_request : (x : Table) (unknowns : Text → Option V) (w : small_world.World) → KnowsRequest w.request (whole_world x unknowns w)
+worlds_know_the_request x unknowns w = record { principal = refl; action = refl; resource = refl }
+
 settled : (b : Bool) → IsSettled (whole_found b)
 settled true = refl
 settled false = tt
 
-pub worlds_are_whole : (x : Table) (unknowns : Text → Option V) → ((n : Text) → IsThere (unknowns n)) → (w : small_world.World) → IsWhole (whole_world x unknowns w)
-worlds_are_whole x unknowns h w = record { principal = tt; action = tt; resource = tt; context = tt; unknowns = h; store = λ u. settled (w.holds u) }
+pub worlds_are_whole : (x : Table) (unknowns : Text → Option V) → ((n : Text) → IsSome (unknowns n)) → (w : small_world.World) → IsWhole (whole_world x unknowns w)
+worlds_are_whole x unknowns h w = record { principal = refl; action = refl; resource = refl; context = refl; unknowns = h; store = λ u. settled (w.holds u) }

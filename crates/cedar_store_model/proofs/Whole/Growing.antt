@@ -6,15 +6,15 @@ use Rattle.cedar_expr_model.specs.Whole.Value.{V}
 use Rattle.cedar_expr_model.specs.Whole.Tree.{Tree, lit, var, slot, unknown, choice, both, either, unary, binary, call, get_attr, has_attr, has_path, like, is_type, set_literal, record_literal, Trees, no_trees, tree, TreeFields, no_tree_fields, tree_field}
 use Rattle.cedar_store_model.specs.Whole.Outcome.{val}
 use Rattle.cedar_store_model.specs.Whole.World.{World}
-use Rattle.cedar_store_model.specs.Whole.Reads.{goes_on, step_from}
+use Rattle.cedar_store_model.specs.Whole.Reads.{attribute_read}
 use Rattle.cedar_store_model.specs.Whole.Looks.{PathLooks, Looks, AnyLooks, AnyFieldLooks}
 use Rattle.cedar_store_model.specs.Whole.Knowledge.{Extends}
-use Rattle.cedar_store_model.proofs.Whole.Extends.{keeps_outcome, keeps_step, more_keeps}
+use Rattle.cedar_store_model.proofs.Whole.Extends.{keeps_outcome, keeps_attribute, more_keeps}
 
 path_grows : (k w : World) → Extends k w → (a : Text) (bs : List Text) (v : V) (u : Uid) → PathLooks k a bs v u → PathLooks w a bs v u
 path_grows k w h a [] v u l = l
 path_grows k w h a (b ∷ bs) v u (inl l) = inl l
-path_grows k w h a (b ∷ bs) v u (inr (x, e, l)) = inr (x, keeps_outcome (step_from k a v) (step_from w a v) (val (goes_on x)) (keeps_step k w h a v) e, path_grows k w h b bs x u l)
+path_grows k w h a (b ∷ bs) v u (inr (x, e, l)) = inr (x, keeps_outcome (attribute_read k a v) (attribute_read w a v) (val x) (keeps_attribute k w h a v) e, path_grows k w h b bs x u l)
 
 mutual
   pub looks_grow : (k w : World) → Extends k w → (t : Tree) (u : Uid) → Looks k t u → Looks w t u

@@ -47,10 +47,10 @@ pub absence_is_known : Extends world_without_b world → ⊥
 absence_is_known h = let k = h.store user_b in cc
 
 pub whole_world : IsWhole (world_of table (λ n. Some (number_value 5)) (as_open request) (record { extent = whole; entities = entities }))
-whole_world = whole_stores_are_whole table (λ n. Some (number_value 5)) request entities (λ n. tt) refl
+whole_world = whole_stores_are_whole table (λ n. Some (number_value 5)) request entities (λ n. refl) refl
 
 pub not_whole : IsWhole a_loaded → ⊥
 not_whole h = h.store user_b
 
 pub open_is_not_whole : IsWhole principal_open → ⊥
-open_is_not_whole h = h.principal
+open_is_not_whole h = let k = h.principal in cc

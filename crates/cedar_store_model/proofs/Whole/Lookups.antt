@@ -1,34 +1,34 @@
 -- Only what is looked up is read of a store.
-use Rattle.std.proofs.Common.{◌≡◌, true, false, List, [], ◌∷◌, sym, ap, ◌∙◌, inl, inr}
-use Rattle.std.specs.Prelude.{Option, Some, None}
+use Rattle.std.proofs.Common.{◌≡◌, true, false, List, [], ◌∷◌, refl, sym, ap, ◌∙◌, inl, inr}
+use Rattle.std.specs.Prelude.{Option, Some, None, is_some}
+use Rattle.std.specs.Option.{option_map_or}
+use Rattle.std.specs.Map.{lookup}
+use Rattle.std.specs.Str.{bytes_eq}
 use Rattle.cedar_expr_model.specs.Name.{Text}
 use Rattle.cedar_expr_model.specs.Uid.{Uid}
-use Rattle.cedar_expr_model.specs.Whole.Value.{V, prim, entity, truth_value}
+use Rattle.cedar_expr_model.specs.Whole.Value.{V, prim, truth, long, text, entity, set_of, record_of, extension, field_of, truth_value}
 use Rattle.cedar_expr_model.specs.Whole.Tree.{Tree, lit, var, slot, unknown, choice, both, either, unary, binary, call, get_attr, has_attr, has_path, like, is_type, set_literal, record_literal, Trees, no_trees, tree, TreeFields, no_tree_fields, tree_field, BinaryOp, is_in, get_tag, has_tag}
-use Rattle.cedar_store_model.specs.Whole.Outcome.{Res, val, bind}
-use Rattle.cedar_store_model.specs.Whole.World.{World, not_loaded}
+use Rattle.cedar_store_model.specs.Whole.Outcome.{Res, val, err, missing_field, bind}
+use Rattle.cedar_expr_model.specs.Whole.ValueParts.{Part, known, left}
+use Rattle.cedar_store_model.specs.Whole.World.{World, Found, held, missing, not_loaded}
 use Rattle.cedar_store_model.specs.Whole.Operators.{says}
-use Rattle.cedar_store_model.specs.Whole.Reads.{part_read, part_tested, attributes_of, tags_of, attribute_read, attribute_tested, found_step, step_from, path_after, path_tested, tag_read, tag_tested, found_in, within}
-use Rattle.cedar_store_model.specs.Whole.Meaning.{Means, combined, picked, truth_asked, outcome_of, outcomes_of, field_outcomes_of}
-use Rattle.cedar_store_model.specs.Whole.Looks.{IsEntity, CombinedLooks, PathLooks, Looks, AnyLooks, AnyFieldLooks}
+use Rattle.cedar_store_model.specs.Whole.Reads.{part_value, part_read, part_tested, attribute_read, attribute_tested, found_in, within}
+use Rattle.cedar_store_model.specs.Whole.Meaning.{Means, combined, picked, truth_asked, outcome_of, outcomes_of, field_outcomes_of, path_tested}
+use Rattle.cedar_store_model.specs.Whole.Looks.{CombinedLooks, PathLooks, Looks, AnyLooks, AnyFieldLooks}
 use Rattle.cedar_store_model.proofs.Whole.Meaning.{means_outcome}
+use Rattle.cedar_store_model.proofs.Whole.Named.{attributes_of, tags_of, tag_read, tag_tested}
 
 -- a look-up that isn't loaded leaves no outcome
-none_attribute : (w : World) (a : Text) (u : Uid) → w.store u ≡ not_loaded → (v : V) → IsEntity v u → attribute_read w a v ≡ None
+none_attribute : (w : World) (a : Text) (u : Uid) → w.store u ≡ not_loaded → (v : V) → v ≡ prim (entity u) → attribute_read w a v ≡ None
 none_attribute w a u e v h = ap (attribute_read w a) h ∙ ap (part_read attributes_of u a) e
 
-none_has : (w : World) (a : Text) (u : Uid) → w.store u ≡ not_loaded → (v : V) → IsEntity v u → attribute_tested w a v ≡ None
-none_has w a u e v h = ap (attribute_tested w a) h ∙ ap (part_tested attributes_of a) e
-
-none_path : (w : World) (a : Text) (bs : List Text) (u : Uid) → w.store u ≡ not_loaded → (v : V) → PathLooks w a bs v u → path_tested w a bs v ≡ None
-none_path w a [] u e v h = none_has w a u e v h
-none_path w a (b ∷ bs) u e v (inl h) = ap (λ x. path_after (path_tested w b bs) (step_from w a x)) h ∙ ap (λ f. path_after (path_tested w b bs) (found_step a f)) e
-none_path w a (b ∷ bs) u e v (inr h) = ap (path_after (path_tested w b bs)) h.1 ∙ none_path w b bs u e h.0 h.2
+none_has : (w : World) (a : Text) (u : Uid) → w.store u ≡ not_loaded → (v : V) → v ≡ prim (entity u) → attribute_tested w a v ≡ None
+none_has w a u e v h = ap (attribute_tested w a) h ∙ ap (part_tested attributes_of u a) e
 
 none_combined : (w : World) (o : BinaryOp) (u : Uid) → w.store u ≡ not_loaded → (v x : V) → CombinedLooks o v x u → combined w o v x ≡ None
 none_combined w is_in u e v x h = ap (λ y. within w y x) h ∙ ap (found_in u x) e
 none_combined w get_tag u e v x h = ap (λ y. tag_read w y x) h.0 ∙ ap (tag_read w (prim (entity u))) h.1.1 ∙ ap (part_read tags_of u h.1.0) e
-none_combined w has_tag u e v x h = ap (λ y. tag_tested w y x) h.0 ∙ ap (tag_tested w (prim (entity u))) h.1.1 ∙ ap (part_tested tags_of h.1.0) e
+none_combined w has_tag u e v x h = ap (λ y. tag_tested w y x) h.0 ∙ ap (tag_tested w (prim (entity u))) h.1.1 ∙ ap (part_tested tags_of u h.1.0) e
 none_combined w o u e v x h = absurd h
 
 none_first : {A B : Type 0} (o : Option (Res A)) (f : A → Option (Res B)) → o ≡ None → bind o f ≡ None
@@ -36,6 +36,37 @@ none_first o f e = ap (λ x. bind x f) e
 
 none_next : {A B : Type 0} (o : Option (Res A)) (f : A → Option (Res B)) (v : A) → o ≡ Some (val v) → f v ≡ None → bind o f ≡ None
 none_next o f v e n = ap (λ x. bind x f) e ∙ n
+
+-- an attribute that is read is there
+part_there : (p : Option (Part V)) (x : V) → part_value p ≡ Some (val x) → is_some p ≡ true
+part_there None x e = cc
+part_there (Some (known v)) x e = refl
+part_there (Some (left t)) x e = cc
+
+found_there : (u : Uid) (a : Text) (f : Found V) (x : V) → part_read attributes_of u a f ≡ Some (val x) → part_tested attributes_of u a f ≡ Some (says true)
+found_there u a (held d) x e = ap (λ b. Some (says b)) (part_there (lookup (bytes_eq a) d.attributes) x e)
+found_there u a missing x e = cc
+found_there u a not_loaded x e = cc
+
+field_there : (o : Option V) (x : V) → ◌≡◌ {A = Option (Res V)} (Some (option_map_or val o (err missing_field))) (Some (val x)) → is_some o ≡ true
+field_there None x e = cc
+field_there (Some v) x e = refl
+
+read_there : (w : World) (a : Text) (v x : V) → attribute_read w a v ≡ Some (val x) → attribute_tested w a v ≡ Some (says true)
+read_there w a (prim (entity u)) x e = found_there u a (w.store u) x e
+read_there w a (record_of fs) x e = ap (λ b. Some (says b)) (field_there (field_of a fs) x e)
+read_there w a (prim (truth b)) x e = cc
+read_there w a (prim (long n)) x e = cc
+read_there w a (prim (text s)) x e = cc
+read_there w a (set_of vs) x e = cc
+read_there w a (extension n k) x e = cc
+
+none_path : (w : World) (a : Text) (bs : List Text) (u : Uid) → w.store u ≡ not_loaded → (v : V) → PathLooks w a bs v u → path_tested w a bs v ≡ None
+none_path w a [] u e v h = none_has w a u e v h
+none_path w a (b ∷ bs) u e v (inl h) = none_first (attribute_tested w a v) _ (none_has w a u e v h)
+none_path w a (b ∷ bs) u e v (inr h) =
+    none_next (attribute_tested w a v) (picked (bind (attribute_read w a v) (path_tested w b bs)) (Some (says false))) (truth_value true) (read_there w a v h.0 h.1)
+    (none_next (attribute_read w a v) (path_tested w b bs) h.0 h.1 (none_path w b bs u e h.0 h.2))
 
 mutual
   pub none_looked : (w : World) (u : Uid) → w.store u ≡ not_loaded → (t : Tree) → Looks w t u → outcome_of w t ≡ None

@@ -9,7 +9,7 @@ use Rattle.std.specs.declared.cmp.Ordering.TheVariants.{Less, Equal, Greater}
 use Rattle.std.proofs.lemmas.Bool.Decides.{Decides-or}
 use Rattle.cedar_expr_model.specs.Name.{Name}
 use Rattle.cedar_expr_model.specs.Uid.{Uid, uid_eq}
-use Rattle.cedar_expr_model.specs.Whole.Value.{V, prim, entity, Vs, no_values, value}
+use Rattle.cedar_expr_model.specs.Whole.Value.{V, prim, entity, Vs, no_values, value, values_list}
 use Rattle.cedar_expr_model.specs.Whole.Canonical.{inserted, members_made, set_made}
 use Rattle.cedar_expr_model.specs.Whole.Tree.{var, binary, BinaryOp, equal, is_in, Var, principal, action, resource, SlotId, principal_slot, resource_slot, is_type}
 use Rattle.cedar_expr_model.proofs.Equality.{name_eq-Decides, uid_eq-Decides}
@@ -17,16 +17,18 @@ use Rattle.cedar_expr_model.proofs.Lists.{contains_head, contains_tail, contains
 use Rattle.cedar_store_model.specs.Whole.Outcome.{Res, val, bind}
 use Rattle.cedar_store_model.specs.Whole.World.{World, Entity, Found, held, missing, not_loaded}
 use Rattle.cedar_store_model.specs.Whole.Operators.{of_type}
-use Rattle.cedar_store_model.specs.Whole.Reads.{uids_among, is_in_some, found_in}
-use Rattle.cedar_store_model.specs.Whole.Meaning.{variable, known_uid, slot_value, combined, outcome_of, outcomes_of}
+use Rattle.cedar_store_model.specs.Whole.Reads.{uid_of, is_in_some, found_in}
+use Rattle.cedar_expr_model.specs.Whole.Lists.{all_given}
+use Rattle.cedar_store_model.specs.Whole.Meaning.{variable, slot_value, combined, outcome_of, outcomes_of}
 use Rattle.cedar_store_model.specs.Whole.Knowledge.{IsSettled, IsWhole}
-use Rattle.cedar_store_model.specs.Whole.Policy.{Policy, Target, named, own_slot, Scope, any, exactly, inside, of_kind, of_kind_inside, ActionScope, any_action, exactly_action, inside_actions, target_tree, scope_tree, uid_trees, action_tree, body_tree}
+use Rattle.cedar_store_model.specs.Whole.Policy.{Policy, Target, named, own_slot, Scope, any, exactly, inside, of_kind, of_kind_inside, ActionScope, any_action, exactly_action, inside_actions, target_tree, scope_tree, action_tree, body_tree}
 use Rattle.cedar_store_model.specs.Whole.Answer.{with_slots, IsSatisfied, is_true}
 use Rattle.cedar_expr_model.proofs.Whole.ValueOrder.{values_decide}
 use Rattle.cedar_expr_model.specs.Whole.Order.{uid_order}
 use Rattle.cedar_store_model.specs.Whole.AnswerLaws.{Holds}
-use Rattle.cedar_store_model.specs.Whole.Matching.{IsIn, target_uid, IsInTarget, Matches, MatchesAction, AsksFor}
 use Rattle.cedar_store_model.proofs.Whole.Conditions.{holds_in, holds-Decides, conjunction-Decides, parts-Decides}
+use Rattle.cedar_store_model.proofs.Whole.Named.{known_uid, uid_trees}
+use Rattle.cedar_store_model.specs.Whole.StoreLaws.{IsIn, target_uid, IsInTarget, Matches, MatchesAction, AsksFor}
 
 decides_by : {P : Type 0} (a b : Bool) → a ≡ b → Decides b P → Decides a P
 decides_by a b e d = (λ h. d.0 (sym e ∙ h), λ h. e ∙ d.1 h)
@@ -144,7 +146,7 @@ made_values : (us : List Uid) → members_made (as_values us) ≡ uid_values (ui
 made_values [] = refl
 made_values (u ∷ us) = ap (inserted (prim (entity u))) (made_values us) ∙ inserted_values u (uids_made us)
 
-values_among : (us : List Uid) → uids_among (uid_values us) ≡ Some us
+values_among : (us : List Uid) → all_given uid_of (values_list (uid_values us)) ≡ Some us
 values_among [] = refl
 values_among (u ∷ us) = ap (option_map (λ vs. u ∷ vs)) (values_among us)
 
@@ -153,8 +155,8 @@ trees_outcome w [] = refl
 trees_outcome w (u ∷ us) = ap (λ o. bind o (λ vs. Some (val (prim (entity u) ∷ vs)))) (trees_outcome w us)
 
 set_in : (u : Uid) (us : List Uid) (f : Found V) → found_in u (set_made (as_values us)) f ≡ in_these u (uids_made us) f
-set_in u us (held e) = ap (λ o. Some (is_in_some e.ancestors u o)) (ap uids_among (made_values us) ∙ values_among (uids_made us))
-set_in u us missing = ap (λ o. Some (is_in_some [] u o)) (ap uids_among (made_values us) ∙ values_among (uids_made us))
+set_in u us (held e) = ap (λ o. Some (is_in_some e.ancestors u o)) (ap (λ vs. all_given uid_of (values_list vs)) (made_values us) ∙ values_among (uids_made us))
+set_in u us missing = ap (λ o. Some (is_in_some [] u o)) (ap (λ vs. all_given uid_of (values_list vs)) (made_values us) ∙ values_among (uids_made us))
 set_in u us not_loaded = refl
 
 -- the set has the same members

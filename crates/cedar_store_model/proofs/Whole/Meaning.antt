@@ -6,10 +6,11 @@ use Rattle.cedar_expr_model.specs.Whole.Tree.{Tree, lit, var, slot, unknown, cho
 use Rattle.cedar_expr_model.specs.Whole.Canonical.{set_made}
 use Rattle.cedar_store_model.specs.Whole.Outcome.{Res, val, Then, Is, Gives, bind}
 use Rattle.cedar_store_model.specs.Whole.World.{World}
-use Rattle.cedar_store_model.specs.Whole.Operators.{says, applied, like_pattern, of_type, called, bound_value}
-use Rattle.cedar_store_model.specs.Whole.Reads.{attribute_read, attribute_tested, path_tested}
-use Rattle.cedar_store_model.specs.Whole.Meaning.{Means, Mean, FieldsMean, Picks, picked, truth_asked, combined, variable, slot_value, outcome_of, outcomes_of, field_outcomes_of}
+use Rattle.cedar_store_model.specs.Whole.Operators.{says, applied, like_pattern, of_type, called}
+use Rattle.cedar_store_model.specs.Whole.Reads.{attribute_read, attribute_tested}
+use Rattle.cedar_store_model.specs.Whole.Meaning.{Means, Mean, FieldsMean, Picks, picked, truth_asked, combined, variable, slot_value, outcome_of, outcomes_of, field_outcomes_of, path_tested}
 use Rattle.cedar_store_model.proofs.Whole.Agree.{Agree, agree_is, agree_gives, agree_then, agree_picks}
+use Rattle.cedar_store_model.proofs.Whole.Named.{bound_value}
 
 -- a truth value is asked of what comes next
 agree_truth : (means : Res V → Type 0) (o : Option (Res V)) → Agree means o → Agree (Then means (λ v. Is (truth_asked v))) (bind o (λ v. Some (truth_asked v)))

@@ -1,10 +1,10 @@
 -- Slots of conditions, and what adding and linking do to a set of policies.
-use Rattle.std.proofs.Common.{◌≡◌, ◌↔◌, List, [], ◌∷◌, ◌++◌, Bool, true, false, cond, ◌&&◌, ◌||◌, refl, sym, ap, ◌∙◌, subst, append_assoc, ◌⊎◌, inl, inr, ⊎_elim}
-use Rattle.std.specs.Prelude.{Option, Some, None, Contains}
+use Rattle.std.proofs.Common.{◌≡◌, ◌↔◌, arith, List, [], ◌∷◌, ◌++◌, Bool, true, false, cond, ◌&&◌, ◌||◌, refl, sym, ap, ◌∙◌, subst, append_assoc}
+use Rattle.std.specs.Prelude.{Option, Some, None, Contains, is_none, option_map}
 use Rattle.std.specs.Bool.{Decides}
 use Rattle.std.specs.List.{list_any}
 use Rattle.std.specs.Str.{bytes_eq}
-use Rattle.std.proofs.lemmas.List.Elements.{filter_map-append, Contains-append_cases}
+use Rattle.std.proofs.lemmas.List.Elements.{filter_map-append}
 use Rattle.std.proofs.lemmas.List.{map-append}
 use Rattle.std.proofs.lemmas.List.Folds.{list_any-append}
 use Rattle.std.proofs.lemmas.Slice.Eq.{bytes_eq-Decides}
@@ -14,13 +14,16 @@ use Rattle.cedar_expr_model.specs.Whole.Value.{truth}
 use Rattle.cedar_expr_model.specs.Whole.Tree.{Tree, lit, var, both, binary, is_type, set_literal, SlotId, principal_slot, resource_slot, Var, principal, resource, is_in}
 use Rattle.cedar_expr_model.specs.Whole.Builder.{conjunction}
 use Rattle.cedar_expr_model.specs.Whole.Parts.{subexpressions, slot_here, slots}
-use Rattle.cedar_expr_model.proofs.Lists.{hold_left, hold_right, any_has, map_from}
+use Rattle.cedar_expr_model.proofs.Lists.{any_has, any_from, map_from}
 use Rattle.cedar_expr_model.proofs.Whole.Repeating.{distinct_last}
-use Rattle.cedar_expr_model.specs.Whole.Repeats.{AreDistinct}
 use Rattle.cedar_store_model.specs.Whole.Answer.{ids}
 use Rattle.cedar_store_model.proofs.Whole.Distinct.{distinct-Decides, distinct_between}
-use Rattle.cedar_store_model.specs.Whole.Policy.{Policy, SlotBindings, Target, named, own_slot, Scope, any, exactly, inside, of_kind, of_kind_inside, ActionScope, any_action, exactly_action, inside_actions, slot_eq, is_own_slot, scope_has_slot, tree_uses, has_slot, target_tree, scope_tree, uid_trees, action_tree, body_tree, principal_tree, resource_tree, condition}
-use Rattle.cedar_store_model.specs.Whole.PolicySet.{PolicySet, has_id, is_taken, have_distinct_ids, has_distinct_ids, template_of, linked, with_template, with_policy, lacks_binding, has_stray_binding, of_some_slot, LinkFault, id_present, slot_not_bound, slot_not_of_template, no_template, has_fault_at, has_link_fault, linked_in, link, add_template, add_policy}
+use Rattle.cedar_store_model.specs.Whole.Policy.{Policy, SlotBindings, Target, named, own_slot, Scope, any, exactly, inside, of_kind, of_kind_inside, ActionScope, any_action, exactly_action, inside_actions, tree_uses, has_slot, target_tree, scope_tree, action_tree, body_tree}
+use Rattle.cedar_store_model.specs.Whole.PolicySet.{PolicySet, is_taken, has_distinct_ids, template_of, linked, with_template, with_policy, LinkFault, id_present, slot_not_bound, slot_not_of_template, no_template, link_faults, has_link_fault, link, add_template, add_policy}
+use Rattle.cedar_store_model.specs.Whole.AnswerLaws.{is_own_slot, scope_has_slot, scope_uses}
+use Rattle.cedar_expr_model.specs.Whole.Repeats.{repeated}
+use Rattle.cedar_expr_model.specs.Whole.ListLaws.{AreDistinct}
+use Rattle.cedar_store_model.proofs.Whole.Named.{slot_eq, uid_trees, principal_tree, resource_tree}
 
 -- slots of a conjunction are those of its sides
 both_use : (a b : Tree) (s : SlotId) → tree_uses (both a b) s ≡ (tree_uses a s || tree_uses b s)
@@ -64,11 +67,11 @@ second_slot true false b = refl
 second_slot false true b = refl
 second_slot false false b = refl
 
-either_slot : (p : Policy) (s : SlotId) → ((scope_has_slot p.principal && slot_eq principal_slot s) || (false || ((scope_has_slot p.resource && slot_eq resource_slot s) || tree_uses (body_tree p.body) s))) ≡ has_slot p s
+either_slot : (p : Policy) (s : SlotId) → ((scope_has_slot p.principal && slot_eq principal_slot s) || (false || ((scope_has_slot p.resource && slot_eq resource_slot s) || tree_uses (body_tree p.body) s))) ≡ (scope_uses p s || tree_uses (body_tree p.body) s)
 either_slot p principal_slot = first_slot (scope_has_slot p.principal) (scope_has_slot p.resource) (tree_uses (body_tree p.body) principal_slot)
 either_slot p resource_slot = second_slot (scope_has_slot p.principal) (scope_has_slot p.resource) (tree_uses (body_tree p.body) resource_slot)
 
-pub condition_uses : (p : Policy) (s : SlotId) → tree_uses (condition p) s ≡ has_slot p s
+pub condition_uses : (p : Policy) (s : SlotId) → has_slot p s ≡ (scope_uses p s || tree_uses (body_tree p.body) s)
 condition_uses p s =
     let c = conjunction (resource_tree p) (body_tree p.body) in
     let b = conjunction (action_tree p.action) c in
@@ -79,9 +82,9 @@ condition_uses p s =
     ∙ either_slot p s
 
 -- linking
-either_true : (a b : Bool) → (a || b) ≡ true → (a ≡ true) ⊎ (b ≡ true)
-either_true true b h = inl refl
-either_true false b h = inr h
+neither : (a b : Bool) → (a || b) ≡ false → (a ≡ false) × (b ≡ false)
+neither true b h = cc
+neither false b h = (refl, h)
 
 refused : {A : Type 0} (c : Bool) (a : A) → cond c None (Some a) ≡ None → c ≡ true
 refused true a h = refl
@@ -91,66 +94,51 @@ taken : {A : Type 0} (c : Bool) (a r : A) → cond c None (Some a) ≡ Some r �
 taken true a r h = cc
 taken false a r h = (refl, cc)
 
-refuses : {A : Type 0} (c : Bool) (a : A) → c ≡ true → cond c None (Some a) ≡ None
-refuses c a h = ap (λ x. cond x None (Some a)) h
-
--- one of the three faults of a template that is there
-abbrev is_unfit : PolicySet → Text → SlotBindings → Policy → Bool
-is_unfit s id b t = is_taken id s || (of_some_slot (lacks_binding t b) || of_some_slot (has_stray_binding t b))
-
-unfit_fault : (s : PolicySet) (id : Text) (b : SlotBindings) (t : Policy) → is_unfit s id b t ≡ true → (f : LinkFault) × (has_fault_at s id b (Some t) f ≡ true)
-unfit_fault s id b t h = first (either_true (is_taken id s) _ h)
+-- a fault that is there is one of the list
+listed_fault : (test : LinkFault → Bool) (f : LinkFault) → test f ≡ true → list_any test link_faults ≡ true
+listed_fault test f h = any_has test link_faults f (stands f) h
   where
-    second : (of_some_slot (lacks_binding t b) ≡ true) ⊎ (of_some_slot (has_stray_binding t b) ≡ true) → (f : LinkFault) × (has_fault_at s id b (Some t) f ≡ true)
-    second (inl e) = (slot_not_bound, e)
-    second (inr e) = (slot_not_of_template, e)
+    stands : (g : LinkFault) → Contains link_faults g
+    stands id_present = (0, omega arith, refl)
+    stands slot_not_bound = (1, omega arith, refl)
+    stands slot_not_of_template = (2, omega arith, refl)
+    stands no_template = (3, omega arith, refl)
 
-    first : (is_taken id s ≡ true) ⊎ ((of_some_slot (lacks_binding t b) || of_some_slot (has_stray_binding t b)) ≡ true) → (f : LinkFault) × (has_fault_at s id b (Some t) f ≡ true)
-    first (inl e) = (id_present, e)
-    first (inr e) = second (either_true (of_some_slot (lacks_binding t b)) (of_some_slot (has_stray_binding t b)) e)
+module _ (s : PolicySet) (template id : Text) (b : SlotBindings) where
+  abbrev fault_there : LinkFault → Bool
+  fault_there = has_link_fault s template id b
 
-fault_unfit : (s : PolicySet) (id : Text) (b : SlotBindings) (t : Policy) (f : LinkFault) → has_fault_at s id b (Some t) f ≡ true → is_unfit s id b t ≡ true
-fault_unfit s id b t id_present e = hold_left (is_taken id s) _ e
-fault_unfit s id b t slot_not_bound e = hold_right (is_taken id s) _ (hold_left (of_some_slot (lacks_binding t b)) _ e)
-fault_unfit s id b t slot_not_of_template e = hold_right (is_taken id s) _ (hold_right (of_some_slot (lacks_binding t b)) _ e)
-fault_unfit s id b t no_template e = cc
+  -- where no fault is there the template is
+  found_template : (o : Option Policy) → template_of template s ≡ o → list_any fault_there link_faults ≡ false → (t : Policy) × (o ≡ Some t)
+  found_template None e h = let q : list_any fault_there link_faults ≡ true = listed_fault fault_there no_template (ap is_none e) in cc
+  found_template (Some t) e h = (t, refl)
 
-linked_refused : (s : PolicySet) (id : Text) (b : SlotBindings) (o : Option Policy) → (linked_in s id b o ≡ None) ↔ ((f : LinkFault) × (has_fault_at s id b o f ≡ true))
-linked_refused s id b None = (λ h. (no_template, refl), λ h. refl)
-linked_refused s id b (Some t) = (
-  λ h. unfit_fault s id b t (refused (is_unfit s id b t) (with_policy s (linked t id b)) h),
-  λ h. refuses (is_unfit s id b t) (with_policy s (linked t id b)) (fault_unfit s id b t h.0 h.1),
-)
+  is_refused : (c : Bool) → list_any fault_there link_faults ≡ c → cond c None (option_map (λ t. with_policy s (linked t id b)) (template_of template s)) ≡ None → c ≡ true
+  is_refused true e h = refl
+  is_refused false e h = let p = found_template (template_of template s) refl e in let k = ap (option_map (λ t. with_policy s (linked t id b))) p.1 in cc
 
-linked_taken : (s : PolicySet) (id : Text) (b : SlotBindings) (o : Option Policy) (r : PolicySet) → linked_in s id b o ≡ Some r → (t : Policy) × (o ≡ Some t) × (r ≡ with_policy s (linked t id b)) × (is_taken id s ≡ false)
-linked_taken s id b None r h = cc
-linked_taken s id b (Some t) r h =
-    let k = taken (is_unfit s id b t) (with_policy s (linked t id b)) r h in
-    (t, refl, k.1, neither_left (is_taken id s) _ k.0)
-  where
-    neither_left : (x y : Bool) → (x || y) ≡ false → x ≡ false
-    neither_left true y e = cc
-    neither_left false y e = refl
+  pub linked_refused : (link s template id b ≡ None) ↔ ((f : LinkFault) × (has_link_fault s template id b f ≡ true))
+  linked_refused = (
+    λ h. let r = any_from fault_there link_faults (is_refused (list_any fault_there link_faults) refl h) in (r.0, r.2),
+    λ p. let e = listed_fault fault_there p.0 p.1 in rw e refl,
+  )
+
+  taken_case : (c : Bool) (o : Option Policy) (r : PolicySet) → cond c None (option_map (λ t. with_policy s (linked t id b)) o) ≡ Some r → (c ≡ false) × ((t : Policy) × (o ≡ Some t) × (r ≡ with_policy s (linked t id b)))
+  taken_case true o r h = cc
+  taken_case false None r h = cc
+  taken_case false (Some t) r h = (refl, (t, refl, cc))
+
+  pub linked_taken : (r : PolicySet) → link s template id b ≡ Some r → (t : Policy) × (template_of template s ≡ Some t) × (r ≡ with_policy s (linked t id b)) × (is_taken id s ≡ false)
+  linked_taken r h =
+      let k = taken_case (list_any fault_there link_faults) (template_of template s) r h in
+      (k.1.0, k.1.1, k.1.2, (neither (is_taken id s) _ k.0).0)
 
 pub linking_is_exact : (s : PolicySet) (template id : Text) (b : SlotBindings) → ((link s template id b ≡ None) ↔ ((f : LinkFault) × (has_link_fault s template id b f ≡ true))) × ((r : PolicySet) → link s template id b ≡ Some r → (t : Policy) × (template_of template s ≡ Some t) × (r ≡ with_policy s (linked t id b)))
-linking_is_exact s template id b = (
-  linked_refused s id b (template_of template s),
-  λ r h. let k = linked_taken s id b (template_of template s) r h in (k.0, k.1, k.2),
-)
+linking_is_exact s template id b = (linked_refused s template id b, λ r h. let k = linked_taken s template id b r h in (k.0, k.1, k.2))
 
 -- ids stay apart
-neither : (a b : Bool) → (a || b) ≡ false → (a ≡ false) × (b ≡ false)
-neither true b h = cc
-neither false b h = (refl, h)
-
 -- what has no id that stands among these
-not_among : (id : Text) (ps : List Policy) → has_id id ps ≡ false → ¬ (Contains (ids ps) id)
-not_among id ps h c =
-    let k = map_from (λ (p : Policy). p.id) ps id c in
-    let t : has_id id ps ≡ true = any_has (λ (p : Policy). bytes_eq id p.id) ps k.0 k.1 ((bytes_eq-Decides id k.0.id).1 (sym k.2)) in
-    let e = sym t ∙ h in cc
-
-distinct_ids-Decides : (ps : List Policy) → Decides (have_distinct_ids ps) (AreDistinct (ids ps))
+distinct_ids-Decides : (ps : List Policy) → Decides (is_none (repeated bytes_eq (ids ps))) (AreDistinct (ids ps))
 distinct_ids-Decides ps = distinct-Decides bytes_eq bytes_eq-Decides (ids ps)
 
 -- the ids of a set in a row
@@ -162,8 +150,9 @@ ids_apart s h = (distinct_ids-Decides (s.templates ++ s.policies)).1 (subst AreD
 
 not_in_set : (s : PolicySet) (id : Text) → is_taken id s ≡ false → ¬ (Contains (ids s.templates ++ ids s.policies) id)
 not_in_set s id e c =
-    let k = neither (has_id id s.templates) (has_id id s.policies) e in
-    ⊎_elim (not_among id s.templates k.0) (not_among id s.policies k.1) (Contains-append_cases (ids s.templates) (ids s.policies) id c)
+    let k = map_from (λ (p : Policy). p.id) (s.templates ++ s.policies) id (subst (λ l. Contains l id) (sym (map-append (λ (p : Policy). p.id) s.templates s.policies)) c) in
+    let t : is_taken id s ≡ true = any_has (λ (p : Policy). bytes_eq id p.id) (s.templates ++ s.policies) k.0 k.1 ((bytes_eq-Decides id k.0.id).1 (sym k.2)) in
+    let q = sym t ∙ e in cc
 
 policy_keeps : (s : PolicySet) (p : Policy) → has_distinct_ids s ≡ true → is_taken p.id s ≡ false → has_distinct_ids (with_policy s p) ≡ true
 policy_keeps s p h e =
@@ -189,5 +178,5 @@ pub ids_stay_distinct : (s r : PolicySet) → has_distinct_ids s ≡ true
 ids_stay_distinct s r h = (
   λ p e. let k = taken (is_taken p.id s) (with_template s p) r e in holds_of (with_template s p) r k.1 (template_keeps s p h k.0),
   λ p e. let k = taken (is_taken p.id s) (with_policy s p) r e in holds_of (with_policy s p) r k.1 (policy_keeps s p h k.0),
-  λ t id b e. let k = linked_taken s id b (template_of t s) r e in holds_of (with_policy s (linked k.0 id b)) r k.2 (policy_keeps s (linked k.0 id b) h k.3),
+  λ t id b e. let k = linked_taken s t id b r e in holds_of (with_policy s (linked k.0 id b)) r k.2 (policy_keeps s (linked k.0 id b) h k.3),
 )

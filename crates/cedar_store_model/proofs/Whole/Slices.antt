@@ -11,45 +11,31 @@ use Rattle.cedar_expr_model.specs.Whole.Parts.{subexpressions, subexpressions_am
 use Rattle.cedar_store_model.specs.Whole.Outcome.{Res, val, err, bind}
 use Rattle.cedar_store_model.specs.Whole.World.{World, Found}
 use Rattle.cedar_store_model.specs.Whole.Operators.{says}
-use Rattle.cedar_store_model.specs.Whole.Reads.{part_read, part_tested, attributes_of, tags_of, attribute_read, attribute_tested, Step, goes_on, ends, found_step, step_from, path_after, path_tested, tag_read, tag_tested, found_in, within}
-use Rattle.cedar_store_model.specs.Whole.Meaning.{Means, combined, picked, truth_asked, outcome_of, outcomes_of, field_outcomes_of}
-use Rattle.cedar_store_model.specs.Whole.Looks.{IsEntity, CombinedLooks, PathLooks, Looks, AnyLooks, AnyFieldLooks, looks_up, is_dereference, has_dereference, with_store}
+use Rattle.cedar_store_model.specs.Whole.Reads.{part_read, part_tested, attribute_read, attribute_tested, found_in, within}
+use Rattle.cedar_store_model.specs.Whole.Meaning.{Means, combined, picked, truth_asked, outcome_of, outcomes_of, field_outcomes_of, path_tested}
+use Rattle.cedar_store_model.specs.Whole.Looks.{CombinedLooks, PathLooks, Looks, AnyLooks, AnyFieldLooks, looks_up}
 use Rattle.cedar_store_model.proofs.Whole.Meaning.{means_outcome, outcome_means}
+use Rattle.cedar_store_model.proofs.Whole.Named.{attributes_of, tags_of, tag_read, tag_tested}
+use Rattle.cedar_store_model.specs.Whole.Laws.{is_dereference, has_dereference, with_store}
 
 -- the store answers as the world's does
 abbrev AsIn : World → (Uid → Found V) → (Uid → Type 0) → Type 0
 AsIn w s looked = (u : Uid) → looked u → s u ≡ w.store u
 
-same_attribute : (w : World) (s : Uid → Found V) (a : Text) (v : V) → AsIn w s (IsEntity v) → attribute_read (with_store w s) a v ≡ attribute_read w a v
+same_attribute : (w : World) (s : Uid → Found V) (a : Text) (v : V) → AsIn w s (λ u. v ≡ prim (entity u)) → attribute_read (with_store w s) a v ≡ attribute_read w a v
 same_attribute w s a (prim (entity u)) h = ap (part_read attributes_of u a) (h u refl)
 same_attribute w s a v h = refl
 
-same_has : (w : World) (s : Uid → Found V) (a : Text) (v : V) → AsIn w s (IsEntity v) → attribute_tested (with_store w s) a v ≡ attribute_tested w a v
-same_has w s a (prim (entity u)) h = ap (part_tested attributes_of a) (h u refl)
+same_has : (w : World) (s : Uid → Found V) (a : Text) (v : V) → AsIn w s (λ u. v ≡ prim (entity u)) → attribute_tested (with_store w s) a v ≡ attribute_tested w a v
+same_has w s a (prim (entity u)) h = ap (part_tested attributes_of u a) (h u refl)
 same_has w s a v h = refl
-
-same_step : (w : World) (s : Uid → Found V) (a : Text) (v : V) → AsIn w s (IsEntity v) → step_from (with_store w s) a v ≡ step_from w a v
-same_step w s a (prim (entity u)) h = ap (found_step a) (h u refl)
-same_step w s a v h = refl
-
-same_after : (f g : V → Option (Res V)) (o : Option (Res Step)) → ((v : V) → o ≡ Some (val (goes_on v)) → g v ≡ f v) → path_after g o ≡ path_after f o
-same_after f g None n = refl
-same_after f g (Some (err e)) n = refl
-same_after f g (Some (val ends)) n = refl
-same_after f g (Some (val (goes_on v))) n = n v refl
-
-same_path : (w : World) (s : Uid → Found V) (a : Text) (bs : List Text) (v : V) → AsIn w s (PathLooks w a bs v) → path_tested (with_store w s) a bs v ≡ path_tested w a bs v
-same_path w s a [] v h = same_has w s a v h
-same_path w s a (b ∷ bs) v h =
-    ap (path_after (path_tested (with_store w s) b bs)) (same_step w s a v (λ u l. h u (inl l)))
-    ∙ same_after (path_tested w b bs) (path_tested (with_store w s) b bs) (step_from w a v) (λ x e. same_path w s b bs x (λ u l. h u (inr (x, e, l))))
 
 same_tag : (w : World) (s : Uid → Found V) (v x : V) → AsIn w s (CombinedLooks get_tag v x) → tag_read (with_store w s) v x ≡ tag_read w v x
 same_tag w s (prim (entity u)) (prim (text a)) h = ap (part_read tags_of u a) (h u (refl, (a, refl)))
 same_tag w s v x h = refl
 
 same_has_tag : (w : World) (s : Uid → Found V) (v x : V) → AsIn w s (CombinedLooks has_tag v x) → tag_tested (with_store w s) v x ≡ tag_tested w v x
-same_has_tag w s (prim (entity u)) (prim (text a)) h = ap (part_tested tags_of a) (h u (refl, (a, refl)))
+same_has_tag w s (prim (entity u)) (prim (text a)) h = ap (part_tested tags_of u a) (h u (refl, (a, refl)))
 same_has_tag w s v x h = refl
 
 same_within : (w : World) (s : Uid → Found V) (v x : V) → AsIn w s (CombinedLooks is_in v x) → within (with_store w s) v x ≡ within w v x
@@ -74,6 +60,15 @@ same_picked : (a b c d : Option (Res V)) (v : V) → (v ≡ truth_value true →
 same_picked a b c d (prim (truth true)) h k = h refl
 same_picked a b c d (prim (truth false)) h k = k refl
 same_picked a b c d v h k = refl
+
+same_path : (w : World) (s : Uid → Found V) (a : Text) (bs : List Text) (v : V) → AsIn w s (PathLooks w a bs v) → path_tested (with_store w s) a bs v ≡ path_tested w a bs v
+same_path w s a [] v h = same_has w s a v h
+same_path w s a (b ∷ bs) v h =
+    same_bind (attribute_tested w a v) (attribute_tested (with_store w s) a v) _ _ (same_has w s a v (λ u l. h u (inl l)))
+    (λ t e. same_picked _ (Some (says false)) _ (Some (says false)) t
+    (λ q. same_bind (attribute_read w a v) (attribute_read (with_store w s) a v) (path_tested w b bs) (path_tested (with_store w s) b bs)
+    (same_attribute w s a v (λ u l. h u (inl l))) (λ x f. same_path w s b bs x (λ u l. h u (inr (x, f, l)))))
+    (λ q. refl))
 
 -- the value that the expression means
 its_value : (w : World) (t : Tree) (v x : V) → outcome_of w t ≡ Some (val v) → v ≡ x → Means w t (val x)

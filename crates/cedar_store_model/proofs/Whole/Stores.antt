@@ -1,70 +1,75 @@
 -- Stores as maps, and what is known by a part of one.
 use Rattle.std.proofs.Common.{◌≡◌, List, [], ◌∷◌, map, Bool, true, false, cond, not, ◌&&◌, ◌++◌, refl, sym, ap, ◌∙◌, subst}
-use Rattle.std.specs.Prelude.{Option, Some, None, Contains}
+use Rattle.std.specs.Prelude.{Option, Some, None, Contains, IsSome}
 use Rattle.std.specs.List.{list_all, filter, flat_map}
 use Rattle.std.proofs.lemmas.List.Concat.{flat_map-cons}
+use Rattle.std.specs.Map.{lookup}
+use Rattle.std.specs.Str.{bytes_eq}
 use Rattle.cedar_expr_model.specs.Name.{Text}
 use Rattle.cedar_expr_model.specs.Uid.{Uid, uid_eq}
 use Rattle.cedar_expr_model.specs.Whole.Value.{V}
 use Rattle.cedar_expr_model.specs.Whole.Table.{Table}
-use Rattle.cedar_expr_model.specs.Whole.Repeats.{AreDistinct}
 use Rattle.cedar_expr_model.proofs.Equality.{uid_eq-Decides}
 use Rattle.cedar_expr_model.proofs.Lists.{both_hold, contains_head, contains_tail, contains_cases, contains_none, map_has}
-use Rattle.cedar_store_model.specs.Whole.World.{World, Request, Entity, Found, Part, part_named, known, left}
-use Rattle.cedar_store_model.specs.Whole.Looks.{Looks, with_store}
-use Rattle.cedar_store_model.specs.Whole.Knowledge.{IsThere, holds_values, Keeps, KeepsPart, KeepsEntity, KeepsFound, IsSettled, IsWhole, Extends}
+use Rattle.cedar_expr_model.specs.Whole.ValueParts.{Part, known, left}
+use Rattle.cedar_store_model.specs.Whole.World.{World, Request, Entity, Found}
+use Rattle.cedar_store_model.specs.Whole.Looks.{Looks}
+use Rattle.cedar_store_model.specs.Whole.Knowledge.{holds_values, Keeps, KeepsPart, KeepsEntity, KeepsFound, IsSettled, IsWhole, Extends}
 use Rattle.cedar_store_model.specs.Whole.Policy.{Policy, condition}
 use Rattle.cedar_store_model.specs.Whole.Answer.{with_slots, policy_outcome, is_true, permits, ids, decided, determining, error_of, answer_of, PolicyError}
-use Rattle.cedar_store_model.specs.Whole.Store.{Entities, whole, partial, entity_of, found_as, are_distinct, OpenRequest, as_open, world_of, KeepsRequest, ArePartOf}
+use Rattle.cedar_store_model.specs.Whole.Store.{Entities, whole, partial, found_as, are_distinct, OpenRequest, as_open, world_of}
 use Rattle.cedar_store_model.proofs.Whole.Distinct.{distinct-Decides}
 use Rattle.cedar_store_model.proofs.Whole.Slices.{same}
 use Rattle.cedar_store_model.proofs.Whole.Conditions.{condition_asked}
+use Rattle.cedar_store_model.specs.Whole.Laws.{with_store}
+use Rattle.cedar_store_model.specs.Whole.StoreLaws.{KeepsRequest, ArePartOf}
+use Rattle.cedar_expr_model.specs.Whole.ListLaws.{AreDistinct}
 
 -- look-ups
-found_here : (u v : Uid) (d e : Entity V) (es : Entities) (b : Bool) → uid_eq u v ≡ b → (entity_of u es ≡ Some e → Contains es (u, e)) → cond b (Some d) (entity_of u es) ≡ Some e → Contains ((v, d) ∷ es) (u, e)
+found_here : (u v : Uid) (d e : Entity V) (es : Entities) (b : Bool) → uid_eq u v ≡ b → (lookup (uid_eq u) es ≡ Some e → Contains es (u, e)) → cond b (Some d) (lookup (uid_eq u) es) ≡ Some e → Contains ((v, d) ∷ es) (u, e)
 found_here u v d e es true q rest h =
     let s : u ≡ v = (uid_eq-Decides u v).0 q in
     let t : d ≡ e = cc in
     subst (λ (x : Uid × Entity V). Contains ((v, d) ∷ es) x) (λ i. (sym s i, t i)) (contains_head (v, d) es)
 found_here u v d e es false q rest h = contains_tail (v, d) es (u, e) (rest h)
 
-pub found_stands : (es : Entities) (u : Uid) (e : Entity V) → entity_of u es ≡ Some e → Contains es (u, e)
+pub found_stands : (es : Entities) (u : Uid) (e : Entity V) → lookup (uid_eq u) es ≡ Some e → Contains es (u, e)
 found_stands [] u e h = cc
 found_stands (d ∷ es) u e h = found_here u d.0 d.1 e es (uid_eq u d.0) refl (found_stands es u e) h
 
-stands_here : (u v : Uid) (d e : Entity V) (es : Entities) → ◌≡◌ {A = Uid × Entity V} (v, d) (u, e) → cond (uid_eq u v) (Some d) (entity_of u es) ≡ Some e
+stands_here : (u v : Uid) (d e : Entity V) (es : Entities) → ◌≡◌ {A = Uid × Entity V} (v, d) (u, e) → cond (uid_eq u v) (Some d) (lookup (uid_eq u) es) ≡ Some e
 stands_here u v d e es q =
     let s : u ≡ v = sym (ap (λ (x : Uid × Entity V). x.0) q) in
-    ap (λ b. cond b (Some d) (entity_of u es)) ((uid_eq-Decides u v).1 s) ∙ ap (λ (x : Uid × Entity V). Some x.1) q
+    ap (λ b. cond b (Some d) (lookup (uid_eq u) es)) ((uid_eq-Decides u v).1 s) ∙ ap (λ (x : Uid × Entity V). Some x.1) q
 
 abbrev uids : Entities → List Uid
 uids es = map (λ e. e.0) es
 
-stands_later : (u v : Uid) (d e : Entity V) (es : Entities) (b : Bool) → uid_eq u v ≡ b → ¬ (Contains (uids es) v) → Contains es (u, e) → entity_of u es ≡ Some e → cond b (Some d) (entity_of u es) ≡ Some e
+stands_later : (u v : Uid) (d e : Entity V) (es : Entities) (b : Bool) → uid_eq u v ≡ b → ¬ (Contains (uids es) v) → Contains es (u, e) → lookup (uid_eq u) es ≡ Some e → cond b (Some d) (lookup (uid_eq u) es) ≡ Some e
 stands_later u v d e es true q none m h = absurd (none (subst (Contains (uids es)) ((uid_eq-Decides u v).0 q) (map_has (λ (x : Uid × Entity V). x.0) es (u, e) m)))
 stands_later u v d e es false q none m h = h
 
-distinct_found : (es : Entities) → AreDistinct (uids es) → (u : Uid) (e : Entity V) → Contains es (u, e) → entity_of u es ≡ Some e
+distinct_found : (es : Entities) → AreDistinct (uids es) → (u : Uid) (e : Entity V) → Contains es (u, e) → lookup (uid_eq u) es ≡ Some e
 distinct_found [] h u e m = absurd (contains_none (u, e) m)
 distinct_found (d ∷ es) h u e m =
-    contains_cases (entity_of u (d ∷ es) ≡ Some e) d es (u, e) m
+    contains_cases (lookup (uid_eq u) (d ∷ es) ≡ Some e) d es (u, e) m
     (λ q. stands_here u d.0 d.1 e es q)
     (λ n. stands_later u d.0 d.1 e es (uid_eq u d.0) refl h.0 n (distinct_found es h.1 u e n))
 
-pub stands_found : (es : Entities) → are_distinct es ≡ true → (u : Uid) (e : Entity V) → Contains es (u, e) → entity_of u es ≡ Some e
+pub stands_found : (es : Entities) → are_distinct es ≡ true → (u : Uid) (e : Entity V) → Contains es (u, e) → lookup (uid_eq u) es ≡ Some e
 stands_found es h u e m = distinct_found es ((distinct-Decides uid_eq uid_eq-Decides (uids es)).0 h) u e m
 
-pub lookup_is_exact : (es : Entities) → are_distinct es ≡ true → (u : Uid) (e : Entity V) → (entity_of u es ≡ Some e → Contains es (u, e)) × (Contains es (u, e) → entity_of u es ≡ Some e)
+pub lookup_is_exact : (es : Entities) → are_distinct es ≡ true → (u : Uid) (e : Entity V) → (lookup (uid_eq u) es ≡ Some e → Contains es (u, e)) × (Contains es (u, e) → lookup (uid_eq u) es ≡ Some e)
 lookup_is_exact es h u e = (found_stands es u e, stands_found es h u e)
 
 -- parts keep themselves
 keeps_itself : (o : Option (Part V)) → KeepsPart o o
 keeps_itself None = refl
 keeps_itself (Some (known v)) = refl
-keeps_itself (Some (left t)) = tt
+keeps_itself (Some (left t)) = refl
 
 entity_keeps : (e : Entity V) → KeepsEntity e e
-entity_keeps e = record { attributes = λ a. keeps_itself (part_named a e.attributes); tags = λ a. keeps_itself (part_named a e.tags); ancestors = refl }
+entity_keeps e = record { attributes = λ a. keeps_itself (lookup (bytes_eq a) e.attributes); tags = λ a. keeps_itself (lookup (bytes_eq a) e.tags); ancestors = refl }
 
 keeps_found : (o p : Option (Entity V)) → ((e : Entity V) → o ≡ Some e → p ≡ Some e) → KeepsFound (found_as partial o) (found_as whole p)
 keeps_found None p h = tt
@@ -81,21 +86,21 @@ whole_extends_partial table m n q r loaded all hn hr part distinct = record {
   slots = λ s. refl;
   unknowns = hn;
   table = refl;
-  store = λ u. keeps_found (entity_of u loaded) (entity_of u all) (λ e h. stands_found all distinct u e (part (u, e) (found_stands loaded u e h)));
+  store = λ u. keeps_found (lookup (uid_eq u) loaded) (lookup (uid_eq u) all) (λ e h. stands_found all distinct u e (part (u, e) (found_stands loaded u e h)));
 }
 
 settled_here : (b : Bool) (d : Entity V) (o : Option (Entity V)) → holds_values d ≡ true → IsSettled (found_as whole o) → IsSettled (found_as whole (cond b (Some d) o))
 settled_here true d o h k = h
 settled_here false d o h k = k
 
-settled : (es : Entities) → list_all (λ (e : Uid × Entity V). holds_values e.1) es ≡ true → (u : Uid) → IsSettled (found_as whole (entity_of u es))
+settled : (es : Entities) → list_all (λ (e : Uid × Entity V). holds_values e.1) es ≡ true → (u : Uid) → IsSettled (found_as whole (lookup (uid_eq u) es))
 settled [] h u = tt
-settled (e ∷ es) h u = let k = both_hold (holds_values e.1) (list_all (λ (d : Uid × Entity V). holds_values d.1) es) h in settled_here (uid_eq u e.0) e.1 (entity_of u es) k.0 (settled es k.1 u)
+settled (e ∷ es) h u = let k = both_hold (holds_values e.1) (list_all (λ (d : Uid × Entity V). holds_values d.1) es) h in settled_here (uid_eq u e.0) e.1 (lookup (uid_eq u) es) k.0 (settled es k.1 u)
 
 pub whole_stores_are_whole : (table : Table) (unknowns : Text → Option V) (r : Request) (es : Entities)
-    → ((n : Text) → IsThere (unknowns n)) → list_all (λ (e : Uid × Entity V). holds_values e.1) es ≡ true
+    → ((n : Text) → IsSome (unknowns n)) → list_all (λ (e : Uid × Entity V). holds_values e.1) es ≡ true
     → IsWhole (world_of table unknowns (as_open r) (record { extent = whole; entities = es }))
-whole_stores_are_whole table unknowns r es hn hs = record { principal = tt; action = tt; resource = tt; context = tt; unknowns = hn; store = settled es hs }
+whole_stores_are_whole table unknowns r es hn hs = record { principal = refl; action = refl; resource = refl; context = refl; unknowns = hn; store = settled es hs }
 
 -- answers by the outcomes of the policies
 filter_same : (f g : Policy → Bool) (ps : List Policy) → ((p : Policy) → Contains ps p → f p ≡ g p) → filter f ps ≡ filter g ps

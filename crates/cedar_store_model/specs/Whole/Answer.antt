@@ -63,7 +63,7 @@ abbrev pub ids : List Policy → List Text
 ids ps = map (λ p. p.id) ps
 
 -- Allow if some permit and no forbid is satisfied, else Deny
-abbrev pub decided : List Policy → List Policy → Decision
+abbrev pub decided : {A B : Type 0} → List A → List B → Decision
 decided [] [] = deny
 decided (p ∷ ps) [] = allow
 decided ps (f ∷ fs) = deny

@@ -1,17 +1,18 @@
 -- What the laws of conditions and answers say.
 -- Rule: conditions; the answer; policies and templates (docs/RULES.md).
-use Rattle.std.specs.Prelude.{◌≡◌, ◌↔◌, List, Contains, Some, None, true}
+use Rattle.std.specs.Prelude.{◌≡◌, ◌↔◌, ◌||◌, List, Contains, Some, None, Bool, true, false}
 use Rattle.std.specs.Bool.{Decides}
 use Rattle.cedar_expr_model.specs.Name.{Text}
 use Rattle.cedar_expr_model.specs.Uid.{Uid}
 use Rattle.cedar_expr_model.specs.Whole.Value.{V, truth_value}
-use Rattle.cedar_expr_model.specs.Whole.Tree.{Tree, SlotId}
+use Rattle.cedar_expr_model.specs.Whole.Tree.{Tree, SlotId, principal_slot, resource_slot, principal, resource}
 use Rattle.cedar_store_model.specs.Whole.Outcome.{Res, val, err}
 use Rattle.cedar_store_model.specs.Whole.World.{World, Found}
 use Rattle.cedar_store_model.specs.Whole.Meaning.{Means}
-use Rattle.cedar_store_model.specs.Whole.Looks.{Looks, with_store}
+use Rattle.cedar_store_model.specs.Whole.Laws.{with_store}
+use Rattle.cedar_store_model.specs.Whole.Looks.{Looks}
 use Rattle.cedar_store_model.specs.Whole.Knowledge.{Extends}
-use Rattle.cedar_store_model.specs.Whole.Policy.{Policy, Effect, SlotBindings, permit, forbid, principal_tree, action_tree, resource_tree, body_tree, condition, has_slot, tree_uses}
+use Rattle.cedar_store_model.specs.Whole.Policy.{Policy, Effect, SlotBindings, permit, forbid, Target, named, own_slot, Scope, any, exactly, inside, of_kind, of_kind_inside, scope_tree, action_tree, body_tree, condition, has_slot, tree_uses}
 use Rattle.cedar_store_model.specs.Whole.PolicySet.{PolicySet, LinkFault, has_link_fault, link, linked, template_of, with_policy, has_distinct_ids, add_template, add_policy}
 use Rattle.cedar_store_model.specs.Whole.Answer.{Decision, allow, deny, PolicyError, with_slots, PolicyMeans, policy_outcome, IsSatisfied, satisfied, decision_of, reasons_of, errors_of, answer_of}
 
@@ -38,7 +39,7 @@ Holds w t = Means w t (val (truth_value true))
 -- a policy is satisfied exactly where the parts of its scope and its body mean true
 abbrev pub SatisfiedByParts : Type 0
 SatisfiedByParts = (w : World) (p : Policy) → let u = with_slots w p.bindings in
-    IsSatisfied w p ↔ (Holds u (principal_tree p) × Holds u (action_tree p.action) × Holds u (resource_tree p) × Holds u (body_tree p.body))
+    IsSatisfied w p ↔ (Holds u (scope_tree principal principal_slot p.principal) × Holds u (action_tree p.action) × Holds u (scope_tree resource resource_slot p.resource) × Holds u (body_tree p.body))
 
 -- some permit is satisfied
 abbrev pub HasPermit : World → List Policy → Type 0
@@ -82,9 +83,27 @@ OnlyLookupsAnswer = (w : World) (store : Uid → Found V) (ps : List Policy)
     → ((p : Policy) → Contains ps p → (u : Uid) → Looks (with_slots w p.bindings) (condition p) u → store u ≡ w.store u)
     → answer_of (with_store w store) ps ≡ answer_of w ps
 
--- the slots of a policy are those of its condition
+-- the target is the slot
+abbrev pub is_own_slot : Target → Bool
+is_own_slot (named u) = false
+is_own_slot own_slot = true
+
+-- the part of the scope has its slot
+abbrev pub scope_has_slot : Scope → Bool
+scope_has_slot any = false
+scope_has_slot (exactly t) = is_own_slot t
+scope_has_slot (inside t) = is_own_slot t
+scope_has_slot (of_kind n) = false
+scope_has_slot (of_kind_inside n t) = is_own_slot t
+
+-- the slots that the scope of a policy has
+abbrev pub scope_uses : Policy → SlotId → Bool
+scope_uses p principal_slot = scope_has_slot p.principal
+scope_uses p resource_slot = scope_has_slot p.resource
+
+-- the slots of a policy are those of its scope and those of its body
 abbrev pub SlotsOfConditions : Type 0
-SlotsOfConditions = (p : Policy) (s : SlotId) → tree_uses (condition p) s ≡ has_slot p s
+SlotsOfConditions = (p : Policy) (s : SlotId) → has_slot p s ≡ (scope_uses p s || tree_uses (body_tree p.body) s)
 
 -- linking refuses exactly where one of its faults is there, and else puts the template's policy at the end
 abbrev pub LinkingIsExact : Type 0

@@ -1,6 +1,6 @@
 -- The worlds, outcomes, policies and answers of the first path, seen as those of the whole language, and what the laws say of this.
 -- Rule: the meaning; conditions; the answer (docs/RULES.md).
-use Rattle.std.specs.Prelude.{◌≡◌, ◌↔◌, List, [], map, Bool, true, false, Option, Some, None}
+use Rattle.std.specs.Prelude.{◌≡◌, ◌↔◌, List, [], map, Bool, true, false, Option, Some, None, IsSome}
 use Rattle.std.specs.List.{list_any}
 use Rattle.cedar_expr_model.specs.Name.{Text}
 use Rattle.cedar_expr_model.specs.Uid.{Uid, uid_eq}
@@ -18,7 +18,7 @@ use Rattle.cedar_store_model.specs.Whole.Outcome.{Res, val, err, Fault, wrong_ty
 use Rattle.cedar_store_model.specs.Whole.World.{World, Request, Entity, Found, held, missing}
 use Rattle.cedar_store_model.specs.Whole.Meaning.{Means, outcome_of}
 use Rattle.cedar_store_model.specs.Whole.Looks.{Looks}
-use Rattle.cedar_store_model.specs.Whole.Knowledge.{IsThere, IsWhole}
+use Rattle.cedar_store_model.specs.Whole.Knowledge.{IsWhole}
 use Rattle.cedar_store_model.specs.Whole.Store.{Entities, whole, as_open, world_of}
 use Rattle.cedar_store_model.specs.Whole.Policy.{Policy, Effect, permit, forbid, Scope, any, exactly, named, ActionScope, any_action, exactly_action, no_bindings, condition}
 use Rattle.cedar_store_model.specs.Whole.Answer.{Decision, allow, deny, PolicyError, Answer, IsSatisfied, satisfied, decision_of, reasons_of, errors_of, answer_of}
@@ -103,9 +103,15 @@ whole_error e = record { id = e.id; fault = whole_fault e.fault }
 abbrev pub whole_answer : small_answer.Answer → Answer
 whole_answer a = record { decision = whole_decision a.decision; reasons = a.reasons; errors = map whole_error a.errors }
 
--- Whatever the table and the unknowns are, this holds of each world of the first path beside that world in the whole language.
+-- A world that knows a request: principal, action and resource are those of the request. The rest may be anything, and may be open.
+pub record KnowsRequest (r : small_world.Request) (w : World) : Type 0 where
+  pub principal : w.principal ≡ Some r.principal
+  pub action : w.action ≡ Some r.action
+  pub resource : w.resource ≡ Some r.resource
+
+-- This holds of each world of the first path beside each world of the whole language that knows its request.
 abbrev pub InEachWorld : (small_world.World → World → Type 0) → Type 0
-InEachWorld P = (x : Table) (unknowns : Text → Option V) (w : small_world.World) → P w (whole_world x unknowns w)
+InEachWorld P = (w : small_world.World) (u : World) → KnowsRequest w.request u → P w u
 
 -- the entities of these uids, each without attributes, tags and ancestors
 abbrev pub plain_entities : List Uid → Entities
@@ -116,9 +122,13 @@ abbrev pub WorldsAreOfStores : Type 0
 WorldsAreOfStores = (x : Table) (unknowns : Text → Option V) (r : small_world.Request) (us : List Uid)
     → whole_world x unknowns (record { request = r; holds = λ u. list_any (uid_eq u) us }) ≡ world_of x unknowns (as_open (whole_request r)) (record { extent = whole; entities = plain_entities us })
 
+-- it knows the request
+abbrev pub WorldsKnowTheRequest : Type 0
+WorldsKnowTheRequest = (x : Table) (unknowns : Text → Option V) (w : small_world.World) → KnowsRequest w.request (whole_world x unknowns w)
+
 -- where each unknown is bound everything is known
 abbrev pub WorldsAreWhole : Type 0
-WorldsAreWhole = (x : Table) (unknowns : Text → Option V) → ((n : Text) → IsThere (unknowns n)) → (w : small_world.World) → IsWhole (whole_world x unknowns w)
+WorldsAreWhole = (x : Table) (unknowns : Text → Option V) → ((n : Text) → IsSome (unknowns n)) → (w : small_world.World) → IsWhole (whole_world x unknowns w)
 
 -- an expression has the same outcome
 abbrev pub OutcomesAreWhole : Type 0
@@ -162,3 +172,7 @@ ErrorsAreWhole = InEachWorld (λ w u. (ps : List small_policy.Policy) → errors
 
 abbrev pub AnswerIsWhole : Type 0
 AnswerIsWhole = InEachWorld (λ w u. (ps : List small_policy.Policy) → answer_of u (whole_policies ps) ≡ whole_answer (small_answer.answer_of w ps))
+
+-- answers that are the same in the whole language are the same
+abbrev pub AnswersAreKept : Type 0
+AnswersAreKept = (a b : small_answer.Answer) → whole_answer a ≡ whole_answer b → a ≡ b

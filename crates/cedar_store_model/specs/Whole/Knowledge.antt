@@ -1,24 +1,19 @@
 -- Worlds in which everything is known, and worlds that know more than another.
 -- Rule: what is known (docs/RULES.md).
-use Rattle.std.specs.Prelude.{◌≡◌, ◌&&◌, List, Bool, true, false, Option, Some, None}
+use Rattle.std.specs.Prelude.{◌≡◌, ◌&&◌, List, Bool, true, Option, Some, None, IsSome, IfSome, is_some}
+use Rattle.std.specs.Map.{lookup}
+use Rattle.std.specs.Str.{bytes_eq}
 use Rattle.std.specs.List.{list_all}
 use Rattle.cedar_expr_model.specs.Name.{Text}
 use Rattle.cedar_expr_model.specs.Uid.{Uid}
 use Rattle.cedar_expr_model.specs.Whole.Value.{V}
-use Rattle.cedar_expr_model.specs.Whole.Tree.{SlotId, Tree}
-use Rattle.cedar_store_model.specs.Whole.Outcome.{Res}
-use Rattle.cedar_store_model.specs.Whole.World.{World, Part, known, left, Entity, Found, held, missing, not_loaded, part_named}
-use Rattle.cedar_store_model.specs.Whole.Meaning.{Means}
-
--- there is one
-abbrev pub IsThere : {A : Type 0} → Option A → Type 0
-IsThere None = ⊥
-IsThere (Some a) = Unit {0}
+use Rattle.cedar_expr_model.specs.Whole.Tree.{SlotId}
+use Rattle.cedar_expr_model.specs.Whole.ValueParts.{Part, known, left, known_value}
+use Rattle.cedar_store_model.specs.Whole.World.{World, Entity, Found, held, missing, not_loaded}
 
 -- the part is a value
 abbrev pub is_known : {A : Type 0} → Part A → Bool
-is_known (known v) = true
-is_known (left t) = false
+is_known p = is_some (known_value p)
 
 -- attributes and tags are values alone
 abbrev pub holds_values : Entity V → Bool
@@ -32,26 +27,25 @@ IsSettled not_loaded = ⊥
 
 -- A world where everything is known: the variables, each unknown, and each uid. A slot may be unbound.
 pub record IsWhole (w : World) : Type 0 where
-  pub principal : IsThere w.principal
-  pub action : IsThere w.action
-  pub resource : IsThere w.resource
-  pub context : IsThere w.context
-  pub unknowns : (n : Text) → IsThere (w.unknowns n)
+  pub principal : IsSome w.principal
+  pub action : IsSome w.action
+  pub resource : IsSome w.resource
+  pub context : IsSome w.context
+  pub unknowns : (n : Text) → IsSome (w.unknowns n)
   pub store : (u : Uid) → IsSettled (w.store u)
 
 -- what is there in the first is the same in the second
 abbrev pub Keeps : {A : Type 0} → Option A → Option A → Type 0
-Keeps None b = Unit {0}
-Keeps (Some a) b = b ≡ Some a
+Keeps a b = IfSome a (λ x. b ≡ Some x)
 
 -- a part that is a value is the same value, one that isn't yet may be any part, and one that isn't there stays away
 abbrev pub KeepsPart : Option (Part V) → Option (Part V) → Type 0
 KeepsPart None q = q ≡ None
 KeepsPart (Some (known v)) q = q ≡ Some (known v)
-KeepsPart (Some (left t)) q = IsThere q
+KeepsPart (Some (left t)) q = IsSome q
 
 abbrev pub KeepsParts : List (Text × Part V) → List (Text × Part V) → Type 0
-KeepsParts ps qs = (a : Text) → KeepsPart (part_named a ps) (part_named a qs)
+KeepsParts ps qs = (a : Text) → KeepsPart (lookup (bytes_eq a) ps) (lookup (bytes_eq a) qs)
 
 -- the entity's parts are kept, and it has the same ancestors
 pub record KeepsEntity (e d : Entity V) : Type 0 where
@@ -75,7 +69,3 @@ pub record Extends (k w : World) : Type 0 where
   pub unknowns : (n : Text) → Keeps (k.unknowns n) (w.unknowns n)
   pub table : w.table ≡ k.table
   pub store : (u : Uid) → KeepsFound (k.store u) (w.store u)
-
--- what is known gives the expression an outcome
-abbrev pub IsGrounded : World → Tree → Type 0
-IsGrounded k t = (r : Res V) × Means k t r

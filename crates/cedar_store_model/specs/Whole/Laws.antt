@@ -1,15 +1,17 @@
 -- What the laws of the meaning say.
 -- Rule: the meaning; what is known; expressions (docs/RULES.md).
-use Rattle.std.specs.Prelude.{◌≡◌, ◌↔◌, Some, false}
+use Rattle.std.specs.Prelude.{◌≡◌, ◌↔◌, Some, Bool, true, false}
+use Rattle.std.specs.List.{list_any}
 use Rattle.cedar_expr_model.specs.Uid.{Uid}
 use Rattle.cedar_expr_model.specs.Whole.Value.{V}
-use Rattle.cedar_expr_model.specs.Whole.Tree.{Tree, both, either}
+use Rattle.cedar_expr_model.specs.Whole.Tree.{Tree, both, either, binary, get_attr, has_attr, has_path}
+use Rattle.cedar_expr_model.specs.Whole.Parts.{subexpressions}
 use Rattle.cedar_expr_model.specs.Whole.Builder.{conjunction, disjunction, built, tree_builder}
 use Rattle.cedar_store_model.specs.Whole.Outcome.{Res}
 use Rattle.cedar_store_model.specs.Whole.World.{World, Found, not_loaded}
 use Rattle.cedar_store_model.specs.Whole.Meaning.{Means, outcome_of}
-use Rattle.cedar_store_model.specs.Whole.Looks.{Looks, has_dereference, with_store}
-use Rattle.cedar_store_model.specs.Whole.Knowledge.{IsWhole, Extends, IsGrounded}
+use Rattle.cedar_store_model.specs.Whole.Looks.{Looks, looks_up}
+use Rattle.cedar_store_model.specs.Whole.Knowledge.{IsWhole, Extends}
 
 -- an outcome is what an expression means exactly where the function gives it
 abbrev pub MeaningIsAFunction : Type 0
@@ -18,6 +20,10 @@ MeaningIsAFunction = (w : World) (t : Tree) (r : Res V) → Means w t r ↔ (out
 -- no expression means two outcomes
 abbrev pub OneOutcome : Type 0
 OneOutcome = (w : World) (t : Tree) (r s : Res V) → Means w t r → Means w t s → r ≡ s
+
+-- what is known gives the expression an outcome
+abbrev pub IsGrounded : World → Tree → Type 0
+IsGrounded k t = (r : Res V) × Means k t r
 
 -- where everything is known each expression means an outcome
 abbrev pub WholeWorldsAnswer : Type 0
@@ -31,9 +37,25 @@ MoreKeepsMeaning = (k w : World) → Extends k w → (t : Tree) (r : Res V) → 
 abbrev pub LookupsAreLoaded : Type 0
 LookupsAreLoaded = (w : World) (t : Tree) → IsGrounded w t → (u : Uid) → Looks w t u → w.store u ≡ not_loaded → ⊥
 
+-- the world with another store
+abbrev pub with_store : World → (Uid → Found V) → World
+with_store w store = record w { store = store }
+
 -- a store that answers alike for what is looked up gives the same outcomes
 abbrev pub OnlyLookupsMatter : Type 0
 OnlyLookupsMatter = (w : World) (store : Uid → Found V) (t : Tree) → ((u : Uid) → Looks w t u → store u ≡ w.store u) → (r : Res V) → Means w t r ↔ Means (with_store w store) t r
+
+-- the expression looks something up at the values of its parts
+abbrev pub is_dereference : Tree → Bool
+is_dereference (binary o a b) = looks_up o
+is_dereference (get_attr t a) = true
+is_dereference (has_attr t a) = true
+is_dereference (has_path t a bs) = true
+is_dereference t = false
+
+-- whether the expression, or a part of it, looks something up
+abbrev pub has_dereference : Tree → Bool
+has_dereference t = list_any is_dereference (subexpressions t)
 
 -- an expression without a dereference looks nothing up
 abbrev pub DereferencesLook : Type 0

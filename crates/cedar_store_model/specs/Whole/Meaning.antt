@@ -2,8 +2,10 @@
 -- taken in order, the fields of a record in the order of their names, and the first error is the outcome. Where the meaning needs
 -- something that isn't known there is no outcome.
 -- Rule: the meaning (docs/RULES.md).
-use Rattle.std.specs.Prelude.{List, [], ◌∷◌, true, false, not, Option, Some, None, ◌+ℤ◌, ◌-ℤ◌, ◌*ℤ◌}
+use Rattle.std.specs.Prelude.{List, [], ◌∷◌, true, false, not, Option, Some, option_map, ◌+ℤ◌, ◌-ℤ◌, ◌*ℤ◌}
+use Rattle.std.specs.Option.{option_map_or}
 use Rattle.std.specs.Ordering.{is_lt, is_le}
+use Rattle.cedar_expr_model.specs.Name.{Text}
 use Rattle.cedar_expr_model.specs.Uid.{Uid}
 use Rattle.cedar_expr_model.specs.Whole.Value.{truth, entity, V, prim, record_of, Fields, no_fields, field, truth_value}
 use Rattle.cedar_expr_model.specs.Whole.Order.{value_eq}
@@ -11,25 +13,19 @@ use Rattle.cedar_expr_model.specs.Whole.Canonical.{set_made, is_subset, is_disjo
 use Rattle.cedar_expr_model.specs.Whole.Tree.{Var, principal, action, resource, context, BinaryOp, equal, less, less_or_equal, plus, difference, times, is_in, contains, contains_all, contains_any, get_tag, has_tag, Tree, lit, var, slot, unknown, choice, both, either, unary, binary, call, get_attr, has_attr, has_path, like, is_type, set_literal, record_literal, Trees, no_trees, tree, TreeFields, no_tree_fields, tree_field}
 use Rattle.cedar_store_model.specs.Whole.Outcome.{Res, val, err, wrong_type, unlinked_slot, Then, Is, Gives, bind}
 use Rattle.cedar_store_model.specs.Whole.World.{World}
-use Rattle.cedar_store_model.specs.Whole.Operators.{says, applied, ordered, calculated, of_sets, among_members, like_pattern, of_type, called, bound_value}
-use Rattle.cedar_store_model.specs.Whole.Reads.{attribute_read, attribute_tested, path_tested, tag_read, tag_tested, within}
-
--- the uid as a value, where it is known
-abbrev pub known_uid : Option Uid → Option (Res V)
-known_uid None = None
-known_uid (Some u) = Some (val (prim (entity u)))
+use Rattle.cedar_store_model.specs.Whole.Operators.{says, applied, ordered, calculated, of_sets, among_members, like_pattern, of_type, called}
+use Rattle.cedar_store_model.specs.Whole.Reads.{part_read, part_tested, attribute_read, attribute_tested, tag_asked, within}
 
 -- what a variable of the request means
 abbrev pub variable : World → Var → Option (Res V)
-variable w principal = known_uid w.principal
-variable w action = known_uid w.action
-variable w resource = known_uid w.resource
-variable w context = bound_value w.context
+variable w principal = option_map (λ u. val (prim (entity u))) w.principal
+variable w action = option_map (λ u. val (prim (entity u))) w.action
+variable w resource = option_map (λ u. val (prim (entity u))) w.resource
+variable w context = option_map val w.context
 
 -- what a slot means: the uid that is bound to it
 abbrev pub slot_value : Option Uid → Res V
-slot_value None = err unlinked_slot
-slot_value (Some u) = val (prim (entity u))
+slot_value bound = option_map_or (λ u. val (prim (entity u))) bound (err unlinked_slot)
 
 -- an operator of two operands at their values
 abbrev pub combined : World → BinaryOp → V → V → Option (Res V)
@@ -43,8 +39,8 @@ combined w is_in v v' = within w v v'
 combined w contains v v' = Some (among_members v v')
 combined w contains_all v v' = Some (of_sets (λ vs ws. is_subset ws vs) v v')
 combined w contains_any v v' = Some (of_sets (λ vs ws. not (is_disjoint vs ws)) v v')
-combined w get_tag v v' = tag_read w v v'
-combined w has_tag v v' = tag_tested w v v'
+combined w get_tag v v' = tag_asked (part_read (λ e. e.tags)) w v v'
+combined w has_tag v v' = tag_asked (part_tested (λ e. e.tags)) w v v'
 
 -- a truth value is asked for
 abbrev pub truth_asked : V → Res V
@@ -57,13 +53,24 @@ Picks on_true on_false (prim (truth true)) = on_true
 Picks on_true on_false (prim (truth false)) = on_false
 Picks on_true on_false v = Is (err wrong_type)
 
+-- the same as a function
+abbrev pub picked : Option (Res V) → Option (Res V) → V → Option (Res V)
+picked on_true on_false (prim (truth true)) = on_true
+picked on_true on_false (prim (truth false)) = on_false
+picked on_true on_false v = Some (err wrong_type)
+
+-- A path of attributes: false at the first that is missing; of the last one its presence alone is asked.
+abbrev pub path_tested : World → Text → List Text → V → Option (Res V)
+path_tested w a [] v = attribute_tested w a v
+path_tested w a (b ∷ bs) v = bind (attribute_tested w a v) (picked (bind (attribute_read w a v) (path_tested w b bs)) (Some (says false)))
+
 -- What an expression means in a world.
 abbrev mutual
   pub Means : World → Tree → Res V → Type 0
   Means w (lit p) = Is (val (prim p))
   Means w (var x) = Gives (variable w x)
   Means w (slot s) = Is (slot_value (w.slots s))
-  Means w (unknown n a) = Gives (bound_value (w.unknowns n))
+  Means w (unknown n a) = Gives (option_map val (w.unknowns n))
   Means w (choice t a b) = Then (Means w t) (Picks (Means w a) (Means w b))
   Means w (both a b) = Then (Means w a) (Picks (Then (Means w b) (λ v. Is (truth_asked v))) (Is (says false)))
   Means w (either a b) = Then (Means w a) (Picks (Is (says true)) (Then (Means w b) (λ v. Is (truth_asked v))))
@@ -89,17 +96,12 @@ abbrev mutual
   FieldsMean w (tree_field a t fs) = Then (Means w t) (λ v. Then (FieldsMean w fs) (λ vs. Is (val (field a v vs))))
 
 -- The same as functions.
-abbrev pub picked : Option (Res V) → Option (Res V) → V → Option (Res V)
-picked on_true on_false (prim (truth true)) = on_true
-picked on_true on_false (prim (truth false)) = on_false
-picked on_true on_false v = Some (err wrong_type)
-
 abbrev mutual
   pub outcome_of : World → Tree → Option (Res V)
   outcome_of w (lit p) = Some (val (prim p))
   outcome_of w (var x) = variable w x
   outcome_of w (slot s) = Some (slot_value (w.slots s))
-  outcome_of w (unknown n a) = bound_value (w.unknowns n)
+  outcome_of w (unknown n a) = option_map val (w.unknowns n)
   outcome_of w (choice t a b) = bind (outcome_of w t) (picked (outcome_of w a) (outcome_of w b))
   outcome_of w (both a b) = bind (outcome_of w a) (picked (bind (outcome_of w b) (λ v. Some (truth_asked v))) (Some (says false)))
   outcome_of w (either a b) = bind (outcome_of w a) (picked (Some (says true)) (bind (outcome_of w b) (λ v. Some (truth_asked v))))

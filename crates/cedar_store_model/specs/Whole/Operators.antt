@@ -1,10 +1,12 @@
 -- Operators at the values of their operands. Where no clause says otherwise the operands have a wrong type.
 -- Rule: the meaning (docs/RULES.md).
-use Rattle.std.specs.Prelude.{◌&&◌, ℤ, pos, neg_ℤ, int_le, List, length, Bool, true, false, not, Option, Some, None, if◌then◌else◌}
+use Rattle.std.specs.Prelude.{◌&&◌, ℤ, pos, neg_ℤ, int_le, List, length, Bool, not, Option, Some, option_map, if◌then◌else◌}
+use Rattle.std.specs.Option.{option_map_or}
 use Rattle.std.specs.Ordering.{int_cmp}
 use Rattle.std.specs.declared.cmp.Ordering.{Ordering}
 use Rattle.cedar_expr_model.specs.Name.{Text, Name, name_eq}
-use Rattle.cedar_expr_model.specs.Whole.Value.{truth, long, text, entity, V, prim, set_of, extension, Vs, no_values, value, truth_value}
+use Rattle.cedar_expr_model.specs.Whole.Value.{truth, long, text, entity, V, prim, set_of, extension, Vs, values_list, truth_value}
+use Rattle.cedar_expr_model.specs.Whole.Lists.{is_nil}
 use Rattle.cedar_expr_model.specs.Whole.Order.{text_cmp}
 use Rattle.cedar_expr_model.specs.Whole.Canonical.{is_member}
 use Rattle.cedar_expr_model.specs.Whole.Pattern.{Pattern, matches_text}
@@ -23,15 +25,11 @@ in_range n = if is_long n then val (prim (long n)) else err overflow
 abbrev pub says : Bool → Res V
 says b = val (truth_value b)
 
-abbrev pub has_no_values : Vs → Bool
-has_no_values no_values = true
-has_no_values (value v vs) = false
-
 -- Not of a truth value, minus of a whole number, emptiness of a set.
 abbrev pub applied : UnaryOp → V → Res V
 applied negation (prim (truth b)) = says (not b)
 applied minus (prim (long n)) = in_range (neg_ℤ n)
-applied is_empty (set_of vs) = says (has_no_values vs)
+applied is_empty (set_of vs) = says (is_nil (values_list vs))
 applied o v = err wrong_type
 
 -- Order: of two whole numbers, or of two values of one extension type that is ordered, by their keys.
@@ -63,21 +61,16 @@ abbrev pub of_type : Name → V → Res V
 of_type n (prim (entity u)) = says (name_eq u.kind n)
 of_type n v = err wrong_type
 
--- the value, if it is bound
-abbrev pub bound_value : Option V → Option (Res V)
-bound_value None = None
-bound_value (Some v) = Some (val v)
-
+-- an unknown that a call leaves has its value, if it is bound
 abbrev pub answered : (Text → Option V) → Called → Option (Res V)
 answered unknowns (gives v) = Some (val v)
 answered unknowns (fails e) = Some (err (extension_failed e))
-answered unknowns (leaves n) = bound_value (unknowns n)
+answered unknowns (leaves n) = option_map val (unknowns n)
 
 -- What a call answers at its arguments. The function is looked up; then the count of the arguments and their types are asked for.
-abbrev pub called_with : Table → (Text → Option V) → Name → List V → Option Signature → Option (Res V)
-called_with x unknowns f vs None = Some (err no_function)
-called_with x unknowns f vs (Some s) =
+abbrev pub called_with : Table → (Text → Option V) → Name → List V → Signature → Option (Res V)
+called_with x unknowns f vs s =
     if takes_count s (length vs) then (if are_of_types s.parameters vs then answered unknowns (x.answers f vs) else Some (err wrong_type)) else Some (err wrong_count)
 
 abbrev pub called : Table → (Text → Option V) → Name → List V → Option (Res V)
-called x unknowns f vs = called_with x unknowns f vs (signature_of x f)
+called x unknowns f vs = option_map_or (called_with x unknowns f vs) (signature_of x f) (Some (err no_function))

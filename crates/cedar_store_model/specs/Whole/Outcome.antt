@@ -34,11 +34,8 @@ Is expected outcome = outcome ≡ expected
 abbrev pub Gives : {A : Type 0} → Option (Res A) → Res A → Type 0
 Gives found outcome = found ≡ Some outcome
 
--- the functions beside them: where what is known gives no outcome there is none
-abbrev pub and_then : {A B : Type 0} → Res A → (A → Option (Res B)) → Option (Res B)
-and_then (val v) next = next v
-and_then (err f) next = Some (err f)
-
+-- the function beside them: where what is known gives no outcome there is none
 abbrev pub bind : {A B : Type 0} → Option (Res A) → (A → Option (Res B)) → Option (Res B)
 bind None next = None
-bind (Some r) next = and_then r next
+bind (Some (val v)) next = next v
+bind (Some (err f)) next = Some (err f)

@@ -1,13 +1,14 @@
 -- Policies, templates, and their condition.
 -- Rule: conditions; policies and templates (docs/RULES.md).
-use Rattle.std.specs.Prelude.{◌||◌, List, map, Bool, true, false, Option, Some, None}
+use Rattle.std.specs.Prelude.{◌==◌, List, map, Bool, true, Option, None, unwrap_or, [], ◌∷◌}
 use Rattle.std.specs.List.{list_any}
 use Rattle.cedar_expr_model.specs.Name.{Text, Name}
 use Rattle.cedar_expr_model.specs.Uid.{Uid}
 use Rattle.cedar_expr_model.specs.Whole.Value.{truth, entity}
-use Rattle.cedar_expr_model.specs.Whole.Tree.{Var, principal, action, resource, SlotId, principal_slot, resource_slot, equal, is_in, Tree, lit, var, slot, binary, is_type, set_literal, Trees}
+use Rattle.cedar_expr_model.specs.Whole.Tree.{Var, principal, action, resource, SlotId, principal_slot, resource_slot, equal, is_in, Tree, lit, var, slot, binary, is_type, set_literal}
 use Rattle.cedar_expr_model.specs.Whole.Builder.{conjunction, trees}
 use Rattle.cedar_expr_model.specs.Whole.Parts.{slots}
+use Rattle.cedar_expr_model.specs.Whole.Shape.{slot_rank}
 
 pub data Effect : Type 0 where
   permit : Effect
@@ -69,58 +70,28 @@ scope_tree x s (inside t) = binary is_in (var x) (target_tree s t)
 scope_tree x s (of_kind n) = is_type (var x) n
 scope_tree x s (of_kind_inside n t) = conjunction (is_type (var x) n) (binary is_in (var x) (target_tree s t))
 
-abbrev pub uid_trees : List Uid → Trees
-uid_trees us = trees (map (λ u. lit (entity u)) us)
-
 -- what the action part asks; of several actions it asks for their set
 abbrev pub action_tree : ActionScope → Tree
 action_tree any_action = lit (truth true)
 action_tree (exactly_action u) = binary equal (var action) (lit (entity u))
-action_tree (inside_actions us) = binary is_in (var action) (set_literal (uid_trees us))
+action_tree (inside_actions us) = binary is_in (var action) (set_literal (trees (map (λ u. lit (entity u)) us)))
 
 -- a policy without a body has the body `true`
 abbrev pub body_tree : Option Tree → Tree
-body_tree None = lit (truth true)
-body_tree (Some t) = t
-
-abbrev pub principal_tree : Policy → Tree
-principal_tree p = scope_tree principal principal_slot p.principal
-
-abbrev pub resource_tree : Policy → Tree
-resource_tree p = scope_tree resource resource_slot p.resource
+body_tree body = unwrap_or body (lit (truth true))
 
 -- The condition: principal, action and resource part, then the body, joined from the right.
 abbrev pub condition : Policy → Tree
-condition p = conjunction (principal_tree p) (conjunction (action_tree p.action) (conjunction (resource_tree p) (body_tree p.body)))
+condition p = conjunction (scope_tree principal principal_slot p.principal) (conjunction (action_tree p.action) (conjunction (scope_tree resource resource_slot p.resource) (body_tree p.body)))
 
--- the same slots
-abbrev pub slot_eq : SlotId → SlotId → Bool
-slot_eq principal_slot principal_slot = true
-slot_eq resource_slot resource_slot = true
-slot_eq s t = false
-
--- the target is the slot
-abbrev pub is_own_slot : Target → Bool
-is_own_slot (named u) = false
-is_own_slot own_slot = true
-
--- the part of the scope has its slot
-abbrev pub scope_has_slot : Scope → Bool
-scope_has_slot any = false
-scope_has_slot (exactly t) = is_own_slot t
-scope_has_slot (inside t) = is_own_slot t
-scope_has_slot (of_kind n) = false
-scope_has_slot (of_kind_inside n t) = is_own_slot t
-
--- the slots that the scope of a policy has
-abbrev pub scope_uses : Policy → SlotId → Bool
-scope_uses p principal_slot = scope_has_slot p.principal
-scope_uses p resource_slot = scope_has_slot p.resource
+-- the slots that there are
+abbrev pub all_slots : List SlotId
+all_slots = principal_slot ∷ resource_slot ∷ []
 
 -- the slot stands in the expression
 abbrev pub tree_uses : Tree → SlotId → Bool
-tree_uses t s = list_any (slot_eq s) (slots t)
+tree_uses t s = list_any (λ r. slot_rank s == slot_rank r) (slots t)
 
 -- the slots of a policy: those of its scope and those of its body
 abbrev pub has_slot : Policy → SlotId → Bool
-has_slot p s = scope_uses p s || tree_uses (body_tree p.body) s
+has_slot p s = tree_uses (condition p) s

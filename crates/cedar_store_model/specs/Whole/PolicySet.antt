@@ -1,12 +1,15 @@
 -- Sets of policies: templates and policies, each in the order of insertion, under ids that are used once.
 -- Rule: policies and templates (docs/RULES.md).
-use Rattle.std.specs.Prelude.{◌&&◌, ◌||◌, map, List, [], ◌∷◌, ◌++◌, Bool, false, not, Option, Some, None, is_some, is_none, if◌then◌else◌}
+use Rattle.std.specs.Prelude.{◌&&◌, map, find, List, [], ◌∷◌, ◌++◌, Bool, false, not, Option, Some, None, is_some, is_none, option_map, if◌then◌else◌}
+use Rattle.std.specs.Option.{option_map_or}
 use Rattle.std.specs.List.{list_any}
 use Rattle.std.specs.Str.{bytes_eq}
 use Rattle.cedar_expr_model.specs.Name.{Text}
-use Rattle.cedar_expr_model.specs.Whole.Tree.{SlotId, principal_slot, resource_slot}
+use Rattle.cedar_expr_model.specs.Whole.Tree.{SlotId}
+use Rattle.cedar_expr_model.specs.Whole.Lists.{is_nil}
+use Rattle.cedar_expr_model.specs.Whole.Parts.{slots}
 use Rattle.cedar_expr_model.specs.Whole.Repeats.{repeated}
-use Rattle.cedar_store_model.specs.Whole.Policy.{Policy, SlotBindings, binding_of, has_slot}
+use Rattle.cedar_store_model.specs.Whole.Policy.{Policy, SlotBindings, binding_of, condition, has_slot, all_slots}
 
 pub record PolicySet : Type 0 where
   pub templates : List Policy
@@ -14,31 +17,19 @@ pub record PolicySet : Type 0 where
 
 -- a policy without slots
 abbrev pub is_static : Policy → Bool
-is_static p = not (has_slot p principal_slot || has_slot p resource_slot)
-
--- the id stands among these
-abbrev pub has_id : Text → List Policy → Bool
-has_id id ps = list_any (λ p. bytes_eq id p.id) ps
+is_static p = is_nil (slots (condition p))
 
 -- the id is present, as a template's or a policy's
 abbrev pub is_taken : Text → PolicySet → Bool
-is_taken id s = has_id id s.templates || has_id id s.policies
-
--- no id stands twice
-abbrev pub have_distinct_ids : List Policy → Bool
-have_distinct_ids ps = is_none (repeated bytes_eq (map (λ p. p.id) ps))
+is_taken id s = list_any (λ p. bytes_eq id p.id) (s.templates ++ s.policies)
 
 -- no id is used twice, be it by templates or policies
 abbrev pub has_distinct_ids : PolicySet → Bool
-has_distinct_ids s = have_distinct_ids (s.templates ++ s.policies)
-
-abbrev pub template_among : Text → List Policy → Option Policy
-template_among id [] = None
-template_among id (p ∷ ps) = if bytes_eq id p.id then Some p else template_among id ps
+has_distinct_ids s = is_none (repeated bytes_eq (map (λ p. p.id) (s.templates ++ s.policies)))
 
 -- the template of this id
 abbrev pub template_of : Text → PolicySet → Option Policy
-template_of id s = template_among id s.templates
+template_of id s = find (λ p. bytes_eq id p.id) s.templates
 
 -- The policy of a template: the template under an id of its own, with bindings for its slots.
 abbrev pub linked : Policy → Text → SlotBindings → Policy
@@ -53,15 +44,11 @@ with_policy s p = record s { policies = s.policies ++ p ∷ [] }
 
 -- the slot is the template's and isn't bound
 abbrev pub lacks_binding : Policy → SlotBindings → SlotId → Bool
-lacks_binding t b s = has_slot t s && not (is_some (binding_of b s))
+lacks_binding t b s = has_slot t s && is_none (binding_of b s)
 
 -- the slot is bound and isn't the template's
 abbrev pub has_stray_binding : Policy → SlotBindings → SlotId → Bool
 has_stray_binding t b s = not (has_slot t s) && is_some (binding_of b s)
-
--- the test holds of one of the slots
-abbrev pub of_some_slot : (SlotId → Bool) → Bool
-of_some_slot test = test principal_slot || test resource_slot
 
 -- why a template isn't linked
 pub data LinkFault : Type 0 where
@@ -70,29 +57,20 @@ pub data LinkFault : Type 0 where
   slot_not_of_template : LinkFault
   no_template : LinkFault
 
-abbrev pub binding_fault : (Policy → SlotBindings → SlotId → Bool) → SlotBindings → Option Policy → Bool
-binding_fault test b None = false
-binding_fault test b (Some t) = of_some_slot (test t b)
-
--- the fault is there, where this is what the set has under the template's id
-abbrev pub has_fault_at : PolicySet → Text → SlotBindings → Option Policy → LinkFault → Bool
-has_fault_at s id b t id_present = is_taken id s
-has_fault_at s id b t slot_not_bound = binding_fault lacks_binding b t
-has_fault_at s id b t slot_not_of_template = binding_fault has_stray_binding b t
-has_fault_at s id b t no_template = not (is_some t)
+abbrev pub link_faults : List LinkFault
+link_faults = id_present ∷ slot_not_bound ∷ slot_not_of_template ∷ no_template ∷ []
 
 -- The fault is there, where a template of the set is linked under a new id with bindings.
 abbrev pub has_link_fault : PolicySet → Text → Text → SlotBindings → LinkFault → Bool
-has_link_fault s template id b f = has_fault_at s id b (template_of template s) f
+has_link_fault s template id b id_present = is_taken id s
+has_link_fault s template id b slot_not_bound = option_map_or (λ t. list_any (lacks_binding t b) all_slots) (template_of template s) false
+has_link_fault s template id b slot_not_of_template = option_map_or (λ t. list_any (has_stray_binding t b) all_slots) (template_of template s) false
+has_link_fault s template id b no_template = is_none (template_of template s)
 
 -- the set after linking, where none of the faults is there
-abbrev pub linked_in : PolicySet → Text → SlotBindings → Option Policy → Option PolicySet
-linked_in s id b None = None
-linked_in s id b (Some t) =
-    if is_taken id s || (of_some_slot (lacks_binding t b) || of_some_slot (has_stray_binding t b)) then None else Some (with_policy s (linked t id b))
-
 abbrev pub link : PolicySet → Text → Text → SlotBindings → Option PolicySet
-link s template id b = linked_in s id b (template_of template s)
+link s template id b =
+    if list_any (has_link_fault s template id b) link_faults then None else option_map (λ t. with_policy s (linked t id b)) (template_of template s)
 
 -- The set with a template, or a policy, whose id isn't present yet.
 abbrev pub add_template : PolicySet → Policy → Option PolicySet

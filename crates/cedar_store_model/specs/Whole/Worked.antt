@@ -7,7 +7,8 @@ use Rattle.cedar_expr_model.specs.Uid.{Uid}
 use Rattle.cedar_expr_model.specs.Whole.Value.{truth, long, text, entity, V, prim, extension, no_fields, field}
 use Rattle.cedar_expr_model.specs.Whole.Tree.{context, string_core, extension_core, Tree, lit, var, unknown, call, get_attr, Trees, no_trees, tree}
 use Rattle.cedar_expr_model.specs.Whole.Table.{Table, Signature, Called, gives, fails, leaves, function_style, method_style}
-use Rattle.cedar_store_model.specs.Whole.World.{World, known, left, Entity, Request}
+use Rattle.cedar_expr_model.specs.Whole.ValueParts.{known, left}
+use Rattle.cedar_store_model.specs.Whole.World.{World, Entity, Request}
 use Rattle.cedar_store_model.specs.Whole.Store.{Entities, whole, partial, as_open, world_of}
 
 -- names and uids

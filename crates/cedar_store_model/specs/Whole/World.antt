@@ -1,19 +1,14 @@
 -- Worlds: what is known of a request, of slots and unknowns, and of a store.
 -- Rule: the meaning; the store (docs/RULES.md).
-use Rattle.std.specs.Prelude.{List, [], ◌∷◌, Option, Some, None, if◌then◌else◌}
-use Rattle.std.specs.Str.{bytes_eq}
+use Rattle.std.specs.Prelude.{List, Option}
 use Rattle.cedar_expr_model.specs.Name.{Text}
 use Rattle.cedar_expr_model.specs.Uid.{Uid}
 use Rattle.cedar_expr_model.specs.Whole.Value.{V, Fields}
-use Rattle.cedar_expr_model.specs.Whole.Tree.{Tree, SlotId}
+use Rattle.cedar_expr_model.specs.Whole.Tree.{SlotId}
 use Rattle.cedar_expr_model.specs.Whole.Table.{Table}
+use Rattle.cedar_expr_model.specs.Whole.ValueParts.{Part}
 
--- what an attribute or a tag holds: a value, or an expression that isn't one yet
-pub data Part (A : Type 0) : Type 0 where
-  known : A → Part A
-  left : Tree → Part A
-
--- An entity: attributes and tags by name, and the recorded ancestors.
+-- An entity: attributes and tags by name, each a value or an expression that isn't one yet, and the recorded ancestors.
 pub record Entity (A : Type 0) : Type 0 where
   pub attributes : List (Text × Part A)
   pub tags : List (Text × Part A)
@@ -25,9 +20,11 @@ pub data Found (A : Type 0) : Type 0 where
   missing : Found A
   not_loaded : Found A
 
-abbrev pub part_named : {A : Type 0} → Text → List (Text × Part A) → Option (Part A)
-part_named a [] = None
-part_named a (p ∷ ps) = if bytes_eq a p.0 then Some p.1 else part_named a ps
+-- what is made of such an answer: of an entity, of none, and where it isn't known
+abbrev pub by_found : {A B : Type 0} → (Entity A → B) → B → B → Found A → B
+by_found of_held of_missing of_not_loaded (held e) = of_held e
+by_found of_held of_missing of_not_loaded missing = of_missing
+by_found of_held of_missing of_not_loaded not_loaded = of_not_loaded
 
 -- A request: three uids and the fields of the context.
 pub record Request : Type 0 where

@@ -5,9 +5,9 @@ use Rattle.cedar_expr_model.specs.Name.{Text}
 use Rattle.cedar_expr_model.specs.Whole.Tree.{BinaryOp, get_tag, has_tag, Tree, lit, var, slot, unknown, choice, both, either, unary, binary, call, get_attr, has_attr, has_path, like, is_type, set_literal, record_literal}
 use Rattle.cedar_schema_model.specs.Whole.Types.{BoolType, any_bool, only_true, only_false, Ty, bool_type, never, Mode}
 use Rattle.cedar_schema_model.specs.Whole.Join.{join}
-use Rattle.cedar_typechecker_model.specs.Whole.Facts.{Facts, no_facts, fact, union, intersection, Part, attribute_part, tag_part}
+use Rattle.cedar_typechecker_model.specs.Whole.Facts.{Facts, no_facts, union, intersection, Part, attribute_part, tag_part}
 use Rattle.cedar_typechecker_model.specs.Whole.Rules.{Setting, literal_type, var_type, slot_type, unary_type, binary_type, like_type, is_type_type, has_type, get_type, has_tag_type, get_tag_type, set_literal_type, call_type}
-use Rattle.cedar_typechecker_model.specs.Whole.Typing.{Judgement, judged, plain, tested, conjoined, disjoined, chosen, step_type, path_after, path_judged, binary_judged, Types, and_judged, or_judged, choice_judged, judgement, judgements, field_judgements}
+use Rattle.cedar_typechecker_model.specs.Whole.Typing.{Judgement, judged, plain, tested, conjoined, disjoined, chosen, step_type, path_judged, binary_judged, Types, and_judged, or_judged, choice_judged, judgement, judgements, field_judgements}
 use Rattle.cedar_typechecker_model.proofs.Whole.Exact.{of_parts}
 use Rattle.cedar_typechecker_model.proofs.Whole.Typing.{exact}
 
@@ -110,18 +110,12 @@ bare_binary s known get_tag a b t u = bare_plain (get_tag_type s known a b t u)
 bare_binary s known has_tag a b t u = bare_test a (tag_part b) (has_tag_type s t u)
 bare_binary s known o a b t u = bare_plain (binary_type s o a b t u)
 
--- what follows a step of a path
-bare_on : (left : BoolType) (f : Facts) (rest : Ty → Option Judgement) (found : Option Ty) → Bare (bool_type left) f → ((t : Ty) → BareOf (rest t)) → BareOf (option_and_then (λ t. option_and_then (λ r. conjoined left f r.type r.facts) (rest t)) found)
-bare_on left f rest found h n = bare_found found _ (λ t. bare_then (rest t) (conjoined left f) (n t) (λ u g k. bare_conjoined left f u g h k))
-
-bare_after : (e : Tree) (p : Part) (rest : Ty → Option Judgement) (found : Option Ty) → ((t : Ty) → BareOf (rest t)) → (left : BoolType) → BareOf (path_after rest found (tested e p left) left)
-bare_after e p rest found n only_false = refl
-bare_after e p rest found n any_bool = bare_on any_bool (fact e p) rest found tt n
-bare_after e p rest found n only_true = bare_on only_true no_facts rest found refl n
-
+-- a path
 bare_path : (s : Setting) (a : Text) (bs : List Text) (e : Tree) (t : Ty) → BareOf (path_judged s a bs e t)
 bare_path s a [] e t = bare_test e (attribute_part a) (has_type s t a)
-bare_path s a (b ∷ bs) e t = bare_found (has_type s t a) _ (bare_after e (attribute_part a) (path_judged s b bs (get_attr e a)) (step_type s t a) (bare_path s b bs (get_attr e a)))
+bare_path s a (b ∷ bs) e t =
+    bare_then (option_map (tested e (attribute_part a)) (has_type s t a)) (and_judged (λ f. option_and_then (path_judged s b bs (get_attr e a)) (step_type s t a))) (bare_test e (attribute_part a) (has_type s t a))
+    (bare_and (λ f. option_and_then (path_judged s b bs (get_attr e a)) (step_type s t a)) (λ f. bare_found (step_type s t a) _ (bare_path s b bs (get_attr e a))))
 
 pub bare : (s : Setting) (known : Facts) (t : Tree) → BareOf (judgement s known t)
 bare s known (lit p) = bare_plain (literal_type s p)

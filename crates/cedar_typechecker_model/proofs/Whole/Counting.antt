@@ -1,6 +1,6 @@
 -- Relations on violations and counts, and the lists and counts that they have, through each combinator.
 use Rattle.std.proofs.Common.{◌≡◌, ◌↔◌, ℕ, zero, suc, ◌+◌, ◌<◌, ◌≤◌, max, Bool, true, false, List, [], ◌∷◌, ◌++◌, Option, Some, None, refl, sym, ap, ◌∙◌, subst, ◌⊎◌, inl, inr, ⊎_elim, arith}
-use Rattle.std.specs.Prelude.{Contains, nat_le, if◌then◌else◌, option_map}
+use Rattle.std.specs.Prelude.{Contains, nat_le, nat_lt, if◌then◌else◌, option_map, MatchBool}
 use Rattle.std.proofs.lemmas.Bool.Decides.{leb_tells}
 use Rattle.std.proofs.lemmas.List.Elements.{Contains-append_left, Contains-append_right, Contains-append_cases}
 use Rattle.cedar_expr_model.specs.Whole.Tree.{Tree}
@@ -9,8 +9,15 @@ use Rattle.cedar_schema_model.specs.Whole.Types.{BoolType, only_true, only_false
 use Rattle.cedar_typechecker_model.specs.Whole.Facts.{Facts}
 use Rattle.cedar_typechecker_model.specs.Whole.Typing.{Judgement}
 use Rattle.cedar_typechecker_model.specs.Whole.Levels.{Violation, Count, count, joined, further, needed, stepped, is_entity, unless_false, unless_true, branches, after_and, after_or, after_test, greater, target_after_test, path_violations}
-use Rattle.cedar_typechecker_model.specs.Whole.Dereferences.{Where, ByType, Behind, Branch, AfterTest, BranchCount, CountAfterTest, Further, is_entity_type, is_positive, TooFar}
+use Rattle.cedar_typechecker_model.specs.Whole.Dereferences.{ByType, Behind, Branch, AfterTest, BranchCount, CountAfterTest, Further, is_entity_type, TooFar}
 use Rattle.cedar_typechecker_model.proofs.Whole.Exact.{Exact, of_parts}
+
+-- a number above zero
+abbrev is_positive : ℕ → Bool
+is_positive k = nat_lt 0 k
+
+positive_next : (k : ℕ) → is_positive (suc k) ≡ true
+positive_next k = grind arith
 
 -- the list has what the relation holds of, and nothing else
 pub record Lists (R : Violation → Type 0) (vs : List Violation) : Type 0 where
@@ -44,7 +51,7 @@ lists_both R S vs ws l m = record {
   only = λ v h. ⊎_elim (λ k. inl (l.only v k)) (λ k. inr (m.only v k)) (Contains-append_cases vs ws v h);
 }
 
-pub lists_where : (b : Bool) (R S : Violation → Type 0) (vs ws : List Violation) → Lists R vs → Lists S ws → Lists (λ v. Where b (R v) (S v)) (if b then vs else ws)
+pub lists_where : (b : Bool) (R S : Violation → Type 0) (vs ws : List Violation) → Lists R vs → Lists S ws → Lists (λ v. MatchBool b (R v) (S v)) (if b then vs else ws)
 lists_where true R S vs ws l m = l
 lists_where false R S vs ws l m = m
 
@@ -57,7 +64,7 @@ counts_joined R K T vs c l m = record { alone = m.alone; here = m.here; found = 
 pub counts_further : (more : ℕ) (K : ℕ → Type 0) (T : Violation → Type 0) (c : Count) → Counts K T c → Counts (Further more K) T (further more c)
 counts_further more K T c m = record { alone = λ k h. h.2 ∙ ap (λ x. x + more) (m.alone h.0 h.1); here = (c.steps, m.here, refl); found = m.found }
 
-pub counts_where : (b : Bool) (K L : ℕ → Type 0) (T U : Violation → Type 0) (c d : Count) → Counts K T c → Counts L U d → Counts (λ k. Where b (K k) (L k)) (λ v. Where b (T v) (U v)) (if b then c else d)
+pub counts_where : (b : Bool) (K L : ℕ → Type 0) (T U : Violation → Type 0) (c d : Count) → Counts K T c → Counts L U d → Counts (λ k. MatchBool b (K k) (L k)) (λ v. MatchBool b (T v) (U v)) (if b then c else d)
 counts_where true K L T U c d l m = l
 counts_where false K L T U c d l m = m
 
@@ -212,8 +219,8 @@ path_list : (n : ℕ) (e : Tree) (m : ℕ) (K : ℕ → Type 0) (T : Violation �
 path_list n e zero K T c P j x steps A S ws l m q a = lists_same _ _ _ m (λ v. by_type_false P j x (λ t. is_positive (steps t)) (λ t. A t v) (S v) (ap is_positive q))
 path_list n e (suc k) K T c P j x steps A S ws l m q a =
     lists_same _ _ _ (lists_stepped n e (suc k) K T c l) (λ v. (
-      λ h. (a v).0 ((by_type_true P j x (λ t. is_positive (steps t)) (λ t. A t v) (S v) (ap is_positive q)).0 h),
-      λ h. (by_type_true P j x (λ t. is_positive (steps t)) (λ t. A t v) (S v) (ap is_positive q)).1 ((a v).1 h),
+      λ h. (a v).0 ((by_type_true P j x (λ t. is_positive (steps t)) (λ t. A t v) (S v) (ap is_positive q ∙ positive_next k)).0 h),
+      λ h. (by_type_true P j x (λ t. is_positive (steps t)) (λ t. A t v) (S v) (ap is_positive q ∙ positive_next k)).1 ((a v).1 h),
     ))
 
 pub lists_path : {X : Type 0} (n : ℕ) (e : Tree) (P : Ty → Facts → Type 0) (o : Option Judgement) → Exact P o → (steps : Option Ty → ℕ) → steps None ≡ 0 → (path : Option Ty → X) (K : X → ℕ → Type 0) (T : X → Violation → Type 0) (c : X → Count) (S : Violation → Type 0) (ws : List Violation) → ((p : X) → Counts (K p) (T p) (c p)) → Lists S ws →

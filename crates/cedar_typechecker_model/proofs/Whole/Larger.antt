@@ -1,6 +1,6 @@
 -- A violation at a larger level is one at the smaller.
 use Rattle.std.proofs.Common.{◌≡◌, ◌↔◌, ℕ, ◌+◌, ◌<◌, ◌≤◌, Bool, true, false, List, [], ◌∷◌, Option, Some, None, refl, subst, ◌⊎◌, inl, inr, arith}
-use Rattle.std.specs.Prelude.{Contains}
+use Rattle.std.specs.Prelude.{Contains, MatchBool}
 use Rattle.std.specs.Str.{bytes_eq}
 use Rattle.cedar_expr_model.specs.Name.{Text}
 use Rattle.cedar_expr_model.specs.Whole.Table.{Table}
@@ -12,17 +12,19 @@ use Rattle.cedar_schema_model.specs.Whole.Schema.{Schema}
 use Rattle.cedar_typechecker_model.specs.Whole.Facts.{Facts, no_facts, union}
 use Rattle.cedar_typechecker_model.specs.Whole.Rules.{Setting}
 use Rattle.cedar_typechecker_model.specs.Whole.Typing.{Types, type_of}
-use Rattle.cedar_typechecker_model.specs.Whole.Levels.{Violation, steps_from_left, violations}
-use Rattle.cedar_typechecker_model.specs.Whole.Dereferences.{Where, ByType, Behind, Branch, AfterTest, TooFar, IsViolation, IsAmong, IsInFields, TargetHas, FieldsHave, IsPolicyViolation}
-use Rattle.cedar_typechecker_model.specs.Whole.Verdicts.{policy_environments, in_mode, if_typed, violations_in, policy_violations_in}
+use Rattle.cedar_store_model.specs.Whole.Looks.{looks_up}
+use Rattle.cedar_typechecker_model.specs.Whole.Levels.{Violation, violations}
+use Rattle.cedar_typechecker_model.specs.Whole.Dereferences.{ByType, Behind, Branch, AfterTest, TooFar, IsViolation, IsAmong, IsInFields, TargetHas, FieldsHave, IsPolicyViolation}
+use Rattle.cedar_typechecker_model.specs.Whole.Verdicts.{policy_environments, in_mode, violations_in, policy_violations_in}
 use Rattle.cedar_typechecker_model.proofs.Whole.Typing.{has_its_type, type_is}
 use Rattle.cedar_typechecker_model.proofs.Whole.Levels.{violations_are_listed}
+use Rattle.cedar_typechecker_model.proofs.Whole.Named.{if_typed}
 
 either_keeps : {A B C D : Type 0} → (A → C) → (B → D) → A ⊎ B → C ⊎ D
 either_keeps f g (inl a) = inl (f a)
 either_keeps f g (inr b) = inr (g b)
 
-where_keeps : {A B C D : Type 0} (b : Bool) → (A → C) → (B → D) → Where b A B → Where b C D
+where_keeps : {A B C D : Type 0} (b : Bool) → (A → C) → (B → D) → MatchBool b A B → MatchBool b C D
 where_keeps true f g = f
 where_keeps false f g = g
 
@@ -55,7 +57,7 @@ mutual
   larger n m l s known (either a b) v h = either_keeps (larger n m l s known a v) (behind_keeps (Types s known a) only_true _ _ (λ f. larger n m l s known b v)) h
   larger n m l s known (unary o a) v h = larger n m l s known a v h
   larger n m l s known (binary o a b) v h =
-      either_keeps (where_keeps (steps_from_left o) (either_keeps (too_far_keeps n m (binary o a b) 1 _ v l) (larger_target n m l s known [] a v)) (larger n m l s known a v)) (larger n m l s known b v) h
+      either_keeps (where_keeps (looks_up o) (either_keeps (too_far_keeps n m (binary o a b) 1 _ v l) (larger_target n m l s known [] a v)) (larger n m l s known a v)) (larger n m l s known b v) h
   larger n m l s known (call f ts) v h = larger_among n m l s known ts v h
   larger n m l s known (get_attr e a) v h = by_type_keeps (Types s known e) _ _ _ (λ t. either_keeps (too_far_keeps n m (get_attr e a) 1 _ v l) (larger_target n m l s known [] e v)) (larger n m l s known e v) h
   larger n m l s known (has_attr e a) v h = by_type_keeps (Types s known e) _ _ _ (λ t. either_keeps (too_far_keeps n m (has_attr e a) 1 _ v l) (larger_target n m l s known [] e v)) (larger n m l s known e v) h

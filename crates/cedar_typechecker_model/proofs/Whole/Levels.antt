@@ -10,7 +10,8 @@ use Rattle.cedar_expr_model.proofs.Equality.{uid_eq-Decides}
 use Rattle.cedar_typechecker_model.specs.Whole.Facts.{Facts, union}
 use Rattle.cedar_typechecker_model.specs.Whole.Rules.{Setting}
 use Rattle.cedar_typechecker_model.specs.Whole.Typing.{Types, judgement}
-use Rattle.cedar_typechecker_model.specs.Whole.Levels.{Violation, count, joined, further, stepped, literal_count, entity_steps, fields_before, steps_from_left, violations, violations_among, violations_in_fields, target, target_in_fields}
+use Rattle.cedar_store_model.specs.Whole.Looks.{looks_up}
+use Rattle.cedar_typechecker_model.specs.Whole.Levels.{Violation, count, joined, further, stepped, literal_count, entity_steps, fields_before, violations, violations_among, violations_in_fields, target, target_in_fields}
 use Rattle.cedar_typechecker_model.specs.Whole.Dereferences.{AfterTest, Further, Reaches, ReachesByField, TooFar, LiteralHas, IsViolation, IsAmong, IsInFields, TargetHas, FieldsHave}
 use Rattle.cedar_typechecker_model.proofs.Whole.Typing.{exact}
 use Rattle.cedar_typechecker_model.proofs.Whole.Counting.{Lists, Counts, lists_same, lists_none, lists_one, lists_both, lists_where, counts_same, counts_zero, counts_joined, counts_further, counts_where, lists_stepped, lists_and, lists_or, lists_test, counts_test, lists_standing, counts_standing, lists_path}
@@ -45,7 +46,7 @@ mutual
   violations_listed n s known (unary o a) = violations_listed n s known a
   violations_listed n s known (binary o a b) =
       lists_both _ (IsViolation n s known b) _ (violations n s known b)
-      (lists_where (steps_from_left o) (λ v. TooFar n (binary o a b) 1 (Reaches s known [] a) v ⊎ TargetHas n s known [] a v) (IsViolation n s known a) (stepped n (binary o a b) (further 1 (target n s known [] a))) (violations n s known a)
+      (lists_where (looks_up o) (λ v. TooFar n (binary o a b) 1 (Reaches s known [] a) v ⊎ TargetHas n s known [] a v) (IsViolation n s known a) (stepped n (binary o a b) (further 1 (target n s known [] a))) (violations n s known a)
       (lists_stepped n (binary o a b) 1 (Reaches s known [] a) (TargetHas n s known [] a) (target n s known [] a) (target_counted n s known [] a)) (violations_listed n s known a))
       (violations_listed n s known b)
   violations_listed n s known (call f ts) = among_listed n s known ts

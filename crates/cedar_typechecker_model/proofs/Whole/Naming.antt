@@ -1,17 +1,17 @@
 -- What a policy names, and the tests of it.
 use Rattle.std.proofs.Common.{◌≡◌, ◌↔◌, ◌⊎◌, inl, inr, ⊎_elim, Bool, true, List, [], ◌∷◌, ◌++◌, map, Option, Some, None, refl, sym, ap, ◌∙◌, subst, Decides}
-use Rattle.std.specs.Prelude.{Contains}
+use Rattle.std.specs.Prelude.{Contains, option_to_list}
 use Rattle.std.specs.List.{list_all, filter_map}
 use Rattle.std.proofs.lemmas.List.Elements.{Contains-append_left, Contains-append_right, Contains-append_cases}
 use Rattle.cedar_expr_model.specs.Name.{Name}
 use Rattle.cedar_expr_model.specs.Uid.{Uid}
 use Rattle.cedar_expr_model.specs.Whole.Value.{entity}
 use Rattle.cedar_expr_model.specs.Whole.Tree.{Tree, lit, is_type}
-use Rattle.cedar_expr_model.specs.Whole.Parts.{subexpressions}
+use Rattle.cedar_expr_model.specs.Whole.Parts.{subexpressions, uid_here}
 use Rattle.cedar_expr_model.proofs.Lists.{all_each, all_from, map_has, map_from, contains_head, contains_none, contains_cases, contains_tail}
 use Rattle.cedar_store_model.specs.Whole.Policy.{Policy, condition}
 use Rattle.cedar_schema_model.specs.Whole.Schema.{Schema}
-use Rattle.cedar_typechecker_model.specs.Whole.ScopeRules.{uid_here, kind_here, uids_of, kinds_of, bound_uid, policy_uids, policy_kinds, NamesUid, NamesType, is_known_type, is_no_unknown_action, is_no_unknown_member, NamesKnownTypes, NamesKnownActions, NamesKnownMembers, names_known_types, names_known_actions, names_known_members}
+use Rattle.cedar_typechecker_model.specs.Whole.ScopeRules.{kind_here, uids_of, kinds_of, policy_uids, policy_kinds, NamesUid, NamesType, is_known_type, is_no_unknown_action, is_no_unknown_member, NamesKnownTypes, NamesKnownActions, NamesKnownMembers, names_known_types, names_known_actions, names_known_members}
 
 -- what a partial function gives of the items of a list
 step_has : {X Y : Type 0} (f : X → Option Y) (x : X) (xs : List X) (y : Y) → (o : Option Y) → f x ≡ o → (o ≡ Some y) ⊎ Contains (filter_map f xs) y → Contains (filter_map f (x ∷ xs)) y
@@ -54,7 +54,7 @@ kinds_are_tested t n = (
   λ h. given_has kind_here (subexpressions t) (is_type h.0 n) n h.1 refl,
 )
 
-bound_is : (o : Option Uid) (u : Uid) → Contains (bound_uid o) u ↔ (o ≡ Some u)
+bound_is : (o : Option Uid) (u : Uid) → Contains (option_to_list o) u ↔ (o ≡ Some u)
 bound_is None u = (λ h. absurd (contains_none u h), λ e. cc)
 bound_is (Some v) u = (
   λ h. contains_cases (Some v ≡ Some u) v [] u h (λ q. ap Some q) (λ k. absurd (contains_none u k)),
@@ -68,12 +68,12 @@ uids_are_named p u = (forward, back)
     a = uids_are_written (condition p) u
 
     forward : Contains (policy_uids p) u → NamesUid p u
-    forward h = ⊎_elim (λ k. inl (a.0 k)) (λ k. inr (⊎_elim (λ m. inl ((bound_is p.bindings.principal u).0 m)) (λ m. inr ((bound_is p.bindings.resource u).0 m)) (Contains-append_cases (bound_uid p.bindings.principal) (bound_uid p.bindings.resource) u k))) (Contains-append_cases (uids_of (condition p)) (bound_uid p.bindings.principal ++ bound_uid p.bindings.resource) u h)
+    forward h = ⊎_elim (λ k. inl (a.0 k)) (λ k. inr (⊎_elim (λ m. inl ((bound_is p.bindings.principal u).0 m)) (λ m. inr ((bound_is p.bindings.resource u).0 m)) (Contains-append_cases (option_to_list p.bindings.principal) (option_to_list p.bindings.resource) u k))) (Contains-append_cases (uids_of (condition p)) (option_to_list p.bindings.principal ++ option_to_list p.bindings.resource) u h)
 
     back : NamesUid p u → Contains (policy_uids p) u
     back (inl k) = Contains-append_left (uids_of (condition p)) _ u (a.1 k)
-    back (inr (inl e)) = Contains-append_right (uids_of (condition p)) _ u (Contains-append_left (bound_uid p.bindings.principal) (bound_uid p.bindings.resource) u ((bound_is p.bindings.principal u).1 e))
-    back (inr (inr e)) = Contains-append_right (uids_of (condition p)) _ u (Contains-append_right (bound_uid p.bindings.principal) (bound_uid p.bindings.resource) u ((bound_is p.bindings.resource u).1 e))
+    back (inr (inl e)) = Contains-append_right (uids_of (condition p)) _ u (Contains-append_left (option_to_list p.bindings.principal) (option_to_list p.bindings.resource) u ((bound_is p.bindings.principal u).1 e))
+    back (inr (inr e)) = Contains-append_right (uids_of (condition p)) _ u (Contains-append_right (option_to_list p.bindings.principal) (option_to_list p.bindings.resource) u ((bound_is p.bindings.resource u).1 e))
 
 abbrev kind_of : Uid → Name
 kind_of u = u.kind

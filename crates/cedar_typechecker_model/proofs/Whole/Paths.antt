@@ -8,7 +8,7 @@ use Rattle.cedar_schema_model.specs.Whole.Types.{BoolType, any_bool, only_true, 
 use Rattle.cedar_schema_model.specs.Whole.Lookup.{lookup_attribute, may_have_attribute}
 use Rattle.cedar_typechecker_model.specs.Whole.Facts.{Facts, no_facts, fact, union, attribute_part}
 use Rattle.cedar_typechecker_model.specs.Whole.Rules.{Setting, has_type, has_field, get_type, attribute_type}
-use Rattle.cedar_typechecker_model.specs.Whole.Typing.{Judgement, plain, tested, conjoined, step_type, path_after, path_judged, and_judged, judgement}
+use Rattle.cedar_typechecker_model.specs.Whole.Typing.{Judgement, plain, tested, conjoined, step_type, path_judged, and_judged, judgement}
 use Rattle.cedar_typechecker_model.specs.Whole.Laws.{FactsAmong, path_unfolded}
 use Rattle.cedar_typechecker_model.proofs.Whole.Itself.{tree_same, bytes_same}
 use Rattle.cedar_typechecker_model.proofs.Whole.More.{more}
@@ -71,12 +71,8 @@ module _ (s : Setting) (known : Facts) (e : Tree) (a b : Text) (bs : List Text) 
 
     after_step : (left : BoolType) →
         option_and_then (λ r. conjoined left f r.type r.facts) (judgement s (union known f) (path_unfolded (get_attr e a) b bs))
-        ≡ option_and_then (λ t. option_and_then (λ r. conjoined left f r.type r.facts) (path_judged s b bs (get_attr e a) t)) (step_type s j.type a)
-    after_step left = ap (option_and_then (λ r. conjoined left f r.type r.facts)) (goes_on (lookup_attribute s.schema j.type a) refl) ∙ apart (step_type s j.type a)
-      where
-        apart : (o : Option Ty) → option_and_then (λ r. conjoined left f r.type r.facts) (option_and_then (path_judged s b bs (get_attr e a)) o) ≡ option_and_then (λ t. option_and_then (λ r. conjoined left f r.type r.facts) (path_judged s b bs (get_attr e a) t)) o
-        apart None = refl
-        apart (Some t) = refl
+        ≡ option_and_then (λ r. conjoined left f r.type r.facts) (option_and_then (path_judged s b bs (get_attr e a)) (step_type s j.type a))
+    after_step left = ap (option_and_then (λ r. conjoined left f r.type r.facts)) (goes_on (lookup_attribute s.schema j.type a) refl)
 
 -- a path of two steps or more, by its first test
 module _ (s : Setting) (known : Facts) (e : Tree) (a b : Text) (bs : List Text) (j : Judgement)
@@ -85,7 +81,7 @@ module _ (s : Setting) (known : Facts) (e : Tree) (a b : Text) (bs : List Text) 
   where
     by_first : (found : Option BoolType) → has_type s j.type a ≡ found →
         option_and_then (λ k. and_judged (λ f. judgement s (union known f) (path_unfolded (get_attr e a) b bs)) k.type k.facts) (option_map (tested e (attribute_part a)) found)
-        ≡ option_and_then (λ left. path_after (path_judged s b bs (get_attr e a)) (step_type s j.type a) (tested e (attribute_part a) left) left) found
+        ≡ option_and_then (λ k. and_judged (λ f. option_and_then (path_judged s b bs (get_attr e a)) (step_type s j.type a)) k.type k.facts) (option_map (tested e (attribute_part a)) found)
     by_first None q = refl
     by_first (Some only_false) q = refl
     by_first (Some any_bool) q = after_step s known e a b bs j (fact e (attribute_part a)) (typed _) (rest _) (λ d k. hold_right d.is_required _ (known_now known e a)) any_bool

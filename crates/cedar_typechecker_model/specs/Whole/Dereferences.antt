@@ -1,12 +1,12 @@
 -- The violations of an expression, and the count of a target, as relations: by the types that parts have.
 -- Rule: levels (docs/RULES.md).
-use Rattle.std.specs.Prelude.{◌≡◌, ◌+◌, ◌<◌, ℕ, zero, suc, max, List, [], ◌∷◌, Contains, Bool, true, false, Some, None}
+use Rattle.std.specs.Prelude.{◌≡◌, ◌+◌, ◌<◌, ℕ, max, nat_lt, List, [], ◌∷◌, Contains, Bool, true, false, Some, None, MatchBool}
 use Rattle.std.specs.Str.{bytes_eq}
 use Rattle.std.proofs.Common.{◌⊎◌}
 use Rattle.cedar_expr_model.specs.Name.{Text}
 use Rattle.cedar_expr_model.specs.Whole.Value.{Literal, entity}
 use Rattle.cedar_expr_model.specs.Whole.Table.{Table}
-use Rattle.cedar_expr_model.specs.Whole.Tree.{get_tag, Tree, lit, var, slot, unknown, choice, both, either, unary, binary, call, get_attr, has_attr, has_path, like, is_type, set_literal, record_literal, Trees, no_trees, tree, TreeFields, no_tree_fields, tree_field}
+use Rattle.cedar_expr_model.specs.Whole.Tree.{get_tag, Tree, lit, slot, choice, both, either, unary, binary, call, get_attr, has_attr, has_path, like, is_type, set_literal, record_literal, Trees, no_trees, tree, TreeFields, no_tree_fields, tree_field}
 use Rattle.cedar_store_model.specs.Whole.Policy.{Policy, condition}
 use Rattle.cedar_schema_model.specs.Whole.Types.{BoolType, only_true, only_false, Ty, bool_type, Mode}
 use Rattle.cedar_schema_model.specs.Whole.Schema.{Schema}
@@ -14,13 +14,9 @@ use Rattle.cedar_schema_model.specs.Whole.Environment.{Environment}
 use Rattle.cedar_typechecker_model.specs.Whole.Facts.{Facts, no_facts, union}
 use Rattle.cedar_typechecker_model.specs.Whole.Rules.{Setting}
 use Rattle.cedar_typechecker_model.specs.Whole.Typing.{Types}
-use Rattle.cedar_typechecker_model.specs.Whole.Levels.{Violation, needed, is_entity, steps_from_left, entity_steps, fields_before}
+use Rattle.cedar_typechecker_model.specs.Whole.Levels.{Violation, needed, is_entity, entity_steps, fields_before}
+use Rattle.cedar_store_model.specs.Whole.Looks.{looks_up}
 use Rattle.cedar_typechecker_model.specs.Whole.Verdicts.{policy_environments, in_mode}
-
--- the one where the test holds, else the other
-abbrev pub Where : Bool → Type 0 → Type 0 → Type 0
-Where true first second = first
-Where false first second = second
 
 -- where a part has a type that passes, what follows from it; where it has none, the other
 abbrev pub ByType : (Ty → Facts → Type 0) → (Ty → Bool) → (Ty → Type 0) → Type 0 → Type 0
@@ -57,10 +53,6 @@ Further more reached k = (j : ℕ) × reached j × (k ≡ j + more)
 abbrev pub is_entity_type : Ty → Bool
 is_entity_type t = is_entity (Some t)
 
-abbrev pub is_positive : ℕ → Bool
-is_positive zero = false
-is_positive (suc k) = true
-
 -- The count of a target: how far the entity lies that the fields of the path lead to from the expression.
 abbrev mutual
   pub Reaches : Setting → Facts → List Text → Tree → ℕ → Type 0
@@ -73,7 +65,7 @@ abbrev mutual
   pub ReachesByField : Setting → Facts → List Text → TreeFields → ℕ → Type 0
   ReachesByField s known path no_tree_fields = λ k. k ≡ 0
   ReachesByField s known [] (tree_field b e fs) = ReachesByField s known [] fs
-  ReachesByField s known (a ∷ path) (tree_field b e fs) = λ k. Where (bytes_eq a b) (Reaches s known path e k) (ReachesByField s known (a ∷ path) fs k)
+  ReachesByField s known (a ∷ path) (tree_field b e fs) = λ k. MatchBool (bytes_eq a b) (Reaches s known path e k) (ReachesByField s known (a ∷ path) fs k)
 
 -- Steps further from a target are too many for the level: a violation on the whole of the step, with the level that it needs.
 abbrev pub TooFar : ℕ → Tree → ℕ → (ℕ → Type 0) → Violation → Type 0
@@ -87,29 +79,26 @@ LiteralHas s p v = ⊥
 abbrev mutual
   -- This is a violation of the expression at the level.
   pub IsViolation : ℕ → Setting → Facts → Tree → Violation → Type 0
-  IsViolation n s known (lit p) v = ⊥
-  IsViolation n s known (var x) v = ⊥
-  IsViolation n s known (slot x) v = ⊥
-  IsViolation n s known (unknown m a) v = ⊥
   IsViolation n s known (choice t a b) v = IsViolation n s known t v ⊎ AfterTest (Types s known t) (λ f. IsViolation n s (union known f) a v) (IsViolation n s known b v)
   IsViolation n s known (both a b) v = IsViolation n s known a v ⊎ Behind (Types s known a) only_false (λ f. IsViolation n s (union known f) b v)
   IsViolation n s known (either a b) v = IsViolation n s known a v ⊎ Behind (Types s known a) only_true (λ f. IsViolation n s known b v)
   IsViolation n s known (unary o a) v = IsViolation n s known a v
   IsViolation n s known (binary o a b) v =
-      Where (steps_from_left o) (TooFar n (binary o a b) 1 (Reaches s known [] a) v ⊎ TargetHas n s known [] a v) (IsViolation n s known a v) ⊎ IsViolation n s known b v
+      MatchBool (looks_up o) (TooFar n (binary o a b) 1 (Reaches s known [] a) v ⊎ TargetHas n s known [] a v) (IsViolation n s known a v) ⊎ IsViolation n s known b v
   IsViolation n s known (call f ts) v = IsAmong n s known ts v
   IsViolation n s known (get_attr e a) v =
       ByType (Types s known e) is_entity_type (λ t. TooFar n (get_attr e a) 1 (Reaches s known [] e) v ⊎ TargetHas n s known [] e v) (IsViolation n s known e v)
   IsViolation n s known (has_attr e a) v =
       ByType (Types s known e) is_entity_type (λ t. TooFar n (has_attr e a) 1 (Reaches s known [] e) v ⊎ TargetHas n s known [] e v) (IsViolation n s known e v)
   IsViolation n s known (has_path e a bs) v =
-      ByType (Types s known e) (λ t. is_positive (entity_steps s a bs (Some t)))
+      ByType (Types s known e) (λ t. nat_lt 0 (entity_steps s a bs (Some t)))
       (λ t. TooFar n (has_path e a bs) (entity_steps s a bs (Some t)) (Reaches s known (fields_before s a bs (Some t)) e) v ⊎ TargetHas n s known (fields_before s a bs (Some t)) e v)
       (IsViolation n s known e v)
   IsViolation n s known (like e p) v = IsViolation n s known e v
   IsViolation n s known (is_type e m) v = IsViolation n s known e v
   IsViolation n s known (set_literal ts) v = IsAmong n s known ts v
   IsViolation n s known (record_literal fs) v = IsInFields n s known fs v
+  IsViolation n s known e v = ⊥
 
   pub IsAmong : ℕ → Setting → Facts → Trees → Violation → Type 0
   IsAmong n s known no_trees v = ⊥
@@ -133,7 +122,7 @@ abbrev mutual
   FieldsHave n s known path no_tree_fields v = ⊥
   FieldsHave n s known [] (tree_field b e fs) v = IsViolation n s known e v ⊎ FieldsHave n s known [] fs v
   FieldsHave n s known (a ∷ path) (tree_field b e fs) v =
-      Where (bytes_eq a b) (IsInFields n s known fs v ⊎ TargetHas n s known path e v) (IsViolation n s known e v ⊎ FieldsHave n s known (a ∷ path) fs v)
+      MatchBool (bytes_eq a b) (IsInFields n s known fs v ⊎ TargetHas n s known path e v) (IsViolation n s known e v ⊎ FieldsHave n s known (a ∷ path) fs v)
 
 -- A violation of a policy: one of its condition in an environment in which that has a type.
 abbrev pub IsPolicyViolation : Mode → ℕ → Schema → Table → Policy → Violation → Type 0

@@ -4,7 +4,7 @@ use Rattle.std.specs.Prelude.{◌&&◌, ◌||◌, Bool, false}
 use Rattle.std.specs.Str.{bytes_eq}
 use Rattle.cedar_expr_model.specs.Name.{Text}
 use Rattle.cedar_expr_model.specs.Whole.Tree.{Tree}
-use Rattle.cedar_expr_model.specs.Whole.Equality.{tree_eq}
+use Rattle.cedar_expr_model.specs.Whole.Shape.{tree_eq}
 
 -- what an expression has: an attribute, or the tag that an expression names
 pub data Part : Type 0 where

@@ -1,14 +1,16 @@
 -- How far an expression reaches into the store. Counts stand on the typed expression: what typing doesn't reach doesn't count.
 -- Rule: levels (docs/RULES.md).
-use Rattle.std.specs.Prelude.{◌+◌, ℕ, zero, suc, max, min, nat_le, List, [], ◌∷◌, ◌++◌, Bool, true, false, Option, Some, None, if◌then◌else◌}
+use Rattle.std.specs.Prelude.{◌+◌, ℕ, zero, suc, max, min, nat_le, List, [], ◌∷◌, ◌++◌, Bool, Option, Some, None, is_some, option_and_then, if◌then◌else◌}
+use Rattle.std.specs.Option.{option_map_or}
 use Rattle.std.specs.Str.{bytes_eq}
 use Rattle.cedar_expr_model.specs.Name.{Text}
 use Rattle.cedar_expr_model.specs.Uid.{uid_eq}
 use Rattle.cedar_expr_model.specs.Whole.Value.{Literal, entity}
-use Rattle.cedar_expr_model.specs.Whole.Tree.{BinaryOp, is_in, get_tag, has_tag, Tree, lit, var, slot, unknown, choice, both, either, unary, binary, call, get_attr, has_attr, has_path, like, is_type, set_literal, record_literal, Trees, no_trees, tree, TreeFields, no_tree_fields, tree_field}
-use Rattle.cedar_schema_model.specs.Whole.Types.{only_true, only_false, Ty, bool_type, any_entity, entity_types}
+use Rattle.cedar_expr_model.specs.Whole.Tree.{get_tag, Tree, lit, slot, choice, both, either, unary, binary, call, get_attr, has_attr, has_path, like, is_type, set_literal, record_literal, Trees, no_trees, tree, TreeFields, no_tree_fields, tree_field}
+use Rattle.cedar_schema_model.specs.Whole.Types.{only_true, only_false, Ty, bool_type}
 use Rattle.cedar_typechecker_model.specs.Whole.Facts.{Facts, union}
-use Rattle.cedar_typechecker_model.specs.Whole.Rules.{Setting}
+use Rattle.cedar_typechecker_model.specs.Whole.Rules.{Setting, entity_kinds}
+use Rattle.cedar_store_model.specs.Whole.Looks.{looks_up}
 use Rattle.cedar_typechecker_model.specs.Whole.Typing.{Judgement, judgement, type_under, step_type}
 
 -- Where an expression reaches too far, and the level that it needs; none where a literal or a slot is reached from.
@@ -40,9 +42,7 @@ abbrev pub stepped : ℕ → Tree → Count → List Violation
 stepped n e c = if nat_le c.steps n then c.found else (record { at = e; required = Some (needed c.steps) } ∷ c.found)
 
 abbrev pub is_entity : Option Ty → Bool
-is_entity (Some any_entity) = true
-is_entity (Some (entity_types ns)) = true
-is_entity t = false
+is_entity t = is_some (option_and_then entity_kinds t)
 
 -- a uid that is reached from must be the action of the environment
 abbrev pub literal_count : Setting → Literal → Count
@@ -65,34 +65,26 @@ branches join t a b = join a b
 
 -- the right side of a conjunction, under the facts of the left
 abbrev pub after_and : Option Judgement → (Facts → List Violation) → List Violation
-after_and None right = []
-after_and (Some j) right = unless_false j.type (right j.facts)
+after_and left right = option_map_or (λ j. unless_false j.type (right j.facts)) left []
 
 abbrev pub after_or : Option Judgement → List Violation → List Violation
-after_or None right = []
-after_or (Some j) right = unless_true j.type right
+after_or left right = option_map_or (λ j. unless_true j.type right) left []
 
 abbrev pub after_test : Option Judgement → (Facts → List Violation) → List Violation → List Violation
-after_test None first second = []
-after_test (Some j) first second = branches (λ vs ws. vs ++ ws) j.type (first j.facts) second
+after_test test first second = option_map_or (λ j. branches (λ vs ws. vs ++ ws) j.type (first j.facts) second) test []
 
 -- the greater count of two branches
 abbrev pub greater : Count → Count → Count
 greater c d = count (max c.steps d.steps) (c.found ++ d.found)
 
 abbrev pub target_after_test : Option Judgement → (Facts → Count) → Count → Count
-target_after_test None first second = count 0 []
-target_after_test (Some j) first second = branches greater j.type (first j.facts) second
-
-abbrev pub one_if : Bool → ℕ
-one_if true = 1
-one_if false = 0
+target_after_test test first second = option_map_or (λ j. branches greater j.type (first j.facts) second) test (count 0 [])
 
 -- The steps of a path that stand on an entity. The first test of type False asks for what isn't declared, and ends the path.
 abbrev pub entity_steps : Setting → Text → List Text → Option Ty → ℕ
 entity_steps s a bs None = 0
-entity_steps s a [] (Some t) = one_if (is_entity (Some t))
-entity_steps s a (b ∷ bs) (Some t) = one_if (is_entity (Some t)) + entity_steps s b bs (step_type s t a)
+entity_steps s a [] (Some t) = if is_entity (Some t) then 1 else 0
+entity_steps s a (b ∷ bs) (Some t) = (if is_entity (Some t) then 1 else 0) + entity_steps s b bs (step_type s t a)
 
 -- the fields of records by which a path reaches its first entity
 abbrev pub fields_before : Setting → Text → List Text → Option Ty → List Text
@@ -105,13 +97,6 @@ abbrev pub path_violations : ℕ → Tree → ℕ → Count → List Violation �
 path_violations n e zero target inside = inside
 path_violations n e (suc k) target inside = stepped n e (further (suc k) target)
 
--- an operator of two operands: `in` and tags step from the left one
-abbrev pub steps_from_left : BinaryOp → Bool
-steps_from_left is_in = true
-steps_from_left get_tag = true
-steps_from_left has_tag = true
-steps_from_left o = false
-
 -- whether an attribute of this type's part is a step into the store
 abbrev pub on_entity : Setting → Facts → Tree → Bool
 on_entity s known e = is_entity (type_under s known e)
@@ -119,17 +104,13 @@ on_entity s known e = is_entity (type_under s known e)
 abbrev mutual
   -- The violations of an expression at a level.
   pub violations : ℕ → Setting → Facts → Tree → List Violation
-  violations n s known (lit p) = []
-  violations n s known (var x) = []
-  violations n s known (slot x) = []
-  violations n s known (unknown m a) = []
   violations n s known (choice t a b) =
       violations n s known t ++ after_test (judgement s known t) (λ f. violations n s (union known f) a) (violations n s known b)
   violations n s known (both a b) = violations n s known a ++ after_and (judgement s known a) (λ f. violations n s (union known f) b)
   violations n s known (either a b) = violations n s known a ++ after_or (judgement s known a) (violations n s known b)
   violations n s known (unary o a) = violations n s known a
   violations n s known (binary o a b) =
-      (if steps_from_left o then stepped n (binary o a b) (further 1 (target n s known [] a)) else violations n s known a) ++ violations n s known b
+      (if looks_up o then stepped n (binary o a b) (further 1 (target n s known [] a)) else violations n s known a) ++ violations n s known b
   violations n s known (call f ts) = violations_among n s known ts
   violations n s known (get_attr e a) = if on_entity s known e then stepped n (get_attr e a) (further 1 (target n s known [] e)) else violations n s known e
   violations n s known (has_attr e a) = if on_entity s known e then stepped n (has_attr e a) (further 1 (target n s known [] e)) else violations n s known e
@@ -139,6 +120,7 @@ abbrev mutual
   violations n s known (is_type e m) = violations n s known e
   violations n s known (set_literal ts) = violations_among n s known ts
   violations n s known (record_literal fs) = violations_in_fields n s known fs
+  violations n s known e = []
 
   pub violations_among : ℕ → Setting → Facts → Trees → List Violation
   violations_among n s known no_trees = []

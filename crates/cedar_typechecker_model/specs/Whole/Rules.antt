@@ -1,11 +1,14 @@
 -- The rules of typing for each kind, on the types of the parts. Where no clause says otherwise there is no type.
 -- Rule: typing (docs/RULES.md).
-use Rattle.std.specs.Prelude.{◌&&◌, ◌||◌, List, [], ◌∷◌, length, map, Bool, true, false, not, Option, Some, None, option_map, option_and_then, if◌then◌else◌}
+use Rattle.std.specs.Prelude.{◌&&◌, ◌||◌, List, [], ◌∷◌, length, Bool, true, false, not, Option, Some, None, is_some, option_map, option_and_then, if◌then◌else◌}
+use Rattle.std.specs.Option.{option_map_or}
 use Rattle.std.specs.List.{list_all, list_any}
 use Rattle.cedar_expr_model.specs.Name.{Text, Name, name_eq}
 use Rattle.cedar_expr_model.specs.Uid.{Uid, uid_eq}
 use Rattle.cedar_expr_model.specs.Whole.Value.{Literal, truth, long, text, entity}
-use Rattle.cedar_expr_model.specs.Whole.Tree.{Var, principal, action, resource, context, SlotId, principal_slot, resource_slot, CoreType, bool_core, long_core, string_core, extension_core, UnaryOp, negation, minus, is_empty, BinaryOp, equal, less, less_or_equal, plus, difference, times, is_in, contains, contains_all, contains_any, get_tag, has_tag, Tree, lit, var, set_literal, Trees, no_trees, tree}
+use Rattle.cedar_expr_model.specs.Whole.Tree.{Var, principal, action, resource, context, SlotId, principal_slot, resource_slot, CoreType, bool_core, long_core, string_core, extension_core, UnaryOp, negation, minus, is_empty, BinaryOp, equal, less, less_or_equal, plus, difference, times, is_in, contains, contains_all, contains_any, Tree, lit, var, set_literal, Trees, no_trees, tree}
+use Rattle.cedar_expr_model.specs.Whole.Lists.{all_given}
+use Rattle.cedar_expr_model.specs.Whole.Parts.{uid_here, listed}
 use Rattle.cedar_expr_model.specs.Whole.Table.{Table, Signature, signature_of, is_ordered, takes_count, is_constructor}
 use Rattle.cedar_schema_model.specs.Whole.Types.{BoolType, any_bool, only_true, only_false, Openness, is_open, is_closed, Ty, never, bool_type, long_type, string_type, any_entity, entity_types, any_set, set_type, record_type, extension_type, entity_type, Declared, attribute_named, Mode, strict, permissive}
 use Rattle.cedar_schema_model.specs.Whole.Schema.{Schema, EntityKind, standard, type_named, declares_type, declares_action}
@@ -48,13 +51,9 @@ var_type s resource = entity_type s.env.resource
 var_type s context = record_type s.env.context is_closed
 
 -- A slot has the environment's type, or that of any entity where the environment has none.
-abbrev pub bound_type : Option Name → Ty
-bound_type None = any_entity
-bound_type (Some n) = entity_type n
-
 abbrev pub slot_type : Setting → SlotId → Ty
-slot_type s principal_slot = bound_type s.env.principal_slot
-slot_type s resource_slot = bound_type s.env.resource_slot
+slot_type s principal_slot = option_map_or entity_type s.env.principal_slot any_entity
+slot_type s resource_slot = option_map_or entity_type s.env.resource_slot any_entity
 
 abbrev pub negated : BoolType → BoolType
 negated only_true = only_false
@@ -71,9 +70,8 @@ unary_type o t = None
 
 -- The uid that an expression writes; `action` writes the environment's.
 abbrev pub written_uid : Setting → Tree → Option Uid
-written_uid s (lit (entity u)) = Some u
 written_uid s (var action) = Some s.env.action
-written_uid s t = None
+written_uid s t = uid_here t
 
 -- types that join, in Strict; in Permissive any
 abbrev pub comparable : Mode → Ty → Ty → Option Ty
@@ -113,46 +111,36 @@ is_set_type t = false
 abbrev pub sets_type : Setting → Ty → Ty → Option Ty
 sets_type s t u = if is_set_type t && is_set_type u then if_there (join s.mode t u) else None
 
--- the entity types of an entity, or of the members of a set of entities; none for any others, and no list for any entity
-pub data Kinds : Type 0 where
-  some_kinds : List Name → Kinds
-  any_kind : Kinds
-
-abbrev pub entity_kinds : Ty → Option Kinds
-entity_kinds any_entity = Some any_kind
-entity_kinds (entity_types ns) = Some (some_kinds ns)
+-- the entity types of an entity, or of the members of a set of entities: no list for any entity, and nothing for any others
+abbrev pub entity_kinds : Ty → Option (Option (List Name))
+entity_kinds any_entity = Some None
+entity_kinds (entity_types ns) = Some (Some ns)
 entity_kinds t = None
 
-abbrev pub entity_or_set_kinds : Ty → Option Kinds
-entity_or_set_kinds (set_type never) = Some (some_kinds [])
+abbrev pub entity_or_set_kinds : Ty → Option (Option (List Name))
+entity_or_set_kinds (set_type never) = Some (Some [])
 entity_or_set_kinds (set_type t) = entity_kinds t
 entity_or_set_kinds t = entity_kinds t
 
 -- an entity of the first may be one of the second, or in one
-abbrev pub may_be_in : Schema → Kinds → Kinds → Bool
-may_be_in s (some_kinds ms) (some_kinds ns) = list_any (λ m. list_any (λ n. name_eq m n || type_descends s m n) ns) ms
+abbrev pub may_be_in : Schema → Option (List Name) → Option (List Name) → Bool
+may_be_in s (Some ms) (Some ns) = list_any (λ m. list_any (λ n. name_eq m n || type_descends s m n) ns) ms
 may_be_in s k l = true
 
--- the declared action that an expression writes
-abbrev pub written_action : Setting → Tree → Option Uid
-written_action s (lit (entity u)) = if declares_action s.schema u then Some u else None
-written_action s (var action) = Some s.env.action
-written_action s t = None
-
+-- the declared action that a literal, and that an expression, writes
 abbrev pub action_literal : Setting → Tree → Option Uid
-action_literal s (lit (entity u)) = if declares_action s.schema u then Some u else None
-action_literal s t = None
+action_literal s t = option_and_then (λ u. if declares_action s.schema u then Some u else None) (uid_here t)
 
-abbrev pub action_literals : Setting → Trees → Option (List Uid)
-action_literals s no_trees = Some []
-action_literals s (tree t ts) = option_and_then (λ u. option_map (λ us. u ∷ us) (action_literals s ts)) (action_literal s t)
+abbrev pub written_action : Setting → Tree → Option Uid
+written_action s (var action) = Some s.env.action
+written_action s t = action_literal s t
 
 -- the declared actions that a literal, or a set of literals, writes
 abbrev pub written_actions : Setting → Tree → Option (List Uid)
-written_actions s (set_literal ts) = action_literals s ts
+written_actions s (set_literal ts) = all_given (action_literal s) (listed ts)
 written_actions s t = option_map (λ u. u ∷ []) (action_literal s t)
 
-abbrev pub within_kinds : Setting → Option Uid → Option (List Uid) → Kinds → Kinds → Ty
+abbrev pub within_kinds : Setting → Option Uid → Option (List Uid) → Option (List Name) → Option (List Name) → Ty
 within_kinds s (Some u) (Some us) k l = bool_type (known_truth (list_any (λ v. uid_eq u v || action_descends s.schema u v) us))
 within_kinds s u us k l = bool_type (if may_be_in s.schema k l then any_bool else only_false)
 
@@ -172,8 +160,7 @@ binary_type s is_in a b t u = in_type s a b t u
 binary_type s contains a b t u = member_type s t u
 binary_type s contains_all a b t u = sets_type s t u
 binary_type s contains_any a b t u = sets_type s t u
-binary_type s get_tag a b t u = None
-binary_type s has_tag a b t u = None
+binary_type s o a b t u = None
 
 abbrev pub like_type : Ty → Option Ty
 like_type string_type = truth_type
@@ -195,19 +182,13 @@ has_field o (Some d) = if d.is_required then only_true else any_bool
 has_field is_open None = any_bool
 has_field is_closed None = only_false
 
-abbrev pub may_have : Setting → Ty → Text → BoolType
-may_have s t a = if may_have_attribute s.schema t a then any_bool else only_false
-
 abbrev pub has_type : Setting → Ty → Text → Option BoolType
 has_type s (record_type as_ o) a = Some (has_field o (attribute_named a as_))
-has_type s any_entity a = Some any_bool
-has_type s (entity_types ns) a = Some (may_have s (entity_types ns) a)
-has_type s t a = None
+has_type s t a = option_map (λ k. if may_have_attribute s.schema t a then any_bool else only_false) (entity_kinds t)
 
 -- an attribute that is declared and required, or known to be there
 abbrev pub attribute_type : Bool → Option Declared → Option Ty
-attribute_type is_known None = None
-attribute_type is_known (Some d) = if d.is_required || is_known then Some d.type else None
+attribute_type is_known declared = option_and_then (λ d. if d.is_required || is_known then Some d.type else None) declared
 
 abbrev pub get_type : Setting → Facts → Tree → Ty → Text → Option Ty
 get_type s known e t a = attribute_type (known e (attribute_part a)) (lookup_attribute s.schema t a)
@@ -220,24 +201,15 @@ kind_tags k = None
 abbrev pub tags_of : Schema → Name → Option Ty
 tags_of s n = option_and_then (λ e. kind_tags e.kind) (type_named s n)
 
--- the types, where each of these has one
-abbrev pub all_there : {A : Type 0} → List (Option A) → Option (List A)
-all_there [] = Some []
-all_there (o ∷ os) = option_and_then (λ a. option_map (λ as_. a ∷ as_) (all_there os)) o
-
 -- the type of a tag of an entity: of several entity types the join of theirs
 abbrev pub tag_type : Setting → Ty → Option Ty
-tag_type s (entity_types ns) = option_and_then (reduce_to_join permissive) (all_there (map (tags_of s.schema) ns))
+tag_type s (entity_types ns) = option_and_then (reduce_to_join permissive) (all_given (tags_of s.schema) ns)
 tag_type s t = None
-
-abbrev pub is_there : {A : Type 0} → Option A → Bool
-is_there None = false
-is_there (Some a) = true
 
 -- whether an entity may have tags
 abbrev pub may_have_tags : Setting → Ty → Bool
 may_have_tags s any_entity = true
-may_have_tags s (entity_types ns) = list_any (λ n. is_there (tags_of s.schema n)) ns
+may_have_tags s (entity_types ns) = list_any (λ n. is_some (tags_of s.schema n)) ns
 may_have_tags s t = false
 
 abbrev pub is_string_type : Ty → Bool
@@ -279,12 +251,9 @@ abbrev pub takes_literal : Mode → Signature → Trees → Bool
 takes_literal strict f ts = not (is_constructor f) || is_text_literal ts
 takes_literal permissive f ts = true
 
-abbrev pub result_type : Signature → Option Ty
-result_type f = option_and_then core_as_type f.result
-
 -- a call of a function whose types may be typed, with right arguments, has the type of its result
 abbrev pub signature_type : Setting → Trees → List Ty → Signature → Option Ty
-signature_type s es ts f = option_and_then (λ ps. if takes_count f (length ts) && (arguments_fit ps ts && takes_literal s.mode f es) then result_type f else None) (all_there (map core_as_type f.parameters))
+signature_type s es ts f = option_and_then (λ ps. if takes_count f (length ts) && (arguments_fit ps ts && takes_literal s.mode f es) then option_and_then core_as_type f.result else None) (all_given core_as_type f.parameters)
 
 abbrev pub call_type : Setting → Name → Trees → List Ty → Option Ty
 call_type s f es ts = option_and_then (signature_type s es ts) (signature_of s.table f)

@@ -1,6 +1,7 @@
 -- The scope rules: what a policy names anywhere, also where typing doesn't reach, is declared.
 -- Rule: the scope rules (docs/RULES.md).
-use Rattle.std.specs.Prelude.{◌≡◌, ◌||◌, List, [], ◌∷◌, ◌++◌, map, Contains, Bool, true, not, Option, Some, None}
+use Rattle.std.specs.Prelude.{◌≡◌, ◌||◌, List, ◌++◌, map, Contains, Bool, true, not, Option, Some, None, option_to_list}
+use Rattle.std.specs.Option.{option_map_or}
 use Rattle.std.specs.List.{list_all, list_any, filter_map}
 use Rattle.std.proofs.Common.{◌⊎◌}
 use Rattle.std.specs.Str.{bytes_eq}
@@ -8,16 +9,12 @@ use Rattle.cedar_expr_model.specs.Name.{Text, Name, name_eq}
 use Rattle.cedar_expr_model.specs.Uid.{Uid}
 use Rattle.cedar_expr_model.specs.Whole.Value.{entity}
 use Rattle.cedar_expr_model.specs.Whole.Tree.{Tree, lit, is_type}
-use Rattle.cedar_expr_model.specs.Whole.Parts.{subexpressions}
+use Rattle.cedar_expr_model.specs.Whole.Parts.{subexpressions, uid_here}
 use Rattle.cedar_store_model.specs.Whole.Policy.{Policy, condition}
-use Rattle.cedar_schema_model.specs.Whole.Schema.{Schema, EntityType, EntityKind, enumerated, type_named, declares_type, declares_action}
+use Rattle.cedar_schema_model.specs.Whole.Schema.{Schema, EntityKind, enumerated, type_named, declares_type, declares_action}
 use Rattle.cedar_schema_model.specs.Whole.Descent.{action_uids}
 
--- the uid, and the entity type of an `is` test, that an expression is or asks for by itself
-abbrev pub uid_here : Tree → Option Uid
-uid_here (lit (entity u)) = Some u
-uid_here t = None
-
+-- the entity type that an expression asks for by itself
 abbrev pub kind_here : Tree → Option Name
 kind_here (is_type e n) = Some n
 kind_here t = None
@@ -29,13 +26,9 @@ uids_of t = filter_map uid_here (subexpressions t)
 abbrev pub kinds_of : Tree → List Name
 kinds_of t = filter_map kind_here (subexpressions t)
 
-abbrev pub bound_uid : Option Uid → List Uid
-bound_uid None = []
-bound_uid (Some u) = u ∷ []
-
 -- the uids that a policy names: in its scope, in its body, and as the values of its slots
 abbrev pub policy_uids : Policy → List Uid
-policy_uids p = uids_of (condition p) ++ (bound_uid p.bindings.principal ++ bound_uid p.bindings.resource)
+policy_uids p = uids_of (condition p) ++ (option_to_list p.bindings.principal ++ option_to_list p.bindings.resource)
 
 -- the entity types that a policy names: those of its uids and of its `is` tests
 abbrev pub policy_kinds : Policy → List Name
@@ -57,13 +50,9 @@ abbrev pub has_id : EntityKind → Text → Bool
 has_id (enumerated ids) id = list_any (bytes_eq id) ids
 has_id k id = true
 
-abbrev pub is_id_of : Option EntityType → Text → Bool
-is_id_of None id = true
-is_id_of (Some t) id = has_id t.kind id
-
 -- a uid of an enumerated type is a declared member of it
 abbrev pub is_no_unknown_member : Schema → Uid → Bool
-is_no_unknown_member s u = is_id_of (type_named s u.kind) u.id
+is_no_unknown_member s u = option_map_or (λ t. has_id t.kind u.id) (type_named s u.kind) true
 
 -- The policy names the uid: it stands in the scope or the body, or a slot is bound to it.
 abbrev pub NamesUid : Policy → Uid → Type 0

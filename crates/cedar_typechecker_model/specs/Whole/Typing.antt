@@ -49,16 +49,17 @@ chosen s t f u g = option_map (λ j. record { type = j; facts = intersection f g
 abbrev pub step_type : Setting → Ty → Text → Option Ty
 step_type s t a = option_map (λ d. d.type) (lookup_attribute s.schema t a)
 
--- what follows a step of a path: nothing where the step is False
-abbrev pub path_after : (Ty → Option Judgement) → Option Ty → Judgement → BoolType → Option Judgement
-path_after rest found j only_false = Some j
-path_after rest found j left = option_and_then (λ t. option_and_then (λ r. conjoined left j.facts r.type r.facts) (rest t)) found
+-- a conjunction by the type of its left side: behind False the right side isn't typed
+abbrev pub and_judged : (Facts → Option Judgement) → Ty → Facts → Option Judgement
+and_judged right (bool_type only_false) f = judged (bool_type only_false) no_facts
+and_judged right (bool_type left) f = option_and_then (λ r. conjoined left f r.type r.facts) (right f)
+and_judged right t f = None
 
--- A path of attributes from an expression of this type, as the conjunction of its tests: it ends at the first that is False.
+-- A path of attributes from an expression of this type, as the conjunction of its tests.
 abbrev pub path_judged : Setting → Text → List Text → Tree → Ty → Option Judgement
 path_judged s a [] e t = option_map (tested e (attribute_part a)) (has_type s t a)
 path_judged s a (b ∷ bs) e t =
-    option_and_then (λ left. path_after (path_judged s b bs (get_attr e a)) (step_type s t a) (tested e (attribute_part a) left) left) (has_type s t a)
+    option_and_then (λ j. and_judged (λ f. option_and_then (path_judged s b bs (get_attr e a)) (step_type s t a)) j.type j.facts) (option_map (tested e (attribute_part a)) (has_type s t a))
 
 -- a tag, or the test of one; another operator of two operands
 abbrev pub binary_judged : Setting → Facts → BinaryOp → Tree → Tree → Ty → Ty → Option Judgement
@@ -126,11 +127,6 @@ abbrev mutual
   FieldsTyped s known (tree_field a e fs) as_ = (t : Ty) × (f : Facts) × Types s known e t f × (bs : Attributes) × FieldsTyped s known fs bs × (as_ ≡ attribute a t true bs)
 
 -- The same as functions.
-abbrev pub and_judged : (Facts → Option Judgement) → Ty → Facts → Option Judgement
-and_judged right (bool_type only_false) f = judged (bool_type only_false) no_facts
-and_judged right (bool_type left) f = option_and_then (λ r. conjoined left f r.type r.facts) (right f)
-and_judged right t f = None
-
 abbrev pub or_judged : Option Judgement → Ty → Facts → Option Judgement
 or_judged right (bool_type only_true) f = judged (bool_type only_true) f
 or_judged right (bool_type left) f = option_and_then (λ r. disjoined left f r.type r.facts) right

@@ -1,6 +1,7 @@
 -- What typing and levels say of a policy over its environments.
 -- Rule: the acceptance rules; impossible policies; levels (docs/RULES.md).
 use Rattle.std.specs.Prelude.{◌≡◌, ◌&&◌, ℕ, List, [], Contains, Bool, true, false, Option, Some, None}
+use Rattle.std.specs.Option.{option_map_or}
 use Rattle.std.specs.List.{list_all, flat_map, filter}
 use Rattle.cedar_expr_model.specs.Name.{Name, name_eq}
 use Rattle.cedar_expr_model.specs.Uid.{Uid, uid_eq}
@@ -59,8 +60,7 @@ IsWarned m s x p = (e : Environment) → Contains (policy_environments s p) e �
 -- the slot of the environment, if it has one, has the type of the uid that is bound to it
 abbrev pub fits_slot : Option Name → Option Uid → Bool
 fits_slot None b = true
-fits_slot (Some n) None = false
-fits_slot (Some n) (Some u) = name_eq n u.kind
+fits_slot (Some n) b = option_map_or (λ u. name_eq n u.kind) b false
 
 -- the environment fits the bindings of the policy
 abbrev pub fits : Policy → Environment → Bool
@@ -130,15 +130,10 @@ impossible s x p = list_all (λ e. is_false (condition_type s x p e)) (filter (f
 abbrev pub irrelevant_for : Schema → Table → RequestType → Policy → Bool
 irrelevant_for s x r p = list_all (λ e. is_false (condition_type s x p e)) (filter (is_of_request r) (filter (fits p) (policy_environments s p)))
 
--- nothing of an expression without a type
-abbrev pub if_typed : {A : Type 0} → Option Ty → List A → List A
-if_typed None vs = []
-if_typed (Some t) vs = vs
-
 -- the violations of a policy at a level, in the environments in which its condition has a type; in one of the two ways of
 -- typing, and at the gate
 abbrev pub violations_in : Mode → ℕ → Schema → Table → Policy → Environment → List Violation
-violations_in m n s x p e = if_typed (type_of (in_mode m s x e) (condition p)) (violations n (in_mode m s x e) no_facts (condition p))
+violations_in m n s x p e = option_map_or (λ _. violations n (in_mode m s x e) no_facts (condition p)) (type_of (in_mode m s x e) (condition p)) []
 
 abbrev pub policy_violations_in : Mode → ℕ → Schema → Table → Policy → List Violation
 policy_violations_in m n s x p = flat_map (violations_in m n s x p) (policy_environments s p)

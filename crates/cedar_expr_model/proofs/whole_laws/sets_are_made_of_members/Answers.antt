@@ -1,4 +1,4 @@
-use Rattle.cedar_expr_model.proofs.Whole.Sets.{made_rises, made_canonical, made_Decides, made_same, made_of_rising, canonical_rises}
+use Rattle.cedar_expr_model.proofs.Whole.Sets.{made_rises, made_canonical, made_Decides, made_same, made_of_rising}
 use Rattle.cedar_expr_model.proofs.Whole.Rising.{member_Decides}
 use Rattle.cedar_expr_model.proofs.whole_laws.sets_are_made_of_members.Goals as goal
 
@@ -18,4 +18,4 @@ pub returns-clause-same : goal.returns-clause-same
 returns-clause-same c = made_same
 
 pub returns-clause-again : goal.returns-clause-again
-returns-clause-again c = λ vs h. made_of_rising vs (canonical_rises vs h)
+returns-clause-again c = made_of_rising

@@ -1,5 +1,5 @@
 -- The test of a submission decides whether it is accepted, and what its clauses say.
-use Rattle.std.proofs.Common.{◌≡◌, ◌↔◌, ◌≤◌, ℕ, Bool, true, false, ◌&&◌, ◌||◌, not, List, [], ◌∷◌, Option, Some, None, refl, subst, arith, nat_le, is_some}
+use Rattle.std.proofs.Common.{◌≡◌, ◌↔◌, ◌≤◌, ℕ, Bool, true, false, ◌&&◌, ◌||◌, not, List, [], ◌∷◌, refl, subst, arith, nat_le, is_some}
 use Rattle.std.specs.Prelude.{Contains}
 use Rattle.std.specs.Bool.{Decides}
 use Rattle.std.specs.Str.{bytes_eq}
@@ -10,18 +10,18 @@ use Rattle.cedar_expr_model.specs.Name.{Text}
 use Rattle.cedar_expr_model.specs.Whole.Tree.{SlotId, principal_slot, resource_slot, nesting}
 use Rattle.cedar_expr_model.specs.Whole.Unknowns.{has_unknown}
 use Rattle.cedar_expr_model.proofs.Lists.{both_hold, hold_both, contains_head, contains_tail, contains_none, filter_has, filter_only, all_each, all_from, map_has, map_from}
-use Rattle.cedar_store_model.specs.Whole.Policy.{Policy, binding_of, body_tree, condition, tree_uses, has_slot}
-use Rattle.cedar_store_model.specs.Whole.Knowledge.{IsThere}
+use Rattle.cedar_store_model.specs.Whole.Policy.{Policy, binding_of, body_tree, condition, tree_uses, has_slot, all_slots}
 use Rattle.cedar_store_model.specs.Whole.Answer.{ids}
 use Rattle.cedar_schema_model.specs.Whole.WellFormed.{ill_forms, unresolved_external, has_schema_fault, well_formed}
-use Rattle.cedar_schema_model.proofs.Whole.Decls.Faults.{has_twice-Decides, schema_fault-Decides, no_schema_fault, well_formed-Decides}
+use Rattle.cedar_schema_model.proofs.Whole.Decls.Faults.{repeated-Decides, schema_fault-Decides, no_schema_fault, well_formed-Decides}
 use Rattle.cedar_typechecker_model.specs.Whole.ScopeRules.{names_known_types, names_known_actions, names_known_members}
 use Rattle.cedar_typechecker_model.specs.Whole.Verdicts.{RequestType, passes, IsImpossible, impossible, IsIrrelevant, irrelevant_for, policy_violations}
 use Rattle.cedar_schema_model.specs.Whole.Types.{strict}
 use Rattle.cedar_typechecker_model.proofs.Whole.Verdicts.{passes-Decides, impossible-Decides, irrelevant-Decides}
 use Rattle.cedar_typechecker_model.proofs.Whole.Naming.{known_types-Decides, known_actions-Decides, known_members-Decides}
-use Rattle.cedar_gate_model.specs.Whole.Acceptance.{Submission, Cause, schema, external, repeated_policy, unlinked_slot, slot_outside_scope, unknown_in_policy, nests_too_deep, unknown_entity_type, unknown_action, no_member, ill_typed, reaches_too_far, extension_types, schema_in, all_slots, is_linked, keeps_slots_in_scope, is_nil, is_clear_of, IsCause, IsAccepted, HasFault, policy_causes, admits, warnings_of, policies_for}
-use Rattle.cedar_gate_model.specs.Whole.GateLaws.{IsGoodPolicy, FitsSchema, IsGood}
+use Rattle.cedar_expr_model.specs.Whole.Lists.{is_nil}
+use Rattle.cedar_gate_model.specs.Whole.Acceptance.{Submission, Cause, schema, external, repeated_policy, unlinked_slot, slot_outside_scope, unknown_in_policy, nests_too_deep, unknown_entity_type, unknown_action, no_member, ill_typed, reaches_too_far, extension_types, schema_in, is_linked, keeps_slots_in_scope, is_clear_of, IsCause, IsAccepted, HasFault, warnings_of, policies_for}
+use Rattle.cedar_gate_model.specs.Whole.GateLaws.{IsGoodPolicy, FitsSchema, IsGood, policy_causes, admits}
 
 -- the causes that aren't faults of declarations
 is_of_policies : Cause → Bool
@@ -150,14 +150,6 @@ not_or : (a b : Bool) → (a ≡ true → b ≡ true) → (not a || b) ≡ true
 not_or true b h = h refl
 not_or false b h = refl
 
-is_there : {A : Type 0} (o : Option A) → is_some o ≡ true → IsThere o
-is_there None e = cc
-is_there (Some a) e = tt
-
-there_is : {A : Type 0} (o : Option A) → IsThere o → is_some o ≡ true
-there_is None h = absurd h
-there_is (Some a) h = refl
-
 slot_listed : (x : SlotId) → Contains all_slots x
 slot_listed principal_slot = (0, omega arith, refl)
 slot_listed resource_slot = (1, omega arith, refl)
@@ -178,7 +170,7 @@ is_le m n e = le-leb m n e
 
 good_policy : (s : Submission) → IsAccepted s → (p : Policy) → Contains s.policies p → IsGoodPolicy s.limit p
 good_policy s h p k = record {
-  linked = λ x u. is_there (binding_of p.bindings x) (one_of_both (has_slot p x) _ (all_each (λ x. not (has_slot p x) || is_some (binding_of p.bindings x)) all_slots (all_each is_linked s.policies (h unlinked_slot tt) p k) x (slot_listed x)) u);
+  linked = λ x u. (one_of_both (has_slot p x) _ (all_each (λ x. not (has_slot p x) || is_some (binding_of p.bindings x)) all_slots (all_each is_linked s.policies (h unlinked_slot tt) p k) x (slot_listed x)) u);
   in_scope = λ x. isnt _ (all_each (λ x. not (tree_uses (body_tree p.body) x)) all_slots (all_each keeps_slots_in_scope s.policies (h slot_outside_scope tt) p k) x (slot_listed x));
   known = isnt _ (all_each (λ (p : Policy). not (has_unknown (condition p))) s.policies (h unknown_in_policy tt) p k);
   shallow = le_is (nesting (condition p)) s.limit (all_each (λ (p : Policy). nat_le (nesting (condition p)) s.limit) s.policies (h nests_too_deep tt) p k);
@@ -197,7 +189,7 @@ accepted_good : (s : Submission) → IsAccepted s → IsGood s
 accepted_good s h = record {
   well_formed = (well_formed-Decides (extension_types s.table) s.declarations).0 (all_from (λ f. not (has_schema_fault (extension_types s.table) s.declarations f)) ill_forms (λ f k. h (schema f) k));
   resolved = not_there _ _ (schema_fault-Decides (extension_types s.table) s.declarations unresolved_external) (h external tt);
-  distinct = not_there _ _ (has_twice-Decides bytes_eq bytes_eq-Decides (ids s.policies)) (h repeated_policy tt);
+  distinct = not_there _ _ (repeated-Decides bytes_eq bytes_eq-Decides (ids s.policies)) (h repeated_policy tt);
   each = good_policy s h;
   fits = fits_schema s h;
 }
@@ -208,8 +200,8 @@ good_accepted s g c k = by_kind c k
     by_kind : (c : Cause) → IsCause c → is_clear_of c s ≡ true
     by_kind (schema f) k = there_not _ _ (schema_fault-Decides (extension_types s.table) s.declarations f) (no_schema_fault (extension_types s.table) s.declarations g.well_formed f k)
     by_kind external k = there_not _ _ (schema_fault-Decides (extension_types s.table) s.declarations unresolved_external) g.resolved
-    by_kind repeated_policy k = there_not _ _ (has_twice-Decides bytes_eq bytes_eq-Decides (ids s.policies)) g.distinct
-    by_kind unlinked_slot k = all_from is_linked s.policies (λ p m. all_from (λ x. not (has_slot p x) || is_some (binding_of p.bindings x)) all_slots (λ x n. not_or (has_slot p x) _ (λ u. there_is _ ((g.each p m).linked x u))))
+    by_kind repeated_policy k = there_not _ _ (repeated-Decides bytes_eq bytes_eq-Decides (ids s.policies)) g.distinct
+    by_kind unlinked_slot k = all_from is_linked s.policies (λ p m. all_from (λ x. not (has_slot p x) || is_some (binding_of p.bindings x)) all_slots (λ x n. not_or (has_slot p x) _ (λ u. (g.each p m).linked x u)))
     by_kind slot_outside_scope k = all_from keeps_slots_in_scope s.policies (λ p m. all_from (λ x. not (tree_uses (body_tree p.body) x)) all_slots (λ x n. is_not _ ((g.each p m).in_scope x)))
     by_kind unknown_in_policy k = all_from (λ (p : Policy). not (has_unknown (condition p))) s.policies (λ p m. is_not _ (g.each p m).known)
     by_kind nests_too_deep k = all_from (λ (p : Policy). nat_le (nesting (condition p)) s.limit) s.policies (λ p m. is_le _ _ (g.each p m).shallow)

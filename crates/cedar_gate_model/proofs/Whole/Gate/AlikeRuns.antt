@@ -7,9 +7,10 @@ use Rattle.cedar_expr_model.proofs.Lists.{contains_head}
 use Rattle.cedar_store_model.specs.Whole.World.{World}
 use Rattle.cedar_store_model.specs.Whole.Policy.{Policy}
 use Rattle.cedar_store_model.specs.Whole.Answer.{Decision}
-use Rattle.cedar_schema_model.specs.Whole.WellFormed.{HasTwice}
+use Rattle.cedar_schema_model.specs.Whole.BagLaws.{HasTwice}
 use Rattle.cedar_gate_model.specs.Whole.Moment.{Moment, at_first}
-use Rattle.cedar_gate_model.specs.Whole.Transcript.{Step, load, bind_name, decide, Entry, round, bound, decided, Case, after, AreLegal, moment_after, asked_in}
+use Rattle.cedar_gate_model.specs.Whole.GateLaws.{moment_after, asked_in}
+use Rattle.cedar_gate_model.specs.Whole.Transcript.{Step, load, bind_name, decide, Entry, round, bound, decided, Case, after, AreLegal}
 use Rattle.cedar_gate_model.specs.Whole.Session.{Setup, State, at_start, NothingIsWanted, IsWantedList, with_bound, OpenFault, OpenRefusal, BindFault, BindRefusal, SupplyFault, SupplyRefusal}
 use Rattle.cedar_gate_model.specs.Whole.Runs.{End, answered, opening_refused, supply_refused, binding_refused, answer_refused, supplied_by, IsRoundNow, with_asked, RefusesSupply, Finishes, Loads, Binds, DecidesNow, Follows, MayDecide, Runs}
 use Rattle.cedar_gate_model.specs.Whole.RunLaws.{EntriesAlike, EndsAlike}

@@ -21,8 +21,9 @@ use Rattle.cedar_schema_model.proofs.Whole.Decls.Conforming.{request_conforms-De
 use Rattle.cedar_typechecker_model.specs.Whole.Worked.{user, doc, user_a, small, no_table}
 use Rattle.cedar_evaluator_model.specs.Scope.{uid, unknown_uid}
 use Rattle.cedar_gate_model.specs.Whole.Acceptance.{IsAccepted, reaches_too_far}
-use Rattle.cedar_gate_model.specs.Whole.Moment.{Completes, parts_of_world}
-use Rattle.cedar_gate_model.specs.Whole.Owed.{Holds, IsForcedTrue, IsForcedFalse, IsForced}
+use Rattle.cedar_gate_model.specs.Whole.Moment.{Completes, request_of}
+use Rattle.cedar_gate_model.specs.Whole.GateLaws.{Holds}
+use Rattle.cedar_gate_model.specs.Whole.Owed.{IsForcedTrue, IsForcedFalse, IsForced}
 use Rattle.cedar_gate_model.specs.Whole.Session.{Setup, at_start, OpenFault, quote_in_name, name_of_variable, AnswerFault, AnswerRefusal, not_bound, still_wanted, not_conforming, OpenRefusal, HasOpenName, is_open_entry, world_now}
 use Rattle.cedar_gate_model.specs.Whole.Runs.{answered, answer_refused}
 use Rattle.cedar_gate_model.specs.Whole.Lines.{is_answered, is_refused, is_stopped, setup_of, Prints}
@@ -108,7 +109,7 @@ no_open_name h = none_open h.0 _ (no_entry_open (bytes_eq h.0 (codes "principal"
 no_answer_fault : (f : AnswerRefusal) → AnswerFault good_setup at_start f → ⊥
 no_answer_fault not_bound h = no_open_name h
 no_answer_fault still_wanted h = h.1.0.0
-no_answer_fault not_conforming h = h.1 ((request_conforms-Decides good_setup.schema (parts_of_world (world_now good_setup at_start))).0 refl)
+no_answer_fault not_conforming h = h.1 ((request_conforms-Decides good_setup.schema (request_of (world_now good_setup at_start))).0 refl)
 
 good_accepted : IsAccepted good_bundle.submission
 good_accepted = admitted_accepted good_bundle.submission refl
@@ -167,7 +168,7 @@ stands_at u true e = refl
 stands_at u false e = cc
 
 nobody_is_whole : IsWhole nobody_there
-nobody_is_whole = record { principal = tt; action = tt; resource = tt; context = tt; unknowns = λ n. tt; store = λ u. settled_at u (declares_action good_schema u) }
+nobody_is_whole = record { principal = refl; action = refl; resource = refl; context = refl; unknowns = λ n. refl; store = λ u. settled_at u (declares_action good_schema u) }
 
 pub completed : Completes good_schema no_table 0 by_a_on_b nobody_there
 completed = record {
@@ -177,7 +178,7 @@ completed = record {
   resource = refl;
   context = refl;
   table = refl;
-  request = (request_conforms-Decides good_schema (parts_of_world nobody_there)).0 refl;
+  request = (request_conforms-Decides good_schema (request_of nobody_there)).0 refl;
   actions = λ u e. stands_at u (declares_action good_schema u) e;
   slice = λ u e i. absurd i.0;
 }
@@ -215,4 +216,4 @@ unfolding uid_or
 of_other_uid h = let q = (uid_eq-Decides user_a user_b).1 (ap uid_or h.principal) in cc
 
 pub not_conforming_there : Completes small no_table 0 by_a_on_b nobody_there → ⊥
-not_conforming_there h = let q = (request_conforms-Decides small (parts_of_world nobody_there)).1 h.request in cc
+not_conforming_there h = let q = (request_conforms-Decides small (request_of nobody_there)).1 h.request in cc

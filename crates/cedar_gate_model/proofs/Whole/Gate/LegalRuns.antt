@@ -1,14 +1,14 @@
 -- What a run does is legal, and one that answered asked for the slice.
-use Rattle.std.proofs.Common.{◌≡◌, ◌↔◌, ◌∙◌, ℕ, Bool, true, false, cond, not, ◌&&◌, ◌||◌, is_some, List, [], ◌∷◌, map, Option, Some, None, option_map, codes, inl, inr, ⊎_elim, ◌⊎◌, refl, sym, ap, subst}
-use Rattle.std.specs.Prelude.{Contains}
+use Rattle.std.proofs.Common.{◌≡◌, ◌↔◌, ◌∙◌, ℕ, Bool, true, false, cond, not, ◌&&◌, ◌||◌, is_some, List, [], ◌∷◌, map, Option, Some, None, codes, inl, inr, ⊎_elim, ◌⊎◌, refl, sym, ap, subst}
+use Rattle.std.specs.Prelude.{Contains, unwrap_or, option_and_then}
 use Rattle.std.specs.List.{list_any}
 use Rattle.std.specs.Str.{bytes_eq}
 use Rattle.std.proofs.lemmas.List.Elements.{Contains-append_left}
 use Rattle.std.proofs.lemmas.Slice.Eq.{bytes_eq-Decides}
-use Rattle.cedar_expr_model.specs.Name.{Text}
+use Rattle.cedar_expr_model.specs.Name.{Text, Name}
 use Rattle.cedar_expr_model.specs.Uid.{Uid, uid_eq}
-use Rattle.cedar_expr_model.specs.Whole.Value.{V}
-use Rattle.cedar_expr_model.specs.Whole.Made.{Made, bare}
+use Rattle.cedar_expr_model.specs.Whole.Value.{V, record_of, Fields}
+use Rattle.cedar_expr_model.specs.Whole.Made.{Made, bare, made_prim, made_set, made_record, made_extension}
 use Rattle.cedar_expr_model.proofs.Lists.{contains_head, contains_tail, found-Decides}
 use Rattle.cedar_expr_model.proofs.Equality.{uid_eq-Decides}
 use Rattle.cedar_store_model.specs.Whole.World.{World, Found, held, not_loaded}
@@ -17,18 +17,25 @@ use Rattle.cedar_store_model.specs.Whole.Answer.{Decision, Answer}
 use Rattle.cedar_store_model.specs.Whole.Store.{found_as, whole}
 use Rattle.cedar_schema_model.specs.Whole.Schema.{declares_action}
 use Rattle.cedar_schema_model.specs.Whole.ActionEntities.{as_entity}
-use Rattle.cedar_evaluator_model.specs.Scope.{Entry, uid, unknown_uid, Context, closed, residual_fields, unknown_context}
-use Rattle.cedar_gate_model.specs.Whole.Slice.{FoundMentions, IsNear, InSlice}
-use Rattle.cedar_gate_model.specs.Whole.Moment.{Start, EntryCompleted, ContextCompleted, Moment, at_first, entry_known, context_known, when, told, known_at}
+use Rattle.cedar_evaluator_model.specs.Scope.{Entry, uid, unknown_uid, Context, closed, residual_fields, unknown_context, value_left}
+use Rattle.cedar_gate_model.specs.Whole.Slice.{IsNear, InSlice}
+use Rattle.cedar_evaluator_model.specs.Response.{PartialRequest}
+use Rattle.cedar_expr_model.specs.Whole.Lists.{when}
+use Rattle.cedar_gate_model.specs.Whole.Moment.{EntryCompleted, ContextCompleted, Moment, at_first, entry_known, context_known, told, known_at}
 use Rattle.cedar_gate_model.specs.Whole.Transcript as transcript
-use Rattle.cedar_gate_model.specs.Whole.Transcript.{Step, load, bind_name, decide, round, bound, decided, Case, after, IsWanted, IsRound, IsLegalEntry, AreLegal, moment_after, asked_in, AsksTheSlice}
-use Rattle.cedar_gate_model.specs.Whole.Session.{Setup, State, at_start, value_among, uid_in, entry_by_now, context_by_now, whole_store, known_now, NothingIsWanted, is_open_entry, is_open_context, entry_named, HasOpenName, with_bound, not_bound, MeansBound, CompletesNow}
+use Rattle.cedar_gate_model.specs.Whole.Transcript.{Step, load, bind_name, decide, round, bound, decided, Case, after, IsWanted, IsRound, IsLegalEntry, AreLegal}
+use Rattle.cedar_gate_model.specs.Whole.Session.{Setup, State, at_start, uid_in, whole_store, known_now, NothingIsWanted, is_open_entry, is_open_context, entry_named, HasOpenName, with_bound, not_bound, MeansBound, CompletesNow, entry_now, context_now, value_of}
 use Rattle.cedar_gate_model.specs.Whole.Runs.{End, answered, opening_refused, supply_refused, binding_refused, answer_refused, IsRoundNow, with_asked, Finishes, Loads, Binds, DecidesNow, Follows, MayDecide, Runs}
-use Rattle.cedar_gate_model.specs.Whole.GateLaws.{SameRoots, KnowsRoots}
+use Rattle.cedar_gate_model.specs.Whole.GateLaws.{SameRoots, KnowsRoots, moment_after, AsksTheSlice}
 use Rattle.cedar_gate_model.specs.Whole.RunLaws.{HasNoResidual, bindings_in, last_state, case_of}
 use Rattle.cedar_gate_model.proofs.Whole.Gate.Slices.{near_kept, same_root}
 use Rattle.cedar_gate_model.proofs.Whole.Gate.Transcripts.{slice_is_asked}
 use Rattle.cedar_gate_model.proofs.Whole.Gate.AlikeRuns.{opened_or_not}
+use Rattle.cedar_gate_model.proofs.Whole.Gate.Mentions.{FoundMentions}
+use Rattle.cedar_evaluator_model.specs.Known.{known_entry, known_context}
+use Rattle.cedar_evaluator_model.specs.Reauthorize.{context_from}
+use Rattle.std.specs.Map.{lookup}
+use Rattle.std.specs.Option.{option_map_or}
 
 -- what was bound and asked, without the values
 abbrev moment_of : State → Moment
@@ -36,8 +43,8 @@ moment_of s = record { bound = map (λ b. b.0) s.bound; asked = s.asked }
 
 -- a name is bound, to what it means, or it isn't
 abbrev BoundOrOpen : World → Text → List (Text × Made) → Type 0
-BoundOrOpen w n bs = ((m : Made) × (value_among n bs ≡ Some m) × (list_any (bytes_eq n) (map (λ b. b.0) bs) ≡ true) × MeansBound w (n, m))
-    ⊎ ((value_among n bs ≡ None) × (list_any (bytes_eq n) (map (λ b. b.0) bs) ≡ false))
+BoundOrOpen w n bs = ((m : Made) × (lookup (bytes_eq n) bs ≡ Some m) × (list_any (bytes_eq n) (map (λ b. b.0) bs) ≡ true) × MeansBound w (n, m))
+    ⊎ ((lookup (bytes_eq n) bs ≡ None) × (list_any (bytes_eq n) (map (λ b. b.0) bs) ≡ false))
 
 bound_or_open : (w : World) (n : Text) (bs : List (Text × Made)) → ((b : Text × Made) → Contains bs b → MeansBound w b) → BoundOrOpen w n bs
 bound_or_open w n [] h = inr (refl, refl)
@@ -46,32 +53,46 @@ bound_or_open w n (b ∷ bs) h = by_test (bound_or_open w n bs (λ c k. h c (con
     by_test : BoundOrOpen w n bs → (t : Bool) → bytes_eq n b.0 ≡ t → BoundOrOpen w n (b ∷ bs)
     by_test rest true e = inl (
       b.1,
-      ap (λ t. cond t (Some b.1) (value_among n bs)) e,
+      ap (λ t. cond t (Some b.1) (lookup (bytes_eq n) bs)) e,
       ap (λ t. t || list_any (bytes_eq n) (map (λ b. b.0) bs)) e,
       subst (λ z. MeansBound w (z, b.1)) (sym ((bytes_eq-Decides n b.0).0 e)) (h b (contains_head b bs)),
     )
     by_test rest false e =
         ⊎_elim
-        (λ r. inl (r.0, ap (λ t. cond t (Some b.1) (value_among n bs)) e ∙ r.1, ap (λ t. t || list_any (bytes_eq n) (map (λ b. b.0) bs)) e ∙ r.2, r.3))
-        (λ r. inr (ap (λ t. cond t (Some b.1) (value_among n bs)) e ∙ r.0, ap (λ t. t || list_any (bytes_eq n) (map (λ b. b.0) bs)) e ∙ r.1))
+        (λ r. inl (r.0, ap (λ t. cond t (Some b.1) (lookup (bytes_eq n) bs)) e ∙ r.1, ap (λ t. t || list_any (bytes_eq n) (map (λ b. b.0) bs)) e ∙ r.2, r.3))
+        (λ r. inr (ap (λ t. cond t (Some b.1) (lookup (bytes_eq n) bs)) e ∙ r.0, ap (λ t. t || list_any (bytes_eq n) (map (λ b. b.0) bs)) e ∙ r.1))
         rest
 
 -- an entry is known as far as it is in the world
-entry_same : (s : State) (w : World) (n : Text) (e : Entry) (o : Option Uid) → BoundOrOpen w n s.bound → ((m : Made) → MeansBound w (n, m) → o ≡ uid_in (Some m)) → EntryCompleted e o → entry_by_now s n e ≡ when (entry_known (moment_of s) n e) o
+bound_entry : (k : Option Name) (o : Option Uid) → known_entry (option_map_or uid o (unknown_uid k)) ≡ o
+bound_entry k None = refl
+bound_entry k (Some u) = refl
+
+entry_same : (s : State) (w : World) (n : Text) (e : Entry) (o : Option Uid) → BoundOrOpen w n s.bound → ((m : Made) → MeansBound w (n, m) → o ≡ uid_in (Some m)) → EntryCompleted e o → known_entry (entry_now s n e) ≡ when (entry_known (moment_of s) n e) o
 entry_same s w n (uid u) o b means c = sym c
 entry_same s w n (unknown_uid k) o b means c =
     ⊎_elim
-    (λ r. ap uid_in r.1 ∙ sym (means r.0 r.3) ∙ ap (λ t. when t o) (sym r.2))
-    (λ r. ap uid_in r.0 ∙ ap (λ t. when t o) (sym r.1))
+    (λ r. bound_entry k (uid_in (value_of s n)) ∙ ap uid_in r.1 ∙ sym (means r.0 r.3) ∙ ap (λ t. when t o) (sym r.2))
+    (λ r. bound_entry k (uid_in (value_of s n)) ∙ ap uid_in r.0 ∙ ap (λ t. when t o) (sym r.1))
     b
 
-context_same : (x : Setup) (s : State) (w : World) (c : Context) → HasNoResidual c → BoundOrOpen w (codes "context") s.bound → ContextCompleted w c → context_by_now x.functions s c ≡ when (context_known (moment_of s) c) w.context
+-- a context that is bound to a record is that record
+abbrev context_of : Option Made → Context
+context_of o = unwrap_or (option_and_then (λ m. context_from (value_left m)) o) unknown_context
+
+bound_context : (m : Made) (fs : Fields) → bare m ≡ record_of fs → known_context (context_of (Some m)) ≡ Some (bare m)
+bound_context (made_record gs) fs e = refl
+bound_context (made_prim p) fs e = cc
+bound_context (made_set ms) fs e = cc
+bound_context (made_extension n k f ps) fs e = cc
+
+context_same : (x : Setup) (s : State) (w : World) (c : Context) → HasNoResidual c → BoundOrOpen w (codes "context") s.bound → ContextCompleted w c → known_context (context_now x.functions s c) ≡ when (context_known (moment_of s) c) w.context
 context_same x s w (closed fs) h b c = sym c
 context_same x s w (residual_fields fs) h b c = absurd h
 context_same x s w unknown_context h b c =
     ⊎_elim
-    (λ r. ap (option_map bare) r.1 ∙ sym (r.3.1.3 refl) ∙ ap (λ t. when t w.context) (sym r.2))
-    (λ r. ap (option_map bare) r.0 ∙ ap (λ t. when t w.context) (sym r.1))
+    (λ r. ap (λ o. known_context (context_of o)) r.1 ∙ bound_context r.0 c.0 (let e : Some (bare r.0) ≡ Some (record_of c.0) = sym (r.3.1.3 refl) ∙ c.1 in cc) ∙ sym (r.3.1.3 refl) ∙ ap (λ t. when t w.context) (sym r.2))
+    (λ r. ap (λ o. known_context (context_of o)) r.0 ∙ ap (λ t. when t w.context) (sym r.1))
     b
 
 -- what is known of the world at the moment of a state
@@ -235,14 +256,14 @@ pub runs_are_legal : (x : Setup) (ps : List Policy) (steps : List Step) (es : Li
 runs_are_legal = run_is_good
 
 -- where no name is open, all roots are known
-entry_is_known : (r : Start) (s : State) (w : World) (n : Text) (e : Entry) → entry_named r n ≡ Some e → (HasOpenName r s → ⊥) → BoundOrOpen w n s.bound → entry_known (moment_of s) n e ≡ true
+entry_is_known : (r : PartialRequest) (s : State) (w : World) (n : Text) (e : Entry) → entry_named r n ≡ Some e → (HasOpenName r s → ⊥) → BoundOrOpen w n s.bound → entry_known (moment_of s) n e ≡ true
 entry_is_known r s w n (uid u) q none b = refl
 entry_is_known r s w n (unknown_uid k) q none b =
     ⊎_elim (λ t. t.2)
     (λ t. absurd (none (n, ap (λ o. not (is_some o) && (is_open_entry (entry_named r n) || is_open_context r.context n)) t.0 ∙ ap (λ o. is_open_entry o || is_open_context r.context n) q)))
     b
 
-context_is_known : (r : Start) (s : State) (w : World) (c : Context) → r.context ≡ c → HasNoResidual c → (HasOpenName r s → ⊥) → BoundOrOpen w (codes "context") s.bound → context_known (moment_of s) c ≡ true
+context_is_known : (r : PartialRequest) (s : State) (w : World) (c : Context) → r.context ≡ c → HasNoResidual c → (HasOpenName r s → ⊥) → BoundOrOpen w (codes "context") s.bound → context_known (moment_of s) c ≡ true
 context_is_known r s w (closed fs) q h none b = refl
 context_is_known r s w (residual_fields fs) q h none b = absurd h
 context_is_known r s w unknown_context q h none b =

@@ -3,7 +3,8 @@ use Rattle.std.proofs.Common.{◌≡◌, ◌↔◌, ◌∙◌, Bool, true, false
 use Rattle.cedar_expr_model.specs.Name.{Text}
 use Rattle.cedar_store_model.specs.Whole.Answer.{Answer}
 use Rattle.cedar_gate_model.specs.Whole.Transcript.{Entry}
-use Rattle.cedar_gate_model.specs.Whole.Acceptance.{IsAccepted, admits, number_of}
+use Rattle.cedar_gate_model.specs.Whole.GateLaws.{admits}
+use Rattle.cedar_gate_model.specs.Whole.Acceptance.{IsAccepted, number_of}
 use Rattle.cedar_gate_model.specs.Whole.Bundle.{Functions, Bundle}
 use Rattle.cedar_gate_model.specs.Whole.Runs.{End, answered, opening_refused, supply_refused, binding_refused, answer_refused}
 use Rattle.cedar_gate_model.specs.Whole.Lines.{Status, is_answered, is_refused, is_unreadable, is_stopped, end_status, refused_line, unreadable_line, run_lines, setup_of, PrintsRun, Prints}

@@ -11,7 +11,7 @@ use Rattle.cedar_expr_model.specs.Uid.{Uid}
 use Rattle.cedar_expr_model.specs.Order.{uid_cmp, are_rising}
 use Rattle.cedar_expr_model.proofs.Lists.{both_hold, contains_head, contains_tail, contains_cases, contains_none}
 use Rattle.cedar_expr_model.proofs.Whole.Rising.{less_is}
-use Rattle.cedar_schema_model.specs.Whole.WellFormed.{HasTwice}
+use Rattle.cedar_schema_model.specs.Whole.BagLaws.{HasTwice}
 
 uid_total : IsTotalOrder uid_cmp
 uid_total = then_total (on_total (λ (u : Uid). name_text u.kind) nat_list_cmp_total) (on_total (λ (u : Uid). u.id) nat_list_cmp_total)

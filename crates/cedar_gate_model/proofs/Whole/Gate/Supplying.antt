@@ -11,7 +11,8 @@ use Rattle.cedar_schema_model.specs.Whole.Conforming.{entity_conforms}
 use Rattle.cedar_schema_model.proofs.Whole.Decls.Conforming.{entity_conforms-Decides}
 use Rattle.cedar_typechecker_model.specs.Whole.Worked.{user_a, doc_d}
 use Rattle.cedar_gate_model.specs.Whole.Slice.{slice}
-use Rattle.cedar_gate_model.specs.Whole.Session.{at_start, known_now, IsWantedNow, supplied_ids, IsWrong, SupplyFault, not_wanted, lacking, repeated, wrong_entity}
+use Rattle.std.specs.Map.{keys_of}
+use Rattle.cedar_gate_model.specs.Whole.Session.{at_start, known_now, IsWantedNow, IsWrong, SupplyFault, not_wanted, lacking, wrong_entity, repeated}
 use Rattle.cedar_gate_model.specs.Whole.WorkedGate.{user_b, user_z, person, document, ordinary, right_supply, with_z, only_d, twice_d, b_for_a, without_ok, lacks_ok}
 use Rattle.cedar_gate_model.proofs.Whole.Gate.Slices.{slice_is_listed}
 
@@ -29,13 +30,13 @@ not_in_list : (u : Uid) (us : List Uid) → list_any (uid_eq u) us ≡ false →
 not_in_list u us e k = let t = (found-Decides uid_eq uid_eq-Decides u us).1 k in cc
 
 pub stray : SupplyFault ordinary at_start with_z not_wanted
-stray = (user_z, in_list user_z (supplied_ids with_z) refl, λ h. not_in_list user_z wanted_list refl ((slice_is_listed ordinary.schema 2 (known_now ordinary at_start) user_z).1 h.0))
+stray = (user_z, in_list user_z (keys_of with_z) refl, λ h. not_in_list user_z wanted_list refl ((slice_is_listed ordinary.schema 2 (known_now ordinary at_start) user_z).1 h.0))
 
 pub short : SupplyFault ordinary at_start only_d lacking
-short = (user_a, wanted user_a (in_list user_a wanted_list refl), not_in_list user_a (supplied_ids only_d) refl)
+short = (user_a, wanted user_a (in_list user_a wanted_list refl), not_in_list user_a (keys_of only_d) refl)
 
 pub doubled : SupplyFault ordinary at_start twice_d repeated
-doubled = inr (inl (contains_head doc_d []))
+doubled = refl
 
 pub swapped : SupplyFault ordinary at_start b_for_a wrong_entity
 swapped = (_, contains_head (user_a, Some (user_b, person user_a true)) [], inl refl)
@@ -47,16 +48,16 @@ pub not_conforming_one : SupplyFault ordinary at_start lacks_ok wrong_entity
 not_conforming_one = (_, (0, omega arith, refl), wrong_one user_a without_ok refl)
 
 -- the two that are wanted are supplied
-both_supplied : (u : Uid) → Contains wanted_list u → Contains (supplied_ids right_supply) u
+both_supplied : (u : Uid) → Contains wanted_list u → Contains (keys_of right_supply) u
 both_supplied u k =
-    contains_cases (Contains (supplied_ids right_supply) u) user_a (doc_d ∷ []) u k (λ e. subst (Contains (supplied_ids right_supply)) e (in_list user_a (supplied_ids right_supply) refl))
-    (λ m. contains_cases (Contains (supplied_ids right_supply) u) doc_d [] u m (λ e. subst (Contains (supplied_ids right_supply)) e (in_list doc_d (supplied_ids right_supply) refl)) (λ n. absurd (contains_none u n)))
+    contains_cases (Contains (keys_of right_supply) u) user_a (doc_d ∷ []) u k (λ e. subst (Contains (keys_of right_supply)) e (in_list user_a (keys_of right_supply) refl))
+    (λ m. contains_cases (Contains (keys_of right_supply) u) doc_d [] u m (λ e. subst (Contains (keys_of right_supply)) e (in_list doc_d (keys_of right_supply) refl)) (λ n. absurd (contains_none u n)))
 
 pub nothing_lacks : SupplyFault ordinary at_start right_supply lacking → ⊥
 nothing_lacks h = h.2 (both_supplied h.0 ((slice_is_listed ordinary.schema 2 (known_now ordinary at_start) h.0).1 h.1.0))
 
 pub nothing_twice : SupplyFault ordinary at_start right_supply repeated → ⊥
-nothing_twice h = ⊎_elim (not_in_list doc_d (user_a ∷ []) refl) (λ k. ⊎_elim (contains_none user_a) (λ n. n) k) h
+nothing_twice h = let k : false ≡ true = h in cc
 
 right_one : (u : Uid) (e : Entity V) → uid_eq u u ≡ true → entity_conforms ordinary.schema u e ≡ true → IsWrong ordinary.schema (u, Some (u, e)) → ⊥
 right_one u e t c h = ⊎_elim (λ f. let g = t in cc) (λ n. n ((entity_conforms-Decides ordinary.schema u e).0 c)) h

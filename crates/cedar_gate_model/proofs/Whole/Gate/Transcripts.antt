@@ -13,11 +13,13 @@ use Rattle.cedar_expr_model.proofs.Equality.{uid_eq-Decides}
 use Rattle.cedar_store_model.specs.Whole.World.{World, Found, held, missing, not_loaded}
 use Rattle.cedar_store_model.specs.Whole.Answer.{Decision, decision_of}
 use Rattle.cedar_schema_model.specs.Whole.Schema.{declares_action}
-use Rattle.cedar_gate_model.specs.Whole.Slice.{FoundMentions, IsKnown, ContextMentions, IsRoot, IsNear, InSlice}
-use Rattle.cedar_gate_model.specs.Whole.Moment.{Moment, at_first, entry_known, context_known, when, told, known_at}
-use Rattle.cedar_gate_model.specs.Whole.Transcript.{Entry, round, bound, decided, Case, after, IsWanted, IsRound, IsLegalEntry, AreLegal, moment_after, asked_in, rounds_after, last_rounds, AsksTheSlice}
-use Rattle.cedar_gate_model.specs.Whole.GateLaws.{KnowsRoots}
+use Rattle.cedar_gate_model.specs.Whole.Slice.{IsNear, InSlice}
+use Rattle.cedar_expr_model.specs.Whole.Lists.{when}
+use Rattle.cedar_gate_model.specs.Whole.Moment.{Moment, at_first, entry_known, context_known, told, known_at}
+use Rattle.cedar_gate_model.specs.Whole.Transcript.{Entry, round, bound, decided, Case, after, IsWanted, IsRound, IsLegalEntry, AreLegal}
+use Rattle.cedar_gate_model.specs.Whole.GateLaws.{KnowsRoots, moment_after, asked_in, rounds_after, last_rounds, AsksTheSlice}
 use Rattle.cedar_gate_model.proofs.Whole.Gate.Slices.{near_within, near_kept}
+use Rattle.cedar_gate_model.proofs.Whole.Gate.Mentions.{FoundMentions, IsKnown, ContextMentions, IsRoot, root_cases, root_from}
 
 -- what is known of the world of a transcript at a moment
 abbrev pub known : Case → World → Moment → World
@@ -25,30 +27,31 @@ known c w m = known_at c.schema c.start w m
 
 known_only : (t : Bool) (o : Option Uid) (u : Uid) → IsKnown (when t o) u → IsKnown o u
 known_only true o u h = h
-known_only false o u h = absurd h
+known_only false o u h = absurd (contains_none u h)
 
 context_only : (t : Bool) (o : Option V) (u : Uid) → ContextMentions (when t o) u → ContextMentions o u
 context_only true o u h = h
-context_only false o u h = absurd h
+context_only false o u h = absurd (contains_none u h)
 
 told_only : (f : Found V) (u : Uid) → FoundMentions (told f) u → FoundMentions f u
 told_only (held e) u h = h
-told_only missing u h = absurd h
-told_only not_loaded u h = absurd h
+told_only missing u h = absurd (contains_none u h)
+told_only not_loaded u h = absurd (contains_none u h)
 
 pub told_all : (f : Found V) (u : Uid) → FoundMentions f u → FoundMentions (told f) u
 told_all (held e) u h = h
-told_all missing u h = absurd h
-told_all not_loaded u h = absurd h
+told_all missing u h = absurd (contains_none u h)
+told_all not_loaded u h = absurd (contains_none u h)
 
 loaded_only : (t : Bool) (f : Found V) (u : Uid) → FoundMentions (cond t (told f) not_loaded) u → FoundMentions f u
 loaded_only true f u h = told_only f u h
-loaded_only false f u h = absurd h
+loaded_only false f u h = absurd (contains_none u h)
 
 root_only : (c : Case) (w : World) (m : Moment) (u : Uid) → IsRoot (known c w m) u → IsRoot w u
 root_only c w m u h =
-    ⊎_elim (λ k. inl (known_only (entry_known m (codes "principal") c.start.principal) w.principal u k))
-    (λ k. inr (⊎_elim (λ q. inl (known_only (entry_known m (codes "resource") c.start.resource) w.resource u q)) (λ q. inr (context_only (context_known m c.start.context) w.context u q)) k)) h
+    root_from w u
+    (⊎_elim (λ k. inl (known_only (entry_known m (codes "principal") c.start.principal) w.principal u k))
+    (λ k. inr (⊎_elim (λ q. inl (known_only (entry_known m (codes "resource") c.start.resource) w.resource u q)) (λ q. inr (context_only (context_known m c.start.context) w.context u q)) k)) (root_cases (known c w m) u h))
 
 -- what is near by what is known is near
 pub near_by_known : (c : Case) (w : World) (m : Moment) (n : ℕ) (u : Uid) → IsNear n (known c w m) u → IsNear n w u
@@ -140,7 +143,7 @@ nearer c w m uids r settled (suc j) l u h =
     inr (v, near, subst (λ f. FoundMentions f u) (then ∙ sym now) k.2))
     h
 
-some_item : (uids : List Uid) → uids ≢ [] → (u : Uid) × Contains uids u
+pub some_item : (uids : List Uid) → uids ≢ [] → (u : Uid) × Contains uids u
 some_item [] n = absurd (n refl)
 some_item (u ∷ us) n = (u, contains_head u us)
 
@@ -182,9 +185,10 @@ when_true false o e = cc
 
 root_known : (c : Case) (w : World) (m : Moment) → KnowsRoots c.start m → (u : Uid) → IsRoot w u → IsRoot (known c w m) u
 root_known c w m e u h =
-    ⊎_elim (λ k. inl (subst (λ o. IsKnown o u) (sym (when_true (entry_known m (codes "principal") c.start.principal) w.principal e.0)) k))
+    root_from (known c w m) u
+    (⊎_elim (λ k. inl (subst (λ o. IsKnown o u) (sym (when_true (entry_known m (codes "principal") c.start.principal) w.principal e.0)) k))
     (λ k. inr (⊎_elim (λ q. inl (subst (λ o. IsKnown o u) (sym (when_true (entry_known m (codes "resource") c.start.resource) w.resource e.1)) q))
-    (λ q. inr (subst (λ o. ContextMentions o u) (sym (when_true (context_known m c.start.context) w.context e.2)) q)) k)) h
+    (λ q. inr (subst (λ o. ContextMentions o u) (sym (when_true (context_known m c.start.context) w.context e.2)) q)) k)) (root_cases w u h))
 
 nothing_left : (c : Case) (w : World) (m : Moment) → ((u : Uid) → IsWanted c w m u → ⊥) → Settled c w m c.level
 nothing_left c w m none u k e = ⊎_elim (λ a. a) (λ a. absurd (none u ((k, e), a))) (was_asked m u)

@@ -6,12 +6,14 @@ use Rattle.cedar_expr_model.specs.Name.{Text, Name}
 use Rattle.cedar_expr_model.specs.Whole.Value.{Literal, truth, long, text, entity}
 use Rattle.cedar_expr_model.specs.Whole.Pattern.{Pattern}
 use Rattle.cedar_expr_model.specs.Whole.Tree.{Var, CoreType, UnaryOp, negation, minus, is_empty, BinaryOp, equal, less, less_or_equal, plus, difference, times, is_in, contains, contains_all, contains_any, get_tag, has_tag, Tree, lit, var, slot, unknown, choice, unary, binary, call, get_attr, like, is_type, set_literal, record_literal, Trees, no_trees, tree, TreeFields, no_tree_fields, tree_field}
-use Rattle.cedar_expr_model.specs.Whole.Builder.{conjunction, disjunction, path_test}
+use Rattle.cedar_expr_model.specs.Whole.Builder.{conjunction, disjunction, path_test, trees}
 use Rattle.cedar_gate_model.specs.Reading.{given}
-use Rattle.cedar_gate_model.specs.Whole.ReadingForms.{word_of, beside}
+use Rattle.cedar_gate_model.specs.Whole.ReadingForms.{word_of}
 use Rattle.cedar_gate_model.specs.Whole.ReadingName.{plain_name_read, uid_from, annotation_read}
-use Rattle.cedar_gate_model.specs.Whole.ReadingExpression.{Part, var_words, slot_words, pattern_read, trees_in, texts_in, of_one, of_two, of_three, of_tree_and, of_word, uid_form, unknown_form, call_form, has_form, set_form, record_form, forms, form_read, expression_read, parts_in, fields_read, fields_in}
-use Rattle.cedar_gate_model.proofs.Whole.Reading.Steps.{given_some, map_some, AllBeside, beside_all}
+use Rattle.cedar_gate_model.specs.Whole.ReadingExpression.{Part, var_words, slot_words, pattern_read, trees_in, texts_in, of_one, of_two, of_three, of_tree_and, of_word, uid_form, unknown_form, call_form, has_form, record_form, forms, form_read, expression_read, parts_in, fields_read, fields_in}
+use Rattle.cedar_gate_model.proofs.Whole.Reading.Steps.{given_some, map_some, AllBeside, beside_all, and_then_some}
+use Rattle.cedar_expr_model.specs.Whole.Lists.{all_given}
+use Rattle.std.specs.Map.{lookup}
 
 abbrev pub EachTree : (Tree → Type 0) → Trees → Type 0
 EachTree P no_trees = Unit {0}
@@ -76,15 +78,15 @@ module _ (P : Tree → Type 0) (kept : Kept P) where
   given_reads : {A : Type 0} (o : Option A) (next : A → Option Tree) → ((a : A) → o ≡ Some a → Reads P (next a)) → Reads P (given o next)
   given_reads o next h t e = let p = given_some o next t e in h p.0 p.1 t p.2
 
+  each_good : (xs : List Part) → AreGood P xs → (us : List Tree) → all_given (λ (x : Part). x.tree) xs ≡ Some us → EachTree P (trees us)
+  each_good [] g us e = let q : [] ≡ us = cc in subst (λ vs. EachTree P (trees vs)) q tt
+  each_good (x ∷ xs) g us e =
+      let p = and_then_some (λ t. option_map (λ vs. t ∷ vs) (all_given (λ (x : Part). x.tree) xs)) x.tree us e in
+      let q = map_some (λ vs. p.0 ∷ vs) (all_given (λ (x : Part). x.tree) xs) us p.2 in
+      subst (λ vs. EachTree P (trees vs)) (sym q.2) (g.0.0 p.0 p.1, each_good xs g.1 q.0 q.1)
+
   trees_good : (xs : List Part) → AreGood P xs → (ts : Trees) → trees_in xs ≡ Some ts → EachTree P ts
-  trees_good [] g ts e = subst (EachTree P) (map_none e) tt
-    where
-      map_none : Some no_trees ≡ Some ts → no_trees ≡ ts
-      map_none e = cc
-  trees_good (x ∷ xs) g ts e =
-      let p = given_some x.tree _ ts e in
-      let q = map_some (tree p.0) (trees_in xs) ts p.2 in
-      subst (EachTree P) (sym q.2) (g.0.0 p.0 p.1, trees_good xs g.1 q.0 q.1)
+  trees_good xs g ts e = let q = map_some trees (all_given (λ (x : Part). x.tree) xs) ts e in subst (EachTree P) (sym q.2) (each_good xs g q.0 q.1)
 
   one_reads : (make : Tree → Tree) → ((a : Tree) → P a → P (make a)) → (xs : List Part) → AreGood P xs → Reads P (of_one make xs)
   one_reads make h [] g = λ t e. cc
@@ -137,7 +139,7 @@ module _ (P : Tree → Type 0) (kept : Kept P) where
   has_reads (x ∷ []) g = λ t e. cc
   has_reads (x ∷ y ∷ more) g = given_reads x.tree _ (λ t e. given_reads (as_str y.json) _ (λ a f. map_reads (path_test t a) (texts_in more) (λ bs q. kept.of_path t a bs (g.0.0 t e))))
 
-  set_reads : (xs : List Part) → AreGood P xs → Reads P (set_form xs)
+  set_reads : (xs : List Part) → AreGood P xs → Reads P (option_map set_literal (trees_in xs))
   set_reads xs g = map_reads set_literal (trees_in xs) (λ ts q. kept.of_set ts (trees_good xs g ts q))
 
   record_reads : (xs : List Part) → AreGood P xs → Reads P (record_form xs)
@@ -239,8 +241,8 @@ module _ (P : Tree → Type 0) (kept : Kept P) where
     ),
   )
 
-  word_reads : (word : Text) (xs : List Part) → AreGood P xs → (bytes_eq word (codes "slot") ≡ true → Reads P (of_word slot slot_words xs)) → Reads P (given (beside word forms) (λ form. form xs))
-  word_reads word xs g s = given_reads (beside word forms) _ (λ form e. beside_all (λ f. Reads P (f xs)) word forms (forms_read word xs g s) form e)
+  word_reads : (word : Text) (xs : List Part) → AreGood P xs → (bytes_eq word (codes "slot") ≡ true → Reads P (of_word slot slot_words xs)) → Reads P (given (lookup (bytes_eq word) forms) (λ form. form xs))
+  word_reads word xs g s = given_reads (lookup (bytes_eq word) forms) _ (λ form e. beside_all (λ f. Reads P (f xs)) word forms (forms_read word xs g s) form e)
 
   list_reads : (ds : Items) → SlotHas P ds → AreGood P (parts_in ds) → Reads P (form_read (parts_in ds))
   list_reads no_items s g = λ t e. cc

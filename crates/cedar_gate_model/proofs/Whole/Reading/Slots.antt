@@ -5,19 +5,21 @@ use Rattle.serde_json.specs.Data.{Data, null, boolean, number, string, array, ob
 use Rattle.cedar_expr_model.specs.Name.{Text}
 use Rattle.cedar_expr_model.specs.Whole.Tree.{SlotId, principal_slot, resource_slot, Tree, slot, both, either, Trees, no_trees, tree, TreeFields, no_tree_fields, tree_field}
 use Rattle.cedar_expr_model.specs.Whole.Builder.{written_truth, folded, path_test}
-use Rattle.cedar_expr_model.specs.Whole.BuilderForm.{is_built, are_built, have_built}
-use Rattle.cedar_expr_model.proofs.Lists.{hold_both}
+use Rattle.cedar_expr_model.specs.Whole.BuilderForm.{is_built, is_kept}
 use Rattle.cedar_expr_model.proofs.Whole.Building.{conjunction_built, disjunction_built}
-use Rattle.std.specs.List.{list_any, filter_map}
+use Rattle.std.specs.List.{list_any, filter_map, list_all}
 use Rattle.std.proofs.lemmas.List.Elements.{filter_map-append}
 use Rattle.std.proofs.lemmas.List.Folds.{list_any-append}
 use Rattle.cedar_expr_model.specs.Whole.Parts.{subexpressions, subexpressions_among, subexpressions_in_fields, slot_here}
-use Rattle.cedar_store_model.specs.Whole.Policy.{slot_eq, tree_uses}
-use Rattle.cedar_gate_model.specs.Whole.ReadingForms.{word_of, beside}
+use Rattle.cedar_store_model.proofs.Whole.Named.{slot_eq}
+use Rattle.cedar_store_model.specs.Whole.Policy.{tree_uses}
+use Rattle.cedar_gate_model.specs.Whole.ReadingForms.{word_of}
 use Rattle.cedar_gate_model.specs.Whole.ReadingExpression.{Part, slot_words, of_word, expression_read, parts_in}
 use Rattle.cedar_gate_model.specs.Whole.ReadingLaws.{slot_text, is_slot_form, writes_slot, some_writes_slot, member_writes_slot}
 use Rattle.cedar_gate_model.proofs.Whole.Reading.Steps.{map_some, AllBeside, beside_all}
 use Rattle.cedar_gate_model.proofs.Whole.Reading.Kept.{EachTree, EachField, Kept, Reads, SlotHas, SlotsHave, SlotsOfItems, SlotsOfMembers, expression_has}
+use Rattle.cedar_expr_model.proofs.Whole.Gathering.{all_join}
+use Rattle.std.specs.Map.{lookup}
 
 -- a property of every slot is one of those that are written
 module _ (P : Tree → Type 0) where
@@ -56,13 +58,13 @@ module _ (P : Tree → Type 0) where
 abbrev pub HasForm : Tree → Type 0
 HasForm t = is_built t ≡ true
 
-each_built : (ts : Trees) → EachTree HasForm ts → are_built ts ≡ true
+each_built : (ts : Trees) → EachTree HasForm ts → list_all is_kept (subexpressions_among ts) ≡ true
 each_built no_trees h = refl
-each_built (tree t ts) h = hold_both (is_built t) (are_built ts) h.0 (each_built ts h.1)
+each_built (tree t ts) h = all_join is_kept (subexpressions t) (subexpressions_among ts) h.0 (each_built ts h.1)
 
-each_field_built : (fs : TreeFields) → EachField HasForm fs → have_built fs ≡ true
+each_field_built : (fs : TreeFields) → EachField HasForm fs → list_all is_kept (subexpressions_in_fields fs) ≡ true
 each_field_built no_tree_fields h = refl
-each_field_built (tree_field a t fs) h = hold_both (is_built t) (have_built fs) h.0 (each_field_built fs h.1)
+each_field_built (tree_field a t fs) h = all_join is_kept (subexpressions t) (subexpressions_in_fields fs) h.0 (each_field_built fs h.1)
 
 path_form : (t : Tree) (a : Text) (bs : List Text) → is_built t ≡ true → is_built (path_test t a bs) ≡ true
 path_form t a [] h = h
@@ -73,11 +75,11 @@ form_kept = record {
   of_lit = λ p. refl;
   of_var = λ x. refl;
   of_unknown = λ n a. refl;
-  of_choice = λ t a b h k l. hold_both (is_built t) (is_built a && is_built b) h (hold_both (is_built a) (is_built b) k l);
+  of_choice = λ t a b h k l. all_join is_kept (subexpressions t) (subexpressions a ++ subexpressions b) h (all_join is_kept (subexpressions a) (subexpressions b) k l);
   of_both = conjunction_built;
   of_either = disjunction_built;
   of_unary = λ o a h. h;
-  of_binary = λ o a b h k. hold_both (is_built a) (is_built b) h k;
+  of_binary = λ o a b h k. all_join is_kept (subexpressions a) (subexpressions b) h k;
   of_call = λ f ts h. each_built ts h;
   of_get = λ t a h. h;
   of_path = path_form;
@@ -147,7 +149,7 @@ other_slot resource_slot v h = ((λ k. refl), ((λ k. cc), tt))
 -- the one part after the word
 after_word : (s : SlotId) (v : Text) → bytes_eq v (slot_text s) ≡ false → Reads (Lacks s) (of_word slot slot_words (parts_in (item (string v) no_items)))
 after_word s v h t e =
-    let p = map_some slot (beside v slot_words) t e in
+    let p = map_some slot (lookup (bytes_eq v) slot_words) t e in
     subst (Lacks s) (sym p.2) (beside_all (λ r. (slot_eq s r || false) ≡ false) v slot_words (other_slot s v h) p.0 p.1)
 
 second_false : (a b : Bool) → (a && b) ≡ false → a ≡ true → b ≡ false

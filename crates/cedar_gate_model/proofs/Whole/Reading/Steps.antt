@@ -2,11 +2,17 @@
 use Rattle.std.proofs.Common.{◌≡◌, Bool, true, false, List, [], ◌∷◌, Option, Some, None, refl, sym, subst, option_map, if◌then◌else◌, bytes_eq}
 use Rattle.cedar_expr_model.specs.Name.{Text}
 use Rattle.cedar_gate_model.specs.Reading.{given}
-use Rattle.cedar_gate_model.specs.Whole.ReadingForms.{beside, if_passing}
+use Rattle.cedar_gate_model.specs.Whole.ReadingForms.{if_passing}
+use Rattle.std.specs.Map.{lookup}
+use Rattle.std.specs.Prelude.{option_and_then}
 
 pub given_some : {A B : Type 0} (o : Option A) (next : A → Option B) (b : B) → given o next ≡ Some b → (a : A) × (o ≡ Some a) × (next a ≡ Some b)
 given_some None next b e = cc
 given_some (Some a) next b e = (a, refl, e)
+
+pub and_then_some : {A B : Type 0} (f : A → Option B) (o : Option A) (b : B) → option_and_then f o ≡ Some b → (a : A) × (o ≡ Some a) × (f a ≡ Some b)
+and_then_some f None b e = cc
+and_then_some f (Some a) b e = (a, refl, e)
 
 pub map_some : {A B : Type 0} (f : A → B) (o : Option A) (b : B) → option_map f o ≡ Some b → (a : A) × (o ≡ Some a) × (b ≡ f a)
 map_some f None b e = cc
@@ -24,10 +30,10 @@ abbrev pub AllBeside : {A : Type 0} → (A → Type 0) → Text → List (Text �
 AllBeside T word [] = Unit {0}
 AllBeside T word (p ∷ ps) = (bytes_eq word p.0 ≡ true → T p.1) × AllBeside T word ps
 
-pub beside_all : {A : Type 0} (T : A → Type 0) (word : Text) (ps : List (Text × A)) → AllBeside T word ps → (a : A) → beside word ps ≡ Some a → T a
+pub beside_all : {A : Type 0} (T : A → Type 0) (word : Text) (ps : List (Text × A)) → AllBeside T word ps → (a : A) → lookup (bytes_eq word) ps ≡ Some a → T a
 beside_all T word [] h a e = cc
 beside_all {A} T word (p ∷ ps) h a e =
-    elim (bytes_eq word p.0) as (λ c. bytes_eq word p.0 ≡ c → (if c then Some p.1 else beside word ps) ≡ Some a → T a)
+    elim (bytes_eq word p.0) as (λ c. bytes_eq word p.0 ≡ c → (if c then Some p.1 else lookup (bytes_eq word) ps) ≡ Some a → T a)
     [ true ↦ λ q r. let s : p.1 ≡ a = cc in subst T s (h.0 q) | false ↦ λ q r. beside_all T word ps h.1 a r ] refl e
 
 -- whatever is given has this

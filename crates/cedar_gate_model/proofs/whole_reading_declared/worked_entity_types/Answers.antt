@@ -46,10 +46,6 @@ pub returns-clause-no_ids : goal.returns-clause-no_ids
 unfolding serde_json_on_literals
 returns-clause-no_ids c = refl
 
-pub returns-clause-some_items : goal.returns-clause-some_items
-unfolding serde_json_on_literals
-returns-clause-some_items c = refl
-
 pub returns-clause-common : goal.returns-clause-common
 unfolding serde_json_on_literals
 returns-clause-common c = refl

@@ -38,10 +38,6 @@ pub returns-clause-unread : goal.returns-clause-unread
 unfolding serde_json_on_literals
 returns-clause-unread c = refl
 
-pub returns-clause-record : goal.returns-clause-record
-unfolding serde_json_on_literals
-returns-clause-record c = refl
-
 pub returns-clause-deepest : goal.returns-clause-deepest
 unfolding serde_json_on_literals
 returns-clause-deepest c = refl

@@ -14,18 +14,6 @@ pub returns-clause-outside : goal.returns-clause-outside
 unfolding serde_json_on_literals
 returns-clause-outside c = refl
 
-pub returns-clause-within : goal.returns-clause-within
-unfolding serde_json_on_literals
-returns-clause-within c = refl
-
-pub returns-clause-below : goal.returns-clause-below
-unfolding serde_json_on_literals
-returns-clause-below c = refl
-
-pub returns-clause-above : goal.returns-clause-above
-unfolding serde_json_on_literals
-returns-clause-above c = refl
-
 pub returns-clause-texts : goal.returns-clause-texts
 unfolding serde_json_on_literals
 returns-clause-texts c = refl

@@ -1,25 +1,30 @@
 -- The tests of entities and requests decide which faults are there.
-use Rattle.std.proofs.Common.{◌≡◌, ◌⊎◌, List, ◌∷◌, Bool, true, false, not, ◌&&◌, ◌||◌, Option, Some, None, refl, sym, arith}
+use Rattle.std.proofs.Common.{◌≡◌, ◌⊎◌, List, ◌∷◌, Bool, true, false, not, ◌&&◌, ◌||◌, Option, Some, None, refl, sym, arith, cond, ◌∙◌, subst, ap, []}
 use Rattle.std.specs.Prelude.{Contains, is_some, is_none}
 use Rattle.std.specs.Bool.{Decides}
-use Rattle.std.specs.List.{list_any}
+use Rattle.std.specs.List.{list_any, list_all}
 use Rattle.std.specs.Str.{bytes_eq}
 use Rattle.std.proofs.lemmas.Bool.Decides.{Decides-and, Decides-or, Decides-not, Decides-like}
 use Rattle.std.proofs.lemmas.Slice.Eq.{bytes_eq-Decides}
 use Rattle.cedar_expr_model.specs.Name.{Text, Name, name_eq}
 use Rattle.cedar_expr_model.specs.Uid.{Uid, uid_eq}
 use Rattle.cedar_expr_model.proofs.Equality.{name_eq-Decides, uid_eq-Decides}
-use Rattle.cedar_expr_model.proofs.Lists.{contains_tail, found-Decides, any-Decides, all-Decides}
-use Rattle.cedar_expr_model.specs.Whole.Value.{V, record_of}
-use Rattle.cedar_store_model.specs.Whole.World.{Part, known, left, Entity, part_named}
+use Rattle.cedar_expr_model.proofs.Lists.{contains_tail, found-Decides, any-Decides, all-Decides, contains_none, contains_head, contains_cases}
+use Rattle.cedar_expr_model.specs.Whole.Value.{V}
+use Rattle.cedar_expr_model.specs.Whole.ValueParts.{Part, known, left}
+use Rattle.cedar_store_model.specs.Whole.World.{Entity}
 use Rattle.cedar_schema_model.specs.Whole.Types.{Ty, record_type, is_closed, attribute_named}
-use Rattle.cedar_schema_model.specs.Whole.Schema.{standard, enumerated, external, Action, Schema, action_with, declares_action}
+use Rattle.cedar_schema_model.specs.Whole.Schema.{standard, enumerated, external, Action, Schema, action_with, declares_action, EntityType, type_named}
 use Rattle.cedar_schema_model.specs.Whole.Descent.{action_descends, ActionDescends, action_uids}
 use Rattle.cedar_schema_model.specs.Whole.HasType.{HasType, has_type}
-use Rattle.cedar_schema_model.specs.Whole.Conforming.{ConformFault, undeclared, not_listed, no_member, lacks_attribute, undeclared_attribute, attribute_value, tag, ancestor, context_value, open_part, conform_faults, Place, among_actions, of_kind, nowhere, place_of, attributes_at, tags_at, attribute_list, type_at, is_nowhere, is_no_member, is_refused, is_left, may_descend, lacks_ancestor, entity_fault_at, has_entity_fault, EntityConforms, entity_conforms, RequestParts, where_known, of_action, is_not_listed, has_request_fault, RequestConforms, request_conforms}
+use Rattle.cedar_store_model.specs.Whole.Store.{OpenRequest}
+use Rattle.cedar_schema_model.specs.Whole.Conforming.{ConformFault, undeclared, not_listed, no_member, lacks_attribute, undeclared_attribute, attribute_value, tag, ancestor, context_value, open_part, conform_faults, Place, among_actions, of_kind, nowhere, place_of, attributes_at, tags_at, attribute_list, type_at, is_no_member, is_refused, may_descend, lacks_ancestor, entity_fault_at, has_entity_fault, EntityConforms, entity_conforms, where_known, of_action, is_not_listed, has_request_fault, RequestConforms, request_conforms}
 use Rattle.cedar_schema_model.specs.Whole.DeclLaws.{IsNoMember, IsRefused, MayDescend, MustDescend, HasLeft, EntityFaultAt, HasEntityFault, WhereKnown, OfAction, IsNotListed, HasRequestFault}
 use Rattle.cedar_schema_model.proofs.Whole.Decls.Descent.{descends-Decides, action_descends-Decides, is_action_ancestor-Decides}
 use Rattle.cedar_schema_model.proofs.Whole.Types.Values.{value_decided}
+use Rattle.std.specs.Map.{lookup}
+use Rattle.cedar_store_model.specs.Whole.Knowledge.{is_known}
+use Rattle.std.specs.Option.{option_map_or}
 
 -- nothing that holds
 nowise : Decides false ⊥
@@ -29,10 +34,10 @@ pub not_false : (b : Bool) → Decides (not b) (b ≡ false)
 not_false true = (λ h. sym h, λ h. sym h)
 not_false false = (λ h. refl, λ h. refl)
 
-nowhere-Decides : (p : Place) → Decides (is_nowhere p) (p ≡ nowhere)
-nowhere-Decides nowhere = (λ h. refl, λ h. refl)
-nowhere-Decides among_actions = (λ h. cc, λ h. cc)
-nowhere-Decides (of_kind k) = (λ h. cc, λ h. cc)
+nowhere-Decides : (b : Bool) (o : Option EntityType) → Decides (not (b || is_some o)) (cond b among_actions (option_map_or (λ t. of_kind t.kind) o nowhere) ≡ nowhere)
+nowhere-Decides true o = (λ h. cc, λ h. cc)
+nowhere-Decides false None = (λ h. refl, λ h. refl)
+nowhere-Decides false (Some t) = (λ h. cc, λ h. cc)
 
 no_member-Decides : (p : Place) (id : Text) → Decides (is_no_member p id) (IsNoMember p id)
 no_member-Decides (of_kind (enumerated ids)) id = Decides-not _ (found-Decides bytes_eq bytes_eq-Decides id ids)
@@ -53,8 +58,20 @@ refused-Decides (Some t) (known v) = Decides-not _ (value_decided v t)
 refused-Decides (Some t) (left x) = nowise
 refused-Decides None x = nowise
 
-left-Decides : (ps : List (Text × Part V)) → Decides (list_any (λ x. is_left x.1) ps) (HasLeft ps)
-left-Decides ps = any-Decides (λ x. is_left x.1) (λ x. is_left x.1 ≡ true) (λ x. is_true-Decides (is_left x.1)) ps
+left-Decides : (ps : List (Text × Part V)) → Decides (not (list_all (λ x. is_known x.1) ps)) (HasLeft ps)
+left-Decides [] = (λ h. cc, λ h. absurd (contains_none h.0 h.1))
+left-Decides (y ∷ ys) = go (is_known y.1) refl (left-Decides ys)
+  where
+    go : (b : Bool) → is_known y.1 ≡ b → Decides (not (list_all (λ x. is_known x.1) ys)) (HasLeft ys) → Decides (not (b && list_all (λ x. is_known x.1) ys)) (HasLeft (y ∷ ys))
+    go false e d = (λ h. (y, contains_head y ys, e), λ h. refl)
+    go true e d = (
+      λ h. let r = d.0 h in (r.0, contains_tail y ys r.0 r.1, r.2),
+      λ h. d.1 (contains_cases (HasLeft ys) y ys h.0 h.1 (λ q. let k = ap (λ (z : Text × Part V). is_known z.1) q in let l = h.2 in cc) (λ k. (h.0, k, h.2))),
+    )
+
+not_both : (a b : Bool) → not (a && b) ≡ (not a || not b)
+not_both true b = refl
+not_both false b = refl
 
 pub may_descend-Decides : (s : Schema) (u : Uid) (p : Place) (v : Uid) → Decides (may_descend s u p v) (MayDescend s u p v)
 may_descend-Decides s u among_actions v = is_action_ancestor-Decides s u v
@@ -78,30 +95,32 @@ lacks_ancestor-Decides s u among_actions vs =
 lacks_ancestor-Decides s u (of_kind k) vs = none_lacks s u (of_kind k) vs (λ v h. h)
 lacks_ancestor-Decides s u nowhere vs = none_lacks s u nowhere vs (λ v h. h)
 
-fault_at-Decides : (s : Schema) (u : Uid) (e : Entity V) (p : Place) (f : ConformFault) → Decides (entity_fault_at s u e p f) (EntityFaultAt s u e p f)
-fault_at-Decides s u e p undeclared = nowhere-Decides p
-fault_at-Decides s u e p no_member = no_member-Decides p u.id
-fault_at-Decides s u e p lacks_attribute =
+fault_at-Decides : (s : Schema) (u : Uid) (e : Entity V) (p : Place) → p ≡ place_of s u → (f : ConformFault) → Decides (entity_fault_at s u e p f) (EntityFaultAt s u e p f)
+fault_at-Decides s u e p q undeclared = let d = nowhere-Decides (declares_action s u) (type_named s u.kind) in (λ h. q ∙ d.0 h, λ h. d.1 (sym q ∙ h))
+fault_at-Decides s u e p q no_member = no_member-Decides p u.id
+fault_at-Decides s u e p q lacks_attribute =
     Decides-like _ (λ h. (h.0, h.1, h.2.0, h.2.1)) (λ h. (h.0, h.1, (h.2, h.3)))
-    (any-Decides (λ d. d.1.is_required && is_none (part_named d.0 e.attributes)) (λ d. (d.1.is_required ≡ true) × (part_named d.0 e.attributes ≡ None))
-    (λ d. Decides-and _ _ (is_true-Decides d.1.is_required) (is_none-Decides (part_named d.0 e.attributes))) (attribute_list (attributes_at p)))
-fault_at-Decides s u e p undeclared_attribute =
+    (any-Decides (λ d. d.1.is_required && is_none (lookup (bytes_eq d.0) e.attributes)) (λ d. (d.1.is_required ≡ true) × (lookup (bytes_eq d.0) e.attributes ≡ None))
+    (λ d. Decides-and _ _ (is_true-Decides d.1.is_required) (is_none-Decides (lookup (bytes_eq d.0) e.attributes))) (attribute_list (attributes_at p)))
+fault_at-Decides s u e p q undeclared_attribute =
     any-Decides (λ x. is_none (attribute_named x.0 (attributes_at p))) (λ x. attribute_named x.0 (attributes_at p) ≡ None) (λ x. is_none-Decides (attribute_named x.0 (attributes_at p))) e.attributes
-fault_at-Decides s u e p attribute_value =
+fault_at-Decides s u e p q attribute_value =
     any-Decides (λ x. is_refused (type_at (attributes_at p) x.0) x.1) (λ x. IsRefused (type_at (attributes_at p) x.0) x.1) (λ x. refused-Decides (type_at (attributes_at p) x.0) x.1) e.attributes
-fault_at-Decides s u e p tag =
+fault_at-Decides s u e p q tag =
     any-Decides (λ x. is_none (tags_at p) || is_refused (tags_at p) x.1) (λ x. (tags_at p ≡ None) ⊎ IsRefused (tags_at p) x.1)
     (λ x. Decides-or _ _ (is_none-Decides (tags_at p)) (refused-Decides (tags_at p) x.1)) e.tags
-fault_at-Decides s u e p ancestor =
+fault_at-Decides s u e p q ancestor =
     Decides-or _ _
     (any-Decides (λ v. not (may_descend s u p v)) (λ v. MayDescend s u p v → ⊥) (λ v. Decides-not _ (may_descend-Decides s u p v)) e.ancestors)
     (lacks_ancestor-Decides s u p e.ancestors)
-fault_at-Decides s u e p open_part = Decides-or _ _ (left-Decides e.attributes) (left-Decides e.tags)
-fault_at-Decides s u e p not_listed = nowise
-fault_at-Decides s u e p context_value = nowise
+fault_at-Decides s u e p q open_part =
+    subst (λ b. Decides b (HasLeft e.attributes ⊎ HasLeft e.tags)) (sym (not_both (list_all (λ x. is_known x.1) e.attributes) (list_all (λ x. is_known x.1) e.tags)))
+    (Decides-or _ _ (left-Decides e.attributes) (left-Decides e.tags))
+fault_at-Decides s u e p q not_listed = nowise
+fault_at-Decides s u e p q context_value = nowise
 
 pub entity_fault-Decides : (s : Schema) (u : Uid) (e : Entity V) (f : ConformFault) → Decides (has_entity_fault s u e f) (HasEntityFault s u e f)
-entity_fault-Decides s u e f = fault_at-Decides s u e (place_of s u) f
+entity_fault-Decides s u e f = fault_at-Decides s u e (place_of s u) refl f
 
 -- each fault stands in the list of all
 later : (f g : ConformFault) (fs : List ConformFault) → Contains fs f → Contains (g ∷ fs) f
@@ -144,7 +163,7 @@ where_known-Decides : {A : Type 0} (o : Option A) (test : A → Bool) (holds : A
 where_known-Decides None test holds each = nowise
 where_known-Decides (Some a) test holds each = each a
 
-of_action-Decides : (s : Schema) (r : RequestParts) (test : Action → Bool) (holds : Action → Type 0) → ((a : Action) → Decides (test a) (holds a)) → Decides (of_action s r test) (OfAction s r holds)
+of_action-Decides : (s : Schema) (r : OpenRequest) (test : Action → Bool) (holds : Action → Type 0) → ((a : Action) → Decides (test a) (holds a)) → Decides (of_action s r test) (OfAction s r holds)
 of_action-Decides s r test holds each =
     where_known-Decides r.action (λ u. where_known (action_with s u) test) (λ u. WhereKnown (action_with s u) holds) (λ u. where_known-Decides (action_with s u) test holds each)
 
@@ -154,19 +173,19 @@ not_listed-Decides ns u = where_known-Decides u (λ v. not (list_any (name_eq v.
 is_member-Decides : (s : Schema) (u : Option Uid) → Decides (where_known u (λ v. is_no_member (place_of s v) v.id)) (WhereKnown u (λ v. IsNoMember (place_of s v) v.id))
 is_member-Decides s u = where_known-Decides u (λ v. is_no_member (place_of s v) v.id) (λ v. IsNoMember (place_of s v) v.id) (λ v. no_member-Decides (place_of s v) v.id)
 
-refuses_context-Decides : (r : RequestParts) (a : Action) → Decides (where_known r.context (λ fs. not (has_type (record_of fs) (record_type a.context is_closed)))) (WhereKnown r.context (λ fs. HasType (record_of fs) (record_type a.context is_closed) → ⊥))
+refuses_context-Decides : (r : OpenRequest) (a : Action) → Decides (where_known r.context (λ v. not (has_type v (record_type a.context is_closed)))) (WhereKnown r.context (λ v. HasType v (record_type a.context is_closed) → ⊥))
 refuses_context-Decides r a =
-    where_known-Decides r.context (λ fs. not (has_type (record_of fs) (record_type a.context is_closed))) (λ fs. HasType (record_of fs) (record_type a.context is_closed) → ⊥)
-    (λ fs. Decides-not _ (value_decided (record_of fs) (record_type a.context is_closed)))
+    where_known-Decides r.context (λ v. not (has_type v (record_type a.context is_closed))) (λ v. HasType v (record_type a.context is_closed) → ⊥)
+    (λ v. Decides-not _ (value_decided v (record_type a.context is_closed)))
 
-pub request_fault-Decides : (s : Schema) (r : RequestParts) (f : ConformFault) → Decides (has_request_fault s r f) (HasRequestFault s r f)
+pub request_fault-Decides : (s : Schema) (r : OpenRequest) (f : ConformFault) → Decides (has_request_fault s r f) (HasRequestFault s r f)
 request_fault-Decides s r undeclared = where_known-Decides r.action (λ u. not (declares_action s u)) (λ u. declares_action s u ≡ false) (λ u. not_false (declares_action s u))
 request_fault-Decides s r not_listed =
     of_action-Decides s r (λ a. is_not_listed a.principals r.principal || is_not_listed a.resources r.resource) (λ a. IsNotListed a.principals r.principal ⊎ IsNotListed a.resources r.resource)
     (λ a. Decides-or _ _ (not_listed-Decides a.principals r.principal) (not_listed-Decides a.resources r.resource))
 request_fault-Decides s r no_member = Decides-or _ _ (is_member-Decides s r.principal) (is_member-Decides s r.resource)
 request_fault-Decides s r context_value =
-    of_action-Decides s r (λ a. where_known r.context (λ fs. not (has_type (record_of fs) (record_type a.context is_closed)))) (λ a. WhereKnown r.context (λ fs. HasType (record_of fs) (record_type a.context is_closed) → ⊥))
+    of_action-Decides s r (λ a. where_known r.context (λ v. not (has_type v (record_type a.context is_closed)))) (λ a. WhereKnown r.context (λ v. HasType v (record_type a.context is_closed) → ⊥))
     (refuses_context-Decides r)
 request_fault-Decides s r open_part =
     Decides-or _ _ (Decides-or _ _ (is_none-Decides r.principal) (is_none-Decides r.action)) (Decides-or _ _ (is_none-Decides r.resource) (is_none-Decides r.context))
@@ -176,13 +195,13 @@ request_fault-Decides s r attribute_value = nowise
 request_fault-Decides s r tag = nowise
 request_fault-Decides s r ancestor = nowise
 
-pub request_conforms-Decides : (s : Schema) (r : RequestParts) → Decides (request_conforms s r) (RequestConforms s r)
+pub request_conforms-Decides : (s : Schema) (r : OpenRequest) → Decides (request_conforms s r) (RequestConforms s r)
 request_conforms-Decides s r =
     Decides-like _ (λ h f. h f (each_fault f)) (λ h f k. h f)
     (all-Decides (λ f. not (has_request_fault s r f)) (λ f. has_request_fault s r f ≡ false) (λ f. not_false (has_request_fault s r f)) conform_faults)
 
-pub no_request_fault : (s : Schema) (r : RequestParts) → RequestConforms s r → (f : ConformFault) → HasRequestFault s r f → ⊥
+pub no_request_fault : (s : Schema) (r : OpenRequest) → RequestConforms s r → (f : ConformFault) → HasRequestFault s r f → ⊥
 no_request_fault s r c f = none_there (has_request_fault s r f) (request_fault-Decides s r f) (c f)
 
-pub where_no_request_fault : (s : Schema) (r : RequestParts) → ((f : ConformFault) → HasRequestFault s r f → ⊥) → RequestConforms s r
+pub where_no_request_fault : (s : Schema) (r : OpenRequest) → ((f : ConformFault) → HasRequestFault s r f → ⊥) → RequestConforms s r
 where_no_request_fault s r h f = is_lacking (has_request_fault s r f) (request_fault-Decides s r f) (h f)

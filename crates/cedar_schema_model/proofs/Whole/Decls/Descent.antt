@@ -9,7 +9,9 @@ use Rattle.cedar_expr_model.specs.Uid.{Uid, uid_eq}
 use Rattle.cedar_expr_model.proofs.Equality.{name_eq-Decides, uid_eq-Decides}
 use Rattle.cedar_expr_model.proofs.Lists.{both_hold, hold_both, hold_left, hold_right, contains_cases, contains_none, found-Decides, any-Decides, map_has}
 use Rattle.cedar_schema_model.specs.Whole.Schema.{EntityType, Action, Schema}
-use Rattle.cedar_schema_model.specs.Whole.Descent.{Chain, Reaches, reaches, type_names, action_uids, HasParent, has_parent, Descends, descends, HasActionParent, has_action_parent, ActionDescends, action_descends, IsActionAncestor, is_action_ancestor, ActionTypeDescends, has_ancestor_of, action_type_descends, TypeDescends, type_descends}
+use Rattle.cedar_schema_model.specs.Whole.DeclLaws.{ActionTypeDescends, TypeDescends}
+use Rattle.cedar_schema_model.proofs.Whole.Named.{has_ancestor_of}
+use Rattle.cedar_schema_model.specs.Whole.Descent.{Chain, Reaches, reaches, type_names, action_uids, HasParent, has_parent, Descends, descends, HasActionParent, has_action_parent, ActionDescends, action_descends, IsActionAncestor, is_action_ancestor, action_type_descends, type_descends}
 
 -- chains one after the other
 pub chains_join : {X : Type 0} (step : X → X → Type 0) (x : X) (zs : List X) (y : X) (ws : List X) (z : X) → Chain step x zs y → Chain step y ws z → Chain step x (zs ++ y ∷ ws) z

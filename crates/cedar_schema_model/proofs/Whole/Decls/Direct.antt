@@ -1,5 +1,5 @@
 -- Conforming read directly.
-use Rattle.std.proofs.Common.{◌≡◌, ◌↔◌, ◌⊎◌, Bool, true, false, Option, Some, None, refl, sym, ap, subst, inl, inr, ⊎_elim}
+use Rattle.std.proofs.Common.{◌≡◌, ◌↔◌, ◌⊎◌, Bool, true, false, Option, Some, None, refl, sym, ap, subst, inl, inr, ⊎_elim, ◌∙◌}
 use Rattle.std.specs.Prelude.{is_some, option_map}
 use Rattle.std.specs.Bool.{Decides}
 use Rattle.std.specs.List.{list_any}
@@ -7,15 +7,20 @@ use Rattle.cedar_expr_model.specs.Name.{name_eq}
 use Rattle.cedar_expr_model.specs.Uid.{Uid, uid_eq}
 use Rattle.cedar_expr_model.proofs.Equality.{name_eq-Decides, uid_eq-Decides}
 use Rattle.cedar_expr_model.proofs.Lists.{found-Decides}
-use Rattle.cedar_expr_model.specs.Whole.Value.{V, record_of}
-use Rattle.cedar_store_model.specs.Whole.World.{Part, known, left, Entity, Request, part_named}
-use Rattle.cedar_schema_model.specs.Whole.Types.{Ty, record_type, is_closed, Declared, attribute_named}
+use Rattle.cedar_expr_model.specs.Whole.Value.{V, record_of, Fields, prim, truth, long, text, entity, set_of, extension}
+use Rattle.cedar_expr_model.specs.Whole.ValueParts.{Part, known, left}
+use Rattle.cedar_store_model.specs.Whole.World.{Entity, Request}
+use Rattle.cedar_schema_model.specs.Whole.Types.{Ty, record_type, is_closed, Declared, attribute_named, Attributes, Openness}
 use Rattle.cedar_schema_model.specs.Whole.Schema.{Action, Schema, action_with}
 use Rattle.cedar_schema_model.specs.Whole.HasType.{HasType, has_type}
-use Rattle.cedar_schema_model.specs.Whole.Conforming.{ConformFault, undeclared, not_listed, no_member, lacks_attribute, undeclared_attribute, attribute_value, tag, ancestor, context_value, open_part, place_of, attributes_at, tags_at, type_at, is_left, may_descend, EntityConforms, RequestParts, parts_of, RequestConforms}
+use Rattle.cedar_store_model.specs.Whole.Store.{OpenRequest, as_open}
+use Rattle.cedar_schema_model.specs.Whole.Conforming.{ConformFault, undeclared, not_listed, no_member, lacks_attribute, undeclared_attribute, attribute_value, tag, ancestor, context_value, open_part, place_of, attributes_at, tags_at, type_at, may_descend, EntityConforms, RequestConforms}
 use Rattle.cedar_schema_model.specs.Whole.DeclLaws.{IsRefused, HasEntityFault, WhereKnown, OfAction, IsNotListed, HasRequestFault, IsOf, IsGoodEntity, IsGoodFor, IsGoodRequest, IsKnownAndGood}
 use Rattle.cedar_schema_model.proofs.Whole.Types.Values.{value_decided}
 use Rattle.cedar_schema_model.proofs.Whole.Decls.Conforming.{may_descend-Decides, no_entity_fault, where_no_entity_fault, no_request_fault, where_no_request_fault}
+use Rattle.std.specs.Map.{lookup}
+use Rattle.std.specs.Str.{bytes_eq}
+use Rattle.cedar_store_model.specs.Whole.Knowledge.{is_known}
 
 -- what isn't refused by a test that decides
 pub not_not : {P : Type 0} (b : Bool) → Decides b P → ((P → ⊥) → ⊥) → P
@@ -31,13 +36,13 @@ not_there None h e = cc
 not_there (Some a) h e = cc
 
 -- a part that has a type, is not refused and not left is of the type
-stands : (t : Option Ty) (x : Part V) → (t ≡ None → ⊥) → (IsRefused t x → ⊥) → (is_left x ≡ true → ⊥) → IsOf t x
+stands : (t : Option Ty) (x : Part V) → (t ≡ None → ⊥) → (IsRefused t x → ⊥) → (is_known x ≡ false → ⊥) → IsOf t x
 stands None x n r l = absurd (n refl)
 stands (Some t) (known v) n r l = not_not (has_type v t) (value_decided v t) r
 stands (Some t) (left y) n r l = absurd (l refl)
 
 -- and back
-not_left : (t : Option Ty) (x : Part V) → IsOf t x → is_left x ≡ true → ⊥
+not_left : (t : Option Ty) (x : Part V) → IsOf t x → is_known x ≡ false → ⊥
 not_left None x h e = h
 not_left (Some t) (known v) h e = cc
 not_left (Some t) (left y) h e = h
@@ -66,7 +71,7 @@ good_where s u e c =
     record {
       is_declared = c undeclared;
       member = c no_member;
-      required = λ d h r. there (part_named d.0 e.attributes) (λ n. c lacks_attribute (d, h, r, n));
+      required = λ d h r. there (lookup (bytes_eq d.0) e.attributes) (λ n. c lacks_attribute (d, h, r, n));
       attributes = λ x h. stands (type_at (attributes_at p) x.0) x.1 (λ n. c undeclared_attribute (x, h, not_declared (attribute_named x.0 (attributes_at p)) n)) (λ n. c attribute_value (x, h, n)) (λ l. c open_part (inl (x, h, l)));
       tags = λ x h. stands (tags_at p) x.1 (λ n. c tag (x, h, inl n)) (λ n. c tag (x, h, inr n)) (λ l. c open_part (inr (x, h, l)));
       allowed = λ v h. not_not (may_descend s u p v) (may_descend-Decides s u p v) (λ n. c ancestor (inl (v, h, n)));
@@ -76,7 +81,7 @@ good_where s u e c =
 good_is_faultless : (s : Schema) (u : Uid) (e : Entity V) → IsGoodEntity s u e → (f : ConformFault) → HasEntityFault s u e f → ⊥
 good_is_faultless s u e g undeclared h = g.is_declared h
 good_is_faultless s u e g no_member h = g.member h
-good_is_faultless s u e g lacks_attribute h = not_there (part_named h.0.0 e.attributes) (g.required h.0 h.1 h.2) h.3
+good_is_faultless s u e g lacks_attribute h = not_there (lookup (bytes_eq h.0.0) e.attributes) (g.required h.0 h.1 h.2) h.3
 good_is_faultless s u e g undeclared_attribute h =
     typed (type_at (attributes_at (place_of s u)) h.0.0) h.0.1 (g.attributes h.0 h.1) (no_type (attribute_named h.0.0 (attributes_at (place_of s u))) h.2)
 good_is_faultless s u e g attribute_value h = not_refused (type_at (attributes_at (place_of s u)) h.0.0) h.0.1 (g.attributes h.0 h.1) h.2
@@ -104,17 +109,17 @@ declared_action : (a : Option Action) → (is_some a ≡ false → ⊥) → (b :
 declared_action None h = absurd (h refl)
 declared_action (Some b) h = (b, refl)
 
-of_found : (s : Schema) (q : Request) (a : Action) (holds : Action → Type 0) → action_with s q.action ≡ Some a → holds a → OfAction s (parts_of q) holds
+of_found : (s : Schema) (q : Request) (a : Action) (holds : Action → Type 0) → action_with s q.action ≡ Some a → holds a → OfAction s (as_open q) holds
 of_found s q a holds e h = subst (λ o. WhereKnown o holds) (sym e) h
 
-from_found : (s : Schema) (q : Request) (a : Action) (holds : Action → Type 0) → action_with s q.action ≡ Some a → OfAction s (parts_of q) holds → holds a
+from_found : (s : Schema) (q : Request) (a : Action) (holds : Action → Type 0) → action_with s q.action ≡ Some a → OfAction s (as_open q) holds → holds a
 from_found s q a holds e h = subst (λ o. WhereKnown o holds) e h
 
 -- a request without faults
-abbrev IsFaultless : Schema → RequestParts → Type 0
+abbrev IsFaultless : Schema → OpenRequest → Type 0
 IsFaultless s r = (f : ConformFault) → HasRequestFault s r f → ⊥
 
-good_for : (s : Schema) (q : Request) → IsFaultless s (parts_of q) → (a : Action) → action_with s q.action ≡ Some a → IsGoodFor s q a
+good_for : (s : Schema) (q : Request) → IsFaultless s (as_open q) → (a : Action) → action_with s q.action ≡ Some a → IsGoodFor s q a
 good_for s q c a e =
     record {
       action = e;
@@ -128,24 +133,40 @@ good_for s q c a e =
           (λ n. c context_value (of_found s q a (λ b. HasType (record_of q.context) (record_type b.context is_closed) → ⊥) e n));
     }
 
-good_request : (s : Schema) (q : Request) → IsFaultless s (parts_of q) → IsGoodRequest s q
+good_request : (s : Schema) (q : Request) → IsFaultless s (as_open q) → IsGoodRequest s q
 good_request s q c = let d = declared_action (action_with s q.action) (c undeclared) in (d.0, good_for s q c d.0 d.1)
 
 known_part : {A : Type 0} (o : Option A) → (o ≡ None → ⊥) → (a : A) × (o ≡ Some a)
 known_part None h = absurd (h refl)
 known_part (Some a) h = (a, refl)
 
-known_and_good : (s : Schema) (r : RequestParts) → IsFaultless s r → IsKnownAndGood s r
+record_value : (v : V) (as_ : Attributes) (o : Openness) → HasType v (record_type as_ o) → (fs : Fields) × (v ≡ record_of fs)
+record_value (prim (truth b)) as_ o h = absurd h
+record_value (prim (long n)) as_ o h = absurd h
+record_value (prim (text t)) as_ o h = absurd h
+record_value (prim (entity u)) as_ o h = absurd h
+record_value (set_of vs) as_ o h = absurd h
+record_value (record_of fs) as_ o h = (fs, refl)
+record_value (extension n k) as_ o h = absurd h
+
+known_and_good : (s : Schema) (r : OpenRequest) → IsFaultless s r → IsKnownAndGood s r
 known_and_good s r c =
     let p = known_part r.principal (λ h. c open_part (inl (inl h))) in
     let a = known_part r.action (λ h. c open_part (inl (inr h))) in
     let o = known_part r.resource (λ h. c open_part (inr (inl h))) in
     let x = known_part r.context (λ h. c open_part (inr (inr h))) in
-    let q : Request = record { principal = p.0; action = a.0; resource = o.0; context = x.0 } in
-    let e : r ≡ parts_of q = λ i. record { principal = p.1 i; action = a.1 i; resource = o.1 i; context = x.1 i } in
-    (q, e, good_request s q (subst (IsFaultless s) e c))
+    let w : OpenRequest = record { principal = Some p.0; action = Some a.0; resource = Some o.0; context = Some x.0 } in
+    let e : r ≡ w = λ i. record { principal = p.1 i; action = a.1 i; resource = o.1 i; context = x.1 i } in
+    let f = subst (IsFaultless s) e c in
+    let d = declared_action (action_with s a.0) (f undeclared) in
+    let t = record_type d.0.context is_closed in
+    let h = not_not (has_type x.0 t) (value_decided x.0 t) (λ n. f context_value (subst (λ b. WhereKnown b (λ (k : Action). HasType x.0 (record_type k.context is_closed) → ⊥)) (sym d.1) n)) in
+    let k = record_value x.0 d.0.context is_closed h in
+    let q : Request = record { principal = p.0; action = a.0; resource = o.0; context = k.0 } in
+    let g : r ≡ as_open q = e ∙ ap (λ v. record w { context = Some v }) k.1 in
+    (q, g, good_request s q (subst (IsFaultless s) g c))
 
-good_request_conforms : (s : Schema) (q : Request) (a : Action) → IsGoodFor s q a → IsFaultless s (parts_of q)
+good_request_conforms : (s : Schema) (q : Request) (a : Action) → IsGoodFor s q a → IsFaultless s (as_open q)
 good_request_conforms s q a g undeclared h = not_there (action_with s q.action) (ap is_some g.action) (is_none (action_with s q.action) h)
   where
     is_none : (o : Option Action) → is_some o ≡ false → o ≡ None
@@ -163,7 +184,7 @@ good_request_conforms s q a g attribute_value h = h
 good_request_conforms s q a g tag h = h
 good_request_conforms s q a g ancestor h = h
 
-pub requests_read : (s : Schema) (r : RequestParts) → RequestConforms s r ↔ IsKnownAndGood s r
+pub requests_read : (s : Schema) (r : OpenRequest) → RequestConforms s r ↔ IsKnownAndGood s r
 requests_read s r = (
   λ c. known_and_good s r (no_request_fault s r c),
   λ k. where_no_request_fault s r (subst (IsFaultless s) (sym k.1) (good_request_conforms s k.0 k.2.0 k.2.1)),

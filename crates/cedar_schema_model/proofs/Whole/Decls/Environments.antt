@@ -11,10 +11,11 @@ use Rattle.cedar_expr_model.specs.Whole.Value.{V}
 use Rattle.cedar_store_model.specs.Whole.World.{Entity, Request}
 use Rattle.cedar_schema_model.specs.Whole.Schema.{Action, Schema, declares_action, type_named}
 use Rattle.cedar_schema_model.specs.Whole.Descent.{type_names, action_uids, Descends, descends, action_descends, IsActionAncestor}
-use Rattle.cedar_schema_model.specs.Whole.ActionEntities.{action_ancestors, as_entity, action_entity, action_entities}
+use Rattle.cedar_schema_model.specs.Whole.ActionEntities.{action_ancestors, as_entity, action_entities}
 use Rattle.cedar_schema_model.specs.Whole.Conforming.{among_actions, of_kind, nowhere, place_of, EntityConforms, ConformFault, undeclared, not_listed, no_member, lacks_attribute, undeclared_attribute, attribute_value, tag, ancestor, context_value, open_part}
-use Rattle.cedar_schema_model.specs.Whole.Environment.{Environment, environment_at, environments_of, environments, SlotUse, no_slot, equal_slot, in_slot, types_above, slot_types, with_slots, linked, environments_for}
-use Rattle.cedar_schema_model.specs.Whole.DeclLaws.{EntityFaultAt, IsGoodFor, IsProduct, IsAtOrAbove, TakesSlot, IsLinked}
+use Rattle.cedar_schema_model.proofs.Whole.Named.{environments_of, linked}
+use Rattle.cedar_schema_model.specs.Whole.Environment.{Environment, environment_at, environments, SlotUse, no_slot, equal_slot, in_slot, types_above, slot_types, with_slots, environments_for}
+use Rattle.cedar_schema_model.specs.Whole.DeclLaws.{EntityFaultAt, IsGoodFor, IsProduct, IsAtOrAbove, TakesSlot, IsLinked, action_entity}
 use Rattle.cedar_schema_model.proofs.Whole.Decls.Descent.{descends-Decides, action_descends-Decides}
 use Rattle.cedar_schema_model.proofs.Whole.Decls.Conforming.{where_no_entity_fault}
 

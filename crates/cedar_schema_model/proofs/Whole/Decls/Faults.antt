@@ -1,5 +1,5 @@
 -- The tests of declarations decide which faults are there.
-use Rattle.std.proofs.Common.{◌≡◌, ◌↔◌, List, [], ◌∷◌, Bool, true, false, not, ◌&&◌, Option, Some, None, refl, sym, ap, ◌∙◌, subst, inl, inr, ⊎_elim}
+use Rattle.std.proofs.Common.{◌≡◌, ◌↔◌, List, [], ◌∷◌, Bool, true, false, not, ◌&&◌, Option, Some, None, refl, sym, ap, ◌∙◌, subst, inl, inr, ⊎_elim, ◌||◌}
 use Rattle.std.specs.Prelude.{Contains, is_some, if◌then◌else◌, find}
 use Rattle.std.specs.Bool.{Decides}
 use Rattle.std.specs.List.{list_any}
@@ -13,12 +13,16 @@ use Rattle.cedar_expr_model.proofs.Lists.{found-Decides, any-Decides, all-Decide
 use Rattle.cedar_schema_model.specs.Whole.Descent.{Reaches, reaches}
 use Rattle.cedar_schema_model.specs.Whole.Reference.{Namespace, action_word, Reference, Meant, meant_common, meant_entity, candidates, action_candidates}
 use Rattle.cedar_schema_model.specs.Whole.Declarations.{Declarations, common_name, action_uid, common_names, entity_names, action_uids, is_declared, is_declared_action, meant, parent_meant, references_of_common, references, extensions}
-use Rattle.cedar_schema_model.specs.Whole.WellFormed.{SchemaFault, duplicate_entity_type, duplicate_common_type, duplicate_action, undeclared_type, undeclared_action, cycle_of_common_types, cycle_of_actions, action_as_entity_type, context_not_record, reserved_name, shadowing, unknown_extension_type, unresolved_external, ill_forms, HasTwice, has_twice, is_common, uses, has_parent_action, becomes_record, written_names, unqualified_uid, is_qualified, declared_types, shadows, is_external_kind, has_schema_fault, IsWellFormed, well_formed}
+use Rattle.cedar_schema_model.specs.Whole.WellFormed.{SchemaFault, duplicate_entity_type, duplicate_common_type, duplicate_action, undeclared_type, undeclared_action, cycle_of_common_types, cycle_of_actions, action_as_entity_type, context_not_record, reserved_name, shadowing, unknown_extension_type, unresolved_external, ill_forms, is_common, uses, has_parent_action, becomes_record, written_names, unqualified_uid, declared_types, shadows, is_external_kind, has_schema_fault, IsWellFormed, well_formed}
 use Rattle.cedar_schema_model.proofs.Whole.Decls.Descent.{reaches-Decides, Covers, chain_starts}
 use Rattle.cedar_schema_model.proofs.Whole.Decls.Conforming.{not_false, is_none-Decides, is_true-Decides, none_there, is_lacking}
-use Rattle.cedar_schema_model.specs.Whole.BagLaws.{IsFirst, Uses, HasParentAction, Shadows, HasSchemaFault}
+use Rattle.cedar_schema_model.specs.Whole.BagLaws.{IsFirst, Uses, HasParentAction, Shadows, HasSchemaFault, HasTwice}
 use Rattle.cedar_expr_model.specs.Whole.Names.{unqualified}
 use Rattle.std.specs.Option.{option_eq}
+use Rattle.cedar_schema_model.proofs.Whole.Named.{is_qualified}
+use Rattle.cedar_expr_model.specs.Whole.Repeats.{repeated}
+use Rattle.cedar_expr_model.specs.Whole.ListLaws.{AreDistinct}
+use Rattle.cedar_expr_model.proofs.Whole.Repeating.{repeats_decide}
 
 -- the first that passes
 first_step : {X : Type 0} (test : X → Bool) (x : X) (xs : List X) (y : X) (b : Bool) → test x ≡ b → (find test xs ≡ Some y → IsFirst test xs y) → (if b then Some x else find test xs) ≡ Some y → IsFirst test (x ∷ xs) y
@@ -51,9 +55,34 @@ pub parent_is_first : (d : Declarations) (ns : Namespace) (u v : Uid) → (paren
 parent_is_first d ns u v = (first_is (is_declared_action d) (action_candidates ns u) v, is_first (is_declared_action d) (action_candidates ns u) v)
 
 -- repeats
+abbrev pub has_twice : {X : Type 0} → (X → X → Bool) → List X → Bool
+has_twice eq [] = false
+has_twice eq (x ∷ xs) = list_any (eq x) xs || has_twice eq xs
+
 pub has_twice-Decides : {X : Type 0} (eq : X → X → Bool) → ((x y : X) → Decides (eq x y) (x ≡ y)) → (xs : List X) → Decides (has_twice eq xs) (HasTwice xs)
 has_twice-Decides eq each [] = (λ h. cc, λ h. absurd h)
 has_twice-Decides eq each (x ∷ xs) = Decides-or _ _ (found-Decides eq each x xs) (has_twice-Decides eq each xs)
+
+apart_not_twice : {X : Type 0} (xs : List X) → AreDistinct xs → HasTwice xs → ⊥
+apart_not_twice [] d h = h
+apart_not_twice (x ∷ xs) d h = ⊎_elim d.0 (apart_not_twice xs d.1) h
+
+not_twice_apart : {X : Type 0} (xs : List X) → (HasTwice xs → ⊥) → AreDistinct xs
+not_twice_apart [] h = tt
+not_twice_apart (x ∷ xs) h = (λ c. h (inl c), not_twice_apart xs (λ k. h (inr k)))
+
+found_case : {X : Type 0} (xs : List X) (o : Option X) (b : Bool) → (o ≡ None) ↔ AreDistinct xs → Decides b (HasTwice xs) → is_some o ≡ b
+found_case xs None true apart twice = absurd (apart_not_twice xs (apart.0 refl) (twice.0 refl))
+found_case xs None false apart twice = refl
+found_case xs (Some x) true apart twice = refl
+found_case xs (Some x) false apart twice = let e = apart.1 (not_twice_apart xs (λ h. let k = twice.1 h in cc)) in cc
+
+-- a repetition is found exactly where the recursive test passes
+pub repeated_twice : {X : Type 0} (eq : X → X → Bool) → ((x y : X) → Decides (eq x y) (x ≡ y)) → (xs : List X) → is_some (repeated eq xs) ≡ has_twice eq xs
+repeated_twice eq each xs = found_case xs (repeated eq xs) (has_twice eq xs) (repeats_decide eq each xs) (has_twice-Decides eq each xs)
+
+pub repeated-Decides : {X : Type 0} (eq : X → X → Bool) → ((x y : X) → Decides (eq x y) (x ≡ y)) → (xs : List X) → Decides (is_some (repeated eq xs)) (HasTwice xs)
+repeated-Decides eq each xs = subst (λ b. Decides b (HasTwice xs)) (sym (repeated_twice eq each xs)) (has_twice-Decides eq each xs)
 
 -- what a common type refers to
 is_common-Decides : (n : Name) (o : Option Meant) → Decides (is_common n o) (o ≡ Some (meant_common n))
@@ -100,9 +129,9 @@ shadows-Decides d =
     (λ u. Decides-and _ _ (is_true-Decides (is_qualified u.kind)) (found-Decides uid_eq uid_eq-Decides (unqualified_uid u) (action_uids d))) (action_uids d)))
 
 pub schema_fault-Decides : (x : List Name) (d : Declarations) (f : SchemaFault) → Decides (has_schema_fault x d f) (HasSchemaFault x d f)
-schema_fault-Decides x d duplicate_entity_type = has_twice-Decides name_eq name_eq-Decides (entity_names d)
-schema_fault-Decides x d duplicate_common_type = has_twice-Decides name_eq name_eq-Decides (common_names d)
-schema_fault-Decides x d duplicate_action = has_twice-Decides uid_eq uid_eq-Decides (action_uids d)
+schema_fault-Decides x d duplicate_entity_type = repeated-Decides name_eq name_eq-Decides (entity_names d)
+schema_fault-Decides x d duplicate_common_type = repeated-Decides name_eq name_eq-Decides (common_names d)
+schema_fault-Decides x d duplicate_action = repeated-Decides uid_eq uid_eq-Decides (action_uids d)
 schema_fault-Decides x d undeclared_type = any-Decides (λ r. not (is_some (meant d r))) (λ r. meant d r ≡ None) (λ r. is_none-Decides (meant d r)) (references d)
 schema_fault-Decides x d undeclared_action =
     any-Decides (λ a. list_any (λ u. not (is_some (parent_meant d a.namespace u))) a.parents) (λ a. (u : Uid) × Contains a.parents u × (parent_meant d a.namespace u ≡ None))

@@ -18,9 +18,9 @@ use Rattle.cedar_expr_model.proofs.Lists.{contains_cases, contains_none, all_eac
 use Rattle.cedar_schema_model.specs.Whole.Descent.{Chain, Reaches}
 use Rattle.cedar_schema_model.specs.Whole.Reference.{Namespace, ReferenceKind, Reference, Meant, meant_common, meant_entity, candidates, action_candidates}
 use Rattle.cedar_schema_model.specs.Whole.Declarations.{TypeExpr, bool_expr, long_expr, string_expr, set_expr, record_expr, reference, extension_expr, CommonDeclaration, ActionDeclaration, Declarations, bag, common_name, entity_name, action_uid, common_names, entity_names, action_uids, is_declared, is_declared_action, meant, parent_meant, extensions_in, types_in, references_of_common, references_of_entity, references_of_action, references, extensions}
-use Rattle.cedar_schema_model.specs.Whole.WellFormed.{SchemaFault, duplicate_entity_type, duplicate_common_type, duplicate_action, undeclared_type, undeclared_action, cycle_of_common_types, cycle_of_actions, action_as_entity_type, context_not_record, reserved_name, shadowing, unknown_extension_type, unresolved_external, HasTwice, has_twice, refers_to_record, is_written_record, is_record_within, becomes_record, written_names, unqualified_uid, declared_types}
-use Rattle.cedar_schema_model.specs.Whole.BagLaws.{IsReordered, Uses, HasParentAction, HasSchemaFault}
-use Rattle.cedar_schema_model.proofs.Whole.Decls.Faults.{has_twice-Decides}
+use Rattle.cedar_schema_model.specs.Whole.WellFormed.{SchemaFault, duplicate_entity_type, duplicate_common_type, duplicate_action, undeclared_type, undeclared_action, cycle_of_common_types, cycle_of_actions, action_as_entity_type, context_not_record, reserved_name, shadowing, unknown_extension_type, unresolved_external, refers_to_record, is_written_record, is_record_within, becomes_record, written_names, unqualified_uid, declared_types}
+use Rattle.cedar_schema_model.specs.Whole.BagLaws.{IsReordered, Uses, HasParentAction, HasSchemaFault, HasTwice}
+use Rattle.cedar_schema_model.proofs.Whole.Decls.Faults.{has_twice-Decides, has_twice}
 use Rattle.cedar_expr_model.specs.Whole.Names.{unqualified}
 
 -- all members of the first are members of the second

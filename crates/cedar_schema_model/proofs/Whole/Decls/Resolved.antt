@@ -11,11 +11,12 @@ use Rattle.cedar_schema_model.specs.Whole.Types.{Ty, never, record_type, set_typ
 use Rattle.cedar_schema_model.specs.Whole.Descent.{Chain, Reaches}
 use Rattle.cedar_schema_model.specs.Whole.Reference.{Namespace, Reference, Meant, meant_common, meant_entity}
 use Rattle.cedar_schema_model.specs.Whole.Declarations.{TypeExpr, bool_expr, long_expr, string_expr, set_expr, record_expr, reference, extension_expr, FieldExprs, no_field_exprs, field_expr, CommonDeclaration, ActionDeclaration, Declarations, common_name, common_names, is_declared, meant, references_in, references_in_fields}
-use Rattle.cedar_schema_model.specs.Whole.WellFormed.{duplicate_common_type, cycle_of_common_types, context_not_record, HasTwice, refers_to_record, is_record_within, becomes_record, IsWellFormed}
-use Rattle.cedar_schema_model.specs.Whole.Resolved.{with_attribute, type_meant, resolved_by, resolved_fields_by, defined_by, common_within, common_of, resolved, attributes_of_record, resolved_action}
+use Rattle.cedar_schema_model.specs.Whole.WellFormed.{duplicate_common_type, cycle_of_common_types, context_not_record, refers_to_record, is_record_within, becomes_record, IsWellFormed}
+use Rattle.cedar_schema_model.proofs.Whole.Named.{defined_by}
+use Rattle.cedar_schema_model.specs.Whole.Resolved.{with_attribute, type_meant, resolved_by, resolved_fields_by, common_within, common_of, resolved, attributes_of_record, resolved_action}
 use Rattle.cedar_schema_model.proofs.Whole.Decls.Descent.{reaches_on}
 use Rattle.cedar_schema_model.proofs.Whole.Decls.Faults.{meant_is_declared, no_schema_fault}
-use Rattle.cedar_schema_model.specs.Whole.BagLaws.{Uses}
+use Rattle.cedar_schema_model.specs.Whole.BagLaws.{Uses, HasTwice}
 
 -- Two choices of the common types that agree on those that a written type refers to resolve it to the same.
 abbrev pub AgreeOn : (Name → Ty) → (Name → Ty) → Declarations → List Reference → Type 0

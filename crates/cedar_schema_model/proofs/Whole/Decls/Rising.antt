@@ -10,7 +10,8 @@ use Rattle.cedar_expr_model.proofs.Lists.{both_hold, hold_both}
 use Rattle.cedar_schema_model.specs.Whole.Types.{Ty, Attributes, no_attributes, attribute}
 use Rattle.cedar_schema_model.specs.Whole.Reference.{Namespace, Meant, meant_common, meant_entity}
 use Rattle.cedar_schema_model.specs.Whole.Declarations.{TypeExpr, bool_expr, long_expr, string_expr, set_expr, record_expr, reference, extension_expr, FieldExprs, no_field_exprs, field_expr, CommonDeclaration, Declarations, common_name, meant}
-use Rattle.cedar_schema_model.specs.Whole.Resolved.{with_attribute, type_meant, resolved_by, resolved_fields_by, defined_by, common_within, common_of, resolved}
+use Rattle.cedar_schema_model.proofs.Whole.Named.{defined_by}
+use Rattle.cedar_schema_model.specs.Whole.Resolved.{with_attribute, type_meant, resolved_by, resolved_fields_by, common_within, common_of, resolved}
 use Rattle.std.specs.Prelude.{find}
 use Rattle.cedar_schema_model.specs.Whole.Subtype.{is_before_attributes}
 use Rattle.cedar_schema_model.specs.Whole.BagLaws.{has_rising, are_rising}

@@ -13,9 +13,10 @@ use Rattle.cedar_schema_model.specs.Whole.Types.{Ty, set_type, record_type, is_c
 use Rattle.cedar_schema_model.specs.Whole.Schema.{standard, EntityType, Action, type_named, action_with}
 use Rattle.cedar_schema_model.specs.Whole.Reference.{Namespace, to_entity, Reference, Meant, meant_common, meant_entity}
 use Rattle.cedar_schema_model.specs.Whole.Declarations.{TypeExpr, bool_expr, long_expr, string_expr, set_expr, record_expr, reference, extension_expr, FieldExprs, no_field_exprs, field_expr, CommonDeclaration, KindExpr, standard_expr, enumerated_expr, external_expr, EntityDeclaration, ActionDeclaration, Declarations, common_name, entity_name, action_uid, common_names, meant, parent_meant}
-use Rattle.cedar_schema_model.specs.Whole.WellFormed.{duplicate_entity_type, duplicate_common_type, duplicate_action, HasTwice, IsWellFormed}
-use Rattle.cedar_schema_model.specs.Whole.Resolved.{with_attribute, type_meant, resolved_by, resolved_fields_by, defined_by, common_within, common_of, resolved, entity_of, entity_meant, resolved_kind, resolved_entity, attributes_of_record, resolved_action, schema_of}
-use Rattle.cedar_schema_model.specs.Whole.BagLaws.{IsReordered}
+use Rattle.cedar_schema_model.specs.Whole.WellFormed.{duplicate_entity_type, duplicate_common_type, duplicate_action, IsWellFormed}
+use Rattle.cedar_schema_model.proofs.Whole.Named.{defined_by}
+use Rattle.cedar_schema_model.specs.Whole.Resolved.{with_attribute, type_meant, resolved_by, resolved_fields_by, common_within, common_of, resolved, entity_of, entity_meant, resolved_kind, resolved_entity, attributes_of_record, resolved_action, schema_of}
+use Rattle.cedar_schema_model.specs.Whole.BagLaws.{IsReordered, HasTwice}
 use Rattle.cedar_schema_model.proofs.Whole.Decls.Reordered.{same_meant, same_parent}
 use Rattle.cedar_schema_model.proofs.Whole.Decls.Schema.{same_types, same_actions}
 use Rattle.cedar_schema_model.proofs.Whole.Decls.Faults.{no_schema_fault}

@@ -7,8 +7,8 @@ use Rattle.cedar_expr_model.proofs.Lists.{contains_head}
 use Rattle.cedar_expr_model.specs.Whole.Value.{V}
 use Rattle.cedar_store_model.specs.Whole.World.{Entity, Found, held}
 use Rattle.cedar_schema_model.specs.Whole.Schema.{Schema, declares_action, type_named}
-use Rattle.cedar_schema_model.specs.Whole.Conforming.{among_actions, of_kind, nowhere, place_of, attributes_at, tags_at, type_at, StoreConforms}
-use Rattle.cedar_schema_model.specs.Whole.DeclLaws.{MayDescend, MustDescend, IsOf, IsGoodEntity, IsActionEntity}
+use Rattle.cedar_schema_model.specs.Whole.Conforming.{among_actions, of_kind, nowhere, place_of, attributes_at, tags_at, type_at}
+use Rattle.cedar_schema_model.specs.Whole.DeclLaws.{MayDescend, MustDescend, IsOf, IsGoodEntity, IsActionEntity, StoreConforms}
 use Rattle.cedar_schema_model.proofs.Whole.Decls.Direct.{good_entity}
 
 none_there : {X : Type 0} (xs : List X) → ((x : X) → Contains xs x → ⊥) → xs ≡ []

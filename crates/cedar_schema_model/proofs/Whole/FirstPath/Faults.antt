@@ -1,6 +1,6 @@
 -- The faults of plain declarations.
 use Rattle.std.proofs.Common.{◌≡◌, ◌↔◌, List, [], ◌∷◌, ◌++◌, Bool, true, false, not, cond, ◌&&◌, ◌||◌, map, Option, Some, None, refl, sym, ap, ◌∙◌}
-use Rattle.std.specs.Prelude.{is_none}
+use Rattle.std.specs.Prelude.{is_none, is_some}
 use Rattle.std.specs.List.{list_all, list_any, flat_map}
 use Rattle.std.specs.Str.{bytes_eq}
 use Rattle.std.specs.Option.{option_eq}
@@ -8,18 +8,21 @@ use Rattle.std.proofs.lemmas.List.Folds.{list_all-append, list_all-map}
 use Rattle.cedar_expr_model.specs.Name.{Text, Name, name_eq, is_reserved}
 use Rattle.cedar_expr_model.specs.Uid.{Uid, uid_eq}
 use Rattle.cedar_expr_model.specs.Whole.Names.{is_unqualified, unqualified}
-use Rattle.cedar_expr_model.proofs.Equality.{name_eq-Decides}
+use Rattle.cedar_expr_model.proofs.Equality.{name_eq-Decides, uid_eq-Decides}
 use Rattle.cedar_expr_model.proofs.Lists.{both_hold, hold_both, any_from, all_each}
 use Rattle.cedar_schema_model.specs.Declarations as small
 use Rattle.cedar_schema_model.specs.Whole.Descent.{reaches}
 use Rattle.cedar_schema_model.specs.Whole.Reference.{Namespace, action_word, name_in, to_entity, Reference, Meant, meant_entity}
 use Rattle.cedar_schema_model.specs.Whole.Declarations.{EntityDeclaration, ActionDeclaration, entity_name, action_uid, entity_names, action_uids, is_declared, meant, parent_meant, types_in, extensions_in, to_entities, references_of_entity, references_of_action, references, extensions}
-use Rattle.cedar_schema_model.specs.Whole.WellFormed.{SchemaFault, duplicate_entity_type, duplicate_common_type, duplicate_action, undeclared_type, undeclared_action, cycle_of_common_types, cycle_of_actions, action_as_entity_type, context_not_record, reserved_name, shadowing, unknown_extension_type, unresolved_external, has_twice, has_parent_action, is_qualified, unqualified_uid, declared_types, shadows, becomes_record, is_external_kind, written_names, has_schema_fault, IsWellFormed, well_formed}
+use Rattle.cedar_schema_model.specs.Whole.WellFormed.{SchemaFault, duplicate_entity_type, duplicate_common_type, duplicate_action, undeclared_type, undeclared_action, cycle_of_common_types, cycle_of_actions, action_as_entity_type, context_not_record, reserved_name, shadowing, unknown_extension_type, unresolved_external, has_parent_action, unqualified_uid, declared_types, shadows, becomes_record, is_external_kind, written_names, has_schema_fault, IsWellFormed, well_formed}
 use Rattle.cedar_schema_model.specs.Whole.FirstPath.{whole_entity, whole_action, whole_declarations, whole_fault, is_first_fault, is_plain_action, is_plain, refers_unreserved, also_asked}
 use Rattle.cedar_schema_model.proofs.Order.{all_agree}
 use Rattle.cedar_schema_model.proofs.WellFormed as small_formed
-use Rattle.cedar_schema_model.proofs.Whole.Decls.Faults.{well_formed-Decides}
+use Rattle.cedar_schema_model.proofs.Whole.Decls.Faults.{well_formed-Decides, has_twice, repeated_twice}
 use Rattle.cedar_schema_model.proofs.Whole.FirstPath.Lists.{and_true, and_false, not_or, any_map, any_none, any_none_where, same_said, not_any, all_implied, map_twice, map_agree_where}
+use Rattle.cedar_schema_model.proofs.Whole.Named.{is_qualified}
+use Rattle.cedar_expr_model.specs.Whole.Repeats.{repeated}
+use Rattle.std.specs.Bool.{Decides}
 
 pub plain_types : (d : small.Declarations) → is_plain d ≡ true → list_all (λ (t : small.TypeDeclaration). is_unqualified t.name) d.types ≡ true
 plain_types d h = (both_hold (list_all (λ (t : small.TypeDeclaration). is_unqualified t.name) d.types) (list_all is_plain_action d.actions) h).0
@@ -45,9 +48,12 @@ pub same_uids : (d : small.Declarations) → is_plain d ≡ true → action_uids
 same_uids d h = map_twice whole_action action_uid d.actions ∙ map_agree_where is_plain_action (λ a. action_uid (whole_action a)) (λ a. a.uid) same_uid d.actions (plain_actions d h)
 
 -- nothing stands twice
-pub same_distinct : {X : Type 0} (eq : X → X → Bool) (xs : List X) → not (has_twice eq xs) ≡ small.are_distinct eq xs
-same_distinct eq [] = refl
-same_distinct eq (x ∷ xs) = not_or (list_any (eq x) xs) (has_twice eq xs) ∙ ap (λ b. not (list_any (eq x) xs) && b) (same_distinct eq xs)
+same_twice : {X : Type 0} (eq : X → X → Bool) (xs : List X) → not (has_twice eq xs) ≡ small.are_distinct eq xs
+same_twice eq [] = refl
+same_twice eq (x ∷ xs) = not_or (list_any (eq x) xs) (has_twice eq xs) ∙ ap (λ b. not (list_any (eq x) xs) && b) (same_twice eq xs)
+
+pub same_distinct : {X : Type 0} (eq : X → X → Bool) → ((x y : X) → Decides (eq x y) (x ≡ y)) → (xs : List X) → not (is_some (repeated eq xs)) ≡ small.are_distinct eq xs
+same_distinct eq each xs = ap not (repeated_twice eq each xs) ∙ same_twice eq xs
 
 -- what a reference to an entity type means: the type itself, if it is declared
 abbrev type_or_none : Bool → Name → Option Meant
@@ -168,9 +174,9 @@ same_reserved d h =
 
 pub same_faults : (x : List Name) (d : small.Declarations) → is_plain d ≡ true → (f : small.SchemaFault) → not (has_schema_fault x (whole_declarations d) (whole_fault f)) ≡ (small.is_free_of f d && also_asked f d)
 same_faults x d h small.duplicate_entity_type =
-    ap (λ l. not (has_twice name_eq l)) (same_names d) ∙ (same_distinct name_eq (small.type_names d) ∙ sym (and_true (small.are_distinct name_eq (small.type_names d))))
+    ap (λ l. not (is_some (repeated name_eq l))) (same_names d) ∙ (same_distinct name_eq name_eq-Decides (small.type_names d) ∙ sym (and_true (small.are_distinct name_eq (small.type_names d))))
 same_faults x d h small.duplicate_action =
-    ap (λ l. not (has_twice uid_eq l)) (same_uids d h) ∙ (same_distinct uid_eq (small.action_uids d) ∙ sym (and_true (small.are_distinct uid_eq (small.action_uids d))))
+    ap (λ l. not (is_some (repeated uid_eq l))) (same_uids d h) ∙ (same_distinct uid_eq uid_eq-Decides (small.action_uids d) ∙ sym (and_true (small.are_distinct uid_eq (small.action_uids d))))
 same_faults x d h small.undeclared_type = same_undeclared d h ∙ sym (and_true (list_all (small.refers_to_declared d) d.actions))
 same_faults x d h small.action_as_entity_type = same_action_word d ∙ sym (and_true (small.is_free_of small.action_as_entity_type d))
 same_faults x d h small.reserved_name = same_reserved d h

@@ -14,11 +14,13 @@ use Rattle.cedar_schema_model.specs.Environment as small_environment
 use Rattle.cedar_schema_model.specs.Conforming as small_conforming
 use Rattle.cedar_schema_model.specs.Whole.Types.{record_type, is_closed, no_attributes}
 use Rattle.cedar_schema_model.specs.Whole.Schema.{EntityType, Action, action_with, declares_type, declares_action}
-use Rattle.cedar_schema_model.specs.Whole.Environment.{environment_at, environments_of, environments}
+use Rattle.cedar_schema_model.proofs.Whole.Named.{environments_of}
+use Rattle.cedar_schema_model.specs.Whole.Environment.{environment_at, environments}
 use Rattle.cedar_schema_model.specs.Whole.Reference.{Namespace, meant_entity}
 use Rattle.cedar_schema_model.specs.Whole.Resolved.{entity_of, entity_meant, resolved_entity, resolved_action, schema_of}
 use Rattle.cedar_schema_model.specs.Whole.HasType.{has_type}
-use Rattle.cedar_schema_model.specs.Whole.Conforming.{among_actions, of_kind, nowhere, place_of, is_no_member, where_known, is_not_listed, parts_of, RequestConforms, request_conforms}
+use Rattle.cedar_store_model.specs.Whole.Store.{as_open}
+use Rattle.cedar_schema_model.specs.Whole.Conforming.{among_actions, of_kind, nowhere, place_of, is_no_member, where_known, is_not_listed, RequestConforms, request_conforms}
 use Rattle.cedar_store_model.specs.Whole.FirstPath.{whole_request}
 use Rattle.cedar_schema_model.specs.Whole.FirstPath.{whole_entity, whole_action, whole_declarations, whole_environment, is_plain_action, schema_entity, schema_action, whole_schema, IsFirstPath}
 use Rattle.cedar_schema_model.proofs.WellFormed.{well_formed-Decides}
@@ -163,7 +165,7 @@ last_true true true false d = refl
 last_true true true true true = refl
 last_true true true true false = refl
 
-pub conforms_to_schema : (d : small.Declarations) (r : small_world.Request) → small.is_free_of small.duplicate_action d ≡ true → request_conforms (whole_schema d) (parts_of (whole_request r)) ≡ small_conforming.conforms d r
+pub conforms_to_schema : (d : small.Declarations) (r : small_world.Request) → small.is_free_of small.duplicate_action d ≡ true → request_conforms (whole_schema d) (as_open (whole_request r)) ≡ small_conforming.conforms d r
 conforms_to_schema d r h =
     let s = whole_schema d in
     let o = action_with s r.action in
@@ -174,10 +176,10 @@ conforms_to_schema d r h =
     ∙ (verdict_is r (find (has_uid r.action) d.actions)
     ∙ sym (allowed_by_found r d.actions h)))
 
-pub same_requests : (d : small.Declarations) (r : small_world.Request) → IsFirstPath d → request_conforms (schema_of (whole_declarations d)) (parts_of (whole_request r)) ≡ small_conforming.conforms d r
-same_requests d r h = ap (λ s. request_conforms s (parts_of (whole_request r))) (same_schema d h) ∙ conforms_to_schema d r ((well_formed-Decides d).0 h.formed).actions_once
+pub same_requests : (d : small.Declarations) (r : small_world.Request) → IsFirstPath d → request_conforms (schema_of (whole_declarations d)) (as_open (whole_request r)) ≡ small_conforming.conforms d r
+same_requests d r h = ap (λ s. request_conforms s (as_open (whole_request r))) (same_schema d h) ∙ conforms_to_schema d r ((well_formed-Decides d).0 h.formed).actions_once
 
-pub conforming_says : (d : small.Declarations) (r : small_world.Request) → IsFirstPath d → RequestConforms (schema_of (whole_declarations d)) (parts_of (whole_request r)) ↔ small_conforming.Conforms d r
+pub conforming_says : (d : small.Declarations) (r : small_world.Request) → IsFirstPath d → RequestConforms (schema_of (whole_declarations d)) (as_open (whole_request r)) ↔ small_conforming.Conforms d r
 conforming_says d r h =
-    same_said (request_conforms (schema_of (whole_declarations d)) (parts_of (whole_request r))) (small_conforming.conforms d r)
-    (request_conforms-Decides (schema_of (whole_declarations d)) (parts_of (whole_request r))) (conforms-Decides d r) (same_requests d r h)
+    same_said (request_conforms (schema_of (whole_declarations d)) (as_open (whole_request r))) (small_conforming.conforms d r)
+    (request_conforms-Decides (schema_of (whole_declarations d)) (as_open (whole_request r))) (conforms-Decides d r) (same_requests d r h)

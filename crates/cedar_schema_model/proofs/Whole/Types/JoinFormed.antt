@@ -4,19 +4,21 @@ use Rattle.std.specs.List.{list_all}
 use Rattle.cedar_expr_model.specs.Name.{Text, Name, name_eq, is_well_formed}
 use Rattle.cedar_expr_model.proofs.Lists.{both_hold, hold_both, contains_head, contains_none}
 use Rattle.cedar_schema_model.specs.Whole.Types.{Ty, never, bool_type, long_type, string_type, any_entity, entity_types, any_set, set_type, record_type, extension_type, Attributes, no_attributes, attribute, Declared, attribute_named, Mode}
-use Rattle.cedar_schema_model.specs.Whole.Subtype.{is_permissive, is_closed_record, are_among, are_rising_names, is_union, is_well_formed_type}
+use Rattle.cedar_schema_model.specs.Whole.Subtype.{is_permissive, is_closed_record, are_among, is_union, is_well_formed_type}
 use Rattle.cedar_schema_model.specs.Whole.TypeLaws.{has_no_any_set, have_no_any_set}
 use Rattle.cedar_schema_model.specs.Whole.Join.{names_of_both, agree, joined_with, kept_attribute, all_stayed, openness_of_join, join, attributes_join}
 use Rattle.cedar_schema_model.proofs.Whole.Types.Lookups.{no_lie, no_none, named_cases, Formed, formed_parts, formed_at}
 use Rattle.cedar_schema_model.proofs.Whole.Types.Names.{Named, Rising, union_parts, both_named, both_rising, both_right}
 use Rattle.cedar_schema_model.proofs.Whole.Types.JoinParts.{if_given, joined_type, joined_formed}
+use Rattle.cedar_expr_model.specs.Whole.Lists.{rises}
+use Rattle.cedar_expr_model.specs.Order.{name_cmp}
 
 abbrev FormedIf : Option Ty → Type 0
 FormedIf o = IfSome o (λ j. is_well_formed_type j ≡ true)
 
 union_made : (ns : List Name) → Named ns → Rising ns → (x : Name) → Contains ns x → is_union ns ≡ true
 union_made [] v r x h = absurd (contains_none x h)
-union_made (m ∷ ms) v r x h = hold_both (list_all is_well_formed (m ∷ ms)) (are_rising_names (m ∷ ms)) v r
+union_made (m ∷ ms) v r x h = hold_both (list_all is_well_formed (m ∷ ms)) (rises name_cmp (m ∷ ms)) v r
 
 unions_formed : (ns ms : List Name) → is_union ns ≡ true → is_union ms ≡ true → is_union (names_of_both ns ms) ≡ true
 unions_formed ns [] v w = no_lie w

@@ -12,7 +12,8 @@ use Rattle.cedar_schema_model.specs.Whole.Subtype.{Below, is_well_formed_type}
 use Rattle.cedar_schema_model.specs.Whole.TypeLaws.{has_no_any_set}
 use Rattle.cedar_schema_model.specs.Whole.HasType.{HasType, HasRequired, FieldsFit, FieldFits}
 use Rattle.cedar_schema_model.specs.Whole.Join.{reduce_to_join}
-use Rattle.cedar_schema_model.specs.Whole.Lookup.{declared_of, all_declared, declared_by_all, lookup_attribute, may_have_attribute}
+use Rattle.cedar_schema_model.proofs.Whole.Named.{all_declared}
+use Rattle.cedar_schema_model.specs.Whole.Lookup.{declared_of, declared_by_all, lookup_attribute, may_have_attribute}
 use Rattle.cedar_schema_model.specs.Whole.TypeLaws.{HasPlainAttributes, DeclaredBelow}
 use Rattle.cedar_schema_model.proofs.Whole.Types.Lookups.{no_lie, no_none, inside, from_some, some_is, test_cases, declares}
 use Rattle.cedar_schema_model.proofs.Whole.Types.Names.{among_at}

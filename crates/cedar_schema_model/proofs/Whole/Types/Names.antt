@@ -11,9 +11,10 @@ use Rattle.cedar_expr_model.specs.Order.{name_cmp}
 use Rattle.cedar_expr_model.proofs.Equality.{name_eq-Decides}
 use Rattle.cedar_expr_model.proofs.Lists.{both_hold, hold_both, all_each, all_from, found-Decides, contains_head, contains_tail, contains_cases, contains_none}
 use Rattle.cedar_expr_model.proofs.UidText.{name_text_apart}
-use Rattle.cedar_schema_model.specs.Whole.Subtype.{are_among, are_rising_names, is_union}
+use Rattle.cedar_schema_model.specs.Whole.Subtype.{are_among, is_union}
 use Rattle.cedar_schema_model.specs.Whole.Join.{name_inserted, names_of_both}
 use Rattle.cedar_schema_model.proofs.Whole.Types.Lookups.{no_lie, less_is}
+use Rattle.cedar_expr_model.specs.Whole.Lists.{rises}
 
 pub in_list : (x : Name) (ns : List Name) → list_any (name_eq x) ns ≡ true → Contains ns x
 in_list x ns h = (found-Decides name_eq name_eq-Decides x ns).0 h
@@ -41,11 +42,11 @@ abbrev pub Named : List Name → Type 0
 Named ns = list_all is_well_formed ns ≡ true
 
 abbrev pub Rising : List Name → Type 0
-Rising ns = are_rising_names ns ≡ true
+Rising ns = rises name_cmp ns ≡ true
 
 pub union_parts : (ns : List Name) → is_union ns ≡ true → Named ns × Rising ns
 union_parts [] h = no_lie h
-union_parts (n ∷ ns) h = both_hold (list_all is_well_formed (n ∷ ns)) (are_rising_names (n ∷ ns)) h
+union_parts (n ∷ ns) h = both_hold (list_all is_well_formed (n ∷ ns)) (rises name_cmp (n ∷ ns)) h
 
 pub named_tail : (n : Name) (ns : List Name) → Named (n ∷ ns) → (is_well_formed n ≡ true) × Named ns
 named_tail n ns h = both_hold (is_well_formed n) (list_all is_well_formed ns) h
@@ -55,12 +56,12 @@ named_name ns h x k = all_each is_well_formed ns h x k
 
 pub rising_tail : (n : Name) (ns : List Name) → Rising (n ∷ ns) → Rising ns
 rising_tail n [] h = refl
-rising_tail n (m ∷ ms) h = (both_hold (is_lt (name_cmp n m)) (are_rising_names (m ∷ ms)) h).1
+rising_tail n (m ∷ ms) h = (both_hold (is_lt (name_cmp n m)) (rises name_cmp (m ∷ ms)) h).1
 
 pub first_before : (n : Name) (ns : List Name) → Rising (n ∷ ns) → (x : Name) → Contains ns x → name_cmp n x ≡ Less
 first_before n [] h x k = absurd (contains_none x k)
 first_before n (m ∷ ms) h x k =
-    let p = both_hold (is_lt (name_cmp n m)) (are_rising_names (m ∷ ms)) h in
+    let p = both_hold (is_lt (name_cmp n m)) (rises name_cmp (m ∷ ms)) h in
     let l = less_is (name_cmp n m) p.0 in
     contains_cases (name_cmp n x ≡ Less) m ms x k
     (λ e. subst (λ y. name_cmp n y ≡ Less) e l)
@@ -68,7 +69,7 @@ first_before n (m ∷ ms) h x k =
 
 pub rising_cons : (n : Name) (ns : List Name) → ((x : Name) → Contains ns x → name_cmp n x ≡ Less) → Rising ns → Rising (n ∷ ns)
 rising_cons n [] h r = refl
-rising_cons n (m ∷ ms) h r = hold_both (is_lt (name_cmp n m)) (are_rising_names (m ∷ ms)) (ap is_lt (h m (contains_head m ms))) r
+rising_cons n (m ∷ ms) h r = hold_both (is_lt (name_cmp n m)) (rises name_cmp (m ∷ ms)) (ap is_lt (h m (contains_head m ms))) r
 
 pub never_less : (n : Name) → name_cmp n n ≡ Less → ⊥
 never_less n h = true≢false (sym (ap is_lt h) ∙ ap is_lt (tied_itself name_order n))
@@ -125,7 +126,7 @@ inserted_new n (m ∷ ms) v w =
     new_step (name_cmp n m) n m ms (same_name_text n m v p.0) (inserted_new n ms v p.1)
 
 rising_step : (o : Ordering) (n m : Name) (ms : List Name) → name_cmp n m ≡ o → Rising (m ∷ ms) → Rising (name_inserted n ms) → Rising (match_ordering o (n ∷ m ∷ ms) (m ∷ ms) (m ∷ name_inserted n ms))
-rising_step Less n m ms e r rest = hold_both (is_lt (name_cmp n m)) (are_rising_names (m ∷ ms)) (ap is_lt e) r
+rising_step Less n m ms e r rest = hold_both (is_lt (name_cmp n m)) (rises name_cmp (m ∷ ms)) (ap is_lt e) r
 rising_step Equal n m ms e r rest = r
 rising_step Greater n m ms e r rest =
     rising_cons m (name_inserted n ms)

@@ -5,7 +5,8 @@ use Rattle.cedar_expr_model.proofs.Lists.{both_hold, contains_head, contains_tai
 use Rattle.cedar_schema_model.specs.Whole.Types.{Ty, never, Mode}
 use Rattle.cedar_schema_model.specs.Whole.Subtype.{Below, is_well_formed_type}
 use Rattle.cedar_schema_model.specs.Whole.TypeLaws.{has_no_any_set}
-use Rattle.cedar_schema_model.specs.Whole.Join.{join, join_all, reduce_to_join}
+use Rattle.cedar_schema_model.proofs.Whole.Named.{join_all}
+use Rattle.cedar_schema_model.specs.Whole.Join.{join, reduce_to_join}
 use Rattle.cedar_schema_model.proofs.Whole.Types.Lookups.{no_none, inside, from_some, some_is}
 use Rattle.cedar_schema_model.proofs.Whole.Types.Subtypes.{below_on, below_same, below_both, same_options}
 use Rattle.cedar_schema_model.proofs.Whole.Types.JoinParts.{for_some}
@@ -40,8 +41,12 @@ exists_exactly m a b v w f g = (
 abbrev Tops : Mode → Ty → List Ty → Ty → Type 0
 Tops m t ts j = Below m t j × ((u : Ty) → Contains ts u → Below m u j)
 
+never_joins : (m : Mode) (us : List Ty) → join_all m None us ≡ None
+never_joins m [] = refl
+never_joins m (u ∷ us) = never_joins m us
+
 step_in : (m : Mode) (o : Option Ty) (us : List Ty) (j : Ty) → join_all m o us ≡ Some j → (k : Ty) × (o ≡ Some k) × (join_all m (Some k) us ≡ Some j)
-step_in m None us j h = no_none h
+step_in m None us j h = no_none (sym (never_joins m us) ∙ h)
 step_in m (Some k) us j h = (k, refl, h)
 
 all_above : (m : Mode) (ts : List Ty) (t j : Ty) → Formed t → AllFormed ts → join_all m (Some t) ts ≡ Some j → Formed j × Tops m t ts j

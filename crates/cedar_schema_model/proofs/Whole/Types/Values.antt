@@ -3,7 +3,7 @@ use Rattle.std.proofs.Common.{◌≡◌, ◌↔◌, Bool, true, false, not, ◌|
 use Rattle.std.proofs.lemmas.Bool.Decides.{Decides-and}
 use Rattle.cedar_expr_model.specs.Name.{Text, name_eq}
 use Rattle.cedar_expr_model.specs.Whole.Value.{Literal, truth, long, text, entity, V, prim, set_of, record_of, extension, Vs, no_values, value, Fields, no_fields, field, field_of}
-use Rattle.cedar_expr_model.specs.Whole.Canonical.{Among}
+use Rattle.cedar_expr_model.specs.Whole.SamenessLaws.{Among}
 use Rattle.cedar_expr_model.proofs.Equality.{name_eq-Decides}
 use Rattle.cedar_expr_model.proofs.Lists.{found-Decides, any_has}
 use Rattle.std.specs.List.{list_any}

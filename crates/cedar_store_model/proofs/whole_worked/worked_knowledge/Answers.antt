@@ -17,10 +17,10 @@ pub returns-clause-new_part : goal.returns-clause-new_part
 returns-clause-new_part c h = cc
 
 pub returns-clause-finished_part : goal.returns-clause-finished_part
-returns-clause-finished_part c = tt
+returns-clause-finished_part c = cc
 
 pub returns-clause-unfinished_stays : goal.returns-clause-unfinished_stays
-returns-clause-unfinished_stays c h = h
+returns-clause-unfinished_stays c h = cc
 
 pub returns-clause-whole_world : goal.returns-clause-whole_world
 returns-clause-whole_world c = whole_world

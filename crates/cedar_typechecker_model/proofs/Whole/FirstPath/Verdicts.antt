@@ -12,7 +12,8 @@ use Rattle.cedar_schema_model.specs.Types as small_types
 use Rattle.cedar_schema_model.specs.Environment as small_environment
 use Rattle.cedar_schema_model.specs.Whole.Types.{any_bool, only_true, only_false, Ty, never, bool_type, long_type, string_type, any_entity, entity_types, any_set, set_type, record_type, extension_type, Mode}
 use Rattle.cedar_schema_model.specs.Whole.Schema.{Schema}
-use Rattle.cedar_schema_model.specs.Whole.Environment.{no_slot, linked, environments_for}
+use Rattle.cedar_schema_model.proofs.Whole.Named.{linked}
+use Rattle.cedar_schema_model.specs.Whole.Environment.{no_slot, environments_for}
 use Rattle.cedar_schema_model.specs.Whole.FirstPath.{whole_type, whole_environment, whole_schema, IsFirstPath}
 use Rattle.cedar_schema_model.proofs.Order.{all_agree}
 use Rattle.cedar_schema_model.proofs.Whole.FirstPath.Lists.{flat_none}
@@ -23,12 +24,13 @@ use Rattle.cedar_typechecker_model.specs.Whole.Facts.{Facts, no_facts, union}
 use Rattle.cedar_typechecker_model.specs.Whole.Rules.{Setting}
 use Rattle.cedar_typechecker_model.specs.Whole.Typing.{Judgement, judgement, type_of}
 use Rattle.cedar_typechecker_model.specs.Whole.Levels.{Violation, unless_false, after_and, violations}
-use Rattle.cedar_typechecker_model.specs.Whole.Verdicts.{scope_use, policy_environments, in_mode, strictly, fits, is_bool, is_false, condition_type, passes, impossible, if_typed, violations_in, policy_violations_in}
+use Rattle.cedar_typechecker_model.specs.Whole.Verdicts.{scope_use, policy_environments, in_mode, strictly, fits, is_bool, is_false, condition_type, passes, impossible, violations_in, policy_violations_in}
 use Rattle.cedar_expr_model.specs.Whole.FirstPath.{whole_tree}
 use Rattle.cedar_store_model.specs.Whole.FirstPath.{whole_scope, whole_policy}
 use Rattle.cedar_typechecker_model.specs.Whole.FirstPath.{first_schema}
 use Rattle.cedar_typechecker_model.proofs.Whole.FirstPath.Typing.{types_same}
 use Rattle.cedar_typechecker_model.proofs.Whole.FirstPath.Naming.{same_condition}
+use Rattle.cedar_typechecker_model.proofs.Whole.Named.{if_typed}
 
 -- the environments of a policy: it has no slots
 no_slot_used : (s : small_policy.Scope) → scope_use (whole_scope s) ≡ no_slot

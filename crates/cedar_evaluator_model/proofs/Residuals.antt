@@ -1,0 +1,16 @@
+pub mod Stands
+pub mod Kinds
+pub mod Fields
+pub mod Reads
+pub mod Lists
+pub mod Node
+pub mod Rebuilt
+pub mod Slots
+pub mod Completing
+pub mod Policies
+pub mod Groups
+pub mod Decisions
+pub mod Kept
+pub mod Bound
+pub mod Chains
+pub mod Worked

@@ -1,0 +1,11 @@
+pub mod Keys
+pub mod Forms
+pub mod Objects
+pub mod Expressions
+pub mod Schemas
+pub mod Policies
+pub mod Requests
+pub mod Bundles
+pub mod Bodies
+pub mod Printing
+pub mod Serving
