@@ -135,3 +135,6 @@ impl Display for Literal {
         }
     }
 }
+
+#[cfg(test)]
+mod tests;

@@ -14,8 +14,9 @@ copies_are [] (q ∷ qs) h = absurd h
 copies_are (p ∷ ps) [] h = absurd h
 copies_are (p ∷ ps) (q ∷ qs) h = ap (λ l. l ∷ map literal_of qs) h.0 ∙ ap (λ ls. literal_of p ∷ ls) (copies_are ps qs h.1)
 
-pub same_call : {X : Type 0} (seen : X → Extension) (x y : RepresentableExtensionValue X) → y.value.value ≡ x.value.value → plain_name_of y.func ≡ plain_name_of x.func → AllZip (λ p q. literal_of q ≡ literal_of p) x.args.items y.args.items → with_call seen y ≡ with_call seen x
+pub same_call : {X : Type 0} (seen : X → Extension) (x y : RepresentableExtensionValue X) → y.value.value ≡ x.value.value → plain_name_of y.called ≡ plain_name_of x.called
+    → AllZip (λ p q. literal_of q ≡ literal_of p) x.args.items y.args.items → with_call seen y ≡ with_call seen x
 same_call seen x y a b d =
-    ap (λ z. record { kind = (seen z).kind; key = (seen z).key; function = plain_name_of y.func; arguments = map literal_of y.args.items }) a
+    ap (λ z. record { kind = (seen z).kind; key = (seen z).key; function = plain_name_of y.called; arguments = map literal_of y.args.items }) a
     ∙ ap (λ n. record { kind = (seen x.value.value).kind; key = (seen x.value.value).key; function = n; arguments = map literal_of y.args.items }) b
-    ∙ ap (λ ls. record { kind = (seen x.value.value).kind; key = (seen x.value.value).key; function = plain_name_of x.func; arguments = ls }) (copies_are x.args.items y.args.items d)
+    ∙ ap (λ ls. record { kind = (seen x.value.value).kind; key = (seen x.value.value).key; function = plain_name_of x.called; arguments = ls }) (copies_are x.args.items y.args.items d)

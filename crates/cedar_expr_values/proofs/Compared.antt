@@ -31,7 +31,8 @@ module _ {X : Type 0} (seen : X → Extension) (R : Value X → Value X → Orde
   abbrev pub Agrees : Value X → Type 0
   Agrees v = (w : Value X) → R v w ≡ value_cmp (bare seen v) (bare seen w)
 
-  lists_agree : (xs : List ((v : Value X) × Agrees v)) (ws : List (Value X)) → slice_cmp R (map (λ e. e.0) xs) ws ≡ values_cmp (model.bares (made_list (map (made seen) (map (λ e. e.0) xs)))) (model.bares (made_list (map (made seen) ws)))
+  lists_agree : (xs : List ((v : Value X) × Agrees v)) (ws : List (Value X))
+      → slice_cmp R (map (λ e. e.0) xs) ws ≡ values_cmp (model.bares (made_list (map (made seen) (map (λ e. e.0) xs)))) (model.bares (made_list (map (made seen) ws)))
   lists_agree [] [] = refl
   lists_agree [] (w ∷ ws) = refl
   lists_agree (x ∷ xs) [] = refl
@@ -44,7 +45,8 @@ module _ {X : Type 0} (seen : X → Extension) (R : Value X → Value X → Orde
   abbrev pub seen_fields : List (RcStr Global × Value X) → model.MadeFields
   seen_fields es = made_fields (map by_text (map (λ e. (e.0, made seen e.1)) es))
 
-  fields_agree : (xs : List (RcStr Global × ((v : Value X) × Agrees v))) (ws : List (RcStr Global × Value X)) → slice_cmp fields_by (map (λ e. (e.0, e.1.0)) xs) ws ≡ fields_cmp (model.bare_fields (seen_fields (map (λ e. (e.0, e.1.0)) xs))) (model.bare_fields (seen_fields ws))
+  fields_agree : (xs : List (RcStr Global × ((v : Value X) × Agrees v))) (ws : List (RcStr Global × Value X))
+      → slice_cmp fields_by (map (λ e. (e.0, e.1.0)) xs) ws ≡ fields_cmp (model.bare_fields (seen_fields (map (λ e. (e.0, e.1.0)) xs))) (model.bare_fields (seen_fields ws))
   fields_agree [] [] = refl
   fields_agree [] (w ∷ ws) = refl
   fields_agree (x ∷ xs) [] = refl
@@ -95,9 +97,11 @@ module _ {X : Type 0} (seen : X → Extension) (E : X → X → Ordering) (K : V
       ∙ sym (ap (value_cmp (bare_kind seen (roll-ValueKind X x))) (kind_seen l))
 
   sets_agree : (x : Set-F X (ValueKind X) (Set X) (Value X)) (y : Set-F X ((k : ValueKind X) × KindAgrees k) ((s : Set X) × SetAgrees s) ((v : Value X) × Agrees seen R v))
-      → map-Set X ((k : ValueKind X) × KindAgrees k) ((s : Set X) × SetAgrees s) ((v : Value X) × Agrees seen R v) (ValueKind X) (Set X) (Value X) (λ e. e.0) (λ e. e.0) (λ e. e.0) y ≡ x → SetAgrees (roll-Set X x)
+      → map-Set X ((k : ValueKind X) × KindAgrees k) ((s : Set X) × SetAgrees s) ((v : Value X) × Agrees seen R v) (ValueKind X) (Set X) (Value X) (λ e. e.0) (λ e. e.0) (λ e. e.0) y ≡ x →
+          SetAgrees (roll-Set X x)
   sets_agree x y e t =
-      let items : map (λ v. v.0) y.members.value.items ≡ (out-Set X (roll-Set X x)).members.value.items = ap (λ (d : Set-F X (ValueKind X) (Set X) (Value X)). d.members.value.items) (e ∙ sym (out-roll-Set X x)) in
+      let items : map (λ v. v.0) y.members.value.items ≡ (out-Set X (roll-Set X x)).members.value.items = ap (λ (d : Set-F X (ValueKind X) (Set X) (Value X)). d.members.value.items)
+          (e ∙ sym (out-roll-Set X x)) in
       set_is (roll-Set X x) t
       ∙ ap (λ vs. slice_cmp R vs (out-Set X t).members.value.items) (sym items)
       ∙ lists_agree seen R y.members.value.items (out-Set X t).members.value.items
@@ -106,7 +110,8 @@ module _ {X : Type 0} (seen : X → Extension) (E : X → X → Ordering) (K : V
       ∙ sym (ap (values_cmp (bares seen (roll-Set X x))) (set_seen seen t))
 
   values_agree : (x : Value-F X (ValueKind X) (Set X) (Value X)) (y : Value-F X ((k : ValueKind X) × KindAgrees k) ((s : Set X) × SetAgrees s) ((v : Value X) × Agrees seen R v))
-      → map-Value X ((k : ValueKind X) × KindAgrees k) ((s : Set X) × SetAgrees s) ((v : Value X) × Agrees seen R v) (ValueKind X) (Set X) (Value X) (λ e. e.0) (λ e. e.0) (λ e. e.0) y ≡ x → Agrees seen R (roll-Value X x)
+      → map-Value X ((k : ValueKind X) × KindAgrees k) ((s : Set X) × SetAgrees s) ((v : Value X) × Agrees seen R v) (ValueKind X) (Set X) (Value X) (λ e. e.0) (λ e. e.0) (λ e. e.0) y ≡ x → Agrees
+          seen R (roll-Value X x)
   unfolding Carrier.roll
   values_agree x y e w =
       let kind : y.kind.0 ≡ x.kind = ap (λ (d : Value-F X (ValueKind X) (Set X) (Value X)). d.kind) e in

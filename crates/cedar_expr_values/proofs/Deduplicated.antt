@@ -32,7 +32,8 @@ module _ {A : Type 0} {R : A → A → Ordering} (o : IsTotalOrder R) where
       ap (λ t. first_of_list (cond t (x ∷ filter (ties (λ a b. is_lt (R a b)) q) xs) (filter (ties (λ a b. is_lt (R a b)) q) xs))) (ties_are q x)
       ∙ go (is_eq (R q x)) (firsts_are q xs)
     where
-      go : (t : Bool) → first_of_list (filter (ties (λ a b. is_lt (R a b)) q) xs) ≡ first_tie o q xs → first_of_list (cond t (x ∷ filter (ties (λ a b. is_lt (R a b)) q) xs) (filter (ties (λ a b. is_lt (R a b)) q) xs)) ≡ cond t (Some x) (first_tie o q xs)
+      go : (t : Bool) → first_of_list (filter (ties (λ a b. is_lt (R a b)) q) xs) ≡ first_tie o q xs
+          → first_of_list (cond t (x ∷ filter (ties (λ a b. is_lt (R a b)) q) xs) (filter (ties (λ a b. is_lt (R a b)) q) xs)) ≡ cond t (Some x) (first_tie o q xs)
       go true h = refl
       go false h = h
 
@@ -43,7 +44,8 @@ module _ {A : Type 0} {R : A → A → Ordering} (o : IsTotalOrder R) where
         ap (λ t. first_tie o q (cond t (dedup_from E k xs) (k ∷ dedup_from E x xs))) (tied x k)
         ∙ go (R x k) refl (R q k) refl (dedup_from_first q k xs) (dedup_from_first q x xs)
       where
-        go : (r : Ordering) → R x k ≡ r → (s : Ordering) → R q k ≡ s → first_tie o q (dedup_from E k xs) ≡ first_tie o q (k ∷ xs) → first_tie o q (dedup_from E x xs) ≡ first_tie o q (x ∷ xs) → first_tie o q (cond (is_eq r) (dedup_from E k xs) (k ∷ dedup_from E x xs)) ≡ first_tie o q (k ∷ x ∷ xs)
+        go : (r : Ordering) → R x k ≡ r → (s : Ordering) → R q k ≡ s → first_tie o q (dedup_from E k xs) ≡ first_tie o q (k ∷ xs) → first_tie o q (dedup_from E x xs) ≡ first_tie o q (x ∷ xs)
+            → first_tie o q (cond (is_eq r) (dedup_from E k xs) (k ∷ dedup_from E x xs)) ≡ first_tie o q (k ∷ x ∷ xs)
         go Less e s f h i = ap (cond (is_eq (R q k)) (Some k)) i
         go Greater e s f h i = ap (cond (is_eq (R q k)) (Some k)) i
         go Equal e Less f h i = let g : R q x ≡ Less = alike_right o x k q e ∙ f in h ∙ rw (f, g) refl

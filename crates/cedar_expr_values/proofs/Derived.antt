@@ -30,8 +30,10 @@ use Rattle.cedar_expr_values.proofs.Layers.{layer_cmp}
 use Rattle.cedar_expr_values.proofs.Compared.{all_agree}
 use denote.Hole.Carrier
 
-module _ (X : RattleType) (ord : Ord.Ghosts X.Denot) (ord_dict : Dict) (eq : Eq.Ghosts X.Denot) (eq_dict : Dict) (peq : PartialEq.Ghosts X.Denot) (peq_dict : Dict) (pord : PartialOrd.Ghosts X.Denot) (pord_dict : Dict)
-    (ord_laws : OrdLaws.Lawful X ord ord_dict eq eq_dict peq peq_dict pord pord_dict) (eq_laws : EqLaws.Lawful X eq eq_dict peq peq_dict) (peq_laws : PartialEqLaws.Lawful X peq peq_dict) (pord_laws : PartialOrdLaws.Lawful X pord pord_dict peq peq_dict) where
+module _ (X : RattleType) (ord : Ord.Ghosts X.Denot) (ord_dict : Dict) (eq : Eq.Ghosts X.Denot) (eq_dict : Dict) (peq : PartialEq.Ghosts X.Denot) (peq_dict : Dict)
+    (pord : PartialOrd.Ghosts X.Denot) (pord_dict : Dict)
+    (ord_laws : OrdLaws.Lawful X ord ord_dict eq eq_dict peq peq_dict pord pord_dict) (eq_laws : EqLaws.Lawful X eq eq_dict peq peq_dict) (peq_laws : PartialEqLaws.Lawful X peq peq_dict)
+        (pord_laws : PartialOrdLaws.Lawful X pord pord_dict peq peq_dict) where
   -- the derived orders
   abbrev pub value_by : Value X.Denot → Value X.Denot → Ordering
   value_by = (value_order.ghosts X ord ord_dict eq eq_dict peq peq_dict pord pord_dict).cmp
@@ -62,6 +64,7 @@ module _ (X : RattleType) (ord : Ord.Ghosts X.Denot) (ord_dict : Dict) (eq : Eq.
   compared_is seen by_key = all_agree seen ord.cmp kind_by set_by value_by by_key value_is set_is kind_is
 
   -- values are equal where the model's are
-  pub equal_is : (seen : X.Denot → Extension) → ((x y : X.Denot) → ord.cmp x y ≡ extension_cmp (seen x) (seen y)) → (v w : Value X.Denot) → (value_equality.ghosts X peq peq_dict).eq v w ≡ value_eq (bare seen v) (bare seen w)
+  pub equal_is : (seen : X.Denot → Extension) → ((x y : X.Denot) → ord.cmp x y ≡ extension_cmp (seen x) (seen y)) → (v w : Value X.Denot)
+      → (value_equality.ghosts X peq peq_dict).eq v w ≡ value_eq (bare seen v) (bare seen w)
   equal_is seen by_key v w =
       value_laws.matches_eq-law X ord ord_dict eq eq_dict peq peq_dict pord pord_dict ord_laws eq_laws peq_laws pord_laws v w ∙ ap is_eq (compared_is seen by_key v w)

@@ -60,7 +60,8 @@ module _ {X : Type 0} (seen : X → Extension) (u : Uid) where
   record_holds m = ap (λ r. holds_uid (model.bare r) u) (record_kind seen m) ∙ fields_hold m.value.entries
 
 -- one more of a list by its place, and all of it
-pub one_more : {A : Type 0} (p : A → Bool) (xs : List A) (i : ℕ) (x d : A) (a b e : Bool) → i < length xs → x ≡ get_or xs i d → b ≡ (a || list_any p (take i xs)) → e ≡ (b || p x) → e ≡ (a || list_any p (take (i + 1) xs))
+pub one_more : {A : Type 0} (p : A → Bool) (xs : List A) (i : ℕ) (x d : A) (a b e : Bool) → i < length xs → x ≡ get_or xs i d → b ≡ (a || list_any p (take i xs)) → e ≡ (b || p x)
+    → e ≡ (a || list_any p (take (i + 1) xs))
 one_more p xs i x d a b e h at f g =
     g ∙ ap (λ y. b || p y) at ∙ ap (λ t. t || p (get_or xs i d)) f ∙ or_assoc a (list_any p (take i xs)) (p (get_or xs i d)) ∙ ap (λ t. a || t) (sym (list_any_more p xs i d h))
 
@@ -87,7 +88,8 @@ key_put : {K : Type 0} (cmp : K → K → Ordering) (p : K → Bool) (k : K) →
 key_put cmp p k same [] = or-false (p k)
 key_put cmp p k same (x ∷ xs) = placed_any p k x xs (insert_key cmp xs k) (cmp k x) (same x) (key_put cmp p k same xs)
 
-pub uid_put : (u : Uid) (old new : BTreeSet EntityUID) (k : EntityUID) (v : Uid) → new.keys ≡ insert_key uids_by old.keys k → uid_of k ≡ v → has_uid new u ≡ (has_uid old u || list_any (uid_eq u) (v ∷ []))
+pub uid_put : (u : Uid) (old new : BTreeSet EntityUID) (k : EntityUID) (v : Uid) → new.keys ≡ insert_key uids_by old.keys k → uid_of k ≡ v
+    → has_uid new u ≡ (has_uid old u || list_any (uid_eq u) (v ∷ []))
 uid_put u old new k v e f =
     ap (list_any (λ j. uid_eq u (uid_of j))) e
     ∙ key_put uids_by (λ j. uid_eq u (uid_of j)) k (λ x h. ap (uid_eq u) (uid_exact (uid_of k) (uid_of x) (sym (uids_order_is k x) ∙ h))) old.keys

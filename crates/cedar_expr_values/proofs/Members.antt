@@ -64,23 +64,30 @@ module _ {X : Type 0} (seen : X → Extension) where
         (all_below w ws p.0 p.1, rises ws p.1)
 
     -- what is asked of the members of a set, where its answer is that for the list of them
-    pub contains_is : (v : Value X) (ms : Mades) (ws : List (Value X)) (r : Bool) → ms ≡ made_list (map (made seen) ws) → (IsStrictlySortedBy R ws → r ≡ is_among R v ws) → are_rising (model.bares ms) ≡ true → r ≡ is_member (bare seen v) (model.bares ms)
+    pub contains_is : (v : Value X) (ms : Mades) (ws : List (Value X)) (r : Bool) → ms ≡ made_list (map (made seen) ws) → (IsStrictlySortedBy R ws → r ≡ is_among R v ws)
+        → are_rising (model.bares ms) ≡ true → r ≡ is_member (bare seen v) (model.bares ms)
     contains_is v ms ws r e f h = f (rises ws (sym (ap (λ ns. are_rising (model.bares ns)) e) ∙ h)) ∙ member_is v ws ∙ ap (λ ns. is_member (bare seen v) (model.bares ns)) (sym e)
 
-    pub is_subset_is : (ms ns : Mades) (vs ws : List (Value X)) (r : Bool) → ms ≡ made_list (map (made seen) vs) → ns ≡ made_list (map (made seen) ws) → (IsStrictlySortedBy R vs → r ≡ all_among R vs ws) → are_rising (model.bares ms) ≡ true → r ≡ is_subset (model.bares ms) (model.bares ns)
+    pub is_subset_is : (ms ns : Mades) (vs ws : List (Value X)) (r : Bool) → ms ≡ made_list (map (made seen) vs) → ns ≡ made_list (map (made seen) ws)
+        → (IsStrictlySortedBy R vs → r ≡ all_among R vs ws) → are_rising (model.bares ms) ≡ true → r ≡ is_subset (model.bares ms) (model.bares ns)
     is_subset_is ms ns vs ws r d e f h =
-        f (rises vs (sym (ap (λ ls. are_rising (model.bares ls)) d) ∙ h)) ∙ subset_is vs ws ∙ ap (λ ls. is_subset (model.bares ls) (listed ws)) (sym d) ∙ ap (λ ls. is_subset (model.bares ms) (model.bares ls)) (sym e)
+        f (rises vs (sym (ap (λ ls. are_rising (model.bares ls)) d) ∙ h)) ∙ subset_is vs ws ∙ ap (λ ls. is_subset (model.bares ls) (listed ws)) (sym d)
+        ∙ ap (λ ls. is_subset (model.bares ms) (model.bares ls)) (sym e)
 
-    pub is_disjoint_is : (ms ns : Mades) (vs ws : List (Value X)) (r : Bool) → ms ≡ made_list (map (made seen) vs) → ns ≡ made_list (map (made seen) ws) → (IsStrictlySortedBy R vs → r ≡ none_among R vs ws) → are_rising (model.bares ms) ≡ true → r ≡ is_disjoint (model.bares ms) (model.bares ns)
+    pub is_disjoint_is : (ms ns : Mades) (vs ws : List (Value X)) (r : Bool) → ms ≡ made_list (map (made seen) vs) → ns ≡ made_list (map (made seen) ws)
+        → (IsStrictlySortedBy R vs → r ≡ none_among R vs ws) → are_rising (model.bares ms) ≡ true → r ≡ is_disjoint (model.bares ms) (model.bares ns)
     is_disjoint_is ms ns vs ws r d e f h =
-        f (rises vs (sym (ap (λ ls. are_rising (model.bares ls)) d) ∙ h)) ∙ disjoint_is vs ws ∙ ap (λ ls. is_disjoint (model.bares ls) (listed ws)) (sym d) ∙ ap (λ ls. is_disjoint (model.bares ms) (model.bares ls)) (sym e)
+        f (rises vs (sym (ap (λ ls. are_rising (model.bares ls)) d) ∙ h)) ∙ disjoint_is vs ws ∙ ap (λ ls. is_disjoint (model.bares ls) (listed ws)) (sym d)
+        ∙ ap (λ ls. is_disjoint (model.bares ms) (model.bares ls)) (sym e)
 
     -- the set that is made, as it was made
     as_placed : (v : Value X) (ws : List (Value X)) → map (made seen) (placed R v ws) ≡ placed made_cmp (made seen v) (map (made seen) ws)
     as_placed v [] = refl
     as_placed v (w ∷ ws) = ap (λ r. map (made seen) (match_ordering r (v ∷ w ∷ ws) (v ∷ ws) (w ∷ placed R v ws))) (agree v w) ∙ go (value_cmp (bare seen v) (bare seen w)) (as_placed v ws)
       where
-        go : (r : Ordering) → map (made seen) (placed R v ws) ≡ placed made_cmp (made seen v) (map (made seen) ws) → map (made seen) (match_ordering r (v ∷ w ∷ ws) (v ∷ ws) (w ∷ placed R v ws)) ≡ match_ordering r (made seen v ∷ made seen w ∷ map (made seen) ws) (made seen v ∷ map (made seen) ws) (made seen w ∷ placed made_cmp (made seen v) (map (made seen) ws))
+        go : (r : Ordering) → map (made seen) (placed R v ws) ≡ placed made_cmp (made seen v) (map (made seen) ws)
+            → map (made seen) (match_ordering r (v ∷ w ∷ ws) (v ∷ ws) (w ∷ placed R v ws))
+            ≡ match_ordering r (made seen v ∷ made seen w ∷ map (made seen) ws) (made seen v ∷ map (made seen) ws) (made seen w ∷ placed made_cmp (made seen v) (map (made seen) ws))
         go Less h = refl
         go Equal h = refl
         go Greater h = ap (λ ms. made seen w ∷ ms) h
@@ -90,7 +97,8 @@ module _ {X : Type 0} (seen : X → Extension) where
     as_made (v ∷ vs) = as_placed v (in_rising R vs) ∙ ap (placed made_cmp (made seen v)) (as_made vs)
 
     -- what is made of the values in rising order is the set of the values as they were made
-    pub new_as_made : {E : Type 0} (vs ws : List (Value X)) (r : Result (Set X) E) → ws ≡ in_rising R vs → IfOk r (λ s. mades seen s ≡ made_list (map (made seen) ws)) → IfOk r (λ s. mades seen s ≡ members_as_made (map (made seen) vs))
+    pub new_as_made : {E : Type 0} (vs ws : List (Value X)) (r : Result (Set X) E) → ws ≡ in_rising R vs → IfOk r (λ s. mades seen s ≡ made_list (map (made seen) ws))
+        → IfOk r (λ s. mades seen s ≡ members_as_made (map (made seen) vs))
     new_as_made vs ws (Ok s) e f = f ∙ ap (λ us. made_list (map (made seen) us)) e ∙ ap made_list (as_made vs)
     new_as_made vs ws (Err x) e f = f
 
@@ -99,7 +107,10 @@ bare_placed : (m : Made) (ms : List Made) → model.bares (made_list (placed mad
 bare_placed m [] = refl
 bare_placed m (n ∷ ms) = go (made_cmp m n) refl (bare_placed m ms)
   where
-    go : (r : Ordering) → made_cmp m n ≡ r → model.bares (made_list (placed made_cmp m ms)) ≡ inserted (model.bare m) (model.bares (made_list ms)) → model.bares (made_list (match_ordering r (m ∷ n ∷ ms) (m ∷ ms) (n ∷ placed made_cmp m ms))) ≡ match_ordering r (value (model.bare m) (value (model.bare n) (model.bares (made_list ms)))) (value (model.bare n) (model.bares (made_list ms))) (value (model.bare n) (inserted (model.bare m) (model.bares (made_list ms))))
+    go : (r : Ordering) → made_cmp m n ≡ r → model.bares (made_list (placed made_cmp m ms)) ≡ inserted (model.bare m) (model.bares (made_list ms))
+        → model.bares (made_list (match_ordering r (m ∷ n ∷ ms) (m ∷ ms) (n ∷ placed made_cmp m ms)))
+        ≡ match_ordering r (value (model.bare m) (value (model.bare n) (model.bares (made_list ms)))) (value (model.bare n) (model.bares (made_list ms)))
+            (value (model.bare n) (inserted (model.bare m) (model.bares (made_list ms))))
     go Less e h = refl
     go Equal e h = ap (λ v. value v (model.bares (made_list ms))) (value_exact (model.bare m) (model.bare n) e)
     go Greater e h = ap (value (model.bare n)) h
@@ -117,16 +128,19 @@ module _ {X E : Type 0} (seen : X → Extension) where
   new_members vs (Ok s) f = ap model.bares f ∙ bare_members (made seen) vs
   new_members vs (Err x) f = f
 
-  pub new_canonical : (vs : List (Value X)) (r : Result (Set X) E) → IfOk r (λ s. mades seen s ≡ members_as_made (map (made seen) vs)) → IfOk r (λ s. all_canonical seen vs ≡ true → are_canonical (bares seen s) ≡ true)
+  pub new_canonical : (vs : List (Value X)) (r : Result (Set X) E) → IfOk r (λ s. mades seen s ≡ members_as_made (map (made seen) vs))
+      → IfOk r (λ s. all_canonical seen vs ≡ true → are_canonical (bares seen s) ≡ true)
   new_canonical vs (Ok s) f = λ h. ap are_canonical (ap model.bares f ∙ bare_members (made seen) vs) ∙ made_canonical (map (bare seen) vs) h
   new_canonical vs (Err x) f = tt
 
   -- the set of values that are literals
-  pub literal_members : (ls : List Literal) (vs : List (Value X)) (r : Result (Set X) E) → map (made seen) vs ≡ map (λ l. made_prim (literal_of l)) ls → IfOk r (λ s. mades seen s ≡ members_as_made (map (made seen) vs)) → IfOk r (λ s. mades seen s ≡ members_as_made (map (λ l. made_prim (literal_of l)) ls))
+  pub literal_members : (ls : List Literal) (vs : List (Value X)) (r : Result (Set X) E) → map (made seen) vs ≡ map (λ l. made_prim (literal_of l)) ls
+      → IfOk r (λ s. mades seen s ≡ members_as_made (map (made seen) vs)) → IfOk r (λ s. mades seen s ≡ members_as_made (map (λ l. made_prim (literal_of l)) ls))
   literal_members ls vs (Ok s) e f = f ∙ ap members_as_made e
   literal_members ls vs (Err x) e f = f
 
-  pub literals_are : (ls : List Literal) (r : Result (Set X) E) → IfOk r (λ s. mades seen s ≡ members_as_made (map (λ l. made_prim (literal_of l)) ls)) → IfOk r (λ s. bares seen s ≡ members_made (map (λ l. prim (literal_of l)) ls))
+  pub literals_are : (ls : List Literal) (r : Result (Set X) E) → IfOk r (λ s. mades seen s ≡ members_as_made (map (λ l. made_prim (literal_of l)) ls))
+      → IfOk r (λ s. bares seen s ≡ members_made (map (λ l. prim (literal_of l)) ls))
   literals_are ls (Ok s) f = ap model.bares f ∙ bare_members (λ l. made_prim (literal_of l)) ls
   literals_are ls (Err x) f = f
 

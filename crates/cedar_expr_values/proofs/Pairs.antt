@@ -43,11 +43,14 @@ module _ {A : Type 0} where
   put a x [] = (a, x) ∷ []
   put a x (p ∷ ps) = match_ordering (text_cmp a p.0) ((a, x) ∷ p ∷ ps) ((p.0, x) ∷ ps) (p ∷ put a x ps)
 
-  pub put_is : (k : RcStr Global) (x : A) (es : List (RcStr Global × A)) → map by_text (insert_entry (λ s t. text_cmp (rc_str_bytes s) (rc_str_bytes t)) es k x) ≡ put (rc_str_bytes k) x (map by_text es)
+  pub put_is : (k : RcStr Global) (x : A) (es : List (RcStr Global × A))
+      → map by_text (insert_entry (λ s t. text_cmp (rc_str_bytes s) (rc_str_bytes t)) es k x) ≡ put (rc_str_bytes k) x (map by_text es)
   put_is k x [] = refl
   put_is k x (e ∷ es) = go (text_cmp (rc_str_bytes k) (rc_str_bytes e.0)) (put_is k x es)
     where
-      go : (r : Ordering) → map by_text (insert_entry (λ s t. text_cmp (rc_str_bytes s) (rc_str_bytes t)) es k x) ≡ put (rc_str_bytes k) x (map by_text es) → map by_text (match_ordering r ((k, x) ∷ e ∷ es) ((e.0, x) ∷ es) (e ∷ insert_entry (λ s t. text_cmp (rc_str_bytes s) (rc_str_bytes t)) es k x)) ≡ match_ordering r (by_text (k, x) ∷ by_text e ∷ map by_text es) ((rc_str_bytes e.0, x) ∷ map by_text es) (by_text e ∷ put (rc_str_bytes k) x (map by_text es))
+      go : (r : Ordering) → map by_text (insert_entry (λ s t. text_cmp (rc_str_bytes s) (rc_str_bytes t)) es k x) ≡ put (rc_str_bytes k) x (map by_text es)
+          → map by_text (match_ordering r ((k, x) ∷ e ∷ es) ((e.0, x) ∷ es) (e ∷ insert_entry (λ s t. text_cmp (rc_str_bytes s) (rc_str_bytes t)) es k x))
+          ≡ match_ordering r (by_text (k, x) ∷ by_text e ∷ map by_text es) ((rc_str_bytes e.0, x) ∷ map by_text es) (by_text e ∷ put (rc_str_bytes k) x (map by_text es))
       go Less h = refl
       go Equal h = refl
       go Greater h = ap (λ ps. by_text e ∷ ps) h
@@ -66,7 +69,8 @@ module _ {A : Type 0} where
   put_rises a x [] h = refl
   put_rises a x (p ∷ ps) h = let q = both_hold (is_first_name p.0 ps) (names_rise ps) h in go (text_cmp a p.0) refl q.0 q.1 (put_rises a x ps q.1)
     where
-      go : (r : Ordering) → text_cmp a p.0 ≡ r → is_first_name p.0 ps ≡ true → names_rise ps ≡ true → names_rise (put a x ps) ≡ true → names_rise (match_ordering r ((a, x) ∷ p ∷ ps) ((p.0, x) ∷ ps) (p ∷ put a x ps)) ≡ true
+      go : (r : Ordering) → text_cmp a p.0 ≡ r → is_first_name p.0 ps ≡ true → names_rise ps ≡ true → names_rise (put a x ps) ≡ true
+          → names_rise (match_ordering r ((a, x) ∷ p ∷ ps) ((p.0, x) ∷ ps) (p ∷ put a x ps)) ≡ true
       go Less e f g i = hold_both _ _ (is_less (text_cmp a p.0) e) (hold_both _ _ f g)
       go Equal e f g i = hold_both _ _ f g
       go Greater e f g i = hold_both _ _ (put_first p.0 a x ps (text_total.antisymm p.0 a ∙ ap ordering_reverse e) f) i
@@ -75,7 +79,8 @@ module _ {A : Type 0} where
   put_finds c a x [] = refl
   put_finds c a x (p ∷ ps) = go (text_cmp a p.0) refl (bytes_eq c a) refl (bytes_eq c p.0) refl (put_finds c a x ps)
     where
-      go : (r : Ordering) → text_cmp a p.0 ≡ r → (s : Bool) → bytes_eq c a ≡ s → (t : Bool) → bytes_eq c p.0 ≡ t → first_of c (put a x ps) ≡ first_of_two (in_pair c (a, x)) (first_of c ps) → first_of c (match_ordering r ((a, x) ∷ p ∷ ps) ((p.0, x) ∷ ps) (p ∷ put a x ps)) ≡ first_of_two (in_pair c (a, x)) (first_of c (p ∷ ps))
+      go : (r : Ordering) → text_cmp a p.0 ≡ r → (s : Bool) → bytes_eq c a ≡ s → (t : Bool) → bytes_eq c p.0 ≡ t → first_of c (put a x ps) ≡ first_of_two (in_pair c (a, x)) (first_of c ps)
+          → first_of c (match_ordering r ((a, x) ∷ p ∷ ps) ((p.0, x) ∷ ps) (p ∷ put a x ps)) ≡ first_of_two (in_pair c (a, x)) (first_of c (p ∷ ps))
       go Less e s f t g h = refl
       go Equal e s f true g h = let q : bytes_eq c a ≡ true = ap (bytes_eq c) (text_exact a p.0 e) ∙ g in rw (g, q) refl
       go Equal e s f false g h = let q : bytes_eq c a ≡ false = ap (bytes_eq c) (text_exact a p.0 e) ∙ g in rw (g, q) refl
@@ -111,7 +116,8 @@ module _ {A : Type 0} where
   below_all a p ps e h = absent a (p ∷ ps) (is_less (text_cmp a p.0) e) h
 
   -- the first names are the same, and what stands under them
-  heads : (p q : Text × A) (ps qs : List (Text × A)) (r : Ordering) → text_cmp p.0 q.0 ≡ r → names_rise (p ∷ ps) ≡ true → names_rise (q ∷ qs) ≡ true → ((c : Text) → first_of c (p ∷ ps) ≡ first_of c (q ∷ qs)) → (p.0 ≡ q.0) × (p.1 ≡ q.1)
+  heads : (p q : Text × A) (ps qs : List (Text × A)) (r : Ordering) → text_cmp p.0 q.0 ≡ r → names_rise (p ∷ ps) ≡ true → names_rise (q ∷ qs) ≡ true
+      → ((c : Text) → first_of c (p ∷ ps) ≡ first_of c (q ∷ qs)) → (p.0 ≡ q.0) × (p.1 ≡ q.1)
   heads p q ps qs Less e h k f = absurd (let n : Some p.1 ≡ None = sym (here p ps) ∙ f p.0 ∙ below_all p.0 q qs e k in cc)
   heads p q ps qs Equal e h k f =
       let n = text_exact p.0 q.0 e in
@@ -119,7 +125,8 @@ module _ {A : Type 0} where
   heads p q ps qs Greater e h k f =
       absurd (let n : Some q.1 ≡ None = sym (here q qs) ∙ sym (f q.0) ∙ below_all q.0 p ps (text_total.antisymm q.0 p.0 ∙ ap ordering_reverse e) h in cc)
 
-  tails : (c : Text) (p q : Text × A) (ps qs : List (Text × A)) (t : Bool) → bytes_eq c p.0 ≡ t → p.0 ≡ q.0 → names_rise (p ∷ ps) ≡ true → names_rise (q ∷ qs) ≡ true → first_of c (p ∷ ps) ≡ first_of c (q ∷ qs) → first_of c ps ≡ first_of c qs
+  tails : (c : Text) (p q : Text × A) (ps qs : List (Text × A)) (t : Bool) → bytes_eq c p.0 ≡ t → p.0 ≡ q.0 → names_rise (p ∷ ps) ≡ true → names_rise (q ∷ qs) ≡ true
+      → first_of c (p ∷ ps) ≡ first_of c (q ∷ qs) → first_of c ps ≡ first_of c qs
   tails c p q ps qs true g n h k f =
       let e = (bytes_eq-Decides c p.0).0 g in
       let i = both_hold (is_first_name p.0 ps) (names_rise ps) h in
@@ -148,6 +155,7 @@ module _ {A : Type 0} where
       (λ c. put_finds c a x (in_order ps) ∙ ap (first_of_two (in_pair c (a, x))) (in_order_finds c ps) ∙ sym (last_of_more c ps (a, x)) ∙ sym (in_order_finds c (ps ++ (a, x) ∷ [])))
 
   -- one more pair in a map whose entries are pairs in order
-  pub entries_more : (k : RcStr Global) (x : A) (es fs ps : List (RcStr Global × A)) → fs ≡ insert_entry (λ s t. text_cmp (rc_str_bytes s) (rc_str_bytes t)) es k x → map by_text es ≡ in_order (map by_text ps) → map by_text fs ≡ in_order (map by_text (ps ++ (k, x) ∷ []))
+  pub entries_more : (k : RcStr Global) (x : A) (es fs ps : List (RcStr Global × A)) → fs ≡ insert_entry (λ s t. text_cmp (rc_str_bytes s) (rc_str_bytes t)) es k x
+      → map by_text es ≡ in_order (map by_text ps) → map by_text fs ≡ in_order (map by_text (ps ++ (k, x) ∷ []))
   entries_more k x es fs ps e h =
       ap (map by_text) e ∙ put_is k x es ∙ ap (put (rc_str_bytes k) x) h ∙ in_order_more (map by_text ps) (rc_str_bytes k) x ∙ ap in_order (sym (map-append by_text ps ((k, x) ∷ [])))

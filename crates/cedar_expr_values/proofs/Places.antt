@@ -47,7 +47,8 @@ module _ {A : Type 0} {R : A → A → Ordering} (o : IsTotalOrder R) where
       let none = absent y (x ∷ xs) (back, below_each y x xs back s.0) in
       let some : Some y ≡ None = sym (itself y ys) ∙ sym (f y) ∙ none in cc
 
-  tails : (x : A) (xs ys : List A) (q : A) (r : Ordering) → R q x ≡ r → IsStrictlySortedBy R (x ∷ xs) → IsStrictlySortedBy R (x ∷ ys) → first_tie q (x ∷ xs) ≡ first_tie q (x ∷ ys) → first_tie q xs ≡ first_tie q ys
+  tails : (x : A) (xs ys : List A) (q : A) (r : Ordering) → R q x ≡ r → IsStrictlySortedBy R (x ∷ xs) → IsStrictlySortedBy R (x ∷ ys) → first_tie q (x ∷ xs) ≡ first_tie q (x ∷ ys)
+      → first_tie q xs ≡ first_tie q ys
   unfolding IsStrictlySortedBy
   tails x xs ys q Less e s t f = absent q xs (below_each q x xs e s.0) ∙ sym (absent q ys (below_each q x ys e t.0))
   tails x xs ys q Equal e s t f = absent q xs (tied_each q x xs e s.0) ∙ sym (absent q ys (tied_each q x ys e t.0))
@@ -70,7 +71,8 @@ module _ {A : Type 0} {R : A → A → Ordering} (o : IsTotalOrder R) where
   placed_first q y [] = refl
   placed_first q y (w ∷ ws) = go (R y w) refl (R q y) refl (placed_first q y ws)
     where
-      go : (r : Ordering) → R y w ≡ r → (s : Ordering) → R q y ≡ s → first_tie q (placed R y ws) ≡ cond (is_eq (R q y)) (Some y) (first_tie q ws) → first_tie q (match_ordering r (y ∷ w ∷ ws) (y ∷ ws) (w ∷ placed R y ws)) ≡ cond (is_eq (R q y)) (Some y) (first_tie q (w ∷ ws))
+      go : (r : Ordering) → R y w ≡ r → (s : Ordering) → R q y ≡ s → first_tie q (placed R y ws) ≡ cond (is_eq (R q y)) (Some y) (first_tie q ws)
+          → first_tie q (match_ordering r (y ∷ w ∷ ws) (y ∷ ws) (w ∷ placed R y ws)) ≡ cond (is_eq (R q y)) (Some y) (first_tie q (w ∷ ws))
       go Less e s f h = refl
       go Equal e Less f h = let g : R q w ≡ Less = sym (alike_right o y w q e) ∙ f in rw (f, g) refl
       go Equal e Equal f h = rw f refl

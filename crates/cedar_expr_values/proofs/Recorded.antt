@@ -36,7 +36,9 @@ placed_under : {A B : Type 0} (f : A → B) (p : Text × A) (qs : List (Text × 
 placed_under f p [] = refl
 placed_under f p (q ∷ qs) = go (text_cmp p.0 q.0) (placed_under f p qs)
   where
-    go : (r : Ordering) → pair_placed p.0 (f p.1) (map (under f) qs) ≡ map (under f) (pair_placed p.0 p.1 qs) → match_ordering r (under f p ∷ under f q ∷ map (under f) qs) (under f q ∷ map (under f) qs) (under f q ∷ pair_placed p.0 (f p.1) (map (under f) qs)) ≡ map (under f) (match_ordering r (p ∷ q ∷ qs) (q ∷ qs) (q ∷ pair_placed p.0 p.1 qs))
+    go : (r : Ordering) → pair_placed p.0 (f p.1) (map (under f) qs) ≡ map (under f) (pair_placed p.0 p.1 qs)
+        → match_ordering r (under f p ∷ under f q ∷ map (under f) qs) (under f q ∷ map (under f) qs) (under f q ∷ pair_placed p.0 (f p.1) (map (under f) qs))
+        ≡ map (under f) (match_ordering r (p ∷ q ∷ qs) (q ∷ qs) (q ∷ pair_placed p.0 p.1 qs))
     go Less h = refl
     go Equal h = refl
     go Greater h = ap (λ us. under f q ∷ us) h
@@ -93,12 +95,14 @@ module _ {X : Type 0} (seen : X → Extension) where
   before_next a [] h = refl
   before_next a (e ∷ es) h = is_less (text_cmp a (rc_str_bytes e.0)) h.0
 
-  ascending : (es : List (RcStr Global × Value X)) → IsStrictlySortedBy (λ a b. text_cmp (rc_str_bytes a) (rc_str_bytes b)) (keys_of es) → all_canonical seen (values_of es) ≡ true → have_canonical (fields (map (bare_pair seen) es)) ≡ true
+  ascending : (es : List (RcStr Global × Value X)) → IsStrictlySortedBy (λ a b. text_cmp (rc_str_bytes a) (rc_str_bytes b)) (keys_of es) → all_canonical seen (values_of es) ≡ true
+      → have_canonical (fields (map (bare_pair seen) es)) ≡ true
   unfolding IsStrictlySortedBy
   ascending [] s h = refl
   ascending (e ∷ es) s h =
       let p = both_hold (is_canonical (bare seen e.1)) (all_canonical seen (values_of es)) h in
       hold_both _ _ p.0 (hold_both _ _ (before_next (rc_str_bytes e.0) es s.0) (ascending es s.1 p.1))
 
-  pub arc_canonical : (es : List (RcStr Global × Value X)) → IsStrictlySortedBy (λ a b. text_cmp (rc_str_bytes a) (rc_str_bytes b)) (keys_of es) → all_canonical seen (values_of es) ≡ true → is_canonical (model.bare (made_record (made_fields (map (made_pair seen) es)))) ≡ true
+  pub arc_canonical : (es : List (RcStr Global × Value X)) → IsStrictlySortedBy (λ a b. text_cmp (rc_str_bytes a) (rc_str_bytes b)) (keys_of es) → all_canonical seen (values_of es) ≡ true
+      → is_canonical (model.bare (made_record (made_fields (map (made_pair seen) es)))) ≡ true
   arc_canonical es s h = ap have_canonical (bare_made_fields (map (made_pair seen) es) ∙ ap fields (made_bare es)) ∙ ascending es s h

@@ -27,28 +27,32 @@ module _ {A : Type 0} {R : A → A → Ordering} (o : IsTotalOrder R) where
   none_skip (x ∷ xs) y ys a = ap (λ t. not t && none_among R xs (y ∷ ys)) (skips_below x y ys a.0) ∙ ap (λ t. not (is_among R x ys) && t) (none_skip xs y ys a.1)
 
   -- The steps of a walk: what is left of the one still rises, and the answer is that for what is left of both.
-  pub all_at_equal : (xs ys : List A) (x y : A) (us vs : List A) → xs ≡ x ∷ us → ys ≡ y ∷ vs → Equal ≡ R x y → IsStrictlySortedBy R xs → IsStrictlySortedBy R us × (all_among R us vs ≡ all_among R xs ys)
+  pub all_at_equal : (xs ys : List A) (x y : A) (us vs : List A) → xs ≡ x ∷ us → ys ≡ y ∷ vs → Equal ≡ R x y → IsStrictlySortedBy R xs
+      → IsStrictlySortedBy R us × (all_among R us vs ≡ all_among R xs ys)
   unfolding IsStrictlySortedBy
   all_at_equal xs ys x y us vs e f g s =
       let t = subst (IsStrictlySortedBy R) e s in
       let h : R x y ≡ Equal = sym g in
       (t.1, rw (e, f, h) (sym (all_skip us y vs (tied_each o y x us (tied_back o x y h) t.0))))
 
-  pub all_at_greater : (xs ys : List A) (x y : A) (us vs : List A) → xs ≡ x ∷ us → ys ≡ y ∷ vs → Greater ≡ R x y → IsStrictlySortedBy R xs → IsStrictlySortedBy R xs × (all_among R xs vs ≡ all_among R xs ys)
+  pub all_at_greater : (xs ys : List A) (x y : A) (us vs : List A) → xs ≡ x ∷ us → ys ≡ y ∷ vs → Greater ≡ R x y → IsStrictlySortedBy R xs
+      → IsStrictlySortedBy R xs × (all_among R xs vs ≡ all_among R xs ys)
   unfolding IsStrictlySortedBy
   all_at_greater xs ys x y us vs e f g s =
       let t = subst (IsStrictlySortedBy R) e s in
       let h = less x y (sym g) in
       (s, rw (e, f) (sym (all_skip (x ∷ us) y vs (h, below_each o y x us h t.0))))
 
-  pub none_at_less : (xs ys : List A) (x y : A) (us vs : List A) → xs ≡ x ∷ us → ys ≡ y ∷ vs → Less ≡ R x y → IsStrictlySortedBy R xs → IsStrictlySortedBy R us × (none_among R us ys ≡ none_among R xs ys)
+  pub none_at_less : (xs ys : List A) (x y : A) (us vs : List A) → xs ≡ x ∷ us → ys ≡ y ∷ vs → Less ≡ R x y → IsStrictlySortedBy R xs
+      → IsStrictlySortedBy R us × (none_among R us ys ≡ none_among R xs ys)
   unfolding IsStrictlySortedBy
   none_at_less xs ys x y us vs e f g s =
       let t = subst (IsStrictlySortedBy R) e s in
       let h : R x y ≡ Less = sym g in
       (t.1, rw (e, f, h) refl)
 
-  pub none_at_greater : (xs ys : List A) (x y : A) (us vs : List A) → xs ≡ x ∷ us → ys ≡ y ∷ vs → Greater ≡ R x y → IsStrictlySortedBy R xs → IsStrictlySortedBy R xs × (none_among R xs vs ≡ none_among R xs ys)
+  pub none_at_greater : (xs ys : List A) (x y : A) (us vs : List A) → xs ≡ x ∷ us → ys ≡ y ∷ vs → Greater ≡ R x y → IsStrictlySortedBy R xs
+      → IsStrictlySortedBy R xs × (none_among R xs vs ≡ none_among R xs ys)
   unfolding IsStrictlySortedBy
   none_at_greater xs ys x y us vs e f g s =
       let t = subst (IsStrictlySortedBy R) e s in

@@ -9,8 +9,8 @@ use Rattle.cedar_expr_values.specs.Extension.{Extension}
 
 -- an extension value with its call
 abbrev pub extension_of : ExtValue → Extension
-extension_of x = record { kind = plain_name_of x.type_name; key = x.key.items; function = plain_name_of x.constructor; arguments = map literal_of x.args.items }
+extension_of x = record { kind = plain_name_of x.type_name; key = x.key.items; function = plain_name_of x.function; arguments = map literal_of x.literals.items }
 
 -- an extension value with a call of its own
 abbrev pub with_call : {X : Type 0} → (X → Extension) → RepresentableExtensionValue X → Extension
-with_call seen r = let x = seen r.value.value in record { kind = x.kind; key = x.key; function = plain_name_of r.func; arguments = map literal_of r.args.items }
+with_call seen r = let x = seen r.value.value in record { kind = x.kind; key = x.key; function = plain_name_of r.called; arguments = map literal_of r.args.items }

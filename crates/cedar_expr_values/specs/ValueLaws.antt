@@ -21,4 +21,5 @@ module _ {X : Type 0} (seen : X → Extension) where
 
   -- sets whose members rise are the same where they have the same members
   abbrev pub SetsAreTheirMembers : Type 0
-  SetsAreTheirMembers = (s t : Set X) → are_rising (bares seen s) ≡ true → are_rising (bares seen t) ≡ true → ((v : V) → is_member v (bares seen s) ≡ is_member v (bares seen t)) → bares seen s ≡ bares seen t
+  SetsAreTheirMembers =
+      (s t : Set X) → are_rising (bares seen s) ≡ true → are_rising (bares seen t) ≡ true → ((v : V) → is_member v (bares seen s) ≡ is_member v (bares seen t)) → bares seen s ≡ bares seen t

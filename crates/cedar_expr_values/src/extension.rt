@@ -53,9 +53,9 @@ pub struct ExtValue {
     type_name: Name,
     key: Vec<u8>,
     #[derive_where(skip(EqHashOrd))]
-    constructor: Name,
+    function: Name,
     #[derive_where(skip(EqHashOrd))]
-    args: Vec<Literal>,
+    literals: Vec<Literal>,
 }
 
 impl ExtValue {
@@ -69,8 +69,8 @@ impl ExtValue {
         ExtValue {
             type_name,
             key,
-            constructor,
-            args,
+            function: constructor,
+            literals: args,
         }
     }
 
@@ -85,14 +85,14 @@ impl ExtValue {
     pub fn constructor(&self) -> &Name
         ensures { plain_name_of result.now ≡ (extension_of self.now).function }
     {
-        &self.constructor
+        &self.function
     }
 
     /// The arguments of the call that makes the value.
     pub fn args(&self) -> &[Literal]
         ensures { map literal_of result.now ≡ (extension_of self.now).arguments }
     {
-        self.args.as_slice()
+        self.literals.as_slice()
     }
 }
 
@@ -130,7 +130,7 @@ impl StaticallyTyped for ExtValue {
 pub struct RepresentableExtensionValue<X> {
     value: Rc<X>,
     #[derive_where(skip(EqHashOrd))]
-    func: Name,
+    called: Name,
     #[derive_where(skip(EqHashOrd))]
     args: Vec<Literal>,
 }
@@ -145,7 +145,7 @@ impl<X: ExtensionValue> RepresentableExtensionValue<X> {
         ensures function { (with_call X.seen result).function ≡ plain_name_of func }
         ensures arguments { (with_call X.seen result).arguments ≡ map literal_of args.items }
     {
-        RepresentableExtensionValue { value, func, args }
+        RepresentableExtensionValue { value, called: func, args }
     }
 
     /// The value without the call.
@@ -160,7 +160,7 @@ impl<X: ExtensionValue> RepresentableExtensionValue<X> {
     pub fn func(&self) -> &Name
         ensures { plain_name_of result.now ≡ (with_call X.seen self.now).function }
     {
-        &self.func
+        &self.called
     }
 
     /// The arguments of the call.
@@ -180,7 +180,7 @@ impl<X: Drop> Clone for RepresentableExtensionValue<X> {
     fn clone(&self) -> Result<RepresentableExtensionValue<X>, AllocError> {
         Ok(RepresentableExtensionValue {
             value: self.value.clone()?,
-            func: self.func.clone()?,
+            called: self.called.clone()?,
             args: self.args.clone()?,
         })
     }

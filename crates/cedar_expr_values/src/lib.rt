@@ -17,3 +17,6 @@ pub use extension::{
 };
 pub use types::{StaticallyTyped, Type};
 pub use value::{Set, Value, ValueKind};
+
+#[cfg(test)]
+mod tests;

@@ -322,10 +322,7 @@ impl<X: ExtensionValue> Value<X> {
         ensures value { made X.seen result ≡ made X.seen self }
         ensures place { place_of result ≡ loc }
     {
-        Value {
-            kind: self.kind,
-            loc,
-        }
+        Value::new(self.kind, loc)
     }
 
     /// What the value is.
