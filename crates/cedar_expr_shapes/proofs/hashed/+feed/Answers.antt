@@ -11,7 +11,8 @@ use Rattle.cedar_expr_trees.specs.Trees.{tree_of, kind_tree, named, field_trees}
 use Rattle.cedar_expr_trees.proofs.Sizes.{arguments_are_smaller}
 use Rattle.cedar_expr_trees.proofs.Trees.{call_tree, set_tree, record_tree}
 use Rattle.cedar_expr_shapes.specs.Hashed.{tree_input, trees_input, count, tree_fields_input, field_count, name_input, element_input}
-use Rattle.cedar_expr_shapes.proofs.Feeding.{two_steps, three_steps, four_steps, slices_fed}
+use Rattle.std.proofs.lemmas.List.{drop_all}
+use Rattle.cedar_expr_shapes.proofs.Feeding.{all_fed, fields_fed, counted, fields_counted, two_steps, three_steps, four_steps, slices_fed}
 use Rattle.cedar_expr_shapes.proofs.hashed.+feed.Goals as goal
 
 pub feed-feed_all-requires : goal.feed-feed_all-requires
@@ -82,7 +83,7 @@ feed-returns-in-Like g t c =
     three_steps w c.args.state.now c.hash.new.state c.feed-in-Like.new.state c.hash-in-Like.new.state (fed.u8 13) (tree_input child) (fed.slice element_input (pattern_of made.pattern))
     (c.hash.ensures ∙ ap (λ n. fold w c.args.state.now (fed.u8 n)) place)
     c.feed-in-Like.ensures
-    (c.hash-in-Like.ensures ∙ ap (fold w c.feed-in-Like.new.state) (slices_fed _ element_input element_of (λ e. elim e [ Char x ↦ refl | Wildcard ↦ refl ]) made.pattern.elems.value.items))
+    (c.hash-in-Like.ensures ∙ ap (fold w c.feed-in-Like.new.state) (slices_fed _ element_input element_of (λ e. elim e [ Char x ↦ search rules | Wildcard ↦ search rules ]) made.pattern.elems.value.items))
     ∙ ap (λ u. fold w c.args.state.now (tree_input u)) (sym is)
 
 pub feed-returns-in-ExtHasAttr : goal.feed-returns-in-ExtHasAttr
@@ -105,3 +106,21 @@ feed-returns-in-ExtHasAttr g t c =
     c.hash-in-ExtHasAttr.ensures
     (c.hash-in-ExtHasAttr-2.ensures ∙ ap (fold w c.hash-in-ExtHasAttr.new.state) (slices_fed _ fed.str rc_str_bytes (λ a. refl) others))
     ∙ ap (λ u. fold w c.args.state.now (tree_input u)) (sym is)
+
+pub feed_all-returns : goal.feed_all-returns
+feed_all-returns g t c =
+    let w = g.H.Hasher.write in
+    let es = c.args.exprs.now in
+    let ts = trees (map (tree_of {T = g.row.T.Denot}) es) in
+    two_steps w c.args.state.now c.hash.new.state c.loop-e.state (fed.usize (count ts)) (trees_input ts)
+    (c.hash.ensures ∙ ap (λ n. fold w c.args.state.now (fed.usize n)) (c.len.ensures ∙ counted {T = g.row.T.Denot} es))
+    (sym (ap (λ xs. fold w c.loop-e.state (all_fed w {T = g.row.T.Denot} xs)) (drop_all c.loop-e.e-index es c.loop-e-test.false)) ∙ c.loop-e.invariant)
+
+pub feed_fields-returns : goal.feed_fields-returns
+feed_fields-returns g t c =
+    let w = g.H.Hasher.write in
+    let es = c.args.fields.now.entries in
+    let fs = tree_fields (named (field_trees {T = g.row.T.Denot} es)) in
+    two_steps w c.args.state.now c.hash.new.state c.loop-name.state (fed.usize (field_count fs)) (tree_fields_input fs)
+    (c.hash.ensures ∙ ap (λ n. fold w c.args.state.now (fed.usize n)) (c.len.ensures ∙ fields_counted {T = g.row.T.Denot} es))
+    (sym (ap (λ xs. fold w c.loop-name.state (fields_fed w {T = g.row.T.Denot} xs)) c.in-None.ensures.steps.0) ∙ c.loop-name.invariant)
