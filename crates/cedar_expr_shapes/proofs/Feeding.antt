@@ -10,10 +10,14 @@ use Rattle.std.proofs.lemmas.List.Concat.{flat_map-cons}
 use Rattle.std.proofs.lemmas.List.Sums.{fold-append}
 use Rattle.std.specs.declared.alloc.Global.{Global}
 use Rattle.std.specs.declared.rc.RcStr.{RcStr}
+use Rattle.cedar_expr_leaves.specs.Patterns.{element_of}
+use Rattle.cedar_expr_leaves.specs.contracts.pattern.PatternElemHash.TheImpl as element_hash
+use Rattle.cedar_expr_leaves.specs.declared.pattern.PatternElem.{PatternElem}
+use Rattle.cedar_expr_leaves.specs.declared.pattern.PatternElem.TheVariants.{Char, Wildcard}
 use Rattle.cedar_expr_model.specs.Whole.Builder.{trees, tree_fields}
 use Rattle.cedar_expr_trees.specs.declared.expr.Expr.{Expr}
 use Rattle.cedar_expr_trees.specs.Trees.{tree_of, named, field_trees}
-use Rattle.cedar_expr_shapes.specs.Hashed.{tree_input, trees_input, tree_fields_input, count, field_count}
+use Rattle.cedar_expr_shapes.specs.Hashed.{element_input, tree_input, trees_input, tree_fields_input, count, field_count}
 
 module _ {S : Type 0} (w : S → List ℕ → S) where
   -- steps, one after the other
@@ -67,3 +71,11 @@ flat_by f g view h (x ∷ xs) =
 pub slices_fed : {X Y : Type 0} (f : X → HashWrites) (g : Y → HashWrites) (view : X → Y) → ((x : X) → f x ≡ g (view x)) → (xs : List X) → fed.slice f xs ≡ fed.slice g (map view xs)
 slices_fed f g view h xs =
     ap (λ n. fed.usize n ++ flat_map f xs) (sym (length-map xs view)) ∙ ap (λ ys. fed.usize (length (map view xs)) ++ ys) (flat_by f g view h xs)
+
+-- so are the elements of patterns
+element_fed : (e : PatternElem) → (element_hash.ghosts).hash_input e ≡ element_input (element_of e)
+element_fed (Char c) = refl
+element_fed Wildcard = refl
+
+pub elements_fed : (es : List PatternElem) → fed.slice (element_hash.ghosts).hash_input es ≡ fed.slice element_input (map element_of es)
+elements_fed es = slices_fed (element_hash.ghosts).hash_input element_input element_of element_fed es

@@ -188,11 +188,7 @@ fn test_compared<T, U>(expr: &Expr<T>, attr: &RcStr, right: &ExprKind<U>) -> Ord
 
 // A test of a path of attributes and another expression.
 #[cycle(compare)]
-fn path_compared<T, U>(
-    expr: &Expr<T>,
-    attrs: &NonEmpty<RcStr>,
-    right: &ExprKind<U>,
-) -> Ordering
+fn path_compared<T, U>(expr: &Expr<T>, attrs: &NonEmpty<RcStr>, right: &ExprKind<U>) -> Ordering
     ensures { result ≡ tree_cmp (has_path (tree_of expr.now) (rc_str_bytes attrs.now.head) (map rc_str_bytes attrs.now.tail.items)) (kind_tree right.now) }
 {
     let ExprKind::ExtHasAttr {

@@ -9,21 +9,37 @@ use cedar_expr_trees::ExprKind;
 use std::cmp::Ordering;
 
 pub const LIT: u8 = 0;
+
 pub const VAR: u8 = 1;
+
 pub const SLOT: u8 = 2;
+
 pub const UNKNOWN: u8 = 3;
+
 pub const IF: u8 = 4;
+
 pub const AND: u8 = 5;
+
 pub const OR: u8 = 6;
+
 pub const UNARY_APP: u8 = 7;
+
 pub const BINARY_APP: u8 = 8;
+
 pub const CALL: u8 = 9;
+
 pub const GET_ATTR: u8 = 10;
+
 pub const HAS_ATTR: u8 = 11;
+
 pub const EXT_HAS_ATTR: u8 = 12;
+
 pub const LIKE: u8 = 13;
+
 pub const IS: u8 = 14;
+
 pub const SET: u8 = 15;
+
 pub const RECORD: u8 = 16;
 
 // The place of a kind among the kinds.

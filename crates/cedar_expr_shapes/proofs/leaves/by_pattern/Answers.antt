@@ -9,5 +9,5 @@ pub returns : goal.returns
 returns c =
     c.cmp.ensures
     ∙ slices_by _ element_cmp element_of
-        (λ a b. elim a [ Char x ↦ elim b [ Char y ↦ search rules | Wildcard ↦ search rules ] | Wildcard ↦ elim b [ Char y ↦ search rules | Wildcard ↦ search rules ] ])
+    (λ a b. elim a [ Char x ↦ elim b [ Char y ↦ search rules | Wildcard ↦ search rules ] | Wildcard ↦ elim b [ Char y ↦ search rules | Wildcard ↦ search rules ] ])
     c.args.left.now.elems.value.items c.args.right.now.elems.value.items
