@@ -1,6 +1,6 @@
 -- Shapes are totally ordered, the order finds no difference exactly between equal ones, and equal ones feed a hasher alike.
 -- Rule: shapes (docs/RULES.md).
-use Rattle.std.specs.Prelude.{◌≡◌, ◌↔◌, true, refl}
+use Rattle.std.specs.Prelude.{◌≡◌, ◌↔◌, true}
 use Rattle.std.proofs.Common.{ap}
 use Rattle.std.specs.Cmp.{IsEquivalence, IsTotalOrder, eq_by_cmp_equiv}
 use Rattle.std.specs.declared.cmp.Ordering.TheVariants.{Equal}

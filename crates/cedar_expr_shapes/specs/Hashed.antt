@@ -4,8 +4,7 @@
 use Rattle.std.specs.Prelude.{◌++◌, ℕ, ◌+◌, [], pos}
 use Rattle.std.specs.Hash as fed
 use Rattle.std.specs.Hash.{HashWrites}
-use Rattle.cedar_expr_model.specs.Name.{Text, Name, name_text}
-use Rattle.cedar_expr_model.specs.Uid.{Uid}
+use Rattle.cedar_expr_model.specs.Name.{Name, name_text}
 use Rattle.cedar_expr_model.specs.Whole.Value.{Literal, truth, long, text, entity}
 use Rattle.cedar_expr_model.specs.Whole.Pattern.{Element, character, wildcard}
 use Rattle.cedar_expr_model.specs.Whole.Order.{core_rank}

@@ -1,4 +1,4 @@
-use Rattle.std.proofs.Common.{◌++◌, map, fold, length, refl, sym, ap, ◌∙◌, rules, arith}
+use Rattle.std.proofs.Common.{◌++◌, map, fold, refl, sym, ap, ◌∙◌, rules, arith}
 use Rattle.std.specs.Hash as fed
 use Rattle.std.specs.Rc.{rc_str_bytes}
 use Rattle.cedar_expr_names.specs.Views.{plain_name_of}
