@@ -1,0 +1,6 @@
+pub mod Unknowns
+pub mod Styles
+pub mod Signatures
+pub mod Answers
+pub mod Functions
+pub mod Refusals

@@ -1,0 +1,6 @@
+//! Extension functions, and the table of those that are there.
+#![tactic(auto)]
+
+pub mod err;
+pub mod extension;
+pub mod stub;
