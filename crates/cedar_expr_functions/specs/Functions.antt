@@ -40,3 +40,7 @@ IfAsked P (Err OutOfMemory) = Unit {0}
 IfAsked P (Err (WrongNumArguments f m n)) = Unit {0}
 IfAsked P (Err (ArgumentType a b)) = Unit {0}
 IfAsked P (Err (Fault e m a)) = P (Err (Fault e m a))
+
+-- The function answers only what `post` allows.
+abbrev pub AnswersBy : {B : _} {F : _} {g : _} → (Global → Bor (List (Value ExtValue)) → Result ExtensionOutputValue CallFault → Type 0) → ExtensionFunction B F g → Type 0
+AnswersBy post f = (a : Global) (xs : Bor (List (Value ExtValue))) (r : Result ExtensionOutputValue CallFault) → MayAnswer f a xs r → post a xs r

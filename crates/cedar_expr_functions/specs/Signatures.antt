@@ -1,13 +1,15 @@
 -- Signatures from their parts, which arguments they take, and which argument is of a wrong type.
 -- Rule: extension functions (docs/RULES.md).
-use Rattle.std.specs.Prelude.{◌&&◌, List, [], ◌∷◌, length, Bool, Option, Some, None, if◌then◌else◌, map}
+use Rattle.std.specs.Prelude.{◌&&◌, List, [], ◌∷◌, length, Bool, true, false, Option, Some, None, if◌then◌else◌, map, option_and_then}
 use Rattle.cedar_expr_model.specs.Name.{Name}
 use Rattle.cedar_expr_model.specs.Whole.Value.{V}
-use Rattle.cedar_expr_model.specs.Whole.Tree.{CoreType}
+use Rattle.cedar_expr_model.specs.Whole.Tree.{CoreType, string_core, extension_core}
 use Rattle.cedar_expr_model.specs.Whole.Order.{core_eq}
 use Rattle.cedar_expr_model.specs.Whole.Substitution.{core_type_of}
 use Rattle.cedar_expr_model.specs.Whole.Table.{CallStyle, Signature, takes_count, are_of_types}
+use Rattle.cedar_expr_values.specs.Types.{core_of}
 use Rattle.cedar_expr_values.specs.Values.{bare}
+use Rattle.cedar_expr_values.specs.declared.types.Type.{«Type» as CoreKind}
 use Rattle.cedar_expr_values.specs.Extensions.{extension_of}
 use Rattle.cedar_expr_values.specs.declared.value.Value.{Value}
 use Rattle.cedar_expr_values.specs.declared.extension.ExtValue.{ExtValue}
@@ -30,3 +32,30 @@ first_mistyped (a ∷ b ∷ bs) (v ∷ vs) = if core_eq a (core_type_of v) then 
 -- what the code's values are
 abbrev pub bare_values : List (Value ExtValue) → List V
 bare_values vs = map (bare extension_of) vs
+
+-- two types, as the model's
+abbrev pub core_pair : CoreKind × CoreKind → CoreType × CoreType
+core_pair p = (core_of p.0, core_of p.1)
+
+-- one type, of texts
+abbrev pub is_text : CoreType → Bool
+is_text string_core = true
+is_text t = false
+
+abbrev pub is_one_text : List CoreType → Bool
+is_one_text (a ∷ []) = is_text a
+is_one_text as_ = false
+
+-- a type of extension values
+abbrev pub extension_type : CoreType → Option CoreType
+extension_type (extension_core n) = Some (extension_core n)
+extension_type t = None
+
+-- the name of an extension type
+abbrev pub extension_name : CoreType → Option Name
+extension_name (extension_core n) = Some n
+extension_name t = None
+
+-- the extension type whose values a function gives, where its result is one
+abbrev pub given_type : Signature → Option Name
+given_type s = option_and_then extension_name s.result

@@ -1,10 +1,10 @@
 //! Extension functions.
 
-ghost use Rattle.std.specs.Prelude.{◌≡◌, map, option_map};
+ghost use Rattle.std.specs.Prelude.{◌≡◌, ◌<◌, true, map, option_map, vec_len, IfOk};
 ghost use Rattle.cedar_expr_names.specs.Views.{plain_name_of};
 ghost use Rattle.cedar_expr_values.specs.Types.{core_of};
 ghost use Rattle.cedar_expr_functions.specs.Styles.{style_of};
-ghost use Rattle.cedar_expr_functions.specs.Signatures.{signature};
+ghost use Rattle.cedar_expr_functions.specs.Signatures.{signature, bare_values, first_mistyped, core_pair, is_one_text, is_text, extension_type};
 ghost use Rattle.cedar_expr_functions.specs.Answers.{IsStored};
 
 use crate::err::CallFault;
@@ -45,21 +45,244 @@ pub struct ExtensionFunction {
     variadic: bool,
     return_type: Option<Type>,
     func: Func,
+    ghost some_type: { variadic ≡ true → 0 < vec_len arg_types },
     ghost stored: { IsStored (signature (plain_name_of name) (style_of style) (map core_of arg_types.items) variadic (option_map core_of return_type)) (pre func) (post func) },
 }
 
 impl ExtensionFunction {
-    ghost use Rattle.std.specs.Prelude.{true, false, [], ◌∷◌, Some, None, IfOk, IfErr};
-    ghost use Rattle.cedar_expr_functions.specs.Signatures.{takes, bare_values};
+    ghost use Rattle.std.specs.Prelude.{false, [], ◌∷◌, length, Some, None, IfErr, OnOk};
+    ghost use Rattle.cedar_expr_model.specs.Whole.Table.{takes_count, constructed, is_constructor};
+    ghost use Rattle.cedar_expr_functions.specs.Signatures.{takes};
     ghost use Rattle.cedar_expr_functions.specs.Answers.{is_output};
-    ghost use Rattle.cedar_expr_functions.specs.Functions.{function_signature, MayAnswer, AgreesWithModel, IfAsked};
+    ghost use Rattle.cedar_expr_functions.specs.Functions.{function_signature, MayAnswer, AnswersBy, AgreesWithModel, IfAsked};
     ghost use Rattle.cedar_expr_functions.specs.Refusals.{RefusesCall};
+
+    /// The function of no arguments with this result. What is stored has the facts of its signature.
+    pub fn nullary(
+        alloc: Global,
+        name: Name,
+        style: CallStyle,
+        func: Func,
+        return_type: Type,
+    ) -> ExtensionFunction
+        requires { IsStored (signature (plain_name_of name) (style_of style) [] false (Some (core_of return_type))) (pre func) (post func) }
+        ensures signature { function_signature result ≡ signature (plain_name_of name) (style_of style) [] false (Some (core_of return_type)) }
+        ensures answers { AnswersBy (post func) result }
+    {
+        let arg_types = Vec::new(alloc);
+        ExtensionFunction::new(name, style, func, Some(return_type), arg_types, false)
+    }
+
+    /// The function of one argument of this type, with this result. What is stored has the facts of its signature. Answers want
+    /// of memory.
+    pub fn unary(
+        alloc: Global,
+        name: Name,
+        style: CallStyle,
+        func: Func,
+        return_type: Type,
+        arg_type: Type,
+    ) -> Result<ExtensionFunction, AllocError>
+        requires { IsStored (signature (plain_name_of name) (style_of style) (core_of arg_type ∷ []) false (Some (core_of return_type))) (pre func) (post func) }
+        ensures signature { IfOk result (λ f. function_signature f ≡ signature (plain_name_of name) (style_of style) (core_of arg_type ∷ []) false (Some (core_of return_type))) }
+        ensures answers { IfOk result (AnswersBy (post func)) }
+    {
+        let arg_types = vec![in alloc; arg_type]?;
+        Ok(ExtensionFunction::new(name, style, func, Some(return_type), arg_types, false))
+    }
+
+    /// The function of two arguments of these types, with this result. What is stored has the facts of its signature. Answers
+    /// want of memory.
+    pub fn binary(
+        alloc: Global,
+        name: Name,
+        style: CallStyle,
+        func: Func,
+        return_type: Type,
+        arg_types: (Type, Type),
+    ) -> Result<ExtensionFunction, AllocError>
+        requires { IsStored (signature (plain_name_of name) (style_of style) (core_of arg_types.0 ∷ core_of arg_types.1 ∷ []) false (Some (core_of return_type))) (pre func) (post func) }
+        ensures signature { IfOk result (λ f. function_signature f ≡ signature (plain_name_of name) (style_of style) (core_of arg_types.0 ∷ core_of arg_types.1 ∷ []) false (Some (core_of return_type))) }
+        ensures answers { IfOk result (AnswersBy (post func)) }
+    {
+        let (first, second) = arg_types;
+        let arg_types = vec![in alloc; first, second]?;
+        Ok(ExtensionFunction::new(name, style, func, Some(return_type), arg_types, false))
+    }
+
+    /// The function of three arguments of these types, with this result. What is stored has the facts of its signature. Answers
+    /// want of memory.
+    pub fn ternary(
+        alloc: Global,
+        name: Name,
+        style: CallStyle,
+        func: Func,
+        return_type: Type,
+        arg_types: (Type, Type, Type),
+    ) -> Result<ExtensionFunction, AllocError>
+        requires { IsStored (signature (plain_name_of name) (style_of style) (core_of arg_types.0 ∷ core_of arg_types.1 ∷ core_of arg_types.2 ∷ []) false (Some (core_of return_type))) (pre func) (post func) }
+        ensures signature { IfOk result (λ f. function_signature f ≡ signature (plain_name_of name) (style_of style) (core_of arg_types.0 ∷ core_of arg_types.1 ∷ core_of arg_types.2 ∷ []) false (Some (core_of return_type))) }
+        ensures answers { IfOk result (AnswersBy (post func)) }
+    {
+        let (first, second, third) = arg_types;
+        let arg_types = vec![in alloc; first, second, third]?;
+        Ok(ExtensionFunction::new(name, style, func, Some(return_type), arg_types, false))
+    }
+
+    /// The function of arguments of these types, at least one, and any number of further ones of the last, with this result.
+    /// What is stored has the facts of its signature.
+    pub fn variadic(
+        name: Name,
+        style: CallStyle,
+        func: Func,
+        return_type: Type,
+        arg_types: Vec<Type>,
+    ) -> ExtensionFunction
+        requires some { 0 < vec_len arg_types }
+        requires stored { IsStored (signature (plain_name_of name) (style_of style) (map core_of arg_types.items) true (Some (core_of return_type))) (pre func) (post func) }
+        ensures signature { function_signature result ≡ signature (plain_name_of name) (style_of style) (map core_of arg_types.items) true (Some (core_of return_type)) }
+        ensures answers { AnswersBy (post func) result }
+    {
+        ExtensionFunction::new(name, style, func, Some(return_type), arg_types, true)
+    }
+
+    /// The function of one argument of this type that leaves an unknown: it has no result type. What is stored has the facts of
+    /// its signature. Answers want of memory.
+    pub fn partial_eval_unknown(
+        alloc: Global,
+        name: Name,
+        style: CallStyle,
+        func: Func,
+        arg_type: Type,
+    ) -> Result<ExtensionFunction, AllocError>
+        requires { IsStored (signature (plain_name_of name) (style_of style) (core_of arg_type ∷ []) false None) (pre func) (post func) }
+        ensures signature { IfOk result (λ f. function_signature f ≡ signature (plain_name_of name) (style_of style) (core_of arg_type ∷ []) false None) }
+        ensures answers { IfOk result (AnswersBy (post func)) }
+    {
+        let arg_types = vec![in alloc; arg_type]?;
+        Ok(ExtensionFunction::new(name, style, func, None, arg_types, false))
+    }
+
+    // The function of this signature.
+    fn new(
+        name: Name,
+        style: CallStyle,
+        func: Func,
+        return_type: Option<Type>,
+        arg_types: Vec<Type>,
+        variadic: bool,
+    ) -> ExtensionFunction
+        requires some { variadic ≡ true → 0 < vec_len arg_types }
+        requires stored { IsStored (signature (plain_name_of name) (style_of style) (map core_of arg_types.items) variadic (option_map core_of return_type)) (pre func) (post func) }
+        ensures signature { function_signature result ≡ signature (plain_name_of name) (style_of style) (map core_of arg_types.items) variadic (option_map core_of return_type) }
+        ensures answers { AnswersBy (post func) result }
+    {
+        ExtensionFunction {
+            name,
+            style,
+            arg_types,
+            variadic,
+            return_type,
+            func,
+        }
+    }
 
     /// The name of the function.
     pub fn name(&self) -> &Name
         ensures { plain_name_of result.now ≡ (function_signature self.now).name }
     {
         &self.name
+    }
+
+    /// How a call of the function is written.
+    pub fn style(&self) -> CallStyle
+        ensures { style_of result ≡ (function_signature self.now).style }
+    {
+        self.style
+    }
+
+    /// The type of what the function gives, where that is known.
+    pub fn return_type(&self) -> Option<&Type>
+        ensures { option_map (λ t. core_of t.now) result ≡ (function_signature self.now).result }
+    {
+        self.return_type.as_ref()
+    }
+
+    /// The types of the arguments. Where the function is variadic, further ones have the last.
+    pub fn arg_types(&self) -> &[Type]
+        ensures types { map core_of result.now ≡ (function_signature self.now).parameters }
+        ensures some { (function_signature self.now).is_variadic ≡ true → 0 < length result.now }
+    {
+        self.arg_types.as_slice()
+    }
+
+    /// Whether the function takes further arguments, of the last type.
+    pub fn is_variadic(&self) -> bool
+        ensures { result ≡ (function_signature self.now).is_variadic }
+    {
+        self.variadic
+    }
+
+    /// Whether the function is a constructor: a function in function style of one text, not variadic, that gives an extension
+    /// value.
+    pub fn is_single_arg_constructor(&self) -> bool
+        ensures { result ≡ is_constructor (function_signature self.now) }
+    {
+        self.constructed().is_some()
+    }
+
+    // The type that the function constructs, where it is a constructor.
+    pub(crate) fn constructed(&self) -> Option<&Type>
+        ensures { option_map (λ t. core_of t.now) result ≡ constructed (function_signature self.now) }
+    {
+        match self.style {
+            CallStyle::FunctionStyle => {}
+            CallStyle::MethodStyle => return None,
+        }
+        if self.variadic || !is_one_text(self.arg_types.as_slice()) {
+            return None;
+        }
+        match &self.return_type {
+            Some(ty) => extension_type(ty),
+            None => None,
+        }
+    }
+
+    /// Calls the function on these arguments. Refuses another number of them than it takes, then the first that isn't of its
+    /// type, then what the function itself refuses, and answers want of memory.
+    pub fn call(
+        &self,
+        alloc: Global,
+        args: &[Value<ExtValue>],
+    ) -> Result<ExtensionOutputValue, CallFault>
+        ensures taken { OnOk result (takes (function_signature self.now) (bare_values args.now) ≡ true) }
+        ensures refused { IfErr result (RefusesCall (function_signature self.now) (bare_values args.now)) }
+        ensures asked { IfAsked (MayAnswer self.now alloc args.entry) result }
+        ensures modelled { AgreesWithModel self.now (bare_values args.now) result }
+        ensures of_result { IfOk result (λ o. is_output (function_signature self.now).result o ≡ true) }
+    {
+        if !self.takes_count(args.len()) {
+            return Err(CallFault::WrongNumArguments {
+                function_name: self.name.clone()?,
+                expected: self.arg_types.len(),
+                actual: args.len(),
+            });
+        }
+        if let Some((expected, actual)) = first_mistyped(self.arg_types.as_slice(), args)? {
+            return Err(CallFault::ArgumentType { expected, actual });
+        }
+        self.ask(alloc, args)
+    }
+
+    // Whether the function takes so many arguments.
+    fn takes_count(&self, count: usize) -> bool
+        ensures { result ≡ takes_count (function_signature self.now) count }
+    {
+        if self.variadic {
+            self.arg_types.len() <= count
+        } else {
+            count == self.arg_types.len()
+        }
     }
 
     // Asks the function that is stored.
@@ -73,4 +296,59 @@ impl ExtensionFunction {
     {
         (self.func)(alloc, args)
     }
+}
+
+// Whether these types are that of texts alone.
+fn is_one_text(types: &[Type]) -> bool
+    ensures { result ≡ is_one_text (map core_of types.now) }
+{
+    match types {
+        [only] => is_text(only),
+        _ => false,
+    }
+}
+
+// Whether the type is that of texts.
+fn is_text(ty: &Type) -> bool
+    ensures { result ≡ is_text (core_of ty.now) }
+{
+    match ty {
+        Type::String => true,
+        Type::Bool | Type::Long | Type::Set | Type::Record => false,
+        Type::Entity { .. } | Type::Extension { .. } => false,
+    }
+}
+
+// The type, where it is one of extension values.
+fn extension_type(ty: &Type) -> Option<&Type>
+    ensures { option_map (λ t. core_of t.now) result ≡ extension_type (core_of ty.entry.now) }
+{
+    match ty {
+        Type::Extension { .. } => Some(ty),
+        Type::Bool | Type::Long | Type::String => None,
+        Type::Set | Type::Record | Type::Entity { .. } => None,
+    }
+}
+
+// The first of these arguments that isn't of its type: the type that is due, and the type that it has.
+fn first_mistyped(
+    types: &[Type],
+    args: &[Value<ExtValue>],
+) -> Result<Option<(Type, Type)>, AllocError>
+    ensures { IfOk result (λ o. option_map core_pair o ≡ first_mistyped (map core_of types.now) (bare_values args.now)) }
+{
+    let mut due = types;
+    for arg in args {
+        let Some((expected, further)) = due.split_first() else {
+            return Ok(None);
+        };
+        let actual = arg.type_of()?;
+        if !expected.same(&actual) {
+            return Ok(Some((expected.clone()?, actual)));
+        }
+        if !further.is_empty() {
+            due = further;
+        }
+    }
+    Ok(None)
 }
