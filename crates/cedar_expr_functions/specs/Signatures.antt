@@ -22,12 +22,16 @@ signature n w ps v r = record { name = n; style = w; parameters = ps; is_variadi
 abbrev pub takes : Signature → List V → Bool
 takes s vs = takes_count s (length vs) && are_of_types s.parameters vs
 
+-- the types of the arguments after one of these types: the last stays
+abbrev pub after_one : List CoreType → List CoreType
+after_one (a ∷ b ∷ bs) = b ∷ bs
+after_one as_ = as_
+
 -- The first of these arguments that isn't of its type: the type that is due, and the type that it has.
 abbrev pub first_mistyped : List CoreType → List V → Option (CoreType × CoreType)
 first_mistyped [] vs = None
 first_mistyped (a ∷ as_) [] = None
-first_mistyped (a ∷ []) (v ∷ vs) = if core_eq a (core_type_of v) then first_mistyped (a ∷ []) vs else Some (a, core_type_of v)
-first_mistyped (a ∷ b ∷ bs) (v ∷ vs) = if core_eq a (core_type_of v) then first_mistyped (b ∷ bs) vs else Some (a, core_type_of v)
+first_mistyped (a ∷ as_) (v ∷ vs) = if core_eq a (core_type_of v) then first_mistyped (after_one (a ∷ as_)) vs else Some (a, core_type_of v)
 
 -- what the code's values are
 abbrev pub bare_values : List (Value ExtValue) → List V

@@ -4,7 +4,7 @@ ghost use Rattle.std.specs.Prelude.{◌≡◌, ◌<◌, true, map, option_map, v
 ghost use Rattle.cedar_expr_names.specs.Views.{plain_name_of};
 ghost use Rattle.cedar_expr_values.specs.Types.{core_of};
 ghost use Rattle.cedar_expr_functions.specs.Styles.{style_of};
-ghost use Rattle.cedar_expr_functions.specs.Signatures.{signature, bare_values, first_mistyped, core_pair, is_one_text, is_text, extension_type};
+ghost use Rattle.cedar_expr_functions.specs.Signatures.{signature, bare_values, after_one, first_mistyped, core_pair, is_one_text, is_text, extension_type};
 ghost use Rattle.cedar_expr_functions.specs.Answers.{IsStored};
 
 use crate::err::CallFault;
@@ -330,6 +330,16 @@ fn extension_type(ty: &Type) -> Option<&Type>
     }
 }
 
+// The types of the arguments after one of these types: the last stays.
+fn after_one(types: &[Type]) -> &[Type]
+    ensures { map core_of result.now ≡ after_one (map core_of types.entry.now) }
+{
+    match types.split_first() {
+        Some((_, further)) if !further.is_empty() => further,
+        _ => types,
+    }
+}
+
 // The first of these arguments that isn't of its type: the type that is due, and the type that it has.
 fn first_mistyped(
     types: &[Type],
@@ -339,16 +349,14 @@ fn first_mistyped(
 {
     let mut due = types;
     for arg in args {
-        let Some((expected, further)) = due.split_first() else {
+        let Some(expected) = due.first() else {
             return Ok(None);
         };
         let actual = arg.type_of()?;
         if !expected.same(&actual) {
             return Ok(Some((expected.clone()?, actual)));
         }
-        if !further.is_empty() {
-            due = further;
-        }
+        due = after_one(due);
     }
     Ok(None)
 }
