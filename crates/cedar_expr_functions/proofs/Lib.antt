@@ -1,1 +1,2 @@
 pub mod Mistyped
+pub mod Taken

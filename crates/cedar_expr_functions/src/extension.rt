@@ -268,10 +268,10 @@ impl ExtensionFunction {
                 actual: args.len(),
             });
         }
-        if let Some((expected, actual)) = first_mistyped(self.arg_types.as_slice(), args)? {
-            return Err(CallFault::ArgumentType { expected, actual });
+        match first_mistyped(self.arg_types.as_slice(), args)? {
+            Some((expected, actual)) => Err(CallFault::ArgumentType { expected, actual }),
+            None => self.ask(alloc, args),
         }
-        self.ask(alloc, args)
     }
 
     // Whether the function takes so many arguments.
@@ -285,8 +285,26 @@ impl ExtensionFunction {
         }
     }
 
-    // Asks the function that is stored.
+    // Asks the function that is stored, and hands on what it answers.
     fn ask(
+        &self,
+        alloc: Global,
+        args: &[Value<ExtValue>],
+    ) -> Result<ExtensionOutputValue, CallFault>
+        requires { takes (function_signature self.now) (bare_values args.now) ≡ true }
+        ensures refused { IfErr result (RefusesCall (function_signature self.now) (bare_values args.now)) }
+        ensures asked { IfAsked (MayAnswer self.now alloc args.entry) result }
+        ensures modelled { AgreesWithModel self.now (bare_values args.now) result }
+        ensures of_result { IfOk result (λ o. is_output (function_signature self.now).result o ≡ true) }
+    {
+        match self.ask_stored(alloc, args) {
+            Ok(output) => Ok(output),
+            Err(fault) => Err(fault),
+        }
+    }
+
+    // Asks the function that is stored.
+    fn ask_stored(
         &self,
         alloc: Global,
         args: &[Value<ExtValue>],
