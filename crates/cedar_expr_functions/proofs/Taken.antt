@@ -17,5 +17,5 @@ both_true a b e f = ap (λ c. c && b) e ∙ f
 pub all_taken : (s : Signature) (vs : List (Value ExtValue)) (counted : Bool) (ts : List CoreKind) (found : Option (CoreKind × CoreKind)) → counted ≡ takes_count s (length vs) → counted ≡ true → map core_of ts ≡ s.parameters
     → option_map core_pair found ≡ first_mistyped (map core_of ts) (bare_values vs) → found ≡ None → takes s (bare_values vs) ≡ true
 all_taken s vs counted ts found e h p m n =
-    both_true _ _ (ap (takes_count s) (length-map (bare extension_of) vs) ∙ sym e ∙ h)
+    both_true _ _ (ap (takes_count s) (length-map vs (bare extension_of)) ∙ sym e ∙ h)
       (of_types s.parameters (bare_values vs) ∙ ap (λ as_. is_none (first_mistyped as_ (bare_values vs))) (sym p) ∙ ap is_none (sym m) ∙ ap (λ o. is_none (option_map core_pair o)) n)
