@@ -1,2 +1,3 @@
 pub mod Mistyped
 pub mod Taken
+pub mod Gathered

@@ -64,3 +64,23 @@ impl<T: Drop> From<AllocFailed<T>> for CallFault {
         CallFault::OutOfMemory
     }
 }
+
+/// Why pairs make no map.
+#[derive(Debug, PartialEq, Eq, Drop)]
+pub enum CollectError<K> {
+    /// There is no memory for the map.
+    OutOfMemory,
+
+    /// This key is met again.
+    Repeated(K),
+}
+
+impl<K, T: Drop> From<AllocFailed<T>> for CollectError<K> {
+    ghost use Rattle.cedar_expr_functions.specs.declared.err.CollectError.TheVariants as collect;
+
+    ghost from_gives = { λ _ e. e ≡ collect.OutOfMemory };
+
+    fn from(_error: AllocFailed<T>) -> CollectError<K> {
+        CollectError::OutOfMemory
+    }
+}
