@@ -399,6 +399,7 @@ fn a_node_before_its_children(rt: HostRuntime) -> Result<(), Fail> {
         assert!(rt; all.next().is_some_and(|found| found == want));
     }
     assert!(rt; all.next().is_none());
+    drop(all);
     let mut seen = HashSet::new(alloc);
     seen.insert(e.clone()?)?;
     assert!(rt; seen.contains(&e.with_maybe_source_loc(Some(Loc::new(0, 1)))));
