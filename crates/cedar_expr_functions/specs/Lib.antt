@@ -1,4 +1,3 @@
-pub mod Unknowns
 pub mod Styles
 pub mod Signatures
 pub mod Answers

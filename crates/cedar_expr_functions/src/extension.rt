@@ -8,8 +8,8 @@ ghost use Rattle.cedar_expr_functions.specs.Signatures.{signature, bare_values, 
 ghost use Rattle.cedar_expr_functions.specs.Answers.{IsStored};
 
 use crate::err::CallFault;
-use crate::stub::Unknown;
 use cedar_expr_names::Name;
+use cedar_expr_trees::Unknown;
 use cedar_expr_values::{ExtValue, StaticallyTyped, Type, Value};
 use std::alloc::{AllocError, Global};
 

@@ -3,5 +3,4 @@
 
 pub mod err;
 pub mod extension;
-pub mod stub;
 pub mod util;

@@ -1,9 +1,0 @@
-use Rattle.std.specs.Prelude.{◌++◌, codes, option_map}
-use Rattle.std.specs.Rc.{rc_str_bytes}
-use Rattle.cedar_expr_model.specs.Whole.Parts as model
-use Rattle.cedar_expr_values.specs.Types.{core_of}
-use Rattle.cedar_expr_functions.specs.declared.stub.Unknown.{Unknown}
-
--- the unknown that a code unknown is
-abbrev pub unknown_of : Unknown → model.Unknown
-unknown_of u = record { name = rc_str_bytes u.name; annotation = option_map core_of u.type_annotation }
