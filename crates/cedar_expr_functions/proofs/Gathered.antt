@@ -3,13 +3,16 @@ use Rattle.std.proofs.Common.{◌≡◌, List, [], ◌∷◌, ◌++◌, map, Boo
 use mathlib.Core.List.{append-nil}
 use Rattle.std.proofs.lemmas.List.{map-append}
 use Rattle.std.proofs.lemmas.Cmp.{eq_by_cmp_equiv}
-use Rattle.std.specs.BTreeMap.{BTreeMap, get, is_at, Updates}
+use Rattle.std.proofs.lemmas.List.Sorted.{IsPermutation-refl, IsPermutation-sym, IsPermutation-trans, IsPermutation-cons, IsPermutation-middle}
+use Rattle.std.specs.Prelude.{IsPermutation}
+use Rattle.std.specs.BTreeMap.{BTreeMap, get, is_at, Updates, insert_entry}
 use Rattle.std.specs.Cmp.{IsEquivalence, IsTotalOrder}
 use Rattle.std.specs.List.{list_any}
 use Rattle.std.specs.Map.{lookup, keys_of}
-use Rattle.std.specs.Ordering.{eq_by_cmp}
+use Rattle.std.specs.Ordering.{eq_by_cmp, is_eq, match_ordering}
 use Rattle.std.specs.Result.{IsErrAnd}
 use Rattle.std.specs.declared.cmp.Ordering.{Ordering}
+use Rattle.std.specs.declared.cmp.Ordering.TheVariants.{Less, Equal, Greater}
 use Rattle.cedar_expr_model.specs.Whole.Repeats.{first_again, repeated}
 use Rattle.cedar_expr_functions.specs.Collected.{IsMapOf, RefusesKeys, RefusesKey}
 use Rattle.cedar_expr_functions.specs.declared.err.CollectError.{CollectError}
@@ -93,3 +96,19 @@ module _ {K X : Type 0} (cmp : K → K → Ordering) (total : IsTotalOrder cmp) 
       → IfErr r (RefusesKeys cmp (keys_of all))
   refused_all m ps qs all k x of distinct goes e h (Ok y) same = tt
   refused_all m ps qs all k x of distinct goes e h (Err y) same = subst (λ f. RefusesKeys cmp (keys_of all) f) (sym same) (subst (λ rs. RefusesKeys cmp (keys_of rs) e) (sym goes) (refused_key m ps qs k x of distinct e h))
+
+module _ {K X : Type 0} (cmp : K → K → Ordering) where
+  inserted : (k : K) (x : X) (es : List (K × X)) → lookup (is_at (cmp k)) es ≡ None → IsPermutation ((k, x) ∷ es) (insert_entry cmp es k x)
+  inserted k x [] h = IsPermutation-refl _
+  inserted k x (e ∷ es) h = go (cmp k e.0) h (inserted k x es)
+    where
+      go : (r : Ordering) → cond (is_eq r) (Some e.1) (lookup (is_at (cmp k)) es) ≡ None → (lookup (is_at (cmp k)) es ≡ None → IsPermutation ((k, x) ∷ es) (insert_entry cmp es k x))
+          → IsPermutation ((k, x) ∷ e ∷ es) (match_ordering r ((k, x) ∷ e ∷ es) ((e.0, x) ∷ es) (e ∷ insert_entry cmp es k x))
+      go Less a i = IsPermutation-refl _
+      go Equal a i = absurd (cc)
+      go Greater a i =
+          IsPermutation-trans _ _ _ (IsPermutation-sym _ _ (IsPermutation-middle (e ∷ []) (k, x) es)) (IsPermutation-cons e ((k, x) ∷ es) (insert_entry cmp es k x) (i a))
+
+  -- a pair whose key isn't there goes among the entries
+  pub placed : (m n : BTreeMap K X) (k : K) (x : X) → get cmp m k ≡ None → n.entries ≡ insert_entry cmp m.entries k x → IsPermutation ((k, x) ∷ m.entries) n.entries
+  placed m n k x h e = subst (IsPermutation ((k, x) ∷ m.entries)) (sym e) (inserted k x m.entries h)

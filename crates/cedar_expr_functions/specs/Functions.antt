@@ -3,6 +3,7 @@
 use Rattle.std.specs.Prelude.{◌≡◌, List, Bool, true, Option, Some, Result, Ok, Err, map, option_map}
 use Rattle.std.specs.Borrow.{Bor}
 use Rattle.std.specs.declared.alloc.Global.{Global}
+use Rattle.cedar_expr_model.specs.Name.{Name}
 use Rattle.cedar_expr_model.specs.Whole.Value.{V}
 use Rattle.cedar_expr_model.specs.Whole.Table.{Signature, Called}
 use Rattle.cedar_expr_names.specs.Views.{plain_name_of}
@@ -16,6 +17,10 @@ use Rattle.cedar_expr_functions.specs.declared.extension.ExtensionFunction.{Exte
 use Rattle.cedar_expr_functions.specs.declared.extension.ExtensionOutputValue.{ExtensionOutputValue}
 use Rattle.cedar_expr_functions.specs.declared.err.CallFault.{CallFault}
 use Rattle.cedar_expr_functions.specs.declared.err.CallFault.TheVariants.{OutOfMemory, WrongNumArguments, ArgumentType, Fault}
+
+-- the name of a function
+abbrev pub function_name : {B : _} {F : _} {g : _} → ExtensionFunction B F g → Name
+function_name f = plain_name_of f.name
 
 -- the signature of a function
 abbrev pub function_signature : {B : _} {F : _} {g : _} → ExtensionFunction B F g → Signature

@@ -4,3 +4,4 @@ pub mod Answers
 pub mod Functions
 pub mod Refusals
 pub mod Collected
+pub mod Extended

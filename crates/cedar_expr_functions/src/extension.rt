@@ -12,6 +12,7 @@ use cedar_expr_names::Name;
 use cedar_expr_trees::Unknown;
 use cedar_expr_values::{ExtValue, StaticallyTyped, Type, Value};
 use std::alloc::{AllocError, Global};
+use std::slice::Iter;
 
 /// How a call is written.
 #[derive(Debug, Clone, Copy, PartialEq, Eq, PartialOrd, Ord, Hash)]
@@ -52,7 +53,9 @@ pub struct ExtensionFunction {
 impl ExtensionFunction {
     ghost use Rattle.std.specs.Prelude.{false, [], ◌∷◌, length, Some, None, IfErr, OnOk};
     ghost use Rattle.cedar_expr_model.specs.Whole.Table.{takes_count, constructed, is_constructor};
-    ghost use Rattle.cedar_expr_functions.specs.Signatures.{takes};
+    ghost use Rattle.std.specs.List.{filter_map};
+    ghost use Rattle.cedar_expr_functions.specs.Signatures.{takes, given_type};
+    ghost use Rattle.cedar_expr_functions.specs.Extended.{types_left};
     ghost use Rattle.cedar_expr_functions.specs.Answers.{is_output};
     ghost use Rattle.cedar_expr_functions.specs.Functions.{function_signature, MayAnswer, AnswersBy, AgreesWithModel, IfAsked};
     ghost use Rattle.cedar_expr_functions.specs.Refusals.{RefusesCall};
@@ -231,6 +234,26 @@ impl ExtensionFunction {
         self.constructed().is_some()
     }
 
+    /// The extension type whose values the function gives, if its result is one.
+    pub fn ext_types(&self) -> ExtTypes<'_>
+        ensures { types_left result ≡ filter_map (λ f. given_type (function_signature f)) (self.now ∷ []) }
+    {
+        ExtTypes {
+            functions: std::slice::from_ref(self).iter(),
+        }
+    }
+
+    // The extension type whose values the function gives, if its result is one.
+    fn ext_type(&self) -> Option<&Name>
+        ensures { option_map (λ n. plain_name_of n.now) result ≡ given_type (function_signature self.now) }
+    {
+        match &self.return_type {
+            Some(Type::Extension { name }) => Some(name),
+            Some(Type::Bool | Type::Long | Type::String) => None,
+            Some(Type::Set | Type::Record | Type::Entity { .. }) | None => None,
+        }
+    }
+
     // The type that the function constructs, where it is a constructor.
     pub(crate) fn constructed(&self) -> Option<&Type>
         ensures { option_map (λ t. core_of t.now) result ≡ constructed (function_signature self.now) }
@@ -377,4 +400,102 @@ fn first_mistyped(
         due = after_one(due);
     }
     Ok(None)
+}
+
+/// Goes over the extension types that functions give, each as often as a function gives it.
+#[derive(Drop)]
+pub struct ExtTypes<'a> {
+    functions: Iter<'a, ExtensionFunction>,
+}
+
+impl<'a> Iterator for ExtTypes<'a> {
+    type Item = &'a Name;
+
+    ghost use Rattle.std.specs.Iterator.{YieldsFirstBy, item_count};
+    ghost use Rattle.cedar_expr_functions.specs.Extended.{types_left};
+
+    ghost next_gives = { YieldsFirstBy (λ n. plain_name_of n.now) types_left };
+
+    ghost remaining = { item_count types_left };
+
+    fn next(&mut self) -> Option<&'a Name> {
+        while let Some(f) = self.functions.next() {
+            if let Some(name) = f.ext_type() {
+                return Some(name);
+            }
+        }
+        None
+    }
+}
+
+/// An extension: its functions, and those of its types whose values `<` and `<=` take.
+#[derive(Drop)]
+pub struct Extension {
+    name: Name,
+    functions: Vec<ExtensionFunction>,
+    ordered: Vec<Name>,
+}
+
+impl Extension {
+    ghost use Rattle.std.specs.Prelude.{find};
+    ghost use Rattle.std.specs.List.{filter_map};
+    ghost use Rattle.std.specs.Slice.Iter.{iter_rest};
+    ghost use Rattle.cedar_expr_model.specs.Name.{name_eq};
+    ghost use Rattle.cedar_expr_functions.specs.Signatures.{given_type};
+    ghost use Rattle.cedar_expr_functions.specs.Functions.{function_name, function_signature};
+    ghost use Rattle.cedar_expr_functions.specs.Extended.{extension_name, functions_in, ordered_in, types_left};
+
+    /// The extension of this name, with these functions, in which the values of these types are ordered.
+    pub fn new(
+        name: Name,
+        functions: Vec<ExtensionFunction>,
+        types_with_operator_overloading: Vec<Name>,
+    ) -> Extension
+        ensures name { extension_name result ≡ plain_name_of name }
+        ensures functions { functions_in result ≡ functions.items }
+        ensures ordered { ordered_in result ≡ map plain_name_of types_with_operator_overloading.items }
+    {
+        Extension {
+            name,
+            functions,
+            ordered: types_with_operator_overloading,
+        }
+    }
+
+    /// The name of the extension.
+    pub fn name(&self) -> &Name
+        ensures { plain_name_of result.now ≡ extension_name self.now }
+    {
+        &self.name
+    }
+
+    /// The first function of this name, where there is one.
+    pub fn get_func(&self, name: &Name) -> Option<&ExtensionFunction>
+        ensures { option_map (λ f. f.now) result ≡ find (λ f. name_eq (plain_name_of name.now) (function_name f)) (functions_in self.now) }
+    {
+        self.functions.iter().find(|f| name.same(f.name()))
+    }
+
+    /// The functions, in the order in which they were given.
+    pub fn funcs(&self) -> Iter<'_, ExtensionFunction>
+        ensures { iter_rest result ≡ functions_in self.now }
+    {
+        self.functions.iter()
+    }
+
+    /// The extension types that the functions give.
+    pub fn ext_types(&self) -> ExtTypes<'_>
+        ensures { types_left result ≡ filter_map (λ f. given_type (function_signature f)) (functions_in self.now) }
+    {
+        ExtTypes {
+            functions: self.functions.iter(),
+        }
+    }
+
+    /// The types whose values `<` and `<=` take.
+    pub fn types_with_operator_overloading(&self) -> Iter<'_, Name>
+        ensures { map plain_name_of (iter_rest result) ≡ ordered_in self.now }
+    {
+        self.ordered.iter()
+    }
 }

@@ -1,7 +1,7 @@
 //! Maps of pairs whose keys differ.
 
-ghost use Rattle.std.specs.Prelude.{◌≡◌, map, Some, None, IfOk, IfErr, IfSome, OnOk};
-ghost use Rattle.std.specs.BTreeMap.{get, Updates};
+ghost use Rattle.std.specs.Prelude.{◌≡◌, Some, None, IfOk, IfErr, OnOk, IsPermutation};
+ghost use Rattle.std.specs.BTreeMap.{get, insert_entry, Updates};
 ghost use Rattle.std.specs.Map.{keys_of};
 ghost use Rattle.std.specs.Ordering.{eq_by_cmp};
 ghost use Rattle.cedar_expr_model.specs.Whole.Repeats.{repeated};
@@ -17,7 +17,8 @@ pub fn collect_no_duplicates<K: Ord + Drop, V: Drop>(
     alloc: Global,
     pairs: Vec<(K, V)>,
 ) -> Result<BTreeMap<K, V>, CollectError<K>>
-    ensures map { IfOk result (IsMapOf K.cmp pairs.items) }
+    ensures finds { IfOk result (IsMapOf K.cmp pairs.items) }
+    ensures pairs { IfOk result (λ m. IsPermutation pairs.items m.entries) }
     ensures distinct { OnOk result (repeated (eq_by_cmp K.cmp) (keys_of pairs.items) ≡ None) }
     ensures refused { IfErr result (RefusesKeys K.cmp (keys_of pairs.items)) }
 {
@@ -35,6 +36,7 @@ fn add_new<K: Ord + Drop, V: Drop>(
     value: V,
 ) -> Result<(), CollectError<K>>
     ensures added { OnOk result (Updates K.cmp map.old map.new key (Some value)) }
+    ensures entries { OnOk result (map.new.entries ≡ insert_entry K.cmp map.old.entries key value) }
     ensures absent { OnOk result (get K.cmp map.old key ≡ None) }
     ensures refused { IfErr result (RefusesKey K.cmp map.old key) }
 {

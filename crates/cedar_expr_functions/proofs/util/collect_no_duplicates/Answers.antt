@@ -1,6 +1,7 @@
 use Rattle.std.proofs.Common.{◌≡◌, ◌++◌, ◌∷◌, [], ap, sym, ◌∙◌, append_assoc}
+use Rattle.std.proofs.lemmas.List.Sorted.{IsPermutation-push_more}
 use Rattle.std.specs.Vec.Iter.{into_iter_items}
-use Rattle.cedar_expr_functions.proofs.Gathered.{entered, still_distinct, refused_all}
+use Rattle.cedar_expr_functions.proofs.Gathered.{entered, placed, still_distinct, refused_all}
 use Rattle.cedar_expr_functions.proofs.util.collect_no_duplicates.Goals as goal
 
 pub loop-key-preserved : goal.loop-key-preserved
@@ -10,6 +11,7 @@ loop-key-preserved g c =
     record {
       goes = seen.goes ∙ ap (λ rest. pairs ++ rest) c.in-Some.ensures.steps.0 ∙ sym (append_assoc pairs ((c.in-Some.key, c.in-Some.value) ∷ []) (into_iter_items c.next.new.self));
       made = entered g.K.Ord.cmp g.met.K.Ord.total c.loop-key.map c.add_new.new.map pairs c.in-Some.key c.in-Some.value seen.made c.in_ok-add_new.ensures.absent c.in_ok-add_new.ensures.added;
+      moved = IsPermutation-push_more pairs c.loop-key.map.entries c.add_new.new.map.entries (c.in-Some.key, c.in-Some.value) seen.moved (placed g.K.Ord.cmp c.loop-key.map c.add_new.new.map c.in-Some.key c.in-Some.value c.in_ok-add_new.ensures.absent c.in_ok-add_new.ensures.entries);
       distinct = still_distinct g.K.Ord.cmp g.met.K.Ord.total c.loop-key.map pairs c.in-Some.key c.in-Some.value seen.made seen.distinct c.in_ok-add_new.ensures.absent;
     }
 
