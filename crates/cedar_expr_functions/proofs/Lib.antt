@@ -1,3 +1,3 @@
 pub mod Mistyped
 pub mod Taken
-pub mod Gathered
+pub mod Entered

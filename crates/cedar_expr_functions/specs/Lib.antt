@@ -5,3 +5,5 @@ pub mod Functions
 pub mod Refusals
 pub mod Collected
 pub mod Extended
+pub mod Named
+pub mod Tables

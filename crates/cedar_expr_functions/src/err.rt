@@ -3,7 +3,7 @@
 ghost use Rattle.cedar_expr_functions.specs.declared.err.CallFault.TheVariants.{OutOfMemory};
 ghost use Rattle.std.specs.Prelude.{◌≡◌};
 
-use cedar_expr_names::Name;
+use cedar_expr_names::{Loc, Name};
 use cedar_expr_values::Type;
 use std::alloc::{AllocError, AllocFailed};
 use thiserror::Error;
@@ -82,5 +82,119 @@ impl<K, T: Drop> From<AllocFailed<T>> for CollectError<K> {
 
     fn from(_error: AllocFailed<T>) -> CollectError<K> {
         CollectError::OutOfMemory
+    }
+}
+
+/// A function that doesn't exist was asked for.
+#[derive(Debug, PartialEq, Eq, Drop, Error)]
+#[error("extension function `{name}` does not exist")]
+pub struct FuncDoesNotExistError {
+    /// The name that was asked for.
+    pub name: Name,
+    /// Its place.
+    pub source_loc: Option<Loc>,
+}
+
+/// Why a look-up finds no function.
+#[derive(Debug, PartialEq, Eq, Drop, Error)]
+pub enum ExtensionFunctionLookupError {
+    /// There is no memory for the refusal.
+    #[error("out of memory")]
+    OutOfMemory,
+
+    /// There is no such function.
+    #[error(transparent)]
+    FuncDoesNotExist(FuncDoesNotExistError),
+}
+
+impl From<AllocError> for ExtensionFunctionLookupError {
+    ghost use Rattle.cedar_expr_functions.specs.declared.err.ExtensionFunctionLookupError.TheVariants as lookup;
+
+    ghost from_gives = { λ _ e. e ≡ lookup.OutOfMemory };
+
+    fn from(_error: AllocError) -> ExtensionFunctionLookupError {
+        ExtensionFunctionLookupError::OutOfMemory
+    }
+}
+
+impl From<FuncDoesNotExistError> for ExtensionFunctionLookupError {
+    ghost use Rattle.cedar_expr_functions.specs.declared.err.ExtensionFunctionLookupError.TheVariants as lookup;
+
+    ghost from_gives = { λ x e. e ≡ lookup.FuncDoesNotExist x };
+
+    fn from(error: FuncDoesNotExistError) -> ExtensionFunctionLookupError {
+        ExtensionFunctionLookupError::FuncDoesNotExist(error)
+    }
+}
+
+/// A name of a function stands twice.
+#[derive(Debug, PartialEq, Eq, Drop, Error)]
+#[error("extension function `{name}` is defined multiple times")]
+pub struct FuncMultiplyDefinedError {
+    /// The name.
+    pub name: Name,
+}
+
+/// Two constructors make values of one extension type.
+#[derive(Debug, PartialEq, Eq, Drop, Error)]
+#[error("multiple extension constructors for the same extension type {return_type}")]
+pub struct MultipleConstructorsSameSignatureError {
+    /// The type.
+    pub return_type: Type,
+}
+
+/// Why extensions make no table.
+#[derive(Debug, PartialEq, Eq, Drop, Error)]
+pub enum ExtensionInitializationError {
+    /// There is no memory for the table.
+    #[error("out of memory")]
+    OutOfMemory,
+
+    /// A name of a function stands twice.
+    #[error(transparent)]
+    FuncMultiplyDefined(FuncMultiplyDefinedError),
+
+    /// Two constructors make values of one extension type.
+    #[error(transparent)]
+    MultipleConstructorsSameSignature(MultipleConstructorsSameSignatureError),
+}
+
+impl From<AllocError> for ExtensionInitializationError {
+    ghost use Rattle.cedar_expr_functions.specs.declared.err.ExtensionInitializationError.TheVariants as initialization;
+
+    ghost from_gives = { λ _ e. e ≡ initialization.OutOfMemory };
+
+    fn from(_error: AllocError) -> ExtensionInitializationError {
+        ExtensionInitializationError::OutOfMemory
+    }
+}
+
+impl<T: Drop> From<AllocFailed<T>> for ExtensionInitializationError {
+    ghost use Rattle.cedar_expr_functions.specs.declared.err.ExtensionInitializationError.TheVariants as initialization;
+
+    ghost from_gives = { λ _ e. e ≡ initialization.OutOfMemory };
+
+    fn from(_error: AllocFailed<T>) -> ExtensionInitializationError {
+        ExtensionInitializationError::OutOfMemory
+    }
+}
+
+impl From<FuncMultiplyDefinedError> for ExtensionInitializationError {
+    ghost use Rattle.cedar_expr_functions.specs.declared.err.ExtensionInitializationError.TheVariants as initialization;
+
+    ghost from_gives = { λ x e. e ≡ initialization.FuncMultiplyDefined x };
+
+    fn from(error: FuncMultiplyDefinedError) -> ExtensionInitializationError {
+        ExtensionInitializationError::FuncMultiplyDefined(error)
+    }
+}
+
+impl From<MultipleConstructorsSameSignatureError> for ExtensionInitializationError {
+    ghost use Rattle.cedar_expr_functions.specs.declared.err.ExtensionInitializationError.TheVariants as initialization;
+
+    ghost from_gives = { λ x e. e ≡ initialization.MultipleConstructorsSameSignature x };
+
+    fn from(error: MultipleConstructorsSameSignatureError) -> ExtensionInitializationError {
+        ExtensionInitializationError::MultipleConstructorsSameSignature(error)
     }
 }

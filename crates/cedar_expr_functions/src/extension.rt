@@ -51,7 +51,7 @@ pub struct ExtensionFunction {
 }
 
 impl ExtensionFunction {
-    ghost use Rattle.std.specs.Prelude.{false, [], ◌∷◌, length, Some, None, IfErr, OnOk};
+    ghost use Rattle.std.specs.Prelude.{false, [], ◌∷◌, length, is_some, Some, None, IfErr, OnOk};
     ghost use Rattle.cedar_expr_model.specs.Whole.Table.{takes_count, constructed, is_constructor};
     ghost use Rattle.std.specs.List.{filter_map};
     ghost use Rattle.cedar_expr_functions.specs.Signatures.{takes, given_type};
@@ -211,6 +211,13 @@ impl ExtensionFunction {
         self.return_type.as_ref()
     }
 
+    // Whether the function has a result type.
+    pub(crate) fn is_typed(&self) -> bool
+        ensures { result ≡ is_some (function_signature self.now).result }
+    {
+        self.return_type.is_some()
+    }
+
     /// The types of the arguments. Where the function is variadic, further ones have the last.
     pub fn arg_types(&self) -> &[Type]
         ensures types { map core_of result.now ≡ (function_signature self.now).parameters }
@@ -244,7 +251,7 @@ impl ExtensionFunction {
     }
 
     // The extension type whose values the function gives, if its result is one.
-    fn ext_type(&self) -> Option<&Name>
+    pub(crate) fn ext_type(&self) -> Option<&Name>
         ensures { option_map (λ n. plain_name_of n.now) result ≡ given_type (function_signature self.now) }
     {
         match &self.return_type {
@@ -432,8 +439,8 @@ impl<'a> Iterator for ExtTypes<'a> {
 #[derive(Drop)]
 pub struct Extension {
     name: Name,
-    functions: Vec<ExtensionFunction>,
-    ordered: Vec<Name>,
+    pub(crate) functions: Vec<ExtensionFunction>,
+    pub(crate) ordered: Vec<Name>,
 }
 
 impl Extension {
@@ -473,7 +480,12 @@ impl Extension {
     pub fn get_func(&self, name: &Name) -> Option<&ExtensionFunction>
         ensures { option_map (λ f. f.now) result ≡ find (λ f. name_eq (plain_name_of name.now) (function_name f)) (functions_in self.now) }
     {
-        self.functions.iter().find(|f| name.same(f.name()))
+        for f in &self.functions {
+            if name.same(f.name()) {
+                return Some(f);
+            }
+        }
+        None
     }
 
     /// The functions, in the order in which they were given.

@@ -3,4 +3,6 @@
 
 pub mod err;
 pub mod extension;
+pub mod extensions;
+mod gathered;
 pub mod util;

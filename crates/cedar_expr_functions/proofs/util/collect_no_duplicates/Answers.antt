@@ -1,7 +1,7 @@
 use Rattle.std.proofs.Common.{◌≡◌, ◌++◌, ◌∷◌, [], ap, sym, ◌∙◌, append_assoc}
 use Rattle.std.proofs.lemmas.List.Sorted.{IsPermutation-push_more}
 use Rattle.std.specs.Vec.Iter.{into_iter_items}
-use Rattle.cedar_expr_functions.proofs.Gathered.{entered, placed, still_distinct, refused_all}
+use Rattle.cedar_expr_functions.proofs.Entered.{entered, placed, still_distinct, refused_all}
 use Rattle.cedar_expr_functions.proofs.util.collect_no_duplicates.Goals as goal
 
 pub loop-key-preserved : goal.loop-key-preserved
