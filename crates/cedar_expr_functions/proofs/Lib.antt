@@ -1,3 +1,4 @@
 pub mod Mistyped
 pub mod Taken
 pub mod Entered
+pub mod Distinct

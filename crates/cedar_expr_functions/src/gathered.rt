@@ -109,7 +109,7 @@ fn named_pairs<'a>(
     alloc: Global,
     functions: &[&'a ExtensionFunction],
 ) -> Result<Vec<(Name, &'a ExtensionFunction)>, AllocError>
-    ensures named { IfOk result (λ ps. are_named ps.items ≡ true) }
+    ensures names { IfOk result (λ ps. map (λ p. plain_name_of p.0) ps.items ≡ map (λ f. function_name f.now) functions.now) }
     ensures functions { IfOk result (λ ps. map (λ p. p.1) ps.items ≡ functions.now) }
 {
     let mut pairs = Vec::with_capacity(alloc, functions.len())?;
