@@ -22,6 +22,10 @@ use Rattle.cedar_expr_values.specs.Types.{core_of}
 use Rattle.cedar_expr_values.specs.contracts.types.TypeOrd.TheImpl as type_order
 use Rattle.cedar_expr_values.specs.declared.types.Type.{«Type» as CoreKind}
 use Rattle.cedar_expr_values.proofs.CoreTypes.{types_cmp_is}
+use Rattle.std.specs.declared.cmp.Ordering.{Ordering}
+use Rattle.cedar_expr_functions.specs.Collected.{RefusesKeys}
+use Rattle.cedar_expr_functions.specs.declared.err.CollectError.{CollectError}
+use Rattle.cedar_expr_functions.specs.declared.err.CollectError.TheVariants.{Repeated}
 use Rattle.cedar_expr_functions.specs.Functions.{function_name}
 use Rattle.cedar_expr_functions.specs.Named.{are_named}
 use Rattle.cedar_expr_functions.specs.declared.extension.ExtensionFunction.{ExtensionFunction}
@@ -62,6 +66,10 @@ types_again ps ts r e h = ap (repeated core_eq) (sym e ∙ sym (map_map (λ (p :
 -- a name that is met again among keys
 pub names_again : {X : Type 0} (ps : List (Name × X)) (ns : List model.Name) (r : Option Name) → map (λ p. plain_name_of p.0) ps ≡ ns → repeated (eq_by_cmp (name_order.ghosts).cmp) (keys_of ps) ≡ r → repeated name_eq ns ≡ option_map plain_name_of r
 names_again ps ns r e h = ap (repeated name_eq) (sym e ∙ sym (map_map (λ (p : Name × _). p.0) plain_name_of ps)) ∙ seen_again plain_name_of (eq_by_cmp (name_order.ghosts).cmp) name_eq names_alike (keys_of ps) r h
+
+-- what a refusal of keys says
+pub refused_key : {K : Type 0} (cmp : K → K → Ordering) (ks : List K) (e : CollectError K) (k : K) → e ≡ Repeated k → RefusesKeys cmp ks e → repeated (eq_by_cmp cmp) ks ≡ Some k
+refused_key cmp ks e k h r = subst (RefusesKeys cmp ks) h r
 
 none_fails : {A : Type 0} (p : A → Bool) (xs : List A) → list_all p xs ≡ not (list_any (λ x. not (p x)) xs)
 none_fails p [] = refl

@@ -1,4 +1,6 @@
-use Rattle.cedar_expr_functions.proofs.Distinct.{named_entries, moved_values, names_again}
+use Rattle.cedar_expr_functions.proofs.Distinct.{named_entries, moved_values, names_again, refused_key}
+use Rattle.std.specs.Map.{keys_of}
+use Rattle.cedar_expr_names.specs.contracts.name.NameOrd.TheImpl as name_order
 use Rattle.std.proofs.Common.{Some, None}
 use Rattle.cedar_expr_functions.proofs.gathered.by_name.Goals as goal
 
@@ -12,4 +14,4 @@ pub returns-in-Ok-clause-distinct : goal.returns-in-Ok-clause-distinct
 returns-in-Ok-clause-distinct g c = names_again c.in_ok-pairs.pairs.items _ None c.in_ok-pairs.ensures.names c.in-Ok.ensures.distinct
 
 pub returns-in-Err-Repeated-clause-refused : goal.returns-in-Err-Repeated-clause-refused
-returns-in-Err-Repeated-clause-refused g c = names_again c.in_ok-pairs.pairs.items _ (Some c.in-Err-Repeated.name) c.in_ok-pairs.ensures.names c.in-Err-Repeated.ensures.refused
+returns-in-Err-Repeated-clause-refused g c = names_again c.in_ok-pairs.pairs.items _ (Some c.in-Err-Repeated.name) c.in_ok-pairs.ensures.names (refused_key (name_order.ghosts).cmp (keys_of c.in_ok-pairs.pairs.items) c.in-Err-Repeated.field-0 c.in-Err-Repeated.name c.in-Err-Repeated.field-0-is c.in-Err-Repeated.ensures.refused)
