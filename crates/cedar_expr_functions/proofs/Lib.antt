@@ -2,3 +2,5 @@ pub mod Mistyped
 pub mod Taken
 pub mod Entered
 pub mod Distinct
+pub mod Found
+pub mod Faulty

@@ -18,4 +18,4 @@ pub all_taken : (s : Signature) (vs : List (Value ExtValue)) (counted : Bool) (t
     → option_map core_pair found ≡ first_mistyped (map core_of ts) (bare_values vs) → found ≡ None → takes s (bare_values vs) ≡ true
 all_taken s vs counted ts found e h p m n =
     both_true _ _ (ap (takes_count s) (length-map vs (bare extension_of)) ∙ sym e ∙ h)
-      (of_types s.parameters (bare_values vs) ∙ ap (λ as_. is_none (first_mistyped as_ (bare_values vs))) (sym p) ∙ ap is_none (sym m) ∙ ap (λ o. is_none (option_map core_pair o)) n)
+    (of_types s.parameters (bare_values vs) ∙ ap (λ as_. is_none (first_mistyped as_ (bare_values vs))) (sym p) ∙ ap is_none (sym m) ∙ ap (λ o. is_none (option_map core_pair o)) n)

@@ -16,9 +16,7 @@ pub enum CallFault {
     OutOfMemory,
 
     /// The function doesn't take so many arguments.
-    #[error(
-        "wrong number of arguments provided to extension function `{function_name}`: expected {expected}, got {actual}"
-    )]
+    #[error("wrong number of arguments provided to extension function `{function_name}`: expected {expected}, got {actual}")]
     WrongNumArguments {
         /// The name of the function.
         function_name: Name,

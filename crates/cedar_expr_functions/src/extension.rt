@@ -33,8 +33,7 @@ pub enum ExtensionOutputValue {
 }
 
 /// The function that is stored: it takes the allocator and the arguments.
-pub type Func =
-    Box<dyn Fn(Global, &[Value<ExtValue>]) -> Result<ExtensionOutputValue, CallFault>>;
+pub type Func = Box<dyn Fn(Global, &[Value<ExtValue>]) -> Result<ExtensionOutputValue, CallFault>>;
 
 /// A function of an extension, with its signature. What is stored may be called on arguments that the signature takes; there
 /// it answers equal arguments alike, and gives a value of the result type, or where there is none an unknown, or fails.

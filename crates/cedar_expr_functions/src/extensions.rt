@@ -112,12 +112,10 @@ impl<'a> Extensions<'a> {
     {
         match self.found(name) {
             Some(f) => Ok(f),
-            None => Err(ExtensionFunctionLookupError::FuncDoesNotExist(
-                FuncDoesNotExistError {
-                    name: name.clone()?,
-                    source_loc: name.loc(),
-                },
-            )),
+            None => Err(ExtensionFunctionLookupError::FuncDoesNotExist(FuncDoesNotExistError {
+                name: name.clone()?,
+                source_loc: name.loc(),
+            })),
         }
     }
 

@@ -98,9 +98,9 @@ pub fn by_name<'a>(
     match collect_no_duplicates(alloc, pairs) {
         Ok(map) => Ok(map),
         Err(CollectError::OutOfMemory) => Err(ExtensionInitializationError::OutOfMemory),
-        Err(CollectError::Repeated(name)) => Err(
-            ExtensionInitializationError::FuncMultiplyDefined(FuncMultiplyDefinedError { name }),
-        ),
+        Err(CollectError::Repeated(name)) => Err(ExtensionInitializationError::FuncMultiplyDefined(
+            FuncMultiplyDefinedError { name },
+        )),
     }
 }
 
