@@ -44,8 +44,8 @@ impl<T> Expr<T> {
         }
     }
 
-    #[tactic(auto, using(crate::proofs::ByParts::ref_trees))]
     /// Whether the expression is a set of uids as literals.
+    #[tactic(auto, using(crate::proofs::ByParts::ref_trees))]
     pub fn is_ref_set(&self) -> bool
         ensures { result ≡ is_ref_set (tree_of self.now) }
     {
@@ -62,9 +62,9 @@ impl<T> Expr<T> {
         }
     }
 
+    /// Whether each part of the expression is a literal, an unknown, a set, a variable or a record.
     #[cycle(projectable)]
     #[tactic(auto, using(crate::proofs::ByParts::projectable_trees))]
-    /// Whether each part of the expression is a literal, an unknown, a set, a variable or a record.
     pub fn is_projectable(&self) -> bool
         ensures { result ≡ is_projectable (tree_of self.now) }
     {
@@ -81,9 +81,9 @@ impl<T> Expr<T> {
         }
     }
 
+    /// Whether an unknown stands in the expression.
     #[cycle(unknowns)]
     #[tactic(auto, using(crate::proofs::ByParts::unknown_trees))]
-    /// Whether an unknown stands in the expression.
     pub fn contains_unknown(&self) -> bool
         ensures { result ≡ has_unknown (tree_of self.now) }
     {

@@ -22,12 +22,14 @@ pub struct Unknown {
     pub type_annotation: Option<Type>,
 }
 
-/// An expression, with its place and the data that its maker gives it.
+/// An expression, with its place and the data that its maker gives it. Expressions are compared by what they are and by their
+/// data; places don't count.
 #[derive(Drop)]
 #[derive_where(Debug, PartialEq, Eq, Hash; T)]
 #[cycle(expr)]
 pub struct Expr<T = ()> {
     pub(crate) expr_kind: ExprKind<T>,
+    #[derive_where(skip(EqHashOrd))]
     pub(crate) source_loc: Option<Loc>,
     pub(crate) data: T,
 }

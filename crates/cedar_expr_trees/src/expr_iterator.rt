@@ -24,8 +24,8 @@ impl<'a, T> ExprIterator<'a, T> {
     ghost use Rattle.cedar_expr_trees.specs.Trees.{tree_of};
     ghost use Rattle.cedar_expr_trees.specs.Positions.{exprs_left};
 
-    #[tactic(auto, using(crate::proofs::Walked::trees_of_positions))]
     /// The iterator over the subexpressions of this expression. Answers want of memory.
+    #[tactic(auto, using(crate::proofs::Walked::trees_of_positions))]
     pub fn new(alloc: Global, expr: &'a Expr<T>) -> Result<ExprIterator<'a, T>, AllocError>
         ensures positions { IfOk result (λ i. exprs_left i ≡ positions expr.entry.now) }
         ensures trees { IfOk result (λ i. map tree_of (exprs_left i) ≡ subexpressions (tree_of expr.entry.now)) }
@@ -186,8 +186,8 @@ impl<T> Expr<T> {
         ExprIterator::new(alloc, self)
     }
 
-    #[tactic(auto, using(crate::proofs::Walked::slots_of_positions))]
     /// The slots, each occurrence, with their places. Answers want of memory.
+    #[tactic(auto, using(crate::proofs::Walked::slots_of_positions))]
     pub fn slots(&self, alloc: Global) -> Result<Slots<'_, T>, AllocError>
         ensures positions { IfOk result (λ i. slots_left i ≡ filter_map slot_at (positions self.entry.now)) }
         ensures slots { IfOk result (λ i. map (λ s. s.0) (slots_left i) ≡ slots (tree_of self.entry.now)) }
@@ -196,8 +196,8 @@ impl<T> Expr<T> {
         Ok(Slots { exprs })
     }
 
-    #[tactic(auto, using(crate::proofs::Walked::unknowns_of_positions))]
     /// The unknowns, each occurrence. Answers want of memory.
+    #[tactic(auto, using(crate::proofs::Walked::unknowns_of_positions))]
     pub fn unknowns(&self, alloc: Global) -> Result<Unknowns<'_, T>, AllocError>
         ensures { IfOk result (λ i. unknowns_left i ≡ unknowns (tree_of self.entry.now)) }
     {

@@ -8,7 +8,7 @@ use Rattle.std.specs.Map.{values_of}
 use Rattle.std.specs.BTreeSet.{BTreeSet, insert_key}
 use Rattle.std.proofs.Math.Bool.{or_assoc, or_comm, or_self, or-false}
 use Rattle.std.proofs.lemmas.List.{take_all}
-use Rattle.std.proofs.lemmas.List.Folds.{list_any-append, list_any_more}
+use Rattle.std.proofs.lemmas.List.Folds.{list_any_more}
 use Rattle.std.specs.declared.alloc.Global.{Global}
 use Rattle.std.specs.declared.collections.BTreeMap.{BTreeMap}
 use Rattle.std.specs.declared.rc.Rc.{Rc}
@@ -16,7 +16,6 @@ use Rattle.std.specs.declared.rc.RcStr.{RcStr}
 use Rattle.std.specs.declared.cmp.Ordering.{Ordering}
 use Rattle.std.specs.declared.cmp.Ordering.TheVariants.{Less, Equal, Greater}
 use Rattle.cedar_expr_model.specs.Uid.{Uid, uid_eq}
-use Rattle.cedar_expr_model.specs.Whole.ValueParts.{literal_uids, uids_in, uids_in_members, uids_in_fields}
 use Rattle.cedar_expr_model.specs.Whole.Made as model
 use Rattle.cedar_expr_model.specs.Whole.Made.{Made}
 use Rattle.cedar_expr_names.specs.Views.{eid_text, uid_of}
@@ -27,7 +26,7 @@ use Rattle.cedar_expr_names.proofs.Literals.{uids_order_is}
 use Rattle.cedar_expr_model.proofs.Whole.Linear.{uid_exact}
 use Rattle.cedar_expr_values.specs.Extension.{Extension}
 use Rattle.cedar_expr_values.specs.Values.{made, bare, bare_kind, made_list, made_fields, made_pair}
-use Rattle.cedar_expr_values.specs.Uids.{has_uid, holds_uid}
+use Rattle.cedar_expr_values.specs.Uids.{has_uid, is_that_uid, holds_uid, member_holds_uid, field_holds_uid}
 use Rattle.cedar_expr_values.specs.declared.value.Value.{Value}
 use Rattle.cedar_expr_values.specs.declared.value.ValueKind.TheVariants.{Lit, Set as SetKind, Record}
 use Rattle.cedar_expr_values.specs.declared.value.Set.{Set, out-Set}
@@ -39,22 +38,20 @@ module _ {X : Type 0} (seen : X → Extension) (u : Uid) where
   abbrev pub among : List (Value X) → Bool
   among vs = list_any (λ v. holds_uid (bare seen v) u) vs
 
-  members_hold : (vs : List (Value X)) → list_any (uid_eq u) (uids_in_members (model.bares (made_list (map (made seen) vs)))) ≡ among vs
+  members_hold : (vs : List (Value X)) → member_holds_uid (model.bares (made_list (map (made seen) vs))) u ≡ among vs
   members_hold [] = refl
-  members_hold (v ∷ vs) =
-      list_any-append (uid_eq u) (uids_in (bare seen v)) (uids_in_members (model.bares (made_list (map (made seen) vs)))) ∙ ap (λ t. holds_uid (bare seen v) u || t) (members_hold vs)
+  members_hold (v ∷ vs) = ap (λ t. holds_uid (bare seen v) u || t) (members_hold vs)
 
-  fields_hold : (es : List (RcStr Global × Value X)) → list_any (uid_eq u) (uids_in_fields (model.bare_fields (made_fields (map (made_pair seen) es)))) ≡ among (values_of es)
+  fields_hold : (es : List (RcStr Global × Value X)) → field_holds_uid (model.bare_fields (made_fields (map (made_pair seen) es))) u ≡ among (values_of es)
   fields_hold [] = refl
-  fields_hold (e ∷ es) =
-      list_any-append (uid_eq u) (uids_in (bare seen e.1)) (uids_in_fields (model.bare_fields (made_fields (map (made_pair seen) es)))) ∙ ap (λ t. holds_uid (bare seen e.1) u || t) (fields_hold es)
+  fields_hold (e ∷ es) = ap (λ t. holds_uid (bare seen e.1) u || t) (fields_hold es)
 
-  pub literal_holds : (l : Literal) → holds_uid (bare_kind seen (Lit l)) u ≡ list_any (uid_eq u) (literal_uids (literal_of l))
+  pub literal_holds : (l : Literal) → holds_uid (bare_kind seen (Lit l)) u ≡ is_that_uid (literal_of l) u
   literal_holds l = ap (λ m. holds_uid (model.bare m) u) (literal_kind seen l)
 
   pub set_holds : (s : Set X) → holds_uid (bare_kind seen (SetKind s)) u ≡ among (out-Set X s).members.value.items
   set_holds s =
-      ap (λ m. holds_uid (model.bare m) u) (set_kind seen s) ∙ ap (λ vs. list_any (uid_eq u) (uids_in_members vs)) (set_seen seen s) ∙ members_hold (out-Set X s).members.value.items
+      ap (λ m. holds_uid (model.bare m) u) (set_kind seen s) ∙ ap (λ vs. member_holds_uid vs u) (set_seen seen s) ∙ members_hold (out-Set X s).members.value.items
 
   pub record_holds : (m : Rc (BTreeMap (RcStr Global) (Value X) Global) Global) → holds_uid (bare_kind seen (Record m)) u ≡ among (values_of m.value.entries)
   record_holds m = ap (λ r. holds_uid (model.bare r) u) (record_kind seen m) ∙ fields_hold m.value.entries
@@ -89,8 +86,8 @@ key_put cmp p k same [] = or-false (p k)
 key_put cmp p k same (x ∷ xs) = placed_any p k x xs (insert_key cmp xs k) (cmp k x) (same x) (key_put cmp p k same xs)
 
 pub uid_put : (u : Uid) (old new : BTreeSet EntityUID) (k : EntityUID) (v : Uid) → new.keys ≡ insert_key uids_by old.keys k → uid_of k ≡ v
-    → has_uid new u ≡ (has_uid old u || list_any (uid_eq u) (v ∷ []))
+    → has_uid new u ≡ (has_uid old u || uid_eq u v)
 uid_put u old new k v e f =
     ap (list_any (λ j. uid_eq u (uid_of j))) e
     ∙ key_put uids_by (λ j. uid_eq u (uid_of j)) k (λ x h. ap (uid_eq u) (uid_exact (uid_of k) (uid_of x) (sym (uids_order_is k x) ∙ h))) old.keys
-    ∙ ap (λ t. has_uid old u || t) (sym (or-false (uid_eq u (uid_of k))) ∙ ap (λ w. uid_eq u w || false) f)
+    ∙ ap (λ w. has_uid old u || uid_eq u w) f

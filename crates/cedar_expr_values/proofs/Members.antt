@@ -5,14 +5,13 @@ use Rattle.std.specs.List.{AllByRecursion, list_all}
 use Rattle.std.specs.List.Sorted.{IsStrictlySortedBy}
 use Rattle.std.specs.declared.cmp.Ordering.{Ordering}
 use Rattle.std.specs.declared.cmp.Ordering.TheVariants.{Less, Equal, Greater}
-use Rattle.cedar_expr_model.specs.Whole.Value.{Vs, prim, value, values_list}
+use Rattle.cedar_expr_model.specs.Whole.Value.{Vs, prim, set_of, value, values_list}
 use Rattle.cedar_expr_model.specs.Whole.Order.{value_cmp}
-use Rattle.cedar_expr_model.specs.Whole.Canonical.{is_below, are_rising, is_canonical, are_canonical, inserted, members_made, is_member, is_subset, is_disjoint}
+use Rattle.cedar_expr_model.specs.Whole.Canonical.{are_rising, is_canonical, inserted, members_made, is_member, is_subset, is_disjoint}
 use Rattle.cedar_expr_model.specs.Whole.Made as model
 use Rattle.cedar_expr_model.specs.Whole.Made.{Made, made_prim, Mades}
-use Rattle.cedar_expr_model.proofs.Lists.{both_hold}
 use Rattle.cedar_expr_model.proofs.Whole.ValueOrder.{value_exact}
-use Rattle.cedar_expr_model.proofs.Whole.Rising.{less_is, below_next}
+use Rattle.cedar_expr_model.proofs.Whole.Rising.{is_below, rising_parts, less_is, below_next}
 use Rattle.cedar_expr_model.proofs.Whole.Sets.{made_canonical}
 use Rattle.cedar_expr_names.specs.declared.literal.Literal.{Literal}
 use Rattle.cedar_expr_names.specs.Literals.{literal_of}
@@ -48,7 +47,7 @@ module _ {X : Type 0} (seen : X → Extension) where
     all_below : (v : Value X) (ws : List (Value X)) → is_below (bare seen v) (listed ws) ≡ true → are_rising (listed ws) ≡ true → AllByRecursion (λ w. R v w ≡ Less) ws
     all_below v [] b r = tt
     all_below v (w ∷ ws) b r =
-        let p = both_hold (is_below (bare seen w) (listed ws)) (are_rising (listed ws)) r in
+        let p = rising_parts (bare seen w) (listed ws) r in
         let e = less_is (value_cmp (bare seen v) (bare seen w)) b in
         (agree v w ∙ e, all_below v ws (above v w ws e p.0) p.1)
       where
@@ -60,7 +59,7 @@ module _ {X : Type 0} (seen : X → Extension) where
     unfolding IsStrictlySortedBy
     rises [] r = tt
     rises (w ∷ ws) r =
-        let p = both_hold (is_below (bare seen w) (listed ws)) (are_rising (listed ws)) r in
+        let p = rising_parts (bare seen w) (listed ws) r in
         (all_below w ws p.0 p.1, rises ws p.1)
 
     -- what is asked of the members of a set, where its answer is that for the list of them
@@ -129,8 +128,8 @@ module _ {X E : Type 0} (seen : X → Extension) where
   new_members vs (Err x) f = f
 
   pub new_canonical : (vs : List (Value X)) (r : Result (Set X) E) → IfOk r (λ s. mades seen s ≡ members_as_made (map (made seen) vs))
-      → IfOk r (λ s. all_canonical seen vs ≡ true → are_canonical (bares seen s) ≡ true)
-  new_canonical vs (Ok s) f = λ h. ap are_canonical (ap model.bares f ∙ bare_members (made seen) vs) ∙ made_canonical (map (bare seen) vs) h
+      → IfOk r (λ s. all_canonical seen vs ≡ true → is_canonical (set_of (bares seen s)) ≡ true)
+  new_canonical vs (Ok s) f = λ h. ap (λ vs. is_canonical (set_of vs)) (ap model.bares f ∙ bare_members (made seen) vs) ∙ made_canonical (map (bare seen) vs) h
   new_canonical vs (Err x) f = tt
 
   -- the set of values that are literals
@@ -144,6 +143,6 @@ module _ {X E : Type 0} (seen : X → Extension) where
   literals_are ls (Ok s) f = ap model.bares f ∙ bare_members (λ l. made_prim (literal_of l)) ls
   literals_are ls (Err x) f = f
 
-  pub literals_rise : (ls : List Literal) (r : Result (Set X) E) → IfOk r (λ s. bares seen s ≡ members_made (map (λ l. prim (literal_of l)) ls)) → IfOk r (λ s. are_canonical (bares seen s) ≡ true)
-  literals_rise ls (Ok s) f = ap are_canonical f ∙ made_canonical (map (λ l. prim (literal_of l)) ls) (literals_canonical ls)
+  pub literals_rise : (ls : List Literal) (r : Result (Set X) E) → IfOk r (λ s. bares seen s ≡ members_made (map (λ l. prim (literal_of l)) ls)) → IfOk r (λ s. is_canonical (set_of (bares seen s)) ≡ true)
+  literals_rise ls (Ok s) f = ap (λ vs. is_canonical (set_of vs)) f ∙ made_canonical (map (λ l. prim (literal_of l)) ls) (literals_canonical ls)
   literals_rise ls (Err x) f = f

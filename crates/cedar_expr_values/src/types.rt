@@ -3,8 +3,8 @@
 ghost use Rattle.std.specs.Prelude.{◌≡◌, IfOk, Some};
 ghost use Rattle.cedar_expr_model.specs.Whole.Value.{prim};
 ghost use Rattle.cedar_expr_model.specs.Whole.Tree.{CoreType, entity_core};
-ghost use Rattle.cedar_expr_model.specs.Whole.Substitution.{core_eq, core_type_of};
-ghost use Rattle.cedar_expr_model.specs.Whole.Shape.{core_cmp};
+ghost use Rattle.cedar_expr_model.specs.Whole.Substitution.{core_type_of};
+ghost use Rattle.cedar_expr_model.specs.Whole.Order.{core_cmp, core_eq};
 ghost use Rattle.cedar_expr_model.specs.Whole.Texts.{core_text};
 ghost use Rattle.cedar_expr_names.specs.Views.{plain_name_of};
 ghost use Rattle.cedar_expr_names.specs.Literals.{literal_of};

@@ -54,8 +54,8 @@ pub struct Set<X> {
 impl<X: ExtensionValue> Set<X> {
     ghost use Rattle.std.specs.Prelude.{◌≡◌, true, [], length, map, nat_eq, IfOk};
     ghost use Rattle.std.specs.Slice.Iter.{iter_rest};
-    ghost use Rattle.cedar_expr_model.specs.Whole.Value.{prim, values_list};
-    ghost use Rattle.cedar_expr_model.specs.Whole.Canonical.{are_canonical, are_rising, members_made, is_member, is_subset, is_disjoint};
+    ghost use Rattle.cedar_expr_model.specs.Whole.Value.{prim, set_of, values_list};
+    ghost use Rattle.cedar_expr_model.specs.Whole.Canonical.{is_canonical, are_rising, members_made, is_member, is_subset, is_disjoint};
     ghost use Rattle.cedar_expr_model.specs.Whole.Made.{no_mades};
     ghost use Rattle.cedar_expr_names.specs.Literals.{literal_of};
     ghost use Rattle.cedar_expr_values.specs.Values.{made, made_list, mades, bare, bares, all_canonical, members_as_made};
@@ -70,7 +70,7 @@ impl<X: ExtensionValue> Set<X> {
     /// The set of these values. Of equal ones it keeps the first. Answers want of memory.
     pub fn new(alloc: Global, values: Vec<Value<X>>) -> Result<Set<X>, AllocError>
         ensures members { IfOk result (λ s. bares X.seen s ≡ members_made (map (bare X.seen) values.items)) }
-        ensures canonical { IfOk result (λ s. all_canonical X.seen values.items ≡ true → are_canonical (bares X.seen s) ≡ true) }
+        ensures canonical { IfOk result (λ s. all_canonical X.seen values.items ≡ true → is_canonical (set_of (bares X.seen s)) ≡ true) }
         ensures as_made { IfOk result (λ s. mades X.seen s ≡ members_as_made (map (made X.seen) values.items)) }
     {
         let members = in_rising(values)?;
@@ -80,7 +80,7 @@ impl<X: ExtensionValue> Set<X> {
     /// The set of these literals. Answers want of memory.
     pub fn from_lits(alloc: Global, literals: Vec<Literal>) -> Result<Set<X>, AllocError>
         ensures members { IfOk result (λ s. bares X.seen s ≡ members_made (map (λ l. prim (literal_of l)) literals.items)) }
-        ensures canonical { IfOk result (λ s. are_canonical (bares X.seen s) ≡ true) }
+        ensures canonical { IfOk result (λ s. is_canonical (set_of (bares X.seen s)) ≡ true) }
         ensures as_made { IfOk result (λ s. mades X.seen s ≡ members_as_made (map (λ l. made_prim (literal_of l)) literals.items)) }
     {
         let values = literal_values(alloc, literals)?;

@@ -1,13 +1,10 @@
 use Rattle.std.proofs.Common.{◌||◌, sym, ap, ◌∙◌}
 use Rattle.std.proofs.Math.Bool.{or-false}
-use Rattle.std.specs.List.{list_any}
 use Rattle.std.specs.BTreeMap.{values}
-use Rattle.cedar_expr_model.specs.Uid.{uid_eq}
-use Rattle.cedar_expr_model.specs.Whole.ValueParts.{literal_uids}
 use Rattle.cedar_expr_names.specs.Literals.{literal_of}
 use Rattle.cedar_expr_names.specs.Views.{uid_of}
 use Rattle.cedar_expr_values.specs.Values.{bare, bare_kind}
-use Rattle.cedar_expr_values.specs.Uids.{has_uid, holds_uid}
+use Rattle.cedar_expr_values.specs.Uids.{has_uid, is_that_uid, holds_uid}
 use Rattle.cedar_expr_values.proofs.Layers.{value_seen}
 use Rattle.cedar_expr_values.proofs.Gathered.{among, literal_holds, one_more, one_less, through_all, set_holds, record_holds, uid_put}
 use Rattle.cedar_expr_values.proofs.value.ValueKind.+gather_uids.Goals as goal
@@ -35,7 +32,7 @@ returns-in_ok-insert-in-Lit g t c = λ u.
     uid_put u c.args.uids.now c.insert.new.self c.in_ok-clone-in-Lit.field-0 (uid_of c.in-EntityUID.uid.value) c.in_ok-insert-in-Lit.ensures.keys
         (c.in_ok-clone-in-Lit.ensures.cases.0 ∙ ap uid_of c.as_ref.ensures)
     ∙ ap (λ b. has_uid c.args.uids.now u || b)
-    (sym (ap (λ k. holds_uid (bare_kind seen k) u) c.in-Lit.is ∙ literal_holds seen u c.in-Lit.literal ∙ ap (λ l. list_any (uid_eq u) (literal_uids (literal_of l))) c.in-EntityUID.is))
+    (sym (ap (λ k. holds_uid (bare_kind seen k) u) c.in-Lit.is ∙ literal_holds seen u c.in-Lit.literal ∙ ap (λ l. is_that_uid (literal_of l) u) c.in-EntityUID.is))
 
 pub returns-after-loop-value : goal.returns-after-loop-value
 returns-after-loop-value g t c = λ u.
