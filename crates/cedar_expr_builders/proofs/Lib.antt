@@ -1,1 +1,2 @@
-mod Kinds
+mod ByKind
+mod Gathered

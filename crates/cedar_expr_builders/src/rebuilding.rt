@@ -59,7 +59,7 @@ impl<T> Rebuild for Expr<T> {
 
 // What the builder makes of the expression.
 #[cycle(build)]
-#[tactic(auto, using(crate::proofs::Kinds::built_kinds))]
+#[tactic(auto, using(crate::proofs::ByKind::built_kinds))]
 fn build<B: ExprBuilder, T>(
     alloc: Global,
     e: &Expr<T>,
