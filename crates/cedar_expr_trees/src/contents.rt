@@ -1,9 +1,9 @@
 //! What an expression is, and whether unknowns stand in it.
 
-ghost use Rattle.std.specs.Prelude.{◌≡◌};
+ghost use Rattle.std.specs.Prelude.{◌≡◌, is_some};
 ghost use Rattle.std.specs.BTreeMap.{values};
 ghost use Rattle.std.specs.List.{list_all, list_any};
-ghost use Rattle.cedar_expr_model.specs.Whole.Parts.{is_ref, is_slot, is_ref_set, is_projectable};
+ghost use Rattle.cedar_expr_model.specs.Whole.Parts.{is_ref, slot_here, is_ref_set, is_projectable};
 ghost use Rattle.cedar_expr_model.specs.Whole.Unknowns.{has_unknown};
 ghost use Rattle.cedar_expr_trees.specs.Trees.{tree_of};
 
@@ -30,7 +30,7 @@ impl<T> Expr<T> {
 
     /// Whether the expression is a slot.
     pub fn is_slot(&self) -> bool
-        ensures { result ≡ is_slot (tree_of self.now) }
+        ensures { result ≡ is_some (slot_here (tree_of self.now)) }
     {
         match &self.expr_kind {
             ExprKind::Slot(_) => true,

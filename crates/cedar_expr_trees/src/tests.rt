@@ -116,7 +116,10 @@ fn operators_of_two_operands(rt: HostRuntime) -> Result<(), Fail> {
     for (e, (op, text)) in made.iter().zip(ops) {
         assert!(rt; is_of_one_and_two(e, op), "{text}");
         assert_eq!(rt; op.to_string(alloc)?.as_str(), text);
-        assert!(rt; Expr::binary_app(alloc, op, long(1), long(2))? == *e, "{text}");
+        assert!(rt;
+            Expr::binary_app(alloc, op, long(1), long(2))? == *e,
+            "{text}"
+        );
     }
     Ok(())
 }
@@ -187,7 +190,9 @@ fn a_path_of_one_attribute_is_a_test_of_it(rt: HostRuntime) -> Result<(), Fail> 
     assert!(rt; one == Expr::has_attr(alloc, Expr::var(Var::Context), x.clone()?)?);
     let two = Expr::extended_has_attr(alloc, Expr::var(Var::Context), path(alloc, "x", &["y"])?)?;
     assert!(rt; matches!(two.expr_kind(), ExprKind::ExtHasAttr { .. }));
-    assert!(rt; two != Expr::extended_has_attr(alloc, Expr::var(Var::Context), path(alloc, "y", &["x"])?)?);
+    assert!(rt;
+        two != Expr::extended_has_attr(alloc, Expr::var(Var::Context), path(alloc, "y", &["x"])?)?
+    );
     let got = Expr::get_attr(alloc, Expr::var(Var::Context), x.clone()?)?;
     assert!(rt; got != one);
     assert!(rt; matches!(got.expr_kind(), ExprKind::GetAttr { attr, .. } if *attr == x));
@@ -209,9 +214,15 @@ fn a_name_stands_once_in_a_record(rt: HostRuntime) -> Result<(), Fail> {
     match Expr::record(alloc, pairs) {
         Err(ExpressionConstructionError::DuplicateKey(e)) => {
             assert_eq!(rt; e.key(), "b");
-            assert_eq!(rt; e.to_string(alloc)?.as_str(), "duplicate key `b` in record literal");
+            assert_eq!(rt;
+                e.to_string(alloc)?.as_str(),
+                "duplicate key `b` in record literal"
+            );
             let e = ExpressionConstructionError::DuplicateKey(e.with_context("in context"));
-            assert_eq!(rt; e.to_string(alloc)?.as_str(), "duplicate key `b` in context");
+            assert_eq!(rt;
+                e.to_string(alloc)?.as_str(),
+                "duplicate key `b` in context"
+            );
         }
         _ => return Err(Fail::from("a repeated name passed")),
     }
@@ -306,7 +317,9 @@ fn unknowns_at_any_depth(rt: HostRuntime) -> Result<(), Fail> {
         names.push_str(u.name.as_str())?;
     }
     assert_eq!(rt; names.as_str(), "abc");
-    assert!(rt; !Expr::get_attr(alloc, Expr::var(Var::Action), word(alloc, "a")?)?.contains_unknown());
+    assert!(rt;
+        !Expr::get_attr(alloc, Expr::var(Var::Action), word(alloc, "a")?)?.contains_unknown()
+    );
     let mut args = longs(alloc, &[1])?;
     args.push(unknown(alloc, "d")?)?;
     assert!(rt; call(alloc, "f", args)?.contains_unknown());
@@ -352,11 +365,20 @@ fn each_place_once(rt: HostRuntime) -> Result<(), Fail> {
         (truth(true), 1),
         (Expr::slot(SlotId::principal()), 1),
         (Expr::ite(alloc, truth(true), long(1), long(2))?, 4),
-        (Expr::and(alloc, Expr::var(Var::Principal), truth(false))?, 3),
+        (
+            Expr::and(alloc, Expr::var(Var::Principal), truth(false))?,
+            3,
+        ),
         (Expr::neg(alloc, long(1))?, 2),
         (Expr::has_attr(alloc, Expr::var(Var::Principal), x)?, 2),
-        (Expr::like(alloc, Expr::var(Var::Action), any_text(alloc)?)?, 2),
-        (Expr::is_entity_type(alloc, Expr::var(Var::Action), kind)?, 2),
+        (
+            Expr::like(alloc, Expr::var(Var::Action), any_text(alloc)?)?,
+            2,
+        ),
+        (
+            Expr::is_entity_type(alloc, Expr::var(Var::Action), kind)?,
+            2,
+        ),
         (Expr::set(alloc, longs(alloc, &[1, 1])?)?, 3),
         (call(alloc, "f", longs(alloc, &[1, 2, 3])?)?, 4),
         (record(alloc, &[("a", 1), ("b", 1)])?, 3),
@@ -377,6 +399,7 @@ fn a_node_before_its_children(rt: HostRuntime) -> Result<(), Fail> {
         assert!(rt; all.next().is_some_and(|found| found == want));
     }
     assert!(rt; all.next().is_none());
+    drop(all);
     let mut seen = HashSet::new(alloc);
     seen.insert(e.clone()?)?;
     assert!(rt; seen.contains(&e.with_maybe_source_loc(Some(Loc::new(0, 1)))));

@@ -98,10 +98,10 @@ module _ {X : Type 0} (seen : X → Extension) (E : X → X → Ordering) (K : V
 
   sets_agree : (x : Set-F X (ValueKind X) (Set X) (Value X)) (y : Set-F X ((k : ValueKind X) × KindAgrees k) ((s : Set X) × SetAgrees s) ((v : Value X) × Agrees seen R v))
       → map-Set X ((k : ValueKind X) × KindAgrees k) ((s : Set X) × SetAgrees s) ((v : Value X) × Agrees seen R v) (ValueKind X) (Set X) (Value X) (λ e. e.0) (λ e. e.0) (λ e. e.0) y ≡ x →
-          SetAgrees (roll-Set X x)
+      SetAgrees (roll-Set X x)
   sets_agree x y e t =
       let items : map (λ v. v.0) y.members.value.items ≡ (out-Set X (roll-Set X x)).members.value.items = ap (λ (d : Set-F X (ValueKind X) (Set X) (Value X)). d.members.value.items)
-          (e ∙ sym (out-roll-Set X x)) in
+      (e ∙ sym (out-roll-Set X x)) in
       set_is (roll-Set X x) t
       ∙ ap (λ vs. slice_cmp R vs (out-Set X t).members.value.items) (sym items)
       ∙ lists_agree seen R y.members.value.items (out-Set X t).members.value.items
@@ -111,7 +111,7 @@ module _ {X : Type 0} (seen : X → Extension) (E : X → X → Ordering) (K : V
 
   values_agree : (x : Value-F X (ValueKind X) (Set X) (Value X)) (y : Value-F X ((k : ValueKind X) × KindAgrees k) ((s : Set X) × SetAgrees s) ((v : Value X) × Agrees seen R v))
       → map-Value X ((k : ValueKind X) × KindAgrees k) ((s : Set X) × SetAgrees s) ((v : Value X) × Agrees seen R v) (ValueKind X) (Set X) (Value X) (λ e. e.0) (λ e. e.0) (λ e. e.0) y ≡ x → Agrees
-          seen R (roll-Value X x)
+      seen R (roll-Value X x)
   unfolding Carrier.roll
   values_agree x y e w =
       let kind : y.kind.0 ≡ x.kind = ap (λ (d : Value-F X (ValueKind X) (Set X) (Value X)). d.kind) e in

@@ -33,7 +33,7 @@ use denote.Hole.Carrier
 module _ (X : RattleType) (ord : Ord.Ghosts X.Denot) (ord_dict : Dict) (eq : Eq.Ghosts X.Denot) (eq_dict : Dict) (peq : PartialEq.Ghosts X.Denot) (peq_dict : Dict)
     (pord : PartialOrd.Ghosts X.Denot) (pord_dict : Dict)
     (ord_laws : OrdLaws.Lawful X ord ord_dict eq eq_dict peq peq_dict pord pord_dict) (eq_laws : EqLaws.Lawful X eq eq_dict peq peq_dict) (peq_laws : PartialEqLaws.Lawful X peq peq_dict)
-        (pord_laws : PartialOrdLaws.Lawful X pord pord_dict peq peq_dict) where
+    (pord_laws : PartialOrdLaws.Lawful X pord pord_dict peq peq_dict) where
   -- the derived orders
   abbrev pub value_by : Value X.Denot → Value X.Denot → Ordering
   value_by = (value_order.ghosts X ord ord_dict eq eq_dict peq peq_dict pord pord_dict).cmp

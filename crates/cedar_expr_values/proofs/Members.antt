@@ -109,7 +109,7 @@ bare_placed m (n ∷ ms) = go (made_cmp m n) refl (bare_placed m ms)
     go : (r : Ordering) → made_cmp m n ≡ r → model.bares (made_list (placed made_cmp m ms)) ≡ inserted (model.bare m) (model.bares (made_list ms))
         → model.bares (made_list (match_ordering r (m ∷ n ∷ ms) (m ∷ ms) (n ∷ placed made_cmp m ms)))
         ≡ match_ordering r (value (model.bare m) (value (model.bare n) (model.bares (made_list ms)))) (value (model.bare n) (model.bares (made_list ms)))
-            (value (model.bare n) (inserted (model.bare m) (model.bares (made_list ms))))
+        (value (model.bare n) (inserted (model.bare m) (model.bares (made_list ms))))
     go Less e h = refl
     go Equal e h = ap (λ v. value v (model.bares (made_list ms))) (value_exact (model.bare m) (model.bare n) e)
     go Greater e h = ap (value (model.bare n)) h

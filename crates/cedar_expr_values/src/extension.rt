@@ -145,7 +145,11 @@ impl<X: ExtensionValue> RepresentableExtensionValue<X> {
         ensures function { (with_call X.seen result).function ≡ plain_name_of func }
         ensures arguments { (with_call X.seen result).arguments ≡ map literal_of args.items }
     {
-        RepresentableExtensionValue { value, called: func, args }
+        RepresentableExtensionValue {
+            value,
+            called: func,
+            args,
+        }
     }
 
     /// The value without the call.

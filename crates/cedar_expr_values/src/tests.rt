@@ -254,7 +254,10 @@ fn calls_of_extension_values_do_not_count(rt: HostRuntime) -> Result<(), Fail> {
     assert!(rt; !one.equals_extvalue(&two));
     assert!(rt; two.cmp_extvalue(&one) == Ordering::Greater);
     assert_eq!(rt; one.typename().as_internal().basename().as_str(), "decimal");
-    assert_eq!(rt; one.constructor().as_internal().basename().as_str(), "decimal");
+    assert_eq!(rt;
+        one.constructor().as_internal().basename().as_str(),
+        "decimal"
+    );
     assert!(rt; one.key() == [1].as_slice());
     assert!(rt; one.args().first() != same.args().first());
 
@@ -267,8 +270,9 @@ fn calls_of_extension_values_do_not_count(rt: HostRuntime) -> Result<(), Fail> {
     assert!(rt; *copy.value() == same);
     assert_eq!(rt; copy.func().as_internal().basename().as_str(), "unit");
     assert_eq!(rt; copy.type_of()?.to_string(alloc)?.as_str(), "decimal");
-    let kind: ValueKind<RepresentableExtensionValue<ExtValue>> =
-        ValueKind::ExtensionValue(Rc::new(alloc, copy)?);
+    let kind: ValueKind<RepresentableExtensionValue<ExtValue>> = ValueKind::ExtensionValue(Rc::new(
+        alloc, copy,
+    )?);
     assert!(rt; kind == ValueKind::ExtensionValue(Rc::new(alloc, called)?));
     Ok(())
 }
@@ -280,7 +284,10 @@ fn uids_of_a_value_at_any_depth(rt: HostRuntime) -> Result<(), Fail> {
     members.push(reference(alloc, "B", "x")?)?;
     members.push(text(alloc, "A::\"y\"")?)?;
     let mut pairs = Vec::new(alloc);
-    pairs.push((RcStr::from_str(alloc, "s")?, Value::set(alloc, members, None)?))?;
+    pairs.push((
+        RcStr::from_str(alloc, "s")?,
+        Value::set(alloc, members, None)?,
+    ))?;
     pairs.push((RcStr::from_str(alloc, "u")?, reference(alloc, "A", "x")?))?;
     pairs.push((RcStr::from_str(alloc, "e")?, extension(alloc, "1.0", 1)?))?;
     let value = Value::set(alloc, one(alloc, Value::record(alloc, pairs, None)?)?, None)?;

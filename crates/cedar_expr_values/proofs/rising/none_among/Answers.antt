@@ -14,7 +14,7 @@ loop-first-preserved g c s =
     let i = c.loop-first.invariant s in
     let w = c.in-Some-Some in
     let k = none_at_greater g.met.T.Ord.total c.loop-first.left.now c.loop-first.right.now w.first.now w.second.now w.others.now w.more.now w.ensures.cases.0 w.ensures'.cases.0
-        c.in-Greater.ensures i.0 in
+    c.in-Greater.ensures i.0 in
     (k.0, k.1 ∙ i.1)
 
 pub returns-in_default : goal.returns-in_default
