@@ -1,2 +1,4 @@
-mod ByKind
 mod Gathered
+mod ByKind
+mod Ordered
+mod Lawful

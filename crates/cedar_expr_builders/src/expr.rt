@@ -12,6 +12,9 @@ ghost use Rattle.cedar_expr_model.specs.Whole.Builder.{tree_builder, trees, tree
 ghost use Rattle.cedar_expr_model.specs.Whole.Tree.{Tree, lit, var, slot, unknown, choice, unary, binary, call, get_attr, has_attr, like, is_type, set_literal, record_literal};
 ghost use Rattle.cedar_expr_trees.specs.Operators.{unary_op_of, binary_op_of};
 ghost use Rattle.cedar_expr_trees.specs.Unknowns.{unknown_of};
+ghost use Rattle.cedar_expr_model.specs.Whole.Records.{record_tree};
+ghost use Rattle.cedar_expr_model.specs.Whole.Repeats.{repeated_name};
+ghost use Rattle.cedar_expr_trees.specs.Refusals.{RefusesRecord};
 ghost use Rattle.cedar_expr_trees.specs.Trees.{tree_of, kind_tree, place_of, data_of, named, field_trees};
 ghost use Rattle.cedar_expr_builders.specs.Views.{builder_place, builder_data, refuses_nothing};
 ghost use Rattle.cedar_expr_builders.specs.declared.err.BuildFault.TheVariants.{OutOfMemory};
@@ -21,7 +24,10 @@ use crate::err::BuildFault;
 use crate::expr_builder;
 use cedar_expr_leaves::{Pattern, SlotId, Var};
 use cedar_expr_names::{EntityType, Literal, Loc, Name};
-use cedar_expr_trees::{BinaryOp, Expr, ExprKind, NonEmpty, UnaryOp, Unknown};
+use cedar_expr_trees::records::field_map;
+use cedar_expr_trees::{
+    BinaryOp, Expr, ExprKind, ExpressionConstructionError, NonEmpty, UnaryOp, Unknown,
+};
 use std::alloc::{AllocError, Global};
 use std::collections::BTreeMap;
 use std::convert::Infallible;
@@ -116,7 +122,7 @@ impl<T: Default + Clone + Drop> expr_builder::ExprBuilder for ExprBuilder<T> {
     }
 
     fn val(self, alloc: Global, v: Literal) -> Result<Expr<T>, AllocError>
-        ensures tree { IfOk result (λ e. tree_of e ≡ lit (literal_of v)) }
+        ensures made { IfOk result (λ e. tree_of e ≡ lit (literal_of v)) }
         ensures place { IfOk result (λ e. place_of e ≡ builder_place self) }
         ensures data { IfOk result (λ e. data_of e ≡ builder_data self) }
     {
@@ -124,7 +130,7 @@ impl<T: Default + Clone + Drop> expr_builder::ExprBuilder for ExprBuilder<T> {
     }
 
     fn var(self, alloc: Global, v: Var) -> Result<Expr<T>, AllocError>
-        ensures tree { IfOk result (λ e. tree_of e ≡ var (var_of v)) }
+        ensures made { IfOk result (λ e. tree_of e ≡ var (var_of v)) }
         ensures place { IfOk result (λ e. place_of e ≡ builder_place self) }
         ensures data { IfOk result (λ e. data_of e ≡ builder_data self) }
     {
@@ -132,7 +138,7 @@ impl<T: Default + Clone + Drop> expr_builder::ExprBuilder for ExprBuilder<T> {
     }
 
     fn unknown(self, alloc: Global, u: Unknown) -> Result<Expr<T>, AllocError>
-        ensures tree { IfOk result (λ e. tree_of e ≡ unknown (unknown_of u).name (unknown_of u).annotation) }
+        ensures made { IfOk result (λ e. tree_of e ≡ unknown (unknown_of u).name (unknown_of u).annotation) }
         ensures place { IfOk result (λ e. place_of e ≡ builder_place self) }
         ensures data { IfOk result (λ e. data_of e ≡ builder_data self) }
     {
@@ -140,7 +146,7 @@ impl<T: Default + Clone + Drop> expr_builder::ExprBuilder for ExprBuilder<T> {
     }
 
     fn slot(self, alloc: Global, s: SlotId) -> Result<Expr<T>, AllocError>
-        ensures tree { IfOk result (λ e. tree_of e ≡ slot (slot_of s)) }
+        ensures made { IfOk result (λ e. tree_of e ≡ slot (slot_of s)) }
         ensures place { IfOk result (λ e. place_of e ≡ builder_place self) }
         ensures data { IfOk result (λ e. data_of e ≡ builder_data self) }
     {
@@ -154,7 +160,7 @@ impl<T: Default + Clone + Drop> expr_builder::ExprBuilder for ExprBuilder<T> {
         then_expr: Rc<Expr<T>>,
         else_expr: Rc<Expr<T>>,
     ) -> Result<Expr<T>, AllocError>
-        ensures tree { IfOk result (λ e. tree_of e ≡ choice (tree_of test_expr.value) (tree_of then_expr.value) (tree_of else_expr.value)) }
+        ensures made { IfOk result (λ e. tree_of e ≡ choice (tree_of test_expr.value) (tree_of then_expr.value) (tree_of else_expr.value)) }
         ensures place { IfOk result (λ e. place_of e ≡ builder_place self) }
         ensures data { IfOk result (λ e. data_of e ≡ builder_data self) }
     {
@@ -166,7 +172,7 @@ impl<T: Default + Clone + Drop> expr_builder::ExprBuilder for ExprBuilder<T> {
     }
 
     fn and(self, alloc: Global, e1: Expr<T>, e2: Expr<T>) -> Result<Expr<T>, AllocError>
-        ensures tree { IfOk result (λ e. tree_of e ≡ conjunction (tree_of e1) (tree_of e2)) }
+        ensures made { IfOk result (λ e. tree_of e ≡ conjunction (tree_of e1) (tree_of e2)) }
         ensures place { IfOk result (λ e. place_of e ≡ builder_place self) }
         ensures data { IfOk result (λ e. data_of e ≡ builder_data self) }
     {
@@ -179,7 +185,7 @@ impl<T: Default + Clone + Drop> expr_builder::ExprBuilder for ExprBuilder<T> {
     }
 
     fn or(self, alloc: Global, e1: Expr<T>, e2: Expr<T>) -> Result<Expr<T>, AllocError>
-        ensures tree { IfOk result (λ e. tree_of e ≡ disjunction (tree_of e1) (tree_of e2)) }
+        ensures made { IfOk result (λ e. tree_of e ≡ disjunction (tree_of e1) (tree_of e2)) }
         ensures place { IfOk result (λ e. place_of e ≡ builder_place self) }
         ensures data { IfOk result (λ e. data_of e ≡ builder_data self) }
     {
@@ -192,7 +198,7 @@ impl<T: Default + Clone + Drop> expr_builder::ExprBuilder for ExprBuilder<T> {
     }
 
     fn unary_app(self, alloc: Global, op: UnaryOp, arg: Expr<T>) -> Result<Expr<T>, AllocError>
-        ensures tree { IfOk result (λ e. tree_of e ≡ unary (unary_op_of op) (tree_of arg)) }
+        ensures made { IfOk result (λ e. tree_of e ≡ unary (unary_op_of op) (tree_of arg)) }
         ensures place { IfOk result (λ e. place_of e ≡ builder_place self) }
         ensures data { IfOk result (λ e. data_of e ≡ builder_data self) }
     {
@@ -207,7 +213,7 @@ impl<T: Default + Clone + Drop> expr_builder::ExprBuilder for ExprBuilder<T> {
         arg1: Expr<T>,
         arg2: Expr<T>,
     ) -> Result<Expr<T>, AllocError>
-        ensures tree { IfOk result (λ e. tree_of e ≡ binary (binary_op_of op) (tree_of arg1) (tree_of arg2)) }
+        ensures made { IfOk result (λ e. tree_of e ≡ binary (binary_op_of op) (tree_of arg1) (tree_of arg2)) }
         ensures place { IfOk result (λ e. place_of e ≡ builder_place self) }
         ensures data { IfOk result (λ e. data_of e ≡ builder_data self) }
     {
@@ -223,7 +229,7 @@ impl<T: Default + Clone + Drop> expr_builder::ExprBuilder for ExprBuilder<T> {
         fn_name: Name,
         args: Vec<Expr<T>>,
     ) -> Result<Expr<T>, BuildFault<Infallible>>
-        ensures tree { IfOk result (λ e. tree_of e ≡ call (plain_name_of fn_name) (trees (map tree_of args.items))) }
+        ensures made { IfOk result (λ e. tree_of e ≡ call (plain_name_of fn_name) (trees (map tree_of args.items))) }
         ensures place { IfOk result (λ e. place_of e ≡ builder_place self) }
         ensures data { IfOk result (λ e. data_of e ≡ builder_data self) }
         ensures want { IfErr result (λ f. f ≡ OutOfMemory) }
@@ -233,7 +239,7 @@ impl<T: Default + Clone + Drop> expr_builder::ExprBuilder for ExprBuilder<T> {
     }
 
     fn get_attr(self, alloc: Global, expr: Expr<T>, attr: RcStr) -> Result<Expr<T>, AllocError>
-        ensures tree { IfOk result (λ e. tree_of e ≡ get_attr (tree_of expr) (rc_str_bytes attr)) }
+        ensures made { IfOk result (λ e. tree_of e ≡ get_attr (tree_of expr) (rc_str_bytes attr)) }
         ensures place { IfOk result (λ e. place_of e ≡ builder_place self) }
         ensures data { IfOk result (λ e. data_of e ≡ builder_data self) }
     {
@@ -242,7 +248,7 @@ impl<T: Default + Clone + Drop> expr_builder::ExprBuilder for ExprBuilder<T> {
     }
 
     fn has_attr(self, alloc: Global, expr: Expr<T>, attr: RcStr) -> Result<Expr<T>, AllocError>
-        ensures tree { IfOk result (λ e. tree_of e ≡ has_attr (tree_of expr) (rc_str_bytes attr)) }
+        ensures made { IfOk result (λ e. tree_of e ≡ has_attr (tree_of expr) (rc_str_bytes attr)) }
         ensures place { IfOk result (λ e. place_of e ≡ builder_place self) }
         ensures data { IfOk result (λ e. data_of e ≡ builder_data self) }
     {
@@ -256,7 +262,7 @@ impl<T: Default + Clone + Drop> expr_builder::ExprBuilder for ExprBuilder<T> {
         expr: Expr<T>,
         attrs: Rc<NonEmpty<RcStr>>,
     ) -> Result<Expr<T>, AllocError>
-        ensures tree { IfOk result (λ e. tree_of e ≡ path_test (tree_of expr) (rc_str_bytes attrs.value.head) (map rc_str_bytes attrs.value.tail.items)) }
+        ensures made { IfOk result (λ e. tree_of e ≡ path_test (tree_of expr) (rc_str_bytes attrs.value.head) (map rc_str_bytes attrs.value.tail.items)) }
         ensures place { IfOk result (λ e. place_of e ≡ builder_place self) }
         ensures data { IfOk result (λ e. data_of e ≡ builder_data self) }
     {
@@ -269,7 +275,7 @@ impl<T: Default + Clone + Drop> expr_builder::ExprBuilder for ExprBuilder<T> {
     }
 
     fn like(self, alloc: Global, expr: Expr<T>, pattern: Pattern) -> Result<Expr<T>, AllocError>
-        ensures tree { IfOk result (λ e. tree_of e ≡ like (tree_of expr) (pattern_of pattern)) }
+        ensures made { IfOk result (λ e. tree_of e ≡ like (tree_of expr) (pattern_of pattern)) }
         ensures place { IfOk result (λ e. place_of e ≡ builder_place self) }
         ensures data { IfOk result (λ e. data_of e ≡ builder_data self) }
     {
@@ -283,7 +289,7 @@ impl<T: Default + Clone + Drop> expr_builder::ExprBuilder for ExprBuilder<T> {
         expr: Expr<T>,
         entity_type: EntityType,
     ) -> Result<Expr<T>, AllocError>
-        ensures tree { IfOk result (λ e. tree_of e ≡ is_type (tree_of expr) (type_name_of entity_type)) }
+        ensures made { IfOk result (λ e. tree_of e ≡ is_type (tree_of expr) (type_name_of entity_type)) }
         ensures place { IfOk result (λ e. place_of e ≡ builder_place self) }
         ensures data { IfOk result (λ e. data_of e ≡ builder_data self) }
     {
@@ -293,7 +299,7 @@ impl<T: Default + Clone + Drop> expr_builder::ExprBuilder for ExprBuilder<T> {
 
     #[tactic(auto, using(crate::proofs::ByKind::kind_trees))]
     fn set(self, alloc: Global, exprs: Vec<Expr<T>>) -> Result<Expr<T>, AllocError>
-        ensures tree { IfOk result (λ e. tree_of e ≡ set_literal (trees (map tree_of exprs.items))) }
+        ensures made { IfOk result (λ e. tree_of e ≡ set_literal (trees (map tree_of exprs.items))) }
         ensures place { IfOk result (λ e. place_of e ≡ builder_place self) }
         ensures data { IfOk result (λ e. data_of e ≡ builder_data self) }
     {
@@ -307,11 +313,27 @@ impl<T: Default + Clone + Drop> expr_builder::ExprBuilder for ExprBuilder<T> {
         alloc: Global,
         map: Rc<BTreeMap<RcStr, Expr<T>>>,
     ) -> Result<Expr<T>, AllocError>
-        ensures tree { IfOk result (λ e. tree_of e ≡ record_literal (tree_fields (named (field_trees map.value.entries)))) }
+        ensures made { IfOk result (λ e. tree_of e ≡ record_literal (tree_fields (named (field_trees map.value.entries)))) }
         ensures place { IfOk result (λ e. place_of e ≡ builder_place self) }
         ensures data { IfOk result (λ e. data_of e ≡ builder_data self) }
     {
         Ok(self.with_expr_kind(ExprKind::Record(map)))
+    }
+
+    fn record(
+        self,
+        alloc: Global,
+        pairs: Vec<(RcStr, Expr<T>)>,
+    ) -> Result<Expr<T>, ExpressionConstructionError>
+        ensures made { IfOk result (λ e. tree_of e ≡ record_tree (named (field_trees pairs.items))) }
+        ensures distinct { OnOk result (repeated_name (named pairs.items) ≡ None) }
+        ensures refused { IfErr result (λ f. RefusesRecord (named pairs.items) f) }
+        ensures place { IfOk result (λ e. place_of e ≡ builder_place self) }
+        ensures data { IfOk result (λ e. data_of e ≡ builder_data self) }
+    {
+        let fields = field_map(alloc, pairs)?;
+        let fields = Rc::new(alloc, fields)?;
+        Ok(self.record_arc(alloc, fields)?)
     }
 }
 

@@ -83,19 +83,19 @@ pub trait ExprBuilder: Clone + Drop {
 
     /// A literal. Answers want of memory.
     fn val(self, alloc: Global, v: Literal) -> Result<Self::Expr, AllocError>
-        ensures { IfOk result (λ e. means e ≡ steps.of_lit (literal_of v)) };
+        ensures { IfOk result (λ r. means r ≡ steps.of_lit (literal_of v)) };
 
     /// A variable of the request. Answers want of memory.
     fn var(self, alloc: Global, v: Var) -> Result<Self::Expr, AllocError>
-        ensures { IfOk result (λ e. means e ≡ steps.of_var (var_of v)) };
+        ensures { IfOk result (λ r. means r ≡ steps.of_var (var_of v)) };
 
     /// An unknown. Answers want of memory.
     fn unknown(self, alloc: Global, u: Unknown) -> Result<Self::Expr, AllocError>
-        ensures { IfOk result (λ e. means e ≡ steps.of_unknown (unknown_of u).name (unknown_of u).annotation) };
+        ensures { IfOk result (λ r. means r ≡ steps.of_unknown (unknown_of u).name (unknown_of u).annotation) };
 
     /// A slot. Answers want of memory.
     fn slot(self, alloc: Global, s: SlotId) -> Result<Self::Expr, AllocError>
-        ensures { IfOk result (λ e. means e ≡ steps.of_slot (slot_of s)) };
+        ensures { IfOk result (λ r. means r ≡ steps.of_slot (slot_of s)) };
 
     /// The choice between two expressions by a test, which are shared. Answers want of memory.
     fn ite_arc(
@@ -105,15 +105,15 @@ pub trait ExprBuilder: Clone + Drop {
         then_expr: Rc<Self::Expr>,
         else_expr: Rc<Self::Expr>,
     ) -> Result<Self::Expr, AllocError>
-        ensures { IfOk result (λ e. means e ≡ steps.of_choice (means test_expr.value) (means then_expr.value) (means else_expr.value)) };
+        ensures { IfOk result (λ r. means r ≡ steps.of_choice (means test_expr.value) (means then_expr.value) (means else_expr.value)) };
 
     /// The conjunction. Answers want of memory.
     fn and(self, alloc: Global, e1: Self::Expr, e2: Self::Expr) -> Result<Self::Expr, AllocError>
-        ensures { IfOk result (λ e. means e ≡ steps.of_both (means e1) (means e2)) };
+        ensures { IfOk result (λ r. means r ≡ steps.of_both (means e1) (means e2)) };
 
     /// The disjunction. Answers want of memory.
     fn or(self, alloc: Global, e1: Self::Expr, e2: Self::Expr) -> Result<Self::Expr, AllocError>
-        ensures { IfOk result (λ e. means e ≡ steps.of_either (means e1) (means e2)) };
+        ensures { IfOk result (λ r. means r ≡ steps.of_either (means e1) (means e2)) };
 
     /// An operator of one operand. Answers want of memory.
     fn unary_app(
@@ -122,7 +122,7 @@ pub trait ExprBuilder: Clone + Drop {
         op: UnaryOp,
         arg: Self::Expr,
     ) -> Result<Self::Expr, AllocError>
-        ensures { IfOk result (λ e. means e ≡ steps.of_unary (unary_op_of op) (means arg)) };
+        ensures { IfOk result (λ r. means r ≡ steps.of_unary (unary_op_of op) (means arg)) };
 
     /// An operator of two operands. Answers want of memory.
     fn binary_app(
@@ -132,7 +132,7 @@ pub trait ExprBuilder: Clone + Drop {
         arg1: Self::Expr,
         arg2: Self::Expr,
     ) -> Result<Self::Expr, AllocError>
-        ensures { IfOk result (λ e. means e ≡ steps.of_binary (binary_op_of op) (means arg1) (means arg2)) };
+        ensures { IfOk result (λ r. means r ≡ steps.of_binary (binary_op_of op) (means arg1) (means arg2)) };
 
     /// A call of a function. Refuses what the builder refuses, and answers want of memory.
     fn call_extension_fn(
@@ -141,7 +141,7 @@ pub trait ExprBuilder: Clone + Drop {
         fn_name: Name,
         args: Vec<Self::Expr>,
     ) -> Result<Self::Expr, BuildFault<Self::BuildError>>
-        ensures made { IfOk result (λ e. means e ≡ steps.of_call (plain_name_of fn_name) (map means args.items)) }
+        ensures made { IfOk result (λ r. means r ≡ steps.of_call (plain_name_of fn_name) (map means args.items)) }
         ensures allowed { OnOk result (refuses (plain_name_of fn_name) (map means args.items) ≡ None) }
         ensures refused { IfErr result (λ f. IsRefusal says (refuses (plain_name_of fn_name) (map means args.items)) f) };
 
@@ -152,7 +152,7 @@ pub trait ExprBuilder: Clone + Drop {
         expr: Self::Expr,
         attr: RcStr,
     ) -> Result<Self::Expr, AllocError>
-        ensures { IfOk result (λ e. means e ≡ steps.of_get (means expr) (rc_str_bytes attr)) };
+        ensures { IfOk result (λ r. means r ≡ steps.of_get (means expr) (rc_str_bytes attr)) };
 
     /// Whether an attribute is there. Answers want of memory.
     fn has_attr(
@@ -161,7 +161,7 @@ pub trait ExprBuilder: Clone + Drop {
         expr: Self::Expr,
         attr: RcStr,
     ) -> Result<Self::Expr, AllocError>
-        ensures { IfOk result (λ e. means e ≡ steps.of_has (means expr) (rc_str_bytes attr)) };
+        ensures { IfOk result (λ r. means r ≡ steps.of_has (means expr) (rc_str_bytes attr)) };
 
     /// Whether attributes are there, one after the other. Answers want of memory.
     fn extended_has_attr(
@@ -170,7 +170,7 @@ pub trait ExprBuilder: Clone + Drop {
         expr: Self::Expr,
         attrs: Rc<NonEmpty<RcStr>>,
     ) -> Result<Self::Expr, AllocError>
-        ensures { IfOk result (λ e. means e ≡ steps.of_path (means expr) (rc_str_bytes attrs.value.head) (map rc_str_bytes attrs.value.tail.items)) };
+        ensures { IfOk result (λ r. means r ≡ steps.of_path (means expr) (rc_str_bytes attrs.value.head) (map rc_str_bytes attrs.value.tail.items)) };
 
     /// Whether a text matches a pattern. Answers want of memory.
     fn like(
@@ -179,7 +179,7 @@ pub trait ExprBuilder: Clone + Drop {
         expr: Self::Expr,
         pattern: Pattern,
     ) -> Result<Self::Expr, AllocError>
-        ensures { IfOk result (λ e. means e ≡ steps.of_like (means expr) (pattern_of pattern)) };
+        ensures { IfOk result (λ r. means r ≡ steps.of_like (means expr) (pattern_of pattern)) };
 
     /// Whether an entity is of a type. Answers want of memory.
     fn is_entity_type(
@@ -188,11 +188,11 @@ pub trait ExprBuilder: Clone + Drop {
         expr: Self::Expr,
         entity_type: EntityType,
     ) -> Result<Self::Expr, AllocError>
-        ensures { IfOk result (λ e. means e ≡ steps.of_is (means expr) (type_name_of entity_type)) };
+        ensures { IfOk result (λ r. means r ≡ steps.of_is (means expr) (type_name_of entity_type)) };
 
     /// A set, by its members. Answers want of memory.
     fn set(self, alloc: Global, exprs: Vec<Self::Expr>) -> Result<Self::Expr, AllocError>
-        ensures { IfOk result (λ e. means e ≡ steps.of_set (map means exprs.items)) };
+        ensures { IfOk result (λ r. means r ≡ steps.of_set (map means exprs.items)) };
 
     /// A record, by its fields, which are shared. Answers want of memory.
     fn record_arc(
@@ -200,7 +200,7 @@ pub trait ExprBuilder: Clone + Drop {
         alloc: Global,
         map: Rc<BTreeMap<RcStr, Self::Expr>>,
     ) -> Result<Self::Expr, AllocError>
-        ensures { IfOk result (λ e. means e ≡ steps.of_record (named (meant means map.value.entries))) };
+        ensures { IfOk result (λ r. means r ≡ steps.of_record (named (meant means map.value.entries))) };
 
     /// The builder that gives default data and no place.
     fn new() -> Self
@@ -224,7 +224,7 @@ pub trait ExprBuilder: Clone + Drop {
         alloc: Global,
         pairs: Vec<(RcStr, Self::Expr)>,
     ) -> Result<Self::Expr, ExpressionConstructionError>
-        ensures made { IfOk result (λ e. means e ≡ steps.of_record (in_order (named (meant means pairs.items)))) }
+        ensures made { IfOk result (λ r. means r ≡ steps.of_record (in_order (named (meant means pairs.items)))) }
         ensures distinct { OnOk result (repeated_name (named pairs.items) ≡ None) }
         ensures refused { IfErr result (λ f. RefusesRecord (named pairs.items) f) }
     {
@@ -241,7 +241,7 @@ pub trait ExprBuilder: Clone + Drop {
         then_expr: Self::Expr,
         else_expr: Self::Expr,
     ) -> Result<Self::Expr, AllocError>
-        ensures { IfOk result (λ e. means e ≡ steps.of_choice (means test_expr) (means then_expr) (means else_expr)) }
+        ensures { IfOk result (λ r. means r ≡ steps.of_choice (means test_expr) (means then_expr) (means else_expr)) }
     {
         let test_expr = Rc::new(alloc, test_expr)?;
         let then_expr = Rc::new(alloc, then_expr)?;
@@ -251,21 +251,21 @@ pub trait ExprBuilder: Clone + Drop {
 
     /// The negation of a truth value. Answers want of memory.
     fn not(self, alloc: Global, e: Self::Expr) -> Result<Self::Expr, AllocError>
-        ensures { IfOk result (λ e. means e ≡ steps.of_unary negation (means e)) }
+        ensures { IfOk result (λ r. means r ≡ steps.of_unary negation (means e)) }
     {
         self.unary_app(alloc, UnaryOp::Not, e)
     }
 
     /// Whether two values are equal. Answers want of memory.
     fn is_eq(self, alloc: Global, e1: Self::Expr, e2: Self::Expr) -> Result<Self::Expr, AllocError>
-        ensures { IfOk result (λ e. means e ≡ steps.of_binary equal (means e1) (means e2)) }
+        ensures { IfOk result (λ r. means r ≡ steps.of_binary equal (means e1) (means e2)) }
     {
         self.binary_app(alloc, BinaryOp::Eq, e1, e2)
     }
 
     /// Whether two values are not equal: the negation of `is_eq`. Answers want of memory.
     fn noteq(self, alloc: Global, e1: Self::Expr, e2: Self::Expr) -> Result<Self::Expr, AllocError>
-        ensures { IfOk result (λ e. means e ≡ steps.of_unary negation (steps.of_binary equal (means e1) (means e2))) }
+        ensures { IfOk result (λ r. means r ≡ steps.of_unary negation (steps.of_binary equal (means e1) (means e2))) }
     {
         let e = self.clone()?.is_eq(alloc, e1, e2)?;
         self.not(alloc, e)
@@ -273,14 +273,14 @@ pub trait ExprBuilder: Clone + Drop {
 
     /// Whether a value is below another. Answers want of memory.
     fn less(self, alloc: Global, e1: Self::Expr, e2: Self::Expr) -> Result<Self::Expr, AllocError>
-        ensures { IfOk result (λ e. means e ≡ steps.of_binary less (means e1) (means e2)) }
+        ensures { IfOk result (λ r. means r ≡ steps.of_binary less (means e1) (means e2)) }
     {
         self.binary_app(alloc, BinaryOp::Less, e1, e2)
     }
 
     /// Whether a value is below another or equal to it. Answers want of memory.
     fn lesseq(self, alloc: Global, e1: Self::Expr, e2: Self::Expr) -> Result<Self::Expr, AllocError>
-        ensures { IfOk result (λ e. means e ≡ steps.of_binary less_or_equal (means e1) (means e2)) }
+        ensures { IfOk result (λ r. means r ≡ steps.of_binary less_or_equal (means e1) (means e2)) }
     {
         self.binary_app(alloc, BinaryOp::LessEq, e1, e2)
     }
@@ -292,7 +292,7 @@ pub trait ExprBuilder: Clone + Drop {
         e1: Self::Expr,
         e2: Self::Expr,
     ) -> Result<Self::Expr, AllocError>
-        ensures { IfOk result (λ e. means e ≡ steps.of_unary negation (steps.of_binary less_or_equal (means e1) (means e2))) }
+        ensures { IfOk result (λ r. means r ≡ steps.of_unary negation (steps.of_binary less_or_equal (means e1) (means e2))) }
     {
         let e = self.clone()?.lesseq(alloc, e1, e2)?;
         self.not(alloc, e)
@@ -305,7 +305,7 @@ pub trait ExprBuilder: Clone + Drop {
         e1: Self::Expr,
         e2: Self::Expr,
     ) -> Result<Self::Expr, AllocError>
-        ensures { IfOk result (λ e. means e ≡ steps.of_unary negation (steps.of_binary less (means e1) (means e2))) }
+        ensures { IfOk result (λ r. means r ≡ steps.of_unary negation (steps.of_binary less (means e1) (means e2))) }
     {
         let e = self.clone()?.less(alloc, e1, e2)?;
         self.not(alloc, e)
@@ -313,35 +313,35 @@ pub trait ExprBuilder: Clone + Drop {
 
     /// The sum of two whole numbers. Answers want of memory.
     fn add(self, alloc: Global, e1: Self::Expr, e2: Self::Expr) -> Result<Self::Expr, AllocError>
-        ensures { IfOk result (λ e. means e ≡ steps.of_binary plus (means e1) (means e2)) }
+        ensures { IfOk result (λ r. means r ≡ steps.of_binary plus (means e1) (means e2)) }
     {
         self.binary_app(alloc, BinaryOp::Add, e1, e2)
     }
 
     /// The difference of two whole numbers. Answers want of memory.
     fn sub(self, alloc: Global, e1: Self::Expr, e2: Self::Expr) -> Result<Self::Expr, AllocError>
-        ensures { IfOk result (λ e. means e ≡ steps.of_binary difference (means e1) (means e2)) }
+        ensures { IfOk result (λ r. means r ≡ steps.of_binary difference (means e1) (means e2)) }
     {
         self.binary_app(alloc, BinaryOp::Sub, e1, e2)
     }
 
     /// The product of two whole numbers. Answers want of memory.
     fn mul(self, alloc: Global, e1: Self::Expr, e2: Self::Expr) -> Result<Self::Expr, AllocError>
-        ensures { IfOk result (λ e. means e ≡ steps.of_binary times (means e1) (means e2)) }
+        ensures { IfOk result (λ r. means r ≡ steps.of_binary times (means e1) (means e2)) }
     {
         self.binary_app(alloc, BinaryOp::Mul, e1, e2)
     }
 
     /// The negation of a whole number. Answers want of memory.
     fn neg(self, alloc: Global, e: Self::Expr) -> Result<Self::Expr, AllocError>
-        ensures { IfOk result (λ e. means e ≡ steps.of_unary minus (means e)) }
+        ensures { IfOk result (λ r. means r ≡ steps.of_unary minus (means e)) }
     {
         self.unary_app(alloc, UnaryOp::Neg, e)
     }
 
     /// Whether an entity is another, or one of a set, or below it. Answers want of memory.
     fn is_in(self, alloc: Global, e1: Self::Expr, e2: Self::Expr) -> Result<Self::Expr, AllocError>
-        ensures { IfOk result (λ e. means e ≡ steps.of_binary is_in (means e1) (means e2)) }
+        ensures { IfOk result (λ r. means r ≡ steps.of_binary is_in (means e1) (means e2)) }
     {
         self.binary_app(alloc, BinaryOp::In, e1, e2)
     }
@@ -353,7 +353,7 @@ pub trait ExprBuilder: Clone + Drop {
         e1: Self::Expr,
         e2: Self::Expr,
     ) -> Result<Self::Expr, AllocError>
-        ensures { IfOk result (λ e. means e ≡ steps.of_binary contains (means e1) (means e2)) }
+        ensures { IfOk result (λ r. means r ≡ steps.of_binary contains (means e1) (means e2)) }
     {
         self.binary_app(alloc, BinaryOp::Contains, e1, e2)
     }
@@ -365,7 +365,7 @@ pub trait ExprBuilder: Clone + Drop {
         e1: Self::Expr,
         e2: Self::Expr,
     ) -> Result<Self::Expr, AllocError>
-        ensures { IfOk result (λ e. means e ≡ steps.of_binary contains_all (means e1) (means e2)) }
+        ensures { IfOk result (λ r. means r ≡ steps.of_binary contains_all (means e1) (means e2)) }
     {
         self.binary_app(alloc, BinaryOp::ContainsAll, e1, e2)
     }
@@ -377,14 +377,14 @@ pub trait ExprBuilder: Clone + Drop {
         e1: Self::Expr,
         e2: Self::Expr,
     ) -> Result<Self::Expr, AllocError>
-        ensures { IfOk result (λ e. means e ≡ steps.of_binary contains_any (means e1) (means e2)) }
+        ensures { IfOk result (λ r. means r ≡ steps.of_binary contains_any (means e1) (means e2)) }
     {
         self.binary_app(alloc, BinaryOp::ContainsAny, e1, e2)
     }
 
     /// Whether a set has no member. Answers want of memory.
     fn is_empty(self, alloc: Global, e: Self::Expr) -> Result<Self::Expr, AllocError>
-        ensures { IfOk result (λ e. means e ≡ steps.of_unary is_empty (means e)) }
+        ensures { IfOk result (λ r. means r ≡ steps.of_unary is_empty (means e)) }
     {
         self.unary_app(alloc, UnaryOp::IsEmpty, e)
     }
@@ -396,7 +396,7 @@ pub trait ExprBuilder: Clone + Drop {
         expr: Self::Expr,
         tag: Self::Expr,
     ) -> Result<Self::Expr, AllocError>
-        ensures { IfOk result (λ e. means e ≡ steps.of_binary get_tag (means expr) (means tag)) }
+        ensures { IfOk result (λ r. means r ≡ steps.of_binary get_tag (means expr) (means tag)) }
     {
         self.binary_app(alloc, BinaryOp::GetTag, expr, tag)
     }
@@ -408,7 +408,7 @@ pub trait ExprBuilder: Clone + Drop {
         expr: Self::Expr,
         tag: Self::Expr,
     ) -> Result<Self::Expr, AllocError>
-        ensures { IfOk result (λ e. means e ≡ steps.of_binary has_tag (means expr) (means tag)) }
+        ensures { IfOk result (λ r. means r ≡ steps.of_binary has_tag (means expr) (means tag)) }
     {
         self.binary_app(alloc, BinaryOp::HasTag, expr, tag)
     }

@@ -4,6 +4,7 @@
 pub mod err;
 pub mod expr;
 pub mod expr_builder;
+pub mod laws;
 pub mod rebuilding;
 
 pub use err::BuildFault;

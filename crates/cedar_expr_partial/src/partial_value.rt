@@ -1,8 +1,9 @@
 //! Values that may still be expressions.
 
-ghost use Rattle.std.specs.Prelude.{◌≡◌, map, IfOk, None};
+ghost use Rattle.std.specs.Prelude.{◌≡◌, map, IfOk, None, is_some};
+ghost use Rattle.std.specs.List.{filter_map};
 ghost use Rattle.cedar_expr_model.specs.Whole.Tree.{unknown};
-ghost use Rattle.cedar_expr_model.specs.Whole.ValueParts.{left, known, split};
+ghost use Rattle.cedar_expr_model.specs.Whole.ValueParts.{left, known, known_value, part_tree, split};
 ghost use Rattle.cedar_expr_trees.specs.Trees.{tree_of};
 ghost use Rattle.cedar_expr_trees.specs.Unknowns.{unknown_of};
 ghost use Rattle.cedar_expr_values.specs.Values.{made};
@@ -49,7 +50,7 @@ impl<X: ExtensionValue> PartialValue<X> {
 
     // Whether this is a value.
     fn is_value(&self) -> bool
-        ensures { result ≡ is_known (part_of X.seen self.now) }
+        ensures { result ≡ is_some (known_value (part_of X.seen self.now)) }
     {
         match self {
             PartialValue::Value(_) => true,
@@ -81,7 +82,7 @@ impl<X: ExtensionValue> From<Expr> for PartialValue<X> {
 impl<X: ExtensionValue> TryFrom<PartialValue<X>> for Value<X> {
     type Error = PartialValueToValueError;
 
-    ghost try_from_gives = { λ p r. GivesValue X.seen (part_of X.seen p) r };
+    ghost try_from_gives = { λ p r. GivesValue X.seen p r };
 
     fn try_from(value: PartialValue<X>) -> Result<Value<X>, PartialValueToValueError> {
         match value {
