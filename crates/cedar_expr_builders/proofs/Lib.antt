@@ -1,4 +1,3 @@
-mod Gathered
-mod ByKind
-mod Ordered
+mod Kept
+pub mod Ordered
 mod Lawful

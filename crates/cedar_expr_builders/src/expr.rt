@@ -222,7 +222,7 @@ impl<T: Default + Clone + Drop> expr_builder::ExprBuilder for ExprBuilder<T> {
         Ok(self.with_expr_kind(ExprKind::BinaryApp { op, arg1, arg2 }))
     }
 
-    #[tactic(auto, using(crate::proofs::ByKind::kind_trees))]
+    #[tactic(auto, using(crate::proofs::Kept::kind_trees))]
     fn call_extension_fn(
         self,
         alloc: Global,
@@ -297,7 +297,7 @@ impl<T: Default + Clone + Drop> expr_builder::ExprBuilder for ExprBuilder<T> {
         Ok(self.with_expr_kind(ExprKind::Is { expr, entity_type }))
     }
 
-    #[tactic(auto, using(crate::proofs::ByKind::kind_trees))]
+    #[tactic(auto, using(crate::proofs::Kept::kind_trees))]
     fn set(self, alloc: Global, exprs: Vec<Expr<T>>) -> Result<Expr<T>, AllocError>
         ensures made { IfOk result (λ e. tree_of e ≡ set_literal (trees (map tree_of exprs.items))) }
         ensures place { IfOk result (λ e. place_of e ≡ builder_place self) }
@@ -307,7 +307,7 @@ impl<T: Default + Clone + Drop> expr_builder::ExprBuilder for ExprBuilder<T> {
         Ok(self.with_expr_kind(ExprKind::Set(exprs)))
     }
 
-    #[tactic(auto, using(crate::proofs::ByKind::kind_trees))]
+    #[tactic(auto, using(crate::proofs::Kept::kind_trees))]
     fn record_arc(
         self,
         alloc: Global,

@@ -1,15 +1,13 @@
-//! Builders of Cedar's expressions, and rebuilding an expression through any of them.
+//! Builders of expressions.
 #![tactic(auto)]
 
 pub mod err;
 pub mod expr;
 pub mod expr_builder;
 pub mod laws;
-pub mod rebuilding;
 
 pub use err::BuildFault;
 pub use expr::ExprBuilder;
-pub use rebuilding::Rebuild;
 
 #[cfg(test)]
 mod tests;
