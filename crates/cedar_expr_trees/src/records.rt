@@ -35,8 +35,8 @@ impl Expr {
     }
 }
 
-// The map of these pairs, unless a name stands twice.
-fn field_map<V: Drop>(
+/// The map of these pairs. Refuses a name that stands twice, whatever stands under it, and answers want of memory.
+pub fn field_map<V: Drop>(
     alloc: Global,
     pairs: Vec<(RcStr, V)>,
 ) -> Result<BTreeMap<RcStr, V>, ExpressionConstructionError>

@@ -12,3 +12,4 @@ pub mod Recorded
 mod Located
 mod Gathered
 mod Calls
+pub mod Ascending

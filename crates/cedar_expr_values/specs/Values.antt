@@ -20,7 +20,7 @@ use Rattle.cedar_expr_values.specs.Rising.{in_rising}
 use Rattle.cedar_expr_values.specs.Fields.{by_text}
 use Rattle.cedar_expr_values.specs.declared.value.Value.{Value, Value-F, fold-Value}
 use Rattle.cedar_expr_values.specs.declared.value.ValueKind.{ValueKind, ValueKind-F, fold-ValueKind}
-use Rattle.cedar_expr_values.specs.declared.value.Set.{Set, Set-F, fold-Set}
+use Rattle.cedar_expr_values.specs.declared.value.Set.{Set, Set-F, fold-Set, out-Set}
 
 -- members and fields in a row
 abbrev pub made_list : List Made → Mades
@@ -94,3 +94,10 @@ all_canonical seen vs = list_all is_canonical (map (bare seen) vs)
 -- where a value stands in its source
 abbrev pub place_of : {X : Type 0} → Value X → Option Loc
 place_of v = v.loc
+
+-- what a value is, and the members of a set, in rising order
+abbrev pub kind_of : {X : Type 0} → Value X → ValueKind X
+kind_of v = v.kind
+
+abbrev pub members_of : {X : Type 0} → Set X → List (Value X)
+members_of {X} s = (out-Set X s).members.value.items

@@ -2,7 +2,7 @@
 #![tactic(auto)]
 
 pub mod extension;
-mod fields;
+pub mod fields;
 pub mod laws;
 mod rising;
 pub mod types;

@@ -58,7 +58,7 @@ impl<X: ExtensionValue> Set<X> {
     ghost use Rattle.cedar_expr_model.specs.Whole.Canonical.{is_canonical, are_rising, members_made, is_member, is_subset, is_disjoint};
     ghost use Rattle.cedar_expr_model.specs.Whole.Made.{no_mades};
     ghost use Rattle.cedar_expr_names.specs.Literals.{literal_of};
-    ghost use Rattle.cedar_expr_values.specs.Values.{made, made_list, mades, bare, bares, all_canonical, members_as_made};
+    ghost use Rattle.cedar_expr_values.specs.Values.{made, made_list, mades, bare, bares, all_canonical, members_as_made, members_of};
 
     /// The empty set. Answers want of memory.
     pub fn empty(alloc: Global) -> Result<Set<X>, AllocError>
@@ -103,7 +103,8 @@ impl<X: ExtensionValue> Set<X> {
 
     /// The members in rising order.
     pub fn iter(&self) -> Iter<'_, Value<X>>
-        ensures { mades X.seen self.now ≡ made_list (map (made X.seen) (iter_rest result)) }
+        ensures as_made { mades X.seen self.now ≡ made_list (map (made X.seen) (iter_rest result)) }
+        ensures members { iter_rest result ≡ members_of self.now }
     {
         self.as_slice().iter()
     }
@@ -139,7 +140,8 @@ impl<X: ExtensionValue> Set<X> {
 
     // The members in rising order.
     fn as_slice(&self) -> &[Value<X>]
-        ensures { mades X.seen self.now ≡ made_list (map (made X.seen) result.now) }
+        ensures as_made { mades X.seen self.now ≡ made_list (map (made X.seen) result.now) }
+        ensures members { result.now ≡ members_of self.now }
     {
         self.members.as_slice()
     }
@@ -235,7 +237,7 @@ impl<X: ExtensionValue> Value<X> {
     ghost use Rattle.cedar_expr_model.specs.Whole.Records.{record_made};
     ghost use Rattle.cedar_expr_model.specs.Whole.Made.{made_prim, made_set, made_record, no_mades, no_made_fields};
     ghost use Rattle.cedar_expr_names.specs.Literals.{literal_of};
-    ghost use Rattle.cedar_expr_values.specs.Values.{made, made_kind, made_fields, made_pair, bare, bare_pair, all_canonical, values_of, members_as_made, record_as_made, place_of};
+    ghost use Rattle.cedar_expr_values.specs.Values.{made, made_kind, made_fields, made_pair, bare, bare_pair, all_canonical, values_of, members_as_made, record_as_made, place_of, kind_of};
 
     /// The empty set, at a place. Answers want of memory.
     pub fn empty_set(alloc: Global, loc: Option<Loc>) -> Result<Value<X>, AllocError>
@@ -327,7 +329,8 @@ impl<X: ExtensionValue> Value<X> {
 
     /// What the value is.
     pub fn value_kind(&self) -> &ValueKind<X>
-        ensures { made_kind X.seen result.now ≡ made X.seen self.now }
+        ensures value { made_kind X.seen result.now ≡ made X.seen self.now }
+        ensures kind { result.now ≡ kind_of self.now }
     {
         &self.kind
     }

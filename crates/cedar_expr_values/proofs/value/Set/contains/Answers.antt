@@ -10,4 +10,4 @@ returns g c =
     record { total = m.Ord.total; matches_partial_cmp = m.Ord.matches_partial_cmp; matches_eq = m.Ord.matches_eq }
     record { laws = m.Eq.laws } record { laws = m.PartialEq.laws } record { laws = m.PartialOrd.laws }
     x.ExtensionValue.seen m.ExtensionValue.ordered in
-    contains_is x.ExtensionValue.seen _ agree c.args.value.now _ c.as_slice.result.now _ c.as_slice.ensures c.is_among.ensures
+    contains_is x.ExtensionValue.seen _ agree c.args.value.now _ c.as_slice.result.now _ c.as_slice.ensures.as_made c.is_among.ensures

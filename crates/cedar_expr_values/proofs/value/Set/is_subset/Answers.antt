@@ -10,4 +10,4 @@ returns g c =
     record { total = m.Ord.total; matches_partial_cmp = m.Ord.matches_partial_cmp; matches_eq = m.Ord.matches_eq }
     record { laws = m.Eq.laws } record { laws = m.PartialEq.laws } record { laws = m.PartialOrd.laws }
     x.ExtensionValue.seen m.ExtensionValue.ordered in
-    is_subset_is x.ExtensionValue.seen _ agree _ _ c.as_slice.result.now c.as_slice-2.result.now _ c.as_slice.ensures c.as_slice-2.ensures c.all_among.ensures
+    is_subset_is x.ExtensionValue.seen _ agree _ _ c.as_slice.result.now c.as_slice-2.result.now _ c.as_slice.ensures.as_made c.as_slice-2.ensures.as_made c.all_among.ensures

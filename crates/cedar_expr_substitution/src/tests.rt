@@ -1,0 +1,9 @@
+//! Examples of substitution.
+
+use std::test::Fail;
+
+#[test]
+fn nothing(rt: HostRuntime) -> Result<(), Fail> {
+    assert!(rt; true);
+    Ok(())
+}
