@@ -1,9 +1,0 @@
-//! Examples of substitution.
-
-use std::test::Fail;
-
-#[test]
-fn nothing(rt: HostRuntime) -> Result<(), Fail> {
-    assert!(rt; true);
-    Ok(())
-}
