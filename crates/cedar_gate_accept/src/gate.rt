@@ -44,6 +44,7 @@ impl<'a> Gate<'a> {
     ghost use Rattle.cedar_gate_types.specs.Trees.{small_tree_of};
     ghost use Rattle.cedar_expr.specs.Table.{all_typed};
     ghost use Rattle.cedar_store_model.specs.Policy.{condition};
+    ghost use Rattle.cedar_store_model.specs.Whole.FirstPath.{whole_policies};
     ghost use Rattle.cedar_gate_model.specs.Acceptance.{IsAccepted, warnings_of};
     ghost use Rattle.cedar_gate_types.specs.Limit.{levels_of};
     ghost use Rattle.cedar_gate_types.specs.Policies.{policies_of, whole_policies_of, id_text};
@@ -160,7 +161,7 @@ impl<'a> Gate<'a> {
     /// The policies, in their order. With their bodies written, they are in the whole language what was accepted.
     pub fn policies(&self) -> &[Policy]
         ensures first_path { policies_of result.now ≡ (submission_of self.now).policies }
-        ensures whole { (x : Table) → all_with_bodies (whole_policies_of result.now) ≡ (whole_submission x (submission_of self.now)).policies }
+        ensures whole { all_with_bodies (whole_policies_of result.now) ≡ whole_policies (submission_of self.now).policies }
     {
         self.policies.as_slice()
     }
