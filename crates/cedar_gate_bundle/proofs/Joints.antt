@@ -1,5 +1,5 @@
 -- What is joined, on the first path.
-use Rattle.std.proofs.Common.{◌≡◌, ◌&&◌, Bool, true, false, refl, ap, ◌∙◌}
+use Rattle.std.proofs.Common.{◌≡◌, ◌&&◌, Bool, true, false, ap, ◌∙◌}
 use Rattle.cedar_expr_model.specs.Tree as small
 use Rattle.cedar_expr_model.specs.Whole.Tree.{Tree}
 use Rattle.cedar_expr_model.specs.Whole.Builder.{conjunction}
