@@ -131,8 +131,13 @@ found_whole : (u : Uid) (us : List Uid) → whole_found (list_any (uid_eq u) us)
 found_whole u [] = refl
 found_whole u (v ∷ us) = found_first (uid_eq u v) (list_any (uid_eq u) us) u us (found_whole u us)
 
-pub worlds_are_of_stores : (x : Table) (unknowns : Text → Option V) (r : small_world.Request) (us : List Uid) → whole_world x unknowns (record { request = r; holds = λ u. list_any (uid_eq u) us }) ≡ world_of x unknowns (as_open (whole_request r)) (record { extent = whole; entities = plain_entities us })
-worlds_are_of_stores x unknowns r us = λ i. record (whole_world x unknowns (record { request = r; holds = λ u. list_any (uid_eq u) us })) { store = λ u. found_whole u us i }
+held_as_uid : (b c : Bool) (f : Found V) → whole_found c ≡ f → whole_found (b && c) ≡ (if b then f else missing)
+held_as_uid true c f e = e
+held_as_uid false c f e = refl
+
+pub worlds_are_of_stores : (x : Table) (unknowns : Text → Option V) (r : small_world.Request) (us : List Uid)
+    → whole_world x unknowns (record { request = r; holds = λ u. is_uid u && list_any (uid_eq u) us }) ≡ world_of x unknowns (as_open (whole_request r)) (record { extent = whole; entities = plain_entities us })
+worlds_are_of_stores x unknowns r us = λ i. record (whole_world x unknowns (record { request = r; holds = λ u. is_uid u && list_any (uid_eq u) us })) { store = λ u. held_as_uid (is_uid u) (list_any (uid_eq u) us) _ (found_whole u us) i }
 
 pub worlds_know_the_request : (x : Table) (unknowns : Text → Option V) (w : small_world.World) → KnowsRequest w.request (whole_world x unknowns w)
 worlds_know_the_request x unknowns w = record { principal = refl; action = refl; resource = refl }
