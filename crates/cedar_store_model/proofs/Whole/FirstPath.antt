@@ -1,5 +1,5 @@
 -- The meaning of the first path is that of the whole language on its part of it.
-use Rattle.std.proofs.Common.{◌≡◌, ◌↔◌, ℤ, Bool, true, false, cond, List, [], ◌∷◌, refl, sym, ap, ◌∙◌, ⊎_elim}
+use Rattle.std.proofs.Common.{◌≡◌, ◌↔◌, ◌&&◌, ℤ, Bool, true, false, cond, if◌then◌else◌, List, [], ◌∷◌, refl, sym, ap, ◌∙◌, ⊎_elim}
 use Rattle.std.specs.Prelude.{Option, Some, int_lt, ◌||◌, IsSome}
 use Rattle.std.specs.List.{list_any}
 use Rattle.std.specs.Ordering.{is_lt, int_cmp}
@@ -11,13 +11,14 @@ use Rattle.cedar_expr_model.specs.Value as small_value
 use Rattle.cedar_expr_model.specs.Tree as small_tree
 use Rattle.cedar_expr_model.specs.Whole.Value.{V}
 use Rattle.cedar_expr_model.specs.Whole.Table.{Table}
+use Rattle.cedar_expr_model.specs.Whole.Uids.{is_uid}
 use Rattle.cedar_expr_model.specs.Whole.FirstPath.{whole_value, whole_var, whole_unary, whole_binary, whole_tree}
 use Rattle.cedar_expr_model.proofs.Whole.FirstPath.{values_are_kept, equality_is_whole}
 use Rattle.cedar_store_model.specs.Outcome as small_outcome
 use Rattle.cedar_store_model.specs.World as small_world
 use Rattle.cedar_store_model.specs.Meaning as small_meaning
 use Rattle.cedar_store_model.specs.Whole.Outcome.{Res, bind}
-use Rattle.cedar_store_model.specs.Whole.World.{World}
+use Rattle.cedar_store_model.specs.Whole.World.{World, Found, missing}
 use Rattle.cedar_store_model.specs.Whole.Operators.{says, applied}
 use Rattle.cedar_store_model.specs.Whole.Meaning.{Means, variable, truth_asked, picked, combined, outcome_of}
 use Rattle.cedar_store_model.specs.Whole.Looks.{Looks}
