@@ -36,6 +36,10 @@ user_b = uid_of user (codes "b")
 abbrev pub user_z : Uid
 user_z = uid_of user (codes "z")
 
+-- the type has two colons in its one part, so it is no name
+abbrev pub no_uid : Uid
+no_uid = record { kind = record { path = []; base = codes "a::b" }; id = [] }
+
 abbrev pub alice : Uid
 alice = uid_of user (codes "alice")
 
