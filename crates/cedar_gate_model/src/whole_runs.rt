@@ -2,10 +2,12 @@
 
 ghost use Rattle.cedar_gate_model.specs.Whole.RunsAsk.{RunsAskOnce, RunsAskInTheSlice, RunsAskTheSlice, RunsHaveFewRounds};
 ghost use Rattle.cedar_gate_model.specs.Whole.RunsAlike.{EndsAreTheCourses, StepsMayMove, LevelsAnswerAlike, OutsideSaysNothing, PoliciesMayMove, MovedPoliciesAnswerAlike, PrunedAnswersAlike, WarnedAreNoReasons, DeclarationsMayMove, FragmentsMaySplit, MovedDeclarationsAnswerAlike};
-ghost use Rattle.cedar_gate_model.specs.Whole.RunsAnswer.{AnsweredRunsAreCompleted, GivenDecisionsAreTheAnswers, AnswersAreTheWholeStores, AnswersNeedTheLoadedAlone, ErrorsAreExpected, ReadyDecisionsAreOwed, ForcedDecisionsAreGiven, ProperRunsAreLegal, IsProper, IsRun, BundlesAreProper};
+ghost use Rattle.cedar_gate_model.specs.Whole.RunsAnswer.{AnsweredRunsAreCompleted, GivenDecisionsAreTheAnswers, AnswersAreTheWholeStores, AnswersNeedTheLoadedAlone, ErrorsAreExpected, ReadyDecisionsAreOwed, ForcedDecisionsAreGiven, ProperRunsAreLegal, IsProper, IsRun, BundlesAreProper, session_of, end_world, with_unknowns};
 ghost use Rattle.cedar_gate_model.specs.Whole.RunLaws.{RunsAreLegal, AnsweredRunsAskTheSlice};
 ghost use Rattle.cedar_gate_model.specs.Whole.SliceSoundness.{LargerLevelsAccept};
-ghost use Rattle.std.specs.Prelude.{[], ◌∷◌, codes};
+ghost use Rattle.std.specs.Prelude.{◌≡◌, [], ◌∷◌, codes};
+ghost use Rattle.cedar_store_model.specs.Whole.World.{not_loaded};
+ghost use Rattle.cedar_gate_model.specs.Whole.Session.{at_start, known_now, IsWantedNow, CompletesNow};
 ghost use Rattle.cedar_typechecker_model.specs.Whole.Worked.{user_a, doc_d};
 ghost use Rattle.cedar_gate_model.specs.Whole.Runs.{answered};
 ghost use Rattle.cedar_gate_model.specs.Whole.Transcript.{round, bound};
@@ -81,6 +83,9 @@ pub fn worked_courses()
     ensures bundles { BundlesAreProper }
     ensures proper { IsProper loaded_course }
     ensures run { IsRun loaded_course (round (doc_d ∷ user_a ∷ []) ∷ round (user_b ∷ []) ∷ []) (answered p0_allows) }
+    ensures wanted { IsWantedNow (session_of loaded_course) at_start user_a }
+    ensures not_asked { (known_now (session_of loaded_course) at_start).store user_a ≡ not_loaded }
+    ensures completed { CompletesNow (session_of loaded_course) at_start (with_unknowns (end_world loaded_course (round (doc_d ∷ user_a ∷ []) ∷ round (user_b ∷ []) ∷ []))) }
     ensures late { IsProper late_course }
     ensures late_run { IsRun late_course (round (doc_d ∷ []) ∷ round (user_b ∷ []) ∷ bound (codes "principal") ∷ round (user_a ∷ []) ∷ []) (answered p0_denies) }
 {}
