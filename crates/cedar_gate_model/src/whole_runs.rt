@@ -2,7 +2,7 @@
 
 ghost use Rattle.cedar_gate_model.specs.Whole.RunsAsk.{RunsAskOnce, RunsAskInTheSlice, RunsAskTheSlice, RunsHaveFewRounds};
 ghost use Rattle.cedar_gate_model.specs.Whole.RunsAlike.{EndsAreTheCourses, StepsMayMove, LevelsAnswerAlike, OutsideSaysNothing, PoliciesMayMove, MovedPoliciesAnswerAlike, PrunedAnswersAlike, WarnedAreNoReasons, DeclarationsMayMove, FragmentsMaySplit, MovedDeclarationsAnswerAlike};
-ghost use Rattle.cedar_gate_model.specs.Whole.RunsAnswer.{AnsweredRunsAreCompleted, GivenDecisionsAreTheAnswers, AnswersAreTheWholeStores, AnswersNeedTheLoadedAlone, ErrorsAreExpected, ReadyDecisionsAreOwed, ForcedDecisionsAreGiven, ProperRunsAreLegal, IsProper, IsRun, BundlesAreProper, session_of, end_world, with_unknowns};
+ghost use Rattle.cedar_gate_model.specs.Whole.RunsAnswer.{AnsweredRunsAreCompleted, GivenDecisionsAreTheAnswers, AnswersAreTheWholeStores, AnswersNeedTheLoadedAlone, ErrorsAreExpected, ReadyDecisionsAreOwed, ForcedDecisionsAreGiven, EvaluatedDecisionsHold, SessionsAreCompleted, ProperRunsAreLegal, IsProper, IsRun, BundlesAreProper, session_of, end_world, with_unknowns};
 ghost use Rattle.cedar_gate_model.specs.Whole.RunLaws.{RunsAreLegal, AnsweredRunsAskTheSlice};
 ghost use Rattle.cedar_gate_model.specs.Whole.SliceSoundness.{LargerLevelsAccept};
 ghost use Rattle.std.specs.Prelude.{◌≡◌, [], ◌∷◌, codes};
@@ -28,6 +28,7 @@ pub fn runs_ask_the_slice()
 pub fn runs_are_legal()
     ensures legal { ProperRunsAreLegal }
     ensures completed { AnsweredRunsAreCompleted }
+    ensures sessions { SessionsAreCompleted }
     ensures closed_contexts { RunsAreLegal }
     ensures asked { AnsweredRunsAskTheSlice }
 {}
@@ -39,6 +40,7 @@ pub fn decisions_are_the_answers()
     ensures given { GivenDecisionsAreTheAnswers }
     ensures owed { ReadyDecisionsAreOwed }
     ensures forced { ForcedDecisionsAreGiven }
+    ensures evaluated { EvaluatedDecisionsHold }
 {}
 
 /// The answer of a run is that of the whole store, whatever stands in it outside the slice, and so that of the loaded entities and the

@@ -18,3 +18,4 @@ pub mod Forcing
 pub mod LateWorked
 pub mod WellMade
 pub mod Read
+pub mod Scoped
