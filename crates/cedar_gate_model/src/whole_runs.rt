@@ -2,7 +2,7 @@
 
 ghost use Rattle.cedar_gate_model.specs.Whole.RunsAsk.{RunsAskOnce, RunsAskInTheSlice, RunsAskTheSlice, RunsHaveFewRounds};
 ghost use Rattle.cedar_gate_model.specs.Whole.RunsAlike.{EndsAreTheCourses, StepsMayMove, LevelsAnswerAlike, OutsideSaysNothing, PoliciesMayMove, MovedPoliciesAnswerAlike, PrunedAnswersAlike, WarnedAreNoReasons, DeclarationsMayMove, FragmentsMaySplit, MovedDeclarationsAnswerAlike};
-ghost use Rattle.cedar_gate_model.specs.Whole.RunsAnswer.{AnsweredRunsAreCompleted, GivenDecisionsAreTheAnswers, AnswersAreTheWholeStores, AnswersNeedTheLoadedAlone, ErrorsAreExpected, ReadyDecisionsAreOwed, ForcedDecisionsAreGiven, EvaluatedDecisionsHold, SessionsAreCompleted, ProperRunsAreLegal, IsProper, IsRun, BundlesAreProper, session_of, end_world, with_unknowns};
+ghost use Rattle.cedar_gate_model.specs.Whole.RunsAnswer.{AnsweredRunsAreCompleted, GivenDecisionsAreTheAnswers, AnswersAreTheWholeStores, AnswersNeedTheLoadedAlone, ErrorsAreExpected, ReadyDecisionsAreOwed, ForcedDecisionsAreGiven, EvaluatedDecisionsHold, DecidingSessionsAreOpened, SessionsAreCompleted, ProperRunsAreLegal, IsProper, IsRun, BundlesAreProper, session_of, end_world, with_unknowns};
 ghost use Rattle.cedar_gate_model.specs.Whole.RunLaws.{RunsAreLegal, AnsweredRunsAskTheSlice};
 ghost use Rattle.cedar_gate_model.specs.Whole.SliceSoundness.{LargerLevelsAccept};
 ghost use Rattle.std.specs.Prelude.{◌≡◌, [], ◌∷◌, codes};
@@ -23,7 +23,8 @@ pub fn runs_ask_the_slice()
 {}
 
 /// What a run does, a refused one too, is legal against each world that completes what was bound and answered by its end; what was
-/// bound and answered by the end of an answered run, over the whole store, is such a world. Where the context has no field with an
+/// bound and answered by the end of an answered run, over the whole store, is such a world. For each such world there is one that completes
+/// what evaluating the policies knows then, with the same answer. Where the context has no field with an
 /// unknown in it, runs are legal whatever the gate accepted, and one that answered asked for the slice.
 pub fn runs_are_legal()
     ensures legal { ProperRunsAreLegal }
@@ -35,12 +36,14 @@ pub fn runs_are_legal()
 
 /// Each decision that is given on the way of an answered run is that of its answer. One that is asked for is given where all is bound,
 /// the request conforms, nothing is wanted and each uid that was asked for has an entity. Evaluating the policies over what is known
-/// gives each decision that is owed.
+/// gives each decision that is owed, and a decision that it gives is that of every completion: of each session that opened and bound
+/// its names, as it is at each decision of a run, where the functions make their values as they are written.
 pub fn decisions_are_the_answers()
     ensures given { GivenDecisionsAreTheAnswers }
     ensures owed { ReadyDecisionsAreOwed }
     ensures forced { ForcedDecisionsAreGiven }
     ensures evaluated { EvaluatedDecisionsHold }
+    ensures opened { DecidingSessionsAreOpened }
 {}
 
 /// The answer of a run is that of the whole store, whatever stands in it outside the slice, and so that of the loaded entities and the
@@ -78,7 +81,9 @@ pub fn pruned_answers_are_alike()
     ensures warned { WarnedAreNoReasons }
 {}
 
-/// The premises of these laws are met by each bundle that is read and accepted, where the functions are fair. They are met here: a policy at level 2 over a store of three entities and one that doesn't conform, in two rounds.
+/// The premises of these laws are met by each bundle that is read and accepted, where the functions are fair. They are met here: a
+/// policy at level 2 over a store of three entities and one that doesn't conform, in two rounds. The world at its end completes its start,
+/// where something is wanted that isn't asked for yet.
 /// The same where the principal is bound late: the owner of the document was met at distance 1; once the owner is the principal its
 /// boss is near, and is asked for in one round more.
 pub fn worked_courses()

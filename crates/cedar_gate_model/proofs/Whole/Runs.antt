@@ -19,3 +19,4 @@ pub mod LateWorked
 pub mod WellMade
 pub mod Read
 pub mod Scoped
+pub mod Opened

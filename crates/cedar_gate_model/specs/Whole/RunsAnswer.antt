@@ -140,13 +140,17 @@ pub record IsOpened (x : Setup) (s : State) : Type 0 where
   pub opened : (f : OpenRefusal) → OpenFault x.start f → ⊥
   pub bound : AreBound x s.bound
 
+-- so is the session at each decision on the way of a run
+abbrev pub DecidingSessionsAreOpened : Type 0
+DecidingSessionsAreOpened = (c : Course) (before after : List Entry) (d : Option Decision) (end : End) → IsProper c → IsRun c (before ++ decided d ∷ after) end → IsOpened (session_of c) (end_state c.steps before)
+
 -- What evaluating stands on: the store is what is known of it, and its values and those of the context are as they are written.
 pub record IsKnownStore (c : Course) (s : State) (store : Uid → Found Made) : Type 0 where
   pub known : (u : Uid) → known_found (store u) ≡ (known_now (session_of c) s).store u
   pub well : (u : Uid) → IsFoundMadeWell c.functions.table (store u)
   pub context : IsContextMadeWell c.functions.table c.start.context
 
--- what a session's evaluation knows is completed by a world for each that completes its state, and policies answer alike in both
+-- For each world that completes the state of a session there is one that completes what its evaluation knows, with the same answer.
 abbrev pub SessionsAreCompleted : Type 0
 SessionsAreCompleted = (c : Course) (s : State) (store : Uid → Found Made) → IsProper c → MakeFairly c.functions → IsOpened (session_of c) s → IsKnownStore c s store
     → (w : World) → CompletesNow (session_of c) s w

@@ -175,14 +175,14 @@ module _ (c : Course) (proper : IsProper c) (s : State) (stands : Stands (sessio
 
 -- a decision on the way
 module _ (may : State → Option Decision → Type 0) (x : Setup) (ps : List Policy) where
-  decided_then : (s : State) (bs : List (Text × Made)) (before after : List transcript.Entry) (d : Option Decision) → Did may x ps s bs (before ++ decided d ∷ after) → may (last_state s bs before) d × Did may x ps s bs before
+  pub decided_then : (s : State) (bs : List (Text × Made)) (before after : List transcript.Entry) (d : Option Decision) → Did may x ps s bs (before ++ decided d ∷ after) → may (last_state s bs before) d × Did may x ps s bs before
   decided_then s bs [] after d h = (h.0, tt)
   decided_then s bs (round uids ∷ es) after d h = let r = decided_then (with_asked s uids) bs es after d h.1 in (r.0, (h.0, r.1))
   decided_then s [] (bound k ∷ es) after d h = absurd h
   decided_then s (b ∷ bs) (bound k ∷ es) after d h = let r = decided_then (with_bound s b.0 b.1) bs es after d h.2 in (r.0, (h.0, h.1, r.1))
   decided_then s bs (decided o ∷ es) after d h = let r = decided_then s bs es after d h.1 in (r.0, (h.0, r.1))
 
-nothing_before : (before after : List transcript.Entry) (e : transcript.Entry) → before ++ e ∷ after ≡ [] → ⊥
+pub nothing_before : (before after : List transcript.Entry) (e : transcript.Entry) → before ++ e ∷ after ≡ [] → ⊥
 nothing_before [] after e h = cc
 nothing_before (b ∷ before) after e h = cc
 

@@ -1,27 +1,27 @@
 -- A world that completes a state of a session, with its names put right, completes what an evaluation knows there.
-use Rattle.std.proofs.Common.{◌≡◌, ◌∙◌, ◌==◌, ◌&&◌, ◌||◌, Bool, true, false, cond, not, is_some, List, [], ◌∷◌, Option, Some, None, codes, option_map, inl, inr, ⊎_elim, ◌⊎◌, refl, sym, ap, subst}
-use Rattle.std.specs.Prelude.{Contains, IsSome, unwrap_or}
+use Rattle.std.proofs.Common.{◌≡◌, ◌∙◌, ◌==◌, ◌&&◌, ◌||◌, Bool, true, false, cond, not, List, [], ◌∷◌, Option, Some, None, codes, option_map, inl, inr, ⊎_elim, ◌⊎◌, refl, sym, ap, subst}
+use Rattle.std.specs.Prelude.{Contains, IsSome}
 use Rattle.std.specs.List.{list_any}
 use Rattle.std.specs.Option.{option_map_or}
 use Rattle.std.specs.Str.{bytes_eq}
 use Rattle.std.proofs.lemmas.Bool.Decides.{Decides-eqb}
 use Rattle.std.proofs.lemmas.Slice.Eq.{bytes_eq-Decides}
-use Rattle.cedar_expr_model.specs.Name.{Text, Name}
+use Rattle.cedar_expr_model.specs.Name.{Text}
 use Rattle.cedar_expr_model.specs.Uid.{Uid, uid_eq}
 use Rattle.cedar_expr_model.specs.Whole.Uids.{is_uid}
 use Rattle.cedar_expr_model.specs.Whole.Lists.{when}
 use Rattle.cedar_expr_model.specs.Whole.Value.{V, prim, entity, record_of, Fields}
 use Rattle.cedar_expr_model.specs.Whole.Canonical.{set_made}
-use Rattle.cedar_expr_model.specs.Whole.Tree.{CoreType, SlotId, Tree, lit, unknown, call, set_literal, record_literal, Trees, no_trees, tree, TreeFields, no_tree_fields, tree_field}
+use Rattle.cedar_expr_model.specs.Whole.Tree.{CoreType, Tree, lit, unknown, call, set_literal, record_literal, Trees, no_trees, tree, TreeFields, no_tree_fields, tree_field}
 use Rattle.cedar_expr_model.specs.Whole.Value.{field}
 use Rattle.cedar_expr_model.specs.Whole.Made.{Made, made_record, bare, bare_fields}
 use Rattle.cedar_expr_model.specs.Whole.Parts.{Unknown, unknowns, subexpressions, subexpressions_among, subexpressions_in_fields}
 use Rattle.cedar_expr_model.specs.Whole.Restricted.{is_restricted, offence}
 use Rattle.cedar_expr_model.specs.Whole.Substitution.{substituted}
-use Rattle.cedar_expr_model.specs.Whole.Unknowns.{has_unknown, EachUnknown}
-use Rattle.cedar_expr_model.proofs.Lists.{contains_head, contains_none, any_from, any_has, found-Decides}
+use Rattle.cedar_expr_model.specs.Whole.Unknowns.{has_unknown}
+use Rattle.cedar_expr_model.proofs.Lists.{contains_none, any_from, found-Decides}
 use Rattle.cedar_expr_model.proofs.Equality.{uid_eq-Decides}
-use Rattle.cedar_expr_model.proofs.Whole.Gathering.{EachIn, each_in}
+use Rattle.cedar_expr_model.proofs.Whole.Gathering.{each_in}
 use Rattle.cedar_store_model.specs.Whole.Outcome.{Res, val, bind}
 use Rattle.cedar_store_model.specs.Whole.World.{World, Entity, Found, held, missing, not_loaded, by_found}
 use Rattle.cedar_store_model.specs.Whole.Operators.{called}
@@ -30,7 +30,7 @@ use Rattle.cedar_store_model.specs.Whole.Knowledge.{Keeps, IsWhole, IsSettled}
 use Rattle.cedar_store_model.specs.Whole.Reads.{uid_of}
 use Rattle.cedar_store_model.specs.Whole.Store.{found_as, if_uid}
 use Rattle.cedar_store_model.specs.Whole.Store as stores
-use Rattle.cedar_store_model.specs.Whole.Policy.{Policy, condition}
+use Rattle.cedar_store_model.specs.Whole.Policy.{condition}
 use Rattle.cedar_store_model.specs.Whole.Answer.{Decision, with_slots, answer_of, decision_of}
 use Rattle.cedar_store_model.proofs.Whole.Conditions.{condition_asked}
 use Rattle.cedar_store_model.proofs.Whole.Meaning.{means_outcome, outcome_means}
@@ -44,19 +44,19 @@ use Rattle.cedar_evaluator_model.specs.Completion as evaluator
 use Rattle.cedar_evaluator_model.specs.Known.{known_entity, known_found, known_context}
 use Rattle.cedar_evaluator_model.specs.Response.{response_of}
 use Rattle.cedar_evaluator_model.specs.Members.{decision_in_session}
-use Rattle.cedar_evaluator_model.specs.Scope.{Scope, Agrees, Entry, uid, unknown_uid, Context, closed, residual_fields, unknown_context, Left, value_left, residual, stopped}
+use Rattle.cedar_evaluator_model.specs.Scope.{Scope, Entry, uid, unknown_uid, Context, closed, residual_fields, unknown_context, Left, value_left, residual, stopped}
 use Rattle.cedar_evaluator_model.specs.Standing.{StandsFor}
-use Rattle.cedar_evaluator_model.specs.Whole.{HoldsValues, LeavesNothing}
-use Rattle.cedar_evaluator_model.specs.WellMade.{IsWellMade, IsMadeWell, IsFoundMadeWell, IsContextMadeWell, AllMadeWell}
-use Rattle.cedar_evaluator_model.proofs.Completable.{some_entity, name_means, named, uid_is_named, free_is_kept, by_name, named_whole, FoundFits, found_means}
+use Rattle.cedar_evaluator_model.specs.Whole.{LeavesNothing}
+use Rattle.cedar_evaluator_model.specs.WellMade.{IsMadeWell, IsFoundMadeWell, IsContextMadeWell, AllMadeWell}
+use Rattle.cedar_evaluator_model.proofs.Completable.{some_entity, name_means, named, uid_is_named, free_is_kept, by_name, named_whole, found_means}
 use Rattle.cedar_evaluator_model.proofs.Settled.{same_meant}
 use Rattle.cedar_evaluator_model.proofs.Residuals.Completing.{completes_at}
 use Rattle.cedar_evaluator_model.proofs.Residuals.Decisions as decisions
 use Rattle.cedar_evaluator_model.proofs.Residuals.Node as stood
 use Rattle.cedar_evaluator_model.proofs.Residuals.Slots.{substituted_outcome, substituted_fits, value_with_slots}
-use Rattle.cedar_gate_model.specs.Whole.Moment.{EntryCompleted, ContextCompleted, context_known, told}
+use Rattle.cedar_gate_model.specs.Whole.Moment.{EntryCompleted, ContextCompleted, context_known}
 use Rattle.cedar_gate_model.specs.Whole.ReadingValue.{with_functions}
-use Rattle.cedar_gate_model.specs.Whole.Session.{Setup, State, value_of, uid_in, context_left, entry_now, context_now, scope_now, whole_store, known_now, variable_names, context_unknowns, OpenRefusal, OpenFault, quote_in_name, name_of_variable, entry_named, is_open_entry, is_open_context, ContextFails, context_fails, MeansBound, CompletesNow}
+use Rattle.cedar_gate_model.specs.Whole.Session.{Setup, State, value_of, uid_in, context_left, entry_now, context_now, scope_now, whole_store, variable_names, context_unknowns, OpenRefusal, OpenFault, quote_in_name, name_of_variable, entry_named, is_open_entry, is_open_context, ContextFails, context_fails, MeansBound, CompletesNow}
 use Rattle.cedar_gate_model.specs.Whole.Runs.{MayDecide}
 use Rattle.cedar_gate_model.specs.Whole.RunsAsk.{IsMadeContext}
 use Rattle.cedar_gate_model.specs.Whole.RunsAnswer.{Course, session_of, IsProper, MakeFairly, AreBound, IsOpened, IsKnownStore}
@@ -133,8 +133,10 @@ module _ (x : Setup) (opened : (f : OpenRefusal) → OpenFault x.start f → ⊥
     where
       there_too : Contains (context_unknowns x.start.context) u
       there_too = subst (λ c. Contains (context_unknowns c) u) (sym e) k
+
       quoted : has_quote u.name ≡ true → Contains u.name 34
       quoted h = let r = any_from (λ b. b == 34) u.name h in subst (Contains u.name) ((Decides-eqb r.0 34).0 r.2) r.1
+
       by_test : (a b : Bool) → has_quote u.name ≡ a → names_variable u.name ≡ b → is_free_name u.name ≡ true
       by_test true b p q = absurd (opened quote_in_name (u, there_too, quoted p))
       by_test false true p q = absurd (opened name_of_variable (u, there_too, (found-Decides bytes_eq bytes_eq-Decides u.name variable_names).0 q))
@@ -218,6 +220,7 @@ module _ (x : Setup) (opened : (f : OpenRefusal) → OpenFault x.start f → ⊥
         by_uid : (r : Option Uid) → (IsSome r → o ≡ r) → EntryMeans (named w) n (option_map_or uid r (unknown_uid k)) o
         by_uid None h = (c.0, c.1, c.2, name ∙ ap some_entity c.1)
         by_uid (Some u) h = h refl
+
         by_value : (q : Option Made) → value_of s n ≡ q → EntryMeans (named w) n (option_map_or uid (uid_in q) (unknown_uid k)) o
         by_value None e = by_uid None (λ i. cc)
         by_value (Some m) e = by_uid (uid_of (bare m)) (λ i. means m (means_bound n m e))
@@ -398,8 +401,7 @@ module _ (c : Course) (proper : IsProper c) (makes_fairly : MakeFairly c.functio
         let stand : StandsFor apart put (residual r) = subst (StandsFor apart put) e (stood.residuals_stand (with_functions x.functions) makes_fairly.agrees well_apart 512 put apart completes_apart put_fits) in
         let open_one : Clean put (residual r) = subst (Clean put) e (evaluated_clean x.functions 512 put (substituted_restricted env fields clear)) in
         let here : Means apart r (val v) = stand (val v) put_apart in
-        let back = sym (no_store (record (named w) { slots = λ z. None }) (λ u. missing) r open_one.1) ∙ means_outcome apart r (val v) here in
-        (
+        let back = sym (no_store (record (named w) { slots = λ z. None }) (λ u. missing) r open_one.1) ∙ means_outcome apart r (val v) here in (
           value_with_slots (named w) r v (outcome_means (record (named w) { slots = λ z. None }) r (val v) back),
           stood.residuals_fit (with_functions x.functions) makes_fairly.agrees well_apart 512 put r e apart completes_apart put_fits,
         )
