@@ -2,7 +2,7 @@
 
 ghost use Rattle.cedar_gate_model.specs.Whole.RunsAsk.{RunsAskOnce, RunsAskInTheSlice, RunsAskTheSlice, RunsHaveFewRounds};
 ghost use Rattle.cedar_gate_model.specs.Whole.RunsAlike.{EndsAreTheCourses, StepsMayMove, LevelsAnswerAlike, OutsideSaysNothing, PoliciesMayMove, MovedPoliciesAnswerAlike, PrunedAnswersAlike, WarnedAreNoReasons, DeclarationsMayMove, FragmentsMaySplit, MovedDeclarationsAnswerAlike};
-ghost use Rattle.cedar_gate_model.specs.Whole.RunsAnswer.{AnsweredRunsAreCompleted, GivenDecisionsAreTheAnswers, AnswersAreTheWholeStores, AnswersNeedTheLoadedAlone, ErrorsAreExpected, ReadyDecisionsAreOwed, ForcedDecisionsAreGiven, EvaluatedDecisionsHold, DecidingSessionsAreOpened, SessionsAreCompleted, ProperRunsAreLegal, IsProper, IsRun, BundlesAreProper, session_of, end_world, with_unknowns};
+ghost use Rattle.cedar_gate_model.specs.Whole.RunsAnswer.{AnsweredRunsAreCompleted, GivenDecisionsAreTheAnswers, AnswersAreTheWholeStores, AnswersNeedTheLoadedAlone, ErrorsAreExpected, ReadyDecisionsAreOwed, ForcedDecisionsAreGiven, EvaluatedDecisionsHold, DecidingSessionsAreOpened, SessionsAreCompleted, SessionsHaveCompletions, ProperRunsAreLegal, IsProper, IsRun, BundlesAreProper, session_of, end_world, with_unknowns};
 ghost use Rattle.cedar_gate_model.specs.Whole.RunLaws.{RunsAreLegal, AnsweredRunsAskTheSlice};
 ghost use Rattle.cedar_gate_model.specs.Whole.SliceSoundness.{LargerLevelsAccept};
 ghost use Rattle.std.specs.Prelude.{◌≡◌, [], ◌∷◌, codes};
@@ -24,12 +24,14 @@ pub fn runs_ask_the_slice()
 
 /// What a run does, a refused one too, is legal against each world that completes what was bound and answered by its end; what was
 /// bound and answered by the end of an answered run, over the whole store, is such a world. For each such world there is one that completes
-/// what evaluating the policies knows then, with the same answer. Where the context has no field with an
+/// what evaluating the policies knows then, with the same answer; and what it knows has a completion in each state of an opened session,
+/// whatever conforms, where the context can be a record. Where the context has no field with an
 /// unknown in it, runs are legal whatever the gate accepted, and one that answered asked for the slice.
 pub fn runs_are_legal()
     ensures legal { ProperRunsAreLegal }
     ensures completed { AnsweredRunsAreCompleted }
     ensures sessions { SessionsAreCompleted }
+    ensures exist { SessionsHaveCompletions }
     ensures closed_contexts { RunsAreLegal }
     ensures asked { AnsweredRunsAskTheSlice }
 {}

@@ -1,6 +1,6 @@
 -- What the laws say of what runs decide and answer.
 -- Rule: runs; completions; the answer (docs/RULES.md).
-use Rattle.std.specs.Prelude.{◌≡◌, map, ◌||◌, ◌++◌, [], ◌∷◌, List, Contains, true, false, Option, Some, None, IsSome, unwrap_or, if◌then◌else◌}
+use Rattle.std.specs.Prelude.{◌≡◌, map, ◌||◌, ◌++◌, [], ◌∷◌, List, Contains, true, false, Option, Some, None, IsSome, unwrap_or, if◌then◌else◌, option_map}
 use Rattle.std.specs.List.{list_any}
 use Rattle.std.specs.Map.{lookup}
 use Rattle.serde_json.specs.Data.{Data}
@@ -10,24 +10,27 @@ use Rattle.cedar_expr_model.specs.Whole.Made.{Made, bare}
 use Rattle.cedar_expr_model.specs.Whole.Table.{IsFair, IsTaken, all_typed}
 use Rattle.cedar_expr_model.specs.Whole.Value.{V, truth_value}
 use Rattle.cedar_store_model.specs.Whole.World.{World, Entity, Found, missing}
-use Rattle.cedar_store_model.specs.Whole.Knowledge.{holds_values}
+use Rattle.cedar_store_model.specs.Whole.Knowledge.{Keeps, holds_values}
 use Rattle.cedar_store_model.specs.Whole.Answer.{Decision, Answer, PolicyError, answer_of}
 use Rattle.cedar_schema_model.specs.Whole.Schema.{declares_action}
 use Rattle.cedar_schema_model.specs.Whole.Conforming.{RequestConforms}
 use Rattle.cedar_typechecker_model.specs.Whole.Soundness.{IsExpected}
-use Rattle.cedar_evaluator_model.specs.Scope.{makes, Agrees}
+use Rattle.cedar_evaluator_model.specs.Scope.{makes, Agrees, residual_fields}
 use Rattle.cedar_evaluator_model.specs.Known.{known_found}
 use Rattle.cedar_evaluator_model.specs.Members.{decision_in_session}
 use Rattle.cedar_evaluator_model.specs.Response.{PartialRequest, response_of}
 use Rattle.cedar_evaluator_model.specs.WellMade.{IsWellMade, IsFoundMadeWell, IsContextMadeWell}
 use Rattle.cedar_evaluator_model.specs.Completion as evaluator
+use Rattle.cedar_evaluator_model.specs.Completion.{PartIs}
+use Rattle.cedar_evaluator_model.specs.Completable.{is_free_name}
+use Rattle.cedar_expr_model.specs.Whole.Tree.{TreeFields, record_literal}
 use Rattle.cedar_gate_model.specs.Whole.Acceptance.{Submission, IsAccepted, schema_in}
 use Rattle.cedar_gate_model.specs.Whole.Bundle.{Functions, Bundle}
 use Rattle.cedar_gate_model.specs.Whole.Moment.{request_of, at_first}
 use Rattle.cedar_gate_model.specs.Whole.ReadingBundle.{bundle_read}
 use Rattle.cedar_gate_model.specs.Whole.ReadingValue.{with_functions}
 use Rattle.cedar_gate_model.specs.Whole.Transcript.{Step, Entry, decided, AreLegal}
-use Rattle.cedar_gate_model.specs.Whole.Session.{Setup, State, scope_now, known_now, whole_store, world_now, NothingIsWanted, OpenRefusal, OpenFault, BindRefusal, BindFault, HasOpenName, CompletesNow}
+use Rattle.cedar_gate_model.specs.Whole.Session.{Setup, State, value_of, context_now, scope_now, known_now, whole_store, world_now, NothingIsWanted, OpenRefusal, OpenFault, BindRefusal, BindFault, HasOpenName, CompletesNow}
 use Rattle.cedar_gate_model.specs.Whole.Runs.{End, answered, MayDecide, Runs}
 use Rattle.cedar_gate_model.specs.Whole.RunLaws.{bindings_in, case_of}
 use Rattle.cedar_gate_model.specs.Whole.RunsAsk.{IsMadeContext, end_state}
@@ -149,6 +152,17 @@ pub record IsKnownStore (c : Course) (s : State) (store : Uid → Found Made) : 
   pub known : (u : Uid) → known_found (store u) ≡ (known_now (session_of c) s).store u
   pub well : (u : Uid) → IsFoundMadeWell c.functions.table (store u)
   pub context : IsContextMadeWell c.functions.table c.start.context
+
+-- Where free names mean what is given, the context as it is now is a record, if an expression is left of it.
+abbrev pub ContextIsPossible : Setup → State → (Text → V) → Type 0
+ContextIsPossible x s given = (fs : TreeFields) → context_now x.functions s x.start.context ≡ residual_fields fs
+    → (v : V) × ((w : World) → w.table ≡ x.functions.table → ((n : Text) → is_free_name n ≡ true → w.unknowns n ≡ Some (given n)) → PartIs w (record_literal fs) v)
+
+-- Then what a session's evaluation knows has a completion, whatever was bound and asked for by then.
+abbrev pub SessionsHaveCompletions : Type 0
+SessionsHaveCompletions = (c : Course) (s : State) (store : Uid → Found Made) (given : Text → V) → IsProper c → IsOpened (session_of c) s → IsKnownStore c s store
+    → ((n : Text) → is_free_name n ≡ true → Keeps (option_map bare (value_of s n)) (Some (given n))) → ContextIsPossible (session_of c) s given
+    → (w : World) × evaluator.Completes w (scope_now (session_of c) s store)
 
 -- For each world that completes the state of a session there is one that completes what its evaluation knows, with the same answer.
 abbrev pub SessionsAreCompleted : Type 0

@@ -58,7 +58,7 @@ is_true true h = refl
 is_true false h = absurd (h refl)
 
 -- the name of a variable is one
-any_name : (n : Text) → list_any (bytes_eq n) variable_names ≡ true → Contains variable_names n
+pub any_name : (n : Text) → list_any (bytes_eq n) variable_names ≡ true → Contains variable_names n
 any_name n e = (found-Decides bytes_eq bytes_eq-Decides n variable_names).0 e
 
 -- what isn't refused where its absence is refused holds
@@ -173,7 +173,7 @@ module _ (x : Setup) where
     entry_completed n (unknown_uid k) q i = value_entry n k q (value_of t n) refl i
 
     -- what a bound variable means
-    no_name_of_variable : ((f : OpenRefusal) → OpenFault x.start f → ⊥) → (n : Text) → Contains variable_names n → bytes_eq n (codes "context") ≡ false → (c : Context) → x.start.context ≡ c → is_open_context c n ≡ true → ⊥
+    pub no_name_of_variable : ((f : OpenRefusal) → OpenFault x.start f → ⊥) → (n : Text) → Contains variable_names n → bytes_eq n (codes "context") ≡ false → (c : Context) → x.start.context ≡ c → is_open_context c n ≡ true → ⊥
     no_name_of_variable opened n v f (closed fs) q e = cc
     no_name_of_variable opened n v f (residual_fields fs) q e =
         let r = any_from (λ (u : Unknown). bytes_eq n u.name) (unknowns (record_literal fs)) e in

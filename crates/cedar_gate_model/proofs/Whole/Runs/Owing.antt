@@ -86,7 +86,7 @@ module _ (k : World) (ps : List Policy) (means : (p : Policy) → Contains ps p 
 
 -- what is loaded is told
 -- what is told of what may be no uid
-abbrev told_if : Bool → Found V → Found V
+abbrev pub told_if : Bool → Found V → Found V
 told_if i f = by_found held (cond i not_loaded missing) (cond i not_loaded missing) f
 
 told_held : (i : Bool) (o : Option (Entity V)) → IsSome o → told_if i (cond i (found_as whole o) missing) ≡ cond i (found_as whole o) missing
@@ -100,7 +100,7 @@ told_loaded i true a e o t h = refl
 told_loaded i false true e o t h = told_held i o (h refl)
 told_loaded i false false e o t h = cc
 
-told_values : (i d b : Bool) (e : Entity V) (o : Option (Entity V)) → holds_values e ≡ true → ((f : Entity V) → o ≡ Some f → holds_values f ≡ true)
+pub told_values : (i d b : Bool) (e : Entity V) (o : Option (Entity V)) → holds_values e ≡ true → ((f : Entity V) → o ≡ Some f → holds_values f ≡ true)
     → HoldsValues (cond b (told_if i (cond d (held e) (cond i (found_as whole o) missing))) (cond i not_loaded missing))
 told_values true d false e o h k = tt
 told_values false d false e o h k = tt
