@@ -2,16 +2,18 @@
 
 ghost use Rattle.cedar_gate_model.specs.Whole.RunsAsk.{RunsAskOnce, RunsAskInTheSlice, RunsAskTheSlice, RunsHaveFewRounds};
 ghost use Rattle.cedar_gate_model.specs.Whole.RunsAlike.{EndsAreTheCourses, StepsMayMove, LevelsAnswerAlike, OutsideSaysNothing, PoliciesMayMove, MovedPoliciesAnswerAlike, PrunedAnswersAlike, WarnedAreNoReasons, DeclarationsMayMove, FragmentsMaySplit, MovedDeclarationsAnswerAlike};
-ghost use Rattle.cedar_gate_model.specs.Whole.RunsAnswer.{AnsweredRunsAreCompleted, GivenDecisionsAreTheAnswers, AnswersAreTheWholeStores, AnswersNeedTheLoadedAlone, ErrorsAreExpected, ReadyDecisionsAreOwed, ForcedDecisionsAreGiven, EvaluatedDecisionsHold, DecidingSessionsAreOpened, SessionsAreCompleted, SessionsHaveCompletions, ProperRunsAreLegal, IsProper, IsRun, BundlesAreProper, session_of, end_world, with_unknowns};
+ghost use Rattle.cedar_gate_model.specs.Whole.RunsAnswer.{AnsweredRunsAreCompleted, GivenDecisionsAreTheAnswers, AnswersAreTheWholeStores, AnswersNeedTheLoadedAlone, ErrorsAreExpected, ReadyDecisionsAreOwed, ForcedDecisionsAreGiven, EvaluatedDecisionsHold, DecidingSessionsAreOpened, SessionsAreCompleted, SessionsHaveCompletions, ProperRunsAreLegal, IsProper, IsRun, BundlesAreProper, session_of, end_world, with_unknowns, IsOpened, IsKnownStore};
 ghost use Rattle.cedar_gate_model.specs.Whole.RunLaws.{RunsAreLegal, AnsweredRunsAskTheSlice};
 ghost use Rattle.cedar_gate_model.specs.Whole.SliceSoundness.{LargerLevelsAccept};
-ghost use Rattle.std.specs.Prelude.{◌≡◌, [], ◌∷◌, codes};
+ghost use Rattle.std.specs.Prelude.{◌≡◌, [], ◌∷◌, None, codes};
+ghost use Rattle.cedar_evaluator_model.specs.Members.{decision_in_session};
+ghost use Rattle.cedar_evaluator_model.specs.Response.{response_of};
 ghost use Rattle.cedar_store_model.specs.Whole.World.{not_loaded};
-ghost use Rattle.cedar_gate_model.specs.Whole.Session.{at_start, known_now, IsWantedNow, CompletesNow};
+ghost use Rattle.cedar_gate_model.specs.Whole.Session.{at_start, scope_now, known_now, IsWantedNow, CompletesNow};
 ghost use Rattle.cedar_typechecker_model.specs.Whole.Worked.{user_a, doc_d};
 ghost use Rattle.cedar_gate_model.specs.Whole.Runs.{answered};
 ghost use Rattle.cedar_gate_model.specs.Whole.Transcript.{round, bound};
-ghost use Rattle.cedar_gate_model.specs.Whole.WorkedGate.{user_b, p0_allows, loaded_course, late_course, p0_denies};
+ghost use Rattle.cedar_gate_model.specs.Whole.WorkedGate.{user_b, p0, p0_allows, loaded_course, actions_alone, late_course, p0_denies};
 
 /// A run asks for no uid twice, and only for what is in the slice of what was bound by its end, over the whole store: an answered run for
 /// exactly that, though a late binding may bring uids nearer. At most as many rounds as the level follow the last binding.
@@ -85,13 +87,16 @@ pub fn pruned_answers_are_alike()
 
 /// The premises of these laws are met by each bundle that is read and accepted, where the functions are fair. They are met here: a
 /// policy at level 2 over a store of three entities and one that doesn't conform, in two rounds. The world at its end completes its start,
-/// where something is wanted that isn't asked for yet.
+/// where something is wanted that isn't asked for yet; evaluating the policy over what is known there decides nothing.
 /// The same where the principal is bound late: the owner of the document was met at distance 1; once the owner is the principal its
 /// boss is near, and is asked for in one round more.
 pub fn worked_courses()
     ensures bundles { BundlesAreProper }
     ensures proper { IsProper loaded_course }
     ensures run { IsRun loaded_course (round (doc_d ∷ user_a ∷ []) ∷ round (user_b ∷ []) ∷ []) (answered p0_allows) }
+    ensures opened { IsOpened (session_of loaded_course) at_start }
+    ensures known { IsKnownStore loaded_course at_start actions_alone }
+    ensures undecided { decision_in_session (response_of (scope_now (session_of loaded_course) at_start actions_alone) 16 (p0 ∷ [])) ≡ None }
     ensures wanted { IsWantedNow (session_of loaded_course) at_start user_a }
     ensures not_asked { (known_now (session_of loaded_course) at_start).store user_a ≡ not_loaded }
     ensures completed { CompletesNow (session_of loaded_course) at_start (with_unknowns (end_world loaded_course (round (doc_d ∷ user_a ∷ []) ∷ round (user_b ∷ []) ∷ []))) }
