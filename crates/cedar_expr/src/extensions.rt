@@ -2,21 +2,8 @@
 
 ghost use Rattle.std.specs.Prelude.{◌≡◌};
 
-use cedar_expr_names::{EntityType, Name};
-
-/// The core type of a value.
-#[derive(Drop)]
-pub enum Type {
-    /// Truth values.
-    Bool,
-    /// Whole numbers.
-    Long,
-    /// Entities of one type.
-    Entity {
-        /// The type of the entities.
-        ty: EntityType,
-    },
-}
+use cedar_expr_names::Name;
+use cedar_expr_values::Type;
 
 /// A function of the table. It has a result type, or none where that is open.
 #[derive(Drop)]

@@ -3,3 +3,4 @@ mod Reserving
 mod Splitting
 mod PartByPart
 mod Writing
+pub mod Literals

@@ -3,3 +3,4 @@ pub mod Parts
 pub mod Views
 pub mod Namespaces
 pub mod Refusals
+pub mod Literals

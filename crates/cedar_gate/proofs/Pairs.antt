@@ -6,8 +6,8 @@ use Rattle.cedar_store_model.specs.World.{World}
 use Rattle.cedar_store_model.specs.Meaning.{outcome_of}
 use Rattle.cedar_store_model.specs.Policy as model
 use Rattle.cedar_store_model.specs.Answer.{is_true, ids, error_of, errors_of, satisfied_permits, satisfied_forbids, decided, determining, decision_of, allow, deny}
-use Rattle.cedar_expr.specs.declared.expr.Expr.{Expr}
-use Rattle.cedar_expr.specs.Trees.{tree_of}
+use Rattle.cedar_expr_trees.specs.declared.expr.Expr.{Expr}
+use Rattle.cedar_gate_types.specs.Trees.{small_tree_of}
 use Rattle.cedar_gate_types.specs.declared.policy.Policy.{Policy}
 use Rattle.cedar_gate_types.specs.declared.policy.Effect.{Effect}
 use Rattle.cedar_gate_types.specs.declared.policy.Effect.TheVariants.{Permit, Forbid}
@@ -27,7 +27,7 @@ pub any_pair : (effect : Effect) (w : World) (ps : List Policy) (cs : List (Expr
 any_pair effect w [] cs e = refl
 any_pair effect w (p ∷ ps) [] e = cc
 any_pair effect w (p ∷ ps) (c ∷ cs) e =
-    let first : tree_of c ≡ model.condition (policy_of p) = head_is _ _ _ _ e in
+    let first : small_tree_of c ≡ model.condition (policy_of p) = head_is _ _ _ _ e in
     let next : list_any (pair_acts effect w) (zip ps cs) ≡ list_any (acts effect w) (policies_of ps) = any_pair effect w ps cs (tail_is _ _ _ _ e) in
     rw (first, next) refl
 
@@ -45,7 +45,7 @@ pub ids_of_pairs : (effect : Effect) (w : World) (ps : List Policy) (cs : List (
 ids_of_pairs effect w [] cs e = refl
 ids_of_pairs effect w (p ∷ ps) [] e = cc
 ids_of_pairs effect w (p ∷ ps) (c ∷ cs) e =
-    let first : tree_of c ≡ model.condition (policy_of p) = head_is _ _ _ _ e in
+    let first : small_tree_of c ≡ model.condition (policy_of p) = head_is _ _ _ _ e in
     let here : pair_acts effect w (p, c) ≡ acts effect w (policy_of p) = ap (λ t. has_effect effect (policy_of p).effect && is_true (outcome_of w t)) first in
     ids_step _ _ (p, c) (policy_of p) (filter (pair_acts effect w) (zip ps cs)) (filter (acts effect w) (policies_of ps)) here refl (ids_of_pairs effect w ps cs (tail_is _ _ _ _ e))
 
@@ -55,9 +55,9 @@ pub errors_of_pairs : (w : World) (ps : List Policy) (cs : List (Expr (Unit {0})
 errors_of_pairs w [] cs e = refl
 errors_of_pairs w (p ∷ ps) [] e = cc
 errors_of_pairs w (p ∷ ps) (c ∷ cs) e =
-    let first : tree_of c ≡ model.condition (policy_of p) = head_is _ _ _ _ e in
+    let first : small_tree_of c ≡ model.condition (policy_of p) = head_is _ _ _ _ e in
     let next : pair_errors w (zip ps cs) ≡ errors_of w (policies_of ps) = errors_of_pairs w ps cs (tail_is _ _ _ _ e) in
-    let here : error_of (policy_of p).id (outcome_of w (tree_of c)) ≡ error_of (policy_of p).id (outcome_of w (model.condition (policy_of p))) = ap (λ t. error_of (policy_of p).id (outcome_of w t)) first in
+    let here : error_of (policy_of p).id (outcome_of w (small_tree_of c)) ≡ error_of (policy_of p).id (outcome_of w (model.condition (policy_of p))) = ap (λ t. error_of (policy_of p).id (outcome_of w t)) first in
     cc
 
 -- nothing is left where one of the two lists is empty

@@ -6,8 +6,8 @@ use Rattle.cedar_store_model.specs.World.{World}
 use Rattle.cedar_store_model.specs.Meaning.{outcome_of}
 use Rattle.cedar_store_model.specs.Policy as model
 use Rattle.cedar_store_model.specs.Answer.{permits, satisfied, is_true, PolicyError, error_of}
-use Rattle.cedar_expr.specs.declared.expr.Expr.{Expr}
-use Rattle.cedar_expr.specs.Trees.{tree_of}
+use Rattle.cedar_expr_trees.specs.declared.expr.Expr.{Expr}
+use Rattle.cedar_gate_types.specs.Trees.{small_tree_of}
 use Rattle.cedar_gate_types.specs.declared.policy.Policy.{Policy}
 use Rattle.cedar_gate_types.specs.declared.policy.Effect.{Effect}
 use Rattle.cedar_gate_types.specs.declared.policy.Effect.TheVariants.{Permit, Forbid}
@@ -24,7 +24,7 @@ acts effect w p = has_effect effect p.effect && satisfied w p
 
 -- The expressions are the conditions of the policies.
 abbrev pub AreConditions : List (Expr (Unit {0})) → List Policy → Type 0
-AreConditions cs ps = map tree_of cs ≡ map model.condition (policies_of ps)
+AreConditions cs ps = map small_tree_of cs ≡ map model.condition (policies_of ps)
 
 -- a policy beside its condition
 abbrev pub Pair : Type 0
@@ -32,7 +32,7 @@ Pair = Policy × Expr (Unit {0})
 
 -- whether a policy has this effect and its condition is true
 abbrev pub pair_acts : Effect → World → Pair → Bool
-pair_acts effect w p = has_effect effect (policy_of p.0).effect && is_true (outcome_of w (tree_of p.1))
+pair_acts effect w p = has_effect effect (policy_of p.0).effect && is_true (outcome_of w (small_tree_of p.1))
 
 -- the ids of the policies of this effect whose condition is true
 abbrev pub acting_ids : Effect → World → List Pair → List Text
@@ -40,4 +40,4 @@ acting_ids effect w ps = map (λ p. (policy_of p.0).id) (filter (pair_acts effec
 
 -- the errors of the policies whose condition errs
 abbrev pub pair_errors : World → List Pair → List PolicyError
-pair_errors w ps = flat_map (λ p. error_of (policy_of p.0).id (outcome_of w (tree_of p.1))) ps
+pair_errors w ps = flat_map (λ p. error_of (policy_of p.0).id (outcome_of w (small_tree_of p.1))) ps

@@ -2,7 +2,7 @@
 
 ghost use Rattle.std.specs.Prelude.{◌≡◌, IfOk, map, filter};
 ghost use Rattle.std.specs.List.{list_any, zip};
-ghost use Rattle.cedar_expr.specs.Trees.{tree_of};
+ghost use Rattle.cedar_gate_types.specs.Trees.{small_tree_of};
 ghost use Rattle.cedar_store_model.specs.Meaning.{outcome_of};
 ghost use Rattle.cedar_store_model.specs.Answer as answer;
 ghost use Rattle.cedar_gate_types.specs.Requests.{request_of};
@@ -36,7 +36,7 @@ fn acts_by(policy: &Policy, effect: Effect) -> bool
 
 // Whether the condition is true for the request.
 fn is_satisfied(request: &Request, condition: &Expr) -> bool
-    ensures { result ≡ answer.is_true (outcome_of (at_request (request_of request.now)) (tree_of condition.now)) }
+    ensures { result ≡ answer.is_true (outcome_of (at_request (request_of request.now)) (small_tree_of condition.now)) }
 {
     match interpret(request, condition) {
         Ok(Value::Bool(b)) => b,

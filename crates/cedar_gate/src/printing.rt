@@ -1,6 +1,7 @@
 //! What is printed for an input: a text and a status.
 
 ghost use Rattle.std.specs.Prelude.{◌≡◌, ◌++◌, ◌≢◌, true, Some, IfOk, IfSome, string_bytes};
+ghost use Rattle.std.specs.List.{list_all};
 ghost use Rattle.cedar_expr.specs.Table.{all_typed};
 ghost use Rattle.cedar_gate_model.specs.Acceptance.{IsAccepted};
 ghost use Rattle.cedar_gate_model.specs.Lines as lines;
@@ -9,6 +10,7 @@ ghost use Rattle.cedar_gate_model.specs.ReadingBundle.{input_read};
 ghost use Rattle.cedar_gate_types.specs.Requests.{request_of, entity_uids, steps_of};
 ghost use Rattle.cedar_gate_types.specs.Responses.{response_of};
 ghost use Rattle.cedar_gate_types.specs.Schemas.{is_first_path};
+ghost use Rattle.cedar_gate_types.specs.Language.{is_first_path_policy};
 ghost use Rattle.cedar_gate_accept.specs.Accepted.{submission_of};
 ghost use Rattle.cedar_gate_accept.specs.Faults.{gate_fault_number};
 ghost use Rattle.cedar_gate_accept.specs.declared.err.GateFault.TheVariants.{OutOfMemory};
@@ -75,6 +77,7 @@ fn print_unreadable(alloc: Global) -> Result<Printed, AllocError>
 fn print_bundle(alloc: Global, bundle: Bundle, table: &ExtTable<'_>) -> Result<Printed, AllocError>
     requires typed { all_typed table.now ≡ true }
     requires plain { is_first_path bundle.fragments.items ≡ true }
+    requires policies { list_all is_first_path_policy bundle.policies.items ≡ true }
     requires level { bundle.level ≡ 0 }
     ensures { IfOk result (λ p. Prints (Some (bundle_of bundle)) (status_of p.status) (string_bytes p.text)) }
 {

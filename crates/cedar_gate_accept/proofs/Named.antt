@@ -3,8 +3,8 @@ use Rattle.std.proofs.Common.{◌≡◌, refl, ap, sym, ◌∙◌, Bool, true}
 use Rattle.std.specs.Prelude.{◌&&◌, Option, Some, None, List, map}
 use Rattle.std.specs.List.{list_all}
 use Rattle.std.proofs.lemmas.List.Folds.{list_all-map}
-use Rattle.cedar_expr.specs.declared.expr.Expr.{Expr}
-use Rattle.cedar_expr.specs.Trees.{tree_of}
+use Rattle.cedar_expr_trees.specs.declared.expr.Expr.{Expr}
+use Rattle.cedar_gate_types.specs.Trees.{small_tree_of}
 use Rattle.cedar_gate_schema.proofs.Lists.{list_all-same}
 use Rattle.cedar_expr_model.specs.Uid.{Uid}
 use Rattle.cedar_expr_model.specs.Value.{truth, long, entity}
@@ -47,6 +47,6 @@ condition_named test p =
     ∙ ap (λ b. b && each_uid test p.body) (scope_named test resource p.resource)))
 
 -- a test of each condition is one of each policy
-pub conditions_tested : (test : Tree → Bool) (on_policy : Policy → Bool) → ((p : Policy) → test (condition p) ≡ on_policy p) → (es : List (Expr (Unit {0}))) (ps : List Policy) → map tree_of es ≡ map condition ps → list_all (λ e. test (tree_of e)) es ≡ list_all on_policy ps
+pub conditions_tested : (test : Tree → Bool) (on_policy : Policy → Bool) → ((p : Policy) → test (condition p) ≡ on_policy p) → (es : List (Expr (Unit {0}))) (ps : List Policy) → map small_tree_of es ≡ map condition ps → list_all (λ e. test (small_tree_of e)) es ≡ list_all on_policy ps
 conditions_tested test on_policy h es ps kept =
-    sym (list_all-map test tree_of es) ∙ ap (list_all test) kept ∙ list_all-map test condition ps ∙ list_all-same (λ p. test (condition p)) on_policy h ps
+    sym (list_all-map test small_tree_of es) ∙ ap (list_all test) kept ∙ list_all-map test condition ps ∙ list_all-same (λ p. test (condition p)) on_policy h ps

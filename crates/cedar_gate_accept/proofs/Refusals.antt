@@ -11,7 +11,11 @@ use Rattle.cedar_gate_model.specs.Whole.Acceptance as whole
 use Rattle.cedar_gate_model.proofs.Acceptance.{admitted_accepted}
 use Rattle.cedar_gate_model.specs.Whole.FirstPath.{whole_submission, whole_cause}
 use Rattle.cedar_gate_model.proofs.Whole.FirstPath.Accepting.{acceptance_is_the_same, faults_are_there, numbers_are_the_same, accepted_is_first, warnings_are_the_same}
+use Rattle.std.proofs.lemmas.Bool.{eqb-true}
+use Rattle.std.specs.List.{list_all}
 use Rattle.cedar_gate_types.specs.Schemas.{is_first_path, declarations_of}
+use Rattle.cedar_gate_types.specs.Language.{is_first_path_policy, lies_in_language}
+use Rattle.cedar_gate_types.specs.declared.policy.Policy.{Policy}
 use Rattle.cedar_gate_types.specs.declared.json_schema.Fragment.{Fragment}
 use Rattle.cedar_gate_schema.proofs.PlainDeclarations.{declares_plain}
 use Rattle.cedar_gate_schema.specs.declared.err.SchemaError.TheVariants as error
@@ -47,9 +51,17 @@ refuses_whole f s plain there = λ x other.
 pub accepts_whole : (s : Submission) → is_plain s.declarations ≡ true → IsAccepted s → IsAcceptedWhole s
 accepts_whole s plain accepted = λ x. (acceptance_is_the_same x s plain).1 accepted
 
--- what lies in today's language declares plain things alone
-pub language_plain : (fs : List Fragment) (level : ℕ) → (is_first_path fs && nat_eq level 0) ≡ true → is_plain (declarations_of fs) ≡ true
-language_plain fs level h = declares_plain fs (both_hold (is_first_path fs) (nat_eq level 0) h).0
+-- what lies in today's language declares plain things alone, has level 0, and policies of the first path
+pub language_plain : (fs : List Fragment) (ps : List Policy) (level : ℕ) → lies_in_language fs ps level ≡ true → is_plain (declarations_of fs) ≡ true
+language_plain fs ps level h = declares_plain fs (both_hold (is_first_path fs) (nat_eq level 0 && list_all is_first_path_policy ps) h).0
+
+pub language_zero : (fs : List Fragment) (ps : List Policy) (level : ℕ) → lies_in_language fs ps level ≡ true → level ≡ 0
+language_zero fs ps level h =
+    eqb-true level 0 (both_hold (nat_eq level 0) (list_all is_first_path_policy ps) (both_hold (is_first_path fs) (nat_eq level 0 && list_all is_first_path_policy ps) h).1).0
+
+pub language_policies : (fs : List Fragment) (ps : List Policy) (level : ℕ) → lies_in_language fs ps level ≡ true → list_all is_first_path_policy ps ≡ true
+language_policies fs ps level h =
+    (both_hold (nat_eq level 0) (list_all is_first_path_policy ps) (both_hold (is_first_path fs) (nat_eq level 0 && list_all is_first_path_policy ps) h).1).1
 
 -- the warnings are the same
 pub warned_whole : (s : Submission) → is_plain s.declarations ≡ true → admits s ≡ true → (x : Table) → warnings_of s ≡ whole.warnings_of (whole_submission x s)

@@ -2,7 +2,7 @@
 
 ghost use Rattle.std.specs.Prelude.{◌≡◌, map};
 ghost use Rattle.cedar_expr_model.specs.Sets.{trees_set};
-ghost use Rattle.cedar_expr.specs.Trees.{tree_of};
+ghost use Rattle.cedar_gate_types.specs.Trees.{small_tree_of};
 ghost use Rattle.cedar_store_model.specs.Policy.{condition};
 ghost use Rattle.cedar_gate_types.specs.Policies.{policies_of};
 
@@ -23,12 +23,12 @@ pub(crate) struct Candidate<'a> {
     conditions: &'a [Expr],
     level: u32,
     limit: NestLimit,
-    ghost kept: { map tree_of conditions.now ≡ map condition (policies_of policies.now) } by { trees_set (map tree_of conditions.now) (map condition (policies_of policies.now)) },
+    ghost kept: { map small_tree_of conditions.now ≡ map condition (policies_of policies.now) } by { trees_set (map small_tree_of conditions.now) (map condition (policies_of policies.now)) },
 }
 
 impl<'a> Candidate<'a> {
     ghost use Rattle.std.specs.Prelude.{◌≡◌, IfOk, IfErr, OnOk, true, map};
-    ghost use Rattle.cedar_expr.specs.Trees.{tree_of};
+    ghost use Rattle.cedar_gate_types.specs.Trees.{small_tree_of};
     ghost use Rattle.cedar_store_model.specs.Policy.{condition};
     ghost use Rattle.cedar_gate_model.specs.Acceptance as acceptance;
     ghost use Rattle.cedar_schema_model.specs.Declarations.{well_formed};
@@ -46,7 +46,7 @@ impl<'a> Candidate<'a> {
         level: u32,
         limit: NestLimit,
     ) -> Candidate<'a>
-        requires { map tree_of conditions.now ≡ map condition (policies_of policies.now) }
+        requires { map small_tree_of conditions.now ≡ map condition (policies_of policies.now) }
         ensures { candidate_of result ≡ submission schema.entry.now policies.entry.now level limit }
     {
         Candidate {

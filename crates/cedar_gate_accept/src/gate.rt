@@ -2,10 +2,12 @@
 
 ghost use Rattle.std.specs.Prelude.{◌≡◌, true, map};
 ghost use Rattle.cedar_expr_model.specs.Sets.{trees_set, texts_set};
-ghost use Rattle.cedar_expr.specs.Trees.{tree_of};
+ghost use Rattle.cedar_gate_types.specs.Trees.{small_tree_of};
 ghost use Rattle.cedar_store_model.specs.Policy.{condition};
 ghost use Rattle.cedar_schema_model.specs.Whole.FirstPath.{is_plain};
 ghost use Rattle.cedar_gate_model.specs.Acceptance.{admits, warnings_of};
+ghost use Rattle.std.specs.List.{list_all};
+ghost use Rattle.cedar_gate_types.specs.Language.{is_first_path_policy};
 ghost use Rattle.cedar_gate_types.specs.Policies.{policies_of, id_text};
 ghost use Rattle.cedar_gate_schema.specs.Schema.{schema_of};
 ghost use Rattle.cedar_gate_accept.specs.Gates.{submission};
@@ -32,19 +34,21 @@ pub struct Gate<'a> {
     pub ghost accepted: { admits (submission schema policies.items level limit) ≡ true },
     pub ghost at_zero: { level ≡ 0 },
     pub ghost plain: { is_plain (schema_of schema) ≡ true },
-    ghost kept: { map tree_of conditions.items ≡ map condition (policies_of policies.items) } by { trees_set (map tree_of conditions.items) (map condition (policies_of policies.items)) },
+    pub ghost first_path: { list_all is_first_path_policy policies.items ≡ true },
+    ghost kept: { map small_tree_of conditions.items ≡ map condition (policies_of policies.items) } by { trees_set (map small_tree_of conditions.items) (map condition (policies_of policies.items)) },
     ghost warned: { map id_text warnings.items ≡ warnings_of (submission schema policies.items level limit) } by { texts_set (map id_text warnings.items) (warnings_of (submission schema policies.items level limit)) },
 }
 
 impl<'a> Gate<'a> {
-    ghost use Rattle.std.specs.Prelude.{◌≡◌, ◌&&◌, ◌==◌, IfOk, IfErr, true, map};
-    ghost use Rattle.cedar_expr.specs.Trees.{tree_of};
+    ghost use Rattle.std.specs.Prelude.{◌≡◌, IfOk, IfErr, true, map};
+    ghost use Rattle.cedar_gate_types.specs.Trees.{small_tree_of};
     ghost use Rattle.cedar_expr.specs.Table.{all_typed};
     ghost use Rattle.cedar_store_model.specs.Policy.{condition};
+    ghost use Rattle.cedar_store_model.specs.Whole.FirstPath.{whole_policies};
     ghost use Rattle.cedar_gate_model.specs.Acceptance.{IsAccepted, warnings_of};
     ghost use Rattle.cedar_gate_types.specs.Limit.{levels_of};
-    ghost use Rattle.cedar_gate_types.specs.Policies.{policies_of, id_text};
-    ghost use Rattle.cedar_gate_types.specs.Schemas.{is_first_path};
+    ghost use Rattle.cedar_gate_types.specs.Policies.{policies_of, whole_policies_of, id_text};
+    ghost use Rattle.cedar_gate_types.specs.Language.{lies_in_language};
     ghost use Rattle.cedar_gate_schema.specs.Schema.{schema_of};
     ghost use Rattle.cedar_gate_accept.specs.Faults.{GateFaultIsThere};
     ghost use Rattle.cedar_gate_accept.specs.Gates.{submitted};
@@ -53,6 +57,7 @@ impl<'a> Gate<'a> {
     ghost use Rattle.cedar_expr_model.specs.Whole.Table.{Table};
     ghost use Rattle.cedar_gate_model.specs.Whole.Acceptance as whole;
     ghost use Rattle.cedar_gate_model.specs.Whole.FirstPath.{whole_submission};
+    ghost use Rattle.cedar_gate_model.specs.Whole.FirstPathReading.{all_with_bodies};
 
     /// Accepts declarations and policies where the acceptance rules hold, and else names a fault that is there: by the rules of
     /// today's language, and so by those of the whole one, with any table. Which of several faults is left open. Answers want of
@@ -67,7 +72,7 @@ impl<'a> Gate<'a> {
         limit: NestLimit,
     ) -> Result<Gate<'a>, GateFault>
         requires typed { all_typed table.now ≡ true }
-        requires in_language { (is_first_path fragments.now && (level == 0)) ≡ true }
+        requires in_language { lies_in_language fragments.now policies.items level ≡ true }
         ensures accepted { IfOk result (λ g. IsAccepted (submission_of g)) }
         ensures accepted_whole { IfOk result (λ g. IsAcceptedWhole (submission_of g)) }
         ensures kept { IfOk result (λ g. submission_of g ≡ submitted fragments.now policies.items level limit) }
@@ -89,7 +94,7 @@ impl<'a> Gate<'a> {
         level: u32,
         limit: NestLimit,
     ) -> Result<Gate<'a>, GateFault>
-        requires { (is_first_path fragments.now && (level == 0)) ≡ true }
+        requires { lies_in_language fragments.now policies.items level ≡ true }
         ensures accepted { IfOk result (λ g. IsAccepted (submission_of g)) }
         ensures kept { IfOk result (λ g. submission_of g ≡ submitted fragments.now policies.items level limit) }
         ensures refused { IfErr result (λ f. GateFaultIsThere f (submitted fragments.now policies.items level limit)) }
@@ -153,16 +158,17 @@ impl<'a> Gate<'a> {
         self.table
     }
 
-    /// The policies, in their order.
+    /// The policies, in their order. With their bodies written, they are in the whole language what was accepted.
     pub fn policies(&self) -> &[Policy]
-        ensures { policies_of result.now ≡ (submission_of self.now).policies }
+        ensures first_path { policies_of result.now ≡ (submission_of self.now).policies }
+        ensures whole { all_with_bodies (whole_policies_of result.now) ≡ whole_policies (submission_of self.now).policies }
     {
         self.policies.as_slice()
     }
 
     /// The policies' conditions, in the policies' order.
     pub fn conditions(&self) -> &[Expr]
-        ensures { map tree_of result.now ≡ map condition (submission_of self.now).policies }
+        ensures { map small_tree_of result.now ≡ map condition (submission_of self.now).policies }
     {
         self.conditions.as_slice()
     }

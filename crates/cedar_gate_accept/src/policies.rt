@@ -2,7 +2,7 @@
 
 ghost use Rattle.std.specs.Prelude.{◌≡◌, IfOk, map};
 ghost use Rattle.std.specs.Str.{bytes_eq};
-ghost use Rattle.cedar_expr.specs.Trees.{tree_of};
+ghost use Rattle.cedar_gate_types.specs.Trees.{small_tree_of};
 ghost use Rattle.cedar_store_model.specs.Policy.{condition};
 ghost use Rattle.cedar_store_model.specs.Answer.{ids};
 ghost use Rattle.cedar_schema_model.specs.Declarations as declared_model;
@@ -35,7 +35,7 @@ pub(crate) fn ids_are_distinct(alloc: Global, policies: &[Policy]) -> Result<boo
 
 /// The policies' conditions. Fails only for want of memory.
 pub(crate) fn conditions_of(alloc: Global, policies: &[Policy]) -> Result<Vec<Expr>, AllocError>
-    ensures { IfOk result (λ v. map tree_of v.items ≡ map (λ p. condition (policy_of p)) policies.now) }
+    ensures { IfOk result (λ v. map small_tree_of v.items ≡ map (λ p. condition (policy_of p)) policies.now) }
 {
     let mut conditions = Vec::new(alloc);
     for policy in policies {

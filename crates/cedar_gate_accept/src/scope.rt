@@ -2,14 +2,15 @@
 
 ghost use Rattle.std.specs.Prelude.{◌≡◌};
 ghost use Rattle.cedar_expr_names.specs.Views.{uid_of};
-ghost use Rattle.cedar_expr.specs.Trees.{tree_of};
+ghost use Rattle.cedar_gate_types.specs.Trees.{small_tree_of};
 ghost use Rattle.cedar_typechecker_model.specs.ScopeRules.{each_uid};
 ghost use Rattle.cedar_gate_schema.specs.Schema.{schema_of};
 ghost use Rattle.cedar_gate_accept.specs.Scope.{rule_passes};
 
-use cedar_expr::{EntityUID, Expr, ExprKind, Literal};
+use cedar_expr::{EntityUID, Expr};
 use cedar_gate_schema::ValidatorSchema;
 use cedar_gate_schema::schema::type_of;
+use cedar_gate_types::{FirstPathKind, first_path_kind};
 
 /// A scope rule on a uid.
 #[derive(Clone, Copy, Debug, PartialEq, Eq)]
@@ -35,21 +36,18 @@ impl ScopeRule {
         }
     }
 
-    /// Whether each uid that an expression writes keeps the rule.
+    /// Whether each uid that an expression writes keeps the rule. Outside today's language it counts as the number 0.
     pub fn passes_all(self, schema: &ValidatorSchema, e: &Expr) -> bool
-        ensures { result ≡ each_uid (rule_passes self (schema_of schema.now)) (tree_of e.now) }
+        ensures { result ≡ each_uid (rule_passes self (schema_of schema.now)) (small_tree_of e.now) }
     {
-        match e.expr_kind() {
-            ExprKind::Lit(Literal::EntityUID(uid)) => self.passes(schema, uid),
-            ExprKind::Lit(Literal::Bool(_)) | ExprKind::Lit(Literal::Long(_)) => true,
-            ExprKind::Var(_) => true,
-            ExprKind::And { left, right } => {
-                self.passes_all(schema, left) && self.passes_all(schema, right)
-            }
-            ExprKind::UnaryApp { arg, .. } => self.passes_all(schema, arg),
-            ExprKind::BinaryApp { arg1, arg2, .. } => {
-                self.passes_all(schema, arg1) && self.passes_all(schema, arg2)
-            }
+        match first_path_kind(e) {
+            FirstPathKind::EntityUID(uid) => self.passes(schema, uid),
+            FirstPathKind::Bool(_) | FirstPathKind::Long(_) => true,
+            FirstPathKind::Principal | FirstPathKind::Action | FirstPathKind::Resource => true,
+            FirstPathKind::And(a, b) => self.passes_all(schema, a) && self.passes_all(schema, b),
+            FirstPathKind::Not(a) => self.passes_all(schema, a),
+            FirstPathKind::Eq(a, b) => self.passes_all(schema, a) && self.passes_all(schema, b),
+            FirstPathKind::Less(a, b) => self.passes_all(schema, a) && self.passes_all(schema, b),
         }
     }
 }

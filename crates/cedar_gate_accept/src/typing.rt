@@ -1,8 +1,9 @@
 //! Typing of conditions in an environment.
 
-use cedar_expr::{BinaryOp, EntityUID, Expr, ExprKind, InternalName, Literal, UnaryOp, Var};
+use cedar_expr::{EntityUID, Expr, InternalName};
 use cedar_gate_schema::ValidatorSchema;
 use cedar_gate_schema::schema::{same_name, same_uid, type_of};
+use cedar_gate_types::{FirstPathKind, first_path_kind};
 
 /// The types of truth values: of `true` alone, of `false` alone, of both.
 #[derive(Clone, Copy, Debug, PartialEq, Eq)]
@@ -40,7 +41,9 @@ pub struct RequestEnv<'a> {
 }
 
 ghost use Rattle.std.specs.Prelude.{◌≡◌, option_map, Some};
-ghost use Rattle.cedar_expr.specs.Trees.{tree_of, literal_of, var_of, binary_op_of, unary_op_of};
+ghost use Rattle.cedar_expr_names.specs.Views.{uid_of};
+ghost use Rattle.cedar_expr_model.specs.Value.{entity};
+ghost use Rattle.cedar_gate_types.specs.Trees.{small_tree_of};
 ghost use Rattle.cedar_typechecker_model.specs.Rules as rules_of;
 ghost use Rattle.cedar_gate_accept.specs.Typing as typed;
 
@@ -82,53 +85,37 @@ impl BoolType {
 }
 
 impl<'a> RequestEnv<'a> {
-    /// The type of a literal. A uid has its type if that is declared or the uid is a declared action.
-    fn type_of_literal(&self, literal: &'a Literal) -> Option<Type<'a>>
-        ensures { option_map typed.type_view result ≡ rules_of.literal_type (typed.setting_of self.now) (literal_of literal.now) }
+    /// The type of a uid, if that is declared or the uid is a declared action.
+    fn type_of_uid(&self, uid: &'a EntityUID) -> Option<Type<'a>>
+        ensures { option_map typed.type_view result ≡ rules_of.literal_type (typed.setting_of self.now) (entity (uid_of uid.now)) }
     {
-        match literal {
-            Literal::Bool(b) => Some(Type::Bool(BoolType::known(*b))),
-            Literal::Long(_) => Some(Type::Long),
-            Literal::EntityUID(uid) => {
-                let kind = type_of(uid);
-                if self.schema.declares_type(kind) || self.schema.declares_action(uid) {
-                    Some(Type::Entity(kind))
-                } else {
-                    None
-                }
-            }
-        }
-    }
-
-    /// The type of a variable.
-    fn type_of_var(&self, v: Var) -> Type<'a>
-        ensures { typed.type_view result ≡ rules_of.var_type (typed.setting_of self.now) (var_of v) }
-    {
-        match v {
-            Var::Principal => Type::Entity(self.principal),
-            Var::Action => Type::Entity(type_of(self.action)),
-            Var::Resource => Type::Entity(self.resource),
+        let kind = type_of(uid);
+        if self.schema.declares_type(kind) || self.schema.declares_action(uid) {
+            Some(Type::Entity(kind))
+        } else {
+            None
         }
     }
 
     /// The uid that an expression writes. `action` writes the environment's.
     fn literal_uid(&self, e: &'a Expr) -> Option<&'a EntityUID>
-        ensures { option_map typed.uid_behind result ≡ rules_of.literal_uid (typed.setting_of self.now) (tree_of e.now) }
+        ensures { option_map typed.uid_behind result ≡ rules_of.literal_uid (typed.setting_of self.now) (small_tree_of e.now) }
     {
-        match e.expr_kind() {
-            ExprKind::Lit(Literal::EntityUID(uid)) => Some(uid.as_ref()),
-            ExprKind::Lit(Literal::Bool(_)) | ExprKind::Lit(Literal::Long(_)) => None,
-            ExprKind::Var(Var::Action) => Some(self.action),
-            ExprKind::Var(Var::Principal) | ExprKind::Var(Var::Resource) => None,
-            ExprKind::And { .. } | ExprKind::UnaryApp { .. } | ExprKind::BinaryApp { .. } => None,
+        match first_path_kind(e) {
+            FirstPathKind::EntityUID(uid) => Some(uid),
+            FirstPathKind::Action => Some(self.action),
+            FirstPathKind::Bool(_) | FirstPathKind::Long(_) => None,
+            FirstPathKind::Principal | FirstPathKind::Resource => None,
+            FirstPathKind::And(..) | FirstPathKind::Not(_) => None,
+            FirstPathKind::Eq(..) | FirstPathKind::Less(..) => None,
         }
     }
 
     /// Whether two expressions write one uid, as a type.
     fn written_equal(&self, a: &'a Expr, b: &'a Expr) -> BoolType
         ensures { typed.bool_type_of result ≡ rules_of.written_equal
-            (rules_of.literal_uid (typed.setting_of self.now) (tree_of a.now))
-            (rules_of.literal_uid (typed.setting_of self.now) (tree_of b.now)) }
+            (rules_of.literal_uid (typed.setting_of self.now) (small_tree_of a.now))
+            (rules_of.literal_uid (typed.setting_of self.now) (small_tree_of b.now)) }
     {
         match (self.literal_uid(a), self.literal_uid(b)) {
             (Some(u), Some(v)) => BoolType::known(same_uid(u, v)),
@@ -138,45 +125,45 @@ impl<'a> RequestEnv<'a> {
         }
     }
 
-    /// The type of an operator of two operands, at the operands' types.
-    fn type_of_binary(
+    /// The type of an equality, at the operands' types.
+    fn type_of_equality(
         &self,
-        op: BinaryOp,
         a: &'a Expr,
         b: &'a Expr,
         left: Type<'a>,
         right: Type<'a>,
     ) -> Option<Type<'a>>
-        ensures { option_map typed.type_view result ≡ rules_of.binary_type (typed.setting_of self.now) (binary_op_of op)
-            (tree_of a.now) (tree_of b.now) (typed.type_view left.entry) (typed.type_view right.entry) }
+        ensures { option_map typed.type_view result ≡ rules_of.equal_type (typed.setting_of self.now)
+            (small_tree_of a.now) (small_tree_of b.now) (typed.type_view left.entry) (typed.type_view right.entry) }
     {
-        match (op, left, right) {
-            (BinaryOp::Eq, Type::Entity(m), Type::Entity(n)) => {
+        match (left, right) {
+            (Type::Entity(m), Type::Entity(n)) => {
                 if same_name(m, n) {
                     Some(Type::Bool(self.written_equal(a, b)))
                 } else {
                     Some(Type::Bool(BoolType::False))
                 }
             }
-            (BinaryOp::Eq, Type::Bool(_), Type::Bool(_)) => Some(Type::Bool(BoolType::AnyBool)),
-            (BinaryOp::Eq, Type::Long, Type::Long) => Some(Type::Bool(BoolType::AnyBool)),
-            (BinaryOp::Eq, Type::Entity(_), Type::Bool(_) | Type::Long) => None,
-            (BinaryOp::Eq, Type::Bool(_), Type::Long | Type::Entity(_)) => None,
-            (BinaryOp::Eq, Type::Long, Type::Bool(_) | Type::Entity(_)) => None,
-            (BinaryOp::Less, Type::Long, Type::Long) => Some(Type::Bool(BoolType::AnyBool)),
-            (BinaryOp::Less, Type::Long, Type::Bool(_) | Type::Entity(_)) => None,
-            (BinaryOp::Less, Type::Bool(_) | Type::Entity(_), _) => None,
+            (Type::Bool(_), Type::Bool(_)) => Some(Type::Bool(BoolType::AnyBool)),
+            (Type::Long, Type::Long) => Some(Type::Bool(BoolType::AnyBool)),
+            (Type::Entity(_), Type::Bool(_) | Type::Long) => None,
+            (Type::Bool(_), Type::Long | Type::Entity(_)) => None,
+            (Type::Long, Type::Bool(_) | Type::Entity(_)) => None,
         }
     }
 
-    /// The type of an expression, or none. Behind a left side of type False a conjunction's right side isn't typed.
+    /// The type of an expression, or none. Outside today's language it counts as the number 0. Behind a left side of type False a conjunction's right side isn't typed.
     pub fn type_of(&self, e: &'a Expr) -> Option<Type<'a>>
-        ensures { option_map typed.type_view result ≡ typed.plain_type (typed.setting_of self.now) (tree_of e.now) }
+        ensures { option_map typed.type_view result ≡ typed.plain_type (typed.setting_of self.now) (small_tree_of e.now) }
     {
-        match e.expr_kind() {
-            ExprKind::Lit(literal) => self.type_of_literal(literal),
-            ExprKind::Var(v) => Some(self.type_of_var(*v)),
-            ExprKind::And { left, right } => match self.type_of(left) {
+        match first_path_kind(e) {
+            FirstPathKind::Bool(b) => Some(Type::Bool(BoolType::known(b))),
+            FirstPathKind::Long(_) => Some(Type::Long),
+            FirstPathKind::EntityUID(uid) => self.type_of_uid(uid),
+            FirstPathKind::Principal => Some(Type::Entity(self.principal)),
+            FirstPathKind::Action => Some(Type::Entity(type_of(self.action))),
+            FirstPathKind::Resource => Some(Type::Entity(self.resource)),
+            FirstPathKind::And(left, right) => match self.type_of(left) {
                 Some(Type::Bool(BoolType::False)) => Some(Type::Bool(BoolType::False)),
                 Some(Type::Bool(BoolType::True)) => conjoined(BoolType::True, self.type_of(right)),
                 Some(Type::Bool(BoolType::AnyBool)) => {
@@ -184,21 +171,30 @@ impl<'a> RequestEnv<'a> {
                 }
                 Some(Type::Long) | Some(Type::Entity(_)) | None => None,
             },
-            ExprKind::UnaryApp {
-                op: UnaryOp::Not,
-                arg,
-            } => match self.type_of(arg) {
+            FirstPathKind::Not(a) => match self.type_of(a) {
                 Some(Type::Bool(b)) => Some(Type::Bool(b.negated())),
                 Some(Type::Long) | Some(Type::Entity(_)) | None => None,
             },
-            ExprKind::BinaryApp { op, arg1, arg2 } => match self.type_of(arg1) {
-                None => None,
-                Some(left) => match self.type_of(arg2) {
-                    None => None,
-                    Some(right) => self.type_of_binary(*op, arg1, arg2, left, right),
-                },
+            FirstPathKind::Eq(a, b) => match (self.type_of(a), self.type_of(b)) {
+                (Some(left), Some(right)) => self.type_of_equality(a, b, left, right),
+                (None, _) | (Some(_), None) => None,
+            },
+            FirstPathKind::Less(a, b) => match (self.type_of(a), self.type_of(b)) {
+                (Some(left), Some(right)) => type_of_less(left, right),
+                (None, _) | (Some(_), None) => None,
             },
         }
+    }
+}
+
+/// The type of `<`, at the operands' types.
+fn type_of_less<'a>(left: Type<'a>, right: Type<'a>) -> Option<Type<'a>>
+    ensures { option_map typed.type_view result ≡ rules_of.less_type (typed.type_view left.entry) (typed.type_view right.entry) }
+{
+    match (left, right) {
+        (Type::Long, Type::Long) => Some(Type::Bool(BoolType::AnyBool)),
+        (Type::Long, Type::Bool(_) | Type::Entity(_)) => None,
+        (Type::Bool(_) | Type::Entity(_), _) => None,
     }
 }
 

@@ -3,7 +3,7 @@
 ghost use Rattle.std.specs.Prelude.{◌≡◌, option_map, map};
 ghost use Rattle.std.specs.List.{list_all};
 ghost use Rattle.cedar_expr_names.specs.Views.{name_of};
-ghost use Rattle.cedar_expr.specs.Trees.{tree_of};
+ghost use Rattle.cedar_gate_types.specs.Trees.{small_tree_of};
 ghost use Rattle.cedar_schema_model.specs.Environment.{environments, environments_of};
 ghost use Rattle.cedar_typechecker_model.specs.Typing as judged;
 ghost use Rattle.cedar_gate_schema.specs.Schema.{schema_of, action_of};
@@ -41,7 +41,7 @@ impl Verdict {
 
     /// Whether the verdict holds of a condition in an environment.
     pub(crate) fn holds_in(self, env: &RequestEnv<'_>, condition: &Expr) -> bool
-        ensures { result ≡ verdict.test_of self (judged.type_of (setting_of env.now) (tree_of condition.now)) }
+        ensures { result ≡ verdict.test_of self (judged.type_of (setting_of env.now) (small_tree_of condition.now)) }
     {
         self.holds_of(env.type_of(condition))
     }
@@ -55,7 +55,7 @@ impl Verdict {
         condition: &Expr,
         resources: &[InternalName],
     ) -> bool
-        ensures { result ≡ list_all (λ r. verdict.holds_at self (schema_of schema.now) (tree_of condition.now)
+        ensures { result ≡ list_all (λ r. verdict.holds_at self (schema_of schema.now) (small_tree_of condition.now)
             (verdict.environment (action_of action.now) (name_of principal.now) (name_of r))) resources.now }
     {
         resources.iter().all(|resource| {
@@ -77,7 +77,7 @@ impl Verdict {
         principal: &InternalName,
         condition: &Expr,
     ) -> bool
-        ensures { result ≡ list_all (verdict.holds_at self (schema_of schema.now) (tree_of condition.now))
+        ensures { result ≡ list_all (verdict.holds_at self (schema_of schema.now) (small_tree_of condition.now))
             (map (verdict.environment (action_of action.now) (name_of principal.now)) (action_of action.now).resources) }
     {
         self.holds_for_resources(schema, action, principal, condition, action.resources())
@@ -91,7 +91,7 @@ impl Verdict {
         condition: &Expr,
         principals: &[InternalName],
     ) -> bool
-        ensures { result ≡ list_all (λ p. list_all (verdict.holds_at self (schema_of schema.now) (tree_of condition.now))
+        ensures { result ≡ list_all (λ p. list_all (verdict.holds_at self (schema_of schema.now) (small_tree_of condition.now))
             (map (verdict.environment (action_of action.now) (name_of p)) (action_of action.now).resources)) principals.now }
     {
         principals.iter().all(|principal| self.holds_for_principal(
@@ -106,7 +106,7 @@ impl Verdict {
         action: &ValidatorActionId,
         condition: &Expr,
     ) -> bool
-        ensures { result ≡ list_all (verdict.holds_at self (schema_of schema.now) (tree_of condition.now)) (environments_of (action_of action.now)) }
+        ensures { result ≡ list_all (verdict.holds_at self (schema_of schema.now) (small_tree_of condition.now)) (environments_of (action_of action.now)) }
     {
         self.holds_for_principals(schema, action, condition, action.principals())
     }
@@ -118,7 +118,7 @@ impl Verdict {
         condition: &Expr,
         actions: &[ValidatorActionId],
     ) -> bool
-        ensures { result ≡ list_all (λ a. list_all (verdict.holds_at self (schema_of schema.now) (tree_of condition.now)) (environments_of (action_of a))) actions.now }
+        ensures { result ≡ list_all (λ a. list_all (verdict.holds_at self (schema_of schema.now) (small_tree_of condition.now)) (environments_of (action_of a))) actions.now }
     {
         actions
             .iter()
@@ -127,7 +127,7 @@ impl Verdict {
 
     /// Whether the verdict holds of a condition in each environment of a schema.
     pub fn holds_everywhere(self, schema: &ValidatorSchema, condition: &Expr) -> bool
-        ensures { result ≡ list_all (verdict.holds_at self (schema_of schema.now) (tree_of condition.now)) (environments (schema_of schema.now)) }
+        ensures { result ≡ list_all (verdict.holds_at self (schema_of schema.now) (small_tree_of condition.now)) (environments (schema_of schema.now)) }
     {
         self.holds_for_actions(schema, condition, schema.actions())
     }

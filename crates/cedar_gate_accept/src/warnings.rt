@@ -2,7 +2,7 @@
 
 ghost use Rattle.std.specs.Prelude.{◌≡◌, IfOk, map};
 ghost use Rattle.std.specs.List.{filter};
-ghost use Rattle.cedar_expr.specs.Trees.{tree_of};
+ghost use Rattle.cedar_gate_types.specs.Trees.{small_tree_of};
 ghost use Rattle.cedar_store_model.specs.Policy.{condition};
 ghost use Rattle.cedar_store_model.specs.Answer.{ids};
 ghost use Rattle.cedar_typechecker_model.specs.Verdicts.{impossible};
@@ -17,7 +17,7 @@ use std::alloc::{AllocError, Global};
 
 /// Whether a policy is impossible. `asks` is its condition.
 fn is_impossible(schema: &ValidatorSchema, policy: &Policy, asks: &Expr) -> bool
-    requires { tree_of asks.now ≡ condition (policy_of policy.now) }
+    requires { small_tree_of asks.now ≡ condition (policy_of policy.now) }
     ensures { result ≡ impossible (schema_of schema.now) (policy_of policy.now) }
 {
     Verdict::Impossible.holds_everywhere(schema, asks)
@@ -30,7 +30,7 @@ fn impossible_ids(
     policies: &[Policy],
     conditions: &[Expr],
 ) -> Result<Vec<PolicyID>, AllocError>
-    requires { map tree_of conditions.now ≡ map condition (policies_of policies.now) }
+    requires { map small_tree_of conditions.now ≡ map condition (policies_of policies.now) }
     ensures { IfOk result (λ v. map id_text v.items ≡ map (λ p. (policy_of p).id) (filter (λ p. impossible (schema_of schema.now) (policy_of p)) policies.now)) }
 {
     let mut found = Vec::new(alloc);
@@ -49,7 +49,7 @@ pub(crate) fn warnings(
     policies: &[Policy],
     conditions: &[Expr],
 ) -> Result<Vec<PolicyID>, AllocError>
-    requires { map tree_of conditions.now ≡ map condition (policies_of policies.now) }
+    requires { map small_tree_of conditions.now ≡ map condition (policies_of policies.now) }
     ensures { IfOk result (λ v. map id_text v.items ≡ ids (filter (impossible (schema_of schema.now)) (policies_of policies.now))) }
 {
     let found = impossible_ids(alloc, schema, policies, conditions)?;

@@ -2,3 +2,4 @@ pub mod Gathered
 pub mod Shapes
 pub mod Inputs
 pub mod Distinct
+pub mod Joints

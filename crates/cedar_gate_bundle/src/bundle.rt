@@ -1,8 +1,10 @@
 //! Bundles: what is handed to the gate, the request, the whole store and the steps.
 ghost use Rattle.std.specs.Prelude.{◌≡◌, codes, [], true, Option, Some, None, IfOk, IfErr, option_map};
+ghost use Rattle.std.specs.List.{list_all};
 ghost use Rattle.serde_json.specs.View.{view};
 ghost use Rattle.cedar_gate_types.specs.Limit.{levels_of};
 ghost use Rattle.cedar_gate_types.specs.Schemas.{is_first_path};
+ghost use Rattle.cedar_gate_types.specs.Language.{is_first_path_policy};
 ghost use Rattle.cedar_gate_types.specs.Requests.{entity_uids, steps_of};
 ghost use Rattle.cedar_expr_model.specs.Uid.{uid_eq};
 ghost use Rattle.cedar_schema_model.specs.Declarations.{are_distinct};
@@ -47,6 +49,7 @@ pub struct Bundle {
 pub fn read_bundle(alloc: Global, value: &Value) -> Result<Bundle, ReadFault>
     ensures ok { IfOk result (λ b. bundle_read (view value.now) ≡ Some (bundle_of b)) }
     ensures plain { IfOk result (λ b. is_first_path b.fragments.items ≡ true) }
+    ensures policies { IfOk result (λ b. list_all is_first_path_policy b.policies.items ≡ true) }
     ensures level { IfOk result (λ b. b.level ≡ 0) }
     ensures distinct { IfOk result (λ b. are_distinct uid_eq (entity_uids b.store.items) ≡ true) }
     ensures unreadable { IfErr result (λ f. f ≡ Unreadable → bundle_read (view value.now) ≡ None) }
@@ -79,6 +82,7 @@ pub fn read_bundle(alloc: Global, value: &Value) -> Result<Bundle, ReadFault>
 pub fn read_text(alloc: Global, bytes: &[u8]) -> Result<Bundle, ReadFault>
     ensures ok { IfOk result (λ b. input_read bytes.now ≡ Some (bundle_of b)) }
     ensures plain { IfOk result (λ b. is_first_path b.fragments.items ≡ true) }
+    ensures policies { IfOk result (λ b. list_all is_first_path_policy b.policies.items ≡ true) }
     ensures level { IfOk result (λ b. b.level ≡ 0) }
     ensures distinct { IfOk result (λ b. are_distinct uid_eq (entity_uids b.store.items) ≡ true) }
     ensures unreadable { IfErr result (λ f. f ≡ Unreadable → input_read bytes.now ≡ None) }

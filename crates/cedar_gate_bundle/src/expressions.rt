@@ -1,10 +1,14 @@
 //! Expressions.
-ghost use Rattle.std.specs.Prelude.{◌≡◌, ◌∷◌, [], Some, None, IfOk, IfErr, option_map};
+ghost use Rattle.std.specs.Prelude.{◌≡◌, ◌∷◌, [], true, Some, None, IfOk, IfErr, option_map};
 ghost use Rattle.serde_json.specs.Find.{as_i64, as_str};
 ghost use Rattle.serde_json.specs.View.{view, number_view};
 ghost use Rattle.cedar_expr_model.specs.Value.{long, entity};
+ghost use Rattle.cedar_expr_model.specs.Tree as small;
 ghost use Rattle.cedar_expr_model.specs.Tree.{lit};
-ghost use Rattle.cedar_expr.specs.Trees.{tree_of, var_of};
+ghost use Rattle.cedar_expr_model.specs.Whole.FirstPath.{lies_on_first_path, first_path_var, is_first_path_var};
+ghost use Rattle.cedar_expr_leaves.specs.Variables.{var_of};
+ghost use Rattle.cedar_expr_trees.specs.Trees.{tree_of};
+ghost use Rattle.cedar_gate_types.specs.Trees.{small_tree_of};
 ghost use Rattle.cedar_gate_model.specs.Reading.{given};
 ghost use Rattle.cedar_gate_model.specs.ReadingExpression.{expression_read, var_named, joint_named, uid_from};
 ghost use Rattle.cedar_gate_bundle.specs.Joints.{joint_of};
@@ -20,7 +24,8 @@ use std::rc::Rc;
 /// Reads an expression: a truth value, a whole number, or a list that begins with a word.
 #[tactic(auto, using(crate::proofs::Shapes::two, crate::proofs::Shapes::three, crate::proofs::Shapes::short_expression, crate::proofs::Shapes::long_expression))]
 pub(crate) fn read_expression(alloc: Global, value: &Value) -> Result<Expr, ReadFault>
-    ensures ok { IfOk result (λ e. expression_read (view value.now) ≡ Some (tree_of e)) }
+    ensures ok { IfOk result (λ e. expression_read (view value.now) ≡ Some (small_tree_of e)) }
+    ensures first_path { IfOk result (λ e. lies_on_first_path (tree_of e) ≡ true) }
     ensures unreadable { IfErr result (λ f. f ≡ Unreadable
         → expression_read (view value.now) ≡ None) }
 {
@@ -52,7 +57,8 @@ pub(crate) fn read_expression(alloc: Global, value: &Value) -> Result<Expr, Read
 
 // Reads a variable of the scope.
 fn read_var(value: &Value) -> Result<Var, ReadFault>
-    ensures ok { IfOk result (λ v. given (as_str (view value.now)) var_named ≡ Some (var_of v)) }
+    ensures ok { IfOk result (λ v. option_map small.var (given (as_str (view value.now)) var_named) ≡ Some (first_path_var (var_of v))) }
+    ensures first_path { IfOk result (λ v. is_first_path_var (var_of v) ≡ true) }
     ensures unreadable { IfErr result (λ f. (f ≡ Unreadable)
         × (given (as_str (view value.now)) var_named ≡ None)) }
 {
@@ -66,7 +72,8 @@ fn read_var(value: &Value) -> Result<Var, ReadFault>
 
 // Reads a whole number of 64 bits with its sign.
 fn read_long(n: &Number) -> Result<Expr, ReadFault>
-    ensures ok { IfOk result (λ e. option_map (λ z. lit (long z)) (as_i64 (number_view n.now)) ≡ Some (tree_of e)) }
+    ensures ok { IfOk result (λ e. option_map (λ z. lit (long z)) (as_i64 (number_view n.now)) ≡ Some (small_tree_of e)) }
+    ensures first_path { IfOk result (λ e. lies_on_first_path (tree_of e) ≡ true) }
     ensures unreadable { IfErr result (λ f. (f ≡ Unreadable) × (as_i64 (number_view n.now) ≡ None)) }
 {
     match n.as_i64() {
@@ -78,7 +85,8 @@ fn read_long(n: &Number) -> Result<Expr, ReadFault>
 // Reads the literal of the uid of this type and this id.
 fn read_entity(alloc: Global, kind: &Value, id: &Value) -> Result<Expr, ReadFault>
     ensures ok { IfOk result (λ e. option_map (λ u. lit (entity u)) (uid_from (view kind.now) (view id.now))
-        ≡ Some (tree_of e)) }
+        ≡ Some (small_tree_of e)) }
+    ensures first_path { IfOk result (λ e. lies_on_first_path (tree_of e) ≡ true) }
     ensures unreadable { IfErr result (λ f. f ≡ Unreadable → uid_from (view kind.now) (view id.now) ≡ None) }
 {
     let uid = Rc::new(alloc, read_uid_from(alloc, kind, id)?)?;
@@ -108,8 +116,10 @@ fn read_joint(word: &str) -> Result<Joint, ReadFault>
 
 impl Joint {
     // Joins the expressions.
+    #[tactic(auto, using(crate::proofs::Joints::conjunction_seen, crate::proofs::Joints::conjunction_lies, crate::proofs::Joints::both_lie))]
     fn join(self, alloc: Global, left: Expr, right: Expr) -> Result<Expr, AllocError>
-        ensures { IfOk result (λ e. tree_of e ≡ joint_of self (tree_of left) (tree_of right)) }
+        ensures tree { IfOk result (λ e. small_tree_of e ≡ joint_of self (small_tree_of left) (small_tree_of right)) }
+        ensures first_path { IfOk result (λ e. lies_on_first_path (tree_of left) ≡ true → lies_on_first_path (tree_of right) ≡ true → lies_on_first_path (tree_of e) ≡ true) }
     {
         match self {
             Joint::And => Expr::and(alloc, left, right),

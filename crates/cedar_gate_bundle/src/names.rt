@@ -1,5 +1,5 @@
 //! Names and uids.
-ghost use Rattle.std.specs.Prelude.{◌≡◌, Some, None, IfOk, IfErr};
+ghost use Rattle.std.specs.Prelude.{◌≡◌, true, Some, None, IfOk, IfErr};
 ghost use Rattle.serde_json.specs.Find.{as_str};
 ghost use Rattle.serde_json.specs.View.{view};
 ghost use Rattle.cedar_expr_names.specs.Views.{type_name_of, uid_of};
@@ -43,6 +43,8 @@ impl Readable for RawName {
     ghost reading = { any_name_read };
 
     ghost seen = { raw_name_of };
+
+    ghost fits = { λ _. true };
 
     fn read(alloc: Global, value: &Value) -> Result<RawName, ReadFault> {
         Ok(RawName::from_normalized_str(alloc, text(value)?)?)

@@ -7,6 +7,10 @@ ghost use Rattle.cedar_expr_model.specs.Tree.{lit};
 ghost use Rattle.cedar_store_model.specs.Policy as model;
 ghost use Rattle.cedar_store_model.specs.Policy.{any};
 ghost use Rattle.cedar_gate_types.specs.Policies.{policy_of, effect_of, scope_of, action_scope_of, body_tree};
+ghost use Rattle.cedar_gate_types.specs.Language.{is_first_path_policy};
+ghost use Rattle.cedar_expr_model.specs.Whole.FirstPath.{lies_on_first_path};
+ghost use Rattle.cedar_expr_trees.specs.Trees.{tree_of};
+ghost use Rattle.cedar_store_model.specs.Whole.Policy as whole;
 ghost use Rattle.cedar_gate_model.specs.Reading.{if_there};
 ghost use Rattle.cedar_gate_model.specs.ReadingExpression.{expression_read};
 ghost use Rattle.cedar_gate_model.specs.ReadingBundle.{effect_read, scope_uid_read, scope_read, policy_read, is_policy};
@@ -32,6 +36,8 @@ impl Readable for Policy {
     ghost reading = { policy_read };
 
     ghost seen = { policy_of };
+
+    ghost fits = { is_first_path_policy };
 
     fn read(alloc: Global, value: &Value) -> Result<Policy, ReadFault> {
         if !is_policy(value) {
@@ -134,6 +140,7 @@ fn read_action_scope(alloc: Global, value: Option<&Value>) -> Result<ActionConst
 fn read_body(alloc: Global, value: Option<&Value>) -> Result<Option<Expr>, ReadFault>
     ensures ok { IfOk result (λ b. if_there expression_read (lit (truth true)) (option_map (λ v. view v.now) value.entry)
         ≡ Some (body_tree b)) }
+    ensures first_path { IfOk result (λ b. lies_on_first_path (whole.body_tree (option_map tree_of b)) ≡ true) }
     ensures unreadable { IfErr result (λ f. f ≡ Unreadable
         → if_there expression_read (lit (truth true)) (option_map (λ v. view v.now) value.entry) ≡ None) }
 {

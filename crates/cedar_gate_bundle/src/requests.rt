@@ -1,5 +1,5 @@
 //! Requests, the entities of the store, and steps.
-ghost use Rattle.std.specs.Prelude.{◌≡◌, Option, Some, None, IfOk, IfErr};
+ghost use Rattle.std.specs.Prelude.{◌≡◌, true, Option, Some, None, IfOk, IfErr};
 ghost use Rattle.serde_json.specs.View.{view};
 ghost use Rattle.cedar_expr_model.specs.Uid.{Uid};
 ghost use Rattle.cedar_gate_model.specs.Transcript as run;
@@ -55,6 +55,8 @@ impl Readable for Entity {
 
     ghost seen = { entity_uid };
 
+    ghost fits = { λ _. true };
+
     fn read(alloc: Global, value: &Value) -> Result<Entity, ReadFault> {
         if !is_bare_entity(value) {
             return Err(ReadFault::Unreadable);
@@ -80,6 +82,8 @@ impl Readable for Step {
     ghost reading = { step_read };
 
     ghost seen = { step_of };
+
+    ghost fits = { λ _. true };
 
     fn read(_alloc: Global, value: &Value) -> Result<Step, ReadFault> {
         match text(value)? {

@@ -6,6 +6,7 @@ mod declared;
 pub mod distinct;
 mod err;
 mod index;
+pub mod language;
 mod plain;
 pub mod schema;
 mod well_formed;

@@ -1,11 +1,13 @@
 //! Whether what is handed in lies in today's language.
 
-ghost use Rattle.std.specs.Prelude.{◌≡◌, ◌&&◌, ◌==◌};
+ghost use Rattle.std.specs.Prelude.{◌≡◌};
 ghost use Rattle.std.specs.List.{list_all};
-ghost use Rattle.cedar_gate_types.specs.Schemas.{is_first_path, is_plain_type, is_empty_context, is_plain_action};
+ghost use Rattle.cedar_gate_types.specs.Language.{lies_in_language};
+ghost use Rattle.cedar_gate_types.specs.Schemas.{is_plain_type, is_empty_context, is_plain_action};
 ghost use Rattle.cedar_gate_schema.specs.Plain.{is_plain_definition};
 
 use crate::declared::only_namespace;
+use crate::language::are_first_path_policies;
 use cedar_expr::Id;
 use cedar_gate_types::Policy;
 use cedar_gate_types::json_schema::{
@@ -77,12 +79,13 @@ fn is_plain_definition(definition: &NamespaceDefinition) -> bool
 }
 
 /// Whether declarations, policies and a level lie in today's language: one fragment of one namespace without a name, of plain types and
-/// actions, and level 0. A policy of today can hold nothing else.
-pub fn first_path(fragments: &[Fragment], _policies: &[Policy], level: u32) -> bool
-    ensures { result ≡ (is_first_path fragments.now && (level == 0)) }
+/// actions, policies whose bodies lie on the first path, and level 0.
+pub fn first_path(fragments: &[Fragment], policies: &[Policy], level: u32) -> bool
+    ensures { result ≡ lies_in_language fragments.now policies.now level }
 {
     match only_namespace(fragments) {
-        Some(definition) => is_plain_definition(definition) && level == 0,
+        Some(definition) => is_plain_definition(definition)
+            && (level == 0 && are_first_path_policies(policies)),
         None => false,
     }
 }

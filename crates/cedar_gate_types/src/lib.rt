@@ -2,7 +2,9 @@
 #![tactic(auto)]
 
 pub mod entities;
+pub mod first_path;
 pub mod json_schema;
+pub mod laws;
 pub mod nest_limit;
 pub mod policy;
 pub mod request;
@@ -10,6 +12,7 @@ pub mod response;
 pub mod step;
 
 pub use entities::Entity;
+pub use first_path::{FirstPathKind, first_path_kind};
 pub use json_schema::Fragment;
 pub use nest_limit::NestLimit;
 pub use policy::{

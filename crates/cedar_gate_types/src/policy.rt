@@ -109,13 +109,15 @@ pub struct Policy {
 
 impl PrincipalOrResourceConstraint {
     ghost use Rattle.std.specs.Prelude.{◌≡◌, IfOk};
-    ghost use Rattle.cedar_store_model.specs.Policy.{scope_tree};
-    ghost use Rattle.cedar_expr.specs.Trees.{tree_of, var_of};
-    ghost use Rattle.cedar_gate_types.specs.Policies.{scope_of};
+    ghost use Rattle.cedar_store_model.specs.Whole.Policy.{scope_tree};
+    ghost use Rattle.cedar_store_model.specs.Whole.FirstPath.{whole_scope};
+    ghost use Rattle.cedar_expr_leaves.specs.Variables.{var_of};
+    ghost use Rattle.cedar_expr_trees.specs.Trees.{tree_of};
+    ghost use Rattle.cedar_gate_types.specs.Policies.{scope_of, own_slot_of};
 
     /// What the constraint asks of a variable, as an expression. Fails only for want of memory.
     pub fn as_expr(&self, alloc: Global, v: Var) -> Result<Expr, AllocError>
-        ensures { IfOk result (λ e. tree_of e ≡ scope_tree (var_of v) (scope_of self.now)) }
+        ensures { IfOk result (λ e. tree_of e ≡ scope_tree (var_of v) (own_slot_of (var_of v)) (whole_scope (scope_of self.now))) }
     {
         match self {
             PrincipalOrResourceConstraint::Any => Ok(Expr::val(Literal::Bool(true))),
@@ -126,14 +128,14 @@ impl PrincipalOrResourceConstraint {
 
 impl ActionConstraint {
     ghost use Rattle.std.specs.Prelude.{◌≡◌, IfOk};
-    ghost use Rattle.cedar_expr_model.specs.Tree.{action};
-    ghost use Rattle.cedar_store_model.specs.Policy.{scope_tree};
-    ghost use Rattle.cedar_expr.specs.Trees.{tree_of};
+    ghost use Rattle.cedar_store_model.specs.Whole.Policy.{action_tree};
+    ghost use Rattle.cedar_store_model.specs.Whole.FirstPath.{whole_action_scope};
+    ghost use Rattle.cedar_expr_trees.specs.Trees.{tree_of};
     ghost use Rattle.cedar_gate_types.specs.Policies.{action_scope_of};
 
     /// What the constraint asks of the action, as an expression. Fails only for want of memory.
     pub fn as_expr(&self, alloc: Global) -> Result<Expr, AllocError>
-        ensures { IfOk result (λ e. tree_of e ≡ scope_tree action (action_scope_of self.now)) }
+        ensures { IfOk result (λ e. tree_of e ≡ action_tree (whole_action_scope (action_scope_of self.now))) }
     {
         match self {
             ActionConstraint::Any => Ok(Expr::val(Literal::Bool(true))),
@@ -143,10 +145,12 @@ impl ActionConstraint {
 }
 
 impl Policy {
-    ghost use Rattle.std.specs.Prelude.{◌≡◌, IfOk};
+    ghost use Rattle.std.specs.Prelude.{◌≡◌, IfOk, option_map};
     ghost use Rattle.cedar_store_model.specs.Policy.{condition};
-    ghost use Rattle.cedar_expr.specs.Trees.{tree_of};
-    ghost use Rattle.cedar_gate_types.specs.Policies.{policy_of, id_text, effect_of, scope_of, action_scope_of, body_tree};
+    ghost use Rattle.cedar_store_model.specs.Whole.Policy as whole;
+    ghost use Rattle.cedar_expr_trees.specs.Trees.{tree_of};
+    ghost use Rattle.cedar_gate_types.specs.Trees.{small_tree_of};
+    ghost use Rattle.cedar_gate_types.specs.Policies.{policy_of, whole_policy_of, id_text, effect_of, scope_of, action_scope_of, body_tree};
 
     /// The policy of these parts.
     pub fn new(
@@ -157,7 +161,7 @@ impl Policy {
         resource_constraint: ResourceConstraint,
         body: Option<Expr>,
     ) -> Policy
-        ensures { policy_of result ≡ record {
+        ensures first_path { policy_of result ≡ record {
           id = id_text id;
           effect = effect_of effect;
           principal = scope_of principal_constraint.constraint;
@@ -165,6 +169,7 @@ impl Policy {
           resource = scope_of resource_constraint.constraint;
           body = body_tree body;
         } }
+        ensures body { (whole_policy_of result).body ≡ option_map tree_of body }
     {
         Policy {
             id,
@@ -211,10 +216,29 @@ impl Policy {
         &self.resource_constraint
     }
 
+    /// The policy's body, if it has one.
+    pub fn non_scope_constraints(&self) -> Option<&Expr>
+        ensures { option_map (λ e. tree_of e.now) result ≡ (whole_policy_of self.now).body }
+    {
+        self.body.as_ref()
+    }
+
     /// The policy's condition: what the scope asks of principal, action and resource, and then the body, joined from
     /// the right. Fails only for want of memory.
+    #[tactic(auto, using(crate::proofs::Conditions::condition_on_first_path))]
     pub fn condition(&self, alloc: Global) -> Result<Expr, AllocError>
-        ensures { IfOk result (λ e. tree_of e ≡ condition (policy_of self.now)) }
+        ensures whole { IfOk result (λ e. tree_of e ≡ whole.condition (whole_policy_of self.now)) }
+        ensures first_path { IfOk result (λ e. small_tree_of e ≡ condition (policy_of self.now)) }
+    {
+        match self.joined(alloc) {
+            Ok(condition) => Ok(condition),
+            Err(fault) => Err(fault),
+        }
+    }
+
+    // The condition, in the whole language.
+    fn joined(&self, alloc: Global) -> Result<Expr, AllocError>
+        ensures { IfOk result (λ e. tree_of e ≡ whole.condition (whole_policy_of self.now)) }
     {
         let body = match &self.body {
             None => Expr::val(Literal::Bool(true)),
@@ -236,9 +260,10 @@ impl Policy {
 }
 
 ghost use Rattle.cedar_expr_names.specs.Views.{uid_of};
-ghost use Rattle.cedar_expr_model.specs.Value.{entity};
-ghost use Rattle.cedar_expr_model.specs.Tree.{lit, var, binary, equal};
-ghost use Rattle.cedar_expr.specs.Trees.{tree_of, var_of};
+ghost use Rattle.cedar_expr_model.specs.Whole.Value.{entity};
+ghost use Rattle.cedar_expr_model.specs.Whole.Tree.{lit, var, binary, equal};
+ghost use Rattle.cedar_expr_leaves.specs.Variables.{var_of};
+ghost use Rattle.cedar_expr_trees.specs.Trees.{tree_of};
 
 /// That a variable is this entity.
 fn is_uid(alloc: Global, v: Var, uid: &Rc<EntityUID>) -> Result<Expr, AllocError>

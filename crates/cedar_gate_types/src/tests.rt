@@ -1,7 +1,7 @@
 use super::*;
-use cedar_expr::{Eid, EntityType, EntityUID, Expr, ExprKind, Literal};
+use cedar_expr::{Eid, EntityType, EntityUID, Expr, ExprKind, Literal, Var};
 use std::alloc::Global;
-use std::rc::Rc;
+use std::rc::{Rc, RcStr};
 use std::test::Fail;
 
 fn uid(alloc: Global, kind: &str, id: &str) -> Result<Rc<EntityUID>, Fail> {
@@ -49,6 +49,27 @@ fn a_false_body_folds_to_false(rt: HostRuntime) -> Result<(), Fail> {
     let body = Expr::val(Literal::Bool(false));
     let p = policy(rt.alloc(), PrincipalOrResourceConstraint::Any, Some(body))?;
     assert!(rt; is_truth(&p.condition(rt.alloc())?, false));
+    assert!(rt; matches!(p.non_scope_constraints(), Some(body) if is_truth(body, false)));
+    Ok(())
+}
+
+#[test]
+fn what_is_not_of_the_first_path_is_the_number_0(rt: HostRuntime) -> Result<(), Fail> {
+    let alloc = rt.alloc();
+    let text = Expr::val(Literal::from(RcStr::from_str(alloc, "a")?));
+    let one = Expr::val(Literal::Long(1));
+    let sum = Expr::add(alloc, one.clone()?, one.clone()?)?;
+    let either = Expr::or(alloc, one.clone()?, one.clone()?)?;
+    let minus = Expr::neg(alloc, one.clone()?)?;
+    for e in [&text, &Expr::var(Var::Context), &sum, &either, &minus] {
+        assert!(rt; matches!(first_path_kind(e), FirstPathKind::Long(0)));
+    }
+    let less = Expr::less(alloc, one.clone()?, sum)?;
+    let FirstPathKind::Less(left, right) = first_path_kind(&less) else {
+        return Err(Fail::from(std::alloc::AllocError));
+    };
+    assert!(rt; matches!(first_path_kind(left), FirstPathKind::Long(1)));
+    assert!(rt; matches!(first_path_kind(right), FirstPathKind::Long(0)));
     Ok(())
 }
 

@@ -30,4 +30,4 @@ pub returns-in_ok-join-in_default-2-clause-ok : goal.returns-in_ok-join-in_defau
 returns-in_ok-join-in_default-2-clause-ok t c =
     let s = three c.args.value.now c.in-Array.items c.as_slice.result.now c.word-item-then-this-lt4.result c.x-item-then-this-lt4.result c.y-item.result
     c.in-Array.is c.as_slice.ensures.value c.in-len3.len_at_least c.in-len3.len_below c.word-item-then-this-lt4.is c.x-item-then-this-lt4.is c.y-item.is in
-    rw (s, c.in_ok-word-in-len3.ensures.ok, joining_word _ _ _ _ c.in_default-2.not-uid c.in_ok-joint-in_default-2.ensures.ok, c.in_ok-left-in_default-2.ensures.ok, c.in_ok-right-in_default-2.ensures.ok) (ap Some (sym c.in_ok-join-in_default-2.ensures))
+    rw (s, c.in_ok-word-in-len3.ensures.ok, joining_word _ _ _ _ c.in_default-2.not-uid c.in_ok-joint-in_default-2.ensures.ok, c.in_ok-left-in_default-2.ensures.ok, c.in_ok-right-in_default-2.ensures.ok) (ap Some (sym c.in_ok-join-in_default-2.ensures.tree))

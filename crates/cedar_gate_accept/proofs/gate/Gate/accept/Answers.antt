@@ -8,4 +8,4 @@ returns-in-Ok-clause-accepted_whole c = accepts_whole (submission_of c.in-Ok.gat
 
 pub returns-in-Err-clause-refused_whole : goal.returns-in-Err-clause-refused_whole
 returns-in-Err-clause-refused_whole c =
-    refuses_whole c.in-Err.fault (submitted c.args.fragments.now c.args.policies.items c.args.level c.args.limit) (language_plain c.args.fragments.now c.args.level c.requires.in_language) c.in-Err.ensures.refused
+    refuses_whole c.in-Err.fault (submitted c.args.fragments.now c.args.policies.items c.args.level c.args.limit) (language_plain c.args.fragments.now c.args.policies.items c.args.level c.requires.in_language) c.in-Err.ensures.refused

@@ -1,15 +1,11 @@
 use Rattle.cedar_gate_model.specs.Acceptance.{admits}
 use Rattle.cedar_gate_accept.specs.Gates.{submission}
-use Rattle.std.specs.Prelude.{nat_eq}
-use Rattle.std.proofs.lemmas.Bool.{eqb-true}
-use Rattle.cedar_expr_model.proofs.Lists.{both_hold}
-use Rattle.cedar_gate_types.specs.Schemas.{is_first_path}
 use Rattle.cedar_schema_model.specs.Whole.FirstPath.{is_plain}
-use Rattle.cedar_gate_accept.proofs.Refusals.{language_plain}
+use Rattle.cedar_gate_accept.proofs.Refusals.{language_plain, language_zero, language_policies}
 use Rattle.std.proofs.Common.{◌≡◌, refl, ap, sym, ◌∙◌, List}
 use Rattle.std.specs.Prelude.{map}
-use Rattle.cedar_expr.specs.declared.expr.Expr.{Expr}
-use Rattle.cedar_expr.specs.Trees.{tree_of}
+use Rattle.cedar_expr_trees.specs.declared.expr.Expr.{Expr}
+use Rattle.cedar_gate_types.specs.Trees.{small_tree_of}
 use Rattle.cedar_store_model.specs.Policy.{condition}
 use Rattle.cedar_store_model.specs.Answer.{ids}
 use Rattle.cedar_typechecker_model.specs.Verdicts.{impossible}
@@ -20,8 +16,8 @@ use Rattle.cedar_gate_schema.specs.Schema.{schema_of}
 use Rattle.cedar_gate_schema.proofs.Fresh.{map_after}
 use Rattle.cedar_gate_accept.proofs.gate.Gate.try_accept.Goals as goal
 
-kept_of : (es fs : List (Expr (Unit {0}))) (ps qs rs : List Policy) → fs ≡ es → qs ≡ ps → rs ≡ ps → map tree_of es ≡ map (λ p. condition (policy_of p)) rs → map tree_of fs ≡ map condition (policies_of qs)
-kept_of es fs ps qs rs a b d h = ap (map tree_of) a ∙ h ∙ ap (map (λ p. condition (policy_of p))) (d ∙ sym b) ∙ sym (map_after condition policy_of qs)
+kept_of : (es fs : List (Expr (Unit {0}))) (ps qs rs : List Policy) → fs ≡ es → qs ≡ ps → rs ≡ ps → map small_tree_of es ≡ map (λ p. condition (policy_of p)) rs → map small_tree_of fs ≡ map condition (policies_of qs)
+kept_of es fs ps qs rs a b d h = ap (map small_tree_of) a ∙ h ∙ ap (map (λ p. condition (policy_of p))) (d ∙ sym b) ∙ sym (map_after condition policy_of qs)
 
 pub new-candidate-requires : goal.new-candidate-requires
 new-candidate-requires c = kept_of c.in_ok-conditions.conditions.items c.as_slice-3.result.now c.args.policies.items c.as_slice-2.result.now c.as_slice.result.now c.as_slice-3.ensures.value c.as_slice-2.ensures.value c.as_slice.ensures.value c.in_ok-conditions.ensures
@@ -34,8 +30,9 @@ invariant_of-result c = record {
   accepted =
       sym (ap admits (c.new-candidate.ensures ∙ ap (λ ps. submission c.in_ok-schema.schema ps c.args.level c.args.limit) c.as_slice-2.ensures.value))
       ∙ c.in_ok-check.ensures.ok;
-  at_zero = eqb-true c.args.level 0 (both_hold (is_first_path c.args.fragments.now) (nat_eq c.args.level 0) c.requires).1;
-  plain = ap is_plain c.in_ok-schema.ensures.built ∙ language_plain c.args.fragments.now c.args.level c.requires;
+  at_zero = language_zero c.args.fragments.now c.args.policies.items c.args.level c.requires;
+  plain = ap is_plain c.in_ok-schema.ensures.built ∙ language_plain c.args.fragments.now c.args.policies.items c.args.level c.requires;
+  first_path = language_policies c.args.fragments.now c.args.policies.items c.args.level c.requires;
   kept = kept_of c.in_ok-conditions.conditions.items c.in_ok-conditions.conditions.items c.args.policies.items c.args.policies.items c.as_slice.result.now refl refl c.as_slice.ensures.value c.in_ok-conditions.ensures;
   warned = c.in_ok-warnings.ensures ∙ ap (λ ps. ids (filter (impossible (schema_of c.in_ok-schema.schema)) (policies_of ps))) c.as_slice-4.ensures.value;
 }

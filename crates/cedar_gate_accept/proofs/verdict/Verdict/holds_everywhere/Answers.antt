@@ -1,7 +1,7 @@
 use Rattle.std.proofs.Common.{ap, sym, ◌∙◌, Bool}
 use Rattle.std.specs.List.{list_all}
 use Rattle.std.proofs.lemmas.List.Folds.{list_all-map}
-use Rattle.cedar_expr.specs.Trees.{tree_of}
+use Rattle.cedar_gate_types.specs.Trees.{small_tree_of}
 use Rattle.cedar_schema_model.specs.Declarations.{ActionDeclaration}
 use Rattle.cedar_schema_model.specs.Environment.{Environment, environments_of}
 use Rattle.cedar_gate_schema.specs.Schema.{schema_of, action_of}
@@ -11,7 +11,7 @@ use Rattle.cedar_gate_accept.proofs.verdict.Verdict.holds_everywhere.Goals as go
 
 pub returns : goal.returns
 returns c =
-    let test : Environment → Bool = holds_at c.args.self (schema_of c.args.schema.now) (tree_of c.args.condition.now) in
+    let test : Environment → Bool = holds_at c.args.self (schema_of c.args.schema.now) (small_tree_of c.args.condition.now) in
     let all_of : ActionDeclaration → Bool = λ a. list_all test (environments_of a) in
     c.holds_for_actions.ensures
     ∙ sym (list_all-map all_of action_of c.actions.result.now)

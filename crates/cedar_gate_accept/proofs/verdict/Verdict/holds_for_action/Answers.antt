@@ -4,7 +4,7 @@ use Rattle.std.specs.List.{list_all}
 use Rattle.std.proofs.lemmas.List.Folds.{list_all-map}
 use Rattle.cedar_expr_names.specs.Views.{name_of}
 use Rattle.cedar_expr_model.specs.Name.{Name}
-use Rattle.cedar_expr.specs.Trees.{tree_of}
+use Rattle.cedar_gate_types.specs.Trees.{small_tree_of}
 use Rattle.cedar_schema_model.specs.Declarations.{ActionDeclaration}
 use Rattle.cedar_schema_model.specs.Environment.{Environment}
 use Rattle.cedar_gate_schema.specs.Schema.{schema_of, action_of}
@@ -14,7 +14,7 @@ use Rattle.cedar_gate_accept.proofs.verdict.Verdict.holds_for_action.Goals as go
 
 pub returns : goal.returns
 returns c =
-    let test : Environment → Bool = holds_at c.args.self (schema_of c.args.schema.now) (tree_of c.args.condition.now) in
+    let test : Environment → Bool = holds_at c.args.self (schema_of c.args.schema.now) (small_tree_of c.args.condition.now) in
     let a : ActionDeclaration = action_of c.args.action.now in
     let all_with : Name → Bool = λ p. list_all test (map (environment a p) a.resources) in
     c.holds_for_principals.ensures

@@ -1,0 +1,12 @@
+use Rattle.std.proofs.Common.{ap, ◌∙◌}
+use Rattle.cedar_expr_model.specs.Whole.Builder.{tree_fields}
+use Rattle.cedar_expr_model.specs.Whole.Tree.{record_literal}
+use Rattle.cedar_expr_trees.specs.Trees.{tree_of, named, field_trees}
+use Rattle.cedar_expr_builders.proofs.Ordered.{meant_in_order}
+use Rattle.cedar_expr_builders.proofs.expr.ExprBuilderExprBuilder.record.Goals as goal
+
+pub returns-clause-made : goal.returns-clause-made
+returns-clause-made g c =
+    c.in_ok-record_arc.ensures.made
+    ∙ ap (λ m. record_literal (tree_fields (named (field_trees m.entries)))) c.in_ok-fields-2.ensures.ok
+    ∙ ap (λ ps. record_literal (tree_fields ps)) (meant_in_order (tree_of {T = g.row.T.Denot}) c.in_ok-fields.fields.entries c.args.pairs.items c.in_ok-fields.ensures.made)

@@ -1,0 +1,9 @@
+pub mod Styles
+pub mod Signatures
+pub mod Answers
+pub mod Functions
+pub mod Refusals
+pub mod Collected
+pub mod Extended
+pub mod Named
+pub mod Tables

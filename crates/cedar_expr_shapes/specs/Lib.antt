@@ -1,0 +1,3 @@
+pub mod Hashed
+pub mod Compared
+pub mod Shapes

@@ -1,0 +1,12 @@
+use Rattle.std.proofs.Common.{◌≡◌, true, take}
+use Rattle.std.specs.BTreeMap.{values}
+use Rattle.std.specs.List.{list_all}
+use Rattle.cedar_expr_model.specs.Whole.Parts.{is_projectable}
+use Rattle.cedar_expr_trees.specs.Trees.{tree_of}
+use Rattle.cedar_expr_trees.proofs.+projectable.Given as goal
+
+abbrev pub invariant-contents::are_projectable-loop-e : goal.invariant-contents::are_projectable-loop-e
+invariant-contents::are_projectable-loop-e g l = list_all (λ e. is_projectable (tree_of e)) (take l.e-index l.exprs) ≡ true
+
+abbrev pub invariant-contents::have_projectable-loop-e : goal.invariant-contents::have_projectable-loop-e
+invariant-contents::have_projectable-loop-e g l = list_all (λ e. is_projectable (tree_of e)) (values l.fields) ≡ list_all (λ e. is_projectable (tree_of e)) l.e-iterator

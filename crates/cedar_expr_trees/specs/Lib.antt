@@ -1,0 +1,5 @@
+pub mod Operators
+pub mod Unknowns
+pub mod Trees
+pub mod Refusals
+pub mod Positions

@@ -1,0 +1,13 @@
+use Rattle.cedar_expr_values.proofs.Derived.{compared_is}
+use Rattle.cedar_expr_values.proofs.Members.{is_disjoint_is}
+use Rattle.cedar_expr_values.proofs.value.Set.is_disjoint.Goals as goal
+
+pub returns : goal.returns
+returns g c =
+    let x = g.X in
+    let m = g.met.X in
+    let agree = compared_is g.row.X x.Ord x.Ord-dict x.Eq x.Eq-dict x.PartialEq x.PartialEq-dict x.PartialOrd x.PartialOrd-dict
+    record { total = m.Ord.total; matches_partial_cmp = m.Ord.matches_partial_cmp; matches_eq = m.Ord.matches_eq }
+    record { laws = m.Eq.laws } record { laws = m.PartialEq.laws } record { laws = m.PartialOrd.laws }
+    x.ExtensionValue.seen m.ExtensionValue.ordered in
+    is_disjoint_is x.ExtensionValue.seen _ agree _ _ c.as_slice.result.now c.as_slice-2.result.now _ c.as_slice.ensures.as_made c.as_slice-2.ensures.as_made c.none_among.ensures

@@ -1,0 +1,53 @@
+use Rattle.std.proofs.Common.{◌||◌, sym, ap, ◌∙◌}
+use Rattle.std.proofs.Math.Bool.{or-false}
+use Rattle.std.specs.BTreeMap.{values}
+use Rattle.cedar_expr_names.specs.Literals.{literal_of}
+use Rattle.cedar_expr_names.specs.Views.{uid_of}
+use Rattle.cedar_expr_values.specs.Values.{bare, bare_kind}
+use Rattle.cedar_expr_values.specs.Uids.{has_uid, is_that_uid, holds_uid}
+use Rattle.cedar_expr_values.proofs.Layers.{value_seen}
+use Rattle.cedar_expr_values.proofs.Gathered.{among, literal_holds, one_more, one_less, through_all, set_holds, record_holds, uid_put}
+use Rattle.cedar_expr_values.proofs.value.ValueKind.+gather_uids.Goals as goal
+
+pub loop-value-init : goal.loop-value-init
+loop-value-init g t c = λ u. sym (or-false (has_uid c.args.uids.now u))
+
+pub loop-value-preserved : goal.loop-value-preserved
+loop-value-preserved g t c = λ u.
+    let seen = g.X.ExtensionValue.seen in
+    one_more (λ v. holds_uid (bare seen v) u) c.deref-value-items.result.now c.loop-value.value-index c.value-item.result _ (has_uid c.args.uids.now u) (has_uid c.loop-value.uids u)
+    (has_uid c.gather_uids.new.uids u) c.loop-value-test.true c.value-item.is (c.loop-value.invariant u)
+    (c.in_ok-gather_uids-in-Set.ensures u ∙ ap (λ v. has_uid c.loop-value.uids u || holds_uid v u) (sym (value_seen seen c.value-item.result)))
+
+pub loop-value-2-preserved : goal.loop-value-2-preserved
+loop-value-2-preserved g t c = λ u.
+    let seen = g.X.ExtensionValue.seen in
+    one_less (λ v. holds_uid (bare seen v) u) c.in-Some.value.now c.next.new.self c.loop-value-2.value-iterator (has_uid c.loop-value-2.uids u) (has_uid c.gather_uids-in-loop-value-2.new.uids u) _
+    c.in-Some.ensures.steps (c.loop-value-2.invariant u)
+    (c.in_ok-gather_uids-in-Record.ensures u ∙ ap (λ v. has_uid c.loop-value-2.uids u || holds_uid v u) (sym (value_seen seen c.in-Some.value.now)))
+
+pub returns-in_ok-insert-in-Lit : goal.returns-in_ok-insert-in-Lit
+returns-in_ok-insert-in-Lit g t c = λ u.
+    let seen = g.X.ExtensionValue.seen in
+    uid_put u c.args.uids.now c.insert.new.self c.in_ok-clone-in-Lit.field-0 (uid_of c.in-EntityUID.uid.value) c.in_ok-insert-in-Lit.ensures.keys
+    (c.in_ok-clone-in-Lit.ensures.cases.0 ∙ ap uid_of c.as_ref.ensures)
+    ∙ ap (λ b. has_uid c.args.uids.now u || b)
+    (sym (ap (λ k. holds_uid (bare_kind seen k) u) c.in-Lit.is ∙ literal_holds seen u c.in-Lit.literal ∙ ap (λ l. is_that_uid (literal_of l) u) c.in-EntityUID.is))
+
+pub returns-after-loop-value : goal.returns-after-loop-value
+returns-after-loop-value g t c = λ u.
+    let seen = g.X.ExtensionValue.seen in
+    through_all (λ v. holds_uid (bare seen v) u) c.deref-value-items.result.now c.loop-value.value-index (has_uid c.args.uids.now u) (has_uid c.loop-value.uids u) c.loop-value-test.false
+    (c.loop-value.invariant u)
+    ∙ ap (λ b. has_uid c.args.uids.now u || b)
+    (ap (among seen u) (c.deref-value-items.ensures.value ∙ ap (λ vs. vs.items) c.deref.ensures) ∙ sym (ap (λ k. holds_uid (bare_kind seen k) u) c.in-Set.is ∙ set_holds seen u c.in-Set.set))
+
+pub returns-in-None : goal.returns-in-None
+returns-in-None g t c = λ u.
+    let seen = g.X.ExtensionValue.seen in
+    sym (or-false (has_uid c.loop-value-2.uids u))
+    ∙ ap (λ vs. has_uid c.loop-value-2.uids u || among seen u vs) (sym c.in-None.ensures.steps.0)
+    ∙ c.loop-value-2.invariant u
+    ∙ ap (λ b. has_uid c.args.uids.now u || b)
+    (ap (among seen u) (c.into_iter-value-iterator.ensures.into_iter_gives ∙ c.values-value-items.ensures.rest ∙ ap values c.deref-in-Record.ensures)
+    ∙ sym (ap (λ k. holds_uid (bare_kind seen k) u) c.in-Record.is ∙ record_holds seen u c.in-Record.fields))

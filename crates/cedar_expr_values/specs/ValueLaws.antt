@@ -1,0 +1,25 @@
+-- What the laws of the code's values say.
+-- Rule: values and equality (docs/RULES.md).
+use Rattle.std.specs.Prelude.{◌≡◌, Bool, true}
+use Rattle.std.specs.declared.cmp.Ordering.{Ordering}
+use Rattle.cedar_expr_model.specs.Whole.Value.{V}
+use Rattle.cedar_expr_model.specs.Whole.Order.{value_cmp, value_eq}
+use Rattle.cedar_expr_model.specs.Whole.Canonical.{are_rising, is_member}
+use Rattle.cedar_expr_values.specs.Extension.{Extension}
+use Rattle.cedar_expr_values.specs.Values.{bare, bares}
+use Rattle.cedar_expr_values.specs.declared.value.Value.{Value}
+use Rattle.cedar_expr_values.specs.declared.value.Set.{Set}
+
+module _ {X : Type 0} (seen : X → Extension) where
+  -- an order of values is that of what they are alone
+  abbrev pub OrderedAsBare : (Value X → Value X → Ordering) → Type 0
+  OrderedAsBare cmp = (v w : Value X) → cmp v w ≡ value_cmp (bare seen v) (bare seen w)
+
+  -- so is an equality
+  abbrev pub EqualAsBare : (Value X → Value X → Bool) → Type 0
+  EqualAsBare eq = (v w : Value X) → eq v w ≡ value_eq (bare seen v) (bare seen w)
+
+  -- sets whose members rise are the same where they have the same members
+  abbrev pub SetsAreTheirMembers : Type 0
+  SetsAreTheirMembers =
+      (s t : Set X) → are_rising (bares seen s) ≡ true → are_rising (bares seen t) ≡ true → ((v : V) → is_member v (bares seen s) ≡ is_member v (bares seen t)) → bares seen s ≡ bares seen t
