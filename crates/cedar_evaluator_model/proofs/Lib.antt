@@ -11,6 +11,8 @@ pub mod Sure
 pub mod NoLimits
 pub mod Exact
 pub mod Completions
+pub mod Completable
+pub mod CompletableWorked
 pub mod Limits
 pub mod Responses
 pub mod Forced

@@ -1,11 +1,11 @@
 -- Where everything but the unknowns is known, an expression whose unknowns have values has an outcome.
 use Rattle.std.proofs.Common.{◌≡◌, Bool, true, false, cond, List, ◌∷◌, refl, subst}
 use Rattle.std.specs.Prelude.{Option, Some, None, length, IsSome, unwrap_or}
-use Rattle.cedar_expr_model.specs.Name.{Name}
+use Rattle.cedar_expr_model.specs.Name.{Text, Name}
 use Rattle.cedar_expr_model.specs.Uid.{Uid}
 use Rattle.cedar_expr_model.specs.Whole.Value.{V, record_of, field, truth_value}
 use Rattle.cedar_expr_model.specs.Whole.Canonical.{set_made}
-use Rattle.cedar_expr_model.specs.Whole.Tree.{Tree, lit, var, slot, unknown, choice, both, either, unary, binary, call, get_attr, has_attr, has_path, like, is_type, set_literal, record_literal, Trees, no_trees, tree, TreeFields, no_tree_fields, tree_field}
+use Rattle.cedar_expr_model.specs.Whole.Tree.{CoreType, Tree, lit, var, slot, unknown, choice, both, either, unary, binary, call, get_attr, has_attr, has_path, like, is_type, set_literal, record_literal, Trees, no_trees, tree, TreeFields, no_tree_fields, tree_field}
 use Rattle.cedar_expr_model.specs.Whole.Unknowns.{EachUnknown}
 use Rattle.cedar_expr_model.specs.Whole.Table.{Signature, Called, gives, fails, leaves, signature_of, takes_count, are_of_types, IsTaken}
 use Rattle.cedar_expr_model.proofs.Whole.Gathering.{EachIn, each_in, EachAmong, EachInFields}
@@ -27,8 +27,9 @@ filled_there : (o : Option V) → IsSome o → bound_value (Some (unwrap_or o (t
 filled_there None h = cc
 filled_there (Some v) h = refl
 
-module _ (w : World) (leaves_nothing : LeavesNothing w.table) where
-  same_answered : (f : Name) (vs : List V) (c : Called) → IsTaken w.table f vs → w.table.answers f vs ≡ c → answered (filled w).unknowns c ≡ answered w.unknowns c
+-- what unknowns mean matters only where they stand
+module _ (w : World) (means : Text → Option V) (leaves_nothing : LeavesNothing w.table) where
+  same_answered : (f : Name) (vs : List V) (c : Called) → IsTaken w.table f vs → w.table.answers f vs ≡ c → answered means c ≡ answered w.unknowns c
   same_answered f vs (gives v) k e = refl
   same_answered f vs (fails x) k e = refl
   same_answered f vs (leaves n) k e = absurd (leaves_nothing f vs n k e)
@@ -38,37 +39,46 @@ module _ (w : World) (leaves_nothing : LeavesNothing w.table) where
   guarded true false o p h = refl
   guarded false types o p h = refl
 
-  same_call : (f : Name) (vs : List V) (g : Option Signature) → signature_of w.table f ≡ g → called_of w.table (filled w).unknowns f vs g ≡ called_of w.table w.unknowns f vs g
+  same_call : (f : Name) (vs : List V) (g : Option Signature) → signature_of w.table f ≡ g → called_of w.table means f vs g ≡ called_of w.table w.unknowns f vs g
   same_call f vs None q = refl
-  same_call f vs (Some g) q = guarded (takes_count g (length vs)) (are_of_types g.parameters vs) (answered (filled w).unknowns (w.table.answers f vs)) (answered w.unknowns (w.table.answers f vs)) (λ c t. same_answered f vs (w.table.answers f vs) (g, q, c, t) refl)
+  same_call f vs (Some g) q = guarded (takes_count g (length vs)) (are_of_types g.parameters vs) (answered means (w.table.answers f vs)) (answered w.unknowns (w.table.answers f vs)) (λ c t. same_answered f vs (w.table.answers f vs) (g, q, c, t) refl)
+
+  abbrev pub SameAt : Text → Option CoreType → Type 0
+  SameAt n a = bound_value (means n) ≡ bound_value (w.unknowns n)
 
   mutual
-    pub same_filled : (t : Tree) → EachIn (λ n a. IsSome (w.unknowns n)) t → outcome_of (filled w) t ≡ outcome_of w t
-    same_filled (lit p) h = refl
-    same_filled (var x) h = same_variable w w.slots (filled w).unknowns x
-    same_filled (slot s) h = refl
-    same_filled (unknown n a) h = filled_there (w.unknowns n) h
-    same_filled (choice t a b) h = λ i. bind (same_filled t h.0 i) (picked (same_filled a h.1 i) (same_filled b h.2 i))
-    same_filled (both a b) h = λ i. bind (same_filled a h.0 i) (picked (bind (same_filled b h.1 i) (λ v. Some (truth_asked v))) (Some (says false)))
-    same_filled (either a b) h = λ i. bind (same_filled a h.0 i) (picked (Some (says true)) (bind (same_filled b h.1 i) (λ v. Some (truth_asked v))))
-    same_filled (unary o a) h = λ i. bind (same_filled a h i) (λ v. Some (applied o v))
-    same_filled (binary o a b) h = λ i. bind (same_filled a h.0 i) (λ v. bind (same_filled b h.1 i) (λ x. same_combined w w.slots (filled w).unknowns o v x i))
-    same_filled (call f ts) h = λ i. bind (same_among ts h i) (λ vs. same_call f vs (signature_of w.table f) refl i)
-    same_filled (get_attr t a) h = λ i. bind (same_filled t h i) (λ v. same_read w w.slots (filled w).unknowns a v i)
-    same_filled (has_attr t a) h = λ i. bind (same_filled t h i) (λ v. same_tested w w.slots (filled w).unknowns a v i)
-    same_filled (has_path t a bs) h = λ i. bind (same_filled t h i) (λ v. same_path w w.slots (filled w).unknowns a bs v i)
-    same_filled (like t p) h = λ i. bind (same_filled t h i) (λ v. Some (like_pattern p v))
-    same_filled (is_type t n) h = λ i. bind (same_filled t h i) (λ v. Some (of_type n v))
-    same_filled (set_literal ts) h = λ i. bind (same_among ts h i) (λ vs. Some (val (set_made vs)))
-    same_filled (record_literal fs) h = λ i. bind (same_fields fs h i) (λ vs. Some (val (record_of vs)))
+    pub same_meant : (t : Tree) → EachIn SameAt t → outcome_of (record w { unknowns = means }) t ≡ outcome_of w t
+    same_meant (lit p) h = refl
+    same_meant (var x) h = same_variable w w.slots means x
+    same_meant (slot s) h = refl
+    same_meant (unknown n a) h = h
+    same_meant (choice t a b) h = λ i. bind (same_meant t h.0 i) (picked (same_meant a h.1 i) (same_meant b h.2 i))
+    same_meant (both a b) h = λ i. bind (same_meant a h.0 i) (picked (bind (same_meant b h.1 i) (λ v. Some (truth_asked v))) (Some (says false)))
+    same_meant (either a b) h = λ i. bind (same_meant a h.0 i) (picked (Some (says true)) (bind (same_meant b h.1 i) (λ v. Some (truth_asked v))))
+    same_meant (unary o a) h = λ i. bind (same_meant a h i) (λ v. Some (applied o v))
+    same_meant (binary o a b) h = λ i. bind (same_meant a h.0 i) (λ v. bind (same_meant b h.1 i) (λ x. same_combined w w.slots means o v x i))
+    same_meant (call f ts) h = λ i. bind (same_among ts h i) (λ vs. same_call f vs (signature_of w.table f) refl i)
+    same_meant (get_attr t a) h = λ i. bind (same_meant t h i) (λ v. same_read w w.slots means a v i)
+    same_meant (has_attr t a) h = λ i. bind (same_meant t h i) (λ v. same_tested w w.slots means a v i)
+    same_meant (has_path t a bs) h = λ i. bind (same_meant t h i) (λ v. same_path w w.slots means a bs v i)
+    same_meant (like t p) h = λ i. bind (same_meant t h i) (λ v. Some (like_pattern p v))
+    same_meant (is_type t n) h = λ i. bind (same_meant t h i) (λ v. Some (of_type n v))
+    same_meant (set_literal ts) h = λ i. bind (same_among ts h i) (λ vs. Some (val (set_made vs)))
+    same_meant (record_literal fs) h = λ i. bind (same_fields fs h i) (λ vs. Some (val (record_of vs)))
 
-    same_among : (ts : Trees) → EachAmong (λ n a. IsSome (w.unknowns n)) ts → outcomes_of (filled w) ts ≡ outcomes_of w ts
+    same_among : (ts : Trees) → EachAmong SameAt ts → outcomes_of (record w { unknowns = means }) ts ≡ outcomes_of w ts
     same_among no_trees h = refl
-    same_among (tree t ts) h = λ i. bind (same_filled t h.0 i) (λ v. bind (same_among ts h.1 i) (λ vs. Some (val (v ∷ vs))))
+    same_among (tree t ts) h = λ i. bind (same_meant t h.0 i) (λ v. bind (same_among ts h.1 i) (λ vs. Some (val (v ∷ vs))))
 
-    same_fields : (fs : TreeFields) → EachInFields (λ n a. IsSome (w.unknowns n)) fs → field_outcomes_of (filled w) fs ≡ field_outcomes_of w fs
+    same_fields : (fs : TreeFields) → EachInFields SameAt fs → field_outcomes_of (record w { unknowns = means }) fs ≡ field_outcomes_of w fs
     same_fields no_tree_fields h = refl
-    same_fields (tree_field a t fs) h = λ i. bind (same_filled t h.0 i) (λ v. bind (same_fields fs h.1 i) (λ vs. Some (val (field a v vs))))
+    same_fields (tree_field a t fs) h = λ i. bind (same_meant t h.0 i) (λ v. bind (same_fields fs h.1 i) (λ vs. Some (val (field a v vs))))
+
+module _ (w : World) (leaves_nothing : LeavesNothing w.table) where
+  pub same_filled : (t : Tree) → EachIn (λ n a. IsSome (w.unknowns n)) t → outcome_of (filled w) t ≡ outcome_of w t
+  same_filled t h =
+      same_meant w (filled w).unknowns leaves_nothing t
+      ((each_in (λ n a. bound_value ((filled w).unknowns n) ≡ bound_value (w.unknowns n)) t).0 (λ u k. filled_there (w.unknowns u.name) ((each_in (λ n a. IsSome (w.unknowns n)) t).1 h u k)))
 
   pub whole_filled : IsSome w.principal → IsSome w.action → IsSome w.resource → IsSome w.context → ((u : Uid) → IsSettled (w.store u)) → IsWhole (filled w)
   whole_filled p a r c f = record { principal = p; action = a; resource = r; context = c; unknowns = λ n. refl; store = f }

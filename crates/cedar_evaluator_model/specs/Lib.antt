@@ -4,6 +4,7 @@ pub mod Evaluation
 pub mod Known
 pub mod Whole
 pub mod Completion
+pub mod Completable
 pub mod Standing
 pub mod Response
 pub mod Members

@@ -3,13 +3,14 @@
 use Rattle.std.specs.Prelude.{◌≡◌, [], ◌∷◌, codes, true, Some, if◌then◌else◌}
 use Rattle.std.specs.Str.{bytes_eq}
 use Rattle.cedar_expr_model.specs.Name.{Text}
-use Rattle.cedar_expr_model.specs.Uid.{Uid, uid_text}
+use Rattle.cedar_expr_model.specs.Uid.{Uid, uid_eq, uid_text}
 use Rattle.cedar_expr_model.specs.Whole.Value.{V, prim, entity, record_of, no_fields, truth_value}
 use Rattle.cedar_expr_model.specs.Whole.Table.{Table, fails}
-use Rattle.cedar_store_model.specs.Whole.World.{World, missing, not_loaded}
+use Rattle.cedar_store_model.specs.Whole.World.{World, held, missing, not_loaded}
+use Rattle.cedar_store_model.specs.Whole.Store.{unloaded}
 use Rattle.cedar_evaluator_model.specs.Completion.{Completes}
 use Rattle.cedar_evaluator_model.specs.Scope.{Scope}
-use Rattle.cedar_evaluator_model.specs.Worked.{user_a, user_b, doc_d, view, no_slot, worked_table, scope, open_scope}
+use Rattle.cedar_evaluator_model.specs.Worked.{user_a, user_b, doc_d, view, no_slot, worked_table, scope, open_scope, deep_context, entity_d}
 
 -- the open request over a store without entities
 abbrev pub open_request : Scope
@@ -67,3 +68,11 @@ other_twin = record { kind = record { path = []; base = codes "a::b" }; id = [] 
 -- no world completes a scope in which neither is loaded, since the unknown of their text can't mean both
 abbrev pub TwinsAreNeverOpen : Type 0
 TwinsAreNeverOpen = (w : World) (s : Scope) → s.store twin ≡ not_loaded → s.store other_twin ≡ not_loaded → Completes w s → ⊥
+
+-- Of the store `Doc::"d"` is loaded and nothing else; the request is open, and the context is {r: {s: unknown u}}.
+abbrev pub some_loaded : Scope
+some_loaded = record open_scope { context = deep_context; store = λ u. if uid_eq u doc_d then held entity_d else unloaded u }
+
+-- some world completes the scope
+abbrev pub IsCompletable : Scope → Type 0
+IsCompletable s = (w : World) × Completes w s

@@ -3,6 +3,12 @@
 ghost use Rattle.cedar_evaluator_model.specs.Laws.{ResidualsStand, ResidualsFit};
 ghost use Rattle.cedar_evaluator_model.specs.ResponseLaws.{VerdictsHold, Given, BoundsHold, KeepsSatisfied};
 ghost use Rattle.cedar_evaluator_model.specs.ReauthorizeLaws.{ResponsesAreCompleted, ReauthorizingCompletes, ReauthorizingKeeps, ReauthorizingDecides, ChainsKeep, ChainsDecide, ChainsAgree};
+ghost use Rattle.cedar_evaluator_model.specs.Completable.{CompletionsExist};
+
+/// A scope whose parts agree has a completion, in which unknowns mean what is given for them.
+pub fn completions_exist()
+    ensures { CompletionsExist }
+{}
 
 /// In every completion that fits the annotations what evaluation leaves stands for the expression: a value is what it means, an error
 /// means that it errs, and a residual means an equal value, or errs where the expression does. The unknowns of a residual fit their

@@ -16,9 +16,10 @@ ghost use Rattle.cedar_evaluator_model.specs.Whole.{LeavesNothing, NothingUnknow
 ghost use Rattle.cedar_evaluator_model.specs.WellMade.{IsWellMade, AllMadeWell};
 ghost use Rattle.cedar_evaluator_model.specs.Completion.{FitsAnnotations, EntryMeans, ContextMeans, PartMeans, FoundMeans, Completes};
 ghost use Rattle.cedar_evaluator_model.specs.Standing.{StandsFor, IsOutcome, LeavesUnbound, NoLimit};
-ghost use Rattle.cedar_evaluator_model.specs.Worked.{user, doc, user_a, user_b, doc_d, number, made_number, made_truth, true_tree, false_tree, unknown_a, unknown_u, rank, entity_d, scope, open_scope, with_value, with_context, deep_context};
+ghost use Rattle.cedar_evaluator_model.specs.Worked.{user, doc, user_a, user_b, doc_d, number, made_number, made_truth, true_tree, false_tree, unknown_a, unknown_u, rank, entity_d, scope, open_scope, with_value, with_context, deep_context, standing_b};
+ghost use Rattle.cedar_evaluator_model.specs.Evaluation.{evaluated};
 ghost use Rattle.cedar_expr_model.specs.Uid.{uid_text};
-ghost use Rattle.cedar_evaluator_model.specs.WorkedCompletions.{twin, other_twin, TwinsAreNeverOpen, open_request, completed, bound_slots, other_kind, other_name, whole_scope};
+ghost use Rattle.cedar_evaluator_model.specs.WorkedCompletions.{twin, other_twin, TwinsAreNeverOpen, some_loaded, IsCompletable, open_request, completed, bound_slots, other_kind, other_name, whole_scope};
 
 /// What a scope knows as values: known parts, and nothing of the unknown ones.
 pub fn worked_known()
@@ -118,4 +119,14 @@ pub fn worked_well_made()
 pub fn worked_twins()
     ensures text { uid_text twin ≡ uid_text other_twin }
     ensures never { TwinsAreNeverOpen }
+{}
+
+/// A scope of which one entity is loaded, with an open request and a context with an unknown, has a completion: what is no uid isn't open
+/// in it. What is asked of an entity that isn't loaded is residual.
+pub fn worked_completable()
+    ensures there { IsCompletable some_loaded }
+    ensures open { some_loaded.store twin ≡ not_loaded }
+    ensures no_uid { some_loaded.store other_twin ≡ missing }
+    ensures left { evaluated some_loaded 16 (get_attr (lit (entity user_b)) (codes "ok")) ≡ residual (get_attr standing_b (codes "ok")) }
+    ensures context { evaluated some_loaded 16 (get_attr (get_attr (var context) (codes "r")) (codes "s")) ≡ residual unknown_u }
 {}

@@ -71,11 +71,11 @@ form c = form_of c (c == 34) (c == 92) (nat_le 32 c && nat_le c 126) refl refl
 digit_no_brace : (c : ℕ) → digit_value c < 16 → c ≢ 125
 digit_no_brace c h e = let k : digit_value 125 < 16 = subst (λ x. digit_value x < 16) e h in omega arith
 
-digits_no_brace : (ds : Text) → AllDigits 16 ds → Lacks 125 ds
+pub digits_no_brace : (ds : Text) → AllDigits 16 ds → Lacks 125 ds
 digits_no_brace [] h = tt
 digits_no_brace (d ∷ ds) h = (digit_no_brace d h.0, digits_no_brace ds h.1)
 
-hexed_rest : (c : ℕ) (r : Text) → hexed c ++ r ≡ 92 ∷ 117 ∷ 123 ∷ (digits 16 false c ++ 125 ∷ r)
+pub hexed_rest : (c : ℕ) (r : Text) → hexed c ++ r ≡ 92 ∷ 117 ∷ 123 ∷ (digits 16 false c ++ 125 ∷ r)
 hexed_rest c r = ap (λ x. 92 ∷ 117 ∷ 123 ∷ x) (append_assoc (digits 16 false c) (125 ∷ []) r)
 
 numbers_apart : (c d : ℕ) (r s : Text) → c < 16 ^ 64 → d < 16 ^ 64 → hexed c ++ r ≡ hexed d ++ s → (c ≡ d) × (r ≡ s)

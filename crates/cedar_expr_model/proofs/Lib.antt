@@ -4,4 +4,5 @@ pub mod Reading
 pub mod Computed
 pub mod Escapes
 pub mod UidText
+pub mod UidRead
 pub mod Whole

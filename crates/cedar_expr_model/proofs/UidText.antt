@@ -44,16 +44,16 @@ joined_lacks (p ∷ path) base h k =
     let q = both_hold (is_identifier p) (list_all is_identifier path) h in
     Lacks-append 34 p (colons ++ joined path base) (identifier_lacks p q.0) (Lacks-append 34 colons (joined path base) colons_lack (joined_lacks path base q.1 k))
 
-name_lacks : (n : Name) → is_well_formed n ≡ true → Lacks 34 (name_text n ++ colons)
+pub name_lacks : (n : Name) → is_well_formed n ≡ true → Lacks 34 (name_text n ++ colons)
 name_lacks n h =
     let q = both_hold (list_all is_identifier n.path) (is_identifier n.base) h in
     Lacks-append 34 (name_text n) colons (joined_lacks n.path n.base q.0 q.1) colons_lack
 
 -- what stands in the quotes
-abbrev inside : Uid → Text
+abbrev pub inside : Uid → Text
 inside u = flat_map escaped (chars u.id) ++ 34 ∷ []
 
-uid_text_is : (u : Uid) → uid_text u ≡ (name_text u.kind ++ colons) ++ 34 ∷ inside u
+pub uid_text_is : (u : Uid) → uid_text u ≡ (name_text u.kind ++ colons) ++ 34 ∷ inside u
 uid_text_is u = sym (append_assoc (name_text u.kind) colons (34 ∷ inside u))
 
 ids_apart : (a b : Text) → IsUtf8 a → IsUtf8 b → chars a ≡ chars b → a ≡ b

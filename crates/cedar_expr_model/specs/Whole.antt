@@ -17,6 +17,7 @@ pub mod BuilderForm
 pub mod Repeats
 pub mod Records
 pub mod Names
+pub mod Uids
 pub mod ValueParts
 pub mod Shape
 pub mod Texts

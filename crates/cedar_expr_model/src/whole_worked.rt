@@ -28,6 +28,8 @@ ghost use Rattle.cedar_expr_model.specs.Whole.Texts.{var_text, unary_text, binar
 ghost use Rattle.cedar_expr_model.specs.Whole.Represented.{IsRepresented};
 ghost use Rattle.cedar_expr_model.specs.Whole.Names.{is_unqualified, namespace_of, within, qualified, possibilities, cedar_name, unreserved_read, name_given, reserved_given, nothing_given};
 ghost use Rattle.cedar_expr_model.specs.Whole.TreeLaws.{is_plain};
+ghost use Rattle.cedar_expr_model.specs.Whole.Uids.{is_uid};
+ghost use Rattle.cedar_expr_model.specs.Worked.{awkward_uid};
 ghost use Rattle.cedar_expr_model.specs.Whole.ValueParts.{value_of_tree, known, left, split, values_alone, with_residuals};
 ghost use Rattle.cedar_expr_model.specs.Whole.Worked.{plain, user, doc, rank_name, label_name, deep_name, false_name, alice, bob, number, word, flag, one_two, two_one_one, falling, rising, a_then_b, b_then_a, f_to_r, f_and_more, truth_lit, number_lit, named, named_as, two_unknowns, unrestricted, with_principal, rank_of, rank_of_two, lost_call, made_number, made_truth, made_rank, only_x, x_and_y, nothing_bound, number_for_truth, unknown_as, rank_function, label_function, join_function, unknown_function, other_rank_function, other_label_function, worked_table, typed_table, unfair_table, variable_builder, true_rank, feigned_rank};
 
@@ -446,4 +448,12 @@ pub fn worked_texts()
     ensures pattern { pattern_text f_to_r ≡ codes "f**r" }
     ensures star { pattern_text (character 42 ∷ wildcard ∷ []) ≡ 92 ∷ 42 ∷ 42 ∷ [] }
     ensures quote { pattern_text (character 34 ∷ []) ≡ 92 ∷ 34 ∷ [] }
+{}
+
+/// What is a uid, and what is none: a type whose name is no name, and an id that isn't a text.
+pub fn worked_uids()
+    ensures uid { is_uid alice ≡ true }
+    ensures awkward { is_uid awkward_uid ≡ true }
+    ensures no_name { is_uid (record { kind = record { path = []; base = codes "a::b" }; id = [] }) ≡ false }
+    ensures no_text { is_uid (record { kind = user; id = 255 ∷ [] }) ≡ false }
 {}

@@ -25,7 +25,7 @@ ghost use Rattle.cedar_gate_model.specs.Whole.Owed.{IsForced};
 ghost use Rattle.cedar_evaluator_model.specs.Members.{met_limit};
 ghost use Rattle.cedar_gate_model.specs.Whole.Lines.{is_answered, is_refused, is_unreadable, is_stopped, warning_lines, entry_lines, answer_lines, end_lines, end_status, refused_line, unreadable_line, Prints};
 ghost use Rattle.cedar_store_model.specs.Whole.Answer.{allow, deny, reasons_of};
-ghost use Rattle.cedar_gate_model.specs.Whole.WorkedGate.{user_b, user_z, alice, p0, p1, p2, p3, p5, p6, p7, submitted, within, twice_users, slot_in_body, and_unknown, and_edit, and_blue, robot, robots, viewing_by, person, document, staff, without_b, below_z, world_of, by_a, by_some_user, by_anyone, asking, no_context, rank, open_rank, open_named, with_ranks, no_functions, setup_with, text_made, uid_made, number_made, after, lines, p4, ranking, answer_with, in_quotes, user_text, good_bundle, far_bundle, open_bundle, nothing_known, nobody_known, after_a_round, nested_with, reviewed, bounds, by_a_on_b, nobody_there, ordinary, right_supply, with_z, only_d, twice_d, b_for_a, lacks_ok};
+ghost use Rattle.cedar_gate_model.specs.Whole.WorkedGate.{user_b, user_z, no_uid, alice, p0, p1, p2, p3, p5, p6, p7, submitted, within, twice_users, slot_in_body, and_unknown, and_edit, and_blue, robot, robots, viewing_by, person, document, staff, without_b, below_z, world_of, by_a, by_some_user, by_anyone, asking, no_context, rank, open_rank, open_named, with_ranks, no_functions, setup_with, text_made, uid_made, number_made, after, lines, p4, ranking, answer_with, in_quotes, user_text, good_bundle, far_bundle, open_bundle, nothing_known, nobody_known, after_a_round, nested_with, reviewed, bounds, by_a_on_b, nobody_there, ordinary, right_supply, with_z, only_d, twice_d, b_for_a, lacks_ok};
 ghost use Rattle.cedar_evaluator_model.specs.Known.{known_entry, known_context};
 
 /// Submissions that are accepted, and one that isn't for each fault.
@@ -123,8 +123,11 @@ pub fn worked_knowledge()
     ensures order { are_rising (doc_d ∷ user_a ∷ user_b ∷ []) ≡ true }
     ensures no_order { are_rising (user_a ∷ doc_d ∷ []) ≡ false }
     ensures no_repeat { are_rising (doc_d ∷ doc_d ∷ []) ≡ false }
-    ensures answer { told (held (person user_a true)) ≡ held (person user_a true) }
-    ensures absence { told missing ≡ not_loaded }
+    ensures answer { told user_a (held (person user_a true)) ≡ held (person user_a true) }
+    ensures absence { told user_a missing ≡ not_loaded }
+    ensures no_uid { told no_uid missing ≡ missing }
+    ensures no_uid_now { (known_now (setup_with 2 no_functions by_a staff) at_start).store no_uid ≡ missing }
+    ensures no_uid_there { (world_now (setup_with 2 no_functions by_a ((no_uid, person user_a true) ∷ [])) at_start).store no_uid ≡ missing }
 {}
 
 /// Names that are open, and bindings that are refused.

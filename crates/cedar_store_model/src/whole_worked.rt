@@ -13,7 +13,7 @@ ghost use Rattle.cedar_store_model.specs.Whole.Looks.{Looks};
 ghost use Rattle.cedar_store_model.specs.Whole.Laws.{has_dereference};
 ghost use Rattle.cedar_store_model.specs.Whole.Knowledge.{holds_values, KeepsPart, Extends, IsWhole};
 ghost use Rattle.cedar_store_model.specs.Whole.Store.{are_distinct, store_of, look_up, stand_in, with_ancestor, whole, partial, as_open, world_of};
-ghost use Rattle.cedar_store_model.specs.Whole.Worked.{user, doc, user_a, user_b, user_z, ghost_g, team, doc_d, view, edit, number, below_zero, word, uid, says_true, says_false, one_tree, two_trees, uid_value, number_value, ok_of, boss_of, no_field, no_entity, rank, blob, later, pair, plain, rank_of, blob_of, person, unfinished, table, request, entities, without_b, world, world_without_b, bound_world, nothing_loaded, a_loaded, principal_open, a_unfinished};
+ghost use Rattle.cedar_store_model.specs.Whole.Worked.{user, doc, user_a, user_b, user_z, ghost_g, team, no_uid, doc_d, view, edit, number, below_zero, word, uid, says_true, says_false, one_tree, two_trees, uid_value, number_value, ok_of, boss_of, no_field, no_entity, rank, blob, later, pair, plain, rank_of, blob_of, person, unfinished, table, request, entities, without_b, world, world_without_b, bound_world, nothing_loaded, a_loaded, principal_open, a_unfinished};
 
 /// Arithmetic: a result of more than 64 bits is an overflow, and operands must be whole numbers.
 pub fn worked_arithmetic()
@@ -211,11 +211,14 @@ pub fn worked_dereferences()
     ensures no_lookup { has_dereference (binary contains (set_literal no_trees) (var principal)) ≡ false }
 {}
 
-/// Stores: an absent entity is missing in a whole store and not loaded in a partial one.
+/// Stores: an absent entity is missing in a whole store and not loaded in a partial one. What is no uid is missing in both, whatever
+/// stands under it.
 pub fn worked_stores()
     ensures there { look_up (record { extent = partial; entities = entities }) user_a ≡ held (person user_a true) }
     ensures absent { look_up (record { extent = whole; entities = entities }) ghost_g ≡ missing }
     ensures unloaded { look_up (record { extent = partial; entities = without_b }) user_b ≡ not_loaded }
+    ensures no_uid { look_up (record { extent = partial; entities = without_b }) no_uid ≡ missing }
+    ensures no_uid_held { look_up (record { extent = whole; entities = (no_uid, person user_a true) ∷ [] }) no_uid ≡ missing }
     ensures distinct { are_distinct entities ≡ true }
     ensures repeated { are_distinct ((user_a, person user_a true) ∷ (doc_d, unfinished) ∷ (user_a, unfinished) ∷ []) ≡ false }
     ensures refused { store_of whole ((user_a, person user_a true) ∷ (user_a, person user_a true) ∷ []) ≡ None }

@@ -18,3 +18,7 @@ pub mod Forcing
 pub mod LateWorked
 pub mod WellMade
 pub mod Read
+pub mod Names
+pub mod Scoped
+pub mod Existing
+pub mod Opened

@@ -1,8 +1,9 @@
 -- What the first path accepts, does and prints, seen as what the whole language does, and what the laws say of this.
 -- Rule: the acceptance rules; impossible policies; statuses and refusal numbers; sessions; refusals of a session; runs; legal transcript; the lines (docs/RULES.md).
-use Rattle.std.specs.Prelude.{◌≡◌, ◌↔◌, ◌||◌, ℕ, List, [], map, true, false, Option, Some, None, option_map}
+use Rattle.std.specs.Prelude.{◌≡◌, ◌↔◌, ◌&&◌, ◌||◌, ℕ, List, [], map, true, false, Option, Some, None, option_map}
 use Rattle.cedar_expr_model.specs.Name.{Text}
 use Rattle.cedar_expr_model.specs.Uid.{Uid}
+use Rattle.cedar_expr_model.specs.Whole.Uids.{is_uid}
 use Rattle.cedar_expr_model.specs.Whole.Value.{V}
 use Rattle.cedar_expr_model.specs.Whole.Made.{no_made_fields, bare}
 use Rattle.cedar_expr_model.specs.Whole.Table.{Table}
@@ -134,9 +135,9 @@ NothingIsWantedAtZero = (x : Setup) (t : State) → x.level ≡ 0 → NothingIsW
 abbrev pub SupplyingNothingIsRight : Type 0
 SupplyingNothingIsRight = (x : Setup) (t : State) → x.level ≡ 0 → (f : SupplyRefusal) → SupplyFault x t [] f → ⊥
 
--- The first path's world of a bundle, in which the declared actions are held too.
+-- The first path's world of a bundle, in which the declared actions are held too, and of what else its store lists all that is a uid.
 abbrev pub with_actions : small_bundle.Bundle → small_world.World
-with_actions b = record { request = b.request; holds = λ u. small_declarations.declares_action b.submission.declarations u || (small_bundle.bundle_world b).holds u }
+with_actions b = record { request = b.request; holds = λ u. small_declarations.declares_action b.submission.declarations u || (is_uid u && (small_bundle.bundle_world b).holds u) }
 
 -- the answer of a bundle stands on that world in each state, with the functions' table and what is bound
 abbrev pub WorldsAreTheSame : Type 0

@@ -1,16 +1,17 @@
 -- Requests that may be partly open, the worlds that complete them, and what is known at a moment of a run.
 -- Rule: completions; moments (docs/RULES.md).
-use Rattle.std.specs.Prelude.{◌≡◌, ◌||◌, ℕ, List, [], Bool, true, Option, Some, codes, if◌then◌else◌}
+use Rattle.std.specs.Prelude.{◌≡◌, ◌||◌, ℕ, List, [], Bool, true, false, Option, Some, codes, if◌then◌else◌}
 use Rattle.std.specs.List.{list_all, list_any}
 use Rattle.std.specs.Str.{bytes_eq}
 use Rattle.cedar_expr_model.specs.Name.{Text}
 use Rattle.cedar_expr_model.specs.Uid.{Uid, uid_eq}
+use Rattle.cedar_expr_model.specs.Whole.Uids.{is_uid}
 use Rattle.cedar_expr_model.specs.Whole.Value.{V, record_of, Fields}
 use Rattle.cedar_expr_model.specs.Whole.Tree.{record_literal}
 use Rattle.cedar_expr_model.specs.Whole.Made.{bare_fields}
 use Rattle.cedar_expr_model.specs.Whole.Parts.{unknowns}
 use Rattle.cedar_expr_model.specs.Whole.Table.{Table}
-use Rattle.cedar_store_model.specs.Whole.World.{World, Entity, Found, held, not_loaded, by_found}
+use Rattle.cedar_store_model.specs.Whole.World.{World, Entity, Found, held, missing, by_found}
 use Rattle.cedar_store_model.specs.Whole.Knowledge.{IsWhole}
 use Rattle.cedar_schema_model.specs.Whole.Schema.{Schema, declares_action}
 use Rattle.cedar_schema_model.specs.Whole.ActionEntities.{as_entity}
@@ -19,7 +20,7 @@ use Rattle.cedar_evaluator_model.specs.Scope.{Entry, uid, unknown_uid, Context, 
 use Rattle.cedar_gate_model.specs.Whole.Slice.{InSlice}
 use Rattle.cedar_evaluator_model.specs.Response.{PartialRequest}
 use Rattle.cedar_evaluator_model.specs.Completion.{IsOfKind, PartIs}
-use Rattle.cedar_store_model.specs.Whole.Store.{OpenRequest}
+use Rattle.cedar_store_model.specs.Whole.Store.{OpenRequest, unloaded}
 use Rattle.cedar_expr_model.specs.Whole.Lists.{when}
 
 -- the uid that completes an entry: the one given, or any of its type
@@ -38,7 +39,8 @@ abbrev pub request_of : World → OpenRequest
 request_of w = record { principal = w.principal; action = w.action; resource = w.resource; context = w.context }
 
 -- A whole world that completes a request, for a schema and a level: the request conforms, the declared actions stand in the store as
--- they are declared, and the entities of the slice conform; those outside it may be as they are.
+-- they are declared, nothing else that is no uid stands in it, and the entities of the slice conform; those outside it may be as they
+-- are.
 pub record Completes (s : Schema) (x : Table) (n : ℕ) (start : PartialRequest) (w : World) : Type 0 where
   pub whole : IsWhole w
   pub principal : EntryCompleted start.principal w.principal
@@ -48,6 +50,7 @@ pub record Completes (s : Schema) (x : Table) (n : ℕ) (start : PartialRequest)
   pub table : w.table ≡ x
   pub request : RequestConforms s (request_of w)
   pub actions : (u : Uid) → declares_action s u ≡ true → w.store u ≡ held (as_entity s u)
+  pub uids : (u : Uid) → declares_action s u ≡ false → is_uid u ≡ false → w.store u ≡ missing
   pub slice : (u : Uid) (e : Entity V) → InSlice s n w u → w.store u ≡ held e → EntityConforms s u e
 
 -- What was done by a moment: the names that were bound, and the uids that were asked for.
@@ -73,8 +76,8 @@ context_known m (residual_fields fs) = list_all (λ u. is_bound m u.name) (unkno
 context_known m unknown_context = is_bound m (codes "context")
 
 -- What an answer tells: an entity. That there is none counts for nothing before the end.
-abbrev pub told : Found V → Found V
-told found = by_found held not_loaded not_loaded found
+abbrev pub told : Uid → Found V → Found V
+told u found = by_found held (unloaded u) (unloaded u) found
 
 -- what is known of a world at a moment: what was given or bound, and the declared actions and the answers
 abbrev pub known_at : Schema → PartialRequest → World → Moment → World
@@ -84,5 +87,5 @@ known_at s start w m = record w {
   resource = when (entry_known m (codes "resource") start.resource) w.resource;
   context = when (context_known m start.context) w.context;
   unknowns = λ n. when (is_bound m n) (w.unknowns n);
-  store = λ u. if declares_action s u || list_any (uid_eq u) m.asked then told (w.store u) else not_loaded;
+  store = λ u. if declares_action s u || list_any (uid_eq u) m.asked then told u (w.store u) else unloaded u;
 }

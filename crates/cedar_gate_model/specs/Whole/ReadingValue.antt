@@ -5,7 +5,7 @@ use Rattle.serde_json.specs.Data.{Data}
 use Rattle.cedar_expr_model.specs.Whole.Tree.{Tree, record_literal}
 use Rattle.cedar_expr_model.specs.Whole.Made.{Made}
 use Rattle.cedar_expr_model.specs.Whole.Restricted.{is_restricted}
-use Rattle.cedar_store_model.specs.Whole.World.{not_loaded}
+use Rattle.cedar_store_model.specs.Whole.Store.{unloaded}
 use Rattle.cedar_evaluator_model.specs.Scope.{unknown_uid, Context, unknown_context, Scope, Left, value_left}
 use Rattle.cedar_gate_model.specs.Reading.{given}
 use Rattle.cedar_gate_model.specs.Whole.Bundle.{Functions}
@@ -24,7 +24,7 @@ with_functions x = record {
   values = λ n. None;
   table = x.table;
   calls = x.calls;
-  store = λ u. not_loaded;
+  store = λ u. unloaded u;
 }
 
 -- what is left of a restricted expression

@@ -1,6 +1,6 @@
 -- What the laws say of what runs decide and answer.
 -- Rule: runs; completions; the answer (docs/RULES.md).
-use Rattle.std.specs.Prelude.{◌≡◌, map, ◌||◌, ◌++◌, ◌∷◌, List, Contains, true, false, Option, Some, None, IsSome, unwrap_or, if◌then◌else◌}
+use Rattle.std.specs.Prelude.{◌≡◌, map, ◌||◌, ◌++◌, [], ◌∷◌, List, Contains, true, false, Option, Some, None, IsSome, unwrap_or, if◌then◌else◌, option_map}
 use Rattle.std.specs.List.{list_any}
 use Rattle.std.specs.Map.{lookup}
 use Rattle.serde_json.specs.Data.{Data}
@@ -10,23 +10,27 @@ use Rattle.cedar_expr_model.specs.Whole.Made.{Made, bare}
 use Rattle.cedar_expr_model.specs.Whole.Table.{IsFair, IsTaken, all_typed}
 use Rattle.cedar_expr_model.specs.Whole.Value.{V, truth_value}
 use Rattle.cedar_store_model.specs.Whole.World.{World, Entity, Found, missing}
-use Rattle.cedar_store_model.specs.Whole.Knowledge.{holds_values}
+use Rattle.cedar_store_model.specs.Whole.Knowledge.{Keeps, holds_values}
 use Rattle.cedar_store_model.specs.Whole.Answer.{Decision, Answer, PolicyError, answer_of}
 use Rattle.cedar_schema_model.specs.Whole.Schema.{declares_action}
 use Rattle.cedar_schema_model.specs.Whole.Conforming.{RequestConforms}
 use Rattle.cedar_typechecker_model.specs.Whole.Soundness.{IsExpected}
-use Rattle.cedar_evaluator_model.specs.Scope.{makes, Agrees}
+use Rattle.cedar_evaluator_model.specs.Scope.{makes, Agrees, residual_fields}
 use Rattle.cedar_evaluator_model.specs.Known.{known_found}
 use Rattle.cedar_evaluator_model.specs.Members.{decision_in_session}
 use Rattle.cedar_evaluator_model.specs.Response.{PartialRequest, response_of}
-use Rattle.cedar_evaluator_model.specs.WellMade.{IsWellMade}
+use Rattle.cedar_evaluator_model.specs.WellMade.{IsWellMade, IsFoundMadeWell, IsContextMadeWell}
+use Rattle.cedar_evaluator_model.specs.Completion as evaluator
+use Rattle.cedar_evaluator_model.specs.Completion.{PartIs}
+use Rattle.cedar_evaluator_model.specs.Completable.{is_free_name}
+use Rattle.cedar_expr_model.specs.Whole.Tree.{TreeFields, record_literal}
 use Rattle.cedar_gate_model.specs.Whole.Acceptance.{Submission, IsAccepted, schema_in}
 use Rattle.cedar_gate_model.specs.Whole.Bundle.{Functions, Bundle}
 use Rattle.cedar_gate_model.specs.Whole.Moment.{request_of, at_first}
 use Rattle.cedar_gate_model.specs.Whole.ReadingBundle.{bundle_read}
 use Rattle.cedar_gate_model.specs.Whole.ReadingValue.{with_functions}
 use Rattle.cedar_gate_model.specs.Whole.Transcript.{Step, Entry, decided, AreLegal}
-use Rattle.cedar_gate_model.specs.Whole.Session.{Setup, State, scope_now, known_now, whole_store, world_now, NothingIsWanted, HasOpenName, CompletesNow}
+use Rattle.cedar_gate_model.specs.Whole.Session.{Setup, State, value_of, context_now, scope_now, known_now, whole_store, world_now, NothingIsWanted, OpenRefusal, OpenFault, BindRefusal, BindFault, HasOpenName, CompletesNow}
 use Rattle.cedar_gate_model.specs.Whole.Runs.{End, answered, MayDecide, Runs}
 use Rattle.cedar_gate_model.specs.Whole.RunLaws.{bindings_in, case_of}
 use Rattle.cedar_gate_model.specs.Whole.RunsAsk.{IsMadeContext, end_state}
@@ -122,16 +126,58 @@ abbrev pub ForcedDecisionsAreGiven : Type 0
 ForcedDecisionsAreGiven = (c : Course) (s : State) (store : Uid → Found Made) → IsProper c → ((u : Uid) → known_found (store u) ≡ (known_now (session_of c) s).store u)
     → decision_in_session (response_of (scope_now (session_of c) s store) c.submission.limit c.submission.policies) ≡ None → MayDecide (session_of c) c.submission.policies s None
 
--- the course of a bundle
-abbrev pub course_of : Functions → Bundle → Course
-course_of x b = record { submission = b.submission; functions = x; start = b.start; store = λ u. lookup (uid_eq u) b.store; steps = b.steps }
-
 -- Fair functions, each with a result type, whose calls answer as the table does, with values as they are written.
 pub record MakeFairly (x : Functions) : Type 0 where
   pub fair : IsFair x.table
   pub typed : all_typed x.table ≡ true
   pub agrees : Agrees (with_functions x)
   pub well : (f : Name) (ms : List Made) (m : Made) → IsTaken x.table f (map bare ms) → x.calls f ms ≡ makes m → IsWellMade x.table m
+
+-- each name was bound after those before it, without a refusal, to a value as it is written
+abbrev pub AreBound : Setup → List (Text × Made) → Type 0
+AreBound x [] = Unit {0}
+AreBound x (b ∷ bs) = AreBound x bs × ((f : BindRefusal) → BindFault x (record { bound = bs; asked = [] }) b.0 b.1 f → ⊥) × IsWellMade x.functions.table b.1
+
+-- The session opened, and bound its names.
+pub record IsOpened (x : Setup) (s : State) : Type 0 where
+  pub opened : (f : OpenRefusal) → OpenFault x.start f → ⊥
+  pub bound : AreBound x s.bound
+
+-- so is the session at each decision on the way of a run
+abbrev pub DecidingSessionsAreOpened : Type 0
+DecidingSessionsAreOpened = (c : Course) (before after : List Entry) (d : Option Decision) (end : End) → IsProper c → IsRun c (before ++ decided d ∷ after) end → IsOpened (session_of c) (end_state c.steps before)
+
+-- What evaluating stands on: the store is what is known of it, and its values and those of the context are as they are written.
+pub record IsKnownStore (c : Course) (s : State) (store : Uid → Found Made) : Type 0 where
+  pub known : (u : Uid) → known_found (store u) ≡ (known_now (session_of c) s).store u
+  pub well : (u : Uid) → IsFoundMadeWell c.functions.table (store u)
+  pub context : IsContextMadeWell c.functions.table c.start.context
+
+-- Where free names mean what is given, the context as it is now is a record, if an expression is left of it.
+abbrev pub ContextIsPossible : Setup → State → (Text → V) → Type 0
+ContextIsPossible x s given = (fs : TreeFields) → context_now x.functions s x.start.context ≡ residual_fields fs
+    → (v : V) × ((w : World) → w.table ≡ x.functions.table → ((n : Text) → is_free_name n ≡ true → w.unknowns n ≡ Some (given n)) → PartIs w (record_literal fs) v)
+
+-- Then what a session's evaluation knows has a completion, whatever was bound and asked for by then.
+abbrev pub SessionsHaveCompletions : Type 0
+SessionsHaveCompletions = (c : Course) (s : State) (store : Uid → Found Made) (given : Text → V) → IsProper c → IsOpened (session_of c) s → IsKnownStore c s store
+    → ((n : Text) → is_free_name n ≡ true → Keeps (option_map bare (value_of s n)) (Some (given n))) → ContextIsPossible (session_of c) s given
+    → (w : World) × evaluator.Completes w (scope_now (session_of c) s store)
+
+-- For each world that completes the state of a session there is one that completes what its evaluation knows, with the same answer.
+abbrev pub SessionsAreCompleted : Type 0
+SessionsAreCompleted = (c : Course) (s : State) (store : Uid → Found Made) → IsProper c → MakeFairly c.functions → IsOpened (session_of c) s → IsKnownStore c s store
+    → (w : World) → CompletesNow (session_of c) s w
+    → (v : World) × evaluator.Completes v (scope_now (session_of c) s store) × (answer_of v c.submission.policies ≡ answer_of w c.submission.policies)
+
+-- A decision that evaluating in part gives is that of every completion of the state.
+abbrev pub EvaluatedDecisionsHold : Type 0
+EvaluatedDecisionsHold = (c : Course) (s : State) (store : Uid → Found Made) → IsProper c → MakeFairly c.functions → IsOpened (session_of c) s → IsKnownStore c s store
+    → (d : Decision) → decision_in_session (response_of (scope_now (session_of c) s store) c.submission.limit c.submission.policies) ≡ Some d → MayDecide (session_of c) c.submission.policies s (Some d)
+
+-- the course of a bundle
+abbrev pub course_of : Functions → Bundle → Course
+course_of x b = record { submission = b.submission; functions = x; start = b.start; store = λ u. lookup (uid_eq u) b.store; steps = b.steps }
 
 -- the course of a bundle that is read and accepted is proper
 abbrev pub BundlesAreProper : Type 0

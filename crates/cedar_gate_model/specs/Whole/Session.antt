@@ -13,10 +13,10 @@ use Rattle.cedar_expr_model.specs.Whole.Made.{Made, made_prim, made_record, bare
 use Rattle.cedar_expr_model.specs.Whole.Substitution.{fits_annotation, substituted}
 use Rattle.cedar_expr_model.specs.Whole.Parts.{Unknown, unknowns}
 use Rattle.cedar_expr_model.specs.Whole.Repeats as repeats
-use Rattle.cedar_store_model.specs.Whole.World.{World, Entity, Found, held, not_loaded}
+use Rattle.cedar_store_model.specs.Whole.World.{World, Entity, Found, held}
 use Rattle.cedar_store_model.specs.Whole.Policy.{Policy}
 use Rattle.cedar_store_model.specs.Whole.Answer.{Decision, decision_of}
-use Rattle.cedar_store_model.specs.Whole.Store.{found_as, whole}
+use Rattle.cedar_store_model.specs.Whole.Store.{found_as, if_uid, unloaded, whole}
 use Rattle.cedar_schema_model.specs.Whole.Schema.{Schema, declares_action}
 use Rattle.cedar_schema_model.specs.Whole.ActionEntities.{as_entity}
 use Rattle.cedar_schema_model.specs.Whole.Conforming.{EntityConforms, RequestConforms}
@@ -86,14 +86,14 @@ scope_now x s store = record {
   store = store;
 }
 
--- what the whole store answers: at declared actions these stand, whatever is said of them
+-- What the whole store answers: at declared actions these stand, whatever is said of them, and what else is no uid is missing.
 abbrev pub whole_store : Setup → Uid → Found V
-whole_store x u = if declares_action x.schema u then held (as_entity x.schema u) else found_as whole (x.store u)
+whole_store x u = if declares_action x.schema u then held (as_entity x.schema u) else if_uid u (found_as whole (x.store u))
 
 -- what is known by now
 abbrev pub known_now : Setup → State → World
 known_now x s =
-    record (known_world (scope_now x s (λ u. not_loaded))) { store = λ u. if declares_action x.schema u || list_any (uid_eq u) s.asked then told (whole_store x u) else not_loaded }
+    record (known_world (scope_now x s (λ u. unloaded u))) { store = λ u. if declares_action x.schema u || list_any (uid_eq u) s.asked then told u (whole_store x u) else unloaded u }
 
 -- the same with the whole store, which the answer stands on
 abbrev pub world_now : Setup → State → World

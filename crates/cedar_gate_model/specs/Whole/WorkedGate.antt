@@ -1,6 +1,6 @@
 -- The values of the worked examples of acceptance, slices, sessions and lines.
 -- Rule: the acceptance rules; the slice; sessions; the lines (docs/RULES.md).
-use Rattle.std.specs.Prelude.{ℕ, pos, List, [], ◌∷◌, ◌++◌, codes, Bool, true, false, Option, Some, None}
+use Rattle.std.specs.Prelude.{ℕ, pos, List, [], ◌∷◌, ◌++◌, codes, Bool, true, false, Option, Some, None, if◌then◌else◌}
 use Rattle.std.specs.List.{flat_map}
 use Rattle.cedar_expr_model.specs.Name.{Text, Name}
 use Rattle.cedar_expr_model.specs.Uid.{Uid, uid_eq}
@@ -9,8 +9,8 @@ use Rattle.cedar_expr_model.specs.Whole.Tree.{principal, action, context, Tree, 
 use Rattle.cedar_expr_model.specs.Whole.Made.{Made, made_prim, made_extension, no_made_fields}
 use Rattle.cedar_expr_model.specs.Whole.Table.{Table, function_style, Called, gives, fails}
 use Rattle.cedar_expr_model.specs.Whole.ValueParts.{known}
-use Rattle.cedar_store_model.specs.Whole.World.{World, Entity, Found, not_loaded}
-use Rattle.cedar_store_model.specs.Whole.Store.{Entities, found_as, whole}
+use Rattle.cedar_store_model.specs.Whole.World.{World, Entity, Found, held, not_loaded}
+use Rattle.cedar_store_model.specs.Whole.Store.{Entities, found_as, unloaded, whole}
 use Rattle.cedar_store_model.specs.Whole.Answer.{Answer, allow, deny, answer_of}
 use Rattle.cedar_store_model.specs.Whole.Policy.{Policy, Effect, permit, forbid, exactly, named}
 use Rattle.cedar_schema_model.specs.Whole.Declarations.{Declarations, ActionDeclaration, bag, standard_expr, no_field_exprs}
@@ -22,9 +22,10 @@ use Rattle.cedar_evaluator_model.specs.Scope.{MadeCalled, makes, faults, Entry, 
 use Rattle.cedar_evaluator_model.specs.Response.{Response, response_of, PartialRequest}
 use Rattle.cedar_gate_model.specs.Whole.Acceptance.{Submission, schema_in}
 use Rattle.cedar_gate_model.specs.Whole.Bundle.{Functions, Bundle}
+use Rattle.cedar_schema_model.specs.Whole.Schema.{declares_action}
 use Rattle.cedar_gate_model.specs.Whole.Session.{Setup, State, at_start, known_now, world_now, scope_now, Supplied}
 use Rattle.cedar_gate_model.specs.Whole.Runs.{supplied_by}
-use Rattle.cedar_gate_model.specs.Whole.RunsAnswer.{Course}
+use Rattle.cedar_gate_model.specs.Whole.RunsAnswer.{Course, session_of}
 use Rattle.cedar_gate_model.specs.Whole.Transcript.{load, bind_name}
 use Rattle.cedar_gate_model.specs.Whole.Lines.{line, setup_of}
 use Rattle.cedar_gate_model.specs.Whole.GateLaws.{Bounds}
@@ -35,6 +36,10 @@ user_b = uid_of user (codes "b")
 
 abbrev pub user_z : Uid
 user_z = uid_of user (codes "z")
+
+-- the type has two colons in its one part, so it is no name
+abbrev pub no_uid : Uid
+no_uid = record { kind = record { path = []; base = codes "a::b" }; id = [] }
 
 abbrev pub alice : Uid
 alice = uid_of user (codes "alice")
@@ -337,6 +342,10 @@ p0_allows = record { decision = allow; reasons = codes "p0" ∷ []; errors = [] 
 -- its course, without steps
 abbrev pub loaded_course : Course
 loaded_course = record { submission = level_two; functions = no_functions; start = by_a; store = loading.store; steps = [] }
+
+-- the store that it is evaluated over at its start: the declared actions
+abbrev pub actions_alone : Uid → Found Made
+actions_alone u = let s = (session_of loaded_course).schema in if declares_action s u then held (record { attributes = []; tags = []; ancestors = (as_entity s u).ancestors }) else unloaded u
 
 -- the same by some user, who is bound late: to the owner of the document, who isn't the boss
 abbrev pub late_course : Course

@@ -1,5 +1,5 @@
 -- The meaning of the first path is that of the whole language on its part of it.
-use Rattle.std.proofs.Common.{◌≡◌, ◌↔◌, ℤ, Bool, true, false, cond, List, [], ◌∷◌, refl, sym, ap, ◌∙◌, ⊎_elim}
+use Rattle.std.proofs.Common.{◌≡◌, ◌↔◌, ◌&&◌, ℤ, Bool, true, false, cond, if◌then◌else◌, List, [], ◌∷◌, refl, sym, ap, ◌∙◌, ⊎_elim}
 use Rattle.std.specs.Prelude.{Option, Some, int_lt, ◌||◌, IsSome}
 use Rattle.std.specs.List.{list_any}
 use Rattle.std.specs.Ordering.{is_lt, int_cmp}
@@ -11,13 +11,14 @@ use Rattle.cedar_expr_model.specs.Value as small_value
 use Rattle.cedar_expr_model.specs.Tree as small_tree
 use Rattle.cedar_expr_model.specs.Whole.Value.{V}
 use Rattle.cedar_expr_model.specs.Whole.Table.{Table}
+use Rattle.cedar_expr_model.specs.Whole.Uids.{is_uid}
 use Rattle.cedar_expr_model.specs.Whole.FirstPath.{whole_value, whole_var, whole_unary, whole_binary, whole_tree}
 use Rattle.cedar_expr_model.proofs.Whole.FirstPath.{values_are_kept, equality_is_whole}
 use Rattle.cedar_store_model.specs.Outcome as small_outcome
 use Rattle.cedar_store_model.specs.World as small_world
 use Rattle.cedar_store_model.specs.Meaning as small_meaning
 use Rattle.cedar_store_model.specs.Whole.Outcome.{Res, bind}
-use Rattle.cedar_store_model.specs.Whole.World.{World}
+use Rattle.cedar_store_model.specs.Whole.World.{World, Found, missing}
 use Rattle.cedar_store_model.specs.Whole.Operators.{says, applied}
 use Rattle.cedar_store_model.specs.Whole.Meaning.{Means, variable, truth_asked, picked, combined, outcome_of}
 use Rattle.cedar_store_model.specs.Whole.Looks.{Looks}
@@ -131,8 +132,13 @@ found_whole : (u : Uid) (us : List Uid) → whole_found (list_any (uid_eq u) us)
 found_whole u [] = refl
 found_whole u (v ∷ us) = found_first (uid_eq u v) (list_any (uid_eq u) us) u us (found_whole u us)
 
-pub worlds_are_of_stores : (x : Table) (unknowns : Text → Option V) (r : small_world.Request) (us : List Uid) → whole_world x unknowns (record { request = r; holds = λ u. list_any (uid_eq u) us }) ≡ world_of x unknowns (as_open (whole_request r)) (record { extent = whole; entities = plain_entities us })
-worlds_are_of_stores x unknowns r us = λ i. record (whole_world x unknowns (record { request = r; holds = λ u. list_any (uid_eq u) us })) { store = λ u. found_whole u us i }
+held_as_uid : (b c : Bool) (f : Found V) → whole_found c ≡ f → whole_found (b && c) ≡ (if b then f else missing)
+held_as_uid true c f e = e
+held_as_uid false c f e = refl
+
+pub worlds_are_of_stores : (x : Table) (unknowns : Text → Option V) (r : small_world.Request) (us : List Uid)
+    → whole_world x unknowns (record { request = r; holds = λ u. is_uid u && list_any (uid_eq u) us }) ≡ world_of x unknowns (as_open (whole_request r)) (record { extent = whole; entities = plain_entities us })
+worlds_are_of_stores x unknowns r us = λ i. record (whole_world x unknowns (record { request = r; holds = λ u. is_uid u && list_any (uid_eq u) us })) { store = λ u. held_as_uid (is_uid u) (list_any (uid_eq u) us) _ (found_whole u us) i }
 
 pub worlds_know_the_request : (x : Table) (unknowns : Text → Option V) (w : small_world.World) → KnowsRequest w.request (whole_world x unknowns w)
 worlds_know_the_request x unknowns w = record { principal = refl; action = refl; resource = refl }

@@ -9,10 +9,11 @@ use Rattle.cedar_expr_model.specs.Name.{Text}
 use Rattle.cedar_expr_model.specs.Uid.{Uid, uid_eq}
 use Rattle.cedar_expr_model.specs.Whole.Value.{V}
 use Rattle.cedar_expr_model.specs.Whole.Table.{Table}
+use Rattle.cedar_expr_model.specs.Whole.Uids.{is_uid}
 use Rattle.cedar_expr_model.proofs.Equality.{uid_eq-Decides}
 use Rattle.cedar_expr_model.proofs.Lists.{both_hold, contains_head, contains_tail, contains_cases, contains_none, map_has}
 use Rattle.cedar_expr_model.specs.Whole.ValueParts.{Part, known, left}
-use Rattle.cedar_store_model.specs.Whole.World.{World, Request, Entity, Found}
+use Rattle.cedar_store_model.specs.Whole.World.{World, Request, Entity, Found, missing}
 use Rattle.cedar_store_model.specs.Whole.Looks.{Looks}
 use Rattle.cedar_store_model.specs.Whole.Knowledge.{holds_values, Keeps, KeepsPart, KeepsEntity, KeepsFound, IsSettled, IsWhole, Extends}
 use Rattle.cedar_store_model.specs.Whole.Policy.{Policy, condition}
@@ -75,6 +76,10 @@ keeps_found : (o p : Option (Entity V)) → ((e : Entity V) → o ≡ Some e →
 keeps_found None p h = tt
 keeps_found (Some e) p h = (e, ap (found_as whole) (h e refl), entity_keeps e)
 
+keeps_if_uid : (b : Bool) (f g : Found V) → KeepsFound f g → KeepsFound (cond b f missing) (cond b g missing)
+keeps_if_uid true f g h = h
+keeps_if_uid false f g h = refl
+
 pub whole_extends_partial : (table : Table) (some_unknowns unknowns : Text → Option V) (q r : OpenRequest) (loaded all : Entities)
     → ((n : Text) → Keeps (some_unknowns n) (unknowns n)) → KeepsRequest q r → ArePartOf loaded all → are_distinct all ≡ true
     → Extends (world_of table some_unknowns q (record { extent = partial; entities = loaded })) (world_of table unknowns r (record { extent = whole; entities = all }))
@@ -86,7 +91,7 @@ whole_extends_partial table m n q r loaded all hn hr part distinct = record {
   slots = λ s. refl;
   unknowns = hn;
   table = refl;
-  store = λ u. keeps_found (lookup (uid_eq u) loaded) (lookup (uid_eq u) all) (λ e h. stands_found all distinct u e (part (u, e) (found_stands loaded u e h)));
+  store = λ u. keeps_if_uid (is_uid u) (found_as partial (lookup (uid_eq u) loaded)) (found_as whole (lookup (uid_eq u) all)) (keeps_found (lookup (uid_eq u) loaded) (lookup (uid_eq u) all) (λ e h. stands_found all distinct u e (part (u, e) (found_stands loaded u e h))));
 }
 
 settled_here : (b : Bool) (d : Entity V) (o : Option (Entity V)) → holds_values d ≡ true → IsSettled (found_as whole o) → IsSettled (found_as whole (cond b (Some d) o))
@@ -97,10 +102,14 @@ settled : (es : Entities) → list_all (λ (e : Uid × Entity V). holds_values e
 settled [] h u = tt
 settled (e ∷ es) h u = let k = both_hold (holds_values e.1) (list_all (λ (d : Uid × Entity V). holds_values d.1) es) h in settled_here (uid_eq u e.0) e.1 (lookup (uid_eq u) es) k.0 (settled es k.1 u)
 
+settled_if_uid : (b : Bool) (f : Found V) → IsSettled f → IsSettled (cond b f missing)
+settled_if_uid true f h = h
+settled_if_uid false f h = tt
+
 pub whole_stores_are_whole : (table : Table) (unknowns : Text → Option V) (r : Request) (es : Entities)
     → ((n : Text) → IsSome (unknowns n)) → list_all (λ (e : Uid × Entity V). holds_values e.1) es ≡ true
     → IsWhole (world_of table unknowns (as_open r) (record { extent = whole; entities = es }))
-whole_stores_are_whole table unknowns r es hn hs = record { principal = refl; action = refl; resource = refl; context = refl; unknowns = hn; store = settled es hs }
+whole_stores_are_whole table unknowns r es hn hs = record { principal = refl; action = refl; resource = refl; context = refl; unknowns = hn; store = λ u. settled_if_uid (is_uid u) (found_as whole (lookup (uid_eq u) es)) (settled es hs u) }
 
 -- answers by the outcomes of the policies
 filter_same : (f g : Policy → Bool) (ps : List Policy) → ((p : Policy) → Contains ps p → f p ≡ g p) → filter f ps ≡ filter g ps

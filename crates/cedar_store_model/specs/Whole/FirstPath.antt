@@ -1,6 +1,6 @@
 -- The worlds, outcomes, policies and answers of the first path, seen as those of the whole language, and what the laws say of this.
 -- Rule: the meaning; conditions; the answer (docs/RULES.md).
-use Rattle.std.specs.Prelude.{◌≡◌, ◌↔◌, List, [], map, Bool, true, false, Option, Some, None, IsSome}
+use Rattle.std.specs.Prelude.{◌≡◌, ◌↔◌, ◌&&◌, List, [], map, Bool, true, false, Option, Some, None, IsSome}
 use Rattle.std.specs.List.{list_any}
 use Rattle.cedar_expr_model.specs.Name.{Text}
 use Rattle.cedar_expr_model.specs.Uid.{Uid, uid_eq}
@@ -8,6 +8,7 @@ use Rattle.cedar_expr_model.specs.Value as small_value
 use Rattle.cedar_expr_model.specs.Tree as small_tree
 use Rattle.cedar_expr_model.specs.Whole.Value.{V, no_fields}
 use Rattle.cedar_expr_model.specs.Whole.Table.{Table}
+use Rattle.cedar_expr_model.specs.Whole.Uids.{is_uid}
 use Rattle.cedar_expr_model.specs.Whole.FirstPath.{whole_value, whole_tree}
 use Rattle.cedar_store_model.specs.Outcome as small_outcome
 use Rattle.cedar_store_model.specs.World as small_world
@@ -117,10 +118,10 @@ InEachWorld P = (w : small_world.World) (u : World) → KnowsRequest w.request u
 abbrev pub plain_entities : List Uid → Entities
 plain_entities us = map (λ u. (u, plain_entity)) us
 
--- the world of a request and of a store that holds these uids is that of the whole store of their entities
+-- the world of a request and of a store that holds these, as far as they are uids, is that of the whole store of their entities
 abbrev pub WorldsAreOfStores : Type 0
 WorldsAreOfStores = (x : Table) (unknowns : Text → Option V) (r : small_world.Request) (us : List Uid)
-    → whole_world x unknowns (record { request = r; holds = λ u. list_any (uid_eq u) us }) ≡ world_of x unknowns (as_open (whole_request r)) (record { extent = whole; entities = plain_entities us })
+    → whole_world x unknowns (record { request = r; holds = λ u. is_uid u && list_any (uid_eq u) us }) ≡ world_of x unknowns (as_open (whole_request r)) (record { extent = whole; entities = plain_entities us })
 
 -- it knows the request
 abbrev pub WorldsKnowTheRequest : Type 0

@@ -7,6 +7,7 @@ use Rattle.cedar_expr_model.specs.Uid.{Uid, uid_eq, uid_text}
 use Rattle.cedar_expr_model.specs.Whole.Value.{V, record_of}
 use Rattle.cedar_expr_model.specs.Whole.Tree.{Tree, unknown, entity_core}
 use Rattle.cedar_expr_model.specs.Whole.Repeats.{repeated}
+use Rattle.cedar_expr_model.specs.Whole.Uids.{is_uid}
 use Rattle.cedar_expr_model.specs.Whole.Table.{Table}
 use Rattle.cedar_store_model.specs.Whole.World.{World, Request, Entity, Found, held, missing, not_loaded}
 
@@ -29,8 +30,16 @@ found_as x (Some e) = held e
 found_as whole None = missing
 found_as partial None = not_loaded
 
+-- what is no uid is in no store
+abbrev pub if_uid : {A : Type 0} → Uid → Found A → Found A
+if_uid u found = if is_uid u then found else missing
+
+-- nothing is known of a uid; what is no uid is missing all the same
+abbrev pub unloaded : {A : Type 0} → Uid → Found A
+unloaded u = if_uid u not_loaded
+
 abbrev pub look_up : Store → Uid → Found V
-look_up s u = found_as s.extent (lookup (uid_eq u) s.entities)
+look_up s u = if_uid u (found_as s.extent (lookup (uid_eq u) s.entities))
 
 -- what stands for an entity that isn't loaded: the unknown named by the text of its uid, annotated with its type
 abbrev pub stand_in : Uid → Tree

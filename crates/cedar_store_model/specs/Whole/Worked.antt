@@ -37,6 +37,10 @@ ghost_g = record { kind = plain (codes "Ghost"); id = codes "g" }
 abbrev pub team : Uid
 team = record { kind = plain (codes "Team"); id = codes "t" }
 
+-- the type has two colons in its one part, so it is no name
+abbrev pub no_uid : Uid
+no_uid = record { kind = plain (codes "a::b"); id = [] }
+
 abbrev pub doc_d : Uid
 doc_d = record { kind = doc; id = codes "d" }
 

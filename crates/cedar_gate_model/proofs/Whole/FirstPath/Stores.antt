@@ -1,13 +1,14 @@
 -- The world of the answer of a bundle of the first path.
-use Rattle.std.proofs.Common.{◌≡◌, ◌∙◌, Bool, true, false, cond, ◌||◌, List, [], ◌∷◌, None, sym, ap, subst}
+use Rattle.std.proofs.Common.{◌≡◌, ◌∙◌, Bool, true, false, cond, ◌&&◌, ◌||◌, List, [], ◌∷◌, None, sym, ap, subst}
 use Rattle.std.specs.Prelude.{option_map, Contains}
 use Rattle.std.specs.Map.{lookup}
 use Rattle.cedar_expr_model.specs.Uid.{Uid, uid_eq}
+use Rattle.cedar_expr_model.specs.Whole.Uids.{is_uid}
 use Rattle.cedar_expr_model.specs.Whole.Value.{V}
 use Rattle.cedar_expr_model.specs.Whole.Made.{bare}
 use Rattle.cedar_expr_model.proofs.Lists.{contains_none, map_from}
 use Rattle.cedar_store_model.specs.Whole.World.{World, Entity, Found, held}
-use Rattle.cedar_store_model.specs.Whole.Store.{found_as, whole}
+use Rattle.cedar_store_model.specs.Whole.Store.{found_as, if_uid, whole}
 use Rattle.cedar_store_model.specs.Whole.FirstPath.{plain_entity, plain_entities, whole_found, whole_world}
 use Rattle.cedar_store_model.proofs.Whole.FirstPath.{worlds_are_of_stores}
 use Rattle.cedar_schema_model.specs.Declarations as small
@@ -46,15 +47,15 @@ either_found true h e o p q = ap held p
 either_found false h e o p q = q
 
 module _ (f : Functions) (b : small_bundle.Bundle) (first : IsFirstPath b.submission.declarations) where
-  listed : (u : Uid) → found_as whole (lookup (uid_eq u) (plain_entities b.store)) ≡ whole_found ((small_bundle.bundle_world b).holds u)
+  listed : (u : Uid) → if_uid u (found_as whole (lookup (uid_eq u) (plain_entities b.store))) ≡ whole_found (is_uid u && (small_bundle.bundle_world b).holds u)
   listed u = sym (ap (λ (w : World). w.store u) (worlds_are_of_stores f.table (λ n. None) b.request b.store))
 
   same_store : (u : Uid) → whole_store (setup_of f (whole_bundle f.table b)) u ≡ whole_found ((with_actions b).holds u)
   same_store u =
       let d = b.submission.declarations in
-      ap (λ s. cond (declares_action s u) (held (as_entity s u)) (found_as whole (lookup (uid_eq u) (plain_entities b.store)))) (same_schema d first)
-      ∙ ap (λ t. cond t (held (as_entity (whole_schema d) u)) (found_as whole (lookup (uid_eq u) (plain_entities b.store)))) (actions_of_schema d u)
-      ∙ either_found (small.declares_action d u) ((small_bundle.bundle_world b).holds u) (as_entity (whole_schema d) u) _ (plain_action d u) (listed u)
+      ap (λ s. cond (declares_action s u) (held (as_entity s u)) (if_uid u (found_as whole (lookup (uid_eq u) (plain_entities b.store))))) (same_schema d first)
+      ∙ ap (λ t. cond t (held (as_entity (whole_schema d) u)) (if_uid u (found_as whole (lookup (uid_eq u) (plain_entities b.store))))) (actions_of_schema d u)
+      ∙ either_found (small.declares_action d u) (is_uid u && (small_bundle.bundle_world b).holds u) (as_entity (whole_schema d) u) _ (plain_action d u) (listed u)
 
 pub worlds_are_the_same : (f : Functions) (b : small_bundle.Bundle) (t : State) → IsFirstPath b.submission.declarations
     → world_now (setup_of f (whole_bundle f.table b)) t ≡ whole_world f.table (λ n. option_map bare (value_of t n)) (with_actions b)

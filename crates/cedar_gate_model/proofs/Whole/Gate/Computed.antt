@@ -3,6 +3,7 @@ use Rattle.std.proofs.Common.{◌≡◌, ◌∙◌, Bool, true, false, cond, not
 use Rattle.std.specs.Prelude.{Contains}
 use Rattle.std.specs.Str.{bytes_eq, chars}
 use Rattle.std.specs.Fmt.{digits}
+use Rattle.cedar_expr_model.specs.Whole.Uids.{is_uid}
 use Rattle.cedar_expr_model.specs.Name.{Text, Name}
 use Rattle.cedar_expr_model.specs.Uid.{Uid}
 use Rattle.cedar_expr_model.specs.Whole.Value.{truth_value}
@@ -159,16 +160,22 @@ too_little h =
 abbrev good_schema : Schema
 good_schema = good_setup.schema
 
-settled_at : (u : Uid) (t : Bool) → IsSettled (cond t (held (as_entity good_schema u)) missing)
-settled_at u true = refl
-settled_at u false = tt
+settled_at : (u : Uid) (t i : Bool) → IsSettled (cond t (held (as_entity good_schema u)) (cond i missing missing))
+settled_at u true i = refl
+settled_at u false true = tt
+settled_at u false false = tt
 
-stands_at : (u : Uid) (t : Bool) → t ≡ true → cond t (held (as_entity good_schema u)) missing ≡ held (as_entity good_schema u)
-stands_at u true e = refl
-stands_at u false e = cc
+stands_at : (u : Uid) (t i : Bool) → t ≡ true → cond t (held (as_entity good_schema u)) (cond i missing missing) ≡ held (as_entity good_schema u)
+stands_at u true i e = refl
+stands_at u false i e = cc
+
+nothing_at : (u : Uid) (t i : Bool) → t ≡ false → cond t (held (as_entity good_schema u)) (cond i missing missing) ≡ missing
+nothing_at u true i e = cc
+nothing_at u false true e = refl
+nothing_at u false false e = refl
 
 nobody_is_whole : IsWhole nobody_there
-nobody_is_whole = record { principal = refl; action = refl; resource = refl; context = refl; unknowns = λ n. refl; store = λ u. settled_at u (declares_action good_schema u) }
+nobody_is_whole = record { principal = refl; action = refl; resource = refl; context = refl; unknowns = λ n. refl; store = λ u. settled_at u (declares_action good_schema u) (is_uid u) }
 
 pub completed : Completes good_schema no_table 0 by_a_on_b nobody_there
 completed = record {
@@ -179,7 +186,8 @@ completed = record {
   context = refl;
   table = refl;
   request = (request_conforms-Decides good_schema (request_of nobody_there)).0 refl;
-  actions = λ u e. stands_at u (declares_action good_schema u) e;
+  actions = λ u e. stands_at u (declares_action good_schema u) (is_uid u) e;
+  uids = λ u e i. nothing_at u (declares_action good_schema u) (is_uid u) e;
   slice = λ u e i. absurd i.0;
 }
 
@@ -193,6 +201,7 @@ of_type = record {
   table = refl;
   request = completed.request;
   actions = completed.actions;
+  uids = completed.uids;
   slice = completed.slice;
 }
 

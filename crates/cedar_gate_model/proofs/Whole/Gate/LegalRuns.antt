@@ -11,10 +11,10 @@ use Rattle.cedar_expr_model.specs.Whole.Value.{V, record_of, Fields}
 use Rattle.cedar_expr_model.specs.Whole.Made.{Made, bare, made_prim, made_set, made_record, made_extension}
 use Rattle.cedar_expr_model.proofs.Lists.{contains_head, contains_tail, found-Decides}
 use Rattle.cedar_expr_model.proofs.Equality.{uid_eq-Decides}
-use Rattle.cedar_store_model.specs.Whole.World.{World, Found, held, not_loaded}
+use Rattle.cedar_store_model.specs.Whole.World.{World, Found, held}
 use Rattle.cedar_store_model.specs.Whole.Policy.{Policy}
 use Rattle.cedar_store_model.specs.Whole.Answer.{Decision, Answer}
-use Rattle.cedar_store_model.specs.Whole.Store.{found_as, whole}
+use Rattle.cedar_store_model.specs.Whole.Store.{found_as, if_uid, unloaded, whole}
 use Rattle.cedar_schema_model.specs.Whole.Schema.{declares_action}
 use Rattle.cedar_schema_model.specs.Whole.ActionEntities.{as_entity}
 use Rattle.cedar_evaluator_model.specs.Scope.{Entry, uid, unknown_uid, Context, closed, residual_fields, unknown_context, value_left}
@@ -106,15 +106,15 @@ roots_same x s w h c = record {
   context = context_same x s w x.start.context h (bound_or_open w (codes "context") s.bound c.bound) c.request.context;
 }
 
-same_told : (t r : Bool) (f g : Found V) → (t ≡ true → f ≡ g) → (r ≡ true → f ≡ g) → cond (t || r) (told f) not_loaded ≡ cond (t || r) (told g) not_loaded
-same_told true r f g a b = ap told (a refl)
-same_told false true f g a b = ap told (b refl)
-same_told false false f g a b = refl
+same_told : (u : Uid) (t r : Bool) (f g : Found V) → (t ≡ true → f ≡ g) → (r ≡ true → f ≡ g) → cond (t || r) (told u f) (unloaded u) ≡ cond (t || r) (told u g) (unloaded u)
+same_told u true r f g a b = ap (told u) (a refl)
+same_told u false true f g a b = ap (told u) (b refl)
+same_told u false false f g a b = refl
 
 pub store_same : (x : Setup) (s : State) (w : World) → CompletesNow x s w → (u : Uid) → (known_now x s).store u ≡ (seen x w s).store u
 store_same x s w c u =
-    same_told (declares_action x.schema u) (list_any (uid_eq u) s.asked) (whole_store x u) (w.store u)
-    (λ e. ap (λ t. cond t (held (as_entity x.schema u)) (found_as whole (x.store u))) e ∙ sym (c.request.actions u e))
+    same_told u (declares_action x.schema u) (list_any (uid_eq u) s.asked) (whole_store x u) (w.store u)
+    (λ e. ap (λ t. cond t (held (as_entity x.schema u)) (if_uid u (found_as whole (x.store u)))) e ∙ sym (c.request.actions u e))
     (λ e. sym (c.asked u ((found-Decides uid_eq uid_eq-Decides u s.asked).0 e)))
 
 pub near_same : (v w : World) → SameRoots v w → ((x : Uid) → v.store x ≡ w.store x) → (n : ℕ) (u : Uid) → IsNear n w u ↔ IsNear n v u

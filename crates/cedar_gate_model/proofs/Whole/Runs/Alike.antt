@@ -12,7 +12,7 @@ use Rattle.cedar_expr_model.specs.Whole.Tree.{record_literal}
 use Rattle.cedar_expr_model.specs.Whole.Substitution.{Bindings, substituted}
 use Rattle.cedar_expr_model.proofs.Lists.{contains_head, contains_tail, contains_cases, contains_none}
 use Rattle.cedar_store_model.specs.Whole.World.{Entity, held}
-use Rattle.cedar_store_model.specs.Whole.Store.{found_as, whole}
+use Rattle.cedar_store_model.specs.Whole.Store.{found_as, if_uid, whole}
 use Rattle.cedar_store_model.specs.Whole.Laws.{with_store}
 use Rattle.cedar_store_model.specs.Whole.Policy.{Policy}
 use Rattle.cedar_store_model.specs.Whole.Answer.{Decision, Answer, answer_of}
@@ -193,9 +193,9 @@ moved_policies_answer_alike c qs es fs a b moved run other =
     )
 
 -- stores that differ outside of the slice
-same_reach : (d : Bool) (e : Entity V) (o p : Option (Entity V)) → (d ≡ false → p ≡ o) → cond d (held e) (found_as whole p) ≡ cond d (held e) (found_as whole o)
-same_reach true e o p h = refl
-same_reach false e o p h = ap (found_as whole) (h refl)
+same_reach : (u : Uid) (d : Bool) (e : Entity V) (o p : Option (Entity V)) → (d ≡ false → p ≡ o) → cond d (held e) (if_uid u (found_as whole p)) ≡ cond d (held e) (if_uid u (found_as whole o))
+same_reach u true e o p h = refl
+same_reach u false e o p h = ap (λ z. if_uid u (found_as whole z)) (h refl)
 
 never : (b : Bool) → b ≡ true → b ≡ false → ⊥
 never true e f = cc
@@ -213,7 +213,7 @@ outside_says_nothing c store es fs a b proper same run other =
     let near : (u : Uid) → InSlice x.schema x.level (with_unknowns w) u → store u ≡ c.store u =
     λ u h. same u (subst (λ z. InSlice x.schema x.level z u) (ends_are_the_courses c es a run) (near_kept (with_unknowns w) w (λ v k. k) (λ v y k. k) x.level u h.0, h.1)) in
     let agree : (u : Uid) → IsInReach x.schema x.level (with_unknowns w) u → other_store u ≡ (with_unknowns w).store u =
-    λ u h. same_reach (declares_action x.schema u) (as_entity x.schema u) (c.store u) (store u) (λ f. ⊎_elim (near u) (λ e. absurd (never (declares_action x.schema u) e f)) h) in
+    λ u h. same_reach u (declares_action x.schema u) (as_entity x.schema u) (c.store u) (store u) (λ f. ⊎_elim (near u) (λ e. absurd (never (declares_action x.schema u) e f)) h) in
     let moved : answer_of (with_store w other_store) ps ≡ answer_of w ps =
     sym (clear (with_store w other_store) ps (leaves_nothing c proper) (none_has_unknowns c proper))
     ∙ only_the_slice_answers c.submission (with_unknowns w) proper.accepted (at_end c proper es a run (λ stands opened nothing fine. fit c proper (end_state c.steps es) stands opened nothing fine)) other_store agree

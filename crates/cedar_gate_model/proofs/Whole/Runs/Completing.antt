@@ -9,6 +9,7 @@ use Rattle.std.proofs.lemmas.List.Elements.{Contains-append_cases}
 use Rattle.std.proofs.lemmas.Slice.Eq.{bytes_eq-Decides}
 use Rattle.cedar_expr_model.specs.Name.{Text, Name, name_eq}
 use Rattle.cedar_expr_model.specs.Uid.{Uid}
+use Rattle.cedar_expr_model.specs.Whole.Uids.{is_uid}
 use Rattle.cedar_expr_model.specs.Whole.Value.{V, entity, record_of, Fields, truth_value}
 use Rattle.cedar_expr_model.specs.Whole.Tree.{record_literal, TreeFields}
 use Rattle.cedar_expr_model.specs.Whole.Made.{Made, made_prim, made_set, made_record, made_extension, bare, bare_fields}
@@ -19,9 +20,9 @@ use Rattle.cedar_expr_model.proofs.Lists.{contains_head, contains_tail, contains
 use Rattle.cedar_expr_model.proofs.Equality.{name_eq-Decides}
 use Rattle.cedar_expr_model.proofs.Whole.CoreTypes.{fits-Decides}
 use Rattle.cedar_store_model.specs.Whole.Outcome.{val}
-use Rattle.cedar_store_model.specs.Whole.World.{Entity, held}
+use Rattle.cedar_store_model.specs.Whole.World.{Entity, Found, held, missing}
 use Rattle.cedar_store_model.specs.Whole.Knowledge.{Keeps, IsSettled, holds_values}
-use Rattle.cedar_store_model.specs.Whole.Store.{found_as, whole}
+use Rattle.cedar_store_model.specs.Whole.Store.{found_as, if_uid, whole}
 use Rattle.cedar_store_model.specs.Whole.Reads.{uid_of}
 use Rattle.cedar_store_model.specs.Whole.Policy.{Policy}
 use Rattle.cedar_store_model.specs.Whole.Answer.{Decision}
@@ -57,7 +58,7 @@ is_true true h = refl
 is_true false h = absurd (h refl)
 
 -- the name of a variable is one
-any_name : (n : Text) → list_any (bytes_eq n) variable_names ≡ true → Contains variable_names n
+pub any_name : (n : Text) → list_any (bytes_eq n) variable_names ≡ true → Contains variable_names n
 any_name n e = (found-Decides bytes_eq bytes_eq-Decides n variable_names).0 e
 
 -- what isn't refused where its absence is refused holds
@@ -172,7 +173,7 @@ module _ (x : Setup) where
     entry_completed n (unknown_uid k) q i = value_entry n k q (value_of t n) refl i
 
     -- what a bound variable means
-    no_name_of_variable : ((f : OpenRefusal) → OpenFault x.start f → ⊥) → (n : Text) → Contains variable_names n → bytes_eq n (codes "context") ≡ false → (c : Context) → x.start.context ≡ c → is_open_context c n ≡ true → ⊥
+    pub no_name_of_variable : ((f : OpenRefusal) → OpenFault x.start f → ⊥) → (n : Text) → Contains variable_names n → bytes_eq n (codes "context") ≡ false → (c : Context) → x.start.context ≡ c → is_open_context c n ≡ true → ⊥
     no_name_of_variable opened n v f (closed fs) q e = cc
     no_name_of_variable opened n v f (residual_fields fs) q e =
         let r = any_from (λ (u : Unknown). bytes_eq n u.name) (unknowns (record_literal fs)) e in
@@ -277,17 +278,26 @@ module _ (x : Setup) where
           (v.0, ap (λ z. known_context (context_now x.functions t z)) q ∙ v.1)
 
   -- the store
-  found_held : (o : Option (Entity V)) (e : Entity V) → found_as whole o ≡ held e → o ≡ Some e
-  found_held None e q = cc
-  found_held (Some d) e q = let k : d ≡ e = cc in ap Some k
+  found_held : (i : Bool) (o : Option (Entity V)) (e : Entity V) → cond i (found_as whole o) missing ≡ held e → o ≡ Some e
+  found_held true None e q = cc
+  found_held true (Some d) e q = let k : d ≡ e = cc in ap Some k
+  found_held false o e q = cc
+
+  settled_if : (i : Bool) (f : Found V) → IsSettled f → IsSettled (cond i f missing)
+  settled_if true f h = h
+  settled_if false f h = tt
 
   settled_case : ((u : Uid) (e : Entity V) → x.store u ≡ Some e → holds_values e ≡ true) → (u : Uid) (o : Option (Entity V)) → x.store u ≡ o → IsSettled (found_as whole o)
   settled_case h u None q = tt
   settled_case h u (Some e) q = h u e q
 
-  settled : ((u : Uid) (e : Entity V) → x.store u ≡ Some e → holds_values e ≡ true) → (u : Uid) (b : Bool) → IsSettled (if b then held (as_entity x.schema u) else found_as whole (x.store u))
+  settled : ((u : Uid) (e : Entity V) → x.store u ≡ Some e → holds_values e ≡ true) → (u : Uid) (b : Bool) → IsSettled (if b then held (as_entity x.schema u) else if_uid u (found_as whole (x.store u)))
   settled h u true = refl
-  settled h u false = settled_case h u (x.store u) refl
+  settled h u false = settled_if (is_uid u) (found_as whole (x.store u)) (settled_case h u (x.store u) refl)
+
+  -- what is no uid and no declared action is missing
+  pub none_there : (u : Uid) → declares_action x.schema u ≡ false → is_uid u ≡ false → whole_store x u ≡ missing
+  none_there u d i = ap (λ b. if b then held (as_entity x.schema u) else if_uid u (found_as whole (x.store u))) d ∙ ap (λ b. cond b (found_as whole (x.store u)) missing) i
 
   pub store_settled : ((u : Uid) (e : Entity V) → x.store u ≡ Some e → holds_values e ≡ true) → (u : Uid) → IsSettled (whole_store x u)
   store_settled h u = settled h u (declares_action x.schema u)
@@ -309,7 +319,7 @@ module _ (x : Setup) where
     pub slice_conforms : (u : Uid) (e : Entity V) → InSlice x.schema x.level (world_now x t) u → (world_now x t).store u ≡ held e → EntityConforms x.schema u e
     slice_conforms u e h q =
         stands.conform u e (slice_is_loaded x.schema (world_now x t) x.level t.asked nothing u h)
-        (found_held (x.store u) e (sym (ap (λ b. if b then held (as_entity x.schema u) else found_as whole (x.store u)) h.1) ∙ q))
+        (found_held (is_uid u) (x.store u) e (sym (ap (λ b. if b then held (as_entity x.schema u) else if_uid u (found_as whole (x.store u))) h.1) ∙ q))
 
     pub completed : ((f : OpenRefusal) → OpenFault x.start f → ⊥) → Agrees (with_functions x.functions) → IsMadeContext x.start.context → ((u : Uid) (e : Entity V) → x.store u ≡ Some e → holds_values e ≡ true)
         → CompletesNow x t (with_unknowns (world_now x t))
@@ -325,7 +335,8 @@ module _ (x : Setup) where
           context = context_completed t stands agrees x.start.context refl made p.3;
           table = refl;
           request = request_conforms_now;
-          actions = λ u a. ap (λ b. if b then held (as_entity x.schema u) else found_as whole (x.store u)) a;
+          actions = λ u a. ap (λ b. if b then held (as_entity x.schema u) else if_uid u (found_as whole (x.store u))) a;
+          uids = none_there;
           slice = λ u e h q. slice_conforms u e (near_kept w (world_now x t) (λ v k. k) (λ v y k. k) x.level u h.0, h.1) q;
         }
         in

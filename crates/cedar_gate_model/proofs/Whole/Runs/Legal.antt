@@ -138,7 +138,7 @@ module _ (c : Course) (proper : IsProper c) where
       by_bound true h = all_bound h left refl
       by_bound false h = some_open h left refl
 
-    context_same : (k : Context) → c.start.context ≡ k → IsMadeContext k → ContextCompleted w k → known_context (context_now x.functions s k) ≡ when (context_known (moment_of s) k) w.context
+    pub context_same : (k : Context) → c.start.context ≡ k → IsMadeContext k → ContextCompleted w k → known_context (context_now x.functions s k) ≡ when (context_known (moment_of s) k) w.context
     context_same (closed fs) is made h = before.context_same x s w (closed fs) tt (at_name (codes "context")) h
     context_same unknown_context is made h = before.context_same x s w unknown_context tt (at_name (codes "context")) h
     context_same (residual_fields fs) is made h =

@@ -5,10 +5,12 @@ use Rattle.std.specs.List.{list_any}
 use Rattle.std.proofs.lemmas.Bool.{leb-true, leb-false}
 use Rattle.std.proofs.lemmas.List.Elements.{Contains-append_left, Contains-append_right}
 use Rattle.cedar_expr_model.specs.Uid.{Uid, uid_eq}
+use Rattle.cedar_expr_model.specs.Whole.Uids.{is_uid}
 use Rattle.cedar_expr_model.specs.Whole.Value.{V}
 use Rattle.cedar_expr_model.proofs.Lists.{contains_head, contains_none, found-Decides}
 use Rattle.cedar_expr_model.proofs.Equality.{uid_eq-Decides}
 use Rattle.cedar_store_model.specs.Whole.World.{World, Found, held, missing, not_loaded}
+use Rattle.cedar_store_model.specs.Whole.Store.{unloaded}
 use Rattle.cedar_schema_model.specs.Whole.Schema.{Schema, declares_action}
 use Rattle.cedar_gate_model.specs.Whole.Slice.{IsNear, InSlice}
 use Rattle.cedar_gate_model.specs.Whole.Moment.{told}
@@ -17,7 +19,7 @@ use Rattle.cedar_gate_model.proofs.Whole.Gate.Mentions.{FoundMentions}
 
 -- the world with the declared actions and the answers alone
 abbrev pub loading : Schema → World → List Uid → World
-loading s w asked = record w { store = λ u. if declares_action s u || list_any (uid_eq u) asked then told (w.store u) else not_loaded }
+loading s w asked = record w { store = λ u. if declares_action s u || list_any (uid_eq u) asked then told u (w.store u) else unloaded u }
 
 -- a declared action, or a uid that was asked for
 abbrev pub IsLoaded : Schema → List Uid → Uid → Type 0
@@ -38,33 +40,38 @@ either_true : (a b : Bool) → (a ≡ false → b ≡ true) → (a || b) ≡ tru
 either_true true b h = refl
 either_true false b h = h refl
 
-told_only : (f : Found V) (u : Uid) → FoundMentions (told f) u → FoundMentions f u
-told_only (held e) u h = h
-told_only missing u h = absurd (contains_none u h)
-told_only not_loaded u h = absurd (contains_none u h)
+-- what isn't loaded mentions nothing
+none_mentioned : (b : Bool) (u : Uid) → FoundMentions (cond b not_loaded missing) u → ⊥
+none_mentioned true u h = contains_none u h
+none_mentioned false u h = contains_none u h
 
-told_all : (f : Found V) (u : Uid) → FoundMentions f u → FoundMentions (told f) u
-told_all (held e) u h = h
-told_all missing u h = absurd (contains_none u h)
-told_all not_loaded u h = absurd (contains_none u h)
+told_only : (v : Uid) (f : Found V) (u : Uid) → FoundMentions (told v f) u → FoundMentions f u
+told_only v (held e) u h = h
+told_only v missing u h = absurd (none_mentioned (is_uid v) u h)
+told_only v not_loaded u h = absurd (none_mentioned (is_uid v) u h)
+
+told_all : (v : Uid) (f : Found V) (u : Uid) → FoundMentions f u → FoundMentions (told v f) u
+told_all v (held e) u h = h
+told_all v missing u h = absurd (contains_none u h)
+told_all v not_loaded u h = absurd (contains_none u h)
 
 pub some_item : (uids : List Uid) → uids ≢ [] → (u : Uid) × Contains uids u
 some_item [] n = absurd (n refl)
 some_item (u ∷ us) n = (u, contains_head u us)
 
-loaded_only : (t : Bool) (f : Found V) (u : Uid) → FoundMentions (cond t (told f) not_loaded) u → FoundMentions f u
-loaded_only true f u h = told_only f u h
-loaded_only false f u h = absurd (contains_none u h)
+loaded_only : (v : Uid) (t : Bool) (f : Found V) (u : Uid) → FoundMentions (cond t (told v f) (unloaded v)) u → FoundMentions f u
+loaded_only v true f u h = told_only v f u h
+loaded_only v false f u h = absurd (none_mentioned (is_uid v) u h)
 
 module _ (s : Schema) (w : World) where
-  loaded_is_told : (asked : List Uid) (u : Uid) → IsLoaded s asked u → (loading s w asked).store u ≡ told (w.store u)
+  loaded_is_told : (asked : List Uid) (u : Uid) → IsLoaded s asked u → (loading s w asked).store u ≡ told u (w.store u)
   loaded_is_told asked u h =
-      ap (λ t. cond t (told (w.store u)) not_loaded)
+      ap (λ t. cond t (told u (w.store u)) (unloaded u))
       (either_true (declares_action s u) (list_any (uid_eq u) asked) (λ e. (found-Decides uid_eq uid_eq-Decides u asked).1 (h e)))
 
   -- what is near by what is loaded is near
   pub near_of_loaded : (asked : List Uid) (n : ℕ) (u : Uid) → IsNear n (loading s w asked) u → IsNear n w u
-  near_of_loaded asked n u h = near_kept (loading s w asked) w (λ u k. k) (λ v x k. loaded_only (declares_action s v || list_any (uid_eq v) asked) (w.store v) x k) n u h
+  near_of_loaded asked n u h = near_kept (loading s w asked) w (λ u k. k) (λ v x k. loaded_only v (declares_action s v || list_any (uid_eq v) asked) (w.store v) x k) n u h
 
   -- All that is nearer than r is loaded.
   abbrev pub Settled : List Uid → ℕ → Type 0
@@ -114,7 +121,7 @@ module _ (s : Schema) (w : World) where
         let v = k.0 in
         let near = near_loaded asked settled m (omega (arith, l)) v k.1 in
         let loaded = settled v (near_within m n (loading s w asked) v (omega (arith, l)) near) in
-        inr (v, near, subst (λ f. FoundMentions f u) (sym (loaded_is_told asked v loaded)) (told_all (w.store v) u k.2)))
+        inr (v, near, subst (λ f. FoundMentions f u) (sym (loaded_is_told asked v loaded)) (told_all v (w.store v) u k.2)))
         h
 
     pub slice_is_loaded : (asked : List Uid) → ((u : Uid) → IsNext s n w asked u → ⊥) → (u : Uid) → InSlice s n w u → Contains asked u

@@ -5,13 +5,14 @@ use Rattle.std.specs.List.{list_any}
 use Rattle.std.proofs.lemmas.List.Elements.{All-contains_itself}
 use Rattle.cedar_expr_model.specs.Name.{Text}
 use Rattle.cedar_expr_model.specs.Uid.{Uid, uid_eq}
+use Rattle.cedar_expr_model.specs.Whole.Uids.{is_uid}
 use Rattle.cedar_expr_model.specs.Whole.Made.{Made}
 use Rattle.cedar_expr_model.specs.Whole.Value.{V, truth_value}
 use Rattle.cedar_expr_model.proofs.Lists.{any_from, any_has, both_hold, hold_both, found-Decides}
 use Rattle.cedar_expr_model.proofs.Equality.{uid_eq-Decides}
 use Rattle.cedar_expr_model.proofs.Whole.Gathering.{each_in}
 use Rattle.cedar_store_model.specs.Whole.Outcome.{Res, val}
-use Rattle.cedar_store_model.specs.Whole.World.{World, Entity, Found, held, not_loaded}
+use Rattle.cedar_store_model.specs.Whole.World.{World, Entity, Found, held, missing, not_loaded, by_found}
 use Rattle.cedar_store_model.specs.Whole.Knowledge.{holds_values}
 use Rattle.cedar_store_model.specs.Whole.Looks.{Looks}
 use Rattle.cedar_store_model.specs.Whole.Store.{found_as, whole}
@@ -28,7 +29,6 @@ use Rattle.cedar_evaluator_model.specs.Whole.{NothingUnknown, HoldsValues}
 use Rattle.cedar_evaluator_model.specs.Laws.{WithinLimit}
 use Rattle.cedar_evaluator_model.proofs.Limits.{none_met}
 use Rattle.cedar_evaluator_model.proofs.Settled.{same_filled}
-use Rattle.cedar_gate_model.specs.Whole.Moment.{told}
 use Rattle.cedar_gate_model.specs.Whole.Owed.{IsForced, IsForcedTrue, IsForcedFalse}
 use Rattle.cedar_gate_model.specs.Whole.Session.{Setup, State, at_start, known_now, world_now, scope_now, OpenRefusal, OpenFault, AnswerRefusal, AnswerFault, not_bound, still_wanted, not_conforming, MeetsLimit, with_bound}
 use Rattle.cedar_gate_model.specs.Whole.Transcript as transcript
@@ -85,20 +85,30 @@ module _ (k : World) (ps : List Policy) (means : (p : Policy) → Contains ps p 
   forced = by_forbid some_forbid refl
 
 -- what is loaded is told
-told_held : (o : Option (Entity V)) → IsSome o → told (found_as whole o) ≡ found_as whole o
-told_held None h = cc
-told_held (Some e) h = refl
+-- what is told of what may be no uid
+abbrev pub told_if : Bool → Found V → Found V
+told_if i f = by_found held (cond i not_loaded missing) (cond i not_loaded missing) f
 
-told_loaded : (d a : Bool) (e : Entity V) (o : Option (Entity V)) → (d || a) ≡ true → (d ≡ false → IsSome o) → cond (d || a) (told (cond d (held e) (found_as whole o))) not_loaded ≡ cond d (held e) (found_as whole o)
-told_loaded true a e o t h = refl
-told_loaded false true e o t h = told_held o (h refl)
-told_loaded false false e o t h = cc
+told_held : (i : Bool) (o : Option (Entity V)) → IsSome o → told_if i (cond i (found_as whole o) missing) ≡ cond i (found_as whole o) missing
+told_held i None h = cc
+told_held true (Some e) h = refl
+told_held false (Some e) h = refl
 
-told_values : (d b : Bool) (e : Entity V) (o : Option (Entity V)) → holds_values e ≡ true → ((f : Entity V) → o ≡ Some f → holds_values f ≡ true) → HoldsValues (cond b (told (cond d (held e) (found_as whole o))) not_loaded)
-told_values d false e o h k = tt
-told_values true true e o h k = h
-told_values false true e None h k = tt
-told_values false true e (Some f) h k = k f refl
+told_loaded : (i d a : Bool) (e : Entity V) (o : Option (Entity V)) → (d || a) ≡ true → (d ≡ false → IsSome o)
+    → cond (d || a) (told_if i (cond d (held e) (cond i (found_as whole o) missing))) (cond i not_loaded missing) ≡ cond d (held e) (cond i (found_as whole o) missing)
+told_loaded i true a e o t h = refl
+told_loaded i false true e o t h = told_held i o (h refl)
+told_loaded i false false e o t h = cc
+
+pub told_values : (i d b : Bool) (e : Entity V) (o : Option (Entity V)) → holds_values e ≡ true → ((f : Entity V) → o ≡ Some f → holds_values f ≡ true)
+    → HoldsValues (cond b (told_if i (cond d (held e) (cond i (found_as whole o) missing))) (cond i not_loaded missing))
+told_values true d false e o h k = tt
+told_values false d false e o h k = tt
+told_values i true true e o h k = h
+told_values true false true e None h k = tt
+told_values false false true e None h k = tt
+told_values true false true e (Some f) h k = k f refl
+told_values false false true e (Some f) h k = tt
 
 asked_of : (d a : Bool) → (d || a) ≡ true → d ≡ false → a ≡ true
 asked_of true a e f = cc
@@ -126,7 +136,7 @@ module _ (c : Course) (proper : IsProper c) (s : State) (stands : Stands (sessio
       let d = declares_action (session_of c).schema u in
       let a = list_any (uid_eq u) s.asked in
       let loaded = is_loaded c proper s stands opened ready.loaded fine u reach in
-      told_loaded d a (as_entity (session_of c).schema u) (c.store u) loaded (λ e. ready.there u ((found-Decides uid_eq uid_eq-Decides u s.asked).0 (asked_of d a loaded e)))
+      told_loaded (is_uid u) d a (as_entity (session_of c).schema u) (c.store u) loaded (λ e. ready.there u ((found-Decides uid_eq uid_eq-Decides u s.asked).0 (asked_of d a loaded e)))
 
   known_means : (p : Policy) → Contains c.submission.policies p → (r : Res V) × PolicyMeans known p r
   known_means p k =
@@ -147,7 +157,7 @@ module _ (c : Course) (proper : IsProper c) (s : State) (stands : Stands (sessio
         action = p.1;
         resource = p.2;
         context = p.3;
-        store = λ u. subst HoldsValues (sym (same u)) (told_values (declares_action (session_of c).schema u) (declares_action (session_of c).schema u || list_any (uid_eq u) s.asked) (as_entity (session_of c).schema u) (c.store u) refl (λ f e. proper.store u f e));
+        store = λ u. subst HoldsValues (sym (same u)) (told_values (is_uid u) (declares_action (session_of c).schema u) (declares_action (session_of c).schema u || list_any (uid_eq u) s.asked) (as_entity (session_of c).schema u) (c.store u) refl (λ f e. proper.store u f e));
         calls = leaves_nothing c proper;
       }
 
@@ -165,14 +175,14 @@ module _ (c : Course) (proper : IsProper c) (s : State) (stands : Stands (sessio
 
 -- a decision on the way
 module _ (may : State → Option Decision → Type 0) (x : Setup) (ps : List Policy) where
-  decided_then : (s : State) (bs : List (Text × Made)) (before after : List transcript.Entry) (d : Option Decision) → Did may x ps s bs (before ++ decided d ∷ after) → may (last_state s bs before) d × Did may x ps s bs before
+  pub decided_then : (s : State) (bs : List (Text × Made)) (before after : List transcript.Entry) (d : Option Decision) → Did may x ps s bs (before ++ decided d ∷ after) → may (last_state s bs before) d × Did may x ps s bs before
   decided_then s bs [] after d h = (h.0, tt)
   decided_then s bs (round uids ∷ es) after d h = let r = decided_then (with_asked s uids) bs es after d h.1 in (r.0, (h.0, r.1))
   decided_then s [] (bound k ∷ es) after d h = absurd h
   decided_then s (b ∷ bs) (bound k ∷ es) after d h = let r = decided_then (with_bound s b.0 b.1) bs es after d h.2 in (r.0, (h.0, h.1, r.1))
   decided_then s bs (decided o ∷ es) after d h = let r = decided_then s bs es after d h.1 in (r.0, (h.0, r.1))
 
-nothing_before : (before after : List transcript.Entry) (e : transcript.Entry) → before ++ e ∷ after ≡ [] → ⊥
+pub nothing_before : (before after : List transcript.Entry) (e : transcript.Entry) → before ++ e ∷ after ≡ [] → ⊥
 nothing_before [] after e h = cc
 nothing_before (b ∷ before) after e h = cc
 

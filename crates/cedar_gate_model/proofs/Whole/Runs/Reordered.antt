@@ -1,11 +1,11 @@
 -- Declarations in another order are accepted alike, and come to the same answer.
-use Rattle.std.proofs.Common.{◌≡◌, ◌∙◌, Bool, true, false, cond, List, Option, refl, sym, inl, inr}
+use Rattle.std.proofs.Common.{◌≡◌, ◌∙◌, Bool, true, false, cond, List, refl, sym, inl, inr}
 use Rattle.std.specs.List.{list_any}
 use Rattle.cedar_expr_model.specs.Uid.{Uid, uid_eq}
 use Rattle.cedar_expr_model.specs.Whole.Value.{V}
 use Rattle.cedar_store_model.specs.Whole.Answer.{Answer}
-use Rattle.cedar_store_model.specs.Whole.Store.{found_as, whole}
-use Rattle.cedar_store_model.specs.Whole.World.{Entity, held}
+use Rattle.cedar_store_model.specs.Whole.Store.{found_as, if_uid, whole}
+use Rattle.cedar_store_model.specs.Whole.World.{Found, held}
 use Rattle.cedar_schema_model.specs.Whole.ActionEntities.{action_ancestors, as_entity}
 use Rattle.cedar_schema_model.specs.Whole.BagLaws.{IsReordered}
 use Rattle.cedar_schema_model.specs.Whole.Declarations.{Declarations}
@@ -58,7 +58,7 @@ same_ancestors s t m u v =
     (λ y k. (ancestors_declared s u y).1 (ancestors_into t s (moved_back s t m) u y ((ancestors_declared t u y).0 k)))
     (λ y k. (ancestors_declared t u y).1 (ancestors_into s t m u y ((ancestors_declared s u y).0 k)))
 
-store_case : (s t : Schema) → IsMoved s t → (u : Uid) (o : Option (Entity V)) (a b : Bool) → a ≡ b → FoundAlike (cond b (held (as_entity t u)) (found_as whole o)) (cond a (held (as_entity s u)) (found_as whole o))
+store_case : (s t : Schema) → IsMoved s t → (u : Uid) (o : Found V) (a b : Bool) → a ≡ b → FoundAlike (cond b (held (as_entity t u)) o) (cond a (held (as_entity s u)) o)
 store_case s t m u o true true e = inr (as_entity t u, as_entity s u, refl, refl, record { attributes = refl; tags = refl; ancestors = same_ancestors s t m u })
 store_case s t m u o false false e = inl refl
 store_case s t m u o true false e = cc
@@ -73,5 +73,5 @@ moved_declarations_answer_alike c d es fs a b accepted moved run other =
     let m = schemas_moved (extension_types c.submission.table) c.submission.declarations d g.well_formed moved in
     let x = session_of (by_declarations c d) in
     course_answer c es a run
-    ∙ sym (stores_alike (course_world c) (whole_store x) c.submission.policies (λ u. store_case s t m u (c.store u) (declares_action s u) (declares_action t u) (same_declares_action s t m u)))
+    ∙ sym (stores_alike (course_world c) (whole_store x) c.submission.policies (λ u. store_case s t m u (if_uid u (found_as whole (c.store u))) (declares_action s u) (declares_action t u) (same_declares_action s t m u)))
     ∙ sym (course_answer (by_declarations c d) fs b other)

@@ -1,3 +1,5 @@
+use Rattle.cedar_gate_model.proofs.Whole.Runs.Opened.{deciding_states_are_opened}
+use Rattle.cedar_gate_model.proofs.Whole.Runs.Scoped.{evaluated_decisions_hold}
 use Rattle.cedar_gate_model.proofs.Whole.Runs.Deciding.{given_decisions}
 use Rattle.cedar_gate_model.proofs.Whole.Runs.Forcing.{forced_decisions_are_given}
 use Rattle.cedar_gate_model.proofs.Whole.Runs.Owing.{ready_decisions}
@@ -11,3 +13,9 @@ returns-clause-owed c = ready_decisions
 
 pub returns-clause-forced : goal.returns-clause-forced
 returns-clause-forced c = λ k s store proper same. forced_decisions_are_given k s store proper same
+
+pub returns-clause-evaluated : goal.returns-clause-evaluated
+returns-clause-evaluated c = evaluated_decisions_hold
+
+pub returns-clause-opened : goal.returns-clause-opened
+returns-clause-opened c = deciding_states_are_opened

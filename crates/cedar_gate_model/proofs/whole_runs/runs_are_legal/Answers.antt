@@ -1,3 +1,5 @@
+use Rattle.cedar_gate_model.proofs.Whole.Runs.Existing.{sessions_have_completions}
+use Rattle.cedar_gate_model.proofs.Whole.Runs.Scoped.{sessions_are_completed}
 use Rattle.cedar_gate_model.proofs.Whole.Gate.LegalRuns as before
 use Rattle.cedar_gate_model.proofs.Whole.Runs.Deciding.{completes_end}
 use Rattle.cedar_gate_model.proofs.Whole.Runs.Legal.{runs_are_legal}
@@ -14,3 +16,9 @@ returns-clause-closed_contexts c = before.runs_are_legal
 
 pub returns-clause-asked : goal.returns-clause-asked
 returns-clause-asked c = before.answered_runs_ask_the_slice
+
+pub returns-clause-sessions : goal.returns-clause-sessions
+returns-clause-sessions c = sessions_are_completed
+
+pub returns-clause-exist : goal.returns-clause-exist
+returns-clause-exist c = sessions_have_completions

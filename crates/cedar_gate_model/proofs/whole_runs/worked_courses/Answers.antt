@@ -1,7 +1,7 @@
 use Rattle.cedar_gate_model.proofs.Whole.Gate.RoundsWorked.{two_rounds}
 use Rattle.cedar_gate_model.proofs.Whole.Runs.LateWorked.{late_proper, late_run}
 use Rattle.cedar_gate_model.proofs.Whole.Runs.Read.{bundles_are_proper}
-use Rattle.cedar_gate_model.proofs.Whole.Runs.Worked.{loaded_proper}
+use Rattle.cedar_gate_model.proofs.Whole.Runs.Worked.{loaded_proper, loaded_wanted, loaded_completed, loaded_opened, loaded_known}
 use Rattle.cedar_gate_model.proofs.whole_runs.worked_courses.Goals as goal
 
 pub returns-clause-bundles : goal.returns-clause-bundles
@@ -18,3 +18,15 @@ returns-clause-late c = late_proper
 
 pub returns-clause-late_run : goal.returns-clause-late_run
 returns-clause-late_run c = late_run
+
+pub returns-clause-wanted : goal.returns-clause-wanted
+returns-clause-wanted c = loaded_wanted
+
+pub returns-clause-completed : goal.returns-clause-completed
+returns-clause-completed c = loaded_completed
+
+pub returns-clause-opened : goal.returns-clause-opened
+returns-clause-opened c = loaded_opened
+
+pub returns-clause-known : goal.returns-clause-known
+returns-clause-known c = loaded_known
