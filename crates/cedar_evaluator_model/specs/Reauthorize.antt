@@ -21,9 +21,7 @@ use Rattle.cedar_expr_model.specs.Whole.Repeats.{repeated}
 -- already; a uid of another type than is known of it; the context doesn't evaluate with the values.
 pub data Refusal : Type 0 where
   repeated_id : Text → Refusal
-  wrong_value : Var → Refusal
-  known_already : Var → Refusal
-  other_type : Var → Refusal
+  wrong_value known_already other_type : Var → Refusal
   context_stops : Stop → Refusal
 
 -- what is made, or why not

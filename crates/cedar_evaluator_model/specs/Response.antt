@@ -27,8 +27,7 @@ pub record Noted : Type 0 where
 
 -- whether a policy that isn't satisfied erred
 pub data ErrorState : Type 0 where
-  no_error : ErrorState
-  with_error : ErrorState
+  no_error with_error : ErrorState
 
 -- why a policy erred: its evaluation stopped, or a residual stood where a value was wanted
 pub data Cause : Type 0 where

@@ -37,8 +37,7 @@ cedar_name = unqualified reserved
 
 -- What a text gives where a name without a reserved part is due: the name, the reserved name that it writes, or neither.
 pub data NameRead : Type 0 where
-  name_given : Name → NameRead
-  reserved_given : Name → NameRead
+  name_given reserved_given : Name → NameRead
   nothing_given : NameRead
 
 -- what a text gives where a name without a reserved part is due

@@ -7,17 +7,10 @@ use Rattle.cedar_expr_model.specs.Whole.Tree.{UnaryOp, BinaryOp, Tree, var, slot
 
 -- what a restricted expression has not
 pub data Feature : Type 0 where
-  variables : Feature
-  template_slots : Feature
-  if_then_else : Feature
-  and_operator : Feature
-  or_operator : Feature
+  variables template_slots if_then_else and_operator or_operator : Feature
   unary_operator : UnaryOp → Feature
   binary_operator : BinaryOp → Feature
-  attribute_accesses : Feature
-  has_test : Feature
-  like_test : Feature
-  is_test : Feature
+  attribute_accesses has_test like_test is_test : Feature
 
 -- the feature that an expression has by itself
 abbrev pub feature_here : Tree → Option Feature

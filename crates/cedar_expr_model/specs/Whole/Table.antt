@@ -10,8 +10,7 @@ use Rattle.cedar_expr_model.specs.Whole.Substitution.{core_type_of}
 
 -- how a call is written
 pub data CallStyle : Type 0 where
-  function_style : CallStyle
-  method_style : CallStyle
+  function_style method_style : CallStyle
 
 -- A function: its arguments are of these types, and where it is variadic further ones are of the last of them.
 pub record Signature : Type 0 where

@@ -7,48 +7,26 @@ use Rattle.cedar_expr_model.specs.Whole.Pattern.{Pattern}
 
 -- the variables of a request
 pub data Var : Type 0 where
-  principal : Var
-  action : Var
-  resource : Var
-  context : Var
+  principal action resource context : Var
   deriving IsSet as Var-set
 
 -- the slots of a template
 pub data SlotId : Type 0 where
-  principal_slot : SlotId
-  resource_slot : SlotId
+  principal_slot resource_slot : SlotId
   deriving IsSet as SlotId-set
 
 -- The types that a value shows by itself.
 pub data CoreType : Type 0 where
-  bool_core : CoreType
-  long_core : CoreType
-  string_core : CoreType
-  set_core : CoreType
-  record_core : CoreType
-  entity_core : Name → CoreType
-  extension_core : Name → CoreType
+  bool_core long_core string_core set_core record_core : CoreType
+  entity_core extension_core : Name → CoreType
   deriving IsSet as CoreType-set
 
 pub data UnaryOp : Type 0 where
-  negation : UnaryOp
-  minus : UnaryOp
-  is_empty : UnaryOp
+  negation minus is_empty : UnaryOp
   deriving IsSet as UnaryOp-set
 
 pub data BinaryOp : Type 0 where
-  equal : BinaryOp
-  less : BinaryOp
-  less_or_equal : BinaryOp
-  plus : BinaryOp
-  difference : BinaryOp
-  times : BinaryOp
-  is_in : BinaryOp
-  contains : BinaryOp
-  contains_all : BinaryOp
-  contains_any : BinaryOp
-  get_tag : BinaryOp
-  has_tag : BinaryOp
+  equal less less_or_equal plus difference times is_in contains contains_all contains_any get_tag has_tag : BinaryOp
   deriving IsSet as BinaryOp-set
 
 -- Expressions. `has_path` asks for two or more attributes, one after the other.
@@ -59,13 +37,11 @@ mutual
     slot : SlotId → Tree
     unknown : Text → Option CoreType → Tree
     choice : Tree → Tree → Tree → Tree
-    both : Tree → Tree → Tree
-    either : Tree → Tree → Tree
+    both either : Tree → Tree → Tree
     unary : UnaryOp → Tree → Tree
     binary : BinaryOp → Tree → Tree → Tree
     call : Name → Trees → Tree
-    get_attr : Tree → Text → Tree
-    has_attr : Tree → Text → Tree
+    get_attr has_attr : Tree → Text → Tree
     has_path : Tree → Text → List Text → Tree
     like : Tree → Pattern → Tree
     is_type : Tree → Name → Tree

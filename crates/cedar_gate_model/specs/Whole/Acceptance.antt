@@ -29,17 +29,8 @@ pub record Submission : Type 0 where
 -- The faults of a submission.
 pub data Cause : Type 0 where
   schema : SchemaFault → Cause
-  external : Cause
-  repeated_policy : Cause
-  unlinked_slot : Cause
-  slot_outside_scope : Cause
-  unknown_in_policy : Cause
-  nests_too_deep : Cause
-  unknown_entity_type : Cause
-  unknown_action : Cause
-  no_member : Cause
-  ill_typed : Cause
-  reaches_too_far : Cause
+  external repeated_policy unlinked_slot slot_outside_scope unknown_in_policy nests_too_deep unknown_entity_type : Cause
+  unknown_action no_member ill_typed reaches_too_far : Cause
 
 abbrev pub extension_of : CoreType → List Name
 extension_of (extension_core n) = n ∷ []

@@ -16,10 +16,7 @@ use Rattle.std.specs.Option.{option_map_or}
 use Rattle.std.specs.Map.{lookup}
 
 pub data Status : Type 0 where
-  is_answered : Status
-  is_refused : Status
-  is_unreadable : Status
-  is_stopped : Status
+  is_answered is_refused is_unreadable is_stopped : Status
 
 abbrev pub line : Text → Text
 line text = text ++ 10 ∷ []

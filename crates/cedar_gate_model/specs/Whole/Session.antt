@@ -127,8 +127,7 @@ context_unknowns c = []
 
 -- Refusals of opening: an unknown of the context has a double quote in its name, or is named as a variable.
 pub data OpenRefusal : Type 0 where
-  quote_in_name : OpenRefusal
-  name_of_variable : OpenRefusal
+  quote_in_name name_of_variable : OpenRefusal
 
 abbrev pub open_number : OpenRefusal → ℕ
 open_number quote_in_name = 1
@@ -191,10 +190,7 @@ ContextFails f s c = ⊥
 -- Refusals of a binding: the name isn't open; the value isn't of the type that is annotated; a variable gets no entity or the context
 -- no record; the context fails to evaluate with it.
 pub data BindRefusal : Type 0 where
-  not_open : BindRefusal
-  against_annotation : BindRefusal
-  no_entity_or_record : BindRefusal
-  context_fails : BindRefusal
+  not_open against_annotation no_entity_or_record context_fails : BindRefusal
 
 abbrev pub bind_number : BindRefusal → ℕ
 bind_number not_open = 1
@@ -219,10 +215,7 @@ IsWrong s (u, Some e) = (uid_eq u e.0 ≡ false) ⊎ (EntityConforms s e.0 e.1 �
 
 -- Refusals of a supply: a uid that isn't wanted; one that is wanted lacks; one stands twice; an entity is wrong.
 pub data SupplyRefusal : Type 0 where
-  not_wanted : SupplyRefusal
-  lacking : SupplyRefusal
-  repeated : SupplyRefusal
-  wrong_entity : SupplyRefusal
+  not_wanted lacking repeated wrong_entity : SupplyRefusal
 
 abbrev pub supply_number : SupplyRefusal → ℕ
 supply_number not_wanted = 1
@@ -238,9 +231,7 @@ SupplyFault x s ps wrong_entity = (p : Uid × Option (Uid × Entity V)) × Conta
 
 -- Refusals of the answer: something isn't bound; something is wanted; all is bound and the request doesn't conform.
 pub data AnswerRefusal : Type 0 where
-  not_bound : AnswerRefusal
-  still_wanted : AnswerRefusal
-  not_conforming : AnswerRefusal
+  not_bound still_wanted not_conforming : AnswerRefusal
 
 abbrev pub answer_number : AnswerRefusal → ℕ
 answer_number not_bound = 1

@@ -19,16 +19,8 @@ use Rattle.cedar_schema_model.specs.Whole.HasType.{has_type}
 
 -- The faults of an entity or a request.
 pub data ConformFault : Type 0 where
-  undeclared : ConformFault
-  not_listed : ConformFault
-  no_member : ConformFault
-  lacks_attribute : ConformFault
-  undeclared_attribute : ConformFault
-  attribute_value : ConformFault
-  tag : ConformFault
-  ancestor : ConformFault
-  context_value : ConformFault
-  open_part : ConformFault
+  undeclared not_listed no_member lacks_attribute undeclared_attribute attribute_value tag ancestor : ConformFault
+  context_value open_part : ConformFault
 
 abbrev pub conform_number : ConformFault → ℕ
 conform_number undeclared = 1

@@ -9,9 +9,7 @@ use Rattle.cedar_schema_model.specs.Whole.Reference.{Namespace, name_in, action_
 -- A type as it is written.
 mutual
   pub data TypeExpr : Type 0 where
-    bool_expr : TypeExpr
-    long_expr : TypeExpr
-    string_expr : TypeExpr
+    bool_expr long_expr string_expr : TypeExpr
     set_expr : TypeExpr → TypeExpr
     record_expr : FieldExprs → TypeExpr
     reference : ReferenceKind → Name → TypeExpr

@@ -25,9 +25,7 @@ environments s = flat_map (λ a. flat_map (λ p. map (environment_at a p) a.reso
 
 -- How a policy's scope uses the slot of a variable: not at all, in an equality, or after `in`.
 pub data SlotUse : Type 0 where
-  no_slot : SlotUse
-  equal_slot : SlotUse
-  in_slot : SlotUse
+  no_slot equal_slot in_slot : SlotUse
 
 -- the other types that this one descends from
 abbrev pub types_above : Schema → Name → List Name

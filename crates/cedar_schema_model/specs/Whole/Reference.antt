@@ -24,9 +24,7 @@ action_in ns id = record { kind = name_in ns action_word; id = id }
 
 -- Where a reference stands: an entity type is due, a common type, or either.
 pub data ReferenceKind : Type 0 where
-  to_entity : ReferenceKind
-  to_common : ReferenceKind
-  to_either : ReferenceKind
+  to_entity to_common to_either : ReferenceKind
 
 -- A reference: the namespace that it is written in, what is due, and the name as it is written.
 pub record Reference : Type 0 where
@@ -36,8 +34,7 @@ pub record Reference : Type 0 where
 
 -- What a reference may mean: a common type or an entity type.
 pub data Meant : Type 0 where
-  meant_common : Name → Meant
-  meant_entity : Name → Meant
+  meant_common meant_entity : Name → Meant
 
 -- The names that are tried, in order: with a namespace the name itself; without one the name in its own namespace, and then
 -- that in the empty one.

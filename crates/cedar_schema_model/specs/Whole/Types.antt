@@ -5,15 +5,12 @@ use Rattle.std.specs.Str.{bytes_eq}
 use Rattle.cedar_expr_model.specs.Name.{Text, Name}
 
 pub data BoolType : Type 0 where
-  any_bool : BoolType
-  only_true : BoolType
-  only_false : BoolType
+  any_bool only_true only_false : BoolType
   deriving IsSet as BoolType-set
 
 -- whether a record may have fields that its type doesn't list
 pub data Openness : Type 0 where
-  is_open : Openness
-  is_closed : Openness
+  is_open is_closed : Openness
   deriving IsSet as Openness-set
 
 -- A type. The type of some entities lists their entity types, rising, at least one. `any_set` is the type of all sets.
@@ -21,9 +18,7 @@ mutual
   pub data Ty : Type 0 where
     never : Ty
     bool_type : BoolType → Ty
-    long_type : Ty
-    string_type : Ty
-    any_entity : Ty
+    long_type string_type any_entity : Ty
     entity_types : List Name → Ty
     any_set : Ty
     set_type : Ty → Ty
@@ -50,6 +45,5 @@ attribute_named a (attribute b t r as_) = if bytes_eq a b then Some (record { ty
 
 -- the two ways of typing
 pub data Mode : Type 0 where
-  strict : Mode
-  permissive : Mode
+  strict permissive : Mode
   deriving IsSet as Mode-set

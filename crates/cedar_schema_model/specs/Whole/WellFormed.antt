@@ -14,19 +14,9 @@ use Rattle.cedar_expr_model.specs.Whole.Repeats.{repeated}
 
 -- The faults of declarations, with their numbers.
 pub data SchemaFault : Type 0 where
-  duplicate_entity_type : SchemaFault
-  duplicate_common_type : SchemaFault
-  duplicate_action : SchemaFault
-  undeclared_type : SchemaFault
-  undeclared_action : SchemaFault
-  cycle_of_common_types : SchemaFault
-  cycle_of_actions : SchemaFault
-  action_as_entity_type : SchemaFault
-  context_not_record : SchemaFault
-  reserved_name : SchemaFault
-  shadowing : SchemaFault
-  unknown_extension_type : SchemaFault
-  unresolved_external : SchemaFault
+  duplicate_entity_type duplicate_common_type duplicate_action undeclared_type undeclared_action : SchemaFault
+  cycle_of_common_types cycle_of_actions action_as_entity_type context_not_record reserved_name shadowing : SchemaFault
+  unknown_extension_type unresolved_external : SchemaFault
 
 abbrev pub schema_number : SchemaFault → ℕ
 schema_number duplicate_entity_type = 1

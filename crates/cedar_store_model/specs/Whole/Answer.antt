@@ -10,8 +10,7 @@ use Rattle.cedar_store_model.specs.Whole.Meaning.{Means, outcome_of, truth_asked
 use Rattle.cedar_store_model.specs.Whole.Policy.{Policy, Effect, permit, forbid, SlotBindings, binding_of, condition}
 
 pub data Decision : Type 0 where
-  allow : Decision
-  deny : Decision
+  allow deny : Decision
 
 -- an error of a policy
 pub record PolicyError : Type 0 where

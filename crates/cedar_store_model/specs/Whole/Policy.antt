@@ -11,8 +11,7 @@ use Rattle.cedar_expr_model.specs.Whole.Parts.{slots}
 use Rattle.cedar_expr_model.specs.Whole.Shape.{slot_rank}
 
 pub data Effect : Type 0 where
-  permit : Effect
-  forbid : Effect
+  permit forbid : Effect
 
 -- what a part of a scope names: a uid, or the slot of its variable
 pub data Target : Type 0 where
@@ -23,8 +22,7 @@ pub data Target : Type 0 where
 -- the type and is in the target.
 pub data Scope : Type 0 where
   any : Scope
-  exactly : Target → Scope
-  inside : Target → Scope
+  exactly inside : Target → Scope
   of_kind : Name → Scope
   of_kind_inside : Name → Target → Scope
 

@@ -52,10 +52,7 @@ has_stray_binding t b s = not (has_slot t s) && is_some (binding_of b s)
 
 -- why a template isn't linked
 pub data LinkFault : Type 0 where
-  id_present : LinkFault
-  slot_not_bound : LinkFault
-  slot_not_of_template : LinkFault
-  no_template : LinkFault
+  id_present slot_not_bound slot_not_of_template no_template : LinkFault
 
 abbrev pub link_faults : List LinkFault
 link_faults = id_present ∷ slot_not_bound ∷ slot_not_of_template ∷ no_template ∷ []

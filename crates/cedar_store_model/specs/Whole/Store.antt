@@ -17,8 +17,7 @@ Entities = List (Uid × Entity V)
 
 -- whether a store has each entity that there is, or only some of them
 pub data Extent : Type 0 where
-  whole : Extent
-  partial : Extent
+  whole partial : Extent
 
 pub record Store : Type 0 where
   pub extent : Extent

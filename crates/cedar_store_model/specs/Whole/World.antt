@@ -17,8 +17,7 @@ pub record Entity (A : Type 0) : Type 0 where
 -- What a store answers for a uid: the entity, that there is none, or that this isn't known.
 pub data Found (A : Type 0) : Type 0 where
   held : Entity A → Found A
-  missing : Found A
-  not_loaded : Found A
+  missing not_loaded : Found A
 
 -- what is made of such an answer: of an entity, of none, and where it isn't known
 abbrev pub by_found : {A B : Type 0} → (Entity A → B) → B → B → Found A → B

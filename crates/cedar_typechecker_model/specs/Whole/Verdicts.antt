@@ -89,9 +89,7 @@ IsIrrelevant s x r p = (e : Environment) → Contains (policy_environments s p) 
 
 -- What the check of a policy in one environment says.
 pub data Verdict : Type 0 where
-  success : Verdict
-  irrelevant : Verdict
-  fail : Verdict
+  success irrelevant fail : Verdict
 
 abbrev pub HasVerdict : Setting → Tree → Verdict → Type 0
 HasVerdict s t success = (b : BoolType) × (f : Facts) × (b ≡ only_false → ⊥) × Types s no_facts t (bool_type b) f
