@@ -5,9 +5,10 @@ use Rattle.cedar_expr_model.specs.Name.{Text}
 use Rattle.cedar_expr_model.specs.Whole.Substitution.{Bindings}
 use Rattle.cedar_store_model.specs.Whole.Policy.{Policy}
 use Rattle.cedar_store_model.specs.Whole.Answer.{ids, answer_of}
-use Rattle.cedar_evaluator_model.specs.Scope.{Scope, Agrees}
+use Rattle.cedar_evaluator_model.specs.Scope.{Scope}
+use Rattle.cedar_evaluator_model.specs.OfLaws.Calls.{Agrees}
 use Rattle.cedar_evaluator_model.specs.Known.{known_world}
-use Rattle.cedar_evaluator_model.specs.Whole.{NothingUnknown, AllLoaded}
+use Rattle.cedar_evaluator_model.specs.OfLaws.Whole.{NothingUnknown, AllLoaded}
 use Rattle.cedar_evaluator_model.specs.Response.{PartialRequest, Response, response_of}
 use Rattle.cedar_evaluator_model.specs.Members.{all_residuals, concretize, met_limit, nontrivial_residuals}
 use Rattle.cedar_evaluator_model.specs.Reauthorize.{Outcome, makes_it, and_next, request_bound, resumed, reauthorized, repeated_id, refuses}

@@ -11,10 +11,10 @@ use Rattle.cedar_store_model.specs.Whole.Outcome.{val}
 use Rattle.cedar_store_model.specs.Whole.Meaning.{outcome_of}
 use Rattle.cedar_store_model.specs.Whole.World.{World, held, missing, not_loaded}
 use Rattle.cedar_store_model.proofs.Whole.Meaning.{outcome_means}
-use Rattle.cedar_evaluator_model.specs.Completable.{Agree}
+use Rattle.cedar_evaluator_model.specs.OfLaws.Completable.{Agree}
 use Rattle.cedar_evaluator_model.specs.Completion.{Fits, PartIs}
 use Rattle.cedar_evaluator_model.specs.Known.{known_found}
-use Rattle.cedar_evaluator_model.specs.Whole.{HoldsValues}
+use Rattle.cedar_evaluator_model.specs.OfLaws.Whole.{HoldsValues}
 use Rattle.cedar_evaluator_model.specs.Worked.{doc_d, entity_d, unknown_u}
 use Rattle.cedar_evaluator_model.specs.WorkedCompletions.{some_loaded, IsCompletable}
 use Rattle.cedar_evaluator_model.proofs.Completable.{completions_exist}

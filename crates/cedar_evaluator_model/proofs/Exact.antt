@@ -6,19 +6,21 @@ use Rattle.cedar_expr_model.specs.Name.{Text, Name, name_eq}
 use Rattle.cedar_expr_model.specs.Whole.Value.{V}
 use Rattle.cedar_expr_model.specs.Whole.Tree.{CoreType, Tree, nesting}
 use Rattle.cedar_expr_model.specs.Whole.Made.{bare}
-use Rattle.cedar_expr_model.specs.Whole.Table.{Table, Signature, leaves, IsAnswer, IsFair, all_typed}
+use Rattle.cedar_expr_model.specs.Whole.Table.{Table, Signature, leaves, all_typed}
+use Rattle.cedar_expr_model.specs.Whole.OfLaws.Fair.{IsAnswer, IsFair}
 use Rattle.cedar_expr_model.specs.Whole.Unknowns.{EachUnknown}
 use Rattle.cedar_expr_model.proofs.Lists.{both_hold}
 use Rattle.cedar_store_model.specs.Whole.Outcome.{Res, val, err}
 use Rattle.cedar_store_model.specs.Whole.Meaning.{Means, outcome_of}
 use Rattle.cedar_store_model.proofs.Whole.Known.{what_is_there}
 use Rattle.cedar_store_model.proofs.Whole.Meaning.{outcome_means}
-use Rattle.cedar_evaluator_model.specs.Scope.{Scope, bare_called, Agrees, fault, Left, value_left, residual, stopped}
+use Rattle.cedar_evaluator_model.specs.Scope.{Scope, fault, Left, value_left, residual, stopped}
+use Rattle.cedar_evaluator_model.specs.OfLaws.Calls.{bare_called, Agrees}
 use Rattle.cedar_evaluator_model.specs.Evaluation.{evaluated}
 use Rattle.cedar_evaluator_model.specs.Known.{known_world}
-use Rattle.cedar_evaluator_model.specs.Whole.{NothingUnknown, AllLoaded, BoundTo, AllBoundTo, LeavesNothing}
+use Rattle.cedar_evaluator_model.specs.OfLaws.Whole.{NothingUnknown, AllLoaded, BoundTo, AllBoundTo, LeavesNothing}
 use Rattle.cedar_evaluator_model.specs.Completion.{Fits, FitsAnnotations}
-use Rattle.cedar_evaluator_model.specs.Standing.{IsOutcome, LeavesUnbound}
+use Rattle.cedar_evaluator_model.specs.OfLaws.Standing.{IsOutcome, LeavesUnbound}
 use Rattle.cedar_evaluator_model.specs.Laws.{IsExact}
 use Rattle.cedar_evaluator_model.proofs.Settled.{settled_there}
 use Rattle.cedar_evaluator_model.proofs.Owed.{owed}

@@ -14,7 +14,7 @@ use Rattle.cedar_evaluator_model.specs.Steps.{errs, truth_left}
 use Rattle.cedar_evaluator_model.specs.Evaluation.{evaluated}
 use Rattle.cedar_evaluator_model.specs.Known.{known_world}
 use Rattle.cedar_evaluator_model.specs.Completion.{FitsAnnotations}
-use Rattle.cedar_evaluator_model.specs.Standing.{IsOutcome}
+use Rattle.cedar_evaluator_model.specs.OfLaws.Standing.{IsOutcome}
 use Rattle.cedar_evaluator_model.specs.Response.{with_bindings, verdict, noted, of_effect, if_true, if_residual, group, response_of}
 use Rattle.cedar_evaluator_model.specs.Members.{decided_by, decision, met_limit, decision_in_session}
 use Rattle.cedar_evaluator_model.specs.Laws.{IsUnsatisfied, IsReady}

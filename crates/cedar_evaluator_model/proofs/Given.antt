@@ -17,7 +17,7 @@ use Rattle.cedar_store_model.specs.Whole.Meaning.{picked, truth_asked}
 use Rattle.cedar_evaluator_model.specs.Scope.{Left, value_left}
 use Rattle.cedar_evaluator_model.specs.Steps.{on_value, left_of, truth_wanted, picks}
 use Rattle.cedar_evaluator_model.specs.Evaluation.{right_left}
-use Rattle.cedar_evaluator_model.specs.Standing.{IsOutcome}
+use Rattle.cedar_evaluator_model.specs.OfLaws.Standing.{IsOutcome}
 
 -- what is left is the outcome, where there is one
 abbrev pub Given : Option (Res V) → Left → Type 0

@@ -9,7 +9,8 @@ use Rattle.cedar_expr_model.specs.Whole.Value.{truth, text, entity, V, field_of,
 use Rattle.cedar_expr_model.specs.Whole.Order.{value_eq}
 use Rattle.cedar_expr_model.specs.Whole.Tree.{CoreType, unknown, BinaryOp, equal, less, less_or_equal, plus, difference, times, is_in, contains, contains_all, contains_any, get_tag, has_tag}
 use Rattle.cedar_expr_model.specs.Whole.Made.{Made, made_prim, made_record, MadeFields, no_made_fields, made_field, bare, bare_fields}
-use Rattle.cedar_expr_model.specs.Whole.Table.{Signature, signature_of, takes_count, are_of_types, IsTaken}
+use Rattle.cedar_expr_model.specs.Whole.Table.{Signature, signature_of, takes_count, are_of_types}
+use Rattle.cedar_expr_model.specs.Whole.OfLaws.Fair.{IsTaken}
 use Rattle.cedar_expr_model.proofs.Whole.CoreTypes.{fits-Decides}
 use Rattle.cedar_expr_model.specs.Whole.Canonical.{is_subset, is_disjoint}
 use Rattle.cedar_store_model.specs.Whole.Outcome.{Res, val, err, wrong_type, wrong_count, bind, missing_attribute_or_tag, missing_field}
@@ -19,11 +20,12 @@ use Rattle.cedar_store_model.specs.Whole.Operators.{says, answered}
 use Rattle.cedar_store_model.proofs.Whole.Named.{attributes_of, tags_of, tag_read, tag_tested, bound_value, called_of}
 use Rattle.cedar_store_model.specs.Whole.Reads.{part_value, part_read, part_tested, attribute_read, attribute_tested, uids_in, is_in_some, found_in, within}
 use Rattle.cedar_store_model.specs.Whole.Meaning.{combined, path_tested, picked}
-use Rattle.cedar_evaluator_model.specs.Scope.{Scope, MadeCalled, makes, faults, leaves_unknown, bare_called, Agrees, Left, value_left, residual}
+use Rattle.cedar_evaluator_model.specs.Scope.{Scope, MadeCalled, makes, faults, leaves_unknown, Left, value_left, residual}
+use Rattle.cedar_evaluator_model.specs.OfLaws.Calls.{bare_called, Agrees}
 use Rattle.cedar_evaluator_model.specs.Steps.{errs, truth_left, mapped, part_left, tag_left, part_or_missing, made_named, attribute_of, test_of, path_step, path_of, get_tag_found, has_tag_found, tag_of, in_found, in_of, combined_left, answer_left, call_left}
 use Rattle.cedar_evaluator_model.specs.Known.{known_part, known_parts, known_found, known_world}
 use Rattle.cedar_evaluator_model.specs.Completion.{Fits}
-use Rattle.cedar_evaluator_model.specs.Standing.{LeavesUnbound}
+use Rattle.cedar_evaluator_model.specs.OfLaws.Standing.{LeavesUnbound}
 use Rattle.cedar_evaluator_model.proofs.Given.{Given, given_value, given_literal, literal_ordered, literal_calculated, literal_among, literal_sets, literal_in}
 use Rattle.std.specs.Map.{lookup}
 use Rattle.cedar_evaluator_model.proofs.Named.{attribute_found, test_found, path_found, call_of}

@@ -10,12 +10,13 @@ use Rattle.cedar_store_model.specs.Whole.Operators.{says}
 use Rattle.cedar_store_model.specs.Whole.Meaning.{picked, combined, truth_asked, outcome_of, outcomes_of, field_outcomes_of}
 use Rattle.cedar_store_model.specs.Whole.Laws.{IsGrounded}
 use Rattle.cedar_store_model.proofs.Whole.Meaning.{means_outcome}
-use Rattle.cedar_evaluator_model.specs.Scope.{Scope, Agrees, limit, Left, value_left, stopped}
+use Rattle.cedar_evaluator_model.specs.Scope.{Scope, limit, Left, value_left, stopped}
+use Rattle.cedar_evaluator_model.specs.OfLaws.Calls.{Agrees}
 use Rattle.cedar_evaluator_model.specs.Steps.{truth_left, on_value, picks, truth_wanted, combined_left, called_left, made_members, Pieces, halted, with_piece, from_pieces}
 use Rattle.cedar_evaluator_model.specs.Evaluation.{right_left, pieces_of, node, evaluated}
 use Rattle.cedar_evaluator_model.specs.Known.{known_world}
 use Rattle.cedar_evaluator_model.specs.Completion.{FitsAnnotations}
-use Rattle.cedar_evaluator_model.specs.Standing.{LeavesUnbound, NoLimit}
+use Rattle.cedar_evaluator_model.specs.OfLaws.Standing.{LeavesUnbound, NoLimit}
 use Rattle.cedar_evaluator_model.proofs.Reached.{Reached, reached}
 use Rattle.cedar_evaluator_model.proofs.Named.{field_names, field_trees, fields_named, FitsIn, FitsAmong, FitsInFields, fits_in}
 use Rattle.cedar_expr_model.specs.Whole.Parts.{listed}

@@ -8,11 +8,12 @@ use Rattle.cedar_expr_model.specs.Whole.Tree.{Tree}
 use Rattle.cedar_expr_model.specs.Whole.Made.{made_prim}
 use Rattle.cedar_expr_model.proofs.Lists.{contains_cases, contains_none}
 use Rattle.cedar_store_model.specs.Whole.Policy.{Policy, binding_of, condition}
-use Rattle.cedar_evaluator_model.specs.Scope.{Scope, Agrees, fault, limit, Left, value_left, residual, stopped}
+use Rattle.cedar_evaluator_model.specs.Scope.{Scope, fault, limit, Left, value_left, residual, stopped}
+use Rattle.cedar_evaluator_model.specs.OfLaws.Calls.{Agrees}
 use Rattle.cedar_evaluator_model.specs.Steps.{on_value, truth_wanted}
 use Rattle.cedar_evaluator_model.specs.Evaluation.{evaluated}
-use Rattle.cedar_evaluator_model.specs.Whole.{NothingUnknown}
-use Rattle.cedar_evaluator_model.specs.Standing.{NoLimit}
+use Rattle.cedar_evaluator_model.specs.OfLaws.Whole.{NothingUnknown}
+use Rattle.cedar_evaluator_model.specs.OfLaws.Standing.{NoLimit}
 use Rattle.cedar_evaluator_model.specs.Response.{ResponseError, with_bindings, slots_bound, verdict, if_stopped, response_of}
 use Rattle.cedar_evaluator_model.specs.Members.{is_limit, met_limit}
 use Rattle.cedar_evaluator_model.specs.Laws.{WithinLimit}

@@ -16,12 +16,13 @@ use Rattle.cedar_store_model.specs.Whole.Operators.{says, applied, like_pattern,
 use Rattle.cedar_store_model.specs.Whole.Reads.{attribute_read, attribute_tested}
 use Rattle.cedar_store_model.specs.Whole.Meaning.{variable, combined, slot_value, outcome_of, outcomes_of, field_outcomes_of, path_tested}
 use Rattle.cedar_store_model.proofs.Whole.Meaning.{means_outcome}
-use Rattle.cedar_evaluator_model.specs.Scope.{Scope, Entry, uid, unknown_uid, Context, closed, residual_fields, unknown_context, Agrees, Left, value_left}
+use Rattle.cedar_evaluator_model.specs.Scope.{Scope, Entry, uid, unknown_uid, Context, closed, residual_fields, unknown_context, Left, value_left}
+use Rattle.cedar_evaluator_model.specs.OfLaws.Calls.{Agrees}
 use Rattle.cedar_evaluator_model.specs.Steps.{truth_left, left_of, combined_left, attribute_of, test_of, path_of, called_left, made_members}
 use Rattle.cedar_evaluator_model.specs.Evaluation.{entry_left, context_left, variable_left, slot_left, pieces_of, node, evaluated}
 use Rattle.cedar_evaluator_model.specs.Known.{known_entry, known_context, known_world}
 use Rattle.cedar_evaluator_model.specs.Completion.{Fits, FitsAnnotations}
-use Rattle.cedar_evaluator_model.specs.Standing.{IsOutcome, LeavesUnbound, Owed}
+use Rattle.cedar_evaluator_model.specs.OfLaws.Standing.{IsOutcome, LeavesUnbound, Owed}
 use Rattle.cedar_evaluator_model.proofs.Given.{Given, given_value, given_bind, given_picks, given_truth, given_literal, literal_applied, literal_like, literal_type}
 use Rattle.cedar_evaluator_model.proofs.GivenReads.{given_mapped, given_attribute, given_test, given_path, given_combined, given_call}
 use Rattle.cedar_evaluator_model.proofs.GivenLists.{bare_members, GivenAs, given_from, given_more}

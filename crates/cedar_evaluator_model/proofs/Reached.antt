@@ -12,12 +12,13 @@ use Rattle.cedar_store_model.specs.Whole.Operators.{says, applied, like_pattern,
 use Rattle.cedar_store_model.specs.Whole.Reads.{attribute_read, attribute_tested}
 use Rattle.cedar_store_model.specs.Whole.Meaning.{Means, combined, picked, truth_asked, outcome_of, outcomes_of, field_outcomes_of, path_tested}
 use Rattle.cedar_store_model.proofs.Whole.Meaning.{means_outcome}
-use Rattle.cedar_evaluator_model.specs.Scope.{Scope, Agrees, limit, Left, value_left, stopped}
+use Rattle.cedar_evaluator_model.specs.Scope.{Scope, limit, Left, value_left, stopped}
+use Rattle.cedar_evaluator_model.specs.OfLaws.Calls.{Agrees}
 use Rattle.cedar_evaluator_model.specs.Steps.{truth_left, left_of, on_value, picks, truth_wanted, combined_left, attribute_of, test_of, path_of, called_left, made_members, Pieces, halted, with_piece, from_pieces}
 use Rattle.cedar_evaluator_model.specs.Evaluation.{right_left, pieces_of, node, evaluated}
 use Rattle.cedar_evaluator_model.specs.Known.{known_world}
 use Rattle.cedar_evaluator_model.specs.Completion.{FitsAnnotations}
-use Rattle.cedar_evaluator_model.specs.Standing.{IsOutcome, LeavesUnbound, NoLimit}
+use Rattle.cedar_evaluator_model.specs.OfLaws.Standing.{IsOutcome, LeavesUnbound, NoLimit}
 use Rattle.cedar_evaluator_model.proofs.Given.{Given, given_value, given_asked, given_literal, literal_applied, literal_like, literal_type}
 use Rattle.cedar_evaluator_model.proofs.GivenReads.{given_mapped, given_attribute, given_test, given_path, given_combined, given_call}
 use Rattle.cedar_evaluator_model.proofs.GivenLists.{bare_members, GivenAs, given_from, given_more}

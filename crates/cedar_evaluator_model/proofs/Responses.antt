@@ -12,12 +12,13 @@ use Rattle.cedar_store_model.specs.Whole.Meaning.{outcome_of, truth_asked}
 use Rattle.cedar_store_model.specs.Whole.Policy.{Policy, Effect, permit, forbid, condition}
 use Rattle.cedar_store_model.specs.Whole.Answer.{PolicyError, with_slots, policy_outcome, is_true, satisfied, permits, satisfied_permits, satisfied_forbids, ids, decided, determining, error_of, errors_of, decision_of, answer_of}
 use Rattle.cedar_store_model.proofs.Whole.Meaning.{means_outcome}
-use Rattle.cedar_evaluator_model.specs.Scope.{Scope, Agrees, fault, limit, Left, stopped}
+use Rattle.cedar_evaluator_model.specs.Scope.{Scope, fault, limit, Left, stopped}
+use Rattle.cedar_evaluator_model.specs.OfLaws.Calls.{Agrees}
 use Rattle.cedar_evaluator_model.specs.Steps.{errs, truth_left, on_value, truth_wanted}
 use Rattle.cedar_evaluator_model.specs.Evaluation.{evaluated}
 use Rattle.cedar_evaluator_model.specs.Known.{known_world}
-use Rattle.cedar_evaluator_model.specs.Whole.{NothingUnknown, AllLoaded}
-use Rattle.cedar_evaluator_model.specs.Standing.{IsOutcome}
+use Rattle.cedar_evaluator_model.specs.OfLaws.Whole.{NothingUnknown, AllLoaded}
+use Rattle.cedar_evaluator_model.specs.OfLaws.Standing.{IsOutcome}
 use Rattle.cedar_evaluator_model.specs.Response.{Noted, ResponseError, stops, with_bindings, verdict, noted, of_effect, if_true, if_residual, if_stopped, group, response_of}
 use Rattle.cedar_evaluator_model.specs.Members.{of_true, of_residual, decided_by, if_none, without_value, concretize, is_limit, met_limit, decision_in_session, nontrivial_residuals}
 use Rattle.cedar_evaluator_model.specs.Laws.{IsBound, as_concrete}

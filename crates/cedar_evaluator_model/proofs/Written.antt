@@ -13,15 +13,16 @@ use Rattle.cedar_store_model.specs.Whole.World.{World}
 use Rattle.cedar_store_model.specs.Whole.Operators.{answered, called}
 use Rattle.cedar_store_model.specs.Whole.Meaning.{Means, outcome_of, outcomes_of, field_outcomes_of}
 use Rattle.cedar_store_model.proofs.Whole.Meaning.{outcome_means}
-use Rattle.cedar_evaluator_model.specs.Scope.{Scope, Agrees}
+use Rattle.cedar_evaluator_model.specs.Scope.{Scope}
+use Rattle.cedar_evaluator_model.specs.OfLaws.Calls.{Agrees}
 use Rattle.cedar_evaluator_model.specs.Evaluation.{evaluated}
 use Rattle.cedar_evaluator_model.specs.Known.{known_world}
-use Rattle.cedar_evaluator_model.specs.WellMade.{IsWellMade}
+use Rattle.cedar_evaluator_model.specs.OfLaws.WellMade.{IsWellMade}
 use Rattle.cedar_evaluator_model.specs.Completion.{Fits}
-use Rattle.cedar_evaluator_model.specs.Standing.{IsOutcome, LeavesUnbound}
+use Rattle.cedar_evaluator_model.specs.OfLaws.Standing.{IsOutcome, LeavesUnbound}
 use Rattle.cedar_evaluator_model.proofs.Owed.{owed}
 use Rattle.cedar_store_model.proofs.Whole.Named.{called_of}
-use Rattle.cedar_expr_model.specs.Whole.Represented.{Makes, AreMade, HaveMade}
+use Rattle.cedar_expr_model.specs.Whole.OfLaws.Represented.{Makes, AreMade, HaveMade}
 use Rattle.cedar_expr_model.proofs.Whole.Gathering.{EachAmong, EachIn, each_in, EachInFields}
 use Rattle.cedar_expr_model.specs.Whole.Builder.{trees}
 

@@ -5,25 +5,28 @@ use Rattle.cedar_expr_model.specs.Name.{Text}
 use Rattle.cedar_expr_model.specs.Whole.Value.{Literal, V, truth_value}
 use Rattle.cedar_expr_model.specs.Whole.Tree.{Tree, lit, nesting}
 use Rattle.cedar_expr_model.specs.Whole.Made.{Made, made_prim, bare, written}
-use Rattle.cedar_expr_model.specs.Whole.Table.{Table, IsFair, all_typed}
+use Rattle.cedar_expr_model.specs.Whole.Table.{Table, all_typed}
+use Rattle.cedar_expr_model.specs.Whole.OfLaws.Fair.{IsFair}
 use Rattle.cedar_store_model.specs.Whole.Outcome.{Res, val}
 use Rattle.cedar_store_model.specs.Whole.World.{World}
 use Rattle.cedar_store_model.specs.Whole.Meaning.{Means}
 use Rattle.cedar_store_model.specs.Whole.Laws.{IsGrounded}
-use Rattle.cedar_store_model.specs.Whole.Knowledge.{Extends}
+use Rattle.cedar_store_model.specs.Whole.OfLaws.Extends.{Extends}
 use Rattle.cedar_store_model.specs.Whole.Policy.{Policy, permit, forbid, condition}
 use Rattle.cedar_store_model.specs.Whole.Answer.{allow, deny, PolicyError, Answer, with_slots, IsSatisfied, answer_of, decision_of}
-use Rattle.cedar_evaluator_model.specs.Scope.{Scope, Agrees, fault, limit, value_left, residual, stopped}
+use Rattle.cedar_evaluator_model.specs.Scope.{Scope, fault, limit, value_left, residual, stopped}
+use Rattle.cedar_evaluator_model.specs.OfLaws.Calls.{Agrees}
 use Rattle.cedar_evaluator_model.specs.Evaluation.{evaluated}
 use Rattle.cedar_evaluator_model.specs.Known.{known_world}
-use Rattle.cedar_evaluator_model.specs.Whole.{NothingUnknown, AllLoaded, AllBoundTo, LeavesNothing}
-use Rattle.cedar_evaluator_model.specs.WellMade.{IsWellMade, AllMadeWell}
-use Rattle.cedar_evaluator_model.specs.Completion.{FitsAnnotations, Completes}
+use Rattle.cedar_evaluator_model.specs.OfLaws.Whole.{NothingUnknown, AllLoaded, AllBoundTo, LeavesNothing}
+use Rattle.cedar_evaluator_model.specs.OfLaws.WellMade.{IsWellMade, AllMadeWell}
+use Rattle.cedar_evaluator_model.specs.Completion.{FitsAnnotations}
+use Rattle.cedar_evaluator_model.specs.OfLaws.Completing.{Completes}
 use Rattle.cedar_evaluator_model.specs.Response.{stops, PartialRequest, Response, with_bindings, response_of}
 use Rattle.cedar_evaluator_model.specs.Reauthorize.{makes_it, request_bound, resumed, reauthorized}
 use Rattle.cedar_expr_model.specs.Whole.Substitution.{Bindings}
 use Rattle.cedar_evaluator_model.specs.Members.{all_residuals, Concrete, concretize, met_limit, decision_in_session, nontrivial_residuals}
-use Rattle.cedar_evaluator_model.specs.Standing.{StandsInAll, IsOutcome, LeavesUnbound, Owed, NoLimit}
+use Rattle.cedar_evaluator_model.specs.OfLaws.Standing.{StandsInAll, IsOutcome, LeavesUnbound, Owed, NoLimit}
 
 -- at limit 0 all stops at the limit, and a literal within the limit is its value
 abbrev pub LimitStops : Type 0

@@ -2,14 +2,11 @@ pub mod Scope
 pub mod Steps
 pub mod Evaluation
 pub mod Known
-pub mod Whole
 pub mod Completion
-pub mod Completable
-pub mod Standing
 pub mod Response
 pub mod Members
 pub mod Reauthorize
-pub mod WellMade
+pub mod OfLaws
 pub mod Laws
 pub mod ResponseLaws
 pub mod ReauthorizeLaws

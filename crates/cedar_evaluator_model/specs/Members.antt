@@ -89,8 +89,7 @@ all_residuals r =
 
 -- The policy of an id: permits first, and of each effect the residual ones, then the true, then the false.
 abbrev pub get : Response → Text → Option Policy
-get r i =
-    find (λ p. bytes_eq i p.id)
+get r i = find (λ p. bytes_eq i p.id)
     ((of_residual permit r.residual_permits ++ (of_true permit r.true_permits ++ of_false permit r.false_permits))
     ++ (of_residual forbid r.residual_forbids ++ (of_true forbid r.true_forbids ++ of_false forbid r.false_forbids)))
 

@@ -9,9 +9,10 @@ use Rattle.cedar_store_model.specs.Whole.World.{World}
 use Rattle.cedar_store_model.specs.Whole.Knowledge.{Keeps}
 use Rattle.cedar_store_model.specs.Whole.Policy.{Policy}
 use Rattle.cedar_store_model.specs.Whole.Answer.{Decision, ids, decision_of}
-use Rattle.cedar_evaluator_model.specs.Scope.{Scope, Agrees}
-use Rattle.cedar_evaluator_model.specs.WellMade.{IsMadeWell, IsContextMadeWell, AllMadeWell}
-use Rattle.cedar_evaluator_model.specs.Completion.{EntryMeans, ContextMeans, Completes}
+use Rattle.cedar_evaluator_model.specs.Scope.{Scope}
+use Rattle.cedar_evaluator_model.specs.OfLaws.Calls.{Agrees}
+use Rattle.cedar_evaluator_model.specs.OfLaws.WellMade.{IsMadeWell, IsContextMadeWell, AllMadeWell}
+use Rattle.cedar_evaluator_model.specs.OfLaws.Completing.{EntryMeans, ContextMeans, Completes}
 use Rattle.cedar_evaluator_model.specs.Response.{PartialRequest, Response, response_of}
 use Rattle.cedar_evaluator_model.specs.Members.{all_residuals, get, met_limit, decision_in_session}
 use Rattle.cedar_evaluator_model.specs.Reauthorize.{makes_it, reauthorized}

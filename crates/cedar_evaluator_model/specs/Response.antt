@@ -2,6 +2,7 @@
 -- Rule: partial responses (docs/RULES.md).
 use Rattle.std.specs.Prelude.{ℕ, List, true, false, Option, Some, None}
 use Rattle.std.specs.List.{filter_map}
+use Rattle.std.specs.Option.{option_map_or}
 use Rattle.cedar_expr_model.specs.Name.{Text}
 use Rattle.cedar_expr_model.specs.Uid.{Uid}
 use Rattle.cedar_expr_model.specs.Whole.Value.{truth, entity}
@@ -57,14 +58,9 @@ request_of s = record { principal = s.principal; action = s.action; resource = s
 abbrev pub with_bindings : Scope → SlotBindings → Scope
 with_bindings s b = record s { slots = binding_of b }
 
--- what a slot stands for: the uid that is bound to it, or itself where there is none
-abbrev pub slot_or : SlotId → Option Uid → Tree
-slot_or x None = slot x
-slot_or x (Some u) = lit (entity u)
-
--- the expression with the uids that slots are bound to in place of the slots
+-- the expression with the uids that slots are bound to in their places; a slot that isn't bound stays
 abbrev pub slots_bound : (SlotId → Option Uid) → Tree → Tree
-slots_bound bound t = built (record tree_builder { of_slot = λ x. slot_or x (bound x) }) t
+slots_bound bound t = built (record tree_builder { of_slot = λ x. option_map_or (λ u. lit (entity u)) (bound x) (slot x) }) t
 
 -- What is left of a policy's condition: a truth value, a residual with the policy's slots bound in it, or why it stopped. Any other
 -- value is a type error.

@@ -8,9 +8,11 @@ use Rattle.cedar_store_model.specs.Whole.World.{World}
 use Rattle.cedar_store_model.specs.Whole.Policy.{Policy, no_bindings, condition}
 use Rattle.cedar_store_model.specs.Whole.Answer.{Decision, with_slots, IsSatisfied, ids, decision_of, reasons_of}
 use Rattle.cedar_store_model.specs.Whole.AnswerLaws.{Holds}
-use Rattle.cedar_evaluator_model.specs.Scope.{Scope, Agrees, fault, limit, Left, value_left, residual, stopped}
-use Rattle.cedar_evaluator_model.specs.WellMade.{AllMadeWell}
-use Rattle.cedar_evaluator_model.specs.Completion.{FitsAnnotations, Completes}
+use Rattle.cedar_evaluator_model.specs.Scope.{Scope, fault, limit, Left, value_left, residual, stopped}
+use Rattle.cedar_evaluator_model.specs.OfLaws.Calls.{Agrees}
+use Rattle.cedar_evaluator_model.specs.OfLaws.WellMade.{AllMadeWell}
+use Rattle.cedar_evaluator_model.specs.Completion.{FitsAnnotations}
+use Rattle.cedar_evaluator_model.specs.OfLaws.Completing.{Completes}
 use Rattle.cedar_evaluator_model.specs.Response.{Response, verdict, response_of}
 use Rattle.cedar_evaluator_model.specs.Members.{get, met_limit, decision_in_session, Bounds, bounds_in_session}
 

@@ -1,11 +1,11 @@
 -- What an evaluation knows: request, context, slots, values for unknowns, store and functions; and what it leaves.
 -- Rule: partial evaluation (docs/RULES.md).
-use Rattle.std.specs.Prelude.{◌≡◌, List, map, Option}
+use Rattle.std.specs.Prelude.{List, Option}
 use Rattle.cedar_expr_model.specs.Name.{Text, Name}
 use Rattle.cedar_expr_model.specs.Uid.{Uid}
 use Rattle.cedar_expr_model.specs.Whole.Tree.{Tree, SlotId, TreeFields}
-use Rattle.cedar_expr_model.specs.Whole.Made.{Made, MadeFields, bare}
-use Rattle.cedar_expr_model.specs.Whole.Table.{Table, Called, gives, fails, leaves, IsTaken}
+use Rattle.cedar_expr_model.specs.Whole.Made.{Made, MadeFields}
+use Rattle.cedar_expr_model.specs.Whole.Table.{Table}
 use Rattle.cedar_store_model.specs.Whole.Outcome.{Fault}
 use Rattle.cedar_store_model.specs.Whole.World.{Found}
 
@@ -14,11 +14,6 @@ pub data MadeCalled : Type 0 where
   makes : Made → MadeCalled
   faults : Name → MadeCalled
   leaves_unknown : Text → MadeCalled
-
-abbrev pub bare_called : MadeCalled → Called
-bare_called (makes m) = gives (bare m)
-bare_called (faults e) = fails e
-bare_called (leaves_unknown n) = leaves n
 
 -- a principal, action or resource: a uid, or an unknown one, of a type if that is known
 pub data Entry : Type 0 where
@@ -41,10 +36,6 @@ pub record Scope : Type 0 where
   pub table : Table
   pub calls : Name → List Made → MadeCalled
   pub store : Uid → Found Made
-
--- the calls answer as the table does, on arguments that their functions take
-abbrev pub Agrees : Scope → Type 0
-Agrees s = (f : Name) (ms : List Made) → IsTaken s.table f (map bare ms) → bare_called (s.calls f ms) ≡ s.table.answers f (map bare ms)
 
 -- why an evaluation stops: an error, or an expression that nests deeper than the limit
 pub data Stop : Type 0 where

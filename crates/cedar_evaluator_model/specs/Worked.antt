@@ -10,7 +10,8 @@ use Rattle.cedar_expr_model.specs.Whole.Made.{Made, made_prim, made_record, made
 use Rattle.cedar_expr_model.specs.Whole.Table.{Table, Signature, function_style, Called, fails, leaves}
 use Rattle.cedar_expr_model.specs.Whole.ValueParts.{known, left}
 use Rattle.cedar_store_model.specs.Whole.World.{Entity, Found, held, missing, not_loaded}
-use Rattle.cedar_evaluator_model.specs.Scope.{Scope, MadeCalled, makes, faults, leaves_unknown, bare_called, uid, unknown_uid, Context, closed, residual_fields, unknown_context}
+use Rattle.cedar_evaluator_model.specs.Scope.{Scope, MadeCalled, makes, faults, leaves_unknown, uid, unknown_uid, Context, closed, residual_fields, unknown_context}
+use Rattle.cedar_evaluator_model.specs.OfLaws.Calls.{bare_called}
 
 abbrev pub named : Text → Name
 named n = record { path = []; base = n }

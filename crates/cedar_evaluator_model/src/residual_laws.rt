@@ -3,7 +3,7 @@
 ghost use Rattle.cedar_evaluator_model.specs.Laws.{ResidualsStand, ResidualsFit};
 ghost use Rattle.cedar_evaluator_model.specs.ResponseLaws.{VerdictsHold, Given, BoundsHold, KeepsSatisfied};
 ghost use Rattle.cedar_evaluator_model.specs.ReauthorizeLaws.{ResponsesAreCompleted, ReauthorizingCompletes, ReauthorizingKeeps, ReauthorizingDecides, ChainsKeep, ChainsDecide, ChainsAgree};
-ghost use Rattle.cedar_evaluator_model.specs.Completable.{CompletionsExist};
+ghost use Rattle.cedar_evaluator_model.specs.OfLaws.Completable.{CompletionsExist};
 
 /// A scope whose parts agree has a completion, in which unknowns mean what is given for them.
 pub fn completions_exist()

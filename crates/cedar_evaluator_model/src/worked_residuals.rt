@@ -4,9 +4,9 @@
 ghost use Rattle.std.specs.Prelude.{◌≡◌, true, false, Some, None, codes, [], ◌∷◌};
 ghost use Rattle.cedar_expr_model.specs.Whole.Tree.{either, both, get_attr};
 ghost use Rattle.cedar_store_model.specs.Whole.Answer.{allow, decision_of};
-ghost use Rattle.cedar_evaluator_model.specs.Scope.{Agrees};
-ghost use Rattle.cedar_evaluator_model.specs.WellMade.{AllMadeWell};
-ghost use Rattle.cedar_evaluator_model.specs.Completion.{Completes};
+ghost use Rattle.cedar_evaluator_model.specs.OfLaws.Calls.{Agrees};
+ghost use Rattle.cedar_evaluator_model.specs.OfLaws.WellMade.{AllMadeWell};
+ghost use Rattle.cedar_evaluator_model.specs.OfLaws.Completing.{Completes};
 ghost use Rattle.cedar_evaluator_model.specs.Members.{decision_in_session};
 ghost use Rattle.cedar_evaluator_model.specs.ResponseLaws.{FitConditions};
 ghost use Rattle.cedar_evaluator_model.specs.ReauthorizeLaws.{BindsRightly, FitsStep, Chain, BeginsIn};

@@ -21,7 +21,7 @@ pub mod Uids
 pub mod ValueParts
 pub mod Shape
 pub mod Texts
-pub mod Represented
+pub mod OfLaws
 pub mod SamenessLaws
 pub mod Laws
 pub mod TreeLaws

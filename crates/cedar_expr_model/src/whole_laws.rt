@@ -1,6 +1,6 @@
 //! Laws of the definitions for every kind. Each function's contract is the theorem; its body does nothing.
 
-ghost use Rattle.cedar_expr_model.specs.Whole.Uids.{UidsAreReadable};
+ghost use Rattle.cedar_expr_model.specs.Whole.TextLaws.{UidsAreReadable};
 ghost use Rattle.cedar_expr_model.specs.Whole.Order.{text_cmp, name_order, uid_order, literal_cmp, value_cmp};
 ghost use Rattle.cedar_expr_model.specs.Whole.Shape.{tree_cmp};
 ghost use Rattle.cedar_expr_model.specs.Whole.Laws.{IsLinear, NamesByText, UidsByText, ValuesDecide, CanonicalSame, SetsAreCanonical, SetsRise, MembersAreListed, MembersDecide, SetsAreSame, SetsAreMade, FieldsAreFound, PatternsDecide, CoreTypesDecide, AnnotationsDecide};

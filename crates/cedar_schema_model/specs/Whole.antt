@@ -3,6 +3,7 @@ pub mod Types
 pub mod Schema
 pub mod Environment
 pub mod Subtype
+pub mod OfLaws
 pub mod HasType
 pub mod Join
 pub mod Lookup

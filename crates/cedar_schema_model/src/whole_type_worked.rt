@@ -3,7 +3,8 @@
 ghost use Rattle.std.specs.Prelude.{◌≡◌, true, false, Some, None, codes, [], ◌∷◌};
 ghost use Rattle.cedar_expr_model.specs.Whole.Value.{extension};
 ghost use Rattle.cedar_schema_model.specs.Whole.Types.{never, long_type, string_type, any_entity, entity_types, any_set, set_type, extension_type, no_attributes, attribute, strict, permissive};
-ghost use Rattle.cedar_schema_model.specs.Whole.Subtype.{is_subtype, is_well_formed_type};
+ghost use Rattle.cedar_schema_model.specs.Whole.Subtype.{is_subtype};
+ghost use Rattle.cedar_schema_model.specs.Whole.OfLaws.Formed.{is_well_formed_type};
 ghost use Rattle.cedar_schema_model.specs.Whole.TypeLaws.{is_alike, has_no_any_set, is_filled};
 ghost use Rattle.cedar_schema_model.specs.Whole.HasType.{has_type};
 ghost use Rattle.cedar_schema_model.specs.Whole.Join.{join, reduce_to_join, are_disjoint};

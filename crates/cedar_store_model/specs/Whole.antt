@@ -6,6 +6,7 @@ pub mod Reads
 pub mod Meaning
 pub mod Looks
 pub mod Knowledge
+pub mod OfLaws
 pub mod Laws
 pub mod Policy
 pub mod PolicySet

@@ -11,7 +11,8 @@ ghost use Rattle.cedar_store_model.specs.Whole.Operators.{says};
 ghost use Rattle.cedar_store_model.specs.Whole.Meaning.{outcome_of};
 ghost use Rattle.cedar_store_model.specs.Whole.Looks.{Looks};
 ghost use Rattle.cedar_store_model.specs.Whole.Laws.{has_dereference};
-ghost use Rattle.cedar_store_model.specs.Whole.Knowledge.{holds_values, KeepsPart, Extends, IsWhole};
+ghost use Rattle.cedar_store_model.specs.Whole.Knowledge.{holds_values, IsWhole};
+ghost use Rattle.cedar_store_model.specs.Whole.OfLaws.Extends.{KeepsPart, Extends};
 ghost use Rattle.cedar_store_model.specs.Whole.Store.{are_distinct, store_of, look_up, stand_in, with_ancestor, whole, partial, as_open, world_of};
 ghost use Rattle.cedar_store_model.specs.Whole.Worked.{user, doc, user_a, user_b, user_z, ghost_g, team, no_uid, doc_d, view, edit, number, below_zero, word, uid, says_true, says_false, one_tree, two_trees, uid_value, number_value, ok_of, boss_of, no_field, no_entity, rank, blob, later, pair, plain, rank_of, blob_of, person, unfinished, table, request, entities, without_b, world, world_without_b, bound_world, nothing_loaded, a_loaded, principal_open, a_unfinished};
 

@@ -5,7 +5,7 @@ pub mod Typing
 pub mod Levels
 pub mod ScopeRules
 pub mod Verdicts
-pub mod Simple
+pub mod OfLaws
 pub mod Soundness
 pub mod PolicySoundness
 pub mod Dereferences

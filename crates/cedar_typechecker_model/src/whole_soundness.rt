@@ -1,6 +1,6 @@
 //! Laws of typing against the meaning. Each function's contract is the theorem; its body does nothing.
 
-ghost use Rattle.cedar_typechecker_model.specs.Whole.Simple.{SchemasAreOrderly};
+ghost use Rattle.cedar_typechecker_model.specs.Whole.OfLaws.Simple.{SchemasAreOrderly};
 ghost use Rattle.cedar_typechecker_model.specs.Whole.Soundness.{TypesAreSimple, TypesAreSound};
 ghost use Rattle.cedar_typechecker_model.specs.Whole.PolicySoundness.{EnvironmentsCover, PassingIsSound, ImpossibleIsSound};
 

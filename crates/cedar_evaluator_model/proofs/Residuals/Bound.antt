@@ -12,9 +12,11 @@ use Rattle.cedar_store_model.specs.Whole.World.{World}
 use Rattle.cedar_store_model.specs.Whole.Meaning.{outcome_of}
 use Rattle.cedar_store_model.specs.Whole.Knowledge.{Keeps}
 use Rattle.cedar_store_model.proofs.Whole.Meaning.{means_outcome, outcome_means}
-use Rattle.cedar_evaluator_model.specs.Scope.{Scope, Agrees, Entry, uid, unknown_uid, Context, closed, residual_fields, unknown_context, Left, value_left, residual, stopped}
-use Rattle.cedar_evaluator_model.specs.WellMade.{IsWellMade, IsMadeWell, IsContextMadeWell, AllMadeWell}
-use Rattle.cedar_evaluator_model.specs.Completion.{EntryMeans, PartIs, ContextMeans, Completes}
+use Rattle.cedar_evaluator_model.specs.Scope.{Scope, Entry, uid, unknown_uid, Context, closed, residual_fields, unknown_context, Left, value_left, residual, stopped}
+use Rattle.cedar_evaluator_model.specs.OfLaws.Calls.{Agrees}
+use Rattle.cedar_evaluator_model.specs.OfLaws.WellMade.{IsWellMade, IsMadeWell, IsContextMadeWell, AllMadeWell}
+use Rattle.cedar_evaluator_model.specs.Completion.{PartIs}
+use Rattle.cedar_evaluator_model.specs.OfLaws.Completing.{EntryMeans, ContextMeans, Completes}
 use Rattle.cedar_evaluator_model.specs.Response.{PartialRequest}
 use Rattle.cedar_evaluator_model.specs.Reauthorize.{Refusal, wrong_value, known_already, other_type, Outcome, makes_it, refuses, and_next, entry_with, entry_bound, context_bound, restricted_scope, restricted_left, context_made, context_substituted, context_under, request_bound, resumed}
 use Rattle.cedar_evaluator_model.specs.ReauthorizeLaws.{CompletesRequest, BindsRightly}

@@ -17,9 +17,11 @@ use Rattle.cedar_store_model.specs.Whole.Answer.{Decision, allow, deny, IsSatisf
 use Rattle.cedar_store_model.specs.Whole.AnswerLaws.{HasPermit, HasNoForbid}
 use Rattle.cedar_store_model.proofs.Whole.Answers.{allow_is_earned}
 use Rattle.cedar_store_model.proofs.Whole.Conditions.{satisfied-Decides}
-use Rattle.cedar_evaluator_model.specs.Scope.{Scope, Agrees}
-use Rattle.cedar_evaluator_model.specs.WellMade.{IsContextMadeWell, AllMadeWell}
-use Rattle.cedar_evaluator_model.specs.Completion.{FitsAnnotations, Completes}
+use Rattle.cedar_evaluator_model.specs.Scope.{Scope}
+use Rattle.cedar_evaluator_model.specs.OfLaws.Calls.{Agrees}
+use Rattle.cedar_evaluator_model.specs.OfLaws.WellMade.{IsContextMadeWell, AllMadeWell}
+use Rattle.cedar_evaluator_model.specs.Completion.{FitsAnnotations}
+use Rattle.cedar_evaluator_model.specs.OfLaws.Completing.{Completes}
 use Rattle.cedar_evaluator_model.specs.Response.{PartialRequest, Response, verdict, response_of}
 use Rattle.cedar_evaluator_model.specs.Members.{of_true, of_false, of_residual, all_residuals, get, met_limit, decision_in_session}
 use Rattle.cedar_evaluator_model.specs.Reauthorize.{makes_it, refuses, repeated_id, and_next, distinct, request_bound, resumed, reauthorized}

@@ -12,8 +12,8 @@ use Rattle.cedar_expr_model.specs.Whole.ValueParts.{Part, known, left}
 use Rattle.cedar_store_model.specs.Whole.World.{World, Found, held, missing, not_loaded}
 use Rattle.cedar_store_model.specs.Whole.Knowledge.{IsWhole}
 use Rattle.cedar_evaluator_model.specs.Scope.{Scope, Entry, uid, unknown_uid, Context, closed, residual_fields, unknown_context}
-use Rattle.cedar_evaluator_model.specs.WellMade.{AllMadeWell}
-use Rattle.cedar_evaluator_model.specs.Completion.{EntryMeans, ContextMeans, PartMeans, PartsMean, FoundMeans, Completes}
+use Rattle.cedar_evaluator_model.specs.OfLaws.WellMade.{AllMadeWell}
+use Rattle.cedar_evaluator_model.specs.OfLaws.Completing.{EntryMeans, ContextMeans, PartMeans, PartsMean, FoundMeans, Completes}
 
 module _ (w : World) (y : SlotId → Option Uid) where
   entry_at : (n : Text) (e : Entry) (o : Option Uid) → EntryMeans w n e o → EntryMeans (record w { slots = y }) n e o

@@ -16,9 +16,11 @@ use Rattle.cedar_store_model.specs.Whole.AnswerLaws.{deciding}
 use Rattle.cedar_store_model.proofs.Whole.Answers.{allow_is_earned}
 use Rattle.cedar_store_model.proofs.Whole.Conditions.{satisfied-Decides}
 use Rattle.cedar_store_model.proofs.Whole.Reports.{reasons_are_those}
-use Rattle.cedar_evaluator_model.specs.Scope.{Scope, Agrees}
-use Rattle.cedar_evaluator_model.specs.WellMade.{AllMadeWell}
-use Rattle.cedar_evaluator_model.specs.Completion.{FitsAnnotations, Completes}
+use Rattle.cedar_evaluator_model.specs.Scope.{Scope}
+use Rattle.cedar_evaluator_model.specs.OfLaws.Calls.{Agrees}
+use Rattle.cedar_evaluator_model.specs.OfLaws.WellMade.{AllMadeWell}
+use Rattle.cedar_evaluator_model.specs.Completion.{FitsAnnotations}
+use Rattle.cedar_evaluator_model.specs.OfLaws.Completing.{Completes}
 use Rattle.cedar_evaluator_model.specs.Response.{Noted, verdict, noted, if_true, if_residual, group, response_of}
 use Rattle.cedar_evaluator_model.specs.Members.{left_policy, of_true, of_residual, decided_by, decision, if_none, met_limit, decision_in_session, must_be_determining, may_be_determining, Bounds, in_order, bounds_in_session}
 use Rattle.cedar_evaluator_model.specs.ResponseLaws.{FitConditions, AreAmong}

@@ -14,11 +14,13 @@ use Rattle.cedar_store_model.specs.Whole.World.{World}
 use Rattle.cedar_store_model.specs.Whole.Policy.{Policy, Effect, permit, forbid, binding_of, condition}
 use Rattle.cedar_store_model.specs.Whole.Answer.{IsSatisfied, satisfied, ids}
 use Rattle.cedar_store_model.proofs.Whole.Conditions.{satisfied-Decides}
-use Rattle.cedar_evaluator_model.specs.Scope.{Scope, Agrees, Stop, Left, value_left, residual, stopped}
+use Rattle.cedar_evaluator_model.specs.Scope.{Scope, Stop, Left, value_left, residual, stopped}
+use Rattle.cedar_evaluator_model.specs.OfLaws.Calls.{Agrees}
 use Rattle.cedar_evaluator_model.specs.Steps.{truth_left, on_value, truth_wanted}
 use Rattle.cedar_evaluator_model.specs.Evaluation.{evaluated}
-use Rattle.cedar_evaluator_model.specs.WellMade.{AllMadeWell}
-use Rattle.cedar_evaluator_model.specs.Completion.{FitsAnnotations, Completes}
+use Rattle.cedar_evaluator_model.specs.OfLaws.WellMade.{AllMadeWell}
+use Rattle.cedar_evaluator_model.specs.Completion.{FitsAnnotations}
+use Rattle.cedar_evaluator_model.specs.OfLaws.Completing.{Completes}
 use Rattle.cedar_evaluator_model.specs.Response.{slots_bound, with_bindings, verdict, noted, if_true, if_false, if_residual, group, response_of}
 use Rattle.cedar_evaluator_model.specs.Members.{left_policy, of_true, of_false, of_residual, all_residuals, get, met_limit}
 use Rattle.cedar_evaluator_model.specs.ResponseLaws.{FitConditions, IsKept}

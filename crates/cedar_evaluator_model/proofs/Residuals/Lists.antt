@@ -11,10 +11,11 @@ use Rattle.cedar_expr_model.specs.Whole.Order.{value_cmp}
 use Rattle.cedar_expr_model.specs.Whole.Canonical.{are_rising, members_made}
 use Rattle.cedar_expr_model.specs.Whole.Tree.{Tree}
 use Rattle.cedar_expr_model.specs.Whole.Builder.{trees}
-use Rattle.cedar_expr_model.specs.Whole.Represented.{AreMade, HaveMade}
+use Rattle.cedar_expr_model.specs.Whole.OfLaws.Represented.{AreMade, HaveMade}
 use Rattle.cedar_expr_model.specs.Whole.ValueParts.{Part, known, all_known, part_tree}
 use Rattle.cedar_expr_model.specs.Whole.Made.{Made, made_set, Mades, no_mades, made, bare, written}
-use Rattle.cedar_expr_model.specs.Whole.Table.{Table, Signature, signature_of, takes_count, are_of_types, IsTaken}
+use Rattle.cedar_expr_model.specs.Whole.Table.{Table, Signature, signature_of, takes_count, are_of_types}
+use Rattle.cedar_expr_model.specs.Whole.OfLaws.Fair.{IsTaken}
 use Rattle.cedar_expr_model.proofs.Whole.Sets.{made_rises}
 use Rattle.cedar_store_model.specs.Whole.Outcome.{Res, val, err, wrong_type, wrong_count, bind}
 use Rattle.cedar_store_model.specs.Whole.World.{World}
@@ -22,10 +23,12 @@ use Rattle.cedar_store_model.specs.Whole.Operators.{answered, called}
 use Rattle.cedar_store_model.proofs.Whole.Named.{bound_value, called_of}
 use Rattle.cedar_store_model.specs.Whole.Meaning.{outcome_of}
 use Rattle.cedar_store_model.specs.Whole.Knowledge.{Keeps}
-use Rattle.cedar_evaluator_model.specs.Scope.{Scope, MadeCalled, makes, faults, leaves_unknown, bare_called, Agrees, fault, limit, Left, value_left, residual, stopped}
+use Rattle.cedar_evaluator_model.specs.Scope.{Scope, MadeCalled, makes, faults, leaves_unknown, fault, limit, Left, value_left, residual, stopped}
+use Rattle.cedar_evaluator_model.specs.OfLaws.Calls.{bare_called, Agrees}
 use Rattle.cedar_evaluator_model.specs.Steps.{errs, answer_left, call_left, called_left, made_inserted, made_members, Pieces, pieces, halted, with_piece, from_pieces}
-use Rattle.cedar_evaluator_model.specs.WellMade.{IsWellMade, AllMadeWell}
-use Rattle.cedar_evaluator_model.specs.Completion.{Fits, Completes}
+use Rattle.cedar_evaluator_model.specs.OfLaws.WellMade.{IsWellMade, AllMadeWell}
+use Rattle.cedar_evaluator_model.specs.Completion.{Fits}
+use Rattle.cedar_evaluator_model.specs.OfLaws.Completing.{Completes}
 use Rattle.cedar_evaluator_model.proofs.Named.{FitsAmong, call_of, fields_named}
 use Rattle.cedar_evaluator_model.proofs.GivenLists.{bare_members}
 use Rattle.cedar_evaluator_model.proofs.GivenReads.{length_bare}

@@ -14,11 +14,13 @@ use Rattle.cedar_store_model.specs.Whole.Answer.{with_slots, IsSatisfied, is_tru
 use Rattle.cedar_store_model.specs.Whole.AnswerLaws.{Holds}
 use Rattle.cedar_store_model.proofs.Whole.Conditions.{holds_in, holds-Decides, satisfied_holds, satisfied-Decides, conjunction_true}
 use Rattle.cedar_store_model.proofs.Whole.Known.{there}
-use Rattle.cedar_evaluator_model.specs.Scope.{Scope, Agrees, fault, limit, Left, value_left, residual, stopped}
+use Rattle.cedar_evaluator_model.specs.Scope.{Scope, fault, limit, Left, value_left, residual, stopped}
+use Rattle.cedar_evaluator_model.specs.OfLaws.Calls.{Agrees}
 use Rattle.cedar_evaluator_model.specs.Steps.{truth_left, on_value, truth_wanted}
 use Rattle.cedar_evaluator_model.specs.Evaluation.{evaluated}
-use Rattle.cedar_evaluator_model.specs.WellMade.{AllMadeWell}
-use Rattle.cedar_evaluator_model.specs.Completion.{FitsAnnotations, Completes}
+use Rattle.cedar_evaluator_model.specs.OfLaws.WellMade.{AllMadeWell}
+use Rattle.cedar_evaluator_model.specs.Completion.{FitsAnnotations}
+use Rattle.cedar_evaluator_model.specs.OfLaws.Completing.{Completes}
 use Rattle.cedar_evaluator_model.specs.Response.{Noted, slots_bound, with_bindings, verdict, noted}
 use Rattle.cedar_evaluator_model.specs.Members.{left_policy}
 use Rattle.cedar_evaluator_model.specs.ResponseLaws.{Says}

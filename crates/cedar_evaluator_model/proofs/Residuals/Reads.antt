@@ -15,7 +15,7 @@ use Rattle.cedar_expr_model.proofs.Whole.Gathering.{EachIn}
 use Rattle.cedar_expr_model.specs.Whole.Made.{Made, made_prim, made_record, MadeFields, no_made_fields, made_field, bare, bare_fields, written}
 use Rattle.cedar_expr_model.specs.Whole.Table.{Table}
 use Rattle.cedar_expr_model.specs.Whole.ValueParts.{Part, known, left}
-use Rattle.cedar_expr_model.specs.Whole.Represented.{HaveMade}
+use Rattle.cedar_expr_model.specs.Whole.OfLaws.Represented.{HaveMade}
 use Rattle.cedar_expr_model.proofs.Whole.CoreTypes.{fits-Decides}
 use Rattle.cedar_store_model.specs.Whole.Outcome.{Res, val, err, wrong_type, missing_attribute_or_tag, missing_field, bind}
 use Rattle.cedar_store_model.specs.Whole.World.{World, Found, held, missing, not_loaded}
@@ -28,8 +28,9 @@ use Rattle.cedar_store_model.proofs.Whole.Meaning.{means_outcome}
 use Rattle.cedar_store_model.specs.Whole.Store.{stand_in}
 use Rattle.cedar_evaluator_model.specs.Scope.{Scope, Left, value_left, residual}
 use Rattle.cedar_evaluator_model.specs.Steps.{errs, truth_left, mapped, part_left, tag_left, made_named, attribute_of, test_of, path_step, path_of, get_tag_found, has_tag_found, tag_of, in_found, in_of, left_of, combined_left}
-use Rattle.cedar_evaluator_model.specs.WellMade.{IsWellMade, IsMadeWell, IsPartMadeWell, IsFoundMadeWell, AllMadeWell}
-use Rattle.cedar_evaluator_model.specs.Completion.{Fits, NameMeans, PartIs, PartMeans, FoundMeans, Completes}
+use Rattle.cedar_evaluator_model.specs.OfLaws.WellMade.{IsWellMade, IsMadeWell, IsPartMadeWell, IsFoundMadeWell, AllMadeWell}
+use Rattle.cedar_evaluator_model.specs.Completion.{Fits, PartIs}
+use Rattle.cedar_evaluator_model.specs.OfLaws.Completing.{NameMeans, PartMeans, FoundMeans, Completes}
 use Rattle.cedar_evaluator_model.proofs.Given.{literal_ordered, literal_calculated, literal_among, literal_sets, literal_in}
 use Rattle.cedar_evaluator_model.proofs.Named.{attribute_found, test_found, path_found, FitsIn, fits_in}
 use Rattle.cedar_evaluator_model.proofs.GivenReads.{field_known}

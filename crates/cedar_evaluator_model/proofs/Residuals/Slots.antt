@@ -1,10 +1,11 @@
 -- Expressions with their slots bound, or with values in place of unknowns, mean the same; and a value without slots is one with any.
 use Rattle.std.proofs.Common.{◌≡◌, refl, sym, ap, ◌∙◌, subst}
 use Rattle.std.specs.Prelude.{Option, Some, None, option_map}
+use Rattle.std.specs.Option.{option_map_or}
 use Rattle.cedar_expr_model.specs.Name.{Text}
 use Rattle.cedar_expr_model.specs.Uid.{Uid}
-use Rattle.cedar_expr_model.specs.Whole.Value.{V}
-use Rattle.cedar_expr_model.specs.Whole.Tree.{CoreType, SlotId, principal_slot, resource_slot, Tree, slot, unknown}
+use Rattle.cedar_expr_model.specs.Whole.Value.{V, entity}
+use Rattle.cedar_expr_model.specs.Whole.Tree.{CoreType, SlotId, principal_slot, resource_slot, Tree, lit, slot, unknown}
 use Rattle.cedar_expr_model.specs.Whole.Builder.{tree_builder, built}
 use Rattle.cedar_expr_model.proofs.Whole.Gathering.{EachIn}
 use Rattle.cedar_expr_model.specs.Whole.Made.{Made, bare, written}
@@ -19,8 +20,8 @@ use Rattle.cedar_store_model.specs.Whole.Policy.{SlotBindings, binding_of, no_bi
 use Rattle.cedar_store_model.specs.Whole.Answer.{with_slots}
 use Rattle.cedar_store_model.proofs.Whole.Built.{same_built}
 use Rattle.cedar_store_model.proofs.Whole.Meaning.{means_outcome, outcome_means}
-use Rattle.cedar_evaluator_model.specs.WellMade.{IsMadeWell}
-use Rattle.cedar_evaluator_model.specs.Response.{slot_or, slots_bound}
+use Rattle.cedar_evaluator_model.specs.OfLaws.WellMade.{IsMadeWell}
+use Rattle.cedar_evaluator_model.specs.Response.{slots_bound}
 use Rattle.cedar_evaluator_model.proofs.Written.{written_means, no_unknown}
 use Rattle.cedar_evaluator_model.proofs.Residuals.Rebuilt.{rebuilt, each_rebuilt}
 
@@ -29,21 +30,21 @@ same_next : (A B : Type 0) (o p : Option (Res A)) (f g : A → Option (Res B)) �
 same_next A B o p f g h n = λ i. bind (h i) (λ v. n v i)
 
 -- slots bound
-slot_bound : (w : World) (x : SlotId) (o : Option Uid) → Some (slot_value o) ≡ outcome_of (with_slots w no_bindings) (slot_or x o)
+slot_bound : (w : World) (x : SlotId) (o : Option Uid) → Some (slot_value o) ≡ outcome_of (with_slots w no_bindings) (option_map_or (λ u. lit (entity u)) o (slot x))
 slot_bound w principal_slot None = refl
 slot_bound w resource_slot None = refl
 slot_bound w x (Some u) = refl
 
 pub slots_bound_outcome : (w : World) (b : SlotBindings) (t : Tree) → outcome_of (with_slots w b) t ≡ outcome_of (with_slots w no_bindings) (slots_bound (binding_of b) t)
 slots_bound_outcome w b t =
-    rebuilt (λ A o p. o ≡ p) (λ A o. refl) same_next (with_slots w b) (binding_of no_bindings) (λ x. slot_or x (binding_of b x)) unknown (λ x. slot_bound w x (binding_of b x)) (λ n a. refl) t
+    rebuilt (λ A o p. o ≡ p) (λ A o. refl) same_next (with_slots w b) (binding_of no_bindings) (λ x. option_map_or (λ u. lit (entity u)) (binding_of b x) (slot x)) unknown (λ x. slot_bound w x (binding_of b x)) (λ n a. refl) t
 
-slot_fits : (P : Text → Option CoreType → Type 0) (x : SlotId) (o : Option Uid) → EachIn P (slot_or x o)
+slot_fits : (P : Text → Option CoreType → Type 0) (x : SlotId) (o : Option Uid) → EachIn P (option_map_or (λ u. lit (entity u)) o (slot x))
 slot_fits P x None = tt
 slot_fits P x (Some u) = tt
 
 pub slots_bound_fits : (P : Text → Option CoreType → Type 0) (bound : SlotId → Option Uid) (t : Tree) → EachIn P t → EachIn P (slots_bound bound t)
-slots_bound_fits P bound t h = each_rebuilt P (λ x. slot_or x (bound x)) unknown (λ x. slot_fits P x (bound x)) (λ n a k. k) t h
+slots_bound_fits P bound t h = each_rebuilt P (λ x. option_map_or (λ u. lit (entity u)) (bound x) (slot x)) unknown (λ x. slot_fits P x (bound x)) (λ n a k. k) t h
 
 -- values in place of unknowns
 value_bound : (w : World) (n : Text) (a : Option CoreType) (o : Option Made) → IsMadeWell w.table o → Keeps (option_map bare o) (w.unknowns n)

@@ -16,7 +16,7 @@ use Rattle.cedar_store_model.proofs.Whole.Meaning.{means_outcome}
 use Rattle.cedar_evaluator_model.specs.Scope.{fault, limit, Left, value_left, residual, stopped}
 use Rattle.cedar_evaluator_model.specs.Steps.{on_value, best, left_of, truth_wanted, picks}
 use Rattle.cedar_evaluator_model.specs.Evaluation.{right_left}
-use Rattle.cedar_evaluator_model.specs.WellMade.{IsWellMade}
+use Rattle.cedar_evaluator_model.specs.OfLaws.WellMade.{IsWellMade}
 use Rattle.cedar_evaluator_model.proofs.Given.{GivesLiteral}
 use Rattle.cedar_evaluator_model.proofs.Named.{FitsIn}
 use Rattle.cedar_evaluator_model.proofs.Written.{written_means, no_unknown}

@@ -4,9 +4,9 @@ use Rattle.cedar_expr_model.specs.Uid.{Uid, uid_eq, uid_text}
 use Rattle.cedar_expr_model.proofs.Equality.{uid_eq-Decides}
 use Rattle.cedar_store_model.specs.Whole.World.{held, missing, not_loaded}
 use Rattle.cedar_store_model.specs.Whole.Knowledge.{IsSettled}
-use Rattle.cedar_evaluator_model.specs.Scope.{Agrees}
-use Rattle.cedar_evaluator_model.specs.WellMade.{IsFoundMadeWell, AllMadeWell}
-use Rattle.cedar_evaluator_model.specs.Completion.{NameMeans, FoundMeans, Completes}
+use Rattle.cedar_evaluator_model.specs.OfLaws.Calls.{Agrees}
+use Rattle.cedar_evaluator_model.specs.OfLaws.WellMade.{IsFoundMadeWell, AllMadeWell}
+use Rattle.cedar_evaluator_model.specs.OfLaws.Completing.{NameMeans, FoundMeans, Completes}
 use Rattle.cedar_evaluator_model.specs.ResponseLaws.{FitConditions}
 use Rattle.cedar_evaluator_model.specs.ReauthorizeLaws.{BindsRightly}
 use Rattle.cedar_evaluator_model.specs.Worked.{user_b}

@@ -7,12 +7,11 @@ use Rattle.std.specs.declared.cmp.Ordering.TheVariants.{Less, Equal, Greater}
 use Rattle.cedar_expr_model.specs.Whole.Value.{V}
 use Rattle.cedar_expr_model.specs.Whole.Tree.{CoreType}
 use Rattle.cedar_expr_model.specs.Whole.Order.{core_cmp, core_eq}
-use Rattle.cedar_expr_model.specs.Whole.Substitution.{core_type_of, fits_annotation}
+use Rattle.cedar_expr_model.specs.Whole.Substitution.{IsOfType, core_type_of, fits_annotation}
 use Rattle.cedar_expr_model.specs.Whole.Made.{Made, made_prim, made_set, made_record, made_extension, bare, written}
 use Rattle.cedar_expr_model.specs.Whole.Table.{Table}
 use Rattle.cedar_expr_model.specs.Whole.Evident.{evident_type}
 use Rattle.cedar_expr_model.specs.Whole.TreeLaws.{HasResult}
-use Rattle.cedar_expr_model.specs.Whole.Laws.{IsOfType}
 use Rattle.cedar_expr_model.proofs.Whole.ShapeParts.{core_linear}
 
 -- a test that an order decides

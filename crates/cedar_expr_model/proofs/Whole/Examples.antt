@@ -5,8 +5,9 @@ use Rattle.cedar_expr_model.specs.Name.{Text, name_eq}
 use Rattle.cedar_expr_model.specs.Whole.Value.{text, V, prim, set_of, record_of, extension, no_values, value}
 use Rattle.cedar_expr_model.specs.Whole.SamenessLaws.{Among, FieldAmong, Same, HasSame, HasSameField}
 use Rattle.cedar_expr_model.specs.Whole.BuilderForm.{IsLawful}
-use Rattle.cedar_expr_model.specs.Whole.Table.{Signature, fails, IsAnswer, IsFair, Called, gives}
-use Rattle.cedar_expr_model.specs.Whole.Represented.{IsRepresented}
+use Rattle.cedar_expr_model.specs.Whole.Table.{Signature, fails, Called, gives}
+use Rattle.cedar_expr_model.specs.Whole.OfLaws.Fair.{IsAnswer, IsFair}
+use Rattle.cedar_expr_model.specs.Whole.OfLaws.Represented.{IsRepresented}
 use Rattle.cedar_expr_model.specs.Whole.Worked.{true_rank, feigned_rank, number, word, falling, rising, a_then_b, b_then_a, rank_name, label_name, rank_function, label_function, rank_answer, label_answer, typed_table, unfair_table, variable_builder}
 
 pub variables_lawful : IsLawful variable_builder

@@ -7,10 +7,11 @@ use Rattle.cedar_expr_model.specs.Whole.Tree.{lit}
 use Rattle.cedar_expr_model.specs.Whole.Builder.{trees}
 use Rattle.cedar_expr_model.specs.Whole.Parts.{subexpressions, subexpressions_among, subexpressions_in_fields, listed}
 use Rattle.cedar_expr_model.specs.Whole.Made.{Made, made_prim, made_set, made_record, made_extension, Mades, no_mades, made, MadeFields, no_made_fields, made_field, written, writtens, written_fields}
-use Rattle.cedar_expr_model.specs.Whole.Table.{Table, Signature, IsAnswer, IsFair, takes_count}
+use Rattle.cedar_expr_model.specs.Whole.Table.{Table, Signature, takes_count}
+use Rattle.cedar_expr_model.specs.Whole.OfLaws.Fair.{IsAnswer, IsFair}
 use Rattle.cedar_expr_model.specs.Whole.Evident.{is_valid_call, has_valid_calls}
 use Rattle.cedar_expr_model.specs.Whole.TreeLaws.{HasResult}
-use Rattle.cedar_expr_model.specs.Whole.Represented.{IsRepresented, AreMade, HaveMade}
+use Rattle.cedar_expr_model.specs.Whole.OfLaws.Represented.{IsRepresented, AreMade, HaveMade}
 use Rattle.cedar_expr_model.proofs.Lists.{hold_both}
 use Rattle.cedar_expr_model.proofs.Whole.Gathering.{all_join}
 

@@ -7,7 +7,7 @@ use Rattle.cedar_expr_model.specs.Name.{Text}
 use Rattle.cedar_expr_model.specs.Whole.Value.{Literal}
 use Rattle.cedar_expr_model.specs.Whole.Tree.{CoreType, Tree, lit, var, slot, unknown, choice, both, either, unary, binary, call, get_attr, has_attr, has_path, like, is_type, set_literal, record_literal, Trees, no_trees, tree, TreeFields, no_tree_fields, tree_field}
 use Rattle.cedar_expr_model.specs.Whole.Builder.{Builder, built, built_list, built_fields, tree_builder, written_truth, folded, conjunction, disjunction, path_test, trees, tree_fields}
-use Rattle.cedar_expr_model.specs.Whole.BuilderForm.{is_built}
+use Rattle.cedar_expr_model.specs.Whole.OfLaws.Built.{is_built}
 use Rattle.cedar_expr_model.specs.Whole.Made.{Made, made_prim, made_set, made_record, made_extension, Mades, no_mades, made, MadeFields, no_made_fields, made_field, written, writtens, written_fields}
 use Rattle.cedar_expr_model.specs.Whole.Substitution.{Bindings, substituted}
 use Rattle.cedar_expr_model.specs.Whole.Unknowns.{has_unknown}

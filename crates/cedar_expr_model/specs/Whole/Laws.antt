@@ -1,6 +1,6 @@
 -- What the laws of values and patterns say.
 -- Rule: values and equality; patterns (docs/RULES.md).
-use Rattle.std.specs.Prelude.{◌≡◌, ◌↔◌, ℕ, true, List, Contains, Option, Some, None}
+use Rattle.std.specs.Prelude.{◌≡◌, ◌↔◌, ℕ, true, List, Contains, Option, Some}
 use Rattle.std.specs.Bool.{Decides}
 use Rattle.std.specs.List.{list_all}
 use Rattle.std.specs.Cmp.{IsTotalOrder}
@@ -11,7 +11,7 @@ use Rattle.cedar_expr_model.specs.Uid.{Uid}
 use Rattle.cedar_expr_model.specs.Order.{name_cmp, uid_cmp}
 use Rattle.cedar_expr_model.specs.Whole.Value.{V, Vs, Fields, values_list, field_of}
 use Rattle.cedar_expr_model.specs.Whole.Tree.{CoreType}
-use Rattle.cedar_expr_model.specs.Whole.Substitution.{core_type_of, fits_annotation}
+use Rattle.cedar_expr_model.specs.Whole.Substitution.{IsOfType, fits_annotation}
 use Rattle.cedar_expr_model.specs.Whole.Order.{name_order, uid_order, value_eq, core_eq}
 use Rattle.cedar_expr_model.specs.Whole.Canonical.{is_canonical, have_canonical, are_rising, members_made, set_made, is_member}
 use Rattle.cedar_expr_model.specs.Whole.SamenessLaws.{Among, FieldAmong, Same}
@@ -68,11 +68,6 @@ FieldsAreFound = (a : Text) (v : V) (fs : Fields) → have_canonical fs ≡ true
 -- the test of a pattern decides whether it matches
 abbrev pub PatternsDecide : Type 0
 PatternsDecide = (p : Pattern) (cs : List ℕ) → Decides (matches p cs) (Matches p cs)
-
--- the annotation, where there is one, is the type of the value
-abbrev pub IsOfType : Option CoreType → V → Type 0
-IsOfType None v = Unit {0}
-IsOfType (Some a) v = a ≡ core_type_of v
 
 -- the tests of core types and of annotations decide
 abbrev pub CoreTypesDecide : Type 0

@@ -8,7 +8,6 @@ use Rattle.cedar_expr_model.specs.Name.{Text}
 pub data Element : Type 0 where
   character : ℕ → Element
   wildcard : Element
-  deriving IsSet as Element-set
 
 abbrev pub Pattern : Type 0
 Pattern = List Element

@@ -1,6 +1,6 @@
 -- Substitution of values for unknowns.
 -- Rule: substitution (docs/RULES.md).
-use Rattle.std.specs.Prelude.{Bool, true, Option, Some, None, if◌then◌else◌}
+use Rattle.std.specs.Prelude.{◌≡◌, Bool, true, Option, Some, None, if◌then◌else◌}
 use Rattle.std.specs.Option.{option_map_or}
 use Rattle.cedar_expr_model.specs.Name.{Text}
 use Rattle.cedar_expr_model.specs.Whole.Value.{truth, long, text, entity, V, prim, set_of, record_of, extension}
@@ -33,7 +33,11 @@ core_type_of (set_of vs) = set_core
 core_type_of (record_of fs) = record_core
 core_type_of (extension n k) = extension_core n
 
--- the annotation, where there is one, is the value's type
+-- the annotation, where there is one, is the value's type; and the test
+abbrev pub IsOfType : Option CoreType → V → Type 0
+IsOfType None v = Unit {0}
+IsOfType (Some a) v = a ≡ core_type_of v
+
 abbrev pub fits_annotation : Option CoreType → V → Bool
 fits_annotation a v = option_map_or (λ c. core_eq c (core_type_of v)) a true
 

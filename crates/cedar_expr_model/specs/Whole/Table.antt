@@ -1,6 +1,6 @@
 -- Extension functions: signatures, and what a call of one answers.
 -- Rule: extension functions (docs/RULES.md).
-use Rattle.std.specs.Prelude.{◌≡◌, ◌&&◌, ◌==◌, ℕ, List, [], ◌∷◌, length, nat_le, find, Bool, true, false, Option, Some, None, if◌then◌else◌, is_some}
+use Rattle.std.specs.Prelude.{◌&&◌, ◌==◌, ℕ, List, [], ◌∷◌, length, nat_le, find, Bool, true, false, Option, Some, None, if◌then◌else◌, is_some}
 use Rattle.std.specs.List.{list_all, list_any}
 use Rattle.cedar_expr_model.specs.Name.{Text, Name, name_eq}
 use Rattle.cedar_expr_model.specs.Whole.Value.{V}
@@ -54,20 +54,6 @@ are_of_types [] vs = true
 are_of_types (a ∷ as_) [] = true
 are_of_types (a ∷ []) (v ∷ vs) = core_eq a (core_type_of v) && are_of_types (a ∷ []) vs
 are_of_types (a ∷ b ∷ bs) (v ∷ vs) = core_eq a (core_type_of v) && are_of_types (b ∷ bs) vs
-
--- the table has the function, which takes these arguments
-abbrev pub IsTaken : Table → Name → List V → Type 0
-IsTaken t f vs = (s : Signature) × (signature_of t f ≡ Some s) × (takes_count s (length vs) ≡ true) × (are_of_types s.parameters vs ≡ true)
-
--- a value of the function's result type, or a failure; one without a result type may leave an unknown
-abbrev pub IsAnswer : Signature → Called → Type 0
-IsAnswer s (gives v) = s.result ≡ Some (core_type_of v)
-IsAnswer s (fails e) = Unit {0}
-IsAnswer s (leaves n) = s.result ≡ None
-
--- The table is fair: on arguments of their types its functions answer with a value of their result type or a failure.
-abbrev pub IsFair : Table → Type 0
-IsFair t = (f : Name) (s : Signature) (vs : List V) → signature_of t f ≡ Some s → takes_count s (length vs) ≡ true → are_of_types s.parameters vs ≡ true → IsAnswer s (t.answers f vs)
 
 -- what a constructor makes: it is a function in function style, of one text, that isn't variadic and gives an extension value
 abbrev pub constructs : CallStyle → List CoreType → Bool → Option CoreType → Option CoreType

@@ -1,9 +1,16 @@
--- What the law of the texts of patterns says.
--- Rule: texts; patterns (docs/RULES.md).
-use Rattle.std.specs.Prelude.{◌≡◌, ℕ, List, [], ◌∷◌, true}
+-- What the laws of the texts of uids and of patterns say.
+-- Rule: the uid text and its escape; texts; patterns (docs/RULES.md).
+use Rattle.std.specs.Prelude.{◌≡◌, ℕ, List, [], ◌∷◌, true, Option, Some}
 use Rattle.std.specs.Str.{all_scalars}
+use Rattle.cedar_expr_model.specs.Name.{Text}
+use Rattle.cedar_expr_model.specs.Uid.{Uid, uid_text}
+use Rattle.cedar_expr_model.specs.Whole.Uids.{is_uid}
 use Rattle.cedar_expr_model.specs.Whole.Pattern.{Pattern, character, wildcard}
 use Rattle.cedar_expr_model.specs.Whole.Texts.{pattern_text}
+
+-- Some reading of texts finds each uid from its text.
+abbrev pub UidsAreReadable : Type 0
+UidsAreReadable = (read : Text → Option Uid) × ((u : Uid) → is_uid u ≡ true → read (uid_text u) ≡ Some u)
 
 -- the characters that stand in a pattern, in order
 abbrev pub characters : Pattern → List ℕ

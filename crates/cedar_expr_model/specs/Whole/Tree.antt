@@ -13,13 +13,11 @@ pub data Var : Type 0 where
 -- the slots of a template
 pub data SlotId : Type 0 where
   principal_slot resource_slot : SlotId
-  deriving IsSet as SlotId-set
 
 -- The types that a value shows by itself.
 pub data CoreType : Type 0 where
   bool_core long_core string_core set_core record_core : CoreType
   entity_core extension_core : Name → CoreType
-  deriving IsSet as CoreType-set
 
 pub data UnaryOp : Type 0 where
   negation minus is_empty : UnaryOp

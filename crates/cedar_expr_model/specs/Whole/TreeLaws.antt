@@ -4,15 +4,17 @@ use Rattle.std.specs.Prelude.{◌≡◌, ◌↔◌, ◌&&◌, Bool, true, false,
 use Rattle.std.specs.Bool.{Decides}
 use Rattle.cedar_expr_model.specs.Whole.Tree.{CoreType, extension_core, Tree}
 use Rattle.cedar_expr_model.specs.Whole.Builder.{Builder, built, tree_builder}
-use Rattle.cedar_expr_model.specs.Whole.BuilderForm.{IsLawful, is_built}
+use Rattle.cedar_expr_model.specs.Whole.BuilderForm.{IsLawful}
+use Rattle.cedar_expr_model.specs.Whole.OfLaws.Built.{is_built}
 use Rattle.cedar_expr_model.specs.Whole.Made.{Made, made_prim, made_set, made_record, made_extension, Mades, no_mades, made, MadeFields, no_made_fields, made_field, bare, written}
 use Rattle.cedar_expr_model.specs.Whole.Substitution.{Bindings, built_under, substituted, core_type_of, mismatch}
 use Rattle.cedar_expr_model.specs.Whole.Unknowns.{has_unknown, EachUnknown}
 use Rattle.cedar_expr_model.specs.Whole.Restricted.{offence}
-use Rattle.cedar_expr_model.specs.Whole.Table.{Table, IsFair, signature_of}
+use Rattle.cedar_expr_model.specs.Whole.Table.{Table, signature_of}
+use Rattle.cedar_expr_model.specs.Whole.OfLaws.Fair.{IsFair}
 use Rattle.cedar_expr_model.specs.Whole.Canonical.{is_canonical}
 use Rattle.cedar_expr_model.specs.Whole.ValueParts.{value_of_tree}
-use Rattle.cedar_expr_model.specs.Whole.Represented.{IsRepresented}
+use Rattle.cedar_expr_model.specs.Whole.OfLaws.Represented.{IsRepresented}
 use Rattle.cedar_expr_model.specs.Whole.Shape.{tree_eq}
 use Rattle.cedar_expr_model.specs.Whole.Evident.{evident_type, has_valid_calls}
 

@@ -9,7 +9,7 @@ use Rattle.cedar_expr_model.specs.Whole.Tree.{SlotId, nesting}
 use Rattle.cedar_expr_model.specs.Whole.Unknowns.{has_unknown}
 use Rattle.cedar_store_model.specs.Whole.World.{World, Entity, held}
 use Rattle.cedar_store_model.specs.Whole.Policy.{Policy, binding_of, body_tree, condition, tree_uses, has_slot}
-use Rattle.cedar_store_model.specs.Whole.Knowledge.{Extends}
+use Rattle.cedar_store_model.specs.Whole.OfLaws.Extends.{Extends}
 use Rattle.cedar_store_model.specs.Whole.Answer.{Decision, ids, decision_of, reasons_of}
 use Rattle.cedar_schema_model.specs.Whole.Schema.{Schema}
 use Rattle.cedar_schema_model.specs.Whole.WellFormed.{IsWellFormed, unresolved_external, well_formed}

@@ -86,14 +86,8 @@ end_status e = is_stopped
 
 -- what a session of a bundle stands on
 abbrev pub setup_of : Functions → Bundle → Setup
-setup_of f b = record {
-  schema = schema_in b.submission;
-  level = b.submission.level;
-  limit = b.submission.limit;
-  functions = f;
-  start = b.start;
-  store = λ u. lookup (uid_eq u) b.store;
-}
+setup_of f b =
+    record { schema = schema_in b.submission; level = b.submission.level; limit = b.submission.limit; functions = f; start = b.start; store = λ u. lookup (uid_eq u) b.store }
 
 -- the lines of a run, after acceptance
 abbrev pub run_lines : Bundle → List Entry → End → Text

@@ -24,8 +24,7 @@ submission_read x d =
     (required (codes "policies") (list_of policy_read) d))))
 
 abbrev pub bundle_keys : List Text
-bundle_keys = codes "version" ∷ codes "level" ∷ codes "limit" ∷ codes "schema" ∷ codes "policies" ∷ codes "request" ∷ codes "store"
-    ∷ codes "steps" ∷ []
+bundle_keys = codes "version" ∷ codes "level" ∷ codes "limit" ∷ codes "schema" ∷ codes "policies" ∷ codes "request" ∷ codes "store" ∷ codes "steps" ∷ []
 
 -- the keys of a bundle alone, of the first version
 abbrev pub is_bundle : Data → Bool

@@ -94,37 +94,16 @@ record_form xs = None
 
 -- The words that a list may begin with, and what follows each.
 abbrev pub forms : List (Text × (List Part → Option Tree))
-forms =
-    (codes "uid", uid_form)
-    ∷ (codes "var", of_word var var_words)
-    ∷ (codes "slot", of_word slot slot_words)
-    ∷ (codes "unknown", unknown_form)
-    ∷ (codes "if", of_three choice)
-    ∷ (codes "and", of_two conjunction)
-    ∷ (codes "or", of_two disjunction)
-    ∷ (codes "not", of_one (unary negation))
-    ∷ (codes "neg", of_one (unary minus))
-    ∷ (codes "isEmpty", of_one (unary is_empty))
-    ∷ (codes "eq", of_two (binary equal))
-    ∷ (codes "less", of_two (binary less))
-    ∷ (codes "lesseq", of_two (binary less_or_equal))
-    ∷ (codes "add", of_two (binary plus))
-    ∷ (codes "sub", of_two (binary difference))
-    ∷ (codes "mul", of_two (binary times))
-    ∷ (codes "in", of_two (binary is_in))
-    ∷ (codes "contains", of_two (binary contains))
-    ∷ (codes "containsAll", of_two (binary contains_all))
-    ∷ (codes "containsAny", of_two (binary contains_any))
-    ∷ (codes "getTag", of_two (binary get_tag))
-    ∷ (codes "hasTag", of_two (binary has_tag))
-    ∷ (codes "call", call_form)
-    ∷ (codes "get", of_tree_and get_attr as_str)
-    ∷ (codes "has", has_form)
-    ∷ (codes "like", of_tree_and like pattern_read)
-    ∷ (codes "is", of_tree_and is_type plain_name_read)
-    ∷ (codes "set", λ xs. option_map set_literal (trees_in xs))
-    ∷ (codes "record", record_form)
-    ∷ []
+forms = (codes "uid", uid_form) ∷ (codes "var", of_word var var_words) ∷ (codes "slot", of_word slot slot_words) ∷ (codes "unknown", unknown_form)
+    ∷ (codes "if", of_three choice) ∷ (codes "and", of_two conjunction) ∷ (codes "or", of_two disjunction)
+    ∷ (codes "not", of_one (unary negation)) ∷ (codes "neg", of_one (unary minus)) ∷ (codes "isEmpty", of_one (unary is_empty))
+    ∷ (codes "eq", of_two (binary equal)) ∷ (codes "less", of_two (binary less)) ∷ (codes "lesseq", of_two (binary less_or_equal))
+    ∷ (codes "add", of_two (binary plus)) ∷ (codes "sub", of_two (binary difference)) ∷ (codes "mul", of_two (binary times))
+    ∷ (codes "in", of_two (binary is_in)) ∷ (codes "contains", of_two (binary contains))
+    ∷ (codes "containsAll", of_two (binary contains_all)) ∷ (codes "containsAny", of_two (binary contains_any))
+    ∷ (codes "getTag", of_two (binary get_tag)) ∷ (codes "hasTag", of_two (binary has_tag)) ∷ (codes "call", call_form)
+    ∷ (codes "get", of_tree_and get_attr as_str) ∷ (codes "has", has_form) ∷ (codes "like", of_tree_and like pattern_read)
+    ∷ (codes "is", of_tree_and is_type plain_name_read) ∷ (codes "set", λ xs. option_map set_literal (trees_in xs)) ∷ (codes "record", record_form) ∷ []
 
 -- a list that begins with one of them
 abbrev pub form_read : List Part → Option Tree

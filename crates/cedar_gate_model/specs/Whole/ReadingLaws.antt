@@ -8,7 +8,7 @@ use Rattle.cedar_expr_model.specs.Name.{Text}
 use Rattle.cedar_expr_model.specs.Uid.{Uid}
 use Rattle.cedar_expr_model.specs.Whole.Value.{V}
 use Rattle.cedar_expr_model.specs.Whole.Tree.{SlotId, principal_slot, resource_slot, Tree, TreeFields, record_literal}
-use Rattle.cedar_expr_model.specs.Whole.BuilderForm.{is_built}
+use Rattle.cedar_expr_model.specs.Whole.OfLaws.Built.{is_built}
 use Rattle.cedar_expr_model.specs.Whole.Made.{Made}
 use Rattle.cedar_expr_model.specs.Whole.Unknowns.{has_unknown}
 use Rattle.cedar_store_model.specs.Whole.World.{Entity}

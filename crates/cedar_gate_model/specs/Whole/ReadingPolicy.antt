@@ -51,14 +51,5 @@ policy_read d =
     given (optional (codes "action") action_scope_read any_action d) (λ action.
     given (optional (codes "resource") scope_read any d) (λ resource.
     given (optional (codes "when") (read_as Some expression_read) None d) (λ body.
-    option_map (λ bindings. record {
-      id = id;
-      effect = effect;
-      annotations = [];
-      principal = principal;
-      action = action;
-      resource = resource;
-      body = body;
-      bindings = bindings;
-    })
+    option_map (λ bindings. record { id = id; effect = effect; annotations = []; principal = principal; action = action; resource = resource; body = body; bindings = bindings })
     (optional (codes "link") bindings_read no_bindings d))))))))

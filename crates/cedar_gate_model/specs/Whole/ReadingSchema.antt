@@ -25,13 +25,10 @@ pub record TypePart : Type 0 where
 
 -- The keys that such an object may have, and what each reads.
 abbrev pub type_forms : List (Text × (TypePart → Option TypeExpr))
-type_forms =
-    (codes "set", λ x. option_map set_expr x.type)
-    ∷ (codes "record", λ x. option_map record_expr x.fields)
+type_forms = (codes "set", λ x. option_map set_expr x.type) ∷ (codes "record", λ x. option_map record_expr x.fields)
     ∷ (codes "entity", λ x. option_map (reference to_entity) (any_name_read x.json))
     ∷ (codes "common", λ x. option_map (reference to_common) (any_name_read x.json))
-    ∷ (codes "ext", λ x. option_map extension_expr (any_name_read x.json))
-    ∷ []
+    ∷ (codes "ext", λ x. option_map extension_expr (any_name_read x.json)) ∷ []
 
 -- a field: required where a type stands, else an optional one
 abbrev pub field_from : Text → Option TypeExpr → Option TypeExpr → Option (FieldExprs → FieldExprs)
@@ -93,8 +90,7 @@ kind_read d = first_form (standard_read ∷ enumerated_read ∷ external_read �
 
 -- an entity type, whose key is one identifier
 abbrev pub entity_type_read : Namespace → Text → Data → Option EntityDeclaration
-entity_type_read ns word d =
-    when (is_identifier word) (option_map (λ k. record { namespace = ns; word = word; parents = k.0; kind = k.1 }) (kind_read d))
+entity_type_read ns word d = when (is_identifier word) (option_map (λ k. record { namespace = ns; word = word; parents = k.0; kind = k.1 }) (kind_read d))
 
 abbrev pub action_keys : List Text
 action_keys = codes "in" ∷ codes "principals" ∷ codes "resources" ∷ codes "context" ∷ []
@@ -106,15 +102,7 @@ action_read ns id d =
     (given (optional (codes "in") (list_of declared_uid_read) [] d) (λ parents.
     given (optional (codes "principals") (list_of any_name_read) [] d) (λ principals.
     given (optional (codes "resources") (list_of any_name_read) [] d) (λ resources.
-    option_map (λ context. record {
-      namespace = ns;
-      id = id;
-      parents = parents;
-      principals = principals;
-      resources = resources;
-      context = context;
-      is_external = false;
-    })
+    option_map (λ context. record { namespace = ns; id = id; parents = parents; principals = principals; resources = resources; context = context; is_external = false })
     (optional (codes "context") type_read (record_expr no_field_exprs) d)))))
 
 -- the namespace that a key names; the empty text names the empty one

@@ -5,9 +5,10 @@ use Rattle.std.proofs.Common.{◌⊎◌}
 use Rattle.cedar_expr_model.specs.Name.{Text}
 use Rattle.cedar_expr_model.specs.Uid.{Uid}
 use Rattle.cedar_expr_model.specs.Whole.Made.{Made}
+use Rattle.cedar_store_model.specs.Whole.World.{World}
 use Rattle.cedar_store_model.specs.Whole.Policy.{Policy}
-use Rattle.cedar_store_model.specs.Whole.Answer.{Decision, Answer, answer_of}
-use Rattle.cedar_gate_model.specs.Whole.Session.{Setup, State, at_start, known_now, world_now, MeetsLimit, HoldsInAll, IsWantedList, NothingIsWanted, with_bound, OpenFault, OpenRefusal, BindFault, BindRefusal, Supplied, SupplyFault, SupplyRefusal, AnswerFault, AnswerRefusal}
+use Rattle.cedar_store_model.specs.Whole.Answer.{Decision, Answer, answer_of, decision_of}
+use Rattle.cedar_gate_model.specs.Whole.Session.{Setup, State, at_start, known_now, world_now, MeetsLimit, CompletesNow, IsWantedList, NothingIsWanted, with_bound, OpenFault, OpenRefusal, BindFault, BindRefusal, Supplied, SupplyFault, SupplyRefusal, AnswerFault, AnswerRefusal}
 use Rattle.cedar_gate_model.specs.Whole.Transcript.{Step, load, bind_name, decide, Entry, round, bound, decided}
 use Rattle.cedar_gate_model.specs.Whole.Owed.{IsForced}
 
@@ -41,7 +42,7 @@ RefusesSupply x s f = (uids : List Uid) × (uids ≢ []) × IsWantedList x s uid
 -- is given, but where a policy meets the limit.
 abbrev pub MayDecide : Setup → List Policy → State → Option Decision → Type 0
 MayDecide x ps s None = MeetsLimit x ps s ⊎ ((d : Decision) → IsForced (known_now x s) ps d → ⊥)
-MayDecide x ps s (Some d) = HoldsInAll x ps s d
+MayDecide x ps s (Some d) = (w : World) → CompletesNow x s w → d ≡ decision_of w ps
 
 -- After the last step: rounds as long as something is wanted, and then the answer.
 abbrev pub Finishes : Setup → List Policy → State → List Entry → End → Type 0

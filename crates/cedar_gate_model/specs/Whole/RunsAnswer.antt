@@ -7,7 +7,8 @@ use Rattle.serde_json.specs.Data.{Data}
 use Rattle.cedar_expr_model.specs.Name.{Text, Name}
 use Rattle.cedar_expr_model.specs.Uid.{Uid, uid_eq}
 use Rattle.cedar_expr_model.specs.Whole.Made.{Made, bare}
-use Rattle.cedar_expr_model.specs.Whole.Table.{IsFair, IsTaken, all_typed}
+use Rattle.cedar_expr_model.specs.Whole.Table.{all_typed}
+use Rattle.cedar_expr_model.specs.Whole.OfLaws.Fair.{IsFair, IsTaken}
 use Rattle.cedar_expr_model.specs.Whole.Value.{V, truth_value}
 use Rattle.cedar_store_model.specs.Whole.World.{World, Entity, Found, missing}
 use Rattle.cedar_store_model.specs.Whole.Knowledge.{Keeps, holds_values}
@@ -15,14 +16,15 @@ use Rattle.cedar_store_model.specs.Whole.Answer.{Decision, Answer, PolicyError, 
 use Rattle.cedar_schema_model.specs.Whole.Schema.{declares_action}
 use Rattle.cedar_schema_model.specs.Whole.Conforming.{RequestConforms}
 use Rattle.cedar_typechecker_model.specs.Whole.Soundness.{IsExpected}
-use Rattle.cedar_evaluator_model.specs.Scope.{makes, Agrees, residual_fields}
+use Rattle.cedar_evaluator_model.specs.Scope.{makes, residual_fields}
+use Rattle.cedar_evaluator_model.specs.OfLaws.Calls.{Agrees}
 use Rattle.cedar_evaluator_model.specs.Known.{known_found}
 use Rattle.cedar_evaluator_model.specs.Members.{decision_in_session}
 use Rattle.cedar_evaluator_model.specs.Response.{PartialRequest, response_of}
-use Rattle.cedar_evaluator_model.specs.WellMade.{IsWellMade, IsFoundMadeWell, IsContextMadeWell}
-use Rattle.cedar_evaluator_model.specs.Completion as evaluator
+use Rattle.cedar_evaluator_model.specs.OfLaws.WellMade.{IsWellMade, IsFoundMadeWell, IsContextMadeWell}
+use Rattle.cedar_evaluator_model.specs.OfLaws.Completing as evaluator
 use Rattle.cedar_evaluator_model.specs.Completion.{PartIs}
-use Rattle.cedar_evaluator_model.specs.Completable.{is_free_name}
+use Rattle.cedar_evaluator_model.specs.OfLaws.Completable.{is_free_name}
 use Rattle.cedar_expr_model.specs.Whole.Tree.{TreeFields, record_literal}
 use Rattle.cedar_gate_model.specs.Whole.Acceptance.{Submission, IsAccepted, schema_in}
 use Rattle.cedar_gate_model.specs.Whole.Bundle.{Functions, Bundle}

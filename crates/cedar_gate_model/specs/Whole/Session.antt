@@ -27,7 +27,7 @@ use Rattle.cedar_evaluator_model.specs.Members.{met_limit}
 use Rattle.cedar_gate_model.specs.Whole.Bundle.{Functions}
 use Rattle.cedar_gate_model.specs.Whole.Slice.{InSlice}
 use Rattle.cedar_evaluator_model.specs.Reauthorize.{context_from}
-use Rattle.cedar_gate_model.specs.Whole.ReadingValue.{left_of_restricted}
+use Rattle.cedar_gate_model.specs.Whole.ReadingValue.{with_functions, left_of_restricted}
 use Rattle.cedar_gate_model.specs.Whole.Moment.{Completes, told, request_of}
 use Rattle.std.specs.Map.{lookup, keys_of}
 use Rattle.std.specs.Option.{option_map_or}
@@ -74,15 +74,12 @@ context_now f s unknown_context = unwrap_or (option_and_then (λ m. context_from
 
 -- what an evaluation knows now, over a store with the calls that make its values
 abbrev pub scope_now : Setup → State → (Uid → Found Made) → Scope
-scope_now x s store = record {
+scope_now x s store = record (with_functions x.functions) {
   principal = entry_now s (codes "principal") x.start.principal;
   action = entry_now s (codes "action") x.start.action;
   resource = entry_now s (codes "resource") x.start.resource;
   context = context_now x.functions s x.start.context;
-  slots = λ s'. None;
   values = value_of s;
-  table = x.functions.table;
-  calls = x.functions.calls;
   store = store;
 }
 
@@ -139,10 +136,7 @@ OpenFault r name_of_variable = (u : Unknown) × Contains (context_unknowns r.con
 
 -- the entry of a variable, where the name is that of one
 abbrev pub entry_named : PartialRequest → Text → Option Entry
-entry_named r n =
-    if bytes_eq n (codes "principal") then Some r.principal
-    else (if bytes_eq n (codes "action") then Some r.action
-    else (if bytes_eq n (codes "resource") then Some r.resource else None))
+entry_named r n = lookup (bytes_eq n) ((codes "principal", r.principal) ∷ (codes "action", r.action) ∷ (codes "resource", r.resource) ∷ [])
 
 abbrev pub is_open_entry : Option Entry → Bool
 is_open_entry (Some (unknown_uid k)) = true
@@ -258,7 +252,3 @@ pub record CompletesNow (x : Setup) (s : State) (w : World) : Type 0 where
   pub request : Completes x.schema x.functions.table x.level x.start w
   pub bound : (b : Text × Made) → Contains s.bound b → MeansBound w b
   pub asked : (u : Uid) → Contains s.asked u → w.store u ≡ whole_store x u
-
--- the decision is that of every completion
-abbrev pub HoldsInAll : Setup → List Policy → State → Decision → Type 0
-HoldsInAll x ps s d = (w : World) → CompletesNow x s w → d ≡ decision_of w ps

@@ -3,7 +3,8 @@
 use Rattle.std.specs.Prelude.{◌≡◌, ◌≤◌, ℕ, [], true, Contains}
 use Rattle.std.proofs.Common.{◌⊎◌}
 use Rattle.cedar_expr_model.specs.Uid.{Uid}
-use Rattle.cedar_expr_model.specs.Whole.Table.{Table, IsFair}
+use Rattle.cedar_expr_model.specs.Whole.Table.{Table}
+use Rattle.cedar_expr_model.specs.Whole.OfLaws.Fair.{IsFair}
 use Rattle.cedar_expr_model.specs.Whole.Tree.{Tree}
 use Rattle.cedar_expr_model.specs.Whole.Value.{V}
 use Rattle.cedar_store_model.specs.Whole.Outcome.{Res}
@@ -20,7 +21,7 @@ use Rattle.cedar_typechecker_model.specs.Whole.Facts.{Facts}
 use Rattle.cedar_typechecker_model.specs.Whole.Typing.{Types}
 use Rattle.cedar_typechecker_model.specs.Whole.Levels.{violations}
 use Rattle.cedar_typechecker_model.specs.Whole.Verdicts.{strictly, Passes, IsImpossible, policy_violations}
-use Rattle.cedar_typechecker_model.specs.Whole.Simple.{IsOrderly}
+use Rattle.cedar_typechecker_model.specs.Whole.OfLaws.Simple.{IsOrderly}
 use Rattle.cedar_typechecker_model.specs.Whole.Soundness.{IsGood, Hold, ConformsAt, Suits, SlotsAreBound}
 use Rattle.cedar_typechecker_model.specs.Whole.PolicySoundness.{IsConforming, IsBound}
 use Rattle.cedar_gate_model.specs.Whole.Acceptance.{Submission, IsAccepted, schema_in}

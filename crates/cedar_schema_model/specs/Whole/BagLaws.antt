@@ -14,7 +14,7 @@ use Rattle.cedar_schema_model.specs.Whole.Reference.{Namespace, Reference, Meant
 use Rattle.cedar_schema_model.specs.Whole.Declarations.{CommonDeclaration, EntityDeclaration, ActionDeclaration, Declarations, bag, common_name, entity_name, entity_names, action_uids, is_declared, is_declared_action, meant, parent_meant, TypeExpr, action_uid, common_names, references_of_common, references, extensions}
 use Rattle.cedar_schema_model.specs.Whole.WellFormed.{SchemaFault, ill_forms, has_schema_fault, IsWellFormed, well_formed, duplicate_entity_type, duplicate_common_type, duplicate_action, undeclared_type, undeclared_action, cycle_of_common_types, cycle_of_actions, action_as_entity_type, context_not_record, reserved_name, shadowing, unknown_extension_type, unresolved_external, becomes_record, written_names, unqualified_uid, declared_types, is_external_kind}
 use Rattle.cedar_schema_model.specs.Whole.Resolved.{common_within, common_of, resolved, entity_meant, resolved_action, schema_of}
-use Rattle.cedar_schema_model.specs.Whole.Subtype.{is_before_attributes}
+use Rattle.cedar_schema_model.specs.Whole.OfLaws.Formed.{is_before_attributes}
 use Rattle.cedar_expr_model.specs.Whole.Names.{unqualified, is_unqualified}
 
 -- It is the first that passes: those before it don't.

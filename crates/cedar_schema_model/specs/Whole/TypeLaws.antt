@@ -9,7 +9,8 @@ use Rattle.cedar_expr_model.specs.Whole.Canonical.{is_canonical}
 use Rattle.cedar_expr_model.specs.Whole.Value.{V, Vs, set_of, record_of, Fields, field_of}
 use Rattle.cedar_schema_model.specs.Whole.Types.{Ty, never, entity_types, set_type, Declared, attribute_named, Mode, strict, permissive, any_entity, any_set, record_type, Attributes, no_attributes, attribute}
 use Rattle.cedar_schema_model.specs.Whole.Schema.{Schema}
-use Rattle.cedar_schema_model.specs.Whole.Subtype.{Below, is_well_formed_type, are_among, are_named, is_closed_record}
+use Rattle.cedar_schema_model.specs.Whole.Subtype.{are_among, are_named, is_closed_record}
+use Rattle.cedar_schema_model.specs.Whole.OfLaws.Formed.{Below, is_well_formed_type}
 use Rattle.cedar_schema_model.specs.Whole.HasType.{HasType, has_type}
 use Rattle.cedar_schema_model.specs.Whole.Join.{join, reduce_to_join, are_disjoint}
 use Rattle.cedar_schema_model.specs.Whole.Lookup.{declared_of, lookup_attribute, may_have_attribute}

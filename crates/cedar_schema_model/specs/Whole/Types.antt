@@ -6,12 +6,10 @@ use Rattle.cedar_expr_model.specs.Name.{Text, Name}
 
 pub data BoolType : Type 0 where
   any_bool only_true only_false : BoolType
-  deriving IsSet as BoolType-set
 
 -- whether a record may have fields that its type doesn't list
 pub data Openness : Type 0 where
   is_open is_closed : Openness
-  deriving IsSet as Openness-set
 
 -- A type. The type of some entities lists their entity types, rising, at least one. `any_set` is the type of all sets.
 mutual
@@ -46,4 +44,3 @@ attribute_named a (attribute b t r as_) = if bytes_eq a b then Some (record { ty
 -- the two ways of typing
 pub data Mode : Type 0 where
   strict permissive : Mode
-  deriving IsSet as Mode-set

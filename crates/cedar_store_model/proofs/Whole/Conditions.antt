@@ -10,7 +10,7 @@ use Rattle.cedar_store_model.specs.Whole.Outcome.{Res, val, err, Fault, Is, bind
 use Rattle.cedar_store_model.specs.Whole.World.{World}
 use Rattle.cedar_store_model.specs.Whole.Operators.{says}
 use Rattle.cedar_store_model.specs.Whole.Meaning.{Means, picked, truth_asked, outcome_of}
-use Rattle.cedar_store_model.specs.Whole.Knowledge.{Extends}
+use Rattle.cedar_store_model.specs.Whole.OfLaws.Extends.{Extends}
 use Rattle.cedar_store_model.specs.Whole.Policy.{Policy, action_tree, body_tree, condition}
 use Rattle.cedar_store_model.specs.Whole.Answer.{with_slots, PolicyMeans, policy_outcome, IsSatisfied, is_true, satisfied}
 use Rattle.cedar_store_model.specs.Whole.AnswerLaws.{Holds}

@@ -8,7 +8,7 @@ use Rattle.cedar_store_model.specs.Whole.Outcome.{val}
 use Rattle.cedar_store_model.specs.Whole.World.{World}
 use Rattle.cedar_store_model.specs.Whole.Reads.{attribute_read}
 use Rattle.cedar_store_model.specs.Whole.Looks.{PathLooks, Looks, AnyLooks, AnyFieldLooks}
-use Rattle.cedar_store_model.specs.Whole.Knowledge.{Extends}
+use Rattle.cedar_store_model.specs.Whole.OfLaws.Extends.{Extends}
 use Rattle.cedar_store_model.proofs.Whole.Extends.{keeps_outcome, keeps_attribute, more_keeps}
 
 path_grows : (k w : World) → Extends k w → (a : Text) (bs : List Text) (v : V) (u : Uid) → PathLooks k a bs v u → PathLooks w a bs v u

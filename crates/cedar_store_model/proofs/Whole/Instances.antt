@@ -6,7 +6,8 @@ use Rattle.cedar_expr_model.specs.Whole.Value.{V, prim, entity}
 use Rattle.cedar_expr_model.specs.Whole.Tree.{var, principal, both, binary, is_in}
 use Rattle.cedar_store_model.specs.Whole.World.{Entity}
 use Rattle.cedar_store_model.specs.Whole.Looks.{Looks}
-use Rattle.cedar_store_model.specs.Whole.Knowledge.{Extends, IsWhole}
+use Rattle.cedar_store_model.specs.Whole.Knowledge.{IsWhole}
+use Rattle.cedar_store_model.specs.Whole.OfLaws.Extends.{Extends}
 use Rattle.cedar_store_model.specs.Whole.Store.{whole, as_open, world_of}
 use Rattle.cedar_store_model.specs.Whole.Worked.{user_a, user_b, team, ok_of, boss_of, uid, says_true, says_false, no_unknowns, request, entities, table, number_value, world, world_without_b, nothing_loaded, a_loaded, principal_open}
 use Rattle.cedar_expr_model.proofs.Lists.{contains_none}

@@ -11,7 +11,8 @@ use Rattle.cedar_store_model.specs.Whole.Outcome.{Res}
 use Rattle.cedar_store_model.specs.Whole.World.{World, Found, not_loaded}
 use Rattle.cedar_store_model.specs.Whole.Meaning.{Means, outcome_of}
 use Rattle.cedar_store_model.specs.Whole.Looks.{Looks, looks_up}
-use Rattle.cedar_store_model.specs.Whole.Knowledge.{IsWhole, Extends}
+use Rattle.cedar_store_model.specs.Whole.Knowledge.{IsWhole}
+use Rattle.cedar_store_model.specs.Whole.OfLaws.Extends.{Extends}
 
 -- an outcome is what an expression means exactly where the function gives it
 abbrev pub MeaningIsAFunction : Type 0

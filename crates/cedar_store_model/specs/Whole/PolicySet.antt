@@ -42,14 +42,6 @@ with_template s t = record s { templates = s.templates ++ t ∷ [] }
 abbrev pub with_policy : PolicySet → Policy → PolicySet
 with_policy s p = record s { policies = s.policies ++ p ∷ [] }
 
--- the slot is the template's and isn't bound
-abbrev pub lacks_binding : Policy → SlotBindings → SlotId → Bool
-lacks_binding t b s = has_slot t s && is_none (binding_of b s)
-
--- the slot is bound and isn't the template's
-abbrev pub has_stray_binding : Policy → SlotBindings → SlotId → Bool
-has_stray_binding t b s = not (has_slot t s) && is_some (binding_of b s)
-
 -- why a template isn't linked
 pub data LinkFault : Type 0 where
   id_present slot_not_bound slot_not_of_template no_template : LinkFault
@@ -57,11 +49,12 @@ pub data LinkFault : Type 0 where
 abbrev pub link_faults : List LinkFault
 link_faults = id_present ∷ slot_not_bound ∷ slot_not_of_template ∷ no_template ∷ []
 
--- The fault is there, where a template of the set is linked under a new id with bindings.
+-- The fault is there, where a template of the set is linked under a new id with bindings: a slot of the template is not bound, or
+-- one is bound that the template has not.
 abbrev pub has_link_fault : PolicySet → Text → Text → SlotBindings → LinkFault → Bool
 has_link_fault s template id b id_present = is_taken id s
-has_link_fault s template id b slot_not_bound = option_map_or (λ t. list_any (lacks_binding t b) all_slots) (template_of template s) false
-has_link_fault s template id b slot_not_of_template = option_map_or (λ t. list_any (has_stray_binding t b) all_slots) (template_of template s) false
+has_link_fault s template id b slot_not_bound = option_map_or (λ t. list_any (λ x. has_slot t x && is_none (binding_of b x)) all_slots) (template_of template s) false
+has_link_fault s template id b slot_not_of_template = option_map_or (λ t. list_any (λ x. not (has_slot t x) && is_some (binding_of b x)) all_slots) (template_of template s) false
 has_link_fault s template id b no_template = is_none (template_of template s)
 
 -- the set after linking, where none of the faults is there

@@ -69,13 +69,5 @@ as_open r = record { principal = Some r.principal; action = Some r.action; resou
 
 -- The world of a request over a store. A policy brings its own slots.
 abbrev pub world_of : Table → (Text → Option V) → OpenRequest → Store → World
-world_of table unknowns r s = record {
-  principal = r.principal;
-  action = r.action;
-  resource = r.resource;
-  context = r.context;
-  slots = λ s. None;
-  unknowns = unknowns;
-  table = table;
-  store = look_up s;
-}
+world_of table unknowns r s =
+    record { principal = r.principal; action = r.action; resource = r.resource; context = r.context; slots = λ s. None; unknowns = unknowns; table = table; store = look_up s }

@@ -4,7 +4,8 @@ use Rattle.std.specs.Prelude.{◌≡◌, true, false, Contains, IsSome}
 use Rattle.std.proofs.Common.{◌⊎◌}
 use Rattle.cedar_expr_model.specs.Uid.{Uid}
 use Rattle.cedar_expr_model.specs.Whole.Value.{V, truth_value}
-use Rattle.cedar_expr_model.specs.Whole.Table.{Table, IsFair}
+use Rattle.cedar_expr_model.specs.Whole.Table.{Table}
+use Rattle.cedar_expr_model.specs.Whole.OfLaws.Fair.{IsFair}
 use Rattle.cedar_expr_model.specs.Whole.Tree.{SlotId}
 use Rattle.cedar_store_model.specs.Whole.Outcome.{Res, val}
 use Rattle.cedar_store_model.specs.Whole.World.{World, Entity, held}
@@ -17,7 +18,7 @@ use Rattle.cedar_schema_model.specs.Whole.Types.{any_bool, bool_type}
 use Rattle.cedar_schema_model.specs.Whole.Schema.{Schema, declares_action}
 use Rattle.cedar_schema_model.specs.Whole.Conforming.{EntityConforms, RequestConforms}
 use Rattle.cedar_schema_model.specs.Whole.Environment.{Environment}
-use Rattle.cedar_typechecker_model.specs.Whole.Simple.{IsOrderly}
+use Rattle.cedar_typechecker_model.specs.Whole.OfLaws.Simple.{IsOrderly}
 use Rattle.cedar_typechecker_model.specs.Whole.Soundness.{IsGood, ConformsAt, Suits}
 use Rattle.cedar_typechecker_model.specs.Whole.Verdicts.{policy_environments, Passes, fits, IsImpossible}
 

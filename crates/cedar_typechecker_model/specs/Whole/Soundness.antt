@@ -4,7 +4,8 @@ use Rattle.std.specs.Prelude.{◌≡◌, true, Some, Contains, IsSome}
 use Rattle.cedar_expr_model.specs.Uid.{Uid}
 use Rattle.cedar_expr_model.specs.Whole.Value.{entity, V, prim, truth_value}
 use Rattle.cedar_expr_model.specs.Whole.Tree.{SlotId, has_tag, Tree, binary, has_attr}
-use Rattle.cedar_expr_model.specs.Whole.Table.{Table, IsFair}
+use Rattle.cedar_expr_model.specs.Whole.Table.{Table}
+use Rattle.cedar_expr_model.specs.Whole.OfLaws.Fair.{IsFair}
 use Rattle.cedar_store_model.specs.Whole.Outcome.{Fault, missing_entity, overflow, extension_failed, Res, val, err}
 use Rattle.cedar_store_model.specs.Whole.World.{World, Entity, held}
 use Rattle.cedar_store_model.specs.Whole.Meaning.{Means}
@@ -19,7 +20,7 @@ use Rattle.cedar_schema_model.specs.Whole.Environment.{Environment}
 use Rattle.cedar_typechecker_model.specs.Whole.Facts.{Facts, Part, attribute_part, tag_part}
 use Rattle.cedar_typechecker_model.specs.Whole.Rules.{slot_type}
 use Rattle.cedar_typechecker_model.specs.Whole.Typing.{Types}
-use Rattle.cedar_typechecker_model.specs.Whole.Simple.{is_simple, are_simple, IsOrderly}
+use Rattle.cedar_typechecker_model.specs.Whole.OfLaws.Simple.{is_simple, are_simple, IsOrderly}
 use Rattle.cedar_typechecker_model.specs.Whole.Verdicts.{strictly}
 
 -- the errors that an expression with a type may have

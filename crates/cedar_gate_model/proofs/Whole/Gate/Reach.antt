@@ -5,7 +5,8 @@ use Rattle.std.specs.Str.{bytes_eq}
 use Rattle.std.proofs.lemmas.List.Elements.{Contains-append_left, Contains-append_right}
 use Rattle.cedar_expr_model.specs.Name.{Text}
 use Rattle.cedar_expr_model.specs.Uid.{Uid}
-use Rattle.cedar_expr_model.specs.Whole.Table.{Table, IsFair}
+use Rattle.cedar_expr_model.specs.Whole.Table.{Table}
+use Rattle.cedar_expr_model.specs.Whole.OfLaws.Fair.{IsFair}
 use Rattle.cedar_expr_model.specs.Whole.Tree.{Tree}
 use Rattle.cedar_expr_model.specs.Whole.Value.{V, Fields, no_fields, field, field_of}
 use Rattle.cedar_expr_model.proofs.Lists.{contains_head, contains_none}
@@ -29,7 +30,7 @@ use Rattle.cedar_typechecker_model.specs.Whole.Facts.{Facts}
 use Rattle.cedar_typechecker_model.specs.Whole.Typing.{Types}
 use Rattle.cedar_typechecker_model.specs.Whole.Levels.{violations}
 use Rattle.cedar_typechecker_model.specs.Whole.Verdicts.{strictly, Passes, IsImpossible, policy_violations}
-use Rattle.cedar_typechecker_model.specs.Whole.Simple.{IsOrderly}
+use Rattle.cedar_typechecker_model.specs.Whole.OfLaws.Simple.{IsOrderly}
 use Rattle.cedar_typechecker_model.specs.Whole.Soundness.{IsGood, Hold, ConformsAt, Suits, SlotsAreBound}
 use Rattle.cedar_typechecker_model.specs.Whole.PolicySoundness.{IsConforming, IsBound, LookupsConform}
 use Rattle.cedar_typechecker_model.proofs.Whole.Sound.Conditions.{condition_reached}

@@ -1,7 +1,7 @@
 -- An accepted submission at level 2 and a world that is fit for it.
 use Rattle.std.proofs.Common.{◌≡◌, Bool, true, [], inl, inr, refl, subst}
 use Rattle.cedar_expr_model.specs.Uid.{Uid}
-use Rattle.cedar_expr_model.specs.Whole.Table.{IsFair}
+use Rattle.cedar_expr_model.specs.Whole.OfLaws.Fair.{IsFair}
 use Rattle.cedar_expr_model.specs.Whole.Tree.{get_attr, var, resource}
 use Rattle.cedar_expr_model.specs.Whole.Value.{V, prim, entity}
 use Rattle.cedar_expr_model.proofs.Lists.{all_each, contains_cases, contains_none}

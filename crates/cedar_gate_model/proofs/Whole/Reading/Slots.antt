@@ -5,7 +5,7 @@ use Rattle.serde_json.specs.Data.{Data, null, boolean, number, string, array, ob
 use Rattle.cedar_expr_model.specs.Name.{Text}
 use Rattle.cedar_expr_model.specs.Whole.Tree.{SlotId, principal_slot, resource_slot, Tree, slot, both, either, Trees, no_trees, tree, TreeFields, no_tree_fields, tree_field}
 use Rattle.cedar_expr_model.specs.Whole.Builder.{written_truth, folded, path_test}
-use Rattle.cedar_expr_model.specs.Whole.BuilderForm.{is_built, is_kept}
+use Rattle.cedar_expr_model.specs.Whole.OfLaws.Built.{is_built, is_kept}
 use Rattle.cedar_expr_model.proofs.Whole.Building.{conjunction_built, disjunction_built}
 use Rattle.std.specs.List.{list_any, filter_map, list_all}
 use Rattle.std.proofs.lemmas.List.Elements.{filter_map-append}

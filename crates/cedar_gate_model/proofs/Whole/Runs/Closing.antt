@@ -7,7 +7,8 @@ use Rattle.cedar_expr_model.specs.Whole.Builder.{trees, tree_fields}
 use Rattle.cedar_expr_model.specs.Whole.Made.{Made, MadeFields, made_set, made_record, bare}
 use Rattle.cedar_expr_model.specs.Whole.Parts.{subexpressions, listed}
 use Rattle.cedar_expr_model.specs.Whole.Restricted.{offence}
-use Rattle.cedar_expr_model.specs.Whole.Table.{Signature, signature_of, takes_count, are_of_types, IsTaken}
+use Rattle.cedar_expr_model.specs.Whole.Table.{Signature, signature_of, takes_count, are_of_types}
+use Rattle.cedar_expr_model.specs.Whole.OfLaws.Fair.{IsTaken}
 use Rattle.cedar_expr_model.specs.Whole.Unknowns.{has_unknown}
 use Rattle.cedar_expr_model.specs.Whole.ValueParts.{all_known, part_tree}
 use Rattle.cedar_store_model.specs.Whole.Outcome.{wrong_type, wrong_count}

@@ -33,8 +33,9 @@ use Rattle.cedar_schema_model.specs.Whole.Conforming.{EntityConforms, entity_con
 use Rattle.cedar_schema_model.proofs.Whole.Decls.Conforming.{entity_conforms-Decides, request_conforms-Decides}
 use Rattle.cedar_evaluator_model.specs.Completion.{IsOfKind, PartIs, Fits}
 use Rattle.cedar_evaluator_model.specs.Known.{known_entry, known_context}
-use Rattle.cedar_evaluator_model.specs.Scope.{Agrees, Entry, uid, unknown_uid, Context, closed, residual_fields, unknown_context, Left, value_left, residual, stopped}
-use Rattle.cedar_evaluator_model.specs.WellMade.{IsWellMade, IsMadeWell}
+use Rattle.cedar_evaluator_model.specs.Scope.{Entry, uid, unknown_uid, Context, closed, residual_fields, unknown_context, Left, value_left, residual, stopped}
+use Rattle.cedar_evaluator_model.specs.OfLaws.Calls.{Agrees}
+use Rattle.cedar_evaluator_model.specs.OfLaws.WellMade.{IsWellMade, IsMadeWell}
 use Rattle.cedar_evaluator_model.proofs.Residuals.Slots.{substituted_outcome}
 use Rattle.cedar_gate_model.specs.Whole.Moment.{EntryCompleted, ContextCompleted, Completes, request_of}
 use Rattle.cedar_gate_model.specs.Whole.ReadingValue.{with_functions}

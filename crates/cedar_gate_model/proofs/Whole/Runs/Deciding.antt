@@ -13,7 +13,7 @@ use Rattle.cedar_store_model.specs.Whole.Policy.{Policy, condition}
 use Rattle.cedar_store_model.specs.Whole.Answer.{Decision, Answer, with_slots, answer_of, decision_of}
 use Rattle.cedar_store_model.proofs.Whole.Conditions.{condition_asked}
 use Rattle.cedar_store_model.proofs.Whole.Stores.{same_answers}
-use Rattle.cedar_evaluator_model.specs.Whole.{LeavesNothing}
+use Rattle.cedar_evaluator_model.specs.OfLaws.Whole.{LeavesNothing}
 use Rattle.cedar_evaluator_model.proofs.Exact.{typed_tables_leave_nothing}
 use Rattle.cedar_evaluator_model.proofs.Residuals.Groups.{kept_from}
 use Rattle.cedar_evaluator_model.proofs.Settled.{same_filled}

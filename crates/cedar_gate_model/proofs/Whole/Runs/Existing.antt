@@ -18,12 +18,12 @@ use Rattle.cedar_store_model.specs.Whole.Knowledge.{Keeps}
 use Rattle.cedar_store_model.specs.Whole.Reads.{uid_of}
 use Rattle.cedar_schema_model.specs.Whole.Schema.{declares_action}
 use Rattle.cedar_schema_model.specs.Whole.ActionEntities.{as_entity}
-use Rattle.cedar_evaluator_model.specs.Completable.{is_free_name, EntryAgrees, ContextAgrees, Agree}
+use Rattle.cedar_evaluator_model.specs.OfLaws.Completable.{is_free_name, EntryAgrees, ContextAgrees, Agree}
 use Rattle.cedar_evaluator_model.specs.Completion.{PartIs}
-use Rattle.cedar_evaluator_model.specs.Completion as evaluator
+use Rattle.cedar_evaluator_model.specs.OfLaws.Completing as evaluator
 use Rattle.cedar_evaluator_model.specs.Known.{known_found}
 use Rattle.cedar_evaluator_model.specs.Scope.{Scope, Entry, uid, unknown_uid, Context, closed, residual_fields, unknown_context, Left, value_left, residual, stopped}
-use Rattle.cedar_evaluator_model.specs.Whole.{HoldsValues}
+use Rattle.cedar_evaluator_model.specs.OfLaws.Whole.{HoldsValues}
 use Rattle.cedar_evaluator_model.proofs.Completable.{completions_exist}
 use Rattle.cedar_gate_model.specs.Whole.Session.{Setup, State, value_of, uid_in, context_left, entry_now, context_now, scope_now, whole_store, variable_names, context_unknowns, name_of_variable, entry_named, is_open_entry, is_open_context}
 use Rattle.cedar_gate_model.specs.Whole.RunsAnswer.{Course, session_of, IsProper, IsOpened, IsKnownStore, ContextIsPossible}

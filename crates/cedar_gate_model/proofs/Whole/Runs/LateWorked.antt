@@ -7,7 +7,7 @@ use Rattle.cedar_expr_model.specs.Whole.Made.{Made}
 use Rattle.cedar_expr_model.proofs.Lists.{contains_none, contains_cases}
 use Rattle.cedar_schema_model.proofs.Whole.Decls.Conforming.{request_conforms-Decides}
 use Rattle.cedar_evaluator_model.specs.Scope.{uid, unknown_uid}
-use Rattle.cedar_evaluator_model.specs.WellMade.{IsWellMade}
+use Rattle.cedar_evaluator_model.specs.OfLaws.WellMade.{IsWellMade}
 use Rattle.cedar_typechecker_model.specs.Whole.Worked.{user, user_a, doc_d, view}
 use Rattle.cedar_gate_model.specs.Whole.Moment.{request_of}
 use Rattle.cedar_gate_model.specs.Whole.Runs.{answered, IsRoundNow, with_asked}

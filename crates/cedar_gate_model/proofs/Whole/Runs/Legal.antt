@@ -12,7 +12,7 @@ use Rattle.cedar_expr_model.specs.Whole.Made.{Made, bare}
 use Rattle.cedar_expr_model.specs.Whole.Parts.{Unknown, subexpressions, unknown_here, unknowns}
 use Rattle.cedar_expr_model.specs.Whole.Restricted.{is_restricted}
 use Rattle.cedar_expr_model.specs.Whole.Substitution.{substituted}
-use Rattle.cedar_expr_model.specs.Whole.Table.{IsTaken}
+use Rattle.cedar_expr_model.specs.Whole.OfLaws.Fair.{IsTaken}
 use Rattle.cedar_expr_model.specs.Whole.Tree.{Tree, record_literal, TreeFields}
 use Rattle.cedar_expr_model.specs.Whole.Unknowns.{has_unknown}
 use Rattle.cedar_expr_model.proofs.Lists.{contains_head, contains_tail, all_each, all_from, any_from}
@@ -26,8 +26,9 @@ use Rattle.cedar_store_model.proofs.Whole.Known.{what_is_there}
 use Rattle.cedar_store_model.proofs.Whole.Meaning.{means_outcome}
 use Rattle.cedar_evaluator_model.proofs.Residuals.Groups.{kept_has}
 use Rattle.cedar_evaluator_model.specs.Known.{known_context}
-use Rattle.cedar_evaluator_model.specs.Scope.{Context, closed, residual_fields, unknown_context, bare_called, leaves_unknown, Left, value_left, residual, stopped}
-use Rattle.cedar_evaluator_model.specs.WellMade.{IsWellMade, IsMadeWell}
+use Rattle.cedar_evaluator_model.specs.Scope.{Context, closed, residual_fields, unknown_context, leaves_unknown, Left, value_left, residual, stopped}
+use Rattle.cedar_evaluator_model.specs.OfLaws.Calls.{bare_called}
+use Rattle.cedar_evaluator_model.specs.OfLaws.WellMade.{IsWellMade, IsMadeWell}
 use Rattle.cedar_evaluator_model.proofs.Residuals.Slots.{substituted_outcome}
 use Rattle.cedar_gate_model.specs.Whole.GateLaws.{SameRoots}
 use Rattle.cedar_gate_model.specs.Whole.Moment.{ContextCompleted, at_first, context_known, is_bound}

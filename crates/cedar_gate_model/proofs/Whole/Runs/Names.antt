@@ -23,8 +23,8 @@ use Rattle.cedar_store_model.specs.Whole.Meaning.{outcome_of, outcomes_of, field
 use Rattle.cedar_store_model.specs.Whole.Knowledge.{Keeps, IsWhole}
 use Rattle.cedar_store_model.specs.Whole.Reads.{uid_of}
 use Rattle.cedar_store_model.proofs.Whole.Meaning.{means_outcome}
-use Rattle.cedar_evaluator_model.specs.Completable.{has_quote, names_variable, is_free_name}
-use Rattle.cedar_evaluator_model.specs.Completion.{EntryMeans, ContextMeans}
+use Rattle.cedar_evaluator_model.specs.OfLaws.Completable.{has_quote, names_variable, is_free_name}
+use Rattle.cedar_evaluator_model.specs.OfLaws.Completing.{EntryMeans, ContextMeans}
 use Rattle.cedar_evaluator_model.specs.Scope.{Entry, uid, unknown_uid, Context, closed, residual_fields, unknown_context}
 use Rattle.cedar_evaluator_model.proofs.Completable.{some_entity, name_means, named, free_is_kept, by_name}
 use Rattle.cedar_gate_model.specs.Whole.Moment.{EntryCompleted, ContextCompleted}

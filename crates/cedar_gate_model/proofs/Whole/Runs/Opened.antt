@@ -7,7 +7,7 @@ use Rattle.cedar_expr_model.proofs.Lists.{contains_head, contains_tail}
 use Rattle.cedar_store_model.specs.Whole.Policy.{Policy}
 use Rattle.cedar_store_model.specs.Whole.Answer.{Decision}
 use Rattle.cedar_evaluator_model.specs.Scope.{Context, closed, residual_fields, unknown_context}
-use Rattle.cedar_evaluator_model.specs.WellMade.{IsWellMade}
+use Rattle.cedar_evaluator_model.specs.OfLaws.WellMade.{IsWellMade}
 use Rattle.cedar_gate_model.specs.Whole.Transcript as transcript
 use Rattle.cedar_gate_model.specs.Whole.Transcript.{round, bound, decided}
 use Rattle.cedar_gate_model.specs.Whole.Session.{Setup, State, at_start, ContextFails, with_bound, BindRefusal, BindFault, not_open, against_annotation, no_entity_or_record, context_fails}

@@ -25,7 +25,7 @@ use Rattle.cedar_store_model.proofs.Whole.Slices.{same_means}
 use Rattle.cedar_schema_model.specs.Whole.Schema.{declares_action}
 use Rattle.cedar_schema_model.specs.Whole.ActionEntities.{as_entity}
 use Rattle.cedar_evaluator_model.specs.Known.{known_found}
-use Rattle.cedar_evaluator_model.specs.Whole.{NothingUnknown, HoldsValues}
+use Rattle.cedar_evaluator_model.specs.OfLaws.Whole.{NothingUnknown, HoldsValues}
 use Rattle.cedar_evaluator_model.specs.Laws.{WithinLimit}
 use Rattle.cedar_evaluator_model.proofs.Limits.{none_met}
 use Rattle.cedar_evaluator_model.proofs.Settled.{same_filled}

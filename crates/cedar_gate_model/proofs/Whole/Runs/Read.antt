@@ -9,12 +9,13 @@ use Rattle.cedar_expr_model.specs.Name.{Text}
 use Rattle.cedar_expr_model.specs.Whole.Lists.{first_found}
 use Rattle.cedar_expr_model.specs.Whole.Made.{Made, no_made_fields}
 use Rattle.cedar_expr_model.specs.Whole.Restricted.{is_restricted, offence}
-use Rattle.cedar_expr_model.specs.Whole.Table.{IsFair, all_typed}
+use Rattle.cedar_expr_model.specs.Whole.Table.{all_typed}
+use Rattle.cedar_expr_model.specs.Whole.OfLaws.Fair.{IsFair}
 use Rattle.cedar_expr_model.proofs.Lists.{contains_cases, contains_none}
 use Rattle.cedar_store_model.proofs.Whole.Stores.{found_stands}
 use Rattle.cedar_evaluator_model.specs.Response.{PartialRequest}
 use Rattle.cedar_evaluator_model.specs.Scope.{Context, closed, residual_fields, unknown_context, Left, value_left, residual, stopped}
-use Rattle.cedar_evaluator_model.specs.WellMade.{IsWellMade}
+use Rattle.cedar_evaluator_model.specs.OfLaws.WellMade.{IsWellMade}
 use Rattle.cedar_gate_model.specs.Reading.{given, required, optional, has_only, each, list_of}
 use Rattle.cedar_gate_model.specs.Whole.Acceptance.{IsAccepted}
 use Rattle.cedar_gate_model.specs.Whole.Bundle.{Functions, Bundle}

@@ -10,14 +10,16 @@ use Rattle.cedar_expr_model.specs.Whole.Builder.{trees, tree_fields}
 use Rattle.cedar_expr_model.specs.Whole.Made.{Made, made_prim, made_set, made_record, bare, bare_fields}
 use Rattle.cedar_expr_model.specs.Whole.Parts.{subexpressions, subexpressions_among, subexpressions_in_fields, listed}
 use Rattle.cedar_expr_model.specs.Whole.Restricted.{offence}
-use Rattle.cedar_expr_model.specs.Whole.Table.{Signature, signature_of, takes_count, are_of_types, IsTaken}
+use Rattle.cedar_expr_model.specs.Whole.Table.{Signature, signature_of, takes_count, are_of_types}
+use Rattle.cedar_expr_model.specs.Whole.OfLaws.Fair.{IsTaken}
 use Rattle.cedar_expr_model.specs.Whole.ValueParts.{Part, all_known, part_tree}
 use Rattle.cedar_store_model.specs.Whole.Outcome.{Res, val, err, bind, wrong_type, wrong_count}
 use Rattle.cedar_store_model.specs.Whole.World.{World}
 use Rattle.cedar_store_model.specs.Whole.Operators.{answered, called}
 use Rattle.cedar_store_model.specs.Whole.Meaning.{outcome_of, outcomes_of, field_outcomes_of}
 use Rattle.cedar_store_model.proofs.Whole.Named.{called_of}
-use Rattle.cedar_evaluator_model.specs.Scope.{Scope, Agrees, MadeCalled, makes, faults, leaves_unknown, bare_called, Left, value_left, residual, stopped}
+use Rattle.cedar_evaluator_model.specs.Scope.{Scope, MadeCalled, makes, faults, leaves_unknown, Left, value_left, residual, stopped}
+use Rattle.cedar_evaluator_model.specs.OfLaws.Calls.{Agrees, bare_called}
 use Rattle.cedar_evaluator_model.specs.Steps.{errs, mapped, answer_left, called_left, made_members, Pieces, pieces, halted, with_piece, from_pieces}
 use Rattle.cedar_evaluator_model.specs.Evaluation.{pieces_of, node, evaluated}
 use Rattle.cedar_evaluator_model.proofs.GivenLists.{bare_members}

@@ -29,16 +29,17 @@ use Rattle.cedar_store_model.proofs.Whole.Named.{bound_value}
 use Rattle.cedar_store_model.proofs.Whole.Stores.{same_answers}
 use Rattle.cedar_schema_model.specs.Whole.Schema.{declares_action}
 use Rattle.cedar_schema_model.specs.Whole.ActionEntities.{as_entity}
-use Rattle.cedar_evaluator_model.specs.Completable.{is_free_name}
-use Rattle.cedar_evaluator_model.specs.Completion.{Fits, IsOfKind, PartIs, EntryMeans, ContextMeans, FoundMeans, FitsAnnotations}
-use Rattle.cedar_evaluator_model.specs.Completion as evaluator
+use Rattle.cedar_evaluator_model.specs.OfLaws.Completable.{is_free_name}
+use Rattle.cedar_evaluator_model.specs.Completion.{Fits, IsOfKind, PartIs, FitsAnnotations}
+use Rattle.cedar_evaluator_model.specs.OfLaws.Completing.{EntryMeans, ContextMeans, FoundMeans}
+use Rattle.cedar_evaluator_model.specs.OfLaws.Completing as evaluator
 use Rattle.cedar_evaluator_model.specs.Known.{known_entity, known_found, known_context}
 use Rattle.cedar_evaluator_model.specs.Response.{response_of}
 use Rattle.cedar_evaluator_model.specs.Members.{decision_in_session}
 use Rattle.cedar_evaluator_model.specs.Scope.{Scope, unknown_uid, Context, closed, residual_fields, unknown_context, Left, value_left, residual, stopped}
-use Rattle.cedar_evaluator_model.specs.Standing.{StandsFor}
-use Rattle.cedar_evaluator_model.specs.Whole.{LeavesNothing}
-use Rattle.cedar_evaluator_model.specs.WellMade.{IsMadeWell, IsFoundMadeWell, IsContextMadeWell, AllMadeWell}
+use Rattle.cedar_evaluator_model.specs.OfLaws.Standing.{StandsFor}
+use Rattle.cedar_evaluator_model.specs.OfLaws.Whole.{LeavesNothing}
+use Rattle.cedar_evaluator_model.specs.OfLaws.WellMade.{IsMadeWell, IsFoundMadeWell, IsContextMadeWell, AllMadeWell}
 use Rattle.cedar_evaluator_model.proofs.Completable.{some_entity, name_means, named, uid_is_named, free_is_kept, named_whole, found_means}
 use Rattle.cedar_evaluator_model.proofs.Settled.{same_meant}
 use Rattle.cedar_evaluator_model.proofs.Residuals.Completing.{completes_at}

@@ -6,7 +6,8 @@ use Rattle.cedar_expr_model.specs.Whole.Builder.{trees, tree_fields}
 use Rattle.cedar_expr_model.specs.Whole.Made.{Made, made_prim, made_set, made_record, bare}
 use Rattle.cedar_expr_model.specs.Whole.Parts.{subexpressions, listed}
 use Rattle.cedar_expr_model.specs.Whole.Restricted.{offence}
-use Rattle.cedar_expr_model.specs.Whole.Table.{Signature, signature_of, takes_count, are_of_types, IsTaken}
+use Rattle.cedar_expr_model.specs.Whole.Table.{Signature, signature_of, takes_count, are_of_types}
+use Rattle.cedar_expr_model.specs.Whole.OfLaws.Fair.{IsTaken}
 use Rattle.cedar_expr_model.specs.Whole.Tree.{Tree, lit, unknown, call, set_literal, record_literal}
 use Rattle.cedar_expr_model.specs.Whole.ValueParts.{all_known}
 use Rattle.cedar_store_model.specs.Whole.Outcome.{wrong_type, wrong_count}
@@ -14,7 +15,7 @@ use Rattle.cedar_evaluator_model.specs.Evaluation.{pieces_of, node, evaluated}
 use Rattle.cedar_evaluator_model.specs.Known.{known_world}
 use Rattle.cedar_evaluator_model.specs.Scope.{Scope, MadeCalled, makes, faults, leaves_unknown, Left, value_left, residual, stopped}
 use Rattle.cedar_evaluator_model.specs.Steps.{errs, mapped, answer_left, called_left, made_members, Pieces, pieces, halted, with_piece}
-use Rattle.cedar_evaluator_model.specs.WellMade.{IsWellMade}
+use Rattle.cedar_evaluator_model.specs.OfLaws.WellMade.{IsWellMade}
 use Rattle.cedar_evaluator_model.proofs.GivenReads.{length_bare}
 use Rattle.cedar_evaluator_model.proofs.Named.{call_of, field_names, field_trees, fields_named}
 use Rattle.cedar_evaluator_model.proofs.Residuals.Lists.{EachWellMade, stands_set, fields_well}

@@ -12,7 +12,7 @@ use Rattle.cedar_expr_model.specs.Whole.Made.{Made}
 use Rattle.cedar_expr_model.specs.Whole.Table.{Table}
 use Rattle.cedar_expr_model.specs.Whole.Uids.{is_uid}
 use Rattle.cedar_evaluator_model.specs.Known.{known_entity, known_found}
-use Rattle.cedar_evaluator_model.specs.WellMade.{IsFoundMadeWell}
+use Rattle.cedar_evaluator_model.specs.OfLaws.WellMade.{IsFoundMadeWell}
 use Rattle.cedar_store_model.proofs.Whole.Stores.{lookup_is_exact}
 use Rattle.cedar_expr_model.proofs.Equality.{uid_eq-Decides}
 use Rattle.cedar_expr_model.proofs.Lists.{found-Decides}

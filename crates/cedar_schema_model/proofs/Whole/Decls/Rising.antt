@@ -13,7 +13,7 @@ use Rattle.cedar_schema_model.specs.Whole.Declarations.{TypeExpr, bool_expr, lon
 use Rattle.cedar_schema_model.proofs.Whole.Named.{defined_by}
 use Rattle.cedar_schema_model.specs.Whole.Resolved.{with_attribute, type_meant, resolved_by, resolved_fields_by, common_within, common_of, resolved}
 use Rattle.std.specs.Prelude.{find}
-use Rattle.cedar_schema_model.specs.Whole.Subtype.{is_before_attributes}
+use Rattle.cedar_schema_model.specs.Whole.OfLaws.Formed.{is_before_attributes}
 use Rattle.cedar_schema_model.specs.Whole.BagLaws.{has_rising, are_rising}
 
 -- a name that is above another has that one below it

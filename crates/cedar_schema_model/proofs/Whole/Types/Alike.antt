@@ -4,7 +4,8 @@ use Rattle.std.specs.Bool.{beq}
 use Rattle.cedar_expr_model.specs.Name.{Text, Name, name_eq}
 use Rattle.cedar_expr_model.proofs.Lists.{both_hold, hold_both}
 use Rattle.cedar_schema_model.specs.Whole.Types.{Openness, Ty, never, bool_type, long_type, string_type, any_entity, entity_types, any_set, set_type, record_type, extension_type, Attributes, no_attributes, attribute, Declared, attribute_named, strict, permissive}
-use Rattle.cedar_schema_model.specs.Whole.Subtype.{is_closed_record, are_among, are_named, carries, is_union_below, is_frame_below, is_declared_below, is_subtype, have_below, Below, is_well_formed_type}
+use Rattle.cedar_schema_model.specs.Whole.Subtype.{is_closed_record, are_among, are_named, carries, is_union_below, is_frame_below, is_declared_below, is_subtype, have_below}
+use Rattle.cedar_schema_model.specs.Whole.OfLaws.Formed.{Below, is_well_formed_type}
 use Rattle.cedar_schema_model.specs.Whole.TypeLaws.{is_declared_alike, is_alike, have_alike}
 use Rattle.cedar_schema_model.specs.Whole.Join.{names_of_both, agree, all_stayed, record_join, join, attributes_join}
 use Rattle.cedar_schema_model.proofs.Whole.Types.Lookups.{no_lie, no_none, inside, declares, each_type, Parts, Formed, formed_at, same_attributes}

@@ -11,7 +11,8 @@ use Rattle.cedar_expr_model.specs.Whole.Canonical.{is_canonical}
 use Rattle.cedar_expr_model.proofs.Equality.{name_eq-Decides}
 use Rattle.cedar_expr_model.proofs.Lists.{hold_both, contains_head, contains_cases, contains_none}
 use Rattle.cedar_schema_model.specs.Whole.Types.{BoolType, any_bool, only_true, only_false, Openness, is_open, is_closed, Ty, never, bool_type, long_type, string_type, any_entity, entity_types, any_set, set_type, record_type, extension_type, Attributes, no_attributes, attribute, Declared, attribute_named, permissive}
-use Rattle.cedar_schema_model.specs.Whole.Subtype.{are_named, carries, is_bool_below, is_frame_below, have_below, Below, is_union, is_well_formed_type}
+use Rattle.cedar_schema_model.specs.Whole.Subtype.{are_named, carries, is_bool_below, is_frame_below, have_below}
+use Rattle.cedar_schema_model.specs.Whole.OfLaws.Formed.{Below, is_union, is_well_formed_type}
 use Rattle.cedar_schema_model.specs.Whole.TypeLaws.{is_filled, are_filled}
 use Rattle.cedar_schema_model.specs.Whole.HasType.{is_of_bool, FieldFits, HasRequired, HasType, FieldsFit}
 use Rattle.cedar_schema_model.proofs.Whole.Types.Lookups.{no_lie, no_none, inside, from_some, test_cases, same_text, named_cases, each_type, Parts, Formed, formed_at}

@@ -4,7 +4,8 @@ use Rattle.cedar_expr_model.specs.Name.{Text, Name, name_eq}
 use Rattle.cedar_expr_model.proofs.Equality.{name_eq-Decides, name_eq_same}
 use Rattle.cedar_expr_model.proofs.Lists.{both_hold, hold_both}
 use Rattle.cedar_schema_model.specs.Whole.Types.{BoolType, any_bool, only_true, only_false, Openness, is_open, is_closed, Ty, never, bool_type, long_type, string_type, any_entity, entity_types, any_set, set_type, record_type, extension_type, Attributes, Declared, attribute_named, Mode, strict, permissive}
-use Rattle.cedar_schema_model.specs.Whole.Subtype.{is_permissive, is_closed_record, are_among, are_named, carries, is_bool_below, is_union_below, is_frame_below, have_below, Below, is_union, is_well_formed_type}
+use Rattle.cedar_schema_model.specs.Whole.Subtype.{is_permissive, is_closed_record, are_among, are_named, carries, is_bool_below, is_union_below, is_frame_below, have_below}
+use Rattle.cedar_schema_model.specs.Whole.OfLaws.Formed.{Below, is_union, is_well_formed_type}
 use Rattle.cedar_schema_model.specs.Whole.Join.{bool_join, names_of_both, agree, all_stayed, openness_of_join, join, attributes_join}
 use Rattle.cedar_schema_model.proofs.Whole.Types.Lookups.{no_lie, each_type, Parts, Formed, formed_at}
 use Rattle.cedar_schema_model.proofs.Whole.Types.Names.{among_at, among_from, union_parts, both_in, both_left, both_right}

@@ -4,7 +4,8 @@ use Rattle.std.specs.List.{list_all}
 use Rattle.cedar_expr_model.specs.Name.{Text, Name, name_eq, is_well_formed}
 use Rattle.cedar_expr_model.proofs.Lists.{both_hold, hold_both, contains_head, contains_none}
 use Rattle.cedar_schema_model.specs.Whole.Types.{Ty, never, bool_type, long_type, string_type, any_entity, entity_types, any_set, set_type, record_type, extension_type, Attributes, no_attributes, attribute, Declared, attribute_named, Mode}
-use Rattle.cedar_schema_model.specs.Whole.Subtype.{is_permissive, is_closed_record, are_among, is_union, is_well_formed_type}
+use Rattle.cedar_schema_model.specs.Whole.Subtype.{is_permissive, is_closed_record, are_among}
+use Rattle.cedar_schema_model.specs.Whole.OfLaws.Formed.{is_union, is_well_formed_type}
 use Rattle.cedar_schema_model.specs.Whole.TypeLaws.{has_no_any_set, have_no_any_set}
 use Rattle.cedar_schema_model.specs.Whole.Join.{names_of_both, agree, joined_with, kept_attribute, all_stayed, openness_of_join, join, attributes_join}
 use Rattle.cedar_schema_model.proofs.Whole.Types.Lookups.{no_lie, no_none, named_cases, Formed, formed_parts, formed_at}

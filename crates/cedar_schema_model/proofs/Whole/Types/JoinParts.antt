@@ -6,7 +6,8 @@ use Rattle.cedar_expr_model.specs.Name.{Text}
 use Rattle.cedar_expr_model.specs.Whole.Order.{text_cmp}
 use Rattle.cedar_expr_model.proofs.Lists.{hold_both}
 use Rattle.cedar_schema_model.specs.Whole.Types.{Ty, Attributes, no_attributes, attribute, Declared, attribute_named, Mode, strict, permissive}
-use Rattle.cedar_schema_model.specs.Whole.Subtype.{carries, is_well_formed_type, are_well_formed_attributes, is_before_attributes}
+use Rattle.cedar_schema_model.specs.Whole.Subtype.{carries}
+use Rattle.cedar_schema_model.specs.Whole.OfLaws.Formed.{is_well_formed_type, are_well_formed_attributes, is_before_attributes}
 use Rattle.cedar_schema_model.specs.Whole.Join.{agree, declared_in_common, joined_with, kept_attribute, join, attributes_join}
 use Rattle.cedar_schema_model.proofs.Whole.Types.Lookups.{no_lie, no_none, inside, test_cases, declares, less_is, named_first, named_later, absent, before_later, Formed, formed_parts}
 

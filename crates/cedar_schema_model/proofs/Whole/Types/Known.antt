@@ -8,7 +8,7 @@ use Rattle.cedar_expr_model.specs.Whole.Value.{V, record_of, Fields, no_fields, 
 use Rattle.cedar_expr_model.proofs.Lists.{all_each, all_from, any_has, map_has, map_from, contains_head, contains_tail, contains_cases, contains_none}
 use Rattle.cedar_schema_model.specs.Whole.Types.{Openness, is_open, is_closed, Ty, any_entity, entity_types, record_type, Attributes, Declared, attribute_named, permissive}
 use Rattle.cedar_schema_model.specs.Whole.Schema.{Schema}
-use Rattle.cedar_schema_model.specs.Whole.Subtype.{Below, is_well_formed_type}
+use Rattle.cedar_schema_model.specs.Whole.OfLaws.Formed.{Below, is_well_formed_type}
 use Rattle.cedar_schema_model.specs.Whole.TypeLaws.{has_no_any_set}
 use Rattle.cedar_schema_model.specs.Whole.HasType.{HasType, HasRequired, FieldsFit, FieldFits}
 use Rattle.cedar_schema_model.specs.Whole.Join.{reduce_to_join}

@@ -9,7 +9,7 @@ use Rattle.cedar_expr_model.specs.Name.{Text}
 use Rattle.cedar_expr_model.specs.Whole.Order.{text_cmp}
 use Rattle.cedar_expr_model.proofs.Lists.{both_hold}
 use Rattle.cedar_schema_model.specs.Whole.Types.{Ty, never, bool_type, long_type, string_type, any_entity, entity_types, any_set, set_type, record_type, extension_type, Attributes, no_attributes, attribute, Declared, attribute_named}
-use Rattle.cedar_schema_model.specs.Whole.Subtype.{is_well_formed_type, are_well_formed_attributes, is_before_attributes}
+use Rattle.cedar_schema_model.specs.Whole.OfLaws.Formed.{is_well_formed_type, are_well_formed_attributes, is_before_attributes}
 
 pub no_lie : {P : Type 0} → false ≡ true → P
 no_lie e = absurd (true≢false (sym e))

@@ -11,7 +11,8 @@ use Rattle.cedar_expr_model.specs.Order.{name_cmp}
 use Rattle.cedar_expr_model.proofs.Equality.{name_eq-Decides}
 use Rattle.cedar_expr_model.proofs.Lists.{both_hold, hold_both, all_each, all_from, found-Decides, contains_head, contains_tail, contains_cases, contains_none}
 use Rattle.cedar_expr_model.proofs.UidText.{name_text_apart}
-use Rattle.cedar_schema_model.specs.Whole.Subtype.{are_among, is_union}
+use Rattle.cedar_schema_model.specs.Whole.Subtype.{are_among}
+use Rattle.cedar_schema_model.specs.Whole.OfLaws.Formed.{is_union}
 use Rattle.cedar_schema_model.specs.Whole.Join.{name_inserted, names_of_both}
 use Rattle.cedar_schema_model.proofs.Whole.Types.Lookups.{no_lie, less_is}
 use Rattle.cedar_expr_model.specs.Whole.Lists.{rises}

@@ -3,7 +3,7 @@ use Rattle.std.proofs.Common.{◌≡◌, ◌↔◌, List, [], ◌∷◌, true, O
 use Rattle.std.specs.List.{list_all}
 use Rattle.cedar_expr_model.proofs.Lists.{both_hold, contains_head, contains_tail, contains_cases, contains_none}
 use Rattle.cedar_schema_model.specs.Whole.Types.{Ty, never, Mode}
-use Rattle.cedar_schema_model.specs.Whole.Subtype.{Below, is_well_formed_type}
+use Rattle.cedar_schema_model.specs.Whole.OfLaws.Formed.{Below, is_well_formed_type}
 use Rattle.cedar_schema_model.specs.Whole.TypeLaws.{has_no_any_set}
 use Rattle.cedar_schema_model.proofs.Whole.Named.{join_all}
 use Rattle.cedar_schema_model.specs.Whole.Join.{join, reduce_to_join}

@@ -7,7 +7,7 @@ use Rattle.cedar_expr_model.specs.Whole.Value.{truth, long, text, entity, V, pri
 use Rattle.cedar_expr_model.specs.Whole.Canonical.{is_before, is_canonical, have_canonical}
 use Rattle.cedar_expr_model.proofs.Lists.{both_hold, hold_both, contains_head}
 use Rattle.cedar_schema_model.specs.Whole.Types.{BoolType, any_bool, only_true, only_false, Openness, Ty, never, bool_type, long_type, string_type, any_entity, entity_types, any_set, set_type, record_type, extension_type, Attributes, no_attributes, attribute, Declared, attribute_named}
-use Rattle.cedar_schema_model.specs.Whole.Subtype.{is_well_formed_type, is_before_attributes}
+use Rattle.cedar_schema_model.specs.Whole.OfLaws.Formed.{is_well_formed_type, is_before_attributes}
 use Rattle.cedar_schema_model.specs.Whole.TypeLaws.{is_filled, are_filled}
 use Rattle.cedar_schema_model.specs.Whole.HasType.{FieldFits, HasRequired, HasType, FieldsFit}
 use Rattle.cedar_schema_model.proofs.Whole.Types.Lookups.{no_lie, no_none, inside, test_cases, declares, same_text, named_here, named_first, named_later, named_cases, still_named, Formed, formed_parts, formed_at, each_type, Parts}

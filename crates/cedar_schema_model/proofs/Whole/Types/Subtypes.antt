@@ -4,7 +4,8 @@ use Rattle.cedar_expr_model.specs.Name.{Text, Name, name_eq}
 use Rattle.cedar_expr_model.proofs.Equality.{name_eq-Decides, name_eq_same}
 use Rattle.cedar_expr_model.proofs.Lists.{both_hold, hold_both}
 use Rattle.cedar_schema_model.specs.Whole.Types.{BoolType, any_bool, only_true, only_false, Openness, is_open, is_closed, Ty, never, bool_type, long_type, string_type, any_entity, entity_types, any_set, set_type, record_type, extension_type, Attributes, no_attributes, attribute, Declared, attribute_named, Mode, strict, permissive}
-use Rattle.cedar_schema_model.specs.Whole.Subtype.{is_permissive, is_closed_record, are_among, are_named, carries, is_bool_below, is_union_below, is_frame_below, is_declared_below, is_subtype, have_below, Below, is_well_formed_type}
+use Rattle.cedar_schema_model.specs.Whole.Subtype.{is_permissive, is_closed_record, are_among, are_named, carries, is_bool_below, is_union_below, is_frame_below, is_declared_below, is_subtype, have_below}
+use Rattle.cedar_schema_model.specs.Whole.OfLaws.Formed.{Below, is_well_formed_type}
 use Rattle.cedar_schema_model.proofs.Whole.Types.Names.{among_on, among_same, same_union}
 use Rattle.cedar_schema_model.proofs.Whole.Types.Lookups.{no_lie, no_none, inside, from_some, some_is, declares, named_first, named_cases, still_named, each_type, Parts, Formed, formed_parts, formed_at, same_attributes}
 

@@ -8,7 +8,8 @@ use Rattle.cedar_expr_model.proofs.Equality.{name_eq-Decides}
 use Rattle.cedar_expr_model.proofs.Lists.{found-Decides, any_has}
 use Rattle.std.specs.List.{list_any}
 use Rattle.cedar_schema_model.specs.Whole.Types.{BoolType, any_bool, only_true, only_false, Openness, is_open, is_closed, Ty, never, bool_type, long_type, string_type, any_entity, entity_types, any_set, set_type, record_type, extension_type, Attributes, no_attributes, attribute, Declared, attribute_named, Mode, strict, permissive}
-use Rattle.cedar_schema_model.specs.Whole.Subtype.{carries, is_bool_below, is_frame_below, have_below, Below}
+use Rattle.cedar_schema_model.specs.Whole.Subtype.{carries, is_bool_below, is_frame_below, have_below}
+use Rattle.cedar_schema_model.specs.Whole.OfLaws.Formed.{Below}
 use Rattle.cedar_schema_model.specs.Whole.HasType.{is_of_bool, LiteralHasType, FieldFits, HasRequired, HasType, HaveType, FieldsFit, literal_has_type, field_fits, has_required, has_type, have_type, fields_fit}
 use Rattle.cedar_schema_model.specs.Whole.Join.{are_disjoint}
 use Rattle.cedar_schema_model.proofs.Whole.Types.Lookups.{no_lie, no_none, inside, named_cases}

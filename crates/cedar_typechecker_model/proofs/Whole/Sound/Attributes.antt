@@ -19,7 +19,7 @@ use Rattle.cedar_schema_model.proofs.Whole.Types.Lookups.{inside}
 use Rattle.cedar_schema_model.proofs.Whole.Types.Known.{field_at}
 use Rattle.cedar_schema_model.proofs.Whole.Types.Values.{required_at, field_some}
 use Rattle.cedar_typechecker_model.specs.Whole.Rules.{Setting, has_field, has_type, attribute_type}
-use Rattle.cedar_typechecker_model.specs.Whole.Simple.{is_simple, IsOrderly}
+use Rattle.cedar_typechecker_model.specs.Whole.OfLaws.Simple.{is_simple, IsOrderly}
 use Rattle.cedar_typechecker_model.specs.Whole.Soundness.{IsGood, ConformsAt}
 use Rattle.cedar_typechecker_model.proofs.Whole.Sound.Shapes.{any_value, entity_value, record_value}
 use Rattle.cedar_typechecker_model.proofs.Whole.Sound.Entities.{Declares, held_attribute, required_attribute}

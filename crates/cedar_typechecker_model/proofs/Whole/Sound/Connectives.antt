@@ -13,7 +13,7 @@ use Rattle.cedar_typechecker_model.specs.Whole.Facts.{Facts, no_facts, union, in
 use Rattle.cedar_typechecker_model.specs.Whole.Rules.{Setting}
 use Rattle.cedar_typechecker_model.specs.Whole.Typing.{conjoined, disjoined, Gives, AndTyped, OrTyped, ChoiceTyped}
 use Rattle.cedar_typechecker_model.specs.Whole.Soundness.{Hold}
-use Rattle.cedar_typechecker_model.specs.Whole.Simple.{is_simple}
+use Rattle.cedar_typechecker_model.specs.Whole.OfLaws.Simple.{is_simple}
 use Rattle.cedar_typechecker_model.proofs.Whole.Sound.Shapes.{bool_value}
 use Rattle.cedar_typechecker_model.proofs.Whole.Sound.Joins.{join_keeps}
 use Rattle.cedar_typechecker_model.proofs.Whole.Sound.Facts.{hold_none, hold_union, hold_first, hold_second, Good, good_as, good_bind, good_asked}

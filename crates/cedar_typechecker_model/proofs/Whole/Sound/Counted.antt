@@ -16,7 +16,7 @@ use Rattle.cedar_schema_model.specs.Whole.Lookup.{lookup_attribute}
 use Rattle.cedar_typechecker_model.specs.Whole.Facts.{Facts, union, intersection}
 use Rattle.cedar_typechecker_model.specs.Whole.Levels.{Violation, Count, needed, stepped, is_entity, unless_false, unless_true, branches, greater, entity_steps, fields_before}
 use Rattle.cedar_typechecker_model.specs.Whole.Rules.{Setting}
-use Rattle.cedar_typechecker_model.specs.Whole.Simple.{is_simple}
+use Rattle.cedar_typechecker_model.specs.Whole.OfLaws.Simple.{is_simple}
 use Rattle.cedar_typechecker_model.specs.Whole.Typing.{Judgement, step_type, Gives, Types, AndTyped, OrTyped, ChoiceTyped, judgement, type_under}
 use Rattle.cedar_typechecker_model.proofs.Whole.Exact.{of_parts}
 use Rattle.cedar_typechecker_model.proofs.Whole.Typing.{exact}

@@ -19,7 +19,7 @@ use Rattle.cedar_schema_model.specs.Whole.DeclLaws.{IsOf}
 use Rattle.cedar_schema_model.proofs.Whole.Types.Lookups.{named_cases}
 use Rattle.cedar_schema_model.proofs.Whole.Decls.Direct.{good_entity}
 use Rattle.cedar_typechecker_model.specs.Whole.Rules.{kind_tags, tags_of}
-use Rattle.cedar_typechecker_model.specs.Whole.Simple.{IsOrderly}
+use Rattle.cedar_typechecker_model.specs.Whole.OfLaws.Simple.{IsOrderly}
 use Rattle.std.specs.Map.{lookup}
 
 -- where a schema speaks of an entity is where it declares its type

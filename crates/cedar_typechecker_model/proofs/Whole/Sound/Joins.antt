@@ -20,7 +20,7 @@ use Rattle.cedar_schema_model.proofs.Whole.Types.Subtypes.{named_at}
 use Rattle.cedar_schema_model.proofs.Whole.Types.JoinParts.{given_if, declared_join, Joint, joint}
 use Rattle.cedar_schema_model.proofs.Whole.Types.JoinAbove.{allowed, opened, strict_allowed}
 use Rattle.cedar_schema_model.proofs.Whole.Types.Values.{required_at, field_some, never_empty}
-use Rattle.cedar_typechecker_model.specs.Whole.Simple.{is_alone, is_simple, are_simple}
+use Rattle.cedar_typechecker_model.specs.Whole.OfLaws.Simple.{is_alone, is_simple, are_simple}
 use Rattle.cedar_typechecker_model.proofs.Whole.Sound.Shapes.{bool_value, set_value, record_value}
 
 -- The join is simple, and each value of either side is one of it.

@@ -13,7 +13,7 @@ use Rattle.cedar_schema_model.proofs.Whole.Types.Lookups.{inside}
 use Rattle.cedar_schema_model.proofs.Whole.Types.JoinParts.{given_if, joint}
 use Rattle.cedar_schema_model.proofs.Whole.Types.JoinAbove.{allowed, opened}
 use Rattle.cedar_typechecker_model.specs.Whole.Levels.{is_entity}
-use Rattle.cedar_typechecker_model.specs.Whole.Simple.{is_simple}
+use Rattle.cedar_typechecker_model.specs.Whole.OfLaws.Simple.{is_simple}
 use Rattle.cedar_typechecker_model.proofs.Whole.Sound.Joins.{join_found, simple_at}
 
 -- The entity stands in the value at the end of these fields.

@@ -8,7 +8,8 @@ use Rattle.cedar_expr_model.specs.Whole.Value.{truth, long, text, entity, V, pri
 use Rattle.cedar_expr_model.specs.Whole.Canonical.{members_made, set_made}
 use Rattle.cedar_expr_model.specs.Whole.Substitution.{core_type_of}
 use Rattle.cedar_expr_model.specs.Whole.Order.{core_eq}
-use Rattle.cedar_expr_model.specs.Whole.Table.{Signature, signature_of, takes_count, are_of_types, Called, gives, fails, leaves, IsAnswer, IsFair}
+use Rattle.cedar_expr_model.specs.Whole.Table.{Signature, signature_of, takes_count, are_of_types, Called, gives, fails, leaves}
+use Rattle.cedar_expr_model.specs.Whole.OfLaws.Fair.{IsAnswer, IsFair}
 use Rattle.cedar_expr_model.specs.Whole.Tree.{CoreType, bool_core, long_core, string_core, set_core, record_core, entity_core, extension_core, Trees}
 use Rattle.cedar_expr_model.proofs.Lists.{both_hold, hold_both, contains_cases, contains_none, contains_head, contains_tail}
 use Rattle.cedar_expr_model.proofs.Whole.CoreTypes.{core_eq-Decides}
@@ -23,7 +24,7 @@ use Rattle.cedar_schema_model.specs.Whole.HasType.{HasType, FieldsFit, FieldFits
 use Rattle.cedar_schema_model.proofs.Whole.Types.Lookups.{inside, named_first, named_cases, no_none}
 use Rattle.cedar_schema_model.proofs.Whole.Types.Values.{sets_by_members, supertypes_keep}
 use Rattle.cedar_typechecker_model.specs.Whole.Rules.{Setting, set_literal_type, record_literal_type, has_names_once, core_as_type, arguments_fit, takes_literal, signature_type, call_type}
-use Rattle.cedar_typechecker_model.specs.Whole.Simple.{is_simple, are_simple}
+use Rattle.cedar_typechecker_model.specs.Whole.OfLaws.Simple.{is_simple, are_simple}
 use Rattle.cedar_typechecker_model.specs.Whole.Soundness.{IsExpected}
 use Rattle.cedar_typechecker_model.proofs.Whole.Sound.Shapes.{bool_value, long_value, text_value, extension_value}
 use Rattle.cedar_typechecker_model.proofs.Whole.Sound.Joins.{AreSimple, KeptAll, reduction_keeps, required_from, still_there, simple_parts}

@@ -7,7 +7,7 @@ use Rattle.cedar_expr_model.specs.Whole.Order.{text_cmp}
 use Rattle.cedar_expr_model.proofs.Lists.{both_hold, hold_both, map_from, contains_head, contains_tail}
 use Rattle.cedar_schema_model.specs.Whole.Types.{Ty, entity_types, set_type, record_type, Attributes, no_attributes, attribute, attribute_named}
 use Rattle.cedar_schema_model.specs.Whole.Schema.{EntityType, Action}
-use Rattle.cedar_schema_model.specs.Whole.Subtype.{is_before_attributes}
+use Rattle.cedar_schema_model.specs.Whole.OfLaws.Formed.{is_before_attributes}
 use Rattle.cedar_schema_model.specs.Whole.Reference.{Namespace, Meant, meant_common, meant_entity}
 use Rattle.cedar_schema_model.specs.Whole.Declarations.{TypeExpr, bool_expr, long_expr, string_expr, set_expr, record_expr, reference, extension_expr, FieldExprs, no_field_exprs, field_expr, KindExpr, standard_expr, enumerated_expr, external_expr, CommonDeclaration, Declarations, common_name, meant}
 use Rattle.cedar_schema_model.specs.Whole.WellFormed.{IsWellFormed}
@@ -19,7 +19,7 @@ use Rattle.cedar_schema_model.proofs.Whole.Decls.Environments.{declares_action-D
 use Rattle.cedar_schema_model.proofs.Whole.Decls.Named.{ancestors_named, principals_named, resources_named}
 use Rattle.cedar_schema_model.proofs.Whole.Decls.Rising.{resolved_rises}
 use Rattle.cedar_schema_model.proofs.Whole.Decls.Schema.{same_actions, types_apart}
-use Rattle.cedar_typechecker_model.specs.Whole.Simple.{is_alone, is_simple, are_simple, is_simple_tag, is_simple_kind, IsOrderly}
+use Rattle.cedar_typechecker_model.specs.Whole.OfLaws.Simple.{is_alone, is_simple, are_simple, is_simple_tag, is_simple_kind, IsOrderly}
 
 -- Each union in the type is of one entity type.
 abbrev mutual

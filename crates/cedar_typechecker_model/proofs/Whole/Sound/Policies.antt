@@ -6,7 +6,8 @@ use Rattle.cedar_expr_model.specs.Uid.{Uid, uid_eq}
 use Rattle.cedar_expr_model.specs.Whole.Value.{entity, V, prim, record_of, truth_value}
 use Rattle.cedar_expr_model.specs.Whole.Builder.{conjunction}
 use Rattle.cedar_expr_model.specs.Whole.Parts.{subexpressions, slot_here, slots}
-use Rattle.cedar_expr_model.specs.Whole.Table.{Table, IsFair}
+use Rattle.cedar_expr_model.specs.Whole.Table.{Table}
+use Rattle.cedar_expr_model.specs.Whole.OfLaws.Fair.{IsFair}
 use Rattle.cedar_expr_model.specs.Whole.Tree.{principal, action, resource, SlotId, principal_slot, resource_slot, Tree, slot}
 use Rattle.cedar_expr_model.proofs.Equality.{name_eq-Decides, uid_eq-Decides}
 use Rattle.cedar_expr_model.proofs.Lists.{hold_both, any_has, hold_left, contains_head, contains_cases, contains_none}
@@ -38,7 +39,7 @@ use Rattle.cedar_schema_model.proofs.Whole.Decls.Schema.{kept_has}
 use Rattle.cedar_typechecker_model.specs.Whole.Facts.{Facts, no_facts}
 use Rattle.cedar_typechecker_model.specs.Whole.Rules.{slot_type}
 use Rattle.cedar_typechecker_model.specs.Whole.Typing.{Types}
-use Rattle.cedar_typechecker_model.specs.Whole.Simple.{IsOrderly}
+use Rattle.cedar_typechecker_model.specs.Whole.OfLaws.Simple.{IsOrderly}
 use Rattle.cedar_typechecker_model.specs.Whole.Soundness.{IsGood, Hold, ConformsAt, Suits, SlotsAreBound}
 use Rattle.cedar_typechecker_model.specs.Whole.PolicySoundness as policies
 use Rattle.cedar_typechecker_model.specs.Whole.PolicySoundness.{IsBound, LookupsConform, IsCovered, IsFalse}

@@ -21,7 +21,7 @@ use Rattle.cedar_schema_model.specs.Whole.Conforming.{EntityConforms}
 use Rattle.cedar_schema_model.proofs.Whole.Types.Lookups.{test_cases}
 use Rattle.cedar_typechecker_model.specs.Whole.Facts.{Facts}
 use Rattle.cedar_typechecker_model.specs.Whole.Levels.{is_entity, entity_steps, fields_before}
-use Rattle.cedar_typechecker_model.specs.Whole.Simple.{is_simple}
+use Rattle.cedar_typechecker_model.specs.Whole.OfLaws.Simple.{is_simple}
 use Rattle.cedar_typechecker_model.specs.Whole.Soundness.{ConformsAt, Suits}
 use Rattle.cedar_typechecker_model.specs.Whole.Typing.{step_type, path_judged, Gives}
 use Rattle.cedar_typechecker_model.specs.Whole.Verdicts.{strictly}

@@ -28,7 +28,7 @@ use Rattle.cedar_schema_model.specs.Whole.DeclLaws.{IsAtOrAbove, TakesSlot}
 use Rattle.cedar_schema_model.proofs.Whole.Types.Lookups.{test_cases}
 use Rattle.cedar_schema_model.proofs.Whole.Decls.Descent.{type_descends-Decides}
 use Rattle.cedar_schema_model.proofs.Whole.Decls.Environments.{declares_action-Decides}
-use Rattle.cedar_typechecker_model.specs.Whole.Simple.{IsOrderly}
+use Rattle.cedar_typechecker_model.specs.Whole.OfLaws.Simple.{IsOrderly}
 use Rattle.cedar_typechecker_model.specs.Whole.Soundness.{ConformsAt}
 use Rattle.cedar_typechecker_model.specs.Whole.Verdicts.{scope_use, fits_slot}
 use Rattle.cedar_typechecker_model.proofs.Whole.Sound.Attributes.{Fine}

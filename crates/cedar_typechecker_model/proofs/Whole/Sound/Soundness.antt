@@ -27,7 +27,7 @@ use Rattle.cedar_schema_model.proofs.Whole.Types.Lookups.{inside}
 use Rattle.cedar_typechecker_model.specs.Whole.Facts.{Facts, no_facts, union, attribute_part, tag_part}
 use Rattle.cedar_typechecker_model.specs.Whole.Rules.{var_type, slot_type, unary_type, binary_type, like_type, is_type_type, has_type, get_type, has_tag_type, get_tag_type, set_literal_type, record_literal_type, call_type, literal_type}
 use Rattle.cedar_typechecker_model.specs.Whole.Typing.{plain, binary_judged, Gives, Types, EachTyped, FieldsTyped}
-use Rattle.cedar_typechecker_model.specs.Whole.Simple.{is_simple, are_simple}
+use Rattle.cedar_typechecker_model.specs.Whole.OfLaws.Simple.{is_simple, are_simple}
 use Rattle.cedar_typechecker_model.specs.Whole.Verdicts.{strictly}
 use Rattle.cedar_typechecker_model.specs.Whole.Soundness.{Hold, ConformsAt, Suits}
 use Rattle.cedar_typechecker_model.proofs.Whole.Bare.{facts_are_of_bool}

@@ -21,7 +21,7 @@ use Rattle.cedar_schema_model.specs.Whole.HasType.{HasType}
 use Rattle.cedar_typechecker_model.specs.Whole.Facts.{Facts, attribute_part}
 use Rattle.cedar_typechecker_model.specs.Whole.Rules.{Setting, has_type}
 use Rattle.cedar_typechecker_model.specs.Whole.Typing.{Judgement, tested, step_type, path_judged, and_judged, Gives, Sub, AndTyped}
-use Rattle.cedar_typechecker_model.specs.Whole.Simple.{is_simple, IsOrderly}
+use Rattle.cedar_typechecker_model.specs.Whole.OfLaws.Simple.{is_simple, IsOrderly}
 use Rattle.cedar_typechecker_model.specs.Whole.Soundness.{ConformsAt}
 use Rattle.cedar_typechecker_model.proofs.Whole.Sound.Typed.{simple_lookup}
 use Rattle.cedar_typechecker_model.proofs.Whole.Sound.Attributes.{Fine, value_read, has_fine}

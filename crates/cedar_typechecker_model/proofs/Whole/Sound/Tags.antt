@@ -16,7 +16,7 @@ use Rattle.cedar_schema_model.specs.Whole.Join.{reduce_to_join}
 use Rattle.cedar_schema_model.specs.Whole.HasType.{HasType}
 use Rattle.cedar_schema_model.proofs.Whole.Types.Lookups.{inside}
 use Rattle.cedar_typechecker_model.specs.Whole.Rules.{Setting, tag_type, may_have_tags, is_string_type, entity_kinds, has_tag_type}
-use Rattle.cedar_typechecker_model.specs.Whole.Simple.{is_simple, IsOrderly}
+use Rattle.cedar_typechecker_model.specs.Whole.OfLaws.Simple.{is_simple, IsOrderly}
 use Rattle.cedar_typechecker_model.specs.Whole.Soundness.{ConformsAt}
 use Rattle.cedar_typechecker_model.proofs.Whole.Sound.Shapes.{any_value, text_value}
 use Rattle.cedar_typechecker_model.proofs.Whole.Sound.Entities.{Tags, held_tag}

@@ -25,7 +25,7 @@ use Rattle.cedar_schema_model.proofs.Whole.Types.Lookups.{inside, test_cases}
 use Rattle.cedar_typechecker_model.specs.Whole.Facts.{Facts}
 use Rattle.cedar_typechecker_model.specs.Whole.Levels.{Violation, Count, count, further, stepped, is_entity, literal_count, entity_steps, fields_before, path_violations, on_entity, violations, target}
 use Rattle.cedar_typechecker_model.specs.Whole.Rules.{attribute_type, has_names_once, record_literal_type}
-use Rattle.cedar_typechecker_model.specs.Whole.Simple.{is_simple}
+use Rattle.cedar_typechecker_model.specs.Whole.OfLaws.Simple.{is_simple}
 use Rattle.cedar_typechecker_model.specs.Whole.Soundness.{Hold, ConformsAt, Suits}
 use Rattle.cedar_typechecker_model.specs.Whole.Typing.{plain, path_judged, binary_judged, Gives, Types}
 use Rattle.cedar_typechecker_model.specs.Whole.Verdicts.{strictly}

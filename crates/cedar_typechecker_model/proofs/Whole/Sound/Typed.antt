@@ -15,7 +15,7 @@ use Rattle.cedar_schema_model.specs.Whole.Lookup.{attributes_of_kind, lookup_att
 use Rattle.cedar_typechecker_model.specs.Whole.Facts.{Facts, union, intersection, Part, attribute_part, tag_part}
 use Rattle.cedar_typechecker_model.specs.Whole.Rules.{Setting, literal_type, var_type, slot_type, unary_type, written_uid, written_equal, if_there, order_type, number_type, member_type, is_set_type, sets_type, entity_kinds, entity_or_set_kinds, written_action, written_actions, within_kinds, binary_type, like_type, is_type_type, has_type, get_type, attribute_type, kind_tags, tags_of, tag_type, is_string_type, has_tag_type, get_tag_type, set_literal_type, has_names_once, record_literal_type, core_as_type, arguments_fit, takes_literal, signature_type}
 use Rattle.cedar_typechecker_model.specs.Whole.Typing.{Judgement, judged, plain, tested, conjoined, disjoined, chosen, step_type, path_judged, binary_judged, Types, EachTyped, and_judged, or_judged, choice_judged, judgement, judgements, field_judgements}
-use Rattle.cedar_typechecker_model.specs.Whole.Simple.{is_simple, are_simple, is_simple_tag, is_simple_kind, IsOrderly}
+use Rattle.cedar_typechecker_model.specs.Whole.OfLaws.Simple.{is_simple, are_simple, is_simple_tag, is_simple_kind, IsOrderly}
 use Rattle.cedar_typechecker_model.specs.Whole.Verdicts.{strictly}
 use Rattle.cedar_typechecker_model.proofs.Whole.Exact.{of_parts}
 use Rattle.cedar_typechecker_model.proofs.Whole.Typing.{exact, exact_each}

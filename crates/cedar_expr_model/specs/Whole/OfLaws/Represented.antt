@@ -3,7 +3,8 @@
 use Rattle.std.specs.Prelude.{◌≡◌, List, map}
 use Rattle.cedar_expr_model.specs.Name.{Name}
 use Rattle.cedar_expr_model.specs.Whole.Made.{Made, made_prim, made_set, made_record, made_extension, Mades, no_mades, made, MadeFields, no_made_fields, made_field, bares}
-use Rattle.cedar_expr_model.specs.Whole.Table.{Table, IsTaken, gives}
+use Rattle.cedar_expr_model.specs.Whole.Table.{Table, gives}
+use Rattle.cedar_expr_model.specs.Whole.OfLaws.Fair.{IsTaken}
 use Rattle.cedar_expr_model.specs.Whole.Value.{Literal, V, prim, extension, Vs}
 
 -- The table has the function, which takes these literals and answers this value.

@@ -6,8 +6,9 @@ use Rattle.cedar_expr_model.specs.Uid.{Uid}
 use Rattle.cedar_expr_model.specs.Whole.Value.{V}
 use Rattle.cedar_expr_model.specs.Whole.Tree.{CoreType, Tree}
 use Rattle.cedar_expr_model.specs.Whole.Unknowns.{EachUnknown}
-use Rattle.cedar_expr_model.specs.Whole.Table.{Table, leaves, IsTaken}
-use Rattle.cedar_expr_model.specs.Whole.Laws.{IsOfType}
+use Rattle.cedar_expr_model.specs.Whole.Table.{Table, leaves}
+use Rattle.cedar_expr_model.specs.Whole.OfLaws.Fair.{IsTaken}
+use Rattle.cedar_expr_model.specs.Whole.Substitution.{IsOfType}
 use Rattle.cedar_store_model.specs.Whole.World.{Found, held}
 use Rattle.cedar_store_model.specs.Whole.Knowledge.{IsSettled, holds_values}
 use Rattle.cedar_evaluator_model.specs.Scope.{Scope}

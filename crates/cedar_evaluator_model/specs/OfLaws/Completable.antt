@@ -13,8 +13,9 @@ use Rattle.cedar_store_model.specs.Whole.World.{World, not_loaded}
 use Rattle.cedar_store_model.specs.Whole.Knowledge.{Keeps}
 use Rattle.cedar_evaluator_model.specs.Scope.{Scope, Entry, uid, unknown_uid, Context, closed, residual_fields, unknown_context}
 use Rattle.cedar_evaluator_model.specs.Known.{known_found}
-use Rattle.cedar_evaluator_model.specs.Whole.{HoldsValues}
-use Rattle.cedar_evaluator_model.specs.Completion.{PartIs, Completes}
+use Rattle.cedar_evaluator_model.specs.OfLaws.Whole.{HoldsValues}
+use Rattle.cedar_evaluator_model.specs.Completion.{PartIs}
+use Rattle.cedar_evaluator_model.specs.OfLaws.Completing.{Completes}
 
 -- the name has a double quote, as the text of each uid
 abbrev pub has_quote : Text → Bool

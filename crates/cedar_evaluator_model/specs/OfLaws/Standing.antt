@@ -8,11 +8,12 @@ use Rattle.cedar_expr_model.specs.Whole.Made.{Made, bare}
 use Rattle.cedar_store_model.specs.Whole.Outcome.{Fault, Res, val, err}
 use Rattle.cedar_store_model.specs.Whole.World.{World}
 use Rattle.cedar_store_model.specs.Whole.Meaning.{Means}
-use Rattle.cedar_expr_model.specs.Whole.Table.{IsTaken}
+use Rattle.cedar_expr_model.specs.Whole.OfLaws.Fair.{IsTaken}
 use Rattle.cedar_evaluator_model.specs.Scope.{Scope, leaves_unknown, fault, limit, Left, value_left, residual, stopped}
 use Rattle.cedar_evaluator_model.specs.Evaluation.{evaluated}
 use Rattle.cedar_evaluator_model.specs.Known.{known_world}
-use Rattle.cedar_evaluator_model.specs.Completion.{FitsAnnotations, Completes}
+use Rattle.cedar_evaluator_model.specs.Completion.{FitsAnnotations}
+use Rattle.cedar_evaluator_model.specs.OfLaws.Completing.{Completes}
 
 -- the expression errs, with this kind of error or another
 abbrev pub Errs : World → Tree → Type 0

@@ -1,0 +1,2 @@
+-- What laws alone speak of: no rule needs it.
+pub mod Formed
