@@ -55,13 +55,9 @@ context_bound unknown_context (Some (made_record fs)) = makes_it (closed fs)
 context_bound c (Some (made_record fs)) = refuses (known_already context)
 context_bound c (Some m) = refuses (wrong_value context)
 
--- the scope without slots and values, in which restricted expressions are evaluated
-abbrev pub restricted_scope : Scope → Scope
-restricted_scope s = record s { slots = λ x. None; values = λ n. None }
-
--- what is left of a restricted expression: the limit on its depth is fixed
+-- what is left of a restricted expression, in the scope without slots and values: the limit on its depth is fixed
 abbrev pub restricted_left : Scope → Tree → Left
-restricted_left s t = evaluated (restricted_scope s) 512 t
+restricted_left s t = evaluated (record s { slots = λ x. None; values = λ n. None }) 512 t
 
 -- the context that an evaluated record is, if it is one
 abbrev pub context_from : Left → Option Context

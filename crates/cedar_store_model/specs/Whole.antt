@@ -6,10 +6,10 @@ pub mod Reads
 pub mod Meaning
 pub mod Looks
 pub mod Knowledge
-pub mod OfLaws
 pub mod Laws
 pub mod Policy
 pub mod PolicySet
+pub mod OfLaws
 pub mod Answer
 pub mod AnswerLaws
 pub mod StoreLaws

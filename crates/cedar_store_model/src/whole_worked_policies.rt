@@ -7,7 +7,8 @@ ghost use Rattle.cedar_store_model.specs.Whole.Outcome.{val, err, missing_entity
 ghost use Rattle.cedar_store_model.specs.Whole.Operators.{says};
 ghost use Rattle.cedar_store_model.specs.Whole.Policy.{Policy, permit, forbid, no_bindings, condition, tree_uses, has_slot, binding_of};
 ghost use Rattle.cedar_store_model.specs.Whole.AnswerLaws.{scope_uses};
-ghost use Rattle.cedar_store_model.specs.Whole.PolicySet.{is_static, is_taken, has_distinct_ids, template_of, linked, with_policy, add_policy, add_template, link, has_link_fault, id_present, slot_not_bound, slot_not_of_template, no_template};
+ghost use Rattle.cedar_store_model.specs.Whole.PolicySet.{is_static, is_taken, template_of, linked, with_policy, add_policy, add_template, link, has_link_fault, id_present, slot_not_bound, slot_not_of_template, no_template};
+ghost use Rattle.cedar_store_model.specs.Whole.OfLaws.Distinct.{has_distinct_ids};
 ghost use Rattle.cedar_store_model.specs.Whole.Answer.{allow, deny, answer_of, policy_outcome, satisfied};
 ghost use Rattle.cedar_store_model.specs.Whole.Worked.{user, user_a, user_b, team, doc_d, view, edit, plain, number, uid, says_true, two_trees, world, world_without_b, nothing_loaded, a_loaded, principal_open};
 ghost use Rattle.cedar_store_model.specs.Whole.WorkedPolicies.{too_large, owners_boss, for_a, if_ok, not_if_ok, by_boss, always, if_bad, not_if_bad, never, no_truth, template, to_a, to_team, to_both, linked_l, many_parts, no_edit, empty_set, with_t, with_l, for_joined, for_actions, by_joined, by_parted};

@@ -18,7 +18,7 @@ use Rattle.cedar_evaluator_model.specs.OfLaws.WellMade.{IsWellMade, IsMadeWell, 
 use Rattle.cedar_evaluator_model.specs.Completion.{PartIs}
 use Rattle.cedar_evaluator_model.specs.OfLaws.Completing.{EntryMeans, ContextMeans, Completes}
 use Rattle.cedar_evaluator_model.specs.Response.{PartialRequest}
-use Rattle.cedar_evaluator_model.specs.Reauthorize.{Refusal, wrong_value, known_already, other_type, Outcome, makes_it, refuses, and_next, entry_with, entry_bound, context_bound, restricted_scope, restricted_left, context_made, context_substituted, context_under, request_bound, resumed}
+use Rattle.cedar_evaluator_model.specs.Reauthorize.{Refusal, wrong_value, known_already, other_type, Outcome, makes_it, refuses, and_next, entry_with, entry_bound, context_bound, restricted_left, context_made, context_substituted, context_under, request_bound, resumed}
 use Rattle.cedar_evaluator_model.specs.ReauthorizeLaws.{CompletesRequest, BindsRightly}
 use Rattle.cedar_evaluator_model.proofs.Named.{fits_in, fits_annotations}
 use Rattle.cedar_evaluator_model.proofs.Residuals.Stands.{Stands}
@@ -119,7 +119,7 @@ module _ (w : World) (s : Scope) (agrees : Agrees s) (well : AllMadeWell s) (com
       let c = completes_unbound u (record s { slots = λ x. None }) (completes_at w (λ x. None) s complete) in
       let g = well_unbound (record s { slots = λ x. None }) (well_at s (λ x. None) well) in
       let e : outcome_of u (substituted env t) ≡ Some (val v) = sym (substituted_outcome u env binds.made binds.means t) ∙ means_outcome u t (val v) (h.0 (λ x. None)) in
-      subst (λ o. Stands u o (restricted_left s (substituted env t))) e (evaluated_stands u (restricted_scope s) agrees c g 512 (substituted env t) (substituted_fits _ env t (fits_in w t h.1)))
+      subst (λ o. Stands u o (restricted_left s (substituted env t))) e (evaluated_stands u (record s { slots = λ x. None; values = λ n. None }) agrees c g 512 (substituted env t) (substituted_fits _ env t (fits_in w t h.1)))
 
   context_put : (c d : Context) (o : Option V) → IsContext w c o → context_substituted s env c ≡ makes_it d → IsContext w d o
   context_put (closed fs) d o h q = let same : closed fs ≡ d = cc in subst (λ y. IsContext w y o) same h

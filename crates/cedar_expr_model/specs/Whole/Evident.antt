@@ -5,7 +5,7 @@ use Rattle.std.specs.Option.{option_map_or}
 use Rattle.std.specs.List.{list_all}
 use Rattle.cedar_expr_model.specs.Whole.Value.{prim}
 use Rattle.cedar_expr_model.specs.Whole.Order.{core_eq}
-use Rattle.cedar_expr_model.specs.Whole.Tree.{CoreType, bool_core, long_core, set_core, record_core, UnaryOp, minus, BinaryOp, plus, difference, times, get_tag, Tree, lit, unknown, choice, both, either, unary, binary, call, has_attr, has_path, like, is_type, set_literal, record_literal}
+use Rattle.cedar_expr_model.specs.Whole.Tree.{CoreType, bool_core, long_core, set_core, record_core, UnaryOp, minus, BinaryOp, plus, difference, times, get_tag, Tree, lit, var, slot, unknown, choice, unary, binary, call, get_attr, set_literal, record_literal}
 use Rattle.cedar_expr_model.specs.Whole.Parts.{subexpressions, listed}
 use Rattle.cedar_expr_model.specs.Whole.Substitution.{core_type_of}
 use Rattle.cedar_expr_model.specs.Whole.Table.{Table, signature_of, takes_count}
@@ -28,24 +28,21 @@ abbrev pub agreed : Option CoreType → Option CoreType → Option CoreType
 agreed (Some a) (Some b) = if core_eq a b then Some a else None
 agreed a b = None
 
--- The evident type: that of a literal, an operator, a test, a set or a record; of a choice where both branches agree; of a
--- call its result; of an unknown its annotation. Variables, slots, attributes and tags show none.
+-- The evident type: that of a literal, an operator, a set or a record; of a choice where both branches agree; of a call its
+-- result; of an unknown its annotation. Variables, slots, attributes and tags show none. All else is a truth value.
 abbrev pub evident_type : Table → Tree → Option CoreType
 evident_type x (lit p) = Some (core_type_of (prim p))
 evident_type x (unknown n a) = a
 evident_type x (choice t a b) = agreed (evident_type x a) (evident_type x b)
-evident_type x (both a b) = Some bool_core
-evident_type x (either a b) = Some bool_core
 evident_type x (unary o a) = Some (unary_core o)
 evident_type x (binary o a b) = binary_core o
 evident_type x (call f ts) = option_and_then (λ s. s.result) (signature_of x f)
-evident_type x (has_attr t a) = Some bool_core
-evident_type x (has_path t a bs) = Some bool_core
-evident_type x (like t p) = Some bool_core
-evident_type x (is_type t n) = Some bool_core
 evident_type x (set_literal ts) = Some set_core
 evident_type x (record_literal fs) = Some record_core
-evident_type x t = None
+evident_type x (var y) = None
+evident_type x (slot s) = None
+evident_type x (get_attr t a) = None
+evident_type x t = Some bool_core
 
 -- a call names a function of the table and has a right count of arguments
 abbrev pub is_valid_call : Table → Tree → Bool

@@ -36,12 +36,9 @@ elements_read d = None
 abbrev pub pattern_read : Data → Option Pattern
 pattern_read d = option_map (flat_map (λ es. es)) (list_of elements_read d)
 
--- the expressions that the parts are, and the texts
+-- the expressions that the parts are
 abbrev pub trees_in : List Part → Option Trees
 trees_in xs = option_map trees (all_given (λ x. x.tree) xs)
-
-abbrev pub texts_in : List Part → Option (List Text)
-texts_in xs = all_given (λ x. as_str x.json) xs
 
 -- one expression, two or three, of which this is made
 abbrev pub of_one : (Tree → Tree) → List Part → Option Tree
@@ -84,7 +81,7 @@ call_form [] = None
 
 -- an expression, and one attribute or more
 abbrev pub has_form : List Part → Option Tree
-has_form (x ∷ y ∷ more) = given x.tree (λ t. given (as_str y.json) (λ a. option_map (path_test t a) (texts_in more)))
+has_form (x ∷ y ∷ more) = given x.tree (λ t. given (as_str y.json) (λ a. option_map (path_test t a) (all_given (λ z. as_str z.json) more)))
 has_form xs = None
 
 -- an object of expressions

@@ -82,11 +82,8 @@ standard_read d =
 abbrev pub enumerated_read : Data → Option Kind
 enumerated_read d = option_map (λ ids. ([], enumerated_expr ids)) (alone (codes "enum") (λ e. given (list_of as_str e) (if_passing (λ ids. not (is_nil ids)))) d)
 
-abbrev pub external_read : Data → Option Kind
-external_read d = option_map (λ parents. (parents, external_expr)) (alone (codes "external") (list_of any_name_read) d)
-
 abbrev pub kind_read : Data → Option Kind
-kind_read d = first_form (standard_read ∷ enumerated_read ∷ external_read ∷ []) d
+kind_read d = first_form (standard_read ∷ enumerated_read ∷ alone (codes "external") (read_as (λ parents. (parents, external_expr)) (list_of any_name_read)) ∷ []) d
 
 -- an entity type, whose key is one identifier
 abbrev pub entity_type_read : Namespace → Text → Data → Option EntityDeclaration

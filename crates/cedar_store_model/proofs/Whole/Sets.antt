@@ -19,7 +19,8 @@ use Rattle.cedar_expr_model.proofs.Whole.Repeating.{distinct_last}
 use Rattle.cedar_store_model.specs.Whole.Answer.{ids}
 use Rattle.cedar_store_model.proofs.Whole.Distinct.{distinct-Decides, distinct_between}
 use Rattle.cedar_store_model.specs.Whole.Policy.{Policy, SlotBindings, Target, named, own_slot, Scope, any, exactly, inside, of_kind, of_kind_inside, ActionScope, any_action, exactly_action, inside_actions, tree_uses, has_slot, target_tree, scope_tree, action_tree, body_tree}
-use Rattle.cedar_store_model.specs.Whole.PolicySet.{PolicySet, is_taken, has_distinct_ids, template_of, linked, with_template, with_policy, LinkFault, id_present, slot_not_bound, slot_not_of_template, no_template, link_faults, has_link_fault, link, add_template, add_policy}
+use Rattle.cedar_store_model.specs.Whole.PolicySet.{PolicySet, is_taken, template_of, linked, with_policy, LinkFault, id_present, slot_not_bound, slot_not_of_template, no_template, link_faults, has_link_fault, link, add_template, add_policy}
+use Rattle.cedar_store_model.specs.Whole.OfLaws.Distinct.{has_distinct_ids}
 use Rattle.cedar_store_model.specs.Whole.AnswerLaws.{is_own_slot, scope_has_slot, scope_uses}
 use Rattle.cedar_expr_model.specs.Whole.Repeats.{repeated}
 use Rattle.cedar_expr_model.specs.Whole.ListLaws.{AreDistinct}
@@ -161,10 +162,10 @@ policy_keeps s p h e =
     (subst AreDistinct (append_assoc (ids s.templates) (ids s.policies) (p.id ∷ []) ∙ sym last)
     (distinct_last (ids s.templates ++ ids s.policies) p.id (apart_ids s h) (not_in_set s p.id e)))
 
-template_keeps : (s : PolicySet) (p : Policy) → has_distinct_ids s ≡ true → is_taken p.id s ≡ false → has_distinct_ids (with_template s p) ≡ true
+template_keeps : (s : PolicySet) (p : Policy) → has_distinct_ids s ≡ true → is_taken p.id s ≡ false → has_distinct_ids (record s { templates = s.templates ++ p ∷ [] }) ≡ true
 template_keeps s p h e =
     let last = ap (λ l. l ++ ids s.policies) (map-append (λ (q : Policy). q.id) s.templates (p ∷ [])) in
-    ids_apart (with_template s p)
+    ids_apart (record s { templates = s.templates ++ p ∷ [] })
     (subst AreDistinct (sym (append_assoc (ids s.templates) (p.id ∷ []) (ids s.policies)) ∙ sym last)
     (distinct_between (ids s.templates) (ids s.policies) p.id (apart_ids s h) (not_in_set s p.id e)))
 
@@ -176,7 +177,7 @@ pub ids_stay_distinct : (s r : PolicySet) → has_distinct_ids s ≡ true
     × ((p : Policy) → add_policy s p ≡ Some r → has_distinct_ids r ≡ true)
     × ((template id : Text) (b : SlotBindings) → link s template id b ≡ Some r → has_distinct_ids r ≡ true)
 ids_stay_distinct s r h = (
-  λ p e. let k = taken (is_taken p.id s) (with_template s p) r e in holds_of (with_template s p) r k.1 (template_keeps s p h k.0),
+  λ p e. let k = taken (is_taken p.id s) (record s { templates = s.templates ++ p ∷ [] }) r e in holds_of (record s { templates = s.templates ++ p ∷ [] }) r k.1 (template_keeps s p h k.0),
   λ p e. let k = taken (is_taken p.id s) (with_policy s p) r e in holds_of (with_policy s p) r k.1 (policy_keeps s p h k.0),
   λ t id b e. let k = linked_taken s t id b r e in holds_of (with_policy s (linked k.0 id b)) r k.2 (policy_keeps s (linked k.0 id b) h k.3),
 )

@@ -13,7 +13,8 @@ use Rattle.cedar_store_model.specs.Whole.Laws.{with_store}
 use Rattle.cedar_store_model.specs.Whole.Looks.{Looks}
 use Rattle.cedar_store_model.specs.Whole.OfLaws.Extends.{Extends}
 use Rattle.cedar_store_model.specs.Whole.Policy.{Policy, Effect, SlotBindings, permit, forbid, Target, named, own_slot, Scope, any, exactly, inside, of_kind, of_kind_inside, scope_tree, action_tree, body_tree, condition, has_slot, tree_uses}
-use Rattle.cedar_store_model.specs.Whole.PolicySet.{PolicySet, LinkFault, has_link_fault, link, linked, template_of, with_policy, has_distinct_ids, add_template, add_policy}
+use Rattle.cedar_store_model.specs.Whole.PolicySet.{PolicySet, LinkFault, has_link_fault, link, linked, template_of, with_policy, add_template, add_policy}
+use Rattle.cedar_store_model.specs.Whole.OfLaws.Distinct.{has_distinct_ids}
 use Rattle.cedar_store_model.specs.Whole.Answer.{Decision, allow, deny, PolicyError, with_slots, PolicyMeans, policy_outcome, IsSatisfied, satisfied, decision_of, reasons_of, errors_of, answer_of}
 
 -- a policy means what its condition does: that is a truth value or an error

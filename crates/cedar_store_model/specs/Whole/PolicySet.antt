@@ -1,14 +1,12 @@
 -- Sets of policies: templates and policies, each in the order of insertion, under ids that are used once.
 -- Rule: policies and templates (docs/RULES.md).
-use Rattle.std.specs.Prelude.{◌&&◌, map, find, List, [], ◌∷◌, ◌++◌, Bool, false, not, Option, Some, None, is_some, is_none, option_map, if◌then◌else◌}
+use Rattle.std.specs.Prelude.{◌&&◌, find, List, [], ◌∷◌, ◌++◌, Bool, false, not, Option, Some, None, is_some, is_none, option_map, if◌then◌else◌}
 use Rattle.std.specs.Option.{option_map_or}
 use Rattle.std.specs.List.{list_any}
 use Rattle.std.specs.Str.{bytes_eq}
 use Rattle.cedar_expr_model.specs.Name.{Text}
-use Rattle.cedar_expr_model.specs.Whole.Tree.{SlotId}
 use Rattle.cedar_expr_model.specs.Whole.Lists.{is_nil}
 use Rattle.cedar_expr_model.specs.Whole.Parts.{slots}
-use Rattle.cedar_expr_model.specs.Whole.Repeats.{repeated}
 use Rattle.cedar_store_model.specs.Whole.Policy.{Policy, SlotBindings, binding_of, condition, has_slot, all_slots}
 
 pub record PolicySet : Type 0 where
@@ -23,10 +21,6 @@ is_static p = is_nil (slots (condition p))
 abbrev pub is_taken : Text → PolicySet → Bool
 is_taken id s = list_any (λ p. bytes_eq id p.id) (s.templates ++ s.policies)
 
--- no id is used twice, be it by templates or policies
-abbrev pub has_distinct_ids : PolicySet → Bool
-has_distinct_ids s = is_none (repeated bytes_eq (map (λ p. p.id) (s.templates ++ s.policies)))
-
 -- the template of this id
 abbrev pub template_of : Text → PolicySet → Option Policy
 template_of id s = find (λ p. bytes_eq id p.id) s.templates
@@ -35,10 +29,7 @@ template_of id s = find (λ p. bytes_eq id p.id) s.templates
 abbrev pub linked : Policy → Text → SlotBindings → Policy
 linked t id b = record t { id = id; bindings = b }
 
--- The set with a template, or a policy, at the end.
-abbrev pub with_template : PolicySet → Policy → PolicySet
-with_template s t = record s { templates = s.templates ++ t ∷ [] }
-
+-- the set with a policy at the end
 abbrev pub with_policy : PolicySet → Policy → PolicySet
 with_policy s p = record s { policies = s.policies ++ p ∷ [] }
 
@@ -64,7 +55,7 @@ link s template id b =
 
 -- The set with a template, or a policy, whose id isn't present yet.
 abbrev pub add_template : PolicySet → Policy → Option PolicySet
-add_template s t = if is_taken t.id s then None else Some (with_template s t)
+add_template s t = if is_taken t.id s then None else Some (record s { templates = s.templates ++ t ∷ [] })
 
 abbrev pub add_policy : PolicySet → Policy → Option PolicySet
 add_policy s p = if is_taken p.id s then None else Some (with_policy s p)

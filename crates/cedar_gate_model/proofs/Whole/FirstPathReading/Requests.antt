@@ -20,7 +20,7 @@ use Rattle.cedar_schema_model.specs.Declarations as small_declarations
 use Rattle.cedar_schema_model.proofs.Whole.FirstPath.Faults.{same_distinct}
 use Rattle.cedar_evaluator_model.specs.Scope.{Scope, uid, closed, value_left}
 use Rattle.cedar_evaluator_model.specs.Evaluation.{evaluated}
-use Rattle.cedar_evaluator_model.specs.Reauthorize.{restricted_scope, context_from}
+use Rattle.cedar_evaluator_model.specs.Reauthorize.{context_from}
 use Rattle.cedar_gate_model.specs.Reading.{required, optional, may_be, has_only, is_empty_object, is_empty_list, list_of}
 use Rattle.cedar_gate_model.specs.ReadingExpression as small_expression
 use Rattle.cedar_gate_model.specs.ReadingBundle as small
@@ -42,7 +42,7 @@ empty_left : (s : Scope) (n : ℕ) → evaluated s (suc n) (record_literal no_tr
 empty_left s n = refl
 
 empty_context : (x : Functions) → context_read x (object no_members) ≡ Some (closed no_made_fields)
-empty_context x = ap context_from (empty_left (restricted_scope (with_functions x)) 511)
+empty_context x = ap context_from (empty_left (with_functions x) 511)
 
 -- requests
 entry_same : ReadsAs uid small_expression.uid_read entry_read

@@ -10,7 +10,7 @@ use Rattle.cedar_expr_model.specs.Whole.Builder.{conjunction, disjunction, path_
 use Rattle.cedar_gate_model.specs.Reading.{given}
 use Rattle.cedar_gate_model.specs.Whole.ReadingForms.{word_of}
 use Rattle.cedar_gate_model.specs.Whole.ReadingName.{plain_name_read, uid_from, annotation_read}
-use Rattle.cedar_gate_model.specs.Whole.ReadingExpression.{Part, var_words, slot_words, pattern_read, trees_in, texts_in, of_one, of_two, of_three, of_tree_and, of_word, uid_form, unknown_form, call_form, has_form, record_form, forms, form_read, expression_read, parts_in, fields_read, fields_in}
+use Rattle.cedar_gate_model.specs.Whole.ReadingExpression.{Part, var_words, slot_words, pattern_read, trees_in, of_one, of_two, of_three, of_tree_and, of_word, uid_form, unknown_form, call_form, has_form, record_form, forms, form_read, expression_read, parts_in, fields_read, fields_in}
 use Rattle.cedar_gate_model.proofs.Whole.Reading.Steps.{given_some, map_some, AllBeside, beside_all, and_then_some}
 use Rattle.cedar_expr_model.specs.Whole.Lists.{all_given}
 use Rattle.std.specs.Map.{lookup}
@@ -137,7 +137,7 @@ module _ (P : Tree → Type 0) (kept : Kept P) where
   has_reads : (xs : List Part) → AreGood P xs → Reads P (has_form xs)
   has_reads [] g = λ t e. cc
   has_reads (x ∷ []) g = λ t e. cc
-  has_reads (x ∷ y ∷ more) g = given_reads x.tree _ (λ t e. given_reads (as_str y.json) _ (λ a f. map_reads (path_test t a) (texts_in more) (λ bs q. kept.of_path t a bs (g.0.0 t e))))
+  has_reads (x ∷ y ∷ more) g = given_reads x.tree _ (λ t e. given_reads (as_str y.json) _ (λ a f. map_reads (path_test t a) (all_given (λ z. as_str z.json) more) (λ bs q. kept.of_path t a bs (g.0.0 t e))))
 
   set_reads : (xs : List Part) → AreGood P xs → Reads P (option_map set_literal (trees_in xs))
   set_reads xs g = map_reads set_literal (trees_in xs) (λ ts q. kept.of_set ts (trees_good xs g ts q))
