@@ -16,7 +16,8 @@ use Rattle.cedar_expr_model.proofs.Lists.{both_hold}
 use Rattle.cedar_expr_model.proofs.UidRead.{uid_read, uids_are_read}
 use Rattle.cedar_expr_model.proofs.UidText.{inside, uid_text_is}
 use Rattle.cedar_store_model.specs.Whole.World.{World, Entity, Found, held, missing, not_loaded, by_found}
-use Rattle.cedar_store_model.specs.Whole.Knowledge.{Keeps, IsWhole, IsSettled, is_known, holds_values}
+use Rattle.cedar_store_model.specs.Whole.Knowledge.{IsWhole, IsSettled, is_known, holds_values}
+use Rattle.cedar_store_model.specs.Whole.OfLaws.Extends.{Keeps}
 use Rattle.cedar_evaluator_model.specs.Scope.{Scope, Entry, uid, unknown_uid, Context, closed, residual_fields, unknown_context}
 use Rattle.cedar_evaluator_model.specs.Known.{known_part, known_parts, known_entity, known_found}
 use Rattle.cedar_evaluator_model.specs.OfLaws.Whole.{HoldsValues}

@@ -7,8 +7,7 @@ use Rattle.cedar_expr_model.specs.Whole.Value.{V}
 use Rattle.cedar_expr_model.specs.Whole.Made.{Made}
 use Rattle.cedar_expr_model.specs.Whole.ValueParts.{Part, known, left}
 use Rattle.cedar_store_model.specs.Whole.World.{World, Found, held, missing, not_loaded}
-use Rattle.cedar_store_model.specs.Whole.Knowledge.{Keeps}
-use Rattle.cedar_store_model.specs.Whole.OfLaws.Extends.{KeepsPart, KeepsParts, KeepsFound, Extends}
+use Rattle.cedar_store_model.specs.Whole.OfLaws.Extends.{Keeps, KeepsPart, KeepsParts, KeepsFound, Extends}
 use Rattle.cedar_evaluator_model.specs.Scope.{Scope, Entry, uid, unknown_uid, Context, closed, residual_fields, unknown_context}
 use Rattle.cedar_evaluator_model.specs.Known.{known_entry, known_context, known_part, known_parts, known_found, known_world}
 use Rattle.cedar_evaluator_model.specs.OfLaws.Completing.{EntryMeans, ContextMeans, PartMeans, PartsMean, FoundMeans, Completes}

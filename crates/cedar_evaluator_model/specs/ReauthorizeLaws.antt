@@ -6,7 +6,7 @@ use Rattle.cedar_expr_model.specs.Whole.Made.{bare}
 use Rattle.cedar_expr_model.specs.Whole.ListLaws.{AreDistinct}
 use Rattle.cedar_expr_model.specs.Whole.Substitution.{Bindings}
 use Rattle.cedar_store_model.specs.Whole.World.{World}
-use Rattle.cedar_store_model.specs.Whole.Knowledge.{Keeps}
+use Rattle.cedar_store_model.specs.Whole.OfLaws.Extends.{Keeps}
 use Rattle.cedar_store_model.specs.Whole.Policy.{Policy}
 use Rattle.cedar_store_model.specs.Whole.Answer.{Decision, ids, decision_of}
 use Rattle.cedar_evaluator_model.specs.Scope.{Scope}

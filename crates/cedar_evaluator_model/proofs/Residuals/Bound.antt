@@ -10,7 +10,7 @@ use Rattle.cedar_expr_model.specs.Whole.Substitution.{Bindings, substituted}
 use Rattle.cedar_store_model.specs.Whole.Outcome.{val}
 use Rattle.cedar_store_model.specs.Whole.World.{World}
 use Rattle.cedar_store_model.specs.Whole.Meaning.{outcome_of}
-use Rattle.cedar_store_model.specs.Whole.Knowledge.{Keeps}
+use Rattle.cedar_store_model.specs.Whole.OfLaws.Extends.{Keeps}
 use Rattle.cedar_store_model.proofs.Whole.Meaning.{means_outcome, outcome_means}
 use Rattle.cedar_evaluator_model.specs.Scope.{Scope, Entry, uid, unknown_uid, Context, closed, residual_fields, unknown_context, Left, value_left, residual, stopped}
 use Rattle.cedar_evaluator_model.specs.OfLaws.Calls.{Agrees}

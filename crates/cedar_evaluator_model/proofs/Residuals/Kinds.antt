@@ -14,7 +14,7 @@ use Rattle.cedar_store_model.specs.Whole.World.{World}
 use Rattle.cedar_store_model.specs.Whole.Operators.{says, of_type}
 use Rattle.cedar_store_model.proofs.Whole.Named.{bound_value}
 use Rattle.cedar_store_model.specs.Whole.Meaning.{combined, outcome_of}
-use Rattle.cedar_store_model.specs.Whole.Knowledge.{Keeps}
+use Rattle.cedar_store_model.specs.Whole.OfLaws.Extends.{Keeps}
 use Rattle.cedar_evaluator_model.specs.Scope.{residual}
 use Rattle.cedar_evaluator_model.specs.Steps.{truth_left, kind_of_value, kind_of_unknown, differ, with_residual, is_of_residual}
 use Rattle.cedar_evaluator_model.specs.Completion.{Fits}

@@ -22,7 +22,7 @@ use Rattle.cedar_store_model.specs.Whole.World.{World}
 use Rattle.cedar_store_model.specs.Whole.Operators.{answered, called}
 use Rattle.cedar_store_model.proofs.Whole.Named.{bound_value, called_of}
 use Rattle.cedar_store_model.specs.Whole.Meaning.{outcome_of}
-use Rattle.cedar_store_model.specs.Whole.Knowledge.{Keeps}
+use Rattle.cedar_store_model.specs.Whole.OfLaws.Extends.{Keeps}
 use Rattle.cedar_evaluator_model.specs.Scope.{Scope, MadeCalled, makes, faults, leaves_unknown, fault, limit, Left, value_left, residual, stopped}
 use Rattle.cedar_evaluator_model.specs.OfLaws.Calls.{bare_called, Agrees}
 use Rattle.cedar_evaluator_model.specs.Steps.{errs, answer_left, call_left, called_left, made_inserted, made_members, Pieces, pieces, halted, with_piece, from_pieces}

@@ -16,7 +16,8 @@ use Rattle.cedar_store_model.specs.Whole.Operators.{says, applied, like_pattern,
 use Rattle.cedar_store_model.proofs.Whole.Named.{bound_value, known_uid}
 use Rattle.cedar_store_model.specs.Whole.Reads.{attribute_read, attribute_tested}
 use Rattle.cedar_store_model.specs.Whole.Meaning.{Means, variable, combined, slot_value, outcome_of, outcomes_of, field_outcomes_of, path_tested}
-use Rattle.cedar_store_model.specs.Whole.Knowledge.{Keeps, IsWhole}
+use Rattle.cedar_store_model.specs.Whole.Knowledge.{IsWhole}
+use Rattle.cedar_store_model.specs.Whole.OfLaws.Extends.{Keeps}
 use Rattle.cedar_store_model.proofs.Whole.Built.{conjunction_outcome, disjunction_outcome}
 use Rattle.cedar_store_model.proofs.Whole.Known.{there}
 use Rattle.cedar_store_model.proofs.Whole.Meaning.{means_outcome, outcome_means}

@@ -23,7 +23,7 @@ use Rattle.cedar_store_model.specs.Whole.Operators.{says, ordered}
 use Rattle.cedar_store_model.proofs.Whole.Named.{bound_value, attributes_of, tags_of, tag_read, tag_tested}
 use Rattle.cedar_store_model.specs.Whole.Reads.{part_value, part_read, part_tested, attribute_read, attribute_tested, uids_in, is_in_some, found_in, within}
 use Rattle.cedar_store_model.specs.Whole.Meaning.{combined, outcome_of, path_tested, picked}
-use Rattle.cedar_store_model.specs.Whole.Knowledge.{Keeps}
+use Rattle.cedar_store_model.specs.Whole.OfLaws.Extends.{Keeps}
 use Rattle.cedar_store_model.proofs.Whole.Meaning.{means_outcome}
 use Rattle.cedar_store_model.specs.Whole.Store.{stand_in}
 use Rattle.cedar_evaluator_model.specs.Scope.{Scope, Left, value_left, residual}

@@ -15,7 +15,7 @@ use Rattle.cedar_store_model.specs.Whole.Outcome.{Res, val, err, bind}
 use Rattle.cedar_store_model.specs.Whole.World.{World}
 use Rattle.cedar_store_model.proofs.Whole.Named.{bound_value}
 use Rattle.cedar_store_model.specs.Whole.Meaning.{Means, slot_value, outcome_of}
-use Rattle.cedar_store_model.specs.Whole.Knowledge.{Keeps}
+use Rattle.cedar_store_model.specs.Whole.OfLaws.Extends.{Keeps}
 use Rattle.cedar_store_model.specs.Whole.Policy.{SlotBindings, binding_of, no_bindings}
 use Rattle.cedar_store_model.specs.Whole.Answer.{with_slots}
 use Rattle.cedar_store_model.proofs.Whole.Built.{same_built}

@@ -10,7 +10,7 @@ use Rattle.cedar_expr_model.specs.Whole.Made.{Made, made_prim, bare, written}
 use Rattle.cedar_store_model.specs.Whole.Outcome.{Fault, Res, val, err, wrong_type, bind}
 use Rattle.cedar_store_model.specs.Whole.World.{World}
 use Rattle.cedar_store_model.specs.Whole.Meaning.{picked, truth_asked, outcome_of}
-use Rattle.cedar_store_model.specs.Whole.Knowledge.{Keeps}
+use Rattle.cedar_store_model.specs.Whole.OfLaws.Extends.{Keeps}
 use Rattle.cedar_store_model.proofs.Whole.Built.{conjunction_outcome, disjunction_outcome}
 use Rattle.cedar_store_model.proofs.Whole.Meaning.{means_outcome}
 use Rattle.cedar_evaluator_model.specs.Scope.{fault, limit, Left, value_left, residual, stopped}

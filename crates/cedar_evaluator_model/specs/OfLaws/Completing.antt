@@ -8,7 +8,8 @@ use Rattle.cedar_expr_model.specs.Whole.Tree.{SlotId, record_literal}
 use Rattle.cedar_expr_model.specs.Whole.Made.{Made, bare, bare_fields}
 use Rattle.cedar_expr_model.specs.Whole.ValueParts.{Part, known, left}
 use Rattle.cedar_store_model.specs.Whole.World.{World, Entity, Found, held, missing, not_loaded}
-use Rattle.cedar_store_model.specs.Whole.Knowledge.{IsWhole, Keeps}
+use Rattle.cedar_store_model.specs.Whole.Knowledge.{IsWhole}
+use Rattle.cedar_store_model.specs.Whole.OfLaws.Extends.{Keeps}
 use Rattle.cedar_evaluator_model.specs.Scope.{Scope, Entry, uid, unknown_uid, Context, closed, residual_fields, unknown_context}
 use Rattle.std.specs.Map.{lookup}
 use Rattle.std.specs.Str.{bytes_eq}

@@ -11,7 +11,8 @@ use Rattle.cedar_expr_model.specs.Whole.Table.{all_typed}
 use Rattle.cedar_expr_model.specs.Whole.OfLaws.Fair.{IsFair, IsTaken}
 use Rattle.cedar_expr_model.specs.Whole.Value.{V, truth_value}
 use Rattle.cedar_store_model.specs.Whole.World.{World, Entity, Found, missing}
-use Rattle.cedar_store_model.specs.Whole.Knowledge.{Keeps, holds_values}
+use Rattle.cedar_store_model.specs.Whole.Knowledge.{holds_values}
+use Rattle.cedar_store_model.specs.Whole.OfLaws.Extends.{Keeps}
 use Rattle.cedar_store_model.specs.Whole.Answer.{Decision, Answer, PolicyError, answer_of}
 use Rattle.cedar_schema_model.specs.Whole.Schema.{declares_action}
 use Rattle.cedar_schema_model.specs.Whole.Conforming.{RequestConforms}

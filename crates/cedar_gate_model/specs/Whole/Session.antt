@@ -15,7 +15,6 @@ use Rattle.cedar_expr_model.specs.Whole.Parts.{Unknown, unknowns}
 use Rattle.cedar_expr_model.specs.Whole.Repeats as repeats
 use Rattle.cedar_store_model.specs.Whole.World.{World, Entity, Found, held}
 use Rattle.cedar_store_model.specs.Whole.Policy.{Policy}
-use Rattle.cedar_store_model.specs.Whole.Answer.{Decision, decision_of}
 use Rattle.cedar_store_model.specs.Whole.Store.{found_as, if_uid, unloaded, whole}
 use Rattle.cedar_schema_model.specs.Whole.Schema.{Schema, declares_action}
 use Rattle.cedar_schema_model.specs.Whole.ActionEntities.{as_entity}

@@ -14,8 +14,7 @@ use Rattle.cedar_store_model.specs.Whole.World.{World, Entity, Found, held, miss
 use Rattle.cedar_store_model.specs.Whole.Operators.{says, answered, called}
 use Rattle.cedar_store_model.specs.Whole.Reads.{part_value, part_read, part_tested, attribute_read, attribute_tested, found_in, within, uids_in, is_in_some}
 use Rattle.cedar_store_model.specs.Whole.Meaning.{Means, variable, slot_value, combined, picked, truth_asked, outcome_of, outcomes_of, field_outcomes_of, path_tested}
-use Rattle.cedar_store_model.specs.Whole.Knowledge.{Keeps}
-use Rattle.cedar_store_model.specs.Whole.OfLaws.Extends.{KeepsPart, KeepsParts, KeepsEntity, KeepsFound, Extends}
+use Rattle.cedar_store_model.specs.Whole.OfLaws.Extends.{Keeps, KeepsPart, KeepsParts, KeepsEntity, KeepsFound, Extends}
 use Rattle.cedar_store_model.proofs.Whole.Meaning.{means_outcome, outcome_means}
 use Rattle.cedar_store_model.proofs.Whole.Named.{called_of, attributes_of, tags_of, tag_read, tag_tested, bound_value, known_uid}
 

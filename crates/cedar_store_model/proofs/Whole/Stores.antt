@@ -15,8 +15,8 @@ use Rattle.cedar_expr_model.proofs.Lists.{both_hold, contains_head, contains_tai
 use Rattle.cedar_expr_model.specs.Whole.ValueParts.{Part, known, left}
 use Rattle.cedar_store_model.specs.Whole.World.{World, Request, Entity, Found, missing}
 use Rattle.cedar_store_model.specs.Whole.Looks.{Looks}
-use Rattle.cedar_store_model.specs.Whole.Knowledge.{holds_values, Keeps, IsSettled, IsWhole}
-use Rattle.cedar_store_model.specs.Whole.OfLaws.Extends.{KeepsPart, KeepsEntity, KeepsFound, Extends}
+use Rattle.cedar_store_model.specs.Whole.Knowledge.{holds_values, IsSettled, IsWhole}
+use Rattle.cedar_store_model.specs.Whole.OfLaws.Extends.{Keeps, KeepsPart, KeepsEntity, KeepsFound, Extends}
 use Rattle.cedar_store_model.specs.Whole.Policy.{Policy, condition}
 use Rattle.cedar_store_model.specs.Whole.Answer.{with_slots, policy_outcome, is_true, permits, ids, decided, determining, error_of, answer_of, PolicyError}
 use Rattle.cedar_store_model.specs.Whole.Store.{Entities, whole, partial, found_as, are_distinct, OpenRequest, as_open, world_of}

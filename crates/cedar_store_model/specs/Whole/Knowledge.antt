@@ -1,6 +1,6 @@
--- Worlds in which everything is known, and worlds that know more than another.
+-- Worlds in which everything is known.
 -- Rule: what is known (docs/RULES.md).
-use Rattle.std.specs.Prelude.{◌≡◌, ◌&&◌, Bool, true, Option, Some, IsSome, IfSome, is_some}
+use Rattle.std.specs.Prelude.{◌≡◌, ◌&&◌, Bool, true, IsSome, is_some}
 use Rattle.std.specs.List.{list_all}
 use Rattle.cedar_expr_model.specs.Name.{Text}
 use Rattle.cedar_expr_model.specs.Uid.{Uid}
@@ -30,7 +30,3 @@ pub record IsWhole (w : World) : Type 0 where
   pub context : IsSome w.context
   pub unknowns : (n : Text) → IsSome (w.unknowns n)
   pub store : (u : Uid) → IsSettled (w.store u)
-
--- what is there in the first is the same in the second
-abbrev pub Keeps : {A : Type 0} → Option A → Option A → Type 0
-Keeps a b = IfSome a (λ x. b ≡ Some x)

@@ -9,8 +9,8 @@ use Rattle.cedar_expr_model.specs.Uid.{Uid, uid_eq}
 use Rattle.cedar_expr_model.specs.Whole.Value.{V}
 use Rattle.cedar_expr_model.specs.Whole.Table.{Table}
 use Rattle.cedar_store_model.specs.Whole.World.{World, Request, Entity, held}
-use Rattle.cedar_store_model.specs.Whole.Knowledge.{holds_values, Keeps, IsWhole}
-use Rattle.cedar_store_model.specs.Whole.OfLaws.Extends.{Extends}
+use Rattle.cedar_store_model.specs.Whole.Knowledge.{holds_values, IsWhole}
+use Rattle.cedar_store_model.specs.Whole.OfLaws.Extends.{Keeps, Extends}
 use Rattle.cedar_store_model.specs.Whole.Store.{Entities, whole, partial, are_distinct, OpenRequest, as_open, world_of}
 use Rattle.cedar_store_model.specs.Whole.Policy.{Policy, Target, named, own_slot, Scope, any, exactly, inside, of_kind, of_kind_inside, ActionScope, any_action, exactly_action, inside_actions, body_tree}
 use Rattle.cedar_store_model.specs.Whole.Answer.{with_slots, IsSatisfied}

@@ -11,8 +11,7 @@ use Rattle.cedar_expr_model.specs.Whole.Value.{V}
 use Rattle.cedar_expr_model.proofs.Lists.{contains_head, contains_tail, contains_cases, contains_none, filter_has, filter_only, map_has, flat_has, flat_from}
 use Rattle.cedar_expr_model.specs.Whole.ValueParts.{Part, known, left}
 use Rattle.cedar_store_model.specs.Whole.World.{World, Entity, Found, held, missing, not_loaded}
-use Rattle.cedar_store_model.specs.Whole.Knowledge.{Keeps}
-use Rattle.cedar_store_model.specs.Whole.OfLaws.Extends.{KeepsPart, KeepsParts, KeepsFound, Extends}
+use Rattle.cedar_store_model.specs.Whole.OfLaws.Extends.{Keeps, KeepsPart, KeepsParts, KeepsFound, Extends}
 use Rattle.cedar_schema_model.specs.Whole.Schema.{Schema, declares_action}
 use Rattle.cedar_schema_model.specs.Whole.BagLaws.{HasTwice}
 use Rattle.cedar_gate_model.specs.Whole.Slice.{IsNear, InSlice, mentioned_by_parts, mentioned_by_found, roots, near, slice}

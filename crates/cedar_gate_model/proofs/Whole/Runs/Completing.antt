@@ -21,7 +21,8 @@ use Rattle.cedar_expr_model.proofs.Equality.{name_eq-Decides}
 use Rattle.cedar_expr_model.proofs.Whole.CoreTypes.{fits-Decides}
 use Rattle.cedar_store_model.specs.Whole.Outcome.{val}
 use Rattle.cedar_store_model.specs.Whole.World.{Entity, Found, held, missing}
-use Rattle.cedar_store_model.specs.Whole.Knowledge.{Keeps, IsSettled, holds_values}
+use Rattle.cedar_store_model.specs.Whole.Knowledge.{IsSettled, holds_values}
+use Rattle.cedar_store_model.specs.Whole.OfLaws.Extends.{Keeps}
 use Rattle.cedar_store_model.specs.Whole.Store.{found_as, if_uid, whole}
 use Rattle.cedar_store_model.specs.Whole.Reads.{uid_of}
 use Rattle.cedar_store_model.specs.Whole.Policy.{Policy}

@@ -14,7 +14,7 @@ use Rattle.cedar_expr_model.specs.Whole.Parts.{subexpressions, subexpressions_am
 use Rattle.cedar_expr_model.specs.Whole.Restricted.{is_restricted, offence, feature_here}
 use Rattle.cedar_expr_model.specs.Whole.Substitution.{Bindings, substituted}
 use Rattle.cedar_expr_model.specs.Whole.Unknowns.{has_unknown, EachUnknown}
-use Rattle.cedar_store_model.specs.Whole.Knowledge.{Keeps}
+use Rattle.cedar_store_model.specs.Whole.OfLaws.Extends.{Keeps}
 use Rattle.cedar_evaluator_model.specs.Known.{known_entry, known_context}
 use Rattle.cedar_evaluator_model.specs.Reauthorize.{context_from}
 use Rattle.cedar_evaluator_model.specs.Scope.{Entry, uid, unknown_uid, Context, closed, residual_fields, unknown_context, Left, value_left, residual, stopped}

@@ -14,12 +14,11 @@ use Rattle.cedar_expr_model.specs.Whole.Value.{V, prim, entity, record_of}
 use Rattle.cedar_expr_model.specs.Whole.Tree.{record_literal, TreeFields}
 use Rattle.cedar_expr_model.specs.Whole.Made.{Made, made_prim, made_set, made_record, made_extension, bare, bare_fields}
 use Rattle.cedar_store_model.specs.Whole.World.{World, Found}
-use Rattle.cedar_store_model.specs.Whole.Knowledge.{Keeps}
+use Rattle.cedar_store_model.specs.Whole.OfLaws.Extends.{Keeps}
 use Rattle.cedar_store_model.specs.Whole.Reads.{uid_of}
 use Rattle.cedar_schema_model.specs.Whole.Schema.{declares_action}
 use Rattle.cedar_schema_model.specs.Whole.ActionEntities.{as_entity}
 use Rattle.cedar_evaluator_model.specs.OfLaws.Completable.{is_free_name, EntryAgrees, ContextAgrees, Agree}
-use Rattle.cedar_evaluator_model.specs.Completion.{PartIs}
 use Rattle.cedar_evaluator_model.specs.OfLaws.Completing as evaluator
 use Rattle.cedar_evaluator_model.specs.Known.{known_found}
 use Rattle.cedar_evaluator_model.specs.Scope.{Scope, Entry, uid, unknown_uid, Context, closed, residual_fields, unknown_context, Left, value_left, residual, stopped}

@@ -19,7 +19,7 @@ use Rattle.cedar_expr_model.proofs.Lists.{contains_head, contains_tail, all_each
 use Rattle.cedar_expr_model.proofs.Whole.Substituting.{bound_leaves_none}
 use Rattle.cedar_store_model.specs.Whole.Outcome.{val}
 use Rattle.cedar_store_model.specs.Whole.World.{World}
-use Rattle.cedar_store_model.specs.Whole.Knowledge.{Keeps}
+use Rattle.cedar_store_model.specs.Whole.OfLaws.Extends.{Keeps}
 use Rattle.cedar_store_model.specs.Whole.Meaning.{outcome_of}
 use Rattle.cedar_store_model.specs.Whole.Policy.{Policy}
 use Rattle.cedar_store_model.proofs.Whole.Known.{what_is_there}

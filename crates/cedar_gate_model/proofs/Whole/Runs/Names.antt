@@ -20,7 +20,8 @@ use Rattle.cedar_store_model.specs.Whole.Outcome.{Res, val, bind}
 use Rattle.cedar_store_model.specs.Whole.World.{World, Found}
 use Rattle.cedar_store_model.specs.Whole.Operators.{called}
 use Rattle.cedar_store_model.specs.Whole.Meaning.{outcome_of, outcomes_of, field_outcomes_of}
-use Rattle.cedar_store_model.specs.Whole.Knowledge.{Keeps, IsWhole}
+use Rattle.cedar_store_model.specs.Whole.Knowledge.{IsWhole}
+use Rattle.cedar_store_model.specs.Whole.OfLaws.Extends.{Keeps}
 use Rattle.cedar_store_model.specs.Whole.Reads.{uid_of}
 use Rattle.cedar_store_model.proofs.Whole.Meaning.{means_outcome}
 use Rattle.cedar_evaluator_model.specs.OfLaws.Completable.{has_quote, names_variable, is_free_name}

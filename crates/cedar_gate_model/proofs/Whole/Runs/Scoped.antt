@@ -30,7 +30,7 @@ use Rattle.cedar_store_model.proofs.Whole.Stores.{same_answers}
 use Rattle.cedar_schema_model.specs.Whole.Schema.{declares_action}
 use Rattle.cedar_schema_model.specs.Whole.ActionEntities.{as_entity}
 use Rattle.cedar_evaluator_model.specs.OfLaws.Completable.{is_free_name}
-use Rattle.cedar_evaluator_model.specs.Completion.{Fits, IsOfKind, PartIs, FitsAnnotations}
+use Rattle.cedar_evaluator_model.specs.Completion.{Fits, PartIs, FitsAnnotations}
 use Rattle.cedar_evaluator_model.specs.OfLaws.Completing.{EntryMeans, ContextMeans, FoundMeans}
 use Rattle.cedar_evaluator_model.specs.OfLaws.Completing as evaluator
 use Rattle.cedar_evaluator_model.specs.Known.{known_entity, known_found, known_context}

@@ -1,6 +1,6 @@
 -- Worlds that know more than another.
 -- Rule: what is known (docs/RULES.md).
-use Rattle.std.specs.Prelude.{◌≡◌, List, Option, Some, None, IsSome}
+use Rattle.std.specs.Prelude.{◌≡◌, List, Option, Some, None, IsSome, IfSome}
 use Rattle.std.specs.Map.{lookup}
 use Rattle.std.specs.Str.{bytes_eq}
 use Rattle.cedar_expr_model.specs.Name.{Text}
@@ -9,7 +9,10 @@ use Rattle.cedar_expr_model.specs.Whole.Value.{V}
 use Rattle.cedar_expr_model.specs.Whole.Tree.{SlotId}
 use Rattle.cedar_expr_model.specs.Whole.ValueParts.{Part, known, left}
 use Rattle.cedar_store_model.specs.Whole.World.{World, Entity, Found, held, missing, not_loaded}
-use Rattle.cedar_store_model.specs.Whole.Knowledge.{Keeps}
+
+-- what is there in the first is the same in the second
+abbrev pub Keeps : {A : Type 0} → Option A → Option A → Type 0
+Keeps a b = IfSome a (λ x. b ≡ Some x)
 
 -- a part that is a value is the same value, one that isn't yet may be any part, and one that isn't there stays away
 abbrev pub KeepsPart : Option (Part V) → Option (Part V) → Type 0
