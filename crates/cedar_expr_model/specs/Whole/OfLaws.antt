@@ -1,4 +1,4 @@
--- What laws alone speak of: no rule needs it.
+-- What laws alone speak of: no definition of a rule and no code names it.
 pub mod Built
 pub mod Fair
 pub mod Represented

@@ -1,2 +1,2 @@
--- What laws alone speak of: no rule needs it.
+-- What laws alone speak of: no definition of a rule and no code names it.
 pub mod Simple
