@@ -3,6 +3,7 @@
 
 pub mod constructors;
 pub mod contents;
+mod copies;
 pub mod err;
 pub mod expr;
 pub mod expr_iterator;

@@ -94,6 +94,17 @@ fn is_of_one_and_two(e: &Expr, want: BinaryOp) -> bool {
 }
 
 #[test]
+fn operators_by_name(rt: HostRuntime) -> Result<(), Fail> {
+    let alloc = rt.alloc();
+    let difference = Expr::binary_app(alloc, BinaryOp::Sub, long(1), long(2))?;
+    assert!(rt; difference == Expr::sub(alloc, long(1), long(2))?);
+    let inside = Expr::binary_app(alloc, BinaryOp::In, long(1), long(2))?;
+    assert!(rt; inside == Expr::is_in(alloc, long(1), long(2))?);
+    assert!(rt; inside != difference);
+    Ok(())
+}
+
+#[test]
 fn operators_of_two_operands(rt: HostRuntime) -> Result<(), Fail> {
     let alloc = rt.alloc();
     let (one, two) = (long(1), long(2));
@@ -116,10 +127,6 @@ fn operators_of_two_operands(rt: HostRuntime) -> Result<(), Fail> {
     for (e, (op, text)) in made.iter().zip(ops) {
         assert!(rt; is_of_one_and_two(e, op), "{text}");
         assert_eq!(rt; op.to_string(alloc)?.as_str(), text);
-        assert!(rt;
-            Expr::binary_app(alloc, op, long(1), long(2))? == *e,
-            "{text}"
-        );
     }
     Ok(())
 }
@@ -246,7 +253,7 @@ fn parts_of_an_expression(rt: HostRuntime) -> Result<(), Fail> {
     assert_eq!(rt; copy.into_data(), 9);
     let moved = e.clone()?.with_maybe_source_loc(None);
     assert!(rt; moved.source_loc().is_none());
-    assert!(rt; matches!(moved.into_expr_kind(), ExprKind::Lit(l) if l == Literal::from(5)));
+    assert!(rt; moved.into_expr_kind() == ExprKind::Lit(Literal::from(5)));
     let (kind, place, data) = e.into_parts();
     assert!(rt; kind.clone()? == ExprKind::Lit(Literal::from(5)));
     assert!(rt; place == here);
