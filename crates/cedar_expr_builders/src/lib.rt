@@ -8,3 +8,6 @@ pub mod laws;
 
 pub use err::BuildFault;
 pub use expr::ExprBuilder;
+
+#[cfg(test)]
+mod tests;

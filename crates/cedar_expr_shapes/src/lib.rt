@@ -9,3 +9,6 @@ mod ranks;
 pub mod shape;
 
 pub use shape::{ExprShape, ExprShapeOnly};
+
+#[cfg(test)]
+mod tests;

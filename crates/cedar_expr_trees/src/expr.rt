@@ -2,6 +2,7 @@
 
 ghost use Rattle.std.specs.Prelude.{◌≡◌};
 
+use crate::copies::{and_of, attribute_of, binary_of, choice_of, is_of, like_of, or_of, test_of};
 use crate::non_empty::NonEmpty;
 use crate::ops::{BinaryOp, UnaryOp};
 use cedar_expr_leaves::{Pattern, SlotId, Var};
@@ -294,54 +295,28 @@ impl<T: Drop> Clone for ExprKind<T> {
                 test_expr,
                 then_expr,
                 else_expr,
-            } => Ok(ExprKind::If {
-                test_expr: test_expr.clone()?,
-                then_expr: then_expr.clone()?,
-                else_expr: else_expr.clone()?,
-            }),
-            ExprKind::And { left, right } => Ok(ExprKind::And {
-                left: left.clone()?,
-                right: right.clone()?,
-            }),
-            ExprKind::Or { left, right } => Ok(ExprKind::Or {
-                left: left.clone()?,
-                right: right.clone()?,
-            }),
+            } => choice_of(test_expr, then_expr, else_expr),
+            ExprKind::And { left, right } => and_of(left, right),
+            ExprKind::Or { left, right } => or_of(left, right),
             ExprKind::UnaryApp { op, arg } => Ok(ExprKind::UnaryApp {
                 op: *op,
                 arg: arg.clone()?,
             }),
-            ExprKind::BinaryApp { op, arg1, arg2 } => Ok(ExprKind::BinaryApp {
-                op: *op,
-                arg1: arg1.clone()?,
-                arg2: arg2.clone()?,
-            }),
+            ExprKind::BinaryApp { op, arg1, arg2 } => binary_of(*op, arg1, arg2),
             ExprKind::ExtensionFunctionApp { fn_name, args } => {
                 Ok(ExprKind::ExtensionFunctionApp {
                     fn_name: fn_name.clone()?,
                     args: args.clone()?,
                 })
             }
-            ExprKind::GetAttr { expr, attr } => Ok(ExprKind::GetAttr {
-                expr: expr.clone()?,
-                attr: attr.clone()?,
-            }),
-            ExprKind::HasAttr { expr, attr } => Ok(ExprKind::HasAttr {
-                expr: expr.clone()?,
-                attr: attr.clone()?,
-            }),
+            ExprKind::GetAttr { expr, attr } => attribute_of(expr, attr),
+            ExprKind::HasAttr { expr, attr } => test_of(expr, attr),
             ExprKind::ExtHasAttr { expr, attrs } => Ok(ExprKind::ExtHasAttr {
                 expr: expr.clone()?,
                 attrs: attrs.clone()?,
             }),
-            ExprKind::Like { expr, pattern } => Ok(ExprKind::Like {
-                expr: expr.clone()?,
-                pattern: pattern.clone()?,
-            }),
-            ExprKind::Is { expr, entity_type } => Ok(ExprKind::Is {
-                expr: expr.clone()?,
-                entity_type: entity_type.clone()?,
-            }),
+            ExprKind::Like { expr, pattern } => like_of(expr, pattern),
+            ExprKind::Is { expr, entity_type } => is_of(expr, entity_type),
             ExprKind::Set(members) => Ok(ExprKind::Set(members.clone()?)),
             ExprKind::Record(fields) => Ok(ExprKind::Record(fields.clone()?)),
         }

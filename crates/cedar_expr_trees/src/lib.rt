@@ -3,6 +3,7 @@
 
 pub mod constructors;
 pub mod contents;
+mod copies;
 pub mod err;
 pub mod expr;
 pub mod expr_iterator;
@@ -20,3 +21,6 @@ pub use expr::{Expr, ExprKind, Unknown};
 pub use expr_iterator::{ExprIterator, Slots, Unknowns};
 pub use non_empty::NonEmpty;
 pub use ops::{BinaryOp, UnaryOp};
+
+#[cfg(test)]
+mod tests;

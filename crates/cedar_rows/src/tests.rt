@@ -1,6 +1,6 @@
 //! Bundles and what is printed for them; writers, readers and hosts that fail; calls that succeed.
 
-use cedar_expr::{EntityUID, ExprKind, ExtTable, Literal, Var};
+use cedar_expr::{EntityUID, Expr, ExprKind, ExtTable, Literal, Var};
 use cedar_gate::{Host, HostFault, OpenSession, ServeFault, Status, run, serve};
 use cedar_gate_accept::{Gate, ValidatorSchema};
 use cedar_gate_bundle::{Bundle, read_bundle, read_text};
@@ -8,7 +8,10 @@ use cedar_gate_types::json_schema::{
     ActionType, ApplySpec, Fragment, NamespaceDefinition, RecordType, Type, TypeOfAttribute,
     TypeVariant,
 };
-use cedar_gate_types::{ActionConstraint, Decision, Entity, PrincipalOrResourceConstraint, Step};
+use cedar_gate_types::{
+    ActionConstraint, Decision, Effect, Entity, Policy, PolicyID, PrincipalConstraint,
+    PrincipalOrResourceConstraint, ResourceConstraint, Step,
+};
 use serde_json::Value;
 use std::alloc::Global;
 use std::io;
@@ -331,6 +334,45 @@ fn fragments_of(alloc: Global, context: Option<Type>) -> Result<Vec<Fragment>, F
 fn takes_context(alloc: Global, context: Option<Type>) -> Result<bool, Fail> {
     let fragments = fragments_of(alloc, context)?;
     Ok(cedar_gate_accept::first_path(fragments.as_slice(), &[], 0))
+}
+
+// Whether a policy with this body lies in today's language.
+fn takes_body(alloc: Global, body: Expr) -> Result<bool, Fail> {
+    let any = PrincipalOrResourceConstraint::Any;
+    let policy = Policy::new(
+        PolicyID::from_string(alloc, "p")?,
+        Effect::Permit,
+        PrincipalConstraint { constraint: any },
+        ActionConstraint::Any,
+        ResourceConstraint {
+            constraint: PrincipalOrResourceConstraint::Any,
+        },
+        Some(body),
+    );
+    let fragments = fragments_of(alloc, None)?;
+    Ok(cedar_gate_accept::first_path(fragments.as_slice(), &[policy], 0))
+}
+
+#[test]
+fn bodies_of_the_whole_language_are_not_of_todays(rt: HostRuntime) -> Result<(), Fail> {
+    let alloc = rt.alloc();
+    let principal = Expr::var(Var::Principal);
+    let same = Expr::is_eq(alloc, principal.clone()?, Expr::var(Var::Resource))?;
+    let both = Expr::and(alloc, same.clone()?, Expr::not(alloc, same.clone()?)?)?;
+    assert!(rt; takes_body(alloc, both.clone()?)?);
+    let context = Expr::is_eq(alloc, Expr::var(Var::Context), principal.clone()?)?;
+    assert!(rt; !takes_body(alloc, context)?);
+    let either = Expr::or(alloc, same.clone()?, both.clone()?)?;
+    assert!(rt; !takes_body(alloc, Expr::and(alloc, both.clone()?, either)?)?);
+    let below = Expr::lesseq(
+        alloc,
+        Expr::val(Literal::Long(1)),
+        Expr::val(Literal::Long(2)),
+    )?;
+    assert!(rt; !takes_body(alloc, Expr::not(alloc, below)?)?);
+    let inside = Expr::is_in(alloc, principal, Expr::set(alloc, Vec::new(alloc))?)?;
+    assert!(rt; !takes_body(alloc, inside)?);
+    Ok(())
 }
 
 #[test]
