@@ -5,17 +5,13 @@ use Rattle.cedar_expr_model.specs.Whole.Tree.{Tree}
 use Rattle.cedar_expr_model.specs.Whole.Made.{Made, bare, written}
 use Rattle.cedar_expr_model.specs.Whole.TreeLaws.{is_plain}
 use Rattle.cedar_expr_model.specs.Whole.Canonical.{is_canonical}
-use Rattle.cedar_expr_model.specs.Whole.ValueParts.{value_of_tree, Part, known, part_tree, all_known, Split, values_alone, with_residuals, split}
+use Rattle.cedar_expr_model.specs.Whole.ValueParts.{value_of_tree, Part, part_tree, all_known, Split, values_alone, with_residuals, split}
 
 -- the value of what a canonical value is written as: that value, where no extension value stands in it, and else none
 abbrev pub ThereAndBack : Type 0
 ThereAndBack = (m : Made) → is_canonical (bare m) ≡ true → value_of_tree (written m) ≡ (if is_plain m then Some (bare m) else None)
 
--- a list is split into values exactly where it is the list of these values
-abbrev pub SplitIntoValues : Type 0
-SplitIntoValues = (ps : List (Part Made)) (ms : List Made) → (split ps ≡ values_alone ms) ↔ (ps ≡ map known ms)
-
--- it is split into expressions exactly where not all are values, and they are those of all its items
+-- a list is split into expressions exactly where not all are values, and they are those of all its items
 abbrev pub SplitIntoExpressions : Type 0
 SplitIntoExpressions = (ps : List (Part Made)) (ts : List Tree) → (split ps ≡ with_residuals ts) ↔ ((all_known ps ≡ None) × (ts ≡ map part_tree ps))
 

@@ -2,7 +2,8 @@
 -- Rule: values and equality; parts of an expression (docs/RULES.md).
 use Rattle.std.specs.Prelude.{◌≡◌, List, map, Option, Some, None, option_map}
 use Rattle.std.specs.Rc.{rc_str_bytes}
-use Rattle.std.specs.Vec.Iter.{IntoIter, into_iter_items}
+use Rattle.std.specs.Vec.Iter.{into_iter_items}
+use Rattle.std.specs.declared.vec.IntoIter.{IntoIter}
 use Rattle.std.specs.declared.alloc.Global.{Global}
 use Rattle.std.specs.declared.rc.RcStr.{RcStr}
 use Rattle.std.specs.declared.result.Result.{Result}
@@ -48,7 +49,7 @@ GivesValue seen p (Ok v) = part_of seen p ≡ known (made seen v)
 GivesValue seen p (Err (to_value.ContainsUnknown e)) = part_of seen p ≡ left (left_of e)
 
 -- a list split: its values, or its expressions
-abbrev pub split_of : {X : Type 0} → (X → Extension) → Either (IntoIter (Value X)) (IntoIter (Expr Unit)) → Split
+abbrev pub split_of : {X : Type 0} → (X → Extension) → Either (IntoIter (Value X) Global) (IntoIter (Expr Unit) Global) → Split
 split_of seen (Left vs) = values_alone (map (made seen) (into_iter_items vs))
 split_of seen (Right es) = with_residuals (map tree_of (into_iter_items es))
 

@@ -1,6 +1,6 @@
 //! Values that may still be expressions.
 
-ghost use Rattle.std.specs.Prelude.{◌≡◌, map, IfOk, None, is_some};
+ghost use Rattle.std.specs.Prelude.{◌≡◌, map, IfOk, None, is_some, option_map};
 ghost use Rattle.std.specs.List.{filter_map};
 ghost use Rattle.cedar_expr_model.specs.Whole.Tree.{unknown};
 ghost use Rattle.cedar_expr_model.specs.Whole.ValueParts.{left, known, known_value, part_tree, split};
@@ -48,6 +48,16 @@ impl<X: ExtensionValue> PartialValue<X> {
             PartialValue::Residual(e) => PartialValue::Residual(e.with_maybe_source_loc(
                 source_loc,
             )),
+        }
+    }
+
+    // The value, where this is one.
+    fn into_value(self) -> Option<Value<X>>
+        ensures { option_map (made X.seen) result ≡ known_value (part_of X.seen self) }
+    {
+        match self {
+            PartialValue::Value(v) => Some(v),
+            PartialValue::Residual(_) => None,
         }
     }
 
@@ -146,7 +156,7 @@ fn values_of<X: ExtensionValue>(
 {
     let mut values = Vec::with_capacity(alloc, items.len())?;
     for item in items {
-        if let PartialValue::Value(v) = item {
+        if let Some(v) = item.into_value() {
             values.push(v)?;
         }
     }

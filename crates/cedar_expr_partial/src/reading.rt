@@ -8,7 +8,7 @@ ghost use Rattle.cedar_expr_model.specs.Whole.ValueParts.{value_of_tree};
 ghost use Rattle.cedar_expr_trees.specs.Trees.{tree_of, place_of};
 ghost use Rattle.cedar_expr_values.specs.Values.{bare, bare_kind, bare_pair, all_canonical, values_of, place_of as value_place};
 ghost use Rattle.cedar_expr_partial.specs.Parts.{value_shown, field_shown, IsNoValue};
-ghost use Rattle.cedar_expr_partial.specs.declared.err.NotValue.TheVariants.{NotValue};
+ghost use Rattle.cedar_expr_partial.specs.declared.err.NotValue.TheVariants as fault;
 
 use crate::err::NotValue;
 use cedar_expr_trees::{Expr, ExprKind};
@@ -60,7 +60,7 @@ pub fn expr_kind<X: ExtensionValue, T>(
 
 // The refusal of an expression that is no value by itself.
 fn no_value<X, T>(expr: &Expr<T>) -> Result<ValueKind<X>, NotValue>
-    ensures { result ≡ Err (NotValue (place_of expr.now)) }
+    ensures { result ≡ Err (fault.NotValue (place_of expr.now)) }
 {
     Err(NotValue::NotValue {
         loc: expr.source_loc(),
