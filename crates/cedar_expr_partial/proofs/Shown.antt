@@ -1,5 +1,5 @@
 -- What expressions are as values, by their kinds, and what is gathered on the way.
-use Rattle.std.proofs.Common.{◌≡◌, ℕ, suc, ◌+◌, ◌<◌, ◌≤◌, true, List, [], ◌∷◌, ◌++◌, map, length, take, drop, get_or, Option, Some, None, Result, Ok, Err, IfErr, refl, sym, subst, ap, ◌∙◌, append_assoc, arith}
+use Rattle.std.proofs.Common.{◌≡◌, ℕ, suc, ◌+◌, ◌<◌, true, List, [], ◌∷◌, ◌++◌, map, length, take, drop, get_or, Option, Some, None, Result, Ok, Err, IfErr, refl, sym, subst, ap, ◌∙◌, append_assoc, arith}
 use Rattle.std.proofs.Math.Seq.{take-suc, split_at}
 use mathlib.Core.List.{append-nil}
 use Rattle.std.proofs.lemmas.List.{map-append}
@@ -11,10 +11,10 @@ use Rattle.std.specs.Rc.{rc_str_bytes}
 use Rattle.std.specs.declared.alloc.Global.{Global}
 use Rattle.std.specs.declared.rc.RcStr.{RcStr}
 use Rattle.cedar_expr_model.specs.Name.{Text}
-use Rattle.cedar_expr_model.specs.Whole.Value.{V, record_of, Fields, field}
+use Rattle.cedar_expr_model.specs.Whole.Value.{V, record_of, field}
 use Rattle.cedar_expr_model.specs.Whole.Lists.{all_given, rises}
 use Rattle.cedar_expr_model.specs.Whole.Order.{text_cmp}
-use Rattle.cedar_expr_model.specs.Whole.Records.{fields, in_order, names_rise, record_made}
+use Rattle.cedar_expr_model.specs.Whole.Records.{fields, names_rise, record_made}
 use Rattle.cedar_expr_model.specs.Whole.Canonical.{set_made, is_canonical}
 use Rattle.cedar_expr_model.proofs.Lists.{both_hold, hold_both}
 use Rattle.cedar_expr_values.specs.Extension.{Extension}
@@ -144,10 +144,10 @@ module _ {X T : Type 0} (seen : X → Extension) where
       ∙ ap Some (sym (map-append (bare seen) done (v ∷ [])))
       ∙ ap (λ vs. Some (map (bare seen) vs)) (sym m)
 
-  pub field_step : (all rest later : List (RcStr Global × Expr T)) (done more : List (RcStr Global × Value X)) (k n : RcStr Global) (e : Expr T) (v : Value X) → all_given field_shown all ≡ after field_shown (map (bare_pair seen) done) (all_given field_shown rest) → rest ≡ (k, e) ∷ later → more ≡ done ++ (n, v) ∷ [] → rc_str_bytes n ≡ rc_str_bytes k → value_shown e ≡ Some (bare seen v) → all_given field_shown all ≡ after field_shown (map (bare_pair seen) more) (all_given field_shown later)
+  pub field_step : (all rest later : List (RcStr Global × Expr T)) (done more : List (RcStr Global × Value X)) (k n : RcStr Global) (e : Expr T) (v : Value X) → all_given field_shown all ≡ after (field_shown {T = T}) (map (bare_pair seen) done) (all_given field_shown rest) → rest ≡ (k, e) ∷ later → more ≡ done ++ (n, v) ∷ [] → rc_str_bytes n ≡ rc_str_bytes k → value_shown e ≡ Some (bare seen v) → all_given field_shown all ≡ after (field_shown {T = T}) (map (bare_pair seen) more) (all_given field_shown later)
   field_step all rest later done more k n e v h r m a s =
       whole_on field_shown all rest later (map (bare_pair seen) done) (k, e) (rc_str_bytes n, bare seen v) h r (ap (option_map (λ w. (rc_str_bytes k, w))) s ∙ ap (λ b. Some (b, bare seen v)) (sym a))
-      ∙ ap (λ ps. after field_shown ps (all_given field_shown later)) (sym (map-append (bare_pair seen) done ((n, v) ∷ [])) ∙ ap (map (bare_pair seen)) (sym m))
+      ∙ ap (λ ps. after (field_shown {T = T}) ps (all_given field_shown later)) (sym (map-append (bare_pair seen) done ((n, v) ∷ [])) ∙ ap (map (bare_pair seen)) (sym m))
 
   pub names_step : (all rest later : List (RcStr Global × Expr T)) (done more : List (RcStr Global × Value X)) (k n : RcStr Global) (e : Expr T) (v : Value X) → map (λ p. p.0) (map (bare_pair seen) done) ++ map (λ d. rc_str_bytes d.0) rest ≡ map (λ d. rc_str_bytes d.0) all → rest ≡ (k, e) ∷ later → more ≡ done ++ (n, v) ∷ [] → rc_str_bytes n ≡ rc_str_bytes k → map (λ p. p.0) (map (bare_pair seen) more) ++ map (λ d. rc_str_bytes d.0) later ≡ map (λ d. rc_str_bytes d.0) all
   names_step all rest later done more k n e v h r m a =

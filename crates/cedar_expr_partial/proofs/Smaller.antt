@@ -1,5 +1,5 @@
 -- The members of a set are smaller than the set.
-use Rattle.std.proofs.Common.{◌≡◌, ◌<◌, ◌≤◌, List, [], ◌∷◌, ap, arith}
+use Rattle.std.proofs.Common.{◌≡◌, ◌<◌, ◌≤◌, List, ◌∷◌, ap, arith}
 use denote.Param.Weighed.{most}
 use Rattle.cedar_expr_values.specs.Values.{members_of}
 use Rattle.cedar_expr_values.specs.declared.value.Value.{Value, size-Value}

@@ -9,7 +9,7 @@ use Rattle.std.specs.declared.collections.BTreeMap.{BTreeMap}
 use Rattle.std.specs.declared.rc.Rc.{Rc}
 use Rattle.std.specs.declared.rc.RcStr.{RcStr}
 use Rattle.cedar_expr_model.specs.Name.{Text}
-use Rattle.cedar_expr_model.specs.Whole.Made.{Made, Mades, MadeFields, made_prim, made_set, made_record, written, writtens, written_fields}
+use Rattle.cedar_expr_model.specs.Whole.Made.{Made, Mades, written, writtens, written_fields}
 use Rattle.cedar_expr_model.specs.Whole.Tree.{Tree, lit, call, set_literal, record_literal, tree, tree_field}
 use Rattle.cedar_expr_model.specs.Whole.Builder.{trees, tree_fields}
 use Rattle.cedar_expr_model.specs.Whole.Lists.{rises}
@@ -18,7 +18,7 @@ use Rattle.cedar_expr_model.specs.Whole.Records.{in_order, names_rise}
 use Rattle.cedar_expr_model.proofs.Whole.Ordering.{in_order_stays}
 use Rattle.cedar_expr_names.specs.Literals.{literal_of}
 use Rattle.cedar_expr_names.specs.declared.literal.Literal.{Literal}
-use Rattle.cedar_expr_values.specs.Extension.{Extension, made_of_extension}
+use Rattle.cedar_expr_values.specs.Extension.{Extension}
 use Rattle.cedar_expr_values.specs.Fields.{by_text}
 use Rattle.cedar_expr_values.specs.Values.{made, made_kind, mades, made_list, made_fields, made_pair, kind_step, set_step, value_step}
 use Rattle.cedar_expr_values.specs.declared.value.Value.{Value}

@@ -1,6 +1,6 @@
 -- What the code's partial values are in the model, and what their refusals say.
 -- Rule: values and equality; parts of an expression (docs/RULES.md).
-use Rattle.std.specs.Prelude.{◌≡◌, List, map, Option, Some, None, option_map}
+use Rattle.std.specs.Prelude.{◌≡◌, map, Option, None, option_map}
 use Rattle.std.specs.Rc.{rc_str_bytes}
 use Rattle.std.specs.Vec.Iter.{into_iter_items}
 use Rattle.std.specs.declared.vec.IntoIter.{IntoIter}

@@ -1,7 +1,7 @@
 //! Values that may still be expressions.
 
 ghost use Rattle.std.specs.Prelude.{◌≡◌, map, IfOk, None, is_some, option_map};
-ghost use Rattle.std.specs.List.{filter_map};
+ghost use Rattle.std.specs.List.{list_all, filter_map};
 ghost use Rattle.cedar_expr_model.specs.Whole.Tree.{unknown};
 ghost use Rattle.cedar_expr_model.specs.Whole.ValueParts.{left, known, known_value, part_tree, split};
 ghost use Rattle.cedar_expr_trees.specs.Trees.{tree_of};
@@ -139,12 +139,19 @@ pub fn split<X: ExtensionCall>(
 ) -> Result<Either<IntoIter<Value<X>>, IntoIter<Expr>>, AllocError>
     ensures { IfOk result (λ r. split_of X.seen r ≡ split (map (part_of X.seen) items.items)) }
 {
-    if items.iter().all(|item| item.is_value()) {
+    if are_values(items.as_slice()) {
         let values = values_of(alloc, items)?;
         return Ok(Left(values.into_iter()));
     }
     let exprs = exprs_of(alloc, items)?;
     Ok(Right(exprs.into_iter()))
+}
+
+// Whether each item is a value.
+fn are_values<X: ExtensionValue>(items: &[PartialValue<X>]) -> bool
+    ensures { result ≡ list_all (λ p. is_some (known_value (part_of X.seen p))) items.now }
+{
+    items.iter().all(|item| item.is_value())
 }
 
 // The values among the items, in their order.
