@@ -174,8 +174,8 @@ fn the_first_wrong_call_is_named(rt: HostRuntime) -> Result<(), Fail> {
     Ok(())
 }
 
-// Expressions with the types that they show.
-fn shown(alloc: Global) -> Result<Vec<(Expr, Option<Type>)>, Fail> {
+// Literals, variables and unknowns with the types that they show.
+fn shown_of_leaves(alloc: Global) -> Result<Vec<(Expr, Option<Type>)>, Fail> {
     let mut rows = Vec::new(alloc);
     rows.push((truth(true), Some(Type::Bool)))?;
     rows.push((long(1), Some(Type::Long)))?;
@@ -186,6 +186,12 @@ fn shown(alloc: Global) -> Result<Vec<(Expr, Option<Type>)>, Fail> {
     rows.push((unknown(alloc)?, None))?;
     let u = Unknown::new_with_type(RcStr::from_str(alloc, "u")?, Type::Set);
     rows.push((Expr::unknown(u), Some(Type::Set)))?;
+    Ok(rows)
+}
+
+// Choices with the types that they show.
+fn shown_of_choices(alloc: Global) -> Result<Vec<(Expr, Option<Type>)>, Fail> {
+    let mut rows = Vec::new(alloc);
     rows.push((
         Expr::ite(alloc, unknown(alloc)?, long(1), long(2))?,
         Some(Type::Long),
@@ -203,6 +209,12 @@ fn shown(alloc: Global) -> Result<Vec<(Expr, Option<Type>)>, Fail> {
         Some(Type::Bool),
     ))?;
     rows.push((Expr::or(alloc, unknown(alloc)?, long(2))?, Some(Type::Bool)))?;
+    Ok(rows)
+}
+
+// Calls with the types that they show.
+fn shown_of_calls(alloc: Global) -> Result<Vec<(Expr, Option<Type>)>, Fail> {
+    let mut rows = Vec::new(alloc);
     rows.push((call(alloc, "rank", 1)?, Some(rank_type(alloc)?)))?;
     rows.push((call(alloc, "least", 1)?, Some(Type::Long)))?;
     rows.push((call(alloc, "open", 1)?, None))?;
@@ -247,11 +259,15 @@ fn types_are_shown(rt: HostRuntime) -> Result<(), Fail> {
     let table = Extensions::specific_extensions(alloc, &extensions).map_err(|_| Fail::from(
         "no table",
     ))?;
-    for ((e, ty), n) in shown(alloc)?.into_iter().zip(0..) {
-        assert!(rt; e.try_type_of(&table)? == ty, "{n}");
-    }
-    for ((e, ty), n) in shown_of_operators(alloc)?.into_iter().zip(0..) {
-        assert!(rt; e.try_type_of(&table)? == ty, "{n}");
+    for rows in [
+        shown_of_leaves(alloc)?,
+        shown_of_choices(alloc)?,
+        shown_of_calls(alloc)?,
+        shown_of_operators(alloc)?,
+    ] {
+        for (e, ty) in rows {
+            assert!(rt; e.try_type_of(&table)? == ty);
+        }
     }
     Ok(())
 }

@@ -83,13 +83,19 @@ fn call(alloc: Global, written: &str) -> Result<Expr, Fail> {
     Ok(Expr::call_extension_fn(alloc, function, args)?)
 }
 
-// Values with the expressions that they are written as.
+// Literals and sets with the expressions that they are written as.
 fn plain_rows(alloc: Global) -> Result<Vec<(V, Expr)>, Fail> {
     let mut rows = Vec::new(alloc);
     rows.push((long(7), written(7)))?;
     rows.push((Value::from(uid(alloc)?), Expr::val(uid(alloc)?)))?;
     rows.push((set(alloc, &[])?, written_set(alloc, &[])?))?;
     rows.push((set(alloc, &[2, 1, 2])?, written_set(alloc, &[1, 2])?))?;
+    Ok(rows)
+}
+
+// Records with the expressions that they are written as.
+fn record_rows(alloc: Global) -> Result<Vec<(V, Expr)>, Fail> {
+    let mut rows = Vec::new(alloc);
     let inner = Value::set(alloc, vec![in alloc; set(alloc, &[3])?]?, None)?;
     let inner_written = Expr::set(alloc, vec![in alloc; written_set(alloc, &[3])?]?)?;
     rows.push((
@@ -109,7 +115,7 @@ fn plain_rows(alloc: Global) -> Result<Vec<(V, Expr)>, Fail> {
 #[test]
 fn values_are_written_and_read_again(rt: HostRuntime) -> Result<(), Fail> {
     let alloc = rt.alloc();
-    for (value, expr) in plain_rows(alloc)? {
+    for (value, expr) in plain_rows(alloc)?.into_iter().chain(record_rows(alloc)?) {
         let made = Expr::from_value(alloc, &value)?;
         assert!(rt; made == expr);
         assert!(rt; Expr::from_value_kind(alloc, value.value_kind())? == expr);
