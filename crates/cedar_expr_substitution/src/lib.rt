@@ -1,0 +1,14 @@
+//! Values put in the place of unknowns.
+#![tactic(auto)]
+
+pub mod bound;
+pub mod err;
+pub mod laws;
+pub mod substitute;
+
+pub use bound::Bound;
+pub use err::SubstitutionError;
+pub use substitute::Substitute;
+
+#[cfg(test)]
+mod tests;
