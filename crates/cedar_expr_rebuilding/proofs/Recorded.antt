@@ -1,20 +1,21 @@
 -- The names of what is made of fields.
-use Rattle.std.proofs.Common.{◌≡◌, true, List, [], ◌∷◌, map, Result, Ok, Err, refl, sym, ap, ◌∙◌}
+use Rattle.std.proofs.Common.{◌≡◌, true, List, [], ◌∷◌, ◌++◌, map, Result, Ok, Err, refl, sym, ap, ◌∙◌}
 use Rattle.std.specs.declared.alloc.Global.{Global}
 use Rattle.std.specs.declared.rc.RcStr.{RcStr}
 use Rattle.std.specs.Rc.{rc_str_bytes}
 use Rattle.std.specs.List.Sorted.{IsStrictlySortedBy}
 use Rattle.std.specs.Map.{keys_of}
 use Rattle.cedar_expr_model.specs.Name.{Text}
-use Rattle.cedar_expr_model.specs.Whole.Builder.{Builder, built_fields, tree_fields}
+use Rattle.cedar_expr_model.specs.Whole.Builder.{Builder, built, built_fields, tree_fields}
 use Rattle.cedar_expr_model.specs.Whole.Lists.{rises}
 use Rattle.cedar_expr_model.specs.Whole.Order.{text_cmp}
 use Rattle.cedar_expr_model.specs.Whole.Records.{names_rise}
 use Rattle.cedar_expr_values.proofs.Ascending.{names_ascend}
-use Rattle.cedar_expr_trees.specs.Trees.{named, field_trees}
+use Rattle.cedar_expr_trees.specs.Trees.{tree_of, named, field_trees}
 use Rattle.cedar_expr_trees.specs.declared.expr.Expr.{Expr}
 use Rattle.cedar_expr_builders.specs.Refusing.{and_then, fields_made}
 use Rattle.cedar_expr_builders.specs.Views.{meant}
+use Rattle.cedar_expr_rebuilding.proofs.Gathered.{after, goes_on, ends}
 
 -- what is made has the names of the fields
 names_stay : {M R : Type 0} (os : List (Text × Result M R)) (ms : List (Text × M)) → fields_made os ≡ Ok ms → map (λ p. p.0) ms ≡ map (λ p. p.0) os
@@ -39,3 +40,19 @@ pub made_rises : {T B M R : Type 0} (b : Builder (Result M R)) (means : B → M)
 made_rises b means es made h s =
     ap (rises text_cmp) (sym (names_meant means made) ∙ names_stay (built_fields b (tree_fields (named (field_trees es)))) (named (meant means made)) h ∙ names_built b es)
     ∙ names_ascend es s
+
+-- a walk along fields
+module _ {T B M R : Type 0} (b : Builder (Result M R)) (means : B → M) (all rest : List (RcStr Global × Expr T)) where
+  abbrev pub of_fields : List (RcStr Global × Expr T) → Result (List (Text × M)) R
+  of_fields es = fields_made (built_fields b (tree_fields (named (field_trees es))))
+
+  named_more : (done : List (RcStr Global × B)) (k c : RcStr Global) (x : B) → rc_str_bytes c ≡ rc_str_bytes k → named (meant means (done ++ (c, x) ∷ [])) ≡ named (meant means done) ++ (rc_str_bytes k, means x) ∷ []
+  named_more [] k c x same = ap (λ n. (n, means x) ∷ []) same
+  named_more (d ∷ done) k c x same = ap (λ ps. (rc_str_bytes d.0, means d.1) ∷ ps) (named_more done k c x same)
+
+  pub field_steps : (later : List (RcStr Global × Expr T)) (done more : List (RcStr Global × B)) (k c : RcStr Global) (e : Expr T) (x : B) → of_fields all ≡ after (named (meant means done)) (of_fields rest) → rest ≡ (k, e) ∷ later → more ≡ done ++ (c, x) ∷ [] → rc_str_bytes c ≡ rc_str_bytes k → built b (tree_of e) ≡ Ok (means x) → of_fields all ≡ after (named (meant means more)) (of_fields later)
+  field_steps later done more k c e x h is n same made =
+      goes_on (λ m. (rc_str_bytes k, m)) (of_fields all) (of_fields rest) (of_fields later) (built b (tree_of e)) (named (meant means done)) (means x) (named (meant means more)) h (ap of_fields is) made (ap (λ ds. named (meant means ds)) n ∙ named_more done k c x same)
+
+  pub fields_end : (done : List (RcStr Global × B)) → of_fields all ≡ after (named (meant means done)) (of_fields rest) → rest ≡ [] → of_fields all ≡ Ok (named (meant means done))
+  fields_end done h is = ends (of_fields all) (of_fields rest) (named (meant means done)) h (ap of_fields is)
