@@ -1,2 +1,4 @@
 mod InTurn
 mod Placed
+mod Typed
+mod Walked

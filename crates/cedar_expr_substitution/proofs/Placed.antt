@@ -1,5 +1,5 @@
 -- What is built where values stand in the place of unknowns.
-use Rattle.std.proofs.Common.{◌≡◌, ◌&&◌, ◌||◌, Bool, List, [], ◌∷◌, Option, Some, None, Result, Ok, Err, refl, sym, ap, ◌∙◌}
+use Rattle.std.proofs.Common.{◌≡◌, ◌&&◌, ◌||◌, Bool, List, [], ◌∷◌, Option, Some, None, Result, Ok, Err, IfErr, refl, sym, ap, ◌∙◌}
 use Rattle.std.specs.Option.{option_map_or}
 use Rattle.cedar_expr_model.specs.Name.{Text, Name}
 use Rattle.cedar_expr_model.specs.Whole.Tree.{CoreType, Tree, lit, var, slot, unknown, choice, both, either, unary, binary, call, get_attr, has_attr, has_path, like, is_type, set_literal, record_literal, Trees, no_trees, tree, TreeFields, no_tree_fields, tree_field}
@@ -8,9 +8,11 @@ use Rattle.cedar_expr_model.specs.Whole.BuilderForm.{IsLawful}
 use Rattle.cedar_expr_model.specs.Whole.Made.{Made, written}
 use Rattle.cedar_expr_model.specs.Whole.Substitution.{Bindings, substituted, built_under}
 use Rattle.cedar_expr_model.proofs.Whole.Agreeing.{substitution_agrees, trees_are_lawful}
-use Rattle.cedar_expr_builders.specs.Refusing.{and_then, all_made, fields_made, unless, refusing}
+use Rattle.cedar_expr_builders.specs.Refusing.{and_then, all_made, fields_made, unless, refusing, refusal, IsRefusal}
+use Rattle.cedar_expr_builders.specs.declared.err.BuildFault.{BuildFault}
+use Rattle.cedar_expr_builders.specs.declared.err.BuildFault.TheVariants.{OutOfMemory, Refused}
 use Rattle.cedar_expr_builders.specs.Views.{refuses_nothing}
-use Rattle.cedar_expr_rebuilding.specs.Outcome.{with_placed, built_placed}
+use Rattle.cedar_expr_rebuilding.specs.Outcome.{with_placed, Refuses}
 use Rattle.cedar_expr_substitution.specs.Bound.{placed_by}
 
 -- what a builder makes of the expressions that bindings put in the place of unknowns
@@ -72,3 +74,20 @@ module _ {R : Type 0} where
       sym (substitution_agrees own own_lawful env t)
       ∙ makes_all tree_builder (substituted env t)
       ∙ ap Ok (substitution_agrees tree_builder trees_are_lawful env t)
+
+  -- what it made of an expression under bindings is the expression under them
+  pub is_substituted : (env : Bindings) (t u : Tree) → built_under own env t ≡ Ok u → u ≡ substituted env t
+  is_substituted env t u h = let e = sym h ∙ own_substitutes env t in cc
+
+-- what bindings put in the place of an unknown that is bound, and of one that isn't
+pub bound_placed : (env : Bindings) (n : Text) (a : Option CoreType) (m : Made) (t : Tree) → env n ≡ Some m → t ≡ written m → placed_by env n a ≡ t
+bound_placed env n a m t h e = ap (λ o. option_map_or written o (unknown n a)) h ∙ sym e
+
+pub free_placed : (env : Bindings) (n : Text) (a : Option CoreType) → env n ≡ None → placed_by env n a ≡ unknown n a
+free_placed env n a h = ap (λ o. option_map_or written o (unknown n a)) h
+
+-- a fault that tells the outcome is the refusal there is
+pub refusal_told : {A E M R : Type 0} (says : E → R) (o : Result M R) (q : Result A (BuildFault E)) → IfErr q (λ f. Refuses says o f) → IfErr q (λ f. IsRefusal says (refusal o) f)
+refusal_told says o (Ok a) h = tt
+refusal_told says o (Err OutOfMemory) h = tt
+refusal_told says o (Err (Refused e)) h = ap refusal (h (says e) refl)

@@ -9,6 +9,7 @@ use Rattle.std.specs.declared.alloc.Global.{Global}
 use Rattle.std.specs.declared.rc.RcStr.{RcStr}
 use Rattle.cedar_expr_model.specs.Name.{Text}
 use Rattle.cedar_expr_model.specs.Whole.Tree.{CoreType, Tree, unknown}
+use Rattle.cedar_expr_model.specs.Whole.Builder.{Builder, built, tree_builder}
 use Rattle.cedar_expr_model.specs.Whole.Made.{written}
 use Rattle.cedar_expr_model.specs.Whole.Substitution.{Bindings, Mismatch}
 use Rattle.cedar_expr_values.specs.Extension.{Extension}
@@ -30,6 +31,10 @@ bound_by seen b = bindings_of seen b.bindings.now
 -- what bindings put in the place of an unknown
 abbrev pub placed_by : Bindings → Text → Option CoreType → Tree
 placed_by env n a = option_map_or written (env n) (unknown n a)
+
+-- the builder of trees that makes of an unknown what bindings put in its place
+abbrev pub substituting : Bindings → Builder Tree
+substituting env = record tree_builder { of_unknown = λ n a. option_map_or (λ m. built tree_builder (written m)) (env n) (unknown n a) }
 
 -- The fault is the leftmost mismatch. Want of memory says nothing.
 abbrev pub IsMismatch : Option Mismatch → SubstitutionError → Type 0

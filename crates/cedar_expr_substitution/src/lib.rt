@@ -5,6 +5,7 @@ pub mod bound;
 pub mod err;
 pub mod laws;
 pub mod substitute;
+mod walk;
 
 pub use bound::Bound;
 pub use err::SubstitutionError;

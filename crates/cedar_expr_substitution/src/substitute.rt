@@ -11,8 +11,9 @@ ghost use Rattle.cedar_expr_substitution.specs.Bound.{bindings_of, IsMismatch};
 
 use crate::bound::Bound;
 use crate::err::SubstitutionError;
+use crate::walk::put_in;
+use cedar_expr_builders::BuildFault;
 use cedar_expr_builders::expr_builder::ExprBuilder;
-use cedar_expr_builders::{BuildFault, expr};
 use cedar_expr_partial::ExtensionCall;
 use cedar_expr_rebuilding::build_with;
 use cedar_expr_trees::{Expr, Unknown};
@@ -26,8 +27,8 @@ pub trait Substitute {
     /// The tree that they are put into.
     ghost tree: { Self → Tree };
 
-    /// The expression with the values of these bindings in the place of the unknowns that they bind, built anew through the own
-    /// builder. Annotations are not asked. Answers want of memory.
+    /// The expression with the values of these bindings in the place of the unknowns that they bind, made anew through the
+    /// constructors. Annotations are not asked. Answers want of memory.
     fn substitute<X: ExtensionCall>(
         &self,
         alloc: Global,
@@ -65,11 +66,7 @@ impl Substitute for Expr {
         alloc: Global,
         bindings: &HashMap<RcStr, Value<X>>,
     ) -> Result<Expr, AllocError> {
-        match self.substitute_into_expr::<expr::ExprBuilder<()>, X>(alloc, bindings) {
-            Ok(e) => Ok(e),
-            Err(BuildFault::OutOfMemory) => Err(AllocError),
-            Err(BuildFault::Refused(never)) => match never {},
-        }
+        put_in(alloc, self, bindings)
     }
 
     fn substitute_typed<X: ExtensionCall>(

@@ -95,11 +95,13 @@ fn the_leftmost_mismatch_is_refused(rt: HostRuntime) -> Result<(), Fail> {
     let y = typed(alloc, "y", Type::Bool)?;
     let e = pair(alloc, "b", y, "a", x)?;
     match e.substitute_typed(alloc, &bindings) {
-        Err(SubstitutionError::TypeError {
-            name,
-            expected,
-            actual,
-        }) => {
+        Err(
+            SubstitutionError::TypeError {
+                name,
+                expected,
+                actual,
+            },
+        ) => {
             assert_eq!(rt; name.as_str(), "x");
             assert!(rt; expected == Type::Bool);
             assert!(rt; actual == Type::Long);
@@ -118,7 +120,10 @@ fn a_mismatch_has_its_text(rt: HostRuntime) -> Result<(), Fail> {
         actual: Type::Long,
     };
     let text = refusal.to_string(alloc)?;
-    assert_eq!(rt; text.as_str(), "expected a value of type bool, got a value of type long");
+    assert_eq!(rt;
+        text.as_str(),
+        "expected a value of type bool, got a value of type long"
+    );
     let text = SubstitutionError::OutOfMemory.to_string(alloc)?;
     assert_eq!(rt; text.as_str(), "out of memory");
     Ok(())
@@ -148,7 +153,10 @@ fn what_is_built_of_a_bound_conjunction_is_folded(rt: HostRuntime) -> Result<(),
     let e = Expr::and(alloc, untyped(alloc, "x")?, yes)?;
     let made = e.substitute_into_expr::<ExprBuilder<()>, ExtValue>(alloc, &bindings)?;
     assert!(rt; made == Expr::val(Literal::from(true)));
-    let kept = e.substitute_into_expr::<ExprBuilder<()>, ExtValue>(alloc, &one(alloc, "y", truth(true))?)?;
+    let kept = e.substitute_into_expr::<ExprBuilder<()>, ExtValue>(
+        alloc,
+        &one(alloc, "y", truth(true))?,
+    )?;
     assert!(rt; kept == e);
     Ok(())
 }
