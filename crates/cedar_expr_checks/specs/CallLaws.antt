@@ -1,0 +1,11 @@
+-- What the law of wrong calls says.
+-- Rule: extension functions (docs/RULES.md).
+use Rattle.std.specs.Prelude.{◌≡◌, is_none}
+use Rattle.cedar_expr_model.specs.Whole.Evident.{has_valid_calls}
+use Rattle.cedar_expr_model.specs.Whole.Table.{Table}
+use Rattle.cedar_expr_model.specs.Whole.Tree.{Tree}
+use Rattle.cedar_expr_checks.specs.Calls.{first_wrong_call}
+
+-- there is no wrong call exactly where all calls are right
+abbrev pub NoFaultDecides : Type 0
+NoFaultDecides = (x : Table) (t : Tree) → is_none (first_wrong_call x.functions t) ≡ has_valid_calls x t

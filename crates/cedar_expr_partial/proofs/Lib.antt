@@ -1,0 +1,4 @@
+mod Smaller
+mod Written
+mod Shown
+mod Parted
