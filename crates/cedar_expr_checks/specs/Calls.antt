@@ -1,6 +1,6 @@
 -- What is wrong with a call in an expression, what a refusal says of it, and the types that an expression and a function show.
 -- Rule: extension functions; the evident type (docs/RULES.md).
-use Rattle.std.specs.Prelude.{◌≡◌, ℕ, List, length, find, Option, Some, None, if◌then◌else◌, option_and_then}
+use Rattle.std.specs.Prelude.{◌≡◌, ℕ, true, List, [], length, find, Option, Some, None, if◌then◌else◌, option_and_then}
 use Rattle.std.specs.Option.{option_map_or}
 use Rattle.cedar_expr_names.specs.Views.{plain_name_of}
 use Rattle.cedar_expr_model.specs.Name.{Name, name_eq}
@@ -10,7 +10,6 @@ use Rattle.cedar_expr_model.specs.Whole.Table.{Signature, Table, takes_count, gi
 use Rattle.cedar_expr_model.specs.Whole.Tree.{CoreType, Tree, call}
 use Rattle.cedar_expr_model.specs.Whole.Value.{truth_value}
 use Rattle.cedar_expr_model.specs.Whole.Evident.{evident_type}
-use Rattle.std.specs.Prelude.{true, []}
 use Rattle.cedar_expr_checks.specs.declared.err.ExprValidationError.{ExprValidationError}
 use Rattle.cedar_expr_checks.specs.declared.err.ExprValidationError.TheVariants.{OutOfMemory, FuncDoesNotExist, WrongNumArguments}
 

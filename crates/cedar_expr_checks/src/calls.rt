@@ -1,15 +1,13 @@
 //! Calls in an expression, checked one after the other.
 
-ghost use Rattle.std.specs.Prelude.{◌≡◌, None, IfErr, OnOk, length};
+ghost use Rattle.std.specs.Prelude.{◌≡◌, None, IfErr, OnOk};
 ghost use Rattle.cedar_expr_names.specs.Views.{plain_name_of};
-ghost use Rattle.cedar_expr_model.specs.Whole.Table.{takes_count};
 ghost use Rattle.cedar_expr_trees.specs.Trees.{tree_of};
-ghost use Rattle.cedar_expr_functions.specs.Functions.{function_signature};
 ghost use Rattle.cedar_expr_functions.specs.Tables.{functions_of};
 ghost use Rattle.cedar_expr_checks.specs.Calls.{wrong_call, first_wrong_call, wrong_by_name, IsWrongCall};
 
 use crate::err::ExprValidationError;
-use cedar_expr_functions::{ExtensionFunction, ExtensionFunctionLookupError, Extensions};
+use cedar_expr_functions::{ExtensionFunctionLookupError, Extensions};
 use cedar_expr_names::Name;
 use cedar_expr_trees::{Expr, ExprKind};
 use std::alloc::Global;
@@ -48,11 +46,7 @@ fn check_call<T>(expr: &Expr<T>, table: &Extensions<'_>) -> Result<(), ExprValid
 }
 
 // Refuses a call of this name with so many arguments where it is wrong.
-fn check_named(
-    name: &Name,
-    count: usize,
-    table: &Extensions<'_>,
-) -> Result<(), ExprValidationError>
+fn check_named(name: &Name, count: usize, table: &Extensions<'_>) -> Result<(), ExprValidationError>
     ensures none { OnOk result (wrong_by_name (functions_of table.now) (plain_name_of name.now) count ≡ None) }
     ensures refused { IfErr result (IsWrongCall (wrong_by_name (functions_of table.now) (plain_name_of name.now) count)) }
 {
@@ -67,7 +61,7 @@ fn check_named(
             });
         }
     };
-    if takes_count(function, count) {
+    if function.takes_count(count) {
         return Ok(());
     }
     Err(ExprValidationError::WrongNumArguments {
@@ -75,15 +69,4 @@ fn check_named(
         expected: function.arg_types().len(),
         actual: count,
     })
-}
-
-// Whether the function takes so many arguments.
-fn takes_count(function: &ExtensionFunction, count: usize) -> bool
-    ensures { result ≡ takes_count (function_signature function.now) count }
-{
-    if function.is_variadic() {
-        function.arg_types().len() <= count
-    } else {
-        count == function.arg_types().len()
-    }
 }

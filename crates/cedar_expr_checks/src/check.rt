@@ -26,11 +26,7 @@ pub trait CheckExpr {
 
     /// Whether each call names a function of the table and has a right count of arguments. Refuses the first that doesn't, a node
     /// before its children, and children in order, and answers want of memory.
-    fn try_validate(
-        &self,
-        alloc: Global,
-        table: &Extensions<'_>,
-    ) -> Result<(), ExprValidationError>
+    fn try_validate(&self, alloc: Global, table: &Extensions<'_>) -> Result<(), ExprValidationError>
         ensures valid { (answers : ModelName → List V → Called) → OnOk result (has_valid_calls (table_of table.now answers) (tree self.now) ≡ true) }
         ensures refused { (answers : ModelName → List V → Called) → IfErr result (RefusesExpression (table_of table.now answers) (tree self.now)) };
 

@@ -51,10 +51,9 @@ pub fn shown_type<T>(expr: &Expr<T>, table: &Extensions<'_>) -> Result<Option<Ty
 fn agreed(yes: Option<Type>, no: Option<Type>) -> Option<Type>
     ensures { option_map core_of result ≡ agreed (option_map core_of yes) (option_map core_of no) }
 {
-    match (yes, no) {
-        (Some(a), Some(b)) if a.same(&b) => Some(a),
-        _ => None,
-    }
+    let a = yes?;
+    let b = no?;
+    if a.same(&b) { Some(a) } else { None }
 }
 
 // The type of what an operator of one operand gives.

@@ -26,10 +26,7 @@ fn rank_type(alloc: Global) -> Result<Type, Fail> {
 }
 
 // It never has memory.
-fn exhausted(
-    _alloc: Global,
-    _args: &[Value<ExtValue>],
-) -> Result<ExtensionOutputValue, CallFault>
+fn exhausted(_alloc: Global, _args: &[Value<ExtValue>]) -> Result<ExtensionOutputValue, CallFault>
     ensures { result ≡ Err OutOfMemory }
 {
     Err(CallFault::OutOfMemory)
@@ -100,11 +97,14 @@ fn uid(alloc: Global) -> Result<Expr, Fail> {
 fn calls_are_counted(rt: HostRuntime) -> Result<(), Fail> {
     let alloc = rt.alloc();
     let extensions = [extension(alloc)?];
-    let table = Extensions::specific_extensions(alloc, &extensions)
-        .map_err(|_| Fail::from("no table"))?;
+    let table = Extensions::specific_extensions(alloc, &extensions).map_err(|_| Fail::from(
+        "no table",
+    ))?;
     let none = "extension function `none` does not exist";
-    let of_rank = "wrong number of arguments provided to extension function `rank`: expected 1, got";
-    let of_least = "wrong number of arguments provided to extension function `least`: expected 1, got";
+    let of_rank =
+        "wrong number of arguments provided to extension function `rank`: expected 1, got";
+    let of_least =
+        "wrong number of arguments provided to extension function `least`: expected 1, got";
     for (function, count, refusal) in [
         ("rank", 1, None),
         ("rank", 0, Some((of_rank, " 0"))),
@@ -126,7 +126,10 @@ fn calls_are_counted(rt: HostRuntime) -> Result<(), Fail> {
             _ => return Err(Fail::from(function)),
         }
     }
-    assert_eq!(rt; format!(in alloc; "{}", ExprValidationError::OutOfMemory)?.as_str(), "out of memory");
+    assert_eq!(rt;
+        format!(in alloc; "{}", ExprValidationError::OutOfMemory)?.as_str(),
+        "out of memory"
+    );
     Ok(())
 }
 
@@ -134,8 +137,9 @@ fn calls_are_counted(rt: HostRuntime) -> Result<(), Fail> {
 fn the_first_wrong_call_is_named(rt: HostRuntime) -> Result<(), Fail> {
     let alloc = rt.alloc();
     let extensions = [extension(alloc)?];
-    let table = Extensions::specific_extensions(alloc, &extensions)
-        .map_err(|_| Fail::from("no table"))?;
+    let table = Extensions::specific_extensions(alloc, &extensions).map_err(|_| Fail::from(
+        "no table",
+    ))?;
     let right = Expr::set(alloc, vec![in alloc; call(alloc, "rank", 1)?, long(1)]?)?;
     assert!(rt; right.try_validate(alloc, &table).is_ok());
     let nothing = Extensions::none(alloc);
@@ -143,11 +147,13 @@ fn the_first_wrong_call_is_named(rt: HostRuntime) -> Result<(), Fail> {
     assert!(rt; long(1).try_validate(alloc, &nothing).is_ok());
     let left = Expr::not(alloc, call(alloc, "rank", 2)?)?;
     let both = Expr::and(alloc, left, call(alloc, "none", 0)?)?;
-    let Err(ExprValidationError::WrongNumArguments {
-        function_name,
-        expected,
-        actual,
-    }) = both.try_validate(alloc, &table)
+    let Err(
+        ExprValidationError::WrongNumArguments {
+            function_name,
+            expected,
+            actual,
+        },
+    ) = both.try_validate(alloc, &table)
     else {
         return Err(Fail::from("another fault"));
     };
@@ -159,9 +165,9 @@ fn the_first_wrong_call_is_named(rt: HostRuntime) -> Result<(), Fail> {
         name(alloc, "none")?,
         vec![in alloc; call(alloc, "rank", 0)?]?,
     )?;
-    let Err(ExprValidationError::FuncDoesNotExist { function_name }) =
-        outer.try_validate(alloc, &table)
-    else {
+    let Err(ExprValidationError::FuncDoesNotExist { function_name }) = outer.try_validate(
+        alloc, &table,
+    ) else {
         return Err(Fail::from("another fault"));
     };
     assert!(rt; function_name == name(alloc, "none")?);
@@ -180,10 +186,22 @@ fn shown(alloc: Global) -> Result<Vec<(Expr, Option<Type>)>, Fail> {
     rows.push((unknown(alloc)?, None))?;
     let u = Unknown::new_with_type(RcStr::from_str(alloc, "u")?, Type::Set);
     rows.push((Expr::unknown(u), Some(Type::Set)))?;
-    rows.push((Expr::ite(alloc, unknown(alloc)?, long(1), long(2))?, Some(Type::Long)))?;
-    rows.push((Expr::ite(alloc, unknown(alloc)?, long(1), truth(true))?, None))?;
-    rows.push((Expr::ite(alloc, unknown(alloc)?, long(1), unknown(alloc)?)?, None))?;
-    rows.push((Expr::and(alloc, unknown(alloc)?, long(2))?, Some(Type::Bool)))?;
+    rows.push((
+        Expr::ite(alloc, unknown(alloc)?, long(1), long(2))?,
+        Some(Type::Long),
+    ))?;
+    rows.push((
+        Expr::ite(alloc, unknown(alloc)?, long(1), truth(true))?,
+        None,
+    ))?;
+    rows.push((
+        Expr::ite(alloc, unknown(alloc)?, long(1), unknown(alloc)?)?,
+        None,
+    ))?;
+    rows.push((
+        Expr::and(alloc, unknown(alloc)?, long(2))?,
+        Some(Type::Bool),
+    ))?;
     rows.push((Expr::or(alloc, unknown(alloc)?, long(2))?, Some(Type::Bool)))?;
     rows.push((call(alloc, "rank", 1)?, Some(rank_type(alloc)?)))?;
     rows.push((call(alloc, "least", 1)?, Some(Type::Long)))?;
@@ -204,12 +222,18 @@ fn shown_of_operators(alloc: Global) -> Result<Vec<(Expr, Option<Type>)>, Fail> 
     rows.push((Expr::get_tag(alloc, long(1), long(2))?, None))?;
     rows.push((Expr::has_tag(alloc, long(1), long(2))?, Some(Type::Bool)))?;
     rows.push((Expr::get_attr(alloc, long(1), attr.clone()?)?, None))?;
-    rows.push((Expr::has_attr(alloc, long(1), attr.clone()?)?, Some(Type::Bool)))?;
+    rows.push((
+        Expr::has_attr(alloc, long(1), attr.clone()?)?,
+        Some(Type::Bool),
+    ))?;
     let path = NonEmpty {
         head: attr.clone()?,
         tail: vec![in alloc; attr]?,
     };
-    rows.push((Expr::extended_has_attr(alloc, long(1), path)?, Some(Type::Bool)))?;
+    rows.push((
+        Expr::extended_has_attr(alloc, long(1), path)?,
+        Some(Type::Bool),
+    ))?;
     rows.push((Expr::set(alloc, Vec::new(alloc))?, Some(Type::Set)))?;
     let fields = Expr::record(alloc, Vec::new(alloc)).map_err(|_| Fail::from("no record"))?;
     rows.push((fields, Some(Type::Record)))?;
@@ -220,8 +244,9 @@ fn shown_of_operators(alloc: Global) -> Result<Vec<(Expr, Option<Type>)>, Fail> 
 fn types_are_shown(rt: HostRuntime) -> Result<(), Fail> {
     let alloc = rt.alloc();
     let extensions = [extension(alloc)?];
-    let table = Extensions::specific_extensions(alloc, &extensions)
-        .map_err(|_| Fail::from("no table"))?;
+    let table = Extensions::specific_extensions(alloc, &extensions).map_err(|_| Fail::from(
+        "no table",
+    ))?;
     for ((e, ty), n) in shown(alloc)?.into_iter().zip(0..) {
         assert!(rt; e.try_type_of(&table)? == ty, "{n}");
     }

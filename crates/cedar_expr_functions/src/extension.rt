@@ -303,8 +303,8 @@ impl ExtensionFunction {
         }
     }
 
-    // Whether the function takes so many arguments.
-    fn takes_count(&self, count: usize) -> bool
+    /// Whether the function takes so many arguments: as many as it has types, or, where it is variadic, that many or more.
+    pub fn takes_count(&self, count: usize) -> bool
         ensures { result ≡ takes_count (function_signature self.now) count }
     {
         if self.variadic {

@@ -39,14 +39,17 @@ abbrev pub part_place : {X : Type 0} → PartialValue X → Option Loc
 part_place (Whole v) = value_place v
 part_place (Residual e) = place_of e
 
--- what a refusal says is left
+-- what a refusal says is left, and where that stands
 abbrev pub left_of : ContainsUnknown → Tree
 left_of e = tree_of e.residual
 
--- The value, where it is one; else the refusal says what is left.
+abbrev pub left_place : ContainsUnknown → Option Loc
+left_place e = place_of e.residual
+
+-- The value at its place, where it is one; else the refusal says what is left.
 abbrev pub GivesValue : {X : Type 0} → (X → Extension) → PartialValue X → Result (Value X) PartialValueToValueError → Type 0
-GivesValue seen p (Ok v) = part_of seen p ≡ known (made seen v)
-GivesValue seen p (Err (to_value.ContainsUnknown e)) = part_of seen p ≡ left (left_of e)
+GivesValue seen p (Ok v) = (part_of seen p ≡ known (made seen v)) × (part_place p ≡ value_place v)
+GivesValue seen p (Err (to_value.ContainsUnknown e)) = (part_of seen p ≡ left (left_of e)) × (part_place p ≡ left_place e)
 
 -- a list split: its values, or its expressions
 abbrev pub split_of : {X : Type 0} → (X → Extension) → Either (IntoIter (Value X) Global) (IntoIter (Expr Unit) Global) → Split

@@ -1,8 +1,8 @@
 //! Why an expression, or what may be one, is no value.
 
 ghost use Rattle.std.specs.Prelude.{◌≡◌};
-ghost use Rattle.cedar_expr_trees.specs.Trees.{tree_of};
-ghost use Rattle.cedar_expr_partial.specs.Parts.{left_of};
+ghost use Rattle.cedar_expr_trees.specs.Trees.{tree_of, place_of};
+ghost use Rattle.cedar_expr_partial.specs.Parts.{left_of, left_place};
 
 use cedar_expr_names::Loc;
 use cedar_expr_trees::Expr;
@@ -54,14 +54,16 @@ pub struct ContainsUnknown {
 impl ContainsUnknown {
     /// The refusal of this expression.
     pub fn new(residual: Expr) -> ContainsUnknown
-        ensures { left_of result ≡ tree_of residual }
+        ensures tree { left_of result ≡ tree_of residual }
+        ensures place { left_place result ≡ place_of residual }
     {
         ContainsUnknown { residual }
     }
 
     /// The expression.
     pub fn residual(&self) -> &Expr
-        ensures { tree_of result.now ≡ left_of self.now }
+        ensures tree { tree_of result.now ≡ left_of self.now }
+        ensures place { place_of result.now ≡ left_place self.now }
     {
         &self.residual
     }

@@ -1,0 +1,2 @@
+mod Wrong
+mod Shown
