@@ -1,6 +1,6 @@
 -- What is gathered on the walk that puts values in the place of unknowns.
-use Rattle.std.proofs.Common.{◌≡◌, true, List, [], ◌∷◌, ◌++◌, map, Option, Some, None, Result, Ok, Err, IfOk, refl, sym, ap, ◌∙◌}
-use Rattle.std.proofs.lemmas.List.{append-nil}
+use Rattle.std.proofs.Common.{◌≡◌, true, ℕ, suc, ◌+◌, ◌<◌, length, get_or, drop, drop-cons, append_assoc, arith, List, [], ◌∷◌, ◌++◌, map, Option, Some, None, Result, Ok, Err, IfOk, refl, sym, ap, ◌∙◌}
+use Rattle.std.proofs.lemmas.List.{append-nil, map-append}
 use Rattle.std.specs.declared.alloc.Global.{Global}
 use Rattle.std.specs.declared.rc.RcStr.{RcStr}
 use Rattle.std.specs.Rc.{rc_str_bytes}
@@ -8,7 +8,7 @@ use Rattle.std.specs.List.Sorted.{IsStrictlySortedBy}
 use Rattle.std.specs.Map.{keys_of}
 use Rattle.cedar_expr_model.specs.Name.{Text}
 use Rattle.cedar_expr_model.specs.Whole.Tree.{CoreType, Tree, unknown}
-use Rattle.cedar_expr_model.specs.Whole.Builder.{Builder, built, built_fields, tree_builder, tree_fields}
+use Rattle.cedar_expr_model.specs.Whole.Builder.{Builder, built, built_list, built_fields, tree_builder, trees, tree_fields}
 use Rattle.cedar_expr_model.specs.Whole.Lists.{rises}
 use Rattle.cedar_expr_model.specs.Whole.Made.{Made, written}
 use Rattle.cedar_expr_model.specs.Whole.Order.{text_cmp}
@@ -64,3 +64,19 @@ pub made_rises : (b : Builder Tree) (es made : List (RcStr Global × Expr Unit))
 made_rises b es made h s =
     ap (rises text_cmp) (sym (names_stay made) ∙ ap (map (λ p. p.0)) h ∙ names_built b es)
     ∙ names_ascend es s
+
+-- a walk along a row, in the same way
+module _ (b : Builder Tree) (xs : List (Expr Unit)) (i : ℕ) (x d : Expr Unit) where
+  abbrev of_row : List (Expr Unit) → List Tree
+  of_row es = built_list b (trees (map tree_of es))
+
+  pub row_steps : (done more : List (Expr Unit)) (y : Expr Unit) (all : List Tree) → i < length xs → x ≡ get_or xs i d → map tree_of done ++ of_row (drop i xs) ≡ all → more ≡ done ++ y ∷ [] → tree_of y ≡ built b (tree_of x) → map tree_of more ++ of_row (drop (i + 1) xs) ≡ all
+  row_steps done more y all below at h n made =
+      let next : i + 1 ≡ suc i = omega arith in
+      ap (λ ms. map tree_of ms ++ of_row (drop (i + 1) xs)) n
+      ∙ ap (λ ts. ts ++ of_row (drop (i + 1) xs)) (map-append tree_of done (y ∷ []))
+      ∙ append_assoc (map tree_of done) (tree_of y ∷ []) (of_row (drop (i + 1) xs))
+      ∙ ap (λ t. map tree_of done ++ t ∷ of_row (drop (i + 1) xs)) (made ∙ ap (λ z. built b (tree_of z)) at)
+      ∙ ap (λ k. map tree_of done ++ built b (tree_of (get_or xs i d)) ∷ of_row (drop k xs)) next
+      ∙ ap (λ zs. map tree_of done ++ of_row zs) (sym (drop-cons xs i d below))
+      ∙ h

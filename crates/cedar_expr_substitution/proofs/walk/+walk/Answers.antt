@@ -1,12 +1,12 @@
 use Rattle.std.proofs.Common.{◌≡◌, IfOk, map, subst, sym, ap, ◌∙◌}
 use Rattle.cedar_expr_names.specs.Views.{plain_name_of}
-use Rattle.cedar_expr_model.specs.Whole.Builder.{trees, tree_fields}
+use Rattle.cedar_expr_model.specs.Whole.Builder.{built_list, trees, tree_fields}
 use Rattle.cedar_expr_model.specs.Whole.Substitution.{substituted}
 use Rattle.cedar_expr_model.specs.Whole.Tree.{call, set_literal, record_literal}
 use Rattle.cedar_expr_trees.specs.Trees.{tree_of, kind_tree, named, field_trees}
 use Rattle.cedar_expr_trees.proofs.Trees.{call_tree, set_tree, record_tree}
 use Rattle.cedar_expr_substitution.specs.Bound.{bindings_of, substituting}
-use Rattle.cedar_expr_substitution.proofs.Walked.{field_steps, fields_end, made_rises}
+use Rattle.cedar_expr_substitution.proofs.Walked.{row_steps, field_steps, fields_end, made_rises}
 use Rattle.cedar_expr_substitution.proofs.walk.+walk.Goals as goal
 
 pub put_in-returns-in-ExtensionFunctionApp : goal.put_in-returns-in-ExtensionFunctionApp
@@ -49,3 +49,8 @@ put_in_fields-returns-clause-rising g t c =
     made_rises b c.args.fields.now.entries c.loop-name.made.items
     (fields_end b c.args.fields.now.entries c.loop-name.name-iterator c.loop-name.made.items c.loop-name.invariant c.in-None.ensures.steps.0)
     c.len.ensures.ordered
+
+pub put_in_all-loop-e-preserved : goal.put_in_all-loop-e-preserved
+put_in_all-loop-e-preserved g t c =
+    let b = substituting (bindings_of g.X.ExtensionValue.seen c.args.bindings.now) in
+    row_steps b c.args.exprs.now c.loop-e.e-index c.e-item.result _ c.loop-e.made.items c.push.new.self.items c.in_ok-put_in.field-0 (built_list b (trees (map (tree_of {T = Unit}) c.args.exprs.now))) c.loop-e-test.true c.e-item.is c.loop-e.invariant c.in_ok-push.ensures.items c.in_ok-put_in.ensures
