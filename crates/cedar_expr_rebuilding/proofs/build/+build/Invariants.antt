@@ -1,0 +1,20 @@
+use Rattle.std.proofs.Common.{◌≡◌, map, drop}
+use Rattle.cedar_expr_model.specs.Whole.Builder.{built_list, built_fields, trees, tree_fields}
+use Rattle.cedar_expr_trees.specs.Trees.{tree_of, named, field_trees}
+use Rattle.cedar_expr_builders.specs.Refusing.{all_made, fields_made}
+use Rattle.cedar_expr_builders.specs.Views.{meant}
+use Rattle.cedar_expr_rebuilding.specs.Outcome.{placing}
+use Rattle.cedar_expr_rebuilding.proofs.Gathered.{after}
+use Rattle.cedar_expr_rebuilding.proofs.build.+build.Given as goal
+
+abbrev pub invariant-build_all-loop-e : goal.invariant-build_all-loop-e
+invariant-build_all-loop-e g l =
+    let b = placing g.B.ExprBuilder.steps g.B.ExprBuilder.refuses (g.U.BuildUnknown.placed l.unknowns) in
+    all_made (built_list b (trees (map tree_of l.exprs)))
+    ≡ after (map g.B.ExprBuilder.means l.made.items) (all_made (built_list b (trees (map tree_of (drop l.e-index l.exprs)))))
+
+abbrev pub invariant-build_fields-loop-name : goal.invariant-build_fields-loop-name
+invariant-build_fields-loop-name g l =
+    let b = placing g.B.ExprBuilder.steps g.B.ExprBuilder.refuses (g.U.BuildUnknown.placed l.unknowns) in
+    fields_made (built_fields b (tree_fields (named (field_trees l.fields.entries))))
+    ≡ after (named (meant g.B.ExprBuilder.means l.made.items)) (fields_made (built_fields b (tree_fields (named (field_trees l.name-iterator)))))

@@ -1,0 +1,4 @@
+mod InTurn
+mod Placed
+mod Typed
+mod Walked

@@ -1,0 +1,54 @@
+//! Unknowns that are bound to values.
+
+ghost use Rattle.cedar_expr_model.specs.Whole.Made.{written};
+ghost use Rattle.cedar_expr_substitution.specs.Bound.{bindings_of, placed_by};
+
+use cedar_expr_builders::BuildFault;
+use cedar_expr_builders::expr_builder::ExprBuilder;
+use cedar_expr_partial::{ExtensionCall, FromValue};
+use cedar_expr_rebuilding::{BuildUnknown, KeepUnknowns, build_with};
+use cedar_expr_trees::{Expr, Unknown};
+use cedar_expr_values::Value;
+use std::alloc::Global;
+use std::collections::HashMap;
+use std::rc::RcStr;
+
+/// The values of unknowns, by their names. It puts the expression that a value is written as in the place of each unknown that is
+/// bound, and leaves the others.
+#[derive(Drop)]
+pub struct Bound<'a, X> {
+    bindings: &'a HashMap<RcStr, Value<X>>,
+}
+
+impl<'a, X: ExtensionCall> Bound<'a, X> {
+    ghost use Rattle.std.specs.Prelude.{◌≡◌};
+    ghost use Rattle.cedar_expr_substitution.specs.Bound.{bound_by};
+
+    /// The unknowns that are bound by this map.
+    pub fn new(bindings: &'a HashMap<RcStr, Value<X>>) -> Bound<'a, X>
+        ensures { bound_by X.seen result ≡ bindings_of X.seen bindings.entry.now }
+    {
+        Bound { bindings }
+    }
+}
+
+impl<X: ExtensionCall> BuildUnknown for Bound<'_, X> {
+    ghost use Rattle.cedar_expr_substitution.specs.Bound.{bound_by};
+
+    ghost placed = { λ b. placed_by (bound_by X.seen b) };
+
+    fn build_unknown<B: ExprBuilder>(
+        &self,
+        alloc: Global,
+        builder: B,
+        unknown: &Unknown,
+    ) -> Result<B::Expr, BuildFault<B::BuildError>> {
+        match self.bindings.get(unknown.name.as_str()) {
+            Some(value) => {
+                let e = Expr::from_value(alloc, value)?;
+                build_with::<B, (), KeepUnknowns>(alloc, &e, &KeepUnknowns)
+            }
+            None => KeepUnknowns.build_unknown(alloc, builder, unknown),
+        }
+    }
+}
