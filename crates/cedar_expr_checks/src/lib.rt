@@ -9,6 +9,3 @@ pub mod laws;
 
 pub use check::CheckExpr;
 pub use err::ExprValidationError;
-
-#[cfg(test)]
-mod tests;
