@@ -19,8 +19,7 @@ use Rattle.cedar_schema_model.specs.Whole.HasType.{has_type}
 
 -- The faults of an entity or a request.
 pub data ConformFault : Type 0 where
-  undeclared not_listed no_member lacks_attribute undeclared_attribute attribute_value tag ancestor : ConformFault
-  context_value open_part : ConformFault
+  undeclared not_listed no_member lacks_attribute undeclared_attribute attribute_value tag ancestor context_value open_part : ConformFault
 
 abbrev pub conform_number : ConformFault → ℕ
 conform_number undeclared = 1
@@ -39,9 +38,8 @@ conform_faults = undeclared ∷ not_listed ∷ no_member ∷ lacks_attribute ∷
 
 -- Where a schema speaks of a uid: among its actions, else by the kind of its entity type, else nowhere.
 pub data Place : Type 0 where
-  among_actions : Place
+  among_actions nowhere : Place
   of_kind : EntityKind → Place
-  nowhere : Place
 
 abbrev pub place_of : Schema → Uid → Place
 place_of s u = if declares_action s u then among_actions else option_map_or (λ t. of_kind t.kind) (type_named s u.kind) nowhere
