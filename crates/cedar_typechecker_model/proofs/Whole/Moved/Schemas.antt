@@ -17,8 +17,9 @@ use Rattle.cedar_schema_model.specs.Whole.DeclLaws.{ActionTypeDescends, TypeDesc
 use Rattle.cedar_schema_model.specs.Whole.Lookup.{attributes_of_kind, declared_of, declared_by_all, lookup_attribute, may_have_attribute}
 use Rattle.cedar_schema_model.proofs.Whole.Decls.Descent.{action_descends-Decides, type_descends-Decides}
 use Rattle.cedar_schema_model.proofs.Whole.Decls.Reordered.{reaches_along}
-use Rattle.cedar_typechecker_model.specs.Whole.Rules.{may_be_in, kind_tags, tags_of}
+use Rattle.cedar_typechecker_model.specs.Whole.Rules.{may_be_in, tags_of}
 use Rattle.cedar_typechecker_model.specs.Whole.ScopeRules.{is_action_type, is_known_type, is_no_unknown_action, has_id, is_no_unknown_member}
+use Rattle.cedar_schema_model.specs.Whole.Conforming.{of_kind, tags_at}
 
 -- the same types and actions in another order, each found alike
 pub record IsMoved (s t : Schema) : Type 0 where
@@ -109,7 +110,7 @@ module _ (s t : Schema) (m : IsMoved s t) where
   same_may_have y a = refl
 
   pub same_tags : (n : Name) → tags_of s n ≡ tags_of t n
-  same_tags n = λ i. option_and_then (λ e. kind_tags e.kind) (m.found_type n i)
+  same_tags n = λ i. option_and_then (λ e. tags_at (of_kind e.kind)) (m.found_type n i)
 
   -- scope rules
   pub same_action_type : (n : Name) → is_action_type s n ≡ is_action_type t n

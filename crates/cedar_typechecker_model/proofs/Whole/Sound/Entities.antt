@@ -18,7 +18,7 @@ use Rattle.cedar_schema_model.specs.Whole.Conforming.{Place, among_actions, of_k
 use Rattle.cedar_schema_model.specs.Whole.DeclLaws.{IsOf}
 use Rattle.cedar_schema_model.proofs.Whole.Types.Lookups.{named_cases}
 use Rattle.cedar_schema_model.proofs.Whole.Decls.Direct.{good_entity}
-use Rattle.cedar_typechecker_model.specs.Whole.Rules.{kind_tags, tags_of}
+use Rattle.cedar_typechecker_model.specs.Whole.Rules.{tags_of}
 use Rattle.cedar_typechecker_model.specs.Whole.OfLaws.Simple.{IsOrderly}
 use Rattle.std.specs.Map.{lookup}
 
@@ -28,7 +28,7 @@ kind_declared (standard as_ t) a = refl
 kind_declared (enumerated ids) a = refl
 kind_declared external a = refl
 
-kind_tagged : (k : EntityKind) → tags_at (of_kind k) ≡ kind_tags k
+kind_tagged : (k : EntityKind) → tags_at (of_kind k) ≡ tags_at (of_kind k)
 kind_tagged (standard as_ t) = refl
 kind_tagged (enumerated ids) = refl
 kind_tagged external = refl
@@ -42,7 +42,7 @@ declared_by a true (Some t) h = (let q = h refl in cc)
 declared_by a false None h = refl
 declared_by a false (Some t) h = kind_declared t.kind a
 
-tagged_by : (b : Bool) (o : Option EntityType) → (b ≡ true → is_some o ≡ false) → tags_at (place_by b o) ≡ option_and_then (λ e. kind_tags e.kind) o
+tagged_by : (b : Bool) (o : Option EntityType) → (b ≡ true → is_some o ≡ false) → tags_at (place_by b o) ≡ option_and_then (λ e. tags_at (of_kind e.kind)) o
 tagged_by true None h = refl
 tagged_by true (Some t) h = (let q = h refl in cc)
 tagged_by false None h = refl
