@@ -155,10 +155,6 @@ abbrev pub with_residual : BinaryOp → Option Name → Option Name → Tree →
 with_residual equal j k a b = if differ j k then truth_left false else residual (binary equal a b)
 with_residual o j k a b = residual (binary o a b)
 
--- `is` of a residual: decided of an unknown annotated with an entity type
-abbrev pub is_of_residual : Name → Tree → Left
-is_of_residual n r = option_map_or (λ k. truth_left (name_eq k n)) (kind_of_unknown r) (residual (is_type r n))
-
 -- what a call answers
 abbrev pub answer_left : MadeCalled → Left
 answer_left (makes m) = value_left m
