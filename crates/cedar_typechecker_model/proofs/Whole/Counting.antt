@@ -8,9 +8,10 @@ use Rattle.cedar_expr_model.proofs.Lists.{contains_head, contains_none, contains
 use Rattle.cedar_schema_model.specs.Whole.Types.{BoolType, only_true, only_false, Ty, bool_type}
 use Rattle.cedar_typechecker_model.specs.Whole.Facts.{Facts}
 use Rattle.cedar_typechecker_model.specs.Whole.Typing.{Judgement}
-use Rattle.cedar_typechecker_model.specs.Whole.Levels.{Violation, Count, count, joined, further, needed, stepped, is_entity, unless_false, unless_true, branches, after_test, greater, target_after_test, path_violations, after}
+use Rattle.cedar_typechecker_model.specs.Whole.Levels.{Violation, Count, count, joined, further, needed, stepped, is_entity, unless_false, unless_true, branches, after_test, target_after_test, path_violations, after}
 use Rattle.cedar_typechecker_model.specs.Whole.Dereferences.{ByType, Behind, Branch, AfterTest, BranchCount, CountAfterTest, Further, is_entity_type, TooFar}
 use Rattle.cedar_typechecker_model.proofs.Whole.Exact.{Exact, of_parts}
+use Rattle.cedar_typechecker_model.proofs.Whole.Named.{greater}
 
 -- a number above zero
 abbrev is_positive : ℕ → Bool

@@ -70,12 +70,9 @@ after unless left right = option_map_or (λ j. unless j.type (right j.facts)) le
 abbrev pub after_test : Option Judgement → (Facts → List Violation) → List Violation → List Violation
 after_test test first second = option_map_or (λ j. branches (λ vs ws. vs ++ ws) j.type (first j.facts) second) test []
 
--- the greater count of two branches
-abbrev pub greater : Count → Count → Count
-greater c d = count (max c.steps d.steps) (c.found ++ d.found)
-
+-- of two branches the greater count
 abbrev pub target_after_test : Option Judgement → (Facts → Count) → Count → Count
-target_after_test test first second = option_map_or (λ j. branches greater j.type (first j.facts) second) test (count 0 [])
+target_after_test test first second = option_map_or (λ j. branches (λ c d. count (max c.steps d.steps) (c.found ++ d.found)) j.type (first j.facts) second) test (count 0 [])
 
 -- The steps of a path that stand on an entity. The first test of type False asks for what isn't declared, and ends the path.
 abbrev pub entity_steps : Setting → Text → List Text → Option Ty → ℕ

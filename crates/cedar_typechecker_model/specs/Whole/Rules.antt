@@ -82,10 +82,6 @@ abbrev pub written_equal : Setting → Option Uid → Option Uid → Ty → Ty �
 written_equal s (Some u) (Some v) t t' = Some (bool_type (known_truth (uid_eq u v)))
 written_equal s u v t t' = comparable s.mode t t'
 
--- Equality: False of types without a common value; of two written uids True or False; else the types must be comparable.
-abbrev pub equal_type : Setting → Tree → Tree → Ty → Ty → Option Ty
-equal_type s a b t u = if are_disjoint t u then Some (bool_type only_false) else written_equal s (written_uid s a) (written_uid s b) t u
-
 -- order: two whole numbers, or two of one extension type that is ordered
 abbrev pub order_type : Setting → Ty → Ty → Option Ty
 order_type s long_type long_type = truth_type
@@ -148,9 +144,10 @@ within_kinds s u us k l = bool_type (if may_be_in s.schema k l then any_bool els
 abbrev pub in_type : Setting → Tree → Tree → Ty → Ty → Option Ty
 in_type s a b t u = option_and_then (λ k. option_map (within_kinds s (written_action s a) (written_actions s b) k) (entity_or_set_kinds u)) (entity_kinds t)
 
--- an operator of two operands, but for tags
+-- An operator of two operands, but for tags. Equality: False of types without a common value; of two written uids True or False; else
+-- the types must be comparable.
 abbrev pub binary_type : Setting → BinaryOp → Tree → Tree → Ty → Ty → Option Ty
-binary_type s equal a b t u = equal_type s a b t u
+binary_type s equal a b t u = if are_disjoint t u then Some (bool_type only_false) else written_equal s (written_uid s a) (written_uid s b) t u
 binary_type s less a b t u = order_type s t u
 binary_type s less_or_equal a b t u = order_type s t u
 binary_type s plus a b t u = number_type t u

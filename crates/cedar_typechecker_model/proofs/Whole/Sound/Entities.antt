@@ -12,7 +12,7 @@ use Rattle.cedar_store_model.specs.Whole.World.{Entity}
 use Rattle.cedar_expr_model.specs.Whole.ValueParts.{Part, known, left}
 use Rattle.cedar_schema_model.specs.Whole.Types.{Ty, Attributes, no_attributes, attribute, Declared, attribute_named}
 use Rattle.cedar_schema_model.specs.Whole.Schema.{EntityKind, standard, enumerated, external, EntityType, Schema, type_named, declares_action}
-use Rattle.cedar_schema_model.specs.Whole.Lookup.{attributes_of_kind, declared_of}
+use Rattle.cedar_schema_model.specs.Whole.Lookup.{declared_of}
 use Rattle.cedar_schema_model.specs.Whole.HasType.{HasType}
 use Rattle.cedar_schema_model.specs.Whole.Conforming.{Place, among_actions, of_kind, nowhere, place_of, attributes_at, tags_at, attribute_list, type_at, EntityConforms}
 use Rattle.cedar_schema_model.specs.Whole.DeclLaws.{IsOf}
@@ -23,7 +23,7 @@ use Rattle.cedar_typechecker_model.specs.Whole.OfLaws.Simple.{IsOrderly}
 use Rattle.std.specs.Map.{lookup}
 
 -- where a schema speaks of an entity is where it declares its type
-kind_declared : (k : EntityKind) (a : Text) → attribute_named a (attributes_at (of_kind k)) ≡ attribute_named a (attributes_of_kind k)
+kind_declared : (k : EntityKind) (a : Text) → attribute_named a (attributes_at (of_kind k)) ≡ attribute_named a (attributes_at (of_kind k))
 kind_declared (standard as_ t) a = refl
 kind_declared (enumerated ids) a = refl
 kind_declared external a = refl
@@ -36,7 +36,7 @@ kind_tagged external = refl
 abbrev pub place_by : Bool → Option EntityType → Place
 place_by b o = if b then among_actions else option_map_or (λ (t : EntityType). of_kind t.kind) o nowhere
 
-declared_by : (a : Text) (b : Bool) (o : Option EntityType) → (b ≡ true → is_some o ≡ false) → attribute_named a (attributes_at (place_by b o)) ≡ option_and_then (λ e. attribute_named a (attributes_of_kind e.kind)) o
+declared_by : (a : Text) (b : Bool) (o : Option EntityType) → (b ≡ true → is_some o ≡ false) → attribute_named a (attributes_at (place_by b o)) ≡ option_and_then (λ e. attribute_named a (attributes_at (of_kind e.kind))) o
 declared_by a true None h = refl
 declared_by a true (Some t) h = (let q = h refl in cc)
 declared_by a false None h = refl

@@ -18,7 +18,7 @@ use Rattle.cedar_schema_model.specs.Whole.Environment.{Environment}
 use Rattle.cedar_schema_model.specs.Whole.Lookup.{lookup_attribute}
 use Rattle.cedar_schema_model.proofs.Whole.Types.Lookups.{inside, test_cases}
 use Rattle.cedar_typechecker_model.specs.Whole.Facts.{Facts, union, attribute_part, tag_part}
-use Rattle.cedar_typechecker_model.specs.Whole.Levels.{joined, further, stepped, is_entity, branches, after_test, greater, target_after_test, entity_steps, fields_before, path_violations, on_entity, violations, violations_among, violations_in_fields, target, target_in_fields, after, unless_false, unless_true}
+use Rattle.cedar_typechecker_model.specs.Whole.Levels.{joined, further, stepped, is_entity, branches, after_test, target_after_test, entity_steps, fields_before, path_violations, on_entity, violations, violations_among, violations_in_fields, target, target_in_fields, after, unless_false, unless_true}
 use Rattle.cedar_typechecker_model.specs.Whole.Soundness.{Hold, ConformsAt, Suits}
 use Rattle.cedar_typechecker_model.specs.Whole.Typing.{Types, EachTyped, FieldsTyped}
 use Rattle.cedar_typechecker_model.specs.Whole.Verdicts.{strictly}
@@ -29,6 +29,7 @@ use Rattle.cedar_typechecker_model.proofs.Whole.Sound.Reached.{Nearness, Reached
 use Rattle.cedar_typechecker_model.proofs.Whole.Sound.Soundness.{SlotsIn, behind, on_left, on_right}
 use Rattle.cedar_typechecker_model.proofs.Whole.Sound.Straying.{plain_strays, bool_strays, and_bool, or_bool, tested_bool, path_bool, unary_strays, binary_strays, like_strays, is_strays, set_strays, call_strays, get_tag_leads, get_tag_entity}
 use Rattle.cedar_typechecker_model.proofs.Whole.Sound.Targets.{TargetReached, FieldsReached, same_value, good, simple, literal_at, variable_at, attribute_target, field_target, tag_target, attribute_looks, left_leads, path_cases, choice_target, record_of_lookup, declared_attribute, record_is, record_target, operands_looks, path_looks, first_field, later_field}
+use Rattle.cedar_typechecker_model.proofs.Whole.Named.{greater}
 
 module _ (s : Schema) (x : Table) (e : Environment) (w : World) (suits : Suits s x e w) (Near : ℕ → Uid → Type 0) (near : Nearness w Near) (n : ℕ) (c : (u : Uid) → Near n u → declares_action s u ≡ false → ConformsAt s w u) where
   mutual
