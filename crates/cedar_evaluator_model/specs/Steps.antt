@@ -7,7 +7,7 @@ use Rattle.cedar_expr_model.specs.Name.{Text, Name, name_eq}
 use Rattle.cedar_expr_model.specs.Uid.{Uid}
 use Rattle.cedar_expr_model.specs.Whole.Value.{truth, text, entity, V, prim}
 use Rattle.cedar_expr_model.specs.Whole.Order.{value_cmp}
-use Rattle.cedar_expr_model.specs.Whole.Tree.{CoreType, entity_core, BinaryOp, equal, is_in, get_tag, has_tag, Tree, lit, unknown, binary, get_attr, has_attr, has_path, is_type, record_literal}
+use Rattle.cedar_expr_model.specs.Whole.Tree.{CoreType, entity_core, BinaryOp, equal, is_in, get_tag, has_tag, Tree, lit, unknown, binary, get_attr, has_attr, has_path, record_literal}
 use Rattle.cedar_expr_model.specs.Whole.Builder.{path_test, tree_fields}
 use Rattle.cedar_expr_model.specs.Whole.Made.{Made, made_prim, made_record, Mades, no_mades, made, MadeFields, no_made_fields, made_field, bare, written}
 use Rattle.cedar_expr_model.specs.Whole.Substitution.{fits_annotation}
