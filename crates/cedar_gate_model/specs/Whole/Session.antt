@@ -227,14 +227,10 @@ AnswerFault x s not_bound = HasOpenName x.start s
 AnswerFault x s still_wanted = (u : Uid) × IsWantedNow x s u
 AnswerFault x s not_conforming = (HasOpenName x.start s → ⊥) × (RequestConforms x.schema (request_of (world_now x s)) → ⊥)
 
--- a variable of the request means its value, where the name is that of one
-abbrev pub VariableMeansBound : World → Text → Made → Type 0
-VariableMeansBound w n m = (n ≡ codes "principal" → w.principal ≡ uid_of (bare m)) × (n ≡ codes "action" → w.action ≡ uid_of (bare m))
-    × (n ≡ codes "resource" → w.resource ≡ uid_of (bare m)) × (n ≡ codes "context" → w.context ≡ Some (bare m))
-
--- A bound name means its value in a world: a variable its uid, the context its record, an unknown itself.
+-- A bound name means its value in a world: a variable of the request its uid, the context its record, an unknown itself.
 abbrev pub MeansBound : World → Text × Made → Type 0
-MeansBound w b = (w.unknowns b.0 ≡ Some (bare b.1)) × VariableMeansBound w b.0 b.1
+MeansBound w b = (w.unknowns b.0 ≡ Some (bare b.1)) × ((b.0 ≡ codes "principal" → w.principal ≡ uid_of (bare b.1)) × (b.0 ≡ codes "action" → w.action ≡ uid_of (bare b.1))
+    × (b.0 ≡ codes "resource" → w.resource ≡ uid_of (bare b.1)) × (b.0 ≡ codes "context" → w.context ≡ Some (bare b.1)))
 
 -- A whole world that completes a state: it completes the request, each bound name means its value, and each uid that was asked for is
 -- in it as the store answered.

@@ -14,9 +14,8 @@ use Rattle.cedar_expr_model.specs.Whole.Repeats.{repeated}
 
 -- The faults of declarations.
 pub data SchemaFault : Type 0 where
-  duplicate_entity_type duplicate_common_type duplicate_action undeclared_type undeclared_action : SchemaFault
-  cycle_of_common_types cycle_of_actions action_as_entity_type context_not_record reserved_name shadowing : SchemaFault
-  unknown_extension_type unresolved_external : SchemaFault
+  duplicate_entity_type duplicate_common_type duplicate_action undeclared_type undeclared_action cycle_of_common_types cycle_of_actions : SchemaFault
+  action_as_entity_type context_not_record reserved_name shadowing unknown_extension_type unresolved_external : SchemaFault
 
 -- the faults of declarations that are ill-formed; an external declaration is none of them
 abbrev pub ill_forms : List SchemaFault
