@@ -45,7 +45,8 @@ abbrev mutual
 
   pub attributes_in : Members → Option FieldExprs
   attributes_in no_members = Some no_field_exprs
-  attributes_in (member k d ms) = given (option_or (option_map (λ t. field_expr k t true) (type_read d)) (option_map (λ t. field_expr k t false) (marked_read d))) (λ f. option_map f (attributes_in ms))
+  attributes_in (member k d ms) =
+      given (option_or (option_map (λ t. field_expr k t true) (type_read d)) (option_map (λ t. field_expr k t false) (marked_read d))) (λ f. option_map f (attributes_in ms))
 
   -- a type that is marked as optional
   pub marked_read : Data → Option TypeExpr

@@ -184,7 +184,8 @@ bind_number context_fails = 4
 
 abbrev pub BindFault : Setup → State → Text → Made → BindRefusal → Type 0
 BindFault x s n m not_open = is_open_name x.start s n ≡ false
-BindFault x s n m against_annotation = IsOtherKind (entry_named x.start n) m ⊎ ((u : Unknown) × Contains (context_unknowns x.start.context) u × (u.name ≡ n) × (fits_annotation u.annotation (bare m) ≡ false))
+BindFault x s n m against_annotation = IsOtherKind (entry_named x.start n) m
+    ⊎ ((u : Unknown) × Contains (context_unknowns x.start.context) u × (u.name ≡ n) × (fits_annotation u.annotation (bare m) ≡ false))
 BindFault x s n m no_entity_or_record = (IsSome (entry_named x.start n) × (uid_of (bare m) ≡ None)) ⊎ ((n ≡ codes "context") × IsNoRecord m)
 BindFault x s n m context_fails = ContextFails x.functions (with_bound s n m) x.start.context
 
