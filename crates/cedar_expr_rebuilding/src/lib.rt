@@ -8,6 +8,3 @@ pub mod unknowns;
 pub use build::build_with;
 pub use rebuilding::Rebuild;
 pub use unknowns::{BuildUnknown, KeepUnknowns};
-
-#[cfg(test)]
-mod tests;

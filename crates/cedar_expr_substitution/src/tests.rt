@@ -1,7 +1,6 @@
 //! Examples of substitution.
 
 use super::*;
-use cedar_expr_builders::ExprBuilder;
 use cedar_expr_leaves::Var;
 use cedar_expr_names::{Literal, Name};
 use cedar_expr_trees::{Expr, Unknown};
@@ -142,22 +141,6 @@ fn values_of_their_annotation_are_put_in(rt: HostRuntime) -> Result<(), Fail> {
     let no = Expr::val(Literal::from(false));
     let z = typed(alloc, "z", Type::Bool)?;
     assert!(rt; made == Expr::ite(alloc, z, one, no)?);
-    Ok(())
-}
-
-#[test]
-fn what_is_built_of_a_bound_conjunction_is_folded(rt: HostRuntime) -> Result<(), Fail> {
-    let alloc = rt.alloc();
-    let bindings = one(alloc, "x", truth(true))?;
-    let yes = Expr::val(Literal::from(true));
-    let e = Expr::and(alloc, untyped(alloc, "x")?, yes)?;
-    let made = e.substitute_into_expr::<ExprBuilder<()>, ExtValue>(alloc, &bindings)?;
-    assert!(rt; made == Expr::val(Literal::from(true)));
-    let kept = e.substitute_into_expr::<ExprBuilder<()>, ExtValue>(
-        alloc,
-        &one(alloc, "y", truth(true))?,
-    )?;
-    assert!(rt; kept == e);
     Ok(())
 }
 
