@@ -21,8 +21,7 @@ use Rattle.cedar_store_model.specs.Whole.OfLaws.Extends.{Keeps}
 use Rattle.cedar_evaluator_model.specs.Scope.{Scope, Entry, uid, unknown_uid, Context, closed, residual_fields, unknown_context}
 use Rattle.cedar_evaluator_model.specs.Known.{known_part, known_parts, known_entity, known_found}
 use Rattle.cedar_evaluator_model.specs.OfLaws.Whole.{HoldsValues}
-use Rattle.cedar_evaluator_model.specs.Completion.{IsOfKind}
-use Rattle.cedar_evaluator_model.specs.OfLaws.Completing.{EntryMeans, ContextMeans, PartMeans, PartsMean, EntityMeans, FoundMeans, Completes}
+use Rattle.cedar_evaluator_model.specs.OfLaws.Completing.{EntryMeans, ContextMeans, PartMeans, PartsMean, EntityMeans, FoundMeans, Completes, IsOfKind}
 use Rattle.cedar_evaluator_model.specs.OfLaws.Completable.{has_quote, names_variable, is_free_name, EntryAgrees, ContextAgrees, Agree}
 
 -- the text of a uid has a double quote

@@ -1,21 +1,36 @@
 -- Names for steps of partial evaluation, and for annotations that fit, that proofs take apart.
-use Rattle.std.specs.Prelude.{List, ◌∷◌, zip, Option, false}
+use Rattle.std.specs.Prelude.{List, ◌∷◌, zip, Option, false, codes}
 use Rattle.std.specs.Option.{option_map_or}
 use Rattle.std.specs.Map.{lookup, keys_of, values_of}
 use Rattle.std.specs.Str.{bytes_eq}
-use Rattle.cedar_expr_model.specs.Name.{Text, Name}
+use Rattle.cedar_expr_model.specs.Name.{Text, Name, name_eq}
 use Rattle.cedar_expr_model.specs.Uid.{Uid}
-use Rattle.cedar_expr_model.specs.Whole.Tree.{Tree, get_attr, has_attr, has_path, Trees, TreeFields}
+use Rattle.cedar_expr_model.specs.Whole.Tree.{Tree, get_attr, has_attr, has_path, Trees, TreeFields, is_type}
 use Rattle.cedar_expr_model.specs.Whole.Parts.{listed_fields}
-use Rattle.cedar_expr_model.specs.Whole.Made.{Made, MadeFields}
+use Rattle.cedar_expr_model.specs.Whole.Made.{Made, MadeFields, made_prim}
 use Rattle.cedar_expr_model.specs.Whole.Table.{Signature}
 use Rattle.cedar_expr_model.proofs.Whole.Gathering.{EachIn, EachAmong, EachInFields, each_in}
-use Rattle.cedar_store_model.specs.Whole.Outcome.{missing_entity, no_function}
+use Rattle.cedar_store_model.specs.Whole.Outcome.{missing_entity, no_function, unlinked_slot}
 use Rattle.cedar_store_model.specs.Whole.World.{World, Found, by_found}
 use Rattle.cedar_store_model.specs.Whole.Store.{stand_in}
-use Rattle.cedar_evaluator_model.specs.Scope.{Scope, Left, residual}
-use Rattle.cedar_evaluator_model.specs.Steps.{errs, truth_left, part_left, part_or_missing, part_there, path_step, call_left, made_fields}
+use Rattle.cedar_evaluator_model.specs.Scope.{Scope, Left, residual, Context, value_left}
+use Rattle.cedar_evaluator_model.specs.Steps.{errs, truth_left, part_left, part_or_missing, part_there, path_step, call_left, made_fields, kind_of_unknown}
 use Rattle.cedar_evaluator_model.specs.Completion.{Fits, FitsAnnotations}
+use Rattle.cedar_evaluator_model.specs.Reauthorize.{Outcome, and_next, context_bound, context_substituted}
+use Rattle.cedar_expr_model.specs.Whole.Value.{entity}
+use Rattle.cedar_expr_model.specs.Whole.Substitution.{Bindings}
+
+-- what a slot leaves
+abbrev pub slot_left : Option Uid → Left
+slot_left bound = option_map_or (λ u. value_left (made_prim (entity u))) bound (errs unlinked_slot)
+
+-- `is` of a residual
+abbrev pub is_of_residual : Name → Tree → Left
+is_of_residual n r = option_map_or (λ k. truth_left (name_eq k n)) (kind_of_unknown r) (residual (is_type r n))
+
+-- the context of a request under values for unknowns
+abbrev pub context_under : Scope → Bindings → Context → Outcome Context
+context_under s env c = and_next (context_bound c (env (codes "context"))) (context_substituted s env)
 
 -- what is read of an entity that was looked up
 abbrev pub attribute_found : Scope → Uid → Text → Found Made → Left

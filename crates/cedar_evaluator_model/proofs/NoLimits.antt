@@ -20,7 +20,7 @@ use Rattle.cedar_store_model.specs.Whole.Knowledge.{is_known}
 use Rattle.cedar_evaluator_model.specs.Scope.{Scope, MadeCalled, makes, faults, leaves_unknown, Entry, uid, unknown_uid, Context, closed, residual_fields, unknown_context, fault, limit, Left, value_left, residual, stopped}
 use Rattle.cedar_evaluator_model.specs.OfLaws.Calls.{bare_called, Agrees}
 use Rattle.cedar_evaluator_model.specs.Steps.{errs, truth_left, best, mapped, attribute_of, test_of, path_of, combined_left, kind_of_value, kind_of_unknown, with_residual, answer_left, called_left, made_members, Pieces, pieces, halted, with_piece, from_pieces}
-use Rattle.cedar_evaluator_model.specs.Evaluation.{entry_left, context_left, variable_left, slot_left, get_of_residual, has_of_residual, pieces_of, node, evaluated}
+use Rattle.cedar_evaluator_model.specs.Evaluation.{entry_left, context_left, variable_left, get_of_residual, has_of_residual, pieces_of, node, evaluated}
 use Rattle.cedar_evaluator_model.specs.Known.{known_entry, known_context, known_part, known_parts, known_found}
 use Rattle.cedar_evaluator_model.specs.OfLaws.Whole.{NothingUnknown, HoldsValues, LeavesNothing, BoundTo, AllBoundTo}
 use Rattle.cedar_evaluator_model.specs.OfLaws.Standing.{NoLimit}
@@ -28,7 +28,7 @@ use Rattle.cedar_evaluator_model.proofs.GivenReads.{length_bare}
 use Rattle.cedar_evaluator_model.proofs.Owed.{left_within, right_within, less_one, nested}
 use Rattle.cedar_evaluator_model.proofs.Sure.{Sure, sure_if, sure_value, sure_left, sure_picks, conjunction_left, disjunction_left, sure_and, sure_or, ValuesHeld, sure_attribute, sure_test, sure_path, sure_combined, sure_with_residual, sure_is, path_unprojectable, sure_get, sure_has}
 use Rattle.std.proofs.lemmas.List.Folds.{list_all-append}
-use Rattle.cedar_evaluator_model.proofs.Named.{call_of, field_names, field_trees, fields_named}
+use Rattle.cedar_evaluator_model.proofs.Named.{call_of, field_names, field_trees, fields_named, slot_left}
 use Rattle.std.specs.Option.{option_map_or}
 use Rattle.cedar_expr_model.specs.Whole.Builder.{tree_fields, trees}
 use Rattle.cedar_expr_model.proofs.Whole.Gathering.{EachAmong, EachIn, EachInFields, each_in}

@@ -19,14 +19,14 @@ use Rattle.cedar_store_model.proofs.Whole.Meaning.{means_outcome}
 use Rattle.cedar_evaluator_model.specs.Scope.{Scope, Entry, uid, unknown_uid, Context, closed, residual_fields, unknown_context, Left, value_left}
 use Rattle.cedar_evaluator_model.specs.OfLaws.Calls.{Agrees}
 use Rattle.cedar_evaluator_model.specs.Steps.{truth_left, left_of, combined_left, attribute_of, test_of, path_of, called_left, made_members}
-use Rattle.cedar_evaluator_model.specs.Evaluation.{entry_left, context_left, variable_left, slot_left, pieces_of, node, evaluated}
+use Rattle.cedar_evaluator_model.specs.Evaluation.{entry_left, context_left, variable_left, pieces_of, node, evaluated}
 use Rattle.cedar_evaluator_model.specs.Known.{known_entry, known_context, known_world}
 use Rattle.cedar_evaluator_model.specs.Completion.{Fits, FitsAnnotations}
 use Rattle.cedar_evaluator_model.specs.OfLaws.Standing.{IsOutcome, LeavesUnbound, Owed}
 use Rattle.cedar_evaluator_model.proofs.Given.{Given, given_value, given_bind, given_picks, given_truth, given_literal, literal_applied, literal_like, literal_type}
 use Rattle.cedar_evaluator_model.proofs.GivenReads.{given_mapped, given_attribute, given_test, given_path, given_combined, given_call}
 use Rattle.cedar_evaluator_model.proofs.GivenLists.{bare_members, GivenAs, given_from, given_more}
-use Rattle.cedar_evaluator_model.proofs.Named.{field_names, field_trees, fields_named, FitsIn, FitsAmong, FitsInFields, fits_in}
+use Rattle.cedar_evaluator_model.proofs.Named.{field_names, field_trees, fields_named, FitsIn, FitsAmong, FitsInFields, fits_in, slot_left}
 use Rattle.cedar_expr_model.specs.Whole.Parts.{listed}
 
 -- variables and slots

@@ -18,10 +18,10 @@ use Rattle.cedar_store_model.specs.Whole.World.{Found, held, missing, not_loaded
 use Rattle.cedar_store_model.specs.Whole.Reads.{is_in_some, uids_in}
 use Rattle.cedar_store_model.specs.Whole.Knowledge.{is_known}
 use Rattle.cedar_evaluator_model.specs.Scope.{Scope, fault, limit, Left, value_left, residual, stopped}
-use Rattle.cedar_evaluator_model.specs.Steps.{truth_left, on_value, left_of, truth_wanted, picks, part_left, tag_left, made_named, attribute_of, test_of, path_step, path_of, get_tag_found, has_tag_found, tag_of, in_found, in_of, combined_left, differ, with_residual, is_of_residual, errs}
+use Rattle.cedar_evaluator_model.specs.Steps.{truth_left, on_value, left_of, truth_wanted, picks, part_left, tag_left, made_named, attribute_of, test_of, path_step, path_of, get_tag_found, has_tag_found, tag_of, in_found, in_of, combined_left, differ, with_residual, errs}
 use Rattle.cedar_evaluator_model.specs.Evaluation.{tree_named, get_of_residual, has_of_residual, right_left}
 use Rattle.std.specs.Map.{lookup}
-use Rattle.cedar_evaluator_model.proofs.Named.{attribute_found, test_found, path_found}
+use Rattle.cedar_evaluator_model.proofs.Named.{attribute_found, test_found, path_found, is_of_residual}
 use Rattle.std.specs.Option.{option_map_or}
 
 -- a value, an error, or a residual that can't be projected

@@ -1,7 +1,6 @@
 -- When a world in which everything is known completes what an evaluation knows.
 -- Rule: completions (docs/RULES.md).
-use Rattle.std.specs.Prelude.{◌≡◌, Option, IfSome}
-use Rattle.cedar_expr_model.specs.Name.{Name}
+use Rattle.std.specs.Prelude.{Option, IfSome}
 use Rattle.cedar_expr_model.specs.Uid.{Uid}
 use Rattle.cedar_expr_model.specs.Whole.Value.{V}
 use Rattle.cedar_expr_model.specs.Whole.Tree.{CoreType, SlotId, Tree}
@@ -18,10 +17,6 @@ Fits a found = IfSome found (IsOfType a)
 -- each annotated unknown of the expression means a value of that type
 abbrev pub FitsAnnotations : World → Tree → Type 0
 FitsAnnotations w t = EachUnknown (λ n a. Fits a (w.unknowns n)) t
-
--- the type of the uid, where it is known
-abbrev pub IsOfKind : Option Name → Uid → Type 0
-IsOfKind found u = IfSome found (λ k. u.kind ≡ k)
 
 -- The expression means the value there, whatever a policy's slots are bound to, and its unknowns fit.
 abbrev pub PartIs : World → Tree → V → Type 0

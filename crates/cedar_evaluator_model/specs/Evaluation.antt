@@ -3,8 +3,7 @@
 -- Rule: partial evaluation; the recursion limit (docs/RULES.md).
 use Rattle.std.specs.Prelude.{ℕ, zero, suc, List, [], ◌∷◌, Bool, true, false, Option, None, is_some, if◌then◌else◌, codes, option_map}
 use Rattle.std.specs.Str.{bytes_eq}
-use Rattle.cedar_expr_model.specs.Name.{Text}
-use Rattle.cedar_expr_model.specs.Uid.{Uid}
+use Rattle.cedar_expr_model.specs.Name.{Text, name_eq}
 use Rattle.cedar_expr_model.specs.Whole.Value.{truth, entity}
 use Rattle.cedar_expr_model.specs.Whole.Tree.{Var, principal, action, resource, context, entity_core, BinaryOp, Tree, lit, var, slot, unknown, choice, both, either, unary, binary, call, get_attr, has_attr, has_path, like, is_type, set_literal, record_literal, TreeFields}
 use Rattle.cedar_expr_model.specs.Whole.Builder.{conjunction, disjunction, path_test, trees}
@@ -13,7 +12,7 @@ use Rattle.cedar_expr_model.specs.Whole.Made.{made_prim, made_set, made_record, 
 use Rattle.cedar_store_model.specs.Whole.Outcome.{missing_field, unlinked_slot}
 use Rattle.cedar_store_model.specs.Whole.Operators.{applied, like_pattern, of_type}
 use Rattle.cedar_evaluator_model.specs.Scope.{Scope, Entry, uid, unknown_uid, Context, closed, residual_fields, unknown_context, limit, Left, value_left, residual, stopped}
-use Rattle.cedar_evaluator_model.specs.Steps.{errs, truth_left, on_value, best, left_of, truth_wanted, picks, mapped, attribute_of, test_of, path_of, combined_left, kind_of_value, kind_of_unknown, with_residual, is_of_residual, called_left, made_members, Pieces, pieces, with_piece, from_pieces, record_left}
+use Rattle.cedar_evaluator_model.specs.Steps.{errs, truth_left, on_value, best, left_of, truth_wanted, picks, mapped, attribute_of, test_of, path_of, combined_left, kind_of_value, kind_of_unknown, with_residual, called_left, made_members, Pieces, pieces, with_piece, from_pieces, record_left}
 use Rattle.std.specs.Map.{lookup, keys_of, values_of}
 use Rattle.std.specs.Option.{option_map_or}
 
@@ -31,9 +30,6 @@ variable_left s principal = entry_left (codes "principal") s.principal
 variable_left s action = entry_left (codes "action") s.action
 variable_left s resource = entry_left (codes "resource") s.resource
 variable_left s context = context_left s.context
-
-abbrev pub slot_left : Option Uid → Left
-slot_left bound = option_map_or (λ u. value_left (made_prim (entity u))) bound (errs unlinked_slot)
 
 -- The field of a residual record.
 abbrev pub tree_named : Text → TreeFields → Option Tree
@@ -63,11 +59,11 @@ abbrev pub pieces_of : (Tree → Left) → List Tree → Pieces
 pieces_of go [] = pieces []
 pieces_of go (t ∷ ts) = with_piece (go t) (pieces_of go ts)
 
--- One level: `go` is what is left of an expression a level deeper.
+-- One level: `go` is what is left of an expression a level deeper. `is` of a residual is decided of an unknown annotated with an entity type.
 abbrev pub node : Scope → (Tree → Left) → Tree → Left
 node s go (lit p) = value_left (made_prim p)
 node s go (var x) = variable_left s x
-node s go (slot x) = slot_left (s.slots x)
+node s go (slot x) = option_map_or (λ u. value_left (made_prim (entity u))) (s.slots x) (errs unlinked_slot)
 node s go (unknown n a) = mapped n a (s.values n)
 node s go (choice t a b) = on_value (go t) (picks (go a) (go b)) (λ r. residual (choice r (best a (go a)) (best b (go b))))
 node s go (both a b) = on_value (go a) (picks (right_left conjunction true (go b)) (truth_left false)) (λ r. residual (conjunction r (best b (go b))))
@@ -79,7 +75,7 @@ node s go (get_attr e a) = on_value (go e) (attribute_of s a) (get_of_residual g
 node s go (has_attr e a) = on_value (go e) (test_of s a) (has_of_residual a)
 node s go (has_path e a bs) = on_value (go e) (path_of s a bs) (λ r. residual (path_test r a bs))
 node s go (like e p) = on_value (go e) (λ m. left_of (like_pattern p (bare m))) (λ r. residual (like r p))
-node s go (is_type e n) = on_value (go e) (λ m. left_of (of_type n (bare m))) (is_of_residual n)
+node s go (is_type e n) = on_value (go e) (λ m. left_of (of_type n (bare m))) (λ r. option_map_or (λ k. truth_left (name_eq k n)) (kind_of_unknown r) (residual (is_type r n)))
 node s go (set_literal ts) = from_pieces (λ ms. value_left (made_set (made_members ms))) (λ us. set_literal (trees us)) (pieces_of go (listed ts))
 node s go (record_literal fs) = record_left (keys_of (listed_fields fs)) (pieces_of go (values_of (listed_fields fs)))
 

@@ -35,14 +35,13 @@ known_found found = by_found (λ e. held (known_entity e)) missing not_loaded fo
 
 -- What a scope knows as a world. An expression that means something in it needs nothing else.
 abbrev pub known_world : Scope → World
-known_world s =
-    record {
-      principal = known_entry s.principal;
-      action = known_entry s.action;
-      resource = known_entry s.resource;
-      context = known_context s.context;
-      slots = s.slots;
-      unknowns = λ n. option_map bare (s.values n);
-      table = s.table;
-      store = λ u. known_found (s.store u);
-    }
+known_world s = record {
+  principal = known_entry s.principal;
+  action = known_entry s.action;
+  resource = known_entry s.resource;
+  context = known_context s.context;
+  slots = s.slots;
+  unknowns = λ n. option_map bare (s.values n);
+  table = s.table;
+  store = λ u. known_found (s.store u);
+}

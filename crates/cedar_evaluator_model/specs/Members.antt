@@ -13,8 +13,7 @@ use Rattle.cedar_evaluator_model.specs.Response.{Noted, ErrorState, no_error, wi
 
 -- a policy of what is left: its scope is any, and its body is the residual
 abbrev pub left_policy : Effect → Noted → Tree → Policy
-left_policy e n t =
-    record { id = n.id; effect = e; annotations = n.annotations; principal = any; action = any_action; resource = any; body = Some t; bindings = no_bindings }
+left_policy e n t = record { id = n.id; effect = e; annotations = n.annotations; principal = any; action = any_action; resource = any; body = Some t; bindings = no_bindings }
 
 -- the groups as policies: with the body true, with the body false, and with their residual
 abbrev pub of_true : Effect → List Noted → List Policy
@@ -31,9 +30,8 @@ of_residual e ns = map (λ n. left_policy e n.0 n.1) ns
 abbrev pub decided_by : {A B C D : Type 0} → List A → List B → List C → List D → Option Decision
 decided_by permits left_permits (f ∷ fs) left_forbids = Some deny
 decided_by [] [] [] left_forbids = Some deny
-decided_by [] (p ∷ ps) [] left_forbids = None
 decided_by (p ∷ ps) left_permits [] [] = Some allow
-decided_by (p ∷ ps) left_permits [] (f ∷ fs) = None
+decided_by permits left_permits forbids left_forbids = None
 
 abbrev pub decision : Response → Option Decision
 decision r = decided_by r.true_permits r.residual_permits r.true_forbids r.residual_forbids
@@ -107,11 +105,7 @@ pub record Concrete : Type 0 where
 -- forbids and then permits are errors, before the errors listed.
 abbrev pub concretize : Response → Concrete
 concretize r =
-    record {
-      decision = decided r.true_permits r.true_forbids;
-      reasons = ids (must_be_determining r);
-      errors = map without_value (r.residual_forbids ++ r.residual_permits) ++ r.errors;
-    }
+    record { decision = decided r.true_permits r.true_forbids; reasons = ids (must_be_determining r); errors = map without_value (r.residual_forbids ++ r.residual_permits) ++ r.errors }
 
 -- Sessions. A policy that met the limit on the depth counts as open.
 abbrev pub is_limit : Cause → Bool

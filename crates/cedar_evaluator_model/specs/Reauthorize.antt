@@ -75,17 +75,13 @@ abbrev pub context_substituted : Scope → Bindings → Context → Outcome Cont
 context_substituted s env (residual_fields fs) = context_made (restricted_left s (substituted env (record_literal fs)))
 context_substituted s env c = makes_it c
 
--- the context of a request under values for unknowns
-abbrev pub context_under : Scope → Bindings → Context → Outcome Context
-context_under s env c = and_next (context_bound c (env (codes "context"))) (context_substituted s env)
-
 -- A request under values for unknowns: principal, action, resource and context, one after the other.
 abbrev pub request_bound : Scope → Bindings → PartialRequest → Outcome PartialRequest
 request_bound s env q =
     and_next (entry_bound principal q.principal (env (codes "principal")))
     (λ p. and_next (entry_bound action q.action (env (codes "action")))
     (λ a. and_next (entry_bound resource q.resource (env (codes "resource")))
-    (λ r. and_next (context_under s env q.context) (λ c. makes_it (record { principal = p; action = a; resource = r; context = c })))))
+    (λ r. and_next (and_next (context_bound q.context (env (codes "context"))) (context_substituted s env)) (λ c. makes_it (record { principal = p; action = a; resource = r; context = c })))))
 
 -- the scope with another request, in which unknowns have these values
 abbrev pub resumed : Scope → Bindings → PartialRequest → Scope

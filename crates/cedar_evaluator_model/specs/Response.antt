@@ -100,14 +100,13 @@ group e takes ps = filter_map (λ p. of_effect e p.effect (takes p)) ps
 
 -- The response to a list of policies, each evaluated within the limit.
 abbrev pub response_of : Scope → ℕ → List Policy → Response
-response_of s n ps =
-    record {
-      true_permits = group permit (λ p. if_true p (verdict s n p)) ps;
-      false_permits = group permit (λ p. if_false p (verdict s n p)) ps;
-      residual_permits = group permit (λ p. if_residual p (verdict s n p)) ps;
-      true_forbids = group forbid (λ p. if_true p (verdict s n p)) ps;
-      false_forbids = group forbid (λ p. if_false p (verdict s n p)) ps;
-      residual_forbids = group forbid (λ p. if_residual p (verdict s n p)) ps;
-      errors = filter_map (λ p. if_stopped p (verdict s n p)) ps;
-      request = request_of s;
-    }
+response_of s n ps = record {
+  true_permits = group permit (λ p. if_true p (verdict s n p)) ps;
+  false_permits = group permit (λ p. if_false p (verdict s n p)) ps;
+  residual_permits = group permit (λ p. if_residual p (verdict s n p)) ps;
+  true_forbids = group forbid (λ p. if_true p (verdict s n p)) ps;
+  false_forbids = group forbid (λ p. if_false p (verdict s n p)) ps;
+  residual_forbids = group forbid (λ p. if_residual p (verdict s n p)) ps;
+  errors = filter_map (λ p. if_stopped p (verdict s n p)) ps;
+  request = request_of s;
+}

@@ -7,7 +7,7 @@ use Rattle.cedar_expr_model.specs.Name.{Text, Name, name_eq}
 use Rattle.cedar_expr_model.specs.Uid.{Uid}
 use Rattle.cedar_expr_model.specs.Whole.Value.{truth, text, entity, V, prim}
 use Rattle.cedar_expr_model.specs.Whole.Order.{value_cmp}
-use Rattle.cedar_expr_model.specs.Whole.Tree.{CoreType, entity_core, BinaryOp, equal, is_in, get_tag, has_tag, Tree, lit, unknown, binary, get_attr, has_attr, has_path, is_type, record_literal}
+use Rattle.cedar_expr_model.specs.Whole.Tree.{CoreType, entity_core, BinaryOp, equal, is_in, get_tag, has_tag, Tree, lit, unknown, binary, get_attr, has_attr, has_path, record_literal}
 use Rattle.cedar_expr_model.specs.Whole.Builder.{path_test, tree_fields}
 use Rattle.cedar_expr_model.specs.Whole.Made.{Made, made_prim, made_record, Mades, no_mades, made, MadeFields, no_made_fields, made_field, bare, written}
 use Rattle.cedar_expr_model.specs.Whole.Substitution.{fits_annotation}
@@ -154,10 +154,6 @@ differ m n = false
 abbrev pub with_residual : BinaryOp → Option Name → Option Name → Tree → Tree → Left
 with_residual equal j k a b = if differ j k then truth_left false else residual (binary equal a b)
 with_residual o j k a b = residual (binary o a b)
-
--- `is` of a residual: decided of an unknown annotated with an entity type
-abbrev pub is_of_residual : Name → Tree → Left
-is_of_residual n r = option_map_or (λ k. truth_left (name_eq k n)) (kind_of_unknown r) (residual (is_type r n))
 
 -- what a call answers
 abbrev pub answer_left : MadeCalled → Left

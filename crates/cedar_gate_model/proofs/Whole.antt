@@ -1,3 +1,4 @@
+pub mod Named
 pub mod Reading
 pub mod Gate
 pub mod FirstPath

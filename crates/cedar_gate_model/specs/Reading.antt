@@ -1,10 +1,10 @@
 -- Reading JSON: the forms that parts of a bundle share. None says that a form is wrong.
 -- Rule: what a bundle reads as (docs/RULES.md).
-use Rattle.std.specs.Prelude.{ℕ, ℤ, ◌&&◌, List, [], ◌∷◌, Bool, true, false, Option, Some, None, option_map, option_and_then, unwrap_or}
+use Rattle.std.specs.Prelude.{ℕ, ◌&&◌, List, [], ◌∷◌, Bool, true, false, Option, Some, None, option_map, option_and_then, unwrap_or}
 use Rattle.std.specs.List.{list_any}
 use Rattle.std.specs.Str.{bytes_eq}
 use Rattle.serde_json.specs.Data.{Data, Items, no_items, item, Members, no_members, member}
-use Rattle.serde_json.specs.Find.{get, as_number, as_i64, as_u64, as_array, as_object}
+use Rattle.serde_json.specs.Find.{get, as_number, as_u64, as_array, as_object}
 use Rattle.cedar_expr_model.specs.Name.{Text}
 
 -- what comes next takes what was read, if it was
@@ -72,10 +72,6 @@ each_member read (member k d ms) = given (read k d) (λ a. option_map (λ more. 
 -- the same of an object
 abbrev pub members_of : {A : Type 0} → (Text → Data → Option A) → Data → Option (List A)
 members_of read d = given (as_object d) (each_member read)
-
--- a whole number of 64 bits with its sign
-abbrev pub long_read : Data → Option ℤ
-long_read d = option_and_then as_i64 (as_number d)
 
 -- a whole number that is not negative
 abbrev pub count_read : Data → Option ℕ

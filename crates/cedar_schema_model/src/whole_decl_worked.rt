@@ -10,7 +10,7 @@ ghost use Rattle.cedar_schema_model.specs.Whole.ActionEntities.{action_entities}
 ghost use Rattle.cedar_schema_model.specs.Whole.HasType.{has_type};
 ghost use Rattle.cedar_schema_model.specs.Whole.Schema.{enumerated};
 ghost use Rattle.cedar_store_model.specs.Whole.Store.{as_open};
-ghost use Rattle.cedar_schema_model.specs.Whole.Conforming.{undeclared, not_listed, no_member, lacks_attribute, undeclared_attribute, attribute_value, tag, ancestor, context_value, open_part, conform_number, conform_faults, has_entity_fault, entity_conforms, has_request_fault, request_conforms};
+ghost use Rattle.cedar_schema_model.specs.Whole.Conforming.{undeclared, not_listed, no_member, lacks_attribute, undeclared_attribute, attribute_value, tag, ancestor, context_value, open_part, numbered_faults, conform_faults, has_entity_fault, entity_conforms, has_request_fault, request_conforms};
 ghost use Rattle.cedar_schema_model.specs.Whole.Environment.{no_slot, equal_slot, in_slot, environments, environments_for, slot_types};
 ghost use Rattle.cedar_schema_model.specs.Whole.Reference.{action_in};
 ghost use Rattle.cedar_schema_model.specs.Whole.DeclWorked.{user, doc, group, color, ghost_type, rank, n, user_a, doc_d, view, edit, read, all_actions, user_attributes, m_schema, color_schema, tagged_schema, readers, crossed, squared, boss_a, is_ok, ok_seven, age_one, ok_left, one, made, good_user, request, at};
@@ -126,7 +126,7 @@ pub fn worked_requests()
     ensures open_context { request_conforms m_schema (record (as_open request) { context = None }) ≡ false }
     ensures not_member { has_request_fault color_schema (as_open (record request { principal = record { kind = color; id = codes "blue" } })) no_member ≡ true }
     ensures member { has_request_fault color_schema (as_open (record request { principal = record { kind = color; id = codes "red" } })) no_member ≡ false }
-    ensures numbers { map conform_number conform_faults ≡ 1 ∷ 2 ∷ 3 ∷ 4 ∷ 5 ∷ 6 ∷ 7 ∷ 8 ∷ 9 ∷ 10 ∷ [] }
+    ensures numbers { map (λ n. n.0) numbered_faults ≡ 1 ∷ 2 ∷ 3 ∷ 4 ∷ 5 ∷ 6 ∷ 7 ∷ 8 ∷ 9 ∷ 10 ∷ [] }
 {}
 
 /// The environments of one action on one pair of types, of one on two principal and two resource types, and of none.

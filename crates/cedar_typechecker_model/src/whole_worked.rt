@@ -7,7 +7,7 @@ ghost use Rattle.cedar_store_model.specs.Whole.Policy.{condition};
 ghost use Rattle.cedar_schema_model.specs.Whole.Types.{any_bool, only_true, only_false, is_open, is_closed, never, bool_type, long_type, string_type, any_entity, entity_types, entity_type, any_set, set_type, record_type, extension_type, no_attributes, attribute, strict, permissive};
 ghost use Rattle.cedar_typechecker_model.specs.Whole.Facts.{no_facts, fact, union, intersection, attribute_part, tag_part, part_eq};
 ghost use Rattle.cedar_typechecker_model.specs.Whole.Typing.{judgement, judged, type_of, type_under, conjoined, disjoined, path_judged};
-ghost use Rattle.cedar_typechecker_model.specs.Whole.Rules.{literal_type, slot_type, equal_type, order_type, number_type, sets_type, entity_or_set_kinds, may_be_in, written_uid, written_actions, has_type, get_type, tag_type, set_literal_type, core_as_type, arguments_fit, is_type_type, kinds_are};
+ghost use Rattle.cedar_typechecker_model.specs.Whole.Rules.{literal_type, slot_type, order_type, number_type, sets_type, entity_or_set_kinds, may_be_in, written_uid, written_actions, has_type, get_type, tag_type, set_literal_type, core_as_type, arguments_fit, is_type_type, kinds_are};
 ghost use Rattle.cedar_typechecker_model.specs.Whole.Levels.{needed, stepped, count, entity_steps, fields_before, violations, target};
 ghost use Rattle.cedar_typechecker_model.specs.Whole.ScopeRules.{names_known_types, names_known_actions, names_known_members, policy_uids, policy_kinds};
 ghost use Rattle.cedar_typechecker_model.specs.Whole.Verdicts.{passes, passes_in, is_warned, impossible, irrelevant_for, verdict_of, success, irrelevant, fail, policy_environments, policy_violations, in_mode, strictly};

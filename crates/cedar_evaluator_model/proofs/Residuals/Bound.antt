@@ -18,9 +18,9 @@ use Rattle.cedar_evaluator_model.specs.OfLaws.WellMade.{IsWellMade, IsMadeWell, 
 use Rattle.cedar_evaluator_model.specs.Completion.{PartIs}
 use Rattle.cedar_evaluator_model.specs.OfLaws.Completing.{EntryMeans, ContextMeans, Completes}
 use Rattle.cedar_evaluator_model.specs.Response.{PartialRequest}
-use Rattle.cedar_evaluator_model.specs.Reauthorize.{Refusal, wrong_value, known_already, other_type, Outcome, makes_it, refuses, and_next, entry_with, entry_bound, context_bound, restricted_left, context_made, context_substituted, context_under, request_bound, resumed}
+use Rattle.cedar_evaluator_model.specs.Reauthorize.{Refusal, wrong_value, known_already, other_type, Outcome, makes_it, refuses, and_next, entry_with, entry_bound, context_bound, restricted_left, context_made, context_substituted, request_bound, resumed}
 use Rattle.cedar_evaluator_model.specs.ReauthorizeLaws.{CompletesRequest, BindsRightly}
-use Rattle.cedar_evaluator_model.proofs.Named.{fits_in, fits_annotations}
+use Rattle.cedar_evaluator_model.proofs.Named.{fits_in, fits_annotations, context_under}
 use Rattle.cedar_evaluator_model.proofs.Residuals.Stands.{Stands}
 use Rattle.cedar_evaluator_model.proofs.Residuals.Node.{evaluated_stands}
 use Rattle.cedar_evaluator_model.proofs.Residuals.Slots.{substituted_outcome, substituted_fits, value_with_slots}

@@ -16,9 +16,9 @@ use Rattle.cedar_store_model.proofs.Whole.Named.{bound_value}
 use Rattle.cedar_store_model.specs.Whole.Meaning.{combined, outcome_of}
 use Rattle.cedar_store_model.specs.Whole.OfLaws.Extends.{Keeps}
 use Rattle.cedar_evaluator_model.specs.Scope.{residual}
-use Rattle.cedar_evaluator_model.specs.Steps.{truth_left, kind_of_value, kind_of_unknown, differ, with_residual, is_of_residual}
+use Rattle.cedar_evaluator_model.specs.Steps.{truth_left, kind_of_value, kind_of_unknown, differ, with_residual}
 use Rattle.cedar_evaluator_model.specs.Completion.{Fits}
-use Rattle.cedar_evaluator_model.proofs.Named.{FitsIn}
+use Rattle.cedar_evaluator_model.proofs.Named.{FitsIn, is_of_residual}
 use Rattle.cedar_evaluator_model.proofs.Residuals.Stands.{Alike, Stands, alike_same, alike_bind}
 
 -- the outcome is a uid of this entity type, where one is named

@@ -23,13 +23,13 @@ use Rattle.cedar_store_model.proofs.Whole.Known.{there}
 use Rattle.cedar_store_model.proofs.Whole.Meaning.{means_outcome, outcome_means}
 use Rattle.cedar_evaluator_model.specs.Scope.{Scope, Entry, uid, unknown_uid, Context, closed, residual_fields, unknown_context, Left, value_left, residual, stopped, fault, limit}
 use Rattle.cedar_evaluator_model.specs.OfLaws.Calls.{Agrees}
-use Rattle.cedar_evaluator_model.specs.Steps.{truth_left, on_value, best, kind_of_value, kind_of_unknown, with_residual, combined_left, attribute_of, test_of, path_of, is_of_residual, called_left, made_members}
-use Rattle.cedar_evaluator_model.specs.Evaluation.{entry_left, context_left, variable_left, slot_left, get_of_residual, has_of_residual, binary_left, pieces_of, node, evaluated}
+use Rattle.cedar_evaluator_model.specs.Steps.{truth_left, on_value, best, kind_of_value, kind_of_unknown, with_residual, combined_left, attribute_of, test_of, path_of, called_left, made_members}
+use Rattle.cedar_evaluator_model.specs.Evaluation.{entry_left, context_left, variable_left, get_of_residual, has_of_residual, binary_left, pieces_of, node, evaluated}
 use Rattle.cedar_evaluator_model.specs.OfLaws.WellMade.{IsWellMade, IsContextMadeWell, AllMadeWell}
 use Rattle.cedar_evaluator_model.specs.Completion.{Fits, FitsAnnotations}
 use Rattle.cedar_evaluator_model.specs.OfLaws.Completing.{EntryMeans, ContextMeans, Completes}
 use Rattle.cedar_evaluator_model.specs.OfLaws.Standing.{Errs, MeansLike, StandsFor, StandsInAll}
-use Rattle.cedar_evaluator_model.proofs.Named.{field_names, field_trees, fields_named, FitsIn, FitsAmong, FitsInFields, fits_in, fits_annotations}
+use Rattle.cedar_evaluator_model.proofs.Named.{field_names, field_trees, fields_named, FitsIn, FitsAmong, FitsInFields, fits_in, fits_annotations, slot_left, is_of_residual}
 use Rattle.cedar_evaluator_model.proofs.Given.{literal_applied, literal_like, literal_type}
 use Rattle.cedar_evaluator_model.proofs.Residuals.Stands.{Alike, IsNoValue, Stands, alike_same, alike_bind, stands_bind, stands_second, stands_picks, alike_picked, written_alike, written_fits, best_alike, best_fits, alike_asked, each_conjunction, each_disjunction, stands_and, stands_or, stands_literal}
 use Rattle.cedar_evaluator_model.proofs.Residuals.Kinds.{value_kind, unknown_kind, stands_with, stands_is}

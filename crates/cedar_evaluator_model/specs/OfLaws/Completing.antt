@@ -1,7 +1,7 @@
 -- When a world in which everything is known completes what an evaluation knows.
 -- Rule: completions (docs/RULES.md).
-use Rattle.std.specs.Prelude.{◌≡◌, List, Option, Some, None, option_map, codes}
-use Rattle.cedar_expr_model.specs.Name.{Text}
+use Rattle.std.specs.Prelude.{◌≡◌, List, Option, Some, None, option_map, codes, IfSome}
+use Rattle.cedar_expr_model.specs.Name.{Text, Name}
 use Rattle.cedar_expr_model.specs.Uid.{Uid, uid_text}
 use Rattle.cedar_expr_model.specs.Whole.Value.{V, prim, entity, record_of, Fields}
 use Rattle.cedar_expr_model.specs.Whole.Tree.{SlotId, record_literal}
@@ -13,7 +13,11 @@ use Rattle.cedar_store_model.specs.Whole.OfLaws.Extends.{Keeps}
 use Rattle.cedar_evaluator_model.specs.Scope.{Scope, Entry, uid, unknown_uid, Context, closed, residual_fields, unknown_context}
 use Rattle.std.specs.Map.{lookup}
 use Rattle.std.specs.Str.{bytes_eq}
-use Rattle.cedar_evaluator_model.specs.Completion.{IsOfKind, PartIs}
+use Rattle.cedar_evaluator_model.specs.Completion.{PartIs}
+
+-- the type of the uid, where it is known
+abbrev pub IsOfKind : Option Name → Uid → Type 0
+IsOfKind found u = IfSome found (λ k. u.kind ≡ k)
 
 -- the unknown of this name means the uid
 abbrev pub NameMeans : World → Text → Uid → Type 0

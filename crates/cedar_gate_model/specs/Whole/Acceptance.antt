@@ -29,8 +29,7 @@ pub record Submission : Type 0 where
 -- The faults of a submission.
 pub data Cause : Type 0 where
   schema : SchemaFault → Cause
-  external repeated_policy unlinked_slot slot_outside_scope unknown_in_policy nests_too_deep unknown_entity_type : Cause
-  unknown_action no_member ill_typed reaches_too_far : Cause
+  external repeated_policy unlinked_slot slot_outside_scope unknown_in_policy nests_too_deep unknown_entity_type unknown_action no_member ill_typed reaches_too_far : Cause
 
 abbrev pub extension_of : CoreType → List Name
 extension_of (extension_core n) = n ∷ []
@@ -51,35 +50,26 @@ is_linked p = list_all (λ s. not (has_slot p s) || is_some (binding_of p.bindin
 abbrev pub keeps_slots_in_scope : Policy → Bool
 keeps_slots_in_scope p = list_all (λ s. not (tree_uses (body_tree p.body) s)) all_slots
 
--- Which submissions don't have the fault.
-abbrev pub is_clear_of : Cause → Submission → Bool
-is_clear_of (schema f) s = not (has_schema_fault (extension_types s.table) s.declarations f)
-is_clear_of external s = not (has_schema_fault (extension_types s.table) s.declarations unresolved_external)
-is_clear_of repeated_policy s = is_none (repeated bytes_eq (ids s.policies))
-is_clear_of unlinked_slot s = list_all is_linked s.policies
-is_clear_of slot_outside_scope s = list_all keeps_slots_in_scope s.policies
-is_clear_of unknown_in_policy s = list_all (λ p. not (has_unknown (condition p))) s.policies
-is_clear_of nests_too_deep s = list_all (λ p. nat_le (nesting (condition p)) s.limit) s.policies
-is_clear_of unknown_entity_type s = list_all (names_known_types (schema_in s)) s.policies
-is_clear_of unknown_action s = list_all (names_known_actions (schema_in s)) s.policies
-is_clear_of no_member s = list_all (names_known_members (schema_in s)) s.policies
-is_clear_of ill_typed s = list_all (passes (schema_in s) s.table) s.policies
-is_clear_of reaches_too_far s = list_all (λ p. is_nil (policy_violations s.level (schema_in s) s.table p)) s.policies
+-- Each rule: the number of its fault among the gate's refusals, and which submissions don't have the fault.
+abbrev pub acceptance_rule : Cause → ℕ × (Submission → Bool)
+acceptance_rule (schema f) = (1, λ s. not (has_schema_fault (extension_types s.table) s.declarations f))
+acceptance_rule external = (2, λ s. not (has_schema_fault (extension_types s.table) s.declarations unresolved_external))
+acceptance_rule repeated_policy = (3, λ s. is_none (repeated bytes_eq (ids s.policies)))
+acceptance_rule unlinked_slot = (4, λ s. list_all is_linked s.policies)
+acceptance_rule slot_outside_scope = (5, λ s. list_all keeps_slots_in_scope s.policies)
+acceptance_rule unknown_in_policy = (6, λ s. list_all (λ p. not (has_unknown (condition p))) s.policies)
+acceptance_rule nests_too_deep = (7, λ s. list_all (λ p. nat_le (nesting (condition p)) s.limit) s.policies)
+acceptance_rule unknown_entity_type = (8, λ s. list_all (names_known_types (schema_in s)) s.policies)
+acceptance_rule unknown_action = (9, λ s. list_all (names_known_actions (schema_in s)) s.policies)
+acceptance_rule no_member = (10, λ s. list_all (names_known_members (schema_in s)) s.policies)
+acceptance_rule ill_typed = (11, λ s. list_all (passes (schema_in s) s.table) s.policies)
+acceptance_rule reaches_too_far = (12, λ s. list_all (λ p. is_nil (policy_violations s.level (schema_in s) s.table p)) s.policies)
 
--- the number of a fault among the gate's refusals
 abbrev pub number_of : Cause → ℕ
-number_of (schema f) = 1
-number_of external = 2
-number_of repeated_policy = 3
-number_of unlinked_slot = 4
-number_of slot_outside_scope = 5
-number_of unknown_in_policy = 6
-number_of nests_too_deep = 7
-number_of unknown_entity_type = 8
-number_of unknown_action = 9
-number_of no_member = 10
-number_of ill_typed = 11
-number_of reaches_too_far = 12
+number_of c = (acceptance_rule c).0
+
+abbrev pub is_clear_of : Cause → Submission → Bool
+is_clear_of c s = (acceptance_rule c).1 s
 
 -- whether the fault is one of policies against the schema: these have the last numbers
 abbrev pub asks_schema : Cause → Bool

@@ -4,7 +4,7 @@ use Rattle.std.specs.Prelude.{◌≡◌, ◌+◌, ℕ, List, [], ◌∷◌, ◌+
 use Rattle.std.specs.List.{flat_map}
 use Rattle.std.specs.Fmt.{decimal}
 use Rattle.cedar_expr_model.specs.Name.{Text, name_text}
-use Rattle.cedar_expr_model.specs.Uid.{Uid, uid_text, quoted, uid_eq}
+use Rattle.cedar_expr_model.specs.Uid.{uid_text, quoted, uid_eq}
 use Rattle.cedar_store_model.specs.Whole.Outcome.{Fault, missing_entity, overflow, extension_failed}
 use Rattle.cedar_store_model.specs.Whole.Answer.{Decision, allow, deny, PolicyError, Answer}
 use Rattle.cedar_gate_model.specs.Whole.Acceptance.{Submission, Cause, HasFault, IsAccepted, number_of, warnings_of, schema_in}
@@ -25,14 +25,8 @@ abbrev pub decision_word : Decision → Text
 decision_word allow = codes "Allow"
 decision_word deny = codes "Deny"
 
-abbrev pub impossible_line : Text → Text
-impossible_line id = line (codes "impossible " ++ quoted id)
-
-abbrev pub reason_line : Text → Text
-reason_line id = line (codes "reason " ++ quoted id)
-
 abbrev pub warning_lines : Submission → Text
-warning_lines s = flat_map impossible_line (warnings_of s)
+warning_lines s = flat_map (λ id. line (codes "impossible " ++ quoted id)) (warnings_of s)
 
 -- the words of an error; an accepted policy has no other
 abbrev pub fault_words : Fault → Text
@@ -44,23 +38,17 @@ fault_words f = []
 abbrev pub error_line : PolicyError → Text
 error_line e = line (codes "error " ++ (quoted e.id ++ fault_words e.fault))
 
--- the line of a round, which has its number and what was asked for
-abbrev pub round_line : ℕ → List Uid → Text
-round_line k uids = line (codes "round " ++ (decimal k ++ flat_map (λ u. 32 ∷ uid_text u) uids))
-
-abbrev pub decided_line : Option Decision → Text
-decided_line found = line (codes "decision " ++ option_map_or decision_word found (codes "None"))
-
--- the lines of a transcript whose next round has this number; a binding prints nothing
+-- The lines of a transcript whose next round has this number. The line of a round has its number and what was asked for; a binding
+-- prints nothing.
 abbrev pub entry_lines : ℕ → List Entry → Text
 entry_lines k [] = []
-entry_lines k (round uids ∷ es) = round_line k uids ++ entry_lines (k + 1) es
+entry_lines k (round uids ∷ es) = line (codes "round " ++ (decimal k ++ flat_map (λ u. 32 ∷ uid_text u) uids)) ++ entry_lines (k + 1) es
 entry_lines k (bound n ∷ es) = entry_lines k es
-entry_lines k (decided d ∷ es) = decided_line d ++ entry_lines k es
+entry_lines k (decided d ∷ es) = line (codes "decision " ++ option_map_or decision_word d (codes "None")) ++ entry_lines k es
 
 -- the answer's line, its reasons and its errors
 abbrev pub answer_lines : Answer → Text
-answer_lines a = line (codes "answer " ++ decision_word a.decision) ++ (flat_map reason_line a.reasons ++ flat_map error_line a.errors)
+answer_lines a = line (codes "answer " ++ decision_word a.decision) ++ (flat_map (λ id. line (codes "reason " ++ quoted id)) a.reasons ++ flat_map error_line a.errors)
 
 abbrev pub numbered : Text → ℕ → Text
 numbered word n = line (word ++ (32 ∷ decimal n))
@@ -86,8 +74,7 @@ end_status e = is_stopped
 
 -- what a session of a bundle stands on
 abbrev pub setup_of : Functions → Bundle → Setup
-setup_of f b =
-    record { schema = schema_in b.submission; level = b.submission.level; limit = b.submission.limit; functions = f; start = b.start; store = λ u. lookup (uid_eq u) b.store }
+setup_of f b = record { schema = schema_in b.submission; level = b.submission.level; limit = b.submission.limit; functions = f; start = b.start; store = λ u. lookup (uid_eq u) b.store }
 
 -- the lines of a run, after acceptance
 abbrev pub run_lines : Bundle → List Entry → End → Text

@@ -1,6 +1,6 @@
 -- Requests that may be partly open, the worlds that complete them, and what is known at a moment of a run.
 -- Rule: completions; moments (docs/RULES.md).
-use Rattle.std.specs.Prelude.{◌≡◌, ◌||◌, ℕ, List, [], Bool, true, false, Option, Some, codes, if◌then◌else◌}
+use Rattle.std.specs.Prelude.{◌≡◌, ◌||◌, ℕ, List, [], Bool, true, false, Option, Some, codes, if◌then◌else◌, IfSome}
 use Rattle.std.specs.List.{list_all, list_any}
 use Rattle.std.specs.Str.{bytes_eq}
 use Rattle.cedar_expr_model.specs.Name.{Text}
@@ -19,14 +19,14 @@ use Rattle.cedar_schema_model.specs.Whole.Conforming.{EntityConforms, RequestCon
 use Rattle.cedar_evaluator_model.specs.Scope.{Entry, uid, unknown_uid, Context, closed, residual_fields, unknown_context}
 use Rattle.cedar_gate_model.specs.Whole.Slice.{InSlice}
 use Rattle.cedar_evaluator_model.specs.Response.{PartialRequest}
-use Rattle.cedar_evaluator_model.specs.Completion.{IsOfKind, PartIs}
+use Rattle.cedar_evaluator_model.specs.Completion.{PartIs}
 use Rattle.cedar_store_model.specs.Whole.Store.{OpenRequest, unloaded}
 use Rattle.cedar_expr_model.specs.Whole.Lists.{when}
 
 -- the uid that completes an entry: the one given, or any of its type
 abbrev pub EntryCompleted : Entry → Option Uid → Type 0
 EntryCompleted (uid u) found = found ≡ Some u
-EntryCompleted (unknown_uid k) found = (u : Uid) × (found ≡ Some u) × IsOfKind k u
+EntryCompleted (unknown_uid k) found = (u : Uid) × (found ≡ Some u) × IfSome k (λ n. u.kind ≡ n)
 
 -- the context is the one given; or what its fields mean, each unknown in them having a value of its type; or any record
 abbrev pub ContextCompleted : World → Context → Type 0

@@ -8,17 +8,13 @@ use Rattle.cedar_store_model.specs.Whole.World.{World}
 use Rattle.cedar_store_model.specs.Whole.Policy.{Policy, Effect, permit, forbid}
 use Rattle.cedar_store_model.specs.Whole.Answer.{Decision, allow, deny, PolicyMeans}
 
--- what is known makes the policy true
-abbrev pub IsForcedTrue : World → Policy → Type 0
-IsForcedTrue k p = PolicyMeans k p (val (truth_value true))
-
 -- what is known gives the policy an outcome, and it isn't true
 abbrev pub IsForcedFalse : World → Policy → Type 0
 IsForcedFalse k p = (r : Res V) × PolicyMeans k p r × (r ≡ val (truth_value true) → ⊥)
 
 -- some policy of the effect is true
 abbrev pub SomeTrue : World → List Policy → Effect → Type 0
-SomeTrue k ps e = (p : Policy) × Contains ps p × (p.effect ≡ e) × IsForcedTrue k p
+SomeTrue k ps e = (p : Policy) × Contains ps p × (p.effect ≡ e) × PolicyMeans k p (val (truth_value true))
 
 -- no policy of the effect is true
 abbrev pub NoneTrue : World → List Policy → Effect → Type 0

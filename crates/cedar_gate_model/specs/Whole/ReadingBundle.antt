@@ -4,7 +4,6 @@ use Rattle.std.specs.Prelude.{◌&&◌, ℕ, List, [], ◌∷◌, Bool, codes, O
 use Rattle.std.specs.Str.{is_utf8}
 use Rattle.serde_json.specs.Data.{Data}
 use Rattle.serde_json.specs.Read.{read}
-use Rattle.cedar_expr_model.specs.Name.{Text}
 use Rattle.cedar_gate_model.specs.Reading.{given, required, has_at, has_only, list_of}
 use Rattle.cedar_gate_model.specs.Whole.Acceptance.{Submission}
 use Rattle.cedar_gate_model.specs.Whole.Bundle.{Functions, Bundle}
@@ -23,12 +22,10 @@ submission_read x d =
     option_map (λ policies. record { declarations = declarations; policies = policies; table = x.table; level = level; limit = limit })
     (required (codes "policies") (list_of policy_read) d))))
 
-abbrev pub bundle_keys : List Text
-bundle_keys = codes "version" ∷ codes "level" ∷ codes "limit" ∷ codes "schema" ∷ codes "policies" ∷ codes "request" ∷ codes "store" ∷ codes "steps" ∷ []
-
 -- the keys of a bundle alone, of the first version
 abbrev pub is_bundle : Data → Bool
-is_bundle d = has_only bundle_keys d && has_at (codes "version") (is_number 1) d
+is_bundle d = has_only (codes "version" ∷ codes "level" ∷ codes "limit" ∷ codes "schema" ∷ codes "policies" ∷ codes "request" ∷ codes "store" ∷ codes "steps" ∷ []) d
+    && has_at (codes "version") (is_number 1) d
 
 -- a bundle
 abbrev pub bundle_read : Functions → Data → Option Bundle

@@ -40,10 +40,14 @@ pattern_read d = option_map (flat_map (λ es. es)) (list_of elements_read d)
 abbrev pub trees_in : List Part → Option Trees
 trees_in xs = option_map trees (all_given (λ x. x.tree) xs)
 
+-- one part, read so
+abbrev pub of_part : {A : Type 0} → (A → Tree) → (Part → Option A) → List Part → Option Tree
+of_part make read (x ∷ []) = option_map make (read x)
+of_part make read xs = None
+
 -- one expression, two or three, of which this is made
 abbrev pub of_one : (Tree → Tree) → List Part → Option Tree
-of_one make (x ∷ []) = option_map make x.tree
-of_one make xs = None
+of_one make xs = of_part make (λ x. x.tree) xs
 
 abbrev pub of_two : (Tree → Tree → Tree) → List Part → Option Tree
 of_two make (x ∷ y ∷ []) = given x.tree (λ a. option_map (make a) y.tree)
@@ -58,10 +62,9 @@ abbrev pub of_tree_and : {A : Type 0} → (Tree → A → Tree) → (Data → Op
 of_tree_and make read (x ∷ y ∷ []) = given x.tree (λ t. option_map (make t) (read y.json))
 of_tree_and make read xs = None
 
--- one part, read so
+-- one word
 abbrev pub of_word : {A : Type 0} → (A → Tree) → List (Text × A) → List Part → Option Tree
-of_word make words (x ∷ []) = option_map make (word_of words x.json)
-of_word make words xs = None
+of_word make words xs = of_part make (λ x. word_of words x.json) xs
 
 -- a type and an id
 abbrev pub uid_form : List Part → Option Tree
@@ -84,11 +87,6 @@ abbrev pub has_form : List Part → Option Tree
 has_form (x ∷ y ∷ more) = given x.tree (λ t. given (as_str y.json) (λ a. option_map (path_test t a) (all_given (λ z. as_str z.json) more)))
 has_form xs = None
 
--- an object of expressions
-abbrev pub record_form : List Part → Option Tree
-record_form (x ∷ []) = option_map record_literal x.fields
-record_form xs = None
-
 -- The words that a list may begin with, and what follows each.
 abbrev pub forms : List (Text × (List Part → Option Tree))
 forms = (codes "uid", uid_form) ∷ (codes "var", of_word var var_words) ∷ (codes "slot", of_word slot slot_words) ∷ (codes "unknown", unknown_form)
@@ -100,7 +98,7 @@ forms = (codes "uid", uid_form) ∷ (codes "var", of_word var var_words) ∷ (co
     ∷ (codes "containsAll", of_two (binary contains_all)) ∷ (codes "containsAny", of_two (binary contains_any))
     ∷ (codes "getTag", of_two (binary get_tag)) ∷ (codes "hasTag", of_two (binary has_tag)) ∷ (codes "call", call_form)
     ∷ (codes "get", of_tree_and get_attr as_str) ∷ (codes "has", has_form) ∷ (codes "like", of_tree_and like pattern_read)
-    ∷ (codes "is", of_tree_and is_type plain_name_read) ∷ (codes "set", λ xs. option_map set_literal (trees_in xs)) ∷ (codes "record", record_form) ∷ []
+    ∷ (codes "is", of_tree_and is_type plain_name_read) ∷ (codes "set", λ xs. option_map set_literal (trees_in xs)) ∷ (codes "record", of_part record_literal (λ x. x.fields)) ∷ []
 
 -- a list that begins with one of them
 abbrev pub form_read : List Part → Option Tree

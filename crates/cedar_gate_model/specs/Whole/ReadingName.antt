@@ -36,8 +36,7 @@ declared_uid_read d = given (as_array d) (uid_in any_name_read)
 
 -- the types that are written as one word
 abbrev pub core_words : List (Text × CoreType)
-core_words =
-    (codes "Bool", bool_core) ∷ (codes "Long", long_core) ∷ (codes "String", string_core) ∷ (codes "Set", set_core) ∷ (codes "Record", record_core) ∷ []
+core_words = (codes "Bool", bool_core) ∷ (codes "Long", long_core) ∷ (codes "String", string_core) ∷ (codes "Set", set_core) ∷ (codes "Record", record_core) ∷ []
 
 -- the type of an unknown
 abbrev pub annotation_read : Data → Option CoreType

@@ -1,18 +1,14 @@
 -- Reading policies.
 -- Rule: what a bundle reads as; policies and templates (docs/RULES.md).
-use Rattle.std.specs.Prelude.{List, [], ◌∷◌, codes, Option, Some, None, option_map}
+use Rattle.std.specs.Prelude.{[], ◌∷◌, codes, Option, Some, None, option_map}
 use Rattle.serde_json.specs.Data.{Data}
 use Rattle.serde_json.specs.Find.{as_str}
-use Rattle.cedar_expr_model.specs.Name.{Text}
-use Rattle.cedar_store_model.specs.Whole.Policy.{Policy, Effect, permit, forbid, Target, named, own_slot, Scope, any, exactly, inside, of_kind, of_kind_inside, ActionScope, any_action, exactly_action, inside_actions, SlotBindings, no_bindings}
+use Rattle.cedar_store_model.specs.Whole.Policy.{Policy, permit, forbid, Target, named, own_slot, Scope, any, exactly, inside, of_kind, of_kind_inside, ActionScope, any_action, exactly_action, inside_actions, SlotBindings, no_bindings}
 use Rattle.cedar_gate_model.specs.Reading.{given, required, optional, has_only, list_of}
 use Rattle.cedar_gate_model.specs.Whole.ReadingForms.{word_of, first_form, alone, read_as}
 use Rattle.cedar_gate_model.specs.Whole.ReadingName.{plain_name_read, uid_read}
 use Rattle.cedar_gate_model.specs.Whole.ReadingExpression.{expression_read}
 use Rattle.cedar_expr_model.specs.Whole.Lists.{when}
-
-abbrev pub effect_words : List (Text × Effect)
-effect_words = (codes "permit", permit) ∷ (codes "forbid", forbid) ∷ []
 
 -- a target: a uid, or the slot of its own variable
 abbrev pub target_read : Data → Option Target
@@ -38,15 +34,12 @@ bindings_read d =
     (given (optional (codes "?principal") (read_as Some uid_read) None d) (λ principal.
     option_map (λ resource. record { principal = principal; resource = resource }) (optional (codes "?resource") (read_as Some uid_read) None d)))
 
-abbrev pub policy_keys : List Text
-policy_keys = codes "id" ∷ codes "effect" ∷ codes "principal" ∷ codes "action" ∷ codes "resource" ∷ codes "when" ∷ codes "link" ∷ []
-
 -- A policy, without annotations. A part of the scope that lacks is any.
 abbrev pub policy_read : Data → Option Policy
 policy_read d =
-    when (has_only policy_keys d)
+    when (has_only (codes "id" ∷ codes "effect" ∷ codes "principal" ∷ codes "action" ∷ codes "resource" ∷ codes "when" ∷ codes "link" ∷ []) d)
     (given (required (codes "id") as_str d) (λ id.
-    given (required (codes "effect") (word_of effect_words) d) (λ effect.
+    given (required (codes "effect") (word_of ((codes "permit", permit) ∷ (codes "forbid", forbid) ∷ [])) d) (λ effect.
     given (optional (codes "principal") scope_read any d) (λ principal.
     given (optional (codes "action") action_scope_read any_action d) (λ action.
     given (optional (codes "resource") scope_read any d) (λ resource.

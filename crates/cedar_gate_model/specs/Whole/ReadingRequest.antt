@@ -25,13 +25,10 @@ abbrev pub entry_read : Data → Option Entry
 entry_read d =
     first_form (read_as uid uid_read ∷ word_of ((codes "unknown", unknown_uid None) ∷ []) ∷ alone (codes "unknown") (read_as (λ n. unknown_uid (Some n)) plain_name_read) ∷ []) d
 
-abbrev pub request_keys : List Text
-request_keys = codes "principal" ∷ codes "action" ∷ codes "resource" ∷ codes "context" ∷ []
-
 -- A request. A context that lacks is empty.
 abbrev pub request_read : Functions → Data → Option PartialRequest
 request_read x d =
-    when (has_only request_keys d)
+    when (has_only (codes "principal" ∷ codes "action" ∷ codes "resource" ∷ codes "context" ∷ []) d)
     (given (required (codes "principal") entry_read d) (λ principal.
     given (required (codes "action") entry_read d) (λ action.
     given (required (codes "resource") entry_read d) (λ resource.
@@ -42,13 +39,10 @@ request_read x d =
 abbrev pub parts_read : Functions → Data → Option (List (Text × Part V))
 parts_read x d = members_of (λ name e. option_map (λ m. (name, known (bare m))) (value_read x e)) d
 
-abbrev pub entity_keys : List Text
-entity_keys = codes "uid" ∷ codes "attrs" ∷ codes "tags" ∷ codes "ancestors" ∷ []
-
 -- an entity and its uid
 abbrev pub entity_read : Functions → Data → Option (Uid × Entity V)
 entity_read x d =
-    when (has_only entity_keys d)
+    when (has_only (codes "uid" ∷ codes "attrs" ∷ codes "tags" ∷ codes "ancestors" ∷ []) d)
     (given (required (codes "uid") uid_read d) (λ u.
     given (optional (codes "attrs") (parts_read x) [] d) (λ attributes.
     given (optional (codes "tags") (parts_read x) [] d) (λ tags.
@@ -59,16 +53,13 @@ entity_read x d =
 abbrev pub store_read : Functions → Data → Option (List (Uid × Entity V))
 store_read x d = given (list_of (entity_read x) d) (if_passing are_distinct)
 
-abbrev pub step_words : List (Text × Step)
-step_words = (codes "load", load) ∷ (codes "decide", decide) ∷ []
-
 -- a binding of a name, which is any text, to a value
 abbrev pub binding_read : Functions → Data → Option Step
 binding_read x d =
     when (has_only (codes "bind" ∷ codes "value" ∷ []) d) (given (required (codes "bind") as_str d) (λ name. option_map (bind_name name) (required (codes "value") (value_read x) d)))
 
 abbrev pub step_read : Functions → Data → Option Step
-step_read x d = first_form (word_of step_words ∷ binding_read x ∷ []) d
+step_read x d = first_form (word_of ((codes "load", load) ∷ (codes "decide", decide) ∷ []) ∷ binding_read x ∷ []) d
 
 -- the steps of a bundle, which are none where the key lacks
 abbrev pub steps_read : Functions → Data → Option (List Step)

@@ -14,9 +14,6 @@ use Rattle.std.specs.Map.{lookup}
 use Rattle.cedar_expr_model.specs.Whole.Lists.{when, is_nil}
 use Rattle.serde_json.specs.Find.{as_str}
 
-abbrev pub type_words : List (Text × TypeExpr)
-type_words = (codes "Bool", bool_expr) ∷ (codes "Long", long_expr) ∷ (codes "String", string_expr) ∷ []
-
 -- The one value in an object: its JSON; the type that it is read as, if it is one; and, if it is an object of types, its fields.
 pub record TypePart : Type 0 where
   pub json : Data
@@ -30,14 +27,10 @@ type_forms = (codes "set", λ x. option_map set_expr x.type) ∷ (codes "record"
     ∷ (codes "common", λ x. option_map (reference to_common) (any_name_read x.json))
     ∷ (codes "ext", λ x. option_map extension_expr (any_name_read x.json)) ∷ []
 
--- a field: required where a type stands, else an optional one
-abbrev pub field_from : Text → Option TypeExpr → Option TypeExpr → Option (FieldExprs → FieldExprs)
-field_from a required optional = option_or (option_map (λ t. field_expr a t true) required) (option_map (λ t. field_expr a t false) optional)
-
 -- A type: a word, or an object with one key.
 abbrev mutual
   pub type_read : Data → Option TypeExpr
-  type_read (string s) = lookup (bytes_eq s) type_words
+  type_read (string s) = lookup (bytes_eq s) ((codes "Bool", bool_expr) ∷ (codes "Long", long_expr) ∷ (codes "String", string_expr) ∷ [])
   type_read (object ms) = type_in ms
   type_read d = None
 
@@ -45,14 +38,15 @@ abbrev mutual
   type_in (member k d no_members) = given (lookup (bytes_eq k) type_forms) (λ form. form (record { json = d; type = type_read d; fields = attributes_read d }))
   type_in ms = None
 
-  -- an object of types, each alone or marked as optional
+  -- an object of types, each alone, which is required, or marked as optional
   pub attributes_read : Data → Option FieldExprs
   attributes_read (object ms) = attributes_in ms
   attributes_read d = None
 
   pub attributes_in : Members → Option FieldExprs
   attributes_in no_members = Some no_field_exprs
-  attributes_in (member k d ms) = given (field_from k (type_read d) (marked_read d)) (λ f. option_map f (attributes_in ms))
+  attributes_in (member k d ms) =
+      given (option_or (option_map (λ t. field_expr k t true) (type_read d)) (option_map (λ t. field_expr k t false) (marked_read d))) (λ f. option_map f (attributes_in ms))
 
   -- a type that is marked as optional
   pub marked_read : Data → Option TypeExpr
@@ -68,10 +62,7 @@ abbrev pub common_read : Namespace → Text → Data → Option CommonDeclaratio
 common_read ns word d = when (is_identifier word) (option_map (λ t. record { namespace = ns; word = word; definition = t }) (type_read d))
 
 -- An entity type without its name: parents, and the kind.
-abbrev pub Kind : Type 0
-Kind = List Name × KindExpr
-
-abbrev pub standard_read : Data → Option Kind
+abbrev pub standard_read : Data → Option (List Name × KindExpr)
 standard_read d =
     when (has_only (codes "parents" ∷ codes "attrs" ∷ codes "tags" ∷ []) d)
     (given (optional (codes "parents") (list_of any_name_read) [] d) (λ parents.
@@ -79,23 +70,20 @@ standard_read d =
     option_map (λ tags. (parents, standard_expr attributes tags)) (optional (codes "tags") (read_as Some type_read) None d))))
 
 -- one id or more, which may be repeated
-abbrev pub enumerated_read : Data → Option Kind
+abbrev pub enumerated_read : Data → Option (List Name × KindExpr)
 enumerated_read d = option_map (λ ids. ([], enumerated_expr ids)) (alone (codes "enum") (λ e. given (list_of as_str e) (if_passing (λ ids. not (is_nil ids)))) d)
 
-abbrev pub kind_read : Data → Option Kind
+abbrev pub kind_read : Data → Option (List Name × KindExpr)
 kind_read d = first_form (standard_read ∷ enumerated_read ∷ alone (codes "external") (read_as (λ parents. (parents, external_expr)) (list_of any_name_read)) ∷ []) d
 
 -- an entity type, whose key is one identifier
 abbrev pub entity_type_read : Namespace → Text → Data → Option EntityDeclaration
 entity_type_read ns word d = when (is_identifier word) (option_map (λ k. record { namespace = ns; word = word; parents = k.0; kind = k.1 }) (kind_read d))
 
-abbrev pub action_keys : List Text
-action_keys = codes "in" ∷ codes "principals" ∷ codes "resources" ∷ codes "context" ∷ []
-
 -- an action, whose id is any text
 abbrev pub action_read : Namespace → Text → Data → Option ActionDeclaration
 action_read ns id d =
-    when (has_only action_keys d)
+    when (has_only (codes "in" ∷ codes "principals" ∷ codes "resources" ∷ codes "context" ∷ []) d)
     (given (optional (codes "in") (list_of declared_uid_read) [] d) (λ parents.
     given (optional (codes "principals") (list_of any_name_read) [] d) (λ principals.
     given (optional (codes "resources") (list_of any_name_read) [] d) (λ resources.
@@ -107,9 +95,6 @@ abbrev pub namespace_named : Text → Option Namespace
 namespace_named [] = Some []
 namespace_named (b ∷ bs) = option_map (λ n. n.path ++ n.base ∷ []) (name_read (b ∷ bs))
 
-abbrev pub namespace_keys : List Text
-namespace_keys = codes "commonTypes" ∷ codes "entityTypes" ∷ codes "actions" ∷ []
-
 -- what is declared in a namespace
 abbrev pub declared_in : Data → Namespace → Option Declarations
 declared_in d ns =
@@ -119,7 +104,7 @@ declared_in d ns =
     (optional (codes "actions") (members_of (action_read ns)) [] d)))
 
 abbrev pub namespace_read : Text → Data → Option Declarations
-namespace_read key d = when (has_only namespace_keys d) (given (namespace_named key) (declared_in d))
+namespace_read key d = when (has_only (codes "commonTypes" ∷ codes "entityTypes" ∷ codes "actions" ∷ []) d) (given (namespace_named key) (declared_in d))
 
 -- a fragment, which is an object of namespaces
 abbrev pub fragment_read : Data → Option Declarations

@@ -109,8 +109,7 @@ pub record IsWantedList (x : Setup) (s : State) (uids : List Uid) : Type 0 where
 
 -- Some policy is evaluated to the limit on nesting now: such a policy counts as open, and no decision is owed.
 abbrev pub MeetsLimit : Setup → List Policy → State → Type 0
-MeetsLimit x ps s = (store : Uid → Found Made) × ((u : Uid) → known_found (store u) ≡ (known_now x s).store u)
-    × (met_limit (response_of (scope_now x s store) x.limit ps) ≡ true)
+MeetsLimit x ps s = (store : Uid → Found Made) × ((u : Uid) → known_found (store u) ≡ (known_now x s).store u) × (met_limit (response_of (scope_now x s store) x.limit ps) ≡ true)
 
 -- the names of the variables of a request
 abbrev pub variable_names : List Text
@@ -159,14 +158,6 @@ abbrev pub IsOtherKind : Option Entry → Made → Type 0
 IsOtherKind (Some (unknown_uid (Some k))) (made_prim (entity u)) = name_eq u.kind k ≡ false
 IsOtherKind e m = ⊥
 
--- a value that is no entity, for a variable that is one
-abbrev pub IsNoEntity : Option Entry → Made → Type 0
-IsNoEntity e m = IsSome e × (uid_of (bare m) ≡ None)
-
--- a value that isn't of the annotation of an unknown of this name
-abbrev pub BreaksAnnotation : Context → Text → Made → Type 0
-BreaksAnnotation c n m = (u : Unknown) × Contains (context_unknowns c) u × (u.name ≡ n) × (fits_annotation u.annotation (bare m) ≡ false)
-
 abbrev pub IsNoRecord : Made → Type 0
 IsNoRecord (made_record fs) = ⊥
 IsNoRecord m = Unit {0}
@@ -193,8 +184,9 @@ bind_number context_fails = 4
 
 abbrev pub BindFault : Setup → State → Text → Made → BindRefusal → Type 0
 BindFault x s n m not_open = is_open_name x.start s n ≡ false
-BindFault x s n m against_annotation = IsOtherKind (entry_named x.start n) m ⊎ BreaksAnnotation x.start.context n m
-BindFault x s n m no_entity_or_record = IsNoEntity (entry_named x.start n) m ⊎ ((n ≡ codes "context") × IsNoRecord m)
+BindFault x s n m against_annotation = IsOtherKind (entry_named x.start n) m
+    ⊎ ((u : Unknown) × Contains (context_unknowns x.start.context) u × (u.name ≡ n) × (fits_annotation u.annotation (bare m) ≡ false))
+BindFault x s n m no_entity_or_record = (IsSome (entry_named x.start n) × (uid_of (bare m) ≡ None)) ⊎ ((n ≡ codes "context") × IsNoRecord m)
 BindFault x s n m context_fails = ContextFails x.functions (with_bound s n m) x.start.context
 
 -- what was supplied for a uid
@@ -236,14 +228,10 @@ AnswerFault x s not_bound = HasOpenName x.start s
 AnswerFault x s still_wanted = (u : Uid) × IsWantedNow x s u
 AnswerFault x s not_conforming = (HasOpenName x.start s → ⊥) × (RequestConforms x.schema (request_of (world_now x s)) → ⊥)
 
--- a variable of the request means its value, where the name is that of one
-abbrev pub VariableMeansBound : World → Text → Made → Type 0
-VariableMeansBound w n m = (n ≡ codes "principal" → w.principal ≡ uid_of (bare m)) × (n ≡ codes "action" → w.action ≡ uid_of (bare m))
-    × (n ≡ codes "resource" → w.resource ≡ uid_of (bare m)) × (n ≡ codes "context" → w.context ≡ Some (bare m))
-
--- A bound name means its value in a world: a variable its uid, the context its record, an unknown itself.
+-- A bound name means its value in a world: a variable of the request its uid, the context its record, an unknown itself.
 abbrev pub MeansBound : World → Text × Made → Type 0
-MeansBound w b = (w.unknowns b.0 ≡ Some (bare b.1)) × VariableMeansBound w b.0 b.1
+MeansBound w b = (w.unknowns b.0 ≡ Some (bare b.1)) × ((b.0 ≡ codes "principal" → w.principal ≡ uid_of (bare b.1)) × (b.0 ≡ codes "action" → w.action ≡ uid_of (bare b.1))
+    × (b.0 ≡ codes "resource" → w.resource ≡ uid_of (bare b.1)) × (b.0 ≡ codes "context" → w.context ≡ Some (bare b.1)))
 
 -- A whole world that completes a state: it completes the request, each bound name means its value, and each uid that was asked for is
 -- in it as the store answered.

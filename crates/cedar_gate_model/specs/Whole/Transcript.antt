@@ -1,6 +1,6 @@
 -- Runs: steps, the entries of a transcript, and which transcripts are legal.
 -- Rule: legal transcript (docs/RULES.md).
-use Rattle.std.specs.Prelude.{◌≡◌, ◌≢◌, ◌↔◌, ℕ, true, List, [], ◌∷◌, ◌++◌, Option, Some, None, Contains, IfSome}
+use Rattle.std.specs.Prelude.{◌≡◌, ◌≢◌, ◌↔◌, ℕ, true, List, [], ◌∷◌, ◌++◌, Option, Some, Contains, IfSome}
 use Rattle.cedar_expr_model.specs.Name.{Text}
 use Rattle.cedar_expr_model.specs.Uid.{Uid}
 use Rattle.cedar_expr_model.specs.Order.{are_rising}
@@ -15,9 +15,8 @@ use Rattle.cedar_evaluator_model.specs.Response.{PartialRequest}
 
 -- what a caller asks of a run: to load, to bind a name, to decide
 pub data Step : Type 0 where
-  load : Step
+  load decide : Step
   bind_name : Text → Made → Step
-  decide : Step
 
 -- What was done: a round of loading, a binding, or a decision that was given or not.
 pub data Entry : Type 0 where
@@ -55,9 +54,8 @@ pub record IsRound (c : Case) (w : World) (m : Moment) (wanted : List Uid) : Typ
 -- A legal entry: a round is one, and a decision that is given is that of the answer.
 abbrev pub IsLegalEntry : Case → World → Moment → Entry → Type 0
 IsLegalEntry c w m (round uids) = IsRound c w m uids
-IsLegalEntry c w m (bound n) = Unit {0}
-IsLegalEntry c w m (decided None) = Unit {0}
 IsLegalEntry c w m (decided (Some d)) = d ≡ decision_of w c.policies
+IsLegalEntry c w m e = Unit {0}
 
 -- Legal entries, one after the other.
 abbrev pub AreLegal : Case → World → Moment → List Entry → Type 0

@@ -1,13 +1,13 @@
 -- Names for parts of the definitions that proofs take apart.
 use Rattle.std.proofs.Common.{Bool, not, ◌&&◌, List, map, Option}
-use Rattle.std.specs.Prelude.{option_and_then}
+use Rattle.std.specs.Prelude.{option_and_then, if◌then◌else◌}
 use Rattle.std.specs.Option.{option_map_or}
 use Rattle.std.specs.List.{list_any, fold, flat_map}
 use Rattle.cedar_expr_model.specs.Name.{Text, Name, name_eq}
 use Rattle.cedar_expr_model.specs.Uid.{Uid}
 use Rattle.cedar_expr_model.specs.Whole.Lists.{all_given}
 use Rattle.cedar_expr_model.specs.Whole.Names.{is_unqualified}
-use Rattle.cedar_schema_model.specs.Whole.Types.{Ty, never, Declared, Mode}
+use Rattle.cedar_schema_model.specs.Whole.Types.{Ty, never, Declared, Mode, Openness, is_open, is_closed}
 use Rattle.cedar_schema_model.specs.Whole.Schema.{Schema, Action}
 use Rattle.cedar_schema_model.specs.Whole.Descent.{action_uids, action_descends}
 use Rattle.cedar_schema_model.specs.Whole.Environment.{Environment, environment_at, SlotUse, slot_types, with_slots}
@@ -42,3 +42,7 @@ join_all m o ts = fold (λ joined t. option_and_then (λ j. join m j t) joined) 
 -- the name stands in a namespace that isn't the empty one
 abbrev pub is_qualified : Name → Bool
 is_qualified n = not (is_unqualified n)
+
+-- a join of records is closed where all of this holds
+abbrev pub openness_of_join : Bool → Openness
+openness_of_join all_closed = if all_closed then is_closed else is_open

@@ -1,6 +1,6 @@
 -- Which entities and requests conform to a schema. A fault says what is wrong; what has none conforms.
 -- Rule: conforming entities; conforming requests (docs/RULES.md).
-use Rattle.std.specs.Prelude.{◌≡◌, ◌&&◌, ◌||◌, ℕ, List, [], ◌∷◌, Bool, false, not, Option, Some, None, is_none, option_map, if◌then◌else◌}
+use Rattle.std.specs.Prelude.{◌≡◌, ◌&&◌, ◌||◌, ℕ, List, [], ◌∷◌, Bool, false, not, Option, Some, None, is_none, option_map, if◌then◌else◌, map}
 use Rattle.std.specs.Option.{option_map_or}
 use Rattle.std.specs.List.{list_any, list_all}
 use Rattle.std.specs.Map.{lookup}
@@ -19,29 +19,20 @@ use Rattle.cedar_schema_model.specs.Whole.HasType.{has_type}
 
 -- The faults of an entity or a request.
 pub data ConformFault : Type 0 where
-  undeclared not_listed no_member lacks_attribute undeclared_attribute attribute_value tag ancestor : ConformFault
-  context_value open_part : ConformFault
+  undeclared not_listed no_member lacks_attribute undeclared_attribute attribute_value tag ancestor context_value open_part : ConformFault
 
-abbrev pub conform_number : ConformFault → ℕ
-conform_number undeclared = 1
-conform_number not_listed = 2
-conform_number no_member = 3
-conform_number lacks_attribute = 4
-conform_number undeclared_attribute = 5
-conform_number attribute_value = 6
-conform_number tag = 7
-conform_number ancestor = 8
-conform_number context_value = 9
-conform_number open_part = 10
+-- The faults, each with its number.
+abbrev pub numbered_faults : List (ℕ × ConformFault)
+numbered_faults = (1, undeclared) ∷ (2, not_listed) ∷ (3, no_member) ∷ (4, lacks_attribute) ∷ (5, undeclared_attribute) ∷ (6, attribute_value)
+    ∷ (7, tag) ∷ (8, ancestor) ∷ (9, context_value) ∷ (10, open_part) ∷ []
 
 abbrev pub conform_faults : List ConformFault
-conform_faults = undeclared ∷ not_listed ∷ no_member ∷ lacks_attribute ∷ undeclared_attribute ∷ attribute_value ∷ tag ∷ ancestor ∷ context_value ∷ open_part ∷ []
+conform_faults = map (λ n. n.1) numbered_faults
 
 -- Where a schema speaks of a uid: among its actions, else by the kind of its entity type, else nowhere.
 pub data Place : Type 0 where
-  among_actions : Place
+  among_actions nowhere : Place
   of_kind : EntityKind → Place
-  nowhere : Place
 
 abbrev pub place_of : Schema → Uid → Place
 place_of s u = if declares_action s u then among_actions else option_map_or (λ t. of_kind t.kind) (type_named s u.kind) nowhere

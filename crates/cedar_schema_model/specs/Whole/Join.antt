@@ -47,14 +47,11 @@ kept_attribute n declared js = option_map_or (λ d. attribute n d.type d.is_requ
 abbrev pub all_stayed : Attributes → Attributes → Attributes → Bool
 all_stayed as_ bs js = are_named as_ js && are_named bs js
 
-abbrev pub openness_of_join : Bool → Openness
-openness_of_join all_closed = if all_closed then is_closed else is_open
-
 -- A join of records is closed where both are closed and all names stayed. In strict mode all must stay, and both are open or neither is.
 abbrev pub record_join : Mode → Attributes → Openness → Attributes → Openness → Attributes → Option Ty
 record_join m as_ o bs p js =
     if agree m (is_closed_record o) (is_closed_record p) && (is_permissive m || all_stayed as_ bs js)
-    then Some (record_type js (openness_of_join (is_closed_record o && (is_closed_record p && all_stayed as_ bs js))))
+    then Some (record_type js (if is_closed_record o && (is_closed_record p && all_stayed as_ bs js) then is_closed else is_open))
     else None
 
 -- Of two types of which one is below the other the join is the greater. True and False join to the type of both, unions to

@@ -4,18 +4,14 @@ use Rattle.std.specs.Prelude.{List, Bool, true, false, Option, None, is_some, ma
 use Rattle.std.specs.List.{list_all, list_any}
 use Rattle.cedar_expr_model.specs.Name.{Text, Name}
 use Rattle.cedar_expr_model.specs.Whole.Lists.{all_given}
-use Rattle.cedar_schema_model.specs.Whole.Types.{is_open, is_closed, Ty, never, any_entity, entity_types, record_type, Attributes, no_attributes, Declared, attribute_named, permissive}
-use Rattle.cedar_schema_model.specs.Whole.Schema.{EntityKind, standard, Schema, type_named}
+use Rattle.cedar_schema_model.specs.Whole.Types.{is_open, is_closed, Ty, never, any_entity, entity_types, record_type, Declared, attribute_named, permissive}
+use Rattle.cedar_schema_model.specs.Whole.Schema.{Schema, type_named}
 use Rattle.cedar_schema_model.specs.Whole.Join.{reduce_to_join}
+use Rattle.cedar_schema_model.specs.Whole.Conforming.{of_kind, attributes_at}
 
--- Only a standard entity type has attributes.
-abbrev pub attributes_of_kind : EntityKind → Attributes
-attributes_of_kind (standard as_ tags) = as_
-attributes_of_kind k = no_attributes
-
--- what the schema declares of an attribute for one entity type
+-- what the schema declares of an attribute for one entity type: only a standard one has attributes
 abbrev pub declared_of : Schema → Text → Name → Option Declared
-declared_of s a n = option_and_then (λ e. attribute_named a (attributes_of_kind e.kind)) (type_named s n)
+declared_of s a n = option_and_then (λ e. attribute_named a (attributes_at (of_kind e.kind))) (type_named s n)
 
 -- the permissive join of the types, required where all require it
 abbrev pub declared_by_all : List Declared → Option Declared

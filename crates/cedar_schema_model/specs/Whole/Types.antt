@@ -14,11 +14,9 @@ pub data Openness : Type 0 where
 -- A type. The type of some entities lists their entity types, rising, at least one. `any_set` is the type of all sets.
 mutual
   pub data Ty : Type 0 where
-    never : Ty
+    never long_type string_type any_entity any_set : Ty
     bool_type : BoolType → Ty
-    long_type string_type any_entity : Ty
     entity_types : List Name → Ty
-    any_set : Ty
     set_type : Ty → Ty
     record_type : Attributes → Openness → Ty
     extension_type : Name → Ty

@@ -12,26 +12,10 @@ use Rattle.std.specs.Option.{option_eq}
 use Rattle.cedar_expr_model.specs.Whole.Names.{is_unqualified, unqualified}
 use Rattle.cedar_expr_model.specs.Whole.Repeats.{repeated}
 
--- The faults of declarations, with their numbers.
+-- The faults of declarations.
 pub data SchemaFault : Type 0 where
-  duplicate_entity_type duplicate_common_type duplicate_action undeclared_type undeclared_action : SchemaFault
-  cycle_of_common_types cycle_of_actions action_as_entity_type context_not_record reserved_name shadowing : SchemaFault
-  unknown_extension_type unresolved_external : SchemaFault
-
-abbrev pub schema_number : SchemaFault → ℕ
-schema_number duplicate_entity_type = 1
-schema_number duplicate_common_type = 2
-schema_number duplicate_action = 3
-schema_number undeclared_type = 4
-schema_number undeclared_action = 5
-schema_number cycle_of_common_types = 6
-schema_number cycle_of_actions = 7
-schema_number action_as_entity_type = 8
-schema_number context_not_record = 9
-schema_number reserved_name = 10
-schema_number shadowing = 11
-schema_number unknown_extension_type = 12
-schema_number unresolved_external = 13
+  duplicate_entity_type duplicate_common_type duplicate_action undeclared_type undeclared_action cycle_of_common_types cycle_of_actions : SchemaFault
+  action_as_entity_type context_not_record reserved_name shadowing unknown_extension_type unresolved_external : SchemaFault
 
 -- the faults of declarations that are ill-formed; an external declaration is none of them
 abbrev pub ill_forms : List SchemaFault
@@ -93,21 +77,28 @@ abbrev pub is_external_kind : KindExpr → Bool
 is_external_kind external_expr = true
 is_external_kind k = false
 
--- The fault is there. The extension types are those of the table.
+-- Each fault: its number, and when it is there. The extension types are those of the table.
+abbrev pub schema_rule : SchemaFault → ℕ × (List Name → Declarations → Bool)
+schema_rule duplicate_entity_type = (1, λ x d. is_some (repeated name_eq (entity_names d)))
+schema_rule duplicate_common_type = (2, λ x d. is_some (repeated name_eq (common_names d)))
+schema_rule duplicate_action = (3, λ x d. is_some (repeated uid_eq (action_uids d)))
+schema_rule undeclared_type = (4, λ x d. list_any (λ r. is_none (meant d r)) (references d))
+schema_rule undeclared_action = (5, λ x d. list_any (λ a. list_any (λ u. is_none (parent_meant d a.namespace u)) a.parents) d.actions)
+schema_rule cycle_of_common_types = (6, λ x d. list_any (λ n. reaches (uses d) (common_names d) n n) (common_names d))
+schema_rule cycle_of_actions = (7, λ x d. list_any (λ u. reaches (has_parent_action d) (action_uids d) u u) (action_uids d))
+schema_rule action_as_entity_type = (8, λ x d. list_any (λ t. bytes_eq action_word t.word) d.entities)
+schema_rule context_not_record = (9, λ x d. list_any (λ a. not (becomes_record d a)) d.actions)
+schema_rule reserved_name = (10, λ x d. list_any is_reserved (written_names d))
+schema_rule shadowing = (11, λ x d. shadows d)
+schema_rule unknown_extension_type = (12, λ x d. list_any (λ n. not (list_any (name_eq n) x)) (extensions d))
+schema_rule unresolved_external = (13, λ x d. list_any (λ t. is_external_kind t.kind) d.entities || list_any (λ a. a.is_external) d.actions)
+
+abbrev pub schema_number : SchemaFault → ℕ
+schema_number f = (schema_rule f).0
+
+-- The fault is there.
 abbrev pub has_schema_fault : List Name → Declarations → SchemaFault → Bool
-has_schema_fault x d duplicate_entity_type = is_some (repeated name_eq (entity_names d))
-has_schema_fault x d duplicate_common_type = is_some (repeated name_eq (common_names d))
-has_schema_fault x d duplicate_action = is_some (repeated uid_eq (action_uids d))
-has_schema_fault x d undeclared_type = list_any (λ r. is_none (meant d r)) (references d)
-has_schema_fault x d undeclared_action = list_any (λ a. list_any (λ u. is_none (parent_meant d a.namespace u)) a.parents) d.actions
-has_schema_fault x d cycle_of_common_types = list_any (λ n. reaches (uses d) (common_names d) n n) (common_names d)
-has_schema_fault x d cycle_of_actions = list_any (λ u. reaches (has_parent_action d) (action_uids d) u u) (action_uids d)
-has_schema_fault x d action_as_entity_type = list_any (λ t. bytes_eq action_word t.word) d.entities
-has_schema_fault x d context_not_record = list_any (λ a. not (becomes_record d a)) d.actions
-has_schema_fault x d reserved_name = list_any is_reserved (written_names d)
-has_schema_fault x d shadowing = shadows d
-has_schema_fault x d unknown_extension_type = list_any (λ n. not (list_any (name_eq n) x)) (extensions d)
-has_schema_fault x d unresolved_external = list_any (λ t. is_external_kind t.kind) d.entities || list_any (λ a. a.is_external) d.actions
+has_schema_fault x d f = (schema_rule f).1 x d
 
 -- Declarations are well-formed where none of the faults is there that make them ill-formed.
 abbrev pub IsWellFormed : List Name → Declarations → Type 0

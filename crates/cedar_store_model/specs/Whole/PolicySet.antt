@@ -50,8 +50,7 @@ has_link_fault s template id b no_template = is_none (template_of template s)
 
 -- the set after linking, where none of the faults is there
 abbrev pub link : PolicySet → Text → Text → SlotBindings → Option PolicySet
-link s template id b =
-    if list_any (has_link_fault s template id b) link_faults then None else option_map (λ t. with_policy s (linked t id b)) (template_of template s)
+link s template id b = if list_any (has_link_fault s template id b) link_faults then None else option_map (λ t. with_policy s (linked t id b)) (template_of template s)
 
 -- The set with a template, or a policy, whose id isn't present yet.
 abbrev pub add_template : PolicySet → Policy → Option PolicySet

@@ -8,9 +8,10 @@ use Rattle.cedar_expr_model.proofs.Lists.{contains_head, contains_none, contains
 use Rattle.cedar_schema_model.specs.Whole.Types.{BoolType, only_true, only_false, Ty, bool_type}
 use Rattle.cedar_typechecker_model.specs.Whole.Facts.{Facts}
 use Rattle.cedar_typechecker_model.specs.Whole.Typing.{Judgement}
-use Rattle.cedar_typechecker_model.specs.Whole.Levels.{Violation, Count, count, joined, further, needed, stepped, is_entity, unless_false, unless_true, branches, after_and, after_or, after_test, greater, target_after_test, path_violations}
+use Rattle.cedar_typechecker_model.specs.Whole.Levels.{Violation, Count, count, joined, further, needed, stepped, is_entity, unless_false, unless_true, branches, after_test, target_after_test, path_violations, after}
 use Rattle.cedar_typechecker_model.specs.Whole.Dereferences.{ByType, Behind, Branch, AfterTest, BranchCount, CountAfterTest, Further, is_entity_type, TooFar}
 use Rattle.cedar_typechecker_model.proofs.Whole.Exact.{Exact, of_parts}
+use Rattle.cedar_typechecker_model.proofs.Whole.Named.{greater}
 
 -- a number above zero
 abbrev is_positive : ℕ → Bool
@@ -157,11 +158,11 @@ lists_unless_true : (P : Ty → Facts → Type 0) (t : Ty) (f : Facts) (x : Exac
 lists_unless_true P (bool_type only_true) f x R vs l = lists_same _ _ _ lists_none (λ v. behind_end P _ x only_true (λ g. R g v) refl)
 lists_unless_true P t f x R vs l = lists_same _ _ _ l (λ v. behind_some P _ x only_true (λ g. R g v) (λ e. cc))
 
-pub lists_and : (P : Ty → Facts → Type 0) (o : Option Judgement) → Exact P o → (R : Facts → Violation → Type 0) (vs : Facts → List Violation) → ((f : Facts) → Lists (R f) (vs f)) → Lists (λ v. Behind P only_false (λ f. R f v)) (after_and o vs)
+pub lists_and : (P : Ty → Facts → Type 0) (o : Option Judgement) → Exact P o → (R : Facts → Violation → Type 0) (vs : Facts → List Violation) → ((f : Facts) → Lists (R f) (vs f)) → Lists (λ v. Behind P only_false (λ f. R f v)) (after unless_false o vs)
 lists_and P None x R vs l = lists_same _ _ _ lists_none (λ v. behind_none P x only_false (λ f. R f v))
 lists_and P (Some j) x R vs l = lists_unless_false P j.type j.facts x R (vs j.facts) (l j.facts)
 
-pub lists_or : (P : Ty → Facts → Type 0) (o : Option Judgement) → Exact P o → (R : Violation → Type 0) (vs : List Violation) → Lists R vs → Lists (λ v. Behind P only_true (λ f. R v)) (after_or o vs)
+pub lists_or : (P : Ty → Facts → Type 0) (o : Option Judgement) → Exact P o → (R : Violation → Type 0) (vs : List Violation) → Lists R vs → Lists (λ v. Behind P only_true (λ f. R v)) (after unless_true o (λ f. vs))
 lists_or P None x R vs l = lists_same _ _ _ lists_none (λ v. behind_none P x only_true (λ f. R v))
 lists_or P (Some j) x R vs l = lists_unless_true P j.type j.facts x (λ f. R) vs l
 

@@ -1,6 +1,6 @@
 -- Names for parts of the definitions that proofs take apart.
 use Rattle.std.proofs.Common.{◌≡◌, ℕ, Bool, true, if◌then◌else◌, List, [], Option}
-use Rattle.std.specs.Prelude.{option_and_then}
+use Rattle.std.specs.Prelude.{option_and_then, max, ◌++◌, Some}
 use Rattle.std.specs.Option.{option_map_or}
 use Rattle.cedar_expr_model.specs.Name.{Text, Name}
 use Rattle.cedar_expr_model.specs.Uid.{Uid}
@@ -9,10 +9,30 @@ use Rattle.cedar_expr_model.specs.Whole.Lists.{all_given, is_nil}
 use Rattle.cedar_expr_model.specs.Whole.Table.{Signature}
 use Rattle.cedar_store_model.specs.Whole.Outcome.{Res, val, err, missing_field}
 use Rattle.cedar_store_model.specs.Whole.Reads.{uid_of}
-use Rattle.cedar_schema_model.specs.Whole.Types.{Ty, any_entity, entity_type}
+use Rattle.cedar_schema_model.specs.Whole.Types.{Ty, any_entity, entity_type, bool_type, only_false}
 use Rattle.cedar_schema_model.specs.Whole.Schema.{EntityType}
-use Rattle.cedar_typechecker_model.specs.Whole.Rules.{core_as_type}
-use Rattle.cedar_typechecker_model.specs.Whole.ScopeRules.{has_id}
+use Rattle.cedar_typechecker_model.specs.Whole.Rules.{core_as_type, Setting, written_uid, written_equal}
+use Rattle.cedar_typechecker_model.specs.Whole.ScopeRules.{has_id, kind_here}
+use Rattle.cedar_expr_model.specs.Whole.Tree.{Tree}
+use Rattle.cedar_expr_model.specs.Whole.Parts.{subexpressions, uid_here}
+use Rattle.std.specs.List.{filter_map}
+use Rattle.cedar_typechecker_model.specs.Whole.Levels.{Count, count}
+use Rattle.cedar_schema_model.specs.Whole.Join.{are_disjoint}
+
+-- the uids that an expression writes anywhere, and the entity types that its `is` tests name
+abbrev pub uids_of : Tree → List Uid
+uids_of t = filter_map uid_here (subexpressions t)
+
+abbrev pub kinds_of : Tree → List Name
+kinds_of t = filter_map kind_here (subexpressions t)
+
+-- the type of an equality
+abbrev pub equal_type : Setting → Tree → Tree → Ty → Ty → Option Ty
+equal_type s a b t u = if are_disjoint t u then Some (bool_type only_false) else written_equal s (written_uid s a) (written_uid s b) t u
+
+-- the greater count of two branches
+abbrev pub greater : Count → Count → Count
+greater c d = count (max c.steps d.steps) (c.found ++ d.found)
 
 -- nothing of an expression without a type
 abbrev pub if_typed : {A : Type 0} → Option Ty → List A → List A

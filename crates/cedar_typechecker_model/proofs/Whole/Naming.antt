@@ -11,7 +11,8 @@ use Rattle.cedar_expr_model.specs.Whole.Parts.{subexpressions, uid_here}
 use Rattle.cedar_expr_model.proofs.Lists.{all_each, all_from, map_has, map_from, contains_head, contains_none, contains_cases, contains_tail}
 use Rattle.cedar_store_model.specs.Whole.Policy.{Policy, condition}
 use Rattle.cedar_schema_model.specs.Whole.Schema.{Schema}
-use Rattle.cedar_typechecker_model.specs.Whole.ScopeRules.{kind_here, uids_of, kinds_of, policy_uids, policy_kinds, NamesUid, NamesType, is_known_type, is_no_unknown_action, is_no_unknown_member, NamesKnownTypes, NamesKnownActions, NamesKnownMembers, names_known_types, names_known_actions, names_known_members}
+use Rattle.cedar_typechecker_model.specs.Whole.ScopeRules.{kind_here, policy_uids, policy_kinds, NamesUid, NamesType, is_known_type, is_no_unknown_action, is_no_unknown_member, NamesKnownTypes, NamesKnownActions, NamesKnownMembers, names_known_types, names_known_actions, names_known_members}
+use Rattle.cedar_typechecker_model.proofs.Whole.Named.{uids_of, kinds_of}
 
 -- what a partial function gives of the items of a list
 step_has : {X Y : Type 0} (f : X → Option Y) (x : X) (xs : List X) (y : Y) → (o : Option Y) → f x ≡ o → (o ≡ Some y) ⊎ Contains (filter_map f xs) y → Contains (filter_map f (x ∷ xs)) y

@@ -11,7 +11,7 @@ use Rattle.cedar_schema_model.specs.Whole.Schema.{Schema}
 use Rattle.cedar_schema_model.specs.Whole.Environment.{Environment}
 use Rattle.cedar_typechecker_model.specs.Whole.Rules.{Setting}
 use Rattle.cedar_typechecker_model.specs.Whole.Typing.{type_of}
-use Rattle.cedar_typechecker_model.specs.Whole.Verdicts.{policy_environments, in_mode, strictly, HasBool, HasFalse, PassesIn, passes_in, IsWarned, is_warned, fits, IsFalseIn, IsImpossible, impossible, RequestType, is_of_request, IsIrrelevant, irrelevant_for, Verdict, success, irrelevant, fail, HasVerdict, verdict_of, is_bool, is_false, condition_type}
+use Rattle.cedar_typechecker_model.specs.Whole.Verdicts.{policy_environments, in_mode, strictly, HasBool, HasFalse, PassesIn, passes_in, IsWarned, is_warned, fits, IsImpossible, impossible, RequestType, is_of_request, IsIrrelevant, irrelevant_for, Verdict, success, irrelevant, fail, HasVerdict, verdict_of, is_bool, is_false, condition_type}
 use Rattle.cedar_typechecker_model.proofs.Whole.Typing.{has_its_type, type_is}
 
 bool_there : (found : Option Ty) → is_bool found ≡ true → (b : BoolType) × (found ≡ Some (bool_type b))
@@ -52,10 +52,10 @@ filtered_twice-Decides r q p P each xs =
     (λ h x k e. d.0 h x (filter_has q xs x k e), λ h. d.1 (λ x k e. let n = filter_only q xs x k in h x n.0 n.1 e))
 
 pub impossible-Decides : (s : Schema) (x : Table) (p : Policy) → Decides (impossible s x p) (IsImpossible s x p)
-impossible-Decides s x p = filtered-Decides (fits p) (λ (e : Environment). is_false (condition_type s x p e)) (IsFalseIn s x p) (λ e. is_false-Decides (strictly s x e) (condition p)) (policy_environments s p)
+impossible-Decides s x p = filtered-Decides (fits p) (λ (e : Environment). is_false (condition_type s x p e)) (λ (e : Environment). HasFalse (strictly s x e) (condition p)) (λ e. is_false-Decides (strictly s x e) (condition p)) (policy_environments s p)
 
 pub irrelevant-Decides : (s : Schema) (x : Table) (r : RequestType) (p : Policy) → Decides (irrelevant_for s x r p) (IsIrrelevant s x r p)
-irrelevant-Decides s x r p = filtered_twice-Decides (is_of_request r) (fits p) (λ (e : Environment). is_false (condition_type s x p e)) (IsFalseIn s x p) (λ e. is_false-Decides (strictly s x e) (condition p)) (policy_environments s p)
+irrelevant-Decides s x r p = filtered_twice-Decides (is_of_request r) (fits p) (λ (e : Environment). is_false (condition_type s x p e)) (λ (e : Environment). HasFalse (strictly s x e) (condition p)) (λ e. is_false-Decides (strictly s x e) (condition p)) (policy_environments s p)
 
 success_there : (found : Option Ty) → verdict_of found ≡ success → (b : BoolType) × (b ≡ only_false → ⊥) × (found ≡ Some (bool_type b))
 success_there (Some (bool_type any_bool)) h = (any_bool, (λ e. cc), refl)

@@ -20,8 +20,7 @@ use Rattle.cedar_typechecker_model.specs.Whole.Verdicts.{policy_environments, in
 
 -- where a part has a type that passes, what follows from it; where it has none, the other
 abbrev pub ByType : (Ty → Facts → Type 0) → (Ty → Bool) → (Ty → Type 0) → Type 0 → Type 0
-ByType typed test first second =
-    ((t : Ty) × (f : Facts) × typed t f × (test t ≡ true) × first t) ⊎ (((t : Ty) (f : Facts) → typed t f → test t ≡ false) × second)
+ByType typed test first second = ((t : Ty) × (f : Facts) × typed t f × (test t ≡ true) × first t) ⊎ (((t : Ty) (f : Facts) → typed t f → test t ≡ false) × second)
 
 -- Of the right side of `and` and `or`: the left has a type, with these facts, and not the one that ends it.
 abbrev pub Behind : (Ty → Facts → Type 0) → BoolType → (Facts → Type 0) → Type 0
@@ -43,8 +42,7 @@ BranchCount (bool_type only_false) first second = second
 BranchCount t first second = λ k. (i : ℕ) × (j : ℕ) × first i × second j × (k ≡ max i j)
 
 abbrev pub CountAfterTest : (Ty → Facts → Type 0) → (Facts → ℕ → Type 0) → (ℕ → Type 0) → ℕ → Type 0
-CountAfterTest typed first second k =
-    ((t : Ty) × (f : Facts) × typed t f × BranchCount t (first f) second k) ⊎ (((t : Ty) (f : Facts) → typed t f → ⊥) × (k ≡ 0))
+CountAfterTest typed first second k = ((t : Ty) × (f : Facts) × typed t f × BranchCount t (first f) second k) ⊎ (((t : Ty) (f : Facts) → typed t f → ⊥) × (k ≡ 0))
 
 -- so many steps further
 abbrev pub Further : ℕ → (ℕ → Type 0) → ℕ → Type 0

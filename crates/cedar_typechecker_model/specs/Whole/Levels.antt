@@ -63,22 +63,16 @@ branches join (bool_type only_true) a b = a
 branches join (bool_type only_false) a b = b
 branches join t a b = join a b
 
--- the right side of a conjunction, under the facts of the left
-abbrev pub after_and : Option Judgement → (Facts → List Violation) → List Violation
-after_and left right = option_map_or (λ j. unless_false j.type (right j.facts)) left []
-
-abbrev pub after_or : Option Judgement → List Violation → List Violation
-after_or left right = option_map_or (λ j. unless_true j.type right) left []
+-- the right side of a conjunction, or of a disjunction, by the type of the left and under its facts
+abbrev pub after : (Ty → List Violation → List Violation) → Option Judgement → (Facts → List Violation) → List Violation
+after unless left right = option_map_or (λ j. unless j.type (right j.facts)) left []
 
 abbrev pub after_test : Option Judgement → (Facts → List Violation) → List Violation → List Violation
 after_test test first second = option_map_or (λ j. branches (λ vs ws. vs ++ ws) j.type (first j.facts) second) test []
 
--- the greater count of two branches
-abbrev pub greater : Count → Count → Count
-greater c d = count (max c.steps d.steps) (c.found ++ d.found)
-
+-- of two branches the greater count
 abbrev pub target_after_test : Option Judgement → (Facts → Count) → Count → Count
-target_after_test test first second = option_map_or (λ j. branches greater j.type (first j.facts) second) test (count 0 [])
+target_after_test test first second = option_map_or (λ j. branches (λ c d. count (max c.steps d.steps) (c.found ++ d.found)) j.type (first j.facts) second) test (count 0 [])
 
 -- The steps of a path that stand on an entity. The first test of type False asks for what isn't declared, and ends the path.
 abbrev pub entity_steps : Setting → Text → List Text → Option Ty → ℕ
@@ -104,13 +98,11 @@ on_entity s known e = is_entity (type_under s known e)
 abbrev mutual
   -- The violations of an expression at a level.
   pub violations : ℕ → Setting → Facts → Tree → List Violation
-  violations n s known (choice t a b) =
-      violations n s known t ++ after_test (judgement s known t) (λ f. violations n s (union known f) a) (violations n s known b)
-  violations n s known (both a b) = violations n s known a ++ after_and (judgement s known a) (λ f. violations n s (union known f) b)
-  violations n s known (either a b) = violations n s known a ++ after_or (judgement s known a) (violations n s known b)
+  violations n s known (choice t a b) = violations n s known t ++ after_test (judgement s known t) (λ f. violations n s (union known f) a) (violations n s known b)
+  violations n s known (both a b) = violations n s known a ++ after unless_false (judgement s known a) (λ f. violations n s (union known f) b)
+  violations n s known (either a b) = violations n s known a ++ after unless_true (judgement s known a) (λ f. violations n s known b)
   violations n s known (unary o a) = violations n s known a
-  violations n s known (binary o a b) =
-      (if looks_up o then stepped n (binary o a b) (further 1 (target n s known [] a)) else violations n s known a) ++ violations n s known b
+  violations n s known (binary o a b) = (if looks_up o then stepped n (binary o a b) (further 1 (target n s known [] a)) else violations n s known a) ++ violations n s known b
   violations n s known (call f ts) = violations_among n s known ts
   violations n s known (get_attr e a) = if on_entity s known e then stepped n (get_attr e a) (further 1 (target n s known [] e)) else violations n s known e
   violations n s known (has_attr e a) = if on_entity s known e then stepped n (has_attr e a) (further 1 (target n s known [] e)) else violations n s known e

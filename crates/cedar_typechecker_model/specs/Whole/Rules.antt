@@ -11,13 +11,14 @@ use Rattle.cedar_expr_model.specs.Whole.Lists.{all_given}
 use Rattle.cedar_expr_model.specs.Whole.Parts.{uid_here, listed}
 use Rattle.cedar_expr_model.specs.Whole.Table.{Table, Signature, signature_of, is_ordered, takes_count, is_constructor}
 use Rattle.cedar_schema_model.specs.Whole.Types.{BoolType, any_bool, only_true, only_false, Openness, is_open, is_closed, Ty, never, bool_type, long_type, string_type, any_entity, entity_types, any_set, set_type, record_type, extension_type, entity_type, Attributes, no_attributes, attribute, Declared, attribute_named, Mode, strict, permissive}
-use Rattle.cedar_schema_model.specs.Whole.Schema.{Schema, EntityKind, standard, type_named, declares_type, declares_action}
+use Rattle.cedar_schema_model.specs.Whole.Schema.{Schema, type_named, declares_type, declares_action}
 use Rattle.cedar_schema_model.specs.Whole.Environment.{Environment}
-use Rattle.cedar_schema_model.specs.Whole.Subtype.{is_subtype}
+use Rattle.cedar_schema_model.specs.Whole.Subtype.{is_subtype, is_permissive}
 use Rattle.cedar_schema_model.specs.Whole.Join.{join, are_disjoint, reduce_to_join}
 use Rattle.cedar_schema_model.specs.Whole.Lookup.{lookup_attribute, may_have_attribute}
 use Rattle.cedar_schema_model.specs.Whole.Descent.{type_descends, action_descends}
 use Rattle.cedar_typechecker_model.specs.Whole.Facts.{Facts, attribute_part, tag_part}
+use Rattle.cedar_schema_model.specs.Whole.Conforming.{of_kind, tags_at}
 
 -- what an expression is typed in
 pub record Setting : Type 0 where
@@ -75,16 +76,11 @@ written_uid s t = uid_here t
 
 -- types that join, in Strict; in Permissive any
 abbrev pub comparable : Mode → Ty → Ty → Option Ty
-comparable strict t u = if_there (join strict t u)
-comparable permissive t u = truth_type
+comparable m t u = if is_permissive m then truth_type else if_there (join m t u)
 
 abbrev pub written_equal : Setting → Option Uid → Option Uid → Ty → Ty → Option Ty
 written_equal s (Some u) (Some v) t t' = Some (bool_type (known_truth (uid_eq u v)))
 written_equal s u v t t' = comparable s.mode t t'
-
--- Equality: False of types without a common value; of two written uids True or False; else the types must be comparable.
-abbrev pub equal_type : Setting → Tree → Tree → Ty → Ty → Option Ty
-equal_type s a b t u = if are_disjoint t u then Some (bool_type only_false) else written_equal s (written_uid s a) (written_uid s b) t u
 
 -- order: two whole numbers, or two of one extension type that is ordered
 abbrev pub order_type : Setting → Ty → Ty → Option Ty
@@ -148,9 +144,10 @@ within_kinds s u us k l = bool_type (if may_be_in s.schema k l then any_bool els
 abbrev pub in_type : Setting → Tree → Tree → Ty → Ty → Option Ty
 in_type s a b t u = option_and_then (λ k. option_map (within_kinds s (written_action s a) (written_actions s b) k) (entity_or_set_kinds u)) (entity_kinds t)
 
--- an operator of two operands, but for tags
+-- An operator of two operands, but for tags. Equality: False of types without a common value; of two written uids True or False; else
+-- the types must be comparable.
 abbrev pub binary_type : Setting → BinaryOp → Tree → Tree → Ty → Ty → Option Ty
-binary_type s equal a b t u = equal_type s a b t u
+binary_type s equal a b t u = if are_disjoint t u then Some (bool_type only_false) else written_equal s (written_uid s a) (written_uid s b) t u
 binary_type s less a b t u = order_type s t u
 binary_type s less_or_equal a b t u = order_type s t u
 binary_type s plus a b t u = number_type t u
@@ -194,12 +191,8 @@ abbrev pub get_type : Setting → Facts → Tree → Ty → Text → Option Ty
 get_type s known e t a = attribute_type (known e (attribute_part a)) (lookup_attribute s.schema t a)
 
 -- the type of the tags of an entity type
-abbrev pub kind_tags : EntityKind → Option Ty
-kind_tags (standard as_ tags) = tags
-kind_tags k = None
-
 abbrev pub tags_of : Schema → Name → Option Ty
-tags_of s n = option_and_then (λ e. kind_tags e.kind) (type_named s n)
+tags_of s n = option_and_then (λ e. tags_at (of_kind e.kind)) (type_named s n)
 
 -- the type of a tag of an entity: of several entity types the join of theirs
 abbrev pub tag_type : Setting → Ty → Option Ty

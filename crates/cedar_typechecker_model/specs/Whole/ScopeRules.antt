@@ -19,20 +19,13 @@ abbrev pub kind_here : Tree → Option Name
 kind_here (is_type e n) = Some n
 kind_here t = None
 
--- the uids that an expression writes anywhere, and the entity types that its `is` tests name
-abbrev pub uids_of : Tree → List Uid
-uids_of t = filter_map uid_here (subexpressions t)
-
-abbrev pub kinds_of : Tree → List Name
-kinds_of t = filter_map kind_here (subexpressions t)
-
 -- the uids that a policy names: in its scope, in its body, and as the values of its slots
 abbrev pub policy_uids : Policy → List Uid
-policy_uids p = uids_of (condition p) ++ (option_to_list p.bindings.principal ++ option_to_list p.bindings.resource)
+policy_uids p = filter_map uid_here (subexpressions (condition p)) ++ (option_to_list p.bindings.principal ++ option_to_list p.bindings.resource)
 
 -- the entity types that a policy names: those of its uids and of its `is` tests
 abbrev pub policy_kinds : Policy → List Name
-policy_kinds p = map (λ u. u.kind) (policy_uids p) ++ kinds_of (condition p)
+policy_kinds p = map (λ u. u.kind) (policy_uids p) ++ filter_map kind_here (subexpressions (condition p))
 
 -- the type of some declared action
 abbrev pub is_action_type : Schema → Name → Bool

@@ -135,8 +135,7 @@ or_judged right t f = None
 abbrev pub choice_judged : Setting → (Facts → Option Judgement) → Option Judgement → Ty → Facts → Option Judgement
 choice_judged s first second (bool_type only_true) f = option_and_then (λ r. judged r.type (union f r.facts)) (first f)
 choice_judged s first second (bool_type only_false) f = second
-choice_judged s first second (bool_type any_bool) f =
-    option_and_then (λ r. option_and_then (λ q. chosen s r.type (union f r.facts) q.type q.facts) second) (first f)
+choice_judged s first second (bool_type any_bool) f = option_and_then (λ r. option_and_then (λ q. chosen s r.type (union f r.facts) q.type q.facts) second) (first f)
 choice_judged s first second t f = None
 
 abbrev mutual

@@ -66,13 +66,9 @@ fits_slot (Some n) b = option_map_or (λ u. name_eq n u.kind) b false
 abbrev pub fits : Policy → Environment → Bool
 fits p e = fits_slot e.principal_slot p.bindings.principal && fits_slot e.resource_slot p.bindings.resource
 
--- the condition has the type False
-abbrev pub IsFalseIn : Schema → Table → Policy → Environment → Type 0
-IsFalseIn s x p e = HasFalse (strictly s x e) (condition p)
-
 -- Each environment that fits gives the type False, or none fits.
 abbrev pub IsImpossible : Schema → Table → Policy → Type 0
-IsImpossible s x p = (e : Environment) → Contains (policy_environments s p) e → fits p e ≡ true → IsFalseIn s x p e
+IsImpossible s x p = (e : Environment) → Contains (policy_environments s p) e → fits p e ≡ true → HasFalse (strictly s x e) (condition p)
 
 -- a principal type, an action and a resource type
 pub record RequestType : Type 0 where
@@ -85,7 +81,7 @@ is_of_request r e = name_eq r.principal e.principal && (uid_eq r.action e.action
 
 -- The same among the environments of a request's types: the policy is irrelevant for it.
 abbrev pub IsIrrelevant : Schema → Table → RequestType → Policy → Type 0
-IsIrrelevant s x r p = (e : Environment) → Contains (policy_environments s p) e → fits p e ≡ true → is_of_request r e ≡ true → IsFalseIn s x p e
+IsIrrelevant s x r p = (e : Environment) → Contains (policy_environments s p) e → fits p e ≡ true → is_of_request r e ≡ true → HasFalse (strictly s x e) (condition p)
 
 -- What the check of a policy in one environment says.
 pub data Verdict : Type 0 where

@@ -20,10 +20,11 @@ use Rattle.cedar_gate_model.proofs.Policies.{policies_dont_err}
 use Rattle.cedar_gate_model.specs.Whole.Session.{not_conforming}
 use Rattle.cedar_gate_model.specs.Whole.Runs.{End, answered, answer_refused}
 use Rattle.cedar_gate_model.specs.Whole.Bundle.{Functions}
-use Rattle.cedar_gate_model.specs.Whole.Lines.{is_refused, is_unreadable, line, decision_word, impossible_line, reason_line, error_line, decided_line, round_line, entry_lines, answer_lines, refused_line, end_lines, run_lines, Prints}
+use Rattle.cedar_gate_model.specs.Whole.Lines.{is_refused, is_unreadable, line, decision_word, error_line, entry_lines, answer_lines, refused_line, end_lines, run_lines, Prints}
 use Rattle.cedar_gate_model.specs.Whole.FirstPath.{whole_cause, whole_entries, whole_bundle, whole_status}
 use Rattle.cedar_gate_model.proofs.Whole.FirstPath.Accepting.{acceptance_is_the_same, accepted_is_first, faults_are_there, no_other_numbers, warnings_are_the_same, numbers_are_the_same}
 use Rattle.cedar_gate_model.proofs.Whole.FirstPath.Sessions.{answering_runs_are_whole, refused_runs_are_whole}
+use Rattle.cedar_gate_model.proofs.Whole.Named.{impossible_line, reason_line, decided_line, round_line}
 
 -- the lines of what was done, of warnings and of answers
 same_decision : (d : Option small_answer.Decision) → decided_line (option_map whole_decision d) ≡ small.decided_line d

@@ -20,12 +20,13 @@ use Rattle.cedar_gate_model.specs.ReadingBundle as small
 use Rattle.cedar_gate_model.specs.Whole.ReadingForms.{word_of, first_form, alone, read_as}
 use Rattle.cedar_gate_model.specs.Whole.ReadingName.{uid_read}
 use Rattle.cedar_gate_model.specs.Whole.ReadingExpression.{expression_read}
-use Rattle.cedar_gate_model.specs.Whole.ReadingPolicy.{effect_words, target_read, scope_read, action_scope_read, bindings_read, policy_keys, policy_read}
+use Rattle.cedar_gate_model.specs.Whole.ReadingPolicy.{target_read, scope_read, action_scope_read, bindings_read, policy_read}
 use Rattle.cedar_gate_model.specs.Whole.FirstPathReading.{with_body, all_with_bodies}
 use Rattle.cedar_gate_model.proofs.Whole.Reading.Steps.{given_some, map_some, if_some_of}
 use Rattle.cedar_gate_model.proofs.Whole.FirstPathReading.Forms.{same_given, given_is, map_is, if_is, first_is, next_is, Becomes, ReadsAs, given_same, there_same, word_same, bare_or_lacking}
 use Rattle.cedar_gate_model.proofs.Whole.FirstPathReading.Objects.{reads_empty_object}
 use Rattle.cedar_gate_model.proofs.Whole.FirstPathReading.Expressions.{uids_agree, uid_no_text, expression_same}
+use Rattle.cedar_gate_model.proofs.Whole.Named.{effect_words, policy_keys}
 
 -- effects
 effect_said : (b c : Bool)

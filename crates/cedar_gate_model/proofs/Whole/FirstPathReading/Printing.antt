@@ -12,17 +12,18 @@ use Rattle.cedar_evaluator_model.specs.Response.{verdict, if_true, if_false, if_
 use Rattle.cedar_evaluator_model.specs.Members.{met_limit}
 use Rattle.cedar_gate_model.specs.Bundle as small_bundle
 use Rattle.cedar_gate_model.specs.ReadingBundle as small
-use Rattle.cedar_gate_model.specs.Whole.Owed.{IsForced, IsForcedTrue, IsForcedFalse, SomeTrue, NoneTrue}
+use Rattle.cedar_gate_model.specs.Whole.Owed.{IsForced, IsForcedFalse, SomeTrue, NoneTrue}
 use Rattle.cedar_gate_model.specs.Whole.Transcript.{Step, load, bind_name, decide, Entry, round, bound, decided}
 use Rattle.cedar_gate_model.specs.Whole.Session.{Setup, State, at_start, known_now, world_now, scope_now, with_bound, MeetsLimit}
 use Rattle.cedar_gate_model.specs.Whole.Runs.{End, answered, opening_refused, supply_refused, binding_refused, answer_refused, with_asked, MayDecide, Finishes, Loads, Binds, DecidesNow, Follows, Runs}
 use Rattle.cedar_gate_model.specs.Whole.Bundle.{Functions, Bundle}
-use Rattle.cedar_gate_model.specs.Whole.Lines.{Status, is_answered, is_refused, is_unreadable, is_stopped, impossible_line, entry_lines, end_lines, setup_of, run_lines, PrintsRun, Prints}
+use Rattle.cedar_gate_model.specs.Whole.Lines.{Status, is_answered, is_refused, is_unreadable, is_stopped, entry_lines, end_lines, setup_of, run_lines, PrintsRun, Prints}
 use Rattle.cedar_gate_model.specs.Whole.ReadingBundle.{input_read}
 use Rattle.cedar_gate_model.specs.Whole.FirstPath.{whole_bundle}
 use Rattle.cedar_gate_model.specs.Whole.FirstPathReading.{with_body, all_with_bodies, with_bodies}
 use Rattle.cedar_gate_model.proofs.Whole.FirstPathReading.Bundles.{input_alike}
 use Rattle.cedar_gate_model.proofs.Whole.FirstPathReading.Bodies.{acceptance_kept, faults_kept, warnings_kept, decisions_kept, answers_kept}
+use Rattle.cedar_gate_model.proofs.Whole.Named.{IsForcedTrue, impossible_line}
 
 -- responses
 gathered_kept : {A : Type 0} (f : Policy → Option A) (ps : List Policy) → filter_map f (all_with_bodies ps) ≡ filter_map (λ p. f (with_body p)) ps

@@ -30,12 +30,13 @@ use Rattle.cedar_gate_model.specs.Whole.Transcript.{load, decide}
 use Rattle.cedar_gate_model.specs.Whole.ReadingForms.{word_of, if_passing, read_as}
 use Rattle.cedar_gate_model.specs.Whole.ReadingName.{uid_read}
 use Rattle.cedar_gate_model.specs.Whole.ReadingValue.{with_functions, context_read}
-use Rattle.cedar_gate_model.specs.Whole.ReadingRequest.{entry_read, request_keys, request_read, parts_read, entity_keys, entity_read, store_read, step_words, step_read}
+use Rattle.cedar_gate_model.specs.Whole.ReadingRequest.{entry_read, request_read, parts_read, entity_read, store_read, step_read}
 use Rattle.cedar_gate_model.specs.Whole.FirstPath.{start_of, whole_step}
 use Rattle.cedar_gate_model.proofs.Whole.Reading.Steps.{given_some, map_some, if_some_of}
 use Rattle.cedar_gate_model.proofs.Whole.FirstPathReading.Forms.{same_given, given_is, map_is, if_is, first_is, Becomes, ReadsAs, given_same, list_same, word_same, bare_or_lacking}
 use Rattle.cedar_gate_model.proofs.Whole.FirstPathReading.Objects.{reads_empty_object, reads_empty_list}
 use Rattle.cedar_gate_model.proofs.Whole.FirstPathReading.Expressions.{uids_agree}
+use Rattle.cedar_gate_model.proofs.Whole.Named.{request_keys, entity_keys, step_words}
 
 -- the empty record, which is a value at any depth
 empty_left : (s : Scope) (n : ℕ) → evaluated s (suc n) (record_literal no_tree_fields) ≡ value_left (made_record no_made_fields)

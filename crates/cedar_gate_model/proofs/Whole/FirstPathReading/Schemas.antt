@@ -16,11 +16,12 @@ use Rattle.cedar_gate_model.specs.ReadingExpression as small_expression
 use Rattle.cedar_gate_model.specs.ReadingSchema as small
 use Rattle.cedar_gate_model.specs.Whole.ReadingForms.{read_as}
 use Rattle.cedar_gate_model.specs.Whole.ReadingName.{any_name_read, declared_uid_read}
-use Rattle.cedar_gate_model.specs.Whole.ReadingSchema.{type_read, attributes_read, common_read, kind_read, standard_read, entity_type_read, action_keys, action_read, namespace_keys, namespace_read, fragment_read, schema_read}
+use Rattle.cedar_gate_model.specs.Whole.ReadingSchema.{type_read, attributes_read, common_read, kind_read, standard_read, entity_type_read, action_read, namespace_read, fragment_read, schema_read}
 use Rattle.cedar_gate_model.specs.Whole.FirstPathReading.{is_in_order, is_before, have_keys_in_order}
 use Rattle.cedar_gate_model.proofs.Whole.Reading.Steps.{given_some, map_some, if_some_of}
 use Rattle.cedar_gate_model.proofs.Whole.FirstPathReading.Forms.{same_given, given_is, map_is, if_is, first_is, Becomes, MemberReadsAs, one_more, there_same, bare_or_lacking, object_same, members_have}
 use Rattle.cedar_gate_model.proofs.Whole.FirstPathReading.Objects.{empty_object, reads_empty_object, reads_empty_list, only_more, key_lacks, only_key, value_in_order}
+use Rattle.cedar_gate_model.proofs.Whole.Named.{action_keys, namespace_keys}
 
 -- what passes a test at a key is there
 there_at : (test : Data → Bool) (o : Option Data) → unwrap_or (option_map test o) false ≡ true → (d : Data) × (o ≡ Some d) × (test d ≡ true)

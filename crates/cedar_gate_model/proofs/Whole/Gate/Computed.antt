@@ -24,12 +24,13 @@ use Rattle.cedar_evaluator_model.specs.Scope.{uid, unknown_uid}
 use Rattle.cedar_gate_model.specs.Whole.Acceptance.{IsAccepted, reaches_too_far}
 use Rattle.cedar_gate_model.specs.Whole.Moment.{Completes, request_of}
 use Rattle.cedar_gate_model.specs.Whole.GateLaws.{Holds}
-use Rattle.cedar_gate_model.specs.Whole.Owed.{IsForcedTrue, IsForcedFalse, IsForced}
+use Rattle.cedar_gate_model.specs.Whole.Owed.{IsForcedFalse, IsForced}
 use Rattle.cedar_gate_model.specs.Whole.Session.{Setup, at_start, OpenFault, quote_in_name, name_of_variable, AnswerFault, AnswerRefusal, not_bound, still_wanted, not_conforming, OpenRefusal, HasOpenName, is_open_entry, world_now}
 use Rattle.cedar_gate_model.specs.Whole.Runs.{answered, answer_refused}
 use Rattle.cedar_gate_model.specs.Whole.Lines.{is_answered, is_refused, is_stopped, setup_of, Prints}
 use Rattle.cedar_gate_model.specs.Whole.WorkedGate.{p0, p1, p2, p3, by_a, asking, open_named, user_text, no_functions, lines, in_quotes, good_bundle, far_bundle, open_bundle, nothing_known, nobody_known, after_a_round, reviewed, bounds, by_a_on_b, nobody_there, user_b}
 use Rattle.cedar_gate_model.proofs.Whole.Gate.Accepting.{admitted_accepted, faults_exclude}
+use Rattle.cedar_gate_model.proofs.Whole.Named.{IsForcedTrue}
 
 -- openings
 pub no_open_fault : (o : OpenRefusal) → OpenFault by_a o → ⊥

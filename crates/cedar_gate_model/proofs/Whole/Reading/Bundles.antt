@@ -22,7 +22,7 @@ use Rattle.cedar_gate_model.specs.Whole.ReadingName.{uid_read}
 use Rattle.cedar_gate_model.specs.Whole.ReadingSchema.{schema_read}
 use Rattle.cedar_gate_model.specs.Whole.ReadingPolicy.{policy_read}
 use Rattle.cedar_gate_model.specs.Whole.ReadingValue.{value_read}
-use Rattle.cedar_gate_model.specs.Whole.ReadingRequest.{request_read, parts_read, entity_keys, entity_read, store_read, step_read, steps_read}
+use Rattle.cedar_gate_model.specs.Whole.ReadingRequest.{request_read, parts_read, entity_read, store_read, step_read, steps_read}
 use Rattle.cedar_gate_model.specs.Whole.ReadingBundle.{submission_read, is_bundle, bundle_read}
 use Rattle.cedar_gate_model.proofs.Whole.Reading.Steps.{given_some, map_some, passing_some, given_gives, map_gives, if_gives}
 use Rattle.std.specs.Map.{keys_of}
@@ -30,6 +30,7 @@ use Rattle.cedar_store_model.specs.Whole.Store.{are_distinct}
 use Rattle.cedar_expr_model.specs.Whole.Repeats.{repeated}
 use Rattle.std.specs.Prelude.{nat_le, is_some}
 use Rattle.cedar_expr_model.specs.Whole.Made.{bare}
+use Rattle.cedar_gate_model.proofs.Whole.Named.{entity_keys}
 
 -- what a number in a range is
 pub in_range : (low high : ℕ) (d : Data) (n : ℕ) → number_between low high d ≡ Some n → (low ≤ n) × (n ≤ high)

@@ -10,10 +10,11 @@ use Rattle.cedar_expr_model.specs.Whole.Builder.{conjunction, disjunction, path_
 use Rattle.cedar_gate_model.specs.Reading.{given}
 use Rattle.cedar_gate_model.specs.Whole.ReadingForms.{word_of}
 use Rattle.cedar_gate_model.specs.Whole.ReadingName.{plain_name_read, uid_from, annotation_read}
-use Rattle.cedar_gate_model.specs.Whole.ReadingExpression.{Part, var_words, slot_words, pattern_read, trees_in, of_one, of_two, of_three, of_tree_and, of_word, uid_form, unknown_form, call_form, has_form, record_form, forms, form_read, expression_read, parts_in, fields_read, fields_in}
+use Rattle.cedar_gate_model.specs.Whole.ReadingExpression.{Part, var_words, slot_words, pattern_read, trees_in, of_one, of_two, of_three, of_tree_and, of_word, uid_form, unknown_form, call_form, has_form, forms, form_read, expression_read, parts_in, fields_read, fields_in}
 use Rattle.cedar_gate_model.proofs.Whole.Reading.Steps.{given_some, map_some, AllBeside, beside_all, and_then_some}
 use Rattle.cedar_expr_model.specs.Whole.Lists.{all_given}
 use Rattle.std.specs.Map.{lookup}
+use Rattle.cedar_gate_model.proofs.Whole.Named.{record_form}
 
 abbrev pub EachTree : (Tree → Type 0) → Trees → Type 0
 EachTree P no_trees = Unit {0}

@@ -32,7 +32,7 @@ use Rattle.cedar_schema_model.specs.Whole.Schema.{declares_action}
 use Rattle.cedar_schema_model.specs.Whole.ActionEntities.{as_entity}
 use Rattle.cedar_schema_model.specs.Whole.Conforming.{EntityConforms, entity_conforms, RequestConforms, request_conforms, open_part}
 use Rattle.cedar_schema_model.proofs.Whole.Decls.Conforming.{entity_conforms-Decides, request_conforms-Decides}
-use Rattle.cedar_evaluator_model.specs.Completion.{IsOfKind, PartIs, Fits}
+use Rattle.cedar_evaluator_model.specs.Completion.{PartIs, Fits}
 use Rattle.cedar_evaluator_model.specs.Known.{known_entry, known_context}
 use Rattle.cedar_evaluator_model.specs.Scope.{Entry, uid, unknown_uid, Context, closed, residual_fields, unknown_context, Left, value_left, residual, stopped}
 use Rattle.cedar_evaluator_model.specs.OfLaws.Calls.{Agrees}
@@ -40,7 +40,7 @@ use Rattle.cedar_evaluator_model.specs.OfLaws.WellMade.{IsWellMade, IsMadeWell}
 use Rattle.cedar_evaluator_model.proofs.Residuals.Slots.{substituted_outcome}
 use Rattle.cedar_gate_model.specs.Whole.Moment.{EntryCompleted, ContextCompleted, Completes, request_of}
 use Rattle.cedar_gate_model.specs.Whole.ReadingValue.{with_functions}
-use Rattle.cedar_gate_model.specs.Whole.Session.{Setup, State, at_start, IsWantedNow, value_of, uid_in, context_left, entry_now, context_now, whole_store, world_now, context_unknowns, variable_names, OpenRefusal, OpenFault, name_of_variable, entry_named, is_open_entry, is_open_context, IsOtherKind, IsNoEntity, BreaksAnnotation, IsNoRecord, with_bound, BindRefusal, BindFault, not_open, against_annotation, no_entity_or_record, SupplyRefusal, SupplyFault, wrong_entity, AnswerRefusal, AnswerFault, not_bound, not_conforming, MeansBound, CompletesNow}
+use Rattle.cedar_gate_model.specs.Whole.Session.{Setup, State, at_start, IsWantedNow, value_of, uid_in, context_left, entry_now, context_now, whole_store, world_now, context_unknowns, variable_names, OpenRefusal, OpenFault, name_of_variable, entry_named, is_open_entry, is_open_context, IsOtherKind, IsNoRecord, with_bound, BindRefusal, BindFault, not_open, against_annotation, no_entity_or_record, SupplyRefusal, SupplyFault, wrong_entity, AnswerRefusal, AnswerFault, not_bound, not_conforming, MeansBound, CompletesNow}
 use Rattle.cedar_gate_model.specs.Whole.Transcript as transcript
 use Rattle.cedar_gate_model.specs.Whole.Transcript.{round, bound, decided}
 use Rattle.cedar_gate_model.specs.Whole.Runs.{with_asked, supplied_by}
@@ -54,6 +54,8 @@ use Rattle.cedar_gate_model.proofs.Whole.Runs.Contexts.{was_open, binding_grows,
 use Rattle.cedar_gate_model.proofs.Whole.Runs.Did.{Did}
 use Rattle.cedar_gate_model.proofs.Whole.Runs.Loading.{slice_is_loaded}
 use Rattle.cedar_gate_model.proofs.Whole.Runs.Restricted.{value_is_meant}
+use Rattle.cedar_gate_model.proofs.Whole.Named.{IsNoEntity, BreaksAnnotation}
+use Rattle.cedar_evaluator_model.specs.OfLaws.Completing.{IsOfKind}
 
 is_true : (b : Bool) → (b ≡ false → ⊥) → b ≡ true
 is_true true h = refl

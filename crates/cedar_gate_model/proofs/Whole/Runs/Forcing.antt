@@ -17,12 +17,13 @@ use Rattle.cedar_evaluator_model.specs.Response.{response_of}
 use Rattle.cedar_evaluator_model.specs.Scope.{Scope}
 use Rattle.cedar_evaluator_model.proofs.Exact.{leaves_unbound}
 use Rattle.cedar_evaluator_model.proofs.Forced.{forbid_forces, permit_forces, no_permit_forces}
-use Rattle.cedar_gate_model.specs.Whole.Owed.{IsForcedTrue, IsForcedFalse, IsForced}
+use Rattle.cedar_gate_model.specs.Whole.Owed.{IsForcedFalse, IsForced}
 use Rattle.cedar_gate_model.specs.Whole.Runs.{MayDecide}
 use Rattle.cedar_gate_model.specs.Whole.RunsAnswer.{Course, session_of, IsProper}
 use Rattle.cedar_gate_model.specs.Whole.Session.{State, known_now, scope_now}
 use Rattle.cedar_gate_model.proofs.Whole.Runs.Deciding.{none_unknown, none_has_unknowns, leaves_nothing}
 use Rattle.cedar_gate_model.proofs.Whole.Runs.Owing.{each_all}
+use Rattle.cedar_gate_model.proofs.Whole.Named.{IsForcedTrue}
 
 is_satisfied : (k : World) (p : Policy) → IsForcedTrue k p → IsSatisfied k p
 is_satisfied k p h = (policies_mean_truth k p (val (truth_value true))).0 h

@@ -29,7 +29,7 @@ use Rattle.cedar_evaluator_model.specs.OfLaws.Whole.{NothingUnknown, HoldsValues
 use Rattle.cedar_evaluator_model.specs.Laws.{WithinLimit}
 use Rattle.cedar_evaluator_model.proofs.Limits.{none_met}
 use Rattle.cedar_evaluator_model.proofs.Settled.{same_filled}
-use Rattle.cedar_gate_model.specs.Whole.Owed.{IsForced, IsForcedTrue, IsForcedFalse}
+use Rattle.cedar_gate_model.specs.Whole.Owed.{IsForced, IsForcedFalse}
 use Rattle.cedar_gate_model.specs.Whole.Session.{Setup, State, at_start, known_now, world_now, scope_now, OpenRefusal, OpenFault, AnswerRefusal, AnswerFault, not_bound, still_wanted, not_conforming, MeetsLimit, with_bound}
 use Rattle.cedar_gate_model.specs.Whole.Transcript as transcript
 use Rattle.cedar_gate_model.specs.Whole.Transcript.{round, bound, decided}
@@ -43,6 +43,7 @@ use Rattle.cedar_gate_model.proofs.Whole.Runs.Answering.{fit, is_loaded, good}
 use Rattle.cedar_gate_model.proofs.Whole.Runs.Completing.{Stands, stands_at_start, stands_after, parts_there}
 use Rattle.cedar_gate_model.proofs.Whole.Runs.Deciding.{none_unknown, none_has_unknowns, leaves_nothing}
 use Rattle.cedar_gate_model.proofs.Whole.Runs.Did.{Did, run_did}
+use Rattle.cedar_gate_model.proofs.Whole.Named.{IsForcedTrue}
 
 -- policies that each mean something force a decision
 module _ (k : World) (ps : List Policy) (means : (p : Policy) → Contains ps p → (r : Res V) × PolicyMeans k p r) where

@@ -22,7 +22,7 @@ use Rattle.cedar_gate_model.specs.Whole.Bundle.{Functions, Bundle}
 use Rattle.cedar_gate_model.specs.Whole.ReadingBundle.{submission_read, is_bundle, bundle_read}
 use Rattle.cedar_gate_model.specs.Whole.ReadingExpression.{expression_read}
 use Rattle.cedar_gate_model.specs.Whole.ReadingForms.{if_passing, word_of}
-use Rattle.cedar_gate_model.specs.Whole.ReadingRequest.{entry_read, request_keys, request_read, store_read, step_words, binding_read, step_read, steps_read}
+use Rattle.cedar_gate_model.specs.Whole.ReadingRequest.{entry_read, request_read, store_read, binding_read, step_read, steps_read}
 use Rattle.cedar_gate_model.specs.Whole.ReadingValue.{with_functions, left_of_restricted, if_value, value_read, context_read}
 use Rattle.cedar_gate_model.specs.Whole.RunLaws.{bindings_in}
 use Rattle.cedar_gate_model.specs.Whole.RunsAnswer.{IsProper, MakeFairly, course_of}
@@ -32,6 +32,7 @@ use Rattle.cedar_gate_model.proofs.Whole.Reading.Bundles.{bundle_parts, there_ha
 use Rattle.cedar_gate_model.proofs.Whole.Reading.Steps.{given_some, map_some, passing_some, beside_all, given_gives, map_gives, if_gives}
 use Rattle.cedar_gate_model.proofs.Whole.Reading.Values.{none_is, first_some, open_contexts_have_unknowns}
 use Rattle.cedar_gate_model.proofs.Whole.Runs.WellMade.{evaluated_well}
+use Rattle.cedar_gate_model.proofs.Whole.Named.{request_keys, step_words}
 
 -- the request of a bundle, and its context
 bundle_start : (x : Functions) (d : Data) (b : Bundle) → bundle_read x d ≡ Some b → required (codes "request") (request_read x) d ≡ Some b.start

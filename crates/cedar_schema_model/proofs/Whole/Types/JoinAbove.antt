@@ -6,12 +6,13 @@ use Rattle.cedar_expr_model.proofs.Lists.{both_hold, hold_both}
 use Rattle.cedar_schema_model.specs.Whole.Types.{BoolType, any_bool, only_true, only_false, Openness, is_open, is_closed, Ty, never, bool_type, long_type, string_type, any_entity, entity_types, any_set, set_type, record_type, extension_type, Attributes, Declared, attribute_named, Mode, strict, permissive}
 use Rattle.cedar_schema_model.specs.Whole.Subtype.{is_permissive, is_closed_record, are_among, are_named, carries, is_bool_below, is_union_below, is_frame_below, have_below}
 use Rattle.cedar_schema_model.specs.Whole.OfLaws.Formed.{Below, is_union, is_well_formed_type}
-use Rattle.cedar_schema_model.specs.Whole.Join.{bool_join, names_of_both, agree, all_stayed, openness_of_join, join, attributes_join}
+use Rattle.cedar_schema_model.specs.Whole.Join.{bool_join, names_of_both, agree, all_stayed, join, attributes_join}
 use Rattle.cedar_schema_model.proofs.Whole.Types.Lookups.{no_lie, each_type, Parts, Formed, formed_at}
 use Rattle.cedar_schema_model.proofs.Whole.Types.Names.{among_at, among_from, union_parts, both_in, both_left, both_right}
 use Rattle.cedar_schema_model.proofs.Whole.Types.Subtypes.{Found, have_from, below_same, bool_same, open_frame, from_closed_frame, from_strict_frame}
 use Rattle.cedar_schema_model.proofs.Whole.Types.JoinParts.{if_given, for_some, joint, join_named, first_carries, second_carries}
 use Rattle.cedar_schema_model.proofs.Whole.Types.JoinFormed.{attributes_formed}
+use Rattle.cedar_schema_model.proofs.Whole.Named.{openness_of_join}
 
 abbrev AboveBoth : Mode → Ty → Ty → Option Ty → Type 0
 AboveBoth m a b o = IfSome o (λ j. Below m a j × Below m b j)

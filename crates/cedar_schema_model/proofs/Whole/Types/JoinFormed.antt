@@ -7,12 +7,13 @@ use Rattle.cedar_schema_model.specs.Whole.Types.{Ty, never, bool_type, long_type
 use Rattle.cedar_schema_model.specs.Whole.Subtype.{is_permissive, is_closed_record, are_among}
 use Rattle.cedar_schema_model.specs.Whole.OfLaws.Formed.{is_union, is_well_formed_type}
 use Rattle.cedar_schema_model.specs.Whole.TypeLaws.{has_no_any_set, have_no_any_set}
-use Rattle.cedar_schema_model.specs.Whole.Join.{names_of_both, agree, joined_with, kept_attribute, all_stayed, openness_of_join, join, attributes_join}
+use Rattle.cedar_schema_model.specs.Whole.Join.{names_of_both, agree, joined_with, kept_attribute, all_stayed, join, attributes_join}
 use Rattle.cedar_schema_model.proofs.Whole.Types.Lookups.{no_lie, no_none, named_cases, Formed, formed_parts, formed_at}
 use Rattle.cedar_schema_model.proofs.Whole.Types.Names.{Named, Rising, union_parts, both_named, both_rising, both_right}
 use Rattle.cedar_schema_model.proofs.Whole.Types.JoinParts.{if_given, joined_type, joined_formed}
 use Rattle.cedar_expr_model.specs.Whole.Lists.{rises}
 use Rattle.cedar_expr_model.specs.Order.{name_cmp}
+use Rattle.cedar_schema_model.proofs.Whole.Named.{openness_of_join}
 
 abbrev FormedIf : Option Ty → Type 0
 FormedIf o = IfSome o (λ j. is_well_formed_type j ≡ true)

@@ -7,13 +7,14 @@ use Rattle.cedar_schema_model.specs.Whole.Types.{BoolType, any_bool, only_true, 
 use Rattle.cedar_schema_model.specs.Whole.Subtype.{is_permissive, is_closed_record, are_among, are_named, is_bool_below, is_union_below, is_frame_below, is_declared_below, is_subtype, have_below}
 use Rattle.cedar_schema_model.specs.Whole.OfLaws.Formed.{Below, is_union, is_well_formed_type}
 use Rattle.cedar_schema_model.specs.Whole.TypeLaws.{has_no_any_set, have_no_any_set}
-use Rattle.cedar_schema_model.specs.Whole.Join.{bool_join, names_of_both, agree, all_stayed, openness_of_join, join, attributes_join}
+use Rattle.cedar_schema_model.specs.Whole.Join.{bool_join, names_of_both, agree, all_stayed, join, attributes_join}
 use Rattle.cedar_schema_model.proofs.Whole.Types.Lookups.{no_lie, inside, some_is, declares, each_type, Parts, Formed, formed_at}
 use Rattle.cedar_schema_model.proofs.Whole.Types.Names.{among_at, among_from, union_parts, both_in, both_left}
 use Rattle.cedar_schema_model.proofs.Whole.Types.Subtypes.{Found, have_at, have_parts, declared_found, found_declared, named_at, named_from, record_parts, strict_frame, from_strict_frame, closed_frame, open_frame, from_closed_frame}
 use Rattle.cedar_schema_model.proofs.Whole.Types.JoinParts.{given, joint, joins, join_named, agree_same, carries_agree, carries_and}
 use Rattle.cedar_schema_model.proofs.Whole.Types.JoinFormed.{attributes_formed, free_at}
 use Rattle.cedar_schema_model.proofs.Whole.Types.JoinAbove.{opened, allowed, strict_allowed}
+use Rattle.cedar_schema_model.proofs.Whole.Named.{openness_of_join}
 
 abbrev pub Joined : Mode → Ty → Ty → Ty → Type 0
 Joined m a b c = (j : Ty) × (join m a b ≡ Some j) × Below m j c

@@ -6,13 +6,14 @@ use Rattle.cedar_expr_model.proofs.Lists.{hold_both}
 use Rattle.cedar_schema_model.specs.Whole.Types.{BoolType, any_bool, only_true, only_false, Openness, is_open, is_closed, Ty, never, bool_type, long_type, string_type, any_entity, entity_types, any_set, set_type, record_type, extension_type, Attributes, Declared, attribute_named, Mode, strict, permissive}
 use Rattle.cedar_schema_model.specs.Whole.Subtype.{is_permissive, is_closed_record, are_among, are_named, carries, is_bool_below, is_union_below, is_frame_below, have_below}
 use Rattle.cedar_schema_model.specs.Whole.OfLaws.Formed.{Below, is_union, is_well_formed_type}
-use Rattle.cedar_schema_model.specs.Whole.Join.{bool_join, names_of_both, agree, declared_in_common, union_join, all_stayed, openness_of_join, record_join, join, attributes_join}
+use Rattle.cedar_schema_model.specs.Whole.Join.{bool_join, names_of_both, agree, declared_in_common, union_join, all_stayed, record_join, join, attributes_join}
 use Rattle.cedar_schema_model.proofs.Whole.Types.Lookups.{no_lie, declares, each_type, Parts, Formed, formed_at, same_attributes}
 use Rattle.cedar_schema_model.proofs.Whole.Types.Names.{among_at, union_parts, both_in, both_left, both_right, both_named, both_rising, same_names}
 use Rattle.cedar_schema_model.proofs.Whole.Types.Subtypes.{have_at, named_at, named_from, record_parts, strict_frame, closed_frame, same_declared, same_options, union_weaker}
 use Rattle.cedar_schema_model.proofs.Whole.Types.JoinParts.{if_given, given_if, given, for_some, declared_join, joint, joins, join_named, agree_same, agree_back, and_back}
 use Rattle.cedar_schema_model.proofs.Whole.Types.JoinFormed.{attributes_formed}
 use Rattle.cedar_schema_model.proofs.Whole.Types.JoinAbove.{opened, allowed, strict_allowed}
+use Rattle.cedar_schema_model.proofs.Whole.Named.{openness_of_join}
 
 -- swapped
 bool_back : (x y : BoolType) → bool_join x y ≡ bool_join y x

@@ -20,11 +20,11 @@ use Rattle.cedar_schema_model.proofs.Order.{all_agree}
 use Rattle.cedar_schema_model.proofs.Whole.FirstPath.Lists.{and_true, any_map, all_true, find_map}
 use Rattle.cedar_schema_model.proofs.Whole.FirstPath.Schemas.{types_of_schema, actions_of_schema, same_schema}
 use Rattle.cedar_typechecker_model.specs.ScopeRules as small_scope
-use Rattle.cedar_typechecker_model.specs.Whole.ScopeRules.{kind_here, uids_of, kinds_of, policy_uids, is_action_type, is_known_type, is_no_unknown_action, is_no_unknown_member, names_known_types, names_known_actions, names_known_members}
+use Rattle.cedar_typechecker_model.specs.Whole.ScopeRules.{kind_here, policy_uids, is_action_type, is_known_type, is_no_unknown_action, is_no_unknown_member, names_known_types, names_known_actions, names_known_members}
 use Rattle.cedar_expr_model.specs.Whole.FirstPath.{whole_tree}
 use Rattle.cedar_store_model.specs.Whole.FirstPath.{whole_scope, whole_action_scope, whole_policy}
 use Rattle.cedar_typechecker_model.specs.Whole.FirstPath.{first_schema}
-use Rattle.cedar_typechecker_model.proofs.Whole.Named.{is_id_of}
+use Rattle.cedar_typechecker_model.proofs.Whole.Named.{is_id_of, uids_of, kinds_of}
 
 -- conditions
 written_same : (t : small_tree.Tree) → written_truth (whole_tree t) ≡ small_tree.written_truth t

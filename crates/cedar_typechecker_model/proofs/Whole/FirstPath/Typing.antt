@@ -19,12 +19,13 @@ use Rattle.cedar_typechecker_model.specs.Parts as small_parts
 use Rattle.cedar_typechecker_model.specs.Typing as small
 use Rattle.cedar_typechecker_model.specs.Verdicts as small_verdicts
 use Rattle.cedar_typechecker_model.specs.Whole.Facts.{Facts, no_facts, union}
-use Rattle.cedar_typechecker_model.specs.Whole.Rules.{Setting, known_truth, truth_type, if_there, literal_type, unary_type, written_uid, comparable, written_equal, equal_type, order_type}
+use Rattle.cedar_typechecker_model.specs.Whole.Rules.{Setting, known_truth, truth_type, if_there, literal_type, unary_type, written_uid, comparable, written_equal, order_type}
 use Rattle.cedar_typechecker_model.specs.Whole.Typing.{Judgement, plain, conjoined, and_judged, binary_judged, judgement, type_of}
 use Rattle.cedar_typechecker_model.specs.Whole.Verdicts.{strictly}
 use Rattle.cedar_expr_model.specs.Whole.FirstPath.{whole_literal, whole_unary, whole_binary, whole_tree}
 use Rattle.cedar_typechecker_model.specs.Whole.FirstPath.{whole_setting, whole_judgement}
 use Rattle.cedar_typechecker_model.proofs.Parts.{type_of_lit, type_of_both, type_of_unary, type_of_binary, no_facts_arise}
+use Rattle.cedar_typechecker_model.proofs.Whole.Named.{equal_type}
 
 -- the setting of the schema that is read off
 abbrev pub read_setting : small_declarations.Declarations → Table → small_environment.Environment → Setting

@@ -23,7 +23,7 @@ use Rattle.cedar_typechecker_model.specs.Verdicts as small_verdicts
 use Rattle.cedar_typechecker_model.specs.Whole.Facts.{Facts, no_facts, union}
 use Rattle.cedar_typechecker_model.specs.Whole.Rules.{Setting}
 use Rattle.cedar_typechecker_model.specs.Whole.Typing.{Judgement, judgement, type_of}
-use Rattle.cedar_typechecker_model.specs.Whole.Levels.{Violation, unless_false, after_and, violations}
+use Rattle.cedar_typechecker_model.specs.Whole.Levels.{Violation, unless_false, violations, after}
 use Rattle.cedar_typechecker_model.specs.Whole.Verdicts.{scope_use, policy_environments, in_mode, strictly, fits, is_bool, is_false, condition_type, passes, impossible, violations_in, policy_violations_in}
 use Rattle.cedar_expr_model.specs.Whole.FirstPath.{whole_tree}
 use Rattle.cedar_store_model.specs.Whole.FirstPath.{whole_scope, whole_policy}
@@ -108,7 +108,7 @@ none_unless (set_type t) = refl
 none_unless (record_type as_ o) = refl
 none_unless (extension_type n) = refl
 
-none_after : (o : Option Judgement) (r : Facts → List Violation) → ((f : Facts) → r f ≡ []) → after_and o r ≡ []
+none_after : (o : Option Judgement) (r : Facts → List Violation) → ((f : Facts) → r f ≡ []) → after unless_false o r ≡ []
 none_after None r h = refl
 none_after (Some j) r h = ap (unless_false j.type) (h j.facts) ∙ none_unless j.type
 

@@ -12,7 +12,7 @@ use Rattle.cedar_schema_model.specs.Whole.Environment.{Environment}
 use Rattle.cedar_schema_model.specs.Whole.Schema.{Schema}
 use Rattle.cedar_schema_model.specs.Whole.Types.{Ty, Mode}
 use Rattle.cedar_typechecker_model.specs.Whole.Facts.{Facts, union, no_facts}
-use Rattle.cedar_typechecker_model.specs.Whole.Levels.{joined, further, stepped, is_entity, literal_count, after_and, after_or, after_test, target_after_test, entity_steps, fields_before, path_violations, on_entity, violations, violations_among, violations_in_fields, target, target_in_fields}
+use Rattle.cedar_typechecker_model.specs.Whole.Levels.{joined, further, stepped, is_entity, literal_count, after_test, target_after_test, entity_steps, fields_before, path_violations, on_entity, violations, violations_among, violations_in_fields, target, target_in_fields, after, unless_false, unless_true}
 use Rattle.cedar_typechecker_model.specs.Whole.Rules.{Setting}
 use Rattle.cedar_typechecker_model.specs.Whole.Typing.{step_type, judgement, type_under}
 use Rattle.cedar_typechecker_model.specs.Whole.Verdicts.{is_bool, violations_in}
@@ -60,8 +60,8 @@ module _ (s t : Schema) (m : IsMoved s t) (mode : Mode) (x : Table) (e : Environ
     mutual
       pub same_violations : (known : Facts) (a : Tree) → violations n one known a ≡ violations n two known a
       same_violations known (choice c a b) = λ i. same_violations known c i ++ after_test (judged_same known c i) (λ f. same_violations (union known f) a i) (same_violations known b i)
-      same_violations known (both a b) = λ i. same_violations known a i ++ after_and (judged_same known a i) (λ f. same_violations (union known f) b i)
-      same_violations known (either a b) = λ i. same_violations known a i ++ after_or (judged_same known a i) (same_violations known b i)
+      same_violations known (both a b) = λ i. same_violations known a i ++ after unless_false (judged_same known a i) (λ f. same_violations (union known f) b i)
+      same_violations known (either a b) = λ i. same_violations known a i ++ after unless_true (judged_same known a i) (λ f. same_violations known b i)
       same_violations known (unary o a) = same_violations known a
       same_violations known (binary o a b) = λ i. (if looks_up o then stepped n (binary o a b) (further 1 (same_target known [] a i)) else same_violations known a i) ++ same_violations known b i
       same_violations known (call f ts) = same_among known ts

@@ -14,11 +14,12 @@ use Rattle.cedar_schema_model.specs.Whole.Types.{Ty, entity_types, record_type, 
 use Rattle.cedar_schema_model.specs.Whole.Schema.{EntityType, Action, Schema, type_named, action_with, declares_type, declares_action}
 use Rattle.cedar_schema_model.specs.Whole.Descent.{type_names, action_uids, HasParent, HasActionParent, Descends, ActionDescends, action_descends, IsActionAncestor, type_descends}
 use Rattle.cedar_schema_model.specs.Whole.DeclLaws.{ActionTypeDescends, TypeDescends}
-use Rattle.cedar_schema_model.specs.Whole.Lookup.{attributes_of_kind, declared_of, declared_by_all, lookup_attribute, may_have_attribute}
+use Rattle.cedar_schema_model.specs.Whole.Lookup.{declared_of, declared_by_all, lookup_attribute, may_have_attribute}
 use Rattle.cedar_schema_model.proofs.Whole.Decls.Descent.{action_descends-Decides, type_descends-Decides}
 use Rattle.cedar_schema_model.proofs.Whole.Decls.Reordered.{reaches_along}
-use Rattle.cedar_typechecker_model.specs.Whole.Rules.{may_be_in, kind_tags, tags_of}
+use Rattle.cedar_typechecker_model.specs.Whole.Rules.{may_be_in, tags_of}
 use Rattle.cedar_typechecker_model.specs.Whole.ScopeRules.{is_action_type, is_known_type, is_no_unknown_action, has_id, is_no_unknown_member}
+use Rattle.cedar_schema_model.specs.Whole.Conforming.{of_kind, tags_at, attributes_at}
 
 -- the same types and actions in another order, each found alike
 pub record IsMoved (s t : Schema) : Type 0 where
@@ -96,7 +97,7 @@ module _ (s t : Schema) (m : IsMoved s t) where
 
   -- attributes and tags
   same_declared : (a : Text) (n : Name) → declared_of s a n ≡ declared_of t a n
-  same_declared a n = λ i. option_and_then (λ e. attribute_named a (attributes_of_kind e.kind)) (m.found_type n i)
+  same_declared a n = λ i. option_and_then (λ e. attribute_named a (attributes_at (of_kind e.kind))) (m.found_type n i)
 
   pub same_lookup : (y : Ty) (a : Text) → lookup_attribute s y a ≡ lookup_attribute t y a
   same_lookup (entity_types ns) a = λ i. option_and_then declared_by_all (all_given (λ n. same_declared a n i) ns)
@@ -109,7 +110,7 @@ module _ (s t : Schema) (m : IsMoved s t) where
   same_may_have y a = refl
 
   pub same_tags : (n : Name) → tags_of s n ≡ tags_of t n
-  same_tags n = λ i. option_and_then (λ e. kind_tags e.kind) (m.found_type n i)
+  same_tags n = λ i. option_and_then (λ e. tags_at (of_kind e.kind)) (m.found_type n i)
 
   -- scope rules
   pub same_action_type : (n : Name) → is_action_type s n ≡ is_action_type t n

@@ -14,10 +14,11 @@ use Rattle.cedar_schema_model.specs.Whole.Join.{reduce_to_join, are_disjoint}
 use Rattle.cedar_schema_model.specs.Whole.Schema.{Schema}
 use Rattle.cedar_schema_model.specs.Whole.Types.{any_bool, only_true, only_false, Ty, any_entity, bool_type, long_type, any_set, set_type, extension_type, entity_types, entity_type, record_type, attribute, Mode, permissive}
 use Rattle.cedar_typechecker_model.specs.Whole.Facts.{Facts, union, attribute_part, tag_part}
-use Rattle.cedar_typechecker_model.specs.Whole.Rules.{Setting, known_truth, literal_type, var_type, slot_type, written_uid, written_equal, equal_type, order_type, member_type, sets_type, action_literal, written_action, written_actions, within_kinds, entity_kinds, entity_or_set_kinds, in_type, binary_type, has_type, attribute_type, get_type, tag_type, may_have_tags, is_string_type, has_tag_type, get_tag_type, unary_type, like_type, is_type_type, set_literal_type, record_literal_type, call_type}
+use Rattle.cedar_typechecker_model.specs.Whole.Rules.{Setting, known_truth, literal_type, var_type, slot_type, written_uid, written_equal, order_type, member_type, sets_type, action_literal, written_action, written_actions, within_kinds, entity_kinds, entity_or_set_kinds, in_type, binary_type, has_type, attribute_type, get_type, tag_type, may_have_tags, is_string_type, has_tag_type, get_tag_type, unary_type, like_type, is_type_type, set_literal_type, record_literal_type, call_type}
 use Rattle.cedar_typechecker_model.specs.Whole.Typing.{Judgement, plain, tested, chosen, step_type, and_judged, or_judged, path_judged, binary_judged, choice_judged, judgement, judgements, field_judgements, type_under}
 use Rattle.cedar_typechecker_model.specs.Whole.Verdicts.{in_mode}
 use Rattle.cedar_typechecker_model.proofs.Whole.Moved.Schemas.{IsMoved, same_declares_type, same_declares_action, same_action_descends, same_may_be_in, same_lookup, same_may_have, same_tags}
+use Rattle.cedar_typechecker_model.proofs.Whole.Named.{equal_type}
 
 module _ (s t : Schema) (m : IsMoved s t) (mode : Mode) (x : Table) (e : Environment) where
   abbrev pub first : Setting

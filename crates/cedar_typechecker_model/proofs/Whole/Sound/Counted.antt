@@ -14,7 +14,7 @@ use Rattle.cedar_schema_model.specs.Whole.HasType.{HasType}
 use Rattle.cedar_schema_model.specs.Whole.Join.{join}
 use Rattle.cedar_schema_model.specs.Whole.Lookup.{lookup_attribute}
 use Rattle.cedar_typechecker_model.specs.Whole.Facts.{Facts, union, intersection}
-use Rattle.cedar_typechecker_model.specs.Whole.Levels.{Violation, Count, needed, stepped, is_entity, unless_false, unless_true, branches, greater, entity_steps, fields_before}
+use Rattle.cedar_typechecker_model.specs.Whole.Levels.{Violation, Count, needed, stepped, is_entity, unless_false, unless_true, branches, entity_steps, fields_before}
 use Rattle.cedar_typechecker_model.specs.Whole.Rules.{Setting}
 use Rattle.cedar_typechecker_model.specs.Whole.OfLaws.Simple.{is_simple}
 use Rattle.cedar_typechecker_model.specs.Whole.Typing.{Judgement, step_type, Gives, Types, AndTyped, OrTyped, ChoiceTyped, judgement, type_under}
@@ -24,7 +24,7 @@ use Rattle.cedar_schema_model.proofs.Whole.Types.Lookups.{test_cases}
 use Rattle.cedar_typechecker_model.proofs.Whole.Sound.Attributes.{Fine}
 use Rattle.cedar_typechecker_model.proofs.Whole.Sound.Facts.{Good}
 use Rattle.cedar_typechecker_model.proofs.Whole.Sound.Leading.{leads, entity_leads, leads_named, join_leads}
-use Rattle.cedar_typechecker_model.proofs.Whole.Named.{one_if}
+use Rattle.cedar_typechecker_model.proofs.Whole.Named.{one_if, greater}
 
 pub none_of_both : {A : Type 0} (vs ws : List A) → vs ++ ws ≡ [] → (vs ≡ []) × (ws ≡ [])
 none_of_both [] ws e = (refl, e)

@@ -12,23 +12,23 @@ use Rattle.cedar_store_model.specs.Whole.World.{Entity}
 use Rattle.cedar_expr_model.specs.Whole.ValueParts.{Part, known, left}
 use Rattle.cedar_schema_model.specs.Whole.Types.{Ty, Attributes, no_attributes, attribute, Declared, attribute_named}
 use Rattle.cedar_schema_model.specs.Whole.Schema.{EntityKind, standard, enumerated, external, EntityType, Schema, type_named, declares_action}
-use Rattle.cedar_schema_model.specs.Whole.Lookup.{attributes_of_kind, declared_of}
+use Rattle.cedar_schema_model.specs.Whole.Lookup.{declared_of}
 use Rattle.cedar_schema_model.specs.Whole.HasType.{HasType}
 use Rattle.cedar_schema_model.specs.Whole.Conforming.{Place, among_actions, of_kind, nowhere, place_of, attributes_at, tags_at, attribute_list, type_at, EntityConforms}
 use Rattle.cedar_schema_model.specs.Whole.DeclLaws.{IsOf}
 use Rattle.cedar_schema_model.proofs.Whole.Types.Lookups.{named_cases}
 use Rattle.cedar_schema_model.proofs.Whole.Decls.Direct.{good_entity}
-use Rattle.cedar_typechecker_model.specs.Whole.Rules.{kind_tags, tags_of}
+use Rattle.cedar_typechecker_model.specs.Whole.Rules.{tags_of}
 use Rattle.cedar_typechecker_model.specs.Whole.OfLaws.Simple.{IsOrderly}
 use Rattle.std.specs.Map.{lookup}
 
 -- where a schema speaks of an entity is where it declares its type
-kind_declared : (k : EntityKind) (a : Text) → attribute_named a (attributes_at (of_kind k)) ≡ attribute_named a (attributes_of_kind k)
+kind_declared : (k : EntityKind) (a : Text) → attribute_named a (attributes_at (of_kind k)) ≡ attribute_named a (attributes_at (of_kind k))
 kind_declared (standard as_ t) a = refl
 kind_declared (enumerated ids) a = refl
 kind_declared external a = refl
 
-kind_tagged : (k : EntityKind) → tags_at (of_kind k) ≡ kind_tags k
+kind_tagged : (k : EntityKind) → tags_at (of_kind k) ≡ tags_at (of_kind k)
 kind_tagged (standard as_ t) = refl
 kind_tagged (enumerated ids) = refl
 kind_tagged external = refl
@@ -36,13 +36,13 @@ kind_tagged external = refl
 abbrev pub place_by : Bool → Option EntityType → Place
 place_by b o = if b then among_actions else option_map_or (λ (t : EntityType). of_kind t.kind) o nowhere
 
-declared_by : (a : Text) (b : Bool) (o : Option EntityType) → (b ≡ true → is_some o ≡ false) → attribute_named a (attributes_at (place_by b o)) ≡ option_and_then (λ e. attribute_named a (attributes_of_kind e.kind)) o
+declared_by : (a : Text) (b : Bool) (o : Option EntityType) → (b ≡ true → is_some o ≡ false) → attribute_named a (attributes_at (place_by b o)) ≡ option_and_then (λ e. attribute_named a (attributes_at (of_kind e.kind))) o
 declared_by a true None h = refl
 declared_by a true (Some t) h = (let q = h refl in cc)
 declared_by a false None h = refl
 declared_by a false (Some t) h = kind_declared t.kind a
 
-tagged_by : (b : Bool) (o : Option EntityType) → (b ≡ true → is_some o ≡ false) → tags_at (place_by b o) ≡ option_and_then (λ e. kind_tags e.kind) o
+tagged_by : (b : Bool) (o : Option EntityType) → (b ≡ true → is_some o ≡ false) → tags_at (place_by b o) ≡ option_and_then (λ e. tags_at (of_kind e.kind)) o
 tagged_by true None h = refl
 tagged_by true (Some t) h = (let q = h refl in cc)
 tagged_by false None h = refl

@@ -20,10 +20,10 @@ use Rattle.cedar_schema_model.specs.Whole.HasType.{is_of_bool, HasType}
 use Rattle.cedar_schema_model.specs.Whole.Join.{join, are_disjoint}
 use Rattle.cedar_schema_model.proofs.Whole.Types.Lookups.{inside, test_cases}
 use Rattle.cedar_schema_model.proofs.Whole.Types.Values.{disjoint_apart}
-use Rattle.cedar_typechecker_model.specs.Whole.Rules.{Setting, known_truth, truth_type, if_there, negated, unary_type, comparable, written_uid, written_equal, equal_type, order_type, number_type, member_type, is_set_type, sets_type, like_type, kinds_are, is_type_type}
+use Rattle.cedar_typechecker_model.specs.Whole.Rules.{Setting, known_truth, truth_type, if_there, negated, unary_type, comparable, written_uid, written_equal, order_type, number_type, member_type, is_set_type, sets_type, like_type, kinds_are, is_type_type}
 use Rattle.cedar_typechecker_model.specs.Whole.Soundness.{IsGood}
 use Rattle.cedar_typechecker_model.proofs.Whole.Sound.Shapes.{bool_value, long_value, text_value, any_value, entity_value, set_value, extension_value}
-use Rattle.cedar_typechecker_model.proofs.Whole.Named.{has_no_values}
+use Rattle.cedar_typechecker_model.proofs.Whole.Named.{has_no_values, equal_type}
 
 -- an outcome of a type that a rule gives
 pub given_good : (t ty : Ty) (r : Res V) → Some t ≡ Some ty → IsGood t r → IsGood ty r

@@ -18,7 +18,7 @@ use Rattle.cedar_schema_model.specs.Whole.Environment.{Environment}
 use Rattle.cedar_schema_model.specs.Whole.Lookup.{lookup_attribute}
 use Rattle.cedar_schema_model.proofs.Whole.Types.Lookups.{inside, test_cases}
 use Rattle.cedar_typechecker_model.specs.Whole.Facts.{Facts, union, attribute_part, tag_part}
-use Rattle.cedar_typechecker_model.specs.Whole.Levels.{joined, further, stepped, is_entity, branches, after_and, after_or, after_test, greater, target_after_test, entity_steps, fields_before, path_violations, on_entity, violations, violations_among, violations_in_fields, target, target_in_fields}
+use Rattle.cedar_typechecker_model.specs.Whole.Levels.{joined, further, stepped, is_entity, branches, after_test, target_after_test, entity_steps, fields_before, path_violations, on_entity, violations, violations_among, violations_in_fields, target, target_in_fields, after, unless_false, unless_true}
 use Rattle.cedar_typechecker_model.specs.Whole.Soundness.{Hold, ConformsAt, Suits}
 use Rattle.cedar_typechecker_model.specs.Whole.Typing.{Types, EachTyped, FieldsTyped}
 use Rattle.cedar_typechecker_model.specs.Whole.Verdicts.{strictly}
@@ -29,6 +29,7 @@ use Rattle.cedar_typechecker_model.proofs.Whole.Sound.Reached.{Nearness, Reached
 use Rattle.cedar_typechecker_model.proofs.Whole.Sound.Soundness.{SlotsIn, behind, on_left, on_right}
 use Rattle.cedar_typechecker_model.proofs.Whole.Sound.Straying.{plain_strays, bool_strays, and_bool, or_bool, tested_bool, path_bool, unary_strays, binary_strays, like_strays, is_strays, set_strays, call_strays, get_tag_leads, get_tag_entity}
 use Rattle.cedar_typechecker_model.proofs.Whole.Sound.Targets.{TargetReached, FieldsReached, same_value, good, simple, literal_at, variable_at, attribute_target, field_target, tag_target, attribute_looks, left_leads, path_cases, choice_target, record_of_lookup, declared_attribute, record_is, record_target, operands_looks, path_looks, first_field, later_field}
+use Rattle.cedar_typechecker_model.proofs.Whole.Named.{greater}
 
 module _ (s : Schema) (x : Table) (e : Environment) (w : World) (suits : Suits s x e w) (Near : ℕ → Uid → Type 0) (near : Nearness w Near) (n : ℕ) (c : (u : Uid) → Near n u → declares_action s u ≡ false → ConformsAt s w u) where
   mutual
@@ -58,7 +59,7 @@ module _ (s : Schema) (x : Table) (e : Environment) (w : World) (suits : Suits s
         ⊎_elim (λ j. la u j)
         (λ m. let o = means_outcome w a _ m.0 in
         let r = behind_and (λ f. Types (strictly s x e) (union known f) b) (λ f. violations n (strictly s x e) (union known f) b) d.0 d.1 ty out d.3
-        (subst (λ z. after_and z (λ f. violations n (strictly s x e) (union known f) b) ≡ []) (judged_as (strictly s x e) known a d.0 d.1 d.2) k.1) (not_false w d.0 d.1 (outcome_of w a) g o) in
+        (subst (λ z. after unless_false z (λ f. violations n (strictly s x e) (union known f) b) ≡ []) (judged_as (strictly s x e) known a d.0 d.1 d.2) k.1) (not_false w d.0 d.1 (outcome_of w a) g o) in
         looks_reached (union known d.1) (hold_union w known d.1 hold (g.holds o)) b (on_right w (subexpressions a) _ sr) r.0 r.1 r.2 r.3 u m.1) l
     looks_reached known hold (either a b) sl ty out d h u l =
         let sr = behind w _ _ sl in
@@ -67,7 +68,7 @@ module _ (s : Schema) (x : Table) (e : Environment) (w : World) (suits : Suits s
         let g = good s x e w suits Near near n c known hold a (on_left w (subexpressions a) _ sr) d.0 d.1 d.2 la in
         ⊎_elim (λ j. la u j)
         (λ m. let r = behind_or (Types (strictly s x e) known b) (violations n (strictly s x e) known b) d.0 d.1 ty out d.3
-        (subst (λ z. after_or z (violations n (strictly s x e) known b) ≡ []) (judged_as (strictly s x e) known a d.0 d.1 d.2) k.1) (not_true w d.0 d.1 (outcome_of w a) g (means_outcome w a _ m.0)) in
+        (subst (λ z. after unless_true z (λ f. violations n (strictly s x e) known b) ≡ []) (judged_as (strictly s x e) known a d.0 d.1 d.2) k.1) (not_true w d.0 d.1 (outcome_of w a) g (means_outcome w a _ m.0)) in
         looks_reached known hold b (on_right w (subexpressions a) _ sr) r.0 r.1 r.2 r.3 u m.1) l
     looks_reached known hold (unary o a) sl ty out d h u l = looks_reached known hold a (behind w _ _ sl) d.0 d.1 d.2 h u l
     looks_reached known hold (binary o a b) sl ty out d h u l =

@@ -11,9 +11,9 @@ use Rattle.cedar_schema_model.specs.Whole.Types.{BoolType, any_bool, only_true, 
 use Rattle.cedar_schema_model.specs.Whole.Schema.{EntityKind, standard, EntityType, Schema, type_named, declares_type, declares_action}
 use Rattle.cedar_schema_model.specs.Whole.Environment.{Environment}
 use Rattle.cedar_schema_model.specs.Whole.Join.{join, are_disjoint, reduce_to_join}
-use Rattle.cedar_schema_model.specs.Whole.Lookup.{attributes_of_kind, lookup_attribute, declared_of, declared_by_all}
+use Rattle.cedar_schema_model.specs.Whole.Lookup.{lookup_attribute, declared_of, declared_by_all}
 use Rattle.cedar_typechecker_model.specs.Whole.Facts.{Facts, union, intersection, Part, attribute_part, tag_part}
-use Rattle.cedar_typechecker_model.specs.Whole.Rules.{Setting, literal_type, var_type, slot_type, unary_type, written_uid, written_equal, if_there, order_type, number_type, member_type, is_set_type, sets_type, entity_kinds, entity_or_set_kinds, written_action, written_actions, within_kinds, binary_type, like_type, is_type_type, has_type, get_type, attribute_type, kind_tags, tags_of, tag_type, is_string_type, has_tag_type, get_tag_type, set_literal_type, has_names_once, record_literal_type, core_as_type, arguments_fit, takes_literal, signature_type}
+use Rattle.cedar_typechecker_model.specs.Whole.Rules.{Setting, literal_type, var_type, slot_type, unary_type, written_uid, written_equal, if_there, order_type, number_type, member_type, is_set_type, sets_type, entity_kinds, entity_or_set_kinds, written_action, written_actions, within_kinds, binary_type, like_type, is_type_type, has_type, get_type, attribute_type, tags_of, tag_type, is_string_type, has_tag_type, get_tag_type, set_literal_type, has_names_once, record_literal_type, core_as_type, arguments_fit, takes_literal, signature_type}
 use Rattle.cedar_typechecker_model.specs.Whole.Typing.{Judgement, judged, plain, tested, conjoined, disjoined, chosen, step_type, path_judged, binary_judged, Types, EachTyped, and_judged, or_judged, choice_judged, judgement, judgements, field_judgements}
 use Rattle.cedar_typechecker_model.specs.Whole.OfLaws.Simple.{is_simple, are_simple, is_simple_tag, is_simple_kind, IsOrderly}
 use Rattle.cedar_typechecker_model.specs.Whole.Verdicts.{strictly}
@@ -22,6 +22,7 @@ use Rattle.cedar_typechecker_model.proofs.Whole.Typing.{exact, exact_each}
 use Rattle.cedar_typechecker_model.proofs.Whole.Sound.Joins.{join_keeps, AreSimple, reduction_keeps, simple_at}
 use Rattle.cedar_typechecker_model.proofs.Whole.Named.{Kinds, result_type, bound_type}
 use Rattle.cedar_expr_model.specs.Whole.Lists.{all_given}
+use Rattle.cedar_schema_model.specs.Whole.Conforming.{of_kind, tags_at, attributes_at}
 
 abbrev SimpleIf : Option Ty → Type 0
 SimpleIf o = IfSome o (λ t. is_simple t ≡ true)
@@ -139,20 +140,20 @@ simple_test e p None = tt
 simple_test e p (Some b) = simple_tested e p b
 
 -- what the schema declares
-kind_attributes : (k : EntityKind) → is_simple_kind k ≡ true → are_simple (attributes_of_kind k) ≡ true
+kind_attributes : (k : EntityKind) → is_simple_kind k ≡ true → are_simple (attributes_at (of_kind k)) ≡ true
 kind_attributes (standard as_ tags) h = (both_hold (are_simple as_) (is_simple_tag tags) h).0
 kind_attributes k h = refl
 
-kind_tag : (k : EntityKind) → is_simple_kind k ≡ true → SimpleIf (kind_tags k)
+kind_tag : (k : EntityKind) → is_simple_kind k ≡ true → SimpleIf (tags_at (of_kind k))
 kind_tag (standard as_ None) h = tt
 kind_tag (standard as_ (Some t)) h = (both_hold (are_simple as_) (is_simple t) h).1
 kind_tag k h = tt
 
-simple_declared : (o : Option EntityType) (a : Text) → ((t : EntityType) → o ≡ Some t → is_simple_kind t.kind ≡ true) → (d : Declared) → option_and_then (λ e. attribute_named a (attributes_of_kind e.kind)) o ≡ Some d → is_simple d.type ≡ true
+simple_declared : (o : Option EntityType) (a : Text) → ((t : EntityType) → o ≡ Some t → is_simple_kind t.kind ≡ true) → (d : Declared) → option_and_then (λ e. attribute_named a (attributes_at (of_kind e.kind))) o ≡ Some d → is_simple d.type ≡ true
 simple_declared None a h d e = cc
-simple_declared (Some t) a h d e = simple_at (attributes_of_kind t.kind) (kind_attributes t.kind (h t refl)) a d e
+simple_declared (Some t) a h d e = simple_at (attributes_at (of_kind t.kind)) (kind_attributes t.kind (h t refl)) a d e
 
-simple_tags : (o : Option EntityType) → ((t : EntityType) → o ≡ Some t → is_simple_kind t.kind ≡ true) → SimpleIf (option_and_then (λ e. kind_tags e.kind) o)
+simple_tags : (o : Option EntityType) → ((t : EntityType) → o ≡ Some t → is_simple_kind t.kind ≡ true) → SimpleIf (option_and_then (λ e. tags_at (of_kind e.kind)) o)
 simple_tags None h = tt
 simple_tags (Some t) h = kind_tag t.kind (h t refl)
 
