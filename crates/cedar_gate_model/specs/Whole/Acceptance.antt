@@ -1,6 +1,6 @@
 -- What the gate admits: the acceptance rules, each with the fault that breaks it.
 -- Rule: the acceptance rules; impossible policies; statuses and refusal numbers (docs/RULES.md).
-use Rattle.std.specs.Prelude.{◌≡◌, ◌&&◌, ◌||◌, ℕ, List, [], ◌∷◌, ◌++◌, Contains, Bool, true, false, not, is_some, nat_le, option_to_list, is_none}
+use Rattle.std.specs.Prelude.{◌≡◌, ◌&&◌, ◌||◌, ℕ, List, [], ◌∷◌, Contains, Bool, true, false, not, is_some, nat_le, option_to_list, is_none}
 use Rattle.std.specs.List.{list_all, filter, flat_map}
 use Rattle.std.specs.Str.{bytes_eq}
 use Rattle.cedar_expr_model.specs.Name.{Text, Name}
@@ -35,9 +35,9 @@ abbrev pub extension_of : CoreType → List Name
 extension_of (extension_core n) = n ∷ []
 extension_of t = []
 
--- the extension types of a table: those that its functions take or give
+-- the extension types of a table: those whose values its functions give
 abbrev pub extension_types : Table → List Name
-extension_types x = flat_map (λ f. flat_map extension_of (f.parameters ++ option_to_list f.result)) x.functions
+extension_types x = flat_map (λ f. flat_map extension_of (option_to_list f.result)) x.functions
 
 abbrev pub schema_in : Submission → Schema
 schema_in s = schema_of s.declarations
