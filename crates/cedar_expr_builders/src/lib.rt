@@ -8,6 +8,3 @@ pub mod laws;
 
 pub use err::BuildFault;
 pub use expr::ExprBuilder;
-
-#[cfg(test)]
-mod tests;

@@ -10,6 +10,3 @@ mod var;
 pub use pattern::{Pattern, PatternElem};
 pub use slot::{Slot, SlotId};
 pub use var::Var;
-
-#[cfg(test)]
-mod tests;

@@ -24,6 +24,3 @@ pub use loc::Loc;
 pub use name::Name;
 pub use quoted::{Escaped, Quoted};
 pub use unreserved_id::UnreservedId;
-
-#[cfg(test)]
-mod tests;

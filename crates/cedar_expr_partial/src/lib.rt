@@ -13,6 +13,3 @@ pub use conversions::{FromValue, TryFromExpr};
 pub use err::{ContainsUnknown, NotValue, PartialValueToValueError};
 pub use extension::ExtensionCall;
 pub use partial_value::{PartialValue, split};
-
-#[cfg(test)]
-mod tests;

@@ -7,6 +7,3 @@ mod raw_name;
 
 pub use conditional_name::{ConditionalName, ReferenceType};
 pub use raw_name::RawName;
-
-#[cfg(test)]
-mod tests;

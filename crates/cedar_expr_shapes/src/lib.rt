@@ -9,6 +9,3 @@ mod ranks;
 pub mod shape;
 
 pub use shape::{ExprShape, ExprShapeOnly};
-
-#[cfg(test)]
-mod tests;

@@ -10,6 +10,3 @@ mod walk;
 pub use bound::Bound;
 pub use err::SubstitutionError;
 pub use substitute::Substitute;
-
-#[cfg(test)]
-mod tests;

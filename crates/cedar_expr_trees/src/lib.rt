@@ -21,6 +21,3 @@ pub use expr::{Expr, ExprKind, Unknown};
 pub use expr_iterator::{ExprIterator, Slots, Unknowns};
 pub use non_empty::NonEmpty;
 pub use ops::{BinaryOp, UnaryOp};
-
-#[cfg(test)]
-mod tests;

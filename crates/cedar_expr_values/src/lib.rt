@@ -17,6 +17,3 @@ pub use extension::{
 };
 pub use types::{StaticallyTyped, Type};
 pub use value::{Set, Value, ValueKind};
-
-#[cfg(test)]
-mod tests;

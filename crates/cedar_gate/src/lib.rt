@@ -12,7 +12,7 @@ pub mod runs;
 pub mod service;
 pub mod session;
 pub mod status;
-mod store_host;
+pub mod store_host;
 pub mod transcript;
 
 pub use cedar_gate_accept::{
@@ -29,7 +29,5 @@ pub use runs::{RunFault, run};
 pub use service::{ServeFault, serve};
 pub use session::{AnswerFault, OpenFault, OpenSession, Session, SupplyFault};
 pub use status::Status;
+pub use store_host::StoreHost;
 pub use transcript::{Entry, Transcript};
-
-#[cfg(test)]
-mod tests;

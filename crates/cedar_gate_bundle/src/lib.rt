@@ -12,8 +12,6 @@ mod policies;
 mod requests;
 mod schemas;
 mod store;
-#[cfg(test)]
-mod tests;
 
 pub use bundle::{Bundle, read_bundle, read_text};
 pub use fault::ReadFault;

@@ -22,6 +22,3 @@ pub use policy::{
 pub use request::{EntityUIDEntry, Request};
 pub use response::{AuthorizationError, Decision, Diagnostics, EvaluationError, Response};
 pub use step::Step;
-
-#[cfg(test)]
-mod tests;

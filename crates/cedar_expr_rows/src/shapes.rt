@@ -1,6 +1,6 @@
 //! Examples of expressions told apart by shape.
 
-use super::*;
+use cedar_expr_shapes::*;
 use cedar_expr_trees::{
     EntityType, Expr, ExprKind, Literal, Loc, Name, NonEmpty, Pattern, PatternElem, SlotId, Type,
     UnaryOp, Unknown, Var,

@@ -1,6 +1,6 @@
 //! Examples of patterns, slots and variables, and of their texts.
 
-use super::*;
+use cedar_expr_leaves::*;
 use std::alloc::{AllocError, Global};
 use std::rc::Rc;
 use std::test::Fail;

@@ -1,6 +1,6 @@
 //! Examples of substitution.
 
-use super::*;
+use cedar_expr_substitution::*;
 use cedar_expr_leaves::Var;
 use cedar_expr_names::{Literal, Name};
 use cedar_expr_trees::{Expr, Unknown};

@@ -1,6 +1,6 @@
 //! Examples of names, uids and their texts.
 
-use super::*;
+use cedar_expr_names::*;
 use std::alloc::Global;
 use std::cmp::Ordering;
 use std::rc::RcStr;

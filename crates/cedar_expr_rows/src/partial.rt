@@ -1,6 +1,6 @@
 //! Examples of partial values, and of values written as expressions and read again.
 
-use super::*;
+use cedar_expr_partial::*;
 use cedar_expr_trees::{Expr, Unknown, Var};
 use cedar_expr_values::{
     Eid, EntityType, EntityUID, ExtValue, Literal, Loc, Name, RepresentableExtensionValue, Value,

@@ -1,6 +1,6 @@
 //! Which inputs are read, and what a bundle is read as.
 
-use super::*;
+use cedar_gate_bundle::*;
 use cedar_gate_types::{Effect, Step};
 use std::alloc::Global;
 use std::test::Fail;

@@ -1,6 +1,6 @@
 //! Examples of names of a schema before they are resolved.
 
-use super::*;
+use cedar_expr_raw_names::*;
 use cedar_expr_names::{Id, InternalName, Loc, Name, NameError, UnreservedId};
 use std::alloc::Global;
 use std::test::Fail;

@@ -1,6 +1,6 @@
 //! Examples of values, sets and extension values.
 
-use super::*;
+use cedar_expr_values::*;
 use std::alloc::Global;
 use std::cmp::Ordering;
 use std::collections::{BTreeMap, HashSet};

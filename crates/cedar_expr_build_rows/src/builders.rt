@@ -1,7 +1,7 @@
 //! Examples of builders.
 
-use super::expr_builder::ExprBuilder as Builds;
-use super::*;
+use cedar_expr_builders::expr_builder::ExprBuilder as Builds;
+use cedar_expr_builders::*;
 use cedar_expr_leaves::{Pattern, PatternElem, SlotId, Var};
 use cedar_expr_names::{EntityType, Literal, Loc, Name};
 use cedar_expr_trees::{Expr, ExpressionConstructionError, NonEmpty, Unknown};

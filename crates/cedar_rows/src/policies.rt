@@ -1,4 +1,4 @@
-use super::*;
+use cedar_gate_types::*;
 use cedar_expr::{Eid, EntityType, EntityUID, Expr, ExprKind, Literal, Var};
 use std::alloc::Global;
 use std::rc::{Rc, RcStr};

@@ -1,6 +1,6 @@
 //! Examples of expressions, of their parts, and of iterators over them.
 
-use super::*;
+use cedar_expr_trees::*;
 use std::alloc::{AllocError, Global};
 use std::collections::{BTreeMap, HashSet};
 use std::rc::{Rc, RcStr};

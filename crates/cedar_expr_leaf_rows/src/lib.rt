@@ -1,0 +1,11 @@
+//! Tests of names, the leaves of expressions, and values.
+#![tactic(auto)]
+
+#[cfg(test)]
+mod leaves;
+#[cfg(test)]
+mod names;
+#[cfg(test)]
+mod raw_names;
+#[cfg(test)]
+mod values;
