@@ -15,3 +15,6 @@ pub use extension::{
     CallStyle, ExtTypes, Extension, ExtensionFunction, ExtensionOutputValue, Func,
 };
 pub use extensions::{ExtTable, Extensions, TableTypes};
+
+#[cfg(test)]
+mod tests;

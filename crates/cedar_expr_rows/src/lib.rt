@@ -1,8 +1,6 @@
-//! Tests of expressions, their shapes, partial values and extension functions.
+//! Tests of expressions, their shapes and partial values.
 #![tactic(auto)]
 
-#[cfg(test)]
-mod functions;
 #[cfg(test)]
 mod partial;
 #[cfg(test)]

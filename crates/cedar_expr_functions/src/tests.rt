@@ -7,7 +7,7 @@ ghost use Rattle.cedar_expr_model.specs.Whole.Table.{gives};
 ghost use Rattle.cedar_expr_functions.specs.Answers.{answer, is_of_result};
 ghost use Rattle.cedar_expr_functions.specs.declared.err.CallFault.TheVariants.{OutOfMemory};
 
-use cedar_expr_functions::*;
+use super::*;
 use cedar_expr_names::{Literal, Name};
 use cedar_expr_values::{ExtValue, Type, Value};
 use std::alloc::Global;
