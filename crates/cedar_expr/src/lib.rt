@@ -1,14 +1,26 @@
-//! Cedar's expressions, whole: the items of the crates below, under one name, and the table of extension functions.
+//! Cedar's expressions, whole: the items of the crates below, under one name, and the table that the gate is handed today.
 #![tactic(auto)]
 
 pub mod extensions;
 
-/// Expressions and their leaves.
+/// Expressions and their leaves, their own builder, their shapes, substitution and checks.
 pub mod expr {
+    pub use cedar_expr_builders::ExprBuilder;
+    pub use cedar_expr_checks::{CheckExpr, ExprValidationError};
     pub use cedar_expr_leaves::{Slot, SlotId, Var};
+    pub use cedar_expr_shapes::{ExprShape, ExprShapeOnly};
+    pub use cedar_expr_substitution::{Bound, Substitute, SubstitutionError};
     pub use cedar_expr_trees::{
         DuplicateKeyError, Expr, ExprKind, ExpressionConstructionError, NonEmpty, Unknown,
     };
+}
+
+/// Builders of expressions, and building anew.
+pub mod expr_builder {
+    pub use cedar_expr_builders::BuildFault;
+    pub use cedar_expr_builders::expr_builder::ExprBuilder;
+    pub use cedar_expr_plain_builder::PlainBuilder;
+    pub use cedar_expr_rebuilding::{BuildUnknown, KeepUnknowns, Rebuild, build_with};
 }
 
 /// Iterators over the parts of an expression.
@@ -16,10 +28,23 @@ pub mod expr_iterator {
     pub use cedar_expr_trees::{ExprIterator, Slots, Unknowns};
 }
 
-/// Extension values.
+/// Extension functions and extension values.
 pub mod extension {
+    pub use cedar_expr_functions::{
+        CallFault, CallStyle, ExtTypes, Extension, ExtensionFunction, ExtensionOutputValue, Func,
+    };
+    pub use cedar_expr_partial::ExtensionCall;
     pub use cedar_expr_values::{
         ExtValue, ExtensionValue, InternalExtensionValue, RepresentableExtensionValue,
+    };
+}
+
+/// The table of extension functions, which the gate isn't handed yet.
+pub mod extension_tables {
+    pub use cedar_expr_functions::{
+        ExtTable, ExtensionFunctionLookupError, ExtensionInitializationError, Extensions,
+        FuncDoesNotExistError, FuncMultiplyDefinedError, MultipleConstructorsSameSignatureError,
+        TableTypes,
     };
 }
 
@@ -31,6 +56,12 @@ pub mod id {
 /// Literals.
 pub mod literal {
     pub use cedar_expr_names::Literal;
+
+    /// Whole numbers.
+    pub type Integer = i64;
+
+    /// Whole numbers as they are written.
+    pub type InputInteger = i64;
 }
 
 /// Names, entity types and uids.
@@ -47,6 +78,11 @@ pub mod ops {
     pub use cedar_expr_trees::{BinaryOp, UnaryOp};
 }
 
+/// Partial values.
+pub mod partial_value {
+    pub use cedar_expr_partial::{ContainsUnknown, PartialValue, PartialValueToValueError, split};
+}
+
 /// Patterns.
 pub mod pattern {
     pub use cedar_expr_leaves::{Pattern, PatternElem};
@@ -57,30 +93,36 @@ pub mod types {
     pub use cedar_expr_values::{StaticallyTyped, Type};
 }
 
-/// Values and sets.
+/// Values and sets, written as expressions and read from them.
 pub mod value {
+    pub use cedar_expr_partial::{FromValue, NotValue, TryFromExpr};
     pub use cedar_expr_values::{Set, Value, ValueKind};
 }
 
 pub use expr::{
-    DuplicateKeyError, Expr, ExprKind, ExpressionConstructionError, NonEmpty, Slot, SlotId,
-    Unknown, Var,
+    Bound, CheckExpr, DuplicateKeyError, Expr, ExprBuilder, ExprKind, ExprShape, ExprShapeOnly,
+    ExprValidationError, ExpressionConstructionError, NonEmpty, Slot, SlotId, Substitute,
+    SubstitutionError, Unknown, Var,
 };
+pub use expr_builder::{BuildFault, Rebuild};
 pub use expr_iterator::{ExprIterator, Slots, Unknowns};
 pub use extension::{
-    ExtValue, ExtensionValue, InternalExtensionValue, RepresentableExtensionValue,
+    CallFault, CallStyle, ExtValue, Extension, ExtensionCall, ExtensionOutputValue, ExtensionValue,
+    InternalExtensionValue, RepresentableExtensionValue,
 };
+pub use extension_tables::{ExtensionFunctionLookupError, ExtensionInitializationError};
 pub use extensions::{ExtTable, ExtensionFunction, Extensions};
 pub use id::{AnyId, Id, UnreservedId, is_normalized_ident};
-pub use literal::Literal;
+pub use literal::{InputInteger, Integer, Literal};
 pub use name::{
     ConditionalName, Eid, EntityType, EntityUID, Escaped, InternalName, Loc, Name, NameError,
     Quoted, RawName, ReferenceType, ReservedNameError,
 };
 pub use ops::{BinaryOp, UnaryOp};
+pub use partial_value::{ContainsUnknown, PartialValue, PartialValueToValueError, split};
 pub use pattern::{Pattern, PatternElem};
 pub use types::{StaticallyTyped, Type};
-pub use value::{Set, Value, ValueKind};
+pub use value::{FromValue, NotValue, Set, TryFromExpr, Value, ValueKind};
 
 #[cfg(test)]
 mod tests;

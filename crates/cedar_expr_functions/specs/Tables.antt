@@ -1,7 +1,7 @@
 -- What a table of extension functions is in the model, and how it answers.
 -- Rule: extension functions (docs/RULES.md).
-use Rattle.std.specs.Prelude.{◌≡◌, Bool, List, [], ◌∷◌, Option, map, All}
-use Rattle.std.specs.List.{filter_map}
+use Rattle.std.specs.Prelude.{◌≡◌, Bool, List, [], ◌∷◌, Option, map, All, is_some}
+use Rattle.std.specs.List.{filter_map, list_all}
 use Rattle.std.specs.BTreeMap.{values}
 use Rattle.std.specs.Borrow.{Bor}
 use Rattle.cedar_expr_model.specs.Name.{Name}
@@ -23,6 +23,10 @@ names_of t = map (λ n. plain_name_of n.now) t.names.items
 -- the signatures of the functions, in the order of their names
 abbrev pub functions_of : {B : _} {F : _} {g : _} → Extensions B F g → List Signature
 functions_of t = map (λ f. function_signature f.now) (values t.functions)
+
+-- each function has a result type
+abbrev pub are_typed : {B : _} {F : _} {g : _} → Extensions B F g → Bool
+are_typed t = list_all (λ s. is_some s.result) (functions_of t)
 
 -- the types whose values are ordered
 abbrev pub ordered_of : {B : _} {F : _} {g : _} → Extensions B F g → List Name

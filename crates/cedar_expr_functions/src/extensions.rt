@@ -43,7 +43,7 @@ impl<'a> Extensions<'a> {
     ghost use Rattle.cedar_expr_functions.specs.Signatures.{given_type};
     ghost use Rattle.cedar_expr_functions.specs.Refusals.{RefusesLookup, RefusesTable};
     ghost use Rattle.cedar_expr_functions.specs.Extended.{extension_name};
-    ghost use Rattle.cedar_expr_functions.specs.Tables.{names_of, functions_of, ordered_of, table_of, table_types_left, AnswersInTable, AnswersAsExtensions};
+    ghost use Rattle.cedar_expr_functions.specs.Tables.{names_of, functions_of, ordered_of, table_of, table_types_left, are_typed, AnswersInTable, AnswersAsExtensions};
 
     /// The table without functions.
     pub fn none(alloc: Global) -> Extensions<'a>
@@ -129,14 +129,15 @@ impl<'a> Extensions<'a> {
 
     /// Whether each function has a result type. It is so of the table without functions.
     pub fn all_typed(&self) -> bool
-        ensures { (answers : ModelName → List V → Called) → result ≡ all_typed (table_of self.now answers) }
+        ensures typed { result ≡ are_typed self.now }
+        ensures modelled { (answers : ModelName → List V → Called) → result ≡ all_typed (table_of self.now answers) }
     {
-        are_typed(&self.functions)
+        all_with_result(&self.functions)
     }
 }
 
 // Whether each of these functions has a result type.
-fn are_typed(functions: &BTreeMap<Name, &ExtensionFunction>) -> bool
+fn all_with_result(functions: &BTreeMap<Name, &ExtensionFunction>) -> bool
     ensures { result ≡ list_all (λ f. is_some (function_signature f.now).result) (values functions.now) }
 {
     for f in functions.values() {

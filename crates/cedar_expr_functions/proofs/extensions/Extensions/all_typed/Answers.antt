@@ -4,5 +4,8 @@ use Rattle.std.specs.BTreeMap.{values}
 use Rattle.cedar_expr_functions.specs.Functions.{function_signature}
 use Rattle.cedar_expr_functions.proofs.extensions.Extensions.all_typed.Goals as goal
 
-pub returns : goal.returns
-returns g c = λ answers. c.are_typed.ensures ∙ sym (list_all-map (λ s. is_some s.result) (λ f. function_signature f.now) (values c.args.self.now.functions))
+pub returns-clause-typed : goal.returns-clause-typed
+returns-clause-typed g c = c.all_with_result.ensures ∙ sym (list_all-map (λ s. is_some s.result) (λ f. function_signature f.now) (values c.args.self.now.functions))
+
+pub returns-clause-modelled : goal.returns-clause-modelled
+returns-clause-modelled g c = λ answers. c.all_with_result.ensures ∙ sym (list_all-map (λ s. is_some s.result) (λ f. function_signature f.now) (values c.args.self.now.functions))
