@@ -1,0 +1,2 @@
+mod Annotated
+mod Firsts
