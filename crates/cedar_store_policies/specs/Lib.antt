@@ -5,3 +5,6 @@ pub mod TemplateParts
 pub mod Templates
 pub mod Policies
 pub mod Refusals
+pub mod SetParts
+pub mod PolicySets
+pub mod SetRefusals

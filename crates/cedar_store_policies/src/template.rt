@@ -8,10 +8,11 @@ ghost use Rattle.cedar_store_policies.specs.TemplateParts.{made_of, slot_ids};
 ghost use Rattle.cedar_store_policies.specs.Sets.{tree_set};
 
 use crate::annotation::{Annotation, Annotations};
+use crate::bindings::stands_among;
 use crate::constraint::{ActionConstraint, PrincipalConstraint, ResourceConstraint};
 use crate::policy_id::{Effect, PolicyID};
 use crate::template_body::{TemplateBody, gathered_slots};
-use cedar_expr_leaves::Slot;
+use cedar_expr_leaves::{Slot, SlotId};
 use cedar_expr_names::{AnyId, Loc};
 use cedar_expr_trees::Expr;
 use std::alloc::{AllocError, Global};
@@ -33,6 +34,7 @@ impl Template {
     ghost use Rattle.std.specs.Prelude.{IfOk, map, option_map};
     ghost use Rattle.std.specs.Slice.Iter.{iter_rest};
     ghost use Rattle.cedar_expr_leaves.specs.Slots.{slot_of};
+    ghost use Rattle.cedar_store_model.specs.Whole.Policy.{has_slot as uses_slot};
     ghost use Rattle.cedar_store_policies.specs.TemplateParts.{template_made};
     ghost use Rattle.cedar_store_policies.specs.Parts.{id_text, effect_of, annotation_pair, annotations_of, scope_of, action_scope_of};
     ghost use Rattle.cedar_store_policies.specs.Templates.{template_of, template_loc};
@@ -176,6 +178,13 @@ impl Template {
         ensures { tree_of result.now ≡ asked_by (template_of self.now) }
     {
         &self.condition
+    }
+
+    /// Whether the slot stands in the condition.
+    pub fn has_slot(&self, slot: SlotId) -> bool
+        ensures { result ≡ uses_slot (template_of self.now) (slot_of slot) }
+    {
+        stands_among(self.slots.as_slice(), slot)
     }
 
     // The first slot in the condition, if there is one.
