@@ -1,0 +1,5 @@
+mod Annotated
+mod Firsts
+mod Keyed
+mod Bound
+mod Gathered

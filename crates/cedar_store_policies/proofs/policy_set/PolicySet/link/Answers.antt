@@ -1,0 +1,29 @@
+use Rattle.std.proofs.Common.{Some, sym, ap, ◌∙◌}
+use Rattle.cedar_store_model.specs.Whole.Policy as model
+use Rattle.cedar_store_model.specs.Whole.PolicySet.{with_policy}
+use Rattle.cedar_store_policies.specs.Parts.{id_text, bindings_of}
+use Rattle.cedar_store_policies.specs.Templates.{template_of}
+use Rattle.cedar_store_policies.specs.PolicySets.{set_of}
+use Rattle.cedar_store_policies.specs.SetRefusals.{RefusesLink}
+use Rattle.cedar_store_policies.proofs.Keyed.{free, policy_put, policy_enters}
+use Rattle.cedar_store_policies.proofs.Bound.{linked_is}
+use Rattle.cedar_store_policies.proofs.Gathered.{handed}
+use Rattle.cedar_store_policies.proofs.policy_set.PolicySet.link.Goals as goal
+
+pub returns-in_err-template-clause-refused : goal.returns-in_err-template-clause-refused
+returns-in_err-template-clause-refused c =
+    handed (RefusesLink (set_of c.args.self.now) (id_text c.args.template_id.now) (id_text c.args.new_id) (bindings_of c.args.values)) c.in_err-template.field-0.0 c.from_residual.result c.from_residual.ensures.1 (c.in_err-template.ensures.refused (id_text c.args.new_id))
+
+pub invariant_of-self : goal.invariant_of-self
+invariant_of-self c =
+    let s = c.args.self.now in
+    let e = sym (ap (λ (p : model.Policy). p.id) c.new.ensures.policy) in
+    let kept = policy_enters s.templates.entries s.links.entries s.templates_named s.links_named (id_text c.args.new_id) c.in_ok-id.id c.new.result c.put.new.map.entries c.put.result e c.in_ok-id.ensures.copied c.in_ok-id.ensures.no_template c.in_ok-id.ensures.no_policy s.distinct c.put.ensures.put c.put.ensures.unchanged in
+    record { templates_named = s.templates_named; links_named = kept.0; distinct = kept.1 }
+
+pub returns-clause-linked : goal.returns-clause-linked
+returns-clause-linked c =
+    let s = c.args.self.now in
+    let unused = free s.templates.entries s.links.entries s.templates_named s.links_named (id_text c.args.new_id) c.in_ok-id.ensures.no_template c.in_ok-id.ensures.no_policy in
+    linked_is (set_of s) (id_text c.args.template_id.now) (id_text c.args.new_id) (bindings_of c.args.values) (template_of c.in_ok-template.template.value) c.in_ok-template.ensures.found c.in_ok-template.ensures.fits unused
+    ∙ ap Some (sym (policy_put s.templates.entries s.links.entries s.templates_named s.links_named c.put.new.map.entries c.in_ok-id.id c.new.result c.in_ok-put.ensures.put ∙ ap (with_policy (set_of s)) c.new.ensures.policy))

@@ -1,0 +1,7 @@
+use Rattle.std.proofs.Common.{map, ap, ◌∙◌}
+use Rattle.cedar_store_policies.specs.Policies.{policy_of}
+use Rattle.cedar_store_policies.proofs.Keyed.{map_values}
+use Rattle.cedar_store_policies.proofs.policy_set.PolicySet.policies.Goals as goal
+
+pub returns : goal.returns
+returns c = ap (map policy_of) c.values.ensures.rest ∙ map_values policy_of c.args.self.now.links.entries

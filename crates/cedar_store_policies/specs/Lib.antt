@@ -1,0 +1,10 @@
+pub mod Lists
+pub mod Sets
+pub mod Parts
+pub mod TemplateParts
+pub mod Templates
+pub mod Policies
+pub mod Refusals
+pub mod SetParts
+pub mod PolicySets
+pub mod SetRefusals

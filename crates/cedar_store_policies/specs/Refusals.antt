@@ -1,0 +1,15 @@
+-- What the refusals of policies say.
+-- Rule: policies and templates (docs/RULES.md).
+use Rattle.std.specs.Prelude.{◌≡◌, Some}
+use Rattle.cedar_expr_leaves.specs.Slots.{slot_of}
+use Rattle.cedar_expr_model.specs.Whole.Parts.{slots}
+use Rattle.cedar_expr_model.specs.Whole.Tree.{SlotId}
+use Rattle.cedar_store_model.specs.Whole.Policy.{Policy, condition}
+use Rattle.cedar_store_policies.specs.Lists.{first_of}
+use Rattle.cedar_store_policies.specs.declared.err.UnexpectedSlotError.{UnexpectedSlotError}
+use Rattle.cedar_store_policies.specs.declared.err.UnexpectedSlotError.TheVariants.{OutOfMemory, FoundSlot}
+
+-- The fault is there where a policy should have no slots: it is the first slot of its condition. Want of memory says nothing.
+abbrev pub RefusesSlot : Policy → UnexpectedSlotError → Type 0
+RefusesSlot p OutOfMemory = Unit {0}
+RefusesSlot p (FoundSlot s) = first_of (slots (condition p)) ≡ Some (slot_of s.id)

@@ -1,0 +1,231 @@
+//! Policies.
+
+ghost use Rattle.std.specs.Prelude.{◌≡◌, [], Some, IfOk, map, option_map};
+ghost use Rattle.std.specs.Option.{option_map_or};
+ghost use Rattle.cedar_expr_trees.specs.Trees.{tree_of};
+ghost use Rattle.cedar_store_model.specs.Whole.Policy.{any, any_action, no_bindings, condition as asked_by};
+ghost use Rattle.cedar_store_model.specs.Whole.PolicySet.{linked};
+ghost use Rattle.cedar_store_policies.specs.Parts.{id_text, effect_of, annotation_pair, annotations_of, scope_of, action_scope_of, bindings_of, filled};
+ghost use Rattle.cedar_store_policies.specs.Policies.{static_of, static_loc, policy_of, policy_loc, template_behind};
+ghost use Rattle.cedar_store_policies.specs.Templates.{template_of, template_loc};
+
+use crate::annotation::{Annotation, Annotations};
+use crate::constraint::{ActionConstraint, PrincipalConstraint, ResourceConstraint};
+use crate::policy_id::{Effect, PolicyID};
+use crate::slot_env::SlotEnv;
+use crate::static_policy::StaticPolicy;
+use crate::template::Template;
+use cedar_expr_leaves::SlotId;
+use cedar_expr_names::{AnyId, Loc};
+use cedar_expr_trees::Expr;
+use std::alloc::{AllocError, Global};
+use std::collections::btree_map::Iter;
+use std::rc::Rc;
+
+/// A policy: a template, what its slots are bound to, and the id under which it is linked. A policy that isn't linked has
+/// its template's id.
+#[derive(Drop)]
+pub struct Policy {
+    template: Rc<Template>,
+    link: Option<PolicyID>,
+    values: SlotEnv,
+}
+
+impl Policy {
+    /// The policy of a template under an id of its own, or under the template's, with these bindings.
+    pub fn new(template: Rc<Template>, link: Option<PolicyID>, values: SlotEnv) -> Policy
+        ensures policy { policy_of result ≡ linked (template_of template.value) (option_map_or id_text link (template_of template.value).id) (bindings_of values) }
+        ensures template { template_behind result ≡ template_of template.value }
+        ensures place { policy_loc result ≡ template_loc template.value }
+    {
+        Policy {
+            template,
+            link,
+            values,
+        }
+    }
+
+    /// The policy of a policy without slots. Answers want of memory.
+    pub fn from_static_policy(alloc: Global, policy: StaticPolicy) -> Result<Policy, AllocError>
+        ensures policy { IfOk result (λ p. policy_of p ≡ static_of policy) }
+        ensures place { IfOk result (λ p. policy_loc p ≡ static_loc policy) }
+    {
+        let template = Rc::new(alloc, policy.into_template())?;
+        Ok(Policy::new(template, None, SlotEnv::new()))
+    }
+
+    /// A policy for any request, with this body, at a place. Answers want of memory.
+    pub fn from_when_clause(
+        alloc: Global,
+        effect: Effect,
+        when: Expr,
+        id: PolicyID,
+        loc: Option<Loc>,
+    ) -> Result<Policy, AllocError>
+        ensures policy { IfOk result (λ p. policy_of p ≡ record {
+          id = id_text id;
+          effect = effect_of effect;
+          annotations = [];
+          principal = any;
+          action = any_action;
+          resource = any;
+          body = Some (tree_of when);
+          bindings = no_bindings;
+        }) }
+        ensures place { IfOk result (λ p. policy_loc p ≡ loc) }
+    {
+        let when = Rc::new(alloc, when)?;
+        let annotations = Rc::new(alloc, Annotations::new(alloc))?;
+        Policy::from_when_clause_annos(alloc, effect, when, id, loc, annotations)
+    }
+
+    /// A policy for any request, with this body and these annotations, which are shared, at a place. Answers want of memory.
+    pub fn from_when_clause_annos(
+        alloc: Global,
+        effect: Effect,
+        when: Rc<Expr>,
+        id: PolicyID,
+        loc: Option<Loc>,
+        annotations: Rc<Annotations>,
+    ) -> Result<Policy, AllocError>
+        ensures policy { IfOk result (λ p. policy_of p ≡ record {
+          id = id_text id;
+          effect = effect_of effect;
+          annotations = annotations_of annotations.value;
+          principal = any;
+          action = any_action;
+          resource = any;
+          body = Some (tree_of when.value);
+          bindings = no_bindings;
+        }) }
+        ensures place { IfOk result (λ p. policy_loc p ≡ loc) }
+    {
+        let template = Template::new_shared(
+            alloc,
+            id,
+            loc,
+            annotations,
+            effect,
+            PrincipalConstraint::any(),
+            ActionConstraint::any(),
+            ResourceConstraint::any(),
+            Some(when),
+        )?;
+        let template = Rc::new(alloc, template)?;
+        Ok(Policy::new(template, None, SlotEnv::new()))
+    }
+
+    /// The template that the policy is made of.
+    pub fn template(&self) -> &Rc<Template>
+        ensures { template_of result.now.value ≡ template_behind self.now }
+    {
+        &self.template
+    }
+
+    /// The policy's id.
+    pub fn id(&self) -> &PolicyID
+        ensures { id_text result.now ≡ (policy_of self.now).id }
+    {
+        match &self.link {
+            None => self.template.id(),
+            Some(id) => id,
+        }
+    }
+
+    /// The place of the policy's template.
+    pub fn loc(&self) -> Option<Loc>
+        ensures { result ≡ policy_loc self.now }
+    {
+        self.template.loc()
+    }
+
+    /// What the policy does where it is satisfied.
+    pub fn effect(&self) -> Effect
+        ensures { effect_of result ≡ (policy_of self.now).effect }
+    {
+        self.template.effect()
+    }
+
+    /// The condition: what the scope asks of principal, action and resource, and then the body, joined from the right.
+    pub fn condition(&self) -> &Expr
+        ensures { tree_of result.now ≡ asked_by (policy_of self.now) }
+    {
+        self.template.condition()
+    }
+
+    /// What the slots are bound to.
+    pub fn env(&self) -> &SlotEnv
+        ensures { bindings_of result.now ≡ (policy_of self.now).bindings }
+    {
+        &self.values
+    }
+
+    /// Goes over the annotations, in the order of their names.
+    pub fn annotations(&self) -> Iter<'_, AnyId, Annotation>
+        ensures { map annotation_pair result ≡ (policy_of self.now).annotations }
+    {
+        self.template.annotations()
+    }
+
+    /// The annotations, shared.
+    pub fn annotations_arc(&self) -> &Rc<Annotations>
+        ensures { annotations_of result.now.value ≡ (policy_of self.now).annotations }
+    {
+        self.template.annotations_arc()
+    }
+
+    /// What the scope asks of the principal, with what its slot is bound to in the slot's place. Answers want of memory.
+    pub fn principal_constraint(&self) -> Result<PrincipalConstraint, AllocError>
+        ensures { IfOk result (λ c. scope_of c.constraint ≡ filled (policy_of self.now).bindings.principal (policy_of self.now).principal) }
+    {
+        let bound = self.values.get(SlotId::principal());
+        let asked = &self.template.principal_constraint().constraint;
+        Ok(PrincipalConstraint {
+            constraint: asked.with_filled_slot(bound)?,
+        })
+    }
+
+    /// What the scope asks of the action.
+    pub fn action_constraint(&self) -> &ActionConstraint
+        ensures { action_scope_of result.now ≡ (policy_of self.now).action }
+    {
+        self.template.action_constraint()
+    }
+
+    /// What the scope asks of the resource, with what its slot is bound to in the slot's place. Answers want of memory.
+    pub fn resource_constraint(&self) -> Result<ResourceConstraint, AllocError>
+        ensures { IfOk result (λ c. scope_of c.constraint ≡ filled (policy_of self.now).bindings.resource (policy_of self.now).resource) }
+    {
+        let bound = self.values.get(SlotId::resource());
+        let asked = &self.template.resource_constraint().constraint;
+        Ok(ResourceConstraint {
+            constraint: asked.with_filled_slot(bound)?,
+        })
+    }
+
+    /// The body, if there is one.
+    pub fn non_scope_constraints(&self) -> Option<&Expr>
+        ensures { option_map (λ e. tree_of e.now) result ≡ (policy_of self.now).body }
+    {
+        self.template.non_scope_constraints()
+    }
+}
+
+impl Clone for Policy {
+    ghost is_clone = { λ p copy. (policy_of copy ≡ policy_of p) × (template_behind copy ≡ template_behind p) };
+
+    /// The same policy over the same template, which is shared.
+    fn clone(&self) -> Result<Policy, AllocError> {
+        let template = self.template.clone()?;
+        let link = match &self.link {
+            None => None,
+            Some(id) => Some(id.clone()?),
+        };
+        let values = self.values.clone()?;
+        Ok(Policy {
+            template,
+            link,
+            values,
+        })
+    }
+}

@@ -1,0 +1,175 @@
+//! Sets of policies.
+
+ghost use Rattle.std.specs.Prelude.{◌≡◌, true};
+ghost use Rattle.cedar_store_model.specs.Whole.OfLaws.Distinct.{has_distinct_ids};
+ghost use Rattle.cedar_store_policies.specs.SetParts.{keys_in, templates_in, policies_in, ids_of, set_made};
+
+use crate::entries::{has_key, put};
+use crate::err::{LinkingError, PolicySetError};
+use crate::policy::Policy;
+use crate::policy_id::PolicyID;
+use crate::slot_env::SlotEnv;
+use crate::static_policy::StaticPolicy;
+use crate::template::Template;
+use indexmap::IndexMap;
+use indexmap::map::Values;
+use std::alloc::Global;
+use std::rc::Rc;
+
+/// A set of templates and policies, in the order in which they were put in. No id stands twice in it, be it a template's or a
+/// policy's.
+#[derive(Drop)]
+pub struct PolicySet {
+    templates: IndexMap<PolicyID, Rc<Template>>,
+    links: IndexMap<PolicyID, Policy>,
+    ghost templates_named: { keys_in templates.entries ≡ ids_of (templates_in templates.entries) },
+    ghost links_named: { keys_in links.entries ≡ ids_of (policies_in links.entries) },
+    ghost distinct: { has_distinct_ids (set_made templates.entries links.entries) ≡ true },
+}
+
+impl PolicySet {
+    ghost use Rattle.std.specs.Prelude.{false, [], Some, IfOk, IfErr, OnOk, OnErr, map};
+    ghost use Rattle.std.specs.List.{list_any};
+    ghost use Rattle.std.specs.Str.{bytes_eq};
+    ghost use Rattle.cedar_expr_model.specs.Name.{Text};
+    ghost use Rattle.cedar_store_model.specs.Whole.PolicySet.{template_of as find_template, add_template, add_policy, link};
+    ghost use Rattle.cedar_store_policies.specs.Parts.{id_text, bindings_of};
+    ghost use Rattle.cedar_store_policies.specs.Templates.{template_of};
+    ghost use Rattle.cedar_store_policies.specs.Policies.{static_of, policy_of};
+    ghost use Rattle.cedar_store_policies.specs.SetRefusals.{RefusesId, RefusesIds, RefusesLink, FitsBindings};
+    ghost use Rattle.cedar_store_policies.specs.PolicySets.{set_of};
+
+    /// The set without templates and policies.
+    pub fn new(alloc: Global) -> PolicySet
+        ensures { set_of result ≡ record { templates = []; policies = [] } }
+    {
+        PolicySet {
+            templates: IndexMap::new(alloc),
+            links: IndexMap::new(alloc),
+        }
+    }
+
+    /// The set of these policies, in this order. Refuses an id that stands twice, and answers want of memory.
+    pub fn try_from_iter(alloc: Global, policies: Vec<Policy>) -> Result<PolicySet, PolicySetError>
+        ensures made { IfOk result (λ s. set_of s ≡ record { templates = []; policies = map policy_of policies.items }) }
+        ensures distinct { IfOk result (λ s. has_distinct_ids (set_of s) ≡ true) }
+        ensures refused { IfErr result (RefusesIds (ids_of (map policy_of policies.items))) }
+    {
+        let mut set = PolicySet::new(alloc);
+        for policy in policies {
+            set.add(policy)?;
+        }
+        Ok(set)
+    }
+
+    /// Puts a policy at the end. Refuses an id that is present, and answers want of memory.
+    pub fn add(&mut self, policy: Policy) -> Result<(), PolicySetError>
+        ensures added { OnOk result (add_policy (set_of self.old) (policy_of policy) ≡ Some (set_of self.new)) }
+        ensures unchanged { OnErr result (set_of self.new ≡ set_of self.old) }
+        ensures refused { IfErr result (RefusesId (set_of self.old) (policy_of policy).id) }
+    {
+        let id = self.fresh_id(policy.id())?;
+        put(&mut self.links, id, policy)?;
+        Ok(())
+    }
+
+    /// Puts a policy without slots at the end. Refuses an id that is present, and answers want of memory.
+    pub fn add_static(&mut self, policy: StaticPolicy) -> Result<(), PolicySetError>
+        ensures added { OnOk result (add_policy (set_of self.old) (static_of policy) ≡ Some (set_of self.new)) }
+        ensures unchanged { OnErr result (set_of self.new ≡ set_of self.old) }
+        ensures refused { IfErr result (RefusesId (set_of self.old) (static_of policy).id) }
+    {
+        let policy = Policy::from_static_policy(*self.links.allocator(), policy)?;
+        self.add(policy)
+    }
+
+    /// Puts a template at the end of the templates. Refuses an id that is present, and answers want of memory.
+    pub fn add_template(&mut self, template: Template) -> Result<(), PolicySetError>
+        ensures added { OnOk result (add_template (set_of self.old) (template_of template) ≡ Some (set_of self.new)) }
+        ensures unchanged { OnErr result (set_of self.new ≡ set_of self.old) }
+        ensures refused { IfErr result (RefusesId (set_of self.old) (template_of template).id) }
+    {
+        let template = Rc::new(*self.templates.allocator(), template)?;
+        self.add_shared(template)
+    }
+
+    // The same of a template that is shared.
+    fn add_shared(&mut self, template: Rc<Template>) -> Result<(), PolicySetError>
+        ensures added { OnOk result (add_template (set_of self.old) (template_of template.value) ≡ Some (set_of self.new)) }
+        ensures unchanged { OnErr result (set_of self.new ≡ set_of self.old) }
+        ensures refused { IfErr result (RefusesId (set_of self.old) (template_of template.value).id) }
+    {
+        let id = self.fresh_id(template.id())?;
+        put(&mut self.templates, id, template)?;
+        Ok(())
+    }
+
+    /// Puts the policy of a template at the end, under a new id and with these bindings. Refuses an id that is present, a slot
+    /// of the template that isn't bound, a bound slot that isn't the template's, and an id that no template has, and answers
+    /// want of memory.
+    pub fn link(
+        &mut self,
+        template_id: &PolicyID,
+        new_id: PolicyID,
+        values: SlotEnv,
+    ) -> Result<(), LinkingError>
+        ensures linked { OnOk result (link (set_of self.old) (id_text template_id.now) (id_text new_id) (bindings_of values) ≡ Some (set_of self.new)) }
+        ensures unchanged { OnErr result (set_of self.new ≡ set_of self.old) }
+        ensures refused { IfErr result (RefusesLink (set_of self.old) (id_text template_id.now) (id_text new_id) (bindings_of values)) }
+    {
+        let template = self.template_to_link(template_id, &values)?;
+        let id = self.fresh_id(&new_id)?;
+        put(
+            &mut self.links,
+            id,
+            Policy::new(template, Some(new_id), values),
+        )?;
+        Ok(())
+    }
+
+    // A copy of an id under which no entry stands. Refuses one that is present.
+    fn fresh_id(&self, id: &PolicyID) -> Result<PolicyID, PolicySetError>
+        ensures copied { IfOk result (λ k. id_text k ≡ id_text id.now) }
+        ensures no_template { OnOk result (list_any (bytes_eq (id_text id.now)) (keys_in self.now.templates.entries) ≡ false) }
+        ensures no_policy { OnOk result (list_any (bytes_eq (id_text id.now)) (keys_in self.now.links.entries) ≡ false) }
+        ensures refused { IfErr result (RefusesId (set_of self.now) (id_text id.now)) }
+    {
+        if has_key(&self.templates, id) || has_key(&self.links, id) {
+            return Err(PolicySetError::Occupied { id: id.clone()? });
+        }
+        Ok(id.clone()?)
+    }
+
+    // The template of this id, whose slots are those that are bound.
+    fn template_to_link(
+        &self,
+        id: &PolicyID,
+        values: &SlotEnv,
+    ) -> Result<Rc<Template>, LinkingError>
+        ensures found { IfOk result (λ t. find_template (id_text id.now) (set_of self.now) ≡ Some (template_of t.value)) }
+        ensures fits { IfOk result (λ t. FitsBindings (template_of t.value) (bindings_of values.now)) }
+        ensures refused { (new_id : Text) → IfErr result (RefusesLink (set_of self.now) (id_text id.now) new_id (bindings_of values.now)) }
+    {
+        match self.templates.get(id) {
+            None => Err(LinkingError::NoSuchTemplate { id: id.clone()? }),
+            Some(template) => match template.check_bindings(values) {
+                Err(fault) => Err(fault),
+                Ok(()) => Ok(template.clone()?),
+            },
+        }
+    }
+
+    /// Goes over the policies, in their order.
+    pub fn policies(&self) -> Values<'_, PolicyID, Policy>
+        ensures { map policy_of result ≡ (set_of self.now).policies }
+    {
+        self.links.values()
+    }
+
+    /// Goes over the templates, in their order.
+    pub fn templates(&self) -> Values<'_, PolicyID, Rc<Template>>
+        ensures { map (λ t. template_of t.value) result ≡ (set_of self.now).templates }
+    {
+        self.templates.values()
+    }
+}

@@ -1,0 +1,203 @@
+//! Templates.
+
+ghost use Rattle.std.specs.Prelude.{◌≡◌};
+ghost use Rattle.cedar_expr_model.specs.Whole.Parts.{slots as slots_in};
+ghost use Rattle.cedar_expr_trees.specs.Trees.{tree_of};
+ghost use Rattle.cedar_store_model.specs.Whole.Policy.{condition as asked_by};
+ghost use Rattle.cedar_store_policies.specs.TemplateParts.{made_of, slot_ids};
+ghost use Rattle.cedar_store_policies.specs.Sets.{tree_set};
+
+use crate::annotation::{Annotation, Annotations};
+use crate::bindings::stands_among;
+use crate::constraint::{ActionConstraint, PrincipalConstraint, ResourceConstraint};
+use crate::policy_id::{Effect, PolicyID};
+use crate::template_body::{TemplateBody, gathered_slots};
+use cedar_expr_leaves::{Slot, SlotId};
+use cedar_expr_names::{AnyId, Loc};
+use cedar_expr_trees::Expr;
+use std::alloc::{AllocError, Global};
+use std::collections::btree_map;
+use std::rc::Rc;
+use std::slice;
+
+/// A policy in which slots may stand, none of them bound. It keeps its condition.
+#[derive(Drop)]
+pub struct Template {
+    body: TemplateBody,
+    condition: Expr,
+    slots: Vec<Slot>,
+    ghost joined: { tree_of condition ≡ asked_by (made_of body) } by { tree_set _ _ },
+    ghost gathered: { slot_ids slots.items ≡ slots_in (asked_by (made_of body)) },
+}
+
+impl Template {
+    ghost use Rattle.std.specs.Prelude.{IfOk, map, option_map};
+    ghost use Rattle.std.specs.Slice.Iter.{iter_rest};
+    ghost use Rattle.cedar_expr_leaves.specs.Slots.{slot_of};
+    ghost use Rattle.cedar_store_model.specs.Whole.Policy.{has_slot as uses_slot};
+    ghost use Rattle.cedar_store_policies.specs.TemplateParts.{template_made};
+    ghost use Rattle.cedar_store_policies.specs.Parts.{id_text, effect_of, annotation_pair, annotations_of, scope_of, action_scope_of};
+    ghost use Rattle.cedar_store_policies.specs.Templates.{template_of, template_loc};
+    ghost use Rattle.cedar_store_policies.specs.Lists.{first_of};
+
+    /// The template of these parts, at a place. Answers want of memory.
+    pub fn new(
+        alloc: Global,
+        id: PolicyID,
+        loc: Option<Loc>,
+        annotations: Annotations,
+        effect: Effect,
+        principal_constraint: PrincipalConstraint,
+        action_constraint: ActionConstraint,
+        resource_constraint: ResourceConstraint,
+        non_scope_constraint: Option<Expr>,
+    ) -> Result<Template, AllocError>
+        ensures parts { IfOk result (λ t. template_of t ≡ template_made id effect annotations principal_constraint action_constraint resource_constraint (option_map tree_of non_scope_constraint)) }
+        ensures place { IfOk result (λ t. template_loc t ≡ loc) }
+    {
+        let annotations = Rc::new(alloc, annotations)?;
+        let non_scope_constraint = match non_scope_constraint {
+            None => None,
+            Some(e) => Some(Rc::new(alloc, e)?),
+        };
+        Template::new_shared(
+            alloc,
+            id,
+            loc,
+            annotations,
+            effect,
+            principal_constraint,
+            action_constraint,
+            resource_constraint,
+            non_scope_constraint,
+        )
+    }
+
+    /// The template of these parts, at a place; annotations and body are shared. Answers want of memory.
+    pub fn new_shared(
+        alloc: Global,
+        id: PolicyID,
+        loc: Option<Loc>,
+        annotations: Rc<Annotations>,
+        effect: Effect,
+        principal_constraint: PrincipalConstraint,
+        action_constraint: ActionConstraint,
+        resource_constraint: ResourceConstraint,
+        non_scope_constraint: Option<Rc<Expr>>,
+    ) -> Result<Template, AllocError>
+        ensures parts { IfOk result (λ t. template_of t ≡ template_made id effect annotations.value principal_constraint action_constraint resource_constraint (option_map (λ e. tree_of e.value) non_scope_constraint)) }
+        ensures place { IfOk result (λ t. template_loc t ≡ loc) }
+    {
+        let body = TemplateBody {
+            id,
+            loc,
+            annotations,
+            effect,
+            principal_constraint,
+            action_constraint,
+            resource_constraint,
+            non_scope_constraint,
+        };
+        let condition = body.condition(alloc)?;
+        let slots = gathered_slots(alloc, &condition)?;
+        Ok(Template {
+            body,
+            condition,
+            slots,
+        })
+    }
+
+    /// The template's id.
+    pub fn id(&self) -> &PolicyID
+        ensures { id_text result.now ≡ (template_of self.now).id }
+    {
+        &self.body.id
+    }
+
+    /// The template's place.
+    pub fn loc(&self) -> Option<Loc>
+        ensures { result ≡ template_loc self.now }
+    {
+        self.body.loc
+    }
+
+    /// What its policies do where they are satisfied.
+    pub fn effect(&self) -> Effect
+        ensures { effect_of result ≡ (template_of self.now).effect }
+    {
+        self.body.effect
+    }
+
+    /// Goes over the annotations, in the order of their names.
+    pub fn annotations(&self) -> btree_map::Iter<'_, AnyId, Annotation>
+        ensures { map annotation_pair result ≡ (template_of self.now).annotations }
+    {
+        self.body.annotations.iter()
+    }
+
+    /// The annotations, shared.
+    pub fn annotations_arc(&self) -> &Rc<Annotations>
+        ensures { annotations_of result.now.value ≡ (template_of self.now).annotations }
+    {
+        &self.body.annotations
+    }
+
+    /// What the scope asks of the principal.
+    pub fn principal_constraint(&self) -> &PrincipalConstraint
+        ensures { scope_of result.now.constraint ≡ (template_of self.now).principal }
+    {
+        &self.body.principal_constraint
+    }
+
+    /// What the scope asks of the action.
+    pub fn action_constraint(&self) -> &ActionConstraint
+        ensures { action_scope_of result.now ≡ (template_of self.now).action }
+    {
+        &self.body.action_constraint
+    }
+
+    /// What the scope asks of the resource.
+    pub fn resource_constraint(&self) -> &ResourceConstraint
+        ensures { scope_of result.now.constraint ≡ (template_of self.now).resource }
+    {
+        &self.body.resource_constraint
+    }
+
+    /// The body, if there is one.
+    pub fn non_scope_constraints(&self) -> Option<&Expr>
+        ensures { option_map (λ e. tree_of e.now) result ≡ (template_of self.now).body }
+    {
+        match &self.body.non_scope_constraint {
+            None => None,
+            Some(body) => Some(body),
+        }
+    }
+
+    /// The condition: what the scope asks of principal, action and resource, and then the body, joined from the right.
+    pub fn condition(&self) -> &Expr
+        ensures { tree_of result.now ≡ asked_by (template_of self.now) }
+    {
+        &self.condition
+    }
+
+    /// Whether the slot stands in the condition.
+    pub fn has_slot(&self, slot: SlotId) -> bool
+        ensures { result ≡ uses_slot (template_of self.now) (slot_of slot) }
+    {
+        stands_among(self.slots.as_slice(), slot)
+    }
+
+    // The first slot in the condition, if there is one.
+    pub(crate) fn first_slot(&self) -> Option<Slot>
+        ensures { option_map (λ s. slot_of s.id) result ≡ first_of (slots_in (asked_by (template_of self.now))) }
+    {
+        self.slots.first().copied()
+    }
+
+    /// The slots in the condition, each occurrence, with their places.
+    pub fn slots(&self) -> slice::Iter<'_, Slot>
+        ensures { slot_ids (iter_rest result) ≡ slots_in (asked_by (template_of self.now)) }
+    {
+        self.slots.iter()
+    }
+}
