@@ -1,8 +1,8 @@
 //! Examples of substitution.
 
-use cedar_expr_substitution::*;
 use cedar_expr_leaves::Var;
 use cedar_expr_names::{Literal, Name};
+use cedar_expr_substitution::*;
 use cedar_expr_trees::{Expr, Unknown};
 use cedar_expr_values::{ExtValue, Type, Value, ValueKind};
 use std::alloc::{AllocError, Global};

@@ -1,7 +1,7 @@
 //! Examples of names of a schema before they are resolved.
 
-use cedar_expr_raw_names::*;
 use cedar_expr_names::{Id, InternalName, Loc, Name, NameError, UnreservedId};
+use cedar_expr_raw_names::*;
 use std::alloc::Global;
 use std::test::Fail;
 

@@ -1,5 +1,7 @@
-use cedar_gate_types::*;
+//! Policies with their conditions and texts, limits, and what of an expression lies on the first path.
+
 use cedar_expr::{Eid, EntityType, EntityUID, Expr, ExprKind, Literal, Var};
+use cedar_gate_types::*;
 use std::alloc::Global;
 use std::rc::{Rc, RcStr};
 use std::test::Fail;
