@@ -1,7 +1,5 @@
-//! Cedar's expressions, whole: the items of the crates below, under one name, and the table that the gate is handed today.
+//! Cedar's expressions, whole: the items of the crates below, under one name.
 #![tactic(auto)]
-
-pub mod extensions;
 
 /// Expressions and their leaves, their own builder, their shapes, substitution and checks.
 pub mod expr {
@@ -39,8 +37,8 @@ pub mod extension {
     };
 }
 
-/// The table of extension functions, which the gate isn't handed yet.
-pub mod extension_tables {
+/// The table of extension functions.
+pub mod extensions {
     pub use cedar_expr_functions::{
         ExtTable, ExtensionFunctionLookupError, ExtensionInitializationError, Extensions,
         FuncDoesNotExistError, FuncMultiplyDefinedError, MultipleConstructorsSameSignatureError,
@@ -107,11 +105,12 @@ pub use expr::{
 pub use expr_builder::{BuildFault, Rebuild};
 pub use expr_iterator::{ExprIterator, Slots, Unknowns};
 pub use extension::{
-    CallFault, CallStyle, ExtValue, Extension, ExtensionCall, ExtensionOutputValue, ExtensionValue,
-    InternalExtensionValue, RepresentableExtensionValue,
+    CallFault, CallStyle, ExtValue, Extension, ExtensionCall, ExtensionFunction,
+    ExtensionOutputValue, ExtensionValue, InternalExtensionValue, RepresentableExtensionValue,
 };
-pub use extension_tables::{ExtensionFunctionLookupError, ExtensionInitializationError};
-pub use extensions::{ExtTable, ExtensionFunction, Extensions};
+pub use extensions::{
+    ExtTable, ExtensionFunctionLookupError, ExtensionInitializationError, Extensions,
+};
 pub use id::{AnyId, Id, UnreservedId, is_normalized_ident};
 pub use literal::{InputInteger, Integer, Literal};
 pub use name::{

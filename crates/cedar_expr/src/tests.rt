@@ -18,5 +18,5 @@ fn the_items_stand_under_one_name(rt: HostRuntime) -> Result<(), Fail> {
 
 #[test]
 fn the_empty_table_is_typed(rt: HostRuntime) {
-    assert!(rt; Extensions::none().all_typed());
+    assert!(rt; Extensions::none(rt.alloc()).all_typed());
 }

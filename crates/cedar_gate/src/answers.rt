@@ -12,7 +12,7 @@ ghost use Rattle.cedar_gate.specs.Values.{at_request};
 ghost use Rattle.cedar_gate.specs.Answers.{has_effect, acts, AreConditions, pair_acts, acting_ids, pair_errors};
 
 use crate::evaluator::{Value, interpret};
-use cedar_expr::Expr;
+use cedar_gate_exprs::Expr;
 use cedar_gate_types::{
     AuthorizationError, Decision, Diagnostics, Effect, Policy, PolicyID, Request, Response,
 };

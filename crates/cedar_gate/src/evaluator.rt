@@ -8,7 +8,7 @@ ghost use Rattle.cedar_store_model.specs.Meaning.{outcome_of, truth_of, applied,
 ghost use Rattle.cedar_gate_types.specs.Requests.{request_of};
 ghost use Rattle.cedar_gate.specs.Values.{value_of, outcome_seen, at_request};
 
-use cedar_expr::{EntityUID, Expr};
+use cedar_gate_exprs::{EntityUID, Expr};
 use cedar_gate_types::{EvaluationError, FirstPathKind, Request, first_path_kind};
 
 /// What an expression evaluates to. A uid is borrowed from the request or from the expression.

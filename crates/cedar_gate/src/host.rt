@@ -5,7 +5,7 @@ ghost use Rattle.cedar_expr_names.specs.Views.{uid_of};
 ghost use Rattle.cedar_expr_model.specs.Uid.{Uid};
 ghost use Rattle.cedar_gate.specs.Hosts.{answered_of, answer_from, failures_after};
 
-use cedar_expr::EntityUID;
+use cedar_gate_exprs::EntityUID;
 use cedar_gate_types::Entity;
 use std::alloc::Global;
 use thiserror::Error;

@@ -2,7 +2,7 @@
 
 ghost use Rattle.std.specs.Prelude.{◌≡◌, ◌++◌, ◌≢◌, true, Some, IfOk, IfSome, string_bytes};
 ghost use Rattle.std.specs.List.{list_all};
-ghost use Rattle.cedar_expr.specs.Table.{all_typed};
+ghost use Rattle.cedar_gate_exprs.specs.Table.{all_typed};
 ghost use Rattle.cedar_gate_model.specs.Acceptance.{IsAccepted};
 ghost use Rattle.cedar_gate_model.specs.Lines as lines;
 ghost use Rattle.cedar_gate_model.specs.Lines.{Prints};
@@ -24,7 +24,7 @@ use crate::runs::{RunFault, run};
 use crate::status::Status;
 use crate::store_host::StoreHost;
 use crate::transcript::Transcript;
-use cedar_expr::ExtTable;
+use cedar_gate_exprs::ExtTable;
 use cedar_gate_accept::{Gate, GateFault};
 use cedar_gate_bundle::{Bundle, ReadFault, read_text};
 use cedar_gate_types::{Entity, Request, Step};

@@ -1,7 +1,7 @@
 //! The service: reads a bundle, and writes the lines of its run.
 
 ghost use Rattle.std.specs.Prelude.{◌≡◌, List, ℕ, true, Some, IfOk, IfErr, IfSome};
-ghost use Rattle.cedar_expr.specs.Table.{all_typed};
+ghost use Rattle.cedar_gate_exprs.specs.Table.{all_typed};
 ghost use Rattle.cedar_gate_model.specs.ReadingBundle.{input_read};
 ghost use Rattle.cedar_gate_model.specs.Lines.{Prints};
 ghost use Rattle.cedar_gate.specs.Wholes.{PrintsWhole};
@@ -10,7 +10,7 @@ ghost use Rattle.cedar_gate.specs.Serving.{ServeGives, LeavesAlone, IsOfReading}
 use crate::output::write_out;
 use crate::printing::print_input;
 use crate::status::Status;
-use cedar_expr::ExtTable;
+use cedar_gate_exprs::ExtTable;
 use std::alloc::{AllocError, Global};
 use std::io::{ErrorKind, Read, Write};
 use thiserror::Error;

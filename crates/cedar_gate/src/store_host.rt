@@ -9,7 +9,7 @@ ghost use Rattle.cedar_gate.specs.Hosts.{answered_of, answer_from, held_in};
 ghost use Rattle.cedar_gate.specs.Stores.{store_uids, store_asked};
 
 use crate::host::{Host, HostFault};
-use cedar_expr::EntityUID;
+use cedar_gate_exprs::EntityUID;
 use cedar_gate_types::Entity;
 use std::alloc::{AllocError, Global};
 

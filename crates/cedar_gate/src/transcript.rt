@@ -1,6 +1,6 @@
 //! What a run did, and its answer.
 
-use cedar_expr::EntityUID;
+use cedar_gate_exprs::EntityUID;
 use cedar_gate_types::{Decision, Response};
 
 /// A thing that a run did.

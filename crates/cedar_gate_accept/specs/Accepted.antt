@@ -1,6 +1,6 @@
 -- What a gate has accepted.
 use Rattle.cedar_gate_model.specs.Acceptance.{Submission}
-use Rattle.cedar_expr.specs.declared.extensions.Extensions.{Extensions}
+use Rattle.cedar_gate_exprs.specs.declared.extensions.Extensions.{Extensions}
 use Rattle.cedar_gate_accept.specs.Gates.{submission}
 use Rattle.cedar_gate_accept.specs.declared.gate.Gate.{Gate}
 

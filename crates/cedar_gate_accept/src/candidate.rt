@@ -10,7 +10,7 @@ use crate::each::{all_keep, all_nest_within, all_pass};
 use crate::err::GateFault;
 use crate::policies::ids_are_distinct;
 use crate::scope::ScopeRule;
-use cedar_expr::Expr;
+use cedar_gate_exprs::Expr;
 use cedar_gate_schema::ValidatorSchema;
 use cedar_gate_types::{NestLimit, Policy};
 use std::alloc::{AllocError, Global};

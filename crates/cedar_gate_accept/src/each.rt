@@ -14,7 +14,7 @@ ghost use Rattle.cedar_gate_accept.specs.declared.verdict.Verdict.TheVariants.{P
 use crate::nesting::nests_within;
 use crate::scope::ScopeRule;
 use crate::verdict::Verdict;
-use cedar_expr::Expr;
+use cedar_gate_exprs::Expr;
 use cedar_gate_schema::ValidatorSchema;
 
 /// Whether each condition nests within a limit.

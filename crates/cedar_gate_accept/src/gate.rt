@@ -16,7 +16,7 @@ use crate::candidate::Candidate;
 use crate::err::GateFault;
 use crate::policies::conditions_of;
 use crate::warnings::warnings;
-use cedar_expr::{Expr, ExtTable};
+use cedar_gate_exprs::{Expr, ExtTable};
 use cedar_gate_schema::ValidatorSchema;
 use cedar_gate_types::{Fragment, NestLimit, Policy, PolicyID};
 use std::alloc::Global;
@@ -42,7 +42,7 @@ pub struct Gate<'a> {
 impl<'a> Gate<'a> {
     ghost use Rattle.std.specs.Prelude.{◌≡◌, IfOk, IfErr, true, map};
     ghost use Rattle.cedar_gate_types.specs.Trees.{small_tree_of};
-    ghost use Rattle.cedar_expr.specs.Table.{all_typed};
+    ghost use Rattle.cedar_gate_exprs.specs.Table.{all_typed};
     ghost use Rattle.cedar_store_model.specs.Policy.{condition};
     ghost use Rattle.cedar_store_model.specs.Whole.FirstPath.{whole_policies};
     ghost use Rattle.cedar_gate_model.specs.Acceptance.{IsAccepted, warnings_of};

@@ -4,7 +4,7 @@ ghost use Rattle.std.specs.Prelude.{◌≡◌, nat_le};
 ghost use Rattle.cedar_expr_model.specs.Tree.{nesting};
 ghost use Rattle.cedar_gate_types.specs.Trees.{small_tree_of};
 
-use cedar_expr::Expr;
+use cedar_gate_exprs::Expr;
 use cedar_gate_types::{FirstPathKind, first_path_kind};
 
 /// Whether an expression nests within a limit. It is not walked deeper than the limit. Outside today's language it counts as the

@@ -8,7 +8,7 @@ ghost use Rattle.cedar_store_model.specs.Answer.{ids};
 ghost use Rattle.cedar_schema_model.specs.Declarations as declared_model;
 ghost use Rattle.cedar_gate_types.specs.Policies.{policies_of, policy_of};
 
-use cedar_expr::Expr;
+use cedar_gate_exprs::Expr;
 use cedar_gate_schema::distinct::are_distinct;
 use cedar_gate_types::Policy;
 use std::alloc::{AllocError, Global};

@@ -7,7 +7,7 @@ ghost use Rattle.cedar_typechecker_model.specs.ScopeRules.{each_uid};
 ghost use Rattle.cedar_gate_schema.specs.Schema.{schema_of};
 ghost use Rattle.cedar_gate_accept.specs.Scope.{rule_passes};
 
-use cedar_expr::{EntityUID, Expr};
+use cedar_gate_exprs::{EntityUID, Expr};
 use cedar_gate_schema::ValidatorSchema;
 use cedar_gate_schema::schema::type_of;
 use cedar_gate_types::{FirstPathKind, first_path_kind};

@@ -1,6 +1,6 @@
 //! Typing of conditions in an environment.
 
-use cedar_expr::{EntityUID, Expr, InternalName};
+use cedar_gate_exprs::{EntityUID, Expr, InternalName};
 use cedar_gate_schema::ValidatorSchema;
 use cedar_gate_schema::schema::{same_name, same_uid, type_of};
 use cedar_gate_types::{FirstPathKind, first_path_kind};

@@ -11,7 +11,7 @@ ghost use Rattle.cedar_gate_accept.specs.Typing.{type_view, setting_of};
 ghost use Rattle.cedar_gate_accept.specs.Verdict as verdict;
 
 use crate::typing::{BoolType, RequestEnv, Type};
-use cedar_expr::{Expr, InternalName};
+use cedar_gate_exprs::{Expr, InternalName};
 use cedar_gate_schema::{ValidatorActionId, ValidatorSchema};
 
 /// A verdict on the type of a condition in an environment.

@@ -10,7 +10,7 @@ ghost use Rattle.cedar_gate_types.specs.Policies.{policies_of, policy_of, id_tex
 ghost use Rattle.cedar_gate_schema.specs.Schema.{schema_of};
 
 use crate::verdict::Verdict;
-use cedar_expr::Expr;
+use cedar_gate_exprs::Expr;
 use cedar_gate_schema::ValidatorSchema;
 use cedar_gate_types::{Policy, PolicyID};
 use std::alloc::{AllocError, Global};

@@ -16,7 +16,7 @@ ghost use Rattle.cedar_gate_bundle.specs.declared.fault.ReadFault.TheVariants.{U
 
 use crate::fault::ReadFault;
 use crate::names::{read_uid_from, text};
-use cedar_expr::{Expr, Literal, Var};
+use cedar_gate_exprs::{Expr, Literal, Var};
 use serde_json::{Number, Value};
 use std::alloc::{AllocError, Global};
 use std::rc::Rc;

@@ -9,7 +9,7 @@ ghost use Rattle.cedar_gate_bundle.specs.declared.fault.ReadFault.TheVariants.{U
 
 use crate::fault::ReadFault;
 use crate::lists::Readable;
-use cedar_expr::{Eid, EntityType, EntityUID, RawName};
+use cedar_gate_exprs::{Eid, EntityType, EntityUID, RawName};
 use cedar_expr_names::NameError;
 use serde_json::Value;
 use std::alloc::Global;

@@ -21,7 +21,7 @@ use crate::fault::ReadFault;
 use crate::lists::Readable;
 use crate::names::{read_uid, text};
 use crate::objects::{has_only, may_be_empty_object, required};
-use cedar_expr::{EntityUID, Expr};
+use cedar_gate_exprs::{EntityUID, Expr};
 use cedar_gate_types::{
     ActionConstraint, Effect, EntityReference, Policy, PolicyID, PrincipalConstraint,
     PrincipalOrResourceConstraint, ResourceConstraint,

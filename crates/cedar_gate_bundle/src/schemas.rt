@@ -16,7 +16,7 @@ use crate::fault::ReadFault;
 use crate::lists::read_list;
 use crate::members::{ReadableMember, read_members};
 use crate::objects::{has_only, is_empty_object, may_be_empty_list, may_be_empty_object, required};
-use cedar_expr::{Id, RawName};
+use cedar_gate_exprs::{Id, RawName};
 use cedar_gate_types::Fragment;
 use cedar_gate_types::json_schema::{
     ActionType, ApplySpec, EntityType, NamespaceDefinition, RecordType,

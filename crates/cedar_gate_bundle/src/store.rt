@@ -11,7 +11,7 @@ ghost use Rattle.cedar_gate_bundle.specs.declared.fault.ReadFault.TheVariants.{U
 
 use crate::fault::ReadFault;
 use crate::lists::read_list;
-use cedar_expr::EntityUID;
+use cedar_gate_exprs::EntityUID;
 use cedar_gate_types::Entity;
 use serde_json::Value;
 use std::alloc::{AllocError, Global};

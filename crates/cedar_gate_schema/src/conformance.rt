@@ -9,7 +9,7 @@ ghost use Rattle.cedar_gate_types.specs.Requests.{request_of};
 ghost use Rattle.cedar_gate_schema.specs.Schema.{schema_of, action_of};
 
 use crate::schema::{ValidatorActionId, ValidatorSchema, type_of};
-use cedar_expr::InternalName;
+use cedar_gate_exprs::InternalName;
 use cedar_gate_types::Request;
 
 /// Whether a name is among names.

@@ -10,7 +10,7 @@ ghost use Rattle.cedar_gate_schema.specs.Schema.{action_of, declared_in};
 ghost use Rattle.cedar_gate_schema.specs.Plain.{is_plain_definition};
 
 use crate::schema::ValidatorActionId;
-use cedar_expr::{Eid, EntityType, EntityUID, Id, InternalName, NameError, RawName};
+use cedar_gate_exprs::{Eid, EntityType, EntityUID, Id, InternalName, NameError, RawName};
 use cedar_gate_types::json_schema;
 use cedar_gate_types::json_schema::{ActionType, Fragment, NamespaceDefinition};
 use std::alloc::{AllocError, Global};

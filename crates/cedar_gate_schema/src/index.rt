@@ -9,7 +9,7 @@ ghost use Rattle.cedar_gate_schema.specs.Indexes.{has_name, has_uid};
 ghost use Rattle.cedar_gate_schema.specs.Schema.{action_uid};
 
 use crate::schema::{ValidatorActionId, type_of};
-use cedar_expr::{EntityUID, InternalName};
+use cedar_gate_exprs::{EntityUID, InternalName};
 use std::alloc::{AllocError, Global};
 use std::collections::BTreeSet;
 

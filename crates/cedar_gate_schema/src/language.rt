@@ -9,7 +9,7 @@ ghost use Rattle.cedar_expr_trees.specs.Operators.{unary_op_of, binary_op_of};
 ghost use Rattle.cedar_expr_trees.specs.Trees.{tree_of};
 ghost use Rattle.cedar_gate_types.specs.Language.{is_first_path_policy};
 
-use cedar_expr::{BinaryOp, Expr, ExprKind, Literal, UnaryOp, Var};
+use cedar_gate_exprs::{BinaryOp, Expr, ExprKind, Literal, UnaryOp, Var};
 use cedar_gate_types::Policy;
 
 /// Whether a literal is of the first path: any but a text.

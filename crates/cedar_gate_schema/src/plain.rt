@@ -8,7 +8,7 @@ ghost use Rattle.cedar_gate_schema.specs.Plain.{is_plain_definition};
 
 use crate::declared::only_namespace;
 use crate::language::are_first_path_policies;
-use cedar_expr::Id;
+use cedar_gate_exprs::Id;
 use cedar_gate_types::Policy;
 use cedar_gate_types::json_schema::{
     ActionType, EntityType, Fragment, NamespaceDefinition, Type, TypeVariant,

@@ -8,7 +8,7 @@ ghost use Rattle.cedar_expr_model.specs.Uid.{Uid, uid_eq};
 ghost use Rattle.cedar_gate_schema.specs.Indexes.{has_name, has_uid};
 
 use crate::index::{index_action_types, index_has_name, index_has_uid, index_names, index_uids};
-use cedar_expr::{EntityUID, InternalName};
+use cedar_gate_exprs::{EntityUID, InternalName};
 use std::alloc::{AllocError, Global};
 use std::collections::BTreeSet;
 

@@ -16,7 +16,7 @@ use crate::declared::{action_texts, actions, only_namespace, type_names, type_te
 use crate::distinct::are_distinct;
 use crate::err::SchemaError;
 use crate::schema::{ValidatorActionId, ValidatorSchema};
-use cedar_expr::InternalName;
+use cedar_gate_exprs::InternalName;
 use cedar_gate_types::json_schema::{Fragment, NamespaceDefinition};
 use std::alloc::{AllocError, Global};
 

@@ -1,6 +1,6 @@
 //! Entities.
 
-use cedar_expr::EntityUID;
+use cedar_gate_exprs::EntityUID;
 
 /// An entity of a store. Today it has nothing but its uid.
 #[derive(Drop)]

@@ -8,7 +8,7 @@ ghost use Rattle.cedar_expr_model.specs.Whole.FirstPath.{first_path_literal, fir
 ghost use Rattle.cedar_gate_types.specs.Trees.{small_tree_of};
 ghost use Rattle.cedar_gate_types.specs.Kinds.{kind_seen};
 
-use cedar_expr::{BinaryOp, EntityUID, Expr, ExprKind, Literal, UnaryOp, Var};
+use cedar_gate_exprs::{BinaryOp, EntityUID, Expr, ExprKind, Literal, UnaryOp, Var};
 
 /// A kind of expression of the first path, with its parts.
 #[derive(Clone, Copy)]

@@ -1,6 +1,6 @@
 //! Declarations as they are written: fragments of a schema, before anything is resolved.
 
-use cedar_expr::{EntityUID, Id, InternalName, RawName};
+use cedar_gate_exprs::{EntityUID, Id, InternalName, RawName};
 use std::rc::RcStr;
 
 /// A part of a schema: namespaces, each with its name, or without one.

@@ -2,7 +2,7 @@
 
 ghost use Rattle.std.specs.Prelude.{◌≡◌, IfOk};
 
-use cedar_expr::{EntityUID, Expr, Literal, Var};
+use cedar_gate_exprs::{EntityUID, Expr, Literal, Var};
 use std::alloc::{AllocError, Global};
 use std::rc::{Rc, RcStr};
 

@@ -1,6 +1,6 @@
 //! Requests.
 
-use cedar_expr::{EntityUID, Loc};
+use cedar_gate_exprs::{EntityUID, Loc};
 use std::rc::Rc;
 
 /// The principal, action or resource of a request.

@@ -1,6 +1,6 @@
 //! A host over a store answers from it.
 
-use cedar_expr::{Eid, EntityType, EntityUID};
+use cedar_gate_exprs::{Eid, EntityType, EntityUID};
 use cedar_gate::store_host::StoreHost;
 use cedar_gate::*;
 use cedar_gate_types::Entity;

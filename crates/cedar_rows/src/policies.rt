@@ -1,6 +1,6 @@
 //! Policies with their conditions and texts, limits, and what of an expression lies on the first path.
 
-use cedar_expr::{Eid, EntityType, EntityUID, Expr, ExprKind, Literal, Var};
+use cedar_gate_exprs::{Eid, EntityType, EntityUID, Expr, ExprKind, Extensions, Literal, Var};
 use cedar_gate_types::*;
 use std::alloc::Global;
 use std::rc::{Rc, RcStr};
@@ -114,4 +114,9 @@ fn a_request_gives_its_parts(rt: HostRuntime) -> Result<(), Fail> {
     assert!(rt; request.principal().uid().same(request.resource().uid()));
     assert!(rt; !request.principal().uid().same(request.action().uid()));
     Ok(())
+}
+
+#[test]
+fn the_empty_table_is_typed(rt: HostRuntime) {
+    assert!(rt; Extensions::none().all_typed());
 }

@@ -4,7 +4,7 @@
 //! the session was stopped, and 4 where memory, reading or writing failed. Arguments are ignored, and nothing goes to standard error.
 #![tactic(auto)]
 
-use cedar_expr::Extensions;
+use cedar_gate_exprs::Extensions;
 use cedar_gate::serve;
 use std::process::ExitCode;
 

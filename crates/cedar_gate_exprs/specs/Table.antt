@@ -3,8 +3,8 @@ use Rattle.std.specs.Prelude.{List, Bool, is_some}
 use Rattle.std.specs.List.{list_all}
 use Rattle.cedar_expr_model.specs.Name.{Name}
 use Rattle.cedar_expr_names.specs.Views.{plain_name_of}
-use Rattle.cedar_expr.specs.declared.extensions.ExtensionFunction.{ExtensionFunction}
-use Rattle.cedar_expr.specs.declared.extensions.Extensions.{Extensions}
+use Rattle.cedar_gate_exprs.specs.declared.extensions.ExtensionFunction.{ExtensionFunction}
+use Rattle.cedar_gate_exprs.specs.declared.extensions.Extensions.{Extensions}
 
 -- the name of a function
 abbrev pub function_name : ExtensionFunction → Name

@@ -15,7 +15,7 @@ pub struct ExtensionFunction {
 impl ExtensionFunction {
     ghost use Rattle.std.specs.Prelude.{◌≡◌};
     ghost use Rattle.cedar_expr_names.specs.Views.{plain_name_of};
-    ghost use Rattle.cedar_expr.specs.Table.{has_result_type, function_name};
+    ghost use Rattle.cedar_gate_exprs.specs.Table.{has_result_type, function_name};
 
     /// The name of the function.
     pub fn name(&self) -> &Name
@@ -43,7 +43,7 @@ pub type ExtTable<'a> = Extensions<'a>;
 
 impl<'a> Extensions<'a> {
     ghost use Rattle.std.specs.Prelude.{◌≡◌, []};
-    ghost use Rattle.cedar_expr.specs.Table.{functions_of, all_typed};
+    ghost use Rattle.cedar_gate_exprs.specs.Table.{functions_of, all_typed};
 
     /// The empty table.
     pub fn none() -> Extensions<'a>

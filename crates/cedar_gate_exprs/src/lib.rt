@@ -1,0 +1,16 @@
+//! What the gate names of expressions, under one name, and the table of extension functions that it is handed today.
+#![tactic(auto)]
+
+pub mod extensions;
+
+pub use cedar_expr_leaves::{Pattern, PatternElem, Slot, SlotId, Var};
+pub use cedar_expr_names::{
+    Eid, EntityType, EntityUID, Id, InternalName, Literal, Loc, Name, NameError, Quoted,
+    ReservedNameError,
+};
+pub use cedar_expr_raw_names::{ConditionalName, RawName, ReferenceType};
+pub use cedar_expr_trees::{
+    BinaryOp, DuplicateKeyError, Expr, ExprKind, ExpressionConstructionError, NonEmpty, UnaryOp,
+    Unknown,
+};
+pub use extensions::{ExtTable, ExtensionFunction, Extensions};
