@@ -1,0 +1,5 @@
+//! Tests of the checks of expressions against a table of functions.
+#![tactic(auto)]
+
+#[cfg(test)]
+mod checks;
