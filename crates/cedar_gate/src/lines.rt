@@ -12,8 +12,8 @@ ghost use Rattle.cedar_gate.specs.Printing.{uids_text};
 ghost use Rattle.std.specs.Prelude.{option_map};
 
 use crate::transcript::Entry;
-use cedar_gate_exprs::EntityUID;
 use cedar_expr_names::Quoted;
+use cedar_gate_exprs::EntityUID;
 use cedar_gate_types::{Decision, PolicyID, Response};
 use std::alloc::AllocError;
 use std::fmt::Write;

@@ -24,9 +24,9 @@ use crate::runs::{RunFault, run};
 use crate::status::Status;
 use crate::store_host::StoreHost;
 use crate::transcript::Transcript;
-use cedar_gate_exprs::ExtTable;
 use cedar_gate_accept::{Gate, GateFault};
 use cedar_gate_bundle::{Bundle, ReadFault, read_text};
+use cedar_gate_exprs::ExtTable;
 use cedar_gate_types::{Entity, Request, Step};
 use std::alloc::{AllocError, Global};
 

@@ -14,8 +14,8 @@ ghost use Rattle.cedar_gate.specs.Sessions.{session_submission, session_request}
 ghost use Rattle.cedar_gate.specs.Wholes.{IsWantedWhole, DecidesWhole, AnswersWhole};
 
 use crate::answers::{decide, respond};
-use cedar_gate_exprs::EntityUID;
 use cedar_gate_accept::{Gate, check_conforms};
+use cedar_gate_exprs::EntityUID;
 use cedar_gate_types::{Decision, Entity, Request, Response};
 use std::alloc::{AllocError, Global};
 use thiserror::Error;

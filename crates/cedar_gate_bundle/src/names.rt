@@ -9,8 +9,8 @@ ghost use Rattle.cedar_gate_bundle.specs.declared.fault.ReadFault.TheVariants.{U
 
 use crate::fault::ReadFault;
 use crate::lists::Readable;
-use cedar_gate_exprs::{Eid, EntityType, EntityUID, RawName};
 use cedar_expr_names::NameError;
+use cedar_gate_exprs::{Eid, EntityType, EntityUID, RawName};
 use serde_json::Value;
 use std::alloc::Global;
 

@@ -1,8 +1,8 @@
 //! A host over a store answers from it.
 
-use cedar_gate_exprs::{Eid, EntityType, EntityUID};
 use cedar_gate::store_host::StoreHost;
 use cedar_gate::*;
+use cedar_gate_exprs::{Eid, EntityType, EntityUID};
 use cedar_gate_types::Entity;
 use std::alloc::Global;
 use std::test::Fail;

@@ -1,9 +1,9 @@
 //! Bundles and what is printed for them; writers, readers and hosts that fail; calls that succeed.
 
-use cedar_gate_exprs::{EntityUID, Expr, ExprKind, ExtTable, Literal, Var};
 use cedar_gate::{Host, HostFault, OpenSession, ServeFault, Status, run, serve};
 use cedar_gate_accept::{Gate, ValidatorSchema};
 use cedar_gate_bundle::{Bundle, read_bundle, read_text};
+use cedar_gate_exprs::{EntityUID, Expr, ExprKind, ExtTable, Literal, Var};
 use cedar_gate_types::json_schema::{
     ActionType, ApplySpec, Fragment, NamespaceDefinition, RecordType, Type, TypeOfAttribute,
     TypeVariant,

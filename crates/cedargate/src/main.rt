@@ -4,8 +4,8 @@
 //! the session was stopped, and 4 where memory, reading or writing failed. Arguments are ignored, and nothing goes to standard error.
 #![tactic(auto)]
 
-use cedar_gate_exprs::Extensions;
 use cedar_gate::serve;
+use cedar_gate_exprs::Extensions;
 use std::process::ExitCode;
 
 fn main(rt: HostRuntime) -> ExitCode {
