@@ -14,6 +14,10 @@ pub enum MeaningFault {
     #[error("out of memory")]
     OutOfMemory,
 
+    /// What is known gives no value and no error: an unknown isn't bound.
+    #[error("an unknown has no value")]
+    NotKnown,
+
     /// There is no such entity.
     #[error("entity `{uid}` does not exist")]
     MissingEntity {

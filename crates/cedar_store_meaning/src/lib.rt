@@ -2,6 +2,7 @@
 #![tactic(auto)]
 
 pub mod binary;
+pub mod calls;
 pub mod fault;
 pub mod operators;
 
