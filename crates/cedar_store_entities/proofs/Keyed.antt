@@ -1,0 +1,93 @@
+-- Entities that stand under their uids.
+use Rattle.std.proofs.Common.{◌≡◌, Bool, true, false, cond, ◌||◌, List, [], ◌∷◌, ◌++◌, map, Option, Some, None, option_map, Result, Ok, Err, refl, sym, ap, ◌∙◌}
+use Rattle.std.specs.Prelude.{OnOk, OnErr}
+use Rattle.std.proofs.lemmas.List.{map-append}
+use Rattle.std.specs.Borrow.{Bor}
+use Rattle.std.specs.List.{list_any}
+use Rattle.std.specs.Map.{lookup}
+use Rattle.std.specs.Option.{is_some, option_copied}
+use Rattle.cedar_expr_names.specs.Views.{uid_of}
+use Rattle.cedar_expr_names.specs.declared.entity.EntityUID.{EntityUID}
+use Rattle.cedar_expr_names.proofs.Equality.{uids_eq_is}
+use Rattle.cedar_expr_model.specs.Uid.{Uid, uid_eq}
+use Rattle.cedar_expr_model.specs.Whole.Made.{Made}
+use Rattle.cedar_expr_model.specs.Whole.Value.{V}
+use Rattle.cedar_store_model.specs.Whole.World as model
+use Rattle.cedar_store_model.specs.Whole.World.{Found, held, missing, not_loaded}
+use Rattle.cedar_store_model.specs.Whole.Store.{Extent, whole, partial, Store, found_as, if_uid, look_up}
+use Rattle.cedar_store_entities.specs.Views.{entity_uid, entity_seen, entity_of, entity_pair, bare_entity}
+use Rattle.cedar_store_entities.specs.StoreParts.{keys_in, uids_in, entities_in, made_in}
+use Rattle.cedar_store_entities.specs.declared.entity.Entity.{Entity}
+use Rattle.cedar_store_entities.proofs.Uids.{same_uid, each_is_uid}
+
+-- what stands under keys
+pub map_values : (es : List (EntityUID × Entity)) → map entity_pair (map (λ e. e.1) es) ≡ map (λ e. entity_pair e.1) es
+map_values [] = refl
+map_values (e ∷ es) = ap (λ ys. entity_pair e.1 ∷ ys) (map_values es)
+
+some_first : {A : Type 0} (b : Bool) (x : A) (o : Option A) (t : Bool) → is_some o ≡ t → is_some (cond b (Some x) o) ≡ (b || t)
+some_first true x o t h = refl
+some_first false x o t h = h
+
+none_is : {A : Type 0} (o : Option A) → is_some o ≡ false → o ≡ None
+none_is None h = refl
+none_is (Some x) h = cc
+
+-- an entity is found where its uid is a key
+pub key_found : (u : EntityUID) (es : List (EntityUID × Entity)) → is_some (lookup (same_uid u) es) ≡ list_any (uid_eq (uid_of u)) (keys_in es)
+key_found u [] = refl
+key_found u (e ∷ es) =
+    some_first (same_uid u e.0) e.1 (lookup (same_uid u) es) (list_any (uid_eq (uid_of u)) (keys_in es)) (key_found u es)
+    ∙ ap (λ b. b || list_any (uid_eq (uid_of u)) (keys_in es)) (uids_eq_is u e.0)
+
+pub key_absent : (u : EntityUID) (es : List (EntityUID × Entity)) → list_any (uid_eq (uid_of u)) (keys_in es) ≡ false → lookup (same_uid u) es ≡ None
+key_absent u es h = none_is (lookup (same_uid u) es) (key_found u es ∙ h)
+
+-- one more under its own uid
+pub more_keys : (es more : List (EntityUID × Entity)) (u : EntityUID) (x : Entity) → more ≡ es ++ (u, x) ∷ [] → keys_in more ≡ keys_in es ++ uid_of u ∷ []
+more_keys es more u x m = ap keys_in m ∙ map-append (λ (e : EntityUID × Entity). uid_of e.0) es ((u, x) ∷ [])
+
+pub more_uids : (es more : List (EntityUID × Entity)) (u : EntityUID) (x : Entity) → more ≡ es ++ (u, x) ∷ [] → uids_in more ≡ uids_in es ++ entity_uid x ∷ []
+more_uids es more u x m = ap uids_in m ∙ map-append (λ (e : EntityUID × Entity). entity_uid e.1) es ((u, x) ∷ [])
+
+pub more_entities : (es more : List (EntityUID × Entity)) (u : EntityUID) (x : Entity) → more ≡ es ++ (u, x) ∷ [] → entities_in more ≡ entities_in es ++ entity_pair x ∷ []
+more_entities es more u x m = ap entities_in m ∙ map-append (λ (e : EntityUID × Entity). entity_pair e.1) es ((u, x) ∷ [])
+
+-- what a look-up finds
+heads : (a b : Uid) (as_ bs : List Uid) → a ∷ as_ ≡ b ∷ bs → a ≡ b
+heads a b as_ bs e = cc
+
+tails : (a b : Uid) (as_ bs : List Uid) → a ∷ as_ ≡ b ∷ bs → as_ ≡ bs
+tails a b as_ bs e = cc
+
+module _ {A : Type 0} (see : Entity → A) where
+  abbrev seen_in : List (EntityUID × Entity) → List (Uid × A)
+  seen_in es = map (λ e. (entity_uid e.1, see e.1)) es
+
+  chosen : (s t : Bool) → s ≡ t → (x : Entity) (o : Option Entity) (q : Option A) → option_map see o ≡ q → option_map see (cond s (Some x) o) ≡ cond t (Some (see x)) q
+  chosen s true e x o q h = ap (λ b. option_map see (cond b (Some x) o)) e
+  chosen s false e x o q h = ap (λ b. option_map see (cond b (Some x) o)) e ∙ h
+
+  looked_up : (u : EntityUID) (es : List (EntityUID × Entity)) → keys_in es ≡ uids_in es → option_map see (lookup (same_uid u) es) ≡ lookup (uid_eq (uid_of u)) (seen_in es)
+  looked_up u [] n = refl
+  looked_up u (e ∷ es) n =
+      chosen (same_uid u e.0) (uid_eq (uid_of u) (entity_uid e.1)) (uids_eq_is u e.0 ∙ ap (uid_eq (uid_of u)) (heads _ _ (keys_in es) (uids_in es) n)) e.1 (lookup (same_uid u) es) (lookup (uid_eq (uid_of u)) (seen_in es))
+      (looked_up u es (tails _ _ (keys_in es) (uids_in es) n))
+
+  pub found_is : (u : EntityUID) (es : List (EntityUID × Entity)) (r : Option (Bor Entity)) → keys_in es ≡ uids_in es → option_copied r ≡ lookup (same_uid u) es → lookup (uid_eq (uid_of u)) (seen_in es) ≡ option_map see (option_copied r)
+  found_is u es r n h = sym (looked_up u es n) ∙ ap (option_map see) (sym h)
+
+-- what a store answers
+pub answered : (x : Extent) (es : List (EntityUID × Entity)) (u : EntityUID) (o : Option (model.Entity V)) → lookup (uid_eq (uid_of u)) (entities_in es) ≡ o → look_up (record { extent = x; entities = entities_in es }) (uid_of u) ≡ found_as x o
+answered x es u o h = ap (λ b. cond b (found_as x (lookup (uid_eq (uid_of u)) (entities_in es))) missing) (each_is_uid u) ∙ ap (found_as x) h
+
+-- what it answers where an entity is found, and where none is
+pub stored : (x : Extent) (es : List (EntityUID × Entity)) (u : EntityUID) (r : Option (Bor Entity)) (e : Bor Entity) → keys_in es ≡ uids_in es → option_copied r ≡ lookup (same_uid u) es → r ≡ Some e
+    → (look_up (record { extent = x; entities = entities_in es }) (uid_of u) ≡ held (entity_of e.now)) × (lookup (uid_eq (uid_of u)) (made_in es) ≡ Some (entity_seen e.now))
+stored x es u r e n h k = (
+  answered x es u (Some (entity_of e.now)) (found_is entity_of u es r n h ∙ ap (λ (o : Option (Bor Entity)). option_map entity_of (option_copied o)) k),
+  found_is entity_seen u es r n h ∙ ap (λ (o : Option (Bor Entity)). option_map entity_seen (option_copied o)) k,
+)
+
+pub not_stored : (x : Extent) (es : List (EntityUID × Entity)) (u : EntityUID) (r : Option (Bor Entity)) → keys_in es ≡ uids_in es → option_copied r ≡ lookup (same_uid u) es → r ≡ None → look_up (record { extent = x; entities = entities_in es }) (uid_of u) ≡ found_as x None
+not_stored x es u r n h k = answered x es u None (found_is entity_of u es r n h ∙ ap (λ (o : Option (Bor Entity)). option_map entity_of (option_copied o)) k)

@@ -1,0 +1,4 @@
+mod Uids
+mod Parted
+mod Keyed
+mod Gathered

@@ -1,0 +1,5 @@
+pub mod Recorded
+pub mod Views
+pub mod Refusals
+pub mod StoreParts
+pub mod Stores

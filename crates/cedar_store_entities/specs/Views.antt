@@ -1,0 +1,58 @@
+-- What code entities are as the model's: with the calls that make their extension values, and without.
+-- Rule: the store (docs/RULES.md).
+use Rattle.std.specs.Prelude.{List, map}
+use Rattle.std.specs.Rc.{rc_str_bytes}
+use Rattle.std.specs.declared.alloc.Global.{Global}
+use Rattle.std.specs.declared.rc.RcStr.{RcStr}
+use Rattle.cedar_expr_names.specs.Views.{uid_of}
+use Rattle.cedar_expr_model.specs.Name.{Text}
+use Rattle.cedar_expr_model.specs.Uid.{Uid}
+use Rattle.cedar_expr_model.specs.Whole.Made.{Made, bare}
+use Rattle.cedar_expr_model.specs.Whole.Value.{V}
+use Rattle.cedar_expr_model.specs.Whole.ValueParts.{Part, known, left}
+use Rattle.cedar_expr_values.specs.Extensions.{extension_of}
+use Rattle.cedar_expr_values.specs.Values.{made}
+use Rattle.cedar_expr_values.specs.declared.extension.ExtValue.{ExtValue}
+use Rattle.cedar_expr_values.specs.declared.value.Value.{Value}
+use Rattle.cedar_expr_partial.specs.Parts.{part_of}
+use Rattle.cedar_expr_partial.specs.declared.partial_value.PartialValue.{PartialValue}
+use Rattle.cedar_store_model.specs.Whole.World as model
+use Rattle.cedar_store_entities.specs.declared.entity.Entity.{Entity}
+
+-- an attribute or a tag, as it was made
+abbrev pub part_seen : PartialValue ExtValue → Part Made
+part_seen p = part_of extension_of p
+
+-- one with its name; and a value with its name
+abbrev pub part_pair : RcStr Global × PartialValue ExtValue → Text × Part Made
+part_pair p = (rc_str_bytes p.0, part_seen p.1)
+
+abbrev pub value_pair : RcStr Global × Value ExtValue → Text × Part Made
+value_pair p = (rc_str_bytes p.0, known (made extension_of p.1))
+
+-- the names of attributes or tags
+abbrev pub names_in : {A : Type 0} → List (Text × A) → List Text
+names_in ps = map (λ p. p.0) ps
+
+abbrev pub entity_uid : Entity → Uid
+entity_uid e = uid_of e.uid
+
+-- the entity, its values as they were made
+abbrev pub entity_seen : Entity → model.Entity Made
+entity_seen e = record { attributes = map part_pair e.attrs.entries; tags = map part_pair e.tags.entries; ancestors = map uid_of e.ancestors.keys }
+
+-- the same without the calls
+abbrev pub bare_part : Part Made → Part V
+bare_part (known m) = known (bare m)
+bare_part (left t) = left t
+
+abbrev pub bare_entity : model.Entity Made → model.Entity V
+bare_entity e = record { attributes = map (λ p. (p.0, bare_part p.1)) e.attributes; tags = map (λ p. (p.0, bare_part p.1)) e.tags; ancestors = e.ancestors }
+
+-- the entity as the model's
+abbrev pub entity_of : Entity → model.Entity V
+entity_of e = bare_entity (entity_seen e)
+
+-- with its uid
+abbrev pub entity_pair : Entity → Uid × model.Entity V
+entity_pair e = (entity_uid e, entity_of e)

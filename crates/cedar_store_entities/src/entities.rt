@@ -1,0 +1,164 @@
+//! Stores of entities.
+
+ghost use Rattle.std.specs.Prelude.{◌≡◌, true};
+ghost use Rattle.cedar_store_entities.specs.StoreParts.{keys_in, uids_in, are_apart};
+
+use crate::entity::Entity;
+use crate::err::EntitiesError;
+use cedar_expr_names::EntityUID;
+use cedar_expr_trees::{Expr, Type, Unknown};
+use indexmap::IndexMap;
+use indexmap::map::Values;
+use std::alloc::{AllocError, Global};
+use std::rc::RcStr;
+
+/// A store of entities by their uids: all that there are, or only some.
+#[derive(Drop)]
+pub struct Entities {
+    entities: IndexMap<EntityUID, Entity>,
+    mode: Mode,
+    ghost named: { keys_in entities.entries ≡ uids_in entities.entries },
+    ghost distinct: { are_apart entities.entries ≡ true },
+}
+
+// Whether a store has all entities.
+#[derive(Clone, Copy)]
+enum Mode {
+    Concrete,
+    Partial,
+}
+
+/// What a store answers for a uid.
+#[derive(Drop)]
+pub enum Dereference<'a, T> {
+    /// There is no such entity.
+    NoSuchEntity,
+
+    /// It isn't known; the expression stands for it.
+    Residual(Expr),
+
+    /// The entity.
+    Data(&'a T),
+}
+
+impl Entities {
+    ghost use Rattle.std.specs.Prelude.{◌++◌, ◌∷◌, [], Some, IfOk, IfErr, OnOk, map};
+    ghost use Rattle.std.specs.List.{list_any};
+    ghost use Rattle.cedar_expr_names.specs.Views.{uid_of};
+    ghost use Rattle.cedar_expr_model.specs.Uid.{uid_eq};
+    ghost use Rattle.cedar_store_model.specs.Whole.Store.{whole, partial, store_of};
+    ghost use Rattle.cedar_store_entities.specs.Views.{entity_uid, entity_pair};
+    ghost use Rattle.cedar_store_entities.specs.StoreParts.{entities_in};
+    ghost use Rattle.cedar_store_entities.specs.Stores.{store_seen, Dereferences};
+    ghost use Rattle.cedar_store_entities.specs.Refusals.{RefusesUid, RefusesUids};
+
+    /// The whole store without entities.
+    pub fn new(alloc: Global) -> Entities
+        ensures { store_seen result ≡ record { extent = whole; entities = [] } }
+    {
+        Entities {
+            entities: IndexMap::new(alloc),
+            mode: Mode::Concrete,
+        }
+    }
+
+    /// The whole store of these entities. Refuses a uid that stands twice, and answers want of memory.
+    pub fn from_entities(alloc: Global, entities: Vec<Entity>) -> Result<Entities, EntitiesError>
+        ensures made { IfOk result (λ s. store_of whole (map entity_pair entities.items) ≡ Some (store_seen s)) }
+        ensures refused { IfErr result (RefusesUids (map entity_uid entities.items)) }
+    {
+        let mut store = Entities::new(alloc);
+        for entity in entities {
+            store.add(entity)?;
+        }
+        Ok(store)
+    }
+
+    /// The same entities as some of a store, of which the others aren't known.
+    pub fn partial(self) -> Entities
+        ensures { store_seen result ≡ record (store_seen self) { extent = partial } }
+    {
+        Entities {
+            entities: self.entities,
+            mode: Mode::Partial,
+        }
+    }
+
+    /// What the store answers for a uid: the entity; or, where it has none, that there is none if the store is whole, and
+    /// else what stands for it. Answers want of memory.
+    pub fn entity(
+        &self,
+        alloc: Global,
+        uid: &EntityUID,
+    ) -> Result<Dereference<'_, Entity>, AllocError>
+        ensures { IfOk result (Dereferences self.now (uid_of uid.now)) }
+    {
+        match (self.entities.get(uid), self.mode) {
+            (Some(entity), _) => Ok(Dereference::Data(entity)),
+            (None, Mode::Concrete) => Ok(Dereference::NoSuchEntity),
+            (None, Mode::Partial) => Ok(Dereference::Residual(stand_in(alloc, uid)?)),
+        }
+    }
+
+    /// Goes over the entities, in the order in which they were given.
+    pub fn iter(&self) -> Values<'_, EntityUID, Entity>
+        ensures { map entity_pair result ≡ (store_seen self.now).entities }
+    {
+        self.entities.values()
+    }
+
+    // Puts one more entity behind the others. Refuses a uid that is there.
+    fn add(&mut self, entity: Entity) -> Result<(), EntitiesError>
+        ensures added { OnOk result (entities_in self.new.entities.entries ≡ entities_in self.old.entities.entries ++ entity_pair entity ∷ []) }
+        ensures mode { self.new.mode ≡ self.old.mode }
+        ensures fresh { OnOk result (list_any (uid_eq (entity_uid entity)) (keys_in self.old.entities.entries) ≡ false) }
+        ensures refused { IfErr result (RefusesUid (keys_in self.old.entities.entries) (entity_uid entity)) }
+    {
+        let uid = entity.uid().clone()?;
+        if has_uid(&self.entities, &uid) {
+            return Err(EntitiesError::Duplicate { uid });
+        }
+        put(&mut self.entities, uid, entity)?;
+        Ok(())
+    }
+}
+
+ghost use Rattle.std.specs.Prelude.{◌++◌, ◌∷◌, [], false, IfOk, OnOk, OnErr};
+ghost use Rattle.std.specs.List.{list_any};
+ghost use Rattle.cedar_expr_names.specs.Views.{uid_of};
+ghost use Rattle.cedar_expr_model.specs.Uid.{uid_eq};
+ghost use Rattle.cedar_expr_trees.specs.Trees.{tree_of};
+ghost use Rattle.cedar_store_model.specs.Whole.Store.{stand_in as unknown_for};
+
+// Whether an entity of this uid is there.
+fn has_uid(entities: &IndexMap<EntityUID, Entity>, uid: &EntityUID) -> bool
+    ensures { result ≡ list_any (uid_eq (uid_of uid.now)) (keys_in entities.now.entries) }
+{
+    entities.contains_key(uid)
+}
+
+// Puts an entity behind the others, under a uid that isn't there.
+fn put(
+    entities: &mut IndexMap<EntityUID, Entity>,
+    uid: EntityUID,
+    entity: Entity,
+) -> Result<(), AllocError>
+    requires { list_any (uid_eq (uid_of uid)) (keys_in entities.old.entries) ≡ false }
+    ensures put { OnOk result (entities.new.entries ≡ entities.old.entries ++ (uid, entity) ∷ []) }
+    ensures unchanged { OnErr result (entities.new.entries ≡ entities.old.entries) }
+{
+    entities.insert(uid, entity)?;
+    Ok(())
+}
+
+// What stands for an entity that isn't known.
+fn stand_in(alloc: Global, uid: &EntityUID) -> Result<Expr, AllocError>
+    ensures { IfOk result (λ e. tree_of e ≡ unknown_for (uid_of uid.now)) }
+{
+    let text = uid.to_string(alloc)?;
+    let name = RcStr::from_str(alloc, text.as_str())?;
+    let ty = Type::Entity {
+        ty: uid.entity_type().clone()?,
+    };
+    Ok(Expr::unknown(Unknown::new_with_type(name, ty)))
+}

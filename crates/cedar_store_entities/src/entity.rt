@@ -1,0 +1,203 @@
+//! Entities.
+
+ghost use Rattle.std.specs.Prelude.{◌≡◌, ◌++◌, [], map, length, option_map, IfOk, OnOk, OnErr};
+ghost use Rattle.std.specs.List.{list_any};
+ghost use Rattle.std.specs.Map.{lookup};
+ghost use Rattle.std.specs.Rc.{rc_str_bytes};
+ghost use Rattle.std.specs.Str.{bytes_eq};
+ghost use Rattle.cedar_expr_names.specs.Views.{uid_of};
+ghost use Rattle.cedar_expr_model.specs.Uid.{uid_eq};
+ghost use Rattle.cedar_expr_model.specs.Whole.Records.{in_order};
+ghost use Rattle.cedar_store_entities.specs.Views.{part_seen, part_pair, value_pair, names_in, entity_uid, entity_seen};
+ghost use Rattle.cedar_store_entities.specs.Recorded.{recorded, all_recorded};
+
+use crate::recorded::{record, record_all};
+use cedar_expr_names::EntityUID;
+use cedar_expr_partial::PartialValue;
+use cedar_expr_values::fields::field_map;
+use cedar_expr_values::{ExtValue, Value};
+use indexmap::{IndexSet, set};
+use std::alloc::{AllocError, Global};
+use std::collections::BTreeMap;
+use std::collections::btree_map::{Iter, Keys};
+use std::rc::RcStr;
+
+/// An entity: its uid, its attributes and tags by name, and its recorded ancestors, each once.
+#[derive(Drop)]
+pub struct Entity {
+    uid: EntityUID,
+    attrs: BTreeMap<RcStr, PartialValue<ExtValue>>,
+    tags: BTreeMap<RcStr, PartialValue<ExtValue>>,
+    ancestors: IndexSet<EntityUID>,
+}
+
+impl Entity {
+    /// The entity of this uid with these attributes and tags, of a repeated name the last, and with these recorded ancestors,
+    /// each once. Answers want of memory.
+    pub fn new(
+        alloc: Global,
+        uid: EntityUID,
+        attrs: Vec<(RcStr, Value<ExtValue>)>,
+        indirect_ancestors: Vec<EntityUID>,
+        parents: Vec<EntityUID>,
+        tags: Vec<(RcStr, Value<ExtValue>)>,
+    ) -> Result<Entity, AllocError>
+        ensures uid { IfOk result (λ e. entity_uid e ≡ uid_of uid) }
+        ensures attributes { IfOk result (λ e. (entity_seen e).attributes ≡ in_order (map value_pair attrs.items)) }
+        ensures tags { IfOk result (λ e. (entity_seen e).tags ≡ in_order (map value_pair tags.items)) }
+        ensures ancestors { IfOk result (λ e. (entity_seen e).ancestors ≡ all_recorded (all_recorded [] (map uid_of indirect_ancestors.items)) (map uid_of parents.items)) }
+    {
+        let attrs = as_partial(alloc, attrs)?;
+        let tags = as_partial(alloc, tags)?;
+        Entity::new_with_attr_partial_value(alloc, uid, attrs, indirect_ancestors, parents, tags)
+    }
+
+    /// The same with attributes and tags that may be expressions. Answers want of memory.
+    pub fn new_with_attr_partial_value(
+        alloc: Global,
+        uid: EntityUID,
+        attrs: Vec<(RcStr, PartialValue<ExtValue>)>,
+        indirect_ancestors: Vec<EntityUID>,
+        parents: Vec<EntityUID>,
+        tags: Vec<(RcStr, PartialValue<ExtValue>)>,
+    ) -> Result<Entity, AllocError>
+        ensures uid { IfOk result (λ e. entity_uid e ≡ uid_of uid) }
+        ensures attributes { IfOk result (λ e. (entity_seen e).attributes ≡ in_order (map part_pair attrs.items)) }
+        ensures tags { IfOk result (λ e. (entity_seen e).tags ≡ in_order (map part_pair tags.items)) }
+        ensures ancestors { IfOk result (λ e. (entity_seen e).ancestors ≡ all_recorded (all_recorded [] (map uid_of indirect_ancestors.items)) (map uid_of parents.items)) }
+    {
+        let mut ancestors = IndexSet::new(alloc);
+        record_all(&mut ancestors, indirect_ancestors)?;
+        record_all(&mut ancestors, parents)?;
+        let attrs = field_map(alloc, attrs)?;
+        let tags = field_map(alloc, tags)?;
+        Ok(Entity {
+            uid,
+            attrs,
+            tags,
+            ancestors,
+        })
+    }
+
+    /// The entity of this uid without attributes, tags and recorded ancestors.
+    pub fn with_uid(alloc: Global, uid: EntityUID) -> Entity
+        ensures uid { entity_uid result ≡ uid_of uid }
+        ensures entity { entity_seen result ≡ record { attributes = []; tags = []; ancestors = [] } }
+    {
+        Entity {
+            uid,
+            attrs: BTreeMap::new(alloc),
+            tags: BTreeMap::new(alloc),
+            ancestors: IndexSet::new(alloc),
+        }
+    }
+
+    /// The entity's uid.
+    pub fn uid(&self) -> &EntityUID
+        ensures { uid_of result.now ≡ entity_uid self.now }
+    {
+        &self.uid
+    }
+
+    /// The attribute of this name, if there is one.
+    pub fn get(&self, attr: &str) -> Option<&PartialValue<ExtValue>>
+        ensures { option_map (λ p. part_seen p.now) result ≡ lookup (bytes_eq attr.now) (entity_seen self.now).attributes }
+    {
+        self.attrs.get(attr)
+    }
+
+    /// The tag of this name, if there is one.
+    pub fn get_tag(&self, tag: &str) -> Option<&PartialValue<ExtValue>>
+        ensures { option_map (λ p. part_seen p.now) result ≡ lookup (bytes_eq tag.now) (entity_seen self.now).tags }
+    {
+        self.tags.get(tag)
+    }
+
+    /// Goes over the names of the attributes, in their order.
+    pub fn keys(&self) -> Keys<'_, RcStr, PartialValue<ExtValue>>
+        ensures { map rc_str_bytes result ≡ names_in (entity_seen self.now).attributes }
+    {
+        self.attrs.keys()
+    }
+
+    /// Goes over the names of the tags, in their order.
+    pub fn tag_keys(&self) -> Keys<'_, RcStr, PartialValue<ExtValue>>
+        ensures { map rc_str_bytes result ≡ names_in (entity_seen self.now).tags }
+    {
+        self.tags.keys()
+    }
+
+    /// Goes over the attributes, in the order of their names.
+    pub fn attrs(&self) -> Iter<'_, RcStr, PartialValue<ExtValue>>
+        ensures { map part_pair result ≡ (entity_seen self.now).attributes }
+    {
+        self.attrs.iter()
+    }
+
+    /// Goes over the tags, in the order of their names.
+    pub fn tags(&self) -> Iter<'_, RcStr, PartialValue<ExtValue>>
+        ensures { map part_pair result ≡ (entity_seen self.now).tags }
+    {
+        self.tags.iter()
+    }
+
+    /// How many attributes there are.
+    pub fn attrs_len(&self) -> usize
+        ensures { result ≡ length (entity_seen self.now).attributes }
+    {
+        self.attrs.len()
+    }
+
+    /// How many tags there are.
+    pub fn tags_len(&self) -> usize
+        ensures { result ≡ length (entity_seen self.now).tags }
+    {
+        self.tags.len()
+    }
+
+    /// Goes over the recorded ancestors.
+    pub fn ancestors(&self) -> set::Iter<'_, EntityUID>
+        ensures { map uid_of result ≡ (entity_seen self.now).ancestors }
+    {
+        self.ancestors.iter()
+    }
+
+    /// Whether the uid is a recorded ancestor.
+    pub fn is_descendant_of(&self, uid: &EntityUID) -> bool
+        ensures { result ≡ list_any (uid_eq (uid_of uid.now)) (entity_seen self.now).ancestors }
+    {
+        self.ancestors.contains(uid)
+    }
+
+    /// Records one ancestor, unless it is recorded. Answers want of memory.
+    pub fn add_parent(&mut self, uid: EntityUID) -> Result<(), AllocError>
+        ensures added { OnOk result (entity_seen self.new ≡ record (entity_seen self.old) { ancestors = recorded (entity_seen self.old).ancestors (uid_of uid) }) }
+        ensures unchanged { OnErr result (entity_seen self.new ≡ entity_seen self.old) }
+        ensures uid { entity_uid self.new ≡ entity_uid self.old }
+    {
+        record(&mut self.ancestors, uid)
+    }
+
+    /// Records one ancestor, unless it is recorded. Answers want of memory.
+    pub fn add_indirect_ancestor(&mut self, uid: EntityUID) -> Result<(), AllocError>
+        ensures added { OnOk result (entity_seen self.new ≡ record (entity_seen self.old) { ancestors = recorded (entity_seen self.old).ancestors (uid_of uid) }) }
+        ensures unchanged { OnErr result (entity_seen self.new ≡ entity_seen self.old) }
+        ensures uid { entity_uid self.new ≡ entity_uid self.old }
+    {
+        record(&mut self.ancestors, uid)
+    }
+}
+
+// These values as partial ones, by name.
+fn as_partial(
+    alloc: Global,
+    pairs: Vec<(RcStr, Value<ExtValue>)>,
+) -> Result<Vec<(RcStr, PartialValue<ExtValue>)>, AllocError>
+    ensures { IfOk result (λ ps. map part_pair ps.items ≡ map value_pair pairs.items) }
+{
+    let mut partial = Vec::with_capacity(alloc, pairs.len())?;
+    for (name, value) in pairs {
+        partial.push((name, PartialValue::Value(value)))?;
+    }
+    Ok(partial)
+}

@@ -1,0 +1,11 @@
+//! Cedar's entities, and stores of them, whole or partial.
+#![tactic(auto)]
+
+pub mod entities;
+pub mod entity;
+pub mod err;
+mod recorded;
+
+pub use entities::{Dereference, Entities};
+pub use entity::Entity;
+pub use err::EntitiesError;
