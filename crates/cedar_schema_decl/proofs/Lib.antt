@@ -1,0 +1,5 @@
+mod Gathered
+mod Sets
+mod Meant
+mod Resolving
+mod Told
