@@ -1,4 +1,5 @@
 mod Gathered
+mod Fields
 mod Sets
 mod Meant
 mod Resolving

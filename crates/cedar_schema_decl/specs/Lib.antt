@@ -2,5 +2,7 @@ pub mod Forms
 pub mod Conditional
 pub mod Requalified
 pub mod Refusals
+pub mod Trees
 pub mod Defined
+pub mod Definitions
 pub mod Laws

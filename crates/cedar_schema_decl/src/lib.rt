@@ -2,6 +2,7 @@
 #![tactic(auto)]
 
 pub mod all_defs;
+pub mod definitions;
 pub mod err;
 pub mod json_schema;
 pub mod laws;
@@ -9,4 +10,5 @@ pub mod qualify;
 pub mod requalify;
 
 pub use all_defs::{AllDefs, resolve};
+pub use definitions::{CommonTypeDefs, EntityTypeFragment, EntityTypesDef};
 pub use err::TypeNotDefinedError;
