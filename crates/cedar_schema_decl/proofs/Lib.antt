@@ -1,0 +1,6 @@
+mod Gathered
+mod Fields
+mod Sets
+mod Meant
+mod Resolving
+mod Told

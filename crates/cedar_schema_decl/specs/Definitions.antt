@@ -1,0 +1,29 @@
+-- What declarations that stand under their full names write, over what is seen of their names.
+-- Rule: declarations (docs/RULES.md).
+use Rattle.std.specs.Prelude.{List, map, option_map}
+use Rattle.std.specs.Rc.{rc_str_bytes}
+use Rattle.cedar_expr_model.specs.Name.{Text, Name}
+use Rattle.cedar_expr_names.specs.Views.{name_of}
+use Rattle.cedar_schema_decl.specs.Forms.{TypeForm, EntityForm, standard_form, enumerated_form, external_form}
+use Rattle.cedar_schema_decl.specs.Trees.{type_form, record_fields}
+use Rattle.cedar_schema_decl.specs.declared.json_schema.CommonType.{CommonType}
+use Rattle.cedar_schema_decl.specs.declared.definitions.CommonTypeDefs.{CommonTypeDefs}
+use Rattle.cedar_schema_decl.specs.declared.definitions.EntityTypesDef.{EntityTypesDef}
+use Rattle.cedar_schema_decl.specs.declared.definitions.EntityTypeFragment.{EntityTypeFragment}
+use Rattle.cedar_schema_decl.specs.declared.definitions.EntityTypeFragment.TheVariants.{Standard, Enum, External}
+
+-- a common type, and those that stand under names
+abbrev pub common_form : {N A : Type 0} → (N → A) → CommonType N → TypeForm A
+common_form f c = type_form f c.ty
+
+abbrev pub commons_form : {N A : Type 0} → (N → A) → CommonTypeDefs N → List (Name × TypeForm A)
+commons_form f d = map (λ e. (name_of e.0, common_form f e.1)) d.defs.items
+
+-- an entity type, and those that stand under names
+abbrev pub entity_form : {N A : Type 0} → (N → A) → EntityTypeFragment N → EntityForm A
+entity_form f (Standard fs ps t) = standard_form (map f ps.items) (record_fields f fs) (option_map (type_form f) t)
+entity_form f (Enum ids) = enumerated_form (map rc_str_bytes ids.items)
+entity_form f (External ps) = external_form (map f ps.items)
+
+abbrev pub entities_form : {N A : Type 0} → (N → A) → EntityTypesDef N → List (Name × EntityForm A)
+entities_form f d = map (λ e. (name_of e.0, entity_form f e.1)) d.defs.items

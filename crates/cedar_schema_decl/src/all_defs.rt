@@ -1,0 +1,132 @@
+//! What is declared, and what names mean by it.
+
+ghost use Rattle.std.specs.Prelude.{◌≡◌, IfOk, IfErr, OnOk, OnErr, find};
+ghost use Rattle.std.specs.declared.result.Result.TheVariants.{Ok};
+ghost use Rattle.std.specs.List.{list_any};
+ghost use Rattle.std.specs.Option.{option_copied};
+ghost use Rattle.cedar_expr_model.specs.Name.{name_eq};
+ghost use Rattle.cedar_expr_names.specs.Views.{name_of, uid_of};
+ghost use Rattle.cedar_schema_decl.specs.Conditional.{kind_of, conditional_of};
+ghost use Rattle.cedar_schema_decl.specs.Refusals.{Refuses};
+ghost use Rattle.cedar_schema_decl.specs.Defined.{defined_of, nothing_defined, is_defined_action, tells, resolved, with_common, with_entity, with_action};
+
+use crate::err::TypeNotDefinedError;
+use cedar_expr_names::{EntityUID, InternalName};
+use cedar_expr_raw_names::{ConditionalName, ReferenceType};
+use std::alloc::{AllocError, Global};
+use std::collections::BTreeSet;
+
+/// The names of all entity types and common types that are declared, and the uids of all actions.
+#[derive(Drop)]
+pub struct AllDefs {
+    entity_defs: BTreeSet<InternalName>,
+    common_defs: BTreeSet<InternalName>,
+    action_defs: BTreeSet<EntityUID>,
+}
+
+impl AllDefs {
+    /// Without any declaration.
+    pub fn empty(alloc: Global) -> AllDefs
+        ensures { defined_of result ≡ nothing_defined }
+    {
+        AllDefs {
+            entity_defs: BTreeSet::new(alloc),
+            common_defs: BTreeSet::new(alloc),
+            action_defs: BTreeSet::new(alloc),
+        }
+    }
+
+    /// Whether an entity type of this name is declared.
+    pub fn is_defined_as_entity(&self, name: &InternalName) -> bool
+        ensures { result ≡ list_any (name_eq (name_of name.now)) (defined_of self.now).entities }
+    {
+        self.entity_defs.contains(name)
+    }
+
+    /// Whether a common type of this name is declared.
+    pub fn is_defined_as_common(&self, name: &InternalName) -> bool
+        ensures { result ≡ list_any (name_eq (name_of name.now)) (defined_of self.now).commons }
+    {
+        self.common_defs.contains(name)
+    }
+
+    /// Whether this action is declared.
+    pub fn is_defined_as_action(&self, uid: &EntityUID) -> bool
+        ensures { result ≡ is_defined_action (defined_of self.now) (uid_of uid.now) }
+    {
+        self.action_defs.contains(uid)
+    }
+
+    /// Takes an entity type of this name as declared. Answers want of memory.
+    pub fn mark_as_defined_as_entity_type(&mut self, name: InternalName) -> Result<(), AllocError>
+        ensures marked { OnOk result (defined_of self.new ≡ with_entity (name_of name) (defined_of self.old)) }
+        ensures unchanged { OnErr result (defined_of self.new ≡ defined_of self.old) }
+    {
+        self.entity_defs.insert(name)?;
+        Ok(())
+    }
+
+    /// Takes a common type of this name as declared. Answers want of memory.
+    pub fn mark_as_defined_as_common_type(&mut self, name: InternalName) -> Result<(), AllocError>
+        ensures marked { OnOk result (defined_of self.new ≡ with_common (name_of name) (defined_of self.old)) }
+        ensures unchanged { OnErr result (defined_of self.new ≡ defined_of self.old) }
+    {
+        self.common_defs.insert(name)?;
+        Ok(())
+    }
+
+    /// Takes this action as declared. Answers want of memory.
+    pub fn mark_as_defined_as_action(&mut self, uid: EntityUID) -> Result<(), AllocError>
+        ensures marked { OnOk result (defined_of self.new ≡ with_action (uid_of uid) (defined_of self.old)) }
+        ensures unchanged { OnErr result (defined_of self.new ≡ defined_of self.old) }
+    {
+        self.action_defs.insert(uid)?;
+        Ok(())
+    }
+
+    // Whether a type of this name is declared, of the kind that is due.
+    fn defines(&self, kind: ReferenceType, name: &InternalName) -> bool
+        ensures { result ≡ tells (defined_of self.now) (kind_of kind) (name_of name.now) }
+    {
+        match kind {
+            ReferenceType::Common => self.is_defined_as_common(name),
+            ReferenceType::Entity => self.is_defined_as_entity(name),
+            ReferenceType::CommonOrEntity => {
+                self.is_defined_as_common(name) || self.is_defined_as_entity(name)
+            }
+        }
+    }
+
+    // The first of these names of which a type of the kind that is due is declared.
+    fn first_defined<'a>(
+        &self,
+        kind: ReferenceType,
+        names: &'a [InternalName],
+    ) -> Option<&'a InternalName>
+        ensures { option_copied result ≡ find (λ n. tells (defined_of self.now) (kind_of kind) (name_of n)) names.now }
+    {
+        for name in names {
+            if self.defines(kind, name) {
+                return Some(name);
+            }
+        }
+        None
+    }
+}
+
+/// The name of the type that a name means: the first of those that it may stand for that is declared. Refuses a name that means
+/// none, and answers want of memory.
+pub fn resolve(
+    name: &ConditionalName,
+    all_defs: &AllDefs,
+) -> Result<InternalName, TypeNotDefinedError>
+    ensures resolved { IfOk result (λ n. resolved (defined_of all_defs.now) (conditional_of name.now) ≡ Ok (name_of n)) }
+    ensures refused { IfErr result (Refuses (resolved (defined_of all_defs.now) (conditional_of name.now))) }
+{
+    match all_defs.first_defined(name.reference_type(), name.possibilities().as_slice()) {
+        Some(found) => Ok(found.clone()?),
+        None => Err(TypeNotDefinedError::Undefined {
+            undefined_type: name.clone()?,
+        }),
+    }
+}

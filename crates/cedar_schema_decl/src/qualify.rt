@@ -1,0 +1,110 @@
+//! From names as they are written to names that may stand for one of several, and from these to what they mean.
+
+ghost use Rattle.std.specs.Prelude.{◌≡◌, IfOk, IfErr};
+ghost use Rattle.std.specs.declared.result.Result.TheVariants.{Ok};
+ghost use Rattle.cedar_expr_model.specs.Name.{Name};
+ghost use Rattle.cedar_expr_names.specs.Views.{name_of};
+ghost use Rattle.cedar_expr_names.specs.Namespaces.{space_of};
+ghost use Rattle.cedar_expr_raw_names.specs.Views.{raw_name_of};
+ghost use Rattle.cedar_schema_decl.specs.Conditional.{Conditional, conditional_of, qualifying};
+ghost use Rattle.cedar_schema_decl.specs.Defined.{defined_of, resolving};
+ghost use Rattle.cedar_schema_decl.specs.Refusals.{Refuses};
+ghost use Rattle.cedar_schema_decl.specs.Requalified.{requalified, qualified_in};
+ghost use Rattle.cedar_schema_decl.specs.Trees.{type_form};
+
+use crate::all_defs::{AllDefs, resolve};
+use crate::err::TypeNotDefinedError;
+use crate::json_schema::Type;
+use crate::requalify::{Requalify, requalify_type};
+use cedar_expr_names::InternalName;
+use cedar_expr_raw_names::{ConditionalName, RawName, ReferenceType};
+use std::alloc::{AllocError, Global};
+
+/// A namespace in which names are written, or the empty one.
+#[derive(Drop)]
+pub struct Within<'a>(
+    /// Its name.
+    pub Option<&'a InternalName>,
+);
+
+impl<'a> Requalify for Within<'a> {
+    type From = RawName;
+
+    type To = ConditionalName;
+
+    ghost Before = { Name };
+
+    ghost After = { Conditional };
+
+    ghost before = { raw_name_of };
+
+    ghost after = { conditional_of };
+
+    ghost renames = { λ w. qualifying (space_of w.0) };
+
+    fn requalify(
+        &self,
+        alloc: Global,
+        name: RawName,
+        kind: ReferenceType,
+    ) -> Result<ConditionalName, TypeNotDefinedError> {
+        Ok(name.conditionally_qualify_with(alloc, self.0, kind)?)
+    }
+}
+
+impl Requalify for AllDefs {
+    type From = ConditionalName;
+
+    type To = InternalName;
+
+    ghost Before = { Conditional };
+
+    ghost After = { Name };
+
+    ghost before = { conditional_of };
+
+    ghost after = { name_of };
+
+    ghost renames = { λ d. resolving (defined_of d) };
+
+    fn requalify(
+        &self,
+        _alloc: Global,
+        name: ConditionalName,
+        _kind: ReferenceType,
+    ) -> Result<InternalName, TypeNotDefinedError> {
+        resolve(&name, self)
+    }
+}
+
+impl Type<RawName> {
+    /// The type with each name as what it may stand for where it is written in this namespace, or in the empty one. Answers want
+    /// of memory.
+    pub fn conditionally_qualify_type_references(
+        self,
+        alloc: Global,
+        namespace: Option<&InternalName>,
+    ) -> Result<Type<ConditionalName>, AllocError>
+        ensures { IfOk result (λ r. qualified_in (space_of namespace.entry) (type_form raw_name_of self) ≡ Ok (type_form conditional_of r)) }
+    {
+        match requalify_type(alloc, self, &Within(namespace)) {
+            Ok(ty) => Ok(ty),
+            Err(_) => Err(AllocError),
+        }
+    }
+}
+
+impl Type<ConditionalName> {
+    /// The type with each name replaced by that of the type that it means. Refuses the first name that means none, and answers
+    /// want of memory.
+    pub fn fully_qualify_type_references(
+        self,
+        alloc: Global,
+        all_defs: &AllDefs,
+    ) -> Result<Type<InternalName>, TypeNotDefinedError>
+        ensures resolved { IfOk result (λ r. requalified (resolving (defined_of all_defs.now)) (type_form conditional_of self) ≡ Ok (type_form name_of r)) }
+        ensures refused { IfErr result (Refuses (requalified (resolving (defined_of all_defs.now)) (type_form conditional_of self))) }
+    {
+        requalify_type(alloc, self, all_defs)
+    }
+}

@@ -1,0 +1,175 @@
+//! Names of another state in the place of the names of a tree.
+
+ghost use Rattle.std.specs.Prelude.{◌≡◌, true, map, IfOk, IfErr};
+ghost use Rattle.std.specs.declared.result.Result.{Result};
+ghost use Rattle.std.specs.declared.result.Result.TheVariants.{Ok};
+ghost use Rattle.cedar_expr_model.specs.Whole.Records.{names_rise};
+ghost use Rattle.cedar_expr_values.specs.Fields.{by_text};
+ghost use Rattle.cedar_schema_model.specs.Whole.Reference.{ReferenceKind};
+ghost use Rattle.cedar_schema_decl.specs.Conditional.{Conditional, kind_of};
+ghost use Rattle.cedar_schema_decl.specs.Refusals.{Refuses};
+ghost use Rattle.cedar_schema_decl.specs.Requalified.{requalified, requalified_fields, requalified_attribute, under_name, each};
+ghost use Rattle.cedar_schema_decl.specs.Trees.{type_form, variant_form, record_rows, record_fields, attribute_form, attribute_rows};
+
+use crate::err::TypeNotDefinedError;
+use crate::json_schema::{RecordType, Type, TypeOfAttribute, TypeVariant};
+use cedar_expr_raw_names::ReferenceType;
+use cedar_expr_values::fields::field_map;
+use std::alloc::Global;
+use std::rc::RcStr;
+
+/// Gives a name of one state in the place of each name of another.
+pub trait Requalify {
+    /// The names of the first state.
+    type From: Drop;
+
+    /// The names of the second state.
+    type To: Drop;
+
+    /// What the names are, and what stands in the place of one that is written where this is due.
+    ghost Before: { Type 0 };
+
+    ghost After: { Type 0 };
+
+    ghost before: { Self.From → Before };
+
+    ghost after: { Self.To → After };
+
+    ghost renames: { Self → ReferenceKind → Before → Result After Conditional };
+
+    /// The name in the place of this one. Refuses a name in the place of which there is none, and answers want of memory.
+    fn requalify(
+        &self,
+        alloc: Global,
+        name: Self::From,
+        kind: ReferenceType,
+    ) -> Result<Self::To, TypeNotDefinedError>
+        ensures made { IfOk result (λ n. renames self.now (kind_of kind) (before name) ≡ Ok (after n)) }
+        ensures refused { IfErr result (Refuses (renames self.now (kind_of kind) (before name))) };
+}
+
+/// The type with other names in the place of its own. Refuses the first name in the place of which there is none, and answers want
+/// of memory.
+#[cycle(requalify)]
+pub fn requalify_type<R: Requalify>(
+    alloc: Global,
+    ty: Type<R::From>,
+    names: &R,
+) -> Result<Type<R::To>, TypeNotDefinedError>
+    ensures made { IfOk result (λ r. requalified (R.renames names.now) (type_form R.before ty) ≡ Ok (type_form R.after r)) }
+    ensures refused { IfErr result (Refuses (requalified (R.renames names.now) (type_form R.before ty))) }
+{
+    let variant = requalify_variant(alloc, ty.ty, names)?;
+    Ok(Type {
+        ty: variant,
+        loc: ty.loc,
+    })
+}
+
+// The same of what is written there.
+#[cycle(requalify)]
+fn requalify_variant<R: Requalify>(
+    alloc: Global,
+    ty: TypeVariant<R::From>,
+    names: &R,
+) -> Result<TypeVariant<R::To>, TypeNotDefinedError>
+    ensures made { IfOk result (λ r. requalified (R.renames names.now) (variant_form R.before ty) ≡ Ok (variant_form R.after r)) }
+    ensures refused { IfErr result (Refuses (requalified (R.renames names.now) (variant_form R.before ty))) }
+{
+    match ty {
+        TypeVariant::String => Ok(TypeVariant::String),
+        TypeVariant::Long => Ok(TypeVariant::Long),
+        TypeVariant::Boolean => Ok(TypeVariant::Boolean),
+        TypeVariant::Set { element } => {
+            let element = requalify_type(alloc, Box::into_inner(element), names)?;
+            let element = Box::new(alloc, element)?;
+            Ok(TypeVariant::Set { element })
+        }
+        TypeVariant::Record(fields) => {
+            let fields = requalify_record(alloc, fields, names)?;
+            Ok(TypeVariant::Record(fields))
+        }
+        TypeVariant::Entity { name } => {
+            let name = names.requalify(alloc, name, ReferenceType::Entity)?;
+            Ok(TypeVariant::Entity { name })
+        }
+        TypeVariant::EntityOrCommon { type_name } => {
+            let type_name = names.requalify(alloc, type_name, ReferenceType::CommonOrEntity)?;
+            Ok(TypeVariant::EntityOrCommon { type_name })
+        }
+        TypeVariant::CommonTypeRef { type_name } => {
+            let type_name = names.requalify(alloc, type_name, ReferenceType::Common)?;
+            Ok(TypeVariant::CommonTypeRef { type_name })
+        }
+        TypeVariant::Extension { name } => Ok(TypeVariant::Extension { name }),
+    }
+}
+
+/// The record with other names in the place of its own. Refuses the first name in the place of which there is none, and answers
+/// want of memory.
+#[cycle(requalify)]
+pub fn requalify_record<R: Requalify>(
+    alloc: Global,
+    fields: RecordType<R::From>,
+    names: &R,
+) -> Result<RecordType<R::To>, TypeNotDefinedError>
+    ensures made { IfOk result (λ r. requalified_fields (R.renames names.now) (record_fields R.before fields) ≡ Ok (record_fields R.after r)) }
+    ensures refused { IfErr result (Refuses (requalified_fields (R.renames names.now) (record_fields R.before fields))) }
+{
+    let attributes = requalify_attributes(alloc, fields, names)?;
+    let attributes = field_map(alloc, attributes)?;
+    Ok(RecordType { attributes })
+}
+
+// The same of its attributes, in the order of their names.
+#[cycle(requalify)]
+fn requalify_attributes<R: Requalify>(
+    alloc: Global,
+    fields: RecordType<R::From>,
+    names: &R,
+) -> Result<Vec<(RcStr, TypeOfAttribute<R::To>)>, TypeNotDefinedError>
+    ensures made { IfOk result (λ r. each (under_name (requalified_attribute (R.renames names.now))) (record_rows R.before fields) ≡ Ok (attribute_rows R.after r.items)) }
+    ensures rising { IfOk result (λ r. names_rise (map by_text r.items) ≡ true) }
+    ensures refused { IfErr result (Refuses (each (under_name (requalified_attribute (R.renames names.now))) (record_rows R.before fields))) }
+{
+    let mut made = Vec::with_capacity(alloc, fields.attributes.len())?;
+    for (name, attribute) in fields.attributes {
+        made.push((name, requalify_attribute(alloc, attribute, names)?))?;
+    }
+    Ok(made)
+}
+
+// The same of one attribute.
+#[cycle(requalify)]
+fn requalify_attribute<R: Requalify>(
+    alloc: Global,
+    attribute: TypeOfAttribute<R::From>,
+    names: &R,
+) -> Result<TypeOfAttribute<R::To>, TypeNotDefinedError>
+    ensures made { IfOk result (λ r. requalified_attribute (R.renames names.now) (attribute_form R.before attribute) ≡ Ok (attribute_form R.after r)) }
+    ensures refused { IfErr result (Refuses (requalified_attribute (R.renames names.now) (attribute_form R.before attribute))) }
+{
+    let ty = requalify_type(alloc, attribute.ty, names)?;
+    Ok(TypeOfAttribute {
+        ty,
+        required: attribute.required,
+        loc: attribute.loc,
+    })
+}
+
+/// Other names in the place of these. Refuses the first name in the place of which there is none, and answers want of memory.
+pub fn requalify_names<R: Requalify>(
+    alloc: Global,
+    written: Vec<R::From>,
+    kind: ReferenceType,
+    names: &R,
+) -> Result<Vec<R::To>, TypeNotDefinedError>
+    ensures made { IfOk result (λ r. each (R.renames names.now (kind_of kind)) (map R.before written.items) ≡ Ok (map R.after r.items)) }
+    ensures refused { IfErr result (Refuses (each (R.renames names.now (kind_of kind)) (map R.before written.items))) }
+{
+    let mut made = Vec::with_capacity(alloc, written.len())?;
+    for name in written {
+        made.push(names.requalify(alloc, name, kind)?)?;
+    }
+    Ok(made)
+}
