@@ -1,3 +1,7 @@
+use Rattle.std.proofs.Common.{map}
+use Rattle.cedar_expr_names.specs.Views.{uid_of}
+use Rattle.cedar_store_entities.specs.Views.{kin_in}
+use Rattle.cedar_store_entities.proofs.Kin.{both_recorded}
 use Rattle.cedar_store_entities.proofs.Parted.{ordered_parts}
 use Rattle.cedar_store_entities.proofs.entity.Entity.new_with_attr_partial_value.Goals as goal
 
