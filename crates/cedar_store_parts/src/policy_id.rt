@@ -3,7 +3,7 @@
 ghost use Rattle.std.specs.Prelude.{◌≡◌, IfOk, Some};
 ghost use Rattle.std.specs.Rc.{rc_str_bytes};
 ghost use Rattle.std.specs.Str.{bytes_eq};
-ghost use Rattle.cedar_store_policies.specs.Parts.{id_text};
+ghost use Rattle.cedar_store_parts.specs.Parts.{id_text};
 
 use std::alloc::{AllocError, Global};
 use std::fmt;

@@ -12,8 +12,8 @@ use Rattle.std.specs.declared.cmp.Ordering.TheVariants.{Less, Equal, Greater}
 use Rattle.cedar_expr_model.specs.Whole.Order.{text_cmp}
 use Rattle.cedar_expr_names.specs.Views.{any_id_text}
 use Rattle.cedar_expr_names.specs.declared.any_id.AnyId.{AnyId}
-use Rattle.cedar_store_policies.specs.Parts.{annotation_text, annotation_pair}
-use Rattle.cedar_store_policies.specs.declared.annotation.Annotation.{Annotation}
+use Rattle.cedar_store_parts.specs.Parts.{annotation_text, annotation_pair}
+use Rattle.cedar_store_parts.specs.declared.annotation.Annotation.{Annotation}
 
 -- one more entry is one more pair
 pub pairs_put : (es : List (AnyId × Annotation)) (k : AnyId) (v : Annotation) → map annotation_pair (insert_entry (λ i j. text_cmp (any_id_text i) (any_id_text j)) es k v) ≡ insert_entry text_cmp (map annotation_pair es) (any_id_text k) (annotation_text v)

@@ -4,7 +4,7 @@ ghost use Rattle.std.specs.Prelude.{◌≡◌, option_map, IfOk};
 ghost use Rattle.cedar_expr_names.specs.Views.{uid_of};
 ghost use Rattle.cedar_expr_leaves.specs.Slots.{slot_of};
 ghost use Rattle.cedar_store_model.specs.Whole.Policy.{no_bindings, binding_of};
-ghost use Rattle.cedar_store_policies.specs.Parts.{bindings_of, with_binding};
+ghost use Rattle.cedar_store_parts.specs.Parts.{bindings_of, with_binding};
 
 use cedar_expr_leaves::SlotId;
 use cedar_expr_names::EntityUID;

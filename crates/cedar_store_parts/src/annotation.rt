@@ -7,7 +7,7 @@ ghost use Rattle.std.specs.Rc.{rc_str_bytes};
 ghost use Rattle.std.specs.Str.{bytes_eq};
 ghost use Rattle.cedar_expr_names.specs.Views.{any_id_text};
 ghost use Rattle.cedar_expr_model.specs.Whole.Order.{text_cmp};
-ghost use Rattle.cedar_store_policies.specs.Parts.{annotation_text, annotation_pair, annotations_of};
+ghost use Rattle.cedar_store_parts.specs.Parts.{annotation_text, annotation_pair, annotations_of};
 
 use cedar_expr_names::{AnyId, Loc};
 use std::alloc::{AllocError, Global};

@@ -3,8 +3,8 @@
 ghost use Rattle.std.specs.Prelude.{◌≡◌};
 ghost use Rattle.std.specs.Str.{bytes_eq};
 ghost use Rattle.cedar_expr_model.specs.Whole.Order.{text_cmp};
-ghost use Rattle.cedar_store_policies.specs.Parts.{id_text};
-ghost use Rattle.cedar_store_policies.specs.declared.policy_id.PolicyID.{PolicyID as Id};
+ghost use Rattle.cedar_store_parts.specs.Parts.{id_text};
+ghost use Rattle.cedar_store_parts.specs.declared.policy_id.PolicyID.{PolicyID as Id};
 
 use crate::policy_id::PolicyID;
 use std::hash::Hash;

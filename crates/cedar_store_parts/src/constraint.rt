@@ -8,7 +8,7 @@ ghost use Rattle.cedar_expr_leaves.specs.Slots.{slot_of};
 ghost use Rattle.cedar_expr_leaves.specs.Variables.{var_of};
 ghost use Rattle.cedar_expr_trees.specs.Trees.{tree_of};
 ghost use Rattle.cedar_store_model.specs.Whole.Policy.{any, any_action, target_tree, scope_tree, action_tree};
-ghost use Rattle.cedar_store_policies.specs.Parts.{part_var, part_slot, target_of, scope_of, action_scope_of, filled_target, filled};
+ghost use Rattle.cedar_store_parts.specs.Parts.{part_var, part_slot, target_of, scope_of, action_scope_of, filled_target, filled};
 
 use cedar_expr_leaves::{SlotId, Var};
 use cedar_expr_names::{EntityType, EntityUID, Literal, Loc};

@@ -9,20 +9,20 @@ use Rattle.cedar_expr_model.specs.Uid.{Uid}
 use Rattle.cedar_expr_model.specs.Whole.Tree.{Var, principal, resource, SlotId, principal_slot, resource_slot}
 use Rattle.cedar_store_model.specs.Whole.Policy as model
 use Rattle.cedar_store_model.specs.Whole.Policy.{Target, named, own_slot, Scope, any, exactly, inside, of_kind, of_kind_inside, ActionScope, any_action, exactly_action, inside_actions, SlotBindings}
-use Rattle.cedar_store_policies.specs.declared.policy_id.PolicyID.{PolicyID}
-use Rattle.cedar_store_policies.specs.declared.policy_id.Effect.{Effect}
-use Rattle.cedar_store_policies.specs.declared.policy_id.Effect.TheVariants.{Permit, Forbid}
-use Rattle.cedar_store_policies.specs.declared.annotation.Annotation.{Annotation}
-use Rattle.cedar_store_policies.specs.declared.annotation.Annotations.{Annotations}
-use Rattle.cedar_store_policies.specs.declared.constraint.PrincipalOrResource.{PrincipalOrResource}
-use Rattle.cedar_store_policies.specs.declared.constraint.PrincipalOrResource.TheVariants.{Principal, Resource}
-use Rattle.cedar_store_policies.specs.declared.constraint.EntityReference.{EntityReference}
-use Rattle.cedar_store_policies.specs.declared.constraint.EntityReference.TheVariants.{EUID, Slot}
-use Rattle.cedar_store_policies.specs.declared.constraint.PrincipalOrResourceConstraint.{PrincipalOrResourceConstraint}
-use Rattle.cedar_store_policies.specs.declared.constraint.PrincipalOrResourceConstraint.TheVariants as asked
-use Rattle.cedar_store_policies.specs.declared.constraint.ActionConstraint.{ActionConstraint}
-use Rattle.cedar_store_policies.specs.declared.constraint.ActionConstraint.TheVariants as asked_action
-use Rattle.cedar_store_policies.specs.declared.slot_env.SlotEnv.{SlotEnv}
+use Rattle.cedar_store_parts.specs.declared.policy_id.PolicyID.{PolicyID}
+use Rattle.cedar_store_parts.specs.declared.policy_id.Effect.{Effect}
+use Rattle.cedar_store_parts.specs.declared.policy_id.Effect.TheVariants.{Permit, Forbid}
+use Rattle.cedar_store_parts.specs.declared.annotation.Annotation.{Annotation}
+use Rattle.cedar_store_parts.specs.declared.annotation.Annotations.{Annotations}
+use Rattle.cedar_store_parts.specs.declared.constraint.PrincipalOrResource.{PrincipalOrResource}
+use Rattle.cedar_store_parts.specs.declared.constraint.PrincipalOrResource.TheVariants.{Principal, Resource}
+use Rattle.cedar_store_parts.specs.declared.constraint.EntityReference.{EntityReference}
+use Rattle.cedar_store_parts.specs.declared.constraint.EntityReference.TheVariants.{EUID, Slot}
+use Rattle.cedar_store_parts.specs.declared.constraint.PrincipalOrResourceConstraint.{PrincipalOrResourceConstraint}
+use Rattle.cedar_store_parts.specs.declared.constraint.PrincipalOrResourceConstraint.TheVariants as asked
+use Rattle.cedar_store_parts.specs.declared.constraint.ActionConstraint.{ActionConstraint}
+use Rattle.cedar_store_parts.specs.declared.constraint.ActionConstraint.TheVariants as asked_action
+use Rattle.cedar_store_parts.specs.declared.slot_env.SlotEnv.{SlotEnv}
 
 -- the text of an id
 abbrev pub id_text : PolicyID → Text
