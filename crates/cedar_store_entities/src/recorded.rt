@@ -2,7 +2,7 @@
 
 ghost use Rattle.std.specs.Prelude.{◌≡◌, map, OnOk, OnErr};
 ghost use Rattle.cedar_expr_names.specs.Views.{uid_of};
-ghost use Rattle.cedar_store_entities.specs.Recorded.{with_parent, with_indirect, with_parents, with_indirects};
+ghost use Rattle.cedar_store_entities.specs.Recorded.{recorded, uids_of_kin, with_parent, with_indirect, with_parents, with_indirects};
 ghost use Rattle.cedar_store_entities.specs.Views.{kin_in};
 
 use crate::entries::{has_key, put};
@@ -15,7 +15,8 @@ pub(crate) fn record_parent(
     kin: &mut IndexMap<EntityUID, bool>,
     uid: EntityUID,
 ) -> Result<(), AllocError>
-    ensures recorded { OnOk result (kin_in kin.new.entries ≡ with_parent (kin_in kin.old.entries) (uid_of uid)) }
+    ensures kin { OnOk result (kin_in kin.new.entries ≡ with_parent (kin_in kin.old.entries) (uid_of uid)) }
+    ensures ancestors { OnOk result (uids_of_kin (kin_in kin.new.entries) ≡ recorded (uids_of_kin (kin_in kin.old.entries)) (uid_of uid)) }
     ensures unchanged { OnErr result (kin.new.entries ≡ kin.old.entries) }
 {
     kin.insert(uid, true)?;
@@ -27,13 +28,15 @@ pub(crate) fn record_indirect(
     kin: &mut IndexMap<EntityUID, bool>,
     uid: EntityUID,
 ) -> Result<(), AllocError>
-    ensures recorded { OnOk result (kin_in kin.new.entries ≡ with_indirect (kin_in kin.old.entries) (uid_of uid)) }
+    ensures kin { OnOk result (kin_in kin.new.entries ≡ with_indirect (kin_in kin.old.entries) (uid_of uid)) }
+    ensures ancestors { OnOk result (uids_of_kin (kin_in kin.new.entries) ≡ recorded (uids_of_kin (kin_in kin.old.entries)) (uid_of uid)) }
     ensures unchanged { OnErr result (kin.new.entries ≡ kin.old.entries) }
 {
     if has_key(kin, &uid) {
         return Ok(());
     }
-    put(kin, uid, false)
+    put(kin, uid, false)?;
+    Ok(())
 }
 
 // Records each of these as a parent.
