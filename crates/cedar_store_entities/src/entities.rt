@@ -43,7 +43,7 @@ pub enum Dereference<'a, T> {
 }
 
 impl Entities {
-    ghost use Rattle.std.specs.Prelude.{◌++◌, ◌∷◌, [], Some, IfOk, IfErr, OnOk, map};
+    ghost use Rattle.std.specs.Prelude.{◌++◌, ◌∷◌, [], false, Some, IfOk, IfErr, OnOk, map};
     ghost use Rattle.std.specs.List.{list_any};
     ghost use Rattle.cedar_expr_names.specs.Views.{uid_of};
     ghost use Rattle.cedar_expr_model.specs.Uid.{uid_eq};
