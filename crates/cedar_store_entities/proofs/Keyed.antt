@@ -33,14 +33,14 @@ none_is : {A : Type 0} (o : Option A) → is_some o ≡ false → o ≡ None
 none_is None h = refl
 none_is (Some x) h = cc
 
--- an entity is found where its uid is a key
-pub key_found : (u : EntityUID) (es : List (EntityUID × Entity)) → is_some (lookup (same_uid u) es) ≡ list_any (uid_eq (uid_of u)) (keys_in es)
+-- something is found where its uid is a key
+pub key_found : {A : Type 0} (u : EntityUID) (es : List (EntityUID × A)) → is_some (lookup (same_uid u) es) ≡ list_any (uid_eq (uid_of u)) (keys_in es)
 key_found u [] = refl
 key_found u (e ∷ es) =
     some_first (same_uid u e.0) e.1 (lookup (same_uid u) es) (list_any (uid_eq (uid_of u)) (keys_in es)) (key_found u es)
     ∙ ap (λ b. b || list_any (uid_eq (uid_of u)) (keys_in es)) (uids_eq_is u e.0)
 
-pub key_absent : (u : EntityUID) (es : List (EntityUID × Entity)) → list_any (uid_eq (uid_of u)) (keys_in es) ≡ false → lookup (same_uid u) es ≡ None
+pub key_absent : {A : Type 0} (u : EntityUID) (es : List (EntityUID × A)) → list_any (uid_eq (uid_of u)) (keys_in es) ≡ false → lookup (same_uid u) es ≡ None
 key_absent u es h = none_is (lookup (same_uid u) es) (key_found u es ∙ h)
 
 -- one more under its own uid

@@ -1,4 +1,6 @@
 mod Uids
 mod Parted
 mod Keyed
+mod Kin
 mod Gathered
+mod Mapped

@@ -3,3 +3,4 @@ pub mod Views
 pub mod Refusals
 pub mod StoreParts
 pub mod Stores
+pub mod StoreLaws

@@ -10,8 +10,8 @@ use Rattle.cedar_store_model.specs.Whole.Store.{Entities, are_distinct}
 use Rattle.cedar_store_entities.specs.Views.{entity_uid, entity_seen, entity_pair}
 use Rattle.cedar_store_entities.specs.declared.entity.Entity.{Entity}
 
--- the uids under which entities stand, and their own
-abbrev pub keys_in : List (EntityUID × Entity) → List Uid
+-- the uids under which something stands, and those of entities that stand there
+abbrev pub keys_in : {A : Type 0} → List (EntityUID × A) → List Uid
 keys_in es = map (λ e. uid_of e.0) es
 
 abbrev pub uids_in : List (EntityUID × Entity) → List Uid

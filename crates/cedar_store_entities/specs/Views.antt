@@ -1,10 +1,11 @@
 -- What code entities are as the model's: with the calls that make their extension values, and without.
 -- Rule: the store (docs/RULES.md).
-use Rattle.std.specs.Prelude.{List, map}
+use Rattle.std.specs.Prelude.{List, map, Bool}
 use Rattle.std.specs.Rc.{rc_str_bytes}
 use Rattle.std.specs.declared.alloc.Global.{Global}
 use Rattle.std.specs.declared.rc.RcStr.{RcStr}
 use Rattle.cedar_expr_names.specs.Views.{uid_of}
+use Rattle.cedar_expr_names.specs.declared.entity.EntityUID.{EntityUID}
 use Rattle.cedar_expr_model.specs.Name.{Text}
 use Rattle.cedar_expr_model.specs.Uid.{Uid}
 use Rattle.cedar_expr_model.specs.Whole.Made.{Made, bare}
@@ -17,6 +18,7 @@ use Rattle.cedar_expr_values.specs.declared.value.Value.{Value}
 use Rattle.cedar_expr_partial.specs.Parts.{part_of}
 use Rattle.cedar_expr_partial.specs.declared.partial_value.PartialValue.{PartialValue}
 use Rattle.cedar_store_model.specs.Whole.World as model
+use Rattle.cedar_store_entities.specs.Recorded.{Kin, uids_of_kin}
 use Rattle.cedar_store_entities.specs.declared.entity.Entity.{Entity}
 
 -- an attribute or a tag, as it was made
@@ -37,9 +39,16 @@ names_in ps = map (λ p. p.0) ps
 abbrev pub entity_uid : Entity → Uid
 entity_uid e = uid_of e.uid
 
+-- the recorded ancestors, each with whether it is a parent
+abbrev pub kin_in : List (EntityUID × Bool) → Kin
+kin_in es = map (λ e. (uid_of e.0, e.1)) es
+
+abbrev pub kin_seen : Entity → Kin
+kin_seen e = kin_in e.ancestors.entries
+
 -- the entity, its values as they were made
 abbrev pub entity_seen : Entity → model.Entity Made
-entity_seen e = record { attributes = map part_pair e.attrs.entries; tags = map part_pair e.tags.entries; ancestors = map uid_of e.ancestors.keys }
+entity_seen e = record { attributes = map part_pair e.attrs.entries; tags = map part_pair e.tags.entries; ancestors = uids_of_kin (kin_seen e) }
 
 -- the same without the calls
 abbrev pub bare_part : Part Made → Part V

@@ -4,6 +4,7 @@ ghost use Rattle.std.specs.Prelude.{◌≡◌, true};
 ghost use Rattle.cedar_store_entities.specs.StoreParts.{keys_in, uids_in, are_apart};
 
 use crate::entity::Entity;
+use crate::entries::{has_key, put};
 use crate::err::EntitiesError;
 use cedar_expr_names::EntityUID;
 use cedar_expr_trees::{Expr, Type, Unknown};
@@ -42,7 +43,7 @@ pub enum Dereference<'a, T> {
 }
 
 impl Entities {
-    ghost use Rattle.std.specs.Prelude.{◌++◌, ◌∷◌, [], Some, IfOk, IfErr, OnOk, map};
+    ghost use Rattle.std.specs.Prelude.{◌++◌, ◌∷◌, [], false, Some, IfOk, IfErr, OnOk, map};
     ghost use Rattle.std.specs.List.{list_any};
     ghost use Rattle.cedar_expr_names.specs.Views.{uid_of};
     ghost use Rattle.cedar_expr_model.specs.Uid.{uid_eq};
@@ -115,7 +116,7 @@ impl Entities {
         ensures refused { IfErr result (RefusesUid (keys_in self.old.entities.entries) (entity_uid entity)) }
     {
         let uid = entity.uid().clone()?;
-        if has_uid(&self.entities, &uid) {
+        if has_key(&self.entities, &uid) {
             return Err(EntitiesError::Duplicate { uid });
         }
         put(&mut self.entities, uid, entity)?;
@@ -123,33 +124,10 @@ impl Entities {
     }
 }
 
-ghost use Rattle.std.specs.Prelude.{◌++◌, ◌∷◌, [], false, IfOk, OnOk, OnErr};
-ghost use Rattle.std.specs.List.{list_any};
+ghost use Rattle.std.specs.Prelude.{IfOk};
 ghost use Rattle.cedar_expr_names.specs.Views.{uid_of};
-ghost use Rattle.cedar_expr_model.specs.Uid.{uid_eq};
 ghost use Rattle.cedar_expr_trees.specs.Trees.{tree_of};
 ghost use Rattle.cedar_store_model.specs.Whole.Store.{stand_in as unknown_for};
-
-// Whether an entity of this uid is there.
-fn has_uid(entities: &IndexMap<EntityUID, Entity>, uid: &EntityUID) -> bool
-    ensures { result ≡ list_any (uid_eq (uid_of uid.now)) (keys_in entities.now.entries) }
-{
-    entities.contains_key(uid)
-}
-
-// Puts an entity behind the others, under a uid that isn't there.
-fn put(
-    entities: &mut IndexMap<EntityUID, Entity>,
-    uid: EntityUID,
-    entity: Entity,
-) -> Result<(), AllocError>
-    requires { list_any (uid_eq (uid_of uid)) (keys_in entities.old.entries) ≡ false }
-    ensures put { OnOk result (entities.new.entries ≡ entities.old.entries ++ (uid, entity) ∷ []) }
-    ensures unchanged { OnErr result (entities.new.entries ≡ entities.old.entries) }
-{
-    entities.insert(uid, entity)?;
-    Ok(())
-}
 
 // What stands for an entity that isn't known.
 fn stand_in(alloc: Global, uid: &EntityUID) -> Result<Expr, AllocError>

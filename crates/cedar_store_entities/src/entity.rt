@@ -8,32 +8,34 @@ ghost use Rattle.std.specs.Str.{bytes_eq};
 ghost use Rattle.cedar_expr_names.specs.Views.{uid_of};
 ghost use Rattle.cedar_expr_model.specs.Uid.{uid_eq};
 ghost use Rattle.cedar_expr_model.specs.Whole.Records.{in_order};
-ghost use Rattle.cedar_store_entities.specs.Views.{part_seen, part_pair, value_pair, names_in, entity_uid, entity_seen};
-ghost use Rattle.cedar_store_entities.specs.Recorded.{recorded, all_recorded};
+ghost use Rattle.cedar_store_entities.specs.Views.{part_seen, part_pair, value_pair, names_in, entity_uid, entity_seen, kin_seen};
+ghost use Rattle.cedar_store_entities.specs.Recorded.{recorded, all_recorded, with_parent, with_indirect, with_parents, with_indirects, is_parent, is_indirect};
 
-use crate::recorded::{record, record_all};
+use crate::entries::has_key;
+use crate::recorded::{record_indirect, record_indirects, record_parent, record_parents};
 use cedar_expr_names::EntityUID;
 use cedar_expr_partial::PartialValue;
 use cedar_expr_values::fields::field_map;
 use cedar_expr_values::{ExtValue, Value};
-use indexmap::{IndexSet, set};
+use indexmap::{IndexMap, map};
 use std::alloc::{AllocError, Global};
 use std::collections::BTreeMap;
 use std::collections::btree_map::{Iter, Keys};
 use std::rc::RcStr;
 
-/// An entity: its uid, its attributes and tags by name, and its recorded ancestors, each once.
+/// An entity: its uid, its attributes and tags by name, and its recorded ancestors, each once, of which some are its parents.
+/// Nothing is said of the ancestors of its ancestors.
 #[derive(Drop)]
 pub struct Entity {
     uid: EntityUID,
     attrs: BTreeMap<RcStr, PartialValue<ExtValue>>,
     tags: BTreeMap<RcStr, PartialValue<ExtValue>>,
-    ancestors: IndexSet<EntityUID>,
+    ancestors: IndexMap<EntityUID, bool>,
 }
 
 impl Entity {
     /// The entity of this uid with these attributes and tags, of a repeated name the last, and with these recorded ancestors,
-    /// each once. Answers want of memory.
+    /// each once; what is given as both is a parent. Answers want of memory.
     pub fn new(
         alloc: Global,
         uid: EntityUID,
@@ -46,6 +48,7 @@ impl Entity {
         ensures attributes { IfOk result (λ e. (entity_seen e).attributes ≡ in_order (map value_pair attrs.items)) }
         ensures tags { IfOk result (λ e. (entity_seen e).tags ≡ in_order (map value_pair tags.items)) }
         ensures ancestors { IfOk result (λ e. (entity_seen e).ancestors ≡ all_recorded (all_recorded [] (map uid_of indirect_ancestors.items)) (map uid_of parents.items)) }
+        ensures kin { IfOk result (λ e. kin_seen e ≡ with_parents (with_indirects [] (map uid_of indirect_ancestors.items)) (map uid_of parents.items)) }
     {
         let attrs = as_partial(alloc, attrs)?;
         let tags = as_partial(alloc, tags)?;
@@ -65,10 +68,11 @@ impl Entity {
         ensures attributes { IfOk result (λ e. (entity_seen e).attributes ≡ in_order (map part_pair attrs.items)) }
         ensures tags { IfOk result (λ e. (entity_seen e).tags ≡ in_order (map part_pair tags.items)) }
         ensures ancestors { IfOk result (λ e. (entity_seen e).ancestors ≡ all_recorded (all_recorded [] (map uid_of indirect_ancestors.items)) (map uid_of parents.items)) }
+        ensures kin { IfOk result (λ e. kin_seen e ≡ with_parents (with_indirects [] (map uid_of indirect_ancestors.items)) (map uid_of parents.items)) }
     {
-        let mut ancestors = IndexSet::new(alloc);
-        record_all(&mut ancestors, indirect_ancestors)?;
-        record_all(&mut ancestors, parents)?;
+        let mut ancestors = IndexMap::new(alloc);
+        record_indirects(&mut ancestors, indirect_ancestors)?;
+        record_parents(&mut ancestors, parents)?;
         let attrs = field_map(alloc, attrs)?;
         let tags = field_map(alloc, tags)?;
         Ok(Entity {
@@ -83,12 +87,13 @@ impl Entity {
     pub fn with_uid(alloc: Global, uid: EntityUID) -> Entity
         ensures uid { entity_uid result ≡ uid_of uid }
         ensures entity { entity_seen result ≡ record { attributes = []; tags = []; ancestors = [] } }
+        ensures kin { kin_seen result ≡ [] }
     {
         Entity {
             uid,
             attrs: BTreeMap::new(alloc),
             tags: BTreeMap::new(alloc),
-            ancestors: IndexSet::new(alloc),
+            ancestors: IndexMap::new(alloc),
         }
     }
 
@@ -155,36 +160,60 @@ impl Entity {
         self.tags.len()
     }
 
-    /// Goes over the recorded ancestors.
-    pub fn ancestors(&self) -> set::Iter<'_, EntityUID>
+    /// Goes over the recorded ancestors, in the order in which they were recorded.
+    pub fn ancestors(&self) -> map::Keys<'_, EntityUID, bool>
         ensures { map uid_of result ≡ (entity_seen self.now).ancestors }
     {
-        self.ancestors.iter()
+        self.ancestors.keys()
     }
 
     /// Whether the uid is a recorded ancestor.
     pub fn is_descendant_of(&self, uid: &EntityUID) -> bool
         ensures { result ≡ list_any (uid_eq (uid_of uid.now)) (entity_seen self.now).ancestors }
     {
-        self.ancestors.contains(uid)
+        has_key(&self.ancestors, uid)
     }
 
-    /// Records one ancestor, unless it is recorded. Answers want of memory.
+    /// Whether the uid is recorded as a parent.
+    pub fn is_child_of(&self, uid: &EntityUID) -> bool
+        ensures { result ≡ is_parent (kin_seen self.now) (uid_of uid.now) }
+    {
+        match self.ancestors.get(uid) {
+            Some(is_parent) => *is_parent,
+            None => false,
+        }
+    }
+
+    /// Whether the uid is recorded as an ancestor that is no parent.
+    pub fn is_indirect_descendant_of(&self, uid: &EntityUID) -> bool
+        ensures { result ≡ is_indirect (kin_seen self.now) (uid_of uid.now) }
+    {
+        match self.ancestors.get(uid) {
+            Some(is_parent) => !*is_parent,
+            None => false,
+        }
+    }
+
+    /// Records the uid as a parent, and nothing else: an ancestor more, unless it is recorded. Answers want of memory.
     pub fn add_parent(&mut self, uid: EntityUID) -> Result<(), AllocError>
         ensures added { OnOk result (entity_seen self.new ≡ record (entity_seen self.old) { ancestors = recorded (entity_seen self.old).ancestors (uid_of uid) }) }
+        ensures kin { OnOk result (kin_seen self.new ≡ with_parent (kin_seen self.old) (uid_of uid)) }
         ensures unchanged { OnErr result (entity_seen self.new ≡ entity_seen self.old) }
+        ensures kin_unchanged { OnErr result (kin_seen self.new ≡ kin_seen self.old) }
         ensures uid { entity_uid self.new ≡ entity_uid self.old }
     {
-        record(&mut self.ancestors, uid)
+        record_parent(&mut self.ancestors, uid)
     }
 
-    /// Records one ancestor, unless it is recorded. Answers want of memory.
+    /// Records the uid as an ancestor that is no parent, unless it is recorded, and nothing else. Answers want of memory.
     pub fn add_indirect_ancestor(&mut self, uid: EntityUID) -> Result<(), AllocError>
         ensures added { OnOk result (entity_seen self.new ≡ record (entity_seen self.old) { ancestors = recorded (entity_seen self.old).ancestors (uid_of uid) }) }
+        ensures kin { OnOk result (kin_seen self.new ≡ with_indirect (kin_seen self.old) (uid_of uid)) }
         ensures unchanged { OnErr result (entity_seen self.new ≡ entity_seen self.old) }
+        ensures kin_unchanged { OnErr result (kin_seen self.new ≡ kin_seen self.old) }
         ensures uid { entity_uid self.new ≡ entity_uid self.old }
     {
-        record(&mut self.ancestors, uid)
+        record_indirect(&mut self.ancestors, uid)
     }
 }
 

@@ -3,7 +3,9 @@
 
 pub mod entities;
 pub mod entity;
+mod entries;
 pub mod err;
+pub mod laws;
 mod recorded;
 
 pub use entities::{Dereference, Entities};

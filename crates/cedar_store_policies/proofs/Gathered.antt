@@ -13,7 +13,7 @@ use Rattle.cedar_store_model.specs.Whole.OfLaws.Distinct.{has_distinct_ids}
 use Rattle.cedar_store_model.specs.Whole.Policy as model
 use Rattle.cedar_store_model.specs.Whole.PolicySet.{PolicySet, is_taken, with_policy, add_policy}
 use Rattle.cedar_store_model.proofs.Whole.Distinct.{distinct-Decides}
-use Rattle.cedar_store_policies.specs.Parts.{id_text}
+use Rattle.cedar_store_parts.specs.Parts.{id_text}
 use Rattle.cedar_store_policies.specs.Policies.{policy_of}
 use Rattle.cedar_store_policies.specs.SetParts.{ids_of}
 use Rattle.cedar_store_policies.specs.SetRefusals.{RefusesId, RefusesIds}

@@ -15,11 +15,11 @@ use Rattle.cedar_store_model.specs.Whole.OfLaws.Distinct.{has_distinct_ids}
 use Rattle.cedar_store_model.specs.Whole.Policy as model
 use Rattle.cedar_store_model.specs.Whole.PolicySet.{PolicySet, is_taken, template_of as find_template, with_policy, add_policy, add_template}
 use Rattle.cedar_store_model.proofs.Whole.Sets.{ids_stay_distinct}
-use Rattle.cedar_store_policies.specs.Parts.{id_text}
+use Rattle.cedar_store_parts.specs.Parts.{id_text}
 use Rattle.cedar_store_policies.specs.Templates.{template_of}
 use Rattle.cedar_store_policies.specs.Policies.{policy_of}
 use Rattle.cedar_store_policies.specs.SetParts.{keys_in, templates_in, policies_in, ids_of, set_made}
-use Rattle.cedar_store_policies.specs.declared.policy_id.PolicyID.{PolicyID}
+use Rattle.cedar_store_parts.specs.declared.policy_id.PolicyID.{PolicyID}
 use Rattle.cedar_store_policies.specs.declared.template.Template.{Template}
 use Rattle.cedar_store_policies.specs.declared.policy.Policy.{Policy}
 

@@ -1,4 +1,3 @@
-mod Annotated
 mod Firsts
 mod Keyed
 mod Bound

@@ -5,7 +5,7 @@ use Rattle.std.specs.Prelude.{Option}
 use Rattle.cedar_expr_names.specs.declared.loc.Loc.{Loc}
 use Rattle.cedar_store_model.specs.Whole.Policy as model
 use Rattle.cedar_store_model.specs.Whole.PolicySet.{linked}
-use Rattle.cedar_store_policies.specs.Parts.{id_text, bindings_of}
+use Rattle.cedar_store_parts.specs.Parts.{id_text, bindings_of}
 use Rattle.cedar_store_policies.specs.Templates.{template_of, template_loc}
 use Rattle.cedar_store_policies.specs.declared.static_policy.StaticPolicy.{StaticPolicy}
 use Rattle.cedar_store_policies.specs.declared.policy.Policy.{Policy}

@@ -6,10 +6,10 @@ use Rattle.std.specs.declared.rc.Rc.{Rc}
 use Rattle.cedar_expr_model.specs.Name.{Text}
 use Rattle.cedar_store_model.specs.Whole.Policy as model
 use Rattle.cedar_store_model.specs.Whole.PolicySet.{PolicySet}
-use Rattle.cedar_store_policies.specs.Parts.{id_text}
+use Rattle.cedar_store_parts.specs.Parts.{id_text}
 use Rattle.cedar_store_policies.specs.Templates.{template_of}
 use Rattle.cedar_store_policies.specs.Policies.{policy_of}
-use Rattle.cedar_store_policies.specs.declared.policy_id.PolicyID.{PolicyID}
+use Rattle.cedar_store_parts.specs.declared.policy_id.PolicyID.{PolicyID}
 use Rattle.cedar_store_policies.specs.declared.template.Template.{Template}
 use Rattle.cedar_store_policies.specs.declared.policy.Policy.{Policy}
 

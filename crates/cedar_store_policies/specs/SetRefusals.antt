@@ -10,7 +10,7 @@ use Rattle.cedar_expr_model.specs.Whole.Repeats.{repeated}
 use Rattle.cedar_store_model.specs.Whole.Policy.{Policy, SlotBindings, binding_of, has_slot}
 use Rattle.cedar_store_model.specs.Whole.PolicySet as model
 use Rattle.cedar_store_model.specs.Whole.PolicySet.{LinkFault, id_present, slot_not_bound, slot_not_of_template, no_template, is_taken, template_of, has_link_fault}
-use Rattle.cedar_store_policies.specs.Parts.{id_text}
+use Rattle.cedar_store_parts.specs.Parts.{id_text}
 use Rattle.cedar_store_policies.specs.declared.err.PolicySetError.{PolicySetError}
 use Rattle.cedar_store_policies.specs.declared.err.PolicySetError.TheVariants as adding
 use Rattle.cedar_store_policies.specs.declared.err.LinkingError.{LinkingError}

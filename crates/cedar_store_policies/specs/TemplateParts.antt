@@ -7,13 +7,13 @@ use Rattle.cedar_expr_model.specs.Whole.Tree.{Tree, SlotId}
 use Rattle.cedar_expr_trees.specs.Trees.{tree_of}
 use Rattle.cedar_store_model.specs.Whole.Policy as model
 use Rattle.cedar_store_model.specs.Whole.Policy.{no_bindings}
-use Rattle.cedar_store_policies.specs.Parts.{id_text, effect_of, annotations_of, scope_of, action_scope_of}
-use Rattle.cedar_store_policies.specs.declared.policy_id.PolicyID.{PolicyID}
-use Rattle.cedar_store_policies.specs.declared.policy_id.Effect.{Effect}
-use Rattle.cedar_store_policies.specs.declared.annotation.Annotations.{Annotations}
-use Rattle.cedar_store_policies.specs.declared.constraint.PrincipalConstraint.{PrincipalConstraint}
-use Rattle.cedar_store_policies.specs.declared.constraint.ResourceConstraint.{ResourceConstraint}
-use Rattle.cedar_store_policies.specs.declared.constraint.ActionConstraint.{ActionConstraint}
+use Rattle.cedar_store_parts.specs.Parts.{id_text, effect_of, annotations_of, scope_of, action_scope_of}
+use Rattle.cedar_store_parts.specs.declared.policy_id.PolicyID.{PolicyID}
+use Rattle.cedar_store_parts.specs.declared.policy_id.Effect.{Effect}
+use Rattle.cedar_store_parts.specs.declared.annotation.Annotations.{Annotations}
+use Rattle.cedar_store_parts.specs.declared.constraint.PrincipalConstraint.{PrincipalConstraint}
+use Rattle.cedar_store_parts.specs.declared.constraint.ResourceConstraint.{ResourceConstraint}
+use Rattle.cedar_store_parts.specs.declared.constraint.ActionConstraint.{ActionConstraint}
 use Rattle.cedar_store_policies.specs.declared.template_body.TemplateBody.{TemplateBody}
 
 -- the template of these parts

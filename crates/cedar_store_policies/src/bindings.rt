@@ -5,14 +5,14 @@ ghost use Rattle.std.specs.List.{list_any};
 ghost use Rattle.cedar_expr_leaves.specs.Slots.{slot_of};
 ghost use Rattle.cedar_expr_model.specs.Whole.Shape.{slot_rank};
 ghost use Rattle.cedar_store_model.specs.Whole.Policy.{binding_of, has_slot as uses_slot};
-ghost use Rattle.cedar_store_policies.specs.Parts.{bindings_of};
+ghost use Rattle.cedar_store_parts.specs.Parts.{bindings_of};
 ghost use Rattle.cedar_store_policies.specs.Templates.{template_of};
 ghost use Rattle.cedar_store_policies.specs.SetRefusals.{FitsBindings, RefusesBindings};
 
 use crate::err::LinkingError;
-use crate::slot_env::SlotEnv;
 use crate::template::Template;
 use cedar_expr_leaves::{Slot, SlotId};
+use cedar_store_parts::SlotEnv;
 
 impl Template {
     // Refuses a slot of the template that isn't bound, and a bound slot that isn't the template's.

@@ -3,10 +3,10 @@
 ghost use Rattle.std.specs.Prelude.{◌≡◌, ◌++◌, ◌∷◌, [], false, OnOk, OnErr};
 ghost use Rattle.std.specs.List.{list_any};
 ghost use Rattle.std.specs.Str.{bytes_eq};
-ghost use Rattle.cedar_store_policies.specs.Parts.{id_text};
+ghost use Rattle.cedar_store_parts.specs.Parts.{id_text};
 ghost use Rattle.cedar_store_policies.specs.SetParts.{keys_in};
 
-use crate::policy_id::PolicyID;
+use cedar_store_parts::PolicyID;
 use indexmap::IndexMap;
 use std::alloc::AllocError;
 

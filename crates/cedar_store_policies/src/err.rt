@@ -2,8 +2,8 @@
 
 ghost use Rattle.std.specs.Prelude.{◌≡◌};
 
-use crate::policy_id::PolicyID;
 use cedar_expr_leaves::{Slot, SlotId};
+use cedar_store_parts::PolicyID;
 use std::alloc::{AllocError, AllocFailed};
 use thiserror::Error;
 

@@ -5,19 +5,19 @@ ghost use Rattle.std.specs.Option.{option_map_or};
 ghost use Rattle.cedar_expr_trees.specs.Trees.{tree_of};
 ghost use Rattle.cedar_store_model.specs.Whole.Policy.{any, any_action, no_bindings, condition as asked_by};
 ghost use Rattle.cedar_store_model.specs.Whole.PolicySet.{linked};
-ghost use Rattle.cedar_store_policies.specs.Parts.{id_text, effect_of, annotation_pair, annotations_of, scope_of, action_scope_of, bindings_of, filled};
+ghost use Rattle.cedar_store_parts.specs.Parts.{id_text, effect_of, annotation_pair, annotations_of, scope_of, action_scope_of, bindings_of, filled};
 ghost use Rattle.cedar_store_policies.specs.Policies.{static_of, static_loc, policy_of, policy_loc, template_behind};
 ghost use Rattle.cedar_store_policies.specs.Templates.{template_of, template_loc};
 
-use crate::annotation::{Annotation, Annotations};
-use crate::constraint::{ActionConstraint, PrincipalConstraint, ResourceConstraint};
-use crate::policy_id::{Effect, PolicyID};
-use crate::slot_env::SlotEnv;
 use crate::static_policy::StaticPolicy;
 use crate::template::Template;
 use cedar_expr_leaves::SlotId;
 use cedar_expr_names::{AnyId, Loc};
 use cedar_expr_trees::Expr;
+use cedar_store_parts::{
+    ActionConstraint, Annotation, Annotations, Effect, PolicyID, PrincipalConstraint,
+    ResourceConstraint, SlotEnv,
+};
 use std::alloc::{AllocError, Global};
 use std::collections::btree_map::Iter;
 use std::rc::Rc;

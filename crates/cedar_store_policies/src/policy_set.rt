@@ -7,10 +7,9 @@ ghost use Rattle.cedar_store_policies.specs.SetParts.{keys_in, templates_in, pol
 use crate::entries::{has_key, put};
 use crate::err::{LinkingError, PolicySetError};
 use crate::policy::Policy;
-use crate::policy_id::PolicyID;
-use crate::slot_env::SlotEnv;
 use crate::static_policy::StaticPolicy;
 use crate::template::Template;
+use cedar_store_parts::{PolicyID, SlotEnv};
 use indexmap::IndexMap;
 use indexmap::map::Values;
 use std::alloc::Global;
@@ -33,7 +32,7 @@ impl PolicySet {
     ghost use Rattle.std.specs.Str.{bytes_eq};
     ghost use Rattle.cedar_expr_model.specs.Name.{Text};
     ghost use Rattle.cedar_store_model.specs.Whole.PolicySet.{template_of as find_template, add_template, add_policy, link};
-    ghost use Rattle.cedar_store_policies.specs.Parts.{id_text, bindings_of};
+    ghost use Rattle.cedar_store_parts.specs.Parts.{id_text, bindings_of};
     ghost use Rattle.cedar_store_policies.specs.Templates.{template_of};
     ghost use Rattle.cedar_store_policies.specs.Policies.{static_of, policy_of};
     ghost use Rattle.cedar_store_policies.specs.SetRefusals.{RefusesId, RefusesIds, RefusesLink, FitsBindings};

@@ -4,13 +4,13 @@ ghost use Rattle.std.specs.Prelude.{◌≡◌, true};
 ghost use Rattle.cedar_store_model.specs.Whole.PolicySet.{is_static};
 ghost use Rattle.cedar_store_policies.specs.Templates.{template_of};
 
-use crate::annotation::Annotations;
-use crate::constraint::{ActionConstraint, PrincipalConstraint, ResourceConstraint};
 use crate::err::UnexpectedSlotError;
-use crate::policy_id::{Effect, PolicyID};
 use crate::template::Template;
 use cedar_expr_names::Loc;
 use cedar_expr_trees::Expr;
+use cedar_store_parts::{
+    ActionConstraint, Annotations, Effect, PolicyID, PrincipalConstraint, ResourceConstraint,
+};
 use std::alloc::Global;
 
 /// A policy in which no slot stands.
@@ -23,7 +23,7 @@ pub struct StaticPolicy {
 impl StaticPolicy {
     ghost use Rattle.std.specs.Prelude.{IfOk, IfErr, option_map};
     ghost use Rattle.cedar_expr_trees.specs.Trees.{tree_of};
-    ghost use Rattle.cedar_store_policies.specs.Parts.{id_text};
+    ghost use Rattle.cedar_store_parts.specs.Parts.{id_text};
     ghost use Rattle.cedar_store_policies.specs.TemplateParts.{template_made};
     ghost use Rattle.cedar_store_policies.specs.Policies.{static_of, static_loc};
     ghost use Rattle.cedar_store_policies.specs.Templates.{template_loc};

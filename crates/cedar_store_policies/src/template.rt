@@ -7,14 +7,15 @@ ghost use Rattle.cedar_store_model.specs.Whole.Policy.{condition as asked_by};
 ghost use Rattle.cedar_store_policies.specs.TemplateParts.{made_of, slot_ids};
 ghost use Rattle.cedar_store_policies.specs.Sets.{tree_set};
 
-use crate::annotation::{Annotation, Annotations};
 use crate::bindings::stands_among;
-use crate::constraint::{ActionConstraint, PrincipalConstraint, ResourceConstraint};
-use crate::policy_id::{Effect, PolicyID};
 use crate::template_body::{TemplateBody, gathered_slots};
 use cedar_expr_leaves::{Slot, SlotId};
 use cedar_expr_names::{AnyId, Loc};
 use cedar_expr_trees::Expr;
+use cedar_store_parts::{
+    ActionConstraint, Annotation, Annotations, Effect, PolicyID, PrincipalConstraint,
+    ResourceConstraint,
+};
 use std::alloc::{AllocError, Global};
 use std::collections::btree_map;
 use std::rc::Rc;
@@ -36,7 +37,7 @@ impl Template {
     ghost use Rattle.cedar_expr_leaves.specs.Slots.{slot_of};
     ghost use Rattle.cedar_store_model.specs.Whole.Policy.{has_slot as uses_slot};
     ghost use Rattle.cedar_store_policies.specs.TemplateParts.{template_made};
-    ghost use Rattle.cedar_store_policies.specs.Parts.{id_text, effect_of, annotation_pair, annotations_of, scope_of, action_scope_of};
+    ghost use Rattle.cedar_store_parts.specs.Parts.{id_text, effect_of, annotation_pair, annotations_of, scope_of, action_scope_of};
     ghost use Rattle.cedar_store_policies.specs.Templates.{template_of, template_loc};
     ghost use Rattle.cedar_store_policies.specs.Lists.{first_of};
 

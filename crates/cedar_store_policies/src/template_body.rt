@@ -6,14 +6,13 @@ ghost use Rattle.cedar_expr_trees.specs.Trees.{tree_of};
 ghost use Rattle.cedar_store_model.specs.Whole.Policy.{condition};
 ghost use Rattle.cedar_store_policies.specs.TemplateParts.{made_of, slot_ids};
 
-use crate::annotation::Annotations;
-use crate::constraint::{
-    ActionConstraint, PrincipalConstraint, PrincipalOrResource, ResourceConstraint,
-};
-use crate::policy_id::{Effect, PolicyID};
 use cedar_expr_leaves::Slot;
 use cedar_expr_names::{Literal, Loc};
 use cedar_expr_trees::Expr;
+use cedar_store_parts::{
+    ActionConstraint, Annotations, Effect, PolicyID, PrincipalConstraint, PrincipalOrResource,
+    ResourceConstraint,
+};
 use std::alloc::{AllocError, Global};
 use std::rc::Rc;
 

@@ -1,7 +1,7 @@
 use Rattle.std.proofs.Common.{◌∙◌}
 use Rattle.std.specs.Str.{bytes_eq}
 use Rattle.indexmap.proofs.CallerLemmas.{insert_entry-new}
-use Rattle.cedar_store_policies.specs.Parts.{id_text}
+use Rattle.cedar_store_parts.specs.Parts.{id_text}
 use Rattle.cedar_store_policies.proofs.Keyed.{key_absent}
 use Rattle.cedar_store_policies.proofs.entries.put.Goals as goal
 

@@ -12,18 +12,18 @@ pub invariant_of-self : goal.invariant_of-self
 invariant_of-self c =
     let s = c.args.self.now in
     let e : uid_of c.in_ok-uid.uid ≡ entity_uid c.args.entity = search rules in
-    let kept = enters s.entities.entries c.put.new.entities.entries c.in_ok-uid.uid c.args.entity c.put.result e s.named s.distinct (sym c.has_uid.ensures ∙ c.if-has_uid.false) c.put.ensures.put c.put.ensures.unchanged in
+    let kept = enters s.entities.entries c.put.new.map.entries c.in_ok-uid.uid c.args.entity c.put.result e s.named s.distinct (sym c.has_key.ensures ∙ c.if-has_key.false) c.put.ensures.put c.put.ensures.unchanged in
     record { named = kept.0; distinct = kept.1 }
 
 pub returns-clause-added : goal.returns-clause-added
-returns-clause-added c = more_entities c.args.self.now.entities.entries c.put.new.entities.entries c.in_ok-uid.uid c.args.entity c.in_ok-put.ensures.put
+returns-clause-added c = more_entities c.args.self.now.entities.entries c.put.new.map.entries c.in_ok-uid.uid c.args.entity c.in_ok-put.ensures.put
 
 pub returns-clause-fresh : goal.returns-clause-fresh
 returns-clause-fresh c =
     let e : uid_of c.in_ok-uid.uid ≡ entity_uid c.args.entity = search rules in
-    ap (λ (v : Uid). list_any (uid_eq v) (keys_in c.args.self.now.entities.entries)) (sym e) ∙ (sym c.has_uid.ensures ∙ c.if-has_uid.false)
+    ap (λ (v : Uid). list_any (uid_eq v) (keys_in c.args.self.now.entities.entries)) (sym e) ∙ (sym c.has_key.ensures ∙ c.if-has_key.false)
 
-pub returns-then-has_uid-clause-refused : goal.returns-then-has_uid-clause-refused
-returns-then-has_uid-clause-refused c =
+pub returns-then-has_key-clause-refused : goal.returns-then-has_key-clause-refused
+returns-then-has_key-clause-refused c =
     let e : uid_of c.in_ok-uid.uid ≡ entity_uid c.args.entity = search rules in
-    (ap (λ (v : Uid). list_any (uid_eq v) (keys_in c.args.self.now.entities.entries)) (sym e) ∙ (sym c.has_uid.ensures ∙ c.if-has_uid.true), e)
+    (ap (λ (v : Uid). list_any (uid_eq v) (keys_in c.args.self.now.entities.entries)) (sym e) ∙ (sym c.has_key.ensures ∙ c.if-has_key.true), e)

@@ -1,6 +1,9 @@
-use Rattle.std.proofs.Common.{◌∙◌}
-use Rattle.cedar_store_entities.proofs.Uids.{any_uid}
+use Rattle.std.proofs.Common.{ap, sym, ◌∙◌}
+use Rattle.std.specs.List.{list_any}
+use Rattle.cedar_expr_names.specs.Views.{uid_of}
+use Rattle.cedar_expr_model.specs.Uid.{uid_eq}
+use Rattle.cedar_store_entities.proofs.Kin.{kin_uids}
 use Rattle.cedar_store_entities.proofs.entity.Entity.is_descendant_of.Goals as goal
 
 pub returns : goal.returns
-returns c = c.contains.ensures ∙ any_uid c.args.uid.now c.args.self.now.ancestors.keys
+returns c = c.has_key.ensures ∙ ap (list_any (uid_eq (uid_of c.args.uid.now))) (sym (kin_uids c.args.self.now.ancestors.entries))

@@ -1,4 +1,4 @@
-use Rattle.cedar_store_policies.specs.Parts.{id_text}
+use Rattle.cedar_store_parts.specs.Parts.{id_text}
 use Rattle.cedar_store_policies.proofs.Keyed.{policy_enters, policy_entered}
 use Rattle.cedar_store_policies.proofs.policy_set.PolicySet.add.Goals as goal
 

@@ -1,7 +1,7 @@
 use Rattle.std.proofs.Common.{Some, sym, ap, ◌∙◌}
 use Rattle.cedar_store_model.specs.Whole.Policy as model
 use Rattle.cedar_store_model.specs.Whole.PolicySet.{with_policy}
-use Rattle.cedar_store_policies.specs.Parts.{id_text, bindings_of}
+use Rattle.cedar_store_parts.specs.Parts.{id_text, bindings_of}
 use Rattle.cedar_store_policies.specs.Templates.{template_of}
 use Rattle.cedar_store_policies.specs.PolicySets.{set_of}
 use Rattle.cedar_store_policies.specs.SetRefusals.{RefusesLink}

@@ -3,7 +3,7 @@ use Rattle.std.specs.Option.{is_none}
 use Rattle.std.specs.Borrow.{Bor}
 use Rattle.std.specs.declared.alloc.Global.{Global}
 use Rattle.std.specs.declared.rc.Rc.{Rc}
-use Rattle.cedar_store_policies.specs.Parts.{id_text, bindings_of}
+use Rattle.cedar_store_parts.specs.Parts.{id_text, bindings_of}
 use Rattle.cedar_store_policies.specs.Templates.{template_of}
 use Rattle.cedar_store_policies.specs.PolicySets.{set_of}
 use Rattle.cedar_store_policies.specs.declared.template.Template.{Template}

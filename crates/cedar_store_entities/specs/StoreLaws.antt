@@ -1,0 +1,29 @@
+-- What the laws of uids and of stores say.
+-- Rule: the store; what is known; the uid text and its escape (docs/RULES.md).
+use Rattle.std.specs.Prelude.{◌≡◌, true, Option}
+use Rattle.cedar_expr_model.specs.Name.{Text}
+use Rattle.cedar_expr_model.specs.Whole.Table.{Table}
+use Rattle.cedar_expr_model.specs.Whole.Uids.{is_uid}
+use Rattle.cedar_expr_model.specs.Whole.Value.{V}
+use Rattle.cedar_expr_names.specs.Views.{uid_of}
+use Rattle.cedar_expr_names.specs.declared.entity.EntityUID.{EntityUID}
+use Rattle.cedar_store_model.specs.Whole.OfLaws.Extends.{Keeps, Extends}
+use Rattle.cedar_store_model.specs.Whole.Store as model
+use Rattle.cedar_store_model.specs.Whole.Store.{whole, partial, are_distinct, OpenRequest, world_of}
+use Rattle.cedar_store_model.specs.Whole.StoreLaws.{KeepsRequest, ArePartOf}
+use Rattle.cedar_store_entities.specs.Stores.{store_seen}
+use Rattle.cedar_store_entities.specs.declared.entities.Entities.{Entities}
+
+-- a uid of the code is a uid
+abbrev pub UidsAreUids : Type 0
+UidsAreUids = (u : EntityUID) → is_uid (uid_of u) ≡ true
+
+-- no uid stands twice in a store
+abbrev pub StoresAreMaps : Type 0
+StoresAreMaps = (s : Entities) → are_distinct (store_seen s).entities ≡ true
+
+-- what is known of a request and of a partial store is extended by each whole store that has its entities
+abbrev pub PartialIsLess : Type 0
+PartialIsLess = (table : Table) (some_unknowns unknowns : Text → Option V) (q r : OpenRequest) (s : Entities) (all : model.Entities)
+    → (store_seen s).extent ≡ partial → ((n : Text) → Keeps (some_unknowns n) (unknowns n)) → KeepsRequest q r → ArePartOf (store_seen s).entities all → are_distinct all ≡ true
+    → Extends (world_of table some_unknowns q (store_seen s)) (world_of table unknowns r (record { extent = whole; entities = all }))

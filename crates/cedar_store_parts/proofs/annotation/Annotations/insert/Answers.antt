@@ -1,0 +1,7 @@
+use Rattle.std.proofs.Common.{map, ap, ◌∙◌}
+use Rattle.cedar_store_parts.specs.Parts.{annotation_pair}
+use Rattle.cedar_store_parts.proofs.Annotated.{pairs_put}
+use Rattle.cedar_store_parts.proofs.annotation.Annotations.insert.Goals as goal
+
+pub returns-clause-put : goal.returns-clause-put
+returns-clause-put c = ap (map annotation_pair) c.in_ok-insert.ensures.entries ∙ pairs_put c.args.self.now.0.entries c.args.name c.args.annotation

@@ -1,0 +1,62 @@
+//! The annotations of policies.
+
+ghost use Rattle.std.specs.Prelude.{◌≡◌, [], map, option_map, OnOk, OnErr};
+ghost use Rattle.std.specs.BTreeMap.{insert_entry};
+ghost use Rattle.std.specs.Map.{lookup};
+ghost use Rattle.std.specs.Rc.{rc_str_bytes};
+ghost use Rattle.std.specs.Str.{bytes_eq};
+ghost use Rattle.cedar_expr_names.specs.Views.{any_id_text};
+ghost use Rattle.cedar_expr_model.specs.Whole.Order.{text_cmp};
+ghost use Rattle.cedar_store_parts.specs.Parts.{annotation_text, annotation_pair, annotations_of};
+
+use cedar_expr_names::{AnyId, Loc};
+use std::alloc::{AllocError, Global};
+use std::collections::BTreeMap;
+use std::collections::btree_map::Iter;
+use std::rc::RcStr;
+
+/// What an annotation says, and where it stands.
+#[derive(Debug, PartialEq, Eq, PartialOrd, Ord, Hash, Drop)]
+pub struct Annotation {
+    /// Its text.
+    pub val: RcStr,
+
+    /// Its place.
+    pub loc: Option<Loc>,
+}
+
+/// The annotations of a policy, by their names.
+#[derive(Debug, PartialEq, Eq, Drop)]
+pub struct Annotations(BTreeMap<AnyId, Annotation>);
+
+impl Annotations {
+    /// No annotations.
+    pub fn new(alloc: Global) -> Annotations
+        ensures { annotations_of result ≡ [] }
+    {
+        Annotations(BTreeMap::new(alloc))
+    }
+
+    /// Puts one more annotation under a name; one that stood there goes. Answers want of memory.
+    pub fn insert(&mut self, name: AnyId, annotation: Annotation) -> Result<(), AllocError>
+        ensures put { OnOk result (annotations_of self.new ≡ insert_entry text_cmp (annotations_of self.old) (any_id_text name) (annotation_text annotation)) }
+        ensures unchanged { OnErr result (annotations_of self.new ≡ annotations_of self.old) }
+    {
+        self.0.insert(name, annotation)?;
+        Ok(())
+    }
+
+    /// The annotation of this name, if there is one.
+    pub fn get(&self, name: &AnyId) -> Option<&Annotation>
+        ensures { option_map (λ a. annotation_text a.now) result ≡ lookup (bytes_eq (any_id_text name.now)) (annotations_of self.now) }
+    {
+        self.0.get(name)
+    }
+
+    /// Goes over the annotations, in the order of their names.
+    pub fn iter(&self) -> Iter<'_, AnyId, Annotation>
+        ensures { map annotation_pair result ≡ annotations_of self.now }
+    {
+        self.0.iter()
+    }
+}

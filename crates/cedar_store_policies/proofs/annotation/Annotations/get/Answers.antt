@@ -1,5 +1,0 @@
-use Rattle.cedar_store_policies.proofs.Annotated.{text_found}
-use Rattle.cedar_store_policies.proofs.annotation.Annotations.get.Goals as goal
-
-pub returns : goal.returns
-returns c = text_found c.args.name.now c.args.self.now.0.entries c.get.result c.get.ensures.value
