@@ -4,6 +4,7 @@
 //! memory, reading or writing failed; then nothing is printed. bench/expressions.py measures it, and sweeps/run refuses it memory.
 #![tactic(auto)]
 
+mod bindings;
 mod patterns;
 mod sets;
 mod tables;
@@ -27,6 +28,12 @@ enum Path {
     Deep,
     /// Functions are put into a table, and each is looked for.
     Tables,
+    /// The unknowns of a wide expression are given their values.
+    Substituted,
+    /// The unknown of a deep expression is given its value.
+    SubstitutedDeep,
+    /// A builder makes a wide expression with the values of its unknowns.
+    Built,
     /// A pattern of many wildcards is tried on a text that it just doesn't match.
     Patterns,
 }
@@ -57,6 +64,9 @@ fn named(text: &str) -> Option<(Path, u32)> {
         "wide" => Path::Wide,
         "deep" => Path::Deep,
         "tables" => Path::Tables,
+        "substituted" => Path::Substituted,
+        "substituted_deep" => Path::SubstitutedDeep,
+        "built" => Path::Built,
         "patterns" => Path::Patterns,
         _ => return None,
     };
@@ -71,6 +81,9 @@ fn run(alloc: Global, path: Path, size: u32) -> Result<usize, AllocError> {
         Path::Wide => trees::wide(alloc, size),
         Path::Deep => trees::deep(alloc, size),
         Path::Tables => tables::found(alloc, size),
+        Path::Substituted => bindings::wide(alloc, size),
+        Path::SubstitutedDeep => bindings::deep(alloc, size),
+        Path::Built => bindings::built(alloc, size),
         Path::Patterns => patterns::tried(alloc, size),
     }
 }

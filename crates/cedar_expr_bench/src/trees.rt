@@ -22,8 +22,8 @@ pub fn deep(alloc: Global, size: u32) -> Result<usize, AllocError> {
     counted(alloc, &e)
 }
 
-// How many subexpressions an expression has.
-fn counted(alloc: Global, e: &Expr) -> Result<usize, AllocError> {
+/// How many subexpressions an expression has.
+pub fn counted(alloc: Global, e: &Expr) -> Result<usize, AllocError> {
     let mut count = 0usize;
     for _ in ExprIterator::new(alloc, e)? {
         count = count.wrapping_add(1);
