@@ -1,7 +1,8 @@
-//! Types of a schema: attributes, unions of entity types, and what is below what.
+//! Types of a schema: attributes, unions of entity types, what is below what, and joins.
 #![tactic(auto)]
 
 mod attributes;
+mod bound;
 mod entity_kind;
 mod entity_lub;
 mod kinds;
