@@ -1,0 +1,5 @@
+pub mod Entries
+mod Found
+mod Unions
+mod Below
+mod Joined

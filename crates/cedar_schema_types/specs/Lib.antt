@@ -1,0 +1,4 @@
+pub mod Kinds
+pub mod Unions
+pub mod Types
+pub mod AttributeLists
