@@ -3,7 +3,15 @@
 
 pub mod binary;
 pub mod calls;
+pub mod combined;
 pub mod fault;
+mod leaves;
 pub mod operators;
+pub mod paths;
+pub mod reads;
+pub mod walk;
+pub mod world;
 
 pub use fault::MeaningFault;
+pub use walk::evaluate;
+pub use world::World;
