@@ -3,4 +3,6 @@ pub mod Ordered
 pub mod Called
 pub mod Steps
 pub mod Found
+pub mod Paths
 pub mod Walked
+pub mod Gathered

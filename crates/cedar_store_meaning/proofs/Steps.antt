@@ -13,7 +13,7 @@ use Rattle.cedar_store_meaning.specs.declared.fault.MeaningFault.{MeaningFault}
 use Rattle.cedar_store_meaning.specs.declared.fault.MeaningFault.TheVariants.{OutOfMemory, NotKnown, MissingEntity, MissingAttributeOrTag, MissingField, WrongType, Overflow, NoFunction, WrongCount, UnlinkedSlot, ExtensionFailed}
 
 -- a fault of the first step is one of both
-tells_on : {A B : Type 0} (o : Option (Res A)) (f : A → Option (Res B)) (e : MeaningFault) → IfSome (told {A = A} e) (λ p. o ≡ p) → IfSome (told {A = B} e) (λ p. bind o f ≡ p)
+pub tells_on : {A B : Type 0} (o : Option (Res A)) (f : A → Option (Res B)) (e : MeaningFault) → IfSome (told {A = A} e) (λ p. o ≡ p) → IfSome (told {A = B} e) (λ p. bind o f ≡ p)
 tells_on o f OutOfMemory h = tt
 tells_on o f NotKnown h = ap (λ q. bind q f) h
 tells_on o f (MissingEntity u) h = ap (λ q. bind q f) h

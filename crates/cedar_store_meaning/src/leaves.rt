@@ -15,6 +15,7 @@ ghost use Rattle.cedar_store_meaning.specs.Worlds.{unanswered};
 use crate::calls::copied;
 use crate::fault::MeaningFault;
 use crate::operators::V;
+use crate::table::FunctionTable;
 use crate::world::World;
 use cedar_expr_leaves::{SlotId, Var};
 use cedar_expr_names::{EntityUID, Literal};
@@ -37,8 +38,8 @@ fn entity_value(uid: &Rc<EntityUID>) -> Result<V, MeaningFault>
 }
 
 // What a variable of the request means.
-pub fn variable(world: &World<'_>, v: Var) -> Result<V, MeaningFault>
-    ensures { IsMeaning (model_variable (unanswered world.now) (var_of v)) result }
+pub fn variable<T: FunctionTable>(world: &World<'_, T>, v: Var) -> Result<V, MeaningFault>
+    ensures { IsMeaning (model_variable (unanswered T.functions T.ordered world.now) (var_of v)) result }
 {
     match v {
         Var::Principal => entity_value(world.principal),

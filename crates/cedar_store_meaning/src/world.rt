@@ -1,7 +1,6 @@
 //! What is known where an expression is evaluated.
 
 use crate::operators::V;
-use cedar_expr_functions::Extensions;
 use cedar_expr_names::EntityUID;
 use cedar_store_entities::Entities;
 use cedar_store_policies::SlotEnv;
@@ -11,7 +10,7 @@ use std::rc::{Rc, RcStr};
 /// What is known where an expression is evaluated: a request, what slots and unknowns are bound to, a store of entities, and a
 /// table of extension functions.
 #[derive(Drop)]
-pub struct World<'a> {
+pub struct World<'a, T> {
     /// Who makes the request.
     pub principal: &'a Rc<EntityUID>,
     /// What is done.
@@ -26,6 +25,6 @@ pub struct World<'a> {
     pub unknowns: &'a HashMap<RcStr, V>,
     /// The entities.
     pub entities: &'a Entities,
-    /// The extension functions.
-    pub table: &'a Extensions<'a>,
+    /// The table of extension functions.
+    pub table: &'a T,
 }

@@ -65,9 +65,19 @@ fn user(alloc: Global, id: &str, boss: &str, ok: bool) -> Result<Entity, Fail> {
     attrs.push((word(alloc, "boss")?, boss))?;
     attrs.push((word(alloc, "ok")?, ok))?;
     let mut tags = Vec::new(alloc);
-    tags.push((word(alloc, "team")?, Value::from(Literal::from_str(alloc, "red")?)))?;
+    tags.push((
+        word(alloc, "team")?,
+        Value::from(Literal::from_str(alloc, "red")?),
+    ))?;
     let none = Vec::new(alloc);
-    Ok(Entity::new(alloc, uid(alloc, "User", id)?, attrs, none, Vec::new(alloc), tags)?)
+    Ok(Entity::new(
+        alloc,
+        uid(alloc, "User", id)?,
+        attrs,
+        none,
+        Vec::new(alloc),
+        tags,
+    )?)
 }
 
 fn document(alloc: Global) -> Result<Entity, Fail> {
@@ -75,7 +85,14 @@ fn document(alloc: Global) -> Result<Entity, Fail> {
     let attrs = vec![in alloc; (word(alloc, "owner")?, owner)]?;
     let parents = vec![in alloc; uid(alloc, "Folder", "f")?]?;
     let none = Vec::new(alloc);
-    Ok(Entity::new(alloc, uid(alloc, "Doc", "d")?, attrs, none, parents, Vec::new(alloc))?)
+    Ok(Entity::new(
+        alloc,
+        uid(alloc, "Doc", "d")?,
+        attrs,
+        none,
+        parents,
+        Vec::new(alloc),
+    )?)
 }
 
 // The users `a`, whose boss is `a`, and `z`, and the document `d` of the user `b`, in the folder `f`. There is no `b` and no `f`.
@@ -91,15 +108,34 @@ fn store(alloc: Global) -> Result<Entities, Fail> {
 fn rows_of_operators(alloc: Global) -> Result<Rows, Fail> {
     let mut rows = Vec::new(alloc);
     let most = Expr::add(alloc, long(9223372036854775807), long(1))?;
-    rows.push((Expr::is_eq(alloc, most, long(0))?, Err(MeaningFault::Overflow)))?;
+    rows.push((
+        Expr::is_eq(alloc, most, long(0))?,
+        Err(MeaningFault::Overflow),
+    ))?;
     rows.push((Expr::less(alloc, long(1), long(2))?, yes()))?;
-    let ghost = Expr::is_eq(alloc, entity(alloc, "Phantom", "g")?, Expr::var(Var::Principal))?;
-    rows.push((Expr::and(alloc, truth(false), ghost)?, no()))?;
-    rows.push((Expr::or(alloc, truth(true), Expr::not(alloc, long(1))?)?, yes()))?;
-    rows.push((Expr::and(alloc, truth(true), Expr::not(alloc, long(1))?)?, Err(MeaningFault::WrongType)))?;
+    let phantom = Expr::is_eq(
+        alloc,
+        entity(alloc, "Phantom", "g")?,
+        Expr::var(Var::Principal),
+    )?;
+    rows.push((Expr::and(alloc, truth(false), phantom)?, no()))?;
+    rows.push((
+        Expr::or(alloc, truth(true), Expr::not(alloc, long(1))?)?,
+        yes(),
+    ))?;
+    rows.push((
+        Expr::and(alloc, truth(true), Expr::not(alloc, long(1))?)?,
+        Err(MeaningFault::WrongType),
+    ))?;
     let fails = Expr::neg(alloc, truth(true))?;
-    rows.push((Expr::ite(alloc, truth(true), long(7), fails)?, Ok(Literal::from(7))))?;
-    rows.push((Expr::ite(alloc, long(1), long(7), long(8))?, Err(MeaningFault::WrongType)))?;
+    rows.push((
+        Expr::ite(alloc, truth(true), long(7), fails)?,
+        Ok(Literal::from(7)),
+    ))?;
+    rows.push((
+        Expr::ite(alloc, long(1), long(7), long(8))?,
+        Err(MeaningFault::WrongType),
+    ))?;
     Ok(rows)
 }
 
@@ -134,12 +170,24 @@ fn rows_of_attributes(alloc: Global) -> Result<Rows, Fail> {
     rows.push((Expr::has_attr(alloc, owner, word(alloc, "boss")?)?, no()))?;
     let mut path = NonEmpty::singleton(alloc, word(alloc, "boss")?);
     path.tail.push(word(alloc, "ok")?)?;
-    rows.push((Expr::extended_has_attr(alloc, Expr::var(Var::Principal), path)?, yes()))?;
+    rows.push((
+        Expr::extended_has_attr(alloc, Expr::var(Var::Principal), path)?,
+        yes(),
+    ))?;
     let mut path = NonEmpty::singleton(alloc, word(alloc, "owner")?);
     path.tail.push(word(alloc, "ok")?)?;
-    rows.push((Expr::extended_has_attr(alloc, Expr::var(Var::Resource), path)?, no()))?;
-    rows.push((attribute(alloc, Expr::var(Var::Context), "x")?, Err(MeaningFault::MissingField)))?;
-    rows.push((attribute(alloc, long(1), "x")?, Err(MeaningFault::WrongType)))?;
+    rows.push((
+        Expr::extended_has_attr(alloc, Expr::var(Var::Resource), path)?,
+        no(),
+    ))?;
+    rows.push((
+        attribute(alloc, Expr::var(Var::Context), "x")?,
+        Err(MeaningFault::MissingField),
+    ))?;
+    rows.push((
+        attribute(alloc, long(1), "x")?,
+        Err(MeaningFault::WrongType),
+    ))?;
     Ok(rows)
 }
 
@@ -153,7 +201,10 @@ fn rows_of_tags_and_ancestors(alloc: Global) -> Result<Rows, Fail> {
     let folder = entity(alloc, "Folder", "f")?;
     rows.push((Expr::is_in(alloc, Expr::var(Var::Resource), folder)?, yes()))?;
     let absent = entity(alloc, "User", "b")?;
-    rows.push((Expr::is_in(alloc, absent, entity(alloc, "User", "b")?)?, yes()))?;
+    rows.push((
+        Expr::is_in(alloc, absent, entity(alloc, "User", "b")?)?,
+        yes(),
+    ))?;
     let both = vec![in alloc; entity(alloc, "User", "b")?, entity(alloc, "Folder", "f")?]?;
     let both = Expr::set(alloc, both)?;
     rows.push((Expr::is_in(alloc, Expr::var(Var::Resource), both)?, yes()))?;
@@ -168,15 +219,28 @@ fn rows_of_tags_and_ancestors(alloc: Global) -> Result<Rows, Fail> {
 fn rows_of_others(alloc: Global) -> Result<Rows, Fail> {
     let mut rows = Vec::new(alloc);
     let members = vec![in alloc; long(2), long(1), long(2)]?;
-    rows.push((Expr::contains(alloc, Expr::set(alloc, members)?, long(1))?, yes()))?;
-    let elems = vec![in alloc; PatternElem::Char('f'), PatternElem::Wildcard, PatternElem::Char('r')]?;
+    rows.push((
+        Expr::contains(alloc, Expr::set(alloc, members)?, long(1))?,
+        yes(),
+    ))?;
+    let elems = vec![in alloc;
+        PatternElem::Char('f'),
+        PatternElem::Wildcard,
+        PatternElem::Char('r'),
+    ]?;
     let pattern = Pattern::new(alloc, elems)?;
     rows.push((Expr::like(alloc, text(alloc, "foo bar")?, pattern)?, yes()))?;
     let kind = EntityType::from_normalized_str(alloc, "User")?;
-    rows.push((Expr::is_entity_type(alloc, Expr::var(Var::Resource), kind)?, no()))?;
+    rows.push((
+        Expr::is_entity_type(alloc, Expr::var(Var::Resource), kind)?,
+        no(),
+    ))?;
     let bound = Expr::slot(SlotId::principal());
     rows.push((Expr::is_eq(alloc, bound, Expr::var(Var::Principal))?, yes()))?;
-    rows.push((Expr::slot(SlotId::resource()), Err(MeaningFault::UnlinkedSlot)))?;
+    rows.push((
+        Expr::slot(SlotId::resource()),
+        Err(MeaningFault::UnlinkedSlot),
+    ))?;
     let bound = Expr::unknown(Unknown::new_untyped(word(alloc, "u")?));
     rows.push((bound, Ok(Literal::from(5))))?;
     let open = Expr::unknown(Unknown::new_untyped(word(alloc, "v")?));
