@@ -16,15 +16,18 @@ use Rattle.cedar_expr_model.specs.Name.{Text}
 use Rattle.cedar_expr_model.specs.Uid.{Uid, uid_eq}
 use Rattle.cedar_expr_model.specs.Whole.Lists.{all_given}
 use Rattle.cedar_expr_model.specs.Whole.Made as model
-use Rattle.cedar_expr_model.specs.Whole.Made.{Made, bare_fields}
+use Rattle.cedar_expr_model.specs.Whole.Made.{Made, Mades, made_set, bare_fields}
 use Rattle.cedar_expr_model.specs.Whole.Order.{text_cmp}
 use Rattle.cedar_expr_model.specs.Whole.Value.{V, Vs, values_list, field_of}
 use Rattle.cedar_expr_values.specs.Extension.{Extension}
-use Rattle.cedar_expr_values.specs.Values.{bare, made, made_list, made_fields, made_pair}
+use Rattle.cedar_expr_values.specs.Values.{bare, made, made_kind, mades, made_list, made_fields, made_pair, kind_step, set_step, value_step}
+use Rattle.cedar_expr_values.specs.declared.value.ValueKind.{ValueKind, ValueKind-F, fold-roll-ValueKind}
+use Rattle.cedar_expr_values.specs.declared.value.ValueKind.TheVariants.{Set as SetKind, rolls-Set}
+use Rattle.cedar_expr_values.specs.declared.value.Set.{Set}
 use Rattle.cedar_expr_values.specs.declared.value.Value.{Value}
 use Rattle.cedar_store_model.specs.Whole.Outcome.{Res, err, wrong_type}
 use Rattle.cedar_store_model.specs.Whole.Operators.{says}
-use Rattle.cedar_store_model.specs.Whole.Reads.{uid_of, is_in_some}
+use Rattle.cedar_store_model.specs.Whole.Reads.{uid_of, uids_in, is_in_some}
 
 -- a look-up among changed values
 pub lookup_changed : {A B : Type 0} (f : A → B) (a : Text) (ps : List (Text × A)) → lookup (bytes_eq a) (map (λ p. (p.0, f p.1)) ps) ≡ option_map f (lookup (bytes_eq a) ps)
@@ -66,6 +69,11 @@ module _ {X : Type 0} (seen : X → Extension) where
   pub members_are : (vs : List (Value X)) → values_list (model.bares (made_list (map (made seen) vs))) ≡ map (bare seen) vs
   members_are [] = refl
   members_are (v ∷ vs) = ap (λ ws. bare seen v ∷ ws) (members_are vs)
+
+  pub set_uids : (k : ValueKind X) (s : Set X) (v : Made) (vs : List (Value X)) → made_kind seen k ≡ v → k ≡ SetKind s → mades seen s ≡ made_list (map (made seen) vs) → uids_in (model.bare v) ≡ all_given uid_of (map (bare seen) vs)
+  set_uids k s v vs h is m =
+      let kind = ap (made_kind seen) (sym (rolls-Set s)) ∙ fold-roll-ValueKind X Made Mades Made (kind_step seen) set_step value_step (ValueKind-F.Set s) in
+      ap (λ d. uids_in (model.bare d)) (sym h ∙ ap (made_kind seen) is ∙ kind ∙ ap made_set m) ∙ ap (all_given uid_of) (members_are vs)
 
   -- whether all of a list are entities, and whether one is among them or below them
   module _ (ancestors : List Uid) (u : Uid) where

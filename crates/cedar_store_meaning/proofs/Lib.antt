@@ -3,6 +3,7 @@ pub mod Ordered
 pub mod Called
 pub mod Steps
 pub mod Found
-pub mod Paths
+pub mod Held
+pub mod PathSteps
 pub mod Walked
 pub mod Gathered

@@ -1,5 +1,5 @@
 pub mod Outcomes
 pub mod Ordered
-pub mod Reads
-pub mod Paths
+pub mod StoreParts
+pub mod PathSteps
 pub mod Worlds

@@ -8,7 +8,7 @@ ghost use Rattle.cedar_store_entities.specs.Stores.{store_seen};
 ghost use Rattle.cedar_store_model.specs.Whole.Meaning.{path_tested};
 ghost use Rattle.cedar_store_worlds_model.specs.Alone.{store_alone};
 ghost use Rattle.cedar_store_meaning.specs.Outcomes.{IsMeaning};
-ghost use Rattle.cedar_store_meaning.specs.Paths.{Steps};
+ghost use Rattle.cedar_store_meaning.specs.PathSteps.{Steps};
 
 use crate::calls::copied;
 use crate::fault::MeaningFault;
@@ -31,7 +31,8 @@ pub fn has_path(
 {
     let mut value = copied(v)?;
     let mut name = &path.head;
-    for next in path.tail.as_slice() {
+    let names = path.tail.as_slice();
+    for next in names {
         match step(alloc, entities, name.as_str(), &value)? {
             Some(found) => value = found,
             None => return Ok(truth(false)),

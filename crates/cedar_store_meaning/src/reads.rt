@@ -17,7 +17,7 @@ ghost use Rattle.cedar_store_model.specs.Whole.Reads.{attribute_read, attribute_
 ghost use Rattle.cedar_store_model.specs.Whole.Store.{look_up};
 ghost use Rattle.cedar_store_worlds_model.specs.Alone.{store_alone};
 ghost use Rattle.cedar_store_meaning.specs.Outcomes.{IsMeaning, IsOutcome};
-ghost use Rattle.cedar_store_meaning.specs.Reads.{found_part, fields_of, ancestors_of};
+ghost use Rattle.cedar_store_meaning.specs.StoreParts.{found_part, fields_of, ancestors_of};
 
 use crate::calls::copied;
 use crate::fault::MeaningFault;

@@ -17,7 +17,7 @@ use Rattle.cedar_store_model.specs.Whole.Reads.{attribute_read, attribute_tested
 use Rattle.cedar_store_model.specs.Whole.Meaning.{truth_asked, picked, path_tested}
 use Rattle.cedar_store_model.specs.Whole.World.{World}
 use Rattle.cedar_store_meaning.specs.Outcomes.{told, IsSeen, IsMeaning}
-use Rattle.cedar_store_meaning.specs.Paths.{stepped, found_or_false, Follows, Steps}
+use Rattle.cedar_store_meaning.specs.PathSteps.{stepped, found_or_false, Follows, Steps}
 use Rattle.cedar_store_meaning.specs.declared.fault.MeaningFault.{MeaningFault}
 use Rattle.cedar_store_meaning.proofs.Steps.{tells_on, truth_is, picks_none}
 
