@@ -6,9 +6,21 @@ use Rattle.std.specs.Map.{lookup}
 use Rattle.std.specs.Str.{bytes_eq}
 use Rattle.cedar_expr_model.specs.Name.{Text}
 use Rattle.cedar_expr_model.specs.Uid.{Uid}
-use Rattle.cedar_expr_model.specs.Whole.Made.{Made}
-use Rattle.cedar_expr_model.specs.Whole.Value.{V}
+use Rattle.cedar_expr_model.specs.Whole.Made.{Made, Mades, bare, bare_fields}
+use Rattle.cedar_expr_model.specs.Whole.Value.{V, prim, record_of}
 use Rattle.cedar_expr_model.specs.Whole.ValueParts.{Part}
+use Rattle.std.specs.declared.alloc.Global.{Global}
+use Rattle.std.specs.declared.collections.BTreeMap.{BTreeMap}
+use Rattle.std.specs.declared.rc.Rc.{Rc}
+use Rattle.std.specs.declared.rc.RcStr.{RcStr}
+use Rattle.cedar_expr_names.specs.Literals.{literal_of}
+use Rattle.cedar_expr_names.specs.declared.literal.Literal.{Literal}
+use Rattle.cedar_expr_values.specs.Extension.{Extension}
+use Rattle.cedar_expr_values.specs.Values.{made_kind, made_fields, made_pair, kind_step, set_step, value_step}
+use Rattle.cedar_expr_values.specs.declared.value.Value.{Value}
+use Rattle.cedar_expr_values.specs.declared.value.ValueKind.{ValueKind, ValueKind-F, fold-roll-ValueKind}
+use Rattle.cedar_expr_values.specs.declared.value.ValueKind.TheVariants.{Lit, Record, rolls-Lit}
+use Rattle.cedar_expr_values.proofs.Recorded.{record_kind}
 use Rattle.cedar_expr_values.specs.declared.extension.ExtValue.{ExtValue}
 use Rattle.cedar_expr_partial.specs.declared.partial_value.PartialValue.{PartialValue}
 use Rattle.cedar_store_model.specs.Whole.World as model
@@ -36,3 +48,13 @@ module _ (parts : model.Entity V → List (Text × Part V)) (u : Uid) (a : Text)
 
   pub test_is : part_tested parts u a found ≡ Some (says (is_some r))
   test_is = ap (part_tested parts u a) h ∙ ap (λ o. Some (says (is_some o))) part_there ∙ ap (λ b. Some (says b)) (same_some r)
+
+-- what a value is, by its kind
+module _ {X : Type 0} (seen : X → Extension) where
+  pub literal_is : (k : ValueKind X) (l : Literal) (d : Made) → made_kind seen k ≡ d → k ≡ Lit l → bare d ≡ prim (literal_of l)
+  literal_is k l d h is =
+      let kind = ap (made_kind seen) (sym (rolls-Lit l)) ∙ fold-roll-ValueKind X Made Mades Made (kind_step seen) set_step value_step (ValueKind-F.Lit l) in
+      ap bare (sym h ∙ ap (made_kind seen) is ∙ kind)
+
+  pub record_is : (k : ValueKind X) (m : Rc (BTreeMap (RcStr Global) (Value X) Global) Global) (d : Made) → made_kind seen k ≡ d → k ≡ Record m → bare d ≡ record_of (bare_fields (made_fields (map (made_pair seen) m.value.entries)))
+  record_is k m d h is = ap bare (sym h ∙ ap (made_kind seen) is ∙ record_kind seen m)

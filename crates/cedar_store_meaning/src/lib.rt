@@ -5,15 +5,13 @@ pub mod binary;
 pub mod calls;
 pub mod combined;
 pub mod fault;
-mod leaves;
+pub mod leaves;
 pub mod operators;
 pub mod paths;
 pub mod reads;
 pub mod table;
-pub mod walk;
 pub mod world;
 
 pub use fault::MeaningFault;
 pub use table::FunctionTable;
-pub use walk::evaluate;
 pub use world::World;

@@ -11,4 +11,5 @@ pub returns-in-Data : goal.returns-in-Data
 returns-in-Data c =
     let u = uid_of c.args.uid.now in
     let e = c.in-Data.entity.now in
-    subst (λ o. IsMeaning o c.part.result) (sym (part_is (λ x. x.tags) u c.args.name.now (look_up (store_seen c.args.entities.now) u) (entity_of e) (entity_seen e).tags c.get_tag.result c.in-Data.ensures.0 refl c.get_tag.ensures)) c.part.ensures
+    let d = rw c.in-Data.is at c.in_ok-entity.ensures in
+    subst (λ o. IsMeaning o c.part.result) (sym (part_is (λ x. x.tags) u c.args.name.now (look_up (store_seen c.args.entities.now) u) (entity_of e) (entity_seen e).tags c.get_tag.result d.0 refl c.get_tag.ensures)) c.part.ensures
