@@ -6,7 +6,8 @@ ghost use Rattle.std.specs.Option.{option_map_or};
 ghost use Rattle.std.specs.Slice.Iter.{iter_rest};
 ghost use Rattle.cedar_expr_model.specs.Uid.{uid_eq};
 ghost use Rattle.cedar_expr_model.specs.Whole.Tree.{is_in, get_tag, has_tag};
-ghost use Rattle.cedar_expr_model.specs.Whole.Value.{field_of};
+ghost use Rattle.cedar_expr_model.specs.Whole.Value.{prim, field_of};
+ghost use Rattle.cedar_expr_names.specs.Literals.{literal_of};
 ghost use Rattle.cedar_expr_names.specs.Views.{uid_of};
 ghost use Rattle.cedar_expr_values.specs.Extensions.{extension_of};
 ghost use Rattle.cedar_expr_values.specs.Values.{bare};
@@ -36,7 +37,7 @@ pub fn attribute(alloc: Global, entities: &Entities, name: &str, v: &V) -> Resul
     ensures { IsMeaning (attribute_read (store_alone (store_seen entities.now)) name.now (bare extension_of v.now)) result }
 {
     match v.value_kind() {
-        ValueKind::Lit(Literal::EntityUID(uid)) => entity_attribute(alloc, entities, name, uid),
+        ValueKind::Lit(literal) => literal_attribute(alloc, entities, name, literal),
         ValueKind::Record(fields) => field(fields, name),
         _ => Err(MeaningFault::WrongType),
     }
@@ -52,7 +53,7 @@ pub fn has_attribute(
     ensures { IsMeaning (attribute_tested (store_alone (store_seen entities.now)) name.now (bare extension_of v.now)) result }
 {
     match v.value_kind() {
-        ValueKind::Lit(Literal::EntityUID(uid)) => entity_has_attribute(alloc, entities, name, uid),
+        ValueKind::Lit(literal) => literal_has_attribute(alloc, entities, name, literal),
         ValueKind::Record(fields) => Ok(truth(has_field(fields, name))),
         _ => Err(MeaningFault::WrongType),
     }
@@ -63,8 +64,7 @@ pub fn tag(alloc: Global, entities: &Entities, v: &V, w: &V) -> Result<V, Meanin
     ensures { IsMeaning (combined (store_alone (store_seen entities.now)) get_tag (bare extension_of v.now) (bare extension_of w.now)) result }
 {
     match (v.value_kind(), w.value_kind()) {
-        (ValueKind::Lit(Literal::EntityUID(uid)), ValueKind::Lit(Literal::String(name))) =>
-            entity_tag(alloc, entities, name.as_str(), uid),
+        (ValueKind::Lit(of), ValueKind::Lit(name)) => literal_tag(alloc, entities, of, name),
         _ => Err(MeaningFault::WrongType),
     }
 }
@@ -74,8 +74,7 @@ pub fn has_tag(alloc: Global, entities: &Entities, v: &V, w: &V) -> Result<V, Me
     ensures { IsMeaning (combined (store_alone (store_seen entities.now)) has_tag (bare extension_of v.now) (bare extension_of w.now)) result }
 {
     match (v.value_kind(), w.value_kind()) {
-        (ValueKind::Lit(Literal::EntityUID(uid)), ValueKind::Lit(Literal::String(name))) =>
-            entity_has_tag(alloc, entities, name.as_str(), uid),
+        (ValueKind::Lit(of), ValueKind::Lit(name)) => literal_has_tag(alloc, entities, of, name),
         _ => Err(MeaningFault::WrongType),
     }
 }
@@ -87,6 +86,70 @@ pub fn within(alloc: Global, entities: &Entities, v: &V, w: &V) -> Result<V, Mea
 {
     match v.value_kind() {
         ValueKind::Lit(Literal::EntityUID(uid)) => entity_within(alloc, entities, uid, w),
+        _ => Err(MeaningFault::WrongType),
+    }
+}
+
+// The attribute of the entity that the literal is.
+fn literal_attribute(
+    alloc: Global,
+    entities: &Entities,
+    name: &str,
+    literal: &Literal,
+) -> Result<V, MeaningFault>
+    ensures { IsMeaning (attribute_read (store_alone (store_seen entities.now)) name.now (prim (literal_of literal.now))) result }
+{
+    match literal {
+        Literal::EntityUID(uid) => entity_attribute(alloc, entities, name, uid),
+        _ => Err(MeaningFault::WrongType),
+    }
+}
+
+// Whether the entity that the literal is has the attribute.
+fn literal_has_attribute(
+    alloc: Global,
+    entities: &Entities,
+    name: &str,
+    literal: &Literal,
+) -> Result<V, MeaningFault>
+    ensures { IsMeaning (attribute_tested (store_alone (store_seen entities.now)) name.now (prim (literal_of literal.now))) result }
+{
+    match literal {
+        Literal::EntityUID(uid) => entity_has_attribute(alloc, entities, name, uid),
+        _ => Err(MeaningFault::WrongType),
+    }
+}
+
+// The tag of the entity that the one literal is, by the text that the other is.
+fn literal_tag(
+    alloc: Global,
+    entities: &Entities,
+    of: &Literal,
+    name: &Literal,
+) -> Result<V, MeaningFault>
+    ensures { IsMeaning (combined (store_alone (store_seen entities.now)) get_tag (prim (literal_of of.now)) (prim (literal_of name.now))) result }
+{
+    match (of, name) {
+        (Literal::EntityUID(uid), Literal::String(text)) => {
+            entity_tag(alloc, entities, text.as_str(), uid)
+        }
+        _ => Err(MeaningFault::WrongType),
+    }
+}
+
+// Whether the entity that the one literal is has the tag, by the text that the other is.
+fn literal_has_tag(
+    alloc: Global,
+    entities: &Entities,
+    of: &Literal,
+    name: &Literal,
+) -> Result<V, MeaningFault>
+    ensures { IsMeaning (combined (store_alone (store_seen entities.now)) has_tag (prim (literal_of of.now)) (prim (literal_of name.now))) result }
+{
+    match (of, name) {
+        (Literal::EntityUID(uid), Literal::String(text)) => {
+            entity_has_tag(alloc, entities, text.as_str(), uid)
+        }
         _ => Err(MeaningFault::WrongType),
     }
 }

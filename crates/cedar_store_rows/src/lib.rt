@@ -1,5 +1,0 @@
-//! Tests of what expressions mean over stores.
-#![tactic(auto)]
-
-#[cfg(test)]
-mod meaning;
