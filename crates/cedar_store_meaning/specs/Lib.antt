@@ -1,2 +1,5 @@
 pub mod Outcomes
 pub mod Ordered
+pub mod StoreParts
+pub mod PathSteps
+pub mod Worlds

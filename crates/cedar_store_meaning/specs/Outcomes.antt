@@ -18,7 +18,7 @@ use Rattle.cedar_store_meaning.specs.declared.fault.MeaningFault.{MeaningFault}
 use Rattle.cedar_store_meaning.specs.declared.fault.MeaningFault.TheVariants.{OutOfMemory, NotKnown, MissingEntity, MissingAttributeOrTag, MissingField, WrongType, Overflow, NoFunction, WrongCount, UnlinkedSlot, ExtensionFailed}
 
 -- What a fault tells: an error of the meaning, or that there is no outcome. Want of memory tells nothing.
-abbrev pub told : MeaningFault → Option (Option (Res V))
+abbrev pub told : {A : Type 0} → MeaningFault → Option (Option (Res A))
 told OutOfMemory = None
 told NotKnown = Some None
 told (MissingEntity u) = Some (Some (err (missing_entity (uid_of u))))
@@ -31,10 +31,14 @@ told WrongCount = Some (Some (err wrong_count))
 told UnlinkedSlot = Some (Some (err unlinked_slot))
 told (ExtensionFailed n) = Some (Some (err (extension_failed (plain_name_of n))))
 
--- The answer is the outcome, or says that there is none. Want of memory says nothing.
+-- The answer, seen so, is the outcome, or says that there is none. Want of memory says nothing.
+abbrev pub IsSeen : {A R : Type 0} → (R → A) → Option (Res A) → Result R MeaningFault → Type 0
+IsSeen seen o (Ok x) = o ≡ Some (val (seen x))
+IsSeen seen o (Err e) = IfSome (told e) (λ p. o ≡ p)
+
+-- the same of a value
 abbrev pub IsMeaning : Option (Res V) → Result (Value ExtValue) MeaningFault → Type 0
-IsMeaning o (Ok v) = o ≡ Some (val (bare extension_of v))
-IsMeaning o (Err e) = IfSome (told e) (λ p. o ≡ p)
+IsMeaning o r = IsSeen (bare extension_of) o r
 
 -- The answer is this outcome.
 abbrev pub IsOutcome : Res V → Result (Value ExtValue) MeaningFault → Type 0

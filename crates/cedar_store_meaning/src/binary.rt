@@ -1,19 +1,20 @@
 //! Operators of two operands that ask no store.
 
-ghost use Rattle.std.specs.Prelude.{◌≡◌, true, not, List, ◌+ℤ◌, ◌-ℤ◌, ◌*ℤ◌};
+ghost use Rattle.std.specs.Prelude.{◌≡◌, not, List, ◌+ℤ◌, ◌-ℤ◌, ◌*ℤ◌};
 ghost use Rattle.std.specs.Ordering.{is_lt, is_le};
 ghost use Rattle.std.specs.List.{list_any};
 ghost use Rattle.std.specs.Slice.Iter.{iter_rest};
 ghost use Rattle.cedar_expr_model.specs.Name.{Name as ModelName, name_eq};
 ghost use Rattle.cedar_expr_model.specs.Whole.Value.{V as ModelValue, extension, truth_value};
 ghost use Rattle.cedar_expr_model.specs.Whole.Order.{value_eq};
-ghost use Rattle.cedar_expr_model.specs.Whole.Canonical.{is_canonical, is_subset, is_disjoint};
+ghost use Rattle.cedar_expr_model.specs.Whole.Canonical.{is_subset, is_disjoint};
 ghost use Rattle.cedar_expr_model.specs.Whole.Table.{Called};
 ghost use Rattle.cedar_expr_names.specs.Views.{plain_name_of};
 ghost use Rattle.cedar_expr_functions.specs.Tables.{table_of, ordered_of};
 ghost use Rattle.cedar_expr_values.specs.Extensions.{extension_of};
 ghost use Rattle.cedar_expr_values.specs.Values.{bare};
 ghost use Rattle.cedar_store_model.specs.Whole.Operators.{ordered, calculated, among_members, of_sets};
+ghost use Rattle.cedar_store_worlds_model.specs.Rising.{Rises};
 ghost use Rattle.cedar_store_meaning.specs.Outcomes.{IsOutcome};
 ghost use Rattle.cedar_store_meaning.specs.Ordered.{order_of};
 
@@ -70,7 +71,7 @@ pub fn product(v: &V, w: &V) -> Result<V, MeaningFault>
 
 /// Whether the value is a member of the set, whose members rise.
 pub fn contains(set: &V, v: &V) -> Result<V, MeaningFault>
-    ensures { is_canonical (bare extension_of set.now) ≡ true → IsOutcome (among_members (bare extension_of set.now) (bare extension_of v.now)) result }
+    ensures { Rises (bare extension_of set.now) → IsOutcome (among_members (bare extension_of set.now) (bare extension_of v.now)) result }
 {
     match set.value_kind() {
         ValueKind::Set(members) => Ok(truth(members.contains(v))),
@@ -80,7 +81,7 @@ pub fn contains(set: &V, v: &V) -> Result<V, MeaningFault>
 
 /// Whether each member of the second set is one of the first, where the members of both rise.
 pub fn contains_all(v: &V, w: &V) -> Result<V, MeaningFault>
-    ensures { is_canonical (bare extension_of w.now) ≡ true → IsOutcome (of_sets (λ vs ws. is_subset ws vs) (bare extension_of v.now) (bare extension_of w.now)) result }
+    ensures { Rises (bare extension_of w.now) → IsOutcome (of_sets (λ vs ws. is_subset ws vs) (bare extension_of v.now) (bare extension_of w.now)) result }
 {
     match (v.value_kind(), w.value_kind()) {
         (ValueKind::Set(members), ValueKind::Set(others)) => Ok(truth(others.is_subset(members))),
@@ -90,7 +91,7 @@ pub fn contains_all(v: &V, w: &V) -> Result<V, MeaningFault>
 
 /// Whether some member of the second set is one of the first, where the members of both rise.
 pub fn contains_any(v: &V, w: &V) -> Result<V, MeaningFault>
-    ensures { is_canonical (bare extension_of v.now) ≡ true → IsOutcome (of_sets (λ vs ws. not (is_disjoint vs ws)) (bare extension_of v.now) (bare extension_of w.now)) result }
+    ensures { Rises (bare extension_of v.now) → IsOutcome (of_sets (λ vs ws. not (is_disjoint vs ws)) (bare extension_of v.now) (bare extension_of w.now)) result }
 {
     match (v.value_kind(), w.value_kind()) {
         (ValueKind::Set(members), ValueKind::Set(others)) => Ok(truth(!members.is_disjoint(

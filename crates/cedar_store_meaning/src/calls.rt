@@ -35,7 +35,7 @@ pub fn unknown(unknowns: &HashMap<RcStr, V>, name: &str) -> Result<V, MeaningFau
 }
 
 // The same value.
-fn copied(v: &V) -> Result<V, MeaningFault>
+pub(crate) fn copied(v: &V) -> Result<V, MeaningFault>
     ensures { IsMeaning (Some (val (bare extension_of v.now))) result }
 {
     Ok(v.clone()?)

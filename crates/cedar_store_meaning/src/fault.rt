@@ -4,7 +4,7 @@ ghost use Rattle.std.specs.Prelude.{◌≡◌};
 ghost use Rattle.cedar_store_meaning.specs.declared.fault.MeaningFault.TheVariants.{OutOfMemory};
 
 use cedar_expr_names::{EntityUID, Name};
-use std::alloc::AllocError;
+use std::alloc::{AllocError, AllocFailed};
 use thiserror::Error;
 
 /// Why an expression has no value.
@@ -65,6 +65,14 @@ impl From<AllocError> for MeaningFault {
     ghost from_gives = { λ _ e. e ≡ OutOfMemory };
 
     fn from(_error: AllocError) -> MeaningFault {
+        MeaningFault::OutOfMemory
+    }
+}
+
+impl<T: Drop> From<AllocFailed<T>> for MeaningFault {
+    ghost from_gives = { λ _ e. e ≡ OutOfMemory };
+
+    fn from(_error: AllocFailed<T>) -> MeaningFault {
         MeaningFault::OutOfMemory
     }
 }

@@ -3,7 +3,15 @@
 
 pub mod binary;
 pub mod calls;
+pub mod combined;
 pub mod fault;
+pub mod leaves;
 pub mod operators;
+pub mod paths;
+pub mod reads;
+pub mod table;
+pub mod world;
 
 pub use fault::MeaningFault;
+pub use table::FunctionTable;
+pub use world::World;

@@ -1,6 +1,6 @@
 //! Operators at the values of their operands.
 
-ghost use Rattle.std.specs.Prelude.{◌≡◌, true};
+ghost use Rattle.std.specs.Prelude.{◌≡◌, Some};
 ghost use Rattle.std.specs.Option.{option_map_or};
 ghost use Rattle.cedar_expr_leaves.specs.Patterns.{pattern_of};
 ghost use Rattle.cedar_expr_model.specs.Whole.Value.{prim, truth_value, long as model_long};
@@ -11,7 +11,7 @@ ghost use Rattle.cedar_expr_values.specs.Values.{bare};
 ghost use Rattle.cedar_store_model.specs.Whole.Outcome.{val, err, overflow};
 ghost use Rattle.cedar_store_model.specs.Whole.Meaning.{truth_asked};
 ghost use Rattle.cedar_store_model.specs.Whole.Operators.{applied as model_applied, like_pattern, of_type};
-ghost use Rattle.cedar_store_meaning.specs.Outcomes.{IsOutcome};
+ghost use Rattle.cedar_store_meaning.specs.Outcomes.{IsOutcome, IsSeen};
 
 use crate::fault::MeaningFault;
 use cedar_expr_leaves::Pattern;
@@ -60,6 +60,16 @@ pub fn is_of_type(kind: &EntityType, v: &V) -> Result<V, MeaningFault>
 {
     match v.value_kind() {
         ValueKind::Lit(Literal::EntityUID(uid)) => Ok(truth(uid.entity_type().same(kind))),
+        _ => Err(MeaningFault::WrongType),
+    }
+}
+
+// Which truth value the value is; else a type error.
+pub(crate) fn as_bool(v: &V) -> Result<bool, MeaningFault>
+    ensures { IsSeen truth_value (Some (truth_asked (bare extension_of v.now))) result }
+{
+    match v.value_kind() {
+        ValueKind::Lit(Literal::Bool(b)) => Ok(*b),
         _ => Err(MeaningFault::WrongType),
     }
 }
