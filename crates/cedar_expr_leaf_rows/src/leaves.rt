@@ -2,6 +2,7 @@
 
 use cedar_expr_leaves::*;
 use std::alloc::{AllocError, Global};
+use std::fmt::Display;
 use std::rc::Rc;
 use std::test::Fail;
 
@@ -39,9 +40,14 @@ fn patterns_match(rt: HostRuntime) -> Result<(), Fail> {
         ("ab", "abc", false),
     ] {
         let made = pattern(rt.alloc(), elems)?;
-        assert_eq!(rt; made.wildcard_match(text), want, "{elems} on {text}");
+        assert!(rt; made.wildcard_match(text) == want, "{elems} on {text}");
     }
     Ok(())
+}
+
+// Whether this is shown as this text.
+fn shows<T: Display>(alloc: Global, it: &T, want: &str) -> Result<bool, AllocError> {
+    Ok(it.to_string(alloc)?.as_str() == want)
 }
 
 #[test]
@@ -55,11 +61,9 @@ fn patterns_are_shown(rt: HostRuntime) -> Result<(), Fail> {
         PatternElem::Char('\n'),
     ];
     let made = Pattern::new(alloc, elems.to_vec(alloc)?)?;
-    assert_eq!(rt; made.to_string(alloc)?.as_str(), "a*\\*\\\"\\u{a}");
-    assert_eq!(rt; made.get_elems(), elems.as_slice());
-    assert_eq!(rt; made.iter().count(), 5);
-    assert_eq!(rt; made.len(), 5);
-    assert!(rt; !made.is_empty());
+    assert!(rt; shows(alloc, &made, "a*\\*\\\"\\u{a}")?);
+    assert!(rt; made.get_elems() == elems.as_slice());
+    assert!(rt; made.iter().count() == 5 && made.len() == 5 && !made.is_empty());
     assert!(rt; made == made.clone()?);
     Ok(())
 }
@@ -68,36 +72,30 @@ fn patterns_are_shown(rt: HostRuntime) -> Result<(), Fail> {
 fn patterns_are_made_and_ordered(rt: HostRuntime) -> Result<(), Fail> {
     let alloc = rt.alloc();
     let shared = Pattern::from(Rc::new(alloc, Vec::new(alloc))?);
-    assert!(rt; shared.is_empty());
-    assert!(rt; shared == pattern(alloc, "")?);
-    assert!(rt; pattern(alloc, "z")? < pattern(alloc, "*")?);
-    assert!(rt; pattern(alloc, "a*")? < pattern(alloc, "b")?);
+    assert!(rt; shared.is_empty() && shared == pattern(alloc, "")?);
+    for (first, second) in [("z", "*"), ("a*", "b")] {
+        assert!(rt; pattern(alloc, first)? < pattern(alloc, second)?, "{first}");
+    }
     Ok(())
 }
 
 #[test]
 fn slots_and_variables(rt: HostRuntime) -> Result<(), Fail> {
     let alloc = rt.alloc();
-    assert!(rt; SlotId::principal().is_principal());
-    assert!(rt; SlotId::resource().is_resource());
-    assert!(rt; SlotId::principal() < SlotId::resource());
-    assert_eq!(rt;
-        SlotId::principal().to_string(alloc)?.as_str(),
-        "?principal"
-    );
-    assert_eq!(rt; SlotId::resource().to_string(alloc)?.as_str(), "?resource");
     let slot = Slot {
         id: SlotId::resource(),
         loc: None,
     };
-    assert!(rt; slot.id.is_resource());
+    let principal = SlotId::principal();
+    assert!(rt; principal.is_principal() && slot.id.is_resource() && principal < slot.id);
+    assert!(rt; shows(alloc, &principal, "?principal")? && shows(alloc, &slot.id, "?resource")?);
     for (variable, want) in [
         (Var::Principal, "principal"),
         (Var::Action, "action"),
         (Var::Resource, "resource"),
         (Var::Context, "context"),
     ] {
-        assert_eq!(rt; variable.to_string(alloc)?.as_str(), want);
+        assert!(rt; shows(alloc, &variable, want)?, "{want}");
     }
     Ok(())
 }

@@ -4,6 +4,8 @@
 #[cfg(test)]
 mod leaves;
 #[cfg(test)]
+mod literals;
+#[cfg(test)]
 mod names;
 #[cfg(test)]
 mod raw_names;

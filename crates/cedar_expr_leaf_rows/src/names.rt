@@ -3,254 +3,288 @@
 use cedar_expr_names::*;
 use std::alloc::Global;
 use std::cmp::Ordering;
+use std::fmt::Display;
 use std::rc::RcStr;
 use std::test::Fail;
 
-fn user(alloc: Global, id: &str) -> Result<EntityUID, NameError> {
-    let kind = EntityType::from_normalized_str(alloc, "User")?;
-    let id = Eid::from_str(alloc, id).map_err(|_| NameError::OutOfMemory)?;
+fn name(alloc: Global, text: &str) -> Result<Name, NameError> {
+    Name::from_normalized_str(alloc, text)
+}
+
+fn internal(alloc: Global, text: &str) -> Result<InternalName, NameError> {
+    InternalName::from_normalized_str(alloc, text)
+}
+
+fn uid(alloc: Global, kind: &str, id: &str) -> Result<EntityUID, NameError> {
+    let kind = EntityType::from_normalized_str(alloc, kind)?;
+    let id = Eid::from_str(alloc, id).ok().ok_or(NameError::OutOfMemory)?;
     Ok(EntityUID::from_components(kind, id, None))
 }
 
-#[test]
-fn a_uid_is_shown_with_its_id_escaped(rt: HostRuntime) -> Result<(), Fail> {
-    let uid = user(rt.alloc(), "a\"b\\\n\u{e9}")?;
-    let shown = uid.to_string(rt.alloc())?;
-    assert_eq!(rt; shown.as_str(), "User::\"a\\\"b\\\\\\u{a}\\u{e9}\"");
-    Ok(())
-}
-
-#[test]
-fn the_ends_of_printable_ascii(rt: HostRuntime) -> Result<(), Fail> {
-    let shown = Quoted::new(" ~\u{7f}\u{0}\u{1f600}").to_string(rt.alloc())?;
-    assert_eq!(rt; shown.as_str(), "\" ~\\u{7f}\\u{0}\\u{1f600}\"");
-    Ok(())
-}
-
-#[test]
-fn identifiers(rt: HostRuntime) {
-    assert!(rt; is_normalized_ident("_a9"));
-    assert!(rt; is_normalized_ident("If"));
-    assert!(rt; is_normalized_ident("__cedar"));
-    assert!(rt; !is_normalized_ident("if"));
-    assert!(rt; !is_normalized_ident("has"));
-    assert!(rt; !is_normalized_ident("9a"));
-    assert!(rt; !is_normalized_ident("a b"));
-    assert!(rt; !is_normalized_ident("\u{e9}"));
-    assert!(rt; !is_normalized_ident(""));
-}
-
-#[test]
-fn a_name_is_read_by_its_parts(rt: HostRuntime) -> Result<(), Fail> {
-    let name = Name::from_normalized_str(rt.alloc(), "A::B")?;
-    assert!(rt; !name.as_internal().is_unqualified());
-    assert_eq!(rt; name.as_internal().basename().as_str(), "B");
-    let shown = name.to_string(rt.alloc())?;
-    assert_eq!(rt; shown.as_str(), "A::B");
-    Ok(())
-}
-
-#[test]
-fn texts_that_are_no_names(rt: HostRuntime) {
-    assert!(rt;
-        matches!(
-            InternalName::from_normalized_str(rt.alloc(), "if"),
-            Err(NameError::NotNormalized)
-        )
-    );
-    assert!(rt;
-        matches!(
-            InternalName::from_normalized_str(rt.alloc(), ""),
-            Err(NameError::NotNormalized)
-        )
-    );
-    assert!(rt;
-        matches!(
-            InternalName::from_normalized_str(rt.alloc(), "A::"),
-            Err(NameError::NotNormalized)
-        )
-    );
-    assert!(rt;
-        matches!(
-            InternalName::from_normalized_str(rt.alloc(), "::A"),
-            Err(NameError::NotNormalized)
-        )
-    );
-    assert!(rt;
-        matches!(
-            InternalName::from_normalized_str(rt.alloc(), "A:::B"),
-            Err(NameError::NotNormalized)
-        )
-    );
-    assert!(rt;
-        matches!(
-            InternalName::from_normalized_str(rt.alloc(), "A:: B"),
-            Err(NameError::NotNormalized)
-        )
-    );
-    assert!(rt;
-        matches!(
-            Id::from_normalized_str(rt.alloc(), "A::B"),
-            Err(NameError::NotNormalized)
-        )
-    );
-    assert!(rt;
-        matches!(
-            InternalName::from_normalized_str(rt.alloc(), "A::if"),
-            Err(NameError::NotNormalized)
-        )
-    );
-}
-
-#[test]
-fn a_reserved_name_is_internal_alone(rt: HostRuntime) -> Result<(), Fail> {
-    let internal = InternalName::from_normalized_str(rt.alloc(), "__cedar::X")?;
-    assert!(rt; internal.is_reserved());
-    assert!(rt;
-        matches!(
-            Name::from_normalized_str(rt.alloc(), "__cedar::X"),
-            Err(NameError::Reserved(_))
-        )
-    );
-    let refused = Name::try_from_internal(internal).err().ok_or("taken")?;
-    assert_eq!(rt;
-        refused.to_string(rt.alloc())?.as_str(),
-        "the name `__cedar::X` is reserved"
-    );
-    Ok(())
-}
-
-#[test]
-fn the_kinds_of_identifiers(rt: HostRuntime) -> Result<(), Fail> {
-    let alloc = rt.alloc();
-    for (text, is_id, is_unreserved, is_any) in [
-        ("if", false, false, true),
-        ("true", false, false, true),
-        ("__cedar", true, false, true),
-        ("a_1", true, true, true),
-        ("1a", false, false, false),
-        ("a::b", false, false, false),
-        ("", false, false, false),
-    ] {
-        assert_eq!(rt;
-            Id::from_normalized_str(alloc, text).is_ok(),
-            is_id,
-            "{text}"
-        );
-        let unreserved = UnreservedId::from_normalized_str(alloc, text);
-        assert_eq!(rt; unreserved.is_ok(), is_unreserved, "{text}");
-        assert_eq!(rt;
-            AnyId::from_normalized_str(alloc, text).is_ok(),
-            is_any,
-            "{text}"
-        );
+// How a reading ended: `+` with what was read, `-` as it is no such text, `r` as it is reserved.
+fn mark<T: Drop>(read: Result<T, NameError>) -> char {
+    match read {
+        Ok(_) => '+',
+        Err(NameError::NotNormalized) => '-',
+        Err(NameError::Reserved(_)) => 'r',
+        Err(NameError::OutOfMemory) => '!',
     }
-    let reserved = UnreservedId::from_normalized_str(alloc, "__cedar");
-    assert!(rt; matches!(reserved, Err(NameError::Reserved(_))));
-    let any = AnyId::from_normalized_str(alloc, "if")?;
-    assert_eq!(rt; any.clone()?.to_string(alloc)?.as_str(), "if");
-    assert_eq!(rt; any.as_str(), "if");
-    assert_eq!(rt; any.into_smolstr().as_str(), "if");
-    let id = UnreservedId::from_normalized_str(alloc, "a")?;
-    assert_eq!(rt; id.to_string(alloc)?.as_str(), "a");
-    assert_eq!(rt; id.as_id().as_str(), id.as_str());
-    assert_eq!(rt; id.into_smolstr().as_str(), "a");
+}
+
+// How an id, an unreserved id, any id, an internal name and a name are read from a text.
+fn marks(alloc: Global, text: &str) -> [char; 5] {
+    [
+        mark(Id::from_normalized_str(alloc, text)),
+        mark(UnreservedId::from_normalized_str(alloc, text)),
+        mark(AnyId::from_normalized_str(alloc, text)),
+        mark(InternalName::from_normalized_str(alloc, text)),
+        mark(Name::from_normalized_str(alloc, text)),
+    ]
+}
+
+// A text that is an identifier, a word that isn't one, a name of parts, and none of these.
+const IDENTIFIER: [char; 5] = ['+', '+', '+', '+', '+'];
+
+const WORD: [char; 5] = ['-', '-', '+', '-', '-'];
+
+const PARTS: [char; 5] = ['-', '-', '-', '+', '+'];
+
+const NOTHING: [char; 5] = ['-', '-', '-', '-', '-'];
+
+#[test]
+fn texts_are_read(rt: HostRuntime) {
+    for (text, want) in [
+        ("_a9", IDENTIFIER),
+        ("a_1", IDENTIFIER),
+        ("If", IDENTIFIER),
+        ("__cedar", ['+', 'r', '+', '+', 'r']),
+        ("if", WORD),
+        ("has", WORD),
+        ("true", WORD),
+        ("9a", NOTHING),
+        ("1a", NOTHING),
+        ("a b", NOTHING),
+        ("\u{e9}", NOTHING),
+        ("", NOTHING),
+        ("a::b", PARTS),
+        ("A::B", PARTS),
+        ("__cedar::X", ['-', '-', '-', '+', 'r']),
+        ("A::", NOTHING),
+        ("::A", NOTHING),
+        ("A:::B", NOTHING),
+        ("A:: B", NOTHING),
+        ("A::if", NOTHING),
+    ] {
+        let is_identifier = is_normalized_ident(text) == (want[0] == '+');
+        assert!(rt; is_identifier && marks(rt.alloc(), text) == want, "{text}");
+    }
+}
+
+// Whether this was made, and is shown as this text.
+fn shows<T: Display + Drop, E: Drop>(alloc: Global, made: Result<T, E>, want: &str) -> bool {
+    let Ok(it) = made else {
+        return false;
+    };
+    match it.to_string(alloc) {
+        Ok(text) => text.as_str() == want,
+        Err(_) => false,
+    }
+}
+
+#[test]
+fn uids_and_names_are_shown(rt: HostRuntime) {
+    let alloc = rt.alloc();
+    let escaped = uid(alloc, "User", "a\"b\\\n\u{e9}");
+    assert!(rt; shows(alloc, escaped, "User::\"a\\\"b\\\\\\u{a}\\u{e9}\""));
+    let ends: Result<Quoted<'_>, NameError> = Ok(Quoted::new(" ~\u{7f}\u{0}\u{1f600}"));
+    assert!(rt; shows(alloc, ends, "\" ~\\u{7f}\\u{0}\\u{1f600}\""));
+    assert!(rt; shows(alloc, name(alloc, "A::B"), "A::B"));
+    assert!(rt; shows(alloc, InternalName::cedar(alloc), "__cedar"));
+}
+
+// The refusal of a reserved name, which is an internal one.
+fn refused(alloc: Global, text: &str) -> Result<ReservedNameError, NameError> {
+    let reserved = internal(alloc, text)?;
+    let is_taken = !reserved.is_reserved() || Name::try_from_borrowed(&reserved).is_ok();
+    match Name::try_from_internal(reserved) {
+        Err(refusal) if !is_taken => Ok(refusal),
+        _ => Err(NameError::NotNormalized),
+    }
+}
+
+#[test]
+fn a_reserved_name_is_internal_alone(rt: HostRuntime) {
+    let alloc = rt.alloc();
+    let refusal = refused(alloc, "__cedar::X");
+    assert!(rt; shows(alloc, refusal, "the name `__cedar::X` is reserved"));
+}
+
+// Any id of a word, with its texts.
+fn is_any_id(alloc: Global, text: &str) -> Result<bool, Fail> {
+    let any = AnyId::from_normalized_str(alloc, text)?;
+    let is_shown = shows(alloc, any.clone(), text) && any.as_str() == text;
+    Ok(is_shown && any.into_smolstr().as_str() == text)
+}
+
+// An unreserved id, with its texts.
+fn is_unreserved_id(alloc: Global, text: &str) -> Result<bool, Fail> {
+    let id = UnreservedId::from_normalized_str(alloc, text)?;
+    let is_shown = shows(alloc, id.clone(), text) && id.as_id().as_str() == text;
+    Ok(is_shown && id.as_str() == text && id.into_smolstr().as_str() == text)
+}
+
+#[test]
+fn ids_give_their_texts(rt: HostRuntime) -> Result<(), Fail> {
+    assert!(rt; is_any_id(rt.alloc(), "if")?);
+    assert!(rt; is_unreserved_id(rt.alloc(), "a")?);
     Ok(())
+}
+
+// Whether this was made, and has this text.
+fn is_name<E: Drop>(made: Result<InternalName, E>, want: &str) -> bool {
+    match made {
+        Ok(it) => it.as_str() == want,
+        Err(_) => false,
+    }
+}
+
+// Whether the name has this namespace, and this as its last part.
+fn is_parted(alloc: Global, name: &Name, space: &str, last: &str) -> bool {
+    let internal = name.as_internal();
+    shows(alloc, internal.namespace(alloc), space)
+        && name.is_unqualified() == space.is_empty()
+        && internal.is_unqualified() == space.is_empty()
+        && (internal.namespace_components().count() == 0) == space.is_empty()
+        && internal.basename().as_str() == last
+}
+
+// Whether the name has this text within the other: as a name, as an internal name, and when it is put there again.
+fn is_within(alloc: Global, name: &Name, other: &Name, want: &str) -> Result<bool, Fail> {
+    let once = name.qualify_with_name(alloc, Some(other))?;
+    let internal = name.as_internal();
+    Ok(
+        once.as_internal().as_str() == want
+            && is_name(once.qualify_with(alloc, Some(internal)), want)
+            && is_name(internal.qualify_with_name(alloc, Some(other)), want),
+    )
 }
 
 #[test]
 fn names_have_namespaces(rt: HostRuntime) -> Result<(), Fail> {
     let alloc = rt.alloc();
-    for (text, space, within) in [
-        ("a", "", "N::M::a"),
-        ("a::b", "a", "a::b"),
-        ("a::b::c", "a::b", "a::b::c"),
+    let other = name(alloc, "N::M")?;
+    for (text, space, last, within) in [
+        ("a", "", "a", "N::M::a"),
+        ("a::b", "a", "b", "a::b"),
+        ("a::b::c", "a::b", "c", "a::b::c"),
     ] {
-        let name = Name::from_normalized_str(alloc, text)?;
-        let internal = name.as_internal();
-        assert_eq!(rt; internal.namespace(alloc)?.as_str(), space);
-        assert_eq!(rt; name.is_unqualified(), space.is_empty());
-        let parts = internal.namespace_components().count();
-        assert_eq!(rt; parts == 0, space.is_empty());
-        let other = Name::from_normalized_str(alloc, "N::M")?;
-        let once = name.qualify_with_name(alloc, Some(&other))?;
-        assert_eq!(rt; once.as_internal().as_str(), within);
-        let twice = once.qualify_with(alloc, Some(internal))?;
-        assert_eq!(rt; twice.as_str(), within);
-        let again = internal.qualify_with_name(alloc, Some(&other))?;
-        assert_eq!(rt; again.as_str(), within);
-        assert_eq!(rt; internal.qualify_with(alloc, None)?.as_str(), text);
+        let name = name(alloc, text)?;
+        assert!(rt; is_parted(alloc, &name, space, last), "{text}");
+        assert!(rt; is_within(alloc, &name, &other, within)?, "{text}");
+        assert!(rt;
+            is_name(name.as_internal().qualify_with(alloc, None), text),
+            "{text}"
+        );
     }
     Ok(())
+}
+
+// A type of the namespace of Cedar's own types, at a place.
+fn long_type(alloc: Global) -> Result<InternalName, Fail> {
+    let base = Id::from_normalized_str(alloc, "Long")?;
+    let cedar = InternalName::cedar(alloc)?;
+    Ok(InternalName::type_in_namespace(alloc, base, cedar, Some(Loc::new(2, 5)))?)
+}
+
+#[test]
+fn a_type_in_a_namespace(rt: HostRuntime) -> Result<(), Fail> {
+    let long = long_type(rt.alloc())?;
+    assert!(rt; long.as_str() == "__cedar::Long" && long.loc().is_some());
+    assert!(rt; matches!(Name::try_from_borrowed(&long), Err(NameError::Reserved(_))));
+    assert!(rt; Id::try_from(long).is_err());
+    Ok(())
+}
+
+// The text of the id that an internal name without a namespace is.
+fn is_id(made: Result<Id, ()>, want: &str) -> bool {
+    match made {
+        Ok(id) => id.as_str() == want,
+        Err(_) => false,
+    }
+}
+
+// The same of a name.
+fn is_unreserved(name: Name, want: &str) -> bool {
+    match UnreservedId::try_from(name) {
+        Ok(id) => Id::from(id).as_str() == want,
+        Err(_) => false,
+    }
 }
 
 #[test]
 fn names_are_taken_apart(rt: HostRuntime) -> Result<(), Fail> {
     let alloc = rt.alloc();
-    let cedar = InternalName::cedar(alloc)?;
-    assert_eq!(rt; cedar.as_str(), "__cedar");
-    let base = Id::from_normalized_str(alloc, "Long")?;
-    let long = InternalName::type_in_namespace(alloc, base, cedar, Some(Loc::new(2, 5)))?;
-    assert_eq!(rt; long.as_str(), "__cedar::Long");
-    assert!(rt; long.loc().is_some());
-    assert!(rt; matches!(Name::try_from_borrowed(&long), Err(NameError::Reserved(_))));
-    assert!(rt; Id::try_from(long).is_err());
-    let one = InternalName::from_normalized_str(alloc, "x")?;
-    let id = Id::try_from(one).ok().ok_or("has a namespace")?;
-    assert_eq!(rt; id.as_str(), "x");
-    let name = Name::from_normalized_str(alloc, "a::x")?;
-    assert_eq!(rt; name.basename()?.as_str(), "x");
-    assert_eq!(rt; name.basename_as_ref().as_str(), "x");
-    assert!(rt; name.loc().is_none());
-    assert!(rt; UnreservedId::try_from(name).is_err());
-    let bare = Name::from_normalized_str(alloc, "x")?;
-    let id = UnreservedId::try_from(bare).ok().ok_or("has a namespace")?;
-    assert_eq!(rt; Id::from(id).as_str(), "x");
+    assert!(rt; is_id(Id::try_from(internal(alloc, "x")?), "x"));
+    assert!(rt; is_unreserved(name(alloc, "x")?, "x"));
+    let parted = name(alloc, "a::x")?;
+    assert!(rt; shows(alloc, parted.basename(), "x"));
+    assert!(rt; parted.basename_as_ref().as_str() == "x" && parted.loc().is_none());
+    assert!(rt; !is_unreserved(parted, "x"));
     Ok(())
+}
+
+// Whether an internal name without a namespace is that of each of its makers.
+fn is_made(alloc: Global, bare: &InternalName, id: Id) -> Result<bool, Fail> {
+    Ok(
+        bare.same(&InternalName::unqualified_name(alloc, id)?)
+            && bare.same(&bare.clone()?)
+            && bare.same(&InternalName::parse_unqualified_name(alloc, "T")?),
+    )
+}
+
+// Whether a name without a namespace is that of each of its makers, and the internal one.
+fn is_plain(alloc: Global, plain: Name, bare: &InternalName) -> Result<bool, Fail> {
+    let id = UnreservedId::from_normalized_str(alloc, "T")?;
+    let is_same = bare.same(plain.as_internal())
+        && plain.same(&Name::try_from_borrowed(bare)?)
+        && plain.same(&Name::unqualified_name(alloc, id)?);
+    Ok(is_same && *bare == InternalName::from(plain))
+}
+
+// Whether a uid is its copy, and not that with another id.
+fn is_its_copy(uid: &EntityUID, other: RcStr) -> Result<bool, Fail> {
+    let copy = uid.clone()?;
+    let kind = uid.entity_type().clone()?;
+    let other = EntityUID::from_components(kind, Eid::new(other), Some(Loc::new(1, 3)));
+    Ok(uid.same(&copy) && *uid == copy && !uid.same(&other))
 }
 
 #[test]
 fn copies_and_makers(rt: HostRuntime) -> Result<(), Fail> {
     let alloc = rt.alloc();
-    let place = Some(Loc::new(1, 3));
-    let bare = InternalName::unqualified_name(alloc, Id::from_normalized_str(alloc, "T")?)?;
-    assert!(rt; bare.same(&bare.clone()?));
-    assert!(rt; bare.same(&InternalName::parse_unqualified_name(alloc, "T")?));
-    let plain = Name::parse_unqualified_name(alloc, "T")?;
-    assert!(rt; bare.same(plain.as_internal()));
-    assert!(rt; plain.same(&Name::try_from_borrowed(&bare)?));
-    let id = UnreservedId::from_normalized_str(alloc, "T")?;
-    assert!(rt; plain.same(&Name::unqualified_name(alloc, id.clone()?)?));
-    assert!(rt; bare == InternalName::from(plain));
-    let uid = user(alloc, "x")?;
-    let copy = uid.clone()?;
-    assert!(rt; uid.same(&copy));
-    assert!(rt; uid == copy);
-    let other = EntityUID::from_components(
-        uid.entity_type().clone()?,
-        Eid::new(RcStr::from_str(alloc, "y")?),
-        place,
-    );
-    assert!(rt; !uid.same(&other));
+    let bare = internal(alloc, "T")?;
+    assert!(rt; is_made(alloc, &bare, Id::from_normalized_str(alloc, "T")?)?);
+    assert!(rt; is_plain(alloc, Name::parse_unqualified_name(alloc, "T")?, &bare)?);
+    assert!(rt; is_its_copy(&uid(alloc, "User", "x")?, RcStr::from_str(alloc, "y")?)?);
     Ok(())
+}
+
+// Whether the first uid stands before the second by the types, as by `<`.
+fn stands_before(first: &EntityUID, second: &EntityUID) -> bool {
+    first < second
+        && second.order(first) == Ordering::Greater
+        && second.entity_type().order(first.entity_type()) == Ordering::Greater
 }
 
 #[test]
 fn uids_are_ordered_by_the_texts_of_their_types(rt: HostRuntime) -> Result<(), Fail> {
     let alloc = rt.alloc();
-    let parted = EntityType::from_normalized_str(alloc, "A::B")?;
-    let digit = EntityType::from_normalized_str(alloc, "A0")?;
-    let letter = EntityType::from_normalized_str(alloc, "AB")?;
-    let first = EntityUID::from_components(digit, Eid::from_str(alloc, "z")?, None);
-    let second = EntityUID::from_components(parted, Eid::from_str(alloc, "y")?, None);
-    let third = EntityUID::from_components(letter, Eid::from_str(alloc, "x")?, None);
-    assert!(rt; first < second);
-    assert!(rt; second < third);
-    assert_eq!(rt;
-        third.entity_type().order(second.entity_type()),
-        Ordering::Greater
-    );
-    assert_eq!(rt; third.order(&first), Ordering::Greater);
-    assert_eq!(rt; second.entity_type().name().as_internal().as_str(), "A::B");
+    let first = uid(alloc, "A0", "z")?;
+    let second = uid(alloc, "A::B", "y")?;
+    let third = uid(alloc, "AB", "x")?;
+    assert!(rt; stands_before(&first, &second));
+    assert!(rt; stands_before(&second, &third));
+    assert!(rt; stands_before(&first, &third));
+    assert!(rt; second.entity_type().name().as_internal().as_str() == "A::B");
     Ok(())
 }
