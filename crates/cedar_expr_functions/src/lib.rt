@@ -15,6 +15,3 @@ pub use extension::{
     CallStyle, ExtTypes, Extension, ExtensionFunction, ExtensionOutputValue, Func,
 };
 pub use extensions::{ExtTable, Extensions, TableTypes};
-
-#[cfg(test)]
-mod tests;

@@ -135,6 +135,3 @@ impl Display for Literal {
         }
     }
 }
-
-#[cfg(test)]
-mod tests;
