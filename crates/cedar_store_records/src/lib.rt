@@ -1,0 +1,11 @@
+//! Plain records that validation speaks of: modes, request types, errors and warnings. Each kind has an order, an equality and
+//! a hash that agree: they are derived, over those of ids, uids, names and places.
+#![tactic(auto)]
+
+pub mod diagnostics;
+pub mod request_type;
+pub mod validation_mode;
+
+pub use diagnostics::{ValidationError, ValidationErrorKind, ValidationWarning};
+pub use request_type::RequestType;
+pub use validation_mode::ValidationMode;

@@ -1,0 +1,15 @@
+//! Tests of policies, sets of them, entities and stores of these: worked examples, refusals, and each call that takes memory.
+#![tactic(auto)]
+
+#[cfg(test)]
+mod entities;
+#[cfg(test)]
+mod parts;
+#[cfg(test)]
+mod policies;
+#[cfg(test)]
+mod scopes;
+#[cfg(test)]
+mod sets;
+#[cfg(test)]
+mod stores;

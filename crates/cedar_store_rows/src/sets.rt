@@ -1,0 +1,194 @@
+//! Sets of policies.
+
+use crate::parts::{always, bound, id, policy, template};
+use cedar_expr_leaves::SlotId;
+use cedar_store_policies::{Effect, LinkingError, Policy, PolicySet, PolicySetError};
+use std::alloc::Global;
+use std::test::Fail;
+
+// One policy of a set: its id, its template's, its effect, and what its first slot is bound to.
+fn line(alloc: Global, policy: &Policy) -> Result<String, Fail> {
+    let to = match policy.env().get(SlotId::principal()) {
+        Some(uid) => uid.eid().as_str(),
+        None => "",
+    };
+    let (id, of) = (policy.id(), policy.template().id());
+    let permits = policy.effect() == Effect::Permit;
+    Ok(format!(in alloc; "{id}/{of}/{permits}/{to} ")?)
+}
+
+// What stands in a set: the ids of its templates, and its policies.
+fn shown(alloc: Global, set: &PolicySet) -> Result<String, Fail> {
+    let mut all = String::new(alloc);
+    for template in set.templates() {
+        all.push_str(template.id().as_str())?;
+        all.push_str(" ")?;
+    }
+    for policy in set.policies() {
+        all.push_str(line(alloc, policy)?.as_str())?;
+    }
+    Ok(all)
+}
+
+// The number of the refusal, and none where there is none.
+fn refusal(linked: Result<(), LinkingError>) -> Option<u32> {
+    match linked {
+        Ok(()) => None,
+        Err(e) => Some(e.number()),
+    }
+}
+
+fn refused(added: Result<(), PolicySetError>) -> Option<u32> {
+    match added {
+        Ok(()) => None,
+        Err(e) => Some(e.number()),
+    }
+}
+
+// A template linked under an id, to a user or to none, and to a document or to none.
+fn link(
+    alloc: Global,
+    set: &mut PolicySet,
+    of: &str,
+    text: &str,
+    bindings: (Option<&str>, Option<&str>),
+) -> Result<Option<u32>, Fail> {
+    let template = id(alloc, of)?;
+    let new = id(alloc, text)?;
+    let values = bound(alloc, bindings.0, bindings.1)?;
+    Ok(refusal(set.link(&template, new, values)))
+}
+
+fn add_template(alloc: Global, set: &mut PolicySet, text: &str) -> Result<Option<u32>, Fail> {
+    Ok(refused(set.add_template(template(alloc, text)?)))
+}
+
+fn add_static(
+    alloc: Global,
+    set: &mut PolicySet,
+    text: &str,
+    effect: Effect,
+) -> Result<Option<u32>, Fail> {
+    Ok(refused(set.add_static(always(alloc, text, effect)?)))
+}
+
+// The template t, the policy z, and t linked as l to the user a.
+fn with_a_link(alloc: Global) -> Result<PolicySet, Fail> {
+    let mut set = PolicySet::new(alloc);
+    set.add_template(template(alloc, "t")?)?;
+    set.add_static(always(alloc, "z", Effect::Forbid)?)?;
+    match link(alloc, &mut set, "t", "l", (Some("a"), None))? {
+        None => Ok(set),
+        Some(_) => Err(Fail::from("a link was refused")),
+    }
+}
+
+#[test]
+fn a_link_is_added_at_the_end(rt: HostRuntime) -> Result<(), Fail> {
+    let alloc = rt.alloc();
+    let set = with_a_link(alloc)?;
+    assert_eq!(rt; shown(alloc, &set)?.as_str(), "t z/z/false/ l/t/true/a ");
+    Ok(())
+}
+
+// A link is refused by this number, and the set stays as it was.
+fn refuses(
+    alloc: Global,
+    set: &mut PolicySet,
+    of: &str,
+    text: &str,
+    bindings: (Option<&str>, Option<&str>),
+    number: u32,
+) -> Result<bool, Fail> {
+    let before = shown(alloc, set)?;
+    let answer = link(alloc, set, of, text, bindings)?;
+    let after = shown(alloc, set)?;
+    Ok(answer == Some(number) && before.as_str() == after.as_str())
+}
+
+#[test]
+fn links_are_refused(rt: HostRuntime) -> Result<(), Fail> {
+    let alloc = rt.alloc();
+    let mut set = with_a_link(alloc)?;
+    for (of, text, bindings, number) in [
+        ("t", "l", (Some("a"), None), 1),
+        ("t", "t", (Some("a"), None), 1),
+        ("t", "z", (Some("a"), None), 1),
+        ("t", "k", (None, None), 2),
+        ("t", "k", (Some("a"), Some("d")), 3),
+        ("x", "k", (Some("a"), None), 4),
+        ("l", "k", (Some("a"), None), 4),
+    ] {
+        assert!(rt;
+            refuses(alloc, &mut set, of, text, bindings, number)?,
+            "{of} as {text}"
+        );
+    }
+    Ok(())
+}
+
+#[test]
+fn templates_and_policies_share_their_ids(rt: HostRuntime) -> Result<(), Fail> {
+    let alloc = rt.alloc();
+    let mut set = with_a_link(alloc)?;
+    let before = shown(alloc, &set)?;
+    for text in ["t", "z", "l"] {
+        assert_eq!(rt; add_template(alloc, &mut set, text)?, Some(1));
+        assert_eq!(rt; add_static(alloc, &mut set, text, Effect::Permit)?, Some(1));
+        assert_eq!(rt;
+            refused(set.add(policy(alloc, text, Effect::Permit)?)),
+            Some(1)
+        );
+    }
+    assert_eq!(rt; shown(alloc, &set)?.as_str(), before.as_str());
+    Ok(())
+}
+
+#[test]
+fn what_is_added_stands_last(rt: HostRuntime) -> Result<(), Fail> {
+    let alloc = rt.alloc();
+    let mut set = PolicySet::new(alloc);
+    assert_eq!(rt; shown(alloc, &set)?.as_str(), "");
+    for text in ["z", "a", "m"] {
+        assert_eq!(rt; add_static(alloc, &mut set, text, Effect::Permit)?, None);
+    }
+    assert_eq!(rt; add_template(alloc, &mut set, "y")?, None);
+    assert_eq!(rt; add_template(alloc, &mut set, "b")?, None);
+    assert_eq!(rt;
+        shown(alloc, &set)?.as_str(),
+        "y b z/z/true/ a/a/true/ m/m/true/ "
+    );
+    Ok(())
+}
+
+// The policies of these ids.
+fn policies(alloc: Global, ids: &[&str]) -> Result<Vec<Policy>, Fail> {
+    let mut policies = Vec::new(alloc);
+    for text in ids {
+        policies.push(policy(alloc, text, Effect::Permit)?)?;
+    }
+    Ok(policies)
+}
+
+#[test]
+fn lists_of_policies_make_sets(rt: HostRuntime) -> Result<(), Fail> {
+    let alloc = rt.alloc();
+    let listed = policies(alloc, &["b", "a", "c"])?;
+    let set = PolicySet::try_from_iter(alloc, listed)?;
+    assert_eq!(rt;
+        shown(alloc, &set)?.as_str(),
+        "b/b/true/ a/a/true/ c/c/true/ "
+    );
+    Ok(())
+}
+
+#[test]
+fn the_first_repeated_id_is_named(rt: HostRuntime) -> Result<(), Fail> {
+    let alloc = rt.alloc();
+    let listed = policies(alloc, &["b", "a", "c", "a", "b"])?;
+    match PolicySet::try_from_iter(alloc, listed) {
+        Err(PolicySetError::Occupied { id }) => assert_eq!(rt; id.as_str(), "a"),
+        _ => return Err(Fail::from("a repeated id passed")),
+    }
+    Ok(())
+}

@@ -1,0 +1,125 @@
+//! Stores of entities.
+
+use crate::entities::member;
+use crate::parts::uid;
+use cedar_expr_names::{EntityType, EntityUID};
+use cedar_expr_trees::{Expr, Type, Unknown};
+use cedar_store_entities::{Dereference, Entities, EntitiesError, Entity};
+use std::alloc::Global;
+use std::rc::RcStr;
+use std::test::Fail;
+
+// Users of these ids, without attributes.
+fn users(alloc: Global, ids: &[&str]) -> Result<Vec<Entity>, Fail> {
+    let mut users = Vec::new(alloc);
+    for id in ids {
+        users.push(Entity::with_uid(alloc, uid(alloc, "User", id)?))?;
+    }
+    Ok(users)
+}
+
+// The whole store of the user a, who is in teams, and the user b.
+fn store(alloc: Global) -> Result<Entities, Fail> {
+    let mut entities = users(alloc, &["b"])?;
+    entities.push(member(alloc)?)?;
+    Ok(Entities::from_entities(alloc, entities)?)
+}
+
+// The id that stands twice, if one does.
+fn repeated(alloc: Global, ids: &[&str]) -> Result<Option<EntityUID>, Fail> {
+    match Entities::from_entities(alloc, users(alloc, ids)?) {
+        Err(EntitiesError::Duplicate { uid }) => Ok(Some(uid)),
+        Err(EntitiesError::OutOfMemory) => Err(Fail::from("no memory")),
+        Ok(_) => Ok(None),
+    }
+}
+
+#[test]
+fn the_first_repeated_uid_is_named(rt: HostRuntime) -> Result<(), Fail> {
+    let alloc = rt.alloc();
+    assert!(rt; repeated(alloc, &["a", "a"])? == Some(uid(alloc, "User", "a")?));
+    assert!(rt; repeated(alloc, &["b", "a", "a", "b"])? == Some(uid(alloc, "User", "a")?));
+    assert!(rt; repeated(alloc, &["b", "a"])?.is_none());
+    Ok(())
+}
+
+#[test]
+fn the_refusal_has_its_number(rt: HostRuntime) -> Result<(), Fail> {
+    let alloc = rt.alloc();
+    let refusal = EntitiesError::Duplicate {
+        uid: uid(alloc, "User", "a")?,
+    };
+    assert_eq!(rt; refusal.number(), 1);
+    assert_eq!(rt; EntitiesError::OutOfMemory.number(), 0);
+    let text = refusal.to_string(alloc)?;
+    assert_eq!(rt; text.as_str(), "duplicate entity entry `User::\"a\"`");
+    Ok(())
+}
+
+#[test]
+fn entities_come_as_they_were_given(rt: HostRuntime) -> Result<(), Fail> {
+    let alloc = rt.alloc();
+    let store = Entities::from_entities(alloc, users(alloc, &["b", "a", "c"])?)?;
+    let mut ids = String::new(alloc);
+    for entity in store.iter() {
+        ids.push_str(entity.uid().eid().as_str())?;
+    }
+    assert_eq!(rt; ids.as_str(), "bac");
+    Ok(())
+}
+
+// Whether the store gives the user a, with the team red.
+fn gives_a(alloc: Global, store: &Entities) -> Result<bool, Fail> {
+    match store.entity(alloc, &uid(alloc, "User", "a")?)? {
+        Dereference::Data(e) => Ok(e.is_child_of(&uid(alloc, "Team", "red")?)),
+        _ => Ok(false),
+    }
+}
+
+// Whether the store says that there is no such entity.
+fn has_none(alloc: Global, store: &Entities, absent: &EntityUID) -> Result<bool, Fail> {
+    match store.entity(alloc, absent)? {
+        Dereference::NoSuchEntity => Ok(true),
+        _ => Ok(false),
+    }
+}
+
+#[test]
+fn a_whole_store_knows_what_is_missing(rt: HostRuntime) -> Result<(), Fail> {
+    let alloc = rt.alloc();
+    let store = store(alloc)?;
+    assert!(rt; gives_a(alloc, &store)?);
+    assert!(rt; has_none(alloc, &store, &uid(alloc, "User", "missing")?)?);
+    assert!(rt; has_none(alloc, &store, &uid(alloc, "Team", "a")?)?);
+    assert!(rt; has_none(alloc, &Entities::new(alloc), &uid(alloc, "User", "a")?)?);
+    Ok(())
+}
+
+// The unknown of this name, annotated with the type User.
+fn stand_in(alloc: Global, name: &str) -> Result<Expr, Fail> {
+    let name = RcStr::from_str(alloc, name)?;
+    let ty = Type::Entity {
+        ty: EntityType::from_normalized_str(alloc, "User")?,
+    };
+    Ok(Expr::unknown(Unknown::new_with_type(name, ty)))
+}
+
+// What stands for an entity that isn't known, where the store gives that.
+fn left(alloc: Global, store: &Entities, id: &str) -> Result<Option<Expr>, Fail> {
+    match store.entity(alloc, &uid(alloc, "User", id)?)? {
+        Dereference::Residual(e) => Ok(Some(e)),
+        _ => Ok(None),
+    }
+}
+
+#[test]
+fn a_partial_store_leaves_what_is_missing(rt: HostRuntime) -> Result<(), Fail> {
+    let alloc = rt.alloc();
+    let store = store(alloc)?.partial();
+    assert!(rt; gives_a(alloc, &store)?);
+    let missing = left(alloc, &store, "missing")?;
+    assert!(rt; missing == Some(stand_in(alloc, "User::\"missing\"")?));
+    let quoted = left(alloc, &store, "\"")?;
+    assert!(rt; quoted == Some(stand_in(alloc, "User::\"\\\"\"")?));
+    Ok(())
+}
