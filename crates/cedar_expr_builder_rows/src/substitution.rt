@@ -1,10 +1,10 @@
 //! Examples of substitution.
 
-use cedar_expr_leaves::Var;
 use cedar_expr_names::{Literal, Name};
 use cedar_expr_substitution::*;
 use cedar_expr_trees::{Expr, Unknown};
 use cedar_expr_values::{ExtValue, Type, Value, ValueKind};
+use cedar_test_helpers::{both, kept, shared};
 use std::alloc::{AllocError, Global};
 use std::collections::HashMap;
 use std::rc::{Rc, RcStr};
@@ -35,79 +35,99 @@ fn typed(alloc: Global, name: &str, ty: Type) -> Result<Expr, AllocError> {
     Ok(Expr::unknown(Unknown::new_with_type(name, ty)))
 }
 
-fn one(alloc: Global, name: &str, value: V) -> Result<Bindings, Fail> {
+fn one<X: Drop>(
+    alloc: Global,
+    name: &str,
+    value: Result<X, AllocError>,
+) -> Result<HashMap<RcStr, X>, AllocError> {
+    let (name, value) = both(word(alloc, name), value)?;
     let mut bindings = HashMap::new(alloc);
-    bindings.insert(word(alloc, name)?, value)?;
+    bindings.insert(name, value)?;
     Ok(bindings)
 }
 
-fn two(alloc: Global, x: V, y: V) -> Result<Bindings, Fail> {
-    let mut bindings = one(alloc, "x", x)?;
+fn two(alloc: Global, x: V, y: V) -> Result<Bindings, AllocError> {
+    both_bound(alloc, x, y)
+}
+
+fn both_bound<X: Drop>(alloc: Global, x: X, y: X) -> Result<HashMap<RcStr, X>, AllocError> {
+    let mut bindings = one(alloc, "x", Ok(x))?;
     bindings.insert(word(alloc, "y")?, y)?;
     Ok(bindings)
 }
 
-fn pair(alloc: Global, first: &str, a: Expr, second: &str, b: Expr) -> Result<Expr, Fail> {
-    let mut fields = Vec::new(alloc);
-    fields.push((word(alloc, first)?, a))?;
-    fields.push((word(alloc, second)?, b))?;
-    Ok(Expr::record(alloc, fields)?)
+fn number(n: i64) -> Expr {
+    Expr::val(Literal::from(n))
 }
 
-fn decimal(alloc: Global, written: &str) -> Result<V, Fail> {
-    let name = Name::from_normalized_str(alloc, "decimal")?;
-    let mut args = Vec::new(alloc);
-    args.push(Literal::from_str(alloc, written)?)?;
-    let value = ExtValue::new(name.clone()?, name, args, Vec::new(alloc));
-    let value = Rc::new(alloc, value)?;
-    Ok(Value::new(ValueKind::ExtensionValue(value), None))
+// Whether an expression becomes this other one under these bindings.
+fn becomes(alloc: Global, e: &Expr, bindings: &Bindings, want: &Expr) -> Result<bool, Fail> {
+    Ok(*kept(alloc, e.substitute(alloc, bindings))? == *want)
 }
 
 #[test]
 fn bound_unknowns_become_their_values(rt: HostRuntime) -> Result<(), Fail> {
     let alloc = rt.alloc();
+    let (x, z) = both(untyped(alloc, "x"), untyped(alloc, "z"))?;
+    let e = kept(alloc, Expr::less(alloc, x, z))?;
+    let z = untyped(alloc, "z")?;
+    let made = kept(alloc, Expr::less(alloc, number(1), z))?;
     let bindings = two(alloc, long(1), truth(true))?;
-    let e = Expr::less(alloc, untyped(alloc, "x")?, untyped(alloc, "z")?)?;
-    let one = Expr::val(Literal::from(1));
-    let made = e.substitute(alloc, &bindings)?;
-    assert!(rt; made == Expr::less(alloc, one, untyped(alloc, "z")?)?);
-    let none: Bindings = HashMap::new(alloc);
-    assert!(rt; e.substitute(alloc, &none)? == e);
+    assert!(rt; becomes(alloc, &e, &bindings, &made)?);
+    let none = HashMap::new(alloc);
+    assert!(rt; becomes(alloc, &e, &none, &e)?);
     Ok(())
 }
 
 #[test]
 fn annotations_are_not_asked_by_substitute(rt: HostRuntime) -> Result<(), Fail> {
     let alloc = rt.alloc();
-    let bindings = one(alloc, "x", long(1))?;
-    let e = Expr::not(alloc, typed(alloc, "x", Type::Bool)?)?;
-    let made = e.substitute(alloc, &bindings)?;
-    assert!(rt; made == Expr::not(alloc, Expr::val(Literal::from(1)))?);
+    let x = typed(alloc, "x", Type::Bool)?;
+    let e = kept(alloc, Expr::not(alloc, x))?;
+    let made = kept(alloc, Expr::not(alloc, number(1)))?;
+    let bindings = one(alloc, "x", Ok(long(1)))?;
+    assert!(rt; becomes(alloc, &e, &bindings, &made)?);
     Ok(())
+}
+
+fn field<T: Drop>(
+    alloc: Global,
+    name: &str,
+    e: Result<T, AllocError>,
+) -> Result<(RcStr, T), AllocError> {
+    both(word(alloc, name), e)
+}
+
+// A record whose fields come in another order than their names.
+fn annotated(alloc: Global) -> Result<Expr, Fail> {
+    let second = field(alloc, "b", typed(alloc, "y", Type::Bool));
+    let first = field(alloc, "a", typed(alloc, "x", Type::Bool));
+    let (second, first) = both(second, first)?;
+    Ok(Expr::record(alloc, vec![in alloc; second, first]?)?)
 }
 
 #[test]
 fn the_leftmost_mismatch_is_refused(rt: HostRuntime) -> Result<(), Fail> {
-    let alloc = rt.alloc();
-    let bindings = two(alloc, long(1), long(2))?;
-    let x = typed(alloc, "x", Type::Bool)?;
-    let y = typed(alloc, "y", Type::Bool)?;
-    let e = pair(alloc, "b", y, "a", x)?;
-    match e.substitute_typed(alloc, &bindings) {
-        Err(
+    let bindings = two(rt.alloc(), long(1), long(2))?;
+    let e = shared(rt.alloc(), annotated(rt.alloc())?)?;
+    match refusal(e.substitute_typed(rt.alloc(), &bindings)) {
+        Some(
             SubstitutionError::TypeError {
                 name,
                 expected,
                 actual,
             },
         ) => {
-            assert_eq!(rt; name.as_str(), "x");
-            assert!(rt; expected == Type::Bool);
-            assert!(rt; actual == Type::Long);
+            assert!(rt; name.as_str() == "x" && expected == Type::Bool && actual == Type::Long);
         }
         _ => return Err(Fail::from("not refused")),
     }
     Ok(())
+}
+
+// The refusal, where there is one.
+fn refusal<T: Drop, E: Drop>(made: Result<T, E>) -> Option<E> {
+    made.err()
 }
 
 #[test]
@@ -118,54 +138,98 @@ fn a_mismatch_has_its_text(rt: HostRuntime) -> Result<(), Fail> {
         expected: Type::Bool,
         actual: Type::Long,
     };
-    let text = refusal.to_string(alloc)?;
-    assert_eq!(rt;
-        text.as_str(),
-        "expected a value of type bool, got a value of type long"
-    );
+    let text = "expected a value of type bool, got a value of type long";
+    assert!(rt; refusal.to_string(alloc)?.as_str() == text);
     let text = SubstitutionError::OutOfMemory.to_string(alloc)?;
-    assert_eq!(rt; text.as_str(), "out of memory");
+    assert!(rt; text.as_str() == "out of memory");
     Ok(())
 }
 
 #[test]
 fn values_of_their_annotation_are_put_in(rt: HostRuntime) -> Result<(), Fail> {
     let alloc = rt.alloc();
+    let z = kept(alloc, typed(alloc, "z", Type::Bool))?;
+    let x = kept(alloc, typed(alloc, "x", Type::Long))?;
+    let y = kept(alloc, untyped(alloc, "y"))?;
+    let e = shared(alloc, Expr::ite_arc(z.clone()?, x, y))?;
     let bindings = two(alloc, long(1), truth(false))?;
-    let x = typed(alloc, "x", Type::Long)?;
-    let y = untyped(alloc, "y")?;
-    let z = typed(alloc, "z", Type::Bool)?;
-    let e = Expr::ite(alloc, z, x, y)?;
-    let made = e.substitute_typed(alloc, &bindings)?;
-    let one = Expr::val(Literal::from(1));
-    let no = Expr::val(Literal::from(false));
-    let z = typed(alloc, "z", Type::Bool)?;
-    assert!(rt; made == Expr::ite(alloc, z, one, no)?);
+    let made = kept(alloc, e.substitute_typed(alloc, &bindings))?;
+    let one = shared(alloc, number(1))?;
+    let no = shared(alloc, Expr::val(Literal::from(false)))?;
+    let want = shared(alloc, Expr::ite_arc(z, one, no))?;
+    assert!(rt; *made == *want);
     Ok(())
+}
+
+fn decimal(alloc: Global, written: &str) -> Result<V, AllocError> {
+    let name = Name::from_normalized_str(alloc, "decimal")
+        .ok()
+        .ok_or(AllocError)?;
+    let args = vec![in alloc; Literal::from_str(alloc, written)?]?;
+    let value = ExtValue::new(name.clone()?, name, args, Vec::new(alloc));
+    let value = Rc::new(alloc, value)?;
+    Ok(Value::new(ValueKind::ExtensionValue(value), None))
+}
+
+// The call that a decimal is written as.
+fn written(alloc: Global, text: &str) -> Result<Expr, AllocError> {
+    let name = Name::from_normalized_str(alloc, "decimal")
+        .ok()
+        .ok_or(AllocError)?;
+    let args = vec![in alloc; Expr::val(Literal::from_str(alloc, text)?)]?;
+    Expr::call_extension_fn(alloc, name, args)
+}
+
+// A list of two.
+fn listed<T: Drop>(
+    alloc: Global,
+    first: T,
+    second: Result<T, AllocError>,
+) -> Result<Vec<T>, AllocError> {
+    let mut list = Vec::new(alloc);
+    list.push(first)?;
+    list.push(second?)?;
+    Ok(list)
+}
+
+// One field, by its name.
+fn fields<T: Drop>(
+    alloc: Global,
+    name: &str,
+    it: Result<T, AllocError>,
+) -> Result<Vec<(RcStr, T)>, AllocError> {
+    let mut fields = Vec::new(alloc);
+    fields.push(field(alloc, name, it)?)?;
+    Ok(fields)
+}
+
+// A record of a set of a number and a decimal.
+fn nested(alloc: Global) -> Result<V, AllocError> {
+    let members = listed(alloc, long(2), decimal(alloc, "1.5"))?;
+    let fields = fields(alloc, "s", Value::set(alloc, members, None))?;
+    Value::record(alloc, fields, None)
+}
+
+// The expression that it is written as.
+fn written_nested(alloc: Global) -> Result<Expr, AllocError> {
+    let members = listed(alloc, number(2), written(alloc, "1.5"))?;
+    let fields = fields(alloc, "s", Expr::set(alloc, members))?;
+    Expr::record(alloc, fields).ok().ok_or(AllocError)
+}
+
+// The attribute `s` of this.
+fn attribute(alloc: Global, e: Result<Expr, AllocError>) -> Result<Expr, AllocError> {
+    let (name, e) = both(word(alloc, "s"), e)?;
+    Expr::get_attr(alloc, e, name)
 }
 
 #[test]
 fn values_of_all_kinds_are_written(rt: HostRuntime) -> Result<(), Fail> {
     let alloc = rt.alloc();
-    let mut members = Vec::new(alloc);
-    members.push(long(2))?;
-    members.push(decimal(alloc, "1.5")?)?;
-    let set = Value::set(alloc, members, None)?;
-    let mut fields = Vec::new(alloc);
-    fields.push((word(alloc, "s")?, set))?;
-    let record = Value::record(alloc, fields, None)?;
-    let e = Expr::get_attr(alloc, untyped(alloc, "x")?, word(alloc, "s")?)?;
-    let made = e.substitute(alloc, &one(alloc, "x", record)?)?;
-    let decimal = Name::from_normalized_str(alloc, "decimal")?;
-    let mut args = Vec::new(alloc);
-    args.push(Expr::val(Literal::from_str(alloc, "1.5")?))?;
-    let mut members = Vec::new(alloc);
-    members.push(Expr::val(Literal::from(2)))?;
-    members.push(Expr::call_extension_fn(alloc, decimal, args)?)?;
-    let mut fields = Vec::new(alloc);
-    fields.push((word(alloc, "s")?, Expr::set(alloc, members)?))?;
-    let record = Expr::record(alloc, fields)?;
-    assert!(rt; made == Expr::get_attr(alloc, record, word(alloc, "s")?)?);
-    assert!(rt; made != Expr::var(Var::Context));
+    let e = kept(alloc, attribute(alloc, untyped(alloc, "x")))?;
+    let made = kept(alloc, attribute(alloc, written_nested(alloc)))?;
+    let bindings = one(alloc, "x", nested(alloc))?;
+    assert!(rt; becomes(alloc, &e, &bindings, &made)?);
+    assert!(rt; !becomes(alloc, &e, &bindings, &e)?);
     Ok(())
 }

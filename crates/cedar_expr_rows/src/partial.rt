@@ -6,10 +6,13 @@ use cedar_expr_values::{
     Eid, EntityType, EntityUID, ExtValue, Literal, Loc, Name, RepresentableExtensionValue, Value,
     ValueKind,
 };
+use cedar_test_helpers::{both, kept, shared};
 use either::{Left, Right};
-use std::alloc::Global;
+use std::alloc::{AllocError, Global};
+use std::fmt::Display;
 use std::rc::{Rc, RcStr};
 use std::test::Fail;
+use std::vec::IntoIter;
 
 type V = Value<ExtValue>;
 
@@ -23,11 +26,11 @@ fn written(n: i64) -> Expr {
     Expr::val(Literal::from(n))
 }
 
-fn unknown(alloc: Global, name: &str) -> Result<Expr, Fail> {
+fn unknown(alloc: Global, name: &str) -> Result<Expr, AllocError> {
     Ok(Expr::unknown(Unknown::new_untyped(RcStr::from_str(alloc, name)?)))
 }
 
-fn set(alloc: Global, numbers: &[i64]) -> Result<V, Fail> {
+fn set(alloc: Global, numbers: &[i64]) -> Result<V, AllocError> {
     let mut values = Vec::new(alloc);
     for n in numbers {
         values.push(long(*n))?;
@@ -35,7 +38,7 @@ fn set(alloc: Global, numbers: &[i64]) -> Result<V, Fail> {
     Ok(Value::set(alloc, values, None)?)
 }
 
-fn written_set(alloc: Global, numbers: &[i64]) -> Result<Expr, Fail> {
+fn written_set(alloc: Global, numbers: &[i64]) -> Result<Expr, AllocError> {
     let mut exprs = Vec::new(alloc);
     for n in numbers {
         exprs.push(written(*n))?;
@@ -43,191 +46,265 @@ fn written_set(alloc: Global, numbers: &[i64]) -> Result<Expr, Fail> {
     Ok(Expr::set(alloc, exprs)?)
 }
 
-fn record(alloc: Global, pairs: Vec<(&str, V)>) -> Result<V, Fail> {
+// Each of two under its name.
+fn named<T: Drop>(
+    alloc: Global,
+    first: (&str, Result<T, AllocError>),
+    second: (&str, Result<T, AllocError>),
+) -> Result<Vec<(RcStr, T)>, AllocError> {
+    let (a, b) = both(first.1, second.1)?;
+    let first = RcStr::from_str(alloc, first.0)?;
+    let second = RcStr::from_str(alloc, second.0)?;
     let mut fields = Vec::new(alloc);
-    for (name, value) in pairs {
-        fields.push((RcStr::from_str(alloc, name)?, value))?;
-    }
-    Ok(Value::record(alloc, fields, None)?)
+    fields.push((first, a))?;
+    fields.push((second, b))?;
+    Ok(fields)
 }
 
-fn written_record(alloc: Global, pairs: Vec<(&str, Expr)>) -> Result<Expr, Fail> {
-    let mut fields = Vec::new(alloc);
-    for (name, e) in pairs {
-        fields.push((RcStr::from_str(alloc, name)?, e))?;
-    }
-    Expr::record(alloc, fields).map_err(|_| Fail::from("no record"))
+// A list of one.
+fn listed<T: Drop>(alloc: Global, it: Result<T, AllocError>) -> Result<Vec<T>, AllocError> {
+    let mut list = Vec::new(alloc);
+    list.push(it?)?;
+    Ok(list)
 }
 
-fn uid(alloc: Global) -> Result<Literal, Fail> {
-    let kind = EntityType::from_normalized_str(alloc, "User")?;
+fn written_record(alloc: Global, fields: Vec<(RcStr, Expr)>) -> Result<Expr, AllocError> {
+    Expr::record(alloc, fields).ok().ok_or(AllocError)
+}
+
+fn name(alloc: Global, text: &str) -> Result<Name, AllocError> {
+    Name::from_normalized_str(alloc, text)
+        .ok()
+        .ok_or(AllocError)
+}
+
+fn uid(alloc: Global) -> Result<Literal, AllocError> {
+    let kind = EntityType::from_name(name(alloc, "User")?);
     let uid = EntityUID::from_components(kind, Eid::from_str(alloc, "alice")?, None);
     Ok(Literal::from_entity_uid(alloc, uid)?)
 }
 
-fn rank(alloc: Global) -> Result<ExtValue, Fail> {
-    let kind = Name::from_normalized_str(alloc, "rank")?;
-    let function = Name::from_normalized_str(alloc, "rank_of")?;
+fn rank(alloc: Global) -> Result<ExtValue, AllocError> {
+    let kind = name(alloc, "rank")?;
+    let function = name(alloc, "rank_of")?;
     let args = vec![in alloc; Literal::from_str(alloc, "07")?]?;
     Ok(ExtValue::new(kind, function, args, vec![in alloc; 0, 7]?))
 }
 
-fn extension(alloc: Global) -> Result<V, Fail> {
+fn extension(alloc: Global) -> Result<V, AllocError> {
     let value = Rc::new(alloc, rank(alloc)?)?;
     Ok(Value::new(ValueKind::ExtensionValue(value), None))
 }
 
-fn call(alloc: Global, written: &str) -> Result<Expr, Fail> {
-    let function = Name::from_normalized_str(alloc, "rank_of")?;
+fn call(alloc: Global, written: &str) -> Result<Expr, AllocError> {
+    let function = name(alloc, "rank_of")?;
     let args = vec![in alloc; Expr::val(Literal::from_str(alloc, written)?)]?;
     Ok(Expr::call_extension_fn(alloc, function, args)?)
 }
 
-// Literals and sets with the expressions that they are written as.
-fn plain_rows(alloc: Global) -> Result<Vec<(V, Expr)>, Fail> {
-    let mut rows = Vec::new(alloc);
-    rows.push((long(7), written(7)))?;
-    rows.push((Value::from(uid(alloc)?), Expr::val(uid(alloc)?)))?;
-    rows.push((set(alloc, &[])?, written_set(alloc, &[])?))?;
-    rows.push((set(alloc, &[2, 1, 2])?, written_set(alloc, &[1, 2])?))?;
-    Ok(rows)
+// A record of the set of the set of 3, and of 1.
+fn nested(alloc: Global) -> Result<V, AllocError> {
+    let inner = Value::set(alloc, listed(alloc, set(alloc, &[3]))?, None);
+    let fields = named(alloc, ("b", inner), ("a", Ok(long(1))))?;
+    Value::record(alloc, fields, None)
 }
 
-// Records with the expressions that they are written as.
-fn record_rows(alloc: Global) -> Result<Vec<(V, Expr)>, Fail> {
-    let mut rows = Vec::new(alloc);
-    let inner = Value::set(alloc, vec![in alloc; set(alloc, &[3])?]?, None)?;
-    let inner_written = Expr::set(alloc, vec![in alloc; written_set(alloc, &[3])?]?)?;
-    rows.push((
-        record(alloc, vec![in alloc; ("b", inner), ("a", long(1))]?)?,
-        written_record(
-            alloc,
-            vec![in alloc; ("a", written(1)), ("b", inner_written)]?,
-        )?,
-    ))?;
-    rows.push((
-        Value::empty_record(alloc, None)?,
-        written_record(alloc, Vec::new(alloc))?,
-    ))?;
-    Ok(rows)
+fn written_nested(alloc: Global) -> Result<Expr, AllocError> {
+    let inner = Expr::set(alloc, listed(alloc, written_set(alloc, &[3]))?);
+    written_record(alloc, named(alloc, ("a", Ok(written(1))), ("b", inner))?)
+}
+
+// Whether the value is written as this expression, as a value, as a kind and as a partial value.
+fn is_written(alloc: Global, value: &V, expr: &Expr) -> Result<bool, AllocError> {
+    let of_value = kept(alloc, Expr::from_value(alloc, value))?;
+    let of_kind = kept(alloc, Expr::from_value_kind(alloc, value.value_kind()))?;
+    let of_part = kept(
+        alloc,
+        Expr::from_partial_value(alloc, Part::from(value.clone()?)),
+    )?;
+    Ok(*of_value == *expr && *of_kind == *expr && *of_part == *expr)
+}
+
+// Whether the expression is read as this value, and as its kind.
+fn is_read(alloc: Global, expr: &Expr, value: &V) -> Result<bool, AllocError> {
+    let kind: Result<ValueKind<ExtValue>, NotValue> = ValueKind::try_from_expr(alloc, expr);
+    let kind = kept(alloc, kind)?;
+    let read = kept(alloc, V::try_from_expr(alloc, expr))?;
+    Ok(*kind == *value.value_kind() && *read == *value)
+}
+
+// Both, where both were made.
+fn is_both(alloc: Global, value: Result<V, AllocError>, expr: Result<Expr, AllocError>) -> bool {
+    match both(kept(alloc, value), kept(alloc, expr)) {
+        Ok((value, expr)) => {
+            matches!(is_written(alloc, &value, &expr), Ok(true))
+                && matches!(is_read(alloc, &expr, &value), Ok(true))
+        }
+        Err(_) => false,
+    }
+}
+
+fn uid_value(alloc: Global) -> Result<V, AllocError> {
+    Ok(Value::from(uid(alloc)?))
+}
+
+fn written_uid(alloc: Global) -> Result<Expr, AllocError> {
+    Ok(Expr::val(uid(alloc)?))
 }
 
 #[test]
-fn values_are_written_and_read_again(rt: HostRuntime) -> Result<(), Fail> {
+fn values_are_written_and_read_again(rt: HostRuntime) {
     let alloc = rt.alloc();
-    for (value, expr) in plain_rows(alloc)?.into_iter().chain(record_rows(alloc)?) {
-        let made = Expr::from_value(alloc, &value)?;
-        assert!(rt; made == expr);
-        assert!(rt; Expr::from_value_kind(alloc, value.value_kind())? == expr);
-        assert!(rt; Expr::from_partial_value(alloc, Part::from(value.clone()?))? == expr);
-        let back = V::try_from_expr(alloc, &made)?;
-        assert!(rt; back == value);
-        let kind: ValueKind<ExtValue> = ValueKind::try_from_expr(alloc, &made)?;
-        assert!(rt; kind == *value.value_kind());
+    assert!(rt; is_both(alloc, Ok(long(7)), Ok(written(7))));
+    assert!(rt; is_both(alloc, uid_value(alloc), written_uid(alloc)));
+    assert!(rt; is_both(alloc, set(alloc, &[]), written_set(alloc, &[])));
+    assert!(rt; is_both(alloc, set(alloc, &[2, 1, 2]), written_set(alloc, &[1, 2])));
+    assert!(rt; is_both(alloc, nested(alloc), written_nested(alloc)));
+    let empty = written_record(alloc, Vec::new(alloc));
+    assert!(rt; is_both(alloc, Value::empty_record(alloc, None), empty));
+}
+
+// An extension value with a call of its own.
+fn represented(
+    alloc: Global,
+    argument: &str,
+) -> Result<Value<RepresentableExtensionValue<ExtValue>>, AllocError> {
+    let args = vec![in alloc; Literal::from_str(alloc, argument)?]?;
+    let function = name(alloc, "rank_of")?;
+    let value = RepresentableExtensionValue::new(Rc::new(alloc, rank(alloc)?)?, function, args);
+    Ok(Value::new(ValueKind::ExtensionValue(Rc::new(alloc, value)?), None))
+}
+
+// Whether the expression is no value, and the place that the refusal names.
+fn is_refused(alloc: Global, e: &Expr, place: Option<Loc>) -> bool {
+    match refusal(V::try_from_expr(alloc, e)) {
+        Some(NotValue::NotValue { loc }) => loc == place,
+        _ => false,
     }
-    Ok(())
+}
+
+// The refusal, where there is one.
+fn refusal<T: Drop, E: Drop>(made: Result<T, E>) -> Option<E> {
+    made.err()
 }
 
 #[test]
 fn extension_values_are_written_as_their_calls(rt: HostRuntime) -> Result<(), Fail> {
     let alloc = rt.alloc();
-    let made = Expr::from_value(alloc, &extension(alloc)?)?;
-    assert!(rt; made == call(alloc, "07")?);
-    assert!(rt;
-        matches!(
-            V::try_from_expr(alloc, &made),
-            Err(NotValue::NotValue { loc: None })
-        )
-    );
-    let another = vec![in alloc; Literal::from_str(alloc, "7")?]?;
-    let function = Name::from_normalized_str(alloc, "rank_of")?;
-    let value = Rc::new(alloc, rank(alloc)?)?;
-    let value = RepresentableExtensionValue::new(value, function, another);
-    let value = Rc::new(alloc, value)?;
-    let value = Value::new(ValueKind::ExtensionValue(value), None);
-    assert!(rt; Expr::from_value(alloc, &value)? == call(alloc, "7")?);
+    let value = kept(alloc, extension(alloc))?;
+    let made = kept(alloc, Expr::from_value(alloc, value.as_ref()))?;
+    let called = kept(alloc, call(alloc, "07"))?;
+    assert!(rt; *made == *called);
+    assert!(rt; is_refused(alloc, &made, None));
+    let value = kept(alloc, represented(alloc, "7"))?;
+    let made = kept(alloc, Expr::from_value(alloc, value.as_ref()))?;
+    let called = kept(alloc, call(alloc, "7"))?;
+    assert!(rt; *made == *called);
     Ok(())
+}
+
+// Whether the partial value is written at this place, once it has it.
+fn is_moved(alloc: Global, part: Part, place: Option<Loc>) -> Result<bool, Fail> {
+    let expr = Expr::from_partial_value(alloc, part.with_maybe_source_loc(place));
+    Ok(kept(alloc, expr)?.source_loc() == place)
 }
 
 #[test]
 fn places_are_kept(rt: HostRuntime) -> Result<(), Fail> {
     let alloc = rt.alloc();
     let place = Some(Loc::new(3, 5));
+    let value = shared(alloc, long(1).with_maybe_source_loc(place))?;
+    let expr = kept(alloc, Expr::from_value(alloc, value.as_ref()))?;
+    assert!(rt; expr.source_loc() == place);
+    let read = kept(alloc, V::try_from_expr(alloc, &expr))?;
+    assert!(rt; read.source_loc() == place);
+    let kind = kept(alloc, Expr::from_value_kind(alloc, value.value_kind()))?;
+    assert!(rt; kind.source_loc().is_none());
     let value = long(1).with_maybe_source_loc(place);
-    let expr = Expr::from_value(alloc, &value)?;
-    assert!(rt; expr.source_loc() == place);
-    let back = V::try_from_expr(alloc, &expr)?;
-    assert!(rt; back.source_loc() == place);
-    assert!(rt;
-        Expr::from_value_kind(alloc, value.value_kind())?
-            .source_loc()
-            .is_none()
-    );
-    let part = Part::from(value).with_maybe_source_loc(Some(Loc::new(8, 9)));
-    let expr = Expr::from_partial_value(alloc, part)?;
-    assert!(rt; expr.source_loc() == Some(Loc::new(8, 9)));
-    let part = Part::from(written(1)).with_maybe_source_loc(place);
-    let expr = Expr::from_partial_value(alloc, part)?;
-    assert!(rt; expr.source_loc() == place);
+    assert!(rt; is_moved(alloc, Part::from(value), Some(Loc::new(8, 9)))?);
+    assert!(rt; is_moved(alloc, Part::from(written(1)), place)?);
     Ok(())
+}
+
+// Whether this is shown as this text.
+fn shows<T: Display>(alloc: Global, it: &T, want: &str) -> Result<bool, Fail> {
+    Ok(it.to_string(alloc)?.as_str() == want)
+}
+
+// A set of a number and an unknown.
+fn mixed_set(alloc: Global) -> Result<Expr, AllocError> {
+    let (number, open) = both(Ok(written(1)), unknown(alloc, "u"))?;
+    Expr::set(alloc, vec![in alloc; number, open]?)
+}
+
+// A record of a number and a negation.
+fn mixed_record(alloc: Global) -> Result<Expr, AllocError> {
+    let negated = Expr::not(alloc, written(1));
+    written_record(alloc, named(alloc, ("a", Ok(written(1))), ("b", negated))?)
 }
 
 #[test]
 fn what_is_no_value(rt: HostRuntime) -> Result<(), Fail> {
     let alloc = rt.alloc();
     let place = Some(Loc::new(2, 4));
-    let principal = Expr::var(Var::Principal).with_maybe_source_loc(place);
-    let Err(fault) = V::try_from_expr(alloc, &principal) else {
-        return Err(Fail::from("a variable is a value"));
-    };
-    assert!(rt; fault == NotValue::NotValue { loc: place });
-    assert_eq!(rt; format!(in alloc; "{fault}")?.as_str(), "not a value");
-    assert_eq!(rt;
-        format!(in alloc; "{}", NotValue::OutOfMemory)?.as_str(),
-        "out of memory"
-    );
-    let members = vec![in alloc; written(1), unknown(alloc, "u")?]?;
-    let mixed = Expr::set(alloc, members)?;
-    assert!(rt;
-        matches!(
-            V::try_from_expr(alloc, &mixed),
-            Err(NotValue::NotValue { .. })
-        )
-    );
-    let fields = vec![in alloc; ("a", written(1)), ("b", Expr::not(alloc, written(1))?)]?;
-    let mixed = written_record(alloc, fields)?;
-    assert!(rt;
-        matches!(
-            V::try_from_expr(alloc, &mixed),
-            Err(NotValue::NotValue { .. })
-        )
-    );
+    let e = shared(
+        alloc,
+        Expr::var(Var::Principal).with_maybe_source_loc(place),
+    )?;
+    assert!(rt; is_refused(alloc, &e, place));
+    let e = kept(alloc, mixed_set(alloc))?;
+    assert!(rt; is_refused(alloc, &e, None));
+    let e = kept(alloc, mixed_record(alloc))?;
+    assert!(rt; is_refused(alloc, &e, None));
+    assert!(rt; shows(alloc, &NotValue::NotValue { loc: place }, "not a value")?);
+    assert!(rt; shows(alloc, &NotValue::OutOfMemory, "out of memory")?);
     Ok(())
+}
+
+fn unknown_part(alloc: Global, name: &str) -> Result<Part, AllocError> {
+    Ok(Part::unknown(Unknown::new_untyped(RcStr::from_str(alloc, name)?)))
 }
 
 #[test]
 fn partial_values(rt: HostRuntime) -> Result<(), Fail> {
     let alloc = rt.alloc();
-    let u = Unknown::new_untyped(RcStr::from_str(alloc, "u")?);
-    let part = Part::unknown(u);
-    assert!(rt; part == Part::from(unknown(alloc, "u")?));
-    assert!(rt; part.clone()? == part);
-    assert!(rt; part != Part::from(long(1)));
-    let Err(fault) = V::try_from(part) else {
-        return Err(Fail::from("an unknown is a value"));
-    };
+    let part = kept(alloc, unknown_part(alloc, "u"))?;
+    let same = shared(alloc, Part::from(unknown(alloc, "u")?))?;
+    let one = shared(alloc, Part::from(long(1)))?;
+    assert!(rt; *part == *same && *part != *one);
+    let copy = kept(alloc, Part::clone(&part))?;
+    assert!(rt; *copy == *part);
+    let copy = Part::clone(&one)?;
+    let value = kept(alloc, V::try_from(copy))?;
+    let number = shared(alloc, long(1))?;
+    assert!(rt; *value == *number);
+    let literal = shared(alloc, Part::from(Literal::from(1)))?;
+    assert!(rt; *literal == *one);
+    Ok(())
+}
+
+// What is left of an unknown that is no value.
+fn left_of(alloc: Global, name: &str) -> Result<PartialValueToValueError, Fail> {
+    match refusal(V::try_from(unknown_part(alloc, name)?)) {
+        None => Err(Fail::from("an unknown is a value")),
+        Some(fault) => Ok(fault),
+    }
+}
+
+#[test]
+fn an_unknown_is_no_value(rt: HostRuntime) -> Result<(), Fail> {
+    let alloc = rt.alloc();
     let text = "value contains a residual expression";
-    assert_eq!(rt; format!(in alloc; "{fault}")?.as_str(), text);
-    let PartialValueToValueError::ContainsUnknown(left) = fault;
-    assert!(rt; *left.residual() == unknown(alloc, "u")?);
-    assert_eq!(rt; format!(in alloc; "{left}")?.as_str(), text);
+    let fault = shared(alloc, left_of(alloc, "u")?)?;
+    assert!(rt; shows(alloc, fault.as_ref(), text)?);
+    let open = kept(alloc, unknown(alloc, "u"))?;
+    let PartialValueToValueError::ContainsUnknown(left) = fault.as_ref();
+    assert!(rt; *left.residual() == *open && shows(alloc, left, text)?);
     let fault = PartialValueToValueError::from(ContainsUnknown::new(written(2)));
-    assert!(rt;
-        fault == PartialValueToValueError::ContainsUnknown(ContainsUnknown::new(written(2)))
-    );
-    let value = V::try_from(Part::from(long(1)).clone()?)?;
-    assert!(rt; value == long(1));
-    assert!(rt; Part::from(Literal::from(1)) == Part::from(value));
+    let fault = shared(alloc, fault)?;
+    let same = PartialValueToValueError::ContainsUnknown(ContainsUnknown::new(written(2)));
+    let same = shared(alloc, same)?;
+    assert!(rt; *fault == *same);
     Ok(())
 }
 
@@ -244,36 +321,52 @@ fn items(alloc: Global, values: &[bool]) -> Result<Vec<Part>, Fail> {
     Ok(items)
 }
 
+// Whether two are equal.
+fn are_equal<T: Drop + PartialEq>(it: T, other: T) -> bool {
+    it == other
+}
+
+// A `v` for each value that is its number, counted from 1, and else a `?`.
+fn value_marks(alloc: Global, values: IntoIter<V>) -> Result<String, Fail> {
+    let mut marks = String::new(alloc);
+    for (value, n) in values.zip(1..) {
+        marks.push(if are_equal(value, long(n)) { 'v' } else { '?' })?;
+    }
+    Ok(marks)
+}
+
+// The same with an `e` for each expression.
+fn expr_marks(alloc: Global, exprs: IntoIter<Expr>) -> Result<String, Fail> {
+    let mut marks = String::new(alloc);
+    for (e, n) in exprs.zip(1..) {
+        marks.push(if are_equal(e, written(n)) { 'e' } else { '?' })?;
+    }
+    Ok(marks)
+}
+
+// What a list is split into.
+fn marks(alloc: Global, items: Vec<Part>) -> Result<(bool, String), Fail> {
+    match split(alloc, items)? {
+        Left(values) => Ok((true, value_marks(alloc, values)?)),
+        Right(exprs) => Ok((false, expr_marks(alloc, exprs)?)),
+    }
+}
+
 #[test]
 fn lists_are_split(rt: HostRuntime) -> Result<(), Fail> {
-    let alloc = rt.alloc();
     let none: [bool; 0] = [];
-    for (row, is_value) in [
-        (none.as_slice(), true),
-        ([true].as_slice(), true),
-        ([true, true].as_slice(), true),
-        ([false].as_slice(), false),
-        ([true, false, true, false].as_slice(), false),
-        ([true, true, true, false].as_slice(), false),
-        ([false, true, true].as_slice(), false),
-        ([false, false].as_slice(), false),
+    for (row, is_value, want) in [
+        (none.as_slice(), true, ""),
+        ([true].as_slice(), true, "v"),
+        ([true, true].as_slice(), true, "vv"),
+        ([false].as_slice(), false, "e"),
+        ([true, false, true, false].as_slice(), false, "eeee"),
+        ([true, true, true, false].as_slice(), false, "eeee"),
+        ([false, true, true].as_slice(), false, "eee"),
+        ([false, false].as_slice(), false, "ee"),
     ] {
-        match split(alloc, items(alloc, row)?)? {
-            Left(values) => {
-                assert!(rt; is_value);
-                assert_eq!(rt; values.len(), row.len());
-                for (value, n) in values.zip(1..) {
-                    assert!(rt; value == long(n), "{n}");
-                }
-            }
-            Right(exprs) => {
-                assert!(rt; !is_value);
-                assert_eq!(rt; exprs.len(), row.len());
-                for (e, n) in exprs.zip(1..) {
-                    assert!(rt; e == written(n), "{n}");
-                }
-            }
-        }
+        let (are_values, marks) = marks(rt.alloc(), items(rt.alloc(), row)?)?;
+        assert!(rt; are_values == is_value && marks.as_str() == want);
     }
     Ok(())
 }
