@@ -25,6 +25,7 @@ use crate::expr_builder;
 use cedar_expr_leaves::{Pattern, SlotId, Var};
 use cedar_expr_names::{EntityType, Literal, Loc, Name};
 use cedar_expr_trees::records::field_map;
+use cedar_expr_trees::sharing::share_two;
 use cedar_expr_trees::{
     BinaryOp, Expr, ExprKind, ExpressionConstructionError, NonEmpty, UnaryOp, Unknown,
 };
@@ -177,10 +178,11 @@ impl<T: Default + Clone + Drop> expr_builder::ExprBuilder for ExprBuilder<T> {
         ensures data { IfOk result (λ e. data_of e ≡ builder_data self) }
     {
         if let (Some(a), Some(b)) = (truth(&e1), truth(&e2)) {
+            drop(e1);
+            drop(e2);
             return Ok(self.with_expr_kind(ExprKind::Lit(Literal::Bool(a && b))));
         }
-        let left = Rc::new(alloc, e1)?;
-        let right = Rc::new(alloc, e2)?;
+        let (left, right) = share_two(alloc, e1, e2)?;
         Ok(self.with_expr_kind(ExprKind::And { left, right }))
     }
 
@@ -190,10 +192,11 @@ impl<T: Default + Clone + Drop> expr_builder::ExprBuilder for ExprBuilder<T> {
         ensures data { IfOk result (λ e. data_of e ≡ builder_data self) }
     {
         if let (Some(a), Some(b)) = (truth(&e1), truth(&e2)) {
+            drop(e1);
+            drop(e2);
             return Ok(self.with_expr_kind(ExprKind::Lit(Literal::Bool(a || b))));
         }
-        let left = Rc::new(alloc, e1)?;
-        let right = Rc::new(alloc, e2)?;
+        let (left, right) = share_two(alloc, e1, e2)?;
         Ok(self.with_expr_kind(ExprKind::Or { left, right }))
     }
 
@@ -217,8 +220,7 @@ impl<T: Default + Clone + Drop> expr_builder::ExprBuilder for ExprBuilder<T> {
         ensures place { IfOk result (λ e. place_of e ≡ builder_place self) }
         ensures data { IfOk result (λ e. data_of e ≡ builder_data self) }
     {
-        let arg1 = Rc::new(alloc, arg1)?;
-        let arg2 = Rc::new(alloc, arg2)?;
+        let (arg1, arg2) = share_two(alloc, arg1, arg2)?;
         Ok(self.with_expr_kind(ExprKind::BinaryApp { op, arg1, arg2 }))
     }
 

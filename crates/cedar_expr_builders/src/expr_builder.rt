@@ -25,6 +25,7 @@ use crate::err::BuildFault;
 use cedar_expr_leaves::{Pattern, SlotId, Var};
 use cedar_expr_names::{EntityType, Literal, Loc, Name};
 use cedar_expr_trees::records::field_map;
+use cedar_expr_trees::sharing::share_three;
 use cedar_expr_trees::{BinaryOp, ExpressionConstructionError, NonEmpty, UnaryOp, Unknown};
 use std::alloc::{AllocError, Global};
 use std::collections::BTreeMap;
@@ -243,9 +244,9 @@ pub trait ExprBuilder: Clone + Drop {
     ) -> Result<Self::Expr, AllocError>
         ensures { IfOk result (λ r. means r ≡ steps.of_choice (means test_expr) (means then_expr) (means else_expr)) }
     {
-        let test_expr = Rc::new(alloc, test_expr)?;
-        let then_expr = Rc::new(alloc, then_expr)?;
-        let else_expr = Rc::new(alloc, else_expr)?;
+        let (test_expr, then_expr, else_expr) = share_three(
+            alloc, test_expr, then_expr, else_expr,
+        )?;
         self.ite_arc(alloc, test_expr, then_expr, else_expr)
     }
 

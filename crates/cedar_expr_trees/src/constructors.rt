@@ -16,6 +16,7 @@ ghost use Rattle.cedar_expr_trees.specs.Trees.{tree_of, kind_tree, place_of, nam
 use crate::expr::{Expr, ExprKind, Unknown};
 use crate::non_empty::NonEmpty;
 use crate::ops::{BinaryOp, UnaryOp};
+use crate::sharing::{share_three, share_two};
 use cedar_expr_leaves::{Pattern, SlotId, Var};
 use cedar_expr_names::{EntityType, Literal, Name};
 use std::alloc::{AllocError, Global};
@@ -65,9 +66,9 @@ impl Expr {
         ensures tree { IfOk result (λ r. tree_of r ≡ choice (tree_of test_expr) (tree_of then_expr) (tree_of else_expr)) }
         ensures place { IfOk result (λ r. place_of r ≡ None) }
     {
-        let test_expr = Rc::new(alloc, test_expr)?;
-        let then_expr = Rc::new(alloc, then_expr)?;
-        let else_expr = Rc::new(alloc, else_expr)?;
+        let (test_expr, then_expr, else_expr) = share_three(
+            alloc, test_expr, then_expr, else_expr,
+        )?;
         Ok(Expr::ite_arc(test_expr, then_expr, else_expr))
     }
 
@@ -114,10 +115,11 @@ impl Expr {
         ensures place { IfOk result (λ r. place_of r ≡ None) }
     {
         if let (Some(a), Some(b)) = (e1.written_truth(), e2.written_truth()) {
+            drop(e1);
+            drop(e2);
             return Ok(Expr::val(Literal::Bool(a && b)));
         }
-        let left = Rc::new(alloc, e1)?;
-        let right = Rc::new(alloc, e2)?;
+        let (left, right) = share_two(alloc, e1, e2)?;
         Ok(Expr::of_kind(ExprKind::And { left, right }))
     }
 
@@ -127,10 +129,11 @@ impl Expr {
         ensures place { IfOk result (λ r. place_of r ≡ None) }
     {
         if let (Some(a), Some(b)) = (e1.written_truth(), e2.written_truth()) {
+            drop(e1);
+            drop(e2);
             return Ok(Expr::val(Literal::Bool(a || b)));
         }
-        let left = Rc::new(alloc, e1)?;
-        let right = Rc::new(alloc, e2)?;
+        let (left, right) = share_two(alloc, e1, e2)?;
         Ok(Expr::of_kind(ExprKind::Or { left, right }))
     }
 
@@ -308,8 +311,7 @@ impl Expr {
         ensures tree { IfOk result (λ r. tree_of r ≡ binary (binary_op_of op) (tree_of arg1) (tree_of arg2)) }
         ensures place { IfOk result (λ r. place_of r ≡ None) }
     {
-        let arg1 = Rc::new(alloc, arg1)?;
-        let arg2 = Rc::new(alloc, arg2)?;
+        let (arg1, arg2) = share_two(alloc, arg1, arg2)?;
         Ok(Expr::of_kind(ExprKind::BinaryApp { op, arg1, arg2 }))
     }
 

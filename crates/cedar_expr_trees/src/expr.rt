@@ -247,7 +247,9 @@ impl<T: Drop> Expr<T> {
     pub fn into_data(self) -> T
         ensures { result ≡ data_of self }
     {
-        self.data
+        let (expr_kind, _, data) = self.into_parts();
+        drop(expr_kind);
+        data
     }
 
     /// The kind of the expression, its place and its data.
@@ -330,10 +332,12 @@ impl<T: Clone + Drop> Clone for Expr<T> {
 
     /// The same expression over the same parts, which are shared, with a copy of its data.
     fn clone(&self) -> Result<Expr<T>, AllocError> {
+        let data = self.data.clone()?;
+        let expr_kind = self.expr_kind.clone()?;
         Ok(Expr {
-            expr_kind: self.expr_kind.clone()?,
+            expr_kind,
             source_loc: self.source_loc,
-            data: self.data.clone()?,
+            data,
         })
     }
 }

@@ -10,6 +10,7 @@ pub mod expr_iterator;
 pub mod non_empty;
 pub mod ops;
 pub mod records;
+pub mod sharing;
 
 pub use cedar_expr_leaves::{Pattern, PatternElem, Slot, SlotId, Var};
 pub use cedar_expr_values::{
