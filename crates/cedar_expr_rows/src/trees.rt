@@ -121,8 +121,8 @@ fn literals_are_folded_by_and_and_or(rt: HostRuntime) -> Result<(), Fail> {
     for (a, b) in [(false, false), (false, true), (true, false), (true, true)] {
         assert!(rt; are_folded(alloc, a, b), "{a} {b}");
     }
-    let left = unknown(alloc, "u")?;
-    let left = kept(alloc, Expr::and(alloc, left, truth(true)))?;
+    let open = unknown(alloc, "u")?;
+    let left = kept(alloc, Expr::and(alloc, truth(true), open))?;
     assert!(rt; matches!(left.expr_kind(), ExprKind::And { .. }));
     assert!(rt; is_copied(left.as_ref()));
     let right = kept(alloc, Expr::or(alloc, long(1), truth(true)))?;
