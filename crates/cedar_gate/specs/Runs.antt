@@ -20,7 +20,7 @@ use Rattle.cedar_gate.specs.Transcripts.{entries_of, transcript_of}
 use Rattle.cedar_gate.specs.Sessions.{session_submission, session_request, answer_fault_number}
 
 -- the decision of a session's policies
-abbrev pub session_decision : Session → Decision
+abbrev pub session_decision : {B : _} {F : _} {g : _} → Session B F g → Decision
 session_decision s = decision_of (at_request (session_request s)) (session_submission s).policies
 
 -- the request and the host's store

@@ -13,10 +13,10 @@ use Rattle.cedar_gate.specs.declared.session.AnswerFault.{AnswerFault}
 use Rattle.cedar_gate.specs.declared.session.AnswerFault.TheVariants as answering
 
 -- what the session's gate accepted
-abbrev pub session_submission : Session → Submission
+abbrev pub session_submission : {B : _} {F : _} {g : _} → Session B F g → Submission
 session_submission s = submission_of s.gate.now
 
-abbrev pub session_request : Session → model.Request
+abbrev pub session_request : {B : _} {F : _} {g : _} → Session B F g → model.Request
 session_request s = request_of s.request
 
 abbrev pub open_fault_number : OpenFault → ℕ

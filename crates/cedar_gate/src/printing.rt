@@ -2,7 +2,7 @@
 
 ghost use Rattle.std.specs.Prelude.{◌≡◌, ◌++◌, ◌≢◌, true, Some, IfOk, IfSome, string_bytes};
 ghost use Rattle.std.specs.List.{list_all};
-ghost use Rattle.cedar_gate_exprs.specs.Table.{all_typed};
+ghost use Rattle.cedar_expr_functions.specs.Tables.{are_typed};
 ghost use Rattle.cedar_gate_model.specs.Acceptance.{IsAccepted};
 ghost use Rattle.cedar_gate_model.specs.Lines as lines;
 ghost use Rattle.cedar_gate_model.specs.Lines.{Prints};
@@ -41,7 +41,7 @@ pub struct Printed {
 
 /// What is printed for an input. Fails only for want of memory.
 pub fn print_input(alloc: Global, bytes: &[u8], table: &ExtTable<'_>) -> Result<Printed, AllocError>
-    requires { all_typed table.now ≡ true }
+    requires { are_typed table.now ≡ true }
     ensures printed { IfOk result (λ p. Prints (input_read bytes.now) (status_of p.status) (string_bytes p.text)) }
     ensures whole { IfOk result (λ p. PrintsWhole bytes.now (status_of p.status) (string_bytes p.text)) }
 {
@@ -53,7 +53,7 @@ pub fn print_input(alloc: Global, bytes: &[u8], table: &ExtTable<'_>) -> Result<
 
 // The same by the definitions of today's language.
 fn print_read(alloc: Global, bytes: &[u8], table: &ExtTable<'_>) -> Result<Printed, AllocError>
-    requires { all_typed table.now ≡ true }
+    requires { are_typed table.now ≡ true }
     ensures { IfOk result (λ p. Prints (input_read bytes.now) (status_of p.status) (string_bytes p.text)) }
 {
     match read_text(alloc, bytes) {
@@ -75,7 +75,7 @@ fn print_unreadable(alloc: Global) -> Result<Printed, AllocError>
 
 // What is printed for a bundle.
 fn print_bundle(alloc: Global, bundle: Bundle, table: &ExtTable<'_>) -> Result<Printed, AllocError>
-    requires typed { all_typed table.now ≡ true }
+    requires typed { are_typed table.now ≡ true }
     requires plain { is_first_path bundle.fragments.items ≡ true }
     requires policies { list_all is_first_path_policy bundle.policies.items ≡ true }
     requires level { bundle.level ≡ 0 }
@@ -113,7 +113,7 @@ fn print_refusal(alloc: Global, fault: GateFault) -> Result<Printed, AllocError>
 // What is printed for a run at a gate.
 fn print_run(
     alloc: Global,
-    gate: &Gate<'_>,
+    gate: &Gate<'_, '_>,
     request: Request,
     steps: &[Step],
     store: Vec<Entity>,

@@ -65,7 +65,11 @@ impl RunFault {
 }
 
 // Does one step. A load with nothing wanted is no round, and nothing is ever wanted at level 0.
-fn take_step(session: &Session<'_>, step: Step, entries: &mut Vec<Entry>) -> Result<(), AllocError>
+fn take_step(
+    session: &Session<'_, '_, '_>,
+    step: Step,
+    entries: &mut Vec<Entry>,
+) -> Result<(), AllocError>
     ensures done { OnOk result (entries_of entries.new.items
         ≡ entries_of entries.old.items ++ decisions_for (step_of step ∷ []) (session_decision session.now)) }
     ensures unchanged { OnErr result (entries.new.items ≡ entries.old.items) }
@@ -82,7 +86,7 @@ fn take_step(session: &Session<'_>, step: Step, entries: &mut Vec<Entry>) -> Res
 
 // Does the steps, in their order.
 fn take_steps(
-    session: &Session<'_>,
+    session: &Session<'_, '_, '_>,
     steps: &[Step],
     entries: &mut Vec<Entry>,
 ) -> Result<(), AllocError>
@@ -103,9 +107,9 @@ fn take_steps(
 /// # Errors
 ///
 /// `Answering` with 3 where the request doesn't conform to the schema; else want of memory. Each has what was done so far.
-pub fn run<'a, H: Host>(
+pub fn run<H: Host>(
     alloc: Global,
-    gate: &'a Gate<'a>,
+    gate: &Gate<'_, '_>,
     request: Request,
     steps: &[Step],
     host: &mut H,
@@ -123,9 +127,9 @@ pub fn run<'a, H: Host>(
 
 // The same by the definitions of today's language.
 #[tactic(auto, using(crate::proofs::Steps::in_world))]
-fn run_at<'a, H: Host>(
+fn run_at<H: Host>(
     alloc: Global,
-    gate: &'a Gate<'a>,
+    gate: &Gate<'_, '_>,
     request: Request,
     steps: &[Step],
     host: &mut H,
@@ -142,7 +146,11 @@ fn run_at<'a, H: Host>(
 
 // Does the steps of a session in their order, and then answers.
 #[tactic(auto, using(crate::proofs::Steps::concluded))]
-fn run_session(alloc: Global, session: &Session<'_>, steps: &[Step]) -> Result<Transcript, RunFault>
+fn run_session(
+    alloc: Global,
+    session: &Session<'_, '_, '_>,
+    steps: &[Step],
+) -> Result<Transcript, RunFault>
     ensures { SessionGives (session_submission session.now) (session_request session.now) (steps_of steps.now) result }
 {
     let mut entries = Vec::new(alloc);
@@ -165,7 +173,7 @@ fn stopped(entries: Vec<Entry>) -> RunFault
 // The end of a session whose steps are done.
 fn conclude(
     alloc: Global,
-    session: &Session<'_>,
+    session: &Session<'_, '_, '_>,
     entries: Vec<Entry>,
 ) -> Result<Transcript, RunFault>
     ensures { ConclusionGives (session_submission session.now) (session_request session.now) entries result }

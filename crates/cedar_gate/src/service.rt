@@ -1,7 +1,7 @@
 //! The service: reads a bundle, and writes the lines of its run.
 
 ghost use Rattle.std.specs.Prelude.{◌≡◌, List, ℕ, true, Some, IfOk, IfErr, IfSome};
-ghost use Rattle.cedar_gate_exprs.specs.Table.{all_typed};
+ghost use Rattle.cedar_expr_functions.specs.Tables.{are_typed};
 ghost use Rattle.cedar_gate_model.specs.ReadingBundle.{input_read};
 ghost use Rattle.cedar_gate_model.specs.Lines.{Prints};
 ghost use Rattle.cedar_gate.specs.Wholes.{PrintsWhole};
@@ -76,7 +76,7 @@ pub fn serve<R: Read + Drop, W: Write + Drop>(
     writer: &mut W,
     table: &ExtTable<'_>,
 ) -> Result<Status, ServeFault>
-    requires { all_typed table.now ≡ true }
+    requires { are_typed table.now ≡ true }
     ensures printed { (bytes : List ℕ) → R.remaining reader ≡ Some bytes
         → ServeGives (Prints (input_read bytes)) (W.contents writer.old) (W.contents writer.new) result }
     ensures printed_whole { (bytes : List ℕ) → R.remaining reader ≡ Some bytes

@@ -2,7 +2,7 @@
 
 ghost use Rattle.std.specs.Prelude.{◌≡◌, ◌↔◌, [], Some, Contains, map, true, false, option_map, IsOk, IsOkAnd, OnOk, IfOk, IfErr, IsErrOf};
 ghost use Rattle.cedar_expr_names.specs.Views.{uid_of};
-ghost use Rattle.cedar_store_model.specs.World.{World};
+ghost use Rattle.cedar_store_model.specs.World.{World, Request as ModelRequest};
 ghost use Rattle.cedar_store_model.specs.Answer as answer;
 ghost use Rattle.cedar_schema_model.specs.Conforming.{conforms};
 ghost use Rattle.cedar_gate_model.specs.Acceptance.{Submission};
@@ -93,25 +93,25 @@ impl AnswerFault {
 
 /// One request at an accepted gate.
 #[derive(Drop)]
-pub struct Session<'a> {
-    gate: &'a Gate<'a>,
+pub struct Session<'g, 't, 'e> {
+    gate: &'g Gate<'t, 'e>,
     request: Request,
 }
 
-impl<'a> Session<'a> {
+impl<'g, 't, 'e> Session<'g, 't, 'e> {
     /// A session of this request at the gate. Today it always opens.
     ///
     /// # Errors
     ///
     /// Want of memory.
-    pub fn open(gate: &'a Gate<'a>, request: Request) -> Result<Session<'a>, OpenFault>
+    pub fn open(gate: &'g Gate<'t, 'e>, request: Request) -> Result<Session<'g, 't, 'e>, OpenFault>
         ensures { IsOkAnd result (λ s. (session_submission s ≡ submission_of gate.now) × (session_request s ≡ request_of request)) }
     {
         Ok(Session { gate, request })
     }
 
     /// The gate of the session.
-    pub fn gate(&self) -> &'a Gate<'a>
+    pub fn gate(&self) -> &'g Gate<'t, 'e>
         ensures { submission_of result.now ≡ session_submission self.now }
     {
         self.gate
@@ -203,23 +203,37 @@ impl<'a> Session<'a> {
 }
 
 /// Opening a session at a gate, as `gate.open(request)`.
-pub trait OpenSession {
+pub trait OpenSession<'s> {
+    /// What is opened.
+    type Opened;
+
     /// What was accepted.
     ghost accepted: { Self → Submission };
+
+    /// What the gate of what is opened accepted, and its request.
+    ghost opened_at: { Self.Opened → Submission };
+
+    ghost opened_for: { Self.Opened → ModelRequest };
 
     /// A session of this request at the gate. Today it always opens.
     ///
     /// # Errors
     ///
     /// Want of memory.
-    fn open(&self, request: Request) -> Result<Session<'_>, OpenFault>
-        ensures { IsOkAnd result (λ s. (session_submission s ≡ accepted self.now) × (session_request s ≡ request_of request)) };
+    fn open(&'s self, request: Request) -> Result<Self::Opened, OpenFault>
+        ensures { IsOkAnd result (λ s. (opened_at s ≡ accepted self.now) × (opened_for s ≡ request_of request)) };
 }
 
-impl<'a> OpenSession for Gate<'a> {
+impl<'s, 't: 's, 'e: 't> OpenSession<'s> for Gate<'t, 'e> {
+    type Opened = Session<'s, 't, 'e>;
+
     ghost accepted = { submission_of };
 
-    fn open(&self, request: Request) -> Result<Session<'_>, OpenFault> {
+    ghost opened_at = { session_submission };
+
+    ghost opened_for = { session_request };
+
+    fn open(&'s self, request: Request) -> Result<Session<'s, 't, 'e>, OpenFault> {
         Session::open(self, request)
     }
 }

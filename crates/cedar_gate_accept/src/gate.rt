@@ -23,14 +23,14 @@ use std::alloc::Global;
 
 /// What was accepted: declarations, policies, a level and a limit on nesting. It borrows its table of extension functions.
 #[derive(Drop)]
-pub struct Gate<'a> {
+pub struct Gate<'t, 'e> {
     schema: ValidatorSchema,
     policies: Vec<Policy>,
     conditions: Vec<Expr>,
     warnings: Vec<PolicyID>,
     level: u32,
     limit: NestLimit,
-    table: &'a ExtTable<'a>,
+    table: &'t ExtTable<'e>,
     pub ghost accepted: { admits (submission schema policies.items level limit) ≡ true },
     pub ghost at_zero: { level ≡ 0 },
     pub ghost plain: { is_plain (schema_of schema) ≡ true },
@@ -39,10 +39,10 @@ pub struct Gate<'a> {
     ghost warned: { map id_text warnings.items ≡ warnings_of (submission schema policies.items level limit) } by { texts_set (map id_text warnings.items) (warnings_of (submission schema policies.items level limit)) },
 }
 
-impl<'a> Gate<'a> {
+impl<'t, 'e> Gate<'t, 'e> {
     ghost use Rattle.std.specs.Prelude.{◌≡◌, IfOk, IfErr, true, map};
     ghost use Rattle.cedar_gate_types.specs.Trees.{small_tree_of};
-    ghost use Rattle.cedar_gate_exprs.specs.Table.{all_typed};
+    ghost use Rattle.cedar_expr_functions.specs.Tables.{are_typed};
     ghost use Rattle.cedar_store_model.specs.Policy.{condition};
     ghost use Rattle.cedar_store_model.specs.Whole.FirstPath.{whole_policies};
     ghost use Rattle.cedar_gate_model.specs.Acceptance.{IsAccepted, warnings_of};
@@ -61,21 +61,22 @@ impl<'a> Gate<'a> {
 
     /// Accepts declarations and policies where the acceptance rules hold, and else names a fault that is there: by the rules of
     /// today's language, and so by those of the whole one, with any table. Which of several faults is left open. Answers want of
-    /// memory. The table's functions all have a result type, and what is handed in lies in today's language, which `first_path`
-    /// tells.
+    /// memory. The gate keeps what is handed in. The table's functions all have a result type, and what is handed in lies in today's
+    /// language, which `first_path` tells.
     pub fn accept(
         alloc: Global,
         fragments: &[Fragment],
         policies: Vec<Policy>,
-        table: &'a ExtTable<'a>,
+        table: &'t ExtTable<'e>,
         level: u32,
         limit: NestLimit,
-    ) -> Result<Gate<'a>, GateFault>
-        requires typed { all_typed table.now ≡ true }
+    ) -> Result<Gate<'t, 'e>, GateFault>
+        requires typed { are_typed table.now ≡ true }
         requires in_language { lies_in_language fragments.now policies.items level ≡ true }
         ensures accepted { IfOk result (λ g. IsAccepted (submission_of g)) }
         ensures accepted_whole { IfOk result (λ g. IsAcceptedWhole (submission_of g)) }
         ensures kept { IfOk result (λ g. submission_of g ≡ submitted fragments.now policies.items level limit) }
+        ensures table { IfOk result (λ g. table_of g ≡ table.now) }
         ensures refused { IfErr result (λ f. GateFaultIsThere f (submitted fragments.now policies.items level limit)) }
         ensures refused_whole { IfErr result (λ f. RefusesWhole f (submitted fragments.now policies.items level limit)) }
     {
@@ -90,13 +91,14 @@ impl<'a> Gate<'a> {
         alloc: Global,
         fragments: &[Fragment],
         policies: Vec<Policy>,
-        table: &'a ExtTable<'a>,
+        table: &'t ExtTable<'e>,
         level: u32,
         limit: NestLimit,
-    ) -> Result<Gate<'a>, GateFault>
+    ) -> Result<Gate<'t, 'e>, GateFault>
         requires { lies_in_language fragments.now policies.items level ≡ true }
         ensures accepted { IfOk result (λ g. IsAccepted (submission_of g)) }
         ensures kept { IfOk result (λ g. submission_of g ≡ submitted fragments.now policies.items level limit) }
+        ensures table { IfOk result (λ g. table_of g ≡ table.now) }
         ensures refused { IfErr result (λ f. GateFaultIsThere f (submitted fragments.now policies.items level limit)) }
     {
         let schema = ValidatorSchema::from_schema_fragments(alloc, fragments)?;
@@ -152,7 +154,7 @@ impl<'a> Gate<'a> {
     }
 
     /// The table of extension functions.
-    pub fn table(&self) -> &ExtTable<'a>
+    pub fn table(&self) -> &'t ExtTable<'e>
         ensures { result.now ≡ table_of self.now }
     {
         self.table

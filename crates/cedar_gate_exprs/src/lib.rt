@@ -1,8 +1,7 @@
-//! What the gate names of expressions, under one name, and the table of extension functions that it is handed today.
+//! What the gate names of expressions, under one name.
 #![tactic(auto)]
 
-pub mod extensions;
-
+pub use cedar_expr_functions::{ExtTable, ExtensionFunction, Extensions};
 pub use cedar_expr_leaves::{Pattern, PatternElem, Slot, SlotId, Var};
 pub use cedar_expr_names::{
     Eid, EntityType, EntityUID, Id, InternalName, Literal, Loc, Name, NameError, Quoted,
@@ -13,4 +12,3 @@ pub use cedar_expr_trees::{
     BinaryOp, DuplicateKeyError, Expr, ExprKind, ExpressionConstructionError, NonEmpty, UnaryOp,
     Unknown,
 };
-pub use extensions::{ExtTable, ExtensionFunction, Extensions};

@@ -2,7 +2,7 @@
 
 use cedar_gate_exprs::{Eid, EntityType, EntityUID, Expr, ExprKind, Extensions, Literal, Var};
 use cedar_gate_types::*;
-use std::alloc::Global;
+use std::alloc::{AllocError, Global};
 use std::rc::{Rc, RcStr};
 use std::test::Fail;
 
@@ -35,14 +35,17 @@ fn policy(
     ))
 }
 
+// Whether the policy is named so, forbids, and has the name of a copy.
+fn is_named(p: &Policy, name: &str) -> Result<bool, Fail> {
+    let copy = p.id().clone()?;
+    Ok(p.id().as_str() == name && p.effect() == Effect::Forbid && p.id().same(&copy))
+}
+
 #[test]
 fn a_policy_without_scope_and_body_asks_nothing(rt: HostRuntime) -> Result<(), Fail> {
     let p = policy(rt.alloc(), PrincipalOrResourceConstraint::Any, None)?;
     assert!(rt; is_truth(&p.condition(rt.alloc())?, true));
-    assert_eq!(rt; p.id().as_str(), "p");
-    assert!(rt; p.effect() == Effect::Forbid);
-    let copy = p.id().clone()?;
-    assert!(rt; p.id().same(&copy));
+    assert!(rt; is_named(&p, "p")?);
     Ok(())
 }
 
@@ -55,23 +58,38 @@ fn a_false_body_folds_to_false(rt: HostRuntime) -> Result<(), Fail> {
     Ok(())
 }
 
+// Whether the expression is seen as this number.
+fn is_number(e: &Expr, n: i64) -> bool {
+    matches!(first_path_kind(e), FirstPathKind::Long(m) if m == n)
+}
+
+// Whether the expression was made, and is seen as the number 0.
+fn is_zero(made: Result<Expr, AllocError>) -> bool {
+    match made {
+        Ok(e) => is_number(&e, 0),
+        Err(_) => false,
+    }
+}
+
+fn one() -> Expr {
+    Expr::val(Literal::Long(1))
+}
+
+fn text(alloc: Global, text: &str) -> Result<Expr, AllocError> {
+    Ok(Expr::val(Literal::from(RcStr::from_str(alloc, text)?)))
+}
+
 #[test]
 fn what_is_not_of_the_first_path_is_the_number_0(rt: HostRuntime) -> Result<(), Fail> {
     let alloc = rt.alloc();
-    let text = Expr::val(Literal::from(RcStr::from_str(alloc, "a")?));
-    let one = Expr::val(Literal::Long(1));
-    let sum = Expr::add(alloc, one.clone()?, one.clone()?)?;
-    let either = Expr::or(alloc, one.clone()?, one.clone()?)?;
-    let minus = Expr::neg(alloc, one.clone()?)?;
-    for e in [&text, &Expr::var(Var::Context), &sum, &either, &minus] {
-        assert!(rt; matches!(first_path_kind(e), FirstPathKind::Long(0)));
-    }
-    let less = Expr::less(alloc, one.clone()?, sum)?;
+    assert!(rt; is_zero(text(alloc, "a")) && is_zero(Ok(Expr::var(Var::Context))));
+    assert!(rt; is_zero(Expr::add(alloc, one(), one())) && is_zero(Expr::or(alloc, one(), one())));
+    assert!(rt; is_zero(Expr::neg(alloc, one())));
+    let less = Expr::less(alloc, one(), Expr::add(alloc, one(), one())?)?;
     let FirstPathKind::Less(left, right) = first_path_kind(&less) else {
-        return Err(Fail::from(std::alloc::AllocError));
+        return Err(Fail::from("another kind"));
     };
-    assert!(rt; matches!(first_path_kind(left), FirstPathKind::Long(1)));
-    assert!(rt; matches!(first_path_kind(right), FirstPathKind::Long(0)));
+    assert!(rt; is_number(left, 1) && is_number(right, 0));
     Ok(())
 }
 
@@ -79,13 +97,11 @@ fn what_is_not_of_the_first_path_is_the_number_0(rt: HostRuntime) -> Result<(), 
 fn a_scope_part_stands_before_the_rest(rt: HostRuntime) -> Result<(), Fail> {
     let user = uid(rt.alloc(), "User", "a")?;
     let scope = PrincipalOrResourceConstraint::Eq(EntityReference::EUID(user));
-    let p = policy(rt.alloc(), scope, None)?;
-    let condition = p.condition(rt.alloc())?;
+    let condition = policy(rt.alloc(), scope, None)?.condition(rt.alloc())?;
     let ExprKind::And { left, right } = condition.expr_kind() else {
-        return Err(Fail::from(std::alloc::AllocError));
+        return Err(Fail::from("another kind"));
     };
-    assert!(rt; matches!(left.expr_kind(), ExprKind::BinaryApp { .. }));
-    assert!(rt; is_truth(right, true));
+    assert!(rt; matches!(left.expr_kind(), ExprKind::BinaryApp { .. }) && is_truth(right, true));
     Ok(())
 }
 
@@ -98,7 +114,7 @@ fn limits_are_1_to_512(rt: HostRuntime) {
         (513, false),
         (u32::MAX, false),
     ] {
-        assert_eq!(rt; NestLimit::new(levels).is_some(), there, "at {levels}");
+        assert!(rt; NestLimit::new(levels).is_some() == there, "at {levels}");
     }
 }
 
@@ -106,11 +122,9 @@ fn limits_are_1_to_512(rt: HostRuntime) {
 fn a_request_gives_its_parts(rt: HostRuntime) -> Result<(), Fail> {
     let a = uid(rt.alloc(), "User", "a")?;
     let view = uid(rt.alloc(), "Action", "view")?;
-    let request = Request::new(
-        EntityUIDEntry::known(a.clone()?, None),
-        EntityUIDEntry::known(view, None),
-        EntityUIDEntry::known(a, None),
-    );
+    let principal = EntityUIDEntry::known(a.clone()?, None);
+    let resource = EntityUIDEntry::known(a, None);
+    let request = Request::new(principal, EntityUIDEntry::known(view, None), resource);
     assert!(rt; request.principal().uid().same(request.resource().uid()));
     assert!(rt; !request.principal().uid().same(request.action().uid()));
     Ok(())
@@ -118,5 +132,5 @@ fn a_request_gives_its_parts(rt: HostRuntime) -> Result<(), Fail> {
 
 #[test]
 fn the_empty_table_is_typed(rt: HostRuntime) {
-    assert!(rt; Extensions::none().all_typed());
+    assert!(rt; Extensions::none(rt.alloc()).all_typed());
 }

@@ -121,7 +121,10 @@ fn parts_of_a_bundle(rt: HostRuntime) -> Result<(), Fail> {
         ("Store", "[]", false),
     ];
     for (part, value, wanted) in rows {
-        assert_eq!(rt; reads(rt.alloc(), part, value)?, wanted, "{part}: {value}");
+        assert!(rt;
+            reads(rt.alloc(), part, value)? == wanted,
+            "{part}: {value}"
+        );
     }
     Ok(())
 }
@@ -140,9 +143,8 @@ fn schemas(rt: HostRuntime) -> Result<(), Fail> {
         ("[{\"\":[]}]", false),
     ];
     for (value, wanted) in rows {
-        assert_eq!(rt;
-            reads(rt.alloc(), "schema", value)?,
-            wanted,
+        assert!(rt;
+            reads(rt.alloc(), "schema", value)? == wanted,
             "schema: {value}"
         );
     }
@@ -213,7 +215,7 @@ fn namespaces(rt: HostRuntime) -> Result<(), Fail> {
         ("{\"actions\":{\"a\":{\"more\":[]}}}", false),
     ];
     for (namespace, wanted) in rows {
-        assert_eq!(rt; declares(rt.alloc(), namespace)?, wanted, "{namespace}");
+        assert!(rt; declares(rt.alloc(), namespace)? == wanted, "{namespace}");
     }
     Ok(())
 }
@@ -247,16 +249,11 @@ fn policies(rt: HostRuntime) -> Result<(), Fail> {
         (",\"effect\":null", false),
     ];
     for (members, wanted) in rows {
-        assert_eq!(rt; has_policy(rt.alloc(), members)?, wanted, "{members}");
+        assert!(rt; has_policy(rt.alloc(), members)? == wanted, "{members}");
     }
-    assert!(rt;
-        !reads(rt.alloc(), "policies", "[{\"effect\":\"permit\"}]")?,
-        "no id"
-    );
-    assert!(rt;
-        !reads(rt.alloc(), "policies", "[{\"id\":\"p\"}]")?,
-        "no effect"
-    );
+    for value in ["[{\"effect\":\"permit\"}]", "[{\"id\":\"p\"}]"] {
+        assert!(rt; !reads(rt.alloc(), "policies", value)?, "{value}");
+    }
     Ok(())
 }
 
@@ -301,7 +298,7 @@ fn expressions(rt: HostRuntime) -> Result<(), Fail> {
         ("[\"var\",1]", false),
     ];
     for (body, wanted) in rows {
-        assert_eq!(rt; has_body(rt.alloc(), body)?, wanted, "{body}");
+        assert!(rt; has_body(rt.alloc(), body)? == wanted, "{body}");
     }
     Ok(())
 }
@@ -364,7 +361,10 @@ fn requests(rt: HostRuntime) -> Result<(), Fail> {
         ("[]", false),
     ];
     for (request, wanted) in rows {
-        assert_eq!(rt; reads(rt.alloc(), "request", request)?, wanted, "{request}");
+        assert!(rt;
+            reads(rt.alloc(), "request", request)? == wanted,
+            "{request}"
+        );
     }
     Ok(())
 }
@@ -404,32 +404,40 @@ fn stores(rt: HostRuntime) -> Result<(), Fail> {
         ),
     ];
     for (store, wanted) in rows {
-        assert_eq!(rt; reads(rt.alloc(), "store", store)?, wanted, "{store}");
+        assert!(rt; reads(rt.alloc(), "store", store)? == wanted, "{store}");
     }
     Ok(())
+}
+
+// Whether the numbers, the request and the steps of a bundle are these.
+fn is_read_as(bundle: &Bundle, limit: u32, resource: &str, steps: &[Step]) -> bool {
+    bundle.fragments.len() == 1
+        && bundle.level == 0
+        && bundle.limit.levels() == limit
+        && bundle.request.resource().uid().eid().as_str() == resource
+        && bundle.steps.as_slice() == steps
+}
+
+// Whether a bundle has one policy, which permits, and one entity, with these ids.
+fn holds(bundle: &Bundle, policy: &str, entity: &str) -> bool {
+    match (bundle.policies.first(), bundle.store.first()) {
+        (Some(p), Some(e)) => {
+            p.id().as_str() == policy
+                && p.effect() == Effect::Permit
+                && e.uid().eid().as_str() == entity
+                && bundle.policies.len() == 1
+                && bundle.store.len() == 1
+        }
+        _ => false,
+    }
 }
 
 #[test]
 fn what_a_bundle_is_read_as(rt: HostRuntime) -> Result<(), Fail> {
     let text = with_part(rt.alloc(), "steps", "[\"load\",\"decide\"]")?;
     let bundle = read_text(rt.alloc(), text.as_str().as_bytes())?;
-    assert_eq!(rt; bundle.fragments.len(), 1);
-    assert_eq!(rt; bundle.level, 0);
-    assert_eq!(rt; bundle.limit.levels(), 16);
-    assert_eq!(rt; bundle.request.resource().uid().eid().as_str(), "b");
-    assert_eq!(rt;
-        bundle.steps.as_slice(),
-        [Step::Load, Step::Decide].as_slice()
-    );
-    for policy in bundle.policies.iter() {
-        assert_eq!(rt; policy.id().as_str(), "p");
-        assert_eq!(rt; policy.effect(), Effect::Permit);
-    }
-    for entity in bundle.store.iter() {
-        assert_eq!(rt; entity.uid().eid().as_str(), "a");
-    }
-    assert_eq!(rt; bundle.policies.len(), 1);
-    assert_eq!(rt; bundle.store.len(), 1);
+    assert!(rt; is_read_as(&bundle, 16, "b", &[Step::Load, Step::Decide]));
+    assert!(rt; holds(&bundle, "p", "a"));
     Ok(())
 }
 
@@ -449,18 +457,16 @@ fn no_proper_beginning_is_read(rt: HostRuntime) -> Result<(), Fail> {
 
 #[test]
 fn inputs_that_are_no_json(rt: HostRuntime) -> Result<(), Fail> {
-    assert!(rt; !is_read(rt.alloc(), b"")?, "nothing");
-    assert!(rt; !is_read(rt.alloc(), b"null")?, "no object");
-    assert!(rt;
-        !is_read(rt.alloc(), b"{\"version\":01}")?,
-        "a leading zero"
-    );
-    assert!(rt;
-        !is_read(rt.alloc(), b"\xef\xbb\xbf{}")?,
-        "a byte order mark"
-    );
-    assert!(rt; !is_read(rt.alloc(), b"\"\xff\"")?, "no UTF-8");
-    assert!(rt; !is_read(rt.alloc(), b"\"\\ud800\"")?, "half a pair");
+    for (input, fault) in [
+        (b"".as_slice(), "nothing"),
+        (b"null".as_slice(), "no object"),
+        (b"{\"version\":01}".as_slice(), "a leading zero"),
+        (b"\xef\xbb\xbf{}".as_slice(), "a byte order mark"),
+        (b"\"\xff\"".as_slice(), "no UTF-8"),
+        (b"\"\\ud800\"".as_slice(), "half a pair"),
+    ] {
+        assert!(rt; !is_read(rt.alloc(), input)?, "{fault}");
+    }
     Ok(())
 }
 
@@ -477,14 +483,17 @@ fn negations(alloc: Global, depth: usize) -> Result<String, ReadFault> {
     Ok(text)
 }
 
+// Whether a body of so many negations is read.
+fn nests(alloc: Global, depth: usize) -> Result<bool, ReadFault> {
+    let body = negations(alloc, depth)?;
+    has_body(alloc, body.as_str())
+}
+
 #[test]
 fn nesting(rt: HostRuntime) -> Result<(), Fail> {
     // The bundle, its policies and the policy are three levels of the 127 that are read.
-    let deepest = negations(rt.alloc(), 124)?;
-    assert!(rt; has_body(rt.alloc(), deepest.as_str())?);
-    let deeper = negations(rt.alloc(), 125)?;
-    assert!(rt; !has_body(rt.alloc(), deeper.as_str())?);
-    let hostile = negations(rt.alloc(), 100_000)?;
-    assert!(rt; !has_body(rt.alloc(), hostile.as_str())?);
+    assert!(rt; nests(rt.alloc(), 124)?);
+    assert!(rt; !nests(rt.alloc(), 125)?);
+    assert!(rt; !nests(rt.alloc(), 100_000)?);
     Ok(())
 }

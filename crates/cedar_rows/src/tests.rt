@@ -10,10 +10,10 @@ use cedar_gate_types::json_schema::{
 };
 use cedar_gate_types::{
     ActionConstraint, Decision, Effect, Entity, Policy, PolicyID, PrincipalConstraint,
-    PrincipalOrResourceConstraint, ResourceConstraint, Step,
+    PrincipalOrResourceConstraint, ResourceConstraint, Response, Step,
 };
 use serde_json::Value;
-use std::alloc::Global;
+use std::alloc::{AllocError, Global};
 use std::io;
 use std::io::{ErrorKind, Read, Write};
 use std::rc::RcStr;
@@ -66,6 +66,21 @@ fn bundle(alloc: Global, row: &Row) -> Result<String, Fail> {
     text.push_str(row.steps)?;
     text.push_str("}")?;
     Ok(text)
+}
+
+// The status and the output for an input.
+fn served(alloc: Global, input: &[u8]) -> Result<(Status, Vec<u8>), Fail> {
+    let mut out = Vec::new(alloc);
+    let status = serve(alloc, input, &mut out, &ExtTable::none(alloc))
+        .ok()
+        .ok_or("no status")?;
+    Ok((status, out))
+}
+
+// Whether an input is unreadable, and this is what is printed for it.
+fn is_unreadable(alloc: Global, input: &[u8]) -> Result<bool, Fail> {
+    let (status, out) = served(alloc, input)?;
+    Ok(status == Status::Unreadable && out.as_slice() == "unreadable\n".as_bytes())
 }
 
 #[test]
@@ -134,11 +149,9 @@ fn bundles_and_their_lines(rt: HostRuntime) -> Result<(), Fail> {
     ];
     for row in rows {
         let input = bundle(rt.alloc(), &row)?;
-        let mut out = Vec::new(rt.alloc());
-        let table = ExtTable::none();
-        let status = serve(rt.alloc(), input.as_bytes(), &mut out, &table);
-        assert_eq!(rt; status.map(|s| s.number()), Ok(row.status), "{}", row.lines);
-        assert_eq!(rt; out.as_slice(), row.lines.as_bytes(), "{}", row.lines);
+        let (status, out) = served(rt.alloc(), input.as_bytes())?;
+        let is_served = status.number() == row.status && out.as_slice() == row.lines.as_bytes();
+        assert!(rt; is_served, "{}", row.lines);
     }
     Ok(())
 }
@@ -147,10 +160,7 @@ fn bundles_and_their_lines(rt: HostRuntime) -> Result<(), Fail> {
 fn a_bundle_without_its_end(rt: HostRuntime) -> Result<(), Fail> {
     let mut input = bundle(rt.alloc(), &PLAIN)?;
     input.pop();
-    let mut out = Vec::new(rt.alloc());
-    let status = serve(rt.alloc(), input.as_bytes(), &mut out, &ExtTable::none());
-    assert_eq!(rt; status, Ok(Status::Unreadable));
-    assert_eq!(rt; out.as_slice(), "unreadable\n".as_bytes());
+    assert!(rt; is_unreadable(rt.alloc(), input.as_bytes())?);
     Ok(())
 }
 
@@ -197,10 +207,15 @@ fn writers_that_take_a_byte_at_a_time(rt: HostRuntime) -> Result<(), Fail> {
             room,
             rests: true,
         };
-        let status = serve(rt.alloc(), input.as_bytes(), &mut writer, &ExtTable::none());
-        assert_eq!(rt; status, want, "with room for {room}");
+        let status = serve(
+            rt.alloc(),
+            input.as_bytes(),
+            &mut writer,
+            &ExtTable::none(rt.alloc()),
+        );
         let lines = PLAIN.lines.as_bytes();
-        assert_eq!(rt; writer.held.as_slice(), &lines[..room.min(lines.len())]);
+        let is_written = writer.held.as_slice() == &lines[..room.min(lines.len())];
+        assert!(rt; status == want && is_written, "with room for {room}");
     }
     Ok(())
 }
@@ -231,19 +246,33 @@ fn readers_that_fail(rt: HostRuntime) {
     ] {
         let reader = Broken { kind, given: 0 };
         let mut out = Vec::new(rt.alloc());
-        let status = serve(rt.alloc(), reader, &mut out, &ExtTable::none());
-        assert_eq!(rt; status, Err(want));
-        assert!(rt; out.is_empty());
+        let status = serve(rt.alloc(), reader, &mut out, &ExtTable::none(rt.alloc()));
+        assert!(rt; status == Err(want) && out.is_empty());
     }
+}
+
+// The bundle of a row.
+fn read(alloc: Global, row: &Row) -> Result<Bundle, Fail> {
+    let text = bundle(alloc, row)?;
+    Ok(read_text(alloc, text.as_bytes()).ok().ok_or("unreadable")?)
+}
+
+// Whether the gate has this level, so many policies and actions, and no warning.
+fn is_plain(gate: &Gate<'_, '_>, level: u32, policies: usize, actions: usize) -> bool {
+    gate.level() == level
+        && gate.policies().len() == policies
+        && gate.schema().actions().len() == actions
+        && gate.warnings().is_empty()
+}
+
+// Whether the answer allows, by one reason.
+fn allows(answer: &Response) -> bool {
+    answer.decision == Decision::Allow && answer.diagnostics.reason.len() == 1
 }
 
 #[test]
 fn a_session_at_a_gate(rt: HostRuntime) -> Result<(), Fail> {
-    let text = bundle(rt.alloc(), &PLAIN)?;
-    let bundle = read_text(rt.alloc(), text.as_bytes())
-        .ok()
-        .ok_or("unreadable")?;
-    let table = ExtTable::none();
+    let table = ExtTable::none(rt.alloc());
     let Bundle {
         fragments,
         policies,
@@ -251,31 +280,18 @@ fn a_session_at_a_gate(rt: HostRuntime) -> Result<(), Fail> {
         limit,
         request,
         ..
-    } = bundle;
+    } = read(rt.alloc(), &PLAIN)?;
     let fragments = fragments.as_slice();
     assert!(rt; cedar_gate_accept::first_path(fragments, policies.as_slice(), level));
     let gate = Gate::accept(rt.alloc(), fragments, policies, &table, level, limit)?;
-    assert_eq!(rt; gate.level(), 0);
-    assert!(rt; gate.warnings().is_empty());
-    assert_eq!(rt; gate.policies().len(), 1);
-    assert_eq!(rt; gate.schema().actions().len(), 1);
+    assert!(rt; is_plain(&gate, 0, 1, 1));
     let mut session = gate.open(request).ok().ok_or("not opened")?;
     assert!(rt; session.wanted().is_empty());
-    assert_eq!(rt; session.supply(Vec::new(rt.alloc())), Ok(()));
-    assert_eq!(rt; session.decision(), Ok(Some(Decision::Allow)));
+    assert!(rt; session.supply(Vec::new(rt.alloc())) == Ok(()));
+    assert!(rt; session.decision() == Ok(Some(Decision::Allow)));
     let answer = session.answer(rt.alloc()).ok().ok_or("no answer")?;
-    assert_eq!(rt; answer.decision, Decision::Allow);
-    assert_eq!(rt; answer.diagnostics.reason.len(), 1);
+    assert!(rt; allows(&answer));
     Ok(())
-}
-
-// The status and the output for an input.
-fn served(alloc: Global, input: &[u8]) -> Result<(Status, Vec<u8>), Fail> {
-    let mut out = Vec::new(alloc);
-    let status = serve(alloc, input, &mut out, &ExtTable::none())
-        .ok()
-        .ok_or("no status")?;
-    Ok((status, out))
 }
 
 #[test]
@@ -285,23 +301,19 @@ fn a_bundle_of_a_value(rt: HostRuntime) -> Result<(), Fail> {
         .ok()
         .ok_or("no value")?;
     let bundle = read_bundle(rt.alloc(), &value).ok().ok_or("no bundle")?;
-    assert_eq!(rt; bundle.policies.len(), 1);
-    assert_eq!(rt; bundle.level, 0);
+    assert!(rt; bundle.policies.len() == 1 && bundle.level == 0);
     Ok(())
 }
 
 #[test]
 fn a_schema_of_its_fragments(rt: HostRuntime) -> Result<(), Fail> {
-    let text = bundle(rt.alloc(), &PLAIN)?;
-    let bundle = read_text(rt.alloc(), text.as_bytes())
-        .ok()
-        .ok_or("unreadable")?;
+    let bundle = read(rt.alloc(), &PLAIN)?;
     let fragments = bundle.fragments.as_slice();
     assert!(rt; cedar_gate_accept::first_path(fragments, bundle.policies.as_slice(), bundle.level));
     let schema = ValidatorSchema::from_schema_fragments(rt.alloc(), fragments)
         .ok()
         .ok_or("no schema")?;
-    assert_eq!(rt; schema.actions().len(), 1);
+    assert!(rt; schema.actions().len() == 1);
     Ok(())
 }
 
@@ -353,46 +365,75 @@ fn takes_body(alloc: Global, body: Expr) -> Result<bool, Fail> {
     Ok(cedar_gate_accept::first_path(fragments.as_slice(), &[policy], 0))
 }
 
+type Made = Result<Expr, AllocError>;
+
+fn principal() -> Expr {
+    Expr::var(Var::Principal)
+}
+
+// Whether principal and resource are the same.
+fn same(alloc: Global) -> Made {
+    Expr::is_eq(alloc, principal(), Expr::var(Var::Resource))
+}
+
+// That they are the same, and that they aren't.
+fn both(alloc: Global) -> Made {
+    let different = Expr::not(alloc, same(alloc)?)?;
+    Expr::and(alloc, same(alloc)?, different)
+}
+
+// That, and a choice of both.
+fn with_choice(alloc: Global) -> Made {
+    let either = Expr::or(alloc, same(alloc)?, both(alloc)?)?;
+    Expr::and(alloc, both(alloc)?, either)
+}
+
+fn not_below(alloc: Global) -> Made {
+    let (one, two) = (Literal::Long(1), Literal::Long(2));
+    let below = Expr::lesseq(alloc, Expr::val(one), Expr::val(two))?;
+    Expr::not(alloc, below)
+}
+
+fn inside(alloc: Global) -> Made {
+    Expr::is_in(alloc, principal(), Expr::set(alloc, Vec::new(alloc))?)
+}
+
 #[test]
 fn bodies_of_the_whole_language_are_not_of_todays(rt: HostRuntime) -> Result<(), Fail> {
     let alloc = rt.alloc();
-    let principal = Expr::var(Var::Principal);
-    let same = Expr::is_eq(alloc, principal.clone()?, Expr::var(Var::Resource))?;
-    let both = Expr::and(alloc, same.clone()?, Expr::not(alloc, same.clone()?)?)?;
-    assert!(rt; takes_body(alloc, both.clone()?)?);
-    let context = Expr::is_eq(alloc, Expr::var(Var::Context), principal.clone()?)?;
+    assert!(rt; takes_body(alloc, both(alloc)?)?);
+    let context = Expr::is_eq(alloc, Expr::var(Var::Context), principal())?;
     assert!(rt; !takes_body(alloc, context)?);
-    let either = Expr::or(alloc, same.clone()?, both.clone()?)?;
-    assert!(rt; !takes_body(alloc, Expr::and(alloc, both.clone()?, either)?)?);
-    let below = Expr::lesseq(
-        alloc,
-        Expr::val(Literal::Long(1)),
-        Expr::val(Literal::Long(2)),
-    )?;
-    assert!(rt; !takes_body(alloc, Expr::not(alloc, below)?)?);
-    let inside = Expr::is_in(alloc, principal, Expr::set(alloc, Vec::new(alloc))?)?;
-    assert!(rt; !takes_body(alloc, inside)?);
+    assert!(rt; !takes_body(alloc, with_choice(alloc)?)?);
+    assert!(rt; !takes_body(alloc, not_below(alloc)?)?);
+    assert!(rt; !takes_body(alloc, inside(alloc)?)?);
     Ok(())
+}
+
+// The type of records of these fields, each of a whole number.
+fn records(alloc: Global, names: &[&str]) -> Result<Type, Fail> {
+    let mut attributes = Vec::new(alloc);
+    for name in names {
+        let ty = Type {
+            variant: TypeVariant::Long,
+        };
+        let required = true;
+        attributes.push((
+            RcStr::from_str(alloc, name)?,
+            TypeOfAttribute { ty, required },
+        ))?;
+    }
+    Ok(Type {
+        variant: TypeVariant::Record(RecordType { attributes }),
+    })
 }
 
 #[test]
 fn a_context_without_fields_is_none(rt: HostRuntime) -> Result<(), Fail> {
     let alloc = rt.alloc();
     assert!(rt; takes_context(alloc, None)?);
-    let attributes = Vec::new(alloc);
-    let variant = TypeVariant::Record(RecordType { attributes });
-    assert!(rt; takes_context(alloc, Some(Type { variant }))?);
-    let ty = Type {
-        variant: TypeVariant::Long,
-    };
-    let required = true;
-    let mut attributes = Vec::new(alloc);
-    attributes.push((
-        RcStr::from_str(alloc, "x")?,
-        TypeOfAttribute { ty, required },
-    ))?;
-    let variant = TypeVariant::Record(RecordType { attributes });
-    assert!(rt; !takes_context(alloc, Some(Type { variant }))?);
+    assert!(rt; takes_context(alloc, Some(records(alloc, &[])?))?);
+    assert!(rt; !takes_context(alloc, Some(records(alloc, &["x"])?))?);
     let variant = TypeVariant::Long;
     assert!(rt; !takes_context(alloc, Some(Type { variant }))?);
     Ok(())
@@ -411,9 +452,10 @@ fn a_scope_part_that_asks_nothing_is_true(rt: HostRuntime) -> Result<(), Fail> {
 fn every_beginning_of_a_bundle(rt: HostRuntime) -> Result<(), Fail> {
     let input = bundle(rt.alloc(), &PLAIN)?;
     for (n, _) in input.as_bytes().iter().enumerate() {
-        let (status, out) = served(rt.alloc(), &input.as_bytes()[..n])?;
-        assert_eq!(rt; status, Status::Unreadable, "the first {n} bytes");
-        assert_eq!(rt; out.as_slice(), "unreadable\n".as_bytes());
+        assert!(rt;
+            is_unreadable(rt.alloc(), &input.as_bytes()[..n])?,
+            "the first {n} bytes"
+        );
     }
     Ok(())
 }
@@ -439,8 +481,7 @@ fn bodies_that_are_no_expressions(rt: HostRuntime) -> Result<(), Fail> {
         "[\"uid\",\"User\",1]",
     ] {
         let input = bundle(rt.alloc(), &Row { body, ..PLAIN })?;
-        let (status, _out) = served(rt.alloc(), input.as_bytes())?;
-        assert_eq!(rt; status, Status::Unreadable, "{body}");
+        assert!(rt; is_unreadable(rt.alloc(), input.as_bytes())?, "{body}");
     }
     Ok(())
 }
@@ -454,9 +495,7 @@ fn brackets_nested_too_deep(rt: HostRuntime) -> Result<(), Fail> {
     for _ in 0..128 {
         input.push(b']')?;
     }
-    let (status, out) = served(rt.alloc(), input.as_slice())?;
-    assert_eq!(rt; status, Status::Unreadable);
-    assert_eq!(rt; out.as_slice(), "unreadable\n".as_bytes());
+    assert!(rt; is_unreadable(rt.alloc(), input.as_slice())?);
     Ok(())
 }
 
@@ -472,11 +511,9 @@ fn other_hostile_inputs(rt: HostRuntime) -> Result<(), Fail> {
         "{\"version\":1,\"level\":0,\"limit\":16,\"schema\":[],\"policies\":[],\"request\":{\"principal\":[\"User\",\"a\"],\"action\":[\"Action\",\"view\"],\"resource\":[\"User\",\"b\"]},\"store\":[]}",
         "{\"version\":1,\"level\":0,\"limit\":16,\"schema\":[{\"\":{}}],\"policies\":[],\"request\":{\"principal\":[\"User\",\"a\"],\"action\":[\"Action\",\"view\"],\"resource\":[\"User\",\"b\"]},\"store\":[{\"uid\":[\"User\",\"a\"]},{\"uid\":[\"User\",\"a\"]}]}",
     ] {
-        let (status, _out) = served(rt.alloc(), input.as_bytes())?;
-        assert_eq!(rt; status, Status::Unreadable, "{input}");
+        assert!(rt; is_unreadable(rt.alloc(), input.as_bytes())?, "{input}");
     }
-    let (status, _out) = served(rt.alloc(), b"{\"a\":\"\xff\"}")?;
-    assert_eq!(rt; status, Status::Unreadable);
+    assert!(rt; is_unreadable(rt.alloc(), b"{\"a\":\"\xff\"}")?);
     Ok(())
 }
 
@@ -513,11 +550,7 @@ impl Host for Failing {
 
 #[test]
 fn a_host_that_fails_is_not_reached(rt: HostRuntime) -> Result<(), Fail> {
-    let text = bundle(rt.alloc(), &PLAIN)?;
-    let bundle = read_text(rt.alloc(), text.as_bytes())
-        .ok()
-        .ok_or("unreadable")?;
-    let table = ExtTable::none();
+    let table = ExtTable::none(rt.alloc());
     let Bundle {
         fragments,
         policies,
@@ -525,7 +558,7 @@ fn a_host_that_fails_is_not_reached(rt: HostRuntime) -> Result<(), Fail> {
         limit,
         request,
         ..
-    } = bundle;
+    } = read(rt.alloc(), &PLAIN)?;
     let fragments = fragments.as_slice();
     assert!(rt; cedar_gate_accept::first_path(fragments, policies.as_slice(), level));
     let gate = Gate::accept(rt.alloc(), fragments, policies, &table, level, limit)?;
@@ -534,8 +567,7 @@ fn a_host_that_fails_is_not_reached(rt: HostRuntime) -> Result<(), Fail> {
     let transcript = run(rt.alloc(), &gate, request, &steps, &mut host)
         .ok()
         .ok_or("no transcript")?;
-    assert_eq!(rt; transcript.entries.len(), 1);
-    assert!(rt; transcript.answer.is_some());
-    assert_eq!(rt; host.failures(), 0);
+    assert!(rt; transcript.entries.len() == 1 && transcript.answer.is_some());
+    assert!(rt; host.failures() == 0);
     Ok(())
 }

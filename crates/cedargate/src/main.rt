@@ -9,7 +9,7 @@ use cedar_gate_exprs::Extensions;
 use std::process::ExitCode;
 
 fn main(rt: HostRuntime) -> ExitCode {
-    let table = Extensions::none();
+    let table = Extensions::none(rt.alloc());
     match serve(rt.alloc(), rt.stdin(), &mut rt.stdout(), &table) {
         Ok(status) => ExitCode::from(status.number()),
         Err(_) => ExitCode::from(4),

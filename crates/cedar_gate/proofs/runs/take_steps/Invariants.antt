@@ -7,4 +7,4 @@ use Rattle.cedar_gate.specs.Runs.{session_decision}
 use Rattle.cedar_gate.proofs.runs.take_steps.Given as goal
 
 abbrev pub invariant-loop-step : goal.invariant-loop-step
-invariant-loop-step l = entries_of l.entries.items ≡ decisions_for (take l.step-index (steps_of l.steps)) (session_decision l.session)
+invariant-loop-step g l = entries_of l.entries.items ≡ decisions_for (take l.step-index (steps_of l.steps)) (session_decision l.session)

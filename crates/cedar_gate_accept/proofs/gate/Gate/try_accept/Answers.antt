@@ -20,13 +20,13 @@ kept_of : (es fs : List (Expr (Unit {0}))) (ps qs rs : List Policy) → fs ≡ e
 kept_of es fs ps qs rs a b d h = ap (map small_tree_of) a ∙ h ∙ ap (map (λ p. condition (policy_of p))) (d ∙ sym b) ∙ sym (map_after condition policy_of qs)
 
 pub new-candidate-requires : goal.new-candidate-requires
-new-candidate-requires c = kept_of c.in_ok-conditions.conditions.items c.as_slice-3.result.now c.args.policies.items c.as_slice-2.result.now c.as_slice.result.now c.as_slice-3.ensures.value c.as_slice-2.ensures.value c.as_slice.ensures.value c.in_ok-conditions.ensures
+new-candidate-requires g c = kept_of c.in_ok-conditions.conditions.items c.as_slice-3.result.now c.args.policies.items c.as_slice-2.result.now c.as_slice.result.now c.as_slice-3.ensures.value c.as_slice-2.ensures.value c.as_slice.ensures.value c.in_ok-conditions.ensures
 
 pub warnings-requires : goal.warnings-requires
-warnings-requires c = kept_of c.in_ok-conditions.conditions.items c.as_slice-5.result.now c.args.policies.items c.as_slice-4.result.now c.as_slice.result.now c.as_slice-5.ensures.value c.as_slice-4.ensures.value c.as_slice.ensures.value c.in_ok-conditions.ensures
+warnings-requires g c = kept_of c.in_ok-conditions.conditions.items c.as_slice-5.result.now c.args.policies.items c.as_slice-4.result.now c.as_slice.result.now c.as_slice-5.ensures.value c.as_slice-4.ensures.value c.as_slice.ensures.value c.in_ok-conditions.ensures
 
 pub invariant_of-result : goal.invariant_of-result
-invariant_of-result c = record {
+invariant_of-result g c = record {
   accepted =
       sym (ap admits (c.new-candidate.ensures ∙ ap (λ ps. submission c.in_ok-schema.schema ps c.args.level c.args.limit) c.as_slice-2.ensures.value))
       ∙ c.in_ok-check.ensures.ok;
