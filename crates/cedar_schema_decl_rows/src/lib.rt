@@ -1,0 +1,5 @@
+//! Examples of declarations and of what their names mean.
+#![tactic(auto)]
+
+mod fragments;
+mod references;

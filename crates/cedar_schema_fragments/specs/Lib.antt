@@ -1,0 +1,5 @@
+pub mod Actions
+pub mod Namespaces
+pub mod Refusals
+pub mod Resolved
+pub mod Declared
