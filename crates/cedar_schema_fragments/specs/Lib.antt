@@ -2,4 +2,4 @@ pub mod Actions
 pub mod Namespaces
 pub mod Refusals
 pub mod Resolved
-pub mod Declared
+pub mod Marked

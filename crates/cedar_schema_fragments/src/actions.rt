@@ -1,6 +1,7 @@
 //! Declarations of actions under their uids.
 
-ghost use Rattle.std.specs.Prelude.{◌≡◌, [], map, option_map, IfOk, IfErr, Some, None, if◌then◌else◌};
+ghost use Rattle.std.specs.Prelude.{◌≡◌, [], map, find, IfOk, IfErr};
+ghost use Rattle.std.specs.Option.{option_copied};
 ghost use Rattle.std.specs.Rc.{rc_str_bytes};
 ghost use Rattle.std.specs.declared.result.Result.TheVariants.{Ok};
 ghost use Rattle.cedar_expr_model.specs.Name.{Name, Text};
@@ -13,7 +14,7 @@ ghost use Rattle.cedar_schema_decl.specs.Requalified.{requalified, each};
 ghost use Rattle.cedar_schema_decl.specs.Trees.{type_form};
 ghost use Rattle.cedar_schema_fragments.specs.Actions.{parent_form, action_form, under_uid, actions_form};
 ghost use Rattle.cedar_schema_fragments.specs.Refusals.{Refuses};
-ghost use Rattle.cedar_schema_fragments.specs.Resolved.{of_types, entity_resolved, applied_resolved, parent_meant_by, parent_resolved, action_resolved, with_uid};
+ghost use Rattle.cedar_schema_fragments.specs.Resolved.{of_types, entity_resolved, applied_resolved, parent_resolved, action_resolved, with_uid};
 
 use crate::err::SchemaError;
 use crate::resolving::{Resolve, resolve_each};
@@ -164,8 +165,12 @@ impl<'a> Resolve for Parents<'a> {
         _alloc: Global,
         part: ActionEntityUID<ConditionalName>,
     ) -> Result<ActionEntityUID<InternalName>, SchemaError> {
-        match first_action(&part, self.0)? {
-            Some(ty) => Ok(ActionEntityUID { ty, id: part.id }),
+        let names = part.ty.possibilities();
+        match first_action(names.as_slice(), &part.id, self.0)? {
+            Some(ty) => {
+                let ty = ty.clone()?;
+                Ok(ActionEntityUID { ty, id: part.id })
+            }
             None => Err(SchemaError::ActionNotDefined {
                 ty: part.ty,
                 id: part.id,
@@ -174,16 +179,17 @@ impl<'a> Resolve for Parents<'a> {
     }
 }
 
-// The type of the first of the uids that the parent may stand for that is a declared action.
-fn first_action(
-    parent: &ActionEntityUID<ConditionalName>,
+// The first of these names with which, as its type, an action of this id is declared. Answers want of memory.
+fn first_action<'a>(
+    names: &'a [InternalName],
+    id: &RcStr,
     all_defs: &AllDefs,
-) -> Result<Option<InternalName>, AllocError>
-    ensures { IfOk result (λ t. option_map name_of t ≡ parent_meant_by (defined_of all_defs.now) (parent_form conditional_of parent.now)) }
+) -> Result<Option<&'a InternalName>, AllocError>
+    ensures { IfOk result (λ f. option_copied f ≡ find (λ n. is_defined_action (defined_of all_defs.now) (record { kind = name_of n; id = rc_str_bytes id.now })) names.now) }
 {
-    for name in parent.ty.possibilities() {
-        if is_action(name, &parent.id, all_defs)? {
-            return Ok(Some(name.clone()?));
+    for name in names {
+        if is_action(name, id, all_defs)? {
+            return Ok(Some(name));
         }
     }
     Ok(None)

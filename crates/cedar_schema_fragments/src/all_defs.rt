@@ -2,7 +2,7 @@
 
 ghost use Rattle.std.specs.Prelude.{◌≡◌, map, IfOk};
 ghost use Rattle.cedar_schema_decl.specs.Defined.{defined_of, nothing_defined, with_common, with_entity, with_action};
-ghost use Rattle.cedar_schema_fragments.specs.Declared.{all_with, common_names, entity_names, action_uids, with_namespace, with_fragment};
+ghost use Rattle.cedar_schema_fragments.specs.Marked.{all_with, common_names, entity_names, action_uids, with_namespace, with_fragment};
 
 use crate::actions::ActionsDef;
 use crate::namespace_def::{ValidatorNamespaceDef, ValidatorSchemaFragment};
@@ -13,33 +13,33 @@ use std::alloc::{AllocError, Global};
 fn with_commons<N>(all_defs: AllDefs, commons: &CommonTypeDefs<N>) -> Result<AllDefs, AllocError>
     ensures { IfOk result (λ d. defined_of d ≡ all_with with_common (common_names commons.now) (defined_of all_defs)) }
 {
-    let mut all_defs = all_defs;
-    for common in commons.defs.iter() {
-        all_defs.mark_as_defined_as_common_type(common.0.clone()?)?;
+    let mut marked = all_defs;
+    for common in &commons.defs {
+        marked.mark_as_defined_as_common_type(common.0.clone()?)?;
     }
-    Ok(all_defs)
+    Ok(marked)
 }
 
 // What is declared, with these entity types.
 fn with_entities<N>(all_defs: AllDefs, entities: &EntityTypesDef<N>) -> Result<AllDefs, AllocError>
     ensures { IfOk result (λ d. defined_of d ≡ all_with with_entity (entity_names entities.now) (defined_of all_defs)) }
 {
-    let mut all_defs = all_defs;
-    for entity in entities.defs.iter() {
-        all_defs.mark_as_defined_as_entity_type(entity.0.clone()?)?;
+    let mut marked = all_defs;
+    for entity in &entities.defs {
+        marked.mark_as_defined_as_entity_type(entity.0.clone()?)?;
     }
-    Ok(all_defs)
+    Ok(marked)
 }
 
 // What is declared, with these actions.
 fn with_actions<N, A>(all_defs: AllDefs, actions: &ActionsDef<N, A>) -> Result<AllDefs, AllocError>
     ensures { IfOk result (λ d. defined_of d ≡ all_with with_action (action_uids actions.now) (defined_of all_defs)) }
 {
-    let mut all_defs = all_defs;
-    for action in actions.actions.iter() {
-        all_defs.mark_as_defined_as_action(action.0.clone()?)?;
+    let mut marked = all_defs;
+    for action in &actions.actions {
+        marked.mark_as_defined_as_action(action.0.clone()?)?;
     }
-    Ok(all_defs)
+    Ok(marked)
 }
 
 // What is declared, with what this namespace declares.
@@ -61,11 +61,11 @@ fn with_fragment<N, A>(
 ) -> Result<AllDefs, AllocError>
     ensures { IfOk result (λ d. defined_of d ≡ with_fragment fragment.now (defined_of all_defs)) }
 {
-    let mut all_defs = all_defs;
-    for namespace in fragment.0.iter() {
-        all_defs = with_namespace(all_defs, namespace)?;
+    let mut marked = all_defs;
+    for namespace in &fragment.0 {
+        marked = with_namespace(marked, namespace)?;
     }
-    Ok(all_defs)
+    Ok(marked)
 }
 
 /// What these fragments declare. Answers want of memory.
@@ -75,11 +75,11 @@ pub fn new<N, A>(
 ) -> Result<AllDefs, AllocError>
     ensures { IfOk result (λ d. defined_of d ≡ all_with with_fragment fragments.now nothing_defined) }
 {
-    let mut all_defs = AllDefs::empty(alloc);
+    let mut marked = AllDefs::empty(alloc);
     for fragment in fragments {
-        all_defs = with_fragment(all_defs, fragment)?;
+        marked = with_fragment(marked, fragment)?;
     }
-    Ok(all_defs)
+    Ok(marked)
 }
 
 /// What this fragment declares. Answers want of memory.

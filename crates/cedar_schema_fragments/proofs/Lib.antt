@@ -1,0 +1,3 @@
+mod Refusing
+mod Parents
+mod Marking
