@@ -40,14 +40,22 @@ found_under t (n ∷ ns) = go (t (name_of n)) (found_under t ns)
     go true h = refl
     go false h = h
 
--- what a parent is resolved to, where these are the names that its type may stand for
-pub parent_is : (d : Defined) (p : Conditional × Text) (ns : List InternalName) (r : Option InternalName) → map name_of ns ≡ (p.0).names → find (λ n. is_defined_action d (record { kind = name_of n; id = p.1 })) ns ≡ r → parent_resolved d p ≡ option_map_or (λ n. Ok (name_of n, p.1)) r (Err (no_action p))
-parent_is d p ns r e h =
-    ap (λ o. option_map_or (λ n. Ok (n, p.1)) o (Err (no_action p))) (ap (find t) (sym e) ∙ sym (found_under t ns) ∙ ap (option_map name_of) h) ∙ go r
-  where
-    t : Name → Bool
-    t n = is_defined_action d (record { kind = n; id = p.1 })
+-- the parent of a name that was found, and the refusal where none was
+abbrev pub of_parent : Text → Name → Result (Name × Text) Refusal
+of_parent id n = Ok (n, id)
 
-    go : (q : Option InternalName) → option_map_or (λ n. Ok (n, p.1)) (option_map name_of q) (Err (no_action p)) ≡ option_map_or (λ n. Ok (name_of n, p.1)) q (Err (no_action p))
-    go None = refl
-    go (Some n) = refl
+abbrev by_name : Conditional × Text → Option Name → Result (Name × Text) Refusal
+by_name p o = option_map_or {U = Result (Name × Text) Refusal} (of_parent p.1) o (Err (no_action p))
+
+abbrev pub parent_or : Conditional × Text → Option InternalName → Result (Name × Text) Refusal
+parent_or p o = option_map_or {U = Result (Name × Text) Refusal} (λ n. of_parent p.1 (name_of n)) o (Err (no_action p))
+
+named : (p : Conditional × Text) (q : Option InternalName) → by_name p (option_map name_of q) ≡ parent_or p q
+named p None = refl
+named p (Some n) = refl
+
+-- what a parent is resolved to, where these are the names that its type may stand for
+pub parent_is : (d : Defined) (p : Conditional × Text) (ns : List InternalName) (r : Option InternalName) → map name_of ns ≡ (p.0).names → find (λ n. is_defined_action d (record { kind = name_of n; id = p.1 })) ns ≡ r → parent_resolved d p ≡ parent_or p r
+parent_is d p ns r e h =
+    ap (by_name p) (ap (find (λ n. is_defined_action d (record { kind = n; id = p.1 }))) (sym e) ∙ sym (found_under (λ n. is_defined_action d (record { kind = n; id = p.1 })) ns) ∙ ap (option_map name_of) h)
+    ∙ named p r

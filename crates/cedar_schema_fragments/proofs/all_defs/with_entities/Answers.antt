@@ -8,10 +8,10 @@ use Rattle.cedar_schema_fragments.proofs.all_defs.with_entities.Goals as goal
 pub loop-entity-preserved : goal.loop-entity-preserved
 loop-entity-preserved g c =
     marks_one (λ es. all_with with_entity (map (λ e. name_of e.0) es)) (λ e. with_entity (name_of e.0)) (λ x xs s. refl)
-    c.loop-entity.entity-items c.loop-entity.entity-index _ (defined_of c.loop-entity.marked) (defined_of c.mark_as_defined_as_entity_type.new.self) _
+    _ c.loop-entity.entity-index _ (defined_of c.loop-entity.marked) (defined_of c.mark_as_defined_as_entity_type.new.self) _
     c.loop-entity-test.true
     (c.in_ok-mark_as_defined_as_entity_type.ensures.marked ∙ ap (λ n. with_entity n (defined_of c.loop-entity.marked)) (c.in_ok-clone.ensures.cases.0 ∙ ap (λ e. name_of e.0) c.entity-item.is))
     c.loop-entity.invariant
 
 pub returns : goal.returns
-returns g c = marks_all (λ es. all_with with_entity (map (λ e. name_of e.0) es)) (λ s. refl) c.loop-entity.entity-items c.loop-entity.entity-index _ _ (omega arith) c.loop-entity.invariant
+returns g c = marks_all (λ es. all_with with_entity (map (λ e. name_of e.0) es)) (λ s. refl) _ c.loop-entity.entity-index _ _ (omega arith) c.loop-entity.invariant
