@@ -43,12 +43,14 @@ fn action(
         ty: named(alloc, "Action")?,
         id: RcStr::from_str(alloc, parent)?,
     })?;
-    let context = Type {
+    let context: Type<RawName> = Type {
         ty: TypeVariant::Record(RecordType {
             attributes: BTreeMap::new(alloc),
         }),
         loc: None,
     };
+    let namespace = InternalName::from_normalized_str(alloc, "N")?;
+    let context = context.conditionally_qualify_type_references(alloc, Some(&namespace))?;
     Ok(ActionFragment {
         parents,
         applies_to: ValidatorApplySpec::new(one(alloc, applies_to)?, one(alloc, applies_to)?),

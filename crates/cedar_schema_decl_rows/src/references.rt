@@ -1,12 +1,9 @@
 //! Examples of what references mean.
 
-use cedar_expr_names::{EntityUID, InternalName, NameError};
+use cedar_expr_names::{Eid, EntityType, EntityUID, InternalName};
 use cedar_expr_raw_names::{ConditionalName, RawName, ReferenceType};
-use cedar_schema_decl::json_schema::{RecordType, Type, TypeOfAttribute, TypeVariant};
-use cedar_schema_decl::{AllDefs, TypeNotDefinedError, resolve};
-use std::alloc::{AllocError, Global};
-use std::collections::BTreeMap;
-use std::rc::RcStr;
+use cedar_schema_decl::{AllDefs, ShadowingError, TypeNotDefinedError, resolve};
+use std::alloc::Global;
 use std::test::Fail;
 
 // What is declared: common types, then entity types.
@@ -99,5 +96,54 @@ fn names_are_declared_once_they_are_marked(rt: HostRuntime) -> Result<(), Fail> 
     assert!(rt; !all_defs.is_defined_as_common(&u));
     assert!(rt; all_defs.is_defined_as_entity(&u));
     assert!(rt; !all_defs.is_defined_as_entity(&t));
+    Ok(())
+}
+
+// What is declared: a common type, an entity type, and actions of the empty namespace and of namespace A, of these ids.
+fn declared(
+    alloc: Global,
+    common: &str,
+    entity: &str,
+    plain: &str,
+    other: &str,
+) -> Result<AllDefs, Fail> {
+    let mut all_defs = defined(alloc, &[common], &[entity])?;
+    all_defs.mark_as_defined_as_action(action(alloc, "Action", plain)?)?;
+    all_defs.mark_as_defined_as_action(action(alloc, "A::Action", other)?)?;
+    Ok(all_defs)
+}
+
+fn action(alloc: Global, ty: &str, id: &str) -> Result<EntityUID, Fail> {
+    let ty = EntityType::from_normalized_str(alloc, ty)?;
+    Ok(EntityUID::from_components(ty, Eid::from_str(alloc, id)?, None))
+}
+
+// Whether the type or the action that is refused for shadowing is this one: none where the text is empty.
+fn shadows(alloc: Global, all_defs: &AllDefs, shadowing: &str) -> bool {
+    match all_defs.rfc_70_shadowing_checks(alloc) {
+        Ok(()) => shadowing.is_empty(),
+        Err(ShadowingError::TypeShadowing { shadowing_def }) => shadowing_def.as_str() == shadowing,
+        Err(ShadowingError::ActionShadowing { shadowing_def }) => {
+            shadowing_def.eid().as_str() == shadowing
+        }
+        Err(ShadowingError::OutOfMemory) => false,
+    }
+}
+
+#[test]
+fn what_shadows_is_refused(rt: HostRuntime) -> Result<(), Fail> {
+    let alloc = rt.alloc();
+    let rows = [
+        ("T", "A::T", "go", "stay", "A::T"),
+        ("A::B::T", "T", "go", "stay", "A::B::T"),
+        ("A::T", "B::T", "go", "stay", ""),
+        ("T", "T", "go", "stay", ""),
+        ("go", "T", "T", "go", ""),
+        ("T", "U", "go", "go", "go"),
+    ];
+    for (common, entity, plain, other, shadowing) in rows {
+        let all_defs = declared(alloc, common, entity, plain, other)?;
+        assert!(rt; shadows(alloc, &all_defs, shadowing));
+    }
     Ok(())
 }
