@@ -3,3 +3,4 @@ pub mod Namespaces
 pub mod Refusals
 pub mod Resolved
 pub mod Marked
+pub mod Laws

@@ -1,8 +1,8 @@
 //! What fragments declare, as three sets of names.
 
-ghost use Rattle.std.specs.Prelude.{◌≡◌, map, IfOk};
+ghost use Rattle.std.specs.Prelude.{◌≡◌, [], ◌∷◌, IfOk};
 ghost use Rattle.cedar_schema_decl.specs.Defined.{defined_of, nothing_defined, with_common, with_entity, with_action};
-ghost use Rattle.cedar_schema_fragments.specs.Marked.{all_with, common_names, entity_names, action_uids, with_namespace, with_fragment};
+ghost use Rattle.cedar_schema_fragments.specs.Marked.{all_with, common_names, entity_names, action_uids, with_namespace, with_fragment, HasAll};
 
 use crate::actions::ActionsDef;
 use crate::namespace_def::{ValidatorNamespaceDef, ValidatorSchemaFragment};
@@ -68,8 +68,8 @@ fn with_fragment<N, A>(
     Ok(marked)
 }
 
-/// What these fragments declare. Answers want of memory.
-pub fn new<N, A>(
+// What these fragments declare, one after the other.
+fn all_marked<N, A>(
     alloc: Global,
     fragments: &[ValidatorSchemaFragment<N, A>],
 ) -> Result<AllDefs, AllocError>
@@ -82,12 +82,32 @@ pub fn new<N, A>(
     Ok(marked)
 }
 
-/// What this fragment declares. Answers want of memory.
+/// What these fragments declare: the names of all common types and entity types, and the uids of all actions. Answers want of
+/// memory.
+pub fn new<N, A>(
+    alloc: Global,
+    fragments: &[ValidatorSchemaFragment<N, A>],
+) -> Result<AllDefs, AllocError>
+    ensures marked { IfOk result (λ d. defined_of d ≡ all_with with_fragment fragments.now nothing_defined) }
+    ensures declared { IfOk result (λ d. HasAll fragments.now (defined_of d)) }
+{
+    match all_marked(alloc, fragments) {
+        Ok(marked) => Ok(marked),
+        Err(error) => Err(error),
+    }
+}
+
+/// What this fragment declares: the names of all its common types and entity types, and the uids of its actions. Answers want of
+/// memory.
 pub fn single_fragment<N, A>(
     alloc: Global,
     fragment: &ValidatorSchemaFragment<N, A>,
 ) -> Result<AllDefs, AllocError>
-    ensures { IfOk result (λ d. defined_of d ≡ with_fragment fragment.now nothing_defined) }
+    ensures marked { IfOk result (λ d. defined_of d ≡ with_fragment fragment.now nothing_defined) }
+    ensures declared { IfOk result (λ d. HasAll (fragment.now ∷ []) (defined_of d)) }
 {
-    with_fragment(AllDefs::empty(alloc), fragment)
+    match with_fragment(AllDefs::empty(alloc), fragment) {
+        Ok(marked) => Ok(marked),
+        Err(error) => Err(error),
+    }
 }

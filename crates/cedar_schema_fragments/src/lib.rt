@@ -4,6 +4,7 @@
 pub mod actions;
 pub mod all_defs;
 pub mod err;
+pub mod laws;
 pub mod namespace_def;
 pub mod resolving;
 
