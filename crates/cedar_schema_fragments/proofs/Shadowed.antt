@@ -1,5 +1,5 @@
 -- What shadows, by sets that have what is declared.
-use Rattle.std.proofs.Common.{◌≡◌, Bool, true, false, cond, ◌||◌, ◌&&◌, List, [], ◌∷◌, ◌++◌, Option, Some, None, option_map, find, refl, sym, ap, ◌∙◌}
+use Rattle.std.proofs.Common.{◌≡◌, Bool, true, false, cond, ◌||◌, ◌&&◌, List, [], ◌∷◌, Option, Some, None, option_map, find, refl, sym, ap, ◌∙◌}
 use Rattle.std.proofs.lemmas.List.Folds.{list_any-append}
 use Rattle.std.specs.Prelude.{is_some, not}
 use Rattle.std.specs.List.{list_any}
@@ -13,7 +13,7 @@ use Rattle.cedar_schema_model.specs.Whole.Declarations.{Declarations, common_nam
 use Rattle.cedar_schema_model.specs.Whole.WellFormed.{unqualified_uid, declared_types, shadows}
 use Rattle.cedar_schema_decl.specs.Defined.{Defined}
 use Rattle.cedar_schema_decl.specs.Laws.{HasDeclared}
-use Rattle.cedar_schema_decl.specs.Shadowing.{is_type, type_shadows, action_shadows, shadowing_type, shadowing_action, first_shadowing}
+use Rattle.cedar_schema_decl.specs.Shadowing.{type_shadows, action_shadows, shadowing_type, shadowing_action, first_shadowing}
 use Rattle.cedar_schema_fragments.specs.Laws.{HasActions}
 
 same_truth : (a b : Bool) → (a ≡ true → b ≡ true) → (b ≡ true → a ≡ true) → a ≡ b
