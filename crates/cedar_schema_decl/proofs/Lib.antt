@@ -1,4 +1,4 @@
-mod Gathered
+pub mod Gathered
 mod Fields
 mod Sets
 mod Meant

@@ -6,3 +6,4 @@ pub mod Trees
 pub mod Defined
 pub mod Definitions
 pub mod Laws
+pub mod Shadowing

@@ -2,6 +2,7 @@
 
 ghost use Rattle.std.specs.Prelude.{◌≡◌};
 
+use cedar_expr_names::{EntityUID, InternalName};
 use cedar_expr_raw_names::ConditionalName;
 use std::alloc::{AllocError, AllocFailed};
 use thiserror::Error;
@@ -38,5 +39,37 @@ impl<T: Drop> From<AllocFailed<T>> for TypeNotDefinedError {
 
     fn from(_error: AllocFailed<T>) -> TypeNotDefinedError {
         TypeNotDefinedError::OutOfMemory
+    }
+}
+
+/// Why what is declared in a namespace is refused beside what is declared in the empty one.
+#[derive(Debug, Drop, Error)]
+pub enum ShadowingError {
+    /// There is no memory for the check.
+    #[error("out of memory")]
+    OutOfMemory,
+
+    /// A type has the last name of a type of the empty namespace.
+    #[error("definition of `{shadowing_def}` illegally shadows a type of the empty namespace")]
+    TypeShadowing {
+        /// The type.
+        shadowing_def: InternalName,
+    },
+
+    /// An action has the id of an action of the empty namespace.
+    #[error("definition of `{shadowing_def}` illegally shadows an action of the empty namespace")]
+    ActionShadowing {
+        /// The action.
+        shadowing_def: EntityUID,
+    },
+}
+
+impl From<AllocError> for ShadowingError {
+    ghost use Rattle.cedar_schema_decl.specs.declared.err.ShadowingError.TheVariants.{OutOfMemory};
+
+    ghost from_gives = { λ _ e. e ≡ OutOfMemory };
+
+    fn from(_error: AllocError) -> ShadowingError {
+        ShadowingError::OutOfMemory
     }
 }

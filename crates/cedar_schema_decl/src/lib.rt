@@ -11,4 +11,4 @@ pub mod requalify;
 
 pub use all_defs::{AllDefs, resolve};
 pub use definitions::{CommonTypeDefs, EntityTypeFragment, EntityTypesDef};
-pub use err::TypeNotDefinedError;
+pub use err::{ShadowingError, TypeNotDefinedError};

@@ -1,0 +1,5 @@
+mod Refusing
+mod Parents
+mod Marking
+mod Shadowed
+mod Membership

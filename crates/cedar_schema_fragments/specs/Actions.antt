@@ -1,0 +1,33 @@
+-- What declared actions write, over what is seen of their names.
+-- Rule: declarations (docs/RULES.md).
+use Rattle.std.specs.Prelude.{List, map}
+use Rattle.std.specs.Rc.{rc_str_bytes}
+use Rattle.cedar_expr_model.specs.Name.{Text}
+use Rattle.cedar_expr_model.specs.Uid.{Uid}
+use Rattle.cedar_expr_names.specs.Views.{uid_of}
+use Rattle.cedar_expr_names.specs.declared.entity.EntityUID.{EntityUID}
+use Rattle.cedar_schema_decl.specs.Forms.{ActionForm}
+use Rattle.cedar_schema_decl.specs.Trees.{type_form}
+use Rattle.cedar_schema_decl.specs.declared.json_schema.ActionEntityUID.{ActionEntityUID}
+use Rattle.cedar_schema_fragments.specs.declared.actions.ActionFragment.{ActionFragment}
+use Rattle.cedar_schema_fragments.specs.declared.actions.ActionsDef.{ActionsDef}
+
+-- an action that is named as a parent: the name of its type, and its id
+abbrev pub parent_form : {N X : Type 0} → (N → X) → ActionEntityUID N → X × Text
+parent_form f p = (f p.ty, rc_str_bytes p.id)
+
+-- an action, one that stands under its uid, and those that do
+abbrev pub action_form : {N A X : Type 0} → (N → X) → (A → X) → ActionFragment N A → ActionForm X (X × Text)
+action_form f g a = record {
+  parents = map (parent_form f) a.parents.items;
+  principals = map g a.applies_to.principal_apply_spec.items;
+  resources = map g a.applies_to.resource_apply_spec.items;
+  context = type_form f a.context;
+  is_external = a.is_external;
+}
+
+abbrev pub under_uid : {N A X : Type 0} → (N → X) → (A → X) → EntityUID × ActionFragment N A → Uid × ActionForm X (X × Text)
+under_uid f g e = (uid_of e.0, action_form f g e.1)
+
+abbrev pub actions_form : {N A X : Type 0} → (N → X) → (A → X) → ActionsDef N A → List (Uid × ActionForm X (X × Text))
+actions_form f g d = map (under_uid f g) d.actions.items

@@ -1,0 +1,293 @@
+//! Declarations of actions under their uids.
+
+ghost use Rattle.std.specs.Prelude.{◌≡◌, [], map, find, IfOk, IfErr};
+ghost use Rattle.std.specs.Option.{option_copied};
+ghost use Rattle.std.specs.Rc.{rc_str_bytes};
+ghost use Rattle.std.specs.declared.result.Result.TheVariants.{Ok};
+ghost use Rattle.cedar_expr_model.specs.Name.{Name, Text};
+ghost use Rattle.cedar_expr_model.specs.Uid.{Uid};
+ghost use Rattle.cedar_expr_names.specs.Views.{name_of, type_name_of, uid_of};
+ghost use Rattle.cedar_schema_decl.specs.Conditional.{Conditional, conditional_of};
+ghost use Rattle.cedar_schema_decl.specs.Defined.{defined_of, is_defined_action, resolving};
+ghost use Rattle.cedar_schema_decl.specs.Forms.{ActionForm};
+ghost use Rattle.cedar_schema_decl.specs.Requalified.{requalified, each};
+ghost use Rattle.cedar_schema_decl.specs.Trees.{type_form};
+ghost use Rattle.cedar_schema_fragments.specs.Actions.{parent_form, action_form, under_uid, actions_form};
+ghost use Rattle.cedar_schema_fragments.specs.Refusals.{Refuses};
+ghost use Rattle.cedar_schema_fragments.specs.Resolved.{of_types, entity_resolved, applied_resolved, parent_resolved, action_resolved, with_uid};
+
+use crate::err::SchemaError;
+use crate::resolving::{Resolve, resolve_each};
+use cedar_expr_names::{Eid, EntityType, EntityUID, InternalName, Name};
+use cedar_expr_raw_names::ConditionalName;
+use cedar_schema_decl::json_schema::{ActionEntityUID, Type};
+use cedar_schema_decl::{AllDefs, resolve};
+use std::alloc::{AllocError, Global};
+use std::rc::RcStr;
+
+/// The types of principals and of resources that an action applies to.
+#[derive(Drop)]
+pub struct ValidatorApplySpec<N> {
+    /// The types of principals.
+    pub principal_apply_spec: Vec<N>,
+    /// The types of resources.
+    pub resource_apply_spec: Vec<N>,
+}
+
+/// What is declared of an action.
+#[derive(Drop)]
+pub struct ActionFragment<N, A> {
+    /// The actions that it is in.
+    pub parents: Vec<ActionEntityUID<N>>,
+    /// What it applies to.
+    pub applies_to: ValidatorApplySpec<A>,
+    /// The type of its context.
+    pub context: Type<N>,
+    /// Whether it is declared elsewhere.
+    pub is_external: bool,
+}
+
+/// Actions under their uids.
+#[derive(Drop)]
+pub struct ActionsDef<N, A> {
+    /// Each with its uid.
+    pub actions: Vec<(EntityUID, ActionFragment<N, A>)>,
+}
+
+// The entity types that are declared, for names of these.
+#[derive(Drop)]
+struct EntityTypes<'a>(&'a AllDefs);
+
+// The actions that are declared, for parents of actions.
+#[derive(Drop)]
+struct Parents<'a>(&'a AllDefs);
+
+// All that is declared, for actions under their uids.
+#[derive(Drop)]
+struct Actions<'a>(&'a AllDefs);
+
+impl<N> ValidatorApplySpec<N> {
+    /// These types of principals and of resources.
+    pub fn new(principal_apply_spec: Vec<N>, resource_apply_spec: Vec<N>) -> ValidatorApplySpec<N>
+        ensures principals { result.principal_apply_spec ≡ principal_apply_spec }
+        ensures resources { result.resource_apply_spec ≡ resource_apply_spec }
+    {
+        ValidatorApplySpec {
+            principal_apply_spec,
+            resource_apply_spec,
+        }
+    }
+}
+
+impl<N, A> ActionsDef<N, A> {
+    /// No actions.
+    pub fn new(alloc: Global) -> ActionsDef<N, A>
+        ensures { result.actions.items ≡ [] }
+    {
+        ActionsDef {
+            actions: Vec::new(alloc),
+        }
+    }
+}
+
+impl ValidatorApplySpec<ConditionalName> {
+    /// The types with each name replaced by the entity type that it means. Refuses the first name that means none, or means a
+    /// reserved name, principals before resources, and answers want of memory.
+    pub fn fully_qualify_type_references(
+        self,
+        alloc: Global,
+        all_defs: &AllDefs,
+    ) -> Result<ValidatorApplySpec<EntityType>, SchemaError>
+        ensures resolved { IfOk result (λ r. applied_resolved (defined_of all_defs.now) (map conditional_of self.principal_apply_spec.items, map conditional_of self.resource_apply_spec.items) ≡ Ok (map type_name_of r.principal_apply_spec.items, map type_name_of r.resource_apply_spec.items)) }
+        ensures refused { IfErr result (Refuses (applied_resolved (defined_of all_defs.now) (map conditional_of self.principal_apply_spec.items, map conditional_of self.resource_apply_spec.items))) }
+    {
+        let principals = resolve_each(alloc, self.principal_apply_spec, &EntityTypes(all_defs))?;
+        let resources = resolve_each(alloc, self.resource_apply_spec, &EntityTypes(all_defs))?;
+        Ok(ValidatorApplySpec {
+            principal_apply_spec: principals,
+            resource_apply_spec: resources,
+        })
+    }
+}
+
+impl<'a> Resolve for EntityTypes<'a> {
+    type From = ConditionalName;
+
+    type To = EntityType;
+
+    ghost Before = { Conditional };
+
+    ghost After = { Name };
+
+    ghost before = { conditional_of };
+
+    ghost after = { type_name_of };
+
+    ghost resolves = { λ t. entity_resolved (defined_of t.0.now) };
+
+    fn resolve(&self, _alloc: Global, part: ConditionalName) -> Result<EntityType, SchemaError> {
+        let name = resolved_name(&part, self.0)?;
+        match Name::try_from_internal(name) {
+            Ok(name) => Ok(EntityType::from_name(name)),
+            Err(reserved) => Err(SchemaError::ReservedName(reserved)),
+        }
+    }
+}
+
+// The name of the type that a name means. Refuses a name that means none, and answers want of memory.
+fn resolved_name(name: &ConditionalName, all_defs: &AllDefs) -> Result<InternalName, SchemaError>
+    ensures resolved { IfOk result (λ n. of_types (resolving (defined_of all_defs.now) (conditional_of name.now).kind (conditional_of name.now)) ≡ Ok (name_of n)) }
+    ensures refused { IfErr result (Refuses (of_types (resolving (defined_of all_defs.now) (conditional_of name.now).kind (conditional_of name.now)))) }
+{
+    match resolve(name, all_defs) {
+        Ok(found) => Ok(found),
+        Err(error) => Err(SchemaError::from(error)),
+    }
+}
+
+impl<'a> Resolve for Parents<'a> {
+    type From = ActionEntityUID<ConditionalName>;
+
+    type To = ActionEntityUID<InternalName>;
+
+    ghost Before = { Conditional × Text };
+
+    ghost After = { Name × Text };
+
+    ghost before = { parent_form conditional_of };
+
+    ghost after = { parent_form name_of };
+
+    ghost resolves = { λ p. parent_resolved (defined_of p.0.now) };
+
+    fn resolve(
+        &self,
+        _alloc: Global,
+        part: ActionEntityUID<ConditionalName>,
+    ) -> Result<ActionEntityUID<InternalName>, SchemaError> {
+        let names = part.ty.possibilities();
+        match first_action(names.as_slice(), &part.id, self.0)? {
+            Some(ty) => {
+                let ty = ty.clone()?;
+                Ok(ActionEntityUID { ty, id: part.id })
+            }
+            None => Err(SchemaError::ActionNotDefined {
+                ty: part.ty,
+                id: part.id,
+            }),
+        }
+    }
+}
+
+// The first of these names with which, as its type, an action of this id is declared. Answers want of memory.
+fn first_action<'a>(
+    names: &'a [InternalName],
+    id: &RcStr,
+    all_defs: &AllDefs,
+) -> Result<Option<&'a InternalName>, AllocError>
+    ensures { IfOk result (λ f. option_copied f ≡ find (λ n. is_defined_action (defined_of all_defs.now) (record { kind = name_of n; id = rc_str_bytes id.now })) names.now) }
+{
+    for name in names {
+        if is_action(name, id, all_defs)? {
+            return Ok(Some(name));
+        }
+    }
+    Ok(None)
+}
+
+// Whether an action of this type and id is declared. Answers want of memory.
+fn is_action(name: &InternalName, id: &RcStr, all_defs: &AllDefs) -> Result<bool, AllocError>
+    ensures { IfOk result (λ b. b ≡ is_defined_action (defined_of all_defs.now) (record { kind = name_of name.now; id = rc_str_bytes id.now })) }
+{
+    match Name::try_from_internal(name.clone()?) {
+        Err(_) => Ok(false),
+        Ok(name) => {
+            let ty = EntityType::from_name(name);
+            let uid = EntityUID::from_components(ty, Eid::new(id.clone()?), None);
+            Ok(all_defs.is_defined_as_action(&uid))
+        }
+    }
+}
+
+// The type of a context with each name replaced by that of the type that it means.
+fn resolved_context(
+    alloc: Global,
+    context: Type<ConditionalName>,
+    all_defs: &AllDefs,
+) -> Result<Type<InternalName>, SchemaError>
+    ensures resolved { IfOk result (λ r. of_types (requalified (resolving (defined_of all_defs.now)) (type_form conditional_of context)) ≡ Ok (type_form name_of r)) }
+    ensures refused { IfErr result (Refuses (of_types (requalified (resolving (defined_of all_defs.now)) (type_form conditional_of context)))) }
+{
+    match context.fully_qualify_type_references(alloc, all_defs) {
+        Ok(context) => Ok(context),
+        Err(error) => Err(SchemaError::from(error)),
+    }
+}
+
+impl ActionFragment<ConditionalName, ConditionalName> {
+    /// The action with each name replaced by that of the type that it means, and each parent by the action that it means. Refuses
+    /// the first that means none, of principals, resources, context and parents in this order, or a principal or resource type that
+    /// is reserved, and answers want of memory.
+    pub fn fully_qualify_type_references(
+        self,
+        alloc: Global,
+        all_defs: &AllDefs,
+    ) -> Result<ActionFragment<InternalName, EntityType>, SchemaError>
+        ensures resolved { IfOk result (λ r. action_resolved (defined_of all_defs.now) (action_form conditional_of conditional_of self) ≡ Ok (action_form name_of type_name_of r)) }
+        ensures refused { IfErr result (Refuses (action_resolved (defined_of all_defs.now) (action_form conditional_of conditional_of self))) }
+    {
+        let applies_to = self
+            .applies_to
+            .fully_qualify_type_references(alloc, all_defs)?;
+        let context = resolved_context(alloc, self.context, all_defs)?;
+        let parents = resolve_each(alloc, self.parents, &Parents(all_defs))?;
+        Ok(ActionFragment {
+            parents,
+            applies_to,
+            context,
+            is_external: self.is_external,
+        })
+    }
+}
+
+impl<'a> Resolve for Actions<'a> {
+    type From = (EntityUID, ActionFragment<ConditionalName, ConditionalName>);
+
+    type To = (EntityUID, ActionFragment<InternalName, EntityType>);
+
+    ghost Before = { Uid × ActionForm Conditional (Conditional × Text) };
+
+    ghost After = { Uid × ActionForm Name (Name × Text) };
+
+    ghost before = { under_uid conditional_of conditional_of };
+
+    ghost after = { under_uid name_of type_name_of };
+
+    ghost resolves = { λ a. with_uid (action_resolved (defined_of a.0.now)) };
+
+    fn resolve(
+        &self,
+        alloc: Global,
+        part: (EntityUID, ActionFragment<ConditionalName, ConditionalName>),
+    ) -> Result<(EntityUID, ActionFragment<InternalName, EntityType>), SchemaError> {
+        let (uid, action) = part;
+        let action = action.fully_qualify_type_references(alloc, self.0)?;
+        Ok((uid, action))
+    }
+}
+
+impl ActionsDef<ConditionalName, ConditionalName> {
+    /// The actions with each name replaced by that of the type that it means, and each parent by the action that it means. Refuses
+    /// the first that means none, or a principal or resource type that is reserved, and answers want of memory.
+    pub fn fully_qualify_type_references(
+        self,
+        alloc: Global,
+        all_defs: &AllDefs,
+    ) -> Result<ActionsDef<InternalName, EntityType>, SchemaError>
+        ensures resolved { IfOk result (λ r. each (with_uid (action_resolved (defined_of all_defs.now))) (actions_form conditional_of conditional_of self) ≡ Ok (actions_form name_of type_name_of r)) }
+        ensures refused { IfErr result (Refuses (each (with_uid (action_resolved (defined_of all_defs.now))) (actions_form conditional_of conditional_of self))) }
+    {
+        let actions = resolve_each(alloc, self.actions, &Actions(all_defs))?;
+        Ok(ActionsDef { actions })
+    }
+}

@@ -1,0 +1,86 @@
+//! Why declarations are refused.
+
+use cedar_expr_names::ReservedNameError;
+use cedar_expr_raw_names::ConditionalName;
+use cedar_schema_decl::TypeNotDefinedError;
+use std::alloc::{AllocError, AllocFailed};
+use std::rc::RcStr;
+use thiserror::Error;
+
+/// Why declarations are refused.
+#[derive(Debug, Drop, Error)]
+pub enum SchemaError {
+    /// There is no memory for it.
+    #[error("out of memory")]
+    OutOfMemory,
+
+    /// None of the types that a name may stand for is declared.
+    #[error("failed to resolve type: {}", .undefined_type.raw())]
+    TypeNotDefined {
+        /// The name.
+        undefined_type: ConditionalName,
+    },
+
+    /// None of the actions that a parent may stand for is declared.
+    #[error("failed to resolve action: {}::\"{id}\"", .ty.raw())]
+    ActionNotDefined {
+        /// The name of the parent's type.
+        ty: ConditionalName,
+        /// The parent's id.
+        id: RcStr,
+    },
+
+    /// A reserved name stands where none may.
+    #[error(transparent)]
+    ReservedName(ReservedNameError),
+}
+
+impl From<AllocError> for SchemaError {
+    ghost use Rattle.std.specs.Prelude.{◌≡◌};
+    ghost use Rattle.cedar_schema_fragments.specs.declared.err.SchemaError.TheVariants.{OutOfMemory};
+
+    ghost from_gives = { λ _ e. e ≡ OutOfMemory };
+
+    fn from(_error: AllocError) -> SchemaError {
+        SchemaError::OutOfMemory
+    }
+}
+
+impl<T: Drop> From<AllocFailed<T>> for SchemaError {
+    ghost use Rattle.std.specs.Prelude.{◌≡◌};
+    ghost use Rattle.cedar_schema_fragments.specs.declared.err.SchemaError.TheVariants.{OutOfMemory};
+
+    ghost from_gives = { λ _ e. e ≡ OutOfMemory };
+
+    fn from(_error: AllocFailed<T>) -> SchemaError {
+        SchemaError::OutOfMemory
+    }
+}
+
+impl From<TypeNotDefinedError> for SchemaError {
+    ghost use Rattle.std.specs.Prelude.{◌≡◌, option_map};
+    ghost use Rattle.cedar_schema_decl.specs.Refusals.{undefined};
+    ghost use Rattle.cedar_schema_fragments.specs.Refusals.{no_type, refusal};
+
+    ghost from_gives = { λ t e. refusal e ≡ option_map no_type (undefined t) };
+
+    fn from(error: TypeNotDefinedError) -> SchemaError {
+        match error {
+            TypeNotDefinedError::OutOfMemory => SchemaError::OutOfMemory,
+            TypeNotDefinedError::Undefined { undefined_type } => {
+                SchemaError::TypeNotDefined { undefined_type }
+            }
+        }
+    }
+}
+
+impl From<ReservedNameError> for SchemaError {
+    ghost use Rattle.std.specs.Prelude.{◌≡◌};
+    ghost use Rattle.cedar_schema_fragments.specs.declared.err.SchemaError.TheVariants.{ReservedName};
+
+    ghost from_gives = { λ r e. e ≡ ReservedName r };
+
+    fn from(error: ReservedNameError) -> SchemaError {
+        SchemaError::ReservedName(error)
+    }
+}

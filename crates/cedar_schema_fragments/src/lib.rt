@@ -1,0 +1,13 @@
+//! What fragments of a schema declare: actions, namespaces and fragments under full names, and what their names mean.
+#![tactic(auto)]
+
+pub mod actions;
+pub mod all_defs;
+pub mod err;
+pub mod laws;
+pub mod namespace_def;
+pub mod resolving;
+
+pub use actions::{ActionFragment, ActionsDef, ValidatorApplySpec};
+pub use err::SchemaError;
+pub use namespace_def::{ValidatorNamespaceDef, ValidatorSchemaFragment};

@@ -1,0 +1,151 @@
+//! What is declared in a namespace, and in the namespaces of a fragment, under full names.
+
+ghost use Rattle.std.specs.Prelude.{◌≡◌, map, option_map, IfOk, IfErr};
+ghost use Rattle.std.specs.declared.result.Result.TheVariants.{Ok};
+ghost use Rattle.cedar_expr_model.specs.Name.{Name, Text};
+ghost use Rattle.cedar_expr_names.specs.Views.{name_of, type_name_of};
+ghost use Rattle.cedar_schema_decl.specs.Conditional.{Conditional, conditional_of};
+ghost use Rattle.cedar_schema_decl.specs.Defined.{defined_of, resolving};
+ghost use Rattle.cedar_schema_decl.specs.Definitions.{commons_form, entities_form};
+ghost use Rattle.cedar_schema_decl.specs.Requalified.{requalified, requalified_entity, under_name, each};
+ghost use Rattle.cedar_schema_fragments.specs.Namespaces.{NamespaceForm, namespace_form, fragment_form};
+ghost use Rattle.cedar_schema_fragments.specs.Refusals.{Refuses};
+ghost use Rattle.cedar_schema_fragments.specs.Resolved.{of_types, commons_resolved, entities_resolved, namespace_resolved};
+
+use crate::actions::ActionsDef;
+use crate::err::SchemaError;
+use crate::resolving::{Resolve, resolve_each};
+use cedar_expr_names::{EntityType, InternalName};
+use cedar_expr_raw_names::ConditionalName;
+use cedar_schema_decl::{AllDefs, CommonTypeDefs, EntityTypesDef};
+use std::alloc::Global;
+
+/// What is declared in one namespace, under full names.
+#[derive(Drop)]
+pub struct ValidatorNamespaceDef<N, A> {
+    /// The namespace. Without a name it is the empty one.
+    pub namespace: Option<InternalName>,
+    /// The common types.
+    pub common_types: CommonTypeDefs<N>,
+    /// The entity types.
+    pub entity_types: EntityTypesDef<N>,
+    /// The actions.
+    pub actions: ActionsDef<N, A>,
+}
+
+/// What is declared in each namespace of a fragment, under full names.
+#[derive(Drop)]
+pub struct ValidatorSchemaFragment<N, A>(
+    /// The namespaces.
+    pub Vec<ValidatorNamespaceDef<N, A>>,
+);
+
+// All that is declared, for namespaces.
+#[derive(Drop)]
+struct Namespaces<'a>(&'a AllDefs);
+
+impl<N, A> ValidatorSchemaFragment<N, A> {
+    /// The fragment of these namespaces.
+    pub fn from_namespaces(
+        namespaces: Vec<ValidatorNamespaceDef<N, A>>,
+    ) -> ValidatorSchemaFragment<N, A>
+        ensures { result.0 ≡ namespaces }
+    {
+        ValidatorSchemaFragment(namespaces)
+    }
+}
+
+// The common types with each name replaced by that of the type that it means.
+fn resolved_commons(
+    alloc: Global,
+    commons: CommonTypeDefs<ConditionalName>,
+    all_defs: &AllDefs,
+) -> Result<CommonTypeDefs<InternalName>, SchemaError>
+    ensures resolved { IfOk result (λ r. of_types (commons_resolved (defined_of all_defs.now) (commons_form conditional_of commons)) ≡ Ok (commons_form name_of r)) }
+    ensures refused { IfErr result (Refuses (of_types (commons_resolved (defined_of all_defs.now) (commons_form conditional_of commons)))) }
+{
+    match commons.fully_qualify_type_references(alloc, all_defs) {
+        Ok(commons) => Ok(commons),
+        Err(error) => Err(SchemaError::from(error)),
+    }
+}
+
+// The entity types with each name replaced by that of the type that it means.
+fn resolved_entities(
+    alloc: Global,
+    entities: EntityTypesDef<ConditionalName>,
+    all_defs: &AllDefs,
+) -> Result<EntityTypesDef<InternalName>, SchemaError>
+    ensures resolved { IfOk result (λ r. of_types (entities_resolved (defined_of all_defs.now) (entities_form conditional_of entities)) ≡ Ok (entities_form name_of r)) }
+    ensures refused { IfErr result (Refuses (of_types (entities_resolved (defined_of all_defs.now) (entities_form conditional_of entities)))) }
+{
+    match entities.fully_qualify_type_references(alloc, all_defs) {
+        Ok(entities) => Ok(entities),
+        Err(error) => Err(SchemaError::from(error)),
+    }
+}
+
+impl ValidatorNamespaceDef<ConditionalName, ConditionalName> {
+    /// The namespace with each name replaced by that of the type that it means, and each parent of an action by the action that it
+    /// means. Refuses the first that means none, of common types, entity types and actions in this order, or a principal or
+    /// resource type that is reserved, and answers want of memory.
+    pub fn fully_qualify_type_references(
+        self,
+        alloc: Global,
+        all_defs: &AllDefs,
+    ) -> Result<ValidatorNamespaceDef<InternalName, EntityType>, SchemaError>
+        ensures resolved { IfOk result (λ r. namespace_resolved (defined_of all_defs.now) (namespace_form conditional_of conditional_of self) ≡ Ok (namespace_form name_of type_name_of r)) }
+        ensures refused { IfErr result (Refuses (namespace_resolved (defined_of all_defs.now) (namespace_form conditional_of conditional_of self))) }
+    {
+        let common_types = resolved_commons(alloc, self.common_types, all_defs)?;
+        let entity_types = resolved_entities(alloc, self.entity_types, all_defs)?;
+        let actions = self.actions.fully_qualify_type_references(alloc, all_defs)?;
+        Ok(ValidatorNamespaceDef {
+            namespace: self.namespace,
+            common_types,
+            entity_types,
+            actions,
+        })
+    }
+}
+
+impl<'a> Resolve for Namespaces<'a> {
+    type From = ValidatorNamespaceDef<ConditionalName, ConditionalName>;
+
+    type To = ValidatorNamespaceDef<InternalName, EntityType>;
+
+    ghost Before = { NamespaceForm Conditional (Conditional × Text) };
+
+    ghost After = { NamespaceForm Name (Name × Text) };
+
+    ghost before = { namespace_form conditional_of conditional_of };
+
+    ghost after = { namespace_form name_of type_name_of };
+
+    ghost resolves = { λ n. namespace_resolved (defined_of n.0.now) };
+
+    fn resolve(
+        &self,
+        alloc: Global,
+        part: ValidatorNamespaceDef<ConditionalName, ConditionalName>,
+    ) -> Result<ValidatorNamespaceDef<InternalName, EntityType>, SchemaError> {
+        part.fully_qualify_type_references(alloc, self.0)
+    }
+}
+
+impl ValidatorSchemaFragment<ConditionalName, ConditionalName> {
+    /// The fragment with each name replaced by that of the type that it means, and each parent of an action by the action that it
+    /// means. Refuses the first that means none, namespace by namespace, or a principal or resource type that is reserved, and
+    /// answers want of memory.
+    pub fn fully_qualify_type_references(
+        self,
+        alloc: Global,
+        all_defs: &AllDefs,
+    ) -> Result<ValidatorSchemaFragment<InternalName, EntityType>, SchemaError>
+        ensures resolved { IfOk result (λ r. each (namespace_resolved (defined_of all_defs.now)) (fragment_form conditional_of conditional_of self) ≡ Ok (fragment_form name_of type_name_of r)) }
+        ensures refused { IfErr result (Refuses (each (namespace_resolved (defined_of all_defs.now)) (fragment_form conditional_of conditional_of self))) }
+    {
+        let namespaces = resolve_each(alloc, self.0, &Namespaces(all_defs))?;
+        Ok(ValidatorSchemaFragment(namespaces))
+    }
+}
