@@ -1,0 +1,17 @@
+-- What the test of a restricted expression and a type answers, as a result of the code.
+-- Rule: values of a type; restricted expressions (docs/RULES.md).
+use Rattle.std.specs.Prelude.{◌≡◌, Bool, Result, Ok, Err}
+use Rattle.cedar_expr_names.specs.Views.{plain_name_of}
+use Rattle.cedar_expr_functions.specs.declared.err.ExtensionFunctionLookupError.{ExtensionFunctionLookupError}
+use Rattle.cedar_expr_functions.specs.declared.err.ExtensionFunctionLookupError.TheVariants.{OutOfMemory, FuncDoesNotExist}
+use Rattle.cedar_schema_admission_model.specs.Restricted.{Asked, no_function, asked_truth}
+
+-- The fault is that the function that lacks isn't there. Want of memory says nothing.
+abbrev pub RefusesAsked : Asked → ExtensionFunctionLookupError → Type 0
+RefusesAsked a OutOfMemory = Unit {0}
+RefusesAsked a (FuncDoesNotExist e) = a ≡ no_function (plain_name_of e.name)
+
+-- The result is that of the test: yes, no, or the function that lacks.
+abbrev pub AnswersAsked : Asked → Result Bool ExtensionFunctionLookupError → Type 0
+AnswersAsked a (Ok b) = a ≡ asked_truth b
+AnswersAsked a (Err e) = RefusesAsked a e

@@ -1,0 +1,6 @@
+//! Restricted expressions of a type.
+#![tactic(auto)]
+
+mod restricted;
+
+pub use restricted::typecheck_restricted_expr;
