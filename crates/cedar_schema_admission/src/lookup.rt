@@ -6,6 +6,8 @@ ghost use Rattle.cedar_expr_names.specs.Views.{type_name_of};
 ghost use Rattle.cedar_expr_model.specs.Whole.Lists.{all_given};
 ghost use Rattle.cedar_schema_model.specs.Whole.Schema.{Schema, type_named};
 ghost use Rattle.cedar_schema_model.specs.Whole.Conforming.{of_kind, attributes_at};
+ghost use Rattle.cedar_schema_model.specs.Whole.Types.{permissive};
+ghost use Rattle.cedar_schema_model.specs.Whole.Join.{join};
 ghost use Rattle.cedar_schema_model.specs.Whole.Lookup.{declared_of, declared_by_all, lookup_attribute, may_have_attribute};
 ghost use Rattle.cedar_schema_types.specs.Unions.{members_of};
 ghost use Rattle.cedar_schema_types.specs.Types.{type_of, attributes_of, attribute_of};
@@ -97,18 +99,34 @@ fn by_all<S: DeclaredAttributes>(
     let mut joined = Type::Never;
     let mut is_required = true;
     for ty in union.iter() {
-        let Some(declared) = by_one(schema, ty, attr) else {
-            return Ok(None);
-        };
-        is_required = is_required && declared.is_required;
-        let permissive = ValidationMode::Permissive;
-        let next = least_upper_bound(alloc, &joined, &declared.attr_type, permissive)?;
-        let Some(next) = next else {
-            return Ok(None);
-        };
-        joined = next;
+        match by_one(schema, ty, attr) {
+            Some(declared) => {
+                is_required = is_required && declared.is_required;
+                match joined_with(alloc, &joined, declared)? {
+                    Some(next) => joined = next,
+                    None => return Ok(None),
+                }
+            }
+            None => return Ok(None),
+        }
     }
     Ok(Some(AttributeType::new(joined, is_required)))
+}
+
+// The permissive join of the type and that of what is declared.
+fn joined_with(
+    alloc: Global,
+    joined: &Type,
+    declared: &AttributeType,
+) -> Result<Option<Type>, AllocError>
+    ensures { IfOk result (λ j. option_map type_of j ≡ join permissive (type_of joined.now) (attribute_of declared.now).type) }
+{
+    least_upper_bound(
+        alloc,
+        joined,
+        &declared.attr_type,
+        ValidationMode::Permissive,
+    )
 }
 
 // Whether some member of the union declares the attribute.

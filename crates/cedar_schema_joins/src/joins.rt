@@ -40,10 +40,10 @@ pub fn reduce_to_least_upper_bound(
 {
     let mut joined = Type::Never;
     for ty in tys {
-        let Some(next) = join(mode, alloc, &joined, ty)? else {
-            return Ok(None);
-        };
-        joined = next;
+        match join(mode, alloc, &joined, ty)? {
+            Some(next) => joined = next,
+            None => return Ok(None),
+        }
     }
     Ok(Some(joined))
 }
