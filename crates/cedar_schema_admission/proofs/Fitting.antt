@@ -89,7 +89,7 @@ module _ {X : Type 0} (seen : X → Extension) where
     fields_end rest whole h is = ap all_fit (sym is) ∙ h
 
   -- a field by its name
-  field_there : (a : Text) (es : List (RcStr Global × Value X)) → is_some (lookup (is_at (λ k. text_cmp a (rc_str_bytes k))) es) ≡ is_some (field_of a (fields (map (bare_pair seen) es)))
+  pub field_there : (a : Text) (es : List (RcStr Global × Value X)) → is_some (lookup (is_at (λ k. text_cmp a (rc_str_bytes k))) es) ≡ is_some (field_of a (fields (map (bare_pair seen) es)))
   field_there a [] = refl
   field_there a (e ∷ es) = go (is_eq (text_cmp a (rc_str_bytes e.0))) (bytes_eq a (rc_str_bytes e.0)) (is_eq-slice_cmp a (rc_str_bytes e.0)) (field_there a es)
     where
@@ -103,20 +103,26 @@ module _ {X : Type 0} (seen : X → Extension) where
     abbrev pub all_there : List (RcStr Global × AttributeType) → Bool
     all_there ds = has_required (attributes_from (declared_pairs ds)) (fields (map (bare_pair seen) es))
 
-    abbrev pub is_there : RcStr Global → Bool
-    is_there k = is_some (lookup (is_at (λ j. text_cmp (rc_str_bytes k) (rc_str_bytes j))) es)
+    -- the next is there where it is required, or lacks
+    one_there : (r x : Bool) → (not r || x) ≡ not (r && not x)
+    one_there true true = refl
+    one_there true false = refl
+    one_there false x = refl
 
-    next_there : (rest later : List (RcStr Global × AttributeType)) (k : RcStr Global) (d : AttributeType) (whole : Bool) → all_there rest ≡ whole → rest ≡ (k, d) ∷ later → ((not d.is_required || is_there k) && all_there later) ≡ whole
-    next_there rest later k d whole h is = ap (λ b. (not d.is_required || b) && all_there later) (field_there (rc_str_bytes k) es) ∙ ap all_there (sym is) ∙ h
+    next_there : (rest later : List (RcStr Global × AttributeType)) (k : RcStr Global) (d : AttributeType) (lack whole : Bool) → all_there rest ≡ whole → rest ≡ (k, d) ∷ later
+        → lack ≡ (d.is_required && not (is_some (field_of (rc_str_bytes k) (fields (map (bare_pair seen) es))))) → (not lack && all_there later) ≡ whole
+    next_there rest later k d lack whole h is tested =
+        ap (λ b. not b && all_there later) tested
+        ∙ ap (λ b. b && all_there later) (sym (one_there d.is_required (is_some (field_of (rc_str_bytes k) (fields (map (bare_pair seen) es))))))
+        ∙ ap all_there (sym is) ∙ h
 
-    pub optional_goes_on : (rest later : List (RcStr Global × AttributeType)) (k : RcStr Global) (d : AttributeType) (whole : Bool) → all_there rest ≡ whole → rest ≡ (k, d) ∷ later → d.is_required ≡ false → all_there later ≡ whole
-    optional_goes_on rest later k d whole h is not_so = ap (λ b. (not b || is_there k) && all_there later) (sym not_so) ∙ next_there rest later k d whole h is
+    pub none_lacks : (rest later : List (RcStr Global × AttributeType)) (k : RcStr Global) (d : AttributeType) (lack whole : Bool) → all_there rest ≡ whole → rest ≡ (k, d) ∷ later
+        → lack ≡ (d.is_required && not (is_some (field_of (rc_str_bytes k) (fields (map (bare_pair seen) es))))) → lack ≡ false → all_there later ≡ whole
+    none_lacks rest later k d lack whole h is tested not_so = ap (λ b. not b && all_there later) (sym not_so) ∙ next_there rest later k d lack whole h is tested
 
-    pub required_goes_on : (rest later : List (RcStr Global × AttributeType)) (k : RcStr Global) (d : AttributeType) (whole : Bool) → all_there rest ≡ whole → rest ≡ (k, d) ∷ later → d.is_required ≡ true → is_there k ≡ true → all_there later ≡ whole
-    required_goes_on rest later k d whole h is so there = (λ i. (not (sym so i) || sym there i) && all_there later) ∙ next_there rest later k d whole h is
-
-    pub required_stops : (rest later : List (RcStr Global × AttributeType)) (k : RcStr Global) (d : AttributeType) (whole : Bool) → all_there rest ≡ whole → rest ≡ (k, d) ∷ later → d.is_required ≡ true → is_there k ≡ false → false ≡ whole
-    required_stops rest later k d whole h is so there = (λ i. (not (sym so i) || sym there i) && all_there later) ∙ next_there rest later k d whole h is
+    pub one_lacks : (rest later : List (RcStr Global × AttributeType)) (k : RcStr Global) (d : AttributeType) (lack whole : Bool) → all_there rest ≡ whole → rest ≡ (k, d) ∷ later
+        → lack ≡ (d.is_required && not (is_some (field_of (rc_str_bytes k) (fields (map (bare_pair seen) es))))) → lack ≡ true → false ≡ whole
+    one_lacks rest later k d lack whole h is tested so = ap (λ b. not b && all_there later) (sym so) ∙ next_there rest later k d lack whole h is tested
 
     pub required_end : (rest : List (RcStr Global × AttributeType)) (whole : Bool) → all_there rest ≡ whole → rest ≡ [] → true ≡ whole
     required_end rest whole h is = ap all_there (sym is) ∙ h

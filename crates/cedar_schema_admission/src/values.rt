@@ -1,8 +1,8 @@
 //! The values of a type.
 
-ghost use Rattle.std.specs.Prelude.{◌≡◌, map, option_map};
+ghost use Rattle.std.specs.Prelude.{◌≡◌, ◌&&◌, not, is_some, map, option_map};
 ghost use Rattle.cedar_expr_model.specs.Whole.Records.{fields};
-ghost use Rattle.cedar_expr_model.specs.Whole.Value.{prim, set_of, record_of, extension};
+ghost use Rattle.cedar_expr_model.specs.Whole.Value.{prim, set_of, record_of, extension, field_of};
 ghost use Rattle.cedar_expr_names.specs.Literals.{literal_of};
 ghost use Rattle.cedar_expr_values.specs.Values.{bare, bares, bare_pair};
 ghost use Rattle.cedar_schema_model.specs.Whole.HasType.{has_type, have_type, literal_has_type, has_required, field_fits, fields_fit};
@@ -126,11 +126,29 @@ fn has_required<X: ExtensionValue>(attrs: &Attributes, pairs: &BTreeMap<RcStr, V
     ensures { result ≡ has_required (attributes_of attrs.now) (fields (map (bare_pair X.seen) pairs.now.entries)) }
 {
     for (name, declared) in attrs.iter() {
-        if declared.is_required && !pairs.contains_key(name) {
+        if lacks(pairs, name.as_str(), declared) {
             return false;
         }
     }
     true
+}
+
+// Whether the attribute is required and there is no field for it.
+fn lacks<X: ExtensionValue>(
+    pairs: &BTreeMap<RcStr, Value<X>>,
+    name: &str,
+    declared: &AttributeType,
+) -> bool
+    ensures { result ≡ (declared.now.is_required && not (is_some (field_of name.now (fields (map (bare_pair X.seen) pairs.now.entries))))) }
+{
+    declared.is_required && !has_field(pairs, name)
+}
+
+// Whether there is a field of this name.
+fn has_field<X: ExtensionValue>(pairs: &BTreeMap<RcStr, Value<X>>, name: &str) -> bool
+    ensures { result ≡ is_some (field_of name.now (fields (map (bare_pair X.seen) pairs.now.entries))) }
+{
+    pairs.contains_key(name)
 }
 
 // Whether the literal is of the type.
