@@ -56,7 +56,7 @@ call_given n f None h = no_lie (ap is_of h)
 call_given n f (Some s) h = (s, refl, result_given n s.result (truth_given (is_result n s.result) h))
 
 call_made : (ss : List Signature) (f n : Name) → Gives ss f n → call_asked ss f n ≡ of_type
-call_made ss f n g = ap (λ o. option_map_or (λ s. asked_truth (is_result n s.result)) o (no_function f)) g.1.0 ∙ ap asked_truth (result_made n (g.0).result g.1.1)
+call_made ss f n g = ap (λ o. option_map_or (λ s. asked_truth (is_result n s.result)) o (no_function f)) g.1 ∙ ap asked_truth (result_made n (g.0).result g.2)
 
 -- a field
 field_given : (o : Openness) (asks : Ty → Asked) (Has : Ty → Type 0) (d : Option Declared) → ((t : Ty) → asks t ≡ of_type → Has t) → field_asked o asks d ≡ of_type → FieldFits o Has d

@@ -1,5 +1,5 @@
 -- Restricted expressions that are written from values.
-use Rattle.std.proofs.Common.{◌≡◌, ◌&&◌, ◌||◌, not, Bool, true, false, List, map, Option, Some, is_some, refl, ap, ◌∙◌, subst}
+use Rattle.std.proofs.Common.{◌≡◌, ◌&&◌, ◌||◌, not, Bool, true, false, List, map, Option, Some, None, is_some, refl, ap, ◌∙◌, subst}
 use Rattle.std.specs.Prelude.{if◌then◌else◌}
 use Rattle.std.specs.Option.{option_map_or}
 use Rattle.std.specs.Str.{bytes_eq}
@@ -40,10 +40,10 @@ field_written o asks has (Some d) each = each d.type
 
 -- a call that makes an extension value
 call_written : (x : Table) (f n k : _) (ps : List Literal) (m : Name) → IsFair x → Makes x f ps (extension n k) → call_asked x.functions f m ≡ asked_truth (has_type (extension n k) (extension_type m))
-call_written x f n k ps m fair made =
-    let s = (made.0).0 in
-    let result = subst (IsAnswer s) made.1 (fair f s (map prim ps) ((made.0).1).0 (((made.0).1).1).0 (((made.0).1).1).1) in
-    ap (λ o. option_map_or (λ s. asked_truth (is_result m s.result)) o (no_function f)) ((made.0).1).0
+call_written x f n k ps m fair h =
+    let s = (h.0).0 in
+    let result = subst (IsAnswer s) h.1 (fair f s (map prim ps) (h.0).1 (h.0).2 (h.0).3) in
+    ap (λ o. option_map_or (λ s. asked_truth (is_result m s.result)) o (no_function f)) (h.0).1
     ∙ ap (λ r. asked_truth (is_result m r)) result
 
 module _ (x : Table) (fair : IsFair x) where

@@ -1,6 +1,0 @@
-//! Restricted expressions of a type.
-#![tactic(auto)]
-
-mod restricted;
-
-pub use restricted::typecheck_restricted_expr;

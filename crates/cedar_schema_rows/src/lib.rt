@@ -1,7 +1,0 @@
-//! Tests of the types of a schema: what is below what, joins, attributes, and the values of a type.
-#![tactic(auto)]
-
-#[cfg(test)]
-mod lookups;
-#[cfg(test)]
-mod types;
