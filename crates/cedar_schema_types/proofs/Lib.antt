@@ -1,5 +1,5 @@
 pub mod Entries
 mod Found
 mod Unions
-mod Below
-mod Joined
+mod Named
+pub mod InOrder

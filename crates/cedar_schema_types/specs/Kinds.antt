@@ -1,16 +1,10 @@
--- What the code's modes, Boolean types and marks of open records are in the model.
--- Rule: types; subtypes (docs/RULES.md).
+-- What the code's Boolean types and marks of open records are in the model.
+-- Rule: types (docs/RULES.md).
 use Rattle.cedar_schema_model.specs.Whole.Types as model
 use Rattle.cedar_schema_types.specs.declared.kinds.BoolType.{BoolType}
 use Rattle.cedar_schema_types.specs.declared.kinds.BoolType.TheVariants.{AnyBool, True, False}
 use Rattle.cedar_schema_types.specs.declared.kinds.OpenTag.{OpenTag}
 use Rattle.cedar_schema_types.specs.declared.kinds.OpenTag.TheVariants.{OpenAttributes, ClosedAttributes}
-use Rattle.cedar_schema_types.specs.declared.mode.ValidationMode.{ValidationMode}
-use Rattle.cedar_schema_types.specs.declared.mode.ValidationMode.TheVariants.{Strict, Permissive}
-
-abbrev pub mode_of : ValidationMode → model.Mode
-mode_of Strict = model.strict
-mode_of Permissive = model.permissive
 
 abbrev pub bool_type_of : BoolType → model.BoolType
 bool_type_of AnyBool = model.any_bool

@@ -62,9 +62,9 @@ impl Attributes {
         self.attrs.get(attr)
     }
 
-    // Whether each name of these is one of the others.
+    /// Whether each name of these is one of the others.
     #[tactic(auto, using(crate::proofs::Entries::attributes_are))]
-    pub(crate) fn are_named(&self, others: &Attributes) -> bool
+    pub fn are_named(&self, others: &Attributes) -> bool
         ensures { result ≡ are_named (attributes_of self.now) (attributes_of others.now) }
     {
         for (name, _) in self.attrs.iter() {

@@ -2,7 +2,6 @@
 
 ghost use Rattle.std.specs.Prelude.{◌≡◌};
 
-use crate::mode::ValidationMode;
 use cedar_expr_names::{EntityType, EntityUID};
 use std::alloc::{AllocError, Global};
 use std::collections::BTreeSet;
@@ -21,9 +20,8 @@ impl EntityLUB {
     ghost use Rattle.cedar_expr_names.specs.Views.{type_name_of};
     ghost use Rattle.cedar_expr_model.specs.Name.{name_eq};
     ghost use Rattle.cedar_schema_model.specs.Whole.Types.{entity_types};
-    ghost use Rattle.cedar_schema_model.specs.Whole.Subtype.{are_among, is_union_below};
+    ghost use Rattle.cedar_schema_model.specs.Whole.Subtype.{are_among};
     ghost use Rattle.cedar_schema_model.specs.Whole.Join.{names_of_both, are_disjoint};
-    ghost use Rattle.cedar_schema_types.specs.Kinds.{mode_of};
     ghost use Rattle.cedar_schema_types.specs.Unions.{members_of, only_member};
 
     /// The union of one entity type alone. Answers want of memory.
@@ -93,13 +91,6 @@ impl EntityLUB {
             }
         }
         true
-    }
-
-    /// Whether this union is the other, or any larger one in permissive mode.
-    pub fn is_below(&self, other: &EntityLUB, mode: ValidationMode) -> bool
-        ensures { result ≡ is_union_below (mode_of mode) (members_of self.now) (members_of other.now) }
-    {
-        self.is_subset(other) && (mode.is_permissive() || other.is_subset(self))
     }
 
     /// The union of both. Answers want of memory.

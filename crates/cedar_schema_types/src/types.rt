@@ -53,7 +53,8 @@ pub enum Type {
 #[derive(Debug, PartialEq, Eq, PartialOrd, Ord, Hash, Drop)]
 #[cycle(types)]
 pub struct Attributes {
-    pub(crate) attrs: Rc<BTreeMap<RcStr, AttributeType>>,
+    /// What is declared of each.
+    pub attrs: Rc<BTreeMap<RcStr, AttributeType>>,
 }
 
 /// The type of an attribute, whether it is required, and its place, which doesn't count where attributes are compared.

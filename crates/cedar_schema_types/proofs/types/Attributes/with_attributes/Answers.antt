@@ -1,7 +1,7 @@
 use Rattle.std.proofs.Common.{ap, ◌∙◌}
 use Rattle.cedar_schema_types.specs.AttributeLists.{attributes_from, declared_pairs}
 use Rattle.cedar_schema_types.proofs.Entries.{attributes_made}
-use Rattle.cedar_schema_types.proofs.Joined.{pairs_in_order}
+use Rattle.cedar_schema_types.proofs.InOrder.{pairs_in_order}
 use Rattle.cedar_schema_types.proofs.types.Attributes.with_attributes.Goals as goal
 
 pub returns : goal.returns

@@ -1,0 +1,3 @@
+mod Shared
+mod Smaller
+mod Fitting

@@ -1,0 +1,3 @@
+pub mod Restricted
+pub mod Laws
+pub mod Worked
