@@ -19,6 +19,7 @@ use Rattle.cedar_store_parts.specs.Parts.{id_text}
 use Rattle.cedar_store_policies.specs.Templates.{template_of}
 use Rattle.cedar_store_policies.specs.Policies.{policy_of}
 use Rattle.cedar_store_policies.specs.SetParts.{keys_in, templates_in, policies_in, ids_of, set_made}
+use Rattle.cedar_store_policies.specs.PolicySets.{find_policy}
 use Rattle.cedar_store_parts.specs.declared.policy_id.PolicyID.{PolicyID}
 use Rattle.cedar_store_policies.specs.declared.template.Template.{Template}
 use Rattle.cedar_store_policies.specs.declared.policy.Policy.{Policy}
@@ -128,26 +129,33 @@ module _ (ts : List (PolicyID × Rc Template Global)) (ls : List (PolicyID × Po
   pub template_entered : (t : Text) (k : PolicyID) (x : Rc Template Global) (more : List (PolicyID × Rc Template Global)) → t ≡ (template_of x.value).id → list_any (bytes_eq t) (keys_in ts) ≡ false → list_any (bytes_eq t) (keys_in ls) ≡ false → more ≡ ts ++ (k, x) ∷ [] → add_template (set_made ts ls) (template_of x.value) ≡ Some (set_made more ls)
   template_entered t k x more e a b h = template_added more k x h (ap (λ u. is_taken u (set_made ts ls)) (sym e) ∙ free t a b)
 
--- the template that a look-up finds
 heads : (a b : Text) (as_ bs : List Text) → a ∷ as_ ≡ b ∷ bs → a ≡ b
 heads a b as_ bs e = cc
 
 tails : (a b : Text) (as_ bs : List Text) → a ∷ as_ ≡ b ∷ bs → as_ ≡ bs
 tails a b as_ bs e = cc
 
-chosen : (s t : Bool) → s ≡ t → (x : Rc Template Global) (o : Option (Rc Template Global)) (q : Option model.Policy) → option_map (λ y. template_of y.value) o ≡ q → option_map (λ y. template_of y.value) (cond s (Some x) o) ≡ cond t (Some (template_of x.value)) q
-chosen s true e x o q h = ap (λ b. option_map (λ (y : Rc Template Global). template_of y.value) (cond b (Some x) o)) e
-chosen s false e x o q h = ap (λ b. option_map (λ (y : Rc Template Global). template_of y.value) (cond b (Some x) o)) e ∙ h
+-- what is found under a key, seen as a policy, is the first policy of that id
+module _ {A : Type 0} (f : A → model.Policy) where
+  chosen : (s t : Bool) → s ≡ t → (x : A) (o : Option A) (q : Option model.Policy) → option_map f o ≡ q → option_map f (cond s (Some x) o) ≡ cond t (Some (f x)) q
+  chosen s true e x o q h = ap (λ b. option_map f (cond b (Some x) o)) e
+  chosen s false e x o q h = ap (λ b. option_map f (cond b (Some x) o)) e ∙ h
 
-template_found : (k : PolicyID) (ts : List (PolicyID × Rc Template Global)) → keys_in ts ≡ ids_of (templates_in ts) → option_map (λ y. template_of y.value) (lookup (λ q. bytes_eq (id_text k) (id_text q)) ts) ≡ find (λ p. bytes_eq (id_text k) p.id) (templates_in ts)
-template_found k [] n = refl
-template_found k (e ∷ ts) n =
-    chosen (bytes_eq (id_text k) (id_text e.0)) (bytes_eq (id_text k) (template_of e.1.value).id) (ap (bytes_eq (id_text k)) (heads _ _ (keys_in ts) (ids_of (templates_in ts)) n)) e.1 (lookup (λ q. bytes_eq (id_text k) (id_text q)) ts) (find (λ p. bytes_eq (id_text k) p.id) (templates_in ts))
-    (template_found k ts (tails _ _ (keys_in ts) (ids_of (templates_in ts)) n))
+  first_found : (k : PolicyID) (es : List (PolicyID × A)) → keys_in es ≡ ids_of (map (λ e. f e.1) es) → option_map f (lookup (λ q. bytes_eq (id_text k) (id_text q)) es) ≡ find (λ p. bytes_eq (id_text k) p.id) (map (λ e. f e.1) es)
+  first_found k [] n = refl
+  first_found k (e ∷ es) n =
+      chosen (bytes_eq (id_text k) (id_text e.0)) (bytes_eq (id_text k) (f e.1).id) (ap (bytes_eq (id_text k)) (heads _ _ (keys_in es) (ids_of (map (λ (d : PolicyID × A). f d.1) es)) n)) e.1 (lookup (λ q. bytes_eq (id_text k) (id_text q)) es) (find (λ p. bytes_eq (id_text k) p.id) (map (λ (d : PolicyID × A). f d.1) es))
+      (first_found k es (tails _ _ (keys_in es) (ids_of (map (λ (d : PolicyID × A). f d.1) es)) n))
 
-copied : (r : Option (Bor (Rc Template Global))) → option_map (λ y. template_of y.value) (option_copied r) ≡ option_map (λ y. template_of y.now.value) r
-copied None = refl
-copied (Some a) = refl
+  copied : (r : Option (Bor A)) → option_map f (option_copied r) ≡ option_map (λ y. f y.now) r
+  copied None = refl
+  copied (Some a) = refl
 
-pub found_template : (k : PolicyID) (ts : List (PolicyID × Rc Template Global)) (ls : List (PolicyID × Policy)) (r : Option (Bor (Rc Template Global))) → keys_in ts ≡ ids_of (templates_in ts) → option_copied r ≡ lookup (λ q. bytes_eq (id_text k) (id_text q)) ts → find_template (id_text k) (set_made ts ls) ≡ option_map (λ y. template_of y.now.value) r
-found_template k ts ls r n h = sym (template_found k ts n) ∙ ap (option_map (λ (y : Rc Template Global). template_of y.value)) (sym h) ∙ copied r
+  found : (k : PolicyID) (es : List (PolicyID × A)) (r : Option (Bor A)) → keys_in es ≡ ids_of (map (λ e. f e.1) es) → option_copied r ≡ lookup (λ q. bytes_eq (id_text k) (id_text q)) es → option_map (λ y. f y.now) r ≡ find (λ p. bytes_eq (id_text k) p.id) (map (λ e. f e.1) es)
+  found k es r n h = sym (copied r) ∙ ap (option_map f) h ∙ first_found k es n
+
+pub found_template : (k : PolicyID) (ts : List (PolicyID × Rc Template Global)) (ls : List (PolicyID × Policy)) (r : Option (Bor (Rc Template Global))) → keys_in ts ≡ ids_of (templates_in ts) → option_copied r ≡ lookup (λ q. bytes_eq (id_text k) (id_text q)) ts → option_map (λ y. template_of y.now.value) r ≡ find_template (id_text k) (set_made ts ls)
+found_template k ts ls r n h = found (λ (y : Rc Template Global). template_of y.value) k ts r n h
+
+pub found_policy : (k : PolicyID) (ts : List (PolicyID × Rc Template Global)) (ls : List (PolicyID × Policy)) (r : Option (Bor Policy)) → keys_in ls ≡ ids_of (policies_in ls) → option_copied r ≡ lookup (λ q. bytes_eq (id_text k) (id_text q)) ls → option_map (λ y. policy_of y.now) r ≡ find_policy (id_text k) (set_made ts ls)
+found_policy k ts ls r n h = found policy_of k ls r n h

@@ -1,6 +1,6 @@
 -- What the refusals of a set of policies say.
 -- Rule: policies and templates (docs/RULES.md).
-use Rattle.std.specs.Prelude.{◌≡◌, ◌&&◌, ℕ, List, true, false, Some, is_none, is_some, not}
+use Rattle.std.specs.Prelude.{◌≡◌, ◌&&◌, List, true, false, Some, is_none, is_some, not}
 use Rattle.std.specs.Str.{bytes_eq}
 use Rattle.std.specs.Option.{option_map_or}
 use Rattle.cedar_expr_leaves.specs.Slots.{slot_of}
@@ -9,30 +9,12 @@ use Rattle.cedar_expr_model.specs.Whole.Tree.{principal_slot, resource_slot}
 use Rattle.cedar_expr_model.specs.Whole.Repeats.{repeated}
 use Rattle.cedar_store_model.specs.Whole.Policy.{Policy, SlotBindings, binding_of, has_slot}
 use Rattle.cedar_store_model.specs.Whole.PolicySet as model
-use Rattle.cedar_store_model.specs.Whole.PolicySet.{LinkFault, id_present, slot_not_bound, slot_not_of_template, no_template, is_taken, template_of, has_link_fault}
+use Rattle.cedar_store_model.specs.Whole.PolicySet.{id_present, slot_not_bound, slot_not_of_template, no_template, is_taken, template_of, has_link_fault}
 use Rattle.cedar_store_parts.specs.Parts.{id_text}
-use Rattle.cedar_store_policies.specs.declared.err.PolicySetError.{PolicySetError}
-use Rattle.cedar_store_policies.specs.declared.err.PolicySetError.TheVariants as adding
-use Rattle.cedar_store_policies.specs.declared.err.LinkingError.{LinkingError}
-use Rattle.cedar_store_policies.specs.declared.err.LinkingError.TheVariants as linking
-
--- the numbers of the faults
-abbrev pub link_fault_number : LinkFault → ℕ
-link_fault_number id_present = 1
-link_fault_number slot_not_bound = 2
-link_fault_number slot_not_of_template = 3
-link_fault_number no_template = 4
-
-abbrev pub set_error_number : PolicySetError → ℕ
-set_error_number adding.OutOfMemory = 0
-set_error_number (adding.Occupied id) = link_fault_number id_present
-
-abbrev pub linking_error_number : LinkingError → ℕ
-linking_error_number linking.OutOfMemory = 0
-linking_error_number (linking.PolicyIdConflict id) = link_fault_number id_present
-linking_error_number (linking.UnboundSlot s) = link_fault_number slot_not_bound
-linking_error_number (linking.ExtraSlot s) = link_fault_number slot_not_of_template
-linking_error_number (linking.NoSuchTemplate id) = link_fault_number no_template
+use Rattle.cedar_store_refusals.specs.declared.err.PolicySetError.{PolicySetError}
+use Rattle.cedar_store_refusals.specs.declared.err.PolicySetError.TheVariants as adding
+use Rattle.cedar_store_refusals.specs.declared.err.LinkingError.{LinkingError}
+use Rattle.cedar_store_refusals.specs.declared.err.LinkingError.TheVariants as linking
 
 -- The fault is there where a policy or a template of this id is added. Want of memory says nothing.
 abbrev pub RefusesId : model.PolicySet → Text → PolicySetError → Type 0
@@ -64,8 +46,3 @@ RefusesLink s template id b (linking.PolicyIdConflict i) = (has_link_fault s tem
 RefusesLink s template id b (linking.UnboundSlot x) = (has_link_fault s template id b slot_not_bound ≡ true) × (option_map_or (λ t. has_slot t (slot_of x) && is_none (binding_of b (slot_of x))) (template_of template s) false ≡ true)
 RefusesLink s template id b (linking.ExtraSlot x) = (has_link_fault s template id b slot_not_of_template ≡ true) × (option_map_or (λ t. not (has_slot t (slot_of x)) && is_some (binding_of b (slot_of x))) (template_of template s) false ≡ true)
 RefusesLink s template id b (linking.NoSuchTemplate i) = (has_link_fault s template id b no_template ≡ true) × (id_text i ≡ template)
-
--- an id that is present, where a template is linked under it
-abbrev pub as_linking : PolicySetError → LinkingError
-as_linking adding.OutOfMemory = linking.OutOfMemory
-as_linking (adding.Occupied id) = linking.PolicyIdConflict id

@@ -9,10 +9,10 @@ ghost use Rattle.cedar_store_parts.specs.Parts.{bindings_of};
 ghost use Rattle.cedar_store_policies.specs.Templates.{template_of};
 ghost use Rattle.cedar_store_policies.specs.SetRefusals.{FitsBindings, RefusesBindings};
 
-use crate::err::LinkingError;
 use crate::template::Template;
 use cedar_expr_leaves::{Slot, SlotId};
 use cedar_store_parts::SlotEnv;
+use cedar_store_refusals::LinkingError;
 
 impl Template {
     // Refuses a slot of the template that isn't bound, and a bound slot that isn't the template's.

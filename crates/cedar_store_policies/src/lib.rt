@@ -3,7 +3,6 @@
 
 mod bindings;
 mod entries;
-pub mod err;
 pub mod policy;
 pub mod policy_set;
 pub mod static_policy;
@@ -15,7 +14,7 @@ pub use cedar_store_parts::{
     PrincipalConstraint, PrincipalOrResource, PrincipalOrResourceConstraint, ResourceConstraint,
     SlotEnv,
 };
-pub use err::{LinkingError, PolicySetError, UnexpectedSlotError};
+pub use cedar_store_refusals::{LinkingError, PolicySetError, UnexpectedSlotError};
 pub use policy::Policy;
 pub use policy_set::PolicySet;
 pub use static_policy::StaticPolicy;

@@ -5,11 +5,11 @@ ghost use Rattle.cedar_store_model.specs.Whole.OfLaws.Distinct.{has_distinct_ids
 ghost use Rattle.cedar_store_policies.specs.SetParts.{keys_in, templates_in, policies_in, ids_of, set_made};
 
 use crate::entries::{has_key, put};
-use crate::err::{LinkingError, PolicySetError};
 use crate::policy::Policy;
 use crate::static_policy::StaticPolicy;
 use crate::template::Template;
 use cedar_store_parts::{PolicyID, SlotEnv};
+use cedar_store_refusals::{LinkingError, PolicySetError};
 use indexmap::IndexMap;
 use indexmap::map::Values;
 use std::alloc::Global;
@@ -27,7 +27,7 @@ pub struct PolicySet {
 }
 
 impl PolicySet {
-    ghost use Rattle.std.specs.Prelude.{false, [], Some, IfOk, IfErr, OnOk, OnErr, map};
+    ghost use Rattle.std.specs.Prelude.{false, [], Some, IfOk, IfErr, OnOk, OnErr, map, option_map};
     ghost use Rattle.std.specs.List.{list_any};
     ghost use Rattle.std.specs.Str.{bytes_eq};
     ghost use Rattle.cedar_expr_model.specs.Name.{Text};
@@ -36,7 +36,7 @@ impl PolicySet {
     ghost use Rattle.cedar_store_policies.specs.Templates.{template_of};
     ghost use Rattle.cedar_store_policies.specs.Policies.{static_of, policy_of};
     ghost use Rattle.cedar_store_policies.specs.SetRefusals.{RefusesId, RefusesIds, RefusesLink, FitsBindings};
-    ghost use Rattle.cedar_store_policies.specs.PolicySets.{set_of};
+    ghost use Rattle.cedar_store_policies.specs.PolicySets.{set_of, find_policy};
 
     /// The set without templates and policies.
     pub fn new(alloc: Global) -> PolicySet
@@ -139,6 +139,20 @@ impl PolicySet {
         Ok(id.clone()?)
     }
 
+    /// The policy of this id, if there is one.
+    pub fn get(&self, id: &PolicyID) -> Option<&Policy>
+        ensures { option_map (λ p. policy_of p.now) result ≡ find_policy (id_text id.now) (set_of self.now) }
+    {
+        self.links.get(id)
+    }
+
+    /// The template of this id, if there is one; it is shared.
+    pub fn get_template(&self, id: &PolicyID) -> Option<&Rc<Template>>
+        ensures { option_map (λ t. template_of t.now.value) result ≡ find_template (id_text id.now) (set_of self.now) }
+    {
+        self.templates.get(id)
+    }
+
     // The template of this id, whose slots are those that are bound.
     fn template_to_link(
         &self,
@@ -149,7 +163,7 @@ impl PolicySet {
         ensures fits { IfOk result (λ t. FitsBindings (template_of t.value) (bindings_of values.now)) }
         ensures refused { (new_id : Text) → IfErr result (RefusesLink (set_of self.now) (id_text id.now) new_id (bindings_of values.now)) }
     {
-        match self.templates.get(id) {
+        match self.get_template(id) {
             None => Err(LinkingError::NoSuchTemplate { id: id.clone()? }),
             Some(template) => match template.check_bindings(values) {
                 Err(fault) => Err(fault),

@@ -4,13 +4,13 @@ ghost use Rattle.std.specs.Prelude.{◌≡◌, true};
 ghost use Rattle.cedar_store_model.specs.Whole.PolicySet.{is_static};
 ghost use Rattle.cedar_store_policies.specs.Templates.{template_of};
 
-use crate::err::UnexpectedSlotError;
 use crate::template::Template;
 use cedar_expr_names::Loc;
 use cedar_expr_trees::Expr;
 use cedar_store_parts::{
     ActionConstraint, Annotations, Effect, PolicyID, PrincipalConstraint, ResourceConstraint,
 };
+use cedar_store_refusals::UnexpectedSlotError;
 use std::alloc::Global;
 
 /// A policy in which no slot stands.

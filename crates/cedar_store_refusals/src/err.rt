@@ -20,7 +20,7 @@ pub enum UnexpectedSlotError {
 }
 
 impl From<AllocError> for UnexpectedSlotError {
-    ghost use Rattle.cedar_store_policies.specs.declared.err.UnexpectedSlotError.TheVariants.{OutOfMemory};
+    ghost use Rattle.cedar_store_refusals.specs.declared.err.UnexpectedSlotError.TheVariants.{OutOfMemory};
 
     ghost from_gives = { λ _ e. e ≡ OutOfMemory };
 
@@ -30,7 +30,7 @@ impl From<AllocError> for UnexpectedSlotError {
 }
 
 impl<T: Drop> From<AllocFailed<T>> for UnexpectedSlotError {
-    ghost use Rattle.cedar_store_policies.specs.declared.err.UnexpectedSlotError.TheVariants.{OutOfMemory};
+    ghost use Rattle.cedar_store_refusals.specs.declared.err.UnexpectedSlotError.TheVariants.{OutOfMemory};
 
     ghost from_gives = { λ _ e. e ≡ OutOfMemory };
 
@@ -91,7 +91,7 @@ pub enum LinkingError {
 }
 
 impl PolicySetError {
-    ghost use Rattle.cedar_store_policies.specs.SetRefusals.{set_error_number};
+    ghost use Rattle.cedar_store_refusals.specs.Numbers.{set_error_number};
 
     /// The number of the refusal: 0 for memory.
     pub fn number(&self) -> u32
@@ -105,7 +105,7 @@ impl PolicySetError {
 }
 
 impl LinkingError {
-    ghost use Rattle.cedar_store_policies.specs.SetRefusals.{linking_error_number};
+    ghost use Rattle.cedar_store_refusals.specs.Numbers.{linking_error_number};
 
     /// The number of the refusal: 0 for memory.
     pub fn number(&self) -> u32
@@ -122,7 +122,7 @@ impl LinkingError {
 }
 
 impl From<AllocError> for PolicySetError {
-    ghost use Rattle.cedar_store_policies.specs.declared.err.PolicySetError.TheVariants.{OutOfMemory};
+    ghost use Rattle.cedar_store_refusals.specs.declared.err.PolicySetError.TheVariants.{OutOfMemory};
 
     ghost from_gives = { λ _ e. e ≡ OutOfMemory };
 
@@ -132,7 +132,7 @@ impl From<AllocError> for PolicySetError {
 }
 
 impl<T: Drop> From<AllocFailed<T>> for PolicySetError {
-    ghost use Rattle.cedar_store_policies.specs.declared.err.PolicySetError.TheVariants.{OutOfMemory};
+    ghost use Rattle.cedar_store_refusals.specs.declared.err.PolicySetError.TheVariants.{OutOfMemory};
 
     ghost from_gives = { λ _ e. e ≡ OutOfMemory };
 
@@ -142,7 +142,7 @@ impl<T: Drop> From<AllocFailed<T>> for PolicySetError {
 }
 
 impl From<AllocError> for LinkingError {
-    ghost use Rattle.cedar_store_policies.specs.declared.err.LinkingError.TheVariants.{OutOfMemory};
+    ghost use Rattle.cedar_store_refusals.specs.declared.err.LinkingError.TheVariants.{OutOfMemory};
 
     ghost from_gives = { λ _ e. e ≡ OutOfMemory };
 
@@ -152,7 +152,7 @@ impl From<AllocError> for LinkingError {
 }
 
 impl<T: Drop> From<AllocFailed<T>> for LinkingError {
-    ghost use Rattle.cedar_store_policies.specs.declared.err.LinkingError.TheVariants.{OutOfMemory};
+    ghost use Rattle.cedar_store_refusals.specs.declared.err.LinkingError.TheVariants.{OutOfMemory};
 
     ghost from_gives = { λ _ e. e ≡ OutOfMemory };
 
@@ -162,7 +162,7 @@ impl<T: Drop> From<AllocFailed<T>> for LinkingError {
 }
 
 impl From<PolicySetError> for LinkingError {
-    ghost use Rattle.cedar_store_policies.specs.SetRefusals.{as_linking};
+    ghost use Rattle.cedar_store_refusals.specs.Numbers.{as_linking};
 
     ghost from_gives = { λ x e. e ≡ as_linking x };
 

@@ -1,0 +1,72 @@
+//! Cedar's policies and stores, whole: the items of the crates below, under one name.
+#![tactic(auto)]
+
+/// Annotations of policies.
+pub mod annotation {
+    pub use cedar_store_parts::{Annotation, Annotations};
+}
+
+/// Stores of entities, and what they answer for a uid.
+pub mod entities {
+    pub use cedar_store_entities::{Dereference, Entities};
+
+    /// Why entities make no store.
+    pub mod err {
+        pub use cedar_store_entities::EntitiesError;
+    }
+}
+
+/// Entities.
+pub mod entity {
+    pub use cedar_store_entities::Entity;
+}
+
+/// A plain evaluator of the meaning: what it stands on, and what it refuses.
+pub mod meaning {
+    pub use cedar_store_meaning::{FunctionTable, MeaningFault, World};
+}
+
+/// Policies, templates, and what they are made of.
+pub mod policy {
+    pub use cedar_store_parts::{
+        ActionConstraint, Effect, EntityReference, PolicyID, PrincipalConstraint,
+        PrincipalOrResource, PrincipalOrResourceConstraint, ResourceConstraint, SlotEnv,
+    };
+    pub use cedar_store_policies::{Policy, StaticPolicy, Template};
+    pub use cedar_store_refusals::{LinkingError, UnexpectedSlotError};
+}
+
+/// Sets of policies.
+pub mod policy_set {
+    pub use cedar_store_policies::PolicySet;
+    pub use cedar_store_refusals::PolicySetError;
+}
+
+/// Types of requests.
+pub mod request {
+    pub use cedar_store_records::RequestType;
+}
+
+/// What validation finds, and its modes.
+pub mod validation {
+    pub use cedar_store_records::{
+        ValidationError, ValidationErrorKind, ValidationMode, ValidationWarning,
+    };
+}
+
+pub use annotation::{Annotation, Annotations};
+pub use entities::err::EntitiesError;
+pub use entities::{Dereference, Entities};
+pub use entity::Entity;
+pub use meaning::{FunctionTable, MeaningFault, World};
+pub use policy::{
+    ActionConstraint, Effect, EntityReference, LinkingError, Policy, PolicyID, PrincipalConstraint,
+    PrincipalOrResource, PrincipalOrResourceConstraint, ResourceConstraint, SlotEnv, StaticPolicy,
+    Template, UnexpectedSlotError,
+};
+pub use policy_set::{PolicySet, PolicySetError};
+pub use request::RequestType;
+pub use validation::{ValidationError, ValidationErrorKind, ValidationMode, ValidationWarning};
+
+#[cfg(test)]
+mod tests;

@@ -1,0 +1,34 @@
+//! Stores of entities.
+
+use crate::fault::Fault;
+use crate::parts::user;
+use cedar_expr_names::Literal;
+use cedar_expr_values::Value;
+use cedar_store_entities::{Dereference, Entities, Entity};
+use std::alloc::Global;
+use std::rc::RcStr;
+
+// The user with this number, with an attribute, whose parent is the user with the next number.
+fn member(alloc: Global, number: u32) -> Result<Entity, Fault> {
+    let age = Value::from(Literal::from(i64::from(number)));
+    let attrs = vec![in alloc; (RcStr::from_str(alloc, "age")?, age)]?;
+    let parents = vec![in alloc; user(alloc, number.wrapping_add(1))?]?;
+    let uid = user(alloc, number)?;
+    Ok(Entity::new(alloc, uid, attrs, Vec::new(alloc), parents, Vec::new(alloc))?)
+}
+
+/// How many of so many entities are found in the store that is made of their list.
+pub fn found(alloc: Global, size: u32) -> Result<usize, Fault> {
+    let mut members = Vec::new(alloc);
+    for n in 0..size {
+        members.push(member(alloc, n)?)?;
+    }
+    let store = Entities::from_entities(alloc, members)?;
+    let mut count = 0usize;
+    for n in 0..size {
+        if let Dereference::Data(_) = store.entity(alloc, &user(alloc, n)?)? {
+            count = count.wrapping_add(1);
+        }
+    }
+    Ok(count)
+}
