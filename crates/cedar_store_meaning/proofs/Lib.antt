@@ -5,3 +5,5 @@ pub mod Steps
 pub mod Found
 pub mod Held
 pub mod PathSteps
+pub mod Walked
+pub mod Gathered
