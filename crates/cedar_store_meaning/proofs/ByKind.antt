@@ -29,7 +29,8 @@ use Rattle.cedar_store_worlds_model.specs.Rising.{Rises, WorldRises}
 use Rattle.cedar_store_worlds_model.specs.Alone.{store_alone}
 use Rattle.cedar_store_worlds_model.proofs.Rising.{value_rises}
 use Rattle.cedar_store_meaning.specs.Outcomes.{IsSeen, IsMeaning, IsOutcome, unknowns_of}
-use Rattle.cedar_store_meaning.specs.Worlds.{table_with, world_seen, unanswered, MeaningIn, MeaningsIn, FieldsIn, fields_seen}
+use Rattle.cedar_store_meaning.specs.Worlds.{table_with, world_seen, unanswered}
+use Rattle.cedar_store_meaning.specs.Meanings.{MeaningIn, MeaningsIn, FieldsIn, fields_seen}
 use Rattle.cedar_store_meaning.specs.declared.fault.MeaningFault.{MeaningFault}
 use Rattle.cedar_store_meaning.specs.declared.world.World.{World}
 use Rattle.cedar_store_meaning.proofs.Steps.{stops, goes_on, picks_none, picks_yes, picks_no}

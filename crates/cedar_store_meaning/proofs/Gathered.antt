@@ -30,7 +30,8 @@ use Rattle.cedar_store_model.specs.Whole.World as model
 use Rattle.cedar_store_model.specs.Whole.Meaning.{outcome_of, outcomes_of, field_outcomes_of}
 use Rattle.cedar_store_worlds_model.specs.Rising.{WorldRises}
 use Rattle.cedar_store_meaning.specs.Outcomes.{IsSeen}
-use Rattle.cedar_store_meaning.specs.Worlds.{world_seen, MeaningIn, MeaningsIn, FieldsIn, fields_seen}
+use Rattle.cedar_store_meaning.specs.Worlds.{world_seen}
+use Rattle.cedar_store_meaning.specs.Meanings.{MeaningIn, MeaningsIn, FieldsIn, fields_seen}
 use Rattle.cedar_store_meaning.specs.declared.fault.MeaningFault.{MeaningFault}
 use Rattle.cedar_store_meaning.specs.declared.world.World.{World}
 use Rattle.cedar_store_meaning.proofs.Steps.{tells_on, stops, starts, after, and_then, one_more, ends, onto, fields_start, after_fields, and_fields, one_field_more, fields_end}

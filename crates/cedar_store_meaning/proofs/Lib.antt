@@ -7,3 +7,4 @@ pub mod Held
 pub mod PathSteps
 pub mod Walked
 pub mod Gathered
+pub mod ByKind

@@ -29,7 +29,8 @@ use Rattle.cedar_store_worlds_model.specs.Alone.{store_alone}
 use Rattle.cedar_store_worlds_model.proofs.Alone.{reads_as_alone}
 use Rattle.cedar_store_entities.specs.Stores.{store_seen}
 use Rattle.cedar_store_meaning.specs.Outcomes.{IsSeen, IsMeaning}
-use Rattle.cedar_store_meaning.specs.Worlds.{world_seen, unanswered, InEach, MeaningIn}
+use Rattle.cedar_store_meaning.specs.Worlds.{world_seen, unanswered}
+use Rattle.cedar_store_meaning.specs.Meanings.{InEach, MeaningIn}
 use Rattle.cedar_store_meaning.specs.declared.fault.MeaningFault.{MeaningFault}
 use Rattle.cedar_store_meaning.specs.declared.world.World.{World}
 use Rattle.cedar_store_meaning.proofs.Ordered.{ordered_by_order}

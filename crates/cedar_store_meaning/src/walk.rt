@@ -8,7 +8,7 @@ ghost use Rattle.cedar_expr_model.specs.Whole.Tree.{call as call_tree, set_liter
 ghost use Rattle.cedar_expr_trees.specs.Trees.{tree_of, named, field_trees};
 ghost use Rattle.cedar_expr_values.specs.Extensions.{extension_of};
 ghost use Rattle.cedar_expr_values.specs.Values.{bare_pair};
-ghost use Rattle.cedar_store_meaning.specs.Worlds.{MeaningIn, MeaningsIn, FieldsIn};
+ghost use Rattle.cedar_store_meaning.specs.Meanings.{MeaningIn, MeaningsIn, FieldsIn};
 
 use crate::calls::unknown;
 use crate::combined::combined;

@@ -1,13 +1,14 @@
 //! Examples of what expressions mean, by the plain evaluator.
 
+use crate::parts::{bound, shared, uid, written};
 use cedar_expr_functions::Extensions;
 use cedar_expr_leaves::{Pattern, PatternElem, SlotId, Var};
-use cedar_expr_names::{Eid, EntityType, EntityUID, Literal, Name};
+use cedar_expr_names::{EntityType, EntityUID, Literal, Name};
 use cedar_expr_trees::{Expr, NonEmpty, Unknown};
 use cedar_expr_values::{ExtValue, Value};
 use cedar_store_entities::{Entities, Entity};
 use cedar_store_meaning::{MeaningFault, World, evaluate};
-use cedar_store_parts::SlotEnv;
+use cedar_store_policies::SlotEnv;
 use std::alloc::Global;
 use std::collections::HashMap;
 use std::rc::{Rc, RcStr};
@@ -17,21 +18,12 @@ type V = Value<ExtValue>;
 
 type Rows = Vec<(Expr, Result<Literal, MeaningFault>)>;
 
-fn uid(alloc: Global, kind: &str, id: &str) -> Result<EntityUID, Fail> {
-    let kind = EntityType::from_normalized_str(alloc, kind)?;
-    Ok(EntityUID::from_components(kind, Eid::from_str(alloc, id)?, None))
-}
-
 fn word(alloc: Global, text: &str) -> Result<RcStr, Fail> {
     Ok(RcStr::from_str(alloc, text)?)
 }
 
 fn of_uid(alloc: Global, kind: &str, id: &str) -> Result<Literal, Fail> {
     Ok(Literal::from_entity_uid(alloc, uid(alloc, kind, id)?)?)
-}
-
-fn entity(alloc: Global, kind: &str, id: &str) -> Result<Expr, Fail> {
-    Ok(Expr::val(of_uid(alloc, kind, id)?))
 }
 
 fn long(n: i64) -> Expr {
@@ -115,7 +107,7 @@ fn rows_of_operators(alloc: Global) -> Result<Rows, Fail> {
     rows.push((Expr::less(alloc, long(1), long(2))?, yes()))?;
     let phantom = Expr::is_eq(
         alloc,
-        entity(alloc, "Phantom", "g")?,
+        written(alloc, "Phantom", "g")?,
         Expr::var(Var::Principal),
     )?;
     rows.push((Expr::and(alloc, truth(false), phantom)?, no()))?;
@@ -196,19 +188,22 @@ fn rows_of_tags_and_ancestors(alloc: Global) -> Result<Rows, Fail> {
     let mut rows = Vec::new(alloc);
     let tag = Expr::get_tag(alloc, Expr::var(Var::Principal), text(alloc, "team")?)?;
     rows.push((Expr::is_eq(alloc, tag, text(alloc, "red")?)?, yes()))?;
-    let tag = Expr::has_tag(alloc, entity(alloc, "User", "b")?, text(alloc, "team")?)?;
+    let tag = Expr::has_tag(alloc, written(alloc, "User", "b")?, text(alloc, "team")?)?;
     rows.push((tag, no()))?;
-    let folder = entity(alloc, "Folder", "f")?;
+    let folder = written(alloc, "Folder", "f")?;
     rows.push((Expr::is_in(alloc, Expr::var(Var::Resource), folder)?, yes()))?;
-    let absent = entity(alloc, "User", "b")?;
+    let absent = written(alloc, "User", "b")?;
     rows.push((
-        Expr::is_in(alloc, absent, entity(alloc, "User", "b")?)?,
+        Expr::is_in(alloc, absent, written(alloc, "User", "b")?)?,
         yes(),
     ))?;
-    let both = vec![in alloc; entity(alloc, "User", "b")?, entity(alloc, "Folder", "f")?]?;
+    let both = vec![in alloc;
+        written(alloc, "User", "b")?,
+        written(alloc, "Folder", "f")?,
+    ]?;
     let both = Expr::set(alloc, both)?;
     rows.push((Expr::is_in(alloc, Expr::var(Var::Resource), both)?, yes()))?;
-    let mixed = vec![in alloc; entity(alloc, "Folder", "f")?, long(1)]?;
+    let mixed = vec![in alloc; written(alloc, "Folder", "f")?, long(1)]?;
     let mixed = Expr::set(alloc, mixed)?;
     let asked = Expr::is_in(alloc, Expr::var(Var::Resource), mixed)?;
     rows.push((asked, Err(MeaningFault::WrongType)))?;
@@ -274,59 +269,78 @@ fn all_agree(alloc: Global, world: &World<'_, Extensions<'_>>, rows: Rows) -> Re
     Ok(())
 }
 
-#[test]
-fn expressions_mean_what_is_written(rt: HostRuntime) -> Result<(), Fail> {
-    let alloc = rt.alloc();
-    let principal = Rc::new(alloc, uid(alloc, "User", "a")?)?;
-    let action = Rc::new(alloc, uid(alloc, "Action", "view")?)?;
-    let resource = Rc::new(alloc, uid(alloc, "Doc", "d")?)?;
-    let context: V = Value::empty_record(alloc, None)?;
-    let mut slots = SlotEnv::new();
-    slots.insert(SlotId::principal(), principal.clone()?);
-    let mut unknowns: HashMap<RcStr, V> = HashMap::new(alloc);
+// What is known beside the table.
+#[derive(Drop)]
+struct Known {
+    principal: Rc<EntityUID>,
+    action: Rc<EntityUID>,
+    resource: Rc<EntityUID>,
+    context: V,
+    slots: SlotEnv,
+    unknowns: HashMap<RcStr, V>,
+    entities: Entities,
+}
+
+// The request of this user to view the document `d`, with the empty context, over these entities. The slot of the principal is bound
+// to the user, and the unknown `u` to 5.
+fn known(alloc: Global, user: &str, entities: Entities) -> Result<Known, Fail> {
+    let mut unknowns = HashMap::new(alloc);
     unknowns.insert(word(alloc, "u")?, Value::from(Literal::from(5)))?;
-    let entities = store(alloc)?;
+    Ok(Known {
+        principal: shared(alloc, "User", user)?,
+        action: shared(alloc, "Action", "view")?,
+        resource: shared(alloc, "Doc", "d")?,
+        context: Value::empty_record(alloc, None)?,
+        slots: bound(alloc, Some(user), None)?,
+        unknowns,
+        entities,
+    })
+}
+
+fn world<'a>(known: &'a Known, table: &'a Extensions<'a>) -> World<'a, Extensions<'a>> {
+    World {
+        principal: &known.principal,
+        action: &known.action,
+        resource: &known.resource,
+        context: &known.context,
+        slots: &known.slots,
+        unknowns: &known.unknowns,
+        entities: &known.entities,
+        table,
+    }
+}
+
+#[test]
+fn operators_mean_what_is_written(rt: HostRuntime) -> Result<(), Fail> {
+    let alloc = rt.alloc();
+    let known = known(alloc, "a", store(alloc)?)?;
     let table = Extensions::none(alloc);
-    let world = World {
-        principal: &principal,
-        action: &action,
-        resource: &resource,
-        context: &context,
-        slots: &slots,
-        unknowns: &unknowns,
-        entities: &entities,
-        table: &table,
-    };
+    let world = world(&known, &table);
     all_agree(alloc, &world, rows_of_operators(alloc)?)?;
     all_agree(alloc, &world, rows_of_first_errors(alloc)?)?;
-    all_agree(alloc, &world, rows_of_attributes(alloc)?)?;
-    all_agree(alloc, &world, rows_of_tags_and_ancestors(alloc)?)?;
     all_agree(alloc, &world, rows_of_others(alloc)?)
+}
+
+#[test]
+fn reads_of_the_store_mean_what_is_written(rt: HostRuntime) -> Result<(), Fail> {
+    let alloc = rt.alloc();
+    let known = known(alloc, "a", store(alloc)?)?;
+    let table = Extensions::none(alloc);
+    let world = world(&known, &table);
+    all_agree(alloc, &world, rows_of_attributes(alloc)?)?;
+    all_agree(alloc, &world, rows_of_tags_and_ancestors(alloc)?)
 }
 
 // Of a partial store nothing is known of an entity that isn't there.
 #[test]
 fn what_is_not_loaded_is_not_known(rt: HostRuntime) -> Result<(), Fail> {
     let alloc = rt.alloc();
-    let principal = Rc::new(alloc, uid(alloc, "User", "b")?)?;
-    let context: V = Value::empty_record(alloc, None)?;
-    let slots = SlotEnv::new();
-    let unknowns: HashMap<RcStr, V> = HashMap::new(alloc);
-    let entities = store(alloc)?.partial();
+    let known = known(alloc, "b", store(alloc)?.partial())?;
     let table = Extensions::none(alloc);
-    let world = World {
-        principal: &principal,
-        action: &principal,
-        resource: &principal,
-        context: &context,
-        slots: &slots,
-        unknowns: &unknowns,
-        entities: &entities,
-        table: &table,
-    };
-    let e = attribute(alloc, Expr::var(Var::Principal), "ok")?;
-    assert!(rt; agrees(alloc, &world, &e, Err(MeaningFault::NotKnown)));
-    let e = attribute(alloc, entity(alloc, "User", "z")?, "ok")?;
-    assert!(rt; agrees(alloc, &world, &e, no()));
+    let world = world(&known, &table);
+    let open = attribute(alloc, Expr::var(Var::Principal), "ok")?;
+    let held = attribute(alloc, written(alloc, "User", "z")?, "ok")?;
+    assert!(rt; agrees(alloc, &world, &open, Err(MeaningFault::NotKnown)));
+    assert!(rt; agrees(alloc, &world, &held, no()));
     Ok(())
 }
