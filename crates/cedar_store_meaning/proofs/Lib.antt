@@ -6,5 +6,6 @@ pub mod Found
 pub mod Held
 pub mod PathSteps
 pub mod Walked
+mod Smaller
 pub mod Gathered
 pub mod ByKind

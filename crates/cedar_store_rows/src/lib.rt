@@ -4,8 +4,6 @@
 #[cfg(test)]
 mod entities;
 #[cfg(test)]
-mod meaning;
-#[cfg(test)]
 mod parts;
 #[cfg(test)]
 mod policies;
