@@ -5,3 +5,7 @@ pub mod Steps
 pub mod Found
 pub mod Held
 pub mod PathSteps
+pub mod Walked
+mod Smaller
+pub mod Gathered
+pub mod ByKind

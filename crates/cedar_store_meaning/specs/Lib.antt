@@ -3,3 +3,4 @@ pub mod Ordered
 pub mod StoreParts
 pub mod PathSteps
 pub mod Worlds
+pub mod Meanings

@@ -10,8 +10,10 @@ pub mod operators;
 pub mod paths;
 pub mod reads;
 pub mod table;
+pub mod walk;
 pub mod world;
 
 pub use fault::MeaningFault;
 pub use table::FunctionTable;
+pub use walk::evaluate;
 pub use world::World;
