@@ -21,9 +21,9 @@ pub mod entity {
     pub use cedar_store_entities::Entity;
 }
 
-/// A plain evaluator of the meaning: what it stands on, and what it refuses.
+/// A plain evaluator of the meaning, what it stands on, and what it refuses.
 pub mod meaning {
-    pub use cedar_store_meaning::{FunctionTable, MeaningFault, World};
+    pub use cedar_store_meaning::{FunctionTable, MeaningFault, World, evaluate};
 }
 
 /// Policies, templates, and what they are made of.
@@ -58,7 +58,7 @@ pub use annotation::{Annotation, Annotations};
 pub use entities::err::EntitiesError;
 pub use entities::{Dereference, Entities};
 pub use entity::Entity;
-pub use meaning::{FunctionTable, MeaningFault, World};
+pub use meaning::{FunctionTable, MeaningFault, World, evaluate};
 pub use policy::{
     ActionConstraint, Effect, EntityReference, LinkingError, Policy, PolicyID, PrincipalConstraint,
     PrincipalOrResource, PrincipalOrResourceConstraint, ResourceConstraint, SlotEnv, StaticPolicy,
