@@ -53,7 +53,7 @@ pub mod id {
 
 /// Literals.
 pub mod literal {
-    pub use cedar_expr_names::Literal;
+    pub use cedar_expr_leaves::Literal;
 
     /// Whole numbers.
     pub type Integer = i64;

@@ -2,8 +2,8 @@
 
 use cedar_expr_builders::expr_builder::ExprBuilder as Builds;
 use cedar_expr_builders::*;
-use cedar_expr_leaves::{Pattern, PatternElem, SlotId, Var};
-use cedar_expr_names::{EntityType, Literal, Loc, Name};
+use cedar_expr_leaves::{Literal, Pattern, PatternElem, SlotId, Var};
+use cedar_expr_names::{EntityType, Loc, Name};
 use cedar_expr_trees::{Expr, ExpressionConstructionError, NonEmpty, Unknown};
 use cedar_test_helpers::{both, kept};
 use std::alloc::{AllocError, Global};

@@ -1,6 +1,7 @@
 //! Examples of substitution.
 
-use cedar_expr_names::{Literal, Name};
+use cedar_expr_leaves::Literal;
+use cedar_expr_names::Name;
 use cedar_expr_substitution::*;
 use cedar_expr_trees::{Expr, Unknown};
 use cedar_expr_values::{ExtValue, Type, Value, ValueKind};

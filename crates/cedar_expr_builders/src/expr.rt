@@ -4,13 +4,13 @@ ghost use Rattle.std.specs.Prelude.{◌≡◌, None, map, IfOk, IfErr, OnOk, ref
 ghost use Rattle.std.specs.Rc.{rc_str_bytes};
 ghost use Rattle.std.specs.declared.convert.Infallible.{Infallible};
 ghost use Rattle.cedar_expr_names.specs.Views.{plain_name_of, type_name_of};
-ghost use Rattle.cedar_expr_names.specs.Literals.{literal_of};
+ghost use Rattle.cedar_expr_leaves.specs.Literals.{literal_of};
 ghost use Rattle.cedar_expr_leaves.specs.Patterns.{pattern_of};
 ghost use Rattle.cedar_expr_leaves.specs.Slots.{slot_of};
 ghost use Rattle.cedar_expr_leaves.specs.Variables.{var_of};
 ghost use Rattle.cedar_expr_model.specs.Whole.Builder.{tree_builder, trees, tree_fields, written_truth, conjunction, disjunction, path_test};
 ghost use Rattle.cedar_expr_model.specs.Whole.Tree.{Tree, lit, var, slot, unknown, choice, unary, binary, call, get_attr, has_attr, like, is_type, set_literal, record_literal};
-ghost use Rattle.cedar_expr_trees.specs.Operators.{unary_op_of, binary_op_of};
+ghost use Rattle.cedar_expr_leaves.specs.Operators.{unary_op_of, binary_op_of};
 ghost use Rattle.cedar_expr_trees.specs.Unknowns.{unknown_of};
 ghost use Rattle.cedar_expr_model.specs.Whole.Records.{record_tree};
 ghost use Rattle.cedar_expr_model.specs.Whole.Repeats.{repeated_name};
@@ -22,8 +22,8 @@ ghost use Rattle.cedar_expr_model.proofs.Whole.Agreeing.{trees_are_lawful};
 
 use crate::err::BuildFault;
 use crate::expr_builder;
-use cedar_expr_leaves::{Pattern, SlotId, Var};
-use cedar_expr_names::{EntityType, Literal, Loc, Name};
+use cedar_expr_leaves::{Literal, Pattern, SlotId, Var};
+use cedar_expr_names::{EntityType, Loc, Name};
 use cedar_expr_trees::records::field_map;
 use cedar_expr_trees::sharing::share_two;
 use cedar_expr_trees::{

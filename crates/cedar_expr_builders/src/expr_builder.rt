@@ -3,7 +3,7 @@
 ghost use Rattle.std.specs.Prelude.{◌≡◌, List, Option, Some, None, map, IfOk, IfErr, OnOk};
 ghost use Rattle.std.specs.Rc.{rc_str_bytes};
 ghost use Rattle.cedar_expr_names.specs.Views.{plain_name_of, type_name_of};
-ghost use Rattle.cedar_expr_names.specs.Literals.{literal_of};
+ghost use Rattle.cedar_expr_leaves.specs.Literals.{literal_of};
 ghost use Rattle.cedar_expr_names.specs.declared.loc.Loc.{Loc};
 ghost use Rattle.cedar_expr_leaves.specs.Patterns.{pattern_of};
 ghost use Rattle.cedar_expr_leaves.specs.Slots.{slot_of};
@@ -14,7 +14,7 @@ ghost use Rattle.cedar_expr_model.specs.Whole.BuilderForm.{IsLawful};
 ghost use Rattle.cedar_expr_model.specs.Whole.Records.{in_order};
 ghost use Rattle.cedar_expr_model.specs.Whole.Repeats.{repeated_name};
 ghost use Rattle.cedar_expr_model.specs.Whole.Tree.{negation, minus, is_empty, equal, less, less_or_equal, plus, difference, times, is_in, contains, contains_all, contains_any, get_tag, has_tag};
-ghost use Rattle.cedar_expr_trees.specs.Operators.{unary_op_of, binary_op_of};
+ghost use Rattle.cedar_expr_leaves.specs.Operators.{unary_op_of, binary_op_of};
 ghost use Rattle.cedar_expr_trees.specs.Unknowns.{unknown_of};
 ghost use Rattle.cedar_expr_trees.specs.Trees.{named};
 ghost use Rattle.cedar_expr_trees.specs.Refusals.{RefusesRecord};
@@ -22,8 +22,8 @@ ghost use Rattle.cedar_expr_builders.specs.Refusing.{IsRefusal};
 ghost use Rattle.cedar_expr_builders.specs.Views.{meant};
 
 use crate::err::BuildFault;
-use cedar_expr_leaves::{Pattern, SlotId, Var};
-use cedar_expr_names::{EntityType, Literal, Loc, Name};
+use cedar_expr_leaves::{Literal, Pattern, SlotId, Var};
+use cedar_expr_names::{EntityType, Loc, Name};
 use cedar_expr_trees::records::field_map;
 use cedar_expr_trees::sharing::share_three;
 use cedar_expr_trees::{BinaryOp, ExpressionConstructionError, NonEmpty, UnaryOp, Unknown};

@@ -1,7 +1,7 @@
 //! Examples of building anew.
 
-use cedar_expr_leaves::{Pattern, PatternElem, SlotId, Var};
-use cedar_expr_names::{EntityType, Literal, Loc, Name};
+use cedar_expr_leaves::{Literal, Pattern, PatternElem, SlotId, Var};
+use cedar_expr_names::{EntityType, Loc, Name};
 use cedar_expr_plain_builder::PlainBuilder;
 use cedar_expr_rebuilding::Rebuild;
 use cedar_expr_trees::{Expr, ExprKind, NonEmpty, UnaryOp, Unknown};

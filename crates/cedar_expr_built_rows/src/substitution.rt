@@ -1,6 +1,6 @@
 //! Examples of substitution through a builder.
 
-use cedar_expr_names::Literal;
+use cedar_expr_leaves::Literal;
 use cedar_expr_plain_builder::PlainBuilder;
 use cedar_expr_substitution::Substitute;
 use cedar_expr_trees::{Expr, Unknown};

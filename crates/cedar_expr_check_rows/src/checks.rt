@@ -7,8 +7,8 @@ use cedar_expr_checks::{CheckExpr, ExprValidationError};
 use cedar_expr_functions::{
     CallFault, CallStyle, Extension, ExtensionFunction, ExtensionOutputValue, Extensions, Func,
 };
-use cedar_expr_leaves::{SlotId, Var};
-use cedar_expr_names::{Eid, EntityType, EntityUID, Literal, Name};
+use cedar_expr_leaves::{Literal, SlotId, Var};
+use cedar_expr_names::{Eid, EntityType, EntityUID, Name};
 use cedar_expr_trees::{Expr, NonEmpty, Unknown};
 use cedar_expr_values::{ExtValue, Type, Value};
 use std::alloc::Global;

@@ -9,7 +9,8 @@ ghost use Rattle.cedar_expr_functions.specs.Answers.{answer, is_of_result};
 ghost use Rattle.cedar_expr_functions.specs.declared.err.CallFault.TheVariants.{OutOfMemory};
 
 use cedar_expr_functions::*;
-use cedar_expr_names::{Literal, Name};
+use cedar_expr_leaves::Literal;
+use cedar_expr_names::Name;
 use cedar_expr_values::{ExtValue, Type, Value};
 use std::alloc::Global;
 use std::test::Fail;

@@ -5,7 +5,7 @@ ghost use Rattle.cedar_expr_names.specs.Views.{plain_name_of};
 ghost use Rattle.cedar_expr_model.specs.Name.{name_eq};
 ghost use Rattle.cedar_expr_model.specs.Whole.Evident.{unary_core, binary_core, agreed};
 ghost use Rattle.cedar_expr_values.specs.Types.{core_of};
-ghost use Rattle.cedar_expr_trees.specs.Operators.{unary_op_of, binary_op_of};
+ghost use Rattle.cedar_expr_leaves.specs.Operators.{unary_op_of, binary_op_of};
 ghost use Rattle.cedar_expr_trees.specs.Trees.{tree_of};
 ghost use Rattle.cedar_expr_functions.specs.Tables.{functions_of};
 ghost use Rattle.cedar_expr_checks.specs.Calls.{type_shown, result_of};

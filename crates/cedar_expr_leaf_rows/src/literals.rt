@@ -1,5 +1,6 @@
 //! Examples of literals.
 
+use cedar_expr_leaves::Literal;
 use cedar_expr_names::*;
 use std::alloc::Global;
 use std::cmp::Ordering;

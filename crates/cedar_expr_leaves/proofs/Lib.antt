@@ -1,3 +1,4 @@
 mod Comparing
 mod Walking
 mod Turning
+pub mod Literals

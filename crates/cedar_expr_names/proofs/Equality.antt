@@ -1,11 +1,13 @@
 -- Equality and order of names and uids: those of the names' texts are the model's.
-use Rattle.std.proofs.Common.{◌≡◌, true, ◌&&◌, List, [], ◌∷◌, map, refl, ap, ◌∙◌, Decides}
+use Rattle.std.proofs.Common.{◌≡◌, true, ◌&&◌, List, [], ◌∷◌, map, refl, sym, ap, ◌∙◌, Decides}
 use Rattle.std.specs.List.{list_all}
 use Rattle.std.specs.Str.{bytes_eq}
 use Rattle.std.specs.Rc.{rc_str_bytes}
 use Rattle.std.specs.Ordering.{nat_cmp, ordering_then}
 use Rattle.std.specs.Cmp.Lexicographic.{slice_cmp}
 use Rattle.cedar_expr_model.specs.Order.{name_cmp, uid_cmp}
+use Rattle.cedar_expr_model.specs.Whole.Order.{name_order, uid_order}
+use Rattle.cedar_expr_model.proofs.Whole.WellFormed.{names_by_text, uids_by_text}
 use Rattle.std.proofs.lemmas.Bool.Decides.{same_from_decides}
 use Rattle.std.proofs.lemmas.Slice.Eq.{bytes_eq-Decides}
 use Rattle.cedar_expr_model.specs.Name.{Name, name_text, name_eq, is_identifier, is_well_formed}
@@ -53,3 +55,11 @@ uids_cmp_is u v =
 -- what `cmp` computes of two names
 pub names_cmp_is : (m n : InternalName) → slice_cmp nat_cmp (rc_str_bytes m.text) (rc_str_bytes n.text) ≡ name_cmp (name_of m) (name_of n)
 names_cmp_is m n = ap (λ t. slice_cmp nat_cmp t (rc_str_bytes n.text)) m.written ∙ ap (slice_cmp nat_cmp (name_text (name_of m))) n.written
+
+-- the same by the order in which names that are not well-formed are told apart too
+pub names_order_is : (m n : InternalName) → slice_cmp nat_cmp (rc_str_bytes m.text) (rc_str_bytes n.text) ≡ name_order (name_of m) (name_of n)
+names_order_is m n = names_cmp_is m n ∙ sym (names_by_text (name_of m) (name_of n) (well_formed m) (well_formed n))
+
+pub uids_order_is : (u v : EntityUID) → ordering_then (slice_cmp nat_cmp (rc_str_bytes u.entity_type.0.internal.text) (rc_str_bytes v.entity_type.0.internal.text)) (slice_cmp nat_cmp (eid_text u.eid) (eid_text v.eid)) ≡ uid_order (uid_of u) (uid_of v)
+uids_order_is u v =
+    uids_cmp_is u v ∙ sym (uids_by_text (uid_of u) (uid_of v) (well_formed u.entity_type.0.internal) (well_formed v.entity_type.0.internal))

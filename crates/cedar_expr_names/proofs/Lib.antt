@@ -3,4 +3,3 @@ mod Reserving
 mod Splitting
 mod PartByPart
 mod Writing
-pub mod Literals

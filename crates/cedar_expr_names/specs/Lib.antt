@@ -3,4 +3,3 @@ pub mod Parts
 pub mod Views
 pub mod Namespaces
 pub mod Refusals
-pub mod Literals

@@ -16,8 +16,8 @@ use Rattle.cedar_expr_model.specs.Whole.Lists.{rises}
 use Rattle.cedar_expr_model.specs.Whole.Order.{text_cmp}
 use Rattle.cedar_expr_model.specs.Whole.Records.{in_order, names_rise}
 use Rattle.cedar_expr_model.proofs.Whole.Ordering.{in_order_stays}
-use Rattle.cedar_expr_names.specs.Literals.{literal_of}
-use Rattle.cedar_expr_names.specs.declared.literal.Literal.{Literal}
+use Rattle.cedar_expr_leaves.specs.Literals.{literal_of}
+use Rattle.cedar_expr_leaves.specs.declared.literal.Literal.{Literal}
 use Rattle.cedar_expr_values.specs.Extension.{Extension}
 use Rattle.cedar_expr_values.specs.Fields.{by_text}
 use Rattle.cedar_expr_values.specs.Values.{made, made_kind, mades, made_list, made_fields, made_pair, kind_step, set_step, value_step}

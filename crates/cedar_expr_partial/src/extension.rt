@@ -2,9 +2,10 @@
 
 ghost use Rattle.std.specs.Prelude.{◌≡◌, map};
 ghost use Rattle.cedar_expr_names.specs.Views.{plain_name_of};
-ghost use Rattle.cedar_expr_names.specs.Literals.{literal_of};
+ghost use Rattle.cedar_expr_leaves.specs.Literals.{literal_of};
 
-use cedar_expr_names::{Literal, Name};
+use cedar_expr_leaves::Literal;
+use cedar_expr_names::Name;
 use cedar_expr_values::{ExtValue, ExtensionValue, RepresentableExtensionValue};
 
 /// An extension value that gives the call that makes it.

@@ -12,7 +12,8 @@ ghost use Rattle.cedar_expr_partial.specs.Parts.{part_of, part_place, split_of, 
 use crate::conversions::FromValue;
 use crate::err::{ContainsUnknown, PartialValueToValueError};
 use crate::extension::ExtensionCall;
-use cedar_expr_names::{Literal, Loc};
+use cedar_expr_leaves::Literal;
+use cedar_expr_names::Loc;
 use cedar_expr_trees::{Expr, Unknown};
 use cedar_expr_values::{ExtensionValue, Value};
 use either::{Either, Left, Right};
@@ -97,7 +98,7 @@ impl<X: ExtensionValue> From<Value<X>> for PartialValue<X> {
 }
 
 impl<X: ExtensionValue> From<Literal> for PartialValue<X> {
-    ghost use Rattle.cedar_expr_names.specs.Literals.{literal_of};
+    ghost use Rattle.cedar_expr_leaves.specs.Literals.{literal_of};
     ghost use Rattle.cedar_expr_model.specs.Whole.Made.{made_prim};
 
     ghost from_gives = { λ l p. (part_of X.seen p ≡ known (made_prim (literal_of l))) × (part_place p ≡ None) };

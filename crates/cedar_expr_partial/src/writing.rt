@@ -1,7 +1,7 @@
 //! Values written as expressions.
 
 ghost use Rattle.std.specs.Prelude.{◌≡◌, true, map, IfOk, None};
-ghost use Rattle.cedar_expr_names.specs.Literals.{literal_of};
+ghost use Rattle.cedar_expr_leaves.specs.Literals.{literal_of};
 ghost use Rattle.cedar_expr_model.specs.Whole.Tree.{lit, record_literal};
 ghost use Rattle.cedar_expr_model.specs.Whole.Builder.{trees, tree_fields};
 ghost use Rattle.cedar_expr_model.specs.Whole.Made.{written, writtens};
@@ -11,7 +11,7 @@ ghost use Rattle.cedar_expr_values.specs.Values.{made, made_kind, mades, place_o
 ghost use Rattle.cedar_expr_partial.specs.Parts.{written_pair};
 
 use crate::extension::ExtensionCall;
-use cedar_expr_names::Literal;
+use cedar_expr_leaves::Literal;
 use cedar_expr_trees::Expr;
 use cedar_expr_values::fields::field_map;
 use cedar_expr_values::{Set, Value, ValueKind};

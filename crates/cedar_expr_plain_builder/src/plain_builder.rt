@@ -15,8 +15,8 @@ ghost use Rattle.cedar_expr_builders.specs.declared.err.BuildFault.TheVariants.{
 
 use cedar_expr_builders::expr_builder::ExprBuilder as Builds;
 use cedar_expr_builders::{BuildFault, ExprBuilder};
-use cedar_expr_leaves::{Pattern, SlotId, Var};
-use cedar_expr_names::{EntityType, Literal, Loc, Name};
+use cedar_expr_leaves::{Literal, Pattern, SlotId, Var};
+use cedar_expr_names::{EntityType, Loc, Name};
 use cedar_expr_trees::{BinaryOp, Expr, ExpressionConstructionError, NonEmpty, UnaryOp, Unknown};
 use std::alloc::{AllocError, Global};
 use std::collections::BTreeMap;

@@ -6,14 +6,14 @@ ghost use Rattle.std.specs.Option.{option_cmp};
 ghost use Rattle.std.specs.Cmp.Lexicographic.{slice_cmp};
 ghost use Rattle.std.specs.Rc.{rc_str_bytes};
 ghost use Rattle.cedar_expr_names.specs.Views.{plain_name_of, type_name_of};
-ghost use Rattle.cedar_expr_names.specs.Literals.{literal_of};
+ghost use Rattle.cedar_expr_leaves.specs.Literals.{literal_of};
 ghost use Rattle.cedar_expr_leaves.specs.Patterns.{pattern_of};
 ghost use Rattle.cedar_expr_leaves.specs.Slots.{slot_of};
 ghost use Rattle.cedar_expr_leaves.specs.Variables.{var_of};
 ghost use Rattle.cedar_expr_model.specs.Whole.Order.{text_cmp, name_order, core_cmp};
 ghost use Rattle.cedar_expr_model.specs.Whole.Tree.{lit, var, slot, unknown};
 ghost use Rattle.cedar_expr_model.specs.Whole.Shape.{tree_cmp, pattern_cmp, unary_cmp, binary_cmp};
-ghost use Rattle.cedar_expr_trees.specs.Operators.{unary_op_of, binary_op_of};
+ghost use Rattle.cedar_expr_leaves.specs.Operators.{unary_op_of, binary_op_of};
 ghost use Rattle.cedar_expr_trees.specs.Trees.{kind_tree};
 ghost use Rattle.cedar_expr_trees.specs.Unknowns.{unknown_of};
 

@@ -21,7 +21,7 @@ use Rattle.cedar_expr_trees.specs.declared.expr.Expr.{Expr}
 use Rattle.cedar_expr_trees.specs.declared.expr.ExprKind.{ExprKind, Row_of-Expr, end_of-Expr, more_of-Expr, Lit, Var, Slot, Unknown, If', And', Or', UnaryApp', BinaryApp', ExtensionFunctionApp', GetAttr', HasAttr', ExtHasAttr', Like', Is', Set', Record', Set, Record, ExtensionFunctionApp, items-the_row-Expr, items_hidden-the_row-Expr-0, items_hidden-the_row-Expr-1}
 use Rattle.cedar_expr_trees.specs.declared.expr.ExprKind.TheBlock.{hidden-the_row-Expr-0, hidden-the_row-Expr-1}
 use Rattle.cedar_expr_trees.specs.Trees.{tree_of, kind_tree, row_trees, row_fields, names_of}
-use Rattle.cedar_expr_trees.specs.Operators.{unary_op_of, binary_op_of}
+use Rattle.cedar_expr_leaves.specs.Operators.{unary_op_of, binary_op_of}
 use Rattle.cedar_expr_trees.specs.Positions.{expr_of, below, row_below, positions, slot_at, slot_kind, unknown_at, unknown_kind}
 
 row_below_is : {T : Type 0} (n : _) (row : Row_of-Expr T n) → row_below row ≡ flat_map positions (items-the_row-Expr T n row)

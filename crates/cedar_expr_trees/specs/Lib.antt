@@ -1,4 +1,3 @@
-pub mod Operators
 pub mod Unknowns
 pub mod Trees
 pub mod Refusals

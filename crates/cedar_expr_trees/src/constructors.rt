@@ -3,22 +3,21 @@
 ghost use Rattle.std.specs.Prelude.{◌≡◌, IfOk, None, map};
 ghost use Rattle.std.specs.Rc.{rc_str_bytes};
 ghost use Rattle.cedar_expr_names.specs.Views.{plain_name_of, type_name_of};
-ghost use Rattle.cedar_expr_names.specs.Literals.{literal_of};
+ghost use Rattle.cedar_expr_leaves.specs.Literals.{literal_of};
 ghost use Rattle.cedar_expr_leaves.specs.Patterns.{pattern_of};
 ghost use Rattle.cedar_expr_leaves.specs.Slots.{slot_of};
 ghost use Rattle.cedar_expr_leaves.specs.Variables.{var_of};
 ghost use Rattle.cedar_expr_model.specs.Whole.Builder.{trees, tree_fields, written_truth, conjunction, disjunction, path_test};
 ghost use Rattle.cedar_expr_model.specs.Whole.Tree.{lit, var, slot, unknown, choice, unary, binary, call, get_attr, has_attr, like, is_type, set_literal, record_literal, negation, minus, is_empty, equal, less, less_or_equal, plus, difference, times, is_in, contains, contains_all, contains_any, get_tag, has_tag};
-ghost use Rattle.cedar_expr_trees.specs.Operators.{unary_op_of, binary_op_of};
+ghost use Rattle.cedar_expr_leaves.specs.Operators.{unary_op_of, binary_op_of};
 ghost use Rattle.cedar_expr_trees.specs.Unknowns.{unknown_of};
 ghost use Rattle.cedar_expr_trees.specs.Trees.{tree_of, kind_tree, place_of, named, field_trees};
 
 use crate::expr::{Expr, ExprKind, Unknown};
 use crate::non_empty::NonEmpty;
-use crate::ops::{BinaryOp, UnaryOp};
 use crate::sharing::{share_three, share_two};
-use cedar_expr_leaves::{Pattern, SlotId, Var};
-use cedar_expr_names::{EntityType, Literal, Name};
+use cedar_expr_leaves::{BinaryOp, Literal, Pattern, SlotId, UnaryOp, Var};
+use cedar_expr_names::{EntityType, Name};
 use std::alloc::{AllocError, Global};
 use std::collections::BTreeMap;
 use std::rc::{Rc, RcStr};

@@ -4,9 +4,8 @@ ghost use Rattle.std.specs.Prelude.{◌≡◌};
 
 use crate::copies::{and_of, attribute_of, binary_of, choice_of, is_of, like_of, or_of, test_of};
 use crate::non_empty::NonEmpty;
-use crate::ops::{BinaryOp, UnaryOp};
-use cedar_expr_leaves::{Pattern, SlotId, Var};
-use cedar_expr_names::{EntityType, Literal, Loc, Name, Quoted};
+use cedar_expr_leaves::{BinaryOp, Literal, Pattern, SlotId, UnaryOp, Var};
+use cedar_expr_names::{EntityType, Loc, Name, Quoted};
 use cedar_expr_values::Type;
 use std::alloc::AllocError;
 use std::collections::BTreeMap;
@@ -25,7 +24,6 @@ pub struct Unknown {
 
 /// An expression, with its place and the data that its maker gives it. Expressions are compared by what they are and by their
 /// data; places don't count.
-#[derive(Drop)]
 #[derive_where(Debug, PartialEq, Eq, Hash; T)]
 #[cycle(expr)]
 pub struct Expr<T = ()> {
@@ -33,6 +31,17 @@ pub struct Expr<T = ()> {
     #[derive_where(skip(EqHashOrd))]
     pub(crate) source_loc: Option<Loc>,
     pub(crate) data: T,
+}
+
+// A drop of its own is one step to the proof of a function that may drop an expression; a derived one is a step for each field.
+impl<T: Drop> Drop for Expr<T> {
+    fn drop(self) {
+        let Expr {
+            expr_kind: _,
+            source_loc: _,
+            data: _,
+        } = self;
+    }
 }
 
 /// The kind of an expression, with its parts.
@@ -240,7 +249,9 @@ impl<T: Drop> Expr<T> {
         ensures kind { result ≡ kind_of self }
         ensures tree { kind_tree result ≡ tree_of self }
     {
-        self.expr_kind
+        let (expr_kind, _, data) = self.into_parts();
+        drop(data);
+        expr_kind
     }
 
     /// The data of the expression, without a copy.
@@ -259,7 +270,12 @@ impl<T: Drop> Expr<T> {
         ensures place { result.1 ≡ place_of self }
         ensures data { result.2 ≡ data_of self }
     {
-        (self.expr_kind, self.source_loc, self.data)
+        let Expr {
+            expr_kind,
+            source_loc,
+            data,
+        } = self;
+        (expr_kind, source_loc, data)
     }
 
     /// The same expression at another place, or without one.
@@ -268,7 +284,12 @@ impl<T: Drop> Expr<T> {
         ensures place { place_of result ≡ source_loc }
         ensures data { data_of result ≡ data_of self }
     {
-        Expr { source_loc, ..self }
+        let (expr_kind, _, data) = self.into_parts();
+        Expr {
+            expr_kind,
+            source_loc,
+            data,
+        }
     }
 
     /// Gives the expression other data.

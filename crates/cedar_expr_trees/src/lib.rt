@@ -8,17 +8,15 @@ pub mod err;
 pub mod expr;
 pub mod expr_iterator;
 pub mod non_empty;
-pub mod ops;
 pub mod records;
 pub mod sharing;
 
-pub use cedar_expr_leaves::{Pattern, PatternElem, Slot, SlotId, Var};
+pub use cedar_expr_leaves::{BinaryOp, Literal, Pattern, PatternElem, Slot, SlotId, UnaryOp, Var};
 pub use cedar_expr_values::{
-    Eid, EntityType, EntityUID, Id, InternalName, Literal, Loc, Name, NameError, Quoted,
-    ReservedNameError, Type, is_normalized_ident,
+    Eid, EntityType, EntityUID, Id, InternalName, Loc, Name, NameError, Quoted, ReservedNameError,
+    Type, is_normalized_ident,
 };
 pub use err::{DuplicateKeyError, ExpressionConstructionError};
 pub use expr::{Expr, ExprKind, Unknown};
 pub use expr_iterator::{ExprIterator, Slots, Unknowns};
 pub use non_empty::NonEmpty;
-pub use ops::{BinaryOp, UnaryOp};

@@ -2,8 +2,8 @@
 use Rattle.std.proofs.Common.{◌≡◌, List, [], ◌∷◌, map, refl, ap, ◌∙◌}
 use Rattle.std.specs.List.{AllZip}
 use Rattle.cedar_expr_names.specs.Views.{plain_name_of}
-use Rattle.cedar_expr_names.specs.Literals.{literal_of}
-use Rattle.cedar_expr_names.specs.declared.literal.Literal.{Literal}
+use Rattle.cedar_expr_leaves.specs.Literals.{literal_of}
+use Rattle.cedar_expr_leaves.specs.declared.literal.Literal.{Literal}
 use Rattle.cedar_expr_values.specs.Extension.{Extension}
 use Rattle.cedar_expr_values.specs.Extensions.{with_call}
 use Rattle.cedar_expr_values.specs.declared.extension.RepresentableExtensionValue.{RepresentableExtensionValue}

@@ -11,7 +11,7 @@ use denote.Hole.Carrier
 use Rattle.cedar_expr_model.specs.Whole.Order.{value_cmp, values_cmp, fields_cmp, text_cmp}
 use Rattle.cedar_expr_model.specs.Whole.Made as model
 use Rattle.cedar_expr_model.specs.Whole.Made.{Made, Mades}
-use Rattle.cedar_expr_names.proofs.Literals.{literals_cmp_is}
+use Rattle.cedar_expr_leaves.proofs.Literals.{literals_cmp_is}
 use Rattle.cedar_expr_values.specs.Extension.{Extension, extension_cmp}
 use Rattle.cedar_expr_values.specs.Fields.{by_text}
 use Rattle.cedar_expr_values.specs.Values.{made, made_kind, mades, bare, bare_kind, bares, made_list, made_fields, kind_step, set_step, value_step}

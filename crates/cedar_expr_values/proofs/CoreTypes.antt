@@ -8,7 +8,7 @@ use Rattle.cedar_expr_values.specs.contracts.types.TypePartialEq.TheImpl as equa
 use Rattle.cedar_expr_values.specs.contracts.types.TypeOrd.TheImpl.Laws as laws
 use Rattle.cedar_expr_values.specs.declared.types.Type.{«Type» as CoreKind}
 use Rattle.cedar_expr_values.specs.declared.types.Type.TheVariants.{Bool, Long, String, Set, Record, Entity, Extension}
-use Rattle.cedar_expr_names.proofs.Literals.{names_order_is}
+use Rattle.cedar_expr_names.proofs.Equality.{names_order_is}
 
 -- what `cmp` computes of two core types
 pub types_cmp_is : (a b : CoreKind) → (order.ghosts).cmp a b ≡ core_cmp (core_of a) (core_of b)

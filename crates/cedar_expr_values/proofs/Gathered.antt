@@ -20,9 +20,9 @@ use Rattle.cedar_expr_model.specs.Whole.Made as model
 use Rattle.cedar_expr_model.specs.Whole.Made.{Made}
 use Rattle.cedar_expr_names.specs.Views.{eid_text, uid_of}
 use Rattle.cedar_expr_names.specs.declared.entity.EntityUID.{EntityUID}
-use Rattle.cedar_expr_names.specs.declared.literal.Literal.{Literal}
-use Rattle.cedar_expr_names.specs.Literals.{literal_of}
-use Rattle.cedar_expr_names.proofs.Literals.{uids_order_is}
+use Rattle.cedar_expr_leaves.specs.declared.literal.Literal.{Literal}
+use Rattle.cedar_expr_leaves.specs.Literals.{literal_of}
+use Rattle.cedar_expr_names.proofs.Equality.{uids_order_is}
 use Rattle.cedar_expr_model.proofs.Whole.Linear.{uid_exact}
 use Rattle.cedar_expr_values.specs.Extension.{Extension}
 use Rattle.cedar_expr_values.specs.Values.{made, bare, bare_kind, made_list, made_fields, made_pair}

@@ -9,9 +9,9 @@ use Rattle.cedar_expr_model.specs.Whole.Made as model
 use Rattle.cedar_expr_model.specs.Whole.Made.{Made, made_prim, made_set, Mades}
 use Rattle.cedar_expr_values.specs.Extension.{Extension}
 use Rattle.cedar_expr_values.specs.Values.{made, made_kind, mades, bare, bare_kind, bares, made_list, kind_step, set_step, value_step}
-use Rattle.cedar_expr_names.specs.Literals.{literal_of}
-use Rattle.cedar_expr_names.specs.declared.literal.Literal.{Literal}
-use Rattle.cedar_expr_names.specs.contracts.literal.LiteralOrd.TheImpl as literal_order
+use Rattle.cedar_expr_leaves.specs.Literals.{literal_of}
+use Rattle.cedar_expr_leaves.specs.declared.literal.Literal.{Literal}
+use Rattle.cedar_expr_leaves.specs.contracts.literal.LiteralOrd.TheImpl as literal_order
 use Rattle.cedar_expr_values.specs.declared.value.Value.{Value, fold_out-Value}
 use Rattle.cedar_expr_values.specs.declared.value.ValueKind.{ValueKind-F, Lit, Set as SetKind, fold-roll-ValueKind}
 use Rattle.cedar_expr_values.specs.declared.value.ValueKind.TheVariants.{rolls-Lit, rolls-Set}

@@ -13,8 +13,8 @@ use Rattle.cedar_expr_model.specs.Whole.Made.{Made, made_prim, Mades}
 use Rattle.cedar_expr_model.proofs.Whole.ValueOrder.{value_exact}
 use Rattle.cedar_expr_model.proofs.Whole.Rising.{is_below, rising_parts, less_is, below_next}
 use Rattle.cedar_expr_model.proofs.Whole.Sets.{made_canonical}
-use Rattle.cedar_expr_names.specs.declared.literal.Literal.{Literal}
-use Rattle.cedar_expr_names.specs.Literals.{literal_of}
+use Rattle.cedar_expr_leaves.specs.declared.literal.Literal.{Literal}
+use Rattle.cedar_expr_leaves.specs.Literals.{literal_of}
 use Rattle.cedar_expr_values.specs.Extension.{Extension}
 use Rattle.cedar_expr_values.specs.Rising.{placed, in_rising, is_among, all_among, none_among}
 use Rattle.cedar_expr_values.specs.Values.{made, bare, mades, bares, made_list, made_cmp, members_as_made, all_canonical}

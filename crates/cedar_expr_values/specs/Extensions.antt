@@ -2,7 +2,7 @@
 -- Rule: extension functions (docs/RULES.md).
 use Rattle.std.specs.Prelude.{map}
 use Rattle.cedar_expr_names.specs.Views.{plain_name_of}
-use Rattle.cedar_expr_names.specs.Literals.{literal_of}
+use Rattle.cedar_expr_leaves.specs.Literals.{literal_of}
 use Rattle.cedar_expr_values.specs.declared.extension.ExtValue.{ExtValue}
 use Rattle.cedar_expr_values.specs.declared.extension.RepresentableExtensionValue.{RepresentableExtensionValue}
 use Rattle.cedar_expr_values.specs.Extension.{Extension}

@@ -13,7 +13,7 @@ use Rattle.cedar_expr_model.specs.Whole.Order.{value_cmp}
 use Rattle.cedar_expr_model.specs.Whole.Canonical.{is_canonical}
 use Rattle.cedar_expr_model.specs.Whole.Records.{in_order}
 use Rattle.std.specs.declared.cmp.Ordering.{Ordering}
-use Rattle.cedar_expr_names.specs.Literals.{literal_of}
+use Rattle.cedar_expr_leaves.specs.Literals.{literal_of}
 use Rattle.cedar_expr_names.specs.declared.loc.Loc.{Loc}
 use Rattle.cedar_expr_values.specs.Extension.{Extension, made_of_extension}
 use Rattle.cedar_expr_values.specs.Rising.{in_rising}

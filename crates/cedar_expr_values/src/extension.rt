@@ -4,12 +4,13 @@ ghost use Rattle.std.specs.Prelude.{◌≡◌, IfOk, map};
 ghost use Rattle.std.specs.Ordering.{is_eq};
 ghost use Rattle.cedar_expr_model.specs.Whole.Tree.{extension_core};
 ghost use Rattle.cedar_expr_names.specs.Views.{plain_name_of};
-ghost use Rattle.cedar_expr_names.specs.Literals.{literal_of};
+ghost use Rattle.cedar_expr_leaves.specs.Literals.{literal_of};
 ghost use Rattle.cedar_expr_values.specs.Extension.{Extension, extension_cmp};
 ghost use Rattle.cedar_expr_values.specs.Extensions.{extension_of};
 
 use crate::types::{StaticallyTyped, Type};
-use cedar_expr_names::{Literal, Name};
+use cedar_expr_leaves::Literal;
+use cedar_expr_names::Name;
 use std::alloc::AllocError;
 use std::cmp::Ordering;
 use std::rc::Rc;
@@ -101,7 +102,7 @@ impl ExtensionValue for ExtValue {
     ghost use Rattle.std.proofs.Common.{ap};
     ghost use Rattle.cedar_expr_model.specs.Whole.Order.{text_cmp};
     ghost use Rattle.cedar_expr_values.specs.Extensions.{extension_of};
-    ghost use Rattle.cedar_expr_names.proofs.Literals.{names_order_is};
+    ghost use Rattle.cedar_expr_names.proofs.Equality.{names_order_is};
 
     ghost seen = { extension_of };
 

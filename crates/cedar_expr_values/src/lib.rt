@@ -8,9 +8,10 @@ mod rising;
 pub mod types;
 pub mod value;
 
+pub use cedar_expr_leaves::Literal;
 pub use cedar_expr_names::{
-    Eid, EntityType, EntityUID, Id, InternalName, Literal, Loc, Name, NameError, Quoted,
-    ReservedNameError, is_normalized_ident,
+    Eid, EntityType, EntityUID, Id, InternalName, Loc, Name, NameError, Quoted, ReservedNameError,
+    is_normalized_ident,
 };
 pub use extension::{
     ExtValue, ExtensionValue, InternalExtensionValue, RepresentableExtensionValue,

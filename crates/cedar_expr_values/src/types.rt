@@ -7,10 +7,11 @@ ghost use Rattle.cedar_expr_model.specs.Whole.Substitution.{core_type_of};
 ghost use Rattle.cedar_expr_model.specs.Whole.Order.{core_cmp, core_eq};
 ghost use Rattle.cedar_expr_model.specs.Whole.Texts.{core_text};
 ghost use Rattle.cedar_expr_names.specs.Views.{plain_name_of};
-ghost use Rattle.cedar_expr_names.specs.Literals.{literal_of};
+ghost use Rattle.cedar_expr_leaves.specs.Literals.{literal_of};
 ghost use Rattle.cedar_expr_values.specs.Types.{core_of};
 
-use cedar_expr_names::{EntityType, Literal, Name};
+use cedar_expr_leaves::Literal;
+use cedar_expr_names::{EntityType, Name};
 use std::alloc::AllocError;
 use std::cmp::Ordering;
 use std::fmt;

@@ -4,14 +4,15 @@ mod uids;
 
 ghost use Rattle.std.specs.Prelude.{◌≡◌, map, IfOk};
 ghost use Rattle.cedar_expr_model.specs.Whole.Made.{made_prim};
-ghost use Rattle.cedar_expr_names.specs.Literals.{literal_of};
+ghost use Rattle.cedar_expr_leaves.specs.Literals.{literal_of};
 ghost use Rattle.cedar_expr_values.specs.Values.{made};
 
 use crate::extension::ExtensionValue;
 use crate::fields::field_map;
 use crate::rising::{all_among, in_rising, is_among, none_among};
 use crate::types::{StaticallyTyped, Type};
-use cedar_expr_names::{Literal, Loc};
+use cedar_expr_leaves::Literal;
+use cedar_expr_names::Loc;
 use std::alloc::{AllocError, Global};
 use std::cmp::Ordering;
 use std::collections::BTreeMap;
@@ -19,13 +20,19 @@ use std::rc::{Rc, RcStr};
 use std::slice::Iter;
 
 /// A value with its place. Values are compared by what they are; places don't count.
-#[derive(Drop)]
 #[derive_where(PartialEq, Eq, PartialOrd, Ord, Hash; X)]
 #[cycle(value)]
 pub struct Value<X> {
     kind: ValueKind<X>,
     #[derive_where(skip(EqHashOrd))]
     loc: Option<Loc>,
+}
+
+// A drop of its own is one step to the proof of a function that may drop a value; a derived one is a step for each field.
+impl<X: Drop> Drop for Value<X> {
+    fn drop(self) {
+        let Value { kind: _, loc: _ } = self;
+    }
 }
 
 /// What a value is.
@@ -57,7 +64,7 @@ impl<X: ExtensionValue> Set<X> {
     ghost use Rattle.cedar_expr_model.specs.Whole.Value.{prim, set_of, values_list};
     ghost use Rattle.cedar_expr_model.specs.Whole.Canonical.{is_canonical, are_rising, members_made, is_member, is_subset, is_disjoint};
     ghost use Rattle.cedar_expr_model.specs.Whole.Made.{no_mades};
-    ghost use Rattle.cedar_expr_names.specs.Literals.{literal_of};
+    ghost use Rattle.cedar_expr_leaves.specs.Literals.{literal_of};
     ghost use Rattle.cedar_expr_values.specs.Values.{made, made_list, mades, bare, bares, all_canonical, members_as_made, members_of};
 
     /// The empty set. Answers want of memory.
@@ -169,7 +176,7 @@ impl<X: ExtensionValue> ValueKind<X> {
     ghost use Rattle.cedar_expr_model.specs.Whole.Canonical.{is_canonical, set_made};
     ghost use Rattle.cedar_expr_model.specs.Whole.Records.{record_made};
     ghost use Rattle.cedar_expr_model.specs.Whole.Made.{made_prim, made_set, made_record, no_mades, no_made_fields};
-    ghost use Rattle.cedar_expr_names.specs.Literals.{literal_of};
+    ghost use Rattle.cedar_expr_leaves.specs.Literals.{literal_of};
     ghost use Rattle.cedar_expr_values.specs.Values.{made, made_kind, made_fields, made_pair, bare, bare_kind, bare_pair, all_canonical, values_of, members_as_made, record_as_made};
 
     /// The empty set. Answers want of memory.
@@ -236,7 +243,7 @@ impl<X: ExtensionValue> Value<X> {
     ghost use Rattle.cedar_expr_model.specs.Whole.Canonical.{is_canonical, set_made};
     ghost use Rattle.cedar_expr_model.specs.Whole.Records.{record_made};
     ghost use Rattle.cedar_expr_model.specs.Whole.Made.{made_prim, made_set, made_record, no_mades, no_made_fields};
-    ghost use Rattle.cedar_expr_names.specs.Literals.{literal_of};
+    ghost use Rattle.cedar_expr_leaves.specs.Literals.{literal_of};
     ghost use Rattle.cedar_expr_values.specs.Values.{made, made_kind, made_fields, made_pair, bare, bare_pair, all_canonical, values_of, members_as_made, record_as_made, place_of, kind_of};
 
     /// The empty set, at a place. Answers want of memory.
@@ -324,7 +331,8 @@ impl<X: ExtensionValue> Value<X> {
         ensures value { made X.seen result ≡ made X.seen self }
         ensures place { place_of result ≡ loc }
     {
-        Value::new(self.kind, loc)
+        let Value { kind, loc: _ } = self;
+        Value::new(kind, loc)
     }
 
     /// What the value is.
@@ -367,7 +375,7 @@ impl<X: ExtensionValue> Value<X> {
 impl<X: ExtensionValue> From<Literal> for ValueKind<X> {
     ghost use Rattle.std.specs.Prelude.{◌≡◌};
     ghost use Rattle.cedar_expr_model.specs.Whole.Made.{made_prim};
-    ghost use Rattle.cedar_expr_names.specs.Literals.{literal_of};
+    ghost use Rattle.cedar_expr_leaves.specs.Literals.{literal_of};
     ghost use Rattle.cedar_expr_values.specs.Values.{made_kind};
 
     ghost from_gives = { λ l k. made_kind X.seen k ≡ made_prim (literal_of l) };
@@ -380,7 +388,7 @@ impl<X: ExtensionValue> From<Literal> for ValueKind<X> {
 impl<X: ExtensionValue> From<Literal> for Value<X> {
     ghost use Rattle.std.specs.Prelude.{◌≡◌, None};
     ghost use Rattle.cedar_expr_model.specs.Whole.Made.{made_prim};
-    ghost use Rattle.cedar_expr_names.specs.Literals.{literal_of};
+    ghost use Rattle.cedar_expr_leaves.specs.Literals.{literal_of};
     ghost use Rattle.cedar_expr_values.specs.Values.{made, place_of};
 
     ghost from_gives = { λ l v. (made X.seen v ≡ made_prim (literal_of l)) × (place_of v ≡ None) };

@@ -8,9 +8,9 @@ use Rattle.cedar_store_model.specs.Policy as model
 use Rattle.cedar_store_model.specs.Answer.{permits, satisfied, is_true, PolicyError, error_of}
 use Rattle.cedar_expr_trees.specs.declared.expr.Expr.{Expr}
 use Rattle.cedar_gate_types.specs.Trees.{small_tree_of}
-use Rattle.cedar_gate_types.specs.declared.policy.Policy.{Policy}
-use Rattle.cedar_gate_types.specs.declared.policy.Effect.{Effect}
-use Rattle.cedar_gate_types.specs.declared.policy.Effect.TheVariants.{Permit, Forbid}
+use Rattle.cedar_store_policies.specs.declared.policy.Policy.{Policy}
+use Rattle.cedar_store_parts.specs.declared.policy_id.Effect.{Effect}
+use Rattle.cedar_store_parts.specs.declared.policy_id.Effect.TheVariants.{Permit, Forbid}
 use Rattle.cedar_gate_types.specs.Policies.{policy_of, policies_of}
 
 -- whether an effect is this one

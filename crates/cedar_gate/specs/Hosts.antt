@@ -4,7 +4,7 @@ use Rattle.cedar_expr_names.specs.Views.{uid_of}
 use Rattle.cedar_expr_model.specs.Uid.{Uid, uid_eq}
 use Rattle.std.specs.List.{list_any}
 use Rattle.cedar_expr_names.specs.declared.entity.EntityUID.{EntityUID}
-use Rattle.cedar_gate_types.specs.declared.entities.Entity.{Entity}
+use Rattle.cedar_store_entities.specs.declared.entity.Entity.{Entity}
 use Rattle.cedar_gate_types.specs.Requests.{entity_uid}
 use Rattle.cedar_gate.specs.declared.host.HostFault.{HostFault}
 use Rattle.cedar_gate.specs.declared.host.HostFault.TheVariants.{Memory, Device}

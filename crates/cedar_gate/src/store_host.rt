@@ -49,13 +49,14 @@ fn holds_uid(entities: &[Entity], uid: &EntityUID) -> bool
 
 // What the entities answer to a uid.
 fn answer_one(
+    alloc: Global,
     entities: &[Entity],
     uid: &EntityUID,
 ) -> Result<(EntityUID, Option<Entity>), AllocError>
     ensures { IfOk result (λ a. answered_of a ≡ answer_from (held_in (entity_uids entities.now)) (uid_of uid.now)) }
 {
     let answer = if holds_uid(entities, uid) {
-        Some(Entity::with_uid(uid.clone()?))
+        Some(Entity::with_uid(alloc, uid.clone()?))
     } else {
         None
     };
@@ -72,7 +73,7 @@ fn answer_all(
 {
     let mut answers = Vec::new(alloc);
     for uid in uids {
-        answers.push(answer_one(entities, uid)?)?;
+        answers.push(answer_one(alloc, entities, uid)?)?;
     }
     Ok(answers)
 }

@@ -15,7 +15,7 @@ use Rattle.std.proofs.lemmas.Bool.{eqb-true}
 use Rattle.std.specs.List.{list_all}
 use Rattle.cedar_gate_types.specs.Schemas.{is_first_path, declarations_of}
 use Rattle.cedar_gate_types.specs.Language.{is_first_path_policy, lies_in_language}
-use Rattle.cedar_gate_types.specs.declared.policy.Policy.{Policy}
+use Rattle.cedar_store_policies.specs.declared.policy.Policy.{Policy}
 use Rattle.cedar_gate_types.specs.declared.json_schema.Fragment.{Fragment}
 use Rattle.cedar_gate_schema.proofs.PlainDeclarations.{declares_plain}
 use Rattle.cedar_gate_schema.specs.declared.err.SchemaError.TheVariants as error

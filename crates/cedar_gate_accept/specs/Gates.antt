@@ -5,7 +5,7 @@ use Rattle.cedar_gate_types.specs.Limit.{levels_of}
 use Rattle.cedar_gate_types.specs.Schemas.{declarations_of}
 use Rattle.cedar_gate_types.specs.declared.json_schema.Fragment.{Fragment}
 use Rattle.cedar_gate_types.specs.Policies.{policies_of}
-use Rattle.cedar_gate_types.specs.declared.policy.Policy.{Policy}
+use Rattle.cedar_store_policies.specs.declared.policy.Policy.{Policy}
 use Rattle.cedar_gate_types.specs.declared.nest_limit.NestLimit.{NestLimit}
 use Rattle.cedar_gate_schema.specs.declared.schema.ValidatorSchema.{ValidatorSchema}
 use Rattle.cedar_gate_schema.specs.Schema.{schema_of}

@@ -1,11 +1,13 @@
 //! The ids and the conditions of policies.
 
-ghost use Rattle.std.specs.Prelude.{◌≡◌, IfOk, map};
+ghost use Rattle.std.specs.Prelude.{◌≡◌, IfOk, map, true};
+ghost use Rattle.std.specs.List.{list_all};
 ghost use Rattle.std.specs.Str.{bytes_eq};
 ghost use Rattle.cedar_gate_types.specs.Trees.{small_tree_of};
 ghost use Rattle.cedar_store_model.specs.Policy.{condition};
 ghost use Rattle.cedar_store_model.specs.Answer.{ids};
 ghost use Rattle.cedar_schema_model.specs.Declarations as declared_model;
+ghost use Rattle.cedar_gate_types.specs.Language.{is_first_path_policy};
 ghost use Rattle.cedar_gate_types.specs.Policies.{policies_of, policy_of};
 
 use cedar_gate_exprs::Expr;
@@ -33,13 +35,24 @@ pub(crate) fn ids_are_distinct(alloc: Global, policies: &[Policy]) -> Result<boo
     Ok(distinct)
 }
 
-/// The policies' conditions. Fails only for want of memory.
+// The policy's condition. Fails only for want of memory.
+#[tactic(auto, using(cedar_gate_types::proofs::Conditions::condition_on_first_path))]
+fn condition_of(policy: &Policy) -> Result<Expr, AllocError>
+    requires { is_first_path_policy policy.now ≡ true }
+    ensures { IfOk result (λ e. small_tree_of e ≡ condition (policy_of policy.now)) }
+{
+    let condition = policy.condition().clone()?;
+    Ok(condition)
+}
+
+/// The policies' conditions, which share their parts with the policies. Fails only for want of memory.
 pub(crate) fn conditions_of(alloc: Global, policies: &[Policy]) -> Result<Vec<Expr>, AllocError>
+    requires { list_all is_first_path_policy policies.now ≡ true }
     ensures { IfOk result (λ v. map small_tree_of v.items ≡ map (λ p. condition (policy_of p)) policies.now) }
 {
     let mut conditions = Vec::new(alloc);
     for policy in policies {
-        conditions.push(policy.condition(alloc)?)?;
+        conditions.push(condition_of(policy)?)?;
     }
     Ok(conditions)
 }

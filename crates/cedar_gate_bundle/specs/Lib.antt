@@ -2,3 +2,4 @@ pub mod Faults
 pub mod Joints
 pub mod Namespaces
 pub mod Bundles
+pub mod Made

@@ -6,14 +6,16 @@ ghost use Rattle.cedar_expr_model.specs.Value.{truth};
 ghost use Rattle.cedar_expr_model.specs.Tree.{lit};
 ghost use Rattle.cedar_store_model.specs.Policy as model;
 ghost use Rattle.cedar_store_model.specs.Policy.{any};
-ghost use Rattle.cedar_gate_types.specs.Policies.{policy_of, effect_of, scope_of, action_scope_of, body_tree};
-ghost use Rattle.cedar_gate_types.specs.Language.{is_first_path_policy};
+ghost use Rattle.cedar_store_parts.specs.Parts.{id_text, scope_of, action_scope_of};
+ghost use Rattle.cedar_gate_types.specs.Policies.{is_first_path_scope, is_first_path_action, whole_policy_of, policy_of, effect_seen, scope_seen, action_scope_seen, body_seen};
+ghost use Rattle.cedar_gate_types.specs.Language.{is_plain_policy, is_first_path_policy};
 ghost use Rattle.cedar_expr_model.specs.Whole.FirstPath.{lies_on_first_path};
 ghost use Rattle.cedar_expr_trees.specs.Trees.{tree_of};
 ghost use Rattle.cedar_store_model.specs.Whole.Policy as whole;
 ghost use Rattle.cedar_gate_model.specs.Reading.{if_there};
 ghost use Rattle.cedar_gate_model.specs.ReadingExpression.{expression_read};
 ghost use Rattle.cedar_gate_model.specs.ReadingBundle.{effect_read, scope_uid_read, scope_read, policy_read, is_policy};
+ghost use Rattle.cedar_gate_bundle.specs.Made.{policy_made};
 ghost use Rattle.cedar_gate_bundle.specs.declared.fault.ReadFault.TheVariants.{Unreadable};
 
 use crate::expressions::read_expression;
@@ -23,11 +25,11 @@ use crate::names::{read_uid, text};
 use crate::objects::{has_only, may_be_empty_object, required};
 use cedar_gate_exprs::{EntityUID, Expr};
 use cedar_gate_types::{
-    ActionConstraint, Effect, EntityReference, Policy, PolicyID, PrincipalConstraint,
-    PrincipalOrResourceConstraint, ResourceConstraint,
+    ActionConstraint, Annotations, Effect, EntityReference, Policy, PolicyID, PrincipalConstraint,
+    PrincipalOrResourceConstraint, ResourceConstraint, StaticPolicy, UnexpectedSlotError,
 };
 use serde_json::Value;
-use std::alloc::Global;
+use std::alloc::{AllocError, Global};
 use std::rc::Rc;
 
 impl Readable for Policy {
@@ -49,18 +51,52 @@ impl Readable for Policy {
         let action = read_action_scope(alloc, value.get("action"))?;
         let resource = read_scope(alloc, value.get("resource"))?;
         let body = read_body(alloc, value.get("when"))?;
-        Ok(Policy::new(
-            id,
-            effect,
-            PrincipalConstraint {
-                constraint: principal,
-            },
-            action,
-            ResourceConstraint {
-                constraint: resource,
-            },
-            body,
-        ))
+        let principal = PrincipalConstraint {
+            constraint: principal,
+        };
+        let resource = ResourceConstraint {
+            constraint: resource,
+        };
+        Ok(made(alloc, id, effect, principal, action, resource, body)?)
+    }
+}
+
+// The policy of these parts, which are of today's language. Answers want of memory.
+fn made(
+    alloc: Global,
+    id: PolicyID,
+    effect: Effect,
+    principal: PrincipalConstraint,
+    action: ActionConstraint,
+    resource: ResourceConstraint,
+    body: Option<Expr>,
+) -> Result<Policy, AllocError>
+    requires { is_plain_policy (policy_made id effect principal action resource (option_map tree_of body)) ≡ true }
+    ensures fits { IfOk result (λ p. is_first_path_policy p ≡ true) }
+    ensures first_path { IfOk result (λ p. policy_of p ≡ record {
+      id = id_text id;
+      effect = effect_seen effect;
+      principal = scope_seen principal.constraint;
+      action = action_scope_seen action;
+      resource = scope_seen resource.constraint;
+      body = body_seen body;
+    }) }
+{
+    let annotations = Annotations::new(alloc);
+    match StaticPolicy::new(
+        alloc,
+        id,
+        None,
+        annotations,
+        effect,
+        principal,
+        action,
+        resource,
+        body,
+    ) {
+        Ok(policy) => Policy::from_static_policy(alloc, policy),
+        Err(UnexpectedSlotError::OutOfMemory) => Err(AllocError),
+        Err(UnexpectedSlotError::FoundSlot(_)) => unreachable!(),
     }
 }
 
@@ -82,7 +118,7 @@ fn is_policy(value: &Value) -> bool
 
 // Reads an effect.
 fn read_effect(value: &Value) -> Result<Effect, ReadFault>
-    ensures ok { IfOk result (λ e. effect_read (view value.now) ≡ Some (effect_of e)) }
+    ensures ok { IfOk result (λ e. effect_read (view value.now) ≡ Some (effect_seen e)) }
     ensures unreadable { IfErr result (λ f. (f ≡ Unreadable) × (effect_read (view value.now) ≡ None)) }
 {
     match text(value)? {
@@ -110,7 +146,8 @@ fn read_scope(
     value: Option<&Value>,
 ) -> Result<PrincipalOrResourceConstraint, ReadFault>
     ensures ok { IfOk result (λ s. if_there scope_read any (option_map (λ v. view v.now) value.entry)
-        ≡ Some (scope_of s)) }
+        ≡ Some (scope_seen s)) }
+    ensures plain { IfOk result (λ s. is_first_path_scope (scope_of s) ≡ true) }
     ensures unreadable { IfErr result (λ f. f ≡ Unreadable
         → if_there scope_read any (option_map (λ v. view v.now) value.entry) ≡ None) }
 {
@@ -126,7 +163,8 @@ fn read_scope(
 // Reads what a scope asks of the action: nothing, where that lacks.
 fn read_action_scope(alloc: Global, value: Option<&Value>) -> Result<ActionConstraint, ReadFault>
     ensures ok { IfOk result (λ s. if_there scope_read any (option_map (λ v. view v.now) value.entry)
-        ≡ Some (action_scope_of s)) }
+        ≡ Some (action_scope_seen s)) }
+    ensures plain { IfOk result (λ s. is_first_path_action (action_scope_of s) ≡ true) }
     ensures unreadable { IfErr result (λ f. f ≡ Unreadable
         → if_there scope_read any (option_map (λ v. view v.now) value.entry) ≡ None) }
 {
@@ -139,7 +177,7 @@ fn read_action_scope(alloc: Global, value: Option<&Value>) -> Result<ActionConst
 // Reads a body, if there is one.
 fn read_body(alloc: Global, value: Option<&Value>) -> Result<Option<Expr>, ReadFault>
     ensures ok { IfOk result (λ b. if_there expression_read (lit (truth true)) (option_map (λ v. view v.now) value.entry)
-        ≡ Some (body_tree b)) }
+        ≡ Some (body_seen b)) }
     ensures first_path { IfOk result (λ b. lies_on_first_path (whole.body_tree (option_map tree_of b)) ≡ true) }
     ensures unreadable { IfErr result (λ f. f ≡ Unreadable
         → if_there expression_read (lit (truth true)) (option_map (λ v. view v.now) value.entry) ≡ None) }

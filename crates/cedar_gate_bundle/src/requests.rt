@@ -61,7 +61,8 @@ impl Readable for Entity {
         if !is_bare_entity(value) {
             return Err(ReadFault::Unreadable);
         }
-        Ok(Entity::with_uid(read_uid(alloc, required(value, "uid")?)?))
+        let uid = read_uid(alloc, required(value, "uid")?)?;
+        Ok(Entity::with_uid(alloc, uid))
     }
 }
 

@@ -2,10 +2,9 @@
 #![tactic(auto)]
 
 pub use cedar_expr_functions::{ExtTable, ExtensionFunction, Extensions};
-pub use cedar_expr_leaves::{Pattern, PatternElem, Slot, SlotId, Var};
+pub use cedar_expr_leaves::{Literal, Pattern, PatternElem, Slot, SlotId, Var};
 pub use cedar_expr_names::{
-    Eid, EntityType, EntityUID, Id, InternalName, Literal, Loc, Name, NameError, Quoted,
-    ReservedNameError,
+    Eid, EntityType, EntityUID, Id, InternalName, Loc, Name, NameError, Quoted, ReservedNameError,
 };
 pub use cedar_expr_raw_names::{ConditionalName, RawName, ReferenceType};
 pub use cedar_expr_trees::{

@@ -1,16 +1,24 @@
 //! Which expressions and policies are of today's language.
 
-ghost use Rattle.std.specs.Prelude.{◌≡◌};
+ghost use Rattle.std.specs.Prelude.{◌≡◌, is_none};
 ghost use Rattle.std.specs.List.{list_all};
 ghost use Rattle.cedar_expr_model.specs.Whole.FirstPath as model;
-ghost use Rattle.cedar_expr_names.specs.Literals.{literal_of};
+ghost use Rattle.cedar_expr_leaves.specs.Literals.{literal_of};
+ghost use Rattle.cedar_expr_leaves.specs.Slots.{slot_of};
 ghost use Rattle.cedar_expr_leaves.specs.Variables.{var_of};
-ghost use Rattle.cedar_expr_trees.specs.Operators.{unary_op_of, binary_op_of};
+ghost use Rattle.cedar_expr_leaves.specs.Operators.{unary_op_of, binary_op_of};
 ghost use Rattle.cedar_expr_trees.specs.Trees.{tree_of};
+ghost use Rattle.cedar_store_model.specs.Whole.Policy.{binding_of, body_tree};
+ghost use Rattle.cedar_store_parts.specs.Parts.{scope_of, action_scope_of, bindings_of};
+ghost use Rattle.cedar_gate_types.specs.Policies as seen;
+ghost use Rattle.cedar_gate_types.specs.Policies.{whole_policy_of};
+ghost use Rattle.cedar_gate_types.specs.Language as language;
 ghost use Rattle.cedar_gate_types.specs.Language.{is_first_path_policy};
 
+use cedar_expr_leaves::SlotId;
 use cedar_gate_exprs::{BinaryOp, Expr, ExprKind, Literal, UnaryOp, Var};
-use cedar_gate_types::Policy;
+use cedar_gate_types::{ActionConstraint, EntityReference, Policy, PrincipalOrResourceConstraint};
+use cedar_store_parts::SlotEnv;
 
 /// Whether a literal is of the first path: any but a text.
 fn is_first_path_literal(literal: &Literal) -> bool
@@ -76,9 +84,59 @@ pub fn lies_on_first_path(e: &Expr) -> bool
     }
 }
 
+/// Whether the slot is bound to nothing.
+fn is_unbound(values: &SlotEnv, slot: SlotId) -> bool
+    ensures { result ≡ is_none (binding_of (bindings_of values.now) (slot_of slot)) }
+{
+    match values.get(slot) {
+        None => true,
+        Some(_) => false,
+    }
+}
+
+/// Whether no slot is bound.
+fn binds_nothing(values: &SlotEnv) -> bool
+    ensures { result ≡ language.binds_nothing (bindings_of values.now) }
+{
+    is_unbound(values, SlotId::principal()) && is_unbound(values, SlotId::resource())
+}
+
+/// Whether a part of a scope asks for nothing, or for an entity.
+fn is_first_path_scope(asked: &PrincipalOrResourceConstraint) -> bool
+    ensures { result ≡ seen.is_first_path_scope (scope_of asked.now) }
+{
+    match asked {
+        PrincipalOrResourceConstraint::Any => true,
+        PrincipalOrResourceConstraint::Eq(EntityReference::EUID(_)) => true,
+        PrincipalOrResourceConstraint::Eq(EntityReference::Slot(_)) => false,
+        PrincipalOrResourceConstraint::In(_) | PrincipalOrResourceConstraint::Is(_) => false,
+        PrincipalOrResourceConstraint::IsIn(_, _) => false,
+    }
+}
+
+/// Whether the action part asks for nothing, or for an action.
+fn is_first_path_action(asked: &ActionConstraint) -> bool
+    ensures { result ≡ seen.is_first_path_action (action_scope_of asked.now) }
+{
+    match asked {
+        ActionConstraint::Any | ActionConstraint::Eq(_) => true,
+        ActionConstraint::In(_) => false,
+    }
+}
+
+/// Whether a policy's scope names entities alone.
+fn names_entities_alone(policy: &Policy) -> bool
+    ensures { result ≡ language.names_entities_alone (whole_policy_of policy.now) }
+{
+    let template = policy.template();
+    is_first_path_scope(&template.principal_constraint().constraint)
+        && (is_first_path_action(policy.action_constraint())
+            && is_first_path_scope(&template.resource_constraint().constraint))
+}
+
 /// Whether a policy's body lies on the first path. One that lacks does.
-fn is_first_path_policy(policy: &Policy) -> bool
-    ensures { result ≡ is_first_path_policy policy.now }
+fn has_first_path_body(policy: &Policy) -> bool
+    ensures { result ≡ model.lies_on_first_path (body_tree (whole_policy_of policy.now).body) }
 {
     match policy.non_scope_constraints() {
         None => true,
@@ -86,7 +144,16 @@ fn is_first_path_policy(policy: &Policy) -> bool
     }
 }
 
-/// Whether the body of each policy lies on the first path.
+/// Whether a policy is of today's language.
+fn is_first_path_policy(policy: &Policy) -> bool
+    ensures { result ≡ is_first_path_policy policy.now }
+{
+    policy.annotations().len() == 0
+        && (binds_nothing(policy.env())
+            && (names_entities_alone(policy) && has_first_path_body(policy)))
+}
+
+/// Whether each policy is of today's language.
 pub(crate) fn are_first_path_policies(policies: &[Policy]) -> bool
     ensures { result ≡ list_all is_first_path_policy policies.now }
 {

@@ -1,7 +1,7 @@
 //! What expressions are on the first path, which is all that today's gate tells apart.
 
 ghost use Rattle.std.specs.Prelude.{◌≡◌};
-ghost use Rattle.cedar_expr_names.specs.Literals.{literal_of};
+ghost use Rattle.cedar_expr_leaves.specs.Literals.{literal_of};
 ghost use Rattle.cedar_expr_leaves.specs.Variables.{var_of};
 ghost use Rattle.cedar_expr_model.specs.Tree.{lit};
 ghost use Rattle.cedar_expr_model.specs.Whole.FirstPath.{first_path_literal, first_path_var};

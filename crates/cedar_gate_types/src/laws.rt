@@ -2,7 +2,7 @@
 
 ghost use Rattle.std.specs.Prelude.{◌≡◌, List, true};
 ghost use Rattle.std.specs.List.{list_all};
-ghost use Rattle.cedar_gate_types.specs.declared.policy.Policy.{Policy};
+ghost use Rattle.cedar_store_policies.specs.declared.policy.Policy.{Policy};
 ghost use Rattle.cedar_gate_types.specs.Language.{is_first_path_policy, PoliciesAreWhole};
 
 /// Where the bodies of policies lie on the first path, the policies are in the whole language what they are on the first path, but

@@ -1,24 +1,22 @@
 //! The types that the gate's calls name: policies, declarations, requests, entities, steps and responses.
 #![tactic(auto)]
 
-pub mod entities;
 pub mod first_path;
 pub mod json_schema;
 pub mod laws;
 pub mod nest_limit;
-pub mod policy;
 pub mod request;
 pub mod response;
 pub mod step;
 
-pub use entities::Entity;
+pub use cedar_store_entities::Entity;
+pub use cedar_store_policies::{
+    ActionConstraint, Annotations, Effect, EntityReference, Policy, PolicyID, PrincipalConstraint,
+    PrincipalOrResourceConstraint, ResourceConstraint, StaticPolicy, UnexpectedSlotError,
+};
 pub use first_path::{FirstPathKind, first_path_kind};
 pub use json_schema::Fragment;
 pub use nest_limit::NestLimit;
-pub use policy::{
-    ActionConstraint, Effect, EntityReference, Policy, PolicyID, PrincipalConstraint,
-    PrincipalOrResourceConstraint, ResourceConstraint,
-};
 pub use request::{EntityUIDEntry, Request};
 pub use response::{AuthorizationError, Decision, Diagnostics, EvaluationError, Response};
 pub use step::Step;

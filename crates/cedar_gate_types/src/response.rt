@@ -1,6 +1,6 @@
 //! Responses: what the policies decide of a request, and why.
 
-use crate::policy::PolicyID;
+use cedar_store_policies::PolicyID;
 
 /// A decision.
 #[derive(Clone, Copy, Debug, PartialEq, Eq, PartialOrd, Ord, Hash)]

@@ -15,7 +15,7 @@ fn user(alloc: Global, id: &str) -> Result<EntityUID, Fail> {
 #[test]
 fn a_host_answers_from_its_store(rt: HostRuntime) -> Result<(), Fail> {
     let mut store = Vec::new(rt.alloc());
-    store.push(Entity::with_uid(user(rt.alloc(), "a")?))?;
+    store.push(Entity::with_uid(rt.alloc(), user(rt.alloc(), "a")?))?;
     let mut host = StoreHost::new(rt.alloc(), store);
     let asked = [user(rt.alloc(), "b")?, user(rt.alloc(), "a")?];
     let answers = host.fetch(rt.alloc(), &asked).ok().ok_or("no answer")?;

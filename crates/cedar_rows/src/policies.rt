@@ -21,18 +21,20 @@ fn policy(
     principal: PrincipalOrResourceConstraint,
     body: Option<Expr>,
 ) -> Result<Policy, Fail> {
-    Ok(Policy::new(
+    let made = StaticPolicy::new(
+        alloc,
         PolicyID::from_string(alloc, "p")?,
+        None,
+        Annotations::new(alloc),
         Effect::Forbid,
         PrincipalConstraint {
             constraint: principal,
         },
-        ActionConstraint::Any,
-        ResourceConstraint {
-            constraint: PrincipalOrResourceConstraint::Any,
-        },
+        ActionConstraint::any(),
+        ResourceConstraint::any(),
         body,
-    ))
+    )?;
+    Ok(Policy::from_static_policy(alloc, made)?)
 }
 
 // Whether the policy is named so, forbids, and has the name of a copy.
@@ -44,7 +46,7 @@ fn is_named(p: &Policy, name: &str) -> Result<bool, Fail> {
 #[test]
 fn a_policy_without_scope_and_body_asks_nothing(rt: HostRuntime) -> Result<(), Fail> {
     let p = policy(rt.alloc(), PrincipalOrResourceConstraint::Any, None)?;
-    assert!(rt; is_truth(&p.condition(rt.alloc())?, true));
+    assert!(rt; is_truth(p.condition(), true));
     assert!(rt; is_named(&p, "p")?);
     Ok(())
 }
@@ -53,7 +55,7 @@ fn a_policy_without_scope_and_body_asks_nothing(rt: HostRuntime) -> Result<(), F
 fn a_false_body_folds_to_false(rt: HostRuntime) -> Result<(), Fail> {
     let body = Expr::val(Literal::Bool(false));
     let p = policy(rt.alloc(), PrincipalOrResourceConstraint::Any, Some(body))?;
-    assert!(rt; is_truth(&p.condition(rt.alloc())?, false));
+    assert!(rt; is_truth(p.condition(), false));
     assert!(rt; matches!(p.non_scope_constraints(), Some(body) if is_truth(body, false)));
     Ok(())
 }
@@ -97,8 +99,8 @@ fn what_is_not_of_the_first_path_is_the_number_0(rt: HostRuntime) -> Result<(), 
 fn a_scope_part_stands_before_the_rest(rt: HostRuntime) -> Result<(), Fail> {
     let user = uid(rt.alloc(), "User", "a")?;
     let scope = PrincipalOrResourceConstraint::Eq(EntityReference::EUID(user));
-    let condition = policy(rt.alloc(), scope, None)?.condition(rt.alloc())?;
-    let ExprKind::And { left, right } = condition.expr_kind() else {
+    let p = policy(rt.alloc(), scope, None)?;
+    let ExprKind::And { left, right } = p.condition().expr_kind() else {
         return Err(Fail::from("another kind"));
     };
     assert!(rt; matches!(left.expr_kind(), ExprKind::BinaryApp { .. }) && is_truth(right, true));

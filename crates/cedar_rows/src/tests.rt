@@ -1,22 +1,26 @@
 //! Bundles and what is printed for them; writers, readers and hosts that fail; calls that succeed.
 
+use cedar_expr_leaves::SlotId;
+use cedar_expr_names::AnyId;
 use cedar_gate::{Host, HostFault, OpenSession, ServeFault, Status, run, serve};
 use cedar_gate_accept::{Gate, ValidatorSchema};
 use cedar_gate_bundle::{Bundle, read_bundle, read_text};
-use cedar_gate_exprs::{EntityUID, Expr, ExprKind, ExtTable, Literal, Var};
+use cedar_gate_exprs::{Eid, EntityType, EntityUID, Expr, ExprKind, ExtTable, Literal, Var};
 use cedar_gate_types::json_schema::{
     ActionType, ApplySpec, Fragment, NamespaceDefinition, RecordType, Type, TypeOfAttribute,
     TypeVariant,
 };
 use cedar_gate_types::{
-    ActionConstraint, Decision, Effect, Entity, Policy, PolicyID, PrincipalConstraint,
-    PrincipalOrResourceConstraint, ResourceConstraint, Response, Step,
+    ActionConstraint, Annotations, Decision, Effect, Entity, EntityReference, Policy, PolicyID,
+    PrincipalConstraint, PrincipalOrResourceConstraint, ResourceConstraint, Response, StaticPolicy,
+    Step,
 };
+use cedar_store_policies::{Annotation, PrincipalOrResource, SlotEnv, Template};
 use serde_json::Value;
 use std::alloc::{AllocError, Global};
 use std::io;
 use std::io::{ErrorKind, Read, Write};
-use std::rc::RcStr;
+use std::rc::{Rc, RcStr};
 use std::test::Fail;
 
 // What of a bundle differs from row to row, and what is printed for it.
@@ -348,21 +352,106 @@ fn takes_context(alloc: Global, context: Option<Type>) -> Result<bool, Fail> {
     Ok(cedar_gate_accept::first_path(fragments.as_slice(), &[], 0))
 }
 
-// Whether a policy with this body lies in today's language.
-fn takes_body(alloc: Global, body: Expr) -> Result<bool, Fail> {
-    let any = PrincipalOrResourceConstraint::Any;
-    let policy = Policy::new(
+// Whether a policy that permits, with these annotations, this scope and this body, lies in today's language.
+fn takes(
+    alloc: Global,
+    annotations: Annotations,
+    principal: PrincipalOrResourceConstraint,
+    action: ActionConstraint,
+    body: Option<Expr>,
+) -> Result<bool, Fail> {
+    let policy = StaticPolicy::new(
+        alloc,
         PolicyID::from_string(alloc, "p")?,
+        None,
+        annotations,
         Effect::Permit,
-        PrincipalConstraint { constraint: any },
-        ActionConstraint::Any,
-        ResourceConstraint {
-            constraint: PrincipalOrResourceConstraint::Any,
+        PrincipalConstraint {
+            constraint: principal,
         },
-        Some(body),
-    );
+        action,
+        ResourceConstraint::any(),
+        body,
+    )?;
+    let policy = Policy::from_static_policy(alloc, policy)?;
     let fragments = fragments_of(alloc, None)?;
     Ok(cedar_gate_accept::first_path(fragments.as_slice(), &[policy], 0))
+}
+
+// Whether a policy with this body does.
+fn takes_body(alloc: Global, body: Expr) -> Result<bool, Fail> {
+    let any = PrincipalOrResourceConstraint::Any;
+    takes(
+        alloc,
+        Annotations::new(alloc),
+        any,
+        ActionConstraint::any(),
+        Some(body),
+    )
+}
+
+// Whether a policy with this scope does.
+fn takes_scope(
+    alloc: Global,
+    principal: PrincipalOrResourceConstraint,
+    action: ActionConstraint,
+) -> Result<bool, Fail> {
+    takes(alloc, Annotations::new(alloc), principal, action, None)
+}
+
+// Whether a policy with an annotation does.
+fn takes_annotated(alloc: Global) -> Result<bool, Fail> {
+    let mut annotations = Annotations::new(alloc);
+    let val = RcStr::from_str(alloc, "a")?;
+    annotations.insert(
+        AnyId::from_normalized_str(alloc, "id")?,
+        Annotation { val, loc: None },
+    )?;
+    let any = PrincipalOrResourceConstraint::Any;
+    takes(alloc, annotations, any, ActionConstraint::any(), None)
+}
+
+// Whether a policy does whose principal was left to a slot, which is bound.
+fn takes_linked(alloc: Global, uid: Rc<EntityUID>) -> Result<bool, Fail> {
+    let template = Template::new(
+        alloc,
+        PolicyID::from_string(alloc, "t")?,
+        None,
+        Annotations::new(alloc),
+        Effect::Permit,
+        PrincipalConstraint {
+            constraint: PrincipalOrResourceConstraint::Eq(EntityReference::Slot(None)),
+        },
+        ActionConstraint::any(),
+        ResourceConstraint::any(),
+        None,
+    )?;
+    let mut values = SlotEnv::new();
+    let _ = values.insert(SlotId::principal(), uid);
+    let policy = Policy::new(Rc::new(alloc, template)?, None, values);
+    let fragments = fragments_of(alloc, None)?;
+    Ok(cedar_gate_accept::first_path(fragments.as_slice(), &[policy], 0))
+}
+
+fn some_uid(alloc: Global) -> Result<Rc<EntityUID>, Fail> {
+    let kind = EntityType::from_normalized_str(alloc, "User")?;
+    let eid = Eid::from_str(alloc, "a")?;
+    Ok(Rc::new(alloc, EntityUID::from_components(kind, eid, None))?)
+}
+
+#[test]
+fn policies_of_the_whole_language_are_not_of_todays(rt: HostRuntime) -> Result<(), Fail> {
+    let alloc = rt.alloc();
+    let uid = some_uid(alloc)?;
+    let named = PrincipalOrResourceConstraint::Eq(EntityReference::EUID(uid.clone()?));
+    assert!(rt; takes_scope(alloc, named, ActionConstraint::Eq(uid.clone()?))?);
+    let below = PrincipalOrResourceConstraint::In(EntityReference::EUID(uid.clone()?));
+    assert!(rt; !takes_scope(alloc, below, ActionConstraint::any())?);
+    let actions = ActionConstraint::In(Vec::new(alloc));
+    assert!(rt; !takes_scope(alloc, PrincipalOrResourceConstraint::Any, actions)?);
+    assert!(rt; !takes_annotated(alloc)?);
+    assert!(rt; !takes_linked(alloc, uid)?);
+    Ok(())
 }
 
 type Made = Result<Expr, AllocError>;
@@ -441,7 +530,10 @@ fn a_context_without_fields_is_none(rt: HostRuntime) -> Result<(), Fail> {
 
 #[test]
 fn a_scope_part_that_asks_nothing_is_true(rt: HostRuntime) -> Result<(), Fail> {
-    let principal = PrincipalOrResourceConstraint::Any.as_expr(rt.alloc(), Var::Principal)?;
+    let principal = PrincipalOrResourceConstraint::Any.as_expr(
+        rt.alloc(),
+        PrincipalOrResource::Principal,
+    )?;
     assert!(rt; matches!(principal.expr_kind(), ExprKind::Lit(Literal::Bool(true))));
     let action = ActionConstraint::Any.as_expr(rt.alloc())?;
     assert!(rt; matches!(action.expr_kind(), ExprKind::Lit(Literal::Bool(true))));

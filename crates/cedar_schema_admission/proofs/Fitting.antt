@@ -17,8 +17,8 @@ use Rattle.cedar_expr_model.specs.Whole.Records.{fields}
 use Rattle.cedar_expr_model.specs.Whole.Made as model
 use Rattle.cedar_expr_model.specs.Whole.Made.{Made, Mades}
 use Rattle.cedar_expr_model.specs.Whole.Value.{V, prim, set_of, record_of, extension, Vs, field, field_of}
-use Rattle.cedar_expr_names.specs.Literals.{literal_of}
-use Rattle.cedar_expr_names.specs.declared.literal.Literal.{Literal}
+use Rattle.cedar_expr_leaves.specs.Literals.{literal_of}
+use Rattle.cedar_expr_leaves.specs.declared.literal.Literal.{Literal}
 use Rattle.cedar_expr_values.specs.Extension.{Extension}
 use Rattle.cedar_expr_values.specs.Values.{made, made_kind, mades, bare, bare_kind, bares, bare_pair, made_list, made_fields, made_pair, kind_step, set_step, value_step, members_of}
 use Rattle.cedar_expr_values.specs.declared.value.Value.{Value}

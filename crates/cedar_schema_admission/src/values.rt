@@ -3,7 +3,7 @@
 ghost use Rattle.std.specs.Prelude.{◌≡◌, ◌&&◌, not, is_some, map, option_map};
 ghost use Rattle.cedar_expr_model.specs.Whole.Records.{fields};
 ghost use Rattle.cedar_expr_model.specs.Whole.Value.{prim, set_of, record_of, extension, field_of};
-ghost use Rattle.cedar_expr_names.specs.Literals.{literal_of};
+ghost use Rattle.cedar_expr_leaves.specs.Literals.{literal_of};
 ghost use Rattle.cedar_expr_values.specs.Values.{bare, bares, bare_pair};
 ghost use Rattle.cedar_schema_model.specs.Whole.HasType.{has_type, have_type, literal_has_type, has_required, field_fits, fields_fit};
 ghost use Rattle.cedar_schema_model.specs.Whole.Types.{bool_type, long_type, string_type};

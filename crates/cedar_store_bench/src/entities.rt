@@ -2,7 +2,7 @@
 
 use crate::fault::Fault;
 use crate::parts::user;
-use cedar_expr_names::Literal;
+use cedar_expr_leaves::Literal;
 use cedar_expr_values::Value;
 use cedar_store_entities::{Dereference, Entities, Entity};
 use std::alloc::Global;

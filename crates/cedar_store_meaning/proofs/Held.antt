@@ -13,8 +13,8 @@ use Rattle.std.specs.declared.alloc.Global.{Global}
 use Rattle.std.specs.declared.collections.BTreeMap.{BTreeMap}
 use Rattle.std.specs.declared.rc.Rc.{Rc}
 use Rattle.std.specs.declared.rc.RcStr.{RcStr}
-use Rattle.cedar_expr_names.specs.Literals.{literal_of}
-use Rattle.cedar_expr_names.specs.declared.literal.Literal.{Literal}
+use Rattle.cedar_expr_leaves.specs.Literals.{literal_of}
+use Rattle.cedar_expr_leaves.specs.declared.literal.Literal.{Literal}
 use Rattle.cedar_expr_values.specs.Extension.{Extension}
 use Rattle.cedar_expr_values.specs.Values.{made_kind, made_fields, made_pair, kind_step, set_step, value_step}
 use Rattle.cedar_expr_values.specs.declared.value.Value.{Value}

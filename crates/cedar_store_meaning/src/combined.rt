@@ -1,6 +1,6 @@
 //! What operators of two operands give at the values of their operands.
 
-ghost use Rattle.cedar_expr_trees.specs.Operators.{binary_op_of};
+ghost use Rattle.cedar_expr_leaves.specs.Operators.{binary_op_of};
 ghost use Rattle.cedar_expr_values.specs.Extensions.{extension_of};
 ghost use Rattle.cedar_expr_values.specs.Values.{bare};
 ghost use Rattle.cedar_store_model.specs.Whole.Meaning.{combined as model_combined};

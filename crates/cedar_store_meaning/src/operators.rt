@@ -5,7 +5,7 @@ ghost use Rattle.std.specs.Option.{option_map_or};
 ghost use Rattle.cedar_expr_leaves.specs.Patterns.{pattern_of};
 ghost use Rattle.cedar_expr_model.specs.Whole.Value.{prim, truth_value, long as model_long};
 ghost use Rattle.cedar_expr_names.specs.Views.{type_name_of};
-ghost use Rattle.cedar_expr_trees.specs.Operators.{unary_op_of};
+ghost use Rattle.cedar_expr_leaves.specs.Operators.{unary_op_of};
 ghost use Rattle.cedar_expr_values.specs.Extensions.{extension_of};
 ghost use Rattle.cedar_expr_values.specs.Values.{bare};
 ghost use Rattle.cedar_store_model.specs.Whole.Outcome.{val, err, overflow};
@@ -14,8 +14,8 @@ ghost use Rattle.cedar_store_model.specs.Whole.Operators.{applied as model_appli
 ghost use Rattle.cedar_store_meaning.specs.Outcomes.{IsOutcome, IsSeen};
 
 use crate::fault::MeaningFault;
-use cedar_expr_leaves::Pattern;
-use cedar_expr_names::{EntityType, Literal};
+use cedar_expr_leaves::{Literal, Pattern};
+use cedar_expr_names::EntityType;
 use cedar_expr_trees::UnaryOp;
 use cedar_expr_values::{ExtValue, Value, ValueKind};
 

@@ -7,7 +7,7 @@ ghost use Rattle.std.specs.Slice.Iter.{iter_rest};
 ghost use Rattle.cedar_expr_model.specs.Uid.{uid_eq};
 ghost use Rattle.cedar_expr_model.specs.Whole.Tree.{is_in, get_tag, has_tag};
 ghost use Rattle.cedar_expr_model.specs.Whole.Value.{prim, field_of};
-ghost use Rattle.cedar_expr_names.specs.Literals.{literal_of};
+ghost use Rattle.cedar_expr_leaves.specs.Literals.{literal_of};
 ghost use Rattle.cedar_expr_names.specs.Views.{uid_of};
 ghost use Rattle.cedar_expr_values.specs.Extensions.{extension_of};
 ghost use Rattle.cedar_expr_values.specs.Values.{bare};
@@ -23,7 +23,8 @@ ghost use Rattle.cedar_store_meaning.specs.StoreParts.{found_part, fields_of, an
 use crate::calls::copied;
 use crate::fault::MeaningFault;
 use crate::operators::{V, truth};
-use cedar_expr_names::{EntityUID, Literal};
+use cedar_expr_leaves::Literal;
+use cedar_expr_names::EntityUID;
 use cedar_expr_partial::PartialValue;
 use cedar_expr_values::{ExtValue, ValueKind};
 use cedar_store_entities::{Dereference, Entities, Entity};

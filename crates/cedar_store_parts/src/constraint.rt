@@ -10,8 +10,8 @@ ghost use Rattle.cedar_expr_trees.specs.Trees.{tree_of};
 ghost use Rattle.cedar_store_model.specs.Whole.Policy.{any, any_action, target_tree, scope_tree, action_tree};
 ghost use Rattle.cedar_store_parts.specs.Parts.{part_var, part_slot, target_of, scope_of, action_scope_of, filled_target, filled};
 
-use cedar_expr_leaves::{SlotId, Var};
-use cedar_expr_names::{EntityType, EntityUID, Literal, Loc};
+use cedar_expr_leaves::{Literal, SlotId, Var};
+use cedar_expr_names::{EntityType, EntityUID, Loc};
 use cedar_expr_trees::Expr;
 use std::alloc::{AllocError, Global};
 use std::rc::Rc;

@@ -6,8 +6,8 @@ ghost use Rattle.cedar_expr_trees.specs.Trees.{tree_of};
 ghost use Rattle.cedar_store_model.specs.Whole.Policy.{condition};
 ghost use Rattle.cedar_store_policies.specs.TemplateParts.{made_of, slot_ids};
 
-use cedar_expr_leaves::Slot;
-use cedar_expr_names::{Literal, Loc};
+use cedar_expr_leaves::{Literal, Slot};
+use cedar_expr_names::Loc;
 use cedar_expr_trees::Expr;
 use cedar_store_parts::{
     ActionConstraint, Annotations, Effect, PolicyID, PrincipalConstraint, PrincipalOrResource,
@@ -17,7 +17,6 @@ use std::alloc::{AllocError, Global};
 use std::rc::Rc;
 
 // The parts of a template.
-#[derive(Drop)]
 pub(crate) struct TemplateBody {
     pub(crate) id: PolicyID,
     pub(crate) loc: Option<Loc>,
@@ -27,6 +26,22 @@ pub(crate) struct TemplateBody {
     pub(crate) action_constraint: ActionConstraint,
     pub(crate) resource_constraint: ResourceConstraint,
     pub(crate) non_scope_constraint: Option<Rc<Expr>>,
+}
+
+// A drop of its own is one step to the proof of a function that may drop a template; a derived one is a step for each field.
+impl Drop for TemplateBody {
+    fn drop(self) {
+        let TemplateBody {
+            id: _,
+            loc: _,
+            annotations: _,
+            effect: _,
+            principal_constraint: _,
+            action_constraint: _,
+            resource_constraint: _,
+            non_scope_constraint: _,
+        } = self;
+    }
 }
 
 impl TemplateBody {

@@ -1,7 +1,8 @@
 //! Entities.
 
 use crate::parts::uid;
-use cedar_expr_names::{EntityUID, Literal};
+use cedar_expr_leaves::Literal;
+use cedar_expr_names::EntityUID;
 use cedar_expr_partial::PartialValue;
 use cedar_expr_trees::{Expr, Unknown};
 use cedar_expr_values::{ExtValue, Value};

@@ -1,7 +1,7 @@
 //! Parts that the tests share.
 
-use cedar_expr_leaves::SlotId;
-use cedar_expr_names::{Eid, EntityType, EntityUID, Literal};
+use cedar_expr_leaves::{Literal, SlotId};
+use cedar_expr_names::{Eid, EntityType, EntityUID};
 use cedar_expr_trees::Expr;
 use cedar_store_policies::{
     ActionConstraint, Annotations, Effect, EntityReference, Policy, PolicyID, PrincipalConstraint,

@@ -1,8 +1,8 @@
 //! Policies and what they are made of.
 
 use crate::parts::{always, bound, id, in_slot, of_principal, policy, shared, template};
-use cedar_expr_leaves::{SlotId, Var};
-use cedar_expr_names::{AnyId, Literal, Loc};
+use cedar_expr_leaves::{Literal, SlotId, Var};
+use cedar_expr_names::{AnyId, Loc};
 use cedar_expr_trees::Expr;
 use cedar_store_policies::{
     ActionConstraint, Annotation, Annotations, Effect, EntityReference, Policy,

@@ -1,8 +1,8 @@
 //! What scopes ask, written as expressions.
 
 use crate::parts::{id, in_slot, of_principal, shared, written};
-use cedar_expr_leaves::{SlotId, Var};
-use cedar_expr_names::{EntityType, EntityUID, Literal};
+use cedar_expr_leaves::{Literal, SlotId, Var};
+use cedar_expr_names::{EntityType, EntityUID};
 use cedar_expr_trees::Expr;
 use cedar_store_policies::{
     ActionConstraint, Annotations, Effect, EntityReference, PrincipalOrResource,

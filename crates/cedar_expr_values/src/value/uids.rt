@@ -2,7 +2,8 @@
 
 use super::{Value, ValueKind};
 use crate::extension::ExtensionValue;
-use cedar_expr_names::{EntityUID, Literal};
+use cedar_expr_leaves::Literal;
+use cedar_expr_names::EntityUID;
 use std::alloc::{AllocError, Global};
 use std::collections::BTreeSet;
 

@@ -1,5 +1,5 @@
 use Rattle.std.proofs.Common.{◌∙◌}
-use Rattle.cedar_expr_names.proofs.Literals.{names_order_is}
+use Rattle.cedar_expr_names.proofs.Equality.{names_order_is}
 use Rattle.cedar_expr_shapes.proofs.leaves.by_name.Goals as goal
 
 pub returns : goal.returns

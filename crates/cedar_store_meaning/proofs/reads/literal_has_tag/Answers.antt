@@ -1,7 +1,7 @@
 use Rattle.std.proofs.Common.{Some, map, ap, sym, subst, ◌∙◌}
 use Rattle.cedar_expr_model.specs.Whole.Value.{V, prim, entity, text, record_of}
 use Rattle.cedar_expr_model.specs.Whole.Tree.{get_tag, has_tag}
-use Rattle.cedar_expr_names.specs.Literals.{literal_of}
+use Rattle.cedar_expr_leaves.specs.Literals.{literal_of}
 use Rattle.cedar_expr_names.specs.Views.{uid_of}
 use Rattle.cedar_expr_values.specs.Extensions.{extension_of}
 use Rattle.cedar_expr_values.specs.Values.{bare, made}

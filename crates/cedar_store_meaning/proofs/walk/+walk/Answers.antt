@@ -6,7 +6,7 @@ use Rattle.std.specs.declared.vec.Vec.{Vec}
 use Rattle.cedar_expr_leaves.specs.Patterns.{pattern_of}
 use Rattle.cedar_expr_leaves.specs.Slots.{slot_of}
 use Rattle.cedar_expr_leaves.specs.Variables.{var_of}
-use Rattle.cedar_expr_names.specs.Literals.{literal_of}
+use Rattle.cedar_expr_leaves.specs.Literals.{literal_of}
 use Rattle.cedar_expr_names.specs.Views.{plain_name_of, type_name_of}
 use Rattle.cedar_expr_model.specs.Whole.Builder.{trees, tree_fields}
 use Rattle.cedar_expr_model.specs.Whole.Records.{fields}
@@ -14,7 +14,7 @@ use Rattle.cedar_expr_model.specs.Whole.Tree.{call, set_literal, record_literal}
 use Rattle.cedar_expr_model.specs.Whole.Value.{record_of}
 use Rattle.cedar_expr_model.proofs.Whole.Ordering.{in_order_stays}
 use Rattle.cedar_expr_functions.specs.Signatures.{bare_values}
-use Rattle.cedar_expr_trees.specs.Operators.{unary_op_of, binary_op_of}
+use Rattle.cedar_expr_leaves.specs.Operators.{unary_op_of, binary_op_of}
 use Rattle.cedar_expr_trees.specs.Trees.{tree_of, kind_tree, named, field_trees}
 use Rattle.cedar_expr_trees.specs.Unknowns.{unknown_of}
 use Rattle.cedar_expr_trees.proofs.Trees.{call_tree, set_tree, record_tree}

@@ -1,7 +1,7 @@
 use Rattle.std.proofs.Common.{◌||◌, sym, ap, ◌∙◌}
 use Rattle.std.proofs.Math.Bool.{or-false}
 use Rattle.std.specs.BTreeMap.{values}
-use Rattle.cedar_expr_names.specs.Literals.{literal_of}
+use Rattle.cedar_expr_leaves.specs.Literals.{literal_of}
 use Rattle.cedar_expr_names.specs.Views.{uid_of}
 use Rattle.cedar_expr_values.specs.Values.{bare, bare_kind}
 use Rattle.cedar_expr_values.specs.Uids.{has_uid, is_that_uid, holds_uid}

@@ -9,8 +9,9 @@ use Rattle.cedar_gate_types.specs.Trees.{small_tree_of}
 use Rattle.cedar_store_model.specs.Policy.{condition}
 use Rattle.cedar_store_model.specs.Answer.{ids}
 use Rattle.cedar_typechecker_model.specs.Verdicts.{impossible}
-use Rattle.std.specs.List.{filter}
-use Rattle.cedar_gate_types.specs.declared.policy.Policy.{Policy}
+use Rattle.std.specs.List.{filter, list_all}
+use Rattle.cedar_gate_types.specs.Language.{is_first_path_policy}
+use Rattle.cedar_store_policies.specs.declared.policy.Policy.{Policy}
 use Rattle.cedar_gate_types.specs.Policies.{policies_of, policy_of}
 use Rattle.cedar_gate_schema.specs.Schema.{schema_of}
 use Rattle.cedar_gate_schema.proofs.Fresh.{map_after}
@@ -18,6 +19,10 @@ use Rattle.cedar_gate_accept.proofs.gate.Gate.try_accept.Goals as goal
 
 kept_of : (es fs : List (Expr (Unit {0}))) (ps qs rs : List Policy) → fs ≡ es → qs ≡ ps → rs ≡ ps → map small_tree_of es ≡ map (λ p. condition (policy_of p)) rs → map small_tree_of fs ≡ map condition (policies_of qs)
 kept_of es fs ps qs rs a b d h = ap (map small_tree_of) a ∙ h ∙ ap (map (λ p. condition (policy_of p))) (d ∙ sym b) ∙ sym (map_after condition policy_of qs)
+
+pub conditions_of-requires : goal.conditions_of-requires
+conditions_of-requires g c =
+    ap (list_all is_first_path_policy) c.as_slice.ensures.value ∙ language_policies c.args.fragments.now c.args.policies.items c.args.level c.requires
 
 pub new-candidate-requires : goal.new-candidate-requires
 new-candidate-requires g c = kept_of c.in_ok-conditions.conditions.items c.as_slice-3.result.now c.args.policies.items c.as_slice-2.result.now c.as_slice.result.now c.as_slice-3.ensures.value c.as_slice-2.ensures.value c.as_slice.ensures.value c.in_ok-conditions.ensures

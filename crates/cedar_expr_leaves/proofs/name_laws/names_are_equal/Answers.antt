@@ -1,6 +1,6 @@
 -- Names with one text are one name.
 use Rattle.cedar_expr_names.proofs.Equality.{names_eq_is, uids_eq_is}
-use Rattle.cedar_expr_names.proofs.laws.names_are_equal.Goals as goal
+use Rattle.cedar_expr_leaves.proofs.name_laws.names_are_equal.Goals as goal
 
 pub returns-clause-internal : goal.returns-clause-internal
 returns-clause-internal c = names_eq_is

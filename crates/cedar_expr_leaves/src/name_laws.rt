@@ -16,7 +16,7 @@ ghost use Rattle.cedar_expr_names.specs.declared.entity.EntityType.{EntityType};
 ghost use Rattle.cedar_expr_names.specs.declared.entity.Eid.{Eid};
 ghost use Rattle.cedar_expr_names.specs.declared.entity.EntityUID.{EntityUID};
 
-use crate::{AnyId, Eid, EntityType, EntityUID, Id, InternalName, Name, UnreservedId};
+use cedar_expr_names::{AnyId, Eid, EntityType, EntityUID, Id, InternalName, Name, UnreservedId};
 use std::hash::Hash;
 
 /// Identifiers of each kind, and ids of entities, are ordered by their texts, byte by byte.

@@ -2,10 +2,10 @@
 -- Rule: expressions (docs/RULES.md).
 use Rattle.cedar_expr_model.specs.Whole.Tree as model
 use Rattle.cedar_expr_model.specs.Whole.Tree.{negation, minus, is_empty, equal, less, less_or_equal, plus, difference, times, is_in, contains, contains_all, contains_any, get_tag, has_tag}
-use Rattle.cedar_expr_trees.specs.declared.ops.UnaryOp.{UnaryOp}
-use Rattle.cedar_expr_trees.specs.declared.ops.UnaryOp.TheVariants.{Not, Neg, IsEmpty}
-use Rattle.cedar_expr_trees.specs.declared.ops.BinaryOp.{BinaryOp}
-use Rattle.cedar_expr_trees.specs.declared.ops.BinaryOp.TheVariants.{Eq, Less, LessEq, Add, Sub, Mul, In, Contains, ContainsAll, ContainsAny, GetTag, HasTag}
+use Rattle.cedar_expr_leaves.specs.declared.ops.UnaryOp.{UnaryOp}
+use Rattle.cedar_expr_leaves.specs.declared.ops.UnaryOp.TheVariants.{Not, Neg, IsEmpty}
+use Rattle.cedar_expr_leaves.specs.declared.ops.BinaryOp.{BinaryOp}
+use Rattle.cedar_expr_leaves.specs.declared.ops.BinaryOp.TheVariants.{Eq, Less, LessEq, Add, Sub, Mul, In, Contains, ContainsAll, ContainsAny, GetTag, HasTag}
 
 -- the operator of one operand that a code operator is
 abbrev pub unary_op_of : UnaryOp → model.UnaryOp

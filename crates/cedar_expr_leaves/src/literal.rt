@@ -6,9 +6,9 @@ ghost use Rattle.std.specs.Rc.{rc_str_bytes};
 ghost use Rattle.cedar_expr_model.specs.Whole.Value.{truth, long, text as text_literal, entity};
 ghost use Rattle.cedar_expr_model.specs.Whole.Order.{literal_cmp};
 ghost use Rattle.cedar_expr_names.specs.Views.{uid_of};
-ghost use Rattle.cedar_expr_names.specs.Literals.{literal_of, is_uid, literal_text};
+ghost use Rattle.cedar_expr_leaves.specs.Literals.{literal_of, is_uid, literal_text};
 
-use crate::{EntityUID, Quoted};
+use cedar_expr_names::{EntityUID, Quoted};
 use std::alloc::{AllocError, Global};
 use std::cmp::Ordering;
 use std::fmt;
