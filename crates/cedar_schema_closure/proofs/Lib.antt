@@ -1,0 +1,5 @@
+mod Finding
+mod Searching
+mod Ranking
+mod Ordering
+mod Turning

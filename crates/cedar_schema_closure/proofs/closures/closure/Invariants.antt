@@ -1,0 +1,9 @@
+use Rattle.std.proofs.Common.{◌≡◌, length}
+use Rattle.cedar_schema_closure.proofs.Searching.{AreRows}
+use Rattle.cedar_schema_closure.proofs.closures.closure.Given as goal
+
+abbrev pub invariant-loop-start : goal.invariant-loop-start
+invariant-loop-start l = record {
+  size : length l.rows.items ≡ l.start;
+  each : AreRows l.graph l.rows.items;
+}

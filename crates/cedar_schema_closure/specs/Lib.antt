@@ -1,0 +1,4 @@
+pub mod Graphs
+pub mod Found
+pub mod Ranks
+pub mod Rows

@@ -1,0 +1,5 @@
+mod Places
+mod Numbering
+mod Graphing
+mod Gathering
+mod Chains

@@ -1,0 +1,25 @@
+use Rattle.std.proofs.Common.{is_some, sym, ap, ◌∙◌, subst}
+use Rattle.std.specs.BTreeMap.{get, is_at}
+use Rattle.cedar_schema_nodes.specs.Numbers.{names_in, IsAt}
+use Rattle.cedar_schema_nodes.proofs.Numbering.{numbered_goes, stands_twice, none_there}
+use Rattle.cedar_schema_nodes.proofs.numbers.numbers.Goals as goal
+
+pub returns-then-is_some-clause-repeated : goal.returns-then-is_some-clause-repeated
+returns-then-is_some-clause-repeated g c =
+    let names = names_in g.N.Node.seen c.args.nodes.now in
+    stands_twice g.N.Node.seen names c.loop-number.number (get g.N.Ord.cmp c.loop-number.numbers) c.in_ok-name.name
+    (subst (IsAt names c.loop-number.number) (sym c.in_ok-name.ensures) c.name_at.ensures)
+    (ap is_some (sym c.in_ok-insert.ensures.old) ∙ sym c.is_some.ensures ∙ c.if-is_some.true)
+    c.loop-number.invariant.numbered
+
+pub loop-number-preserved : goal.loop-number-preserved
+loop-number-preserved g c =
+    let names = names_in g.N.Node.seen c.args.nodes.now in
+    record {
+      numbered = numbered_goes g.N.Node.seen names c.loop-number.number (get g.N.Ord.cmp c.loop-number.numbers) (get g.N.Ord.cmp c.insert.new.self) (is_at (g.N.Ord.cmp c.in_ok-name.name)) c.in_ok-name.name
+          (g.met.N.Node.told c.in_ok-name.name)
+          (subst (IsAt names c.loop-number.number) (sym c.in_ok-name.ensures) c.name_at.ensures)
+          (none_there (get g.N.Ord.cmp c.loop-number.numbers c.in_ok-name.name) (ap is_some (sym c.in_ok-insert.ensures.old) ∙ sym c.is_some.ensures ∙ c.if-is_some.false))
+          c.in_ok-insert.ensures.updates.0
+          c.loop-number.invariant.numbered;
+    }

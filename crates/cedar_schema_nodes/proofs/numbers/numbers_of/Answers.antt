@@ -1,0 +1,18 @@
+use Rattle.std.proofs.Common.{◌++◌, [], ◌∷◌, sym, ap, ◌∙◌}
+use Rattle.std.specs.BTreeMap.{get}
+use Rattle.std.specs.Option.{option_copied}
+use Rattle.cedar_schema_nodes.proofs.Numbering.{kept_some, kept_none}
+use Rattle.cedar_schema_nodes.proofs.numbers.numbers_of.Goals as goal
+use Rattle.cedar_schema_nodes.proofs.numbers.numbers_of.Goals.{in-Some+in_ok-push-in-Some, in-None}
+
+pub loop-name-preserved : goal.loop-name-preserved
+loop-name-preserved g c =
+    let number = get g.N.Ord.cmp c.args.numbers.now in
+    elim c.match-get.branch [
+      | in-Some+in_ok-push-in-Some w ↦
+          ap (λ v. v.items) w.found-is ∙ w.in_ok-push-in-Some.ensures.items ∙ ap (λ ns. ns ++ w.in-Some.number.now ∷ []) c.loop-name.invariant
+          ∙ sym (kept_some number c.args.names.now c.loop-name.name-index c.name-item.result w.in-Some.number.now c.loop-name-test.true c.name-item.is (sym c.get.ensures.value ∙ ap option_copied w.in-Some.is))
+      | in-None w ↦
+          ap (λ v. v.items) w.found-is ∙ c.loop-name.invariant
+          ∙ sym (kept_none number c.args.names.now c.loop-name.name-index c.name-item.result c.loop-name-test.true c.name-item.is (sym c.get.ensures.value ∙ ap option_copied w.in-None.is))
+    ]

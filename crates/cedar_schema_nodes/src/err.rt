@@ -1,0 +1,88 @@
+//! Why nodes have no numbers.
+
+use std::alloc::{AllocError, AllocFailed};
+use thiserror::Error;
+
+/// Why nodes have no numbers.
+#[derive(Debug, Drop, Error)]
+pub enum RepeatedError {
+    /// There is no memory for them.
+    #[error("out of memory")]
+    OutOfMemory,
+
+    /// A node stands twice.
+    #[error("repeated name")]
+    Repeated {
+        /// The number of its second place.
+        number: usize,
+    },
+}
+
+impl From<AllocError> for RepeatedError {
+    ghost use Rattle.std.specs.Prelude.{◌≡◌};
+    ghost use Rattle.cedar_schema_nodes.specs.declared.err.RepeatedError.TheVariants.{OutOfMemory};
+
+    ghost from_gives = { λ _ e. e ≡ OutOfMemory };
+
+    fn from(_error: AllocError) -> RepeatedError {
+        RepeatedError::OutOfMemory
+    }
+}
+
+impl<T: Drop> From<AllocFailed<T>> for RepeatedError {
+    ghost use Rattle.std.specs.Prelude.{◌≡◌};
+    ghost use Rattle.cedar_schema_nodes.specs.declared.err.RepeatedError.TheVariants.{OutOfMemory};
+
+    ghost from_gives = { λ _ e. e ≡ OutOfMemory };
+
+    fn from(_error: AllocFailed<T>) -> RepeatedError {
+        RepeatedError::OutOfMemory
+    }
+}
+
+/// Why nodes have no ancestors.
+#[derive(Debug, Drop, Error)]
+pub enum DescentError {
+    /// There is no memory for them.
+    #[error("out of memory")]
+    OutOfMemory,
+
+    /// A node stands twice.
+    #[error("repeated name")]
+    Repeated {
+        /// The number of its second place.
+        number: usize,
+    },
+
+    /// A node descends from itself.
+    #[error("cycle of parents")]
+    Cycle {
+        /// Its number.
+        number: usize,
+    },
+}
+
+impl From<AllocError> for DescentError {
+    ghost use Rattle.std.specs.Prelude.{◌≡◌};
+    ghost use Rattle.cedar_schema_nodes.specs.declared.err.DescentError.TheVariants.{OutOfMemory};
+
+    ghost from_gives = { λ _ e. e ≡ OutOfMemory };
+
+    fn from(_error: AllocError) -> DescentError {
+        DescentError::OutOfMemory
+    }
+}
+
+impl From<RepeatedError> for DescentError {
+    ghost use Rattle.std.specs.Prelude.{◌≡◌};
+    ghost use Rattle.cedar_schema_nodes.specs.Faults.{as_descent};
+
+    ghost from_gives = { λ r e. e ≡ as_descent r };
+
+    fn from(error: RepeatedError) -> DescentError {
+        match error {
+            RepeatedError::OutOfMemory => DescentError::OutOfMemory,
+            RepeatedError::Repeated { number } => DescentError::Repeated { number },
+        }
+    }
+}

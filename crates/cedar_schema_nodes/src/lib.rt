@@ -1,0 +1,12 @@
+//! Names and uids as nodes of graphs: their numbers, and what descends from each by direct parents.
+#![tactic(auto)]
+
+mod descent;
+mod err;
+pub mod laws;
+mod node;
+mod numbers;
+
+pub use descent::{ancestors, descendants};
+pub use err::{DescentError, RepeatedError};
+pub use node::Node;
