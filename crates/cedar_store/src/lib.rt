@@ -23,7 +23,9 @@ pub mod entity {
 
 /// A plain evaluator of the meaning, what it stands on, and what it refuses.
 pub mod meaning {
-    pub use cedar_store_meaning::{FunctionTable, MeaningFault, World, evaluate};
+    pub use cedar_store_meaning::{
+        FunctionTable, MeaningFault, World, evaluate, is_satisfied, policy_outcome,
+    };
 }
 
 /// Policies, templates, and what they are made of.
@@ -58,7 +60,7 @@ pub use annotation::{Annotation, Annotations};
 pub use entities::err::EntitiesError;
 pub use entities::{Dereference, Entities};
 pub use entity::Entity;
-pub use meaning::{FunctionTable, MeaningFault, World, evaluate};
+pub use meaning::{FunctionTable, MeaningFault, World, evaluate, is_satisfied, policy_outcome};
 pub use policy::{
     ActionConstraint, Effect, EntityReference, LinkingError, Policy, PolicyID, PrincipalConstraint,
     PrincipalOrResource, PrincipalOrResourceConstraint, ResourceConstraint, SlotEnv, StaticPolicy,

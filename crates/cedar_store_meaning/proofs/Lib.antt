@@ -9,3 +9,4 @@ pub mod Walked
 mod Smaller
 pub mod Gathered
 pub mod ByKind
+pub mod Conditions

@@ -4,3 +4,4 @@ pub mod StoreParts
 pub mod PathSteps
 pub mod Worlds
 pub mod Meanings
+pub mod Policies

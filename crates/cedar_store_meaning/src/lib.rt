@@ -8,12 +8,14 @@ pub mod fault;
 pub mod leaves;
 pub mod operators;
 pub mod paths;
+pub mod policies;
 pub mod reads;
 pub mod table;
 pub mod walk;
 pub mod world;
 
 pub use fault::MeaningFault;
+pub use policies::{is_satisfied, policy_outcome};
 pub use table::FunctionTable;
 pub use walk::evaluate;
 pub use world::World;
