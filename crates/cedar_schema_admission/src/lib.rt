@@ -5,4 +5,4 @@ mod lookup;
 mod values;
 
 pub use lookup::{DeclaredAttributes, lookup_attribute_type, may_have_attr};
-pub use values::typecheck_value;
+pub use values::{typecheck_literal, typecheck_value};

@@ -23,6 +23,13 @@ pub fn typecheck_value<X: ExtensionValue>(ty: &Type, value: &Value<X>) -> bool
     has_type(value, ty)
 }
 
+/// Whether the literal is of the type.
+pub fn typecheck_literal(ty: &Type, literal: &Literal) -> bool
+    ensures { result ≡ literal_has_type (literal_of literal.now) (type_of ty.now) }
+{
+    is_literal_of(literal, ty)
+}
+
 // Whether the value is of the type.
 #[cycle(values)]
 fn has_type<X: ExtensionValue>(value: &Value<X>, ty: &Type) -> bool

@@ -1,5 +1,7 @@
 pub mod Entries
 mod Found
-mod Unions
+pub mod Unions
+pub mod InUnions
 mod Named
 pub mod InOrder
+mod Shown

@@ -12,11 +12,13 @@ use Rattle.std.specs.declared.cmp.Ordering.{Ordering}
 use Rattle.std.specs.declared.cmp.Ordering.TheVariants.{Less, Equal, Greater}
 use Rattle.cedar_expr_model.specs.Name.{Name, name_eq}
 use Rattle.cedar_expr_model.specs.Order.{name_cmp}
+use Rattle.cedar_expr_model.specs.Whole.Lists.{is_nil}
 use Rattle.cedar_expr_names.specs.Views.{type_name_of, type_loc}
 use Rattle.cedar_expr_names.specs.declared.entity.EntityType.{EntityType}
 use Rattle.cedar_expr_names.proofs.Equality.{names_eq_is, names_cmp_is}
 use Rattle.cedar_schema_model.specs.Whole.Subtype.{are_among}
 use Rattle.cedar_schema_model.specs.Whole.Join.{name_inserted, names_of_both}
+use Rattle.cedar_schema_types.specs.Unions.{only_member}
 
 -- what `cmp` computes of two entity types
 abbrev pub types_by : EntityType → EntityType → Ordering
@@ -95,3 +97,33 @@ one_from_back rest later t k olds news whole h is same put =
     ∙ ap (λ ns. names_of_both ns (map type_name_of olds)) (sym (mapped_back later t))
     ∙ ap (λ ks. names_of_both (map type_name_of ks) (map type_name_of olds)) (sym is)
     ∙ h
+
+-- the names of both are some, where those of the second are
+inserted_is_some : (n : Name) (ms : List Name) → is_nil (name_inserted n ms) ≡ false
+inserted_is_some n [] = refl
+inserted_is_some n (m ∷ ms) = go (name_cmp n m)
+  where
+    go : (r : Ordering) → is_nil (match_ordering r (n ∷ m ∷ ms) (m ∷ ms) (m ∷ name_inserted n ms)) ≡ false
+    go Less = refl
+    go Equal = refl
+    go Greater = refl
+
+both_are_some : (ns ms : List Name) → is_nil ms ≡ false → is_nil (names_of_both ns ms) ≡ false
+both_are_some [] ms h = h
+both_are_some (n ∷ ns) ms h = inserted_is_some n (names_of_both ns ms)
+
+pub mapped_is_some : (ks : List EntityType) → is_nil ks ≡ is_nil (map type_name_of ks)
+mapped_is_some [] = refl
+mapped_is_some (k ∷ ks) = refl
+
+pub some_joined : (rest own ks others : List EntityType) → names_of_both (map type_name_of rest) (map type_name_of ks) ≡ names_of_both (map type_name_of own) (map type_name_of others) → rest ≡ [] → is_nil others ≡ false → is_nil ks ≡ false
+some_joined rest own ks others h is some =
+    mapped_is_some ks
+    ∙ ap is_nil (sym (ap (λ ts. names_of_both (map type_name_of ts) (map type_name_of ks)) is) ∙ h)
+    ∙ both_are_some (map type_name_of own) (map type_name_of others) (sym (mapped_is_some others) ∙ some)
+
+-- a union of another number than one has no only member
+pub not_single : (ks : List EntityType) (n : ℕ) → n ≡ length ks → (n ≡ 1 → ⊥) → None ≡ only_member (map type_name_of ks)
+not_single [] n e h = refl
+not_single (k ∷ []) n e h = absurd (h e)
+not_single (k ∷ j ∷ ks) n e h = refl

@@ -1,8 +1,8 @@
 //! The attributes of records and entities: a map by name.
 
-ghost use Rattle.std.specs.Prelude.{◌≡◌, map, option_map, IfOk};
+ghost use Rattle.std.specs.Prelude.{◌≡◌, true, map, option_map, IfOk};
 ghost use Rattle.std.specs.Rc.{rc_str_bytes};
-ghost use Rattle.cedar_expr_model.specs.Whole.Records.{in_order};
+ghost use Rattle.cedar_expr_model.specs.Whole.Records.{in_order, names_rise};
 ghost use Rattle.cedar_schema_model.specs.Whole.Types.{attribute_named};
 ghost use Rattle.cedar_schema_model.specs.Whole.Subtype.{are_named};
 ghost use Rattle.cedar_schema_types.specs.Types.{attributes_of, attribute_of};
@@ -42,7 +42,8 @@ impl Attributes {
     /// The attributes in the order of their names.
     #[tactic(auto, using(crate::proofs::Entries::attributes_are))]
     pub fn iter(&self) -> Iter<'_, RcStr, AttributeType>
-        ensures { attributes_from (declared_pairs result) ≡ attributes_of self.now }
+        ensures attributes { attributes_from (declared_pairs result) ≡ attributes_of self.now }
+        ensures rising { names_rise (declared_pairs result) ≡ true }
     {
         self.attrs.iter()
     }

@@ -1,6 +1,7 @@
 //! Unions of entity types.
 
-ghost use Rattle.std.specs.Prelude.{◌≡◌};
+ghost use Rattle.std.specs.Prelude.{◌≡◌, false};
+ghost use Rattle.cedar_expr_model.specs.Whole.Lists.{is_nil};
 
 use cedar_expr_names::{EntityType, EntityUID};
 use std::alloc::{AllocError, Global};
@@ -12,14 +13,16 @@ use std::rc::Rc;
 #[derive(Debug, PartialEq, Eq, PartialOrd, Ord, Hash, Drop)]
 pub struct EntityLUB {
     lub_elements: Rc<BTreeSet<EntityType>>,
+    ghost inhabited: { is_nil lub_elements.value.keys ≡ false },
 }
 
 impl EntityLUB {
-    ghost use Rattle.std.specs.Prelude.{[], ◌∷◌, map, option_map, IfOk};
+    ghost use Rattle.std.specs.Prelude.{[], ◌∷◌, true, map, option_map, IfOk};
     ghost use Rattle.std.specs.List.{list_any};
     ghost use Rattle.cedar_expr_names.specs.Views.{type_name_of};
     ghost use Rattle.cedar_expr_model.specs.Name.{name_eq};
     ghost use Rattle.cedar_schema_model.specs.Whole.Types.{entity_types};
+    ghost use Rattle.cedar_schema_model.specs.Whole.OfLaws.Formed.{is_union};
     ghost use Rattle.cedar_schema_model.specs.Whole.Subtype.{are_among};
     ghost use Rattle.cedar_schema_model.specs.Whole.Join.{names_of_both, are_disjoint};
     ghost use Rattle.cedar_schema_types.specs.Unions.{members_of, only_member};
@@ -57,7 +60,8 @@ impl EntityLUB {
 
     /// The entity types, in the order of their names.
     pub fn iter(&self) -> Iter<'_, EntityType>
-        ensures { map type_name_of result ≡ members_of self.now }
+        ensures members { map type_name_of result ≡ members_of self.now }
+        ensures formed { is_union (members_of self.now) ≡ true }
     {
         self.lub_elements.iter()
     }

@@ -5,6 +5,7 @@ mod attributes;
 mod entity_kind;
 mod entity_lub;
 mod kinds;
+mod texts;
 mod types;
 
 pub use entity_kind::EntityKind;

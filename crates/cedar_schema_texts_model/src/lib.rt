@@ -1,0 +1,4 @@
+//! Definitions of the texts of types.
+#![tactic(auto)]
+
+pub mod worked;

@@ -1,0 +1,5 @@
+use Rattle.cedar_schema_types.proofs.Unions.{not_single}
+use Rattle.cedar_schema_types.proofs.entity_lub.EntityLUB.get_single_entity.Goals as goal
+
+pub returns-else-len-eq1 : goal.returns-else-len-eq1
+returns-else-len-eq1 c = not_single c.args.self.now.lub_elements.value.keys c.len.result (rw c.deref.ensures at c.len.ensures.len) c.if-len-eq1.false
