@@ -1,8 +1,6 @@
-//! Tests of expressions, their shapes and partial values.
+//! Tests of expressions and of their shapes.
 #![tactic(auto)]
 
-#[cfg(test)]
-mod partial;
 #[cfg(test)]
 mod shapes;
 #[cfg(test)]
