@@ -1,0 +1,7 @@
+//! Restricted expressions of a type.
+#![tactic(auto)]
+
+mod functions;
+mod restricted;
+
+pub use restricted::typecheck_restricted_expr;
