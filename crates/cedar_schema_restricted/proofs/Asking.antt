@@ -1,5 +1,5 @@
 -- Parts of an expression that are asked for a type, one after the other.
-use Rattle.std.proofs.Common.{◌≡◌, ◌&&◌, ◌||◌, not, ℕ, ◌+◌, ◌<◌, ◌≤◌, Bool, true, false, cond, List, [], ◌∷◌, map, drop, length, get_or, Option, Some, None, option_map, is_some, Result, Ok, Err, refl, sym, ap, ◌∙◌}
+use Rattle.std.proofs.Common.{◌≡◌, ◌&&◌, ◌||◌, not, ℕ, ◌+◌, ◌<◌, ◌≤◌, Bool, true, false, cond, List, [], ◌∷◌, map, drop, length, get_or, Option, Some, option_map, is_some, refl, sym, ap, ◌∙◌}
 use Rattle.std.proofs.lemmas.List.{drop_more, drop_all}
 use Rattle.std.proofs.lemmas.Map.Text.{is_eq-slice_cmp}
 use Rattle.std.specs.Borrow.{Bor}
@@ -23,7 +23,7 @@ use Rattle.cedar_schema_types.specs.Types.{attribute_of}
 use Rattle.cedar_schema_types.specs.AttributeLists.{attributes_from, declared_pairs}
 use Rattle.cedar_schema_types.specs.declared.types.AttributeType.{AttributeType}
 use Rattle.cedar_schema_admission_model.specs.Restricted.{Asked, asked_truth, asked_next, asked_for, all_asked_for, field_asked, fields_asked_for, has_tree_field, has_required_fields}
-use Rattle.cedar_schema_restricted.specs.Answers.{RefusesAsked, AnswersAsked}
+use Rattle.cedar_schema_restricted.specs.Answers.{RefusesAsked}
 
 -- what is asked first and answers yes leaves what is asked next; another answer stays
 yes_goes_on : (a d whole : Asked) (b : Bool) → asked_next a d ≡ whole → a ≡ asked_truth b → b ≡ true → d ≡ whole

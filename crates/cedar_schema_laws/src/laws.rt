@@ -1,0 +1,37 @@
+//! Laws of subtypes, joins and values of the code's types, each of which is well-formed. Each function's contract is the theorem;
+//! its body does nothing.
+
+ghost use Rattle.std.specs.Prelude.{◌≡◌, [], Some};
+ghost use Rattle.cedar_schema_model.specs.Whole.Types.{Mode, never};
+ghost use Rattle.cedar_schema_model.specs.Whole.Join.{reduce_to_join};
+ghost use Rattle.cedar_schema_laws.specs.Laws.{SubtypesReflexive, SubtypesTransitive, SubtypesAntisymmetric, JoinIsAbove, JoinIsLeast, JoinSwaps, ReductionIsOfMembers, SupertypesKeepValues, DisjointShareNoValue};
+
+use cedar_expr_values::ExtensionValue;
+
+/// In both modes subtyping is a partial order: a type is below itself, a type below one that is below a third is below the
+/// third, and types below each other are the same.
+pub fn subtypes_are_ordered()
+    ensures itself { SubtypesReflexive }
+    ensures on { SubtypesTransitive }
+    ensures both { SubtypesAntisymmetric }
+{}
+
+/// A join is above both types, and below every type above both in which the type of all sets stands nowhere; the order of the
+/// two doesn't matter.
+pub fn joins_are_bounds()
+    ensures above { JoinIsAbove }
+    ensures least { JoinIsLeast }
+    ensures swaps { JoinSwaps }
+{}
+
+/// The join of no types is the type of no value. Between types without that of all sets the order of several doesn't matter.
+pub fn reductions_are_of_members()
+    ensures none { (m : Mode) → reduce_to_join m [] ≡ Some never }
+    ensures members { ReductionIsOfMembers }
+{}
+
+/// A value of a type is a value of every type above it, and no value is of both of two disjoint types.
+pub fn values_keep_to_types<X: ExtensionValue>()
+    ensures kept { SupertypesKeepValues X.seen }
+    ensures apart { DisjointShareNoValue X.seen }
+{}
