@@ -1,0 +1,4 @@
+//! Laws of what a schema is built of.
+#![tactic(auto)]
+
+pub mod laws;
