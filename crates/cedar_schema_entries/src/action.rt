@@ -1,9 +1,10 @@
 //! Actions with what descends from them.
 
-ghost use Rattle.std.specs.Prelude.{◌≡◌, [], map, true, false, IfOk};
+ghost use Rattle.std.specs.Prelude.{◌≡◌, [], map, true, false, not, IfOk};
 ghost use Rattle.std.specs.List.{list_any};
 ghost use Rattle.cedar_expr_model.specs.Name.{name_eq};
 ghost use Rattle.cedar_expr_model.specs.Uid.{uid_eq};
+ghost use Rattle.cedar_expr_model.specs.Whole.Lists.{is_nil};
 ghost use Rattle.cedar_expr_names.specs.Views.{type_name_of, uid_of};
 ghost use Rattle.cedar_schema_model.specs.Whole.Types.{record_type, no_attributes, is_closed};
 ghost use Rattle.cedar_schema_types.specs.Types.{type_of};
@@ -185,5 +186,12 @@ impl ValidatorActionId {
         ensures { result ≡ list_any (uid_eq (uid_of uid.now)) (action_seen self.now).descendants }
     {
         self.descendants.contains(uid)
+    }
+
+    /// Whether some action descends from this one.
+    pub fn is_group(&self) -> bool
+        ensures { result ≡ not (is_nil (action_seen self.now).descendants) }
+    {
+        !self.descendants.is_empty()
     }
 }

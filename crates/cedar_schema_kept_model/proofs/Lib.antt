@@ -1,0 +1,5 @@
+mod Found
+mod Above
+mod Environs
+mod Entities
+mod External

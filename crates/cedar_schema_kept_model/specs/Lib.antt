@@ -1,0 +1,3 @@
+pub mod Kept
+pub mod KeptOf
+pub mod Laws

@@ -1,0 +1,32 @@
+//! What is read from a kept schema is what the schema says. Each function's contract is the theorem; its body does nothing.
+
+ghost use Rattle.cedar_schema_kept_model.specs.Laws.{TypesAreDeclared, ActionsAreDeclared, TypesAreFound, ActionsAreFound, AncestorsAreAbove, EnvironmentsAreKept, ActionEntitiesAreKept, AllActionEntitiesAreKept, ElsewhereIsKept};
+
+/// The same entity types and actions are declared, and what is found by a name or a uid is what the schema has there.
+pub fn declarations_are_kept()
+    ensures types { TypesAreDeclared }
+    ensures actions { ActionsAreDeclared }
+    ensures found_types { TypesAreFound }
+    ensures found_actions { ActionsAreFound }
+{}
+
+/// The ancestors of a declared entity type are those that it descends from.
+pub fn ancestors_are_above()
+    ensures { AncestorsAreAbove }
+{}
+
+/// The environments are those of the schema.
+pub fn environments_are_kept()
+    ensures { EnvironmentsAreKept }
+{}
+
+/// The actions as entities are those of the schema, each with all actions that it descends from.
+pub fn action_entities_are_kept()
+    ensures kept { ActionEntitiesAreKept }
+    ensures all { AllActionEntitiesAreKept }
+{}
+
+/// What is declared elsewhere is what the schema has as external.
+pub fn external_declarations_are_kept()
+    ensures { ElsewhereIsKept }
+{}
