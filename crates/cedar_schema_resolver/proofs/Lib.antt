@@ -1,0 +1,3 @@
+mod Stored
+mod Rows
+mod Outcome

@@ -1,0 +1,4 @@
+pub mod Commons
+pub mod Meanings
+pub mod Outcomes
+pub mod Refusals
