@@ -1,6 +1,9 @@
 pub mod Actions
 pub mod Namespaces
+pub mod Written
 pub mod Refusals
 pub mod Resolved
+pub mod Qualified
+pub mod WrittenDeclarations
 pub mod Marked
 pub mod Laws

@@ -6,6 +6,7 @@ pub mod all_defs;
 pub mod err;
 pub mod laws;
 pub mod namespace_def;
+pub mod naming;
 pub mod resolving;
 
 pub use actions::{ActionFragment, ActionsDef, ValidatorApplySpec};

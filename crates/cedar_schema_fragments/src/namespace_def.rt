@@ -9,14 +9,18 @@ ghost use Rattle.cedar_schema_decl.specs.Defined.{defined_of, resolving};
 ghost use Rattle.cedar_schema_decl.specs.Definitions.{commons_form, entities_form};
 ghost use Rattle.cedar_schema_decl.specs.Requalified.{requalified, requalified_entity, under_name, each};
 ghost use Rattle.cedar_schema_fragments.specs.Namespaces.{NamespaceForm, namespace_form, fragment_form};
+ghost use Rattle.cedar_schema_fragments.specs.Qualified.{namespace_qualified};
 ghost use Rattle.cedar_schema_fragments.specs.Refusals.{Refuses};
 ghost use Rattle.cedar_schema_fragments.specs.Resolved.{of_types, commons_resolved, entities_resolved, namespace_resolved};
+ghost use Rattle.cedar_schema_fragments.specs.Written.{WrittenNamespace, written_namespace, written_fragment};
 
 use crate::actions::ActionsDef;
 use crate::err::SchemaError;
+use crate::naming::{actions_in, commons_in, entities_in, pairs};
 use crate::resolving::{Resolve, resolve_each};
 use cedar_expr_names::{EntityType, InternalName};
-use cedar_expr_raw_names::ConditionalName;
+use cedar_expr_raw_names::{ConditionalName, RawName};
+use cedar_schema_decl::json_schema::{Fragment, NamespaceDefinition};
 use cedar_schema_decl::{AllDefs, CommonTypeDefs, EntityTypesDef};
 use std::alloc::Global;
 
@@ -43,6 +47,10 @@ pub struct ValidatorSchemaFragment<N, A>(
 // All that is declared, for namespaces.
 #[derive(Drop)]
 struct Namespaces<'a>(&'a AllDefs);
+
+// For namespaces as they are written.
+#[derive(Drop)]
+struct Definitions;
 
 impl<N, A> ValidatorSchemaFragment<N, A> {
     /// The fragment of these namespaces.
@@ -86,6 +94,28 @@ fn resolved_entities(
 }
 
 impl ValidatorNamespaceDef<ConditionalName, ConditionalName> {
+    /// What is declared in a namespace, which is the empty one where it has no name, under full names, with what each name may
+    /// stand for. Refuses actions of a reserved type, and answers want of memory.
+    pub fn from_namespace_definition(
+        alloc: Global,
+        namespace: Option<InternalName>,
+        definition: NamespaceDefinition<RawName>,
+    ) -> Result<ValidatorNamespaceDef<ConditionalName, ConditionalName>, SchemaError>
+        ensures made { IfOk result (λ r. namespace_qualified (written_namespace namespace definition) ≡ Ok (namespace_form conditional_of conditional_of r)) }
+        ensures refused { IfErr result (Refuses (namespace_qualified (written_namespace namespace definition))) }
+    {
+        let space = namespace.as_ref();
+        let common_types = commons_in(alloc, definition.common_types, space)?;
+        let entity_types = entities_in(alloc, definition.entity_types, space)?;
+        let actions = actions_in(alloc, definition.actions, space)?;
+        Ok(ValidatorNamespaceDef {
+            namespace,
+            common_types,
+            entity_types,
+            actions,
+        })
+    }
+
     /// The namespace with each name replaced by that of the type that it means, and each parent of an action by the action that it
     /// means. Refuses the first that means none, of common types, entity types and actions in this order, or a principal or
     /// resource type that is reserved, and answers want of memory.
@@ -133,7 +163,45 @@ impl<'a> Resolve for Namespaces<'a> {
     }
 }
 
+impl Resolve for Definitions {
+    type From = (Option<InternalName>, NamespaceDefinition<RawName>);
+
+    type To = ValidatorNamespaceDef<ConditionalName, ConditionalName>;
+
+    ghost Before = { WrittenNamespace };
+
+    ghost After = { NamespaceForm Conditional (Conditional × Text) };
+
+    ghost before = { λ e. written_namespace e.0 e.1 };
+
+    ghost after = { namespace_form conditional_of conditional_of };
+
+    ghost resolves = { λ _. namespace_qualified };
+
+    fn resolve(
+        &self,
+        alloc: Global,
+        part: (Option<InternalName>, NamespaceDefinition<RawName>),
+    ) -> Result<ValidatorNamespaceDef<ConditionalName, ConditionalName>, SchemaError> {
+        let (namespace, definition) = part;
+        ValidatorNamespaceDef::from_namespace_definition(alloc, namespace, definition)
+    }
+}
+
 impl ValidatorSchemaFragment<ConditionalName, ConditionalName> {
+    /// What is declared in each namespace of a fragment as it is written, under full names, with what each name may stand for.
+    /// Refuses actions of a reserved type, and answers want of memory.
+    pub fn from_schema_fragment(
+        alloc: Global,
+        fragment: Fragment<RawName>,
+    ) -> Result<ValidatorSchemaFragment<ConditionalName, ConditionalName>, SchemaError>
+        ensures made { IfOk result (λ r. each namespace_qualified (written_fragment fragment) ≡ Ok (fragment_form conditional_of conditional_of r)) }
+        ensures refused { IfErr result (Refuses (each namespace_qualified (written_fragment fragment))) }
+    {
+        let namespaces = resolve_each(alloc, pairs(alloc, fragment.0)?, &Definitions)?;
+        Ok(ValidatorSchemaFragment(namespaces))
+    }
+
     /// The fragment with each name replaced by that of the type that it means, and each parent of an action by the action that it
     /// means. Refuses the first that means none, namespace by namespace, or a principal or resource type that is reserved, and
     /// answers want of memory.
