@@ -8,3 +8,4 @@ pub mod Anys
 pub mod Wholes
 mod WrittenSets
 mod Together
+mod Listed

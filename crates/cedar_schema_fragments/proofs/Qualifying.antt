@@ -11,11 +11,11 @@ use Rattle.cedar_expr_names.specs.Namespaces.{space_of}
 use Rattle.cedar_expr_names.specs.Views.{name_of}
 use Rattle.cedar_expr_names.specs.declared.internal_name.InternalName.{InternalName}
 use Rattle.cedar_expr_raw_names.specs.declared.raw_name.RawName.{RawName}
-use Rattle.cedar_schema_model.specs.Whole.Reference.{ReferenceKind, to_entity, action_word}
+use Rattle.cedar_schema_model.specs.Whole.Reference.{to_entity, action_word}
 use Rattle.cedar_schema_decl.specs.Conditional.{Conditional, conditional_in, qualifying}
 use Rattle.cedar_schema_decl.specs.Forms.{TypeForm, bool_form, long_form, string_form, set_form, record_form, reference_form, extension_form, FieldForms, no_field_forms, field_form, EntityForm, standard_form, enumerated_form, external_form, ActionForm}
 use Rattle.cedar_schema_decl.specs.Requalified.{and_then, requalified, requalified_fields, requalified_entity, qualified_in, where_there, each}
-use Rattle.cedar_schema_fragments.specs.Qualified.{type_with, fields_with, entity_with, parent_with, action_with, full_name, common_qualified, entity_qualified, actions_qualified, reserved_action}
+use Rattle.cedar_schema_fragments.specs.Qualified.{type_with, fields_with, entity_with, parent_with, action_with, full_name, common_named, common_qualified, entity_qualified, actions_qualified}
 use Rattle.cedar_schema_fragments.specs.Refusals.{Refusal, reserved_type}
 use Rattle.cedar_schema_decl.specs.declared.json_schema.ActionType.{ActionType}
 use Rattle.cedar_schema_fragments.specs.Resolved.{unreserved}
@@ -70,6 +70,9 @@ module _ (space : Option Name) where
 
   pub commons_are : (cs : List (Text × TypeForm Name)) (ds : List (Name × TypeForm Conditional)) → each {R = Refusal} (λ c. Ok (common_qualified space c)) cs ≡ Ok ds → ds ≡ map (common_qualified space) cs
   commons_are cs ds h = each_is (common_qualified space) cs ds h
+
+  pub named_are : (cs : List (Text × TypeForm Conditional)) (ds : List (Name × TypeForm Conditional)) → each {R = Refusal} (λ c. Ok (common_named space c)) cs ≡ Ok ds → ds ≡ map (common_named space) cs
+  named_are cs ds h = each_is (common_named space) cs ds h
 
   pub entities_are : (es : List (Text × EntityForm Name)) (fs : List (Name × EntityForm Conditional)) → each {R = Refusal} (λ t. Ok (entity_qualified space t)) es ≡ Ok fs → fs ≡ map (entity_qualified space) es
   entities_are es fs h = each_is (entity_qualified space) es fs h

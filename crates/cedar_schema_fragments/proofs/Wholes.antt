@@ -1,17 +1,13 @@
 -- The forms that fragments have are those of the namespaces that are written.
 use Rattle.std.proofs.Common.{◌≡◌, List, [], ◌∷◌, ◌++◌, map, Option, Some, None, Result, Ok, Err, refl, sym, ap, ◌∙◌}
-use Rattle.std.specs.List.{flat_map}
 use Rattle.std.specs.Option.{option_map_or}
-use Rattle.std.proofs.lemmas.List.{append-nil}
 use Rattle.cedar_expr_model.specs.Name.{Text, Name}
-use Rattle.cedar_expr_model.specs.Uid.{Uid}
 use Rattle.cedar_schema_decl.specs.Conditional.{Conditional}
-use Rattle.cedar_schema_decl.specs.Forms.{ActionForm}
 use Rattle.cedar_schema_decl.specs.Requalified.{and_then, each}
 use Rattle.cedar_schema_fragments.proofs.Qualifying.{same_ok}
 use Rattle.cedar_schema_fragments.specs.Namespaces.{NamespaceForm}
-use Rattle.cedar_schema_fragments.specs.Qualified.{action_qualified, actions_qualified, reserved_action, qualified_with, namespace_qualified}
-use Rattle.cedar_schema_fragments.specs.Refusals.{Refusal, reserved_type}
+use Rattle.cedar_schema_fragments.specs.Qualified.{action_qualified, reserved_action, qualified_with, namespace_qualified}
+use Rattle.cedar_schema_fragments.specs.Refusals.{reserved_type}
 use Rattle.cedar_schema_fragments.specs.Written.{WrittenNamespace}
 
 -- a namespace with all that it declares

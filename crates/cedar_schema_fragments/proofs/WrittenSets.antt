@@ -1,17 +1,17 @@
 -- Sets that have what fragments declare have what the declarations declare that they write.
-use Rattle.std.proofs.Common.{◌≡◌, Bool, List, [], ◌∷◌, ◌++◌, map, Ok, refl, sym, ap, ◌∙◌}
-use Rattle.std.specs.List.{flat_map, list_any}
+use Rattle.std.proofs.Common.{◌≡◌, Bool, List, map, sym, ap, ◌∙◌}
+use Rattle.std.specs.List.{list_any}
 use Rattle.cedar_expr_model.specs.Name.{Text, Name, name_eq}
 use Rattle.cedar_expr_model.specs.Uid.{Uid, uid_eq}
 use Rattle.cedar_expr_names.specs.Views.{name_of, uid_of}
 use Rattle.cedar_expr_raw_names.specs.declared.conditional_name.ConditionalName.{ConditionalName}
-use Rattle.cedar_schema_model.specs.Whole.Reference.{Meant, meant_common, meant_entity}
+use Rattle.cedar_schema_model.specs.Whole.Reference.{meant_common, meant_entity}
 use Rattle.cedar_schema_model.specs.Whole.Declarations.{Declarations, common_name, entity_name, action_uid, is_declared, is_declared_action}
 use Rattle.cedar_schema_decl.specs.Conditional.{Conditional, conditional_of}
-use Rattle.cedar_schema_decl.specs.Defined.{Defined, is_defined, is_defined_action}
+use Rattle.cedar_schema_decl.specs.Defined.{Defined}
 use Rattle.cedar_schema_decl.specs.Definitions.{common_form, entity_form}
 use Rattle.cedar_schema_decl.specs.Laws.{HasDeclared}
-use Rattle.cedar_schema_fragments.proofs.Anys.{any_alike, any_map, any_map2, any_flat, any_flat_map}
+use Rattle.cedar_schema_fragments.proofs.Anys.{any_alike, any_map, any_flat, any_flat_map}
 use Rattle.cedar_schema_fragments.proofs.Wholes.{whole, wholes_are}
 use Rattle.cedar_schema_fragments.specs.Actions.{under_uid}
 use Rattle.cedar_schema_fragments.specs.Laws.{HasActions}

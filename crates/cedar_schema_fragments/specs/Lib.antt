@@ -6,4 +6,5 @@ pub mod Resolved
 pub mod Qualified
 pub mod WrittenDeclarations
 pub mod Marked
+pub mod Iterators
 pub mod Laws

@@ -1,6 +1,6 @@
 -- What stands in the place of declarations as they are written: full names, and with each name what it may stand for.
 -- Rule: references; declarations (docs/RULES.md).
-use Rattle.std.specs.Prelude.{List, map, Option, find, option_map}
+use Rattle.std.specs.Prelude.{List, [], map, Option, find, option_map}
 use Rattle.std.specs.Option.{option_map_or}
 use Rattle.std.specs.declared.result.Result.{Result}
 use Rattle.std.specs.declared.result.Result.TheVariants.{Ok, Err}
@@ -65,6 +65,13 @@ entity_qualified space t = (full_name space t.0, entity_with (conditional_in spa
 
 abbrev pub action_qualified : Option Name → Text × ActionForm Name (Name × Text) → Uid × ActionForm Conditional (Conditional × Text)
 action_qualified space a = (full_uid space a.0, action_with (conditional_in space) a.1)
+
+-- a common type whose names may stand for one of several already, and a namespace that declares common types alone
+abbrev pub common_named : Option Name → Text × TypeForm Conditional → Name × TypeForm Conditional
+common_named space c = (full_name space c.0, c.1)
+
+abbrev pub commons_alone : {A P : Type 0} → Option Name → List (Name × TypeForm A) → NamespaceForm A P
+commons_alone space cs = record { namespace = space; commons = cs; entities = []; actions = [] }
 
 -- the type of these actions, where it is reserved
 abbrev pub reserved_action : {X : Type 0} → Option Name → List (Text × X) → Option Name

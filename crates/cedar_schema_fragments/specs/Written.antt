@@ -11,6 +11,8 @@ use Rattle.cedar_expr_names.specs.declared.id.Id.{Id}
 use Rattle.cedar_expr_names.specs.declared.internal_name.InternalName.{InternalName}
 use Rattle.cedar_expr_raw_names.specs.Views.{raw_name_of}
 use Rattle.cedar_expr_raw_names.specs.declared.raw_name.RawName.{RawName}
+use Rattle.cedar_expr_raw_names.specs.declared.conditional_name.ConditionalName.{ConditionalName}
+use Rattle.cedar_schema_decl.specs.Conditional.{Conditional, conditional_of}
 use Rattle.cedar_schema_decl.specs.Forms.{TypeForm, record_form, no_field_forms, EntityForm, standard_form, enumerated_form, external_form, ActionForm}
 use Rattle.cedar_schema_decl.specs.Definitions.{common_form}
 use Rattle.cedar_schema_decl.specs.Trees.{type_form, record_fields}
@@ -49,6 +51,10 @@ action_type_form f a = record {
 -- those that stand under words or ids
 abbrev pub commons_written : List (Id × CommonType RawName) → List (Text × TypeForm Name)
 commons_written es = map (λ e. (id_text e.0, common_form raw_name_of e.1)) es
+
+-- common types whose names may stand for one of several
+abbrev pub commons_known : List (Id × CommonType ConditionalName) → List (Text × TypeForm Conditional)
+commons_known es = map (λ e. (id_text e.0, common_form conditional_of e.1)) es
 
 abbrev pub entities_written : List (Id × EntityType RawName) → List (Text × EntityForm Name)
 entities_written es = map (λ e. (id_text e.0, kind_form raw_name_of e.1.kind)) es

@@ -3,6 +3,7 @@
 
 pub mod actions;
 pub mod all_defs;
+pub mod declared_names;
 pub mod err;
 pub mod laws;
 pub mod namespace_def;
@@ -10,5 +11,6 @@ pub mod naming;
 pub mod resolving;
 
 pub use actions::{ActionFragment, ActionsDef, ValidatorApplySpec};
+pub use declared_names::{DeclaredNames, DeclaredNamespaces};
 pub use err::SchemaError;
 pub use namespace_def::{ValidatorNamespaceDef, ValidatorSchemaFragment};

@@ -1,28 +1,33 @@
 //! What is declared in a namespace, and in the namespaces of a fragment, under full names.
 
-ghost use Rattle.std.specs.Prelude.{◌≡◌, map, option_map, IfOk, IfErr};
+ghost use Rattle.std.specs.Prelude.{◌≡◌, [], ◌∷◌, map, option_map, IfOk, IfErr};
 ghost use Rattle.std.specs.declared.result.Result.TheVariants.{Ok};
 ghost use Rattle.cedar_expr_model.specs.Name.{Name, Text};
-ghost use Rattle.cedar_expr_names.specs.Views.{name_of, type_name_of};
+ghost use Rattle.cedar_expr_names.specs.Namespaces.{space_of};
+ghost use Rattle.cedar_expr_names.specs.Views.{id_text, name_of, type_name_of, uid_of};
 ghost use Rattle.cedar_schema_decl.specs.Conditional.{Conditional, conditional_of};
 ghost use Rattle.cedar_schema_decl.specs.Defined.{defined_of, resolving};
-ghost use Rattle.cedar_schema_decl.specs.Definitions.{commons_form, entities_form};
+ghost use Rattle.cedar_schema_decl.specs.Definitions.{common_form, commons_form, entities_form};
 ghost use Rattle.cedar_schema_decl.specs.Requalified.{requalified, requalified_entity, under_name, each};
+ghost use Rattle.cedar_schema_fragments.specs.Iterators.{names_left, spaces_left};
+ghost use Rattle.cedar_schema_fragments.specs.Marked.{common_names, entity_names, action_uids};
 ghost use Rattle.cedar_schema_fragments.specs.Namespaces.{NamespaceForm, namespace_form, fragment_form};
-ghost use Rattle.cedar_schema_fragments.specs.Qualified.{namespace_qualified};
+ghost use Rattle.cedar_schema_fragments.specs.Qualified.{common_named, commons_alone, namespace_qualified};
 ghost use Rattle.cedar_schema_fragments.specs.Refusals.{Refuses};
 ghost use Rattle.cedar_schema_fragments.specs.Resolved.{of_types, commons_resolved, entities_resolved, namespace_resolved};
-ghost use Rattle.cedar_schema_fragments.specs.Written.{WrittenNamespace, written_namespace, written_fragment};
+ghost use Rattle.cedar_schema_fragments.specs.Written.{WrittenNamespace, commons_known, written_namespace, written_fragment};
 
-use crate::actions::ActionsDef;
+use crate::actions::{ActionFragment, ActionsDef};
+use crate::declared_names::{DeclaredNames, DeclaredNamespaces};
 use crate::err::SchemaError;
-use crate::naming::{actions_in, commons_in, entities_in, pairs};
+use crate::naming::{actions_in, commons_in, entities_in, full_name, named_commons, pairs};
 use crate::resolving::{Resolve, resolve_each};
-use cedar_expr_names::{EntityType, InternalName};
+use cedar_expr_names::{EntityType, EntityUID, Id, InternalName};
 use cedar_expr_raw_names::{ConditionalName, RawName};
-use cedar_schema_decl::json_schema::{Fragment, NamespaceDefinition};
-use cedar_schema_decl::{AllDefs, CommonTypeDefs, EntityTypesDef};
-use std::alloc::Global;
+use cedar_schema_decl::json_schema::{CommonType, Fragment, NamespaceDefinition};
+use cedar_schema_decl::{AllDefs, CommonTypeDefs, EntityTypeFragment, EntityTypesDef};
+use std::alloc::{AllocError, Global};
+use std::collections::BTreeMap;
 
 /// What is declared in one namespace, under full names.
 #[derive(Drop)]
@@ -52,7 +57,46 @@ struct Namespaces<'a>(&'a AllDefs);
 #[derive(Drop)]
 struct Definitions;
 
+impl<N, A> ValidatorNamespaceDef<N, A> {
+    /// Goes over the names of all entity types that are declared, in order.
+    pub fn all_declared_entity_type_names(
+        &self,
+    ) -> DeclaredNames<'_, InternalName, EntityTypeFragment<N>>
+        ensures { map name_of (names_left result) ≡ entity_names self.now.entity_types }
+    {
+        DeclaredNames::new(self.entity_types.defs.as_slice())
+    }
+
+    /// Goes over the names of all common types that are declared, in order.
+    pub fn all_declared_common_type_names(&self) -> DeclaredNames<'_, InternalName, CommonType<N>>
+        ensures { map name_of (names_left result) ≡ common_names self.now.common_types }
+    {
+        DeclaredNames::new(self.common_types.defs.as_slice())
+    }
+
+    /// Goes over the uids of all actions that are declared, in order.
+    pub fn all_declared_action_names(&self) -> DeclaredNames<'_, EntityUID, ActionFragment<N, A>>
+        ensures { map uid_of (names_left result) ≡ action_uids self.now.actions }
+    {
+        DeclaredNames::new(self.actions.actions.as_slice())
+    }
+
+    /// The name of the namespace. The empty one has none.
+    pub fn namespace(&self) -> Option<&InternalName>
+        ensures { space_of result ≡ option_map name_of self.now.namespace }
+    {
+        self.namespace.as_ref()
+    }
+}
+
 impl<N, A> ValidatorSchemaFragment<N, A> {
+    /// Goes over the names of the namespaces, in order. The empty one has none.
+    pub fn namespaces(&self) -> DeclaredNamespaces<'_, N, A>
+        ensures { spaces_left result ≡ map (λ n. option_map name_of n.namespace) self.now.0.items }
+    {
+        DeclaredNamespaces::new(self.0.as_slice())
+    }
+
     /// The fragment of these namespaces.
     pub fn from_namespaces(
         namespaces: Vec<ValidatorNamespaceDef<N, A>>,
@@ -113,6 +157,45 @@ impl ValidatorNamespaceDef<ConditionalName, ConditionalName> {
             common_types,
             entity_types,
             actions,
+        })
+    }
+
+    /// A namespace, which is the empty one where it has no name, that declares these common types alone, under full names. Answers
+    /// want of memory.
+    pub fn from_common_type_defs(
+        alloc: Global,
+        namespace: Option<InternalName>,
+        defs: BTreeMap<Id, CommonType<ConditionalName>>,
+    ) -> Result<ValidatorNamespaceDef<ConditionalName, ConditionalName>, AllocError>
+        ensures { IfOk result (λ r. namespace_form conditional_of conditional_of r ≡ commons_alone (option_map name_of namespace) (map (common_named (option_map name_of namespace)) (commons_known defs.entries))) }
+    {
+        let common_types = named_commons(alloc, defs, namespace.as_ref())?;
+        Ok(ValidatorNamespaceDef {
+            namespace,
+            common_types,
+            entity_types: EntityTypesDef::new(alloc),
+            actions: ActionsDef::new(alloc),
+        })
+    }
+
+    /// A namespace, which is the empty one where it has no name, that declares this common type alone, under its full name. Answers
+    /// want of memory.
+    pub fn from_common_type_def(
+        alloc: Global,
+        namespace: Option<InternalName>,
+        def: (Id, CommonType<ConditionalName>),
+    ) -> Result<ValidatorNamespaceDef<ConditionalName, ConditionalName>, AllocError>
+        ensures { IfOk result (λ r. namespace_form conditional_of conditional_of r ≡ commons_alone (option_map name_of namespace) (common_named (option_map name_of namespace) (id_text def.0, common_form conditional_of def.1) ∷ [])) }
+    {
+        let (word, common) = def;
+        let name = full_name(alloc, namespace.as_ref(), word)?;
+        let mut defs = Vec::new(alloc);
+        defs.push((name, common))?;
+        Ok(ValidatorNamespaceDef {
+            namespace,
+            common_types: CommonTypeDefs { defs },
+            entity_types: EntityTypesDef::new(alloc),
+            actions: ActionsDef::new(alloc),
         })
     }
 

@@ -15,10 +15,10 @@ ghost use Rattle.cedar_schema_decl.specs.Definitions.{common_form, commons_form,
 ghost use Rattle.cedar_schema_decl.specs.Forms.{ActionForm, EntityForm, TypeForm, record_form, no_field_forms};
 ghost use Rattle.cedar_schema_decl.specs.Trees.{type_form};
 ghost use Rattle.cedar_schema_fragments.specs.Actions.{parent_form, action_form, actions_form, under_uid};
-ghost use Rattle.cedar_schema_fragments.specs.Qualified.{type_with, entity_with, parent_with, action_with, full_name, common_qualified, entity_qualified, actions_qualified};
+ghost use Rattle.cedar_schema_fragments.specs.Qualified.{type_with, entity_with, parent_with, action_with, full_name, common_named, common_qualified, entity_qualified, actions_qualified};
 ghost use Rattle.cedar_schema_fragments.specs.Refusals.{Refuses};
 ghost use Rattle.cedar_schema_fragments.specs.Resolved.{unreserved};
-ghost use Rattle.cedar_schema_fragments.specs.Written.{kind_form, action_type_form, commons_written, entities_written, actions_written};
+ghost use Rattle.cedar_schema_fragments.specs.Written.{kind_form, action_type_form, commons_known, commons_written, entities_written, actions_written};
 
 use crate::actions::{ActionFragment, ActionsDef, ValidatorApplySpec};
 use crate::err::SchemaError;
@@ -40,6 +40,10 @@ use std::rc::RcStr;
 // A namespace, or the empty one: for common types that are written in it.
 #[derive(Drop)]
 struct Commons<'a>(Option<&'a InternalName>);
+
+// The same for common types whose names may stand for one of several already.
+#[derive(Drop)]
+struct NamedCommons<'a>(Option<&'a InternalName>);
 
 // The same for entity types.
 #[derive(Drop)]
@@ -174,6 +178,32 @@ impl<'a> Resolve for Commons<'a> {
         let ty = type_in(alloc, common.ty, self.0)?;
         let loc = common.loc;
         Ok((name, CommonType { ty, loc }))
+    }
+}
+
+impl<'a> Resolve for NamedCommons<'a> {
+    type From = (Id, CommonType<ConditionalName>);
+
+    type To = (InternalName, CommonType<ConditionalName>);
+
+    ghost Before = { Text × TypeForm Conditional };
+
+    ghost After = { Name × TypeForm Conditional };
+
+    ghost before = { λ e. (id_text e.0, common_form conditional_of e.1) };
+
+    ghost after = { λ e. (name_of e.0, common_form conditional_of e.1) };
+
+    ghost resolves = { λ w c. Ok (common_named (space_of w.0) c) };
+
+    fn resolve(
+        &self,
+        alloc: Global,
+        part: (Id, CommonType<ConditionalName>),
+    ) -> Result<(InternalName, CommonType<ConditionalName>), SchemaError> {
+        let (word, common) = part;
+        let name = full_name(alloc, self.0, word)?;
+        Ok((name, common))
     }
 }
 
@@ -346,6 +376,20 @@ pub(crate) fn commons_in(
     ensures { IfOk result (λ r. commons_form conditional_of r ≡ map (common_qualified (space_of namespace.entry)) (commons_written commons.entries)) }
 {
     match resolve_each(alloc, pairs(alloc, commons)?, &Commons(namespace)) {
+        Ok(defs) => Ok(CommonTypeDefs { defs }),
+        Err(_) => Err(AllocError),
+    }
+}
+
+// The common types under their full names.
+pub(crate) fn named_commons(
+    alloc: Global,
+    commons: BTreeMap<Id, CommonType<ConditionalName>>,
+    namespace: Option<&InternalName>,
+) -> Result<CommonTypeDefs<ConditionalName>, AllocError>
+    ensures { IfOk result (λ r. commons_form conditional_of r ≡ map (common_named (space_of namespace.entry)) (commons_known commons.entries)) }
+{
+    match resolve_each(alloc, pairs(alloc, commons)?, &NamedCommons(namespace)) {
         Ok(defs) => Ok(CommonTypeDefs { defs }),
         Err(_) => Err(AllocError),
     }

@@ -1,5 +1,5 @@
-mod Places
+pub mod Places
 mod Numbering
-mod Graphing
+pub mod Graphing
 mod Gathering
 mod Chains

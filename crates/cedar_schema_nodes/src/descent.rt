@@ -2,7 +2,7 @@
 
 ghost use Rattle.std.specs.Prelude.{◌≡◌, map, length, IfOk, IfErr};
 ghost use Rattle.cedar_schema_closure.specs.Graphs.{IsWithin};
-ghost use Rattle.cedar_schema_nodes.specs.Numbers.{names_in, TellsRepeated, AreSetsAt, seen_nodes};
+ghost use Rattle.cedar_schema_nodes.specs.Numbers.{names_in, AreOnce, TellsRepeated, AreSetsAt, seen_nodes};
 ghost use Rattle.cedar_schema_nodes.specs.Descent.{IsGraphOf, AreDescendants, AreAncestors, TellsDescent};
 
 use crate::err::{DescentError, RepeatedError};
@@ -12,10 +12,14 @@ use cedar_schema_closure::{closure, first_on_cycle, turned};
 use std::alloc::{AllocError, Global};
 use std::collections::BTreeSet;
 
-// The graph of the numbers of nodes, with an edge from each to each of its parents that is a node. Refuses a node that stands twice,
-// and answers want of memory.
-fn graph<N: Node>(alloc: Global, nodes: &[(N, Vec<N>)]) -> Result<Vec<Vec<usize>>, RepeatedError>
+/// The graph of the numbers of nodes, with an edge from each to each of its parents that is a node. Refuses a node that stands twice,
+/// and answers want of memory.
+pub fn graph<N: Node>(
+    alloc: Global,
+    nodes: &[(N, Vec<N>)],
+) -> Result<Vec<Vec<usize>>, RepeatedError>
     ensures graph { IfOk result (λ g. IsGraphOf (seen_nodes N.seen nodes.now) g.items) }
+    ensures once { IfOk result (λ g. AreOnce (names_in N.seen nodes.now)) }
     ensures repeated { IfErr result (TellsRepeated (names_in N.seen nodes.now)) }
 {
     let numbers = numbers(alloc, nodes)?;

@@ -1,3 +1,9 @@
 mod Stored
 mod Rows
 mod Outcome
+mod Using
+mod Nodes
+mod Solving
+mod Inside
+mod Unique
+mod Declared

@@ -12,13 +12,13 @@ use Rattle.cedar_expr_names.specs.Views.{name_of, plain_name_of, refused_name_of
 use Rattle.cedar_schema_model.specs.Whole.Types.{Ty, entity_type, extension_type, set_type, record_type, is_closed, Attributes}
 use Rattle.cedar_schema_model.specs.Whole.Reference.{Meant, meant_common, meant_entity, meant_at}
 use Rattle.cedar_schema_model.specs.Whole.Declarations.{extensions_in, extensions_in_fields}
-use Rattle.cedar_schema_model.specs.Whole.Resolved.{with_attribute, type_meant, attributes_of_record}
+use Rattle.cedar_schema_model.specs.Whole.Resolved.{with_attribute, type_meant}
 use Rattle.cedar_schema_decl.specs.Defined.{is_defined}
 use Rattle.cedar_schema_decl.specs.Forms.{TypeForm, bool_form, long_form, string_form, set_form, record_form, reference_form, extension_form, FieldForms, no_field_forms, field_form}
 use Rattle.cedar_schema_decl.specs.Laws.{as_expr, as_exprs}
 use Rattle.cedar_schema_decl.specs.Requalified.{and_then}
 use Rattle.cedar_schema_resolver.specs.Meanings.{Setting, told, told_fields, meant_in, meant_in_fields}
-use Rattle.cedar_schema_resolver.specs.Outcomes.{Refusal, unknown_extension, reserved_type, common_on_cycle, repeated_common, refusal, Refuses, unreserved, meant_outcome, extension_among, extension_outcome, type_outcome, fields_outcome}
+use Rattle.cedar_schema_resolver.specs.Outcomes.{Refusal, unknown_extension, reserved_type, common_on_cycle, repeated_common, Refuses, unreserved, meant_outcome, extension_among, extension_outcome, type_outcome, fields_outcome}
 use Rattle.cedar_schema_resolver.specs.Refusals.{AreKnown, TellsUntold}
 use Rattle.cedar_schema_resolver.specs.declared.err.ResolveError.{ResolveError}
 use Rattle.cedar_schema_resolver.specs.declared.err.ResolveError.TheVariants.{OutOfMemory, UnknownExtensionType, ReservedName, DuplicateCommonType, CycleInCommonTypeReferences}

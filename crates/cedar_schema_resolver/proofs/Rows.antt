@@ -1,7 +1,7 @@
 -- What comes of attributes in a row is what comes of their list.
-use Rattle.std.proofs.Common.{◌≡◌, List, [], ◌∷◌, map, Bool, Result, Ok, Err, refl, ap, ◌∙◌}
+use Rattle.std.proofs.Common.{◌≡◌, List, [], ◌∷◌, ◌++◌, map, Bool, Result, Ok, Err, refl, sym, ap, ◌∙◌}
+use Rattle.std.proofs.lemmas.List.{map-append}
 use Rattle.std.specs.Ordering.{match_ordering}
-use Rattle.std.specs.Rc.{rc_str_bytes}
 use Rattle.std.specs.declared.alloc.Global.{Global}
 use Rattle.std.specs.declared.rc.RcStr.{RcStr}
 use Rattle.std.specs.declared.cmp.Ordering.{Ordering}
@@ -17,7 +17,11 @@ use Rattle.cedar_schema_decl.specs.Requalified.{and_then, under_name, each}
 use Rattle.cedar_schema_decl.specs.Trees.{Rows, in_a_row, variant_step, record_step, type_step, attribute_step, attribute_form, attribute_rows, record_rows}
 use Rattle.cedar_schema_decl.specs.declared.json_schema.RecordType.{RecordType, out-RecordType, fold_out-RecordType}
 use Rattle.cedar_schema_decl.specs.declared.json_schema.TypeOfAttribute.{TypeOfAttribute}
-use Rattle.cedar_schema_types.specs.AttributeLists.{attributes_from}
+use Rattle.cedar_expr_values.proofs.Recorded.{under}
+use Rattle.cedar_schema_types.specs.AttributeLists.{attributes_from, declared_pairs}
+use Rattle.cedar_schema_types.specs.Types.{attribute_of}
+use Rattle.cedar_schema_types.specs.declared.types.AttributeType.{AttributeType}
+use Rattle.cedar_schema_types.proofs.InOrder.{pairs_under}
 use Rattle.cedar_schema_resolver.specs.Meanings.{Setting}
 use Rattle.cedar_schema_resolver.specs.Outcomes.{Refusal, type_outcome, fields_outcome, attribute_outcome}
 
@@ -61,3 +65,8 @@ module _ {N A : Type 0} (f : N → A) where
 
   pub opened : (r : RecordType N) → record_rows f r ≡ attribute_rows f (out-RecordType N r).attributes.entries
   opened r = fold_out-RecordType N (TypeForm A) (Rows A) (TypeForm A) (TypeForm A × Bool) (variant_step f) record_step type_step attribute_step r ∙ twice (out-RecordType N r).attributes.entries
+
+-- one more of what is declared
+pub one_more : (es fs : List (RcStr Global × AttributeType)) (a : Text) (t : AttributeType) → map by_text fs ≡ map by_text es ++ (a, t) ∷ [] → declared_pairs fs ≡ declared_pairs es ++ (a, attribute_of t) ∷ []
+one_more es fs a t h =
+    sym (pairs_under fs) ∙ ap (map (under attribute_of)) h ∙ map-append (under attribute_of) (map by_text es) ((a, t) ∷ []) ∙ ap (λ ps. ps ++ (a, attribute_of t) ∷ []) (pairs_under es)

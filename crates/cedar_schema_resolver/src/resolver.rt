@@ -1,8 +1,10 @@
 //! Written types with resolved names as types of a schema.
 
-ghost use Rattle.std.specs.Prelude.{◌≡◌, IfOk, IfErr};
+ghost use Rattle.std.specs.Prelude.{◌≡◌, [], ◌∷◌, ◌++◌, map, IfOk, IfErr};
+ghost use Rattle.std.specs.Rc.{rc_str_bytes};
 ghost use Rattle.std.specs.declared.result.Result.TheVariants.{Ok};
 ghost use Rattle.cedar_expr_names.specs.Views.{name_of, plain_name_of};
+ghost use Rattle.cedar_expr_values.specs.Fields.{by_text};
 ghost use Rattle.cedar_schema_model.specs.Whole.Reference.{to_common, to_entity, to_either};
 ghost use Rattle.cedar_schema_decl.specs.Forms.{record_form, reference_form, extension_form};
 ghost use Rattle.cedar_schema_decl.specs.Requalified.{under_name, each};
@@ -144,8 +146,7 @@ fn convert_attributes(
 {
     let mut made = Vec::with_capacity(alloc, fields.attributes.len())?;
     for (name, attribute) in fields.attributes.iter() {
-        let copy = name.clone()?;
-        made.push((copy, convert_attribute(alloc, attribute, resolver)?))?;
+        made = with_pair(made, name, convert_attribute(alloc, attribute, resolver)?)?;
     }
     Ok(made)
 }
@@ -162,6 +163,20 @@ fn convert_attribute(
 {
     let ty = convert_type(alloc, &attribute.ty, resolver)?;
     Ok(AttributeType::new_with_loc(ty, attribute.required, attribute.loc))
+}
+
+// The pairs with one more, under a copy of the name.
+fn with_pair<T: Drop>(
+    pairs: Vec<(RcStr, T)>,
+    name: &RcStr,
+    it: T,
+) -> Result<Vec<(RcStr, T)>, AllocError>
+    ensures { IfOk result (λ r. map by_text r.items ≡ map by_text pairs.items ++ (rc_str_bytes name.now, it) ∷ []) }
+{
+    let mut pairs = pairs;
+    let copy = name.clone()?;
+    pairs.push((copy, it))?;
+    Ok(pairs)
 }
 
 // A copy of the name, unless it is reserved.

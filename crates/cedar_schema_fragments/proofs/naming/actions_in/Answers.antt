@@ -1,4 +1,3 @@
-use Rattle.std.proofs.Common.{ap}
 use Rattle.cedar_expr_names.specs.Namespaces.{space_of}
 use Rattle.cedar_expr_names.specs.Views.{type_name_of}
 use Rattle.cedar_schema_decl.specs.Conditional.{conditional_of}

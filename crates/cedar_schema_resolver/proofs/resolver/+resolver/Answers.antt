@@ -1,5 +1,4 @@
-use Rattle.std.proofs.Common.{◌≡◌, [], ◌∷◌, Ok, sym, ap, ◌∙◌}
-use Rattle.std.proofs.lemmas.List.{map-append}
+use Rattle.std.proofs.Common.{◌≡◌, Ok, sym, ap, ◌∙◌}
 use Rattle.std.specs.Rc.{rc_str_bytes}
 use Rattle.cedar_expr_names.specs.Views.{name_of}
 use Rattle.cedar_expr_names.specs.declared.internal_name.InternalName.{InternalName}
@@ -8,10 +7,10 @@ use Rattle.cedar_schema_decl.specs.Trees.{in_a_row, record_rows, attribute_form,
 use Rattle.cedar_schema_decl.specs.declared.json_schema.RecordType.{out-RecordType}
 use Rattle.cedar_schema_decl.proofs.Gathered.{handed, gathers_none, gathers_one, gathers_all, gathers_not}
 use Rattle.cedar_schema_types.specs.Types.{attribute_of}
-use Rattle.cedar_schema_types.specs.AttributeLists.{declared_pair, declared_pairs}
+use Rattle.cedar_schema_types.specs.AttributeLists.{declared_pairs}
 use Rattle.cedar_schema_resolver.specs.Meanings.{setting_of}
 use Rattle.cedar_schema_resolver.specs.Outcomes.{Refuses, fields_outcome, attribute_outcome}
-use Rattle.cedar_schema_resolver.proofs.Rows.{rows_made, rows_refused, opened}
+use Rattle.cedar_schema_resolver.proofs.Rows.{rows_made, rows_refused, opened, one_more}
 use Rattle.cedar_schema_resolver.proofs.resolver.+resolver.Goals as goal
 
 pub convert_record-returns-in_err-attrs-clause-refused : goal.convert_record-returns-in_err-attrs-clause-refused
@@ -45,12 +44,12 @@ convert_attributes-loop-name-preserved t c =
       tt,
       tt,
       gathers_one f (record_rows name_of c.args.fields.now) (attribute_rows name_of c.loop-name.name-iterator) (attribute_rows name_of c.next.new.self)
-          (declared_pairs c.loop-name.made.items) (declared_pairs c.push.new.self.items)
-          (name, attribute_form name_of c.in-Some.attribute.now) (rc_str_bytes c.in_ok-copy.copy, made)
+          (declared_pairs c.loop-name.made.items) (declared_pairs c.in_ok-made-2.made.items)
+          (name, attribute_form name_of c.in-Some.attribute.now) (name, made)
           c.loop-name.invariant.2
           (ap (attribute_rows name_of) c.in-Some.ensures.steps)
-          (ap (and_then (λ y. Ok (name, y))) c.in_ok-convert_attribute.ensures.made ∙ ap (λ n. Ok (n, made)) (sym c.in_ok-copy.ensures.cases))
-          (ap declared_pairs c.in_ok-push.ensures.items ∙ map-append declared_pair c.loop-name.made.items ((c.in_ok-copy.copy, c.in_ok-convert_attribute.field-0) ∷ [])),
+          (ap (and_then (λ y. Ok (name, y))) c.in_ok-convert_attribute.ensures.made)
+          (one_more c.loop-name.made.items c.in_ok-made-2.made.items name c.in_ok-convert_attribute.field-0 c.in_ok-made-2.ensures),
     )
 
 pub convert_attributes-returns-clause-made : goal.convert_attributes-returns-clause-made

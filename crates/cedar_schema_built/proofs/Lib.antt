@@ -1,0 +1,7 @@
+pub mod Putting
+pub mod Named
+pub mod Going
+mod Elsewhere
+mod Rows
+mod Adding
+mod Gathered

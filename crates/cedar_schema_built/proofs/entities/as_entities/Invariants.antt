@@ -1,0 +1,9 @@
+use Rattle.std.proofs.Common.{◌≡◌, ◌++◌, map}
+use Rattle.cedar_expr_names.specs.Views.{uid_of}
+use Rattle.cedar_store_entities.specs.Views.{entity_pair}
+use Rattle.cedar_schema_kept_model.specs.Kept.{kept_as_entity, kept_action_entities}
+use Rattle.cedar_schema_built.specs.Views.{schema_kept}
+use Rattle.cedar_schema_built.proofs.entities.as_entities.Given as goal
+
+abbrev pub invariant-loop-uid : goal.invariant-loop-uid
+invariant-loop-uid l = (map entity_pair l.entities.items ++ map (λ u. (u, kept_as_entity (schema_kept l.schema) u)) (map uid_of l.uid-iterator)) ≡ kept_action_entities (schema_kept l.schema)

@@ -1,0 +1,5 @@
+pub mod Put
+pub mod Entries
+pub mod Views
+pub mod Iterators
+pub mod Above

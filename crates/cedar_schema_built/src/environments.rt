@@ -1,0 +1,72 @@
+//! The environments of a schema.
+
+ghost use Rattle.std.specs.Prelude.{◌≡◌, ◌++◌, ◌∷◌, [], map, IfOk, OnOk};
+ghost use Rattle.std.specs.List.{flat_map};
+ghost use Rattle.cedar_expr_names.specs.Views.{type_name_of, uid_of};
+ghost use Rattle.cedar_schema_entries.specs.Views.{action_seen};
+ghost use Rattle.cedar_schema_kept_model.specs.Kept.{kinds_with, kinds_of, kept_environments};
+ghost use Rattle.cedar_schema_built.specs.Views.{schema_kept, request_kind};
+
+use crate::schema::ValidatorSchema;
+use cedar_expr_names::{EntityType, EntityUID};
+use cedar_schema_entries::ValidatorActionId;
+use cedar_store_records::RequestType;
+use std::alloc::{AllocError, Global};
+
+impl ValidatorSchema {
+    /// The environments: each action with each of its principal and resource types, once. Answers want of memory.
+    pub fn unlinked_request_envs(&self, alloc: Global) -> Result<Vec<RequestType>, AllocError>
+        ensures { IfOk result (λ rs. map request_kind rs.items ≡ kept_environments (schema_kept self.now)) }
+    {
+        let mut found = Vec::new(alloc);
+        for action in self.action_ids() {
+            add_environments(&mut found, action)?;
+        }
+        Ok(found)
+    }
+}
+
+// Puts the environments of the action behind those that were found. Answers want of memory.
+fn add_environments(
+    found: &mut Vec<RequestType>,
+    action: &ValidatorActionId,
+) -> Result<(), AllocError>
+    ensures { OnOk result (map request_kind found.new.items ≡ map request_kind found.old.items ++ kinds_of (action_seen action.now)) }
+{
+    for principal in action.principals() {
+        add_kinds(found, action, principal)?;
+    }
+    Ok(())
+}
+
+// The same for one of its types of principals.
+fn add_kinds(
+    found: &mut Vec<RequestType>,
+    action: &ValidatorActionId,
+    principal: &EntityType,
+) -> Result<(), AllocError>
+    ensures { OnOk result (map request_kind found.new.items ≡ map request_kind found.old.items ++ kinds_with (action_seen action.now).uid (action_seen action.now).applied.resources (type_name_of principal.now)) }
+{
+    for resource in action.resources() {
+        add_kind(found, action.name(), principal, resource)?;
+    }
+    Ok(())
+}
+
+// The same for one of its types of resources.
+fn add_kind(
+    found: &mut Vec<RequestType>,
+    action: &EntityUID,
+    principal: &EntityType,
+    resource: &EntityType,
+) -> Result<(), AllocError>
+    ensures { OnOk result (map request_kind found.new.items ≡ map request_kind found.old.items ++ record { principal = type_name_of principal.now; action = uid_of action.now; resource = type_name_of resource.now } ∷ []) }
+{
+    let kind = RequestType {
+        principal: principal.clone()?,
+        action: action.clone()?,
+        resource: resource.clone()?,
+    };
+    found.push(kind)?;
+    Ok(())
+}

@@ -1,0 +1,14 @@
+//! Built schemas: entity types and actions by name, and what is read from them.
+#![tactic(auto)]
+
+mod entities;
+mod environments;
+mod iterators;
+mod listed;
+mod readers;
+mod schema;
+mod unresolved;
+
+pub use iterators::{ActionGroups, ActionsFor, Ancestors};
+pub use schema::ValidatorSchema;
+pub use unresolved::{UnresolvedDeclaration, UnresolvedDeclarations};

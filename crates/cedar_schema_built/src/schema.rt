@@ -1,0 +1,83 @@
+//! Built schemas.
+
+ghost use Rattle.std.specs.Prelude.{◌≡◌, [], map, IfOk};
+ghost use Rattle.cedar_expr_model.specs.Order.{name_cmp, uid_cmp};
+ghost use Rattle.cedar_schema_entries.specs.Views.{entity_type_seen, action_seen};
+ghost use Rattle.cedar_schema_built.specs.Put.{all_put};
+ghost use Rattle.cedar_schema_built.specs.Entries.{types_in, type_keys, type_names, actions_in, action_keys, action_names};
+
+use cedar_expr_names::{EntityType, EntityUID};
+use cedar_schema_entries::{ValidatorActionId, ValidatorEntityType};
+use std::alloc::{AllocError, Global};
+use std::collections::BTreeMap;
+
+/// A built schema: its entity types by name, and its actions by uid.
+#[derive(Debug, Drop)]
+pub struct ValidatorSchema {
+    pub(crate) entity_types: BTreeMap<EntityType, ValidatorEntityType>,
+    pub(crate) action_ids: BTreeMap<EntityUID, ValidatorActionId>,
+    ghost types_named: { type_keys entity_types.entries ≡ type_names entity_types.entries },
+    ghost actions_named: { action_keys action_ids.entries ≡ action_names action_ids.entries },
+}
+
+impl ValidatorSchema {
+    ghost use Rattle.cedar_schema_built.specs.Views.{schema_kept};
+
+    /// The schema of these entity types and actions. Of a repeated name or uid the last stands. Answers want of memory.
+    pub fn new(
+        alloc: Global,
+        entity_types: Vec<ValidatorEntityType>,
+        action_ids: Vec<ValidatorActionId>,
+    ) -> Result<ValidatorSchema, AllocError>
+        ensures { IfOk result (λ s. schema_kept s ≡ record { types = all_put name_cmp (λ t. t.name) [] (map entity_type_seen entity_types.items); actions = all_put uid_cmp (λ a. a.uid) [] (map action_seen action_ids.items) }) }
+    {
+        let entity_types = types_by_name(alloc, entity_types)?;
+        let action_ids = actions_by_uid(alloc, action_ids)?;
+        Ok(ValidatorSchema {
+            entity_types,
+            action_ids,
+        })
+    }
+
+    /// The schema without entity types and actions.
+    pub fn empty(alloc: Global) -> ValidatorSchema
+        ensures { schema_kept result ≡ record { types = []; actions = [] } }
+    {
+        ValidatorSchema {
+            entity_types: BTreeMap::new(alloc),
+            action_ids: BTreeMap::new(alloc),
+        }
+    }
+}
+
+// The entity types by their names, of a repeated name the last. Answers want of memory.
+fn types_by_name(
+    alloc: Global,
+    entity_types: Vec<ValidatorEntityType>,
+) -> Result<BTreeMap<EntityType, ValidatorEntityType>, AllocError>
+    ensures kept { IfOk result (λ m. types_in m.entries ≡ all_put name_cmp (λ t. t.name) [] (map entity_type_seen entity_types.items)) }
+    ensures named { IfOk result (λ m. type_keys m.entries ≡ type_names m.entries) }
+{
+    let mut by_name = BTreeMap::new(alloc);
+    for entity_type in entity_types {
+        let name = entity_type.name().clone()?;
+        by_name.insert(name, entity_type)?;
+    }
+    Ok(by_name)
+}
+
+// The actions by their uids, of a repeated uid the last. Answers want of memory.
+fn actions_by_uid(
+    alloc: Global,
+    action_ids: Vec<ValidatorActionId>,
+) -> Result<BTreeMap<EntityUID, ValidatorActionId>, AllocError>
+    ensures kept { IfOk result (λ m. actions_in m.entries ≡ all_put uid_cmp (λ a. a.uid) [] (map action_seen action_ids.items)) }
+    ensures named { IfOk result (λ m. action_keys m.entries ≡ action_names m.entries) }
+{
+    let mut by_uid = BTreeMap::new(alloc);
+    for action in action_ids {
+        let uid = action.name().clone()?;
+        by_uid.insert(uid, action)?;
+    }
+    Ok(by_uid)
+}
