@@ -1,5 +1,5 @@
 -- The actions that are declared elsewhere, once there are no more entity types.
-use Rattle.std.proofs.Common.{◌≡◌, ◌++◌, Bool, true, false, cond, List, [], ◌∷◌, map, refl, sym, ap, ◌∙◌}
+use Rattle.std.proofs.Common.{◌≡◌, ◌++◌, true, false, cond, List, [], ◌∷◌, map, sym, ap, ◌∙◌}
 use Rattle.std.specs.List.{filter}
 use Rattle.cedar_expr_model.specs.Uid.{Uid}
 use Rattle.cedar_schema_kept_model.specs.Kept.{KeptAction, Elsewhere, action_elsewhere, types_elsewhere, actions_elsewhere}

@@ -5,3 +5,4 @@ mod Elsewhere
 mod Rows
 mod Adding
 mod Gathered
+mod Sorted

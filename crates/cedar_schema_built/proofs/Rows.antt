@@ -1,17 +1,16 @@
 -- The actions that each descends from, as they are gathered.
-use Rattle.std.proofs.Common.{◌≡◌, Bool, true, false, cond, ◌||◌, List, [], ◌∷◌, ◌++◌, map, Option, Some, None, refl, sym, ap, ◌∙◌, subst, inl, inr, append_assoc, append-nil}
+use Rattle.std.proofs.Common.{◌≡◌, Bool, true, false, cond, ◌||◌, List, [], ◌∷◌, ◌++◌, map, refl, sym, ap, ◌∙◌, subst, inl, inr, append_assoc, append-nil}
 use Rattle.std.specs.Prelude.{Contains, if◌then◌else◌}
 use Rattle.std.specs.Bool.{Decides}
 use Rattle.std.specs.List.{list_any, filter}
 use Rattle.std.proofs.lemmas.Bool.{true≢false}
 use Rattle.std.proofs.lemmas.Bool.Decides.{same_from_decides}
-use Rattle.std.proofs.lemmas.List.Elements.{Contains-push_cases}
 use Rattle.cedar_expr_model.specs.Uid.{Uid, uid_eq}
 use Rattle.cedar_expr_model.proofs.Equality.{uid_eq-Decides}
-use Rattle.cedar_expr_model.proofs.Lists.{contains_head, contains_tail, map_has, found-Decides}
+use Rattle.cedar_expr_model.proofs.Lists.{contains_head, contains_tail, map_has}
 use Rattle.cedar_schema_model.specs.Whole.BagLaws.{HasTwice}
 use Rattle.cedar_store_entities.specs.Recorded.{recorded, all_recorded}
-use Rattle.cedar_schema_kept_model.specs.Kept.{KeptAction, Kept, kept_action_ancestors, kept_as_entity}
+use Rattle.cedar_schema_kept_model.specs.Kept.{KeptAction, Kept, kept_as_entity}
 use Rattle.cedar_schema_built.specs.Above.{with_above, all_above, above_all, recorded_entity}
 
 pub uid_eq_turned : (u v : Uid) → uid_eq u v ≡ uid_eq v u

@@ -1,8 +1,7 @@
 -- What is left to the iterators over a schema.
 -- Rule: schemas (docs/RULES.md).
-use Rattle.std.specs.Prelude.{◌++◌, List, [], ◌∷◌, map, not, Option, Some, None}
-use Rattle.std.specs.List.{list_any, filter, flat_map}
-use Rattle.std.specs.Option.{option_map_or}
+use Rattle.std.specs.Prelude.{◌++◌, List, map, not}
+use Rattle.std.specs.List.{list_any, filter}
 use Rattle.cedar_expr_model.specs.Name.{Name, name_eq}
 use Rattle.cedar_expr_model.specs.Uid.{Uid}
 use Rattle.cedar_expr_model.specs.Whole.Lists.{is_nil}

@@ -1,4 +1,5 @@
 pub mod Put
+pub mod Sorted
 pub mod Entries
 pub mod Views
 pub mod Iterators

@@ -4,6 +4,7 @@
 mod entities;
 mod environments;
 mod iterators;
+pub mod laws;
 mod listed;
 mod readers;
 mod schema;

@@ -1,7 +1,7 @@
 use Rattle.std.specs.BTreeMap.{get}
 use Rattle.cedar_expr_names.specs.Views.{uid_of}
 use Rattle.cedar_schema_entries.specs.Views.{action_seen}
-use Rattle.cedar_schema_built.specs.Above.{uids_by, above_in, all_above}
+use Rattle.cedar_schema_built.specs.Above.{uids_by, above_in}
 use Rattle.cedar_schema_built.proofs.Gathered.{one_below}
 use Rattle.cedar_schema_built.proofs.entities.add_below.Goals as goal
 

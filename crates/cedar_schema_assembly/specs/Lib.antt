@@ -1,0 +1,6 @@
+pub mod Lists
+pub mod Nodes
+pub mod Seen
+pub mod Refusals
+pub mod Found
+pub mod Made

@@ -1,0 +1,11 @@
+mod Coming
+mod Making
+mod Meaning
+mod Parts
+mod Telling
+mod Keeping
+mod Matching
+mod Written
+mod Meant
+mod Faults
+mod Formed

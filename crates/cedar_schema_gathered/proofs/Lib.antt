@@ -1,0 +1,10 @@
+mod Finding
+mod Anys
+mod OfKind
+mod NamesWritten
+mod ActionTypes
+mod Refused
+mod Outcomes
+mod Told
+mod Rows
+mod Gathering

@@ -1,0 +1,6 @@
+pub mod Looking
+pub mod WrittenNames
+pub mod Checked
+pub mod AllResolved
+pub mod Gathered
+pub mod Laws
