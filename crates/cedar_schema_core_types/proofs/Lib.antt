@@ -1,0 +1,2 @@
+mod OneByOne
+mod Entries

@@ -1,0 +1,3 @@
+pub mod CoreTypes
+pub mod Views
+pub mod Refusals
