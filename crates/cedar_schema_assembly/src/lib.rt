@@ -10,4 +10,5 @@ mod type_entries;
 
 pub use action_entries::actions;
 pub use err::AssemblyError;
+pub use sets::{Part, set_of};
 pub use type_entries::entity_types;

@@ -4,14 +4,14 @@ ghost use Rattle.std.specs.Prelude.{◌≡◌, map, option_map, Contains, IfOk};
 ghost use Rattle.std.specs.Bool.{Decides};
 ghost use Rattle.std.specs.BTreeMap.{is_at};
 ghost use Rattle.std.specs.Rc.{rc_str_bytes};
-ghost use Rattle.cedar_expr_model.specs.Name.{Name, Text};
-ghost use Rattle.cedar_expr_names.specs.Views.{type_name_of};
+ghost use Rattle.cedar_expr_model.specs.Name.{Name as ModelName, Text};
+ghost use Rattle.cedar_expr_names.specs.Views.{plain_name_of, type_name_of};
 ghost use Rattle.cedar_schema_nodes.specs.Descent.{AreDescendants};
 ghost use Rattle.cedar_schema_nodes.specs.Numbers.{names_in, seen_nodes};
 ghost use Rattle.cedar_schema_assembly.specs.Lists.{IsSetOf, StandOnce, TellsRepeat, sets_seen};
-ghost use Rattle.cedar_schema_assembly.specs.Nodes.{types_told, texts_told};
+ghost use Rattle.cedar_schema_assembly.specs.Nodes.{types_told, plain_names_told, texts_told};
 
-use cedar_expr_names::EntityType;
+use cedar_expr_names::{EntityType, Name};
 use cedar_schema_nodes::{Node, RepeatedError, descendants};
 use std::alloc::{AllocError, Global};
 use std::collections::BTreeSet;
@@ -32,7 +32,7 @@ pub trait Part: Ord + Drop {
 }
 
 impl Part for EntityType {
-    ghost Seen = { Name };
+    ghost Seen = { ModelName };
 
     ghost seen = { type_name_of };
 
@@ -51,6 +51,18 @@ impl Part for RcStr {
     ghost told = { texts_told };
 
     fn copy(&self) -> Result<RcStr, AllocError> {
+        self.clone()
+    }
+}
+
+impl Part for Name {
+    ghost Seen = { ModelName };
+
+    ghost seen = { plain_name_of };
+
+    ghost told = { plain_names_told };
+
+    fn copy(&self) -> Result<Name, AllocError> {
         self.clone()
     }
 }

@@ -1,0 +1,6 @@
+mod Handing
+mod Building
+mod Naming
+mod Gathering
+mod Telling
+mod Extending

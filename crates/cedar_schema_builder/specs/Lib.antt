@@ -1,0 +1,4 @@
+pub mod Faults
+pub mod Steps
+pub mod Built
+pub mod Extensions

@@ -1,0 +1,27 @@
+//! How the steps of building make a schema. Each function's contract is the theorem; its body calls the laws that it stands on.
+
+ghost use Rattle.cedar_schema_builder.specs.Built.{StepsBuildTheSchema, RefusedStepsAreFaults};
+ghost use Rattle.cedar_schema_builder.specs.Extensions.{ExtensionTypesAreASet};
+
+use cedar_schema_builder_model::laws::{
+    built_are_well_formed, resolved_declarations_tell_the_schema,
+};
+
+/// Where names are as they have to be, and what is gathered could be assembled, the declarations are well-formed, and the entity
+/// types and actions that are made are those of their schema.
+pub fn steps_build_the_schema()
+    ensures { StepsBuildTheSchema }
+{
+    resolved_declarations_tell_the_schema();
+    built_are_well_formed();
+}
+
+/// What the steps refuse are faults of the declarations that the fragments write.
+pub fn refused_steps_are_faults()
+    ensures { RefusedStepsAreFaults }
+{}
+
+/// Of the extension types only which are known counts: with the same ones the same is built, and the same faults are there.
+pub fn extension_types_are_a_set()
+    ensures { ExtensionTypesAreASet }
+{}
