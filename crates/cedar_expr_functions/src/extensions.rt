@@ -1,11 +1,12 @@
 //! The table of extension functions.
 
-ghost use Rattle.std.specs.Prelude.{◌≡◌, true, is_some};
-ghost use Rattle.std.specs.List.{list_all};
+ghost use Rattle.std.specs.Prelude.{◌≡◌, true, map, is_some, IfOk};
+ghost use Rattle.std.specs.List.{filter_map, list_all};
 ghost use Rattle.std.specs.BTreeMap.{values};
 ghost use Rattle.cedar_expr_functions.specs.Functions.{function_signature};
 ghost use Rattle.cedar_expr_names.specs.Views.{plain_name_of};
 ghost use Rattle.cedar_expr_functions.specs.Named.{are_named};
+ghost use Rattle.cedar_expr_functions.specs.Signatures.{given_type};
 
 use crate::err::{
     ExtensionFunctionLookupError, ExtensionInitializationError, FuncDoesNotExistError,
@@ -13,7 +14,7 @@ use crate::err::{
 use crate::extension::{Extension, ExtensionFunction};
 use crate::gathered::{all_functions, all_names, all_ordered, by_name, refuse_two_constructors};
 use cedar_expr_names::Name;
-use std::alloc::Global;
+use std::alloc::{AllocError, Global};
 use std::collections::BTreeMap;
 use std::collections::btree_map::Values;
 use std::slice::Iter;
@@ -34,13 +35,11 @@ impl<'a> Extensions<'a> {
     ghost use Rattle.cedar_expr_model.specs.Name.{Name as ModelName, name_eq};
     ghost use Rattle.cedar_expr_model.specs.Whole.Value.{V};
     ghost use Rattle.cedar_expr_model.specs.Whole.Table.{Called, signature_of, all_typed};
-    ghost use Rattle.std.specs.Prelude.{List, [], Some, None, map, find, option_map, IfOk, IfErr, IfSome, OnOk, IsPermutation};
-    ghost use Rattle.std.specs.List.{filter_map};
+    ghost use Rattle.std.specs.Prelude.{List, [], Some, None, find, option_map, IfErr, IfSome, OnOk, IsPermutation};
     ghost use Rattle.cedar_expr_model.specs.Whole.Repeats.{table_fault};
     ghost use Rattle.cedar_expr_functions.specs.Named.{all_signatures, all_ordered};
     ghost use Rattle.std.specs.Slice.Iter.{iter_rest};
     ghost use Rattle.cedar_expr_names.specs.Views.{plain_name_loc};
-    ghost use Rattle.cedar_expr_functions.specs.Signatures.{given_type};
     ghost use Rattle.cedar_expr_functions.specs.Refusals.{RefusesLookup, RefusesTable};
     ghost use Rattle.cedar_expr_functions.specs.Extended.{extension_name};
     ghost use Rattle.cedar_expr_functions.specs.Tables.{names_of, functions_of, ordered_of, table_of, table_types_left, are_typed, AnswersInTable, AnswersAsExtensions};
@@ -97,6 +96,13 @@ impl<'a> Extensions<'a> {
         }
     }
 
+    /// The names that `ext_types` gives, in its order, as a list. Answers want of memory.
+    pub fn ext_type_list(&self, alloc: Global) -> Result<Vec<Name>, AllocError>
+        ensures { IfOk result (λ ns. map plain_name_of ns.items ≡ filter_map given_type (functions_of self.now)) }
+    {
+        given_types(alloc, &self.functions)
+    }
+
     /// The types whose values `<` and `<=` take.
     pub fn types_with_operator_overloading(&self) -> Iter<'_, &'a Name>
         ensures { map (λ n. plain_name_of n.now) (iter_rest result) ≡ ordered_of self.now }
@@ -146,6 +152,22 @@ fn all_with_result(functions: &BTreeMap<Name, &ExtensionFunction>) -> bool
         }
     }
     true
+}
+
+// The extension types that these functions give, each as often as a function gives it.
+fn given_types(
+    alloc: Global,
+    functions: &BTreeMap<Name, &ExtensionFunction>,
+) -> Result<Vec<Name>, AllocError>
+    ensures { IfOk result (λ ns. map plain_name_of ns.items ≡ filter_map (λ f. given_type (function_signature f.now)) (values functions.now)) }
+{
+    let mut names = Vec::new(alloc);
+    for f in functions.values() {
+        if let Some(name) = f.ext_type() {
+            names.push(name.clone()?)?;
+        }
+    }
+    Ok(names)
 }
 
 /// Goes over the extension types that a table's functions give, each as often as a function gives it.
