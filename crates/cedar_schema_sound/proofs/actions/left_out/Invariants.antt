@@ -1,0 +1,9 @@
+use Rattle.std.proofs.Common.{◌≡◌, map}
+use Rattle.cedar_expr_model.specs.Whole.Lists.{first_found}
+use Rattle.cedar_expr_names.specs.Views.{uid_of}
+use Rattle.cedar_schema_entries.specs.Views.{action_seen}
+use Rattle.cedar_schema_sound_model.specs.Unsound.{action_among}
+use Rattle.cedar_schema_sound.proofs.actions.left_out.Given as goal
+
+abbrev pub invariant-loop-descendant : goal.invariant-loop-descendant
+invariant-loop-descendant l = first_found (action_among (action_seen l.action)) (map uid_of l.descendant-iterator) ≡ first_found (action_among (action_seen l.action)) (action_seen l.below).descendants

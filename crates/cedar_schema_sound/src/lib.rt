@@ -1,0 +1,13 @@
+//! Whether a built schema is what it has to be.
+#![tactic(auto)]
+
+mod actions;
+mod check;
+mod entity_types;
+mod err;
+mod known;
+mod unsound;
+
+pub use check::{first_unsound, try_validate};
+pub use err::UnsoundSchemaError;
+pub use unsound::Unsound;
