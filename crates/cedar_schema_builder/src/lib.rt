@@ -4,7 +4,9 @@
 mod build;
 mod err;
 mod faults;
+mod known_types;
 pub mod laws;
 
 pub use build::{SchemaParts, schema_parts};
 pub use err::SchemaError;
+pub use known_types::extension_types;

@@ -4,3 +4,4 @@ pub mod Entries
 pub mod Views
 pub mod Iterators
 pub mod Above
+pub mod BuiltOf

@@ -1,6 +1,7 @@
 //! Built schemas: entity types and actions by name, and what is read from them.
 #![tactic(auto)]
 
+mod building;
 mod entities;
 mod environments;
 mod iterators;

@@ -1,0 +1,17 @@
+-- What is built of fragments.
+-- Rule: schemas; declarations; well-formed declarations (docs/RULES.md).
+use Rattle.std.specs.Prelude.{List}
+use Rattle.cedar_expr_model.specs.Name.{Name}
+use Rattle.cedar_expr_raw_names.specs.declared.conditional_name.ConditionalName.{ConditionalName}
+use Rattle.cedar_schema_model.specs.Whole.Declarations.{Declarations}
+use Rattle.cedar_schema_model.specs.Whole.Resolved.{schema_of}
+use Rattle.cedar_schema_model.specs.Whole.WellFormed.{IsWellFormed}
+use Rattle.cedar_schema_kept_model.specs.Kept.{Kept}
+use Rattle.cedar_schema_kept_model.specs.KeptOf.{IsKeptOf}
+use Rattle.cedar_schema_fragments.specs.WrittenDeclarations.{AreWritten}
+use Rattle.cedar_schema_fragments.specs.declared.namespace_def.ValidatorSchemaFragment.{ValidatorSchemaFragment}
+
+-- The declarations that the fragments write are well-formed with these extension types, and their schema is what is kept.
+pub record IsBuiltOf (x : List Name) (fs : List (ValidatorSchemaFragment ConditionalName ConditionalName)) (k : Kept) : Type 0 where
+  pub are_well_formed : (d : Declarations) → AreWritten fs d → IsWellFormed x d
+  pub keeps : (d : Declarations) → AreWritten fs d → IsKeptOf (schema_of d) k
