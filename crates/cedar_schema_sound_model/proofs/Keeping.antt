@@ -1,6 +1,6 @@
 -- What is kept of the schema of well-formed declarations is what a built schema has to be.
 use Rattle.std.proofs.Common.{◌≡◌, ℕ, zero, suc, List, [], ◌∷◌, length, map, Bool, true, false, cond, Option, Some, None, option_map, refl, sym, ap, ◌∙◌, subst, arith}
-use Rattle.std.specs.Prelude.{Contains, find}
+use Rattle.std.specs.Prelude.{Contains, find, is_none}
 use Rattle.std.specs.Bool.{Decides}
 use Rattle.std.specs.List.{list_any, flat_map}
 use Rattle.std.specs.Ordering.{match_ordering}
@@ -11,7 +11,7 @@ use Rattle.cedar_expr_model.specs.Name.{Text, Name, name_eq, is_reserved}
 use Rattle.cedar_expr_model.specs.Uid.{Uid, uid_eq}
 use Rattle.cedar_expr_model.specs.Whole.Order.{text_cmp}
 use Rattle.cedar_expr_model.proofs.Equality.{name_eq-Decides, uid_eq-Decides}
-use Rattle.cedar_expr_model.proofs.Lists.{contains_head, contains_tail, contains_cases, contains_none, found-Decides, map_has, map_from, flat_has}
+use Rattle.cedar_expr_model.proofs.Lists.{both_hold, contains_head, contains_tail, contains_cases, contains_none, found-Decides, map_has, map_from, flat_has}
 use Rattle.cedar_schema_model.specs.Whole.Types.{Ty, never, bool_type, long_type, string_type, any_entity, entity_types, any_set, set_type, record_type, extension_type, Attributes, no_attributes, attribute}
 use Rattle.cedar_schema_model.specs.Whole.Schema.{EntityKind, standard, enumerated, external, EntityType, Action}
 use Rattle.cedar_schema_model.specs.Whole.Descent.{type_names, HasParent, HasActionParent, Descends, ActionDescends}
@@ -29,6 +29,8 @@ use Rattle.cedar_schema_model.proofs.Whole.Decls.Resolved.{common_found}
 use Rattle.cedar_schema_model.proofs.Whole.Decls.Schema.{same_types, not_its_ancestor}
 use Rattle.cedar_schema_kept_model.specs.Kept.{KeptType, KeptAction, Kept}
 use Rattle.cedar_schema_kept_model.specs.KeptOf.{IsSameKind, IsKeptOf}
+use Rattle.cedar_schema_sound_model.specs.Unsound.{Unsound, first_fault, names_are_free}
+use Rattle.cedar_schema_sound_model.proofs.Deciding.{sound-Decides}
 use Rattle.cedar_schema_sound_model.specs.Sound.{names_kept, uids_kept, IsKnownType, AreKnownAttributes, IsKnownTag, IsKnownKind, IsSoundType, IsSoundAction, IsSound}
 
 -- what isn't true is false
@@ -233,3 +235,10 @@ module _ (x : List Name) (k : Kept) where
 
 pub kept_sound : (x : List Name) (d : Declarations) (k : Kept) → IsWellFormed x d → IsKeptOf (schema_of d) k → IsSound x k
 kept_sound x d k w h = record { types = type_sound x k d w h; actions = action_sound x k d w h }
+
+no_fault : (o : Option Unsound) → is_none o ≡ true → o ≡ None
+no_fault None h = refl
+no_fault (Some f) h = cc
+
+pub kept_faultless : (x : List Name) (d : Declarations) (k : Kept) → IsWellFormed x d → IsKeptOf (schema_of d) k → first_fault x k ≡ None
+kept_faultless x d k w h = no_fault (first_fault x k) (both_hold (names_are_free k) (is_none (first_fault x k)) ((sound-Decides x k).1 (kept_sound x d k w h))).1

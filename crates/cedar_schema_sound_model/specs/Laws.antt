@@ -1,6 +1,6 @@
 -- What the laws of sound schemas say.
 -- Rule: schemas; descent; well-formed declarations (docs/RULES.md).
-use Rattle.std.specs.Prelude.{List}
+use Rattle.std.specs.Prelude.{◌≡◌, List, None}
 use Rattle.std.specs.Bool.{Decides}
 use Rattle.cedar_expr_model.specs.Name.{Name}
 use Rattle.cedar_schema_model.specs.Whole.Declarations.{Declarations}
@@ -9,7 +9,7 @@ use Rattle.cedar_schema_model.specs.Whole.WellFormed.{IsWellFormed}
 use Rattle.cedar_schema_kept_model.specs.Kept.{Kept}
 use Rattle.cedar_schema_kept_model.specs.KeptOf.{IsKeptOf}
 use Rattle.cedar_schema_sound_model.specs.Sound.{IsSound}
-use Rattle.cedar_schema_sound_model.specs.Unsound.{is_sound}
+use Rattle.cedar_schema_sound_model.specs.Unsound.{first_fault, is_sound}
 
 -- The search decides whether a schema is what it has to be.
 abbrev pub SoundDecides : Type 0
@@ -18,3 +18,7 @@ SoundDecides = (x : List Name) (k : Kept) → Decides (is_sound x k) (IsSound x 
 -- What is kept of the schema of well-formed declarations is what it has to be, for the same extension types.
 abbrev pub KeptAreSound : Type 0
 KeptAreSound = (x : List Name) (d : Declarations) (k : Kept) → IsWellFormed x d → IsKeptOf (schema_of d) k → IsSound x k
+
+-- So nothing is found wrong with it.
+abbrev pub KeptAreFaultless : Type 0
+KeptAreFaultless = (x : List Name) (d : Declarations) (k : Kept) → IsWellFormed x d → IsKeptOf (schema_of d) k → first_fault x k ≡ None
