@@ -6,6 +6,7 @@ mod check;
 mod entity_types;
 mod err;
 mod known;
+pub mod laws;
 mod unsound;
 
 pub use check::{first_unsound, try_validate};

@@ -1,0 +1,6 @@
+//! Tests of schemas built of fragments.
+#![tactic(auto)]
+
+mod built;
+mod refusals;
+mod schemas;

@@ -1,0 +1,29 @@
+-- What the laws say of schemas that are built of fragments.
+-- Rule: schemas; declarations; well-formed declarations (docs/RULES.md).
+use Rattle.std.specs.Prelude.{◌≡◌, List, true, Contains}
+use Rattle.cedar_expr_model.specs.Name.{Name}
+use Rattle.cedar_expr_raw_names.specs.declared.conditional_name.ConditionalName.{ConditionalName}
+use Rattle.cedar_schema_model.specs.Whole.BagLaws.{IsReordered}
+use Rattle.cedar_schema_model.specs.Whole.Declarations.{Declarations}
+use Rattle.cedar_schema_model.specs.Whole.WellFormed.{SchemaFault, ill_forms}
+use Rattle.cedar_schema_kept_model.specs.Kept.{Kept}
+use Rattle.cedar_schema_fragments.specs.WrittenDeclarations.{AreWritten}
+use Rattle.cedar_schema_fragments.specs.declared.namespace_def.ValidatorSchemaFragment.{ValidatorSchemaFragment}
+use Rattle.cedar_schema_builder_model.specs.Alike.{AreAlike}
+use Rattle.cedar_schema_builder.specs.Built.{IsFaultOf}
+use Rattle.cedar_schema_built.specs.BuiltOf.{IsBuiltOf}
+use Rattle.cedar_schema_sound_model.specs.Unsound.{is_sound}
+
+-- What is built of fragments is what it has to be, with the same extension types.
+abbrev pub BuiltAreSound : Type 0
+BuiltAreSound = (x : List Name) (fs : List (ValidatorSchemaFragment ConditionalName ConditionalName)) (d : Declarations) → AreWritten fs d → (k : Kept) → IsBuiltOf x fs k → is_sound x k ≡ true
+
+-- Of the same declarations, in whichever order and in whichever fragments, the same is built.
+abbrev pub OrderOfFragmentsIsFree : Type 0
+OrderOfFragmentsIsFree = (x : List Name) (fs gs : List (ValidatorSchemaFragment ConditionalName ConditionalName)) (d e : Declarations) → AreWritten fs d → AreWritten gs e → IsReordered d e
+    → (k l : Kept) → IsBuiltOf x fs k → IsBuiltOf x gs l → AreAlike k l
+
+-- Where a schema is built of them, they are refused in no order and in no fragments.
+abbrev pub RefusedInEachOrder : Type 0
+RefusedInEachOrder = (x : List Name) (fs gs : List (ValidatorSchemaFragment ConditionalName ConditionalName)) (d e : Declarations) → AreWritten fs d → AreWritten gs e → IsReordered d e
+    → (k : Kept) → IsBuiltOf x fs k → (f : SchemaFault) → Contains ill_forms f → IsFaultOf x gs f → ⊥

@@ -1,0 +1,25 @@
+//! Schemas that are built of fragments. Each function's contract is the theorem; its body calls the laws that it stands on.
+
+ghost use Rattle.cedar_schema_sound.specs.OfFragments.{BuiltAreSound, OrderOfFragmentsIsFree, RefusedInEachOrder};
+
+use cedar_schema_builder_model::laws::built_is_the_schema;
+use cedar_schema_model::whole_decl_laws::{bags_have_no_order, declarations_are_decided};
+use cedar_schema_sound_model::laws::{kept_are_sound, sound_is_decided};
+
+/// A schema that is built of fragments is what it has to be, with the same extension types.
+pub fn built_schemas_are_sound()
+    ensures { BuiltAreSound }
+{
+    sound_is_decided();
+    kept_are_sound();
+}
+
+/// The same declarations in another order, or split among other fragments, give the same schema, or a refusal both times.
+pub fn order_of_fragments_is_free()
+    ensures same { OrderOfFragmentsIsFree }
+    ensures refused { RefusedInEachOrder }
+{
+    built_is_the_schema();
+    bags_have_no_order();
+    declarations_are_decided();
+}
