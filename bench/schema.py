@@ -1,0 +1,21 @@
+#!/usr/bin/env python3
+"""bench/schema.py [PROGRAM] [--most N] [--runs R]: how the time to build a schema grows with its declarations.
+
+It has PROGRAM (crates/cedar_schema_bench/out/cedar_schema_bench, if none is named) build schemas of 10 to 10,000 declarations, R times
+each (3): entity types without parents, with one parent, and in a chain (to 1,000: what descends from each is kept, so that is half the
+square of the size), actions in one group, and common types of records of which each holds the next (to 100). It prints the least time of
+a run, the time for one of the size, and how many times longer it took than the size a tenth as large. It is no test: it judges nothing
+but that each run ends well. The declarations are read from lines, which is in the time.
+"""
+import times
+
+SHAPES = {"flat": 10_000, "wide": 10_000, "groups": 10_000, "chain": 1_000, "nested": 100}
+
+
+def main():
+    program, sizes, runs = times.given(__doc__, "cedar_schema_bench", 10_000)
+    for name, most in SHAPES.items():
+        times.series(name, lambda size: f"{name} {size}\n", program, [it for it in sizes if it <= most], runs)
+
+
+main()

@@ -1,0 +1,53 @@
+//! Why nothing is built.
+
+use cedar_expr_names::NameError;
+use cedar_schema_builder::SchemaError;
+use std::alloc::{AllocError, AllocFailed};
+
+/// Why nothing is built.
+#[derive(Clone, Copy)]
+pub enum Fault {
+    /// There is no memory.
+    OutOfMemory,
+    /// A call refused what it should take.
+    Refused,
+}
+
+impl From<AllocError> for Fault {
+    fn from(_error: AllocError) -> Fault {
+        Fault::OutOfMemory
+    }
+}
+
+impl<T: Drop> From<AllocFailed<T>> for Fault {
+    fn from(_error: AllocFailed<T>) -> Fault {
+        Fault::OutOfMemory
+    }
+}
+
+impl From<NameError> for Fault {
+    fn from(error: NameError) -> Fault {
+        match error {
+            NameError::OutOfMemory => Fault::OutOfMemory,
+            NameError::NotNormalized | NameError::Reserved(_) => Fault::Refused,
+        }
+    }
+}
+
+impl From<cedar_schema_fragments::SchemaError> for Fault {
+    fn from(error: cedar_schema_fragments::SchemaError) -> Fault {
+        match error {
+            cedar_schema_fragments::SchemaError::OutOfMemory => Fault::OutOfMemory,
+            _ => Fault::Refused,
+        }
+    }
+}
+
+impl From<SchemaError> for Fault {
+    fn from(error: SchemaError) -> Fault {
+        match error {
+            SchemaError::OutOfMemory => Fault::OutOfMemory,
+            _ => Fault::Refused,
+        }
+    }
+}

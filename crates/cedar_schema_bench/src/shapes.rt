@@ -1,0 +1,64 @@
+//! Declarations of a shape and a size.
+
+use crate::fault::Fault;
+use cedar_expr_functions::Extensions;
+use cedar_schema_built::ValidatorSchema;
+use cedar_schema_examples::fragment;
+use cedar_schema_fragments::ValidatorSchemaFragment;
+use std::alloc::{AllocError, Global};
+
+/// How the declarations stand to each other.
+#[derive(Clone, Copy)]
+pub enum Shape {
+    /// Entity types with two attributes, and no parents.
+    Flat,
+    /// Entity types of which each is the parent of the one before it.
+    Chain,
+    /// Entity types with one parent.
+    Wide,
+    /// Actions in one group.
+    Groups,
+    /// Records in records, by way of common types.
+    Nested,
+}
+
+// The line of this number.
+fn line(alloc: Global, shape: Shape, n: u32) -> Result<String, AllocError> {
+    let next = n.wrapping_add(1);
+    match shape {
+        Shape::Flat => format!(in alloc; "entity T{n} |  | a: Long, b?: Set of String\n"),
+        Shape::Chain => format!(in alloc; "entity T{n} | T{next}\n"),
+        Shape::Wide => format!(in alloc; "entity T{n} | Root\n"),
+        Shape::Groups => format!(in alloc; "action a{n} | Action all\n"),
+        Shape::Nested => format!(in alloc; "type T{n} | {{a: common T{next}}}\n"),
+    }
+}
+
+// The lines on which the others stand.
+fn last(alloc: Global, shape: Shape, size: u32) -> Result<String, AllocError> {
+    match shape {
+        Shape::Flat | Shape::Wide => format!(in alloc; "entity Root"),
+        Shape::Chain => format!(in alloc; "entity T{size}"),
+        Shape::Groups => format!(in alloc; "action all"),
+        Shape::Nested => format!(in alloc; "type T{size} | Long\nentity Root |  | a: common T0"),
+    }
+}
+
+// All lines.
+fn lines(alloc: Global, shape: Shape, size: u32) -> Result<String, AllocError> {
+    let mut lines = String::new(alloc);
+    for n in 0..size {
+        lines.push_str(line(alloc, shape, n)?.as_str())?;
+    }
+    lines.push_str(last(alloc, shape, size)?.as_str())?;
+    Ok(lines)
+}
+
+/// The schema of declarations of this shape and size.
+pub fn built(alloc: Global, shape: Shape, size: u32) -> Result<ValidatorSchema, Fault> {
+    let lines = lines(alloc, shape, size)?;
+    let fragment = fragment(alloc, &[("", lines.as_str())])?;
+    let fragment = ValidatorSchemaFragment::from_schema_fragment(alloc, fragment)?;
+    let fragments = vec![in alloc; fragment]?;
+    Ok(ValidatorSchema::from_schema_fragments(alloc, fragments, &Extensions::none(alloc))?)
+}
