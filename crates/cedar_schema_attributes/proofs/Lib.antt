@@ -1,2 +1,3 @@
 mod Among
 mod Kept
+mod Same

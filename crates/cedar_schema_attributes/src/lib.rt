@@ -2,6 +2,7 @@
 #![tactic(auto)]
 
 mod known;
+pub mod laws;
 mod schema_attributes;
 
 pub use known::{all_attributes, all_known_attrs};
