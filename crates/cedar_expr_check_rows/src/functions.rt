@@ -203,6 +203,13 @@ fn one_is_found(alloc: Global, table: &Extensions<'_>) -> Result<bool, Fail> {
     Ok(found.name().same(&called))
 }
 
+// The table's functions give one extension type, rank.
+fn rank_is_listed(alloc: Global, table: &Extensions<'_>) -> Result<bool, Fail> {
+    let listed = table.ext_type_list(alloc)?;
+    let rank = name(alloc, "rank")?;
+    Ok(listed.len() == 1 && listed.iter().all(|n| n.same(&rank)))
+}
+
 #[test]
 fn a_table_finds_its_functions(rt: HostRuntime) -> Result<(), Fail> {
     let alloc = rt.alloc();
@@ -217,6 +224,7 @@ fn a_table_finds_its_functions(rt: HostRuntime) -> Result<(), Fail> {
     let mut types = table.ext_types();
     assert!(rt; types.next().is_some());
     assert!(rt; types.next().is_none());
+    assert!(rt; rank_is_listed(alloc, &table)?);
     assert!(rt; one_is_found(alloc, &table)?);
     match table.func(&name(alloc, "g")?) {
         Ok(_) => assert!(rt; false),
@@ -227,6 +235,7 @@ fn a_table_finds_its_functions(rt: HostRuntime) -> Result<(), Fail> {
             );
         }
     }
-    assert!(rt; Extensions::none(alloc).all_typed());
+    let nothing = Extensions::none(alloc);
+    assert!(rt; nothing.all_typed() && nothing.ext_type_list(alloc)?.is_empty());
     Ok(())
 }
