@@ -1,0 +1,87 @@
+//! Cedar's schemas: the items of the crates below, under one name.
+#![tactic(auto)]
+
+/// Types by which values can be read.
+pub mod core_types {
+    pub use cedar_schema_core_types::{
+        CoreAttributeType, CoreAttributes, CoreSchemaType, CoreTypeError, core_schema_type,
+    };
+}
+
+/// Declarations as they are written.
+pub mod json_schema {
+    pub use cedar_schema_decl::json_schema::{
+        ActionEntityUID, ActionType, ApplySpec, CommonType, EntityType, EntityTypeKind, Fragment,
+        NamespaceDefinition, RecordType, Type, TypeOfAttribute, TypeVariant,
+    };
+}
+
+/// Built schemas, and the steps that build them.
+pub mod schema {
+    pub use cedar_schema_built::{
+        ActionGroups, ActionsFor, Ancestors, UnresolvedDeclaration, UnresolvedDeclarations,
+        ValidatorSchema,
+    };
+    pub use cedar_schema_decl::{
+        AllDefs, CommonTypeDefs, EntityTypeFragment, EntityTypesDef, resolve,
+    };
+    pub use cedar_schema_entries::{
+        AppliesTo, StandardValidatorEntityType, ValidatorActionId, ValidatorEntityType,
+        ValidatorEntityTypeKind,
+    };
+    pub use cedar_schema_fragments::{
+        ActionFragment, ActionsDef, DeclaredNames, DeclaredNamespaces, ValidatorApplySpec,
+        ValidatorNamespaceDef, ValidatorSchemaFragment,
+    };
+    pub use cedar_schema_located::{LocatedCommonType, LocatedNamespace, LocatedType};
+    pub use cedar_schema_sound::{Unsound, first_unsound, try_validate};
+
+    /// What fragments declare.
+    pub mod all_defs {
+        pub use cedar_schema_fragments::all_defs::{new, single_fragment};
+    }
+
+    /// Why declarations are refused.
+    pub mod err {
+        pub use cedar_schema_builder::SchemaError;
+        pub use cedar_schema_decl::{ShadowingError, TypeNotDefinedError};
+        pub use cedar_schema_sound::UnsoundSchemaError;
+    }
+}
+
+/// Types of a schema.
+pub mod types {
+    pub use cedar_schema_admission::{
+        DeclaredAttributes, lookup_attribute_type, may_have_attr, typecheck_literal,
+        typecheck_value,
+    };
+    pub use cedar_schema_attributes::{SchemaAttributes, all_attributes, all_known_attrs};
+    pub use cedar_schema_joins::{
+        ValidationMode, are_types_disjoint, is_subtype, least_upper_bound,
+        reduce_to_least_upper_bound,
+    };
+    pub use cedar_schema_restricted::typecheck_restricted_expr;
+    pub use cedar_schema_types::{
+        AttributeType, Attributes, BoolType, EntityKind, EntityLUB, OpenTag, Type,
+    };
+}
+
+pub use core_types::{CoreSchemaType, core_schema_type};
+pub use schema::err::{SchemaError, ShadowingError, TypeNotDefinedError, UnsoundSchemaError};
+pub use schema::{
+    ActionFragment, ActionGroups, ActionsDef, ActionsFor, AllDefs, Ancestors, AppliesTo,
+    CommonTypeDefs, EntityTypeFragment, EntityTypesDef, LocatedCommonType, LocatedNamespace,
+    LocatedType, StandardValidatorEntityType, UnresolvedDeclaration, UnresolvedDeclarations,
+    ValidatorActionId, ValidatorApplySpec, ValidatorEntityType, ValidatorEntityTypeKind,
+    ValidatorNamespaceDef, ValidatorSchema, ValidatorSchemaFragment, first_unsound, resolve,
+    try_validate,
+};
+pub use types::{
+    AttributeType, Attributes, BoolType, DeclaredAttributes, EntityKind, EntityLUB, OpenTag, Type,
+    ValidationMode, are_types_disjoint, is_subtype, least_upper_bound, lookup_attribute_type,
+    may_have_attr, reduce_to_least_upper_bound, typecheck_literal, typecheck_restricted_expr,
+    typecheck_value,
+};
+
+#[cfg(test)]
+mod tests;
