@@ -30,7 +30,7 @@ fn line(alloc: Global, shape: Shape, n: u32) -> Result<String, AllocError> {
         Shape::Chain => format!(in alloc; "entity T{n} | T{next}\n"),
         Shape::Wide => format!(in alloc; "entity T{n} | Root\n"),
         Shape::Groups => format!(in alloc; "action a{n} | Action all\n"),
-        Shape::Nested => format!(in alloc; "type T{n} | {{a: common T{next}}}\n"),
+        Shape::Nested => format!(in alloc; "type A{n} | {{a: common A{next}}}\n"),
     }
 }
 
@@ -40,7 +40,7 @@ fn last(alloc: Global, shape: Shape, size: u32) -> Result<String, AllocError> {
         Shape::Flat | Shape::Wide => format!(in alloc; "entity Root"),
         Shape::Chain => format!(in alloc; "entity T{size}"),
         Shape::Groups => format!(in alloc; "action all"),
-        Shape::Nested => format!(in alloc; "type T{size} | Long\nentity Root |  | a: common T0"),
+        Shape::Nested => format!(in alloc; "type A{size} | Long\nentity Root |  | a: common A0"),
     }
 }
 
