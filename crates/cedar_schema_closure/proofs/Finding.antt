@@ -5,7 +5,7 @@ use Rattle.std.specs.Bool.{Decides}
 use Rattle.std.specs.List.{list_any, IsDistinct}
 use Rattle.std.proofs.lemmas.Bool.Decides.{Decides-eqb, eqb_tells}
 use Rattle.std.proofs.lemmas.Cmp.{nat_eq_equiv}
-use Rattle.std.proofs.lemmas.List.{at_drop_more, drop_all, get_or_append_left, get_or-set_same, get_or-set_other, get_or-replicate, length-replicate}
+use Rattle.std.proofs.lemmas.List.{at_drop_more, drop_more, drop_all, get_or_append_left, get_or-set_same, get_or-set_other, get_or-replicate, length-replicate}
 use Rattle.std.proofs.lemmas.Bool.{cases_lt}
 use Rattle.std.proofs.Math.ListN.{get_or-eq_default}
 use Rattle.std.proofs.lemmas.List.Elements.{Contains-append_left, Contains-push, Contains-push_cases}
@@ -132,3 +132,28 @@ one_marked marks found n l m = record { same = λ j. go j (eqb_tells j n) }
     go j (inr p) =
         get_or-set_other marks n j true false p.1 ∙ m.same j ∙ or_false (list_any (eqb j) found)
         ∙ ap (λ b. list_any (eqb j) found || (b || false)) (sym p.0) ∙ sym (list_any-append (eqb j) found (n ∷ []))
+
+-- Each node that is marked is one of these.
+pub record AreLeft (marks : List Bool) (ns : List ℕ) : Type 0 where
+  pub each : (n : ℕ) → get_or marks n false ≡ true → Contains ns n
+
+pub all_left : (marks : List Bool) (found : List ℕ) → AreMarks marks found → AreLeft marks found
+all_left marks found m = record { each = λ n h. (is_found n found).0 (sym (m.same n) ∙ h) }
+
+pub one_unmarked : (marks : List Bool) (found : List ℕ) (i d n : ℕ) → i < length found → n ≡ get_or found i d → n < length marks → AreLeft marks (drop i found) → AreLeft (set marks n false) (drop (i + 1) found)
+one_unmarked marks found i d n l e b m = record { each = λ j h. go j h (eqb_tells j n) }
+  where
+    go : (j : ℕ) → get_or (set marks n false) j false ≡ true → ((eqb j n ≡ true) × (j ≡ n)) ⊎ ((eqb j n ≡ false) × (j ≢ n)) → Contains (drop (i + 1) found) j
+    go j h (inl p) = absurd (true≢false (sym h ∙ ap (λ k. get_or (set marks n false) k false) p.1 ∙ get_or-set_same marks n false false b))
+    go j h (inr p) =
+        contains_cases (Contains (drop (i + 1) found) j) (get_or found i d) (drop (i + 1) found) j
+        (subst (λ xs. Contains xs j) (drop_more found i d l) (m.each j (sym (get_or-set_other marks n j false false p.1) ∙ h)))
+        (λ q. absurd (p.1 (sym q ∙ sym e)))
+        (λ k. k)
+
+pub none_left : (marks : List Bool) (found : List ℕ) (i : ℕ) → length found ≤ i → AreLeft marks (drop i found) → AreMarks marks []
+none_left marks found i l m = record { same = λ n. go n (get_or marks n false) refl }
+  where
+    go : (n : ℕ) (b : Bool) → get_or marks n false ≡ b → b ≡ list_any (eqb n) []
+    go n true h = absurd (contains_none n (subst (λ xs. Contains xs n) (drop_all i found l) (m.each n h)))
+    go n false h = refl

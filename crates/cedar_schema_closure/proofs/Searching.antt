@@ -74,22 +74,23 @@ search_goes g start step found ns l e s = record {
     new : (k j : ℕ) → k ≡ step → HasEdge g (get_or (with_nodes ns found) k 0) j → Contains (with_nodes ns found) j
     new k j q h = nodes_have ns found j (subst (λ ms. Contains ms j) (sym e) (subst (λ i. HasEdge g i j) (ap (λ i. get_or (with_nodes ns found) i 0) q ∙ nodes_same ns found step l) h))
 
-pub search_stays : (g : Graph) (start step : ℕ) (found : List ℕ) → length found ≤ step → Searching g start step found → Searching g start (step + 1) found
-search_stays g start step found l s = record { only = s.only; begun = s.begun; gone = λ k j m q h. s.gone k j (omega (arith, l, q)) q h; once = s.once }
-
 -- where all are gone on from, all that is reached is found
-pub search_ends : (g : Graph) (start : ℕ) (found : List ℕ) → IsWithin g → Searching g start (length g) found → AreReached g start found
-search_ends g start found w s = record { only = s.only; all = λ j h. go start s.begun h.0 j h.1; once = s.once }
+pub search_ends : (g : Graph) (start step : ℕ) (found : List ℕ) → length found ≤ step → Searching g start step found → AreReached g start found
+search_ends g start step found few s = record { only = s.only; all = λ j h. go start s.begun h.0 j h.1; once = s.once }
   where
-    few : length found ≤ length g
-    few = length-le_from_distinct_below found (length g) s.once (λ q h. let r = s.only q ((is_found q found).0 h) in reached_within g w start r.0 q r.1)
-
     on : (z : ℕ) → Contains found z → (j : ℕ) → HasEdge g z j → Contains found j
     on z h j e = let p = at_place found z h in let l = p.1 in s.gone p.0 j (omega (arith, few, l)) l (subst (λ i. HasEdge g i j) (sym p.2) e)
 
     go : (x : ℕ) → ((j : ℕ) → HasEdge g x j → Contains found j) → (zs : List ℕ) (j : ℕ) → Chain (HasEdge g) x zs j → Contains found j
     go x f [] j c = f j c
     go x f (z ∷ zs) j c = go z (on z (f z c.0)) zs j c.1
+
+-- no more are found than there are nodes
+pub found_few : (g : Graph) (start step : ℕ) (found : List ℕ) → IsWithin g → Searching g start step found → length found ≤ length g
+found_few g start step found w s = length-le_from_distinct_below found (length g) s.once (λ q h. let r = s.only q ((is_found q found).0 h) in reached_within g w start r.0 q r.1)
+
+pub all_within : (g : Graph) (start step : ℕ) (found : List ℕ) (size : ℕ) → IsWithin g → size ≡ length g → Searching g start step found → AreBelow size found
+all_within g start step found size w e s = record { each = λ n h. let r = s.only n h in subst (λ m. n < m) (sym e) (reached_within g w start r.0 n r.1) }
 
 -- what the search needs of the nodes that it goes on to
 pub row_below : (g : Graph) (i size : ℕ) (ns : List ℕ) → IsWithin g → size ≡ length g → ns ≡ targets g i → AreBelow size ns

@@ -1,6 +1,6 @@
 //! What one node leads to.
 
-ghost use Rattle.std.specs.Prelude.{◌≡◌, ◌<◌, length, OnOk, IfOk};
+ghost use Rattle.std.specs.Prelude.{◌≡◌, ◌<◌, [], length, OnOk, IfOk};
 ghost use Rattle.cedar_schema_closure.specs.Graphs.{targets, IsWithin, AreReached};
 ghost use Rattle.cedar_schema_closure.specs.Found.{AreMarks, AreBelow, with_node, with_nodes};
 
@@ -45,24 +45,43 @@ pub fn row(graph: &[Vec<usize>], node: usize) -> &[usize]
     &graph[node]
 }
 
-/// The nodes that one or more edges lead to from this one, each once. Answers want of memory.
+// Takes these nodes as not found.
+fn unmark(marks: &mut Vec<bool>, found: &[usize])
+    requires marks { AreMarks marks.old.items found.now }
+    requires within { AreBelow (length marks.old.items) found.now }
+    ensures none { AreMarks marks.new.items [] }
+    ensures size { length marks.new.items ≡ length marks.old.items }
+{
+    for node in found {
+        marks[*node] = false;
+    }
+}
+
+/// The nodes that one or more edges lead to from this one, each once. The marks tell that no node is found, before and after. It
+/// takes no more steps than there are nodes to find, and edges from these. Answers want of memory.
 pub fn reached_from(
     alloc: Global,
+    marks: &mut Vec<bool>,
     graph: &[Vec<usize>],
     start: usize,
 ) -> Result<Vec<usize>, AllocError>
     requires within { IsWithin graph.now }
     requires start { start < length graph.now }
-    ensures { IfOk result (λ found. AreReached graph.now start found.items) }
+    requires size { length marks.old.items ≡ length graph.now }
+    requires marks { AreMarks marks.old.items [] }
+    ensures found { IfOk result (λ found. AreReached graph.now start found.items) }
+    ensures marks { OnOk result (AreMarks marks.new.items []) }
+    ensures size { OnOk result (length marks.new.items ≡ length graph.now) }
 {
-    let mut marks = vec![in alloc; false; graph.len()]?;
     let mut found = Vec::new(alloc);
-    add_all(&mut marks, &mut found, row(graph, start))?;
+    add_all(marks, &mut found, row(graph, start))?;
     for step in 0..graph.len() {
-        if step < found.len() {
-            let node = found[step];
-            add_all(&mut marks, &mut found, row(graph, node))?;
+        if step >= found.len() {
+            break;
         }
+        let node = found[step];
+        add_all(marks, &mut found, row(graph, node))?;
     }
+    unmark(marks, &found);
     Ok(found)
 }

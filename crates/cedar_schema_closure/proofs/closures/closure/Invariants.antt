@@ -1,4 +1,5 @@
-use Rattle.std.proofs.Common.{◌≡◌, length}
+use Rattle.std.proofs.Common.{◌≡◌, [], length}
+use Rattle.cedar_schema_closure.specs.Found.{AreMarks}
 use Rattle.cedar_schema_closure.proofs.Searching.{AreRows}
 use Rattle.cedar_schema_closure.proofs.closures.closure.Given as goal
 
@@ -6,4 +7,6 @@ abbrev pub invariant-loop-start : goal.invariant-loop-start
 invariant-loop-start l = record {
   size : length l.rows.items ≡ l.start;
   each : AreRows l.graph l.rows.items;
+  marks : AreMarks l.marks.items [];
+  room : length l.marks.items ≡ length l.graph;
 }
