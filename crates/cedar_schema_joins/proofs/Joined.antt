@@ -1,5 +1,5 @@
 -- The attributes of both that join, one after the other.
-use Rattle.std.proofs.Common.{◌≡◌, ◌++◌, Bool, true, false, List, [], ◌∷◌, map, Option, Some, None, option_map, refl, sym, ap, ◌∙◌}
+use Rattle.std.proofs.Common.{◌≡◌, ◌++◌, Bool, true, List, [], ◌∷◌, Option, Some, None, option_map, refl, sym, ap, ◌∙◌}
 use Rattle.std.proofs.lemmas.List.{append-nil}
 use Rattle.std.specs.Borrow.{Bor}
 use Rattle.std.specs.List.Sorted.{IsStrictlySortedBy}
@@ -15,7 +15,7 @@ use Rattle.cedar_expr_model.specs.Whole.Records.{names_rise}
 use Rattle.cedar_expr_model.proofs.Lists.{both_hold, hold_both}
 use Rattle.cedar_expr_model.proofs.Whole.Linear.{text_total}
 use Rattle.cedar_expr_model.proofs.Whole.Rising.{less_is, is_less}
-use Rattle.cedar_schema_model.specs.Whole.Types.{Attributes, Declared, attribute, attribute_named, Mode}
+use Rattle.cedar_schema_model.specs.Whole.Types.{Attributes, Declared, attribute_named, Mode}
 use Rattle.cedar_schema_model.specs.Whole.Join.{join, joined_with, kept_attribute, attributes_join}
 use Rattle.cedar_schema_types.specs.Types.{type_of, attribute_of}
 use Rattle.cedar_schema_types.specs.AttributeLists.{attributes_from, declared_pair, declared_pairs}

@@ -7,8 +7,9 @@ ghost use Rattle.cedar_schema_model.specs.Whole.Join.{join, union_join};
 ghost use Rattle.cedar_schema_types.specs.Unions.{members_of, entities_of};
 ghost use Rattle.cedar_schema_joins.specs.Modes.{mode_of};
 
-use crate::mode::{ValidationMode, is_permissive};
+use crate::mode::is_permissive;
 use cedar_schema_types::{EntityKind, EntityLUB};
+use cedar_store_records::ValidationMode;
 use std::alloc::{AllocError, Global};
 
 // Whether the first type is below the second.

@@ -12,9 +12,10 @@ ghost use Rattle.cedar_schema_types.specs.Types.{type_of, attributes_of, attribu
 ghost use Rattle.cedar_schema_types.specs.AttributeLists.{attributes_from, declared_pairs};
 
 use crate::entities::join_kinds;
-use crate::mode::{ValidationMode, is_permissive};
+use crate::mode::is_permissive;
 use cedar_expr_names::Name;
 use cedar_schema_types::{AttributeType, Attributes, BoolType, EntityKind, OpenTag, Type};
+use cedar_store_records::ValidationMode;
 use std::alloc::{AllocError, Global};
 use std::rc::{Rc, RcStr};
 

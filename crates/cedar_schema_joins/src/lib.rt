@@ -6,6 +6,6 @@ mod joins;
 mod mode;
 mod subtype;
 
+pub use cedar_store_records::ValidationMode;
 pub use joins::{are_types_disjoint, least_upper_bound, reduce_to_least_upper_bound};
-pub use mode::ValidationMode;
 pub use subtype::is_subtype;

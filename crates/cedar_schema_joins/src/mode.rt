@@ -1,17 +1,10 @@
-//! The two ways of typing.
+//! The two ways of typing, as the model has them.
 
 ghost use Rattle.std.specs.Prelude.{◌≡◌};
 ghost use Rattle.cedar_schema_model.specs.Whole.Subtype.{is_permissive};
 ghost use Rattle.cedar_schema_joins.specs.Modes.{mode_of};
 
-/// The two ways of typing.
-#[derive(Copy, Clone, Debug, PartialEq, Eq, PartialOrd, Ord, Hash)]
-pub enum ValidationMode {
-    /// Types have to be alike at every place where they are compared.
-    Strict,
-    /// It is enough that the values of one type are values of the other.
-    Permissive,
-}
+use cedar_store_records::ValidationMode;
 
 // Whether this is the permissive mode.
 pub(crate) fn is_permissive(mode: ValidationMode) -> bool

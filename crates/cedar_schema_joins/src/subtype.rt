@@ -10,9 +10,10 @@ ghost use Rattle.cedar_schema_types.specs.Unions.{entities_of};
 ghost use Rattle.cedar_schema_types.specs.Types.{type_of, attributes_of, attribute_of};
 
 use crate::entities::is_kind_below;
-use crate::mode::{ValidationMode, is_permissive};
+use crate::mode::is_permissive;
 use cedar_expr_names::Name;
 use cedar_schema_types::{AttributeType, Attributes, BoolType, EntityKind, OpenTag, Type};
+use cedar_store_records::ValidationMode;
 
 /// Whether the first type is below the second in this mode.
 pub fn is_subtype(ty0: &Type, ty1: &Type, mode: ValidationMode) -> bool

@@ -14,7 +14,7 @@ use Rattle.cedar_schema_model.specs.Whole.TypeLaws.{has_no_any_set}
 use Rattle.cedar_schema_types.specs.Types.{type_of}
 use Rattle.cedar_schema_types.specs.declared.types.Type.{«Type» as CodeType}
 use Rattle.cedar_schema_joins.specs.Modes.{mode_of}
-use Rattle.cedar_schema_joins.specs.declared.mode.ValidationMode.{ValidationMode}
+use Rattle.cedar_store_records.specs.declared.validation_mode.ValidationMode.{ValidationMode}
 
 -- the type is well-formed, as each is
 abbrev pub Formed : CodeType → Type 0

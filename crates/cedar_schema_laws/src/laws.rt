@@ -1,12 +1,18 @@
 //! Laws of subtypes, joins and values of the code's types, each of which is well-formed. Each function's contract is the theorem;
 //! its body does nothing.
 
-ghost use Rattle.std.specs.Prelude.{◌≡◌, [], Some};
+ghost use Rattle.std.specs.Prelude.{◌≡◌, [], Bool, true, Option, Some};
+ghost use Rattle.std.specs.Ordering.{is_eq};
 ghost use Rattle.cedar_schema_model.specs.Whole.Types.{Mode, never};
 ghost use Rattle.cedar_schema_model.specs.Whole.Join.{reduce_to_join};
+ghost use Rattle.cedar_expr_names.specs.declared.loc.Loc.{Loc};
+ghost use Rattle.cedar_schema_types.specs.declared.types.Type.{«Type» as CodeType};
+ghost use Rattle.cedar_schema_types.specs.declared.types.AttributeType.{AttributeType};
 ghost use Rattle.cedar_schema_laws.specs.Laws.{SubtypesReflexive, SubtypesTransitive, SubtypesAntisymmetric, JoinIsAbove, JoinIsLeast, JoinSwaps, ReductionIsOfMembers, SupertypesKeepValues, DisjointShareNoValue};
 
 use cedar_expr_values::ExtensionValue;
+use cedar_schema_types::{AttributeType, Type};
+use std::hash::Hash;
 
 /// In both modes subtyping is a partial order: a type is below itself, a type below one that is below a third is below the
 /// third, and types below each other are the same.
@@ -34,4 +40,11 @@ pub fn reductions_are_of_members()
 pub fn values_keep_to_types<X: ExtensionValue>()
     ensures kept { SupertypesKeepValues X.seen }
     ensures apart { DisjointShareNoValue X.seen }
+{}
+
+/// Types are equal exactly where their order finds no difference, and are then hashed alike. The places of attributes don't count.
+pub fn types_are_compared()
+    ensures order { (a b : CodeType) → ⟦<Type as PartialEq>⟧.eq a b ≡ is_eq (⟦<Type as Ord>⟧.cmp a b) }
+    ensures hash { (a b : CodeType) → ⟦<Type as PartialEq>⟧.eq a b ≡ true → ⟦<Type as Hash>⟧.hash_input a ≡ ⟦<Type as Hash>⟧.hash_input b }
+    ensures places { (t : CodeType) (r : Bool) (l m : Option Loc) → ⟦<AttributeType as PartialEq>⟧.eq (record { attr_type = t; is_required = r; loc = l }) (record { attr_type = t; is_required = r; loc = m }) ≡ true }
 {}
