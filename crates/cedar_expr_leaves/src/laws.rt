@@ -2,16 +2,19 @@
 
 ghost use Rattle.std.specs.Prelude.{◌≡◌};
 ghost use Rattle.std.specs.Ordering.{is_eq};
+ghost use Rattle.cedar_expr_model.specs.Whole.Order.{literal_cmp};
 ghost use Rattle.cedar_expr_model.specs.Whole.Shape.{var_cmp, slot_cmp, element_cmp, pattern_cmp};
+ghost use Rattle.cedar_expr_leaves.specs.Literals.{literal_of};
 ghost use Rattle.cedar_expr_leaves.specs.Patterns.{element_of, pattern_of};
 ghost use Rattle.cedar_expr_leaves.specs.Slots.{slot_of};
 ghost use Rattle.cedar_expr_leaves.specs.Variables.{var_of};
+ghost use Rattle.cedar_expr_leaves.specs.declared.literal.Literal.{Literal};
 ghost use Rattle.cedar_expr_leaves.specs.declared.pattern.Pattern.{Pattern};
 ghost use Rattle.cedar_expr_leaves.specs.declared.pattern.PatternElem.{PatternElem};
 ghost use Rattle.cedar_expr_leaves.specs.declared.slot.SlotId.{SlotId};
 ghost use Rattle.cedar_expr_leaves.specs.declared.var.Var.{Var};
 
-use crate::{Pattern, PatternElem, SlotId, Var};
+use crate::{Literal, Pattern, PatternElem, SlotId, Var};
 use std::hash::Hash;
 
 /// Patterns are ordered as the model's, are equal where the order finds no difference, and are then hashed alike.
@@ -40,4 +43,11 @@ pub fn variables_are_compared()
     ensures order { (x y : Var) → ⟦<Var as Ord>⟧.cmp x y ≡ var_cmp (var_of x) (var_of y) }
     ensures equality { (x y : Var) → ⟦<Var as PartialEq>⟧.eq x y ≡ is_eq (var_cmp (var_of x) (var_of y)) }
     ensures hash { (x y : Var) → var_of x ≡ var_of y → ⟦<Var as Hash>⟧.hash_input x ≡ ⟦<Var as Hash>⟧.hash_input y }
+{}
+
+/// So are literals: places of uids don't count.
+pub fn literals_are_compared()
+    ensures order { (p q : Literal) → ⟦<Literal as Ord>⟧.cmp p q ≡ literal_cmp (literal_of p) (literal_of q) }
+    ensures equality { (p q : Literal) → ⟦<Literal as PartialEq>⟧.eq p q ≡ is_eq (literal_cmp (literal_of p) (literal_of q)) }
+    ensures hash { (p q : Literal) → literal_of p ≡ literal_of q → ⟦<Literal as Hash>⟧.hash_input p ≡ ⟦<Literal as Hash>⟧.hash_input q }
 {}

@@ -7,6 +7,7 @@ mod copies;
 pub mod err;
 pub mod expr;
 pub mod expr_iterator;
+pub mod laws;
 pub mod non_empty;
 pub mod records;
 pub mod sharing;

@@ -13,3 +13,4 @@ mod Located
 mod Gathered
 mod Calls
 pub mod Ascending
+mod ExtensionValues

@@ -1,6 +1,6 @@
 -- What the laws of the code's values say.
 -- Rule: values and equality (docs/RULES.md).
-use Rattle.std.specs.Prelude.{◌≡◌, Bool, true}
+use Rattle.std.specs.Prelude.{◌≡◌, ℕ, Bool, true, List}
 use Rattle.std.specs.declared.cmp.Ordering.{Ordering}
 use Rattle.cedar_expr_model.specs.Whole.Value.{V}
 use Rattle.cedar_expr_model.specs.Whole.Order.{value_cmp, value_eq}
@@ -18,6 +18,14 @@ module _ {X : Type 0} (seen : X → Extension) where
   -- so is an equality
   abbrev pub EqualAsBare : (Value X → Value X → Bool) → Type 0
   EqualAsBare eq = (v w : Value X) → eq v w ≡ value_eq (bare seen v) (bare seen w)
+
+  -- values that are the same alone feed a hasher alike
+  abbrev pub HashedAsBare : (Value X → List (List ℕ)) → Type 0
+  HashedAsBare input = (v w : Value X) → bare seen v ≡ bare seen w → input v ≡ input w
+
+  -- extension values of one type and key feed a hasher alike
+  abbrev pub HashedAsSeen : (X → List (List ℕ)) → Type 0
+  HashedAsSeen input = (x y : X) → (seen x).kind ≡ (seen y).kind → (seen x).key ≡ (seen y).key → input x ≡ input y
 
   -- sets whose members rise are the same where they have the same members
   abbrev pub SetsAreTheirMembers : Type 0

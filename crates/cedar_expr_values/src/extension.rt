@@ -98,15 +98,11 @@ impl ExtValue {
 }
 
 impl ExtensionValue for ExtValue {
-    ghost use Rattle.std.specs.Ordering.{ordering_then};
-    ghost use Rattle.std.proofs.Common.{ap};
-    ghost use Rattle.cedar_expr_model.specs.Whole.Order.{text_cmp};
-    ghost use Rattle.cedar_expr_values.specs.Extensions.{extension_of};
-    ghost use Rattle.cedar_expr_names.proofs.Equality.{names_order_is};
+    ghost use Rattle.cedar_expr_values.specs.Extensions.{extension_of, by_type_and_key};
 
     ghost seen = { extension_of };
 
-    ghost ordered = { λ x y. ap (λ r. ordering_then r (text_cmp x.key.items y.key.items)) (names_order_is x.type_name.internal y.type_name.internal) };
+    ghost ordered = { by_type_and_key };
 
     fn typename(&self) -> &Name {
         &self.type_name

@@ -1,14 +1,44 @@
 //! Laws of values. Each function's contract is the theorem; its body does nothing.
 
-ghost use Rattle.cedar_expr_values.specs.ValueLaws.{OrderedAsBare, EqualAsBare, SetsAreTheirMembers};
+ghost use Rattle.std.specs.Prelude.{◌≡◌};
+ghost use Rattle.std.specs.Ordering.{is_eq};
+ghost use Rattle.cedar_expr_model.specs.Whole.Order.{core_cmp, core_eq};
+ghost use Rattle.cedar_expr_values.specs.Extension.{extension_cmp};
+ghost use Rattle.cedar_expr_values.specs.Extensions.{extension_of};
+ghost use Rattle.cedar_expr_values.specs.Types.{core_of};
+ghost use Rattle.cedar_expr_values.specs.ValueLaws.{OrderedAsBare, EqualAsBare, HashedAsBare, HashedAsSeen, SetsAreTheirMembers};
+ghost use Rattle.cedar_expr_values.specs.declared.extension.ExtValue.{ExtValue};
+ghost use Rattle.cedar_expr_values.specs.declared.types.Type.{«Type» as CoreKind};
 
-use crate::extension::ExtensionValue;
+use crate::extension::{ExtValue, ExtensionValue};
+use crate::types::Type;
 use crate::value::Value;
+use std::hash::Hash;
 
 /// Values are ordered, and are equal, as the model's values that they are, whatever their places and calls.
 pub fn values_are_compared<X: ExtensionValue>()
     ensures order { OrderedAsBare X.seen ⟦<Value<X> as Ord>⟧.cmp }
     ensures equality { EqualAsBare X.seen ⟦<Value<X> as PartialEq>⟧.eq }
+{}
+
+/// Values that are the same in the model are hashed alike, whatever their places and calls.
+pub fn values_are_hashed<X: ExtensionValue + Hash>()
+    ensures { HashedAsBare X.seen ⟦<Value<X> as Hash>⟧.hash_input }
+{}
+
+/// Extension values of a table are ordered by their types and keys, are equal where the order finds no difference, and are then
+/// hashed alike, whatever the call that makes them.
+pub fn extension_values_are_compared()
+    ensures order { (x y : ExtValue) → ⟦<ExtValue as Ord>⟧.cmp x y ≡ extension_cmp (extension_of x) (extension_of y) }
+    ensures equality { (x y : ExtValue) → ⟦<ExtValue as PartialEq>⟧.eq x y ≡ is_eq (extension_cmp (extension_of x) (extension_of y)) }
+    ensures hash { HashedAsSeen extension_of ⟦<ExtValue as Hash>⟧.hash_input }
+{}
+
+/// Core types are ordered, and are equal, as the model's, and those that are the same there are hashed alike.
+pub fn core_types_are_compared()
+    ensures order { (a b : CoreKind) → ⟦<Type as Ord>⟧.cmp a b ≡ core_cmp (core_of a) (core_of b) }
+    ensures equality { (a b : CoreKind) → ⟦<Type as PartialEq>⟧.eq a b ≡ core_eq (core_of a) (core_of b) }
+    ensures hash { (a b : CoreKind) → core_of a ≡ core_of b → ⟦<Type as Hash>⟧.hash_input a ≡ ⟦<Type as Hash>⟧.hash_input b }
 {}
 
 /// Two sets whose members rise are the same where the same values are their members.

@@ -1,0 +1,24 @@
+-- Values that are the same in the model are equal, and equal ones are hashed alike.
+use Rattle.std.proofs.Common.{ap, ◌∙◌}
+use Rattle.std.specs.Ordering.{is_eq}
+use Rattle.std.proofs.lemmas.Cmp.{tied_itself}
+use Rattle.cedar_expr_model.specs.Whole.Order.{value_eq}
+use Rattle.cedar_expr_model.proofs.Whole.ValueOrder.{value_linear}
+use Rattle.cedar_expr_values.specs.Values.{bare}
+use Rattle.cedar_expr_values.specs.contracts.value.ValueHash.TheImpl.Laws as hash_laws
+use Rattle.cedar_expr_values.proofs.Derived.{equal_is}
+use Rattle.cedar_expr_values.proofs.laws.values_are_hashed.Goals as goal
+
+pub returns : goal.returns
+returns g c v w e =
+    let x = g.X in
+    let m = g.met.X in
+    let seen = x.ExtensionValue.seen in
+    hash_laws.respects_eq-law g.row.X x.Hash x.Hash-dict x.Eq x.Eq-dict x.PartialEq x.PartialEq-dict
+    record { respects_eq = m.Hash.respects_eq } record { laws = m.Eq.laws } record { laws = m.PartialEq.laws } v w
+    (equal_is g.row.X x.Ord x.Ord-dict x.Eq x.Eq-dict x.PartialEq x.PartialEq-dict x.PartialOrd x.PartialOrd-dict
+    record { total = m.Ord.total; matches_partial_cmp = m.Ord.matches_partial_cmp; matches_eq = m.Ord.matches_eq }
+    record { laws = m.Eq.laws } record { laws = m.PartialEq.laws } record { laws = m.PartialOrd.laws }
+    seen m.ExtensionValue.ordered v w
+    ∙ ap (λ u. value_eq u (bare seen w)) e
+    ∙ ap is_eq (tied_itself value_linear.total (bare seen w)))
