@@ -13,7 +13,7 @@ use Rattle.cedar_schema_resolver.proofs.Solving.{none_done, next_done, all_done,
 use Rattle.cedar_schema_resolver.proofs.resolve.types_in_order.Goals as goal
 
 pub loop-number-init : goal.loop-number-init
-loop-number-init c = record { done = none_done (defined_of c.args.all_defs.now) (extensions_seen c.args.extension_types.now) (common_forms c.args.commons.now) (common_seen c.empty-types.result) c.empty-types.ensures }
+loop-number-init c = record { done = none_done (defined_of c.args.all_defs.now) (extensions_seen c.args.extension_types.now) (common_forms c.args.commons.now) (common_seen c.empty-types.result) c.empty-types.ensures.seen }
 
 pub common_at-common-requires : goal.common_at-common-requires
 common_at-common-requires c = is_number (defined_of c.args.all_defs.now) c.args.commons.now c.args.order.now c.requires c.loop-number.number-index c.loop-number-test.true
