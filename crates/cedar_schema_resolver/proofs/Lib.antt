@@ -4,6 +4,7 @@ mod Outcome
 mod Using
 mod Nodes
 mod Solving
+mod Keeping
 mod Inside
 mod Unique
 mod Declared

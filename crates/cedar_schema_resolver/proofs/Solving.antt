@@ -176,7 +176,7 @@ module _ (d : Defined) (x : List Name) (ts : List (Name × TypeForm Name)) (is :
   sized : length sorted.graph ≡ length ts
   sized = sorted.is_graph.size ∙ length-map ts (λ (p : Name × TypeForm Name). (p.0, commons_in d p.1))
 
-  is_done : (i : ℕ) (p : Name × TypeForm Name) → IsAt ts i p → Contains is i
+  pub is_done : (i : ℕ) (p : Name × TypeForm Name) → IsAt ts i p → Contains is i
   is_done i p a = let m = a.0 in order.all i (omega (arith, m, sized))
 
   acyclic : (n : Name) → Reaches (UsesIn d ts) n n → ⊥

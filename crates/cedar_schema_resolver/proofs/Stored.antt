@@ -1,5 +1,5 @@
 -- Common types in a map by their names, and names among extension types.
-use Rattle.std.proofs.Common.{◌≡◌, Bool, true, false, cond, ◌||◌, List, [], ◌∷◌, map, Option, Some, None, Result, Ok, Err, OnOk, refl, sym, ap, ◌∙◌}
+use Rattle.std.proofs.Common.{◌≡◌, Bool, true, false, cond, ◌||◌, List, [], ◌∷◌, map, Option, Some, None, option_map, Result, Ok, Err, OnOk, refl, sym, ap, ◌∙◌}
 use Rattle.std.proofs.lemmas.Bool.{true≢false}
 use Rattle.std.proofs.lemmas.Map.Text.{is_eq-slice_cmp}
 use Rattle.std.specs.Borrow.{Bor}
@@ -21,7 +21,7 @@ use Rattle.cedar_expr_names.proofs.Equality.{names_eq_is}
 use Rattle.cedar_schema_model.specs.Whole.Types.{Ty, never}
 use Rattle.cedar_schema_types.specs.Types.{type_of}
 use Rattle.cedar_schema_types.specs.declared.types.Type.{«Type» as CodeType}
-use Rattle.cedar_schema_resolver.specs.Commons.{commons_with}
+use Rattle.cedar_schema_resolver.specs.Commons.{commons_with, kept_with}
 
 -- what `cmp` computes
 abbrev pub by_text : InternalName → InternalName → Ordering
@@ -95,6 +95,20 @@ types_with k t es fs e = λ i n. one n i
     one : (n : Name) → types_in fs n ≡ commons_with (name_of k) (type_of t) (types_in es) n
     one n = ap (λ gs. types_in gs n) e ∙ ap (λ o. option_map_or type_of o never) (found_with k t n es) ∙ type_there (name_eq n (name_of k)) t (lookup (λ j. name_eq n (name_of j)) es)
 
+kept_there : (b : Bool) (t : CodeType) (o : Option CodeType) → option_map type_of (cond b (Some t) o) ≡ cond b (Some (type_of t)) (option_map type_of o)
+kept_there true t o = refl
+kept_there false t o = refl
+
+-- the types that are kept, and those once one more is there
+abbrev kept_in : List (InternalName × CodeType) → Name → Option Ty
+kept_in es n = option_map type_of (lookup (λ j. name_eq n (name_of j)) es)
+
+pub kept_after : (k : InternalName) (t : CodeType) (es fs : List (InternalName × CodeType)) → fs ≡ insert_entry by_text es k t → kept_in fs ≡ kept_with (name_of k) (type_of t) (kept_in es)
+kept_after k t es fs e = λ i n. one n i
+  where
+    one : (n : Name) → kept_in fs n ≡ kept_with (name_of k) (type_of t) (kept_in es) n
+    one n = ap (λ gs. kept_in gs n) e ∙ ap (λ o. option_map type_of o) (found_with k t n es) ∙ kept_there (name_eq n (name_of k)) t (lookup (λ j. name_eq n (name_of j)) es)
+
 pub on_ok : {A E : Type 0} (r : Result A E) (P Q : Type 0) → OnOk r P → (P → Q) → OnOk r Q
 on_ok (Ok x) P Q h f = f h
 on_ok (Err e) P Q h f = tt
@@ -106,3 +120,11 @@ copied (Some t) = refl
 -- the type that is found by a key
 pub type_found : (n : InternalName) (es : List (InternalName × CodeType)) (r : Option (Bor CodeType)) → option_copied r ≡ lookup (is_at (by_text n)) es → option_map_or (λ t. type_of t.now) r never ≡ option_map_or type_of (lookup (λ k. name_eq (name_of n) (name_of k)) es) never
 type_found n es r h = copied r ∙ ap (λ o. option_map_or type_of o never) (h ∙ found_by_name n es)
+
+-- the same with the name that is kept
+copied_kept : (r : Option (Bor CodeType)) → option_map (λ t. type_of t.now) r ≡ option_map type_of (option_copied r)
+copied_kept None = refl
+copied_kept (Some t) = refl
+
+pub type_kept : (n : InternalName) (es : List (InternalName × CodeType)) (r : Option (Bor CodeType)) → option_copied r ≡ lookup (is_at (by_text n)) es → option_map (λ t. type_of t.now) r ≡ option_map type_of (lookup (λ k. name_eq (name_of n) (name_of k)) es)
+type_kept n es r h = copied_kept r ∙ ap (λ o. option_map type_of o) (h ∙ found_by_name n es)

@@ -1,9 +1,9 @@
 -- What common types stand for, by their definitions.
 -- Rule: schemas; well-formed declarations (docs/RULES.md).
-use Rattle.std.specs.Prelude.{◌≡◌, ℕ, List, map, Contains}
+use Rattle.std.specs.Prelude.{◌≡◌, ℕ, true, List, Option, None, map, is_some, Contains}
 use Rattle.cedar_expr_model.specs.Name.{Name}
 use Rattle.cedar_expr_names.specs.Views.{name_of, plain_name_of, refused_name_of}
-use Rattle.cedar_schema_model.specs.Whole.Types.{never}
+use Rattle.cedar_schema_model.specs.Whole.Types.{Ty, never}
 use Rattle.cedar_schema_model.specs.Whole.BagLaws.{HasTwice}
 use Rattle.cedar_schema_model.specs.Whole.Descent.{Reaches}
 use Rattle.cedar_schema_closure.specs.Graphs.{Graph, IsOrder}
@@ -28,6 +28,11 @@ pub record IsSolved (s : Setting) (ts : List (Name × TypeForm Name)) : Type 0 w
   pub once : HasTwice (names_of ts) → ⊥
   pub apart : (n : Name) → Reaches (UsesIn s.defined ts) n n → ⊥
   pub known : (n : Name) (t : TypeForm Name) → Contains ts (n, t) → AreKnown s.extensions t
+
+-- A type is kept under the name of each of them, and under no other.
+pub record AreKept (ts : List (Name × TypeForm Name)) (kept : Name → Option Ty) : Type 0 where
+  pub each : (n : Name) (t : TypeForm Name) → Contains ts (n, t) → is_some (kept n) ≡ true
+  pub others : (n : Name) → (Contains (names_of ts) n → ⊥) → kept n ≡ None
 
 -- a definition of which this holds
 abbrev pub SomeDefinition : List (Name × TypeForm Name) → (TypeForm Name → Type 0) → Type 0

@@ -1,12 +1,12 @@
 //! What the common types stand for.
 
-ghost use Rattle.std.specs.Prelude.{◌≡◌, OnOk, OnErr};
+ghost use Rattle.std.specs.Prelude.{◌≡◌, option_map, OnOk, OnErr};
 ghost use Rattle.std.specs.BTreeMap.{insert_entry};
 ghost use Rattle.std.specs.Option.{option_map_or};
 ghost use Rattle.cedar_expr_names.specs.Views.{name_of};
 ghost use Rattle.cedar_schema_model.specs.Whole.Types.{never};
 ghost use Rattle.cedar_schema_types.specs.Types.{type_of};
-ghost use Rattle.cedar_schema_resolver.specs.Commons.{common_seen, no_commons, commons_with};
+ghost use Rattle.cedar_schema_resolver.specs.Commons.{common_seen, no_commons, commons_with, common_kept, none_kept, kept_with};
 
 use cedar_expr_names::InternalName;
 use cedar_schema_types::Type;
@@ -22,7 +22,8 @@ pub struct CommonTypes {
 impl CommonTypes {
     /// Without any common type.
     pub fn empty(alloc: Global) -> CommonTypes
-        ensures { common_seen result ≡ no_commons }
+        ensures seen { common_seen result ≡ no_commons }
+        ensures kept { common_kept result ≡ none_kept }
     {
         CommonTypes {
             types: BTreeMap::new(alloc),
@@ -31,7 +32,8 @@ impl CommonTypes {
 
     /// The type that the common type of this name stands for, if there is one.
     pub fn get(&self, name: &InternalName) -> Option<&Type>
-        ensures { option_map_or (λ t. type_of t.now) result never ≡ common_seen self.now (name_of name.now) }
+        ensures seen { option_map_or (λ t. type_of t.now) result never ≡ common_seen self.now (name_of name.now) }
+        ensures kept { option_map (λ t. type_of t.now) result ≡ common_kept self.now (name_of name.now) }
     {
         self.types.get(name)
     }
@@ -39,7 +41,9 @@ impl CommonTypes {
     /// Takes the common type of this name for one that stands for this type. Answers want of memory, and then the types stay.
     pub fn insert(&mut self, name: InternalName, ty: Type) -> Result<(), AllocError>
         ensures inserted { OnOk result (common_seen self.new ≡ commons_with (name_of name) (type_of ty) (common_seen self.old)) }
+        ensures kept { OnOk result (common_kept self.new ≡ kept_with (name_of name) (type_of ty) (common_kept self.old)) }
         ensures unchanged { OnErr result (common_seen self.new ≡ common_seen self.old) }
+        ensures kept_unchanged { OnErr result (common_kept self.new ≡ common_kept self.old) }
     {
         put(&mut self.types, name, ty)
     }

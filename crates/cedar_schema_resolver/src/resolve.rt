@@ -5,10 +5,10 @@ ghost use Rattle.cedar_expr_names.specs.Views.{name_of};
 ghost use Rattle.cedar_schema_decl.specs.Defined.{defined_of};
 ghost use Rattle.cedar_schema_decl.specs.Definitions.{common_form};
 ghost use Rattle.cedar_schema_nodes.specs.Numbers.{IsAt};
-ghost use Rattle.cedar_schema_resolver.specs.Commons.{common_seen, commons_with};
+ghost use Rattle.cedar_schema_resolver.specs.Commons.{common_seen, commons_with, common_kept, kept_with};
 ghost use Rattle.cedar_schema_resolver.specs.Meanings.{setting, extensions_seen, told};
 ghost use Rattle.cedar_schema_resolver.specs.Refusals.{AreKnown, TellsUntold};
-ghost use Rattle.cedar_schema_resolver.specs.Solved.{IsSolved, TellsUnsolved, TellsUnordered, AreSorted};
+ghost use Rattle.cedar_schema_resolver.specs.Solved.{IsSolved, AreKept, TellsUnsolved, TellsUnordered, AreSorted};
 ghost use Rattle.cedar_schema_resolver.specs.Uses.{common_forms};
 
 use crate::common_types::CommonTypes;
@@ -71,6 +71,7 @@ fn with_type(
     extension_types: &BTreeSet<Name>,
 ) -> Result<CommonTypes, ResolveError>
     ensures made { IfOk result (λ c. common_seen c ≡ commons_with (name_of common.now.0) (told (setting (common_seen types) (defined_of all_defs.now) (extensions_seen extension_types.now)) (common_form name_of common.now.1)) (common_seen types)) }
+    ensures kept { IfOk result (λ c. common_kept c ≡ kept_with (name_of common.now.0) (told (setting (common_seen types) (defined_of all_defs.now) (extensions_seen extension_types.now)) (common_form name_of common.now.1)) (common_kept types)) }
     ensures known { IfOk result (λ c. AreKnown (extensions_seen extension_types.now) (common_form name_of common.now.1)) }
     ensures refused { IfErr result (TellsUntold (setting (common_seen types) (defined_of all_defs.now) (extensions_seen extension_types.now)) (common_form name_of common.now.1)) }
 {
@@ -99,6 +100,7 @@ fn types_in_order(
 ) -> Result<CommonTypes, ResolveError>
     requires { AreSorted (defined_of all_defs.now) (common_forms commons.now) order.now }
     ensures solved { IfOk result (λ c. IsSolved (setting (common_seen c) (defined_of all_defs.now) (extensions_seen extension_types.now)) (common_forms commons.now)) }
+    ensures kept { IfOk result (λ c. AreKept (common_forms commons.now) (common_kept c)) }
     ensures refused { IfErr result (TellsUnsolved (defined_of all_defs.now) (extensions_seen extension_types.now) (common_forms commons.now)) }
 {
     let mut types = CommonTypes::empty(alloc);
@@ -119,6 +121,7 @@ pub fn resolve_common_types(
     extension_types: &BTreeSet<Name>,
 ) -> Result<CommonTypes, ResolveError>
     ensures solved { IfOk result (λ c. IsSolved (setting (common_seen c) (defined_of all_defs.now) (extensions_seen extension_types.now)) (common_forms commons.now)) }
+    ensures kept { IfOk result (λ c. AreKept (common_forms commons.now) (common_kept c)) }
     ensures refused { IfErr result (TellsUnsolved (defined_of all_defs.now) (extensions_seen extension_types.now) (common_forms commons.now)) }
 {
     match in_order_of_use(alloc, commons, all_defs) {
