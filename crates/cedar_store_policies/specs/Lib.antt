@@ -7,3 +7,4 @@ pub mod Refusals
 pub mod SetParts
 pub mod PolicySets
 pub mod SetRefusals
+pub mod SetLaws

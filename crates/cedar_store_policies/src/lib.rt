@@ -3,6 +3,7 @@
 
 mod bindings;
 mod entries;
+pub mod laws;
 pub mod policy;
 pub mod policy_set;
 pub mod static_policy;

@@ -48,6 +48,7 @@ impl Policy {
     /// The policy of a policy without slots. Answers want of memory.
     pub fn from_static_policy(alloc: Global, policy: StaticPolicy) -> Result<Policy, AllocError>
         ensures policy { IfOk result (λ p. policy_of p ≡ static_of policy) }
+        ensures template { IfOk result (λ p. template_behind p ≡ static_of policy) }
         ensures place { IfOk result (λ p. policy_loc p ≡ static_loc policy) }
     {
         let template = Rc::new(alloc, policy.into_template())?;
@@ -72,6 +73,7 @@ impl Policy {
           body = Some (tree_of when);
           bindings = no_bindings;
         }) }
+        ensures template { IfOk result (λ p. template_behind p ≡ policy_of p) }
         ensures place { IfOk result (λ p. policy_loc p ≡ loc) }
     {
         let when = Rc::new(alloc, when)?;
@@ -98,6 +100,7 @@ impl Policy {
           body = Some (tree_of when.value);
           bindings = no_bindings;
         }) }
+        ensures template { IfOk result (λ p. template_behind p ≡ policy_of p) }
         ensures place { IfOk result (λ p. policy_loc p ≡ loc) }
     {
         let template = Template::new_shared(
@@ -212,7 +215,7 @@ impl Policy {
 }
 
 impl Clone for Policy {
-    ghost is_clone = { λ p copy. (policy_of copy ≡ policy_of p) × (template_behind copy ≡ template_behind p) };
+    ghost is_clone = { λ p copy. (policy_of copy ≡ policy_of p) × (template_behind copy ≡ template_behind p) × (policy_loc copy ≡ policy_loc p) };
 
     /// The same policy over the same template, which is shared.
     fn clone(&self) -> Result<Policy, AllocError> {
