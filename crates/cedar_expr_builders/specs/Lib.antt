@@ -1,3 +1,4 @@
 pub mod Refusing
 pub mod Views
 pub mod BuilderLaws
+pub mod Texts

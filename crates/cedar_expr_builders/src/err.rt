@@ -37,6 +37,10 @@ impl<T: Drop, E> From<AllocFailed<T>> for BuildFault<E> {
 }
 
 impl<E: Display> Display for BuildFault<E> {
+    ghost use Rattle.cedar_expr_builders.specs.Texts.{fault_text};
+
+    ghost output = { fault_text E.output };
+
     fn fmt<W: Write>(&self, f: &mut Formatter<W>) -> fmt::Result {
         match self {
             BuildFault::OutOfMemory => write!(f, "out of memory"),

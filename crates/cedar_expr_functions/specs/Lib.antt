@@ -7,3 +7,4 @@ pub mod Collected
 pub mod Extended
 pub mod Named
 pub mod Tables
+pub mod Texts

@@ -6,6 +6,8 @@ ghost use Rattle.std.specs.Prelude.{◌≡◌};
 use cedar_expr_names::{Loc, Name};
 use cedar_expr_values::Type;
 use std::alloc::{AllocError, AllocFailed};
+use std::fmt;
+use std::fmt::{Display, Formatter, Write};
 use thiserror::Error;
 
 /// Why a call of a function gives nothing.
@@ -80,6 +82,19 @@ impl<K, T: Drop> From<AllocFailed<T>> for CollectError<K> {
 
     fn from(_error: AllocFailed<T>) -> CollectError<K> {
         CollectError::OutOfMemory
+    }
+}
+
+impl<K: Display> Display for CollectError<K> {
+    ghost use Rattle.cedar_expr_functions.specs.Texts.{collect_text};
+
+    ghost output = { collect_text K.output };
+
+    fn fmt<W: Write>(&self, f: &mut Formatter<W>) -> fmt::Result {
+        match self {
+            CollectError::OutOfMemory => write!(f, "out of memory"),
+            CollectError::Repeated(key) => write!(f, "duplicate key `{key}`"),
+        }
     }
 }
 
