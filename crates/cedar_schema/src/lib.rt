@@ -44,7 +44,9 @@ pub mod schema {
     /// Why declarations are refused.
     pub mod err {
         pub use cedar_schema_builder::SchemaError;
+        pub use cedar_schema_built::UnresolvedExternalError;
         pub use cedar_schema_decl::{ShadowingError, TypeNotDefinedError};
+        pub use cedar_schema_fragments::FragmentError;
         pub use cedar_schema_sound::UnsoundSchemaError;
     }
 }
@@ -67,7 +69,10 @@ pub mod types {
 }
 
 pub use core_types::{CoreSchemaType, core_schema_type};
-pub use schema::err::{SchemaError, ShadowingError, TypeNotDefinedError, UnsoundSchemaError};
+pub use schema::err::{
+    FragmentError, SchemaError, ShadowingError, TypeNotDefinedError, UnresolvedExternalError,
+    UnsoundSchemaError,
+};
 pub use schema::{
     ActionFragment, ActionGroups, ActionsDef, ActionsFor, AllDefs, Ancestors, AppliesTo,
     CommonTypeDefs, EntityTypeFragment, EntityTypesDef, LocatedCommonType, LocatedNamespace,

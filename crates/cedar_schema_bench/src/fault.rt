@@ -34,10 +34,10 @@ impl From<NameError> for Fault {
     }
 }
 
-impl From<cedar_schema_fragments::SchemaError> for Fault {
-    fn from(error: cedar_schema_fragments::SchemaError) -> Fault {
+impl From<cedar_schema_fragments::FragmentError> for Fault {
+    fn from(error: cedar_schema_fragments::FragmentError) -> Fault {
         match error {
-            cedar_schema_fragments::SchemaError::OutOfMemory => Fault::OutOfMemory,
+            cedar_schema_fragments::FragmentError::OutOfMemory => Fault::OutOfMemory,
             _ => Fault::Refused,
         }
     }

@@ -15,7 +15,7 @@ use Rattle.cedar_schema_fragments.specs.Laws.{ShadowingIsDeclared, WrittenTypesA
 use Rattle.cedar_schema_fragments.specs.Marked.{HasAll}
 use Rattle.cedar_schema_fragments.specs.Namespaces.{fragment_form}
 use Rattle.cedar_schema_fragments.specs.Refusals.{refusal, Refuses}
-use Rattle.cedar_schema_fragments.specs.declared.err.SchemaError.{SchemaError}
+use Rattle.cedar_schema_fragments.specs.declared.err.FragmentError.{FragmentError}
 use Rattle.cedar_schema_fragments.specs.declared.namespace_def.ValidatorSchemaFragment.{ValidatorSchemaFragment}
 use Rattle.cedar_schema_gathered.specs.AllResolved.{all_resolved}
 use Rattle.cedar_schema_gathered.specs.Gathered.{resolved_forms}
@@ -40,7 +40,7 @@ module _ (fs : List (ValidatorSchemaFragment ConditionalName ConditionalName)) (
     shadowing_refused (shade.TypeShadowing n) h = some_told (IsFaultIn fs) shadowing (shadows_there (found (first_shadowing s) _ h))
     shadowing_refused (shade.ActionShadowing u) h = some_told (IsFaultIn fs) shadowing (shadows_there (found (first_shadowing s) _ h))
 
-  pub resolving_refused : RefusalsTellFaults → (e : SchemaError) → Refuses (all_resolved s fs) e → IsTold (IsFaultIn fs) (fault_of_fragments e)
+  pub resolving_refused : RefusalsTellFaults → (e : FragmentError) → Refuses (all_resolved s fs) e → IsTold (IsFaultIn fs) (fault_of_fragments e)
   resolving_refused told e h = told_of (IsFaultIn fs) (refusal e) (λ r q. record { each = λ x d w. told fs d w s has x r (h r q) })
 
   pub are_gathered : ResolvedOneByOneAreWritten → (gs : List (ValidatorSchemaFragment InternalName EntityType)) → all_resolved s fs ≡ Ok (map (fragment_form name_of type_name_of) gs)

@@ -9,7 +9,7 @@ use Rattle.cedar_expr_raw_names.specs.declared.conditional_name.ConditionalName.
 use Rattle.cedar_schema_model.specs.Whole.BagLaws.{HasSchemaFault}
 use Rattle.cedar_schema_model.specs.Whole.WellFormed.{SchemaFault, reserved_name, action_as_entity_type}
 use Rattle.cedar_schema_fragments.specs.Refusals.{Refusal, reserved_type, refusal, Refuses}
-use Rattle.cedar_schema_fragments.specs.declared.err.SchemaError.{SchemaError}
+use Rattle.cedar_schema_fragments.specs.declared.err.FragmentError.{FragmentError}
 use Rattle.cedar_schema_fragments.specs.declared.namespace_def.ValidatorSchemaFragment.{ValidatorSchemaFragment}
 use Rattle.cedar_schema_gathered.specs.Checked.{reserved_checked, is_action_word}
 use Rattle.cedar_schema_gathered.specs.Laws as gathered
@@ -49,7 +49,7 @@ module _ (found : ReservedNamesAreFound) (typed : ActionTypesAreFound) (fs : Lis
     no_action_type = λ x d w p. true≢false (sym ((typed fs d w x).1 p) ∙ k);
   }
 
-  pub reserved_refused : (e : SchemaError) → Refuses (reserved_checked fs) e → IsTold (IsFaultIn fs) (fault_of_fragments e)
+  pub reserved_refused : (e : FragmentError) → Refuses (reserved_checked fs) e → IsTold (IsFaultIn fs) (fault_of_fragments e)
   reserved_refused e h = told_of (IsFaultIn fs) (refusal e) (λ r q. let f = some_found (find is_reserved (names_in fs)) r (h r q) in record { each = λ x d w. subst (HasSchemaFault x d) (sym f.1) ((found fs d w x).0 f.0) })
 
   pub typed_refused : is_some (find is_action_word (entities_named fs)) ≡ true → IsFaultIn fs action_as_entity_type

@@ -6,7 +6,7 @@ use Rattle.cedar_schema_model.specs.Whole.WellFormed.{SchemaFault, schema_number
 use Rattle.cedar_schema_decl.specs.declared.err.ShadowingError.{ShadowingError}
 use Rattle.cedar_schema_decl.specs.declared.err.ShadowingError.TheVariants as shade
 use Rattle.cedar_schema_fragments.specs.Refusals.{refusal}
-use Rattle.cedar_schema_fragments.specs.declared.err.SchemaError.{SchemaError as FragmentError}
+use Rattle.cedar_schema_fragments.specs.declared.err.FragmentError.{FragmentError}
 use Rattle.cedar_schema_gathered.specs.Laws as gathered
 use Rattle.cedar_schema_resolver.specs.Laws as resolver
 use Rattle.cedar_schema_resolver.specs.declared.err.ResolveError.{ResolveError}

@@ -51,19 +51,19 @@ impl From<ShadowingError> for SchemaError {
     }
 }
 
-impl From<cedar_schema_fragments::SchemaError> for SchemaError {
+impl From<cedar_schema_fragments::FragmentError> for SchemaError {
     ghost from_gives = { λ f e. fault_told e ≡ fault_of_fragments f };
 
-    fn from(error: cedar_schema_fragments::SchemaError) -> SchemaError {
+    fn from(error: cedar_schema_fragments::FragmentError) -> SchemaError {
         match error {
-            cedar_schema_fragments::SchemaError::OutOfMemory => SchemaError::OutOfMemory,
-            cedar_schema_fragments::SchemaError::TypeNotDefined { undefined_type } => {
+            cedar_schema_fragments::FragmentError::OutOfMemory => SchemaError::OutOfMemory,
+            cedar_schema_fragments::FragmentError::TypeNotDefined { undefined_type } => {
                 SchemaError::TypeNotDefined { undefined_type }
             }
-            cedar_schema_fragments::SchemaError::ActionNotDefined { ty, id } => {
+            cedar_schema_fragments::FragmentError::ActionNotDefined { ty, id } => {
                 SchemaError::ActionNotDefined { ty, id }
             }
-            cedar_schema_fragments::SchemaError::ReservedName(error) => {
+            cedar_schema_fragments::FragmentError::ReservedName(error) => {
                 SchemaError::ReservedName(error)
             }
         }

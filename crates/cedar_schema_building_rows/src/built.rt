@@ -29,10 +29,19 @@ fn fragments(alloc: Global, parts: &[&[Lines<'_>]]) -> Result<Vec<Written>, Allo
     Ok(fragments)
 }
 
-// The schema of these fragments, where no extension type is known, or why there is none.
-pub(crate) fn built(alloc: Global, parts: &[&[Lines<'_>]]) -> Result<ValidatorSchema, SchemaError> {
+// The schema of these fragments, by the extension types of the table, or why there is none.
+pub(crate) fn built_with(
+    alloc: Global,
+    parts: &[&[Lines<'_>]],
+    table: &Extensions<'_>,
+) -> Result<ValidatorSchema, SchemaError> {
     let fragments = fragments(alloc, parts)?;
-    ValidatorSchema::from_schema_fragments(alloc, fragments, &Extensions::none(alloc))
+    ValidatorSchema::from_schema_fragments(alloc, fragments, table)
+}
+
+// The same where no extension type is known.
+pub(crate) fn built(alloc: Global, parts: &[&[Lines<'_>]]) -> Result<ValidatorSchema, SchemaError> {
+    built_with(alloc, parts, &Extensions::none(alloc))
 }
 
 // The texts of its entity types.
@@ -55,7 +64,15 @@ fn actions_text(alloc: Global, schema: &ValidatorSchema) -> Result<String, Alloc
 
 // The text of what comes of these fragments: that of the schema, or the number of the refusal.
 pub(crate) fn outcome(alloc: Global, parts: &[&[Lines<'_>]]) -> Result<String, AllocError> {
-    match built(alloc, parts) {
+    told(alloc, built(alloc, parts))
+}
+
+// The text of a schema, or the number of the refusal.
+pub(crate) fn told(
+    alloc: Global,
+    made: Result<ValidatorSchema, SchemaError>,
+) -> Result<String, AllocError> {
+    match made {
         Ok(schema) => {
             let types = types_text(alloc, &schema)?;
             let actions = actions_text(alloc, &schema)?;

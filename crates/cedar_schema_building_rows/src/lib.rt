@@ -2,5 +2,8 @@
 #![tactic(auto)]
 
 mod built;
+mod extension_types;
+mod listed;
+mod places;
 mod refusals;
 mod schemas;

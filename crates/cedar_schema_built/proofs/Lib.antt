@@ -6,3 +6,6 @@ mod Rows
 mod Adding
 mod Gathered
 mod Sorted
+mod Located
+mod Forms
+mod Declared

@@ -101,7 +101,7 @@ one_alone key (z ∷ xs) once x y h k e =
     (λ g. one_alone key xs (λ t. once (inr t)) x y f g e))
 
 -- names and uids that are equal in their order are the same
-name_same : (m n : Name) → is_well_formed m ≡ true → is_well_formed n ≡ true → name_cmp m n ≡ Equal → m ≡ n
+pub name_same : (m n : Name) → is_well_formed m ≡ true → is_well_formed n ≡ true → name_cmp m n ≡ Equal → m ≡ n
 name_same m n p q e = (name_eq-Decides m n).0 (sym (name_eq_is m n p q) ∙ sym (is_eq-slice_cmp (name_text m) (name_text n)) ∙ ap is_eq e)
 
 both_equal : (o p : Ordering) → is_eq (ordering_then o p) ≡ (is_eq o && is_eq p)

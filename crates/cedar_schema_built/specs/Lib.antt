@@ -5,3 +5,4 @@ pub mod Views
 pub mod Iterators
 pub mod Above
 pub mod BuiltOf
+pub mod Listed

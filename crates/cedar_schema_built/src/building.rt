@@ -1,13 +1,17 @@
 //! A schema built of fragments.
 
 ghost use Rattle.std.specs.Prelude.{IfOk, IfErr};
+ghost use Rattle.cedar_schema_model.specs.Whole.Declarations.{Declarations};
+ghost use Rattle.cedar_schema_fragments.specs.WrittenDeclarations.{AreWritten};
 ghost use Rattle.cedar_schema_builder.specs.Built.{IsFaultOf};
 ghost use Rattle.cedar_schema_builder.specs.Extensions.{types_given};
 ghost use Rattle.cedar_schema_builder.specs.Faults.{Tells};
 ghost use Rattle.cedar_schema_built.specs.BuiltOf.{IsBuiltOf};
+ghost use Rattle.cedar_schema_built.specs.Listed.{schema_listed, AreListed, HasNamesOf};
 ghost use Rattle.cedar_schema_built.specs.Views.{schema_kept};
 
-use crate::laws::new_keeps_the_schema;
+use crate::laws::{listed_are_declared, new_keeps_the_schema};
+use crate::names::SchemaNames;
 use crate::schema::ValidatorSchema;
 use cedar_expr_functions::Extensions;
 use cedar_expr_raw_names::ConditionalName;
@@ -18,22 +22,27 @@ use std::alloc::Global;
 
 impl ValidatorSchema {
     /// The schema of the declarations that these fragments write, where these are well-formed and the extension types that they name
-    /// are given by the table. Refuses them else, with a fault that is there, and answers want of memory.
+    /// are given by the table. It lists the common types that are declared and the namespaces in which anything is, in the order of
+    /// their names, each once. Refuses the fragments else, with a fault that is there, and answers want of memory.
     pub fn from_schema_fragments(
         alloc: Global,
         fragments: Vec<ValidatorSchemaFragment<ConditionalName, ConditionalName>>,
         extensions: &Extensions<'_>,
     ) -> Result<ValidatorSchema, SchemaError>
         ensures built { IfOk result (λ s. IsBuiltOf (types_given extensions.now) fragments.items (schema_kept s)) }
+        ensures listed { IfOk result (λ s. AreListed fragments.items (schema_listed s)) }
+        ensures declared { IfOk result (λ s. (d : Declarations) → AreWritten fragments.items d → HasNamesOf d (schema_listed s)) }
         ensures refused { IfErr result (Tells (IsFaultOf (types_given extensions.now) fragments.items)) }
     {
         new_keeps_the_schema();
         extension_types_are_a_set();
+        listed_are_declared();
+        let names = SchemaNames::of_fragments(alloc, &fragments)?;
         let types = extension_types(alloc, extensions)?;
         match schema_parts(alloc, fragments, &types) {
             Ok(parts) => {
                 let schema = ValidatorSchema::new(alloc, parts.entity_types, parts.actions)?;
-                Ok(schema)
+                Ok(schema.with_names(names))
             }
             Err(error) => Err(error),
         }

@@ -1,5 +1,6 @@
-//! A law of built schemas. The function's contract is the theorem; its body calls the law that it stands on.
+//! Laws of built schemas. Each function's contract is the theorem; its body calls the law that it stands on, if it needs one.
 
+ghost use Rattle.cedar_schema_built.specs.Listed.{ListedAreDeclared, OrderOfListedIsFree};
 ghost use Rattle.cedar_schema_built.specs.Sorted.{NewKeepsTheSchema};
 
 use cedar_schema_told_model::laws::pieces_are_kept;
@@ -10,3 +11,14 @@ pub fn new_keeps_the_schema()
 {
     pieces_are_kept();
 }
+
+/// The common types and the namespaces that are listed of fragments have the names that the declarations have which the fragments
+/// write.
+pub fn listed_are_declared()
+    ensures { ListedAreDeclared }
+{}
+
+/// The same declarations in another order, or split among other fragments, list the same names.
+pub fn order_of_listed_is_free()
+    ensures { OrderOfListedIsFree }
+{}

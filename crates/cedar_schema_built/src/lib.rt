@@ -7,10 +7,11 @@ mod environments;
 mod iterators;
 pub mod laws;
 mod listed;
+mod names;
 mod readers;
 mod schema;
 mod unresolved;
 
 pub use iterators::{ActionGroups, ActionsFor, Ancestors};
 pub use schema::ValidatorSchema;
-pub use unresolved::{UnresolvedDeclaration, UnresolvedDeclarations};
+pub use unresolved::{UnresolvedDeclaration, UnresolvedDeclarations, UnresolvedExternalError};

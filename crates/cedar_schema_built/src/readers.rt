@@ -4,15 +4,18 @@ ghost use Rattle.std.specs.Prelude.{◌≡◌, map, option_map, is_some};
 ghost use Rattle.cedar_expr_names.specs.Views.{type_name_of, uid_of};
 ghost use Rattle.cedar_schema_types.specs.Types.{type_of};
 ghost use Rattle.cedar_schema_entries.specs.Views.{entity_type_seen, action_seen};
+ghost use Rattle.cedar_schema_located.specs.Views.{common_listed, space_listed};
 ghost use Rattle.cedar_schema_kept_model.specs.Kept.{kept_type, kept_action, kept_ancestors, kept_groups, kept_actions_for, elsewhere};
 ghost use Rattle.cedar_schema_built.specs.Iterators.{ancestors_left, groups_left, actions_left, unresolved_left};
+ghost use Rattle.cedar_schema_built.specs.Listed.{schema_listed};
 ghost use Rattle.cedar_schema_built.specs.Views.{schema_kept};
 
 use crate::iterators::{ActionGroups, ActionsFor, Ancestors};
 use crate::schema::ValidatorSchema;
 use crate::unresolved::UnresolvedDeclarations;
-use cedar_expr_names::{EntityType, EntityUID};
+use cedar_expr_names::{EntityType, EntityUID, InternalName};
 use cedar_schema_entries::{ValidatorActionId, ValidatorEntityType};
+use cedar_schema_located::{LocatedCommonType, LocatedNamespace};
 use cedar_schema_types::Type;
 use std::collections::btree_map::{Keys, Values};
 use std::collections::btree_set::Iter;
@@ -58,6 +61,20 @@ impl ValidatorSchema {
         ensures { map uid_of result ≡ map (λ a. a.uid) (schema_kept self.now).actions }
     {
         self.action_ids.keys()
+    }
+
+    /// Goes over the common types that the fragments of the schema declare, in the order of their names.
+    pub fn common_types(&self) -> Values<'_, InternalName, LocatedCommonType>
+        ensures { map common_listed result ≡ (schema_listed self.now).commons }
+    {
+        self.names.common_types.values()
+    }
+
+    /// Goes over the namespaces in which the fragments of the schema declare anything, in the order of their names.
+    pub fn namespaces(&self) -> Values<'_, InternalName, LocatedNamespace>
+        ensures { map space_listed result ≡ (schema_listed self.now).spaces }
+    {
+        self.names.namespaces.values()
     }
 
     /// Goes over the types of principals that the action of this uid applies to, if it is declared.

@@ -6,46 +6,67 @@ ghost use Rattle.cedar_schema_entries.specs.Views.{entity_type_seen, action_seen
 ghost use Rattle.cedar_schema_built.specs.Put.{all_put};
 ghost use Rattle.cedar_schema_built.specs.Entries.{types_in, type_keys, type_names, actions_in, action_keys, action_names};
 
+use crate::names::SchemaNames;
 use cedar_expr_names::{EntityType, EntityUID};
 use cedar_schema_entries::{ValidatorActionId, ValidatorEntityType};
 use std::alloc::{AllocError, Global};
 use std::collections::BTreeMap;
 
-/// A built schema: its entity types by name, and its actions by uid.
+/// A built schema: its entity types by name, its actions by uid, and the common types and the namespaces of the fragments that it is
+/// built of.
 #[derive(Debug, Drop)]
 pub struct ValidatorSchema {
     pub(crate) entity_types: BTreeMap<EntityType, ValidatorEntityType>,
     pub(crate) action_ids: BTreeMap<EntityUID, ValidatorActionId>,
+    pub(crate) names: SchemaNames,
     ghost types_named: { type_keys entity_types.entries ≡ type_names entity_types.entries },
     ghost actions_named: { action_keys action_ids.entries ≡ action_names action_ids.entries },
 }
 
 impl ValidatorSchema {
+    ghost use Rattle.cedar_schema_built.specs.Listed.{names_listed, schema_listed};
     ghost use Rattle.cedar_schema_built.specs.Views.{schema_kept};
 
-    /// The schema of these entity types and actions. Of a repeated name or uid the last stands. Answers want of memory.
+    /// The schema of these entity types and actions. Of a repeated name or uid the last stands. It lists neither common types nor
+    /// namespaces. Answers want of memory.
     pub fn new(
         alloc: Global,
         entity_types: Vec<ValidatorEntityType>,
         action_ids: Vec<ValidatorActionId>,
     ) -> Result<ValidatorSchema, AllocError>
-        ensures { IfOk result (λ s. schema_kept s ≡ record { types = all_put name_cmp (λ t. t.name) [] (map entity_type_seen entity_types.items); actions = all_put uid_cmp (λ a. a.uid) [] (map action_seen action_ids.items) }) }
+        ensures kept { IfOk result (λ s. schema_kept s ≡ record { types = all_put name_cmp (λ t. t.name) [] (map entity_type_seen entity_types.items); actions = all_put uid_cmp (λ a. a.uid) [] (map action_seen action_ids.items) }) }
+        ensures listed { IfOk result (λ s. schema_listed s ≡ record { commons = []; spaces = [] }) }
     {
         let entity_types = types_by_name(alloc, entity_types)?;
         let action_ids = actions_by_uid(alloc, action_ids)?;
         Ok(ValidatorSchema {
             entity_types,
             action_ids,
+            names: SchemaNames::empty(alloc),
         })
     }
 
     /// The schema without entity types and actions.
     pub fn empty(alloc: Global) -> ValidatorSchema
-        ensures { schema_kept result ≡ record { types = []; actions = [] } }
+        ensures kept { schema_kept result ≡ record { types = []; actions = [] } }
+        ensures listed { schema_listed result ≡ record { commons = []; spaces = [] } }
     {
         ValidatorSchema {
             entity_types: BTreeMap::new(alloc),
             action_ids: BTreeMap::new(alloc),
+            names: SchemaNames::empty(alloc),
+        }
+    }
+
+    // The same schema with these common types and namespaces.
+    pub(crate) fn with_names(self, names: SchemaNames) -> ValidatorSchema
+        ensures kept { schema_kept result ≡ schema_kept self }
+        ensures listed { schema_listed result ≡ names_listed names }
+    {
+        ValidatorSchema {
+            entity_types: self.entity_types,
+            action_ids: self.action_ids,
+            names,
         }
     }
 }

@@ -4,6 +4,9 @@ use crate::schema::ValidatorSchema;
 use cedar_expr_names::{EntityType, EntityUID};
 use cedar_schema_entries::{ValidatorActionId, ValidatorEntityType};
 use std::collections::btree_map::Values;
+use std::fmt;
+use std::fmt::{Display, Formatter, Write};
+use thiserror::Error;
 
 /// An entity type or an action that is declared elsewhere.
 #[derive(Debug, Clone, Copy)]
@@ -12,6 +15,35 @@ pub enum UnresolvedDeclaration<'a> {
     EntityType(&'a EntityType),
     /// An action.
     Action(&'a EntityUID),
+}
+
+impl<'a> Display for UnresolvedDeclaration<'a> {
+    fn fmt<W: Write>(&self, f: &mut Formatter<W>) -> fmt::Result {
+        match self {
+            UnresolvedDeclaration::EntityType(ty) => write!(f, "entity type `{ty}`"),
+            UnresolvedDeclaration::Action(uid) => write!(f, "action `{uid}`"),
+        }
+    }
+}
+
+/// Why a schema isn't complete: this is declared elsewhere.
+#[derive(Debug, Clone, Copy, Error)]
+#[error("{declaration} is declared elsewhere")]
+pub struct UnresolvedExternalError<'a> {
+    /// What is declared elsewhere.
+    pub declaration: UnresolvedDeclaration<'a>,
+}
+
+impl<'a> UnresolvedExternalError<'a> {
+    ghost use Rattle.std.specs.Prelude.{◌≡◌};
+    ghost use Rattle.cedar_schema_model.specs.Whole.WellFormed.{schema_number, unresolved_external};
+
+    /// The number of the refusal, which goes on from those of `SchemaError`.
+    pub fn number(&self) -> u32
+        ensures { result ≡ schema_number unresolved_external }
+    {
+        13
+    }
 }
 
 /// Goes over what is declared elsewhere: entity types in the order of their names, and then actions in that of their uids.
@@ -71,12 +103,12 @@ ghost use Rattle.cedar_schema_built.specs.Views.{schema_kept, unresolved_seen};
 
 impl ValidatorSchema {
     /// Refuses a schema in which something is declared elsewhere, by naming the first that is.
-    pub fn check_complete(&self) -> Result<(), UnresolvedDeclaration<'_>>
+    pub fn check_complete(&self) -> Result<(), UnresolvedExternalError<'_>>
         ensures complete { IfOk result (λ _. elsewhere (schema_kept self.now) ≡ []) }
-        ensures refused { IfErr result (λ d. IsFirst (elsewhere (schema_kept self.now)) (unresolved_seen d)) }
+        ensures refused { IfErr result (λ e. IsFirst (elsewhere (schema_kept self.now)) (unresolved_seen e.declaration)) }
     {
         match self.unresolved_declarations().next() {
-            Some(declaration) => Err(declaration),
+            Some(declaration) => Err(UnresolvedExternalError { declaration }),
             None => Ok(()),
         }
     }

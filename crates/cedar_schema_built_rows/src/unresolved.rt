@@ -1,7 +1,7 @@
 //! What is declared elsewhere.
 
 use crate::parts::schema;
-use cedar_schema_built::{UnresolvedDeclaration, ValidatorSchema};
+use cedar_schema_built::{UnresolvedDeclaration, UnresolvedExternalError, ValidatorSchema};
 use std::alloc::{AllocError, Global};
 use std::test::Fail;
 
@@ -22,11 +22,17 @@ fn all_text(alloc: Global, schema: &ValidatorSchema) -> Result<String, AllocErro
     Ok(all)
 }
 
-// The text of what the check for complete schemas names, which is empty where it passes.
+// The text of a refusal: its number, and what it names.
+fn refusal_text(alloc: Global, error: UnresolvedExternalError<'_>) -> Result<String, AllocError> {
+    let named = text(alloc, error.declaration)?;
+    format!(in alloc; "{} {named}", error.number())
+}
+
+// The text of how the check for complete schemas refuses, which is empty where it passes.
 fn named(alloc: Global, schema: &ValidatorSchema) -> Result<String, AllocError> {
     match schema.check_complete() {
         Ok(()) => Ok(String::new(alloc)),
-        Err(declaration) => text(alloc, declaration),
+        Err(error) => refusal_text(alloc, error),
     }
 }
 
@@ -38,7 +44,7 @@ fn what_is_declared_elsewhere_is_named(rt: HostRuntime) -> Result<(), Fail> {
     let schema = schema(alloc, &[("", lines)])?;
     let all = all_text(alloc, &schema)?;
     assert_eq!(rt; all.as_str(), "type B\ntype X\naction Action::\"view\"\n");
-    assert_eq!(rt; named(alloc, &schema)?.as_str(), "type B\n");
+    assert_eq!(rt; named(alloc, &schema)?.as_str(), "13 type B\n");
     assert!(rt; !schema.is_complete());
     Ok(())
 }
@@ -50,9 +56,34 @@ fn actions_may_be_declared_elsewhere(rt: HostRuntime) -> Result<(), Fail> {
     let schema = schema(alloc, &[("", "enum A | a"), ("N", "outside view")])?;
     assert_eq!(rt;
         named(alloc, &schema)?.as_str(),
-        "action N::Action::\"view\"\n"
+        "13 action N::Action::\"view\"\n"
     );
     assert!(rt; !schema.is_complete());
+    Ok(())
+}
+
+// The text of the error by which the check for complete schemas refuses.
+fn error_text(alloc: Global, schema: &ValidatorSchema) -> Result<String, Fail> {
+    let Err(error) = schema.check_complete() else {
+        return Err(Fail::from("complete"));
+    };
+    Ok(error.to_string(alloc)?)
+}
+
+/// The error says what is declared elsewhere.
+#[test]
+fn the_error_says_what_is_declared_elsewhere(rt: HostRuntime) -> Result<(), Fail> {
+    let alloc = rt.alloc();
+    let types = schema(alloc, &[("", "extern B")])?;
+    let actions = schema(alloc, &[("", "outside view")])?;
+    assert_eq!(rt;
+        error_text(alloc, &types)?.as_str(),
+        "entity type `B` is declared elsewhere"
+    );
+    assert_eq!(rt;
+        error_text(alloc, &actions)?.as_str(),
+        "action `Action::\"view\"` is declared elsewhere"
+    );
     Ok(())
 }
 

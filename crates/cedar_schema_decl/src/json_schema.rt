@@ -20,6 +20,8 @@ pub struct NamespaceDefinition<N> {
     pub entity_types: BTreeMap<Id, EntityType<N>>,
     /// The actions by their ids.
     pub actions: BTreeMap<RcStr, ActionType<N>>,
+    /// The place of the definition.
+    pub loc: Option<Loc>,
 }
 
 /// A common type: a type under a name of its own.

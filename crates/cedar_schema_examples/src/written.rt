@@ -182,6 +182,7 @@ pub fn definition(alloc: Global, lines: &str) -> Result<NamespaceDefinition<RawN
         common_types,
         entity_types,
         actions,
+        loc: None,
     })
 }
 

@@ -5,7 +5,7 @@ use cedar_expr_names::{EntityType, InternalName};
 use cedar_expr_raw_names::ConditionalName;
 use cedar_schema_examples::{ExampleName, all_defs, names};
 use cedar_schema_fragments::{
-    SchemaError, ValidatorApplySpec, ValidatorSchemaFragment, all_defs as declared_by,
+    FragmentError, ValidatorApplySpec, ValidatorSchemaFragment, all_defs as declared_by,
 };
 use std::alloc::{AllocError, Global};
 use std::test::Fail;
@@ -13,7 +13,7 @@ use std::test::Fail;
 type Resolved = ValidatorSchemaFragment<InternalName, EntityType>;
 
 // The fragment with each name resolved.
-fn resolved(alloc: Global, fragment: Written) -> Result<Resolved, SchemaError> {
+fn resolved(alloc: Global, fragment: Written) -> Result<Resolved, FragmentError> {
     let all_defs = declared_by::single_fragment(alloc, &fragment)?;
     fragment.fully_qualify_type_references(alloc, &all_defs)
 }
@@ -119,7 +119,7 @@ fn a_refused_name_is_kept(rt: HostRuntime) -> Result<(), Fail> {
     let alloc = rt.alloc();
     let fragment = written(alloc, &[("N", "entity A | X")])?;
     let name = match resolved(alloc, fragment) {
-        Err(SchemaError::TypeNotDefined { undefined_type }) => undefined_type,
+        Err(FragmentError::TypeNotDefined { undefined_type }) => undefined_type,
         _ => return Err(Fail::from("no such refusal")),
     };
     assert_eq!(rt; name.text(alloc)?.as_str(), "N::X or X");

@@ -4,7 +4,7 @@ use crate::parts::{Written, WrittenNamespace, action_text, listed, made, written
 use cedar_expr_raw_names::ConditionalName;
 use cedar_schema_decl::json_schema::CommonType;
 use cedar_schema_examples::{definition, id, name, ty, type_text};
-use cedar_schema_fragments::SchemaError;
+use cedar_schema_fragments::FragmentError;
 use std::alloc::{AllocError, Global};
 use std::collections::BTreeMap;
 use std::test::Fail;
@@ -66,7 +66,7 @@ fn namespace(
     alloc: Global,
     space: &str,
     lines: &str,
-) -> Result<Result<WrittenNamespace, SchemaError>, AllocError> {
+) -> Result<Result<WrittenNamespace, FragmentError>, AllocError> {
     let definition = definition(alloc, lines)?;
     let space = if space.is_empty() {
         None

@@ -7,8 +7,8 @@ use Rattle.std.specs.declared.result.Result.TheVariants.{Err}
 use Rattle.cedar_expr_model.specs.Name.{Text, Name}
 use Rattle.cedar_expr_names.specs.Views.{refused_name_of}
 use Rattle.cedar_schema_decl.specs.Conditional.{Conditional, conditional_of}
-use Rattle.cedar_schema_fragments.specs.declared.err.SchemaError.{SchemaError}
-use Rattle.cedar_schema_fragments.specs.declared.err.SchemaError.TheVariants.{OutOfMemory, TypeNotDefined, ActionNotDefined, ReservedName}
+use Rattle.cedar_schema_fragments.specs.declared.err.FragmentError.{FragmentError}
+use Rattle.cedar_schema_fragments.specs.declared.err.FragmentError.TheVariants.{OutOfMemory, TypeNotDefined, ActionNotDefined, ReservedName}
 
 -- Why declarations are refused: a name of a type that means nothing, a parent of an action that means nothing, or a reserved name.
 pub data Refusal : Type 0 where
@@ -17,12 +17,12 @@ pub data Refusal : Type 0 where
   reserved_type : Name → Refusal
 
 -- what is refused. Want of memory tells nothing.
-abbrev pub refusal : SchemaError → Option Refusal
+abbrev pub refusal : FragmentError → Option Refusal
 refusal OutOfMemory = None
 refusal (TypeNotDefined c) = Some (no_type (conditional_of c))
 refusal (ActionNotDefined c id) = Some (no_action (conditional_of c, rc_str_bytes id))
 refusal (ReservedName e) = Some (reserved_type (refused_name_of e))
 
 -- The refusal that the error tells is the outcome.
-abbrev pub Refuses : {B : Type 0} → Result B Refusal → SchemaError → Type 0
+abbrev pub Refuses : {B : Type 0} → Result B Refusal → FragmentError → Type 0
 Refuses o e = (r : Refusal) → refusal e ≡ Some r → o ≡ Err r

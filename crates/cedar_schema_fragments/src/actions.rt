@@ -16,7 +16,7 @@ ghost use Rattle.cedar_schema_fragments.specs.Actions.{parent_form, action_form,
 ghost use Rattle.cedar_schema_fragments.specs.Refusals.{Refuses};
 ghost use Rattle.cedar_schema_fragments.specs.Resolved.{of_types, entity_resolved, applied_resolved, parent_resolved, action_resolved, with_uid};
 
-use crate::err::SchemaError;
+use crate::err::FragmentError;
 use crate::resolving::{Resolve, resolve_each};
 use cedar_expr_names::{Eid, EntityType, EntityUID, InternalName, Name};
 use cedar_expr_raw_names::ConditionalName;
@@ -97,7 +97,7 @@ impl ValidatorApplySpec<ConditionalName> {
         self,
         alloc: Global,
         all_defs: &AllDefs,
-    ) -> Result<ValidatorApplySpec<EntityType>, SchemaError>
+    ) -> Result<ValidatorApplySpec<EntityType>, FragmentError>
         ensures resolved { IfOk result (λ r. applied_resolved (defined_of all_defs.now) (map conditional_of self.principal_apply_spec.items, map conditional_of self.resource_apply_spec.items) ≡ Ok (map type_name_of r.principal_apply_spec.items, map type_name_of r.resource_apply_spec.items)) }
         ensures refused { IfErr result (Refuses (applied_resolved (defined_of all_defs.now) (map conditional_of self.principal_apply_spec.items, map conditional_of self.resource_apply_spec.items))) }
     {
@@ -125,23 +125,23 @@ impl<'a> Resolve for EntityTypes<'a> {
 
     ghost resolves = { λ t. entity_resolved (defined_of t.0.now) };
 
-    fn resolve(&self, _alloc: Global, part: ConditionalName) -> Result<EntityType, SchemaError> {
+    fn resolve(&self, _alloc: Global, part: ConditionalName) -> Result<EntityType, FragmentError> {
         let name = resolved_name(&part, self.0)?;
         match Name::try_from_internal(name) {
             Ok(name) => Ok(EntityType::from_name(name)),
-            Err(reserved) => Err(SchemaError::ReservedName(reserved)),
+            Err(reserved) => Err(FragmentError::ReservedName(reserved)),
         }
     }
 }
 
 // The name of the type that a name means. Refuses a name that means none, and answers want of memory.
-fn resolved_name(name: &ConditionalName, all_defs: &AllDefs) -> Result<InternalName, SchemaError>
+fn resolved_name(name: &ConditionalName, all_defs: &AllDefs) -> Result<InternalName, FragmentError>
     ensures resolved { IfOk result (λ n. of_types (resolving (defined_of all_defs.now) (conditional_of name.now).kind (conditional_of name.now)) ≡ Ok (name_of n)) }
     ensures refused { IfErr result (Refuses (of_types (resolving (defined_of all_defs.now) (conditional_of name.now).kind (conditional_of name.now)))) }
 {
     match resolve(name, all_defs) {
         Ok(found) => Ok(found),
-        Err(error) => Err(SchemaError::from(error)),
+        Err(error) => Err(FragmentError::from(error)),
     }
 }
 
@@ -164,14 +164,14 @@ impl<'a> Resolve for Parents<'a> {
         &self,
         _alloc: Global,
         part: ActionEntityUID<ConditionalName>,
-    ) -> Result<ActionEntityUID<InternalName>, SchemaError> {
+    ) -> Result<ActionEntityUID<InternalName>, FragmentError> {
         let names = part.ty.possibilities();
         match first_action(names.as_slice(), &part.id, self.0)? {
             Some(ty) => {
                 let ty = ty.clone()?;
                 Ok(ActionEntityUID { ty, id: part.id })
             }
-            None => Err(SchemaError::ActionNotDefined {
+            None => Err(FragmentError::ActionNotDefined {
                 ty: part.ty,
                 id: part.id,
             }),
@@ -214,13 +214,13 @@ fn resolved_context(
     alloc: Global,
     context: Type<ConditionalName>,
     all_defs: &AllDefs,
-) -> Result<Type<InternalName>, SchemaError>
+) -> Result<Type<InternalName>, FragmentError>
     ensures resolved { IfOk result (λ r. of_types (requalified (resolving (defined_of all_defs.now)) (type_form conditional_of context)) ≡ Ok (type_form name_of r)) }
     ensures refused { IfErr result (Refuses (of_types (requalified (resolving (defined_of all_defs.now)) (type_form conditional_of context)))) }
 {
     match context.fully_qualify_type_references(alloc, all_defs) {
         Ok(context) => Ok(context),
-        Err(error) => Err(SchemaError::from(error)),
+        Err(error) => Err(FragmentError::from(error)),
     }
 }
 
@@ -232,7 +232,7 @@ impl ActionFragment<ConditionalName, ConditionalName> {
         self,
         alloc: Global,
         all_defs: &AllDefs,
-    ) -> Result<ActionFragment<InternalName, EntityType>, SchemaError>
+    ) -> Result<ActionFragment<InternalName, EntityType>, FragmentError>
         ensures resolved { IfOk result (λ r. action_resolved (defined_of all_defs.now) (action_form conditional_of conditional_of self) ≡ Ok (action_form name_of type_name_of r)) }
         ensures refused { IfErr result (Refuses (action_resolved (defined_of all_defs.now) (action_form conditional_of conditional_of self))) }
     {
@@ -269,7 +269,7 @@ impl<'a> Resolve for Actions<'a> {
         &self,
         alloc: Global,
         part: (EntityUID, ActionFragment<ConditionalName, ConditionalName>),
-    ) -> Result<(EntityUID, ActionFragment<InternalName, EntityType>), SchemaError> {
+    ) -> Result<(EntityUID, ActionFragment<InternalName, EntityType>), FragmentError> {
         let (uid, action) = part;
         let action = action.fully_qualify_type_references(alloc, self.0)?;
         Ok((uid, action))
@@ -283,7 +283,7 @@ impl ActionsDef<ConditionalName, ConditionalName> {
         self,
         alloc: Global,
         all_defs: &AllDefs,
-    ) -> Result<ActionsDef<InternalName, EntityType>, SchemaError>
+    ) -> Result<ActionsDef<InternalName, EntityType>, FragmentError>
         ensures resolved { IfOk result (λ r. each (with_uid (action_resolved (defined_of all_defs.now))) (actions_form conditional_of conditional_of self) ≡ Ok (actions_form name_of type_name_of r)) }
         ensures refused { IfErr result (Refuses (each (with_uid (action_resolved (defined_of all_defs.now))) (actions_form conditional_of conditional_of self))) }
     {

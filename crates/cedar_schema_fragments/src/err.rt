@@ -1,4 +1,4 @@
-//! Why declarations are refused.
+//! Why what fragments declare is refused.
 
 use cedar_expr_names::ReservedNameError;
 use cedar_expr_raw_names::ConditionalName;
@@ -7,9 +7,9 @@ use std::alloc::{AllocError, AllocFailed};
 use std::rc::RcStr;
 use thiserror::Error;
 
-/// Why declarations are refused.
+/// Why what fragments declare is refused, before a schema is built of it.
 #[derive(Debug, Drop, Error)]
-pub enum SchemaError {
+pub enum FragmentError {
     /// There is no memory for it.
     #[error("out of memory")]
     OutOfMemory,
@@ -35,52 +35,52 @@ pub enum SchemaError {
     ReservedName(ReservedNameError),
 }
 
-impl From<AllocError> for SchemaError {
+impl From<AllocError> for FragmentError {
     ghost use Rattle.std.specs.Prelude.{◌≡◌};
-    ghost use Rattle.cedar_schema_fragments.specs.declared.err.SchemaError.TheVariants.{OutOfMemory};
+    ghost use Rattle.cedar_schema_fragments.specs.declared.err.FragmentError.TheVariants.{OutOfMemory};
 
     ghost from_gives = { λ _ e. e ≡ OutOfMemory };
 
-    fn from(_error: AllocError) -> SchemaError {
-        SchemaError::OutOfMemory
+    fn from(_error: AllocError) -> FragmentError {
+        FragmentError::OutOfMemory
     }
 }
 
-impl<T: Drop> From<AllocFailed<T>> for SchemaError {
+impl<T: Drop> From<AllocFailed<T>> for FragmentError {
     ghost use Rattle.std.specs.Prelude.{◌≡◌};
-    ghost use Rattle.cedar_schema_fragments.specs.declared.err.SchemaError.TheVariants.{OutOfMemory};
+    ghost use Rattle.cedar_schema_fragments.specs.declared.err.FragmentError.TheVariants.{OutOfMemory};
 
     ghost from_gives = { λ _ e. e ≡ OutOfMemory };
 
-    fn from(_error: AllocFailed<T>) -> SchemaError {
-        SchemaError::OutOfMemory
+    fn from(_error: AllocFailed<T>) -> FragmentError {
+        FragmentError::OutOfMemory
     }
 }
 
-impl From<TypeNotDefinedError> for SchemaError {
+impl From<TypeNotDefinedError> for FragmentError {
     ghost use Rattle.std.specs.Prelude.{◌≡◌, option_map};
     ghost use Rattle.cedar_schema_decl.specs.Refusals.{undefined};
     ghost use Rattle.cedar_schema_fragments.specs.Refusals.{no_type, refusal};
 
     ghost from_gives = { λ t e. refusal e ≡ option_map no_type (undefined t) };
 
-    fn from(error: TypeNotDefinedError) -> SchemaError {
+    fn from(error: TypeNotDefinedError) -> FragmentError {
         match error {
-            TypeNotDefinedError::OutOfMemory => SchemaError::OutOfMemory,
+            TypeNotDefinedError::OutOfMemory => FragmentError::OutOfMemory,
             TypeNotDefinedError::Undefined { undefined_type } => {
-                SchemaError::TypeNotDefined { undefined_type }
+                FragmentError::TypeNotDefined { undefined_type }
             }
         }
     }
 }
 
-impl From<ReservedNameError> for SchemaError {
+impl From<ReservedNameError> for FragmentError {
     ghost use Rattle.std.specs.Prelude.{◌≡◌};
-    ghost use Rattle.cedar_schema_fragments.specs.declared.err.SchemaError.TheVariants.{ReservedName};
+    ghost use Rattle.cedar_schema_fragments.specs.declared.err.FragmentError.TheVariants.{ReservedName};
 
     ghost from_gives = { λ r e. e ≡ ReservedName r };
 
-    fn from(error: ReservedNameError) -> SchemaError {
-        SchemaError::ReservedName(error)
+    fn from(error: ReservedNameError) -> FragmentError {
+        FragmentError::ReservedName(error)
     }
 }

@@ -12,5 +12,5 @@ pub mod resolving;
 
 pub use actions::{ActionFragment, ActionsDef, ValidatorApplySpec};
 pub use declared_names::{DeclaredNames, DeclaredNamespaces};
-pub use err::SchemaError;
+pub use err::FragmentError;
 pub use namespace_def::{ValidatorNamespaceDef, ValidatorSchemaFragment};

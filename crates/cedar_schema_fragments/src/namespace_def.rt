@@ -19,10 +19,10 @@ ghost use Rattle.cedar_schema_fragments.specs.Written.{WrittenNamespace, commons
 
 use crate::actions::{ActionFragment, ActionsDef};
 use crate::declared_names::{DeclaredNames, DeclaredNamespaces};
-use crate::err::SchemaError;
+use crate::err::FragmentError;
 use crate::naming::{actions_in, commons_in, entities_in, full_name, named_commons, pairs};
 use crate::resolving::{Resolve, resolve_each};
-use cedar_expr_names::{EntityType, EntityUID, Id, InternalName};
+use cedar_expr_names::{EntityType, EntityUID, Id, InternalName, Loc};
 use cedar_expr_raw_names::{ConditionalName, RawName};
 use cedar_schema_decl::json_schema::{CommonType, Fragment, NamespaceDefinition};
 use cedar_schema_decl::{AllDefs, CommonTypeDefs, EntityTypeFragment, EntityTypesDef};
@@ -40,6 +40,8 @@ pub struct ValidatorNamespaceDef<N, A> {
     pub entity_types: EntityTypesDef<N>,
     /// The actions.
     pub actions: ActionsDef<N, A>,
+    /// The place of the definition.
+    pub loc: Option<Loc>,
 }
 
 /// What is declared in each namespace of a fragment, under full names.
@@ -112,13 +114,13 @@ fn resolved_commons(
     alloc: Global,
     commons: CommonTypeDefs<ConditionalName>,
     all_defs: &AllDefs,
-) -> Result<CommonTypeDefs<InternalName>, SchemaError>
+) -> Result<CommonTypeDefs<InternalName>, FragmentError>
     ensures resolved { IfOk result (λ r. of_types (commons_resolved (defined_of all_defs.now) (commons_form conditional_of commons)) ≡ Ok (commons_form name_of r)) }
     ensures refused { IfErr result (Refuses (of_types (commons_resolved (defined_of all_defs.now) (commons_form conditional_of commons)))) }
 {
     match commons.fully_qualify_type_references(alloc, all_defs) {
         Ok(commons) => Ok(commons),
-        Err(error) => Err(SchemaError::from(error)),
+        Err(error) => Err(FragmentError::from(error)),
     }
 }
 
@@ -127,13 +129,13 @@ fn resolved_entities(
     alloc: Global,
     entities: EntityTypesDef<ConditionalName>,
     all_defs: &AllDefs,
-) -> Result<EntityTypesDef<InternalName>, SchemaError>
+) -> Result<EntityTypesDef<InternalName>, FragmentError>
     ensures resolved { IfOk result (λ r. of_types (entities_resolved (defined_of all_defs.now) (entities_form conditional_of entities)) ≡ Ok (entities_form name_of r)) }
     ensures refused { IfErr result (Refuses (of_types (entities_resolved (defined_of all_defs.now) (entities_form conditional_of entities)))) }
 {
     match entities.fully_qualify_type_references(alloc, all_defs) {
         Ok(entities) => Ok(entities),
-        Err(error) => Err(SchemaError::from(error)),
+        Err(error) => Err(FragmentError::from(error)),
     }
 }
 
@@ -144,7 +146,7 @@ impl ValidatorNamespaceDef<ConditionalName, ConditionalName> {
         alloc: Global,
         namespace: Option<InternalName>,
         definition: NamespaceDefinition<RawName>,
-    ) -> Result<ValidatorNamespaceDef<ConditionalName, ConditionalName>, SchemaError>
+    ) -> Result<ValidatorNamespaceDef<ConditionalName, ConditionalName>, FragmentError>
         ensures made { IfOk result (λ r. namespace_qualified (written_namespace namespace definition) ≡ Ok (namespace_form conditional_of conditional_of r)) }
         ensures refused { IfErr result (Refuses (namespace_qualified (written_namespace namespace definition))) }
     {
@@ -157,6 +159,7 @@ impl ValidatorNamespaceDef<ConditionalName, ConditionalName> {
             common_types,
             entity_types,
             actions,
+            loc: definition.loc,
         })
     }
 
@@ -175,6 +178,7 @@ impl ValidatorNamespaceDef<ConditionalName, ConditionalName> {
             common_types,
             entity_types: EntityTypesDef::new(alloc),
             actions: ActionsDef::new(alloc),
+            loc: None,
         })
     }
 
@@ -188,7 +192,7 @@ impl ValidatorNamespaceDef<ConditionalName, ConditionalName> {
         ensures { IfOk result (λ r. namespace_form conditional_of conditional_of r ≡ commons_alone (option_map name_of namespace) (common_named (option_map name_of namespace) (id_text def.0, common_form conditional_of def.1) ∷ [])) }
     {
         let (word, common) = def;
-        let name = full_name(alloc, namespace.as_ref(), word)?;
+        let name = full_name(alloc, namespace.as_ref(), word, common.loc)?;
         let mut defs = Vec::new(alloc);
         defs.push((name, common))?;
         Ok(ValidatorNamespaceDef {
@@ -196,6 +200,7 @@ impl ValidatorNamespaceDef<ConditionalName, ConditionalName> {
             common_types: CommonTypeDefs { defs },
             entity_types: EntityTypesDef::new(alloc),
             actions: ActionsDef::new(alloc),
+            loc: None,
         })
     }
 
@@ -206,7 +211,7 @@ impl ValidatorNamespaceDef<ConditionalName, ConditionalName> {
         self,
         alloc: Global,
         all_defs: &AllDefs,
-    ) -> Result<ValidatorNamespaceDef<InternalName, EntityType>, SchemaError>
+    ) -> Result<ValidatorNamespaceDef<InternalName, EntityType>, FragmentError>
         ensures resolved { IfOk result (λ r. namespace_resolved (defined_of all_defs.now) (namespace_form conditional_of conditional_of self) ≡ Ok (namespace_form name_of type_name_of r)) }
         ensures refused { IfErr result (Refuses (namespace_resolved (defined_of all_defs.now) (namespace_form conditional_of conditional_of self))) }
     {
@@ -218,6 +223,7 @@ impl ValidatorNamespaceDef<ConditionalName, ConditionalName> {
             common_types,
             entity_types,
             actions,
+            loc: self.loc,
         })
     }
 }
@@ -241,7 +247,7 @@ impl<'a> Resolve for Namespaces<'a> {
         &self,
         alloc: Global,
         part: ValidatorNamespaceDef<ConditionalName, ConditionalName>,
-    ) -> Result<ValidatorNamespaceDef<InternalName, EntityType>, SchemaError> {
+    ) -> Result<ValidatorNamespaceDef<InternalName, EntityType>, FragmentError> {
         part.fully_qualify_type_references(alloc, self.0)
     }
 }
@@ -265,7 +271,7 @@ impl Resolve for Definitions {
         &self,
         alloc: Global,
         part: (Option<InternalName>, NamespaceDefinition<RawName>),
-    ) -> Result<ValidatorNamespaceDef<ConditionalName, ConditionalName>, SchemaError> {
+    ) -> Result<ValidatorNamespaceDef<ConditionalName, ConditionalName>, FragmentError> {
         let (namespace, definition) = part;
         ValidatorNamespaceDef::from_namespace_definition(alloc, namespace, definition)
     }
@@ -277,7 +283,7 @@ impl ValidatorSchemaFragment<ConditionalName, ConditionalName> {
     pub fn from_schema_fragment(
         alloc: Global,
         fragment: Fragment<RawName>,
-    ) -> Result<ValidatorSchemaFragment<ConditionalName, ConditionalName>, SchemaError>
+    ) -> Result<ValidatorSchemaFragment<ConditionalName, ConditionalName>, FragmentError>
         ensures made { IfOk result (λ r. each namespace_qualified (written_fragment fragment) ≡ Ok (fragment_form conditional_of conditional_of r)) }
         ensures refused { IfErr result (Refuses (each namespace_qualified (written_fragment fragment))) }
     {
@@ -292,7 +298,7 @@ impl ValidatorSchemaFragment<ConditionalName, ConditionalName> {
         self,
         alloc: Global,
         all_defs: &AllDefs,
-    ) -> Result<ValidatorSchemaFragment<InternalName, EntityType>, SchemaError>
+    ) -> Result<ValidatorSchemaFragment<InternalName, EntityType>, FragmentError>
         ensures resolved { IfOk result (λ r. each (namespace_resolved (defined_of all_defs.now)) (fragment_form conditional_of conditional_of self) ≡ Ok (fragment_form name_of type_name_of r)) }
         ensures refused { IfErr result (Refuses (each (namespace_resolved (defined_of all_defs.now)) (fragment_form conditional_of conditional_of self))) }
     {

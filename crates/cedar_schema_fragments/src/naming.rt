@@ -7,7 +7,7 @@ ghost use Rattle.std.specs.declared.result.Result.TheVariants.{Ok};
 ghost use Rattle.cedar_expr_model.specs.Name.{Name, Text};
 ghost use Rattle.cedar_expr_model.specs.Uid.{Uid};
 ghost use Rattle.cedar_expr_names.specs.Namespaces.{space_of};
-ghost use Rattle.cedar_expr_names.specs.Views.{id_text, name_of, type_name_of};
+ghost use Rattle.cedar_expr_names.specs.Views.{id_text, name_of, name_loc, type_name_of};
 ghost use Rattle.cedar_expr_raw_names.specs.Views.{raw_name_of};
 ghost use Rattle.cedar_schema_model.specs.Whole.Reference.{action_word, to_entity};
 ghost use Rattle.cedar_schema_decl.specs.Conditional.{Conditional, conditional_of, conditional_in};
@@ -21,9 +21,9 @@ ghost use Rattle.cedar_schema_fragments.specs.Resolved.{unreserved};
 ghost use Rattle.cedar_schema_fragments.specs.Written.{kind_form, action_type_form, commons_known, commons_written, entities_written, actions_written};
 
 use crate::actions::{ActionFragment, ActionsDef, ValidatorApplySpec};
-use crate::err::SchemaError;
+use crate::err::FragmentError;
 use crate::resolving::{Resolve, resolve_each};
-use cedar_expr_names::{Eid, EntityType, EntityUID, Id, InternalName, Name};
+use cedar_expr_names::{Eid, EntityType, EntityUID, Id, InternalName, Loc, Name};
 use cedar_expr_raw_names::{ConditionalName, RawName, ReferenceType};
 use cedar_schema_decl::definitions::requalify_entity;
 use cedar_schema_decl::json_schema::{
@@ -60,30 +60,32 @@ struct WrittenActions<'a> {
     ty: &'a EntityType,
 }
 
-// The name of what is declared in a namespace, or in the empty one, under this word. Answers want of memory.
+// The name of what is declared in a namespace, or in the empty one, under this word, at a place. Answers want of memory.
 pub(crate) fn full_name(
     alloc: Global,
     namespace: Option<&InternalName>,
     word: Id,
+    loc: Option<Loc>,
 ) -> Result<InternalName, AllocError>
-    ensures { IfOk result (λ n. name_of n ≡ full_name (space_of namespace.entry) (id_text word)) }
+    ensures name { IfOk result (λ n. name_of n ≡ full_name (space_of namespace.entry) (id_text word)) }
+    ensures place { IfOk result (λ n. name_loc n ≡ loc) }
 {
     match namespace {
-        None => InternalName::unqualified_name(alloc, word),
-        Some(space) => InternalName::type_in_namespace(alloc, word, space.clone()?, None),
+        None => InternalName::new(alloc, word, Vec::new(alloc), loc),
+        Some(space) => InternalName::type_in_namespace(alloc, word, space.clone()?, loc),
     }
 }
 
 // The type of the actions of a namespace. Refuses a reserved one.
-fn action_type(alloc: Global, namespace: Option<&InternalName>) -> Result<EntityType, SchemaError>
+fn action_type(alloc: Global, namespace: Option<&InternalName>) -> Result<EntityType, FragmentError>
     ensures made { IfOk result (λ t. unreserved (full_name (space_of namespace.entry) action_word) ≡ Ok (type_name_of t)) }
     ensures refused { IfErr result (Refuses (unreserved (full_name (space_of namespace.entry) action_word))) }
 {
-    let word = Id::from_normalized_str(alloc, "Action").map_err(|_| SchemaError::OutOfMemory)?;
-    let name = full_name(alloc, namespace, word)?;
+    let word = Id::from_normalized_str(alloc, "Action").map_err(|_| FragmentError::OutOfMemory)?;
+    let name = full_name(alloc, namespace, word, None)?;
     match Name::try_from_internal(name) {
         Ok(name) => Ok(EntityType::from_name(name)),
-        Err(reserved) => Err(SchemaError::ReservedName(reserved)),
+        Err(reserved) => Err(FragmentError::ReservedName(reserved)),
     }
 }
 
@@ -172,9 +174,9 @@ impl<'a> Resolve for Commons<'a> {
         &self,
         alloc: Global,
         part: (Id, CommonType<RawName>),
-    ) -> Result<(InternalName, CommonType<ConditionalName>), SchemaError> {
+    ) -> Result<(InternalName, CommonType<ConditionalName>), FragmentError> {
         let (word, common) = part;
-        let name = full_name(alloc, self.0, word)?;
+        let name = full_name(alloc, self.0, word, common.loc)?;
         let ty = type_in(alloc, common.ty, self.0)?;
         let loc = common.loc;
         Ok((name, CommonType { ty, loc }))
@@ -200,9 +202,9 @@ impl<'a> Resolve for NamedCommons<'a> {
         &self,
         alloc: Global,
         part: (Id, CommonType<ConditionalName>),
-    ) -> Result<(InternalName, CommonType<ConditionalName>), SchemaError> {
+    ) -> Result<(InternalName, CommonType<ConditionalName>), FragmentError> {
         let (word, common) = part;
-        let name = full_name(alloc, self.0, word)?;
+        let name = full_name(alloc, self.0, word, common.loc)?;
         Ok((name, common))
     }
 }
@@ -226,9 +228,9 @@ impl<'a> Resolve for Entities<'a> {
         &self,
         alloc: Global,
         part: (Id, WrittenEntityType<RawName>),
-    ) -> Result<(InternalName, EntityTypeFragment<ConditionalName>), SchemaError> {
+    ) -> Result<(InternalName, EntityTypeFragment<ConditionalName>), FragmentError> {
         let (word, entity) = part;
-        let name = full_name(alloc, self.0, word)?;
+        let name = full_name(alloc, self.0, word, entity.loc)?;
         let entity = entity_in(alloc, entity.kind, self.0)?;
         Ok((name, entity))
     }
@@ -253,7 +255,7 @@ impl<'a> Resolve for WrittenParents<'a> {
         &self,
         alloc: Global,
         part: ActionEntityUID<RawName>,
-    ) -> Result<ActionEntityUID<ConditionalName>, SchemaError> {
+    ) -> Result<ActionEntityUID<ConditionalName>, FragmentError> {
         let ty = part
             .ty
             .conditionally_qualify_with(alloc, self.0, ReferenceType::Entity)?;
@@ -343,11 +345,12 @@ impl<'a> Resolve for WrittenActions<'a> {
         &self,
         alloc: Global,
         part: (RcStr, ActionType<RawName>),
-    ) -> Result<(EntityUID, ActionFragment<ConditionalName, ConditionalName>), SchemaError> {
+    ) -> Result<(EntityUID, ActionFragment<ConditionalName, ConditionalName>), FragmentError> {
         let (id, action) = part;
+        let loc = action.loc;
         let ty = self.ty.clone()?;
         let action = action_in(alloc, action, self.namespace)?;
-        Ok((EntityUID::from_components(ty, Eid::new(id), None), action))
+        Ok((EntityUID::from_components(ty, Eid::new(id), loc), action))
     }
 }
 
@@ -437,7 +440,7 @@ pub(crate) fn actions_in(
     alloc: Global,
     actions: BTreeMap<RcStr, ActionType<RawName>>,
     namespace: Option<&InternalName>,
-) -> Result<ActionsDef<ConditionalName, ConditionalName>, SchemaError>
+) -> Result<ActionsDef<ConditionalName, ConditionalName>, FragmentError>
     ensures made { IfOk result (λ r. actions_qualified (space_of namespace.entry) (actions_written actions.entries) ≡ Ok (actions_form conditional_of conditional_of r)) }
     ensures refused { IfErr result (Refuses (actions_qualified (space_of namespace.entry) (actions_written actions.entries))) }
 {

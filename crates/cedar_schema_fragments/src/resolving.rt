@@ -6,7 +6,7 @@ ghost use Rattle.std.specs.declared.result.Result.TheVariants.{Ok};
 ghost use Rattle.cedar_schema_decl.specs.Requalified.{each};
 ghost use Rattle.cedar_schema_fragments.specs.Refusals.{Refusal, Refuses};
 
-use crate::err::SchemaError;
+use crate::err::FragmentError;
 use std::alloc::Global;
 
 /// Gives a part of one form in the place of each part of another.
@@ -29,7 +29,7 @@ pub trait Resolve {
     ghost resolves: { Self → Before → Result After Refusal };
 
     /// The part in the place of this one. Refuses a part in the place of which there is none, and answers want of memory.
-    fn resolve(&self, alloc: Global, part: Self::From) -> Result<Self::To, SchemaError>
+    fn resolve(&self, alloc: Global, part: Self::From) -> Result<Self::To, FragmentError>
         ensures made { IfOk result (λ r. resolves self.now (before part) ≡ Ok (after r)) }
         ensures refused { IfErr result (Refuses (resolves self.now (before part))) };
 }
@@ -40,7 +40,7 @@ pub fn resolve_each<R: Resolve>(
     alloc: Global,
     parts: Vec<R::From>,
     names: &R,
-) -> Result<Vec<R::To>, SchemaError>
+) -> Result<Vec<R::To>, FragmentError>
     ensures made { IfOk result (λ r. each (R.resolves names.now) (map R.before parts.items) ≡ Ok (map R.after r.items)) }
     ensures refused { IfErr result (Refuses (each (R.resolves names.now) (map R.before parts.items))) }
 {

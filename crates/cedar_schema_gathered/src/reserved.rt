@@ -25,7 +25,7 @@ use cedar_schema_decl::json_schema::{
 };
 use cedar_schema_decl::{CommonTypeDefs, EntityTypeFragment, EntityTypesDef};
 use cedar_schema_fragments::{
-    ActionFragment, ActionsDef, SchemaError, ValidatorNamespaceDef, ValidatorSchemaFragment,
+    ActionFragment, ActionsDef, FragmentError, ValidatorNamespaceDef, ValidatorSchemaFragment,
 };
 
 // Reserved ones among names.
@@ -336,12 +336,12 @@ pub fn first_reserved_name(
 /// Checks that these fragments write no reserved name. Refuses the first that is one, and answers want of memory.
 pub fn check_reserved(
     fragments: &[ValidatorSchemaFragment<ConditionalName, ConditionalName>],
-) -> Result<(), SchemaError>
+) -> Result<(), FragmentError>
     ensures passed { IfOk result (λ r. reserved_checked fragments.now ≡ Ok r) }
     ensures refused { IfErr result (Refuses (reserved_checked fragments.now)) }
 {
     match first_reserved_name(fragments) {
-        Some(name) => Err(SchemaError::ReservedName(ReservedNameError::new(name.clone()?))),
+        Some(name) => Err(FragmentError::ReservedName(ReservedNameError::new(name.clone()?))),
         None => Ok(()),
     }
 }

@@ -16,7 +16,7 @@ use cedar_expr_names::{EntityType, InternalName};
 use cedar_expr_raw_names::ConditionalName;
 use cedar_schema_decl::AllDefs;
 use cedar_schema_fragments::resolving::{Resolve, resolve_each};
-use cedar_schema_fragments::{SchemaError, ValidatorSchemaFragment};
+use cedar_schema_fragments::{FragmentError, ValidatorSchemaFragment};
 use std::alloc::Global;
 
 // All that is declared, for fragments.
@@ -42,7 +42,7 @@ impl<'a> Resolve for Fragments<'a> {
         &self,
         alloc: Global,
         part: ValidatorSchemaFragment<ConditionalName, ConditionalName>,
-    ) -> Result<ValidatorSchemaFragment<InternalName, EntityType>, SchemaError> {
+    ) -> Result<ValidatorSchemaFragment<InternalName, EntityType>, FragmentError> {
         part.fully_qualify_type_references(alloc, self.0)
     }
 }
@@ -54,7 +54,7 @@ pub fn resolve_all(
     alloc: Global,
     fragments: Vec<ValidatorSchemaFragment<ConditionalName, ConditionalName>>,
     all_defs: &AllDefs,
-) -> Result<Vec<ValidatorSchemaFragment<InternalName, EntityType>>, SchemaError>
+) -> Result<Vec<ValidatorSchemaFragment<InternalName, EntityType>>, FragmentError>
     ensures resolved { IfOk result (λ r. all_resolved (defined_of all_defs.now) fragments.items ≡ Ok (map (fragment_form name_of type_name_of) r.items)) }
     ensures refused { IfErr result (Refuses (all_resolved (defined_of all_defs.now) fragments.items)) }
 {

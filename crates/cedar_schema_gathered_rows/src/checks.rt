@@ -2,7 +2,7 @@
 
 use crate::parts::fragments;
 use cedar_expr_names::InternalName;
-use cedar_schema_fragments::SchemaError;
+use cedar_schema_fragments::FragmentError;
 use cedar_schema_gathered::{action_entity_type, check_reserved, first_reserved_name};
 use std::alloc::{AllocError, Global};
 use std::test::Fail;
@@ -99,7 +99,7 @@ fn refusal(alloc: Global, parts: &[(&str, &str)]) -> Result<String, AllocError> 
     let fragments = fragments(alloc, parts)?;
     match check_reserved(&fragments) {
         Ok(()) => Ok(String::new(alloc)),
-        Err(SchemaError::ReservedName(error)) => error.name().to_string(alloc),
+        Err(FragmentError::ReservedName(error)) => error.name().to_string(alloc),
         Err(error) => error.to_string(alloc),
     }
 }

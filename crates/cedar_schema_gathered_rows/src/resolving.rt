@@ -3,7 +3,7 @@
 use crate::parts::{Written, fragments};
 use crate::texts::joined;
 use cedar_expr_names::{EntityType, InternalName};
-use cedar_schema_fragments::{SchemaError, ValidatorSchemaFragment, all_defs};
+use cedar_schema_fragments::{FragmentError, ValidatorSchemaFragment, all_defs};
 use cedar_schema_gathered::resolve_all;
 use std::alloc::{AllocError, Global};
 use std::test::Fail;
@@ -11,7 +11,7 @@ use std::test::Fail;
 type Resolved = ValidatorSchemaFragment<InternalName, EntityType>;
 
 // The fragments with each name resolved by what they declare together.
-fn resolved(alloc: Global, fragments: Vec<Written>) -> Result<Vec<Resolved>, SchemaError> {
+fn resolved(alloc: Global, fragments: Vec<Written>) -> Result<Vec<Resolved>, FragmentError> {
     let all_defs = all_defs::new(alloc, &fragments)?;
     resolve_all(alloc, fragments, &all_defs)
 }

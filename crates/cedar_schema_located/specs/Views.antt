@@ -1,8 +1,8 @@
 -- What types, common types and namespaces with places hold.
 -- Rule: types; declarations (docs/RULES.md).
 use Rattle.std.specs.Prelude.{Option}
-use Rattle.std.specs.Rc.{rc_str_bytes}
-use Rattle.cedar_expr_model.specs.Name.{Text}
+use Rattle.cedar_expr_model.specs.Name.{Name}
+use Rattle.cedar_expr_names.specs.Views.{name_of, name_loc}
 use Rattle.cedar_expr_names.specs.declared.loc.Loc.{Loc}
 use Rattle.cedar_schema_model.specs.Whole.Types.{Ty}
 use Rattle.cedar_schema_types.specs.Types.{type_of}
@@ -17,22 +17,20 @@ located_type t = type_of t.ty
 abbrev pub type_place : LocatedType → Option Loc
 type_place t = t.loc
 
--- the last part of a common type's name, the name's place, and that of the type
-abbrev pub common_word : LocatedCommonType → Text
-common_word c = rc_str_bytes c.name
+-- A common type as it is listed: its name, the name's place, and that of its type.
+pub record ListedCommon : Type 0 where
+  pub name : Name
+  pub name_place : Option Loc
+  pub type_place : Option Loc
 
-abbrev pub common_name_place : LocatedCommonType → Option Loc
-common_name_place c = c.name_loc
+-- A namespace as it is listed: its name, the name's place, and that of its definition.
+pub record ListedSpace : Type 0 where
+  pub name : Name
+  pub name_place : Option Loc
+  pub definition_place : Option Loc
 
-abbrev pub common_type_place : LocatedCommonType → Option Loc
-common_type_place c = c.type_loc
+abbrev pub common_listed : LocatedCommonType → ListedCommon
+common_listed c = record { name = name_of c.full_name; name_place = name_loc c.full_name; type_place = c.type_loc }
 
--- a namespace's name, the name's place, and that of its definition
-abbrev pub namespace_word : LocatedNamespace → Text
-namespace_word n = rc_str_bytes n.name
-
-abbrev pub namespace_name_place : LocatedNamespace → Option Loc
-namespace_name_place n = n.name_loc
-
-abbrev pub definition_place : LocatedNamespace → Option Loc
-definition_place n = n.def_loc
+abbrev pub space_listed : LocatedNamespace → ListedSpace
+space_listed n = record { name = name_of n.full_name; name_place = name_loc n.full_name; definition_place = n.def_loc }

@@ -2,53 +2,64 @@
 
 ghost use Rattle.std.specs.Prelude.{◌≡◌, IfOk};
 ghost use Rattle.cedar_expr_names.specs.Views.{name_of, name_loc};
-ghost use Rattle.cedar_schema_located.specs.Views.{type_place, common_word, common_name_place, common_type_place};
+ghost use Rattle.cedar_schema_located.specs.Views.{type_place, common_listed};
 
 use crate::located_type::LocatedType;
 use cedar_expr_names::{InternalName, Loc};
 use std::alloc::AllocError;
-use std::rc::RcStr;
 
-/// A common type: the last part of its name, the name's place, and that of its type.
+/// A common type: its name, the name's place, and that of its type.
 #[derive(Debug, Drop)]
 pub struct LocatedCommonType {
-    name: RcStr,
-    name_loc: Option<Loc>,
+    full_name: InternalName,
     type_loc: Option<Loc>,
 }
 
 impl LocatedCommonType {
-    /// The common type of this name that stands for this type. The text of the name is shared. Answers want of memory.
+    /// The common type of this name that stands for this type. The parts of the name are shared. Answers want of memory.
     pub fn new(name: &InternalName, ty: LocatedType) -> Result<LocatedCommonType, AllocError>
-        ensures name { IfOk result (λ c. common_word c ≡ (name_of name.now).base) }
-        ensures name_place { IfOk result (λ c. common_name_place c ≡ name_loc name.now) }
-        ensures type_place { IfOk result (λ c. common_type_place c ≡ type_place ty) }
+        ensures { IfOk result (λ c. common_listed c ≡ record { name = name_of name.now; name_place = name_loc name.now; type_place = type_place ty }) }
     {
-        let word = name.basename().clone()?;
+        LocatedCommonType::at(name, ty.loc())
+    }
+
+    // The common type of this name, with the place of its type.
+    pub(crate) fn at(
+        name: &InternalName,
+        type_loc: Option<Loc>,
+    ) -> Result<LocatedCommonType, AllocError>
+        ensures { IfOk result (λ c. common_listed c ≡ record { name = name_of name.now; name_place = name_loc name.now; type_place = type_loc }) }
+    {
         Ok(LocatedCommonType {
-            name: word.into_smolstr(),
-            name_loc: name.loc(),
-            type_loc: ty.loc(),
+            full_name: name.clone()?,
+            type_loc,
         })
+    }
+
+    /// The whole name.
+    pub fn full_name(&self) -> &InternalName
+        ensures { name_of result.now ≡ (common_listed self.now).name }
+    {
+        &self.full_name
     }
 
     /// The last part of the name.
     pub fn name(&self) -> &str
-        ensures { result.now ≡ common_word self.now }
+        ensures { result.now ≡ (common_listed self.now).name.base }
     {
-        self.name.as_str()
+        self.full_name.basename().as_str()
     }
 
     /// The place of the name.
     pub fn name_loc(&self) -> Option<Loc>
-        ensures { result ≡ common_name_place self.now }
+        ensures { result ≡ (common_listed self.now).name_place }
     {
-        self.name_loc
+        self.full_name.loc()
     }
 
     /// The place of the type.
     pub fn type_loc(&self) -> Option<Loc>
-        ensures { result ≡ common_type_place self.now }
+        ensures { result ≡ (common_listed self.now).type_place }
     {
         self.type_loc
     }

@@ -1,18 +1,28 @@
-use Rattle.std.proofs.Common.{sym, subst}
+use Rattle.std.proofs.Common.{◌≡◌, List, sym, subst, ◌∙◌}
+use Rattle.cedar_expr_raw_names.specs.declared.conditional_name.ConditionalName.{ConditionalName}
 use Rattle.cedar_schema_resolver.specs.Meanings.{extensions_seen}
 use Rattle.cedar_schema_model.specs.Whole.Resolved.{schema_of}
+use Rattle.cedar_schema_fragments.specs.declared.namespace_def.ValidatorSchemaFragment.{ValidatorSchemaFragment}
 use Rattle.cedar_schema_builder.specs.Built.{types_made, actions_made}
 use Rattle.cedar_schema_builder.specs.Extensions.{types_given}
 use Rattle.cedar_schema_built.specs.BuiltOf.{IsBuiltOf}
+use Rattle.cedar_schema_built.specs.Listed.{AreListed, HasNamesOf, names_listed}
 use Rattle.cedar_schema_built.proofs.schema.ValidatorSchema.from_schema_fragments.Goals as goal
 
-pub returns-in-Ok-clause-built : goal.returns-in-Ok-clause-built
-returns-in-Ok-clause-built g c =
+pub returns-in_ok-schema-in-Ok-clause-built : goal.returns-in_ok-schema-in-Ok-clause-built
+returns-in_ok-schema-in-Ok-clause-built g c =
     let x = types_given c.args.extensions.now in
     let fs = c.args.fragments.items in
     let p = c.in-Ok.parts in
     let b = c.extension_types_are_a_set.ensures.built x (extensions_seen c.in_ok-types.types) c.in_ok-types.ensures fs (types_made p) (actions_made p) c.in-Ok.ensures.built in
-    subst (IsBuiltOf x fs) (sym c.in_ok-schema-in-Ok.ensures) (record {
+    subst (IsBuiltOf x fs) (sym (c.with_names.ensures.kept ∙ c.in_ok-schema-in-Ok.ensures.kept)) (record {
       are_well_formed = b.are_well_formed;
       keeps = λ d w. c.new_keeps_the_schema.ensures (schema_of d) p.entity_types.items p.actions.items (b.types d w) (b.actions d w);
     })
+
+pub returns-in_ok-schema-in-Ok-clause-declared : goal.returns-in_ok-schema-in-Ok-clause-declared
+returns-in_ok-schema-in-Ok-clause-declared g c =
+    let l = names_listed c.in_ok-names.names in
+    let e : c.deref.result.now ≡ c.args.fragments.items = cc in
+    let is : AreListed c.args.fragments.items l = subst (λ (fs : List (ValidatorSchemaFragment ConditionalName ConditionalName)). AreListed fs l) e c.in_ok-names.ensures in
+    λ d w. subst (HasNamesOf d) (sym c.with_names.ensures.listed) (c.listed_are_declared.ensures c.args.fragments.items d w l is)
