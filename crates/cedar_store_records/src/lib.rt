@@ -3,6 +3,7 @@
 #![tactic(auto)]
 
 pub mod diagnostics;
+pub mod laws;
 pub mod request_type;
 pub mod validation_mode;
 

@@ -1,0 +1,9 @@
+use Rattle.cedar_store_records.specs.contracts.diagnostics.ValidationErrorOrd.TheImpl.Laws as order
+use Rattle.cedar_store_records.specs.contracts.diagnostics.ValidationErrorHash.TheImpl.Laws as hash
+use Rattle.cedar_store_records.proofs.laws.errors_agree.Goals as goal
+
+pub returns-clause-order : goal.returns-clause-order
+returns-clause-order c = order.matches_eq-law
+
+pub returns-clause-hash : goal.returns-clause-hash
+returns-clause-hash c = hash.respects_eq-law

@@ -1,0 +1,37 @@
+//! How the records are compared and hashed. Each function's contract is the theorem; its body does nothing.
+
+ghost use Rattle.std.specs.Prelude.{◌≡◌, true};
+ghost use Rattle.std.specs.Ordering.{is_eq};
+ghost use Rattle.cedar_store_records.specs.declared.diagnostics.ValidationError.{ValidationError as Fault};
+ghost use Rattle.cedar_store_records.specs.declared.diagnostics.ValidationWarning.{ValidationWarning as Warning};
+ghost use Rattle.cedar_store_records.specs.declared.request_type.RequestType.{RequestType as Kind};
+ghost use Rattle.cedar_store_records.specs.declared.validation_mode.ValidationMode.{ValidationMode as Mode};
+
+use crate::diagnostics::{ValidationError, ValidationWarning};
+use crate::request_type::RequestType;
+use crate::validation_mode::ValidationMode;
+use std::hash::Hash;
+
+/// Errors are equal where their order finds no difference, and are then hashed alike.
+pub fn errors_agree()
+    ensures order { (a b : Fault) → ⟦<ValidationError as PartialEq>⟧.eq a b ≡ is_eq (⟦<ValidationError as Ord>⟧.cmp a b) }
+    ensures hash { (a b : Fault) → ⟦<ValidationError as PartialEq>⟧.eq a b ≡ true → ⟦<ValidationError as Hash>⟧.hash_input a ≡ ⟦<ValidationError as Hash>⟧.hash_input b }
+{}
+
+/// So are warnings.
+pub fn warnings_agree()
+    ensures order { (a b : Warning) → ⟦<ValidationWarning as PartialEq>⟧.eq a b ≡ is_eq (⟦<ValidationWarning as Ord>⟧.cmp a b) }
+    ensures hash { (a b : Warning) → ⟦<ValidationWarning as PartialEq>⟧.eq a b ≡ true → ⟦<ValidationWarning as Hash>⟧.hash_input a ≡ ⟦<ValidationWarning as Hash>⟧.hash_input b }
+{}
+
+/// So are types of requests.
+pub fn request_types_agree()
+    ensures order { (a b : Kind) → ⟦<RequestType as PartialEq>⟧.eq a b ≡ is_eq (⟦<RequestType as Ord>⟧.cmp a b) }
+    ensures hash { (a b : Kind) → ⟦<RequestType as PartialEq>⟧.eq a b ≡ true → ⟦<RequestType as Hash>⟧.hash_input a ≡ ⟦<RequestType as Hash>⟧.hash_input b }
+{}
+
+/// So are modes.
+pub fn modes_agree()
+    ensures order { (a b : Mode) → ⟦<ValidationMode as PartialEq>⟧.eq a b ≡ is_eq (⟦<ValidationMode as Ord>⟧.cmp a b) }
+    ensures hash { (a b : Mode) → ⟦<ValidationMode as PartialEq>⟧.eq a b ≡ true → ⟦<ValidationMode as Hash>⟧.hash_input a ≡ ⟦<ValidationMode as Hash>⟧.hash_input b }
+{}
