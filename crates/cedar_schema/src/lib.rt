@@ -34,7 +34,7 @@ pub mod schema {
         ValidatorNamespaceDef, ValidatorSchemaFragment,
     };
     pub use cedar_schema_located::{LocatedCommonType, LocatedNamespace, LocatedType};
-    pub use cedar_schema_sound::{Unsound, first_unsound, try_validate};
+    pub use cedar_schema_sound::{TryValidate, Unsound, first_unsound, try_validate};
 
     /// What fragments declare.
     pub mod all_defs {
@@ -76,10 +76,10 @@ pub use schema::err::{
 pub use schema::{
     ActionFragment, ActionGroups, ActionsDef, ActionsFor, AllDefs, Ancestors, AppliesTo,
     CommonTypeDefs, EntityTypeFragment, EntityTypesDef, LocatedCommonType, LocatedNamespace,
-    LocatedType, StandardValidatorEntityType, UnresolvedDeclaration, UnresolvedDeclarations,
-    ValidatorActionId, ValidatorApplySpec, ValidatorEntityType, ValidatorEntityTypeKind,
-    ValidatorNamespaceDef, ValidatorSchema, ValidatorSchemaFragment, first_unsound, resolve,
-    try_validate,
+    LocatedType, StandardValidatorEntityType, TryValidate, UnresolvedDeclaration,
+    UnresolvedDeclarations, ValidatorActionId, ValidatorApplySpec, ValidatorEntityType,
+    ValidatorEntityTypeKind, ValidatorNamespaceDef, ValidatorSchema, ValidatorSchemaFragment,
+    first_unsound, resolve, try_validate,
 };
 pub use types::{
     AttributeType, Attributes, BoolType, DeclaredAttributes, EntityKind, EntityLUB, OpenTag, Type,

@@ -1,3 +1,4 @@
 mod Among
 mod Free
 mod Searched
+mod MoreKnown

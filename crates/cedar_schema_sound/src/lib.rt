@@ -7,8 +7,10 @@ mod entity_types;
 mod err;
 mod known;
 pub mod laws;
+mod table;
 mod unsound;
 
 pub use check::{first_unsound, try_validate};
 pub use err::UnsoundSchemaError;
+pub use table::TryValidate;
 pub use unsound::Unsound;

@@ -1,8 +1,10 @@
 //! What is wrong with a schema first.
 
 use crate::fixtures::{name, schema};
+use cedar_expr_functions::Extensions;
 use cedar_expr_names::Name;
-use cedar_schema_sound::{first_unsound, try_validate};
+use cedar_schema_built::ValidatorSchema;
+use cedar_schema_sound::{TryValidate, first_unsound, try_validate};
 use std::alloc::{AllocError, Global};
 use std::collections::BTreeSet;
 use std::test::Fail;
@@ -69,5 +71,25 @@ fn an_extension_type_is_unknown(rt: HostRuntime) -> Result<(), Fail> {
     let none = BTreeSet::new(rt.alloc());
     let want = "unknown extension type `rank`";
     assert!(rt; is_told(rt.alloc(), "Doc; User", "view", &none, want)?);
+    Ok(())
+}
+
+// The text of the refusal of the schema, by a table without functions. It is empty where the schema passes.
+fn refusal_by_none(alloc: Global, schema: ValidatorSchema) -> Result<String, AllocError> {
+    match schema.try_validate(alloc, &Extensions::none(alloc)) {
+        Ok(_) => Ok(String::new(alloc)),
+        Err(error) => format!(in alloc; "{error}"),
+    }
+}
+
+/// A table without functions gives no extension types.
+#[test]
+fn a_table_tells_which_types_are_known(rt: HostRuntime) -> Result<(), Fail> {
+    let alloc = rt.alloc();
+    let ranked = schema(alloc, "Doc; User", "view")?;
+    let text = refusal_by_none(alloc, ranked)?;
+    assert_eq!(rt; text.as_str(), "unknown extension type `rank`");
+    let text = refusal_by_none(alloc, ValidatorSchema::empty(alloc))?;
+    assert_eq!(rt; text.as_str(), "");
     Ok(())
 }
