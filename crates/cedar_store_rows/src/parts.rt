@@ -1,6 +1,6 @@
 //! Parts that the tests share.
 
-use cedar_expr_leaves::{Literal, SlotId};
+use cedar_expr_leaves::{Literal, SlotId, Var};
 use cedar_expr_names::{Eid, EntityType, EntityUID};
 use cedar_expr_trees::Expr;
 use cedar_store_policies::{
@@ -57,6 +57,13 @@ pub fn template(alloc: Global, text: &str) -> Result<Template, Fail> {
         ResourceConstraint::any(),
         None,
     )?)
+}
+
+// What it asks: `(principal in ?principal) && true`.
+pub fn asked(alloc: Global) -> Result<Expr, Fail> {
+    let slot = Expr::slot(SlotId::principal());
+    let inside = Expr::is_in(alloc, Expr::var(Var::Principal), slot)?;
+    Ok(Expr::and(alloc, inside, Expr::val(Literal::Bool(true)))?)
 }
 
 // The policy without slots that holds for any request.

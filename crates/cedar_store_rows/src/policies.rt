@@ -1,7 +1,7 @@
 //! Policies and what they are made of.
 
-use crate::parts::{always, bound, id, in_slot, of_principal, policy, shared, template};
-use cedar_expr_leaves::{Literal, SlotId, Var};
+use crate::parts::{always, asked, bound, id, in_slot, of_principal, policy, shared, template};
+use cedar_expr_leaves::{Literal, SlotId};
 use cedar_expr_names::{AnyId, Loc};
 use cedar_expr_trees::Expr;
 use cedar_store_policies::{
@@ -22,13 +22,6 @@ fn linked(alloc: Global) -> Result<Policy, Fail> {
     let template = Rc::new(alloc, template(alloc, "t")?)?;
     let values = bound(alloc, Some("a"), None)?;
     Ok(Policy::new(template, Some(id(alloc, "l")?), values))
-}
-
-// `(principal in ?principal) && true`.
-fn asked(alloc: Global) -> Result<Expr, Fail> {
-    let slot = Expr::slot(SlotId::principal());
-    let asked = Expr::is_in(alloc, Expr::var(Var::Principal), slot)?;
-    Ok(Expr::and(alloc, asked, truth(true))?)
 }
 
 #[test]
@@ -65,6 +58,17 @@ fn a_copy_is_the_same_policy(rt: HostRuntime) -> Result<(), Fail> {
     assert!(rt; copy.id() == policy.id());
     assert!(rt; policy.id().clone()? == *policy.id());
     assert!(rt; policy.env().clone()? == *policy.env());
+    Ok(())
+}
+
+#[test]
+fn a_copy_has_the_same_place(rt: HostRuntime) -> Result<(), Fail> {
+    let alloc = rt.alloc();
+    let template = Rc::new(alloc, annotated(alloc)?)?;
+    let policy = Policy::new(template, None, bound(alloc, None, Some("d"))?);
+    let copy = policy.clone()?;
+    assert!(rt; copy.loc() == Some(Loc::new(0, 4)));
+    assert_eq!(rt; copy.template().id().as_str(), "m");
     Ok(())
 }
 

@@ -1,6 +1,6 @@
 //! Sets of policies.
 
-use crate::parts::{always, bound, id, policy, template};
+use crate::parts::{always, asked, bound, id, policy, template};
 use cedar_expr_leaves::SlotId;
 use cedar_store_policies::{Effect, LinkingError, Policy, PolicySet, PolicySetError};
 use std::alloc::Global;
@@ -88,6 +88,18 @@ fn a_link_is_added_at_the_end(rt: HostRuntime) -> Result<(), Fail> {
     let alloc = rt.alloc();
     let set = with_a_link(alloc)?;
     assert_eq!(rt; shown(alloc, &set)?.as_str(), "t z/z/false/ l/t/true/a ");
+    Ok(())
+}
+
+#[test]
+fn a_link_asks_what_its_template_asks(rt: HostRuntime) -> Result<(), Fail> {
+    let alloc = rt.alloc();
+    let set = with_a_link(alloc)?;
+    let Some(link) = set.get(&id(alloc, "l")?) else {
+        return Err(Fail::from("there is no link"));
+    };
+    assert!(rt; *link.condition() == asked(alloc)?);
+    assert!(rt; set.get_template(&id(alloc, "l")?).is_none());
     Ok(())
 }
 
