@@ -27,14 +27,14 @@ use cedar_expr_values::{ExtValue, ExtensionValue, ValueKind};
 use std::cmp::Ordering;
 use std::slice::Iter;
 
-/// Whether the values are equal.
+/// Whether the values are equal: a truth value. Any two values may be asked.
 pub fn equal(v: &V, w: &V) -> V
     ensures { bare extension_of result ≡ truth_value (value_eq (bare extension_of v.now) (bare extension_of w.now)) }
 {
     truth(v.same(w))
 }
 
-/// The sum of two whole numbers.
+/// The sum of two whole numbers. Errors: `WrongType` where one isn't a whole number, `Overflow` where the sum isn't of 64 bits.
 pub fn sum(v: &V, w: &V) -> Result<V, MeaningFault>
     ensures { IsOutcome (calculated (λ m n. m +ℤ n) (bare extension_of v.now) (bare extension_of w.now)) result }
 {
@@ -46,7 +46,8 @@ pub fn sum(v: &V, w: &V) -> Result<V, MeaningFault>
     }
 }
 
-/// The difference of two whole numbers.
+/// The difference of two whole numbers. Errors: `WrongType` where one isn't a whole number, `Overflow` where the difference isn't of
+/// 64 bits.
 pub fn difference(v: &V, w: &V) -> Result<V, MeaningFault>
     ensures { IsOutcome (calculated (λ m n. m -ℤ n) (bare extension_of v.now) (bare extension_of w.now)) result }
 {
@@ -58,7 +59,8 @@ pub fn difference(v: &V, w: &V) -> Result<V, MeaningFault>
     }
 }
 
-/// The product of two whole numbers.
+/// The product of two whole numbers. Errors: `WrongType` where one isn't a whole number, `Overflow` where the product isn't of 64
+/// bits.
 pub fn product(v: &V, w: &V) -> Result<V, MeaningFault>
     ensures { IsOutcome (calculated (λ m n. m *ℤ n) (bare extension_of v.now) (bare extension_of w.now)) result }
 {
@@ -70,7 +72,7 @@ pub fn product(v: &V, w: &V) -> Result<V, MeaningFault>
     }
 }
 
-/// Whether the value is a member of the set, whose members rise.
+/// Whether the value is a member of the set, whose members rise. Errors: `WrongType` where `set` is no set.
 pub fn contains(set: &V, v: &V) -> Result<V, MeaningFault>
     ensures { Rises (bare extension_of set.now) → IsOutcome (among_members (bare extension_of set.now) (bare extension_of v.now)) result }
 {
@@ -80,7 +82,8 @@ pub fn contains(set: &V, v: &V) -> Result<V, MeaningFault>
     }
 }
 
-/// Whether each member of the second set is one of the first, where the members of both rise.
+/// Whether each member of the second set is one of the first, where the members of both rise. Errors: `WrongType` where one is no
+/// set.
 pub fn contains_all(v: &V, w: &V) -> Result<V, MeaningFault>
     ensures { Rises (bare extension_of w.now) → IsOutcome (of_sets (λ vs ws. is_subset ws vs) (bare extension_of v.now) (bare extension_of w.now)) result }
 {
@@ -90,7 +93,8 @@ pub fn contains_all(v: &V, w: &V) -> Result<V, MeaningFault>
     }
 }
 
-/// Whether some member of the second set is one of the first, where the members of both rise.
+/// Whether some member of the second set is one of the first, where the members of both rise. Errors: `WrongType` where one is no
+/// set.
 pub fn contains_any(v: &V, w: &V) -> Result<V, MeaningFault>
     ensures { Rises (bare extension_of v.now) → IsOutcome (of_sets (λ vs ws. not (is_disjoint vs ws)) (bare extension_of v.now) (bare extension_of w.now)) result }
 {
@@ -102,7 +106,8 @@ pub fn contains_any(v: &V, w: &V) -> Result<V, MeaningFault>
     }
 }
 
-/// Whether the first value is below the second, by the types that the table orders.
+/// Whether the first value is below the second: of two whole numbers, or of two extension values of one type that the table orders.
+/// Errors: `WrongType` for any others.
 pub fn less(table: &Extensions<'_>, v: &V, w: &V) -> Result<V, MeaningFault>
     ensures { (answers : ModelName → List ModelValue → Called) → IsOutcome (ordered (table_of table.now answers) is_lt (bare extension_of v.now) (bare extension_of w.now)) result }
 {
@@ -112,7 +117,8 @@ pub fn less(table: &Extensions<'_>, v: &V, w: &V) -> Result<V, MeaningFault>
     }
 }
 
-/// Whether the first value is below the second or equal to it, by the types that the table orders.
+/// Whether the first value is below the second or equal to it: of two whole numbers, or of two extension values of one type that the
+/// table orders. Errors: `WrongType` for any others.
 pub fn less_or_equal(table: &Extensions<'_>, v: &V, w: &V) -> Result<V, MeaningFault>
     ensures { (answers : ModelName → List ModelValue → Called) → IsOutcome (ordered (table_of table.now answers) is_le (bare extension_of v.now) (bare extension_of w.now)) result }
 {

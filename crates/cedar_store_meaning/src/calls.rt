@@ -24,7 +24,7 @@ use std::alloc::Global;
 use std::collections::HashMap;
 use std::rc::RcStr;
 
-/// The value that an unknown of this name is bound to.
+/// The value that an unknown of this name is bound to. Errors: `NotKnown` where it isn't bound, and `OutOfMemory`.
 pub fn unknown(unknowns: &HashMap<RcStr, V>, name: &str) -> Result<V, MeaningFault>
     ensures { IsMeaning (option_map val (unknowns_of unknowns.now name.now)) result }
 {
@@ -42,7 +42,9 @@ pub(crate) fn copied(v: &V) -> Result<V, MeaningFault>
 }
 
 /// What a call of the function of this name answers at these arguments. The function is looked up; then the count of the
-/// arguments and their types are asked for.
+/// arguments and their types are asked for. Errors: `NoFunction` where the table has none of the name, `WrongCount` and `WrongType`
+/// where the arguments aren't those that it takes, `ExtensionFailed` where it fails, `NotKnown` where it leaves an unknown that isn't
+/// bound, and `OutOfMemory`.
 pub fn call(
     alloc: Global,
     table: &Extensions<'_>,

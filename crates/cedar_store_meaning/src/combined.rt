@@ -17,7 +17,9 @@ use crate::world::World;
 use cedar_expr_trees::BinaryOp;
 use std::alloc::Global;
 
-/// What an operator gives at two values, where the members of sets rise.
+/// What an operator gives at two values, where the members of sets rise: what the operator's own function gives, with its errors.
+/// Those are `WrongType`, `Overflow`, `MissingEntity` and `MissingAttributeOrTag`; besides `NotKnown` where the entities don't tell,
+/// and `OutOfMemory`.
 pub fn combined<T: FunctionTable>(
     alloc: Global,
     world: &World<'_, T>,

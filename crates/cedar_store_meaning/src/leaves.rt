@@ -23,7 +23,7 @@ use cedar_expr_values::Value;
 use cedar_store_parts::SlotEnv;
 use std::rc::Rc;
 
-/// A literal means its value.
+/// A literal means its value. Errors: `OutOfMemory` alone.
 pub fn literal_value(literal: &Literal) -> Result<V, MeaningFault>
     ensures { IsOutcome (val (prim (literal_of literal.now))) result }
 {
@@ -37,7 +37,7 @@ fn entity_value(uid: &Rc<EntityUID>) -> Result<V, MeaningFault>
     Ok(Value::from(Literal::EntityUID(uid.clone()?)))
 }
 
-/// What a variable of the request means.
+/// What a variable of the request means: one of its uids, or its context. Errors: `OutOfMemory` alone.
 pub fn variable<T: FunctionTable>(world: &World<'_, T>, v: Var) -> Result<V, MeaningFault>
     ensures { IsMeaning (model_variable (unanswered T.functions T.ordered world.now) (var_of v)) result }
 {
@@ -49,7 +49,7 @@ pub fn variable<T: FunctionTable>(world: &World<'_, T>, v: Var) -> Result<V, Mea
     }
 }
 
-/// What a slot means: the uid that is bound to it.
+/// What a slot means: the uid that is bound to it. Errors: `UnlinkedSlot` where none is, and `OutOfMemory`.
 pub fn slot(slots: &SlotEnv, s: SlotId) -> Result<V, MeaningFault>
     ensures { IsOutcome (slot_value (binding_of (bindings_of slots.now) (slot_of s))) result }
 {

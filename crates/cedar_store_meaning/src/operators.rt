@@ -22,7 +22,7 @@ use cedar_expr_values::{ExtValue, Value, ValueKind};
 /// The values of expressions.
 pub type V = Value<ExtValue>;
 
-/// The truth value itself, if the value is one; else a type error.
+/// The truth value itself. Errors: `WrongType` where the value is none.
 pub fn as_truth(v: &V) -> Result<V, MeaningFault>
     ensures { IsOutcome (truth_asked (bare extension_of v.now)) result }
 {
@@ -32,7 +32,8 @@ pub fn as_truth(v: &V) -> Result<V, MeaningFault>
     }
 }
 
-/// What an operator of one operand gives: not of a truth value, minus of a whole number, emptiness of a set.
+/// What an operator of one operand gives: not of a truth value, minus of a whole number, emptiness of a set. Errors: `WrongType` of
+/// any other value, `Overflow` where the number that minus gives isn't of 64 bits.
 pub fn applied(op: UnaryOp, v: &V) -> Result<V, MeaningFault>
     ensures { IsOutcome (model_applied (unary_op_of op) (bare extension_of v.now)) result }
 {
@@ -44,7 +45,7 @@ pub fn applied(op: UnaryOp, v: &V) -> Result<V, MeaningFault>
     }
 }
 
-/// Whether the value, which has to be a text, matches the pattern.
+/// Whether the value matches the pattern. Errors: `WrongType` where it is no text.
 pub fn like(pattern: &Pattern, v: &V) -> Result<V, MeaningFault>
     ensures { IsOutcome (like_pattern (pattern_of pattern.now) (bare extension_of v.now)) result }
 {
@@ -54,7 +55,7 @@ pub fn like(pattern: &Pattern, v: &V) -> Result<V, MeaningFault>
     }
 }
 
-/// Whether the value, which has to be an entity, has the type.
+/// Whether the value has the entity type. Errors: `WrongType` where it is no entity.
 pub fn is_of_type(kind: &EntityType, v: &V) -> Result<V, MeaningFault>
     ensures { IsOutcome (of_type (type_name_of kind.now) (bare extension_of v.now)) result }
 {

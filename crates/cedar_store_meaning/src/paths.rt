@@ -20,7 +20,8 @@ use std::alloc::Global;
 use std::rc::RcStr;
 
 /// Whether the attributes are there, one after the other: false at the first that is missing. Of the last one its presence alone
-/// is asked.
+/// is asked. Errors: `WrongType` where one is asked of what is neither an entity nor a record, `NotKnown` where the entities don't
+/// tell, and `OutOfMemory`.
 pub fn has_path(
     alloc: Global,
     entities: &Entities,

@@ -18,8 +18,8 @@ use cedar_expr_values::ValueKind;
 use cedar_store_policies::Policy;
 use std::alloc::{AllocError, Global};
 
-/// What the policy means in the world, with its own slots: its condition's truth value or error. Where the meaning needs something
-/// that isn't known there is none; and want of memory is answered.
+/// What the policy means in the world, with its own slots: its condition's truth value or error. Errors: those of the condition, and
+/// `WrongType` where it means no truth value; `NotKnown` where the meaning needs something that isn't known; and `OutOfMemory`.
 pub fn policy_outcome<T: FunctionTable>(
     alloc: Global,
     world: &World<'_, T>,

@@ -33,7 +33,9 @@ use std::collections::BTreeMap;
 use std::rc::RcStr;
 use std::slice::Iter;
 
-/// The attribute of an entity, or the field of a record. A missing entity is an error, and so is what it has not.
+/// The attribute of an entity, or the field of a record. Errors: `MissingEntity` where the entity isn't there,
+/// `MissingAttributeOrTag` where it has no such attribute, `MissingField` where the record has no such field, `WrongType` of any other
+/// value, `NotKnown` where the entities don't tell, and `OutOfMemory`.
 pub fn attribute(alloc: Global, entities: &Entities, name: &str, v: &V) -> Result<V, MeaningFault>
     ensures { IsMeaning (attribute_read (store_alone (store_seen entities.now)) name.now (bare extension_of v.now)) result }
 {
@@ -44,7 +46,8 @@ pub fn attribute(alloc: Global, entities: &Entities, name: &str, v: &V) -> Resul
     }
 }
 
-/// Whether an entity has the attribute, or a record the field. A missing entity has none.
+/// Whether an entity has the attribute, or a record the field. A missing entity has none. Errors: `WrongType` of any other value,
+/// `NotKnown` where the entities don't tell, and `OutOfMemory`.
 pub fn has_attribute(
     alloc: Global,
     entities: &Entities,
@@ -60,7 +63,8 @@ pub fn has_attribute(
     }
 }
 
-/// The tag of an entity, by a text. A missing entity is an error, and so is a tag that it has not.
+/// The tag of an entity, by a text. Errors: `MissingEntity` where the entity isn't there, `MissingAttributeOrTag` where it has no such
+/// tag, `WrongType` where they are no entity and text, `NotKnown` where the entities don't tell, and `OutOfMemory`.
 pub fn tag(alloc: Global, entities: &Entities, v: &V, w: &V) -> Result<V, MeaningFault>
     ensures { IsMeaning (combined (store_alone (store_seen entities.now)) get_tag (bare extension_of v.now) (bare extension_of w.now)) result }
 {
@@ -70,7 +74,8 @@ pub fn tag(alloc: Global, entities: &Entities, v: &V, w: &V) -> Result<V, Meanin
     }
 }
 
-/// Whether an entity has the tag, by a text. A missing entity has none.
+/// Whether an entity has the tag, by a text. A missing entity has none. Errors: `WrongType` where they are no entity and text,
+/// `NotKnown` where the entities don't tell, and `OutOfMemory`.
 pub fn has_tag(alloc: Global, entities: &Entities, v: &V, w: &V) -> Result<V, MeaningFault>
     ensures { IsMeaning (combined (store_alone (store_seen entities.now)) has_tag (bare extension_of v.now) (bare extension_of w.now)) result }
 {
@@ -81,7 +86,8 @@ pub fn has_tag(alloc: Global, entities: &Entities, v: &V, w: &V) -> Result<V, Me
 }
 
 /// Whether an entity is another, or one of a set of entities, or has one as a recorded ancestor. Only the first is looked up; a
-/// missing one has no ancestors.
+/// missing one has no ancestors. Errors: `WrongType` where the first is no entity, or the second neither an entity nor a set of
+/// entities alone, `NotKnown` where the entities don't tell, and `OutOfMemory`.
 pub fn within(alloc: Global, entities: &Entities, v: &V, w: &V) -> Result<V, MeaningFault>
     ensures { IsMeaning (combined (store_alone (store_seen entities.now)) is_in (bare extension_of v.now) (bare extension_of w.now)) result }
 {

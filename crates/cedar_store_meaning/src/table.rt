@@ -35,7 +35,8 @@ pub trait FunctionTable {
     /// The functions answer so.
     ghost answers_as: { Self → (ModelName → List ModelValue → Called) → Type 0 };
 
-    /// What a call of the function of this name answers at these arguments.
+    /// What a call of the function of this name answers at these arguments. Errors: `NoFunction`, `WrongCount`, `WrongType`,
+    /// `ExtensionFailed`, `NotKnown` and `OutOfMemory`.
     fn call(
         &self,
         alloc: Global,
@@ -45,11 +46,11 @@ pub trait FunctionTable {
     ) -> Result<V, MeaningFault>
         ensures { (answers : ModelName → List ModelValue → Called) → answers_as self.now answers → IsMeaning (called (table_with (functions self.now) (ordered self.now) answers) (unknowns_of unknowns.now) (plain_name_of name.now) (bare_values args.now)) result };
 
-    /// Whether the first value is below the second.
+    /// Whether the first value is below the second. Errors: `WrongType` where the two have no order.
     fn less(&self, v: &V, w: &V) -> Result<V, MeaningFault>
         ensures { IsOutcome (model_ordered (table_with (functions self.now) (ordered self.now) (λ f vs. fails f)) is_lt (bare extension_of v.now) (bare extension_of w.now)) result };
 
-    /// Whether the first value is below the second or equal to it.
+    /// Whether the first value is below the second or equal to it. Errors: `WrongType` where the two have no order.
     fn less_or_equal(&self, v: &V, w: &V) -> Result<V, MeaningFault>
         ensures { IsOutcome (model_ordered (table_with (functions self.now) (ordered self.now) (λ f vs. fails f)) is_le (bare extension_of v.now) (bare extension_of w.now)) result };
 }

@@ -27,8 +27,8 @@ use std::collections::BTreeMap;
 use std::rc::RcStr;
 
 /// What the expression means in the world: a value, or the first error, children in order and the fields of a record in the order
-/// of their names. Of `if`, `&&` and `||` only the parts that are needed are evaluated. Where the meaning needs something that
-/// isn't known there is none; and want of memory is answered.
+/// of their names. Of `if`, `&&` and `||` only the parts that are needed are evaluated. Errors: that of the meaning, by its kind;
+/// `NotKnown` where the meaning needs something that isn't known, since there is none then; and `OutOfMemory`.
 #[cycle(walk)]
 pub fn evaluate<T: FunctionTable>(
     alloc: Global,
