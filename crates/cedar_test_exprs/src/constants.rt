@@ -1,0 +1,105 @@
+//! Words that stand for an expression by themselves, and the operators.
+
+use crate::naming::{uid, word};
+use cedar_expr_leaves::{BinaryOp, Literal, SlotId, UnaryOp, Var};
+use cedar_expr_trees::{Expr, Type, Unknown};
+use std::alloc::{AllocError, Global};
+use std::rc::Rc;
+
+// The operator of one operand that the word names.
+pub fn unary(word: &str) -> Option<UnaryOp> {
+    match word {
+        "!" => Some(UnaryOp::Not),
+        "neg" => Some(UnaryOp::Neg),
+        "isEmpty" => Some(UnaryOp::IsEmpty),
+        _ => None,
+    }
+}
+
+// The operator of two operands that the word names.
+pub fn binary(word: &str) -> Option<BinaryOp> {
+    match word {
+        "==" => Some(BinaryOp::Eq),
+        "<" => Some(BinaryOp::Less),
+        "<=" => Some(BinaryOp::LessEq),
+        "+" => Some(BinaryOp::Add),
+        "-" => Some(BinaryOp::Sub),
+        "*" => Some(BinaryOp::Mul),
+        "in" => Some(BinaryOp::In),
+        "contains" => Some(BinaryOp::Contains),
+        "containsAll" => Some(BinaryOp::ContainsAll),
+        "containsAny" => Some(BinaryOp::ContainsAny),
+        "getTag" => Some(BinaryOp::GetTag),
+        "hasTag" => Some(BinaryOp::HasTag),
+        _ => None,
+    }
+}
+
+// The variable that the word names.
+fn variable(word: &str) -> Option<Var> {
+    match word {
+        "principal" => Some(Var::Principal),
+        "action" => Some(Var::Action),
+        "resource" => Some(Var::Resource),
+        "context" => Some(Var::Context),
+        _ => None,
+    }
+}
+
+// The slot that the word names.
+fn slot(word: &str) -> Option<SlotId> {
+    match word {
+        "?principal" => Some(SlotId::principal()),
+        "?resource" => Some(SlotId::resource()),
+        _ => None,
+    }
+}
+
+// The literal that the word writes: `true`, `-5`, `"text`, `User::a`. Fails where it writes none, and for want of memory.
+fn literal(alloc: Global, text: &str) -> Result<Literal, AllocError> {
+    if let Some(text) = text.strip_prefix("\"") {
+        return Literal::from_str(alloc, text);
+    }
+    if let Ok(number) = text.parse::<i64>() {
+        return Ok(Literal::from(number));
+    }
+    match text {
+        "true" => Ok(Literal::from(true)),
+        "false" => Ok(Literal::from(false)),
+        _ => Ok(Literal::EntityUID(Rc::new(alloc, uid(alloc, text)?)?)),
+    }
+}
+
+// The variable, slot, unknown or literal that the word writes. Fails where it writes none, and for want of memory.
+pub fn constant(alloc: Global, text: &str) -> Result<Expr, AllocError> {
+    if let Some(v) = variable(text) {
+        return Ok(Expr::var(v));
+    }
+    if let Some(s) = slot(text) {
+        return Ok(Expr::slot(s));
+    }
+    match text.strip_prefix("$") {
+        Some(named) => Ok(Expr::unknown(unknown(alloc, named)?)),
+        None => Ok(Expr::val(literal(alloc, text)?)),
+    }
+}
+
+// The unknown of this name, or of this name and, behind a colon, of this type.
+fn unknown(alloc: Global, text: &str) -> Result<Unknown, AllocError> {
+    match text.split_once(':') {
+        Some((name, ty)) => Ok(Unknown::new_with_type(word(alloc, name)?, core_type(ty)?)),
+        None => Ok(Unknown::new_untyped(word(alloc, text)?)),
+    }
+}
+
+// The type that the text names: one of those that have no parts.
+fn core_type(text: &str) -> Result<Type, AllocError> {
+    match text {
+        "Bool" => Ok(Type::Bool),
+        "Long" => Ok(Type::Long),
+        "String" => Ok(Type::String),
+        "Set" => Ok(Type::Set),
+        "Record" => Ok(Type::Record),
+        _ => Err(AllocError),
+    }
+}

@@ -1,0 +1,30 @@
+//! Names, types and uids of texts.
+
+use cedar_expr_names::{Eid, EntityType, EntityUID, Name};
+use std::alloc::{AllocError, Global};
+use std::rc::RcStr;
+
+/// The text, shared. Fails for want of memory.
+pub fn word(alloc: Global, text: &str) -> Result<RcStr, AllocError> {
+    RcStr::from_str(alloc, text)
+}
+
+/// The name of this text. Fails where the text writes none, and for want of memory.
+pub fn name(alloc: Global, text: &str) -> Result<Name, AllocError> {
+    Name::from_normalized_str(alloc, text).map_err(|_| AllocError)
+}
+
+/// The entity type of this name. Fails where the text writes none, and for want of memory.
+pub fn entity_type(alloc: Global, text: &str) -> Result<EntityType, AllocError> {
+    EntityType::from_normalized_str(alloc, text).map_err(|_| AllocError)
+}
+
+/// The uid of a type and an id, as in `User::a`: what stands behind the last `::` is the id. Fails where there is none, and for want
+/// of memory.
+pub fn uid(alloc: Global, text: &str) -> Result<EntityUID, AllocError> {
+    let Some((of, id)) = text.rsplit_once("::") else {
+        return Err(AllocError);
+    };
+    let of = entity_type(alloc, of)?;
+    Ok(EntityUID::from_components(of, Eid::from_str(alloc, id)?, None))
+}

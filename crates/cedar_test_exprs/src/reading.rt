@@ -1,0 +1,76 @@
+//! Expressions as texts.
+
+use crate::constants::{binary, constant, unary};
+use crate::naming::word;
+use crate::nodes::{call, has, is, like, record, set};
+use crate::stack::{one, the_one, three, two};
+use cedar_expr_trees::Expr;
+use std::alloc::{AllocError, Global};
+
+/// The expression that the text writes: words with a space between two of them, the operands before their operator. `1 2 + 3 <` is
+/// `1 + 2 < 3`. The words:
+/// - `true`, `-5`, `"text` (without a space), `User::a`; `principal` and the other variables; `?principal`; `$t` and `$t:Bool`,
+///   unknowns
+/// - `!`, `neg`, `isEmpty`; `==`, `<`, `<=`, `+`, `-`, `*`, `in`, `contains`, `containsAll`, `containsAny`, `getTag`, `hasTag`;
+///   `&&`, `||`, `if`
+/// - `.owner`, an attribute; `has=owner.boss`; `like=a*b`; `is=User`
+/// - `set=2`, a set of the last two; `record=a,b`, a record of the last two; `call=f/2`, a call with the last two
+///
+/// Fails where the text writes no expression, and for want of memory.
+pub fn expr(alloc: Global, text: &str) -> Result<Expr, AllocError> {
+    let mut made = Vec::new(alloc);
+    for word in text.split(' ') {
+        let next = of_word(alloc, &mut made, word)?;
+        made.push(next)?;
+    }
+    the_one(made)
+}
+
+// The expression that the word makes of the last ones.
+fn of_word(alloc: Global, made: &mut Vec<Expr>, text: &str) -> Result<Expr, AllocError> {
+    if let Some(op) = unary(text) {
+        return Expr::unary_app(alloc, op, one(made)?);
+    }
+    if let Some(op) = binary(text) {
+        let (first, second) = two(made)?;
+        return Expr::binary_app(alloc, op, first, second);
+    }
+    if let Some(attr) = text.strip_prefix(".") {
+        let attr = word(alloc, attr)?;
+        return Expr::get_attr(alloc, one(made)?, attr);
+    }
+    match text {
+        "&&" => and(alloc, made),
+        "||" => or(alloc, made),
+        "if" => choice(alloc, made),
+        _ => of_parts(alloc, made, text),
+    }
+}
+
+fn and(alloc: Global, made: &mut Vec<Expr>) -> Result<Expr, AllocError> {
+    let (first, second) = two(made)?;
+    Expr::and(alloc, first, second)
+}
+
+fn or(alloc: Global, made: &mut Vec<Expr>) -> Result<Expr, AllocError> {
+    let (first, second) = two(made)?;
+    Expr::or(alloc, first, second)
+}
+
+fn choice(alloc: Global, made: &mut Vec<Expr>) -> Result<Expr, AllocError> {
+    let (test, yes, no) = three(made)?;
+    Expr::ite(alloc, test, yes, no)
+}
+
+// The expression of a word that has `=` between its kind and the rest; of any other word a constant.
+fn of_parts(alloc: Global, made: &mut Vec<Expr>, text: &str) -> Result<Expr, AllocError> {
+    match text.split_once('=') {
+        Some(("has", rest)) => has(alloc, made, rest),
+        Some(("like", rest)) => like(alloc, made, rest),
+        Some(("is", rest)) => is(alloc, made, rest),
+        Some(("set", rest)) => set(alloc, made, rest),
+        Some(("record", rest)) => record(alloc, made, rest),
+        Some(("call", rest)) => call(alloc, made, rest),
+        _ => constant(alloc, text),
+    }
+}
