@@ -14,7 +14,8 @@ use cedar_store_records::RequestType;
 use std::alloc::{AllocError, Global};
 
 impl ValidatorSchema {
-    /// The environments: each action with each of its principal and resource types, once. Answers want of memory.
+    /// The environments: each action with each of its principal and resource types, in the order in which the schema keeps them. Answers
+    /// want of memory.
     pub fn unlinked_request_envs(&self, alloc: Global) -> Result<Vec<RequestType>, AllocError>
         ensures { IfOk result (λ rs. map request_kind rs.items ≡ kept_environments (schema_kept self.now)) }
     {
