@@ -1,11 +1,12 @@
 //! Examples of expressions, of their parts, and of iterators over them.
 
 use cedar_expr_trees::*;
+use cedar_test_exprs::{expr, word};
 use cedar_test_helpers::{both, kept, shared};
 use std::alloc::{AllocError, Global};
 use std::collections::{BTreeMap, HashSet};
 use std::fmt::Display;
-use std::rc::{Rc, RcStr};
+use std::rc::RcStr;
 use std::test::Fail;
 
 type Made = Result<Expr, AllocError>;
@@ -14,57 +15,8 @@ fn long(n: i64) -> Expr {
     Expr::val(Literal::from(n))
 }
 
-fn truth(b: bool) -> Expr {
-    Expr::val(Literal::from(b))
-}
-
 fn context() -> Expr {
     Expr::var(Var::Context)
-}
-
-fn word(alloc: Global, text: &str) -> Result<RcStr, AllocError> {
-    RcStr::from_str(alloc, text)
-}
-
-fn unknown(alloc: Global, name: &str) -> Made {
-    Ok(Expr::unknown(Unknown::new_untyped(word(alloc, name)?)))
-}
-
-fn longs(alloc: Global, numbers: &[i64]) -> Result<Vec<Expr>, AllocError> {
-    let mut exprs = Vec::new(alloc);
-    for n in numbers {
-        exprs.push(long(*n))?;
-    }
-    Ok(exprs)
-}
-
-fn uid(alloc: Global, kind: &str, id: &str) -> Made {
-    let kind = EntityType::from_normalized_str(alloc, kind)
-        .ok()
-        .ok_or(AllocError)?;
-    let uid = EntityUID::from_components(kind, Eid::from_str(alloc, id)?, None);
-    Ok(Expr::val(Literal::from_entity_uid(alloc, uid)?))
-}
-
-fn fields(alloc: Global, pairs: &[(&str, i64)]) -> Result<Vec<(RcStr, Expr)>, AllocError> {
-    let mut fields = Vec::new(alloc);
-    for (name, n) in pairs {
-        fields.push((word(alloc, name)?, long(*n)))?;
-    }
-    Ok(fields)
-}
-
-fn record(alloc: Global, pairs: &[(&str, i64)]) -> Made {
-    Expr::record(alloc, fields(alloc, pairs)?)
-        .ok()
-        .ok_or(AllocError)
-}
-
-fn call(alloc: Global, name: &str, args: Vec<Expr>) -> Made {
-    let name = Name::from_normalized_str(alloc, name)
-        .ok()
-        .ok_or(AllocError)?;
-    Expr::call_extension_fn(alloc, name, args)
 }
 
 // Whether both were made, and are equal.
@@ -78,12 +30,9 @@ fn are_same<T: Drop + PartialEq>(
     }
 }
 
-// Whether both were made, and are not equal.
-fn differ<T: Drop + PartialEq>(made: Result<T, AllocError>, other: Result<T, AllocError>) -> bool {
-    match both(made, other) {
-        Ok((made, other)) => made != other,
-        Err(_) => false,
-    }
+// Whether the expression is the one that the text writes.
+fn is(alloc: Global, made: Made, text: &str) -> bool {
+    are_same(made, expr(alloc, text))
 }
 
 // Whether a copy is equal.
@@ -91,13 +40,6 @@ fn is_copied<T: Clone + Drop + PartialEq>(it: &T) -> bool {
     match it.clone() {
         Ok(copy) => copy == *it,
         Err(_) => false,
-    }
-}
-
-fn is_number(e: &Expr, wanted: i64) -> bool {
-    match e.expr_kind() {
-        ExprKind::Lit(Literal::Long(n)) => *n == wanted,
-        _ => false,
     }
 }
 
@@ -109,159 +51,127 @@ fn shows<T: Display>(alloc: Global, it: &T, want: &str) -> bool {
     }
 }
 
-// Whether two literals are folded.
-fn are_folded(alloc: Global, a: bool, b: bool) -> bool {
-    are_same(Expr::and(alloc, truth(a), truth(b)), Ok(truth(a && b)))
-        && are_same(Expr::or(alloc, truth(a), truth(b)), Ok(truth(a || b)))
-}
+// Each is folded to the one beside it.
+const FOLDED: [(&str, &str); 8] = [
+    ("false false &&", "false"),
+    ("false true &&", "false"),
+    ("true false &&", "false"),
+    ("true true &&", "true"),
+    ("false false ||", "false"),
+    ("false true ||", "true"),
+    ("true false ||", "true"),
+    ("true true ||", "true"),
+];
 
 #[test]
 fn literals_are_folded_by_and_and_or(rt: HostRuntime) -> Result<(), Fail> {
     let alloc = rt.alloc();
-    for (a, b) in [(false, false), (false, true), (true, false), (true, true)] {
-        assert!(rt; are_folded(alloc, a, b), "{a} {b}");
+    for (text, folded) in FOLDED {
+        assert!(rt; is(alloc, expr(alloc, text), folded), "{text}");
     }
-    let open = unknown(alloc, "u")?;
-    let left = kept(alloc, Expr::and(alloc, truth(true), open))?;
+    let left = kept(alloc, expr(alloc, "true $u &&"))?;
     assert!(rt; matches!(left.expr_kind(), ExprKind::And { .. }));
     assert!(rt; is_copied(left.as_ref()));
-    let right = kept(alloc, Expr::or(alloc, long(1), truth(true)))?;
+    let right = kept(alloc, expr(alloc, "1 true ||"))?;
     assert!(rt; matches!(right.expr_kind(), ExprKind::Or { .. }));
     Ok(())
 }
 
-// Whether this is the operator over the numbers 1 and 2, which is shown as this text.
-fn is_of_one_and_two(alloc: Global, made: Made, want: BinaryOp, text: &str) -> bool {
-    let Ok(e) = kept(alloc, made) else {
-        return false;
-    };
-    if let ExprKind::BinaryApp { op, arg1, arg2 } = e.expr_kind() {
-        return *op == want && is_number(arg1, 1) && is_number(arg2, 2) && shows(alloc, op, text);
+// What the constructor of the operator makes of 1 and 2.
+fn of_one_and_two(alloc: Global, op: BinaryOp) -> Made {
+    let (one, two) = (long(1), long(2));
+    match op {
+        BinaryOp::Eq => Expr::is_eq(alloc, one, two),
+        BinaryOp::Less => Expr::less(alloc, one, two),
+        BinaryOp::LessEq => Expr::lesseq(alloc, one, two),
+        BinaryOp::Add => Expr::add(alloc, one, two),
+        BinaryOp::Sub => Expr::sub(alloc, one, two),
+        BinaryOp::Mul => Expr::mul(alloc, one, two),
+        BinaryOp::In => Expr::is_in(alloc, one, two),
+        BinaryOp::Contains => Expr::contains(alloc, one, two),
+        BinaryOp::ContainsAll => Expr::contains_all(alloc, one, two),
+        BinaryOp::ContainsAny => Expr::contains_any(alloc, one, two),
+        BinaryOp::GetTag => Expr::get_tag(alloc, one, two),
+        BinaryOp::HasTag => Expr::has_tag(alloc, one, two),
     }
-    false
 }
 
-#[test]
-fn operators_by_name(rt: HostRuntime) {
-    let alloc = rt.alloc();
-    let named = Expr::binary_app(alloc, BinaryOp::Sub, long(1), long(2));
-    assert!(rt; are_same(named, Expr::sub(alloc, long(1), long(2))));
-    let named = Expr::binary_app(alloc, BinaryOp::In, long(1), long(2));
-    assert!(rt; are_same(named, Expr::is_in(alloc, long(1), long(2))));
-    let difference = Expr::sub(alloc, long(1), long(2));
-    assert!(rt; differ(Expr::is_in(alloc, long(1), long(2)), difference));
+// Each operator with its text.
+const OPERATORS: [(BinaryOp, &str, &str); 12] = [
+    (BinaryOp::Eq, "==", "1 2 =="),
+    (BinaryOp::Less, "<", "1 2 <"),
+    (BinaryOp::LessEq, "<=", "1 2 <="),
+    (BinaryOp::Add, "+", "1 2 +"),
+    (BinaryOp::Sub, "-", "1 2 -"),
+    (BinaryOp::Mul, "*", "1 2 *"),
+    (BinaryOp::In, "in", "1 2 in"),
+    (BinaryOp::Contains, "contains", "1 2 contains"),
+    (BinaryOp::ContainsAll, "containsAll", "1 2 containsAll"),
+    (BinaryOp::ContainsAny, "containsAny", "1 2 containsAny"),
+    (BinaryOp::GetTag, "getTag", "1 2 getTag"),
+    (BinaryOp::HasTag, "hasTag", "1 2 hasTag"),
+];
+
+// The operator of an expression of two operands.
+fn operator(made: Made) -> Option<BinaryOp> {
+    let e = made.ok()?;
+    match e.expr_kind() {
+        ExprKind::BinaryApp { op, .. } => Some(*op),
+        _ => None,
+    }
 }
 
 #[test]
 fn operators_of_two_operands(rt: HostRuntime) {
     let alloc = rt.alloc();
-    let made = Expr::is_eq(alloc, long(1), long(2));
-    assert!(rt; is_of_one_and_two(alloc, made, BinaryOp::Eq, "=="));
-    let made = Expr::less(alloc, long(1), long(2));
-    assert!(rt; is_of_one_and_two(alloc, made, BinaryOp::Less, "<"));
-    let made = Expr::lesseq(alloc, long(1), long(2));
-    assert!(rt; is_of_one_and_two(alloc, made, BinaryOp::LessEq, "<="));
-    let made = Expr::add(alloc, long(1), long(2));
-    assert!(rt; is_of_one_and_two(alloc, made, BinaryOp::Add, "+"));
-    let made = Expr::sub(alloc, long(1), long(2));
-    assert!(rt; is_of_one_and_two(alloc, made, BinaryOp::Sub, "-"));
-    let made = Expr::mul(alloc, long(1), long(2));
-    assert!(rt; is_of_one_and_two(alloc, made, BinaryOp::Mul, "*"));
-}
-
-#[test]
-fn operators_on_entities_and_sets(rt: HostRuntime) {
-    let alloc = rt.alloc();
-    let made = Expr::is_in(alloc, long(1), long(2));
-    assert!(rt; is_of_one_and_two(alloc, made, BinaryOp::In, "in"));
-    let made = Expr::contains(alloc, long(1), long(2));
-    assert!(rt; is_of_one_and_two(alloc, made, BinaryOp::Contains, "contains"));
-    let made = Expr::contains_all(alloc, long(1), long(2));
-    assert!(rt; is_of_one_and_two(alloc, made, BinaryOp::ContainsAll, "containsAll"));
-    let made = Expr::contains_any(alloc, long(1), long(2));
-    assert!(rt; is_of_one_and_two(alloc, made, BinaryOp::ContainsAny, "containsAny"));
-    let made = Expr::get_tag(alloc, long(1), long(2));
-    assert!(rt; is_of_one_and_two(alloc, made, BinaryOp::GetTag, "getTag"));
-    let made = Expr::has_tag(alloc, long(1), long(2));
-    assert!(rt; is_of_one_and_two(alloc, made, BinaryOp::HasTag, "hasTag"));
-}
-
-// Whether this is the operator over the number 1, which is shown as this text.
-fn is_of_one(alloc: Global, made: Made, op: UnaryOp, text: &str) -> bool {
-    are_same(Expr::unary_app(alloc, op, long(1)), made) && shows(alloc, &op, text)
+    for (op, shown, text) in OPERATORS {
+        assert!(rt; is(alloc, of_one_and_two(alloc, op), text), "{text}");
+        assert!(rt; operator(of_one_and_two(alloc, op)) == Some(op), "{text}");
+        assert!(rt; shows(alloc, &op, shown), "{text}");
+    }
+    assert!(rt; !is(alloc, of_one_and_two(alloc, BinaryOp::In), "1 2 -"));
 }
 
 #[test]
 fn operators_of_one_operand(rt: HostRuntime) {
     let alloc = rt.alloc();
-    assert!(rt; is_of_one(alloc, Expr::not(alloc, long(1)), UnaryOp::Not, "!"));
-    assert!(rt; is_of_one(alloc, Expr::neg(alloc, long(1)), UnaryOp::Neg, "-"));
-    assert!(rt;
-        is_of_one(
-            alloc,
-            Expr::is_empty(alloc, long(1)),
-            UnaryOp::IsEmpty,
-            "isEmpty"
-        )
-    );
-}
-
-// The negation of what was made.
-fn not(alloc: Global, made: Made) -> Made {
-    Expr::not(alloc, made?)
+    assert!(rt; is(alloc, Expr::not(alloc, long(1)), "1 !"));
+    assert!(rt; is(alloc, Expr::neg(alloc, long(1)), "1 neg"));
+    assert!(rt; is(alloc, Expr::is_empty(alloc, long(1)), "1 isEmpty"));
+    assert!(rt; shows(alloc, &UnaryOp::Not, "!") && shows(alloc, &UnaryOp::Neg, "-"));
+    assert!(rt; shows(alloc, &UnaryOp::IsEmpty, "isEmpty"));
 }
 
 #[test]
 fn comparisons_by_negation(rt: HostRuntime) {
     let alloc = rt.alloc();
-    let equal = Expr::is_eq(alloc, long(1), long(2));
-    assert!(rt; are_same(Expr::noteq(alloc, long(1), long(2)), not(alloc, equal)));
-    let less = Expr::less(alloc, long(1), long(2));
-    assert!(rt; are_same(Expr::greatereq(alloc, long(1), long(2)), not(alloc, less)));
-    let less_or_equal = Expr::lesseq(alloc, long(1), long(2));
-    assert!(rt;
-        are_same(
-            Expr::greater(alloc, long(1), long(2)),
-            not(alloc, less_or_equal)
-        )
-    );
-}
-
-fn get(alloc: Global, attr: &str) -> Made {
-    Expr::get_attr(alloc, context(), word(alloc, attr)?)
+    assert!(rt; is(alloc, Expr::noteq(alloc, long(1), long(2)), "1 2 == !"));
+    assert!(rt; is(alloc, Expr::greatereq(alloc, long(1), long(2)), "1 2 < !"));
+    assert!(rt; is(alloc, Expr::greater(alloc, long(1), long(2)), "1 2 <= !"));
 }
 
 fn has(alloc: Global, attr: &str) -> Made {
     Expr::has_attr(alloc, context(), word(alloc, attr)?)
 }
 
-// The test of a path of attributes.
-fn has_path(alloc: Global, first: &str, others: &[&str]) -> Made {
-    let mut attrs = NonEmpty::singleton(alloc, word(alloc, first)?);
-    for other in others {
-        attrs.tail.push(word(alloc, other)?)?;
-    }
-    Expr::extended_has_attr(alloc, context(), attrs)
-}
-
-// Whether this takes the attribute.
-fn takes(e: &Expr, wanted: &str) -> bool {
+// Whether the text writes the taking of the attribute.
+fn takes(alloc: Global, text: &str, wanted: &str) -> Result<bool, AllocError> {
+    let e = kept(alloc, expr(alloc, text))?;
     match e.expr_kind() {
-        ExprKind::GetAttr { attr, .. } => attr.as_str() == wanted,
-        _ => false,
+        ExprKind::GetAttr { attr, .. } => Ok(attr.as_str() == wanted),
+        _ => Ok(false),
     }
 }
 
 #[test]
 fn a_path_of_one_attribute_is_a_test_of_it(rt: HostRuntime) -> Result<(), Fail> {
     let alloc = rt.alloc();
-    assert!(rt; are_same(has_path(alloc, "x", &[]), has(alloc, "x")));
-    let two = kept(alloc, has_path(alloc, "x", &["y"]))?;
+    assert!(rt; is(alloc, has(alloc, "x"), "context has=x"));
+    let two = kept(alloc, expr(alloc, "context has=x.y"))?;
     assert!(rt; matches!(two.expr_kind(), ExprKind::ExtHasAttr { .. }));
-    assert!(rt; differ(has_path(alloc, "x", &["y"]), has_path(alloc, "y", &["x"])));
-    assert!(rt; differ(get(alloc, "x"), has_path(alloc, "x", &[])));
-    let got = kept(alloc, get(alloc, "x"))?;
-    assert!(rt; takes(&got, "x"));
+    assert!(rt; !is(alloc, expr(alloc, "context has=x.y"), "context has=y.x"));
+    assert!(rt; !is(alloc, expr(alloc, "context .x"), "context has=x"));
+    assert!(rt; takes(alloc, "context .x", "x")?);
     Ok(())
 }
 
@@ -271,6 +181,14 @@ fn mapped(alloc: Global) -> Made {
     fields.insert(word(alloc, "a")?, long(2))?;
     fields.insert(word(alloc, "b")?, long(1))?;
     Ok(Expr::record_arc(shared(alloc, fields)?))
+}
+
+fn fields(alloc: Global, pairs: &[(&str, i64)]) -> Result<Vec<(RcStr, Expr)>, AllocError> {
+    let mut fields = Vec::new(alloc);
+    for (name, n) in pairs {
+        fields.push((word(alloc, name)?, long(*n)))?;
+    }
+    Ok(fields)
 }
 
 // The refusal of a record in which `b` stands twice.
@@ -290,7 +208,7 @@ fn refusal<T: Drop, E: Drop>(made: Result<T, E>) -> Option<E> {
 #[test]
 fn a_name_stands_once_in_a_record(rt: HostRuntime) -> Result<(), Fail> {
     let alloc = rt.alloc();
-    assert!(rt; are_same(record(alloc, &[("b", 1), ("a", 2)]), mapped(alloc)));
+    assert!(rt; is(alloc, mapped(alloc), "1 2 record=b,a"));
     let e = repeated(alloc)?;
     assert!(rt; e.key() == "b" && shows(alloc, &e, "duplicate key `b` in record literal"));
     let e = ExpressionConstructionError::DuplicateKey(e.with_context("in context"));
@@ -358,125 +276,60 @@ fn parts_of_an_expression(rt: HostRuntime) -> Result<(), Fail> {
     assert!(rt; is_five(&kind) && place == here && data == 9);
     let copy = kept(alloc, ExprKind::clone(&kind))?;
     assert!(rt; is_five(&copy));
-    let tall = kept(alloc, Expr::ite(alloc, truth(true), long(1), long(2)))?;
+    let tall = kept(alloc, expr(alloc, "true 1 2 if"))?;
     assert!(rt; is_copied(tall.as_ref()));
     Ok(())
 }
 
-// Whether what was made is a reference, a slot, and a set of references.
-fn refers(alloc: Global, made: Made) -> Option<(bool, bool, bool)> {
-    match kept(alloc, made) {
-        Ok(e) => Some((e.is_ref(), e.is_slot(), e.is_ref_set())),
-        Err(_) => None,
-    }
-}
+// Expressions, each with whether it is a reference, a slot, and a set of references.
+const REFERENCES: [(&str, bool, bool, bool); 7] = [
+    ("A::x", true, false, false),
+    ("1", false, false, false),
+    ("context", false, false, false),
+    ("?principal", false, true, false),
+    ("A::x B::x set=2", false, false, true),
+    ("set=0", false, false, true),
+    ("A::x 1 set=2", false, false, false),
+];
 
 #[test]
-fn references_and_slots(rt: HostRuntime) {
+fn references_and_slots(rt: HostRuntime) -> Result<(), Fail> {
     let alloc = rt.alloc();
-    assert!(rt; refers(alloc, uid(alloc, "A", "x")) == Some((true, false, false)));
-    assert!(rt; refers(alloc, Ok(long(1))) == Some((false, false, false)));
-    assert!(rt; refers(alloc, Ok(context())) == Some((false, false, false)));
-    let slot = Expr::slot(SlotId::principal());
-    assert!(rt; refers(alloc, Ok(slot)) == Some((false, true, false)));
-}
-
-// A list of two.
-fn listed<T: Drop>(
-    alloc: Global,
-    first: Result<T, AllocError>,
-    second: Result<T, AllocError>,
-) -> Result<Vec<T>, AllocError> {
-    let (first, second) = both(first, second)?;
-    let mut list = Vec::new(alloc);
-    list.push(first)?;
-    list.push(second)?;
-    Ok(list)
-}
-
-// A set of two members.
-fn pair(alloc: Global, first: Made, second: Made) -> Made {
-    Expr::set(alloc, listed(alloc, first, second)?)
-}
-
-#[test]
-fn sets_of_references(rt: HostRuntime) {
-    let alloc = rt.alloc();
-    let refs = pair(alloc, uid(alloc, "A", "x"), uid(alloc, "B", "x"));
-    assert!(rt; refers(alloc, refs) == Some((false, false, true)));
-    let empty = Expr::set(alloc, Vec::new(alloc));
-    assert!(rt; refers(alloc, empty) == Some((false, false, true)));
-    let mixed = pair(alloc, uid(alloc, "A", "x"), Ok(long(1)));
-    assert!(rt; refers(alloc, mixed) == Some((false, false, false)));
-}
-
-// A record of a set and an unknown.
-fn projectable(alloc: Global) -> Made {
-    let names = listed(alloc, word(alloc, "a"), word(alloc, "b"))?;
-    let set = Expr::set(alloc, longs(alloc, &[1, 2])?);
-    let exprs = listed(alloc, set, unknown(alloc, "u"))?;
-    let fields = paired(alloc, names, exprs)?;
-    Expr::record(alloc, fields).ok().ok_or(AllocError)
-}
-
-// Each of these beside that of the other list which stands at its place.
-fn paired<A: Drop, B: Drop>(
-    alloc: Global,
-    a: Vec<A>,
-    b: Vec<B>,
-) -> Result<Vec<(A, B)>, AllocError> {
-    let mut pairs = Vec::new(alloc);
-    for pair in a.into_iter().zip(b) {
-        pairs.push(pair)?;
+    for (text, is_ref, is_slot, is_ref_set) in REFERENCES {
+        let e = kept(alloc, expr(alloc, text))?;
+        assert!(rt; e.is_ref() == is_ref && e.is_slot() == is_slot, "{text}");
+        assert!(rt; e.is_ref_set() == is_ref_set, "{text}");
     }
-    Ok(pairs)
+    Ok(())
 }
 
-// Whether what was made is projectable.
-fn projects(alloc: Global, made: Made) -> Option<bool> {
-    match kept(alloc, made) {
-        Ok(e) => Some(e.is_projectable()),
-        Err(_) => None,
-    }
-}
+// Expressions, each with whether it is projectable.
+const PROJECTABLE: [(&str, bool); 6] = [
+    ("1 2 set=2 $u record=a,b", true),
+    ("context", true),
+    ("?resource", false),
+    ("true !", false),
+    ("1 2 set=2 $u record=a,b true ! set=2", false),
+    ("1 call=f/1", false),
+];
 
 #[test]
 fn projectable_expressions(rt: HostRuntime) -> Result<(), Fail> {
     let alloc = rt.alloc();
-    assert!(rt; projects(alloc, projectable(alloc)) == Some(true));
-    assert!(rt; projects(alloc, Ok(context())) == Some(true));
-    assert!(rt; projects(alloc, Ok(Expr::slot(SlotId::resource()))) == Some(false));
-    let negated = Expr::not(alloc, truth(true));
-    assert!(rt; projects(alloc, negated) == Some(false));
-    let negated = Expr::not(alloc, truth(true));
-    let mixed = pair(alloc, projectable(alloc), negated);
-    assert!(rt; projects(alloc, mixed) == Some(false));
-    let args = longs(alloc, &[1])?;
-    assert!(rt; projects(alloc, call(alloc, "f", args)) == Some(false));
+    for (text, wanted) in PROJECTABLE {
+        let e = kept(alloc, expr(alloc, text))?;
+        assert!(rt; e.is_projectable() == wanted, "{text}");
+    }
     Ok(())
 }
 
-// `and` of the unknown `b` and a number.
-fn of_b(alloc: Global) -> Made {
-    let b = unknown(alloc, "b")?;
-    Expr::and(alloc, b, long(3))
-}
-
-// An expression of the unknowns `a`, `b` and `c`, from left to right.
-fn of_unknowns(alloc: Global) -> Made {
-    let test = kept(alloc, not(alloc, unknown(alloc, "a")))?;
-    let both = kept(alloc, of_b(alloc))?;
-    let last = kept(alloc, unknown(alloc, "c"))?;
-    Ok(Expr::ite_arc(test, both, last))
-}
-
-// Whether an unknown stands in what was made.
-fn is_open(alloc: Global, made: Made) -> Option<bool> {
-    match kept(alloc, made) {
-        Ok(e) => Some(e.contains_unknown()),
-        Err(_) => None,
-    }
-}
+// Expressions, each with the names of its unknowns, one after the other.
+const UNKNOWNS: [(&str, &str); 4] = [
+    ("$a ! $b 3 && $c if", "abc"),
+    ("1 $d call=f/2", "d"),
+    ("context .a", ""),
+    ("1 record=a", ""),
+];
 
 // The names of an expression's unknowns, one after the other.
 fn names_of(alloc: Global, e: &Expr) -> Result<String, AllocError> {
@@ -487,22 +340,29 @@ fn names_of(alloc: Global, e: &Expr) -> Result<String, AllocError> {
     Ok(names)
 }
 
-// A call of a number and an unknown.
-fn of_one_unknown(alloc: Global) -> Made {
-    let args = listed(alloc, Ok(long(1)), unknown(alloc, "d"))?;
-    call(alloc, "f", args)
-}
-
 #[test]
 fn unknowns_at_any_depth(rt: HostRuntime) -> Result<(), Fail> {
     let alloc = rt.alloc();
-    let e = kept(alloc, of_unknowns(alloc))?;
-    assert!(rt; e.contains_unknown());
-    assert!(rt; names_of(alloc, &e)?.as_str() == "abc");
-    assert!(rt; is_open(alloc, of_one_unknown(alloc)) == Some(true));
-    assert!(rt; is_open(alloc, get(alloc, "a")) == Some(false));
-    assert!(rt; is_open(alloc, record(alloc, &[("a", 1)])) == Some(false));
+    for (text, wanted) in UNKNOWNS {
+        let e = kept(alloc, expr(alloc, text))?;
+        assert!(rt; e.contains_unknown() != wanted.is_empty(), "{text}");
+        assert!(rt; names_of(alloc, &e)?.as_str() == wanted, "{text}");
+    }
     Ok(())
+}
+
+// The choice that the text writes, made of shared parts.
+fn choice(alloc: Global, test: &str, yes: &str, no: &str) -> Made {
+    let test = kept(alloc, expr(alloc, test))?;
+    let yes = kept(alloc, expr(alloc, yes))?;
+    let no = kept(alloc, expr(alloc, no))?;
+    Ok(Expr::ite_arc(test, yes, no))
+}
+
+#[test]
+fn a_choice_of_shared_parts(rt: HostRuntime) {
+    let alloc = rt.alloc();
+    assert!(rt; is(alloc, choice(alloc, "$a !", "1", "2"), "$a ! 1 2 if"));
 }
 
 #[test]
@@ -546,69 +406,39 @@ fn slots_with_their_places(rt: HostRuntime) -> Result<(), Fail> {
     Ok(())
 }
 
-// Whether an expression was made and has so many subexpressions, counted by going over them.
-fn has_size(alloc: Global, made: Made, want: usize) -> bool {
-    let Ok(e) = kept(alloc, made) else {
-        return false;
-    };
-    match e.subexpressions(alloc) {
-        Ok(all) => all.count() == want,
-        Err(_) => false,
+// Expressions, each with how many subexpressions it has.
+const SIZES: [(&str, usize); 11] = [
+    ("true", 1),
+    ("?principal", 1),
+    ("true 1 2 if", 4),
+    ("principal false &&", 3),
+    ("1 neg", 2),
+    ("context has=x", 2),
+    ("action like=*", 2),
+    ("action is=A", 2),
+    ("1 1 set=2", 3),
+    ("1 2 3 call=f/3", 4),
+    ("1 1 record=a,b", 3),
+];
+
+#[test]
+fn each_place_once(rt: HostRuntime) -> Result<(), Fail> {
+    let alloc = rt.alloc();
+    for (text, wanted) in SIZES {
+        let e = kept(alloc, expr(alloc, text))?;
+        assert!(rt; e.subexpressions(alloc)?.count() == wanted, "{text}");
     }
-}
-
-fn like_any(alloc: Global) -> Made {
-    let pattern = Pattern::new(alloc, vec![in alloc; PatternElem::Wildcard]?)?;
-    Expr::like(alloc, Expr::var(Var::Action), pattern)
-}
-
-fn is_of(alloc: Global, kind: &str) -> Made {
-    let kind = EntityType::from_normalized_str(alloc, kind)
-        .ok()
-        .ok_or(AllocError)?;
-    Expr::is_entity_type(alloc, Expr::var(Var::Action), kind)
-}
-
-#[test]
-fn each_place_of_a_leaf_or_a_node_once(rt: HostRuntime) {
-    let alloc = rt.alloc();
-    assert!(rt; has_size(alloc, Ok(truth(true)), 1));
-    assert!(rt; has_size(alloc, Ok(Expr::slot(SlotId::principal())), 1));
-    assert!(rt; has_size(alloc, Expr::ite(alloc, truth(true), long(1), long(2)), 4));
-    assert!(rt;
-        has_size(
-            alloc,
-            Expr::and(alloc, Expr::var(Var::Principal), truth(false)),
-            3
-        )
-    );
-    assert!(rt; has_size(alloc, Expr::neg(alloc, long(1)), 2));
-    assert!(rt; has_size(alloc, has(alloc, "x"), 2));
-    assert!(rt; has_size(alloc, like_any(alloc), 2));
-    assert!(rt; has_size(alloc, is_of(alloc, "A"), 2));
-}
-
-#[test]
-fn each_place_of_a_list_once(rt: HostRuntime) -> Result<(), Fail> {
-    let alloc = rt.alloc();
-    assert!(rt; has_size(alloc, Expr::set(alloc, longs(alloc, &[1, 1])?), 3));
-    assert!(rt; has_size(alloc, call(alloc, "f", longs(alloc, &[1, 2, 3])?), 4));
-    assert!(rt; has_size(alloc, record(alloc, &[("a", 1), ("b", 1)]), 3));
     Ok(())
 }
 
 #[test]
 fn a_node_before_its_children(rt: HostRuntime) -> Result<(), Fail> {
     let alloc = rt.alloc();
-    let sum = kept(alloc, Expr::add(alloc, long(1), long(2)))?;
-    let e = Expr::add(alloc, long(1), long(2))?;
-    let e = kept(alloc, Expr::less(alloc, e, long(3)))?;
-    let numbers = longs(alloc, &[1, 2, 3])?;
+    let e = kept(alloc, expr(alloc, "1 2 + 3 <"))?;
     let mut all = ExprIterator::new(alloc, &e)?;
-    assert!(rt; all.next().is_some_and(|found| *found == *e));
-    assert!(rt; all.next().is_some_and(|found| *found == *sum));
-    for want in numbers.iter() {
-        assert!(rt; all.next().is_some_and(|found| found == want));
+    for text in ["1 2 + 3 <", "1 2 +", "1", "2", "3"] {
+        let wanted = kept(alloc, expr(alloc, text))?;
+        assert!(rt; all.next().is_some_and(|found| *found == *wanted), "{text}");
     }
     assert!(rt; all.next().is_none());
     Ok(())
@@ -617,12 +447,11 @@ fn a_node_before_its_children(rt: HostRuntime) -> Result<(), Fail> {
 #[test]
 fn expressions_as_keys(rt: HostRuntime) -> Result<(), Fail> {
     let alloc = rt.alloc();
-    let moved = Expr::add(alloc, long(1), long(2))?;
-    let moved = moved.with_maybe_source_loc(Some(Loc::new(0, 1)));
+    let moved = expr(alloc, "1 2 +")?.with_maybe_source_loc(Some(Loc::new(0, 1)));
     let moved = shared(alloc, moved)?;
     let one = shared(alloc, long(1))?;
     let mut seen = HashSet::new(alloc);
-    seen.insert(Expr::add(alloc, long(1), long(2))?)?;
+    seen.insert(expr(alloc, "1 2 +")?)?;
     assert!(rt; seen.contains(moved.as_ref()) && !seen.contains(one.as_ref()));
     Ok(())
 }
