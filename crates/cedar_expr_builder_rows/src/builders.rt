@@ -3,9 +3,10 @@
 use cedar_expr_builders::expr_builder::ExprBuilder as Builds;
 use cedar_expr_builders::*;
 use cedar_expr_leaves::{Literal, Pattern, PatternElem, SlotId, Var};
-use cedar_expr_names::{EntityType, Loc, Name};
-use cedar_expr_trees::{Expr, ExpressionConstructionError, NonEmpty, Unknown};
-use cedar_test_helpers::{both, kept};
+use cedar_expr_names::Loc;
+use cedar_expr_trees::{BinaryOp, Expr, ExpressionConstructionError, NonEmpty, Unknown};
+use cedar_test_exprs::{entity_type, expr, name, word};
+use cedar_test_helpers::kept;
 use std::alloc::{AllocError, Global};
 use std::rc::{Rc, RcStr};
 use std::test::Fail;
@@ -24,58 +25,54 @@ fn truth(b: bool) -> Expr {
     Expr::val(Literal::from(b))
 }
 
-fn word(alloc: Global, text: &str) -> Result<RcStr, AllocError> {
-    RcStr::from_str(alloc, text)
+// Whether what was built is the expression that the text writes.
+fn is<E: Drop>(alloc: Global, built: Result<Expr, E>, text: &str) -> Result<bool, AllocError> {
+    let built = kept(alloc, built)?;
+    let wanted = kept(alloc, expr(alloc, text))?;
+    Ok(*built == *wanted)
 }
 
-fn unknown(alloc: Global, name: &str) -> Made {
-    Ok(Expr::unknown(Unknown::new_untyped(word(alloc, name)?)))
-}
-
-// Whether both were made, and are equal.
-fn are_same<T: Drop + PartialEq, E: Drop, F: Drop>(
-    built: Result<T, E>,
-    made: Result<T, F>,
-) -> bool {
-    match both(built.ok().ok_or(()), made.ok().ok_or(())) {
-        Ok((built, made)) => built == made,
-        Err(_) => false,
-    }
-}
-
-// Whether this literal was made.
-fn is_truth(made: Made, wanted: bool) -> bool {
-    let wanted: Made = Ok(truth(wanted));
-    are_same(made, wanted)
-}
-
-// Whether two literals make their literal.
-fn are_folded(alloc: Global, a: bool, b: bool) -> bool {
-    is_truth(plain().and(alloc, truth(a), truth(b)), a && b)
-        && is_truth(plain().or(alloc, truth(a), truth(b)), a || b)
-}
+// Two literals make their literal.
+const FOLDED: [(bool, bool, &str, &str); 4] = [
+    (true, true, "true", "true"),
+    (true, false, "false", "true"),
+    (false, true, "false", "true"),
+    (false, false, "false", "false"),
+];
 
 #[test]
-fn two_literals_make_their_literal(rt: HostRuntime) {
-    for (a, b) in [(true, true), (true, false), (false, true), (false, false)] {
-        assert!(rt; are_folded(rt.alloc(), a, b), "{a} {b}");
+fn two_literals_make_their_literal(rt: HostRuntime) -> Result<(), Fail> {
+    let alloc = rt.alloc();
+    for (a, b, both, either) in FOLDED {
+        assert!(rt;
+            is(alloc, plain().and(alloc, truth(a), truth(b)), both)?,
+            "{a} {b}"
+        );
+        assert!(rt;
+            is(alloc, plain().or(alloc, truth(a), truth(b)), either)?,
+            "{a} {b}"
+        );
+    }
+    Ok(())
+}
+
+// What the builder makes of a literal and an unknown.
+fn with_unknown(alloc: Global, is_both: bool) -> Made {
+    let unknown = expr(alloc, "$u")?;
+    if is_both {
+        plain().and(alloc, truth(true), unknown)
+    } else {
+        plain().or(alloc, unknown, truth(true))
     }
 }
 
 #[test]
 fn what_is_no_literal_stays(rt: HostRuntime) -> Result<(), Fail> {
     let alloc = rt.alloc();
-    let (one, other) = both(unknown(alloc, "u"), unknown(alloc, "u"))?;
-    let made = Expr::and(alloc, truth(true), one);
-    assert!(rt; are_same(plain().and(alloc, truth(true), other), made));
-    let (one, other) = both(unknown(alloc, "u"), unknown(alloc, "u"))?;
-    let made = Expr::or(alloc, one, truth(true));
-    assert!(rt; are_same(plain().or(alloc, other, truth(true)), made));
-    let made = Expr::not(alloc, truth(true));
-    assert!(rt; are_same(plain().not(alloc, truth(true)), made));
-    let open = unknown(alloc, "u")?;
-    let built = plain().and(alloc, truth(true), open);
-    assert!(rt; !are_same(built, unknown(alloc, "u")));
+    assert!(rt; is(alloc, with_unknown(alloc, true), "true $u &&")?);
+    assert!(rt; is(alloc, with_unknown(alloc, false), "$u true ||")?);
+    assert!(rt; is(alloc, plain().not(alloc, truth(true)), "true !")?);
+    assert!(rt; !is(alloc, with_unknown(alloc, true), "$u")?);
     Ok(())
 }
 
@@ -96,14 +93,22 @@ fn has(alloc: Global, attr: &str) -> Made {
     plain().has_attr(alloc, principal(), word(alloc, attr)?)
 }
 
+fn get(alloc: Global, attr: &str) -> Made {
+    plain().get_attr(alloc, long(1), word(alloc, attr)?)
+}
+
+fn is_user(alloc: Global) -> Made {
+    plain().is_entity_type(alloc, long(1), entity_type(alloc, "User")?)
+}
+
 #[test]
-fn a_path_of_one_is_a_plain_test(rt: HostRuntime) -> Result<(), Fail> {
+fn attributes_and_types(rt: HostRuntime) -> Result<(), Fail> {
     let alloc = rt.alloc();
-    let test = kept(alloc, has(alloc, "x"))?;
-    let path = kept(alloc, has_path(alloc, "x", &[]))?;
-    assert!(rt; *path == *test);
-    let path = kept(alloc, has_path(alloc, "x", &["y"]))?;
-    assert!(rt; *path != *test);
+    assert!(rt; is(alloc, has(alloc, "x"), "principal has=x")?);
+    assert!(rt; is(alloc, has_path(alloc, "x", &[]), "principal has=x")?);
+    assert!(rt; is(alloc, has_path(alloc, "x", &["y"]), "principal has=x.y")?);
+    assert!(rt; is(alloc, get(alloc, "a"), "1 .a")?);
+    assert!(rt; is(alloc, is_user(alloc), "1 is=User")?);
     Ok(())
 }
 
@@ -126,78 +131,74 @@ fn what_is_made_has_place_and_data(rt: HostRuntime) -> Result<(), Fail> {
     Ok(())
 }
 
+// What the builder makes of 1 and 2 by the method of the operator.
+fn of_one_and_two(alloc: Global, op: BinaryOp) -> Made {
+    let (one, two) = (long(1), long(2));
+    match op {
+        BinaryOp::Eq => plain().is_eq(alloc, one, two),
+        BinaryOp::Less => plain().less(alloc, one, two),
+        BinaryOp::LessEq => plain().lesseq(alloc, one, two),
+        BinaryOp::Add => plain().add(alloc, one, two),
+        BinaryOp::Sub => plain().sub(alloc, one, two),
+        BinaryOp::Mul => plain().mul(alloc, one, two),
+        BinaryOp::In => plain().is_in(alloc, one, two),
+        BinaryOp::Contains => plain().contains(alloc, one, two),
+        BinaryOp::ContainsAll => plain().contains_all(alloc, one, two),
+        BinaryOp::ContainsAny => plain().contains_any(alloc, one, two),
+        BinaryOp::GetTag => plain().get_tag(alloc, one, two),
+        BinaryOp::HasTag => plain().has_tag(alloc, one, two),
+    }
+}
+
+const OPERATORS: [(BinaryOp, &str); 12] = [
+    (BinaryOp::Eq, "1 2 =="),
+    (BinaryOp::Less, "1 2 <"),
+    (BinaryOp::LessEq, "1 2 <="),
+    (BinaryOp::Add, "1 2 +"),
+    (BinaryOp::Sub, "1 2 -"),
+    (BinaryOp::Mul, "1 2 *"),
+    (BinaryOp::In, "1 2 in"),
+    (BinaryOp::Contains, "1 2 contains"),
+    (BinaryOp::ContainsAll, "1 2 containsAll"),
+    (BinaryOp::ContainsAny, "1 2 containsAny"),
+    (BinaryOp::GetTag, "1 2 getTag"),
+    (BinaryOp::HasTag, "1 2 hasTag"),
+];
+
 #[test]
-fn names_are_negations(rt: HostRuntime) {
+fn operators_are_those_of_their_names(rt: HostRuntime) -> Result<(), Fail> {
     let alloc = rt.alloc();
-    let made = Expr::noteq(alloc, long(1), long(2));
-    assert!(rt; are_same(plain().noteq(alloc, long(1), long(2)), made));
-    let made = Expr::greater(alloc, long(1), long(2));
-    assert!(rt; are_same(plain().greater(alloc, long(1), long(2)), made));
-    let made = Expr::greatereq(alloc, long(1), long(2));
-    assert!(rt; are_same(plain().greatereq(alloc, long(1), long(2)), made));
+    for (op, text) in OPERATORS {
+        assert!(rt; is(alloc, of_one_and_two(alloc, op), text)?, "{text}");
+    }
+    Ok(())
 }
 
 #[test]
-fn operators_are_those_of_the_constructors(rt: HostRuntime) {
+fn negations_and_tests(rt: HostRuntime) -> Result<(), Fail> {
     let alloc = rt.alloc();
-    let made = Expr::is_eq(alloc, long(1), long(2));
-    assert!(rt; are_same(plain().is_eq(alloc, long(1), long(2)), made));
-    let made = Expr::less(alloc, long(1), long(2));
-    assert!(rt; are_same(plain().less(alloc, long(1), long(2)), made));
-    let made = Expr::lesseq(alloc, long(1), long(2));
-    assert!(rt; are_same(plain().lesseq(alloc, long(1), long(2)), made));
-    let made = Expr::add(alloc, long(1), long(2));
-    assert!(rt; are_same(plain().add(alloc, long(1), long(2)), made));
-    let made = Expr::sub(alloc, long(1), long(2));
-    assert!(rt; are_same(plain().sub(alloc, long(1), long(2)), made));
-    let made = Expr::mul(alloc, long(1), long(2));
-    assert!(rt; are_same(plain().mul(alloc, long(1), long(2)), made));
-    let made = Expr::neg(alloc, long(1));
-    assert!(rt; are_same(plain().neg(alloc, long(1)), made));
-    let made = Expr::is_in(alloc, long(1), long(2));
-    assert!(rt; are_same(plain().is_in(alloc, long(1), long(2)), made));
-}
-
-#[test]
-fn tests_of_sets_and_tags(rt: HostRuntime) {
-    let alloc = rt.alloc();
-    let made = Expr::contains(alloc, long(1), long(2));
-    assert!(rt; are_same(plain().contains(alloc, long(1), long(2)), made));
-    let made = Expr::contains_all(alloc, long(1), long(2));
-    assert!(rt; are_same(plain().contains_all(alloc, long(1), long(2)), made));
-    let made = Expr::contains_any(alloc, long(1), long(2));
-    assert!(rt; are_same(plain().contains_any(alloc, long(1), long(2)), made));
-    let made = Expr::is_empty(alloc, long(1));
-    assert!(rt; are_same(plain().is_empty(alloc, long(1)), made));
-    let made = Expr::get_tag(alloc, long(1), long(2));
-    assert!(rt; are_same(plain().get_tag(alloc, long(1), long(2)), made));
-    let made = Expr::has_tag(alloc, long(1), long(2));
-    assert!(rt; are_same(plain().has_tag(alloc, long(1), long(2)), made));
+    assert!(rt; is(alloc, plain().noteq(alloc, long(1), long(2)), "1 2 == !")?);
+    assert!(rt; is(alloc, plain().greater(alloc, long(1), long(2)), "1 2 <= !")?);
+    assert!(rt; is(alloc, plain().greatereq(alloc, long(1), long(2)), "1 2 < !")?);
+    assert!(rt; is(alloc, plain().neg(alloc, long(1)), "1 neg")?);
+    assert!(rt; is(alloc, plain().is_empty(alloc, long(1)), "1 isEmpty")?);
+    Ok(())
 }
 
 #[test]
 fn leaves_and_choices(rt: HostRuntime) -> Result<(), Fail> {
     let alloc = rt.alloc();
     let u = Unknown::new_untyped(word(alloc, "u")?);
-    let built = plain().unknown(alloc, u);
-    assert!(rt; are_same(built, unknown(alloc, "u")));
-    let slot: Made = Ok(Expr::slot(SlotId::principal()));
-    assert!(rt; are_same(plain().slot(alloc, SlotId::principal()), slot));
-    let made = Expr::ite(alloc, truth(true), long(1), long(2));
-    assert!(rt; are_same(plain().ite(alloc, truth(true), long(1), long(2)), made));
-    Ok(())
-}
-
-#[test]
-fn attributes_and_types(rt: HostRuntime) -> Result<(), Fail> {
-    let alloc = rt.alloc();
-    let (one, other) = both(word(alloc, "a"), word(alloc, "a"))?;
-    let made = Expr::get_attr(alloc, long(1), one);
-    assert!(rt; are_same(plain().get_attr(alloc, long(1), other), made));
-    let kind = EntityType::from_normalized_str(alloc, "User")?;
-    let copy = kind.clone()?;
-    let made = Expr::is_entity_type(alloc, long(1), copy);
-    assert!(rt; are_same(plain().is_entity_type(alloc, long(1), kind), made));
+    assert!(rt; is(alloc, plain().unknown(alloc, u), "$u")?);
+    assert!(rt;
+        is(
+            alloc,
+            plain().slot(alloc, SlotId::principal()),
+            "?principal"
+        )?
+    );
+    let made = plain().ite(alloc, truth(true), long(1), long(2));
+    assert!(rt; is(alloc, made, "true 1 2 if")?);
     Ok(())
 }
 
@@ -217,22 +218,24 @@ fn longs(alloc: Global, numbers: &[i64]) -> Result<Vec<Expr>, AllocError> {
     Ok(exprs)
 }
 
+fn set(alloc: Global) -> Made {
+    let members = longs(alloc, &[2, 1])?;
+    plain().set(alloc, members).map_err(|_| AllocError)
+}
+
+fn call(alloc: Global) -> Made {
+    let (function, args) = (name(alloc, "rank")?, longs(alloc, &[1])?);
+    let made = plain().call_extension_fn(alloc, function, args);
+    made.map_err(|_| AllocError)
+}
+
 #[test]
 fn sets_records_and_calls(rt: HostRuntime) -> Result<(), Fail> {
     let alloc = rt.alloc();
-    let (one, other) = both(longs(alloc, &[2, 1]), longs(alloc, &[2, 1]))?;
-    let made = Expr::set(alloc, one);
-    assert!(rt; are_same(plain().set(alloc, other), made));
-    let (one, other) = both(longs(alloc, &[1]), longs(alloc, &[1]))?;
-    let name = Name::from_normalized_str(alloc, "rank")?;
-    let copy = name.clone()?;
-    let made = Expr::call_extension_fn(alloc, copy, one);
-    let built = plain().call_extension_fn(alloc, name, other);
-    assert!(rt; are_same(built, made));
-    let sorted = fields(alloc, &[("a", 2), ("b", 1)]);
-    let (sorted, turned) = both(sorted, fields(alloc, &[("b", 1), ("a", 2)]))?;
-    let made = Expr::record(alloc, sorted);
-    assert!(rt; are_same(plain().record(alloc, turned), made));
+    assert!(rt; is(alloc, set(alloc), "2 1 set=2")?);
+    assert!(rt; is(alloc, call(alloc), "1 call=rank/1")?);
+    let turned = fields(alloc, &[("b", 1), ("a", 2)])?;
+    assert!(rt; is(alloc, plain().record(alloc, turned), "2 1 record=a,b")?);
     Ok(())
 }
 
@@ -251,13 +254,14 @@ fn refusal<T: Drop, E: Drop>(made: Result<T, E>) -> Option<E> {
     made.err()
 }
 
-#[test]
-fn patterns_are_kept(rt: HostRuntime) -> Result<(), Fail> {
-    let alloc = rt.alloc();
+fn like(alloc: Global) -> Made {
     let elems = vec![in alloc; PatternElem::Char('f'), PatternElem::Wildcard]?;
     let pattern = Pattern::new(alloc, elems)?;
-    let copy = pattern.clone()?;
-    let built = plain().like(alloc, long(1), copy);
-    assert!(rt; are_same(built, Expr::like(alloc, long(1), pattern)));
+    plain().like(alloc, long(1), pattern)
+}
+
+#[test]
+fn patterns_are_kept(rt: HostRuntime) -> Result<(), Fail> {
+    assert!(rt; is(rt.alloc(), like(rt.alloc()), "1 like=f*")?);
     Ok(())
 }

@@ -1,0 +1,52 @@
+//! Examples of the walk that builds anew, and of what is built in the place of an unknown.
+
+use cedar_expr_builders::expr_builder::ExprBuilder;
+use cedar_expr_leaves::{Literal, Var};
+use cedar_expr_names::Loc;
+use cedar_expr_plain_builder::PlainBuilder;
+use cedar_expr_rebuilding::{BuildUnknown, KeepUnknowns, build_with};
+use cedar_expr_trees::{Expr, Unknown};
+use cedar_test_helpers::{kept, shared};
+use std::alloc::{AllocError, Global};
+use std::rc::RcStr;
+use std::test::Fail;
+
+fn named(alloc: Global) -> Result<Unknown, AllocError> {
+    Ok(Unknown::new_untyped(RcStr::from_str(alloc, "u")?))
+}
+
+fn conjunction(alloc: Global) -> Result<Expr, AllocError> {
+    let right = Expr::unknown(named(alloc)?);
+    Expr::and(alloc, Expr::var(Var::Principal), right)
+}
+
+#[test]
+fn the_walk_keeps_unknowns(rt: HostRuntime) -> Result<(), Fail> {
+    let alloc = rt.alloc();
+    let e = kept(alloc, conjunction(alloc))?;
+    let again = build_with::<PlainBuilder, (), KeepUnknowns>(alloc, &e, &KeepUnknowns);
+    assert!(rt; *kept(alloc, again)? == *e);
+    Ok(())
+}
+
+#[test]
+fn an_unknown_is_built_at_the_place_of_the_builder(rt: HostRuntime) -> Result<(), Fail> {
+    let alloc = rt.alloc();
+    let unknown = named(alloc)?;
+    let builder = PlainBuilder::new().with_source_loc(Loc::new(1, 2));
+    let made = kept(alloc, KeepUnknowns.build_unknown(alloc, builder, &unknown))?;
+    let want = shared(alloc, Expr::unknown(named(alloc)?))?;
+    assert!(rt; *made == *want && made.source_loc() == Some(Loc::new(1, 2)));
+    Ok(())
+}
+
+#[test]
+fn what_the_plain_builder_makes_stands_at_its_place(rt: HostRuntime) -> Result<(), Fail> {
+    let place = Loc::new(3, 5);
+    let builder = PlainBuilder::new().with_source_loc(place);
+    let made = kept(rt.alloc(), builder.val(rt.alloc(), Literal::from(1)))?;
+    assert!(rt; made.source_loc() == Some(place));
+    let moved = PlainBuilder::new().with_maybe_source_loc(made.source_loc());
+    assert!(rt; moved.loc() == Some(place));
+    Ok(())
+}
