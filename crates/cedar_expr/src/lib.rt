@@ -102,14 +102,17 @@ pub use expr::{
     ExprValidationError, ExpressionConstructionError, NonEmpty, Slot, SlotId, Substitute,
     SubstitutionError, Unknown, Var,
 };
-pub use expr_builder::{BuildFault, Rebuild};
+pub use expr_builder::{BuildFault, BuildUnknown, KeepUnknowns, PlainBuilder, Rebuild, build_with};
 pub use expr_iterator::{ExprIterator, Slots, Unknowns};
 pub use extension::{
-    CallFault, CallStyle, ExtValue, Extension, ExtensionCall, ExtensionFunction,
-    ExtensionOutputValue, ExtensionValue, InternalExtensionValue, RepresentableExtensionValue,
+    CallFault, CallStyle, ExtTypes, ExtValue, Extension, ExtensionCall, ExtensionFunction,
+    ExtensionOutputValue, ExtensionValue, Func, InternalExtensionValue,
+    RepresentableExtensionValue,
 };
 pub use extensions::{
     ExtTable, ExtensionFunctionLookupError, ExtensionInitializationError, Extensions,
+    FuncDoesNotExistError, FuncMultiplyDefinedError, MultipleConstructorsSameSignatureError,
+    TableTypes,
 };
 pub use id::{AnyId, Id, UnreservedId, is_normalized_ident};
 pub use literal::{InputInteger, Integer, Literal};

@@ -1,9 +1,10 @@
--- A stored function that always fails as one of the same extension answers alike.
-use Rattle.std.proofs.Common.{◌≡◌, refl, true, Option, Some, None, option_map, subst}
+-- A stored function that always fails as one of the same extension, or always leaves the same unknown, answers alike.
+use Rattle.std.proofs.Common.{◌≡◌, refl, true, Option, Some, None, option_map, sym, subst}
 use Rattle.std.specs.Option.{IfSome}
+use Rattle.std.proofs.lemmas.Slice.Eq.{bytes_eq-Decides}
 use Rattle.std.proofs.lemmas.Option.{none-some, same_Some}
-use Rattle.cedar_expr_model.specs.Name.{Name}
-use Rattle.cedar_expr_model.specs.Whole.Table.{Called, fails}
+use Rattle.cedar_expr_model.specs.Name.{Text, Name}
+use Rattle.cedar_expr_model.specs.Whole.Table.{Called, fails, leaves}
 use Rattle.cedar_expr_model.proofs.Equality.{name_eq_same}
 use Rattle.cedar_expr_functions.specs.Answers.{called_eq, agree}
 
@@ -17,3 +18,13 @@ fails_alike n (Some c) None h k = refl
 fails_alike None (Some c) (Some d) h k = absurd (none-some c h)
 fails_alike (Some n) (Some c) (Some d) h k =
     subst (λ e. called_eq e d ≡ true) (same_Some _ _ h) (subst (λ e. called_eq (fails n) e ≡ true) (same_Some _ _ k) (name_eq_same n))
+
+-- where there is an answer, it leaves the unknown of this name
+abbrev pub LeavesBy : Text → Option Called → Type 0
+LeavesBy n o = IfSome o (λ c. c ≡ leaves n)
+
+pub leaves_alike : (n : Text) (o p : Option Called) → LeavesBy n o → LeavesBy n p → agree o p ≡ true
+leaves_alike n None p h k = refl
+leaves_alike n (Some c) None h k = refl
+leaves_alike n (Some c) (Some d) h k =
+    subst (λ e. called_eq e d ≡ true) (sym h) (subst (λ e. called_eq (leaves n) e ≡ true) (sym k) ((bytes_eq-Decides n n).1 refl))

@@ -7,21 +7,15 @@ use cedar_expr_checks::{CheckExpr, ExprValidationError};
 use cedar_expr_functions::{
     CallFault, CallStyle, Extension, ExtensionFunction, ExtensionOutputValue, Extensions, Func,
 };
-use cedar_expr_leaves::{Literal, SlotId, Var};
-use cedar_expr_names::{Eid, EntityType, EntityUID, Name};
-use cedar_expr_trees::{Expr, NonEmpty, Unknown};
+use cedar_expr_names::Name;
 use cedar_expr_values::{ExtValue, Type, Value};
-use std::alloc::Global;
-use std::rc::RcStr;
+use cedar_test_exprs::{expr, name};
+use std::alloc::{AllocError, Global};
 use std::test::Fail;
 
 type V = Value<ExtValue>;
 
-fn name(alloc: Global, text: &str) -> Result<Name, Fail> {
-    Ok(Name::from_normalized_str(alloc, text)?)
-}
-
-fn rank_type(alloc: Global) -> Result<Type, Fail> {
+fn rank_type(alloc: Global) -> Result<Type, AllocError> {
     Ok(Type::Extension {
         name: name(alloc, "rank")?,
     })
@@ -34,184 +28,100 @@ fn exhausted(_alloc: Global, _args: &[V]) -> Result<ExtensionOutputValue, CallFa
     Err(CallFault::OutOfMemory)
 }
 
-fn text(alloc: Global, text: &str) -> Result<Expr, Fail> {
-    Ok(Expr::val(Literal::from_str(alloc, text)?))
-}
-
-fn long(n: i64) -> Expr {
-    Expr::val(Literal::from(n))
-}
-
-fn truth(b: bool) -> Expr {
-    Expr::val(Literal::from(b))
-}
-
-fn call(alloc: Global, function: &str, count: usize) -> Result<Expr, Fail> {
-    let mut args = Vec::new(alloc);
-    for _ in 0..count {
-        args.push(text(alloc, "a")?)?;
+// What is wrong with the calls of an expression; nothing is the empty text.
+fn refusal(alloc: Global, text: &str, table: &Extensions<'_>) -> Result<String, AllocError> {
+    match expr(alloc, text)?.try_validate(alloc, table) {
+        Ok(()) => Ok(String::new(alloc)),
+        Err(fault) => fault.to_string(alloc),
     }
-    Ok(Expr::call_extension_fn(alloc, name(alloc, function)?, args)?)
 }
 
-fn unknown(alloc: Global) -> Result<Expr, Fail> {
-    Ok(Expr::unknown(Unknown::new_untyped(RcStr::from_str(alloc, "u")?)))
-}
+// Expressions, each with the text of what is wrong with its calls. Of two wrong calls the left one is named, and of a wrong call in a
+// wrong call the outer one.
+const CHECKED: [(&str, &str); 9] = [
+    ("\"a call=rank/1", ""),
+    (
+        "call=rank/0",
+        "wrong number of arguments provided to extension function `rank`: expected 1, got 0",
+    ),
+    (
+        "\"a \"a call=rank/2",
+        "wrong number of arguments provided to extension function `rank`: expected 1, got 2",
+    ),
+    ("\"a call=least/1", ""),
+    ("\"a \"a \"a call=least/3", ""),
+    (
+        "call=least/0",
+        "wrong number of arguments provided to extension function `least`: expected 1, got 0",
+    ),
+    (
+        "\"a call=none/1",
+        "extension function `none` does not exist",
+    ),
+    (
+        "\"a \"a call=rank/2 ! call=none/0 &&",
+        "wrong number of arguments provided to extension function `rank`: expected 1, got 2",
+    ),
+    (
+        "call=rank/0 call=none/1",
+        "extension function `none` does not exist",
+    ),
+];
 
-fn uid(alloc: Global) -> Result<Expr, Fail> {
-    let kind = EntityType::from_normalized_str(alloc, "User")?;
-    let uid = EntityUID::from_components(kind, Eid::from_str(alloc, "a")?, None);
-    Ok(Expr::val(Literal::from_entity_uid(alloc, uid)?))
-}
-
-// Calls with their count of arguments, and the text of what is wrong.
-fn calls_are_counted(alloc: Global, table: &Extensions<'_>) -> Result<(), Fail> {
-    let none = "extension function `none` does not exist";
-    let of_rank =
-        "wrong number of arguments provided to extension function `rank`: expected 1, got";
-    let of_least =
-        "wrong number of arguments provided to extension function `least`: expected 1, got";
-    for (function, count, refusal) in [
-        ("rank", 1, None),
-        ("rank", 0, Some((of_rank, " 0"))),
-        ("rank", 2, Some((of_rank, " 2"))),
-        ("least", 1, None),
-        ("least", 3, None),
-        ("least", 0, Some((of_least, " 0"))),
-        ("none", 1, Some((none, ""))),
-    ] {
-        let checked = call(alloc, function, count)?.try_validate(alloc, table);
-        match (checked, refusal) {
-            (Ok(()), None) => {}
-            (Err(fault), Some((front, back))) => {
-                let wanted = format!(in alloc; "{front}{back}")?;
-                if format!(in alloc; "{fault}")?.as_str() != wanted.as_str() {
-                    return Err(Fail::from(function));
-                }
-            }
-            _ => return Err(Fail::from(function)),
+fn calls_are_checked(alloc: Global, table: &Extensions<'_>) -> Result<(), Fail> {
+    for (text, wanted) in CHECKED {
+        if refusal(alloc, text, table)?.as_str() != wanted {
+            return Err(Fail::from(text));
         }
     }
     Ok(())
 }
 
-// The text of what is wrong with the expression's calls.
-fn refusal(alloc: Global, e: &Expr, table: &Extensions<'_>) -> Result<String, Fail> {
-    match e.try_validate(alloc, table) {
-        Ok(()) => Err(Fail::from("all calls are right")),
-        Err(fault) => Ok(fault.to_string(alloc)?),
+// Expressions, each with the text of the type that it shows; of one that shows none the empty text.
+const SHOWN: [(&str, &str); 29] = [
+    ("true", "bool"),
+    ("1", "long"),
+    ("\"a", "string"),
+    ("User::a", "(entity of type `User`)"),
+    ("principal", ""),
+    ("?principal", ""),
+    ("$u", ""),
+    ("$u:Set", "set"),
+    ("$u 1 2 if", "long"),
+    ("$u 1 true if", ""),
+    ("$u 1 $u if", ""),
+    ("$u 2 &&", "bool"),
+    ("$u 2 ||", "bool"),
+    ("\"a call=rank/1", "rank"),
+    ("\"a call=least/1", "long"),
+    ("\"a call=open/1", ""),
+    ("\"a call=none/1", ""),
+    ("1 !", "bool"),
+    ("1 neg", "long"),
+    ("1 isEmpty", "bool"),
+    ("1 2 ==", "bool"),
+    ("1 2 +", "long"),
+    ("1 2 getTag", ""),
+    ("1 2 hasTag", "bool"),
+    ("1 .a", ""),
+    ("1 has=a", "bool"),
+    ("1 has=a.a", "bool"),
+    ("set=0", "set"),
+    ("record=", "record"),
+];
+
+// The text of the type that an expression shows; of none the empty text.
+fn shown(alloc: Global, text: &str, table: &Extensions<'_>) -> Result<String, AllocError> {
+    match expr(alloc, text)?.try_type_of(table)? {
+        Some(ty) => ty.to_string(alloc),
+        None => Ok(String::new(alloc)),
     }
 }
 
-// Of two wrong calls the left one is named, and of a wrong call in a wrong call the outer one.
-fn the_first_wrong_call_is_named(alloc: Global, table: &Extensions<'_>) -> Result<(), Fail> {
-    let left = Expr::not(alloc, call(alloc, "rank", 2)?)?;
-    let both = Expr::and(alloc, left, call(alloc, "none", 0)?)?;
-    let text = refusal(alloc, &both, table)?;
-    let wanted =
-        "wrong number of arguments provided to extension function `rank`: expected 1, got 2";
-    if text.as_str() != wanted {
-        return Err(Fail::from("another fault of the left"));
-    }
-    let inner = vec![in alloc; call(alloc, "rank", 0)?]?;
-    let outer = Expr::call_extension_fn(alloc, name(alloc, "none")?, inner)?;
-    let text = refusal(alloc, &outer, table)?;
-    if text.as_str() != "extension function `none` does not exist" {
-        return Err(Fail::from("another fault of the outer"));
-    }
-    Ok(())
-}
-
-// Literals, variables and unknowns with the types that they show.
-fn shown_of_leaves(alloc: Global) -> Result<Vec<(Expr, Option<Type>)>, Fail> {
-    let mut rows = Vec::new(alloc);
-    rows.push((truth(true), Some(Type::Bool)))?;
-    rows.push((long(1), Some(Type::Long)))?;
-    rows.push((text(alloc, "a")?, Some(Type::String)))?;
-    rows.push((uid(alloc)?, Some(Type::entity_type(name(alloc, "User")?))))?;
-    rows.push((Expr::var(Var::Principal), None))?;
-    rows.push((Expr::slot(SlotId::principal()), None))?;
-    rows.push((unknown(alloc)?, None))?;
-    let u = Unknown::new_with_type(RcStr::from_str(alloc, "u")?, Type::Set);
-    rows.push((Expr::unknown(u), Some(Type::Set)))?;
-    Ok(rows)
-}
-
-// Choices with the types that they show.
-fn shown_of_choices(alloc: Global) -> Result<Vec<(Expr, Option<Type>)>, Fail> {
-    let mut rows = Vec::new(alloc);
-    rows.push((
-        Expr::ite(alloc, unknown(alloc)?, long(1), long(2))?,
-        Some(Type::Long),
-    ))?;
-    rows.push((
-        Expr::ite(alloc, unknown(alloc)?, long(1), truth(true))?,
-        None,
-    ))?;
-    rows.push((
-        Expr::ite(alloc, unknown(alloc)?, long(1), unknown(alloc)?)?,
-        None,
-    ))?;
-    rows.push((
-        Expr::and(alloc, unknown(alloc)?, long(2))?,
-        Some(Type::Bool),
-    ))?;
-    rows.push((Expr::or(alloc, unknown(alloc)?, long(2))?, Some(Type::Bool)))?;
-    Ok(rows)
-}
-
-// Calls with the types that they show.
-fn shown_of_calls(alloc: Global) -> Result<Vec<(Expr, Option<Type>)>, Fail> {
-    let mut rows = Vec::new(alloc);
-    rows.push((call(alloc, "rank", 1)?, Some(rank_type(alloc)?)))?;
-    rows.push((call(alloc, "least", 1)?, Some(Type::Long)))?;
-    rows.push((call(alloc, "open", 1)?, None))?;
-    rows.push((call(alloc, "none", 1)?, None))?;
-    Ok(rows)
-}
-
-// Operators and tests with the types that they show.
-fn shown_of_operators(alloc: Global) -> Result<Vec<(Expr, Option<Type>)>, Fail> {
-    let mut rows = Vec::new(alloc);
-    let attr = RcStr::from_str(alloc, "a")?;
-    rows.push((Expr::not(alloc, long(1))?, Some(Type::Bool)))?;
-    rows.push((Expr::neg(alloc, long(1))?, Some(Type::Long)))?;
-    rows.push((Expr::is_empty(alloc, long(1))?, Some(Type::Bool)))?;
-    rows.push((Expr::is_eq(alloc, long(1), long(2))?, Some(Type::Bool)))?;
-    rows.push((Expr::add(alloc, long(1), long(2))?, Some(Type::Long)))?;
-    rows.push((Expr::get_tag(alloc, long(1), long(2))?, None))?;
-    rows.push((Expr::has_tag(alloc, long(1), long(2))?, Some(Type::Bool)))?;
-    rows.push((Expr::get_attr(alloc, long(1), attr.clone()?)?, None))?;
-    rows.push((
-        Expr::has_attr(alloc, long(1), attr.clone()?)?,
-        Some(Type::Bool),
-    ))?;
-    let path = NonEmpty {
-        head: attr.clone()?,
-        tail: vec![in alloc; attr]?,
-    };
-    rows.push((
-        Expr::extended_has_attr(alloc, long(1), path)?,
-        Some(Type::Bool),
-    ))?;
-    rows.push((Expr::set(alloc, Vec::new(alloc))?, Some(Type::Set)))?;
-    let fields = Expr::record(alloc, Vec::new(alloc)).map_err(|_| Fail::from("no record"))?;
-    rows.push((fields, Some(Type::Record)))?;
-    Ok(rows)
-}
-
-// Each expression shows its type.
 fn types_are_shown(alloc: Global, table: &Extensions<'_>) -> Result<(), Fail> {
-    for rows in [
-        shown_of_leaves(alloc)?,
-        shown_of_choices(alloc)?,
-        shown_of_calls(alloc)?,
-        shown_of_operators(alloc)?,
-    ] {
-        for (e, ty) in rows {
-            if e.try_type_of(table)? != ty {
-                return Err(Fail::from("another type"));
-            }
+    for (text, wanted) in SHOWN {
+        if shown(alloc, text, table)?.as_str() != wanted {
+            return Err(Fail::from(text));
         }
     }
     Ok(())
@@ -242,24 +152,17 @@ fn expressions_are_checked_against_a_table(rt: HostRuntime) -> Result<(), Fail> 
     let table = Extensions::specific_extensions(alloc, &extensions).map_err(|_| Fail::from(
         "no table",
     ))?;
-    calls_are_counted(alloc, &table)?;
-    the_first_wrong_call_is_named(alloc, &table)?;
+    calls_are_checked(alloc, &table)?;
     types_are_shown(alloc, &table)
 }
 
 #[test]
-fn right_calls_pass(rt: HostRuntime) -> Result<(), Fail> {
+fn a_table_without_functions_has_no_calls(rt: HostRuntime) -> Result<(), Fail> {
     let alloc = rt.alloc();
     let nothing = Extensions::none(alloc);
-    assert!(rt; long(1).try_validate(alloc, &nothing).is_ok());
-    assert!(rt;
-        call(alloc, "rank", 1)?
-            .try_validate(alloc, &nothing)
-            .is_err()
-    );
-    assert_eq!(rt;
-        format!(in alloc; "{}", ExprValidationError::OutOfMemory)?.as_str(),
-        "out of memory"
-    );
+    assert!(rt; refusal(alloc, "1", &nothing)?.is_empty());
+    assert!(rt; !refusal(alloc, "\"a call=rank/1", &nothing)?.is_empty());
+    let want = ExprValidationError::OutOfMemory.to_string(alloc)?;
+    assert!(rt; want.as_str() == "out of memory");
     Ok(())
 }

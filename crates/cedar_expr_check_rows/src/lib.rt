@@ -5,3 +5,5 @@
 mod checks;
 #[cfg(test)]
 mod functions;
+#[cfg(test)]
+mod tables;
