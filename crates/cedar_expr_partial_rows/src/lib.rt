@@ -3,3 +3,5 @@
 
 #[cfg(test)]
 mod partial;
+#[cfg(test)]
+mod places;

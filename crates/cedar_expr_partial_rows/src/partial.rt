@@ -2,10 +2,8 @@
 
 use cedar_expr_partial::*;
 use cedar_expr_trees::{Expr, Unknown, Var};
-use cedar_expr_values::{
-    Eid, EntityType, EntityUID, ExtValue, Literal, Loc, Name, RepresentableExtensionValue, Value,
-    ValueKind,
-};
+use cedar_expr_values::{ExtValue, Literal, Loc, RepresentableExtensionValue, Value, ValueKind};
+use cedar_test_exprs::{expr, name, uid, word};
 use cedar_test_helpers::{both, kept, shared};
 use either::{Left, Right};
 use std::alloc::{AllocError, Global};
@@ -26,24 +24,12 @@ fn written(n: i64) -> Expr {
     Expr::val(Literal::from(n))
 }
 
-fn unknown(alloc: Global, name: &str) -> Result<Expr, AllocError> {
-    Ok(Expr::unknown(Unknown::new_untyped(RcStr::from_str(alloc, name)?)))
-}
-
 fn set(alloc: Global, numbers: &[i64]) -> Result<V, AllocError> {
     let mut values = Vec::new(alloc);
     for n in numbers {
         values.push(long(*n))?;
     }
     Ok(Value::set(alloc, values, None)?)
-}
-
-fn written_set(alloc: Global, numbers: &[i64]) -> Result<Expr, AllocError> {
-    let mut exprs = Vec::new(alloc);
-    for n in numbers {
-        exprs.push(written(*n))?;
-    }
-    Ok(Expr::set(alloc, exprs)?)
 }
 
 // Each of two under its name.
@@ -53,8 +39,8 @@ fn named<T: Drop>(
     second: (&str, Result<T, AllocError>),
 ) -> Result<Vec<(RcStr, T)>, AllocError> {
     let (a, b) = both(first.1, second.1)?;
-    let first = RcStr::from_str(alloc, first.0)?;
-    let second = RcStr::from_str(alloc, second.0)?;
+    let first = word(alloc, first.0)?;
+    let second = word(alloc, second.0)?;
     let mut fields = Vec::new(alloc);
     fields.push((first, a))?;
     fields.push((second, b))?;
@@ -68,20 +54,9 @@ fn listed<T: Drop>(alloc: Global, it: Result<T, AllocError>) -> Result<Vec<T>, A
     Ok(list)
 }
 
-fn written_record(alloc: Global, fields: Vec<(RcStr, Expr)>) -> Result<Expr, AllocError> {
-    Expr::record(alloc, fields).ok().ok_or(AllocError)
-}
-
-fn name(alloc: Global, text: &str) -> Result<Name, AllocError> {
-    Name::from_normalized_str(alloc, text)
-        .ok()
-        .ok_or(AllocError)
-}
-
-fn uid(alloc: Global) -> Result<Literal, AllocError> {
-    let kind = EntityType::from_name(name(alloc, "User")?);
-    let uid = EntityUID::from_components(kind, Eid::from_str(alloc, "alice")?, None);
-    Ok(Literal::from_entity_uid(alloc, uid)?)
+fn uid_value(alloc: Global) -> Result<V, AllocError> {
+    let uid = uid(alloc, "User::alice")?;
+    Ok(Value::from(Literal::from_entity_uid(alloc, uid)?))
 }
 
 fn rank(alloc: Global) -> Result<ExtValue, AllocError> {
@@ -96,22 +71,11 @@ fn extension(alloc: Global) -> Result<V, AllocError> {
     Ok(Value::new(ValueKind::ExtensionValue(value), None))
 }
 
-fn call(alloc: Global, written: &str) -> Result<Expr, AllocError> {
-    let function = name(alloc, "rank_of")?;
-    let args = vec![in alloc; Expr::val(Literal::from_str(alloc, written)?)]?;
-    Ok(Expr::call_extension_fn(alloc, function, args)?)
-}
-
 // A record of the set of the set of 3, and of 1.
 fn nested(alloc: Global) -> Result<V, AllocError> {
     let inner = Value::set(alloc, listed(alloc, set(alloc, &[3]))?, None);
     let fields = named(alloc, ("b", inner), ("a", Ok(long(1))))?;
     Value::record(alloc, fields, None)
-}
-
-fn written_nested(alloc: Global) -> Result<Expr, AllocError> {
-    let inner = Expr::set(alloc, listed(alloc, written_set(alloc, &[3]))?);
-    written_record(alloc, named(alloc, ("a", Ok(written(1))), ("b", inner))?)
 }
 
 // Whether the value is written as this expression, as a value, as a kind and as a partial value.
@@ -133,35 +97,23 @@ fn is_read(alloc: Global, expr: &Expr, value: &V) -> Result<bool, AllocError> {
     Ok(*kind == *value.value_kind() && *read == *value)
 }
 
-// Both, where both were made.
-fn is_both(alloc: Global, value: Result<V, AllocError>, expr: Result<Expr, AllocError>) -> bool {
-    match both(kept(alloc, value), kept(alloc, expr)) {
-        Ok((value, expr)) => {
-            matches!(is_written(alloc, &value, &expr), Ok(true))
-                && matches!(is_read(alloc, &expr, &value), Ok(true))
-        }
-        Err(_) => false,
-    }
-}
-
-fn uid_value(alloc: Global) -> Result<V, AllocError> {
-    Ok(Value::from(uid(alloc)?))
-}
-
-fn written_uid(alloc: Global) -> Result<Expr, AllocError> {
-    Ok(Expr::val(uid(alloc)?))
+// Whether the value is written as the expression of this text, and is read of it again.
+fn is_both(alloc: Global, value: Result<V, AllocError>, text: &str) -> Result<bool, AllocError> {
+    let value = kept(alloc, value)?;
+    let written = kept(alloc, expr(alloc, text))?;
+    Ok(is_written(alloc, &value, &written)? && is_read(alloc, &written, &value)?)
 }
 
 #[test]
-fn values_are_written_and_read_again(rt: HostRuntime) {
+fn values_are_written_and_read_again(rt: HostRuntime) -> Result<(), Fail> {
     let alloc = rt.alloc();
-    assert!(rt; is_both(alloc, Ok(long(7)), Ok(written(7))));
-    assert!(rt; is_both(alloc, uid_value(alloc), written_uid(alloc)));
-    assert!(rt; is_both(alloc, set(alloc, &[]), written_set(alloc, &[])));
-    assert!(rt; is_both(alloc, set(alloc, &[2, 1, 2]), written_set(alloc, &[1, 2])));
-    assert!(rt; is_both(alloc, nested(alloc), written_nested(alloc)));
-    let empty = written_record(alloc, Vec::new(alloc));
-    assert!(rt; is_both(alloc, Value::empty_record(alloc, None), empty));
+    assert!(rt; is_both(alloc, Ok(long(7)), "7")?);
+    assert!(rt; is_both(alloc, uid_value(alloc), "User::alice")?);
+    assert!(rt; is_both(alloc, set(alloc, &[]), "set=0")?);
+    assert!(rt; is_both(alloc, set(alloc, &[2, 1, 2]), "1 2 set=2")?);
+    assert!(rt; is_both(alloc, nested(alloc), "1 3 set=1 set=1 record=a,b")?);
+    assert!(rt; is_both(alloc, Value::empty_record(alloc, None), "record=")?);
+    Ok(())
 }
 
 // An extension value with a call of its own.
@@ -193,12 +145,12 @@ fn extension_values_are_written_as_their_calls(rt: HostRuntime) -> Result<(), Fa
     let alloc = rt.alloc();
     let value = kept(alloc, extension(alloc))?;
     let made = kept(alloc, Expr::from_value(alloc, value.as_ref()))?;
-    let called = kept(alloc, call(alloc, "07"))?;
+    let called = kept(alloc, expr(alloc, "\"07 call=rank_of/1"))?;
     assert!(rt; *made == *called);
     assert!(rt; is_refused(alloc, &made, None));
     let value = kept(alloc, represented(alloc, "7"))?;
     let made = kept(alloc, Expr::from_value(alloc, value.as_ref()))?;
-    let called = kept(alloc, call(alloc, "7"))?;
+    let called = kept(alloc, expr(alloc, "\"7 call=rank_of/1"))?;
     assert!(rt; *made == *called);
     Ok(())
 }
@@ -231,18 +183,6 @@ fn shows<T: Display>(alloc: Global, it: &T, want: &str) -> Result<bool, Fail> {
     Ok(it.to_string(alloc)?.as_str() == want)
 }
 
-// A set of a number and an unknown.
-fn mixed_set(alloc: Global) -> Result<Expr, AllocError> {
-    let (number, open) = both(Ok(written(1)), unknown(alloc, "u"))?;
-    Expr::set(alloc, vec![in alloc; number, open]?)
-}
-
-// A record of a number and a negation.
-fn mixed_record(alloc: Global) -> Result<Expr, AllocError> {
-    let negated = Expr::not(alloc, written(1));
-    written_record(alloc, named(alloc, ("a", Ok(written(1))), ("b", negated))?)
-}
-
 #[test]
 fn what_is_no_value(rt: HostRuntime) -> Result<(), Fail> {
     let alloc = rt.alloc();
@@ -252,24 +192,24 @@ fn what_is_no_value(rt: HostRuntime) -> Result<(), Fail> {
         Expr::var(Var::Principal).with_maybe_source_loc(place),
     )?;
     assert!(rt; is_refused(alloc, &e, place));
-    let e = kept(alloc, mixed_set(alloc))?;
-    assert!(rt; is_refused(alloc, &e, None));
-    let e = kept(alloc, mixed_record(alloc))?;
-    assert!(rt; is_refused(alloc, &e, None));
+    for text in ["1 $u set=2", "1 1 ! record=a,b"] {
+        let e = kept(alloc, expr(alloc, text))?;
+        assert!(rt; is_refused(alloc, &e, None));
+    }
     assert!(rt; shows(alloc, &NotValue::NotValue { loc: place }, "not a value")?);
     assert!(rt; shows(alloc, &NotValue::OutOfMemory, "out of memory")?);
     Ok(())
 }
 
 fn unknown_part(alloc: Global, name: &str) -> Result<Part, AllocError> {
-    Ok(Part::unknown(Unknown::new_untyped(RcStr::from_str(alloc, name)?)))
+    Ok(Part::unknown(Unknown::new_untyped(word(alloc, name)?)))
 }
 
 #[test]
 fn partial_values(rt: HostRuntime) -> Result<(), Fail> {
     let alloc = rt.alloc();
     let part = kept(alloc, unknown_part(alloc, "u"))?;
-    let same = shared(alloc, Part::from(unknown(alloc, "u")?))?;
+    let same = shared(alloc, Part::from(expr(alloc, "$u")?))?;
     let one = shared(alloc, Part::from(long(1)))?;
     assert!(rt; *part == *same && *part != *one);
     let copy = kept(alloc, Part::clone(&part))?;
@@ -297,7 +237,7 @@ fn an_unknown_is_no_value(rt: HostRuntime) -> Result<(), Fail> {
     let text = "value contains a residual expression";
     let fault = shared(alloc, left_of(alloc, "u")?)?;
     assert!(rt; shows(alloc, fault.as_ref(), text)?);
-    let open = kept(alloc, unknown(alloc, "u"))?;
+    let open = kept(alloc, expr(alloc, "$u"))?;
     let PartialValueToValueError::ContainsUnknown(left) = fault.as_ref();
     assert!(rt; *left.residual() == *open && shows(alloc, left, text)?);
     let fault = PartialValueToValueError::from(ContainsUnknown::new(written(2)));
