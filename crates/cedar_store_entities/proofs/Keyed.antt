@@ -10,20 +10,19 @@ use Rattle.cedar_expr_names.specs.Views.{uid_of}
 use Rattle.cedar_expr_names.specs.declared.entity.EntityUID.{EntityUID}
 use Rattle.cedar_expr_names.proofs.Equality.{uids_eq_is}
 use Rattle.cedar_expr_model.specs.Uid.{Uid, uid_eq}
-use Rattle.cedar_expr_model.specs.Whole.Made.{Made}
 use Rattle.cedar_expr_model.specs.Whole.Value.{V}
 use Rattle.cedar_store_model.specs.Whole.World as model
 use Rattle.cedar_store_model.specs.Whole.World.{Found, held, missing, not_loaded}
 use Rattle.cedar_store_model.specs.Whole.Store.{Extent, whole, partial, Store, found_as, if_uid, look_up}
-use Rattle.cedar_store_entities.specs.Views.{entity_uid, entity_seen, entity_of, entity_pair, bare_entity}
-use Rattle.cedar_store_entities.specs.StoreParts.{keys_in, uids_in, entities_in, made_in}
+use Rattle.cedar_store_entities.specs.Views.{entity_uid, entity_of, entity_pair, entity_kept, kept_pair}
+use Rattle.cedar_store_entities.specs.StoreParts.{keys_in, uids_in, entities_in, kept_in}
 use Rattle.cedar_store_entities.specs.declared.entity.Entity.{Entity}
 use Rattle.cedar_store_entities.proofs.Uids.{same_uid, each_is_uid}
 
 -- what stands under keys
-pub map_values : (es : List (EntityUID × Entity)) → map entity_pair (map (λ e. e.1) es) ≡ map (λ e. entity_pair e.1) es
-map_values [] = refl
-map_values (e ∷ es) = ap (λ ys. entity_pair e.1 ∷ ys) (map_values es)
+pub map_values : {A : Type 0} (see : Entity → A) (es : List (EntityUID × Entity)) → map see (map (λ e. e.1) es) ≡ map (λ e. see e.1) es
+map_values see [] = refl
+map_values see (e ∷ es) = ap (λ ys. see e.1 ∷ ys) (map_values see es)
 
 some_first : {A : Type 0} (b : Bool) (x : A) (o : Option A) (t : Bool) → is_some o ≡ t → is_some (cond b (Some x) o) ≡ (b || t)
 some_first true x o t h = refl
@@ -52,6 +51,9 @@ more_uids es more u x m = ap uids_in m ∙ map-append (λ (e : EntityUID × Enti
 
 pub more_entities : (es more : List (EntityUID × Entity)) (u : EntityUID) (x : Entity) → more ≡ es ++ (u, x) ∷ [] → entities_in more ≡ entities_in es ++ entity_pair x ∷ []
 more_entities es more u x m = ap entities_in m ∙ map-append (λ (e : EntityUID × Entity). entity_pair e.1) es ((u, x) ∷ [])
+
+pub more_kept : (es more : List (EntityUID × Entity)) (u : EntityUID) (x : Entity) → more ≡ es ++ (u, x) ∷ [] → kept_in more ≡ kept_in es ++ kept_pair x ∷ []
+more_kept es more u x m = ap kept_in m ∙ map-append (λ (e : EntityUID × Entity). kept_pair e.1) es ((u, x) ∷ [])
 
 -- what a look-up finds
 heads : (a b : Uid) (as_ bs : List Uid) → a ∷ as_ ≡ b ∷ bs → a ≡ b
@@ -83,10 +85,10 @@ answered x es u o h = ap (λ b. cond b (found_as x (lookup (uid_eq (uid_of u)) (
 
 -- what it answers where an entity is found, and where none is
 pub stored : (x : Extent) (es : List (EntityUID × Entity)) (u : EntityUID) (r : Option (Bor Entity)) (e : Bor Entity) → keys_in es ≡ uids_in es → option_copied r ≡ lookup (same_uid u) es → r ≡ Some e
-    → (look_up (record { extent = x; entities = entities_in es }) (uid_of u) ≡ held (entity_of e.now)) × (lookup (uid_eq (uid_of u)) (made_in es) ≡ Some (entity_seen e.now))
+    → (look_up (record { extent = x; entities = entities_in es }) (uid_of u) ≡ held (entity_of e.now)) × (lookup (uid_eq (uid_of u)) (kept_in es) ≡ Some (entity_kept e.now))
 stored x es u r e n h k = (
   answered x es u (Some (entity_of e.now)) (found_is entity_of u es r n h ∙ ap (λ (o : Option (Bor Entity)). option_map entity_of (option_copied o)) k),
-  found_is entity_seen u es r n h ∙ ap (λ (o : Option (Bor Entity)). option_map entity_seen (option_copied o)) k,
+  found_is entity_kept u es r n h ∙ ap (λ (o : Option (Bor Entity)). option_map entity_kept (option_copied o)) k,
 )
 
 pub not_stored : (x : Extent) (es : List (EntityUID × Entity)) (u : EntityUID) (r : Option (Bor Entity)) → keys_in es ≡ uids_in es → option_copied r ≡ lookup (same_uid u) es → r ≡ None → look_up (record { extent = x; entities = entities_in es }) (uid_of u) ≡ found_as x None

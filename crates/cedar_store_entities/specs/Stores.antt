@@ -1,13 +1,13 @@
 -- What code stores are as the model's, and what they answer.
 -- Rule: the store (docs/RULES.md).
-use Rattle.std.specs.Prelude.{◌≡◌, Some}
+use Rattle.std.specs.Prelude.{◌≡◌, List, Some}
 use Rattle.std.specs.Map.{lookup}
 use Rattle.cedar_expr_model.specs.Uid.{Uid, uid_eq}
 use Rattle.cedar_expr_trees.specs.Trees.{tree_of}
 use Rattle.cedar_store_model.specs.Whole.World.{held, missing, not_loaded}
 use Rattle.cedar_store_model.specs.Whole.Store.{Extent, whole, partial, Store, look_up, stand_in}
-use Rattle.cedar_store_entities.specs.Views.{entity_of, entity_seen}
-use Rattle.cedar_store_entities.specs.StoreParts.{entities_in, made_in}
+use Rattle.cedar_store_entities.specs.Views.{Kept, entity_of, entity_kept}
+use Rattle.cedar_store_entities.specs.StoreParts.{entities_in, kept_in}
 use Rattle.cedar_store_entities.specs.declared.entity.Entity.{Entity}
 use Rattle.cedar_store_entities.specs.declared.entities.Entities.{Entities}
 use Rattle.cedar_store_entities.specs.declared.entities.Mode.{Mode}
@@ -23,8 +23,12 @@ extent_of Partial = partial
 abbrev pub store_seen : Entities → Store
 store_seen s = record { extent = extent_of s.mode; entities = entities_in s.entities.entries }
 
--- What the store answers for the uid. The entity that it gives is also the stored one with the calls of its extension values.
+-- all that is kept of each of its entities, by its uid, in their order
+abbrev pub store_made : Entities → List (Uid × Kept)
+store_made s = kept_in s.entities.entries
+
+-- What the store answers for the uid. The entity that it gives is the one that is kept under the uid, in all that is kept of it.
 abbrev pub Dereferences : Entities → Uid → Dereference Entity → Type 0
 Dereferences s u NoSuchEntity = look_up (store_seen s) u ≡ missing
 Dereferences s u (Residual e) = (look_up (store_seen s) u ≡ not_loaded) × (tree_of e ≡ stand_in u)
-Dereferences s u (Data e) = (look_up (store_seen s) u ≡ held (entity_of e.now)) × (lookup (uid_eq u) (made_in s.entities.entries) ≡ Some (entity_seen e.now))
+Dereferences s u (Data e) = (look_up (store_seen s) u ≡ held (entity_of e.now)) × (lookup (uid_eq u) (store_made s) ≡ Some (entity_kept e.now))

@@ -50,6 +50,17 @@ kin_seen e = kin_in e.ancestors.entries
 abbrev pub entity_seen : Entity → model.Entity Made
 entity_seen e = record { attributes = map part_pair e.attrs.entries; tags = map part_pair e.tags.entries; ancestors = uids_of_kin (kin_seen e) }
 
+-- all that its readers tell: the values as they were made, and of each recorded ancestor whether it is a parent
+abbrev pub Kept : Type 0
+Kept = model.Entity Made × Kin
+
+abbrev pub entity_kept : Entity → Kept
+entity_kept e = (entity_seen e, kin_seen e)
+
+-- with its uid
+abbrev pub kept_pair : Entity → Uid × Kept
+kept_pair e = (entity_uid e, entity_kept e)
+
 -- the same without the calls
 abbrev pub bare_part : Part Made → Part V
 bare_part (known m) = known (bare m)

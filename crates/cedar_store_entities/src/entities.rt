@@ -48,14 +48,15 @@ impl Entities {
     ghost use Rattle.cedar_expr_names.specs.Views.{uid_of};
     ghost use Rattle.cedar_expr_model.specs.Uid.{uid_eq};
     ghost use Rattle.cedar_store_model.specs.Whole.Store.{whole, partial, store_of};
-    ghost use Rattle.cedar_store_entities.specs.Views.{entity_uid, entity_pair};
-    ghost use Rattle.cedar_store_entities.specs.StoreParts.{entities_in};
-    ghost use Rattle.cedar_store_entities.specs.Stores.{store_seen, Dereferences};
+    ghost use Rattle.cedar_store_entities.specs.Views.{entity_uid, entity_pair, kept_pair};
+    ghost use Rattle.cedar_store_entities.specs.StoreParts.{entities_in, kept_in};
+    ghost use Rattle.cedar_store_entities.specs.Stores.{store_seen, store_made, Dereferences};
     ghost use Rattle.cedar_store_entities.specs.Refusals.{RefusesUid, RefusesUids};
 
     /// The whole store without entities.
     pub fn new(alloc: Global) -> Entities
-        ensures { store_seen result ≡ record { extent = whole; entities = [] } }
+        ensures seen { store_seen result ≡ record { extent = whole; entities = [] } }
+        ensures kept { store_made result ≡ [] }
     {
         Entities {
             entities: IndexMap::new(alloc),
@@ -66,6 +67,7 @@ impl Entities {
     /// The whole store of these entities. Refuses a uid that stands twice, and answers want of memory.
     pub fn from_entities(alloc: Global, entities: Vec<Entity>) -> Result<Entities, EntitiesError>
         ensures made { IfOk result (λ s. store_of whole (map entity_pair entities.items) ≡ Some (store_seen s)) }
+        ensures kept { IfOk result (λ s. store_made s ≡ map kept_pair entities.items) }
         ensures refused { IfErr result (RefusesUids (map entity_uid entities.items)) }
     {
         let mut store = Entities::new(alloc);
@@ -77,7 +79,8 @@ impl Entities {
 
     /// The same entities as some of a store, of which the others aren't known.
     pub fn partial(self) -> Entities
-        ensures { store_seen result ≡ record (store_seen self) { extent = partial } }
+        ensures seen { store_seen result ≡ record (store_seen self) { extent = partial } }
+        ensures kept { store_made result ≡ store_made self }
     {
         Entities {
             entities: self.entities,
@@ -103,7 +106,8 @@ impl Entities {
 
     /// Goes over the entities, in the order in which they were given.
     pub fn iter(&self) -> Values<'_, EntityUID, Entity>
-        ensures { map entity_pair result ≡ (store_seen self.now).entities }
+        ensures seen { map entity_pair result ≡ (store_seen self.now).entities }
+        ensures kept { map kept_pair result ≡ store_made self.now }
     {
         self.entities.values()
     }
@@ -111,6 +115,7 @@ impl Entities {
     // Puts one more entity behind the others. Refuses a uid that is there.
     fn add(&mut self, entity: Entity) -> Result<(), EntitiesError>
         ensures added { OnOk result (entities_in self.new.entities.entries ≡ entities_in self.old.entities.entries ++ entity_pair entity ∷ []) }
+        ensures kept { OnOk result (kept_in self.new.entities.entries ≡ kept_in self.old.entities.entries ++ kept_pair entity ∷ []) }
         ensures mode { self.new.mode ≡ self.old.mode }
         ensures fresh { OnOk result (list_any (uid_eq (entity_uid entity)) (keys_in self.old.entities.entries) ≡ false) }
         ensures refused { IfErr result (RefusesUid (keys_in self.old.entities.entries) (entity_uid entity)) }

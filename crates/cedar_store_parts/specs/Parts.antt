@@ -1,9 +1,10 @@
 -- What the parts of code policies are as the model's: ids, effects, annotations, scopes and bindings.
 -- Rule: policies and templates (docs/RULES.md).
-use Rattle.std.specs.Prelude.{List, map, Option, Some, None, option_map}
+use Rattle.std.specs.Prelude.{List, [], ◌∷◌, map, Option, Some, None, option_map}
 use Rattle.std.specs.Rc.{rc_str_bytes}
 use Rattle.cedar_expr_names.specs.Views.{any_id_text, type_name_of, uid_of}
 use Rattle.cedar_expr_names.specs.declared.any_id.AnyId.{AnyId}
+use Rattle.cedar_expr_names.specs.declared.loc.Loc.{Loc}
 use Rattle.cedar_expr_model.specs.Name.{Text}
 use Rattle.cedar_expr_model.specs.Uid.{Uid}
 use Rattle.cedar_expr_model.specs.Whole.Tree.{Var, principal, resource, SlotId, principal_slot, resource_slot}
@@ -43,6 +44,16 @@ annotation_pair e = (any_id_text e.0, annotation_text e.1)
 abbrev pub annotations_of : Annotations → List (Text × Text)
 annotations_of a = map annotation_pair a.0.entries
 
+-- the text of an annotation and its place, and the annotation with its name
+abbrev pub annotation_seen : Annotation → Text × Option Loc
+annotation_seen a = (annotation_text a, a.loc)
+
+abbrev pub seen_pair : AnyId × Annotation → Text × (Text × Option Loc)
+seen_pair e = (any_id_text e.0, annotation_seen e.1)
+
+abbrev pub annotations_seen : Annotations → List (Text × (Text × Option Loc))
+annotations_seen a = map seen_pair a.0.entries
+
 -- the variable and the slot of a part of a scope
 abbrev pub part_var : PrincipalOrResource → Var
 part_var Principal = principal
@@ -69,6 +80,28 @@ abbrev pub action_scope_of : ActionConstraint → ActionScope
 action_scope_of asked_action.Any = any_action
 action_scope_of (asked_action.In us) = inside_actions (map (λ u. uid_of u.value) us.items)
 action_scope_of (asked_action.Eq u) = exactly_action (uid_of u.value)
+
+-- the place of what a part of a scope names: that of its slot, and none of a uid
+abbrev pub target_place : EntityReference → Option Loc
+target_place (EUID u) = None
+target_place (Slot l) = l
+
+-- the place of the slot that stands there, where one does
+abbrev pub target_places : EntityReference → List (Option Loc)
+target_places (EUID u) = []
+target_places (Slot l) = l ∷ []
+
+abbrev pub scope_places : PrincipalOrResourceConstraint → List (Option Loc)
+scope_places asked.Any = []
+scope_places (asked.In t) = target_places t
+scope_places (asked.Eq t) = target_places t
+scope_places (asked.Is n) = []
+scope_places (asked.IsIn n t) = target_places t
+
+-- the places that are left where the slot may be bound
+abbrev pub places_left : {A : Type 0} → Option A → List (Option Loc) → List (Option Loc)
+places_left (Some u) ls = []
+places_left None ls = ls
 
 -- what a target names where its slot is bound so, and what is then asked
 abbrev pub filled_target : Option Uid → Target → Target

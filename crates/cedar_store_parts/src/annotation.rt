@@ -7,7 +7,7 @@ ghost use Rattle.std.specs.Rc.{rc_str_bytes};
 ghost use Rattle.std.specs.Str.{bytes_eq};
 ghost use Rattle.cedar_expr_names.specs.Views.{any_id_text};
 ghost use Rattle.cedar_expr_model.specs.Whole.Order.{text_cmp};
-ghost use Rattle.cedar_store_parts.specs.Parts.{annotation_text, annotation_pair, annotations_of};
+ghost use Rattle.cedar_store_parts.specs.Parts.{annotation_text, annotation_pair, annotations_of, annotation_seen, seen_pair, annotations_seen};
 
 use cedar_expr_names::{AnyId, Loc};
 use std::alloc::{AllocError, Global};
@@ -32,7 +32,8 @@ pub struct Annotations(BTreeMap<AnyId, Annotation>);
 impl Annotations {
     /// No annotations.
     pub fn new(alloc: Global) -> Annotations
-        ensures { annotations_of result ≡ [] }
+        ensures texts { annotations_of result ≡ [] }
+        ensures seen { annotations_seen result ≡ [] }
     {
         Annotations(BTreeMap::new(alloc))
     }
@@ -41,6 +42,8 @@ impl Annotations {
     pub fn insert(&mut self, name: AnyId, annotation: Annotation) -> Result<(), AllocError>
         ensures put { OnOk result (annotations_of self.new ≡ insert_entry text_cmp (annotations_of self.old) (any_id_text name) (annotation_text annotation)) }
         ensures unchanged { OnErr result (annotations_of self.new ≡ annotations_of self.old) }
+        ensures seen { OnOk result (annotations_seen self.new ≡ insert_entry text_cmp (annotations_seen self.old) (any_id_text name) (annotation_seen annotation)) }
+        ensures seen_unchanged { OnErr result (annotations_seen self.new ≡ annotations_seen self.old) }
     {
         self.0.insert(name, annotation)?;
         Ok(())
@@ -48,14 +51,16 @@ impl Annotations {
 
     /// The annotation of this name, if there is one.
     pub fn get(&self, name: &AnyId) -> Option<&Annotation>
-        ensures { option_map (λ a. annotation_text a.now) result ≡ lookup (bytes_eq (any_id_text name.now)) (annotations_of self.now) }
+        ensures text { option_map (λ a. annotation_text a.now) result ≡ lookup (bytes_eq (any_id_text name.now)) (annotations_of self.now) }
+        ensures seen { option_map (λ a. annotation_seen a.now) result ≡ lookup (bytes_eq (any_id_text name.now)) (annotations_seen self.now) }
     {
         self.0.get(name)
     }
 
     /// Goes over the annotations, in the order of their names.
     pub fn iter(&self) -> Iter<'_, AnyId, Annotation>
-        ensures { map annotation_pair result ≡ annotations_of self.now }
+        ensures texts { map annotation_pair result ≡ annotations_of self.now }
+        ensures seen { map seen_pair result ≡ annotations_seen self.now }
     {
         self.0.iter()
     }

@@ -1,14 +1,14 @@
 //! What the scope of a policy asks of principal, action and resource.
 
-ghost use Rattle.std.specs.Prelude.{◌≡◌, IfOk, map, option_map};
+ghost use Rattle.std.specs.Prelude.{◌≡◌, [], IfOk, map, option_map};
 ghost use Rattle.cedar_expr_names.specs.Views.{uid_of, type_name_of};
 ghost use Rattle.cedar_expr_model.specs.Whole.Value.{entity};
 ghost use Rattle.cedar_expr_model.specs.Whole.Tree.{lit, var, binary, equal, is_in, is_type};
 ghost use Rattle.cedar_expr_leaves.specs.Slots.{slot_of};
 ghost use Rattle.cedar_expr_leaves.specs.Variables.{var_of};
-ghost use Rattle.cedar_expr_trees.specs.Trees.{tree_of};
+ghost use Rattle.cedar_expr_trees.specs.Trees.{tree_of, place_of};
 ghost use Rattle.cedar_store_model.specs.Whole.Policy.{any, any_action, target_tree, scope_tree, action_tree};
-ghost use Rattle.cedar_store_parts.specs.Parts.{part_var, part_slot, target_of, scope_of, action_scope_of, filled_target, filled};
+ghost use Rattle.cedar_store_parts.specs.Parts.{part_var, part_slot, target_of, target_place, target_places, scope_of, scope_places, action_scope_of, filled_target, filled, places_left};
 
 use cedar_expr_leaves::{Literal, SlotId, Var};
 use cedar_expr_names::{EntityType, EntityUID, Loc};
@@ -61,7 +61,8 @@ pub enum EntityReference {
 impl EntityReference {
     // What is named, as an expression.
     fn as_expr(&self, slot: SlotId) -> Result<Expr, AllocError>
-        ensures { IfOk result (λ e. tree_of e ≡ target_tree (slot_of slot) (target_of self.now)) }
+        ensures tree { IfOk result (λ e. tree_of e ≡ target_tree (slot_of slot) (target_of self.now)) }
+        ensures place { IfOk result (λ e. place_of e ≡ target_place self.now) }
     {
         match self {
             EntityReference::EUID(uid) => Ok(Expr::val(Literal::EntityUID(uid.clone()?))),
@@ -71,7 +72,8 @@ impl EntityReference {
 
     // The same, with the uid that the slot is bound to in the slot's place.
     fn with_filled_slot(&self, uid: Option<&Rc<EntityUID>>) -> Result<EntityReference, AllocError>
-        ensures { IfOk result (λ r. target_of r ≡ filled_target (option_map (λ u. uid_of u.now.value) uid.entry) (target_of self.now)) }
+        ensures target { IfOk result (λ r. target_of r ≡ filled_target (option_map (λ u. uid_of u.now.value) uid.entry) (target_of self.now)) }
+        ensures places { IfOk result (λ r. target_places r ≡ places_left (option_map (λ u. uid_of u.now.value) uid.entry) (target_places self.now)) }
     {
         match (self, uid) {
             (EntityReference::EUID(uid), _) => Ok(EntityReference::EUID(uid.clone()?)),
@@ -123,7 +125,8 @@ impl PrincipalOrResourceConstraint {
         &self,
         uid: Option<&Rc<EntityUID>>,
     ) -> Result<PrincipalOrResourceConstraint, AllocError>
-        ensures { IfOk result (λ c. scope_of c ≡ filled (option_map (λ u. uid_of u.now.value) uid.entry) (scope_of self.now)) }
+        ensures scope { IfOk result (λ c. scope_of c ≡ filled (option_map (λ u. uid_of u.now.value) uid.entry) (scope_of self.now)) }
+        ensures places { IfOk result (λ c. scope_places c ≡ places_left (option_map (λ u. uid_of u.now.value) uid.entry) (scope_places self.now)) }
     {
         match self {
             PrincipalOrResourceConstraint::Any => Ok(PrincipalOrResourceConstraint::Any),
@@ -190,7 +193,8 @@ pub struct PrincipalConstraint {
 impl PrincipalConstraint {
     /// Nothing is asked.
     pub fn any() -> PrincipalConstraint
-        ensures { scope_of result.constraint ≡ any }
+        ensures scope { scope_of result.constraint ≡ any }
+        ensures places { scope_places result.constraint ≡ [] }
     {
         PrincipalConstraint {
             constraint: PrincipalOrResourceConstraint::Any,
@@ -208,7 +212,8 @@ pub struct ResourceConstraint {
 impl ResourceConstraint {
     /// Nothing is asked.
     pub fn any() -> ResourceConstraint
-        ensures { scope_of result.constraint ≡ any }
+        ensures scope { scope_of result.constraint ≡ any }
+        ensures places { scope_places result.constraint ≡ [] }
     {
         ResourceConstraint {
             constraint: PrincipalOrResourceConstraint::Any,

@@ -56,7 +56,7 @@ impl SlotEnv {
 impl Clone for SlotEnv {
     ghost is_clone = { λ b copy. bindings_of copy ≡ bindings_of b };
 
-    /// The same bindings; the uids are shared.
+    /// The same bindings; the uids are shared. Answers want of memory.
     fn clone(&self) -> Result<SlotEnv, AllocError> {
         Ok(SlotEnv {
             principal: shared(&self.principal)?,

@@ -1,5 +1,5 @@
 -- The slots of a template, and the bindings that fit them.
-use Rattle.std.proofs.Common.{◌≡◌, ◌==◌, ◌&&◌, Bool, true, false, cond, ◌||◌, List, [], ◌∷◌, map, Option, Some, None, option_map, not, refl, sym, ap, ◌∙◌}
+use Rattle.std.proofs.Common.{◌≡◌, ◌==◌, ◌&&◌, Bool, true, false, cond, ◌||◌, List, [], ◌∷◌, Option, Some, None, option_map, not, refl, ap, ◌∙◌}
 use Rattle.std.specs.List.{list_any}
 use Rattle.std.specs.Option.{is_some, is_none, option_map_or}
 use Rattle.cedar_expr_leaves.specs.Slots.{slot_of}
@@ -9,7 +9,7 @@ use Rattle.cedar_expr_model.specs.Uid.{Uid}
 use Rattle.cedar_expr_model.specs.Whole.Shape.{slot_rank}
 use Rattle.cedar_expr_model.specs.Whole.Tree.{SlotId, principal_slot, resource_slot}
 use Rattle.cedar_store_model.specs.Whole.Policy.{Policy, SlotBindings, binding_of, has_slot, all_slots}
-use Rattle.cedar_store_model.specs.Whole.PolicySet.{PolicySet, is_taken, template_of, linked, with_policy, id_present, slot_not_bound, slot_not_of_template, no_template, has_link_fault, link}
+use Rattle.cedar_store_model.specs.Whole.PolicySet.{PolicySet, is_taken, template_of, linked, with_policy, link}
 use Rattle.cedar_store_policies.specs.TemplateParts.{slot_ids}
 use Rattle.cedar_store_policies.specs.SetRefusals.{FitsBindings, RefusesBindings, RefusesLink}
 use Rattle.cedar_store_refusals.specs.declared.err.LinkingError.{LinkingError}

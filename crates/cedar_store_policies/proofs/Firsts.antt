@@ -1,5 +1,5 @@
 -- An expression without a first slot has none.
-use Rattle.std.proofs.Common.{◌≡◌, List, [], ◌∷◌, Option, None, Some, option_map, true, refl, sym, ap, ◌∙◌}
+use Rattle.std.proofs.Common.{◌≡◌, List, [], ◌∷◌, Option, None, option_map, true, refl, sym, ap, ◌∙◌}
 use Rattle.cedar_expr_leaves.specs.Slots.{slot_of}
 use Rattle.cedar_expr_leaves.specs.declared.slot.Slot.{Slot}
 use Rattle.cedar_expr_model.specs.Whole.Lists.{is_nil}

@@ -1,11 +1,9 @@
 -- A set that is made of policies, one after the other.
-use Rattle.std.proofs.Common.{◌≡◌, Bool, true, false, cond, List, [], ◌∷◌, ◌++◌, map, Option, Some, None, Result, Ok, Err, IfErr, refl, sym, ap, ◌∙◌, subst}
+use Rattle.std.proofs.Common.{◌≡◌, Bool, true, false, cond, List, [], ◌∷◌, ◌++◌, map, Some, None, Result, Ok, Err, IfErr, sym, ap, ◌∙◌, subst}
 use Rattle.std.proofs.lemmas.List.{map-append}
 use Rattle.std.proofs.lemmas.Slice.Eq.{bytes_eq-Decides}
-use Rattle.std.specs.List.{list_any}
 use Rattle.std.specs.Result.{IsErrAnd}
 use Rattle.std.specs.Str.{bytes_eq}
-use Rattle.cedar_expr_model.specs.Name.{Text}
 use Rattle.cedar_expr_model.specs.Whole.Repeats.{repeated}
 use Rattle.cedar_expr_model.proofs.Lists.{found-Decides}
 use Rattle.cedar_expr_model.proofs.Whole.Repeating.{repeat_is_first}
@@ -13,7 +11,6 @@ use Rattle.cedar_store_model.specs.Whole.OfLaws.Distinct.{has_distinct_ids}
 use Rattle.cedar_store_model.specs.Whole.Policy as model
 use Rattle.cedar_store_model.specs.Whole.PolicySet.{PolicySet, is_taken, with_policy, add_policy}
 use Rattle.cedar_store_model.proofs.Whole.Distinct.{distinct-Decides}
-use Rattle.cedar_store_parts.specs.Parts.{id_text}
 use Rattle.cedar_store_policies.specs.Policies.{policy_of}
 use Rattle.cedar_store_policies.specs.SetParts.{ids_of}
 use Rattle.cedar_store_policies.specs.SetRefusals.{RefusesId, RefusesIds}

@@ -13,7 +13,7 @@ use Rattle.std.specs.declared.rc.Rc.{Rc}
 use Rattle.cedar_expr_model.specs.Name.{Text}
 use Rattle.cedar_store_model.specs.Whole.OfLaws.Distinct.{has_distinct_ids}
 use Rattle.cedar_store_model.specs.Whole.Policy as model
-use Rattle.cedar_store_model.specs.Whole.PolicySet.{PolicySet, is_taken, template_of as find_template, with_policy, add_policy, add_template}
+use Rattle.cedar_store_model.specs.Whole.PolicySet.{is_taken, template_of as find_template, with_policy, add_policy, add_template}
 use Rattle.cedar_store_model.proofs.Whole.Sets.{ids_stay_distinct}
 use Rattle.cedar_store_parts.specs.Parts.{id_text}
 use Rattle.cedar_store_policies.specs.Templates.{template_of}
@@ -135,27 +135,27 @@ heads a b as_ bs e = cc
 tails : (a b : Text) (as_ bs : List Text) → a ∷ as_ ≡ b ∷ bs → as_ ≡ bs
 tails a b as_ bs e = cc
 
--- what is found under a key, seen as a policy, is the first policy of that id
-module _ {A : Type 0} (f : A → model.Policy) where
-  chosen : (s t : Bool) → s ≡ t → (x : A) (o : Option A) (q : Option model.Policy) → option_map f o ≡ q → option_map f (cond s (Some x) o) ≡ cond t (Some (f x)) q
+-- what is found under a key, seen otherwise, is the first of that name
+module _ {A B : Type 0} (f : A → B) (name : B → Text) where
+  chosen : (s t : Bool) → s ≡ t → (x : A) (o : Option A) (q : Option B) → option_map f o ≡ q → option_map f (cond s (Some x) o) ≡ cond t (Some (f x)) q
   chosen s true e x o q h = ap (λ b. option_map f (cond b (Some x) o)) e
   chosen s false e x o q h = ap (λ b. option_map f (cond b (Some x) o)) e ∙ h
 
-  first_found : (k : PolicyID) (es : List (PolicyID × A)) → keys_in es ≡ ids_of (map (λ e. f e.1) es) → option_map f (lookup (λ q. bytes_eq (id_text k) (id_text q)) es) ≡ find (λ p. bytes_eq (id_text k) p.id) (map (λ e. f e.1) es)
+  first_found : (k : PolicyID) (es : List (PolicyID × A)) → keys_in es ≡ map name (map (λ e. f e.1) es) → option_map f (lookup (λ q. bytes_eq (id_text k) (id_text q)) es) ≡ find (λ p. bytes_eq (id_text k) (name p)) (map (λ e. f e.1) es)
   first_found k [] n = refl
   first_found k (e ∷ es) n =
-      chosen (bytes_eq (id_text k) (id_text e.0)) (bytes_eq (id_text k) (f e.1).id) (ap (bytes_eq (id_text k)) (heads _ _ (keys_in es) (ids_of (map (λ (d : PolicyID × A). f d.1) es)) n)) e.1 (lookup (λ q. bytes_eq (id_text k) (id_text q)) es) (find (λ p. bytes_eq (id_text k) p.id) (map (λ (d : PolicyID × A). f d.1) es))
-      (first_found k es (tails _ _ (keys_in es) (ids_of (map (λ (d : PolicyID × A). f d.1) es)) n))
+      chosen (bytes_eq (id_text k) (id_text e.0)) (bytes_eq (id_text k) (name (f e.1))) (ap (bytes_eq (id_text k)) (heads _ _ (keys_in es) (map name (map (λ (d : PolicyID × A). f d.1) es)) n)) e.1 (lookup (λ q. bytes_eq (id_text k) (id_text q)) es) (find (λ p. bytes_eq (id_text k) (name p)) (map (λ (d : PolicyID × A). f d.1) es))
+      (first_found k es (tails _ _ (keys_in es) (map name (map (λ (d : PolicyID × A). f d.1) es)) n))
 
   copied : (r : Option (Bor A)) → option_map f (option_copied r) ≡ option_map (λ y. f y.now) r
   copied None = refl
   copied (Some a) = refl
 
-  found : (k : PolicyID) (es : List (PolicyID × A)) (r : Option (Bor A)) → keys_in es ≡ ids_of (map (λ e. f e.1) es) → option_copied r ≡ lookup (λ q. bytes_eq (id_text k) (id_text q)) es → option_map (λ y. f y.now) r ≡ find (λ p. bytes_eq (id_text k) p.id) (map (λ e. f e.1) es)
+  pub found : (k : PolicyID) (es : List (PolicyID × A)) (r : Option (Bor A)) → keys_in es ≡ map name (map (λ e. f e.1) es) → option_copied r ≡ lookup (λ q. bytes_eq (id_text k) (id_text q)) es → option_map (λ y. f y.now) r ≡ find (λ p. bytes_eq (id_text k) (name p)) (map (λ e. f e.1) es)
   found k es r n h = sym (copied r) ∙ ap (option_map f) h ∙ first_found k es n
 
 pub found_template : (k : PolicyID) (ts : List (PolicyID × Rc Template Global)) (ls : List (PolicyID × Policy)) (r : Option (Bor (Rc Template Global))) → keys_in ts ≡ ids_of (templates_in ts) → option_copied r ≡ lookup (λ q. bytes_eq (id_text k) (id_text q)) ts → option_map (λ y. template_of y.now.value) r ≡ find_template (id_text k) (set_made ts ls)
-found_template k ts ls r n h = found (λ (y : Rc Template Global). template_of y.value) k ts r n h
+found_template k ts ls r n h = found (λ (y : Rc Template Global). template_of y.value) (λ (p : model.Policy). p.id) k ts r n h
 
 pub found_policy : (k : PolicyID) (ts : List (PolicyID × Rc Template Global)) (ls : List (PolicyID × Policy)) (r : Option (Bor Policy)) → keys_in ls ≡ ids_of (policies_in ls) → option_copied r ≡ lookup (λ q. bytes_eq (id_text k) (id_text q)) ls → option_map (λ y. policy_of y.now) r ≡ find_policy (id_text k) (set_made ts ls)
-found_policy k ts ls r n h = found policy_of k ls r n h
+found_policy k ts ls r n h = found policy_of (λ (p : model.Policy). p.id) k ls r n h

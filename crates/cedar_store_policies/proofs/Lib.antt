@@ -2,3 +2,5 @@ mod Firsts
 mod Keyed
 mod Bound
 mod Gathered
+mod Conditions
+mod Seen

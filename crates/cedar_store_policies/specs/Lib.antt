@@ -1,10 +1,12 @@
 pub mod Lists
 pub mod Sets
+pub mod Places
 pub mod TemplateParts
 pub mod Templates
 pub mod Policies
 pub mod Refusals
 pub mod SetParts
+pub mod Seen
 pub mod PolicySets
 pub mod SetRefusals
 pub mod SetLaws

@@ -6,7 +6,8 @@ use Rattle.cedar_expr_names.specs.declared.loc.Loc.{Loc}
 use Rattle.cedar_store_model.specs.Whole.Policy as model
 use Rattle.cedar_store_model.specs.Whole.PolicySet.{linked}
 use Rattle.cedar_store_parts.specs.Parts.{id_text, bindings_of}
-use Rattle.cedar_store_policies.specs.Templates.{template_of, template_loc}
+use Rattle.cedar_store_policies.specs.Places.{Places}
+use Rattle.cedar_store_policies.specs.Templates.{template_of, template_loc, places_of}
 use Rattle.cedar_store_policies.specs.declared.static_policy.StaticPolicy.{StaticPolicy}
 use Rattle.cedar_store_policies.specs.declared.policy.Policy.{Policy}
 
@@ -28,3 +29,10 @@ template_behind p = template_of p.template.value
 
 abbrev pub policy_loc : Policy → Option Loc
 policy_loc p = template_loc p.template.value
+
+-- the places of a policy: those of its template
+abbrev pub static_places : StaticPolicy → Places
+static_places p = places_of p.template
+
+abbrev pub policy_places : Policy → Places
+policy_places p = places_of p.template.value

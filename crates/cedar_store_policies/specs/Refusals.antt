@@ -1,9 +1,11 @@
 -- What the refusals of policies say.
 -- Rule: policies and templates (docs/RULES.md).
-use Rattle.std.specs.Prelude.{◌≡◌, Some}
+use Rattle.std.specs.Prelude.{◌≡◌, List, Option, Some}
 use Rattle.cedar_expr_leaves.specs.Slots.{slot_of}
 use Rattle.cedar_expr_model.specs.Whole.Parts.{slots}
 use Rattle.cedar_expr_model.specs.Whole.Tree.{SlotId}
+use Rattle.cedar_expr_names.specs.declared.loc.Loc.{Loc}
+use Rattle.cedar_expr_trees.specs.Positions.{slot_placed}
 use Rattle.cedar_store_model.specs.Whole.Policy.{Policy, condition}
 use Rattle.cedar_store_policies.specs.Lists.{first_of}
 use Rattle.cedar_store_refusals.specs.declared.err.UnexpectedSlotError.{UnexpectedSlotError}
@@ -13,3 +15,8 @@ use Rattle.cedar_store_refusals.specs.declared.err.UnexpectedSlotError.TheVarian
 abbrev pub RefusesSlot : Policy → UnexpectedSlotError → Type 0
 RefusesSlot p OutOfMemory = Unit {0}
 RefusesSlot p (FoundSlot s) = first_of (slots (condition p)) ≡ Some (slot_of s.id)
+
+-- The same with the place: it is the first of these slots.
+abbrev pub RefusesSlotAt : List (SlotId × Option Loc) → UnexpectedSlotError → Type 0
+RefusesSlotAt ss OutOfMemory = Unit {0}
+RefusesSlotAt ss (FoundSlot s) = first_of ss ≡ Some (slot_placed s)

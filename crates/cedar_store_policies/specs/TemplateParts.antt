@@ -14,6 +14,7 @@ use Rattle.cedar_store_parts.specs.declared.annotation.Annotations.{Annotations}
 use Rattle.cedar_store_parts.specs.declared.constraint.PrincipalConstraint.{PrincipalConstraint}
 use Rattle.cedar_store_parts.specs.declared.constraint.ResourceConstraint.{ResourceConstraint}
 use Rattle.cedar_store_parts.specs.declared.constraint.ActionConstraint.{ActionConstraint}
+use Rattle.cedar_store_policies.specs.Places.{Places, places_made, slots_within}
 use Rattle.cedar_store_policies.specs.declared.template_body.TemplateBody.{TemplateBody}
 
 -- the template of these parts
@@ -32,6 +33,10 @@ template_made id effect annotations p a r body = record {
 abbrev pub made_of : TemplateBody → model.Policy
 made_of t =
     template_made t.id t.effect t.annotations.value t.principal_constraint t.action_constraint t.resource_constraint (option_map (λ e. tree_of e.value) t.non_scope_constraint)
+
+abbrev pub body_places : TemplateBody → Places
+body_places t =
+    places_made t.loc t.annotations.value t.principal_constraint t.resource_constraint (option_map (λ e. slots_within e.value) t.non_scope_constraint)
 
 -- slots without their places
 abbrev pub slot_ids : List code.Slot → List SlotId

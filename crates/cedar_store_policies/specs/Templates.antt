@@ -3,7 +3,8 @@
 use Rattle.std.specs.Prelude.{Option}
 use Rattle.cedar_expr_names.specs.declared.loc.Loc.{Loc}
 use Rattle.cedar_store_model.specs.Whole.Policy as model
-use Rattle.cedar_store_policies.specs.TemplateParts.{made_of}
+use Rattle.cedar_store_policies.specs.Places.{Places}
+use Rattle.cedar_store_policies.specs.TemplateParts.{made_of, body_places}
 use Rattle.cedar_store_policies.specs.declared.template.Template.{Template}
 
 -- the template, which binds no slot
@@ -13,3 +14,7 @@ template_of t = made_of t.body
 -- where it stands
 abbrev pub template_loc : Template → Option Loc
 template_loc t = t.body.loc
+
+-- its places
+abbrev pub places_of : Template → Places
+places_of t = body_places t.body

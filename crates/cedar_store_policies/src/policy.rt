@@ -1,13 +1,14 @@
 //! Policies.
 
-ghost use Rattle.std.specs.Prelude.{◌≡◌, [], Some, IfOk, map, option_map};
+ghost use Rattle.std.specs.Prelude.{◌≡◌, [], Some, IfOk, map, option_map, unwrap_or};
 ghost use Rattle.std.specs.Option.{option_map_or};
 ghost use Rattle.cedar_expr_trees.specs.Trees.{tree_of};
 ghost use Rattle.cedar_store_model.specs.Whole.Policy.{any, any_action, no_bindings, condition as asked_by};
 ghost use Rattle.cedar_store_model.specs.Whole.PolicySet.{linked};
-ghost use Rattle.cedar_store_parts.specs.Parts.{id_text, effect_of, annotation_pair, annotations_of, scope_of, action_scope_of, bindings_of, filled};
-ghost use Rattle.cedar_store_policies.specs.Policies.{static_of, static_loc, policy_of, policy_loc, template_behind};
-ghost use Rattle.cedar_store_policies.specs.Templates.{template_of, template_loc};
+ghost use Rattle.cedar_store_parts.specs.Parts.{id_text, effect_of, annotation_pair, annotations_of, seen_pair, annotations_seen, scope_of, scope_places, action_scope_of, bindings_of, filled, places_left};
+ghost use Rattle.cedar_store_policies.specs.Places.{places_made, slots_within};
+ghost use Rattle.cedar_store_policies.specs.Policies.{static_of, static_loc, static_places, policy_of, policy_loc, policy_places, template_behind};
+ghost use Rattle.cedar_store_policies.specs.Templates.{template_of, template_loc, places_of};
 
 use crate::static_policy::StaticPolicy;
 use crate::template::Template;
@@ -37,6 +38,7 @@ impl Policy {
         ensures policy { policy_of result ≡ linked (template_of template.value) (option_map_or id_text link (template_of template.value).id) (bindings_of values) }
         ensures template { template_behind result ≡ template_of template.value }
         ensures place { policy_loc result ≡ template_loc template.value }
+        ensures places { policy_places result ≡ places_of template.value }
     {
         Policy {
             template,
@@ -50,6 +52,7 @@ impl Policy {
         ensures policy { IfOk result (λ p. policy_of p ≡ static_of policy) }
         ensures template { IfOk result (λ p. template_behind p ≡ static_of policy) }
         ensures place { IfOk result (λ p. policy_loc p ≡ static_loc policy) }
+        ensures places { IfOk result (λ p. policy_places p ≡ static_places policy) }
     {
         let template = Rc::new(alloc, policy.into_template())?;
         Ok(Policy::new(template, None, SlotEnv::new()))
@@ -75,6 +78,13 @@ impl Policy {
         }) }
         ensures template { IfOk result (λ p. template_behind p ≡ policy_of p) }
         ensures place { IfOk result (λ p. policy_loc p ≡ loc) }
+        ensures places { IfOk result (λ p. policy_places p ≡ record {
+          own = loc;
+          annotations = [];
+          principal = [];
+          resource = [];
+          body = slots_within when;
+        }) }
     {
         let when = Rc::new(alloc, when)?;
         let annotations = Rc::new(alloc, Annotations::new(alloc))?;
@@ -102,6 +112,13 @@ impl Policy {
         }) }
         ensures template { IfOk result (λ p. template_behind p ≡ policy_of p) }
         ensures place { IfOk result (λ p. policy_loc p ≡ loc) }
+        ensures places { IfOk result (λ p. policy_places p ≡ record {
+          own = loc;
+          annotations = annotations_seen annotations.value;
+          principal = [];
+          resource = [];
+          body = slots_within when.value;
+        }) }
     {
         let template = Template::new_shared(
             alloc,
@@ -120,7 +137,8 @@ impl Policy {
 
     /// The template that the policy is made of.
     pub fn template(&self) -> &Rc<Template>
-        ensures { template_of result.now.value ≡ template_behind self.now }
+        ensures template { template_of result.now.value ≡ template_behind self.now }
+        ensures places { places_of result.now.value ≡ policy_places self.now }
     {
         &self.template
     }
@@ -137,7 +155,8 @@ impl Policy {
 
     /// The place of the policy's template.
     pub fn loc(&self) -> Option<Loc>
-        ensures { result ≡ policy_loc self.now }
+        ensures place { result ≡ policy_loc self.now }
+        ensures places { result ≡ (policy_places self.now).own }
     {
         self.template.loc()
     }
@@ -165,21 +184,24 @@ impl Policy {
 
     /// Goes over the annotations, in the order of their names.
     pub fn annotations(&self) -> Iter<'_, AnyId, Annotation>
-        ensures { map annotation_pair result ≡ (policy_of self.now).annotations }
+        ensures texts { map annotation_pair result ≡ (policy_of self.now).annotations }
+        ensures places { map seen_pair result ≡ (policy_places self.now).annotations }
     {
         self.template.annotations()
     }
 
     /// The annotations, shared.
     pub fn annotations_arc(&self) -> &Rc<Annotations>
-        ensures { annotations_of result.now.value ≡ (policy_of self.now).annotations }
+        ensures texts { annotations_of result.now.value ≡ (policy_of self.now).annotations }
+        ensures places { annotations_seen result.now.value ≡ (policy_places self.now).annotations }
     {
         self.template.annotations_arc()
     }
 
     /// What the scope asks of the principal, with what its slot is bound to in the slot's place. Answers want of memory.
     pub fn principal_constraint(&self) -> Result<PrincipalConstraint, AllocError>
-        ensures { IfOk result (λ c. scope_of c.constraint ≡ filled (policy_of self.now).bindings.principal (policy_of self.now).principal) }
+        ensures scope { IfOk result (λ c. scope_of c.constraint ≡ filled (policy_of self.now).bindings.principal (policy_of self.now).principal) }
+        ensures places { IfOk result (λ c. scope_places c.constraint ≡ places_left (policy_of self.now).bindings.principal (policy_places self.now).principal) }
     {
         let bound = self.values.get(SlotId::principal());
         let asked = &self.template.principal_constraint().constraint;
@@ -197,7 +219,8 @@ impl Policy {
 
     /// What the scope asks of the resource, with what its slot is bound to in the slot's place. Answers want of memory.
     pub fn resource_constraint(&self) -> Result<ResourceConstraint, AllocError>
-        ensures { IfOk result (λ c. scope_of c.constraint ≡ filled (policy_of self.now).bindings.resource (policy_of self.now).resource) }
+        ensures scope { IfOk result (λ c. scope_of c.constraint ≡ filled (policy_of self.now).bindings.resource (policy_of self.now).resource) }
+        ensures places { IfOk result (λ c. scope_places c.constraint ≡ places_left (policy_of self.now).bindings.resource (policy_places self.now).resource) }
     {
         let bound = self.values.get(SlotId::resource());
         let asked = &self.template.resource_constraint().constraint;
@@ -208,16 +231,17 @@ impl Policy {
 
     /// The body, if there is one.
     pub fn non_scope_constraints(&self) -> Option<&Expr>
-        ensures { option_map (λ e. tree_of e.now) result ≡ (policy_of self.now).body }
+        ensures tree { option_map (λ e. tree_of e.now) result ≡ (policy_of self.now).body }
+        ensures places { unwrap_or (option_map (λ e. slots_within e.now) result) [] ≡ (policy_places self.now).body }
     {
         self.template.non_scope_constraints()
     }
 }
 
 impl Clone for Policy {
-    ghost is_clone = { λ p copy. (policy_of copy ≡ policy_of p) × (template_behind copy ≡ template_behind p) × (policy_loc copy ≡ policy_loc p) };
+    ghost is_clone = { λ p copy. (policy_of copy ≡ policy_of p) × (template_behind copy ≡ template_behind p) × (policy_loc copy ≡ policy_loc p) × (policy_places copy ≡ policy_places p) };
 
-    /// The same policy over the same template, which is shared.
+    /// The same policy over the same template, which is shared. Answers want of memory.
     fn clone(&self) -> Result<Policy, AllocError> {
         let template = self.template.clone()?;
         let link = match &self.link {

@@ -36,11 +36,13 @@ impl PolicySet {
     ghost use Rattle.cedar_store_policies.specs.Templates.{template_of};
     ghost use Rattle.cedar_store_policies.specs.Policies.{static_of, policy_of};
     ghost use Rattle.cedar_store_policies.specs.SetRefusals.{RefusesId, RefusesIds, RefusesLink, FitsBindings};
-    ghost use Rattle.cedar_store_policies.specs.PolicySets.{set_of, find_policy};
+    ghost use Rattle.cedar_store_policies.specs.PolicySets.{set_of, set_seen, find_policy};
+    ghost use Rattle.cedar_store_policies.specs.Seen.{template_seen, static_seen, policy_seen, with_template_seen, with_policy_seen, find_seen, linked_seen};
 
     /// The set without templates and policies.
     pub fn new(alloc: Global) -> PolicySet
-        ensures { set_of result ≡ record { templates = []; policies = [] } }
+        ensures set { set_of result ≡ record { templates = []; policies = [] } }
+        ensures seen { set_seen result ≡ record { templates = []; policies = [] } }
     {
         PolicySet {
             templates: IndexMap::new(alloc),
@@ -52,6 +54,7 @@ impl PolicySet {
     pub fn try_from_iter(alloc: Global, policies: Vec<Policy>) -> Result<PolicySet, PolicySetError>
         ensures made { IfOk result (λ s. set_of s ≡ record { templates = []; policies = map policy_of policies.items }) }
         ensures distinct { IfOk result (λ s. has_distinct_ids (set_of s) ≡ true) }
+        ensures seen { IfOk result (λ s. set_seen s ≡ record { templates = []; policies = map policy_seen policies.items }) }
         ensures refused { IfErr result (RefusesIds (ids_of (map policy_of policies.items))) }
     {
         let mut set = PolicySet::new(alloc);
@@ -66,6 +69,8 @@ impl PolicySet {
         ensures added { OnOk result (add_policy (set_of self.old) (policy_of policy) ≡ Some (set_of self.new)) }
         ensures unchanged { OnErr result (set_of self.new ≡ set_of self.old) }
         ensures refused { IfErr result (RefusesId (set_of self.old) (policy_of policy).id) }
+        ensures seen { OnOk result (set_seen self.new ≡ with_policy_seen (set_seen self.old) (policy_seen policy)) }
+        ensures seen_unchanged { OnErr result (set_seen self.new ≡ set_seen self.old) }
     {
         let id = self.fresh_id(policy.id())?;
         put(&mut self.links, id, policy)?;
@@ -77,6 +82,8 @@ impl PolicySet {
         ensures added { OnOk result (add_policy (set_of self.old) (static_of policy) ≡ Some (set_of self.new)) }
         ensures unchanged { OnErr result (set_of self.new ≡ set_of self.old) }
         ensures refused { IfErr result (RefusesId (set_of self.old) (static_of policy).id) }
+        ensures seen { OnOk result (set_seen self.new ≡ with_policy_seen (set_seen self.old) (static_seen policy)) }
+        ensures seen_unchanged { OnErr result (set_seen self.new ≡ set_seen self.old) }
     {
         let policy = Policy::from_static_policy(*self.links.allocator(), policy)?;
         self.add(policy)
@@ -87,6 +94,8 @@ impl PolicySet {
         ensures added { OnOk result (add_template (set_of self.old) (template_of template) ≡ Some (set_of self.new)) }
         ensures unchanged { OnErr result (set_of self.new ≡ set_of self.old) }
         ensures refused { IfErr result (RefusesId (set_of self.old) (template_of template).id) }
+        ensures seen { OnOk result (set_seen self.new ≡ with_template_seen (set_seen self.old) (template_seen template)) }
+        ensures seen_unchanged { OnErr result (set_seen self.new ≡ set_seen self.old) }
     {
         let template = Rc::new(*self.templates.allocator(), template)?;
         self.add_shared(template)
@@ -97,6 +106,8 @@ impl PolicySet {
         ensures added { OnOk result (add_template (set_of self.old) (template_of template.value) ≡ Some (set_of self.new)) }
         ensures unchanged { OnErr result (set_of self.new ≡ set_of self.old) }
         ensures refused { IfErr result (RefusesId (set_of self.old) (template_of template.value).id) }
+        ensures seen { OnOk result (set_seen self.new ≡ with_template_seen (set_seen self.old) (template_seen template.value)) }
+        ensures seen_unchanged { OnErr result (set_seen self.new ≡ set_seen self.old) }
     {
         let id = self.fresh_id(template.id())?;
         put(&mut self.templates, id, template)?;
@@ -115,6 +126,8 @@ impl PolicySet {
         ensures linked { OnOk result (link (set_of self.old) (id_text template_id.now) (id_text new_id) (bindings_of values) ≡ Some (set_of self.new)) }
         ensures unchanged { OnErr result (set_of self.new ≡ set_of self.old) }
         ensures refused { IfErr result (RefusesLink (set_of self.old) (id_text template_id.now) (id_text new_id) (bindings_of values)) }
+        ensures seen { OnOk result (option_map (λ t. with_policy_seen (set_seen self.old) (linked_seen t (id_text new_id))) (find_seen (id_text template_id.now) (set_seen self.old).templates) ≡ Some (set_seen self.new)) }
+        ensures seen_unchanged { OnErr result (set_seen self.new ≡ set_seen self.old) }
     {
         let template = self.template_to_link(template_id, &values)?;
         let id = self.fresh_id(&new_id)?;
@@ -141,14 +154,16 @@ impl PolicySet {
 
     /// The policy of this id, if there is one.
     pub fn get(&self, id: &PolicyID) -> Option<&Policy>
-        ensures { option_map (λ p. policy_of p.now) result ≡ find_policy (id_text id.now) (set_of self.now) }
+        ensures policy { option_map (λ p. policy_of p.now) result ≡ find_policy (id_text id.now) (set_of self.now) }
+        ensures seen { option_map (λ p. policy_seen p.now) result ≡ find_seen (id_text id.now) (set_seen self.now).policies }
     {
         self.links.get(id)
     }
 
     /// The template of this id, if there is one; it is shared.
     pub fn get_template(&self, id: &PolicyID) -> Option<&Rc<Template>>
-        ensures { option_map (λ t. template_of t.now.value) result ≡ find_template (id_text id.now) (set_of self.now) }
+        ensures template { option_map (λ t. template_of t.now.value) result ≡ find_template (id_text id.now) (set_of self.now) }
+        ensures seen { option_map (λ t. template_seen t.now.value) result ≡ find_seen (id_text id.now) (set_seen self.now).templates }
     {
         self.templates.get(id)
     }
@@ -160,6 +175,7 @@ impl PolicySet {
         values: &SlotEnv,
     ) -> Result<Rc<Template>, LinkingError>
         ensures found { IfOk result (λ t. find_template (id_text id.now) (set_of self.now) ≡ Some (template_of t.value)) }
+        ensures seen { IfOk result (λ t. find_seen (id_text id.now) (set_seen self.now).templates ≡ Some (template_seen t.value)) }
         ensures fits { IfOk result (λ t. FitsBindings (template_of t.value) (bindings_of values.now)) }
         ensures refused { (new_id : Text) → IfErr result (RefusesLink (set_of self.now) (id_text id.now) new_id (bindings_of values.now)) }
     {
@@ -174,14 +190,16 @@ impl PolicySet {
 
     /// Goes over the policies, in their order.
     pub fn policies(&self) -> Values<'_, PolicyID, Policy>
-        ensures { map policy_of result ≡ (set_of self.now).policies }
+        ensures policies { map policy_of result ≡ (set_of self.now).policies }
+        ensures seen { map policy_seen result ≡ (set_seen self.now).policies }
     {
         self.links.values()
     }
 
     /// Goes over the templates, in their order.
     pub fn templates(&self) -> Values<'_, PolicyID, Rc<Template>>
-        ensures { map (λ t. template_of t.value) result ≡ (set_of self.now).templates }
+        ensures templates { map (λ t. template_of t.value) result ≡ (set_of self.now).templates }
+        ensures seen { map (λ t. template_seen t.value) result ≡ (set_seen self.now).templates }
     {
         self.templates.values()
     }

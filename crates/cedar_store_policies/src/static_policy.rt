@@ -25,9 +25,10 @@ impl StaticPolicy {
     ghost use Rattle.cedar_expr_trees.specs.Trees.{tree_of};
     ghost use Rattle.cedar_store_parts.specs.Parts.{id_text};
     ghost use Rattle.cedar_store_policies.specs.TemplateParts.{template_made};
-    ghost use Rattle.cedar_store_policies.specs.Policies.{static_of, static_loc};
-    ghost use Rattle.cedar_store_policies.specs.Templates.{template_loc};
-    ghost use Rattle.cedar_store_policies.specs.Refusals.{RefusesSlot};
+    ghost use Rattle.cedar_store_policies.specs.Policies.{static_of, static_loc, static_places};
+    ghost use Rattle.cedar_store_policies.specs.Places.{places_made, slots_placed, slots_within};
+    ghost use Rattle.cedar_store_policies.specs.Templates.{template_loc, places_of};
+    ghost use Rattle.cedar_store_policies.specs.Refusals.{RefusesSlot, RefusesSlotAt};
 
     /// The policy of these parts, at a place. Refuses a slot in the scope or the body, and answers want of memory.
     pub fn new(
@@ -44,7 +45,9 @@ impl StaticPolicy {
         ensures parts { IfOk result (λ p. static_of p ≡ template_made id effect annotations principal_constraint action_constraint resource_constraint (option_map tree_of non_scope_constraints)) }
         ensures no_slots { IfOk result (λ p. is_static (static_of p) ≡ true) }
         ensures place { IfOk result (λ p. static_loc p ≡ loc) }
+        ensures places { IfOk result (λ p. static_places p ≡ places_made loc annotations principal_constraint resource_constraint (option_map slots_within non_scope_constraints)) }
         ensures refused { IfErr result (RefusesSlot (template_made id effect annotations principal_constraint action_constraint resource_constraint (option_map tree_of non_scope_constraints))) }
+        ensures refused_at { IfErr result (RefusesSlotAt (slots_placed (places_made loc annotations principal_constraint resource_constraint (option_map slots_within non_scope_constraints)))) }
     {
         let template = Template::new(
             alloc,
@@ -74,6 +77,7 @@ impl StaticPolicy {
     pub fn into_template(self) -> Template
         ensures template { template_of result ≡ static_of self }
         ensures place { template_loc result ≡ static_loc self }
+        ensures places { places_of result ≡ static_places self }
     {
         self.template
     }

@@ -1,14 +1,16 @@
 //! Templates.
 
-ghost use Rattle.std.specs.Prelude.{◌≡◌};
+ghost use Rattle.std.specs.Prelude.{◌≡◌, map};
 ghost use Rattle.cedar_expr_model.specs.Whole.Parts.{slots as slots_in};
+ghost use Rattle.cedar_expr_trees.specs.Positions.{slot_placed};
 ghost use Rattle.cedar_expr_trees.specs.Trees.{tree_of};
 ghost use Rattle.cedar_store_model.specs.Whole.Policy.{condition as asked_by};
-ghost use Rattle.cedar_store_policies.specs.TemplateParts.{made_of, slot_ids};
+ghost use Rattle.cedar_store_policies.specs.Places.{slots_placed};
+ghost use Rattle.cedar_store_policies.specs.TemplateParts.{made_of, body_places, slot_ids};
 ghost use Rattle.cedar_store_policies.specs.Sets.{tree_set};
 
 use crate::bindings::stands_among;
-use crate::template_body::{TemplateBody, gathered_slots};
+use crate::template_body::TemplateBody;
 use cedar_expr_leaves::{Slot, SlotId};
 use cedar_expr_names::{AnyId, Loc};
 use cedar_expr_trees::Expr;
@@ -28,6 +30,7 @@ pub struct Template {
     slots: Vec<Slot>,
     ghost joined: { tree_of condition ≡ asked_by (made_of body) } by { tree_set _ _ },
     ghost gathered: { slot_ids slots.items ≡ slots_in (asked_by (made_of body)) },
+    ghost placed: { map slot_placed slots.items ≡ slots_placed (body_places body) },
 }
 
 // A drop of its own is one step to the proof of a function that may drop a template; a derived one is a step for each field.
@@ -42,13 +45,14 @@ impl Drop for Template {
 }
 
 impl Template {
-    ghost use Rattle.std.specs.Prelude.{IfOk, map, option_map};
+    ghost use Rattle.std.specs.Prelude.{[], IfOk, option_map, unwrap_or};
     ghost use Rattle.std.specs.Slice.Iter.{iter_rest};
     ghost use Rattle.cedar_expr_leaves.specs.Slots.{slot_of};
     ghost use Rattle.cedar_store_model.specs.Whole.Policy.{has_slot as uses_slot};
     ghost use Rattle.cedar_store_policies.specs.TemplateParts.{template_made};
-    ghost use Rattle.cedar_store_parts.specs.Parts.{id_text, effect_of, annotation_pair, annotations_of, scope_of, action_scope_of};
-    ghost use Rattle.cedar_store_policies.specs.Templates.{template_of, template_loc};
+    ghost use Rattle.cedar_store_parts.specs.Parts.{id_text, effect_of, annotation_pair, annotations_of, seen_pair, annotations_seen, scope_of, scope_places, action_scope_of};
+    ghost use Rattle.cedar_store_policies.specs.Places.{places_made, slots_within};
+    ghost use Rattle.cedar_store_policies.specs.Templates.{template_of, template_loc, places_of};
     ghost use Rattle.cedar_store_policies.specs.Lists.{first_of};
 
     /// The template of these parts, at a place. Answers want of memory.
@@ -65,6 +69,7 @@ impl Template {
     ) -> Result<Template, AllocError>
         ensures parts { IfOk result (λ t. template_of t ≡ template_made id effect annotations principal_constraint action_constraint resource_constraint (option_map tree_of non_scope_constraint)) }
         ensures place { IfOk result (λ t. template_loc t ≡ loc) }
+        ensures places { IfOk result (λ t. places_of t ≡ places_made loc annotations principal_constraint resource_constraint (option_map slots_within non_scope_constraint)) }
     {
         let annotations = Rc::new(alloc, annotations)?;
         let non_scope_constraint = match non_scope_constraint {
@@ -98,6 +103,7 @@ impl Template {
     ) -> Result<Template, AllocError>
         ensures parts { IfOk result (λ t. template_of t ≡ template_made id effect annotations.value principal_constraint action_constraint resource_constraint (option_map (λ e. tree_of e.value) non_scope_constraint)) }
         ensures place { IfOk result (λ t. template_loc t ≡ loc) }
+        ensures places { IfOk result (λ t. places_of t ≡ places_made loc annotations.value principal_constraint resource_constraint (option_map (λ e. slots_within e.value) non_scope_constraint)) }
     {
         let body = TemplateBody {
             id,
@@ -110,7 +116,7 @@ impl Template {
             non_scope_constraint,
         };
         let condition = body.condition(alloc)?;
-        let slots = gathered_slots(alloc, &condition)?;
+        let slots = body.slots(alloc)?;
         Ok(Template {
             body,
             condition,
@@ -127,7 +133,8 @@ impl Template {
 
     /// The template's place.
     pub fn loc(&self) -> Option<Loc>
-        ensures { result ≡ template_loc self.now }
+        ensures place { result ≡ template_loc self.now }
+        ensures places { result ≡ (places_of self.now).own }
     {
         self.body.loc
     }
@@ -141,21 +148,24 @@ impl Template {
 
     /// Goes over the annotations, in the order of their names.
     pub fn annotations(&self) -> btree_map::Iter<'_, AnyId, Annotation>
-        ensures { map annotation_pair result ≡ (template_of self.now).annotations }
+        ensures texts { map annotation_pair result ≡ (template_of self.now).annotations }
+        ensures places { map seen_pair result ≡ (places_of self.now).annotations }
     {
         self.body.annotations.iter()
     }
 
     /// The annotations, shared.
     pub fn annotations_arc(&self) -> &Rc<Annotations>
-        ensures { annotations_of result.now.value ≡ (template_of self.now).annotations }
+        ensures texts { annotations_of result.now.value ≡ (template_of self.now).annotations }
+        ensures places { annotations_seen result.now.value ≡ (places_of self.now).annotations }
     {
         &self.body.annotations
     }
 
     /// What the scope asks of the principal.
     pub fn principal_constraint(&self) -> &PrincipalConstraint
-        ensures { scope_of result.now.constraint ≡ (template_of self.now).principal }
+        ensures scope { scope_of result.now.constraint ≡ (template_of self.now).principal }
+        ensures places { scope_places result.now.constraint ≡ (places_of self.now).principal }
     {
         &self.body.principal_constraint
     }
@@ -169,14 +179,16 @@ impl Template {
 
     /// What the scope asks of the resource.
     pub fn resource_constraint(&self) -> &ResourceConstraint
-        ensures { scope_of result.now.constraint ≡ (template_of self.now).resource }
+        ensures scope { scope_of result.now.constraint ≡ (template_of self.now).resource }
+        ensures places { scope_places result.now.constraint ≡ (places_of self.now).resource }
     {
         &self.body.resource_constraint
     }
 
     /// The body, if there is one.
     pub fn non_scope_constraints(&self) -> Option<&Expr>
-        ensures { option_map (λ e. tree_of e.now) result ≡ (template_of self.now).body }
+        ensures tree { option_map (λ e. tree_of e.now) result ≡ (template_of self.now).body }
+        ensures places { unwrap_or (option_map (λ e. slots_within e.now) result) [] ≡ (places_of self.now).body }
     {
         match &self.body.non_scope_constraint {
             None => None,
@@ -200,14 +212,16 @@ impl Template {
 
     // The first slot in the condition, if there is one.
     pub(crate) fn first_slot(&self) -> Option<Slot>
-        ensures { option_map (λ s. slot_of s.id) result ≡ first_of (slots_in (asked_by (template_of self.now))) }
+        ensures id { option_map (λ s. slot_of s.id) result ≡ first_of (slots_in (asked_by (template_of self.now))) }
+        ensures place { option_map slot_placed result ≡ first_of (slots_placed (places_of self.now)) }
     {
         self.slots.first().copied()
     }
 
     /// The slots in the condition, each occurrence, with their places.
     pub fn slots(&self) -> slice::Iter<'_, Slot>
-        ensures { slot_ids (iter_rest result) ≡ slots_in (asked_by (template_of self.now)) }
+        ensures ids { slot_ids (iter_rest result) ≡ slots_in (asked_by (template_of self.now)) }
+        ensures places { map slot_placed (iter_rest result) ≡ slots_placed (places_of self.now) }
     {
         self.slots.iter()
     }

@@ -85,13 +85,14 @@ fn an_entity_of_a_uid_has_nothing(rt: HostRuntime) -> Result<(), Fail> {
     Ok(())
 }
 
-fn unknown(alloc: Global, name: &str) -> Result<Part, Fail> {
+// An unknown of this name.
+pub fn unknown(alloc: Global, name: &str) -> Result<Part, Fail> {
     let name = RcStr::from_str(alloc, name)?;
     Ok(PartialValue::Residual(Expr::unknown(Unknown::new_untyped(name))))
 }
 
 // A user with one attribute, which isn't known.
-fn with_unknown(alloc: Global) -> Result<Entity, Fail> {
+pub fn with_unknown(alloc: Global) -> Result<Entity, Fail> {
     let mut attrs = Vec::new(alloc);
     attrs.push((RcStr::from_str(alloc, "foo")?, unknown(alloc, "u")?))?;
     let uid = uid(alloc, "User", "c")?;
@@ -110,7 +111,7 @@ fn an_attribute_may_be_an_expression(rt: HostRuntime) -> Result<(), Fail> {
 }
 
 // How the team is an ancestor: as a parent, as another, or not at all.
-fn kin(alloc: Global, e: &Entity, team: &str) -> Result<(bool, bool, bool), Fail> {
+pub fn kin(alloc: Global, e: &Entity, team: &str) -> Result<(bool, bool, bool), Fail> {
     let team = uid(alloc, "Team", team)?;
     Ok((
         e.is_descendant_of(&team),

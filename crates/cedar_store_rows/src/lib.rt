@@ -4,6 +4,8 @@
 #[cfg(test)]
 mod entities;
 #[cfg(test)]
+mod made;
+#[cfg(test)]
 mod parts;
 #[cfg(test)]
 mod policies;

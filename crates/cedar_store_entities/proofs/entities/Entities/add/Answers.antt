@@ -4,7 +4,7 @@ use Rattle.cedar_expr_names.specs.Views.{uid_of}
 use Rattle.cedar_expr_model.specs.Uid.{Uid, uid_eq}
 use Rattle.cedar_store_entities.specs.Views.{entity_uid}
 use Rattle.cedar_store_entities.specs.StoreParts.{keys_in}
-use Rattle.cedar_store_entities.proofs.Keyed.{more_entities}
+use Rattle.cedar_store_entities.proofs.Keyed.{more_entities, more_kept}
 use Rattle.cedar_store_entities.proofs.Gathered.{enters}
 use Rattle.cedar_store_entities.proofs.entities.Entities.add.Goals as goal
 
@@ -17,6 +17,9 @@ invariant_of-self c =
 
 pub returns-clause-added : goal.returns-clause-added
 returns-clause-added c = more_entities c.args.self.now.entities.entries c.put.new.map.entries c.in_ok-uid.uid c.args.entity c.in_ok-put.ensures.put
+
+pub returns-clause-kept : goal.returns-clause-kept
+returns-clause-kept c = more_kept c.args.self.now.entities.entries c.put.new.map.entries c.in_ok-uid.uid c.args.entity c.in_ok-put.ensures.put
 
 pub returns-clause-fresh : goal.returns-clause-fresh
 returns-clause-fresh c =

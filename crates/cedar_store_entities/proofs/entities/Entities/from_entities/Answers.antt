@@ -1,7 +1,7 @@
 use Rattle.std.proofs.Common.{◌++◌, ◌∷◌, [], map, ap, sym, ◌∙◌, append_assoc}
 use Rattle.std.proofs.lemmas.List.{map-append}
 use Rattle.std.specs.Vec.Iter.{into_iter_items}
-use Rattle.cedar_store_entities.specs.Views.{entity_uid, entity_pair}
+use Rattle.cedar_store_entities.specs.Views.{entity_uid, entity_pair, kept_pair}
 use Rattle.cedar_store_entities.specs.Stores.{extent_of}
 use Rattle.cedar_store_entities.specs.Refusals.{RefusesUids}
 use Rattle.cedar_store_entities.proofs.Gathered.{handed, refused_all}
@@ -14,6 +14,7 @@ loop-entity-preserved c =
     record {
       goes = seen.goes ∙ ap (λ rest. xs ++ rest) c.in-Some.ensures.steps.0 ∙ sym (append_assoc xs (c.in-Some.entity ∷ []) (into_iter_items c.next.new.self));
       made = c.in_ok-add.ensures.added ∙ ap (λ es. es ++ entity_pair c.in-Some.entity ∷ []) seen.made ∙ sym (map-append entity_pair xs (c.in-Some.entity ∷ []));
+      kept = c.in_ok-add.ensures.kept ∙ ap (λ es. es ++ kept_pair c.in-Some.entity ∷ []) seen.kept ∙ sym (map-append kept_pair xs (c.in-Some.entity ∷ []));
       extent = ap extent_of c.in_ok-add.ensures.mode ∙ seen.extent;
     }
 

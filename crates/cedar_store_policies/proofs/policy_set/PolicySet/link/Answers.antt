@@ -1,13 +1,15 @@
-use Rattle.std.proofs.Common.{Some, sym, ap, ◌∙◌}
+use Rattle.std.proofs.Common.{Some, option_map, sym, ap, ◌∙◌}
 use Rattle.cedar_store_model.specs.Whole.Policy as model
 use Rattle.cedar_store_model.specs.Whole.PolicySet.{with_policy}
 use Rattle.cedar_store_parts.specs.Parts.{id_text, bindings_of}
 use Rattle.cedar_store_policies.specs.Templates.{template_of}
-use Rattle.cedar_store_policies.specs.PolicySets.{set_of}
+use Rattle.cedar_store_policies.specs.PolicySets.{set_of, set_seen}
+use Rattle.cedar_store_policies.specs.Seen.{Seen, with_policy_seen, linked_seen}
 use Rattle.cedar_store_policies.specs.SetRefusals.{RefusesLink}
 use Rattle.cedar_store_policies.proofs.Keyed.{free, policy_put, policy_enters}
 use Rattle.cedar_store_policies.proofs.Bound.{linked_is}
 use Rattle.cedar_store_policies.proofs.Gathered.{handed}
+use Rattle.cedar_store_policies.proofs.Seen.{policy_last}
 use Rattle.cedar_store_policies.proofs.policy_set.PolicySet.link.Goals as goal
 
 pub returns-in_err-template-clause-refused : goal.returns-in_err-template-clause-refused
@@ -27,3 +29,10 @@ returns-clause-linked c =
     let unused = free s.templates.entries s.links.entries s.templates_named s.links_named (id_text c.args.new_id) c.in_ok-id.ensures.no_template c.in_ok-id.ensures.no_policy in
     linked_is (set_of s) (id_text c.args.template_id.now) (id_text c.args.new_id) (bindings_of c.args.values) (template_of c.in_ok-template.template.value) c.in_ok-template.ensures.found c.in_ok-template.ensures.fits unused
     ∙ ap Some (sym (policy_put s.templates.entries s.links.entries s.templates_named s.links_named c.put.new.map.entries c.in_ok-id.id c.new.result c.in_ok-put.ensures.put ∙ ap (with_policy (set_of s)) c.new.ensures.policy))
+
+pub returns-clause-seen : goal.returns-clause-seen
+returns-clause-seen c =
+    let s = c.args.self.now in
+    let made = c.new.ensures in
+    ap (option_map (λ (t : Seen). with_policy_seen (set_seen s) (linked_seen t (id_text c.args.new_id)))) c.in_ok-template.ensures.seen
+    ∙ ap Some (sym (policy_last s.templates.entries s.links.entries c.put.new.map.entries c.in_ok-id.id c.new.result c.in_ok-put.ensures.put ∙ (λ i. with_policy_seen (set_seen s) (record { id = (made.policy i).id; places = made.places i; template = made.template i }))))

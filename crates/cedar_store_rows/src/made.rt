@@ -1,0 +1,141 @@
+//! What a store gives back of each entity: the calls of its extension values, its expressions, and its parents apart from its
+//! other ancestors.
+
+use crate::entities::{kin, member, unknown, with_unknown};
+use crate::parts::uid;
+use cedar_expr_leaves::Literal;
+use cedar_expr_names::Name;
+use cedar_expr_partial::PartialValue;
+use cedar_expr_values::{ExtValue, Value, ValueKind};
+use cedar_store_entities::{Dereference, Entities, Entity};
+use std::alloc::Global;
+use std::rc::{Rc, RcStr};
+use std::test::Fail;
+
+// A rank of the key 7, made by a call on this text.
+fn rank(alloc: Global, text: &str) -> Result<Value<ExtValue>, Fail> {
+    let kind = Name::from_normalized_str(alloc, "rank")?;
+    let function = Name::from_normalized_str(alloc, "rank_of")?;
+    let args = vec![in alloc; Literal::from_str(alloc, text)?]?;
+    let value = ExtValue::new(kind, function, args, vec![in alloc; 7]?);
+    Ok(Value::new(ValueKind::ExtensionValue(Rc::new(alloc, value)?), None))
+}
+
+// A user of such a rank.
+fn ranked(alloc: Global, id: &str, text: &str) -> Result<Entity, Fail> {
+    let mut attrs = Vec::new(alloc);
+    attrs.push((RcStr::from_str(alloc, "rank")?, rank(alloc, text)?))?;
+    let uid = uid(alloc, "User", id)?;
+    let (indirect, parents) = (Vec::new(alloc), Vec::new(alloc));
+    let tags = Vec::new(alloc);
+    Ok(Entity::new(alloc, uid, attrs, indirect, parents, tags)?)
+}
+
+// The whole store of the member of teams, of the user of whom an attribute isn't known, and of two users of one rank, which is
+// written in two ways.
+fn store(alloc: Global) -> Result<Entities, Fail> {
+    let mut entities = Vec::new(alloc);
+    entities.push(member(alloc)?)?;
+    entities.push(with_unknown(alloc)?)?;
+    entities.push(ranked(alloc, "d", "007")?)?;
+    entities.push(ranked(alloc, "e", "7")?)?;
+    Ok(Entities::from_entities(alloc, entities)?)
+}
+
+// Whether the value was made by a call of this function on this text.
+fn is_called(value: &ExtValue, function: &Name, text: &Literal) -> bool {
+    match value.args() {
+        [argument] => argument == text && value.constructor() == function,
+        _ => false,
+    }
+}
+
+// Whether the entity has a rank that was made by a call on this text.
+fn is_ranked(alloc: Global, e: &Entity, text: &str) -> Result<bool, Fail> {
+    let function = Name::from_normalized_str(alloc, "rank_of")?;
+    let text = Literal::from_str(alloc, text)?;
+    match e.get("rank") {
+        Some(PartialValue::Value(value)) => match value.value_kind() {
+            ValueKind::ExtensionValue(value) => Ok(is_called(value.as_ref(), &function, &text)),
+            _ => Ok(false),
+        },
+        _ => Ok(false),
+    }
+}
+
+// Whether the store gives the user of this id with a rank that was made by a call on this text.
+fn gives_ranked(alloc: Global, store: &Entities, id: &str, text: &str) -> Result<bool, Fail> {
+    match store.entity(alloc, &uid(alloc, "User", id)?)? {
+        Dereference::Data(e) => is_ranked(alloc, e, text),
+        _ => Ok(false),
+    }
+}
+
+#[test]
+fn an_extension_value_keeps_its_call(rt: HostRuntime) -> Result<(), Fail> {
+    let alloc = rt.alloc();
+    assert!(rt; rank(alloc, "007")? == rank(alloc, "7")?);
+    let store = store(alloc)?;
+    assert!(rt; gives_ranked(alloc, &store, "d", "007")?);
+    assert!(rt; gives_ranked(alloc, &store, "e", "7")?);
+    let store = store.partial();
+    assert!(rt; gives_ranked(alloc, &store, "d", "007")?);
+    assert!(rt; gives_ranked(alloc, &store, "e", "7")?);
+    Ok(())
+}
+
+// Whether one of the entities has a rank that was made by a call on this text.
+fn has_ranked(alloc: Global, store: &Entities, text: &str) -> Result<bool, Fail> {
+    let mut found = false;
+    for e in store.iter() {
+        found = found || is_ranked(alloc, e, text)?;
+    }
+    Ok(found)
+}
+
+#[test]
+fn entities_come_with_their_calls(rt: HostRuntime) -> Result<(), Fail> {
+    let alloc = rt.alloc();
+    let store = store(alloc)?;
+    assert!(rt; has_ranked(alloc, &store, "007")?);
+    assert!(rt; has_ranked(alloc, &store, "7")?);
+    assert!(rt; !has_ranked(alloc, &store, "07")?);
+    Ok(())
+}
+
+// Whether the store gives the member of teams with one parent and one other ancestor.
+fn gives_kin(alloc: Global, store: &Entities) -> Result<bool, Fail> {
+    match store.entity(alloc, &uid(alloc, "User", "a")?)? {
+        Dereference::Data(e) => {
+            let (all, red) = (kin(alloc, e, "all")?, kin(alloc, e, "red")?);
+            Ok(all == (true, false, true) && red == (true, true, false))
+        }
+        _ => Ok(false),
+    }
+}
+
+#[test]
+fn a_store_tells_parents_from_other_ancestors(rt: HostRuntime) -> Result<(), Fail> {
+    let alloc = rt.alloc();
+    let store = store(alloc)?;
+    assert!(rt; gives_kin(alloc, &store)?);
+    assert!(rt; gives_kin(alloc, &store.partial())?);
+    Ok(())
+}
+
+// Whether the store gives the user whose one attribute isn't known.
+fn gives_unknown(alloc: Global, store: &Entities) -> Result<bool, Fail> {
+    match store.entity(alloc, &uid(alloc, "User", "c")?)? {
+        Dereference::Data(e) => Ok(e.get("foo") == Some(&unknown(alloc, "u")?)),
+        _ => Ok(false),
+    }
+}
+
+#[test]
+fn an_expression_is_kept(rt: HostRuntime) -> Result<(), Fail> {
+    let alloc = rt.alloc();
+    let store = store(alloc)?;
+    assert!(rt; gives_unknown(alloc, &store)?);
+    assert!(rt; gives_unknown(alloc, &store.partial())?);
+    Ok(())
+}
