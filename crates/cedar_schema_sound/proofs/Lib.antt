@@ -2,3 +2,4 @@ mod Among
 mod Free
 mod Searched
 mod MoreKnown
+mod Passing

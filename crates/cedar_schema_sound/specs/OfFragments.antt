@@ -1,6 +1,6 @@
 -- What the laws say of schemas that are built of fragments.
 -- Rule: schemas; declarations; well-formed declarations (docs/RULES.md).
-use Rattle.std.specs.Prelude.{◌≡◌, List, true, Contains}
+use Rattle.std.specs.Prelude.{◌≡◌, List, true, None, Contains}
 use Rattle.cedar_expr_model.specs.Name.{Name}
 use Rattle.cedar_expr_raw_names.specs.declared.conditional_name.ConditionalName.{ConditionalName}
 use Rattle.cedar_schema_model.specs.Whole.BagLaws.{IsReordered}
@@ -13,10 +13,17 @@ use Rattle.cedar_schema_builder_model.specs.Alike.{AreAlike}
 use Rattle.cedar_schema_builder.specs.Built.{IsFaultOf}
 use Rattle.cedar_schema_built.specs.BuiltOf.{IsBuiltOf}
 use Rattle.cedar_schema_sound_model.specs.Unsound.{is_sound}
+use Rattle.cedar_schema_sound.specs.Refusals.{refusal, RefusesBy}
+use Rattle.cedar_schema_sound.specs.declared.err.UnsoundSchemaError.{UnsoundSchemaError}
 
 -- What is built of fragments is what it has to be, with the same extension types.
 abbrev pub BuiltAreSound : Type 0
 BuiltAreSound = (x : List Name) (fs : List (ValidatorSchemaFragment ConditionalName ConditionalName)) (d : Declarations) → AreWritten fs d → (k : Kept) → IsBuiltOf x fs k → is_sound x k ≡ true
+
+-- So a refusal of it tells of nothing wrong, in whichever order the extension types stand: there was no memory.
+abbrev pub BuiltAreNotRefused : Type 0
+BuiltAreNotRefused = (x : List Name) (fs : List (ValidatorSchemaFragment ConditionalName ConditionalName)) (d : Declarations) → AreWritten fs d → (k : Kept) → IsBuiltOf x fs k
+    → (e : UnsoundSchemaError) → RefusesBy x k e → refusal e ≡ None
 
 -- Of the same declarations, in whichever order and in whichever fragments, the same is built.
 abbrev pub OrderOfFragmentsIsFree : Type 0

@@ -1,6 +1,6 @@
 //! Schemas that are built of fragments. Each function's contract is the theorem; its body calls the laws that it stands on.
 
-ghost use Rattle.cedar_schema_sound.specs.OfFragments.{BuiltAreSound, OrderOfFragmentsIsFree, RefusedInEachOrder};
+ghost use Rattle.cedar_schema_sound.specs.OfFragments.{BuiltAreNotRefused, BuiltAreSound, OrderOfFragmentsIsFree, RefusedInEachOrder};
 
 use cedar_schema_builder_model::laws::built_is_the_schema;
 use cedar_schema_model::whole_decl_laws::{bags_have_no_order, declarations_are_decided};
@@ -9,6 +9,15 @@ use cedar_schema_sound_model::laws::{kept_are_sound, sound_is_decided};
 /// A schema that is built of fragments is what it has to be, with the same extension types.
 pub fn built_schemas_are_sound()
     ensures { BuiltAreSound }
+{
+    sound_is_decided();
+    kept_are_sound();
+}
+
+/// A schema that is built of fragments passes `try_validate` by a table whose functions give the same extension types: a refusal says
+/// that there was no memory.
+pub fn built_schemas_are_not_refused()
+    ensures { BuiltAreNotRefused }
 {
     sound_is_decided();
     kept_are_sound();
