@@ -34,6 +34,7 @@ pub mod schema {
         ValidatorNamespaceDef, ValidatorSchemaFragment,
     };
     pub use cedar_schema_located::{LocatedCommonType, LocatedNamespace, LocatedType};
+    pub use cedar_schema_resolver::{CommonTypes, TypeResolver, resolve_common_types};
     pub use cedar_schema_sound::{TryValidate, Unsound, first_unsound, try_validate};
 
     /// What fragments declare.
@@ -47,6 +48,7 @@ pub mod schema {
         pub use cedar_schema_built::UnresolvedExternalError;
         pub use cedar_schema_decl::{ShadowingError, TypeNotDefinedError};
         pub use cedar_schema_fragments::FragmentError;
+        pub use cedar_schema_resolver::ResolveError;
         pub use cedar_schema_sound::UnsoundSchemaError;
     }
 }
@@ -82,10 +84,10 @@ pub use schema::{
     first_unsound, resolve, try_validate,
 };
 pub use types::{
-    AttributeType, Attributes, BoolType, DeclaredAttributes, EntityKind, EntityLUB, OpenTag, Type,
-    ValidationMode, are_types_disjoint, is_subtype, least_upper_bound, lookup_attribute_type,
-    may_have_attr, reduce_to_least_upper_bound, typecheck_literal, typecheck_restricted_expr,
-    typecheck_value,
+    AttributeType, Attributes, BoolType, DeclaredAttributes, EntityKind, EntityLUB, OpenTag,
+    SchemaAttributes, Type, ValidationMode, all_attributes, all_known_attrs, are_types_disjoint,
+    is_subtype, least_upper_bound, lookup_attribute_type, may_have_attr,
+    reduce_to_least_upper_bound, typecheck_literal, typecheck_restricted_expr, typecheck_value,
 };
 
 #[cfg(test)]

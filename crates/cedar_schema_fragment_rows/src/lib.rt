@@ -4,6 +4,8 @@
 #[cfg(test)]
 mod declared;
 #[cfg(test)]
+mod located;
+#[cfg(test)]
 mod parts;
 #[cfg(test)]
 mod resolved;

@@ -6,6 +6,8 @@ mod fixtures;
 #[cfg(test)]
 mod lookups;
 #[cfg(test)]
+mod restricted;
+#[cfg(test)]
 mod texts;
 #[cfg(test)]
 mod types;

@@ -4,7 +4,7 @@ use crate::fixtures::{kind, name, parts, ty};
 use cedar_expr_leaves::Literal;
 use cedar_expr_names::{Eid, EntityUID};
 use cedar_expr_values::{ExtValue, Value, ValueKind};
-use cedar_schema_admission::typecheck_value;
+use cedar_schema_admission::{typecheck_literal, typecheck_value};
 use cedar_test_helpers::kept;
 use std::alloc::{AllocError, Global};
 use std::rc::{Rc, RcStr};
@@ -136,5 +136,58 @@ Set of Never | [1] | no
 Set of Long | {a: 1} | no
 {a: Long} | [1] | no";
     assert_eq!(rt; wrong_value(rt.alloc(), rows)?, "");
+    Ok(())
+}
+
+// The literal of this text.
+fn literal(alloc: Global, text: &str) -> Result<Literal, AllocError> {
+    match text {
+        "true" => Ok(Literal::from(true)),
+        "false" => Ok(Literal::from(false)),
+        "1" => Ok(Literal::from(1)),
+        "text" => Literal::from_str(alloc, text),
+        _ => {
+            let uid = EntityUID::from_components(
+                kind(alloc, text)?,
+                Eid::from_str(alloc, "a")?,
+                None,
+            );
+            Literal::from_entity_uid(alloc, uid)
+        }
+    }
+}
+
+// The first row that doesn't hold: a type, a literal, and whether the literal is of the type.
+fn wrong_literal(alloc: Global, rows: &'static str) -> Result<&'static str, AllocError> {
+    for row in rows.lines() {
+        let (of, given, want) = parts(row);
+        let given = literal(alloc, given)?;
+        let of = ty(alloc, of)?;
+        if typecheck_literal(&of, &given) != (want == "yes") {
+            return Ok(row);
+        }
+    }
+    Ok("")
+}
+
+/// The literals of a type.
+#[test]
+fn literals_of_types(rt: HostRuntime) -> Result<(), Fail> {
+    let rows = "Bool | true | yes
+True | true | yes
+True | false | no
+Long | 1 | yes
+Bool | 1 | no
+String | text | yes
+String | Doc | no
+Never | 1 | no
+Doc | Doc | yes
+User | Doc | no
+Doc or User | Doc | yes
+any entity | Doc | yes
+any set | 1 | no
+{..} | text | no
+rank | text | no";
+    assert_eq!(rt; wrong_literal(rt.alloc(), rows)?, "");
     Ok(())
 }
