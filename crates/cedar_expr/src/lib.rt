@@ -66,7 +66,7 @@ pub mod literal {
 pub mod name {
     pub use cedar_expr_names::{
         Eid, EntityType, EntityUID, Escaped, InternalName, Loc, Name, NameError, Quoted,
-        ReservedNameError,
+        ReservedNameError, is_normalized_ident,
     };
     pub use cedar_expr_raw_names::{ConditionalName, RawName, ReferenceType};
 }
@@ -84,6 +84,12 @@ pub mod partial_value {
 /// Patterns.
 pub mod pattern {
     pub use cedar_expr_leaves::{Pattern, PatternElem};
+}
+
+/// Maps of pairs in which no key stands twice.
+pub mod util {
+    pub use cedar_expr_functions::CollectError;
+    pub use cedar_expr_functions::util::collect_no_duplicates;
 }
 
 /// Core types.
@@ -124,6 +130,7 @@ pub use ops::{BinaryOp, UnaryOp};
 pub use partial_value::{ContainsUnknown, PartialValue, PartialValueToValueError, split};
 pub use pattern::{Pattern, PatternElem};
 pub use types::{StaticallyTyped, Type};
+pub use util::{CollectError, collect_no_duplicates};
 pub use value::{FromValue, NotValue, Set, TryFromExpr, Value, ValueKind};
 
 #[cfg(test)]

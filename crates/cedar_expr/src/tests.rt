@@ -17,6 +17,15 @@ fn the_items_stand_under_one_name(rt: HostRuntime) -> Result<(), Fail> {
 }
 
 #[test]
+fn maps_and_identifiers_stand_in_their_modules(rt: HostRuntime) -> Result<(), Fail> {
+    let alloc = rt.alloc();
+    let map = util::collect_no_duplicates(alloc, vec![in alloc; (1u8, 'a')]?)?;
+    assert!(rt; map.len() == 1);
+    assert!(rt; name::is_normalized_ident("a") && !name::is_normalized_ident("if"));
+    Ok(())
+}
+
+#[test]
 fn the_empty_table_is_typed(rt: HostRuntime) {
     assert!(rt; Extensions::none(rt.alloc()).all_typed());
 }

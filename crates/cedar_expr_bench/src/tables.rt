@@ -25,6 +25,17 @@ fn exhausted(_alloc: Global, _args: &[Value<ExtValue>]) -> Result<ExtensionOutpu
     Err(CallFault::OutOfMemory)
 }
 
+// How many of so many functions the table finds by their names.
+fn found_in(alloc: Global, table: &Extensions<'_>, size: u32) -> Result<usize, AllocError> {
+    let mut count = 0usize;
+    for n in 0..size {
+        if table.func(&name(alloc, n)?).is_ok() {
+            count = count.wrapping_add(1);
+        }
+    }
+    Ok(count)
+}
+
 /// How many of so many functions their table finds by their names.
 pub fn found(alloc: Global, size: u32) -> Result<usize, AllocError> {
     let mut functions = Vec::new(alloc);
@@ -40,11 +51,5 @@ pub fn found(alloc: Global, size: u32) -> Result<usize, AllocError> {
     let Ok(table) = Extensions::specific_extensions(alloc, &extensions) else {
         return Err(AllocError);
     };
-    let mut count = 0usize;
-    for n in 0..size {
-        if table.func(&name(alloc, n)?).is_ok() {
-            count = count.wrapping_add(1);
-        }
-    }
-    Ok(count)
+    found_in(alloc, &table, size)
 }

@@ -172,26 +172,33 @@ fn table_refusal(alloc: Global, functions: Vec<ExtensionFunction>) -> Result<Str
     }
 }
 
+// What a table of constructors of one type with these names says of its refusal.
+fn refusal_of(alloc: Global, names: &[&str]) -> Result<String, Fail> {
+    let style = CallStyle::FunctionStyle;
+    let mut functions = Vec::new(alloc);
+    for text in names {
+        let func: Func = Box::new(alloc, |alloc: Global, args: &[V]| exhausted(alloc, args))?;
+        let (called, given) = (name(alloc, text)?, rank(alloc)?);
+        let f = ExtensionFunction::unary(alloc, called, style, func, given, Type::String)?;
+        functions.push(f)?;
+    }
+    table_refusal(alloc, functions)
+}
+
 // Where two functions have one name, and two construct one type, the first of these faults is named.
 #[test]
 fn a_name_and_a_constructor_stand_once(rt: HostRuntime) -> Result<(), Fail> {
-    let alloc = rt.alloc();
-    let style = CallStyle::FunctionStyle;
-    for (count, want) in [
-        (3, "extension function `f` is defined multiple times"),
+    for (names, want) in [
         (
-            2,
+            ["f", "g", "f"].as_slice(),
+            "extension function `f` is defined multiple times",
+        ),
+        (
+            ["f", "g"].as_slice(),
             "multiple extension constructors for the same extension type rank",
         ),
     ] {
-        let mut functions = Vec::new(alloc);
-        for text in ["f", "g", "f"].into_iter().take(count) {
-            let func: Func = Box::new(alloc, |alloc: Global, args: &[V]| exhausted(alloc, args))?;
-            let (called, given) = (name(alloc, text)?, rank(alloc)?);
-            let f = ExtensionFunction::unary(alloc, called, style, func, given, Type::String)?;
-            functions.push(f)?;
-        }
-        assert_eq!(rt; table_refusal(alloc, functions)?.as_str(), want);
+        assert_eq!(rt; refusal_of(rt.alloc(), names)?.as_str(), want);
     }
     Ok(())
 }

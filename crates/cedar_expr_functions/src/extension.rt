@@ -24,7 +24,7 @@ pub enum CallStyle {
 }
 
 /// What a call of a function gives.
-#[derive(PartialEq, Eq, Drop)]
+#[derive(Debug, PartialEq, Eq, Drop)]
 pub enum ExtensionOutputValue {
     /// A value.
     Known(Value<ExtValue>),

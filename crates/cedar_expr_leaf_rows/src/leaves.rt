@@ -1,8 +1,8 @@
 //! Examples of patterns, slots and variables, and of their texts.
 
+use crate::making::shows;
 use cedar_expr_leaves::*;
 use std::alloc::{AllocError, Global};
-use std::fmt::Display;
 use std::rc::Rc;
 use std::test::Fail;
 
@@ -45,11 +45,6 @@ fn patterns_match(rt: HostRuntime) -> Result<(), Fail> {
     Ok(())
 }
 
-// Whether this is shown as this text.
-fn shows<T: Display>(alloc: Global, it: &T, want: &str) -> Result<bool, AllocError> {
-    Ok(it.to_string(alloc)?.as_str() == want)
-}
-
 #[test]
 fn patterns_are_shown(rt: HostRuntime) -> Result<(), Fail> {
     let alloc = rt.alloc();
@@ -61,7 +56,7 @@ fn patterns_are_shown(rt: HostRuntime) -> Result<(), Fail> {
         PatternElem::Char('\n'),
     ];
     let made = Pattern::new(alloc, elems.to_vec(alloc)?)?;
-    assert!(rt; shows(alloc, &made, "a*\\*\\\"\\u{a}")?);
+    assert!(rt; shows(alloc, &made, "a*\\*\\\"\\u{a}"));
     assert!(rt; made.get_elems() == elems.as_slice());
     assert!(rt; made.iter().count() == 5 && made.len() == 5 && !made.is_empty());
     assert!(rt; made == made.clone()?);
@@ -88,14 +83,14 @@ fn slots_and_variables(rt: HostRuntime) -> Result<(), Fail> {
     };
     let principal = SlotId::principal();
     assert!(rt; principal.is_principal() && slot.id.is_resource() && principal < slot.id);
-    assert!(rt; shows(alloc, &principal, "?principal")? && shows(alloc, &slot.id, "?resource")?);
+    assert!(rt; shows(alloc, &principal, "?principal") && shows(alloc, &slot.id, "?resource"));
     for (variable, want) in [
         (Var::Principal, "principal"),
         (Var::Action, "action"),
         (Var::Resource, "resource"),
         (Var::Context, "context"),
     ] {
-        assert!(rt; shows(alloc, &variable, want)?, "{want}");
+        assert!(rt; shows(alloc, &variable, want), "{want}");
     }
     Ok(())
 }

@@ -8,7 +8,11 @@ mod leaves;
 #[cfg(test)]
 mod literals;
 #[cfg(test)]
+mod making;
+#[cfg(test)]
 mod names;
+#[cfg(test)]
+mod pairs;
 #[cfg(test)]
 mod raw_names;
 #[cfg(test)]

@@ -1,25 +1,11 @@
 //! Examples of names, uids and their texts.
 
+use crate::making::{internal, is_copied, is_name, made_shows, name, shows, uid};
+use crate::pairs::{Numbered, misplaced};
 use cedar_expr_names::*;
 use std::alloc::Global;
-use std::cmp::Ordering;
-use std::fmt::Display;
 use std::rc::RcStr;
 use std::test::Fail;
-
-fn name(alloc: Global, text: &str) -> Result<Name, NameError> {
-    Name::from_normalized_str(alloc, text)
-}
-
-fn internal(alloc: Global, text: &str) -> Result<InternalName, NameError> {
-    InternalName::from_normalized_str(alloc, text)
-}
-
-fn uid(alloc: Global, kind: &str, id: &str) -> Result<EntityUID, NameError> {
-    let kind = EntityType::from_normalized_str(alloc, kind)?;
-    let id = Eid::from_str(alloc, id).ok().ok_or(NameError::OutOfMemory)?;
-    Ok(EntityUID::from_components(kind, id, None))
-}
 
 // How a reading ended: `+` with what was read, `-` as it is no such text, `r` as it is reserved.
 fn mark<T: Drop>(read: Result<T, NameError>) -> char {
@@ -80,56 +66,77 @@ fn texts_are_read(rt: HostRuntime) {
     }
 }
 
-// Whether this was made, and is shown as this text.
-fn shows<T: Display + Drop, E: Drop>(alloc: Global, made: Result<T, E>, want: &str) -> bool {
-    let Ok(it) = made else {
-        return false;
-    };
-    match it.to_string(alloc) {
-        Ok(text) => text.as_str() == want,
-        Err(_) => false,
-    }
-}
-
 #[test]
 fn uids_and_names_are_shown(rt: HostRuntime) {
     let alloc = rt.alloc();
-    let escaped = uid(alloc, "User", "a\"b\\\n\u{e9}");
-    assert!(rt; shows(alloc, escaped, "User::\"a\\\"b\\\\\\u{a}\\u{e9}\""));
+    let escaped = uid(alloc, "User", "a\"b\\\n\u{e9}", None);
+    assert!(rt; made_shows(alloc, escaped, "User::\"a\\\"b\\\\\\u{a}\\u{e9}\""));
     let ends: Result<Quoted<'_>, NameError> = Ok(Quoted::new(" ~\u{7f}\u{0}\u{1f600}"));
-    assert!(rt; shows(alloc, ends, "\" ~\\u{7f}\\u{0}\\u{1f600}\""));
-    assert!(rt; shows(alloc, name(alloc, "A::B"), "A::B"));
-    assert!(rt; shows(alloc, InternalName::cedar(alloc), "__cedar"));
+    assert!(rt; made_shows(alloc, ends, "\" ~\\u{7f}\\u{0}\\u{1f600}\""));
+    assert!(rt; made_shows(alloc, name(alloc, "A::B"), "A::B"));
+    assert!(rt; made_shows(alloc, InternalName::cedar(alloc), "__cedar"));
 }
 
-// The refusal of a reserved name, which is an internal one.
-fn refused(alloc: Global, text: &str) -> Result<ReservedNameError, NameError> {
-    let reserved = internal(alloc, text)?;
-    let is_taken = !reserved.is_reserved() || Name::try_from_borrowed(&reserved).is_ok();
-    match Name::try_from_internal(reserved) {
-        Err(refusal) if !is_taken => Ok(refusal),
-        _ => Err(NameError::NotNormalized),
-    }
+// Whether the refusal is that of the reserved name of this text.
+fn refuses(alloc: Global, fault: Option<NameError>, text: &str) -> Result<bool, Fail> {
+    let fault = fault.ok_or("it was not refused")?;
+    let want = format!(in alloc; "the name `{text}` is reserved")?;
+    let is_it = fault == NameError::Reserved(ReservedNameError::new(internal(alloc, text)?));
+    Ok(is_it && shows(alloc, &fault, want.as_str()))
 }
 
 #[test]
-fn a_reserved_name_is_internal_alone(rt: HostRuntime) {
+fn a_reserved_name_is_internal_alone(rt: HostRuntime) -> Result<(), Fail> {
     let alloc = rt.alloc();
-    let refusal = refused(alloc, "__cedar::X");
-    assert!(rt; shows(alloc, refusal, "the name `__cedar::X` is reserved"));
+    for text in ["__cedar::X", "__cedar", "A::__cedar"] {
+        let reserved = internal(alloc, text)?;
+        assert!(rt; reserved.is_reserved(), "{text}");
+        assert!(rt;
+            refuses(alloc, Name::try_from_borrowed(&reserved).err(), text)?,
+            "{text}"
+        );
+        assert!(rt; refuses(alloc, name(alloc, text).err(), text)?, "{text}");
+        let refusal = Name::try_from_internal(reserved)
+            .err()
+            .map(NameError::Reserved);
+        assert!(rt; refuses(alloc, refusal, text)?, "{text}");
+    }
+    Ok(())
+}
+
+#[test]
+fn a_reserved_identifier_is_refused(rt: HostRuntime) -> Result<(), Fail> {
+    let alloc = rt.alloc();
+    for (text, is_taken) in [("a", true), ("cedar", true), ("__cedar", false)] {
+        let id = Id::from_normalized_str(alloc, text)?;
+        assert!(rt; is_copied(&id) && id.is_reserved() != is_taken, "{text}");
+        assert!(rt;
+            UnreservedId::try_from_id(alloc, id).is_ok() == is_taken,
+            "{text}"
+        );
+    }
+    Ok(())
+}
+
+#[test]
+fn refusals_of_names_have_texts(rt: HostRuntime) {
+    let alloc = rt.alloc();
+    assert!(rt; shows(alloc, &NameError::OutOfMemory, "out of memory"));
+    assert!(rt; shows(alloc, &NameError::NotNormalized, "not a normalized name"));
+    assert!(rt; matches!(name(alloc, "a::"), Err(NameError::NotNormalized)));
 }
 
 // Any id of a word, with its texts.
 fn is_any_id(alloc: Global, text: &str) -> Result<bool, Fail> {
     let any = AnyId::from_normalized_str(alloc, text)?;
-    let is_shown = shows(alloc, any.clone(), text) && any.as_str() == text;
+    let is_shown = made_shows(alloc, any.clone(), text) && any.as_str() == text;
     Ok(is_shown && any.into_smolstr().as_str() == text)
 }
 
 // An unreserved id, with its texts.
 fn is_unreserved_id(alloc: Global, text: &str) -> Result<bool, Fail> {
     let id = UnreservedId::from_normalized_str(alloc, text)?;
-    let is_shown = shows(alloc, id.clone(), text) && id.as_id().as_str() == text;
+    let is_shown = made_shows(alloc, id.clone(), text) && id.as_id().as_str() == text;
     Ok(is_shown && id.as_str() == text && id.into_smolstr().as_str() == text)
 }
 
@@ -140,18 +147,10 @@ fn ids_give_their_texts(rt: HostRuntime) -> Result<(), Fail> {
     Ok(())
 }
 
-// Whether this was made, and has this text.
-fn is_name<E: Drop>(made: Result<InternalName, E>, want: &str) -> bool {
-    match made {
-        Ok(it) => it.as_str() == want,
-        Err(_) => false,
-    }
-}
-
 // Whether the name has this namespace, and this as its last part.
 fn is_parted(alloc: Global, name: &Name, space: &str, last: &str) -> bool {
     let internal = name.as_internal();
-    shows(alloc, internal.namespace(alloc), space)
+    made_shows(alloc, internal.namespace(alloc), space)
         && name.is_unqualified() == space.is_empty()
         && internal.is_unqualified() == space.is_empty()
         && (internal.namespace_components().count() == 0) == space.is_empty()
@@ -189,31 +188,35 @@ fn names_have_namespaces(rt: HostRuntime) -> Result<(), Fail> {
     Ok(())
 }
 
-// A type of the namespace of Cedar's own types, at a place.
-fn long_type(alloc: Global) -> Result<InternalName, Fail> {
-    let base = Id::from_normalized_str(alloc, "Long")?;
-    let cedar = InternalName::cedar(alloc)?;
-    Ok(InternalName::type_in_namespace(alloc, base, cedar, Some(Loc::new(2, 5)))?)
-}
-
 #[test]
 fn a_type_in_a_namespace(rt: HostRuntime) -> Result<(), Fail> {
-    let long = long_type(rt.alloc())?;
-    assert!(rt; long.as_str() == "__cedar::Long" && long.loc().is_some());
+    let alloc = rt.alloc();
+    let base = Id::from_normalized_str(alloc, "Long")?;
+    let cedar = InternalName::cedar(alloc)?;
+    let place = Some(Loc::new(2, 5));
+    let long = InternalName::type_in_namespace(alloc, base, cedar, place)?;
+    assert!(rt; long.as_str() == "__cedar::Long" && long.loc() == place);
     assert!(rt; matches!(Name::try_from_borrowed(&long), Err(NameError::Reserved(_))));
     assert!(rt; Id::try_from(long).is_err());
     Ok(())
 }
 
-// The text of the id that an internal name without a namespace is.
-fn is_id(made: Result<Id, ()>, want: &str) -> bool {
-    match made {
-        Ok(id) => id.as_str() == want,
-        Err(_) => false,
+#[test]
+fn a_name_of_a_path_and_a_base(rt: HostRuntime) -> Result<(), Fail> {
+    let alloc = rt.alloc();
+    let mut path = Vec::new(alloc);
+    for text in ["a", "b"] {
+        path.push(Id::from_normalized_str(alloc, text)?)?;
     }
+    let place = Some(Loc::new(1, 8));
+    let base = Id::from_normalized_str(alloc, "c")?;
+    let made = InternalName::new(alloc, base, path, place)?;
+    assert!(rt; made.same(&internal(alloc, "a::b::c")?) && made.as_str() == "a::b::c");
+    assert!(rt; made.loc() == place && made.clone()?.loc() == place);
+    Ok(())
 }
 
-// The same of a name.
+// Whether the name is an identifier alone, of this text.
 fn is_unreserved(name: Name, want: &str) -> bool {
     match UnreservedId::try_from(name) {
         Ok(id) => Id::from(id).as_str() == want,
@@ -224,10 +227,10 @@ fn is_unreserved(name: Name, want: &str) -> bool {
 #[test]
 fn names_are_taken_apart(rt: HostRuntime) -> Result<(), Fail> {
     let alloc = rt.alloc();
-    assert!(rt; is_id(Id::try_from(internal(alloc, "x")?), "x"));
+    assert!(rt; made_shows(alloc, Id::try_from(internal(alloc, "x")?), "x"));
     assert!(rt; is_unreserved(name(alloc, "x")?, "x"));
     let parted = name(alloc, "a::x")?;
-    assert!(rt; shows(alloc, parted.basename(), "x"));
+    assert!(rt; made_shows(alloc, parted.basename(), "x"));
     assert!(rt; parted.basename_as_ref().as_str() == "x" && parted.loc().is_none());
     assert!(rt; !is_unreserved(parted, "x"));
     Ok(())
@@ -245,7 +248,8 @@ fn is_made(alloc: Global, bare: &InternalName, id: Id) -> Result<bool, Fail> {
 // Whether a name without a namespace is that of each of its makers, and the internal one.
 fn is_plain(alloc: Global, plain: Name, bare: &InternalName) -> Result<bool, Fail> {
     let id = UnreservedId::from_normalized_str(alloc, "T")?;
-    let is_same = bare.same(plain.as_internal())
+    let is_same = is_copied(&plain)
+        && bare.same(plain.as_internal())
         && plain.same(&Name::try_from_borrowed(bare)?)
         && plain.same(&Name::unqualified_name(alloc, id)?);
     Ok(is_same && *bare == InternalName::from(plain))
@@ -256,7 +260,7 @@ fn is_its_copy(uid: &EntityUID, other: RcStr) -> Result<bool, Fail> {
     let copy = uid.clone()?;
     let kind = uid.entity_type().clone()?;
     let other = EntityUID::from_components(kind, Eid::new(other), Some(Loc::new(1, 3)));
-    Ok(uid.same(&copy) && *uid == copy && !uid.same(&other))
+    Ok(uid.same(&copy) && *uid == copy && !uid.same(&other) && is_copied(uid.eid()))
 }
 
 #[test]
@@ -265,26 +269,34 @@ fn copies_and_makers(rt: HostRuntime) -> Result<(), Fail> {
     let bare = internal(alloc, "T")?;
     assert!(rt; is_made(alloc, &bare, Id::from_normalized_str(alloc, "T")?)?);
     assert!(rt; is_plain(alloc, Name::parse_unqualified_name(alloc, "T")?, &bare)?);
-    assert!(rt; is_its_copy(&uid(alloc, "User", "x")?, RcStr::from_str(alloc, "y")?)?);
+    assert!(rt;
+        is_its_copy(
+            &uid(alloc, "User", "x", None)?,
+            RcStr::from_str(alloc, "y")?
+        )?
+    );
     Ok(())
 }
 
-// Whether the first uid stands before the second by the types, as by `<`.
-fn stands_before(first: &EntityUID, second: &EntityUID) -> bool {
-    first < second
-        && second.order(first) == Ordering::Greater
-        && second.entity_type().order(first.entity_type()) == Ordering::Greater
+impl Numbered for EntityUID {
+    fn stands(&self, other: &EntityUID, number: usize, other_number: usize) -> bool {
+        let order = number.cmp(&other_number);
+        let (kind, other_kind) = (self.entity_type(), other.entity_type());
+        self.order(other) == order
+            && kind.order(other_kind) == order
+            && (self < other) == order.is_lt()
+    }
 }
 
 #[test]
 fn uids_are_ordered_by_the_texts_of_their_types(rt: HostRuntime) -> Result<(), Fail> {
     let alloc = rt.alloc();
-    let first = uid(alloc, "A0", "z")?;
-    let second = uid(alloc, "A::B", "y")?;
-    let third = uid(alloc, "AB", "x")?;
-    assert!(rt; stands_before(&first, &second));
-    assert!(rt; stands_before(&second, &third));
-    assert!(rt; stands_before(&first, &third));
-    assert!(rt; second.entity_type().name().as_internal().as_str() == "A::B");
+    let mut uids = Vec::new(alloc);
+    for (kind, id) in [("A0", "z"), ("A::B", "y"), ("AB", "x")] {
+        let uid = uid(alloc, kind, id, None)?;
+        assert!(rt; uid.entity_type().name().as_internal().as_str() == kind);
+        uids.push(uid)?;
+    }
+    assert!(rt; misplaced(&uids).is_none());
     Ok(())
 }

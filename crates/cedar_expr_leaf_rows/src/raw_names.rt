@@ -1,28 +1,21 @@
 //! Examples of names of a schema before they are resolved.
 
-use cedar_expr_names::{Id, InternalName, Loc, Name, NameError, UnreservedId};
+use crate::making::{internal, is_name, name};
+use cedar_expr_names::{Id, Loc, NameError, UnreservedId};
 use cedar_expr_raw_names::*;
-use std::alloc::{AllocError, Global};
+use std::alloc::Global;
 use std::test::Fail;
-
-fn name(alloc: Global, text: &str) -> Result<InternalName, NameError> {
-    InternalName::from_normalized_str(alloc, text)
-}
 
 fn raw(alloc: Global, text: &str) -> Result<RawName, NameError> {
     RawName::from_normalized_str(alloc, text)
 }
 
-// Whether this was no such text.
-fn is_refused(read: Result<RawName, NameError>) -> bool {
-    matches!(read, Err(NameError::NotNormalized))
-}
-
 #[test]
 fn raw_names_are_read(rt: HostRuntime) -> Result<(), Fail> {
     let alloc = rt.alloc();
-    assert!(rt; is_refused(raw(alloc, "A::if")));
-    assert!(rt; is_refused(RawName::parse_unqualified_name(alloc, "A::B")));
+    assert!(rt; matches!(raw(alloc, "A::if"), Err(NameError::NotNormalized)));
+    let parted = RawName::parse_unqualified_name(alloc, "A::B");
+    assert!(rt; matches!(parted, Err(NameError::NotNormalized)));
     let part = RawName::parse_unqualified_name(alloc, "__cedar")?;
     assert!(rt; part.is_unqualified() && part.loc().is_none());
     let reserved = raw(alloc, "__cedar::X")?;
@@ -35,7 +28,7 @@ fn is_made(alloc: Global, made: &RawName, id: UnreservedId) -> Result<bool, Fail
     Ok(
         made.same(&made.clone()?)
             && *made == RawName::new_from_unreserved(alloc, id, None)?
-            && *made == RawName::from_name(name(alloc, "T")?),
+            && *made == RawName::from_name(internal(alloc, "T")?),
     )
 }
 
@@ -50,19 +43,11 @@ fn raw_names_are_made(rt: HostRuntime) -> Result<(), Fail> {
     Ok(())
 }
 
-// Whether this was made, and has this text.
-fn is_name(made: Result<InternalName, AllocError>, want: &str) -> bool {
-    match made {
-        Ok(it) => it.as_str() == want,
-        Err(_) => false,
-    }
-}
-
 #[test]
 fn raw_names_are_qualified(rt: HostRuntime) -> Result<(), Fail> {
     let alloc = rt.alloc();
-    let space = name(alloc, "A::__cedar")?;
-    let plain = Name::from_normalized_str(alloc, "B::C")?;
+    let space = internal(alloc, "A::__cedar")?;
+    let plain = name(alloc, "B::C")?;
     for (text, within_space, within_plain) in [
         ("T", "A::__cedar::T", "B::C::T"),
         ("D::T", "D::T", "D::T"),
@@ -86,36 +71,32 @@ fn possible(name: &ConditionalName, first: &str, second: Option<&str>) -> bool {
     names.next() == Some(first) && names.next() == second && names.next() == None
 }
 
-// Whether the name of this text is this reference, with its possible names.
-fn is_conditional(name: &ConditionalName, text: &str, kind: ReferenceType) -> bool {
-    name.raw().as_internal().as_str() == text && name.reference_type() == kind
-}
-
 #[test]
 fn possible_names_stand_in_order(rt: HostRuntime) -> Result<(), Fail> {
     let alloc = rt.alloc();
     let kind = ReferenceType::CommonOrEntity;
-    let space = name(alloc, "A::B")?;
+    let space = internal(alloc, "A::B")?;
     for (text, first, second) in [("T", "A::B::T", Some("T")), ("C::T", "C::T", None)] {
         let name = raw(alloc, text)?.conditionally_qualify_with(alloc, Some(&space), kind)?;
-        assert!(rt; is_conditional(&name, text, kind), "{text}");
+        assert!(rt; name.raw().as_internal().as_str() == text, "{text}");
+        assert!(rt; name.reference_type() == kind, "{text}");
         assert!(rt; possible(&name, first, second), "{text}");
     }
     Ok(())
 }
 
-// A name outside of any namespace.
-fn alone(alloc: Global, kind: ReferenceType) -> Result<ConditionalName, Fail> {
-    Ok(raw(alloc, "T")?.conditionally_qualify_with(alloc, None, kind)?)
-}
-
 #[test]
 fn an_unconditional_name_stands_alone(rt: HostRuntime) -> Result<(), Fail> {
     let alloc = rt.alloc();
-    let name = ConditionalName::unconditional(alloc, name(alloc, "T")?, ReferenceType::Entity)?;
+    let name = ConditionalName::unconditional(alloc, internal(alloc, "T")?, ReferenceType::Entity)?;
     assert!(rt; name.possibilities().count() == 1 && name.loc().is_none());
     assert!(rt; name.clone()? == name);
-    assert!(rt; alone(alloc, ReferenceType::Entity)? == name);
-    assert!(rt; alone(alloc, ReferenceType::Common)? != name);
+    for (kind, is_same) in [
+        (ReferenceType::Entity, true),
+        (ReferenceType::Common, false),
+    ] {
+        let alone = raw(alloc, "T")?.conditionally_qualify_with(alloc, None, kind)?;
+        assert!(rt; (alone == name) == is_same);
+    }
     Ok(())
 }

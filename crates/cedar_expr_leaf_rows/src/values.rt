@@ -1,59 +1,25 @@
 //! Examples of values, sets and extension values.
 
+use crate::making::{
+    V, is_copied, literals, long, longs, name, pairs, reference, shows, text, uid,
+};
+use crate::pairs::{Numbered, misplaced};
 use cedar_expr_values::*;
 use std::alloc::Global;
 use std::cmp::Ordering;
-use std::collections::{BTreeMap, HashSet};
+use std::collections::HashSet;
 use std::rc::{Rc, RcStr};
 use std::test::Fail;
-
-type V = Value<ExtValue>;
-
-fn long(n: i64) -> V {
-    Value::from(Literal::from(n))
-}
-
-fn text(alloc: Global, text: &str) -> Result<V, Fail> {
-    Ok(Value::from(Literal::from_str(alloc, text)?))
-}
-
-fn uid(alloc: Global, kind: &str, id: &str) -> Result<EntityUID, Fail> {
-    let kind = EntityType::from_normalized_str(alloc, kind)?;
-    let id = Eid::from_str(alloc, id)?;
-    Ok(EntityUID::from_components(kind, id, None))
-}
-
-fn reference(alloc: Global, kind: &str, id: &str) -> Result<V, Fail> {
-    let literal = Literal::from_entity_uid(alloc, uid(alloc, kind, id)?)?;
-    Ok(Value::from(literal))
-}
-
-fn longs(alloc: Global, numbers: &[i64]) -> Result<Vec<V>, Fail> {
-    let mut values = Vec::new(alloc);
-    for n in numbers {
-        values.push(long(*n))?;
-    }
-    Ok(values)
-}
 
 fn set(alloc: Global, numbers: &[i64]) -> Result<V, Fail> {
     Ok(Value::set(alloc, longs(alloc, numbers)?, None)?)
 }
 
-fn one(alloc: Global, value: V) -> Result<Vec<V>, Fail> {
-    let mut values = Vec::new(alloc);
-    values.push(value)?;
-    Ok(values)
-}
-
 fn decimal(alloc: Global, written: &str, key: u8) -> Result<ExtValue, Fail> {
-    let kind = Name::from_normalized_str(alloc, "decimal")?;
-    let function = Name::from_normalized_str(alloc, "decimal")?;
-    let mut args = Vec::new(alloc);
-    args.push(Literal::from_str(alloc, written)?)?;
-    let mut bytes = Vec::new(alloc);
-    bytes.push(key)?;
-    Ok(ExtValue::new(kind, function, args, bytes))
+    let kind = name(alloc, "decimal")?;
+    let function = name(alloc, "decimal")?;
+    let args = vec![in alloc; text(alloc, written)?]?;
+    Ok(ExtValue::new(kind, function, args, vec![in alloc; key]?))
 }
 
 fn extension(alloc: Global, written: &str, key: u8) -> Result<V, Fail> {
@@ -61,12 +27,8 @@ fn extension(alloc: Global, written: &str, key: u8) -> Result<V, Fail> {
     Ok(Value::new(ValueKind::ExtensionValue(value), None))
 }
 
-fn record(alloc: Global, pairs: &[(&str, i64)]) -> Result<V, Fail> {
-    let mut fields = Vec::new(alloc);
-    for (name, n) in pairs {
-        fields.push((RcStr::from_str(alloc, name)?, long(*n)))?;
-    }
-    Ok(Value::record(alloc, fields, None)?)
+fn record(alloc: Global, fields: &[(&str, i64)]) -> Result<V, Fail> {
+    Ok(Value::record(alloc, pairs(alloc, fields)?, None)?)
 }
 
 fn numbers(alloc: Global, numbers: &[i64]) -> Result<Set<ExtValue>, Fail> {
@@ -83,36 +45,21 @@ fn has_numbers(set: &Set<ExtValue>, numbers: &[i64]) -> bool {
     set.len() == numbers.len() && set.is_empty() == numbers.is_empty()
 }
 
-// The set of the literals 2, 1 and 2 again.
-fn listed(alloc: Global) -> Result<Set<ExtValue>, Fail> {
-    let mut literals = Vec::new(alloc);
-    for n in [2, 1, 2] {
-        literals.push(Literal::from(n))?;
-    }
-    Ok(Set::from_lits(alloc, literals)?)
-}
-
 #[test]
 fn a_set_has_each_value_once(rt: HostRuntime) -> Result<(), Fail> {
     let alloc = rt.alloc();
     let set = numbers(alloc, &[1, 2, 1])?;
     let empty: Set<ExtValue> = Set::empty(alloc)?;
     assert!(rt; has_numbers(&set, &[1, 2]) && has_numbers(&empty, &[]));
-    assert!(rt; set == listed(alloc)? && set.clone()? == set);
+    let listed = Set::from_lits(alloc, literals(alloc, &[2, 1, 2])?)?;
+    assert!(rt; set == listed && is_copied(&set));
     assert!(rt; empty.cmp(&set) == Ordering::Less);
     Ok(())
 }
 
 // The set whose one member is the set of these numbers.
 fn set_of_set(alloc: Global, numbers: &[i64]) -> Result<V, Fail> {
-    Ok(Value::set(alloc, one(alloc, set(alloc, numbers)?)?, None)?)
-}
-
-// Whether the first is found among values that the second is one of, and the third isn't.
-fn is_seen(alloc: Global, first: &V, second: V, third: &V) -> Result<bool, Fail> {
-    let mut seen = HashSet::new(alloc);
-    seen.insert(second)?;
-    Ok(seen.contains(first) && !seen.contains(third))
+    Ok(Value::set(alloc, vec![in alloc; set(alloc, numbers)?]?, None)?)
 }
 
 #[test]
@@ -121,7 +68,9 @@ fn sets_of_sets_are_those_of_their_members(rt: HostRuntime) -> Result<(), Fail> 
     let left = set_of_set(alloc, &[1, 2])?;
     let right = set_of_set(alloc, &[2, 1, 1])?;
     assert!(rt; left == right && left.same(&right) && left.order(&right) == Ordering::Equal);
-    assert!(rt; is_seen(alloc, &right, left, &set(alloc, &[1, 2])?)?);
+    let mut seen = HashSet::new(alloc);
+    seen.insert(left)?;
+    assert!(rt; seen.contains(&right) && !seen.contains(&set(alloc, &[1, 2])?));
     Ok(())
 }
 
@@ -139,7 +88,7 @@ fn members(rt: HostRuntime) -> Result<(), Fail> {
     ] {
         assert!(rt; some.contains(&long(n)) == is_member, "{n}");
     }
-    assert!(rt; !some.contains(&text(rt.alloc(), "1")?));
+    assert!(rt; !some.contains(&Value::from(text(rt.alloc(), "1")?)));
     Ok(())
 }
 
@@ -180,14 +129,6 @@ fn names_of(alloc: Global, record: &V) -> Result<String, Fail> {
     Ok(names)
 }
 
-// The value with the same fields, at a place.
-fn moved(record: &V) -> Result<V, Fail> {
-    match record.value_kind() {
-        ValueKind::Record(fields) => Ok(Value::record_arc(fields.clone()?, Some(Loc::new(0, 4)))),
-        _ => Err(Fail::from("no record")),
-    }
-}
-
 #[test]
 fn of_a_repeated_name_the_last_stands(rt: HostRuntime) -> Result<(), Fail> {
     let alloc = rt.alloc();
@@ -195,84 +136,58 @@ fn of_a_repeated_name_the_last_stands(rt: HostRuntime) -> Result<(), Fail> {
     assert!(rt; left == record(alloc, &[("a", 2), ("b", 3)])?);
     assert!(rt; left != record(alloc, &[("a", 2), ("b", 1)])?);
     assert!(rt; names_of(alloc, &left)?.as_str() == "ab");
-    assert!(rt; moved(&left)? == left);
+    let ValueKind::Record(fields) = left.value_kind() else {
+        return Err(Fail::from("no record"));
+    };
+    assert!(rt; Value::record_arc(fields.clone()?, Some(Loc::new(0, 4))) == left);
     Ok(())
 }
 
-#[test]
-fn empty_records_are_equal(rt: HostRuntime) -> Result<(), Fail> {
-    let alloc = rt.alloc();
-    let empty: V = Value::empty_record(alloc, None)?;
-    assert!(rt; empty == record(alloc, &[])?);
-    assert!(rt; empty == Value::record_arc(Rc::new(alloc, BTreeMap::new(alloc))?, None));
-    Ok(())
-}
-
-// Literals and sets in rising order.
-fn rising_sets(alloc: Global) -> Result<Vec<V>, Fail> {
-    let mut values = Vec::new(alloc);
-    values.push(Value::from(Literal::from(true)))?;
-    values.push(long(-2))?;
-    values.push(long(7))?;
-    values.push(text(alloc, "")?)?;
-    values.push(reference(alloc, "A", "x")?)?;
-    for numbers in [
-        [].as_slice(),
-        [1].as_slice(),
-        [1, 2].as_slice(),
-        [2].as_slice(),
-    ] {
-        values.push(set(alloc, numbers)?)?;
-    }
-    Ok(values)
-}
-
-// Of records in rising order the one with this number.
-fn rising_record(alloc: Global, number: usize) -> Result<V, Fail> {
+// Of values in rising order the one with this number.
+fn rising(alloc: Global, number: usize) -> Result<V, Fail> {
     match number {
-        0 => record(alloc, &[]),
-        1 => record(alloc, &[("a", 1)]),
-        2 => record(alloc, &[("a", 1), ("b", 0)]),
-        3 => record(alloc, &[("a", 2)]),
-        _ => record(alloc, &[("b", 0)]),
+        0 => Ok(Value::from(Literal::from(true))),
+        1 => Ok(long(-2)),
+        2 => Ok(long(7)),
+        3 => Ok(Value::from(text(alloc, "")?)),
+        4 => Ok(Value::from(reference(alloc, "A::B", "x", None)?)),
+        5 => set(alloc, &[]),
+        6 => set(alloc, &[1]),
+        7 => set(alloc, &[1, 2]),
+        8 => set(alloc, &[2]),
+        9 => record(alloc, &[]),
+        10 => record(alloc, &[("a", 1)]),
+        11 => record(alloc, &[("a", 1), ("b", 0)]),
+        12 => record(alloc, &[("a", 2)]),
+        13 => record(alloc, &[("b", 0)]),
+        14 => extension(alloc, "9.0", 1),
+        _ => extension(alloc, "1.0", 2),
     }
 }
 
-// Whether two values are ordered and told apart as their numbers are.
-fn are_as(left: &V, right: &V, order: Ordering) -> bool {
-    left.order(right) == order && (left == right) == (order == Ordering::Equal)
+impl Numbered for V {
+    fn stands(&self, other: &V, number: usize, other_number: usize) -> bool {
+        let order = number.cmp(&other_number);
+        self.order(other) == order && (self == other) == order.is_eq()
+    }
 }
 
 #[test]
 fn values_are_ordered_by_kind(rt: HostRuntime) -> Result<(), Fail> {
-    let mut rising = rising_sets(rt.alloc())?;
-    for number in 0..5 {
-        rising.push(rising_record(rt.alloc(), number)?)?;
+    let mut values = Vec::new(rt.alloc());
+    for number in 0..16 {
+        let value = rising(rt.alloc(), number)?;
+        assert!(rt; is_copied(&value), "{number}");
+        values.push(value)?;
     }
-    for (written, key) in [("9.0", 1), ("1.0", 2)] {
-        rising.push(extension(rt.alloc(), written, key)?)?;
-    }
-    for (i, left) in rising.iter().enumerate() {
-        for (j, right) in rising.iter().enumerate() {
-            assert!(rt; are_as(left, right, i.cmp(&j)), "{i} and {j}");
-        }
-        assert!(rt; left.clone()? == *left, "{i}");
-    }
-    assert!(rt; rising.len() == 16);
+    assert!(rt; misplaced(&values).is_none());
     Ok(())
-}
-
-// The set of the literal 1, at a place.
-fn placed(alloc: Global, loc: Option<Loc>) -> Result<V, Fail> {
-    let mut literals = Vec::new(alloc);
-    literals.push(Literal::from(1))?;
-    Ok(Value::set_of_lits(alloc, literals, loc)?)
 }
 
 #[test]
 fn places_do_not_count(rt: HostRuntime) -> Result<(), Fail> {
     let loc = Some(Loc::new(1, 4));
-    let here = placed(rt.alloc(), loc)?;
+    let here: V = Value::set_of_lits(rt.alloc(), literals(rt.alloc(), &[1])?, loc)?;
     let there = set(rt.alloc(), &[1, 1])?;
     assert!(rt; here == there && !here.eq_and_same_source_loc(&there));
     assert!(rt; here.source_loc() == loc);
@@ -284,62 +199,56 @@ fn places_do_not_count(rt: HostRuntime) -> Result<(), Fail> {
     Ok(())
 }
 
-// A value for each core type.
-fn of_each_type(alloc: Global) -> Result<Vec<V>, Fail> {
-    let mut values = Vec::new(alloc);
-    values.push(Value::from(Literal::from(false)))?;
-    values.push(long(1))?;
-    values.push(text(alloc, "x")?)?;
-    values.push(set(alloc, &[])?)?;
-    values.push(record(alloc, &[])?)?;
-    values.push(reference(alloc, "A::B", "x")?)?;
-    values.push(extension(alloc, "1.0", 1)?)?;
-    Ok(values)
+// Whether this is the type of the value, of its kind, and of the literal that it may be.
+fn is_typed(value: &V, ty: &Type) -> Result<bool, Fail> {
+    let is_of_literal = match value.value_kind() {
+        ValueKind::Lit(literal) => literal.type_of()? == *ty,
+        _ => true,
+    };
+    Ok(is_of_literal && value.value_kind().type_of()? == *ty && value.type_of()? == *ty)
 }
 
-// Whether the type is its copy, and is shown as this text.
-fn shows(alloc: Global, ty: &Type, want: &str) -> Result<bool, Fail> {
-    Ok(ty.clone()?.same(ty) && ty.to_string(alloc)?.as_str() == want)
+// Of rising values one of each type, with what it shows of it.
+const TYPES: [(usize, &str); 7] = [
+    (0, "bool"),
+    (1, "long"),
+    (3, "string"),
+    (5, "set"),
+    (9, "record"),
+    (4, "(entity of type `A::B`)"),
+    (14, "decimal"),
+];
+
+impl Numbered for Type {
+    fn stands(&self, other: &Type, number: usize, other_number: usize) -> bool {
+        let is_same = number == other_number;
+        self.same(other) == is_same && (*self == *other) == is_same
+    }
 }
 
 #[test]
 fn what_each_value_shows_of_its_type(rt: HostRuntime) -> Result<(), Fail> {
-    let values = of_each_type(rt.alloc())?;
-    let texts = [
-        "bool",
-        "long",
-        "string",
-        "set",
-        "record",
-        "(entity of type `A::B`)",
-        "decimal",
-    ];
-    assert!(rt; values.len() == texts.len());
-    for (i, (value, want)) in values.iter().zip(texts).enumerate() {
+    let alloc = rt.alloc();
+    let mut types = Vec::new(alloc);
+    for (number, want) in TYPES {
+        let value = rising(alloc, number)?;
         let ty = value.type_of()?;
-        assert!(rt; shows(rt.alloc(), &ty, want)?, "{want}");
-        for (j, other) in values.iter().enumerate() {
-            assert!(rt; (ty == other.type_of()?) == (i == j), "{i} and {j}");
-        }
+        assert!(rt; is_copied(&ty) && shows(alloc, &ty, want), "{want}");
+        assert!(rt; is_typed(&value, &ty)?, "{want}");
+        types.push(ty)?;
     }
+    assert!(rt; types.len() == 7 && misplaced(&types).is_none());
     Ok(())
 }
 
 #[test]
 fn types_of_entities_are_told_apart_by_name(rt: HostRuntime) -> Result<(), Fail> {
     let alloc = rt.alloc();
-    let ty = Type::entity_type(Name::from_normalized_str(alloc, "A::B")?);
-    assert!(rt; ty == reference(alloc, "A::B", "y")?.type_of()?);
+    let ty = Type::entity_type(name(alloc, "A::B")?);
+    assert!(rt; ty == reference(alloc, "A::B", "y", None)?.type_of()?);
     assert!(rt; ty.order(&Type::Record) == Ordering::Greater);
     assert!(rt; ty.order(&decimal(alloc, "", 0)?.type_of()?) == Ordering::Less);
     Ok(())
-}
-
-// Whether the value is of the type `decimal` and made by the function of that name, with this key.
-fn is_decimal(value: &ExtValue, key: u8) -> bool {
-    value.typename().basename_as_ref().as_str() == "decimal"
-        && value.constructor().basename_as_ref().as_str() == "decimal"
-        && value.key() == [key].as_slice()
 }
 
 #[test]
@@ -349,7 +258,9 @@ fn calls_of_extension_values_do_not_count(rt: HostRuntime) -> Result<(), Fail> {
     let two = decimal(rt.alloc(), "2.0", 2)?;
     assert!(rt; one == same && one.equals_extvalue(&same) && !one.equals_extvalue(&two));
     assert!(rt; two.cmp_extvalue(&one) == Ordering::Greater);
-    assert!(rt; is_decimal(&one, 1) && one.args().first() != same.args().first());
+    assert!(rt; one.typename().basename_as_ref().as_str() == "decimal");
+    assert!(rt; one.constructor().basename_as_ref().as_str() == "decimal");
+    assert!(rt; one.key() == [1].as_slice() && one.args().first() != same.args().first());
     Ok(())
 }
 
@@ -357,13 +268,9 @@ type Called = RepresentableExtensionValue<ExtValue>;
 
 // A decimal as a call of the function `unit`.
 fn called(alloc: Global) -> Result<Called, Fail> {
-    let func = Name::from_normalized_str(alloc, "unit")?;
+    let func = name(alloc, "unit")?;
     let value = Rc::new(alloc, decimal(alloc, "1.0", 1)?)?;
     Ok(RepresentableExtensionValue::new(value, func, Vec::new(alloc)))
-}
-
-fn called_kind(alloc: Global, called: Called) -> Result<ValueKind<Called>, Fail> {
-    Ok(ValueKind::ExtensionValue(Rc::new(alloc, called)?))
 }
 
 #[test]
@@ -374,22 +281,27 @@ fn a_value_keeps_the_call_that_it_is_given(rt: HostRuntime) -> Result<(), Fail> 
     assert!(rt; called == copy && copy.args().is_empty());
     assert!(rt; *copy.value() == decimal(alloc, "1.00", 1)?);
     assert!(rt; copy.func().basename_as_ref().as_str() == "unit");
-    assert!(rt; shows(alloc, &copy.type_of()?, "decimal")?);
-    assert!(rt; called_kind(alloc, copy)? == called_kind(alloc, called)?);
+    let ty = copy.type_of()?;
+    assert!(rt; is_copied(&ty) && shows(alloc, &ty, "decimal"));
+    let copied = ValueKind::ExtensionValue(Rc::new(alloc, copy)?);
+    assert!(rt; copied == ValueKind::ExtensionValue(Rc::new(alloc, called)?));
     Ok(())
 }
 
 // A set of a record of a set of references, a reference and an extension value.
 fn nested(alloc: Global) -> Result<V, Fail> {
-    let mut members = one(alloc, reference(alloc, "A", "x")?)?;
-    members.push(reference(alloc, "B", "x")?)?;
-    members.push(text(alloc, "A::\"y\"")?)?;
+    let mut members = Vec::new(alloc);
+    members.push(Value::from(reference(alloc, "A", "x", None)?))?;
+    members.push(Value::from(reference(alloc, "B", "x", None)?))?;
+    members.push(Value::from(text(alloc, "A::\"y\"")?))?;
     let members = Value::set(alloc, members, None)?;
+    let user = Value::from(reference(alloc, "A", "x", None)?);
     let mut pairs = Vec::new(alloc);
     pairs.push((RcStr::from_str(alloc, "s")?, members))?;
-    pairs.push((RcStr::from_str(alloc, "u")?, reference(alloc, "A", "x")?))?;
+    pairs.push((RcStr::from_str(alloc, "u")?, user))?;
     pairs.push((RcStr::from_str(alloc, "e")?, extension(alloc, "1.0", 1)?))?;
-    Ok(Value::set(alloc, one(alloc, Value::record(alloc, pairs, None)?)?, None)?)
+    let record = Value::record(alloc, pairs, None)?;
+    Ok(Value::set(alloc, vec![in alloc; record]?, None)?)
 }
 
 #[test]
@@ -399,7 +311,7 @@ fn uids_of_a_value_at_any_depth(rt: HostRuntime) -> Result<(), Fail> {
     assert!(rt; uids.len() == 2);
     for (kind, id, is_there) in [("A", "x", true), ("B", "x", true), ("A", "y", false)] {
         assert!(rt;
-            uids.contains(&uid(alloc, kind, id)?) == is_there,
+            uids.contains(&uid(alloc, kind, id, None)?) == is_there,
             "{kind} {id}"
         );
     }

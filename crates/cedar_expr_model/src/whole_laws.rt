@@ -1,6 +1,6 @@
 //! Laws of the definitions for every kind. Each function's contract is the theorem; its body does nothing.
 
-ghost use Rattle.cedar_expr_model.specs.Whole.TextLaws.{UidsAreReadable};
+ghost use Rattle.cedar_expr_model.specs.Whole.TextLaws.{UidsAreReadable, UidsHoldQuotes};
 ghost use Rattle.cedar_expr_model.specs.Whole.Order.{text_cmp, name_order, uid_order, literal_cmp, value_cmp};
 ghost use Rattle.cedar_expr_model.specs.Whole.Shape.{tree_cmp};
 ghost use Rattle.cedar_expr_model.specs.Whole.Laws.{IsLinear, NamesByText, UidsByText, ValuesDecide, CanonicalSame, SetsAreCanonical, SetsRise, MembersAreListed, MembersDecide, SetsAreSame, SetsAreMade, FieldsAreFound, PatternsDecide, CoreTypesDecide, AnnotationsDecide};
@@ -147,4 +147,9 @@ pub fn represented_values_are_right()
 /// Each uid can be read again from its text.
 pub fn uids_are_readable()
     ensures { UidsAreReadable }
+{}
+
+/// The text of a uid always holds a double quote.
+pub fn uids_hold_quotes()
+    ensures { UidsHoldQuotes }
 {}

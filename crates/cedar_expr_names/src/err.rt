@@ -7,7 +7,7 @@ use crate::InternalName;
 use thiserror::Error;
 
 /// A name with the reserved part `__cedar` stands where none may.
-#[derive(Debug, Drop, Error)]
+#[derive(Debug, PartialEq, Eq, Drop, Error)]
 #[error("the name `{name}` is reserved")]
 pub struct ReservedNameError {
     name: InternalName,
@@ -30,7 +30,7 @@ impl ReservedNameError {
 }
 
 /// Why a text is no name of the kind that was asked for.
-#[derive(Debug, Drop, Error)]
+#[derive(Debug, PartialEq, Eq, Drop, Error)]
 pub enum NameError {
     /// There is no memory for the name.
     #[error("out of memory")]

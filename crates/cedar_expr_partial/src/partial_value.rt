@@ -22,7 +22,7 @@ use std::vec::IntoIter;
 
 /// A value, or an expression that isn't one yet.
 #[derive(Drop)]
-#[derive_where(PartialEq, Eq; X)]
+#[derive_where(Debug, PartialEq, Eq; X)]
 pub enum PartialValue<X> {
     /// A value.
     Value(Value<X>),

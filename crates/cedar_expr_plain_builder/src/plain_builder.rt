@@ -1,15 +1,22 @@
 //! The own builder without data, as a type with no parameter.
 
 ghost use Rattle.std.specs.Prelude.{◌≡◌, None, map, IfOk, IfErr, OnOk};
+ghost use Rattle.std.specs.Rc.{rc_str_bytes};
 ghost use Rattle.std.specs.declared.convert.Infallible.{Infallible};
-ghost use Rattle.cedar_expr_names.specs.Views.{plain_name_of};
-ghost use Rattle.cedar_expr_model.specs.Whole.Builder.{tree_builder, trees, tree_fields};
+ghost use Rattle.cedar_expr_names.specs.Views.{plain_name_of, type_name_of};
+ghost use Rattle.cedar_expr_leaves.specs.Literals.{literal_of};
+ghost use Rattle.cedar_expr_leaves.specs.Operators.{unary_op_of, binary_op_of};
+ghost use Rattle.cedar_expr_leaves.specs.Patterns.{pattern_of};
+ghost use Rattle.cedar_expr_leaves.specs.Slots.{slot_of};
+ghost use Rattle.cedar_expr_leaves.specs.Variables.{var_of};
+ghost use Rattle.cedar_expr_model.specs.Whole.Builder.{tree_builder, trees, tree_fields, conjunction, disjunction, path_test};
 ghost use Rattle.cedar_expr_model.specs.Whole.Records.{record_tree};
 ghost use Rattle.cedar_expr_model.specs.Whole.Repeats.{repeated_name};
-ghost use Rattle.cedar_expr_model.specs.Whole.Tree.{Tree, choice, call, set_literal, record_literal};
+ghost use Rattle.cedar_expr_model.specs.Whole.Tree.{Tree, lit, var, slot, unknown, choice, unary, binary, call, get_attr, has_attr, like, is_type, set_literal, record_literal};
 ghost use Rattle.cedar_expr_model.proofs.Whole.Agreeing.{trees_are_lawful};
 ghost use Rattle.cedar_expr_trees.specs.Refusals.{RefusesRecord};
-ghost use Rattle.cedar_expr_trees.specs.Trees.{tree_of, named, field_trees};
+ghost use Rattle.cedar_expr_trees.specs.Trees.{tree_of, place_of, named, field_trees};
+ghost use Rattle.cedar_expr_trees.specs.Unknowns.{unknown_of};
 ghost use Rattle.cedar_expr_builders.specs.Views.{builder_place, builder_data, refuses_nothing};
 ghost use Rattle.cedar_expr_builders.specs.declared.err.BuildFault.TheVariants.{OutOfMemory};
 
@@ -79,19 +86,31 @@ impl Builds for PlainBuilder {
         self.0.data()
     }
 
-    fn val(self, alloc: Global, v: Literal) -> Result<Expr<()>, AllocError> {
+    fn val(self, alloc: Global, v: Literal) -> Result<Expr<()>, AllocError>
+        ensures made { IfOk result (λ e. tree_of e ≡ lit (literal_of v)) }
+        ensures place { IfOk result (λ e. place_of e ≡ builder_place self.0) }
+    {
         self.0.val(alloc, v)
     }
 
-    fn var(self, alloc: Global, v: Var) -> Result<Expr<()>, AllocError> {
+    fn var(self, alloc: Global, v: Var) -> Result<Expr<()>, AllocError>
+        ensures made { IfOk result (λ e. tree_of e ≡ var (var_of v)) }
+        ensures place { IfOk result (λ e. place_of e ≡ builder_place self.0) }
+    {
         self.0.var(alloc, v)
     }
 
-    fn unknown(self, alloc: Global, u: Unknown) -> Result<Expr<()>, AllocError> {
+    fn unknown(self, alloc: Global, u: Unknown) -> Result<Expr<()>, AllocError>
+        ensures made { IfOk result (λ e. tree_of e ≡ unknown (unknown_of u).name (unknown_of u).annotation) }
+        ensures place { IfOk result (λ e. place_of e ≡ builder_place self.0) }
+    {
         self.0.unknown(alloc, u)
     }
 
-    fn slot(self, alloc: Global, s: SlotId) -> Result<Expr<()>, AllocError> {
+    fn slot(self, alloc: Global, s: SlotId) -> Result<Expr<()>, AllocError>
+        ensures made { IfOk result (λ e. tree_of e ≡ slot (slot_of s)) }
+        ensures place { IfOk result (λ e. place_of e ≡ builder_place self.0) }
+    {
         self.0.slot(alloc, s)
     }
 
@@ -102,20 +121,30 @@ impl Builds for PlainBuilder {
         then_expr: Rc<Expr<()>>,
         else_expr: Rc<Expr<()>>,
     ) -> Result<Expr<()>, AllocError>
-        ensures { IfOk result (λ e. tree_of e ≡ choice (tree_of test_expr.value) (tree_of then_expr.value) (tree_of else_expr.value)) }
+        ensures made { IfOk result (λ e. tree_of e ≡ choice (tree_of test_expr.value) (tree_of then_expr.value) (tree_of else_expr.value)) }
+        ensures place { IfOk result (λ e. place_of e ≡ builder_place self.0) }
     {
         self.0.ite_arc(alloc, test_expr, then_expr, else_expr)
     }
 
-    fn and(self, alloc: Global, e1: Expr<()>, e2: Expr<()>) -> Result<Expr<()>, AllocError> {
+    fn and(self, alloc: Global, e1: Expr<()>, e2: Expr<()>) -> Result<Expr<()>, AllocError>
+        ensures made { IfOk result (λ e. tree_of e ≡ conjunction (tree_of e1) (tree_of e2)) }
+        ensures place { IfOk result (λ e. place_of e ≡ builder_place self.0) }
+    {
         self.0.and(alloc, e1, e2)
     }
 
-    fn or(self, alloc: Global, e1: Expr<()>, e2: Expr<()>) -> Result<Expr<()>, AllocError> {
+    fn or(self, alloc: Global, e1: Expr<()>, e2: Expr<()>) -> Result<Expr<()>, AllocError>
+        ensures made { IfOk result (λ e. tree_of e ≡ disjunction (tree_of e1) (tree_of e2)) }
+        ensures place { IfOk result (λ e. place_of e ≡ builder_place self.0) }
+    {
         self.0.or(alloc, e1, e2)
     }
 
-    fn unary_app(self, alloc: Global, op: UnaryOp, arg: Expr<()>) -> Result<Expr<()>, AllocError> {
+    fn unary_app(self, alloc: Global, op: UnaryOp, arg: Expr<()>) -> Result<Expr<()>, AllocError>
+        ensures made { IfOk result (λ e. tree_of e ≡ unary (unary_op_of op) (tree_of arg)) }
+        ensures place { IfOk result (λ e. place_of e ≡ builder_place self.0) }
+    {
         self.0.unary_app(alloc, op, arg)
     }
 
@@ -125,7 +154,10 @@ impl Builds for PlainBuilder {
         op: BinaryOp,
         arg1: Expr<()>,
         arg2: Expr<()>,
-    ) -> Result<Expr<()>, AllocError> {
+    ) -> Result<Expr<()>, AllocError>
+        ensures made { IfOk result (λ e. tree_of e ≡ binary (binary_op_of op) (tree_of arg1) (tree_of arg2)) }
+        ensures place { IfOk result (λ e. place_of e ≡ builder_place self.0) }
+    {
         self.0.binary_app(alloc, op, arg1, arg2)
     }
 
@@ -136,16 +168,23 @@ impl Builds for PlainBuilder {
         args: Vec<Expr<()>>,
     ) -> Result<Expr<()>, BuildFault<Infallible>>
         ensures made { IfOk result (λ e. tree_of e ≡ call (plain_name_of fn_name) (trees (map tree_of args.items))) }
+        ensures place { IfOk result (λ e. place_of e ≡ builder_place self.0) }
         ensures want { IfErr result (λ f. f ≡ OutOfMemory) }
     {
         self.0.call_extension_fn(alloc, fn_name, args)
     }
 
-    fn get_attr(self, alloc: Global, expr: Expr<()>, attr: RcStr) -> Result<Expr<()>, AllocError> {
+    fn get_attr(self, alloc: Global, expr: Expr<()>, attr: RcStr) -> Result<Expr<()>, AllocError>
+        ensures made { IfOk result (λ e. tree_of e ≡ get_attr (tree_of expr) (rc_str_bytes attr)) }
+        ensures place { IfOk result (λ e. place_of e ≡ builder_place self.0) }
+    {
         self.0.get_attr(alloc, expr, attr)
     }
 
-    fn has_attr(self, alloc: Global, expr: Expr<()>, attr: RcStr) -> Result<Expr<()>, AllocError> {
+    fn has_attr(self, alloc: Global, expr: Expr<()>, attr: RcStr) -> Result<Expr<()>, AllocError>
+        ensures made { IfOk result (λ e. tree_of e ≡ has_attr (tree_of expr) (rc_str_bytes attr)) }
+        ensures place { IfOk result (λ e. place_of e ≡ builder_place self.0) }
+    {
         self.0.has_attr(alloc, expr, attr)
     }
 
@@ -154,11 +193,17 @@ impl Builds for PlainBuilder {
         alloc: Global,
         expr: Expr<()>,
         attrs: Rc<NonEmpty<RcStr>>,
-    ) -> Result<Expr<()>, AllocError> {
+    ) -> Result<Expr<()>, AllocError>
+        ensures made { IfOk result (λ e. tree_of e ≡ path_test (tree_of expr) (rc_str_bytes attrs.value.head) (map rc_str_bytes attrs.value.tail.items)) }
+        ensures place { IfOk result (λ e. place_of e ≡ builder_place self.0) }
+    {
         self.0.extended_has_attr(alloc, expr, attrs)
     }
 
-    fn like(self, alloc: Global, expr: Expr<()>, pattern: Pattern) -> Result<Expr<()>, AllocError> {
+    fn like(self, alloc: Global, expr: Expr<()>, pattern: Pattern) -> Result<Expr<()>, AllocError>
+        ensures made { IfOk result (λ e. tree_of e ≡ like (tree_of expr) (pattern_of pattern)) }
+        ensures place { IfOk result (λ e. place_of e ≡ builder_place self.0) }
+    {
         self.0.like(alloc, expr, pattern)
     }
 
@@ -167,12 +212,16 @@ impl Builds for PlainBuilder {
         alloc: Global,
         expr: Expr<()>,
         entity_type: EntityType,
-    ) -> Result<Expr<()>, AllocError> {
+    ) -> Result<Expr<()>, AllocError>
+        ensures made { IfOk result (λ e. tree_of e ≡ is_type (tree_of expr) (type_name_of entity_type)) }
+        ensures place { IfOk result (λ e. place_of e ≡ builder_place self.0) }
+    {
         self.0.is_entity_type(alloc, expr, entity_type)
     }
 
     fn set(self, alloc: Global, exprs: Vec<Expr<()>>) -> Result<Expr<()>, AllocError>
-        ensures { IfOk result (λ e. tree_of e ≡ set_literal (trees (map tree_of exprs.items))) }
+        ensures made { IfOk result (λ e. tree_of e ≡ set_literal (trees (map tree_of exprs.items))) }
+        ensures place { IfOk result (λ e. place_of e ≡ builder_place self.0) }
     {
         self.0.set(alloc, exprs)
     }
@@ -182,7 +231,8 @@ impl Builds for PlainBuilder {
         alloc: Global,
         map: Rc<BTreeMap<RcStr, Expr<()>>>,
     ) -> Result<Expr<()>, AllocError>
-        ensures { IfOk result (λ e. tree_of e ≡ record_literal (tree_fields (named (field_trees map.value.entries)))) }
+        ensures made { IfOk result (λ e. tree_of e ≡ record_literal (tree_fields (named (field_trees map.value.entries)))) }
+        ensures place { IfOk result (λ e. place_of e ≡ builder_place self.0) }
     {
         self.0.record_arc(alloc, map)
     }
@@ -195,6 +245,7 @@ impl Builds for PlainBuilder {
         ensures made { IfOk result (λ e. tree_of e ≡ record_tree (named (field_trees pairs.items))) }
         ensures distinct { OnOk result (repeated_name (named pairs.items) ≡ None) }
         ensures refused { IfErr result (λ f. RefusesRecord (named pairs.items) f) }
+        ensures place { IfOk result (λ e. place_of e ≡ builder_place self.0) }
     {
         self.0.record(alloc, pairs)
     }

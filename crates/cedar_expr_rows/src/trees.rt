@@ -223,6 +223,49 @@ fn a_name_stands_once_in_a_record(rt: HostRuntime) -> Result<(), Fail> {
     Ok(())
 }
 
+// The pairs of these names and of what these texts write.
+fn pairs(alloc: Global, texts: &[(&str, &str)]) -> Result<Vec<(RcStr, Expr)>, AllocError> {
+    let mut pairs = Vec::new(alloc);
+    for (name, text) in texts {
+        pairs.push((word(alloc, name)?, expr(alloc, text)?))?;
+    }
+    Ok(pairs)
+}
+
+fn is_duplicate(fault: &ExpressionConstructionError, want: &DuplicateKeyError) -> bool {
+    match fault {
+        ExpressionConstructionError::DuplicateKey(e) => *e == *want,
+        ExpressionConstructionError::OutOfMemory => false,
+    }
+}
+
+#[test]
+fn a_repeated_key_is_named_whatever_stands_under_it(rt: HostRuntime) -> Result<(), Fail> {
+    let alloc = rt.alloc();
+    let (foo, bar) = (word(alloc, "foo")?, word(alloc, "bar")?);
+    let other = DuplicateKeyError::new(bar, "in record literal");
+    for texts in [
+        [("foo", "37"), ("foo", "\"hello")].as_slice(),
+        [("foo", "37"), ("foo", "101")].as_slice(),
+        [
+            ("bar", "true"),
+            ("foo", "37"),
+            ("a", "1"),
+            ("foo", "\"hello"),
+            ("b", "2"),
+        ]
+        .as_slice(),
+    ] {
+        let made = Expr::record(alloc, pairs(alloc, texts)?);
+        let fault = refusal(made).ok_or("a repeated key passed")?;
+        let want = DuplicateKeyError::new(foo.clone()?, "in record literal");
+        assert!(rt; is_duplicate(&fault, &want) && !is_duplicate(&fault, &other));
+        let want: ExpressionConstructionError = want.into();
+        assert!(rt; fault == want && fault != ExpressionConstructionError::OutOfMemory);
+    }
+    Ok(())
+}
+
 // The number 5, at a place and with data.
 fn five(loc: Option<Loc>, data: i64) -> Expr<i64> {
     Expr::new(ExprKind::Lit(Literal::from(5)), loc, data)

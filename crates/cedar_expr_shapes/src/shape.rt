@@ -50,6 +50,7 @@ impl<T> ExprShape for Expr<T> {
 
 /// An expression, borrowed or owned, that is compared, ordered and hashed by its shape alone.
 #[derive(Drop)]
+#[derive_where(Debug; T)]
 pub struct ExprShapeOnly<'a, T = ()> {
     expr: Cow<'a, Expr<T>>,
 }

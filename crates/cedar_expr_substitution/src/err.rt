@@ -6,7 +6,7 @@ use std::rc::RcStr;
 use thiserror::Error;
 
 /// Why values can't be put in the place of unknowns.
-#[derive(Debug, Drop, Error)]
+#[derive(Debug, PartialEq, Eq, Drop, Error)]
 pub enum SubstitutionError {
     /// There is no memory for the expression.
     #[error("out of memory")]

@@ -14,9 +14,8 @@ ghost use Rattle.cedar_expr_trees.specs.Unknowns.{unknown_of};
 ghost use Rattle.cedar_expr_trees.specs.Trees.{tree_of, kind_tree, place_of, named, field_trees};
 
 use crate::expr::{Expr, ExprKind, Unknown};
-use crate::non_empty::NonEmpty;
 use crate::sharing::{share_three, share_two};
-use cedar_expr_leaves::{BinaryOp, Literal, Pattern, SlotId, UnaryOp, Var};
+use cedar_expr_leaves::{BinaryOp, Literal, NonEmpty, Pattern, SlotId, UnaryOp, Var};
 use cedar_expr_names::{EntityType, Name};
 use std::alloc::{AllocError, Global};
 use std::collections::BTreeMap;

@@ -3,14 +3,14 @@
 ghost use Rattle.std.specs.Prelude.{◌≡◌};
 ghost use Rattle.std.specs.Rc.{rc_str_bytes};
 ghost use Rattle.cedar_expr_trees.specs.Refusals.{repeated_key, repeated_context};
-ghost use Rattle.cedar_expr_trees.specs.declared.err.ExpressionConstructionError.TheVariants.{OutOfMemory};
+ghost use Rattle.cedar_expr_trees.specs.declared.err.ExpressionConstructionError.TheVariants.{OutOfMemory, DuplicateKey};
 
 use std::alloc::{AllocError, AllocFailed};
 use std::rc::RcStr;
 use thiserror::Error;
 
 /// A key stands twice in a record.
-#[derive(Debug, Drop, Error)]
+#[derive(Debug, PartialEq, Eq, Drop, Error)]
 #[error("duplicate key `{key}` {context}")]
 pub struct DuplicateKeyError {
     key: RcStr,
@@ -53,7 +53,7 @@ impl DuplicateKeyError {
 }
 
 /// Why an expression can't be made.
-#[derive(Debug, Drop, Error)]
+#[derive(Debug, PartialEq, Eq, Drop, Error)]
 pub enum ExpressionConstructionError {
     /// There is no memory for the expression.
     #[error("out of memory")]
@@ -77,5 +77,13 @@ impl<T: Drop> From<AllocFailed<T>> for ExpressionConstructionError {
 
     fn from(_error: AllocFailed<T>) -> ExpressionConstructionError {
         ExpressionConstructionError::OutOfMemory
+    }
+}
+
+impl From<DuplicateKeyError> for ExpressionConstructionError {
+    ghost from_gives = { λ d e. e ≡ DuplicateKey d };
+
+    fn from(error: DuplicateKeyError) -> ExpressionConstructionError {
+        ExpressionConstructionError::DuplicateKey(error)
     }
 }

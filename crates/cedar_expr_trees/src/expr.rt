@@ -3,8 +3,7 @@
 ghost use Rattle.std.specs.Prelude.{◌≡◌};
 
 use crate::copies::{and_of, attribute_of, binary_of, choice_of, is_of, like_of, or_of, test_of};
-use crate::non_empty::NonEmpty;
-use cedar_expr_leaves::{BinaryOp, Literal, Pattern, SlotId, UnaryOp, Var};
+use cedar_expr_leaves::{BinaryOp, Literal, NonEmpty, Pattern, SlotId, UnaryOp, Var};
 use cedar_expr_names::{EntityType, Loc, Name, Quoted};
 use cedar_expr_values::Type;
 use std::alloc::AllocError;

@@ -8,11 +8,12 @@ pub mod err;
 pub mod expr;
 pub mod expr_iterator;
 pub mod laws;
-pub mod non_empty;
 pub mod records;
 pub mod sharing;
 
-pub use cedar_expr_leaves::{BinaryOp, Literal, Pattern, PatternElem, Slot, SlotId, UnaryOp, Var};
+pub use cedar_expr_leaves::{
+    BinaryOp, Literal, NonEmpty, Pattern, PatternElem, Slot, SlotId, UnaryOp, Var,
+};
 pub use cedar_expr_values::{
     Eid, EntityType, EntityUID, Id, InternalName, Loc, Name, NameError, Quoted, ReservedNameError,
     Type, is_normalized_ident,
@@ -20,4 +21,3 @@ pub use cedar_expr_values::{
 pub use err::{DuplicateKeyError, ExpressionConstructionError};
 pub use expr::{Expr, ExprKind, Unknown};
 pub use expr_iterator::{ExprIterator, Slots, Unknowns};
-pub use non_empty::NonEmpty;

@@ -123,7 +123,7 @@ impl StaticallyTyped for ExtValue {
 
 /// An extension value with the function and the literals of a call that makes it. It is compared by the value alone.
 #[derive(Drop)]
-#[derive_where(PartialEq, Eq, PartialOrd, Ord, Hash; X)]
+#[derive_where(Debug, PartialEq, Eq, PartialOrd, Ord, Hash; X)]
 pub struct RepresentableExtensionValue<X> {
     value: Rc<X>,
     #[derive_where(skip(EqHashOrd))]

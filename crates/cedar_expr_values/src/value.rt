@@ -20,7 +20,7 @@ use std::rc::{Rc, RcStr};
 use std::slice::Iter;
 
 /// A value with its place. Values are compared by what they are; places don't count.
-#[derive_where(PartialEq, Eq, PartialOrd, Ord, Hash; X)]
+#[derive_where(Debug, PartialEq, Eq, PartialOrd, Ord, Hash; X)]
 #[cycle(value)]
 pub struct Value<X> {
     kind: ValueKind<X>,
@@ -37,7 +37,7 @@ impl<X: Drop> Drop for Value<X> {
 
 /// What a value is.
 #[derive(Drop)]
-#[derive_where(PartialEq, Eq, PartialOrd, Ord, Hash; X)]
+#[derive_where(Debug, PartialEq, Eq, PartialOrd, Ord, Hash; X)]
 #[cycle(value)]
 pub enum ValueKind<X> {
     /// A literal.
@@ -52,7 +52,7 @@ pub enum ValueKind<X> {
 
 /// A finite set of values. Its members are kept in rising order, so none stands twice.
 #[derive(Drop)]
-#[derive_where(PartialEq, Eq, PartialOrd, Ord, Hash; X)]
+#[derive_where(Debug, PartialEq, Eq, PartialOrd, Ord, Hash; X)]
 #[cycle(value)]
 pub struct Set<X> {
     members: Rc<Vec<Value<X>>>,

@@ -18,6 +18,7 @@ pub mod json_schema {
 
 /// Built schemas, and the steps that build them.
 pub mod schema {
+    pub use cedar_schema_builder::extension_types;
     pub use cedar_schema_built::{
         ActionGroups, ActionsFor, Ancestors, UnresolvedDeclaration, UnresolvedDeclarations,
         ValidatorSchema,

@@ -62,6 +62,21 @@ module _ {N S : Type 0} (seen : N → S) (cmp : N → N → Ordering) (told : (a
         (⊎_elim (λ m. put_kept ks k s (is.all s m)) (λ p. subst (Contains (map seen (insert_key cmp ks k))) (q ∙ p) (put_has ks k)) (Contains-push_cases xs x s c));
   }
 
+  -- one more of them, before the others
+  pub set_first : (xs : List S) (ks ls : List N) (k : N) (x : S) → seen k ≡ x → ls ≡ insert_key cmp ks k → IsSetOf xs (map seen ks) → IsSetOf (x ∷ xs) (map seen ls)
+  set_first xs ks ls k x q e is = record {
+    only = λ s c.
+        ⊎_elim
+        (λ m. contains_tail x xs s (is.only s m))
+        (λ p. subst (Contains (x ∷ xs)) (sym q ∙ p) (contains_head x xs))
+        (put_only ks k s (subst (λ ns. Contains (map seen ns) s) e c));
+    all = λ s c.
+        subst (λ ns. Contains (map seen ns) s) (sym e)
+        (contains_cases (Contains (map seen (insert_key cmp ks k)) s) x xs s c
+        (λ p. subst (Contains (map seen (insert_key cmp ks k))) (q ∙ p) (put_has ks k))
+        (λ m. put_kept ks k s (is.all s m)));
+  }
+
   -- what is found in the set is there
   pub found_there : (k : N) (ks : List N) → Decides (list_any (is_at (cmp k)) ks) (Contains (map seen ks) (seen k))
   found_there k [] = (λ h. absurd (true≢false (sym h)), λ c. absurd (contains_none (seen k) c))

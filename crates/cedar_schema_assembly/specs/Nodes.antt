@@ -23,7 +23,7 @@ types_cmp m n = slice_cmp nat_cmp (rc_str_bytes m.0.internal.text) (rc_str_bytes
 abbrev plain_names_cmp : CodeName → CodeName → Ordering
 plain_names_cmp m n = slice_cmp nat_cmp (rc_str_bytes m.internal.text) (rc_str_bytes n.internal.text)
 
-abbrev texts_cmp : RcStr Global → RcStr Global → Ordering
+abbrev pub texts_cmp : RcStr Global → RcStr Global → Ordering
 texts_cmp m n = slice_cmp nat_cmp (rc_str_bytes m) (rc_str_bytes n)
 
 pub types_told : (m n : EntityType) → Decides (is_at (types_cmp m) n) (type_name_of m ≡ type_name_of n)

@@ -1,6 +1,6 @@
 //! The entity types of a schema.
 
-ghost use Rattle.std.specs.Prelude.{◌≡◌, [], length, map, option_map, IfOk, IfErr};
+ghost use Rattle.std.specs.Prelude.{◌≡◌, [], ◌∷◌, length, map, option_map, IfOk, IfErr};
 ghost use Rattle.std.specs.Rc.{rc_str_bytes};
 ghost use Rattle.cedar_expr_names.specs.Views.{name_of, type_name_of};
 ghost use Rattle.cedar_schema_decl.specs.Definitions.{entity_form};
@@ -14,7 +14,7 @@ ghost use Rattle.cedar_schema_nodes.specs.Numbers.{seen_nodes};
 ghost use Rattle.cedar_schema_resolver.specs.Meanings.{extensions_seen, setting_of, told, told_fields};
 ghost use Rattle.cedar_schema_told_model.specs.Told.{types_in};
 ghost use Rattle.cedar_schema_assembly.specs.Found.{AreTypesTold, AreTypesKnown};
-ghost use Rattle.cedar_schema_assembly.specs.Lists.{StandOnce, sets_seen};
+ghost use Rattle.cedar_schema_assembly.specs.Lists.{IsSetOf, StandOnce, sets_seen};
 ghost use Rattle.cedar_schema_assembly.specs.Made.{AreAllKnown, AreMade, IsTypeMade};
 ghost use Rattle.cedar_schema_assembly.specs.Refusals.{TellsAmong, TellsType, TellsTypes, TellsTypeTwice};
 ghost use Rattle.cedar_schema_assembly.specs.Seen.{type_seen, types_seen, types_above, names_written};
@@ -23,6 +23,7 @@ use crate::err::AssemblyError;
 use crate::names::{entity_type_of, set_of_types};
 use crate::resolved::{told_attributes, told_tags};
 use crate::sets::{below, copies, first_repeated, set_of};
+use cedar_expr_leaves::NonEmpty;
 use cedar_expr_names::{EntityType, InternalName};
 use cedar_schema_decl::EntityTypeFragment;
 use cedar_schema_decl::json_schema::{RecordType, Type};
@@ -31,6 +32,7 @@ use cedar_schema_nodes::laws::descent_is_the_schemas;
 use cedar_schema_resolver::TypeResolver;
 use std::alloc::{AllocError, Global};
 use std::collections::BTreeSet;
+use std::rc::RcStr;
 
 // The names of the parents that are written. Answers want of memory.
 fn parents_of(
@@ -111,6 +113,15 @@ fn standard_type(
     }
 }
 
+// The members of an enumeration.
+fn members_of(alloc: Global, ids: &NonEmpty<RcStr>) -> Result<BTreeSet<RcStr>, AllocError>
+    ensures { IfOk result (λ s. IsSetOf (rc_str_bytes ids.now.head ∷ map rc_str_bytes ids.now.tail.items) (map rc_str_bytes s.keys)) }
+{
+    let mut members = set_of(alloc, &ids.tail)?;
+    members.insert(ids.head.clone()?)?;
+    Ok(members)
+}
+
 // The entity type that is written, with these descendants.
 fn entity_type(
     alloc: Global,
@@ -134,7 +145,7 @@ fn entity_type(
             Err(error) => Err(error),
         },
         EntityTypeFragment::Enum(ids) => {
-            let members = set_of(alloc, ids)?;
+            let members = members_of(alloc, ids)?;
             let entity_type = ValidatorEntityType::new_enum(alloc, name, below, members, loc)?;
             Ok(entity_type)
         }

@@ -1,3 +1,5 @@
 mod Among
 mod Kept
 mod Same
+mod Plain
+mod WrittenNames

@@ -38,7 +38,7 @@ module _ (declared : TypesAreDeclared) (found : TypesAreFound) (s : Schema) (k :
   same_attributes n None e = ap (option_map of_type) (sym (none_there (type_named s n) (ap is_some (sym e) ∙ declared s k h n)))
   same_attributes n (Some t) e = let r = found s k h n t e in ap Some (same_kind t.kind r.0.kind r.2.kind) ∙ ap (option_map of_type) (sym r.1)
 
-  same_declared : (a : Text) (n : Name) → declared_of (attributes_kept k) a n ≡ declared_of s a n
+  pub same_declared : (a : Text) (n : Name) → declared_of (attributes_kept k) a n ≡ declared_of s a n
   same_declared a n =
       declared_by a (type_named (attributes_kept k) n)
       ∙ ap (option_and_then (attribute_named a)) (sym (kept_is_found k n) ∙ same_attributes n (kept_type k n) refl)

@@ -1,12 +1,23 @@
-//! A law of what a built schema declares. The function's contract is the theorem; its body does nothing but name another.
+//! Laws of what a built schema declares. Each function's contract is the theorem; its body calls the law that it stands on, if it needs one.
 
-ghost use Rattle.cedar_schema_attributes.specs.Laws.{AttributesAreKept};
+ghost use Rattle.cedar_schema_attributes.specs.Laws.{AttributesAreKept, NamedArePlain, WrittenArePlain, BuiltArePlain};
 
 use cedar_schema_kept_model::laws::declarations_are_kept;
 
 /// What is kept of a schema declares of the attributes of every type what the schema declares.
 pub fn attributes_are_kept()
     ensures { AttributesAreKept }
+{
+    declarations_are_kept();
+}
+
+/// The attributes that well-formed declarations declare have well-formed types, and the type of all sets stands in none of these. So
+/// it is of the schema of the declarations that fragments write, and of each schema that is built of fragments: what a union of its
+/// entity types knows is what all members declare.
+pub fn built_attributes_are_plain()
+    ensures named { NamedArePlain }
+    ensures written { WrittenArePlain }
+    ensures built { BuiltArePlain }
 {
     declarations_are_kept();
 }

@@ -1,10 +1,12 @@
-//! Builds a schema of a size, and prints a number that tells what it has.
+//! Builds a schema of a size, and prints a number that tells what it has, or its text.
 //!
-//! Standard input holds a word and a number, as `chain 1000`. The exit status is 0, or 2 where the input names no shape, or 3 where
-//! the declarations were refused, or 4 where memory, reading or writing failed; where it isn't 0 nothing is printed. bench/schema.py
-//! measures it, and sweeps/run refuses it memory.
+//! Standard input holds a word and a number, as `chain 1000`. For `mixed` the text of the schema is printed, and for `refused` the
+//! number of the refusal. The exit status is 0, or 2 where the input names no shape, or 3 where the declarations were refused, or 4
+//! where memory, reading or writing failed; where it isn't 0 nothing is printed. bench/schema.py measures it, and sweeps/run refuses it
+//! memory.
 #![tactic(auto)]
 
+mod examples;
 mod fault;
 mod shapes;
 
@@ -15,15 +17,23 @@ use std::io;
 use std::io::Write;
 use std::process::ExitCode;
 
+// What is built: a shape, of which is printed what it has, or an example, of which the text is.
+#[derive(Clone, Copy)]
+enum Wanted {
+    Shape(Shape),
+    Mixed,
+    Refused,
+}
+
 fn main(rt: HostRuntime) -> ExitCode {
     let Ok(text) = io::read_to_string(rt.alloc(), rt.stdin()) else {
         return ExitCode::from(4);
     };
-    let Some((shape, size)) = named(text.as_str()) else {
+    let Some((wanted, size)) = named(text.as_str()) else {
         return ExitCode::from(2);
     };
-    match run(rt.alloc(), shape, size) {
-        Ok(count) => match writeln!(rt.stdout(), "{count}") {
+    match run(rt.alloc(), wanted, size) {
+        Ok(text) => match write!(rt.stdout(), "{text}") {
             Ok(_) => ExitCode::SUCCESS,
             Err(_) => ExitCode::from(4),
         },
@@ -32,25 +42,38 @@ fn main(rt: HostRuntime) -> ExitCode {
     }
 }
 
-// The shape and the size that a text names.
-fn named(text: &str) -> Option<(Shape, u32)> {
+// What a text names, and the size.
+fn named(text: &str) -> Option<(Wanted, u32)> {
     let (word, number) = text.trim().split_once(' ')?;
     let size = number.parse::<u32>().ok()?;
-    let shape = match word {
-        "flat" => Shape::Flat,
-        "chain" => Shape::Chain,
-        "wide" => Shape::Wide,
-        "groups" => Shape::Groups,
-        "nested" => Shape::Nested,
+    let wanted = match word {
+        "flat" => Wanted::Shape(Shape::Flat),
+        "chain" => Wanted::Shape(Shape::Chain),
+        "wide" => Wanted::Shape(Shape::Wide),
+        "groups" => Wanted::Shape(Shape::Groups),
+        "group_chain" => Wanted::Shape(Shape::GroupChain),
+        "nested" => Wanted::Shape(Shape::Nested),
+        "mixed" => Wanted::Mixed,
+        "refused" => Wanted::Refused,
         _ => return None,
     };
-    Some((shape, size))
+    Some((wanted, size))
+}
+
+// Builds what is wanted of this size, and gives the text that is printed.
+fn run(alloc: Global, wanted: Wanted, size: u32) -> Result<String, Fault> {
+    match wanted {
+        Wanted::Shape(shape) => counted(alloc, shape, size),
+        Wanted::Mixed => examples::mixed(alloc, size),
+        Wanted::Refused => examples::refused(alloc, size),
+    }
 }
 
 // Builds the schema of this shape and size, and counts what it has.
-fn run(alloc: Global, shape: Shape, size: u32) -> Result<usize, Fault> {
+fn counted(alloc: Global, shape: Shape, size: u32) -> Result<String, Fault> {
     let schema = shapes::built(alloc, shape, size)?;
     let types = schema.entity_types().count();
     let actions = schema.action_ids().count();
-    Ok(types.wrapping_add(actions))
+    let count = types.wrapping_add(actions);
+    Ok(format!(in alloc; "{count}\n")?)
 }

@@ -18,6 +18,8 @@ pub enum Shape {
     Wide,
     /// Actions in one group.
     Groups,
+    /// Actions of which each is the group of the one before it.
+    GroupChain,
     /// Records in records, by way of common types.
     Nested,
 }
@@ -30,6 +32,7 @@ fn line(alloc: Global, shape: Shape, n: u32) -> Result<String, AllocError> {
         Shape::Chain => format!(in alloc; "entity T{n} | T{next}\n"),
         Shape::Wide => format!(in alloc; "entity T{n} | Root\n"),
         Shape::Groups => format!(in alloc; "action a{n} | Action all\n"),
+        Shape::GroupChain => format!(in alloc; "action a{n} | Action a{next}\n"),
         Shape::Nested => format!(in alloc; "type A{n} | {{a: common A{next}}}\n"),
     }
 }
@@ -40,6 +43,7 @@ fn last(alloc: Global, shape: Shape, size: u32) -> Result<String, AllocError> {
         Shape::Flat | Shape::Wide => format!(in alloc; "entity Root"),
         Shape::Chain => format!(in alloc; "entity T{size}"),
         Shape::Groups => format!(in alloc; "action all"),
+        Shape::GroupChain => format!(in alloc; "action a{size}"),
         Shape::Nested => format!(in alloc; "type A{size} | Long\nentity Root |  | a: common A0"),
     }
 }

@@ -5,18 +5,31 @@ use cedar_schema_built::ValidatorSchema;
 use std::alloc::{AllocError, Global};
 use std::test::Fail;
 
-// The texts of the names that the schema lists: those of its common types, whole and their last parts, and those of its namespaces.
-fn names_text(alloc: Global, schema: &ValidatorSchema) -> Result<String, AllocError> {
+// The names of the common types that the schema lists, each whole and its last part.
+fn types_text(alloc: Global, schema: &ValidatorSchema) -> Result<String, AllocError> {
     let mut text = String::new(alloc);
     for common in schema.common_types() {
         let line = format!(in alloc; "type {} {}\n", common.full_name(), common.name())?;
         text.push_str(line.as_str())?;
     }
+    Ok(text)
+}
+
+// The names of the namespaces that the schema lists, each twice.
+fn namespaces_text(alloc: Global, schema: &ValidatorSchema) -> Result<String, AllocError> {
+    let mut text = String::new(alloc);
     for namespace in schema.namespaces() {
         let line = format!(in alloc; "in {} {}\n", namespace.full_name(), namespace.name())?;
         text.push_str(line.as_str())?;
     }
     Ok(text)
+}
+
+// The names that the schema lists: those of its common types, and those of its namespaces.
+fn names_text(alloc: Global, schema: &ValidatorSchema) -> Result<String, AllocError> {
+    let types = types_text(alloc, schema)?;
+    let namespaces = namespaces_text(alloc, schema)?;
+    format!(in alloc; "{types}{namespaces}")
 }
 
 // The names that the schema of these fragments lists. Fails where none is built.

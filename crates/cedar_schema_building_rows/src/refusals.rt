@@ -90,7 +90,7 @@ fn wrong_pair(
     Ok("")
 }
 
-/// Of two faults one is told.
+/// Of two faults in one namespace one is told.
 #[test]
 fn one_of_two_faults_is_told(rt: HostRuntime) -> Result<(), Fail> {
     let rows = [
@@ -109,5 +109,37 @@ fn one_of_two_faults_is_told(rt: HostRuntime) -> Result<(), Fail> {
         ("action a | Action a\naction view |  |  |  | Long", 7, 9),
     ];
     assert_eq!(rt; wrong_pair(rt.alloc(), &rows)?, "");
+    Ok(())
+}
+
+// The first row that doesn't hold: fragments, and the two numbers of which one is that of the refusal.
+fn wrong_fragments(alloc: Global, rows: &[(&[&[Lines<'_>]], u32, u32)]) -> Option<(u32, u32)> {
+    for (parts, one, other) in rows {
+        let number = refusal(alloc, parts);
+        if number != Some(*one) && number != Some(*other) {
+            return Some((*one, *other));
+        }
+    }
+    None
+}
+
+/// Of two faults one is told, also where fragments or namespaces have them together.
+#[test]
+fn one_of_two_faults_between_fragments_is_told(rt: HostRuntime) -> Result<(), Fail> {
+    let both: &[Lines<'_>] = &[("", "entity User\ntype T | Long")];
+    let acting: &[Lines<'_>] = &[("", "action view\nentity User")];
+    let shadowing: &[Lines<'_>] = &[("", "entity User"), ("N", "entity User")];
+    let viewing: &[Lines<'_>] = &[("", "action view")];
+    let rows: [(&[&[Lines<'_>]], u32, u32); 4] = [
+        (&[both, both], 1, 2),
+        (&[acting, acting], 1, 3),
+        (&[viewing, viewing, shadowing], 3, 11),
+        (
+            &[both, &[("", "type T | Bool")], &[("N", "entity T")]],
+            2,
+            11,
+        ),
+    ];
+    assert!(rt; wrong_fragments(rt.alloc(), &rows).is_none());
     Ok(())
 }

@@ -1,6 +1,9 @@
 //! Schemas that are built.
 
 use crate::built::{built, outcome};
+use cedar_schema_built::ValidatorSchema;
+use cedar_schema_example_entries::listed;
+use std::alloc::{AllocError, Global};
 use std::test::Fail;
 
 const PEOPLE: &str = "entity User |  | boss: User, ok: Bool, nick?: String";
@@ -61,6 +64,57 @@ fn names_are_resolved(rt: HostRuntime) -> Result<(), Fail> {
         text.as_str(),
         "Color of red over\nN::Bot tags Set<User> over\nUser over N::Bot\n"
     );
+    Ok(())
+}
+
+// The number of the refusal of the schema of these lines as an incomplete one: none if it is complete.
+fn lacking(alloc: Global, lines: &str) -> Result<Option<u32>, Fail> {
+    let Ok(schema) = built(alloc, &[&[("", lines)]]) else {
+        return Err(Fail::from("no schema"));
+    };
+    match schema.check_complete() {
+        Ok(()) => Ok(None),
+        Err(error) => Ok(Some(error.number())),
+    }
+}
+
+/// A schema isn't complete where an entity type or an action is declared elsewhere.
+#[test]
+fn incomplete_schemas_are_refused(rt: HostRuntime) -> Result<(), Fail> {
+    let alloc = rt.alloc();
+    assert_eq!(rt; lacking(alloc, "extern X")?, Some(13));
+    assert_eq!(rt; lacking(alloc, "entity User\nextern X | User")?, Some(13));
+    assert_eq!(rt; lacking(alloc, "action view\noutside read")?, Some(13));
+    assert_eq!(rt; lacking(alloc, "entity User\naction view")?, None);
+    assert_eq!(rt; lacking(alloc, "")?, None);
+    Ok(())
+}
+
+// The texts of the actions as entities: each uid, and the actions that it descends from.
+fn entities_text(alloc: Global, schema: &ValidatorSchema) -> Result<String, AllocError> {
+    let mut text = String::new(alloc);
+    let entities = schema.action_entities(alloc)?;
+    for entity in &entities {
+        let above = listed(alloc, entity.ancestors())?;
+        let line = format!(in alloc; "{} in{above}\n", entity.uid())?;
+        text.push_str(line.as_str())?;
+    }
+    Ok(text)
+}
+
+/// The actions of a schema are entities below all that they descend from.
+#[test]
+fn actions_are_entities(rt: HostRuntime) -> Result<(), Fail> {
+    let alloc = rt.alloc();
+    let lines = "action view | Action read\naction read | Action all\naction all";
+    let Ok(schema) = built(alloc, &[&[("", lines)]]) else {
+        return Err(Fail::from("no schema"));
+    };
+    let want = "Action::\"all\" in
+Action::\"read\" in Action::\"all\"
+Action::\"view\" in Action::\"all\" Action::\"read\"
+";
+    assert_eq!(rt; entities_text(alloc, &schema)?.as_str(), want);
     Ok(())
 }
 

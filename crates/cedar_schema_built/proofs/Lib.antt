@@ -9,3 +9,5 @@ mod Sorted
 mod Located
 mod Forms
 mod Declared
+pub mod Rising
+mod InOrder

@@ -6,3 +6,4 @@ pub mod Iterators
 pub mod Above
 pub mod BuiltOf
 pub mod Listed
+pub mod InOrder

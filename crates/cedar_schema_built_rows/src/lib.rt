@@ -1,6 +1,8 @@
-//! Tests of built schemas: their readers, the actions as entities, and what is declared elsewhere.
+//! Tests of built schemas: their entries and readers, the attributes that they declare, and what they have to be.
 #![tactic(auto)]
 
+#[cfg(test)]
+mod attributes;
 #[cfg(test)]
 mod entities;
 #[cfg(test)]
@@ -12,4 +14,10 @@ mod parts;
 #[cfg(test)]
 mod readers;
 #[cfg(test)]
+mod sound;
+#[cfg(test)]
+mod sound_fixtures;
+#[cfg(test)]
 mod unresolved;
+#[cfg(test)]
+mod validated;

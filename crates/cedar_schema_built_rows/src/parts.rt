@@ -7,7 +7,7 @@ use cedar_schema_example_entries::declared;
 use std::alloc::{AllocError, Global};
 
 // What was made. Fails where it wasn't made.
-fn made<T: Drop, E: Drop>(made: Result<T, E>) -> Result<T, AllocError> {
+pub(crate) fn made<T: Drop, E: Drop>(made: Result<T, E>) -> Result<T, AllocError> {
     made.ok().ok_or(AllocError)
 }
 

@@ -1,6 +1,6 @@
 -- What declarations that stand under their full names write, over what is seen of their names.
 -- Rule: declarations (docs/RULES.md).
-use Rattle.std.specs.Prelude.{List, map, option_map}
+use Rattle.std.specs.Prelude.{List, ◌∷◌, map, option_map}
 use Rattle.std.specs.Rc.{rc_str_bytes}
 use Rattle.cedar_expr_model.specs.Name.{Text, Name}
 use Rattle.cedar_expr_names.specs.Views.{name_of}
@@ -22,7 +22,7 @@ commons_form f d = map (λ e. (name_of e.0, common_form f e.1)) d.defs.items
 -- an entity type, and those that stand under names
 abbrev pub entity_form : {N A : Type 0} → (N → A) → EntityTypeFragment N → EntityForm A
 entity_form f (Standard fs ps t) = standard_form (map f ps.items) (record_fields f fs) (option_map (type_form f) t)
-entity_form f (Enum ids) = enumerated_form (map rc_str_bytes ids.items)
+entity_form f (Enum ids) = enumerated_form (rc_str_bytes ids.head ∷ map rc_str_bytes ids.tail.items)
 entity_form f (External ps) = external_form (map f ps.items)
 
 abbrev pub entities_form : {N A : Type 0} → (N → A) → EntityTypesDef N → List (Name × EntityForm A)

@@ -14,6 +14,7 @@ use crate::all_defs::AllDefs;
 use crate::err::TypeNotDefinedError;
 use crate::json_schema::{CommonType, RecordType, Type};
 use crate::requalify::{Requalify, requalify_names, requalify_record, requalify_type};
+use cedar_expr_leaves::NonEmpty;
 use cedar_expr_names::InternalName;
 use cedar_expr_raw_names::{ConditionalName, ReferenceType};
 use std::alloc::{AllocError, Global};
@@ -46,7 +47,7 @@ pub enum EntityTypeFragment<N> {
         tags: Option<Type<N>>,
     },
     /// Its entities have these ids.
-    Enum(Vec<RcStr>),
+    Enum(NonEmpty<RcStr>),
     /// It is declared elsewhere.
     External {
         /// The types that its entities may be in.

@@ -1,5 +1,6 @@
 //! Trees of declarations, over names in any state.
 
+use cedar_expr_leaves::NonEmpty;
 use cedar_expr_names::{Id, InternalName, Loc};
 use std::collections::BTreeMap;
 use std::rc::RcStr;
@@ -57,7 +58,7 @@ pub enum EntityTypeKind<N> {
     /// Its entities are these.
     Enum {
         /// Their ids.
-        choices: Vec<RcStr>,
+        choices: NonEmpty<RcStr>,
     },
     /// It is declared elsewhere.
     External {

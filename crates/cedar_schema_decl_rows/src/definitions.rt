@@ -28,7 +28,10 @@ fn entity_text(
             };
             format!(in alloc; "in [{parents}] {{{attributes}}} {tags}")
         }
-        EntityTypeFragment::Enum(choices) => format!(in alloc; "of {} members", choices.len()),
+        EntityTypeFragment::Enum(choices) => format!(in alloc;
+            "of {} members",
+            1 + choices.tail.len()
+        ),
         EntityTypeFragment::External { parents } => {
             let parents = names_text(alloc, parents)?;
             format!(in alloc; "elsewhere in [{parents}]")

@@ -1,2 +1,3 @@
 pub mod Among
 mod Attributed
+pub mod InOrder

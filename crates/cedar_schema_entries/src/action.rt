@@ -21,8 +21,8 @@ use std::collections::btree_set::Iter;
 #[derive(Debug)]
 pub struct ValidatorActionId {
     name: EntityUID,
-    applies_to: AppliesTo,
-    descendants: BTreeSet<EntityUID>,
+    pub(crate) applies_to: AppliesTo,
+    pub(crate) descendants: BTreeSet<EntityUID>,
     context: Type,
     is_external: bool,
     loc: Option<Loc>,

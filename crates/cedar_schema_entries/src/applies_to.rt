@@ -13,8 +13,8 @@ use std::collections::btree_set::Iter;
 /// The types of principals and of resources that an action applies to, each once.
 #[derive(Debug, PartialEq, Eq, Drop)]
 pub struct AppliesTo {
-    principals: BTreeSet<EntityType>,
-    resources: BTreeSet<EntityType>,
+    pub(crate) principals: BTreeSet<EntityType>,
+    pub(crate) resources: BTreeSet<EntityType>,
 }
 
 impl AppliesTo {

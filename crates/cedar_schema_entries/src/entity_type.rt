@@ -16,9 +16,9 @@ use std::rc::RcStr;
 #[derive(Debug)]
 pub struct ValidatorEntityType {
     name: EntityType,
-    descendants: BTreeSet<EntityType>,
+    pub(crate) descendants: BTreeSet<EntityType>,
     attributes: Attributes,
-    kind: ValidatorEntityTypeKind,
+    pub(crate) kind: ValidatorEntityTypeKind,
     loc: Option<Loc>,
     ghost attributed: { are_of_kind (attributes_of attributes) kind ≡ true },
 }

@@ -5,6 +5,7 @@ mod action;
 mod applies_to;
 mod entity_kinds;
 mod entity_type;
+pub mod laws;
 
 pub use action::ValidatorActionId;
 pub use applies_to::AppliesTo;

@@ -2,6 +2,7 @@
 
 use crate::naming::{ExampleName, id, name, names, raw};
 use crate::types::{record, ty};
+use cedar_expr_leaves::NonEmpty;
 use cedar_expr_names::{Id, InternalName};
 use cedar_expr_raw_names::{RawName, ReferenceType};
 use cedar_schema_decl::json_schema::{
@@ -18,10 +19,13 @@ pub(crate) fn parts(line: &str) -> (&str, &str) {
 }
 
 // The texts, with commas between them.
-fn texts(alloc: Global, text: &str) -> Result<Vec<RcStr>, AllocError> {
-    let mut texts = Vec::new(alloc);
-    for text in text.split(", ") {
-        texts.push(RcStr::from_str(alloc, text)?)?;
+fn texts(alloc: Global, text: &str) -> Result<NonEmpty<RcStr>, AllocError> {
+    let (first, others) = text.split_once(", ").unwrap_or((text, ""));
+    let mut texts = NonEmpty::singleton(alloc, RcStr::from_str(alloc, first)?);
+    for other in others.split(", ") {
+        if !other.is_empty() {
+            texts.tail.push(RcStr::from_str(alloc, other)?)?;
+        }
     }
     Ok(texts)
 }

@@ -1,6 +1,6 @@
 -- Declarations as they are written: in a namespace, under words and ids.
 -- Rule: declarations (docs/RULES.md).
-use Rattle.std.specs.Prelude.{List, [], Option, map, option_map}
+use Rattle.std.specs.Prelude.{List, [], ◌∷◌, Option, map, option_map}
 use Rattle.std.specs.Option.{option_map_or}
 use Rattle.std.specs.Rc.{rc_str_bytes}
 use Rattle.std.specs.declared.alloc.Global.{Global}
@@ -35,7 +35,7 @@ pub record WrittenNamespace : Type 0 where
 -- an entity type
 abbrev pub kind_form : {N A : Type 0} → (N → A) → EntityTypeKind N → EntityForm A
 kind_form f (Standard ps fs t) = standard_form (map f ps.items) (record_fields f fs) (option_map (type_form f) t)
-kind_form f (Enum ids) = enumerated_form (map rc_str_bytes ids.items)
+kind_form f (Enum ids) = enumerated_form (rc_str_bytes ids.head ∷ map rc_str_bytes ids.tail.items)
 kind_form f (External ps) = external_form (map f ps.items)
 
 -- An action. One that applies to nothing has the empty record as its context.

@@ -1,6 +1,9 @@
-//! Tests of the checks of names that fragments write, and of what fragments declare, resolved and gathered.
+//! Tests of the checks of names that fragments write, of what fragments declare, resolved and gathered, and of the entity types and
+//! actions that a built schema keeps of it.
 #![tactic(auto)]
 
+#[cfg(test)]
+mod actions;
 #[cfg(test)]
 mod checks;
 #[cfg(test)]
@@ -11,3 +14,5 @@ mod parts;
 mod resolving;
 #[cfg(test)]
 mod texts;
+#[cfg(test)]
+mod types;

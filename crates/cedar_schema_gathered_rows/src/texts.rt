@@ -49,7 +49,10 @@ fn kind_text(
             let tags = tags_text(alloc, tags)?;
             format!(in alloc; "in [{parents}] {{{attributes}}} {tags}")
         }
-        EntityTypeFragment::Enum(choices) => format!(in alloc; "of {} members", choices.len()),
+        EntityTypeFragment::Enum(choices) => format!(in alloc;
+            "of {} members",
+            1 + choices.tail.len()
+        ),
         EntityTypeFragment::External { parents } => {
             let parents = names_text(alloc, parents)?;
             format!(in alloc; "elsewhere in [{parents}]")

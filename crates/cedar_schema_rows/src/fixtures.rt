@@ -42,13 +42,27 @@ fn union(alloc: Global) -> Made {
     shared(alloc, Type::Entity(EntityKind::Entity(union)))
 }
 
-// An attribute, by its name, its type's name and a `?` where it isn't required.
-fn attribute(alloc: Global, text: &str) -> Result<(RcStr, AttributeType), AllocError> {
+// The name of an attribute, whether it is required, where no `?` stands behind it, and the name of its type.
+pub(crate) fn attribute_parts(text: &str) -> (&str, bool, &str) {
     let (name, ty) = text.split_once(": ").unwrap_or((text, "Never"));
     match name.strip_suffix('?') {
-        Some(name) => Ok((RcStr::from_str(alloc, name)?, declared(alloc, ty, false)?)),
-        None => Ok((RcStr::from_str(alloc, name)?, declared(alloc, ty, true)?)),
+        Some(name) => (name, false, ty),
+        None => (name, true, ty),
     }
+}
+
+// The attributes of a record, and whether it is open: where `..` stands behind them.
+pub(crate) fn record_parts(text: &str) -> (&str, bool) {
+    match text.strip_suffix("..") {
+        Some(attrs) => (attrs, true),
+        None => (text, false),
+    }
+}
+
+fn attribute(alloc: Global, text: &str) -> Result<(RcStr, AttributeType), AllocError> {
+    let (name, is_required, ty) = attribute_parts(text);
+    let name = RcStr::from_str(alloc, name)?;
+    Ok((name, declared(alloc, ty, is_required)?))
 }
 
 // Attributes with commas between them.
@@ -72,13 +86,14 @@ pub(crate) fn declared(
     Ok(AttributeType::new(Type::clone(&*ty)?, is_required))
 }
 
-// The record type of these attributes, open where `..` stands behind them.
 fn record(alloc: Global, text: &str) -> Made {
-    let (attrs, open_attributes) = match text.strip_suffix("..") {
-        Some(attrs) => (attrs, OpenTag::OpenAttributes),
-        None => (text, OpenTag::ClosedAttributes),
-    };
+    let (attrs, is_open) = record_parts(text);
     let attrs = attributes(alloc, attrs)?;
+    let open_attributes = if is_open {
+        OpenTag::OpenAttributes
+    } else {
+        OpenTag::ClosedAttributes
+    };
     shared(
         alloc,
         Type::Record {

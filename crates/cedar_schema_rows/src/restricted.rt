@@ -58,11 +58,8 @@ fn wrong_row(
     Ok("")
 }
 
-/// Literals, sets and records are of a type as values are; unknowns, variables and operators are of none.
-#[test]
-fn expressions_are_asked_for_types(rt: HostRuntime) -> Result<(), Fail> {
-    let alloc = rt.alloc();
-    let rows = r#"true | Bool | yes
+// Literals, sets and records, unknowns, variables and operators.
+const ROWS: &str = r#"true | Bool | yes
 true | True | yes
 false | True | no
 1 | Long | yes
@@ -105,7 +102,12 @@ $u true && | Bool | no
 $u 1 2 if | Long | no
 User::a .name | String | no
 User::a has=name | Bool | no"#;
-    assert_eq!(rt; wrong_row(alloc, rows, &Extensions::none(alloc))?, "");
+
+/// Literals, sets and records are of a type as values are; unknowns, variables and operators are of none.
+#[test]
+fn expressions_are_asked_for_types(rt: HostRuntime) -> Result<(), Fail> {
+    let alloc = rt.alloc();
+    assert_eq!(rt; wrong_row(alloc, ROWS, &Extensions::none(alloc))?, "");
     Ok(())
 }
 

@@ -3,3 +3,4 @@ mod Free
 mod Searched
 mod MoreKnown
 mod Passing
+mod Equal

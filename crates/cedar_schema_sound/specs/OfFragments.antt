@@ -25,10 +25,15 @@ abbrev pub BuiltAreNotRefused : Type 0
 BuiltAreNotRefused = (x : List Name) (fs : List (ValidatorSchemaFragment ConditionalName ConditionalName)) (d : Declarations) → AreWritten fs d → (k : Kept) → IsBuiltOf x fs k
     → (e : UnsoundSchemaError) → RefusesBy x k e → refusal e ≡ None
 
--- Of the same declarations, in whichever order and in whichever fragments, the same is built.
+-- Of the same declarations, in whichever order and in whichever fragments, the same is built, in some order.
 abbrev pub OrderOfFragmentsIsFree : Type 0
 OrderOfFragmentsIsFree = (x : List Name) (fs gs : List (ValidatorSchemaFragment ConditionalName ConditionalName)) (d e : Declarations) → AreWritten fs d → AreWritten gs e → IsReordered d e
     → (k l : Kept) → IsBuiltOf x fs k → IsBuiltOf x gs l → AreAlike k l
+
+-- Two schemas that keep this are one, where they are built so.
+abbrev pub IsBuiltInEachOrder : Kept → Kept → Type 0
+IsBuiltInEachOrder k l = (x : List Name) (fs gs : List (ValidatorSchemaFragment ConditionalName ConditionalName)) (d e : Declarations) → AreWritten fs d → AreWritten gs e → IsReordered d e
+    → IsBuiltOf x fs k → IsBuiltOf x gs l → k ≡ l
 
 -- Where a schema is built of them, they are refused in no order and in no fragments.
 abbrev pub RefusedInEachOrder : Type 0

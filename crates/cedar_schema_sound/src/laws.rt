@@ -1,8 +1,11 @@
 //! Schemas that are built of fragments. Each function's contract is the theorem; its body calls the laws that it stands on.
 
-ghost use Rattle.cedar_schema_sound.specs.OfFragments.{BuiltAreNotRefused, BuiltAreSound, OrderOfFragmentsIsFree, RefusedInEachOrder};
+ghost use Rattle.cedar_schema_built.specs.Views.{schema_kept};
+ghost use Rattle.cedar_schema_sound.specs.OfFragments.{BuiltAreNotRefused, BuiltAreSound, IsBuiltInEachOrder, OrderOfFragmentsIsFree, RefusedInEachOrder};
 
 use cedar_schema_builder_model::laws::built_is_the_schema;
+use cedar_schema_built::ValidatorSchema;
+use cedar_schema_built::laws::schemas_are_in_order;
 use cedar_schema_model::whole_decl_laws::{bags_have_no_order, declarations_are_decided};
 use cedar_schema_sound_model::laws::{kept_are_sound, sound_is_decided};
 
@@ -23,7 +26,8 @@ pub fn built_schemas_are_not_refused()
     kept_are_sound();
 }
 
-/// The same declarations in another order, or split among other fragments, give the same schema, or a refusal both times.
+/// The same declarations in another order, or split among other fragments, give the same entity types and actions, in some order, or a
+/// refusal both times.
 pub fn order_of_fragments_is_free()
     ensures same { OrderOfFragmentsIsFree }
     ensures refused { RefusedInEachOrder }
@@ -31,4 +35,14 @@ pub fn order_of_fragments_is_free()
     built_is_the_schema();
     bags_have_no_order();
     declarations_are_decided();
+}
+
+/// Two schemas that are built of the same declarations, in whichever order and in whichever fragments, keep the same: equal entity
+/// types and actions in the same order.
+pub fn schemas_are_built_in_each_order(schema: &ValidatorSchema, other: &ValidatorSchema)
+    ensures { IsBuiltInEachOrder (schema_kept schema.now) (schema_kept other.now) }
+{
+    order_of_fragments_is_free();
+    schemas_are_in_order(schema);
+    schemas_are_in_order(other);
 }

@@ -17,13 +17,18 @@ fn member(alloc: Global, number: u32) -> Result<Entity, Fault> {
     Ok(Entity::new(alloc, uid, attrs, Vec::new(alloc), parents, Vec::new(alloc))?)
 }
 
-/// How many of so many entities are found in the store that is made of their list.
-pub fn found(alloc: Global, size: u32) -> Result<usize, Fault> {
+// The store of so many entities.
+fn store_of(alloc: Global, size: u32) -> Result<Entities, Fault> {
     let mut members = Vec::new(alloc);
     for n in 0..size {
         members.push(member(alloc, n)?)?;
     }
-    let store = Entities::from_entities(alloc, members)?;
+    Ok(Entities::from_entities(alloc, members)?)
+}
+
+/// How many of so many entities are found in the store that is made of their list.
+pub fn found(alloc: Global, size: u32) -> Result<usize, Fault> {
+    let store = store_of(alloc, size)?;
     let mut count = 0usize;
     for n in 0..size {
         if let Dereference::Data(_) = store.entity(alloc, &user(alloc, n)?)? {

@@ -11,6 +11,7 @@ use Rattle.cedar_expr_names.specs.declared.entity.EntityUID.{EntityUID}
 use Rattle.cedar_expr_names.proofs.Equality.{uids_eq_is}
 use Rattle.cedar_expr_model.specs.Uid.{Uid, uid_eq}
 use Rattle.cedar_expr_model.specs.Whole.Value.{V}
+use Rattle.cedar_expr_model.proofs.Equality.{uid_eq-Decides}
 use Rattle.cedar_store_model.specs.Whole.World as model
 use Rattle.cedar_store_model.specs.Whole.World.{Found, held, missing, not_loaded}
 use Rattle.cedar_store_model.specs.Whole.Store.{Extent, whole, partial, Store, found_as, if_uid, look_up}
@@ -79,16 +80,32 @@ module _ {A : Type 0} (see : Entity → A) where
   pub found_is : (u : EntityUID) (es : List (EntityUID × Entity)) (r : Option (Bor Entity)) → keys_in es ≡ uids_in es → option_copied r ≡ lookup (same_uid u) es → lookup (uid_eq (uid_of u)) (seen_in es) ≡ option_map see (option_copied r)
   found_is u es r n h = sym (looked_up u es n) ∙ ap (option_map see) (sym h)
 
+-- what is found under a uid is the entity of that uid
+same_some : (x y : Entity) → Some x ≡ Some y → x ≡ y
+same_some x y e = cc
+
+own_case : (b : Bool) (x y : Entity) (o : Option Entity) (v : Uid) → (b ≡ true → entity_uid x ≡ v) → (o ≡ Some y → entity_uid y ≡ v) → cond b (Some x) o ≡ Some y → entity_uid y ≡ v
+own_case true x y o v here there h = ap entity_uid (sym (same_some x y h)) ∙ here refl
+own_case false x y o v here there h = there h
+
+own_uid : (u : EntityUID) (es : List (EntityUID × Entity)) (y : Entity) → keys_in es ≡ uids_in es → lookup (same_uid u) es ≡ Some y → entity_uid y ≡ uid_of u
+own_uid u [] y n h = cc
+own_uid u (e ∷ es) y n h =
+    own_case (same_uid u e.0) e.1 y (lookup (same_uid u) es) (uid_of u)
+    (λ q. sym (heads _ _ (keys_in es) (uids_in es) n) ∙ sym ((uid_eq-Decides (uid_of u) (uid_of e.0)).0 (sym (uids_eq_is u e.0) ∙ q)))
+    (own_uid u es y (tails _ _ (keys_in es) (uids_in es) n)) h
+
 -- what a store answers
 pub answered : (x : Extent) (es : List (EntityUID × Entity)) (u : EntityUID) (o : Option (model.Entity V)) → lookup (uid_eq (uid_of u)) (entities_in es) ≡ o → look_up (record { extent = x; entities = entities_in es }) (uid_of u) ≡ found_as x o
 answered x es u o h = ap (λ b. cond b (found_as x (lookup (uid_eq (uid_of u)) (entities_in es))) missing) (each_is_uid u) ∙ ap (found_as x) h
 
 -- what it answers where an entity is found, and where none is
 pub stored : (x : Extent) (es : List (EntityUID × Entity)) (u : EntityUID) (r : Option (Bor Entity)) (e : Bor Entity) → keys_in es ≡ uids_in es → option_copied r ≡ lookup (same_uid u) es → r ≡ Some e
-    → (look_up (record { extent = x; entities = entities_in es }) (uid_of u) ≡ held (entity_of e.now)) × (lookup (uid_eq (uid_of u)) (kept_in es) ≡ Some (entity_kept e.now))
+    → (look_up (record { extent = x; entities = entities_in es }) (uid_of u) ≡ held (entity_of e.now)) × (lookup (uid_eq (uid_of u)) (kept_in es) ≡ Some (entity_kept e.now)) × (entity_uid e.now ≡ uid_of u)
 stored x es u r e n h k = (
   answered x es u (Some (entity_of e.now)) (found_is entity_of u es r n h ∙ ap (λ (o : Option (Bor Entity)). option_map entity_of (option_copied o)) k),
   found_is entity_kept u es r n h ∙ ap (λ (o : Option (Bor Entity)). option_map entity_kept (option_copied o)) k,
+  own_uid u es e.now n (sym h ∙ ap (λ (o : Option (Bor Entity)). option_copied o) k),
 )
 
 pub not_stored : (x : Extent) (es : List (EntityUID × Entity)) (u : EntityUID) (r : Option (Bor Entity)) → keys_in es ≡ uids_in es → option_copied r ≡ lookup (same_uid u) es → r ≡ None → look_up (record { extent = x; entities = entities_in es }) (uid_of u) ≡ found_as x None

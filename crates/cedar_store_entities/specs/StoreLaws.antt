@@ -1,13 +1,15 @@
 -- What the laws of uids and of stores say.
 -- Rule: the store; what is known; the uid text and its escape (docs/RULES.md).
-use Rattle.std.specs.Prelude.{◌≡◌, true, Option}
+use Rattle.std.specs.Prelude.{◌≡◌, true, Option, Contains}
 use Rattle.cedar_expr_model.specs.Name.{Text}
+use Rattle.cedar_expr_model.specs.Uid.{Uid}
 use Rattle.cedar_expr_model.specs.Whole.Table.{Table}
 use Rattle.cedar_expr_model.specs.Whole.Uids.{is_uid}
 use Rattle.cedar_expr_model.specs.Whole.Value.{V}
 use Rattle.cedar_expr_names.specs.Views.{uid_of}
 use Rattle.cedar_expr_names.specs.declared.entity.EntityUID.{EntityUID}
-use Rattle.cedar_store_model.specs.Whole.OfLaws.Extends.{Keeps, Extends}
+use Rattle.cedar_store_model.specs.Whole.OfLaws.Extends.{Keeps, KeepsEntity, Extends}
+use Rattle.cedar_store_model.specs.Whole.World.{Entity}
 use Rattle.cedar_store_model.specs.Whole.Store as model
 use Rattle.cedar_store_model.specs.Whole.Store.{whole, partial, are_distinct, OpenRequest, world_of}
 use Rattle.cedar_store_model.specs.Whole.StoreLaws.{KeepsRequest, ArePartOf}
@@ -26,4 +28,19 @@ StoresAreMaps = (s : Entities) → are_distinct (store_seen s).entities ≡ true
 abbrev pub PartialIsLess : Type 0
 PartialIsLess = (table : Table) (some_unknowns unknowns : Text → Option V) (q r : OpenRequest) (s : Entities) (all : model.Entities)
     → (store_seen s).extent ≡ partial → ((n : Text) → Keeps (some_unknowns n) (unknowns n)) → KeepsRequest q r → ArePartOf (store_seen s).entities all → are_distinct all ≡ true
+    → Extends (world_of table some_unknowns q (store_seen s)) (world_of table unknowns r (record { extent = whole; entities = all }))
+
+-- each of the entities has one of its uid among those, which has the same ancestors and the same parts; a part that is no value yet
+-- may be one there
+abbrev pub AreFinishedIn : model.Entities → model.Entities → Type 0
+AreFinishedIn es ds = (u : Uid) (e : Entity V) → Contains es (u, e) → (d : Entity V) × Contains ds (u, d) × KeepsEntity e d
+
+-- entities that stand among those are finished there
+abbrev pub PartsAreFinished : Type 0
+PartsAreFinished = (es ds : model.Entities) → ArePartOf es ds → AreFinishedIn es ds
+
+-- what is known of a request and of a partial store is extended by each whole store in which its entities are finished
+abbrev pub UnfinishedIsLess : Type 0
+UnfinishedIsLess = (table : Table) (some_unknowns unknowns : Text → Option V) (q r : OpenRequest) (s : Entities) (all : model.Entities)
+    → (store_seen s).extent ≡ partial → ((n : Text) → Keeps (some_unknowns n) (unknowns n)) → KeepsRequest q r → AreFinishedIn (store_seen s).entities all → are_distinct all ≡ true
     → Extends (world_of table some_unknowns q (store_seen s)) (world_of table unknowns r (record { extent = whole; entities = all }))

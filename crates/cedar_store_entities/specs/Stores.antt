@@ -6,7 +6,7 @@ use Rattle.cedar_expr_model.specs.Uid.{Uid, uid_eq}
 use Rattle.cedar_expr_trees.specs.Trees.{tree_of}
 use Rattle.cedar_store_model.specs.Whole.World.{held, missing, not_loaded}
 use Rattle.cedar_store_model.specs.Whole.Store.{Extent, whole, partial, Store, look_up, stand_in}
-use Rattle.cedar_store_entities.specs.Views.{Kept, entity_of, entity_kept}
+use Rattle.cedar_store_entities.specs.Views.{Kept, entity_uid, entity_of, entity_kept}
 use Rattle.cedar_store_entities.specs.StoreParts.{entities_in, kept_in}
 use Rattle.cedar_store_entities.specs.declared.entity.Entity.{Entity}
 use Rattle.cedar_store_entities.specs.declared.entities.Entities.{Entities}
@@ -27,8 +27,9 @@ store_seen s = record { extent = extent_of s.mode; entities = entities_in s.enti
 abbrev pub store_made : Entities → List (Uid × Kept)
 store_made s = kept_in s.entities.entries
 
--- What the store answers for the uid. The entity that it gives is the one that is kept under the uid, in all that is kept of it.
+-- What the store answers for the uid. The entity that it gives is the one that is kept under the uid, in all that is kept of it, and
+-- it is the entity of that uid.
 abbrev pub Dereferences : Entities → Uid → Dereference Entity → Type 0
 Dereferences s u NoSuchEntity = look_up (store_seen s) u ≡ missing
 Dereferences s u (Residual e) = (look_up (store_seen s) u ≡ not_loaded) × (tree_of e ≡ stand_in u)
-Dereferences s u (Data e) = (look_up (store_seen s) u ≡ held (entity_of e.now)) × (lookup (uid_eq u) (store_made s) ≡ Some (entity_kept e.now))
+Dereferences s u (Data e) = (look_up (store_seen s) u ≡ held (entity_of e.now)) × (lookup (uid_eq u) (store_made s) ≡ Some (entity_kept e.now)) × (entity_uid e.now ≡ u)

@@ -1,21 +1,22 @@
--- What code entities are as the model's: with the calls that make their extension values, and without.
+-- What code entities are as the model's: with the calls that make their extension values, and without; and their places.
 -- Rule: the store (docs/RULES.md).
-use Rattle.std.specs.Prelude.{List, map, Bool}
+use Rattle.std.specs.Prelude.{List, map, Bool, Option}
 use Rattle.std.specs.Rc.{rc_str_bytes}
 use Rattle.std.specs.declared.alloc.Global.{Global}
 use Rattle.std.specs.declared.rc.RcStr.{RcStr}
 use Rattle.cedar_expr_names.specs.Views.{uid_of}
 use Rattle.cedar_expr_names.specs.declared.entity.EntityUID.{EntityUID}
+use Rattle.cedar_expr_names.specs.declared.loc.Loc.{Loc}
 use Rattle.cedar_expr_model.specs.Name.{Text}
 use Rattle.cedar_expr_model.specs.Uid.{Uid}
 use Rattle.cedar_expr_model.specs.Whole.Made.{Made, bare}
 use Rattle.cedar_expr_model.specs.Whole.Value.{V}
 use Rattle.cedar_expr_model.specs.Whole.ValueParts.{Part, known, left}
 use Rattle.cedar_expr_values.specs.Extensions.{extension_of}
-use Rattle.cedar_expr_values.specs.Values.{made}
+use Rattle.cedar_expr_values.specs.Values.{made, place_of}
 use Rattle.cedar_expr_values.specs.declared.extension.ExtValue.{ExtValue}
 use Rattle.cedar_expr_values.specs.declared.value.Value.{Value}
-use Rattle.cedar_expr_partial.specs.Parts.{part_of}
+use Rattle.cedar_expr_partial.specs.Parts.{part_of, part_place}
 use Rattle.cedar_expr_partial.specs.declared.partial_value.PartialValue.{PartialValue}
 use Rattle.cedar_store_model.specs.Whole.World as model
 use Rattle.cedar_store_entities.specs.Recorded.{Kin, uids_of_kin}
@@ -31,6 +32,13 @@ part_pair p = (rc_str_bytes p.0, part_seen p.1)
 
 abbrev pub value_pair : RcStr Global × Value ExtValue → Text × Part Made
 value_pair p = (rc_str_bytes p.0, known (made extension_of p.1))
+
+-- where the one and the other stand in their source, with their names
+abbrev pub placed_part : RcStr Global × PartialValue ExtValue → Text × Option Loc
+placed_part p = (rc_str_bytes p.0, part_place p.1)
+
+abbrev pub placed_value : RcStr Global × Value ExtValue → Text × Option Loc
+placed_value p = (rc_str_bytes p.0, place_of p.1)
 
 -- the names of attributes or tags
 abbrev pub names_in : {A : Type 0} → List (Text × A) → List Text
@@ -50,12 +58,23 @@ kin_seen e = kin_in e.ancestors.entries
 abbrev pub entity_seen : Entity → model.Entity Made
 entity_seen e = record { attributes = map part_pair e.attrs.entries; tags = map part_pair e.tags.entries; ancestors = uids_of_kin (kin_seen e) }
 
--- all that its readers tell: the values as they were made, and of each recorded ancestor whether it is a parent
+-- where parts stand in their source, by their names
+abbrev pub Places : Type 0
+Places = List (Text × Option Loc)
+
+abbrev pub attribute_places : Entity → Places
+attribute_places e = map placed_part e.attrs.entries
+
+abbrev pub tag_places : Entity → Places
+tag_places e = map placed_part e.tags.entries
+
+-- all that its readers tell: the values as they were made, of each recorded ancestor whether it is a parent, and the places of the
+-- attributes and of the tags
 abbrev pub Kept : Type 0
-Kept = model.Entity Made × Kin
+Kept = model.Entity Made × Kin × Places × Places
 
 abbrev pub entity_kept : Entity → Kept
-entity_kept e = (entity_seen e, kin_seen e)
+entity_kept e = (entity_seen e, kin_seen e, attribute_places e, tag_places e)
 
 -- with its uid
 abbrev pub kept_pair : Entity → Uid × Kept

@@ -8,7 +8,8 @@ ghost use Rattle.std.specs.Str.{bytes_eq};
 ghost use Rattle.cedar_expr_names.specs.Views.{uid_of};
 ghost use Rattle.cedar_expr_model.specs.Uid.{uid_eq};
 ghost use Rattle.cedar_expr_model.specs.Whole.Records.{in_order};
-ghost use Rattle.cedar_store_entities.specs.Views.{part_seen, part_pair, value_pair, names_in, entity_uid, entity_seen, kin_seen};
+ghost use Rattle.cedar_expr_partial.specs.Parts.{part_place};
+ghost use Rattle.cedar_store_entities.specs.Views.{part_seen, part_pair, value_pair, placed_part, placed_value, names_in, entity_uid, entity_seen, kin_seen, attribute_places, tag_places};
 ghost use Rattle.cedar_store_entities.specs.Recorded.{recorded, all_recorded, with_parent, with_indirect, with_parents, with_indirects, is_parent, is_indirect};
 
 use crate::entries::has_key;
@@ -46,7 +47,7 @@ impl Drop for Entity {
 
 impl Entity {
     /// The entity of this uid with these attributes and tags, of a repeated name the last, and with these recorded ancestors,
-    /// each once; what is given as both is a parent. Answers want of memory.
+    /// each once; what is given as both is a parent. Each value keeps its place. Answers want of memory.
     pub fn new(
         alloc: Global,
         uid: EntityUID,
@@ -58,6 +59,8 @@ impl Entity {
         ensures uid { IfOk result (λ e. entity_uid e ≡ uid_of uid) }
         ensures attributes { IfOk result (λ e. (entity_seen e).attributes ≡ in_order (map value_pair attrs.items)) }
         ensures tags { IfOk result (λ e. (entity_seen e).tags ≡ in_order (map value_pair tags.items)) }
+        ensures attribute_places { IfOk result (λ e. attribute_places e ≡ in_order (map placed_value attrs.items)) }
+        ensures tag_places { IfOk result (λ e. tag_places e ≡ in_order (map placed_value tags.items)) }
         ensures ancestors { IfOk result (λ e. (entity_seen e).ancestors ≡ all_recorded (all_recorded [] (map uid_of indirect_ancestors.items)) (map uid_of parents.items)) }
         ensures kin { IfOk result (λ e. kin_seen e ≡ with_parents (with_indirects [] (map uid_of indirect_ancestors.items)) (map uid_of parents.items)) }
     {
@@ -78,6 +81,8 @@ impl Entity {
         ensures uid { IfOk result (λ e. entity_uid e ≡ uid_of uid) }
         ensures attributes { IfOk result (λ e. (entity_seen e).attributes ≡ in_order (map part_pair attrs.items)) }
         ensures tags { IfOk result (λ e. (entity_seen e).tags ≡ in_order (map part_pair tags.items)) }
+        ensures attribute_places { IfOk result (λ e. attribute_places e ≡ in_order (map placed_part attrs.items)) }
+        ensures tag_places { IfOk result (λ e. tag_places e ≡ in_order (map placed_part tags.items)) }
         ensures ancestors { IfOk result (λ e. (entity_seen e).ancestors ≡ all_recorded (all_recorded [] (map uid_of indirect_ancestors.items)) (map uid_of parents.items)) }
         ensures kin { IfOk result (λ e. kin_seen e ≡ with_parents (with_indirects [] (map uid_of indirect_ancestors.items)) (map uid_of parents.items)) }
     {
@@ -99,6 +104,8 @@ impl Entity {
         ensures uid { entity_uid result ≡ uid_of uid }
         ensures entity { entity_seen result ≡ record { attributes = []; tags = []; ancestors = [] } }
         ensures kin { kin_seen result ≡ [] }
+        ensures attribute_places { attribute_places result ≡ [] }
+        ensures tag_places { tag_places result ≡ [] }
     {
         Entity {
             uid,
@@ -117,14 +124,16 @@ impl Entity {
 
     /// The attribute of this name, if there is one.
     pub fn get(&self, attr: &str) -> Option<&PartialValue<ExtValue>>
-        ensures { option_map (λ p. part_seen p.now) result ≡ lookup (bytes_eq attr.now) (entity_seen self.now).attributes }
+        ensures value { option_map (λ p. part_seen p.now) result ≡ lookup (bytes_eq attr.now) (entity_seen self.now).attributes }
+        ensures place { option_map (λ p. part_place p.now) result ≡ lookup (bytes_eq attr.now) (attribute_places self.now) }
     {
         self.attrs.get(attr)
     }
 
     /// The tag of this name, if there is one.
     pub fn get_tag(&self, tag: &str) -> Option<&PartialValue<ExtValue>>
-        ensures { option_map (λ p. part_seen p.now) result ≡ lookup (bytes_eq tag.now) (entity_seen self.now).tags }
+        ensures value { option_map (λ p. part_seen p.now) result ≡ lookup (bytes_eq tag.now) (entity_seen self.now).tags }
+        ensures place { option_map (λ p. part_place p.now) result ≡ lookup (bytes_eq tag.now) (tag_places self.now) }
     {
         self.tags.get(tag)
     }
@@ -145,14 +154,16 @@ impl Entity {
 
     /// Goes over the attributes, in the order of their names.
     pub fn attrs(&self) -> Iter<'_, RcStr, PartialValue<ExtValue>>
-        ensures { map part_pair result ≡ (entity_seen self.now).attributes }
+        ensures values { map part_pair result ≡ (entity_seen self.now).attributes }
+        ensures places { map placed_part result ≡ attribute_places self.now }
     {
         self.attrs.iter()
     }
 
     /// Goes over the tags, in the order of their names.
     pub fn tags(&self) -> Iter<'_, RcStr, PartialValue<ExtValue>>
-        ensures { map part_pair result ≡ (entity_seen self.now).tags }
+        ensures values { map part_pair result ≡ (entity_seen self.now).tags }
+        ensures places { map placed_part result ≡ tag_places self.now }
     {
         self.tags.iter()
     }
@@ -212,6 +223,8 @@ impl Entity {
         ensures unchanged { OnErr result (entity_seen self.new ≡ entity_seen self.old) }
         ensures kin_unchanged { OnErr result (kin_seen self.new ≡ kin_seen self.old) }
         ensures uid { entity_uid self.new ≡ entity_uid self.old }
+        ensures attribute_places { attribute_places self.new ≡ attribute_places self.old }
+        ensures tag_places { tag_places self.new ≡ tag_places self.old }
     {
         record_parent(&mut self.ancestors, uid)
     }
@@ -223,6 +236,8 @@ impl Entity {
         ensures unchanged { OnErr result (entity_seen self.new ≡ entity_seen self.old) }
         ensures kin_unchanged { OnErr result (kin_seen self.new ≡ kin_seen self.old) }
         ensures uid { entity_uid self.new ≡ entity_uid self.old }
+        ensures attribute_places { attribute_places self.new ≡ attribute_places self.old }
+        ensures tag_places { tag_places self.new ≡ tag_places self.old }
     {
         record_indirect(&mut self.ancestors, uid)
     }
@@ -233,7 +248,8 @@ fn as_partial(
     alloc: Global,
     pairs: Vec<(RcStr, Value<ExtValue>)>,
 ) -> Result<Vec<(RcStr, PartialValue<ExtValue>)>, AllocError>
-    ensures { IfOk result (λ ps. map part_pair ps.items ≡ map value_pair pairs.items) }
+    ensures values { IfOk result (λ ps. map part_pair ps.items ≡ map value_pair pairs.items) }
+    ensures places { IfOk result (λ ps. map placed_part ps.items ≡ map placed_value pairs.items) }
 {
     let mut partial = Vec::with_capacity(alloc, pairs.len())?;
     for (name, value) in pairs {

@@ -122,3 +122,62 @@ fn a_policy_that_errs_is_not_satisfied(rt: HostRuntime) -> Result<(), Fail> {
     let policy = when(alloc, Effect::Forbid, "principal User::a ==")?;
     comes_to(alloc, &known, &policy, "true, true")
 }
+
+// The conditions of the worked policies.
+const IS_OK: &str = "principal .ok";
+
+const BOSS_IS_OK: &str = "principal .ok principal .boss resource .owner .boss if .ok";
+
+const BAD: &str = "context .bad 2 ==";
+
+// Conditions, each with what it comes to.
+fn come_to(alloc: Global, known: &Facts, rows: &[(&str, &str)]) -> Result<(), Fail> {
+    for (body, wanted) in rows {
+        comes_to(alloc, known, &when(alloc, Effect::Permit, body)?, wanted)?;
+    }
+    Ok(())
+}
+
+#[test]
+fn worked_policies_come_to_their_outcomes(rt: HostRuntime) -> Result<(), Fail> {
+    let alloc = rt.alloc();
+    let all = [
+        (IS_BOSS, "true, true"),
+        (IS_OK, "true, true"),
+        (BOSS_IS_OK, "true, true"),
+        (BAD, "there is no such field, false"),
+        ("true", "true, true"),
+    ];
+    come_to(alloc, &usual(alloc)?, &all)?;
+    let missing = "entity `User::\"a\"` does not exist, false";
+    let without_a = [
+        (IS_BOSS, "true, true"),
+        (IS_OK, missing),
+        (BOSS_IS_OK, missing),
+        (BAD, "there is no such field, false"),
+    ];
+    let known = request(alloc, "User::a", store(alloc, &["User::b"])?)?;
+    come_to(alloc, &known, &without_a)
+}
+
+#[test]
+fn a_policy_needs_what_it_looks_up_alone(rt: HostRuntime) -> Result<(), Fail> {
+    let alloc = rt.alloc();
+    let not_known = "an unknown has no value, false";
+    let a_loaded = [
+        (IS_BOSS, not_known),
+        (IS_OK, "true, true"),
+        (BOSS_IS_OK, "true, true"),
+        ("principal User::a ==", "true, true"),
+    ];
+    let known = request(alloc, "User::a", store(alloc, &["User::a"])?.partial())?;
+    come_to(alloc, &known, &a_loaded)?;
+    let b_loaded = [
+        (IS_BOSS, "true, true"),
+        (IS_OK, not_known),
+        (BOSS_IS_OK, not_known),
+        (BAD, "there is no such field, false"),
+    ];
+    let known = request(alloc, "User::a", store(alloc, &["User::b"])?.partial())?;
+    come_to(alloc, &known, &b_loaded)
+}

@@ -1,1 +1,2 @@
 mod Annotated
+pub mod Compared

@@ -2,7 +2,7 @@
 -- Rule: policies and templates (docs/RULES.md).
 use Rattle.std.specs.Prelude.{List, [], ◌∷◌, map, Option, Some, None, option_map}
 use Rattle.std.specs.Rc.{rc_str_bytes}
-use Rattle.cedar_expr_names.specs.Views.{any_id_text, type_name_of, uid_of}
+use Rattle.cedar_expr_names.specs.Views.{any_id_text, type_name_of, type_loc, uid_of, uid_loc}
 use Rattle.cedar_expr_names.specs.declared.any_id.AnyId.{AnyId}
 use Rattle.cedar_expr_names.specs.declared.loc.Loc.{Loc}
 use Rattle.cedar_expr_model.specs.Name.{Text}
@@ -98,6 +98,31 @@ scope_places (asked.Eq t) = target_places t
 scope_places (asked.Is n) = []
 scope_places (asked.IsIn n t) = target_places t
 
+-- the place of the uid that a part of a scope names, where it names one
+abbrev pub named_places : EntityReference → List (Option Loc)
+named_places (EUID u) = uid_loc u.value ∷ []
+named_places (Slot l) = []
+
+-- the places of the entity type and of the uid that it asks for
+abbrev pub scope_named_places : PrincipalOrResourceConstraint → List (Option Loc)
+scope_named_places asked.Any = []
+scope_named_places (asked.In t) = named_places t
+scope_named_places (asked.Eq t) = named_places t
+scope_named_places (asked.Is n) = type_loc n.value ∷ []
+scope_named_places (asked.IsIn n t) = type_loc n.value ∷ named_places t
+
+-- the places of the actions that a scope asks for
+abbrev pub action_places : ActionConstraint → List (Option Loc)
+action_places asked_action.Any = []
+action_places (asked_action.In us) = map (λ u. uid_loc u.value) us.items
+action_places (asked_action.Eq u) = uid_loc u.value ∷ []
+
+-- the place of the uid that takes the place of a slot, where a slot stands and is bound
+abbrev pub places_bound : List (Option Loc) → Option (Option Loc) → List (Option Loc)
+places_bound [] bound = []
+places_bound (l ∷ ls) None = []
+places_bound (l ∷ ls) (Some m) = m ∷ []
+
 -- the places that are left where the slot may be bound
 abbrev pub places_left : {A : Type 0} → Option A → List (Option Loc) → List (Option Loc)
 places_left (Some u) ls = []
@@ -124,3 +149,21 @@ bindings_of b = record { principal = option_map (λ u. uid_of u.value) b.princip
 abbrev pub with_binding : SlotBindings → SlotId → Uid → SlotBindings
 with_binding b principal_slot u = record b { principal = Some u }
 with_binding b resource_slot u = record b { resource = Some u }
+
+-- the places of the uids that the slots are bound to
+pub record BindingPlaces : Type 0 where
+  pub principal : Option (Option Loc)
+  pub resource : Option (Option Loc)
+
+abbrev pub binding_places : SlotEnv → BindingPlaces
+binding_places b = record { principal = option_map (λ u. uid_loc u.value) b.principal; resource = option_map (λ u. uid_loc u.value) b.resource }
+
+-- the place of the uid that one slot is bound to
+abbrev pub place_bound : BindingPlaces → SlotId → Option (Option Loc)
+place_bound b principal_slot = b.principal
+place_bound b resource_slot = b.resource
+
+-- the places where one slot is bound to a uid at this place
+abbrev pub with_place : BindingPlaces → SlotId → Option Loc → BindingPlaces
+with_place b principal_slot l = record b { principal = Some l }
+with_place b resource_slot l = record b { resource = Some l }

@@ -15,13 +15,15 @@ use std::collections::BTreeMap;
 use std::collections::btree_map::Iter;
 use std::rc::RcStr;
 
-/// What an annotation says, and where it stands.
-#[derive(Debug, PartialEq, Eq, PartialOrd, Ord, Hash, Drop)]
+/// What an annotation says, and where it stands. Equality, order and hash go by the text alone.
+#[derive(Debug, Drop)]
+#[derive_where(PartialEq, Eq, PartialOrd, Ord, Hash)]
 pub struct Annotation {
     /// Its text.
     pub val: RcStr,
 
     /// Its place.
+    #[derive_where(skip(EqHashOrd))]
     pub loc: Option<Loc>,
 }
 

@@ -1,14 +1,14 @@
 //! What the scope of a policy asks of principal, action and resource.
 
-ghost use Rattle.std.specs.Prelude.{◌≡◌, [], IfOk, map, option_map};
-ghost use Rattle.cedar_expr_names.specs.Views.{uid_of, type_name_of};
+ghost use Rattle.std.specs.Prelude.{◌≡◌, ◌++◌, [], IfOk, map, option_map};
+ghost use Rattle.cedar_expr_names.specs.Views.{uid_of, uid_loc, type_name_of};
 ghost use Rattle.cedar_expr_model.specs.Whole.Value.{entity};
 ghost use Rattle.cedar_expr_model.specs.Whole.Tree.{lit, var, binary, equal, is_in, is_type};
 ghost use Rattle.cedar_expr_leaves.specs.Slots.{slot_of};
 ghost use Rattle.cedar_expr_leaves.specs.Variables.{var_of};
 ghost use Rattle.cedar_expr_trees.specs.Trees.{tree_of, place_of};
 ghost use Rattle.cedar_store_model.specs.Whole.Policy.{any, any_action, target_tree, scope_tree, action_tree};
-ghost use Rattle.cedar_store_parts.specs.Parts.{part_var, part_slot, target_of, target_place, target_places, scope_of, scope_places, action_scope_of, filled_target, filled, places_left};
+ghost use Rattle.cedar_store_parts.specs.Parts.{part_var, part_slot, target_of, target_place, target_places, named_places, scope_of, scope_places, scope_named_places, action_scope_of, action_places, filled_target, filled, places_left, places_bound};
 
 use cedar_expr_leaves::{Literal, SlotId, Var};
 use cedar_expr_names::{EntityType, EntityUID, Loc};
@@ -48,14 +48,15 @@ impl PrincipalOrResource {
     }
 }
 
-/// What a part of a scope names.
-#[derive(Debug, PartialEq, Eq, Drop)]
+/// What a part of a scope names. Two are equal where they name the same; places don't count.
+#[derive(Debug, Drop)]
+#[derive_where(PartialEq, Eq)]
 pub enum EntityReference {
     /// An entity.
     EUID(Rc<EntityUID>),
 
     /// What the slot of this part is bound to. The slot may have a place.
-    Slot(Option<Loc>),
+    Slot(#[derive_where(skip(EqHashOrd))] Option<Loc>),
 }
 
 impl EntityReference {
@@ -74,6 +75,7 @@ impl EntityReference {
     fn with_filled_slot(&self, uid: Option<&Rc<EntityUID>>) -> Result<EntityReference, AllocError>
         ensures target { IfOk result (λ r. target_of r ≡ filled_target (option_map (λ u. uid_of u.now.value) uid.entry) (target_of self.now)) }
         ensures places { IfOk result (λ r. target_places r ≡ places_left (option_map (λ u. uid_of u.now.value) uid.entry) (target_places self.now)) }
+        ensures named { IfOk result (λ r. named_places r ≡ named_places self.now ++ places_bound (target_places self.now) (option_map (λ u. uid_loc u.now.value) uid.entry)) }
     {
         match (self, uid) {
             (EntityReference::EUID(uid), _) => Ok(EntityReference::EUID(uid.clone()?)),
@@ -127,6 +129,7 @@ impl PrincipalOrResourceConstraint {
     ) -> Result<PrincipalOrResourceConstraint, AllocError>
         ensures scope { IfOk result (λ c. scope_of c ≡ filled (option_map (λ u. uid_of u.now.value) uid.entry) (scope_of self.now)) }
         ensures places { IfOk result (λ c. scope_places c ≡ places_left (option_map (λ u. uid_of u.now.value) uid.entry) (scope_places self.now)) }
+        ensures named { IfOk result (λ c. scope_named_places c ≡ scope_named_places self.now ++ places_bound (scope_places self.now) (option_map (λ u. uid_loc u.now.value) uid.entry)) }
     {
         match self {
             PrincipalOrResourceConstraint::Any => Ok(PrincipalOrResourceConstraint::Any),
@@ -195,6 +198,7 @@ impl PrincipalConstraint {
     pub fn any() -> PrincipalConstraint
         ensures scope { scope_of result.constraint ≡ any }
         ensures places { scope_places result.constraint ≡ [] }
+        ensures named { scope_named_places result.constraint ≡ [] }
     {
         PrincipalConstraint {
             constraint: PrincipalOrResourceConstraint::Any,
@@ -214,6 +218,7 @@ impl ResourceConstraint {
     pub fn any() -> ResourceConstraint
         ensures scope { scope_of result.constraint ≡ any }
         ensures places { scope_places result.constraint ≡ [] }
+        ensures named { scope_named_places result.constraint ≡ [] }
     {
         ResourceConstraint {
             constraint: PrincipalOrResourceConstraint::Any,
@@ -237,7 +242,8 @@ pub enum ActionConstraint {
 impl ActionConstraint {
     /// Nothing is asked.
     pub fn any() -> ActionConstraint
-        ensures { action_scope_of result ≡ any_action }
+        ensures scope { action_scope_of result ≡ any_action }
+        ensures places { action_places result ≡ [] }
     {
         ActionConstraint::Any
     }

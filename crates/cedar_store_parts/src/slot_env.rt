@@ -1,10 +1,10 @@
 //! What the slots of a policy are bound to.
 
-ghost use Rattle.std.specs.Prelude.{◌≡◌, option_map, IfOk};
-ghost use Rattle.cedar_expr_names.specs.Views.{uid_of};
+ghost use Rattle.std.specs.Prelude.{◌≡◌, None, option_map, IfOk};
+ghost use Rattle.cedar_expr_names.specs.Views.{uid_of, uid_loc};
 ghost use Rattle.cedar_expr_leaves.specs.Slots.{slot_of};
 ghost use Rattle.cedar_store_model.specs.Whole.Policy.{no_bindings, binding_of};
-ghost use Rattle.cedar_store_parts.specs.Parts.{bindings_of, with_binding};
+ghost use Rattle.cedar_store_parts.specs.Parts.{bindings_of, binding_places, place_bound, with_binding, with_place};
 
 use cedar_expr_leaves::SlotId;
 use cedar_expr_names::EntityUID;
@@ -21,7 +21,8 @@ pub struct SlotEnv {
 impl SlotEnv {
     /// No slot is bound.
     pub fn new() -> SlotEnv
-        ensures { bindings_of result ≡ no_bindings }
+        ensures bindings { bindings_of result ≡ no_bindings }
+        ensures places { binding_places result ≡ record { principal = None; resource = None } }
     {
         SlotEnv {
             principal: None,
@@ -31,7 +32,8 @@ impl SlotEnv {
 
     /// The uid that the slot is bound to, if it is bound.
     pub fn get(&self, slot: SlotId) -> Option<&Rc<EntityUID>>
-        ensures { option_map (λ u. uid_of u.now.value) result ≡ binding_of (bindings_of self.now) (slot_of slot) }
+        ensures uid { option_map (λ u. uid_of u.now.value) result ≡ binding_of (bindings_of self.now) (slot_of slot) }
+        ensures place { option_map (λ u. uid_loc u.now.value) result ≡ place_bound (binding_places self.now) (slot_of slot) }
     {
         if slot.is_principal() {
             self.principal.as_ref()
@@ -44,6 +46,8 @@ impl SlotEnv {
     pub fn insert(&mut self, slot: SlotId, uid: Rc<EntityUID>) -> Option<Rc<EntityUID>>
         ensures bound { bindings_of self.new ≡ with_binding (bindings_of self.old) (slot_of slot) (uid_of uid.value) }
         ensures before { option_map (λ u. uid_of u.value) result ≡ binding_of (bindings_of self.old) (slot_of slot) }
+        ensures placed { binding_places self.new ≡ with_place (binding_places self.old) (slot_of slot) (uid_loc uid.value) }
+        ensures placed_before { option_map (λ u. uid_loc u.value) result ≡ place_bound (binding_places self.old) (slot_of slot) }
     {
         if slot.is_principal() {
             self.principal.replace(uid)
@@ -54,7 +58,7 @@ impl SlotEnv {
 }
 
 impl Clone for SlotEnv {
-    ghost is_clone = { λ b copy. bindings_of copy ≡ bindings_of b };
+    ghost is_clone = { λ b copy. (bindings_of copy ≡ bindings_of b) × (binding_places copy ≡ binding_places b) };
 
     /// The same bindings; the uids are shared. Answers want of memory.
     fn clone(&self) -> Result<SlotEnv, AllocError> {
@@ -67,7 +71,8 @@ impl Clone for SlotEnv {
 
 // The same uid, shared.
 fn shared(uid: &Option<Rc<EntityUID>>) -> Result<Option<Rc<EntityUID>>, AllocError>
-    ensures { IfOk result (λ copy. option_map (λ u. uid_of u.value) copy ≡ option_map (λ u. uid_of u.value) uid.now) }
+    ensures uid { IfOk result (λ copy. option_map (λ u. uid_of u.value) copy ≡ option_map (λ u. uid_of u.value) uid.now) }
+    ensures place { IfOk result (λ copy. option_map (λ u. uid_loc u.value) copy ≡ option_map (λ u. uid_loc u.value) uid.now) }
 {
     match uid {
         None => Ok(None),

@@ -5,7 +5,7 @@ use Rattle.std.specs.Prelude.{Option}
 use Rattle.cedar_expr_names.specs.declared.loc.Loc.{Loc}
 use Rattle.cedar_store_model.specs.Whole.Policy as model
 use Rattle.cedar_store_model.specs.Whole.PolicySet.{linked}
-use Rattle.cedar_store_parts.specs.Parts.{id_text, bindings_of}
+use Rattle.cedar_store_parts.specs.Parts.{id_text, bindings_of, BindingPlaces, binding_places}
 use Rattle.cedar_store_policies.specs.Places.{Places}
 use Rattle.cedar_store_policies.specs.Templates.{template_of, template_loc, places_of}
 use Rattle.cedar_store_policies.specs.declared.static_policy.StaticPolicy.{StaticPolicy}
@@ -36,3 +36,7 @@ static_places p = places_of p.template
 
 abbrev pub policy_places : Policy → Places
 policy_places p = places_of p.template.value
+
+-- the places of the uids that a policy's slots are bound to
+abbrev pub policy_bound : Policy → BindingPlaces
+policy_bound p = binding_places p.values

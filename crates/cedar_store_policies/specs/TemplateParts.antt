@@ -14,7 +14,7 @@ use Rattle.cedar_store_parts.specs.declared.annotation.Annotations.{Annotations}
 use Rattle.cedar_store_parts.specs.declared.constraint.PrincipalConstraint.{PrincipalConstraint}
 use Rattle.cedar_store_parts.specs.declared.constraint.ResourceConstraint.{ResourceConstraint}
 use Rattle.cedar_store_parts.specs.declared.constraint.ActionConstraint.{ActionConstraint}
-use Rattle.cedar_store_policies.specs.Places.{Places, places_made, slots_within}
+use Rattle.cedar_store_policies.specs.Places.{Places, places_made, slots_within, nodes_within}
 use Rattle.cedar_store_policies.specs.declared.template_body.TemplateBody.{TemplateBody}
 
 -- the template of these parts
@@ -36,7 +36,7 @@ made_of t =
 
 abbrev pub body_places : TemplateBody → Places
 body_places t =
-    places_made t.loc t.annotations.value t.principal_constraint t.resource_constraint (option_map (λ e. slots_within e.value) t.non_scope_constraint)
+    places_made t.loc t.annotations.value t.principal_constraint t.action_constraint t.resource_constraint (option_map (λ e. slots_within e.value) t.non_scope_constraint) (option_map (λ e. nodes_within e.value) t.non_scope_constraint)
 
 -- slots without their places
 abbrev pub slot_ids : List code.Slot → List SlotId

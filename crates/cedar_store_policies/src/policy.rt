@@ -1,13 +1,14 @@
 //! Policies.
 
-ghost use Rattle.std.specs.Prelude.{◌≡◌, [], Some, IfOk, map, option_map, unwrap_or};
+ghost use Rattle.std.specs.Prelude.{◌≡◌, ◌++◌, [], Some, IfOk, map, option_map, unwrap_or};
 ghost use Rattle.std.specs.Option.{option_map_or};
 ghost use Rattle.cedar_expr_trees.specs.Trees.{tree_of};
 ghost use Rattle.cedar_store_model.specs.Whole.Policy.{any, any_action, no_bindings, condition as asked_by};
 ghost use Rattle.cedar_store_model.specs.Whole.PolicySet.{linked};
-ghost use Rattle.cedar_store_parts.specs.Parts.{id_text, effect_of, annotation_pair, annotations_of, seen_pair, annotations_seen, scope_of, scope_places, action_scope_of, bindings_of, filled, places_left};
-ghost use Rattle.cedar_store_policies.specs.Places.{places_made, slots_within};
-ghost use Rattle.cedar_store_policies.specs.Policies.{static_of, static_loc, static_places, policy_of, policy_loc, policy_places, template_behind};
+ghost use Rattle.cedar_store_parts.specs.Parts.{id_text, effect_of, annotation_pair, annotations_of, seen_pair, annotations_seen, scope_of, scope_places, scope_named_places, action_scope_of, action_places, bindings_of, binding_places, filled, places_left, places_bound};
+ghost use Rattle.cedar_store_policies.specs.Places.{places_made, slots_within, nodes_within};
+ghost use Rattle.cedar_store_policies.specs.Policies.{static_of, static_loc, static_places, policy_of, policy_loc, policy_places, policy_bound, template_behind};
+ghost use Rattle.cedar_store_policies.specs.Seen.{none_bound};
 ghost use Rattle.cedar_store_policies.specs.Templates.{template_of, template_loc, places_of};
 
 use crate::static_policy::StaticPolicy;
@@ -39,6 +40,7 @@ impl Policy {
         ensures template { template_behind result ≡ template_of template.value }
         ensures place { policy_loc result ≡ template_loc template.value }
         ensures places { policy_places result ≡ places_of template.value }
+        ensures bound { policy_bound result ≡ binding_places values }
     {
         Policy {
             template,
@@ -53,6 +55,7 @@ impl Policy {
         ensures template { IfOk result (λ p. template_behind p ≡ static_of policy) }
         ensures place { IfOk result (λ p. policy_loc p ≡ static_loc policy) }
         ensures places { IfOk result (λ p. policy_places p ≡ static_places policy) }
+        ensures bound { IfOk result (λ p. policy_bound p ≡ none_bound) }
     {
         let template = Rc::new(alloc, policy.into_template())?;
         Ok(Policy::new(template, None, SlotEnv::new()))
@@ -84,7 +87,12 @@ impl Policy {
           principal = [];
           resource = [];
           body = slots_within when;
+          principal_named = [];
+          action_named = [];
+          resource_named = [];
+          nodes = nodes_within when;
         }) }
+        ensures bound { IfOk result (λ p. policy_bound p ≡ none_bound) }
     {
         let when = Rc::new(alloc, when)?;
         let annotations = Rc::new(alloc, Annotations::new(alloc))?;
@@ -118,7 +126,12 @@ impl Policy {
           principal = [];
           resource = [];
           body = slots_within when.value;
+          principal_named = [];
+          action_named = [];
+          resource_named = [];
+          nodes = nodes_within when.value;
         }) }
+        ensures bound { IfOk result (λ p. policy_bound p ≡ none_bound) }
     {
         let template = Template::new_shared(
             alloc,
@@ -177,7 +190,8 @@ impl Policy {
 
     /// What the slots are bound to.
     pub fn env(&self) -> &SlotEnv
-        ensures { bindings_of result.now ≡ (policy_of self.now).bindings }
+        ensures bindings { bindings_of result.now ≡ (policy_of self.now).bindings }
+        ensures places { binding_places result.now ≡ policy_bound self.now }
     {
         &self.values
     }
@@ -202,6 +216,7 @@ impl Policy {
     pub fn principal_constraint(&self) -> Result<PrincipalConstraint, AllocError>
         ensures scope { IfOk result (λ c. scope_of c.constraint ≡ filled (policy_of self.now).bindings.principal (policy_of self.now).principal) }
         ensures places { IfOk result (λ c. scope_places c.constraint ≡ places_left (policy_of self.now).bindings.principal (policy_places self.now).principal) }
+        ensures named { IfOk result (λ c. scope_named_places c.constraint ≡ (policy_places self.now).principal_named ++ places_bound (policy_places self.now).principal (policy_bound self.now).principal) }
     {
         let bound = self.values.get(SlotId::principal());
         let asked = &self.template.principal_constraint().constraint;
@@ -212,7 +227,8 @@ impl Policy {
 
     /// What the scope asks of the action.
     pub fn action_constraint(&self) -> &ActionConstraint
-        ensures { action_scope_of result.now ≡ (policy_of self.now).action }
+        ensures scope { action_scope_of result.now ≡ (policy_of self.now).action }
+        ensures places { action_places result.now ≡ (policy_places self.now).action_named }
     {
         self.template.action_constraint()
     }
@@ -221,6 +237,7 @@ impl Policy {
     pub fn resource_constraint(&self) -> Result<ResourceConstraint, AllocError>
         ensures scope { IfOk result (λ c. scope_of c.constraint ≡ filled (policy_of self.now).bindings.resource (policy_of self.now).resource) }
         ensures places { IfOk result (λ c. scope_places c.constraint ≡ places_left (policy_of self.now).bindings.resource (policy_places self.now).resource) }
+        ensures named { IfOk result (λ c. scope_named_places c.constraint ≡ (policy_places self.now).resource_named ++ places_bound (policy_places self.now).resource (policy_bound self.now).resource) }
     {
         let bound = self.values.get(SlotId::resource());
         let asked = &self.template.resource_constraint().constraint;
@@ -233,13 +250,14 @@ impl Policy {
     pub fn non_scope_constraints(&self) -> Option<&Expr>
         ensures tree { option_map (λ e. tree_of e.now) result ≡ (policy_of self.now).body }
         ensures places { unwrap_or (option_map (λ e. slots_within e.now) result) [] ≡ (policy_places self.now).body }
+        ensures nodes { unwrap_or (option_map (λ e. nodes_within e.now) result) [] ≡ (policy_places self.now).nodes }
     {
         self.template.non_scope_constraints()
     }
 }
 
 impl Clone for Policy {
-    ghost is_clone = { λ p copy. (policy_of copy ≡ policy_of p) × (template_behind copy ≡ template_behind p) × (policy_loc copy ≡ policy_loc p) × (policy_places copy ≡ policy_places p) };
+    ghost is_clone = { λ p copy. (policy_of copy ≡ policy_of p) × (template_behind copy ≡ template_behind p) × (policy_loc copy ≡ policy_loc p) × (policy_places copy ≡ policy_places p) × (policy_bound copy ≡ policy_bound p) };
 
     /// The same policy over the same template, which is shared. Answers want of memory.
     fn clone(&self) -> Result<Policy, AllocError> {

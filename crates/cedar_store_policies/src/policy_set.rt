@@ -32,7 +32,7 @@ impl PolicySet {
     ghost use Rattle.std.specs.Str.{bytes_eq};
     ghost use Rattle.cedar_expr_model.specs.Name.{Text};
     ghost use Rattle.cedar_store_model.specs.Whole.PolicySet.{template_of as find_template, add_template, add_policy, link};
-    ghost use Rattle.cedar_store_parts.specs.Parts.{id_text, bindings_of};
+    ghost use Rattle.cedar_store_parts.specs.Parts.{id_text, bindings_of, binding_places};
     ghost use Rattle.cedar_store_policies.specs.Templates.{template_of};
     ghost use Rattle.cedar_store_policies.specs.Policies.{static_of, policy_of};
     ghost use Rattle.cedar_store_policies.specs.SetRefusals.{RefusesId, RefusesIds, RefusesLink, FitsBindings};
@@ -126,7 +126,7 @@ impl PolicySet {
         ensures linked { OnOk result (link (set_of self.old) (id_text template_id.now) (id_text new_id) (bindings_of values) ≡ Some (set_of self.new)) }
         ensures unchanged { OnErr result (set_of self.new ≡ set_of self.old) }
         ensures refused { IfErr result (RefusesLink (set_of self.old) (id_text template_id.now) (id_text new_id) (bindings_of values)) }
-        ensures seen { OnOk result (option_map (λ t. with_policy_seen (set_seen self.old) (linked_seen t (id_text new_id))) (find_seen (id_text template_id.now) (set_seen self.old).templates) ≡ Some (set_seen self.new)) }
+        ensures seen { OnOk result (option_map (λ t. with_policy_seen (set_seen self.old) (linked_seen t (id_text new_id) (binding_places values))) (find_seen (id_text template_id.now) (set_seen self.old).templates) ≡ Some (set_seen self.new)) }
         ensures seen_unchanged { OnErr result (set_seen self.new ≡ set_seen self.old) }
     {
         let template = self.template_to_link(template_id, &values)?;

@@ -26,7 +26,7 @@ impl StaticPolicy {
     ghost use Rattle.cedar_store_parts.specs.Parts.{id_text};
     ghost use Rattle.cedar_store_policies.specs.TemplateParts.{template_made};
     ghost use Rattle.cedar_store_policies.specs.Policies.{static_of, static_loc, static_places};
-    ghost use Rattle.cedar_store_policies.specs.Places.{places_made, slots_placed, slots_within};
+    ghost use Rattle.cedar_store_policies.specs.Places.{places_made, slots_placed, slots_within, nodes_within};
     ghost use Rattle.cedar_store_policies.specs.Templates.{template_loc, places_of};
     ghost use Rattle.cedar_store_policies.specs.Refusals.{RefusesSlot, RefusesSlotAt};
 
@@ -45,9 +45,9 @@ impl StaticPolicy {
         ensures parts { IfOk result (λ p. static_of p ≡ template_made id effect annotations principal_constraint action_constraint resource_constraint (option_map tree_of non_scope_constraints)) }
         ensures no_slots { IfOk result (λ p. is_static (static_of p) ≡ true) }
         ensures place { IfOk result (λ p. static_loc p ≡ loc) }
-        ensures places { IfOk result (λ p. static_places p ≡ places_made loc annotations principal_constraint resource_constraint (option_map slots_within non_scope_constraints)) }
+        ensures places { IfOk result (λ p. static_places p ≡ places_made loc annotations principal_constraint action_constraint resource_constraint (option_map slots_within non_scope_constraints) (option_map nodes_within non_scope_constraints)) }
         ensures refused { IfErr result (RefusesSlot (template_made id effect annotations principal_constraint action_constraint resource_constraint (option_map tree_of non_scope_constraints))) }
-        ensures refused_at { IfErr result (RefusesSlotAt (slots_placed (places_made loc annotations principal_constraint resource_constraint (option_map slots_within non_scope_constraints)))) }
+        ensures refused_at { IfErr result (RefusesSlotAt (slots_placed (places_made loc annotations principal_constraint action_constraint resource_constraint (option_map slots_within non_scope_constraints) (option_map nodes_within non_scope_constraints)))) }
     {
         let template = Template::new(
             alloc,

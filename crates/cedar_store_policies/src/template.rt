@@ -50,8 +50,8 @@ impl Template {
     ghost use Rattle.cedar_expr_leaves.specs.Slots.{slot_of};
     ghost use Rattle.cedar_store_model.specs.Whole.Policy.{has_slot as uses_slot};
     ghost use Rattle.cedar_store_policies.specs.TemplateParts.{template_made};
-    ghost use Rattle.cedar_store_parts.specs.Parts.{id_text, effect_of, annotation_pair, annotations_of, seen_pair, annotations_seen, scope_of, scope_places, action_scope_of};
-    ghost use Rattle.cedar_store_policies.specs.Places.{places_made, slots_within};
+    ghost use Rattle.cedar_store_parts.specs.Parts.{id_text, effect_of, annotation_pair, annotations_of, seen_pair, annotations_seen, scope_of, scope_places, scope_named_places, action_scope_of, action_places};
+    ghost use Rattle.cedar_store_policies.specs.Places.{places_made, slots_within, nodes_within};
     ghost use Rattle.cedar_store_policies.specs.Templates.{template_of, template_loc, places_of};
     ghost use Rattle.cedar_store_policies.specs.Lists.{first_of};
 
@@ -69,7 +69,7 @@ impl Template {
     ) -> Result<Template, AllocError>
         ensures parts { IfOk result (λ t. template_of t ≡ template_made id effect annotations principal_constraint action_constraint resource_constraint (option_map tree_of non_scope_constraint)) }
         ensures place { IfOk result (λ t. template_loc t ≡ loc) }
-        ensures places { IfOk result (λ t. places_of t ≡ places_made loc annotations principal_constraint resource_constraint (option_map slots_within non_scope_constraint)) }
+        ensures places { IfOk result (λ t. places_of t ≡ places_made loc annotations principal_constraint action_constraint resource_constraint (option_map slots_within non_scope_constraint) (option_map nodes_within non_scope_constraint)) }
     {
         let annotations = Rc::new(alloc, annotations)?;
         let non_scope_constraint = match non_scope_constraint {
@@ -103,7 +103,7 @@ impl Template {
     ) -> Result<Template, AllocError>
         ensures parts { IfOk result (λ t. template_of t ≡ template_made id effect annotations.value principal_constraint action_constraint resource_constraint (option_map (λ e. tree_of e.value) non_scope_constraint)) }
         ensures place { IfOk result (λ t. template_loc t ≡ loc) }
-        ensures places { IfOk result (λ t. places_of t ≡ places_made loc annotations.value principal_constraint resource_constraint (option_map (λ e. slots_within e.value) non_scope_constraint)) }
+        ensures places { IfOk result (λ t. places_of t ≡ places_made loc annotations.value principal_constraint action_constraint resource_constraint (option_map (λ e. slots_within e.value) non_scope_constraint) (option_map (λ e. nodes_within e.value) non_scope_constraint)) }
     {
         let body = TemplateBody {
             id,
@@ -166,13 +166,15 @@ impl Template {
     pub fn principal_constraint(&self) -> &PrincipalConstraint
         ensures scope { scope_of result.now.constraint ≡ (template_of self.now).principal }
         ensures places { scope_places result.now.constraint ≡ (places_of self.now).principal }
+        ensures named { scope_named_places result.now.constraint ≡ (places_of self.now).principal_named }
     {
         &self.body.principal_constraint
     }
 
     /// What the scope asks of the action.
     pub fn action_constraint(&self) -> &ActionConstraint
-        ensures { action_scope_of result.now ≡ (template_of self.now).action }
+        ensures scope { action_scope_of result.now ≡ (template_of self.now).action }
+        ensures places { action_places result.now ≡ (places_of self.now).action_named }
     {
         &self.body.action_constraint
     }
@@ -181,6 +183,7 @@ impl Template {
     pub fn resource_constraint(&self) -> &ResourceConstraint
         ensures scope { scope_of result.now.constraint ≡ (template_of self.now).resource }
         ensures places { scope_places result.now.constraint ≡ (places_of self.now).resource }
+        ensures named { scope_named_places result.now.constraint ≡ (places_of self.now).resource_named }
     {
         &self.body.resource_constraint
     }
@@ -189,6 +192,7 @@ impl Template {
     pub fn non_scope_constraints(&self) -> Option<&Expr>
         ensures tree { option_map (λ e. tree_of e.now) result ≡ (template_of self.now).body }
         ensures places { unwrap_or (option_map (λ e. slots_within e.now) result) [] ≡ (places_of self.now).body }
+        ensures nodes { unwrap_or (option_map (λ e. nodes_within e.now) result) [] ≡ (places_of self.now).nodes }
     {
         match &self.body.non_scope_constraint {
             None => None,

@@ -5,7 +5,7 @@ use cedar_store_parts::PolicyID;
 use std::rc::RcStr;
 
 /// What is wrong with a policy.
-#[derive(Debug, PartialEq, Eq, PartialOrd, Ord, Hash, Drop)]
+#[derive(Drop, Debug, PartialEq, Eq, PartialOrd, Ord, Hash)]
 pub struct ValidationError {
     /// The policy's id.
     pub policy_id: PolicyID,
@@ -28,9 +28,6 @@ pub enum ValidationErrorKind {
 
     /// A uid of an enumerated type is no declared member.
     InvalidEnumEntity(EntityUID),
-
-    /// The scope fits no declared action with its types.
-    InvalidActionApplication,
 
     /// An expression hasn't the type that its place takes.
     UnexpectedType,
@@ -65,7 +62,7 @@ pub enum ValidationErrorKind {
 }
 
 /// What is odd about a policy.
-#[derive(Debug, PartialEq, Eq, PartialOrd, Ord, Hash, Drop)]
+#[derive(Debug, Drop, PartialEq, Eq, PartialOrd, Ord, Hash)]
 pub enum ValidationWarning {
     /// The policy is never satisfied.
     ImpossiblePolicy {
@@ -74,5 +71,20 @@ pub enum ValidationWarning {
 
         /// The policy's place.
         source_loc: Option<Loc>,
+    },
+
+    /// The scope fits no declared action with its types.
+    InvalidActionApplication {
+        /// The policy's id.
+        policy_id: PolicyID,
+
+        /// The policy's place.
+        source_loc: Option<Loc>,
+
+        /// Whether it would fit with `in` in the place of `==` in the part of the principal.
+        would_in_fix_principal: bool,
+
+        /// Whether it would fit with `in` in the place of `==` in the part of the resource.
+        would_in_fix_resource: bool,
     },
 }

@@ -1,4 +1,4 @@
-//! Tests of policies, sets of them, entities and stores of these: worked examples, refusals, and each call that takes memory.
+//! Tests of policies, sets of them, records of validation, entities and stores of these: worked examples, refusals, and each call that takes memory.
 #![tactic(auto)]
 
 #[cfg(test)]
@@ -11,6 +11,8 @@ mod parts;
 mod places;
 #[cfg(test)]
 mod policies;
+#[cfg(test)]
+mod records;
 #[cfg(test)]
 mod scopes;
 #[cfg(test)]

@@ -1,11 +1,12 @@
-//! What a store gives back of each entity: the calls of its extension values, its expressions, and its parents apart from its
-//! other ancestors.
+//! What a store gives back of each entity: the calls of its extension values, its expressions, its parents apart from its other
+//! ancestors, and the places of its attributes and tags.
 
 use crate::entities::{kin, member, unknown, with_unknown};
 use crate::parts::uid;
 use cedar_expr_leaves::Literal;
-use cedar_expr_names::Name;
+use cedar_expr_names::{Loc, Name};
 use cedar_expr_partial::PartialValue;
+use cedar_expr_trees::{Expr, Unknown};
 use cedar_expr_values::{ExtValue, Value, ValueKind};
 use cedar_store_entities::{Dereference, Entities, Entity};
 use std::alloc::Global;
@@ -137,5 +138,57 @@ fn an_expression_is_kept(rt: HostRuntime) -> Result<(), Fail> {
     let store = store(alloc)?;
     assert!(rt; gives_unknown(alloc, &store)?);
     assert!(rt; gives_unknown(alloc, &store.partial())?);
+    Ok(())
+}
+
+// A whole number at this place.
+fn placed(n: i64, at: usize) -> Value<ExtValue> {
+    Value::new(ValueKind::Lit(Literal::from(n)), Some(Loc::new(at, at)))
+}
+
+// A user with an attribute at the place 1 and a tag at the place 2.
+fn with_places(alloc: Global) -> Result<Entity, Fail> {
+    let (mut attrs, mut tags) = (Vec::new(alloc), Vec::new(alloc));
+    attrs.push((RcStr::from_str(alloc, "age")?, placed(40, 1)))?;
+    tags.push((RcStr::from_str(alloc, "spoon")?, placed(-121, 2)))?;
+    let uid = uid(alloc, "User", "p")?;
+    let (indirect, parents) = (Vec::new(alloc), Vec::new(alloc));
+    Ok(Entity::new(alloc, uid, attrs, indirect, parents, tags)?)
+}
+
+// A user of whom an attribute isn't known, which stands at the place 3.
+fn with_placed_unknown(alloc: Global) -> Result<Entity, Fail> {
+    let name = RcStr::from_str(alloc, "u")?;
+    let e = Expr::unknown(Unknown::new_untyped(name)).with_maybe_source_loc(Some(Loc::new(3, 3)));
+    let mut attrs = Vec::new(alloc);
+    attrs.push((RcStr::from_str(alloc, "foo")?, PartialValue::Residual(e)))?;
+    let uid = uid(alloc, "User", "q")?;
+    let (indirect, parents, tags) = (Vec::new(alloc), Vec::new(alloc), Vec::new(alloc));
+    Ok(Entity::new_with_attr_partial_value(alloc, uid, attrs, indirect, parents, tags)?)
+}
+
+// Whether the part is there at this place.
+fn is_at(part: Option<&PartialValue<ExtValue>>, at: usize) -> bool {
+    match part {
+        Some(PartialValue::Value(value)) => value.source_loc() == Some(Loc::new(at, at)),
+        Some(PartialValue::Residual(e)) => e.source_loc() == Some(Loc::new(at, at)),
+        None => false,
+    }
+}
+
+#[test]
+fn parts_keep_their_places(rt: HostRuntime) -> Result<(), Fail> {
+    let alloc = rt.alloc();
+    let e = with_places(alloc)?;
+    assert!(rt; is_at(e.get("age"), 1) && is_at(e.get_tag("spoon"), 2));
+    assert!(rt; is_at(with_placed_unknown(alloc)?.get("foo"), 3));
+    let mut entities = Vec::new(alloc);
+    entities.push(e)?;
+    entities.push(with_placed_unknown(alloc)?)?;
+    let store = Entities::from_entities(alloc, entities)?;
+    match store.entity(alloc, &uid(alloc, "User", "p")?)? {
+        Dereference::Data(e) => assert!(rt; is_at(e.get("age"), 1) && is_at(e.get_tag("spoon"), 2)),
+        _ => assert!(rt; false),
+    }
     Ok(())
 }

@@ -1,13 +1,13 @@
 //! Places of policies, of their annotations and of their slots, and what refusals say.
 
-use crate::parts::{bound, id, of_principal};
+use crate::parts::{bound, id, in_slot, of_principal, shared};
 use cedar_expr_leaves::{Slot, SlotId};
-use cedar_expr_names::{AnyId, Loc};
+use cedar_expr_names::{AnyId, Eid, EntityType, EntityUID, Loc};
 use cedar_expr_trees::Expr;
 use cedar_store_policies::{
     ActionConstraint, Annotation, Annotations, Effect, EntityReference, LinkingError, Policy,
     PolicySet, PolicySetError, PrincipalOrResource, PrincipalOrResourceConstraint,
-    ResourceConstraint, StaticPolicy, Template, UnexpectedSlotError,
+    ResourceConstraint, SlotEnv, Template, UnexpectedSlotError,
 };
 use std::alloc::Global;
 use std::rc::{Rc, RcStr};
@@ -17,18 +17,18 @@ fn at(n: usize) -> Option<Loc> {
     Some(Loc::new(n, n))
 }
 
-fn principal_slot() -> Slot {
-    Slot {
-        id: SlotId::principal(),
-        loc: at(2),
-    }
-}
-
-fn resource_slot() -> Slot {
-    Slot {
-        id: SlotId::resource(),
-        loc: at(3),
-    }
+// The principal's slot at the place 2, and the resource's at the place 3.
+fn both_slots() -> [Slot; 2] {
+    [
+        Slot {
+            id: SlotId::principal(),
+            loc: at(2),
+        },
+        Slot {
+            id: SlotId::resource(),
+            loc: at(3),
+        },
+    ]
 }
 
 // `principal in ?principal`, the slot at the place 2.
@@ -41,19 +41,13 @@ fn body() -> Option<Expr> {
     Some(Expr::slot(SlotId::resource()).with_maybe_source_loc(at(3)))
 }
 
-// The annotation x of the name note, at the place 5.
-fn noted(alloc: Global) -> Result<Annotations, Fail> {
+// The template t, at the place 1. The annotation x of the name note stands at the place 5.
+fn placed(alloc: Global) -> Result<Template, Fail> {
+    let id = id(alloc, "t")?;
     let mut notes = Annotations::new(alloc);
     let name = AnyId::from_normalized_str(alloc, "note")?;
     let val = RcStr::from_str(alloc, "x")?;
     notes.insert(name, Annotation { val, loc: at(5) })?;
-    Ok(notes)
-}
-
-// The template t, at the place 1.
-fn placed(alloc: Global) -> Result<Template, Fail> {
-    let id = id(alloc, "t")?;
-    let notes = noted(alloc)?;
     Ok(Template::new(
         alloc,
         id,
@@ -107,12 +101,6 @@ fn a_set_keeps_places(rt: HostRuntime) -> Result<(), Fail> {
     };
     assert!(rt; template.loc() == at(1));
     assert!(rt; notes_stand(alloc, template.annotations_arc())?);
-    Ok(())
-}
-
-#[test]
-fn linked_policies_are_put_in(rt: HostRuntime) -> Result<(), Fail> {
-    let alloc = rt.alloc();
     let mut set = PolicySet::new(alloc);
     set.add(linked(alloc)?)?;
     assert!(rt; link_stands(alloc, &set)?);
@@ -126,77 +114,115 @@ fn linked_policies_are_put_in(rt: HostRuntime) -> Result<(), Fail> {
 #[test]
 fn slots_keep_places(rt: HostRuntime) -> Result<(), Fail> {
     let alloc = rt.alloc();
+    let [principal, resource] = both_slots();
     let expr = asked().as_expr(alloc, PrincipalOrResource::Principal)?;
     let mut slots = expr.slots(alloc)?;
-    assert!(rt; slots.next() == Some(principal_slot()) && slots.next().is_none());
-    assert!(rt; asked().with_filled_slot(None)? == asked());
+    assert!(rt; slots.next() == Some(principal) && slots.next().is_none());
+    match asked().with_filled_slot(None)? {
+        PrincipalOrResourceConstraint::In(EntityReference::Slot(loc)) => {
+            assert!(rt; loc == at(2))
+        }
+        _ => return Err(Fail::from("the slot is gone")),
+    }
     let template = placed(alloc)?;
     let mut slots = template.slots();
-    assert!(rt; slots.next() == Some(&principal_slot()));
-    assert!(rt; slots.next() == Some(&resource_slot()));
+    assert!(rt; slots.next() == Some(&principal));
+    assert!(rt; slots.next() == Some(&resource));
     assert!(rt; slots.next().is_none());
     let mut within = template.condition().slots(alloc)?;
-    assert!(rt; within.next() == Some(principal_slot()));
-    assert!(rt; within.next() == Some(resource_slot()));
+    assert!(rt; within.next() == Some(principal));
+    assert!(rt; within.next() == Some(resource));
     Ok(())
 }
 
+// A uid at the place 7.
+fn located(alloc: Global) -> Result<Rc<EntityUID>, Fail> {
+    let kind = EntityType::from_normalized_str(alloc, "User")?;
+    let uid = EntityUID::from_components(kind, Eid::from_str(alloc, "a")?, at(7));
+    Ok(Rc::new(alloc, uid)?)
+}
+
 #[test]
-fn the_slot_that_is_found_has_its_place(rt: HostRuntime) -> Result<(), Fail> {
+fn uids_keep_places_which_make_no_difference(rt: HostRuntime) -> Result<(), Fail> {
     let alloc = rt.alloc();
-    let made = StaticPolicy::new(
-        alloc,
-        id(alloc, "p")?,
-        None,
-        Annotations::new(alloc),
-        Effect::Permit,
-        of_principal(PrincipalOrResourceConstraint::Any),
-        ActionConstraint::any(),
-        ResourceConstraint::any(),
-        body(),
-    );
-    match made {
-        Err(UnexpectedSlotError::FoundSlot(slot)) => assert!(rt; slot == resource_slot()),
-        _ => return Err(Fail::from("a slot passed")),
+    let mut values = SlotEnv::new();
+    values.insert(SlotId::principal(), located(alloc)?);
+    let template = Rc::new(alloc, placed(alloc)?)?;
+    let policy = Policy::new(template, None, values).clone()?;
+    match policy.principal_constraint()?.constraint {
+        PrincipalOrResourceConstraint::In(EntityReference::EUID(uid)) => {
+            assert!(rt; uid.loc() == at(7))
+        }
+        _ => return Err(Fail::from("the slot isn't filled")),
     }
+    match policy.non_scope_constraints() {
+        Some(body) => assert!(rt; body.source_loc() == at(3)),
+        None => return Err(Fail::from("the body is gone")),
+    }
+    assert!(rt; asked() == in_slot());
+    let named = EntityReference::EUID(located(alloc)?);
+    assert!(rt; named == EntityReference::EUID(shared(alloc, "User", "a")?));
+    assert!(rt; named != EntityReference::EUID(shared(alloc, "User", "b")?));
+    assert!(rt; named != EntityReference::Slot(None));
+    let exactly = ActionConstraint::Eq(located(alloc)?);
+    assert!(rt; exactly == ActionConstraint::Eq(shared(alloc, "User", "a")?));
+    assert!(rt; exactly != ActionConstraint::Any);
     Ok(())
 }
 
 #[test]
 fn refusals_of_policies_are_told(rt: HostRuntime) -> Result<(), Fail> {
     let alloc = rt.alloc();
-    let found = UnexpectedSlotError::FoundSlot(principal_slot()).to_string(alloc)?;
-    assert_eq!(rt;
-        found.as_str(),
-        "found slot `?principal` where slots are not allowed"
-    );
-    let taken = PolicySetError::Occupied {
-        id: id(alloc, "a")?,
-    };
-    assert_eq!(rt;
-        taken.to_string(alloc)?.as_str(),
-        "duplicate template or policy id `a`"
-    );
+    let [slot, _] = both_slots();
+    let found = UnexpectedSlotError::FoundSlot(slot);
+    let id = id(alloc, "a")?;
+    for (told, text) in [
+        (
+            UnexpectedSlotError::OutOfMemory.to_string(alloc)?,
+            "out of memory",
+        ),
+        (
+            found.to_string(alloc)?,
+            "found slot `?principal` where slots are not allowed",
+        ),
+        (
+            PolicySetError::OutOfMemory.to_string(alloc)?,
+            "out of memory",
+        ),
+        (
+            PolicySetError::Occupied { id }.to_string(alloc)?,
+            "duplicate template or policy id `a`",
+        ),
+    ] {
+        assert_eq!(rt; told.as_str(), text);
+    }
     Ok(())
-}
-
-// What the refusal says is this.
-fn says(alloc: Global, refusal: LinkingError, text: &str) -> Result<bool, Fail> {
-    Ok(refusal.to_string(alloc)?.as_str() == text)
 }
 
 #[test]
 fn refusals_of_links_are_told(rt: HostRuntime) -> Result<(), Fail> {
     let alloc = rt.alloc();
     let (slot, id, of) = (SlotId::resource(), id(alloc, "a")?, id(alloc, "b")?);
-    let conflict = "template-linked policy id `a` conflicts with an existing policy id";
-    assert!(rt; says(alloc, LinkingError::PolicyIdConflict { id }, conflict)?);
-    let unbound = "the slot `?resource` was not provided as an argument";
-    assert!(rt; says(alloc, LinkingError::UnboundSlot { slot }, unbound)?);
-    let extra =
-        "the slot `?resource` was provided as an argument, but did not exist in the template";
-    assert!(rt; says(alloc, LinkingError::ExtraSlot { slot }, extra)?);
-    let none = "failed to find a template with id `b`";
-    assert!(rt; says(alloc, LinkingError::NoSuchTemplate { id: of }, none)?);
+    for (refusal, text) in [
+        (LinkingError::OutOfMemory, "out of memory"),
+        (
+            LinkingError::PolicyIdConflict { id },
+            "template-linked policy id `a` conflicts with an existing policy id",
+        ),
+        (
+            LinkingError::UnboundSlot { slot },
+            "the slot `?resource` was not provided as an argument",
+        ),
+        (
+            LinkingError::ExtraSlot { slot },
+            "the slot `?resource` was provided as an argument, but did not exist in the template",
+        ),
+        (
+            LinkingError::NoSuchTemplate { id: of },
+            "failed to find a template with id `b`",
+        ),
+    ] {
+        assert_eq!(rt; refusal.to_string(alloc)?.as_str(), text);
+    }
     Ok(())
 }

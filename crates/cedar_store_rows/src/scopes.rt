@@ -16,20 +16,6 @@ fn user(alloc: Global) -> Result<Rc<EntityType>, Fail> {
     Ok(Rc::new(alloc, EntityType::from_normalized_str(alloc, "User")?)?)
 }
 
-fn principal() -> Expr {
-    Expr::var(Var::Principal)
-}
-
-fn slot() -> Expr {
-    Expr::slot(SlotId::principal())
-}
-
-// `principal is User`.
-fn is_user(alloc: Global) -> Result<Expr, Fail> {
-    let kind = EntityType::from_normalized_str(alloc, "User")?;
-    Ok(Expr::is_entity_type(alloc, principal(), kind)?)
-}
-
 // What the constraint asks of the principal is this.
 fn asks(
     alloc: Global,
@@ -40,33 +26,30 @@ fn asks(
 }
 
 #[test]
-fn anything_and_types_are_asked(rt: HostRuntime) -> Result<(), Fail> {
+fn scopes_of_the_principal_are_asked(rt: HostRuntime) -> Result<(), Fail> {
     let alloc = rt.alloc();
     let any = PrincipalOrResourceConstraint::Any;
     assert!(rt; asks(alloc, &any, &Expr::val(Literal::Bool(true)))?);
     let is = PrincipalOrResourceConstraint::Is(user(alloc)?);
-    assert!(rt; asks(alloc, &is, &is_user(alloc)?)?);
-    Ok(())
-}
-
-#[test]
-fn entities_and_slots_are_asked(rt: HostRuntime) -> Result<(), Fail> {
-    let alloc = rt.alloc();
+    let kind = EntityType::from_normalized_str(alloc, "User")?;
+    let is_user = Expr::is_entity_type(alloc, Expr::var(Var::Principal), kind)?;
+    assert!(rt; asks(alloc, &is, &is_user)?);
     let named = EntityReference::EUID(shared(alloc, "User", "a")?);
     let exactly = PrincipalOrResourceConstraint::Eq(named);
-    let wanted = Expr::is_eq(alloc, principal(), written(alloc, "User", "a")?)?;
+    let wanted = Expr::is_eq(
+        alloc,
+        Expr::var(Var::Principal),
+        written(alloc, "User", "a")?,
+    )?;
     assert!(rt; asks(alloc, &exactly, &wanted)?);
-    let inside = Expr::is_in(alloc, principal(), slot())?;
+    let inside = Expr::is_in(
+        alloc,
+        Expr::var(Var::Principal),
+        Expr::slot(SlotId::principal()),
+    )?;
     assert!(rt; asks(alloc, &in_slot(), &inside)?);
-    Ok(())
-}
-
-#[test]
-fn a_type_is_asked_before_an_entity(rt: HostRuntime) -> Result<(), Fail> {
-    let alloc = rt.alloc();
     let both = PrincipalOrResourceConstraint::IsIn(user(alloc)?, EntityReference::Slot(None));
-    let inside = Expr::is_in(alloc, principal(), slot())?;
-    let wanted = Expr::and(alloc, is_user(alloc)?, inside)?;
+    let wanted = Expr::and(alloc, is_user, inside)?;
     assert!(rt; asks(alloc, &both, &wanted)?);
     Ok(())
 }
@@ -97,33 +80,26 @@ fn actions_are_asked(rt: HostRuntime) -> Result<(), Fail> {
     Ok(())
 }
 
-// What a constraint asks once the slot is bound to the user a.
-fn filled(
-    alloc: Global,
-    constraint: &PrincipalOrResourceConstraint,
-) -> Result<PrincipalOrResourceConstraint, Fail> {
-    let user: Rc<EntityUID> = shared(alloc, "User", "a")?;
-    Ok(constraint.with_filled_slot(Some(&user))?)
-}
-
 #[test]
 fn bound_slots_are_filled(rt: HostRuntime) -> Result<(), Fail> {
     let alloc = rt.alloc();
     let user = EntityReference::EUID(shared(alloc, "User", "a")?);
     let wanted = PrincipalOrResourceConstraint::In(user);
-    assert!(rt; filled(alloc, &in_slot())? == wanted);
+    let to: Rc<EntityUID> = shared(alloc, "User", "a")?;
+    assert!(rt; in_slot().with_filled_slot(Some(&to))? == wanted);
     assert!(rt; in_slot().with_filled_slot(None)? == in_slot());
     let any = PrincipalOrResourceConstraint::Any;
-    assert!(rt; filled(alloc, &any)? == any);
+    assert!(rt; any.with_filled_slot(Some(&to))? == any);
     Ok(())
 }
 
 // `principal in ?principal`, `action in [view]`, `resource is User`, and `principal` as the body.
-fn many_parts(alloc: Global) -> Result<Template, Fail> {
-    let id = id(alloc, "m")?;
-    let action = views(alloc)?;
-    let kind = PrincipalOrResourceConstraint::Is(user(alloc)?);
-    Ok(Template::new(
+#[test]
+fn a_condition_joins_the_parts_from_the_right(rt: HostRuntime) -> Result<(), Fail> {
+    let alloc = rt.alloc();
+    let (id, action) = (id(alloc, "m")?, views(alloc)?);
+    let constraint = PrincipalOrResourceConstraint::Is(user(alloc)?);
+    let template = Template::new(
         alloc,
         id,
         None,
@@ -131,24 +107,19 @@ fn many_parts(alloc: Global) -> Result<Template, Fail> {
         Effect::Forbid,
         of_principal(in_slot()),
         action,
-        ResourceConstraint { constraint: kind },
-        Some(principal()),
-    )?)
-}
-
-// The same parts, joined from the right.
-fn joined(alloc: Global) -> Result<Expr, Fail> {
+        ResourceConstraint { constraint },
+        Some(Expr::var(Var::Principal)),
+    )?;
     let kind = EntityType::from_normalized_str(alloc, "User")?;
     let resource = Expr::is_entity_type(alloc, Expr::var(Var::Resource), kind)?;
-    let rest = Expr::and(alloc, resource, principal())?;
+    let rest = Expr::and(alloc, resource, Expr::var(Var::Principal))?;
     let rest = Expr::and(alloc, in_view(alloc)?, rest)?;
-    let inside = Expr::is_in(alloc, principal(), slot())?;
-    Ok(Expr::and(alloc, inside, rest)?)
-}
-
-#[test]
-fn a_condition_joins_the_parts_from_the_right(rt: HostRuntime) -> Result<(), Fail> {
-    let alloc = rt.alloc();
-    assert!(rt; *many_parts(alloc)?.condition() == joined(alloc)?);
+    let inside = Expr::is_in(
+        alloc,
+        Expr::var(Var::Principal),
+        Expr::slot(SlotId::principal()),
+    )?;
+    let joined = Expr::and(alloc, inside, rest)?;
+    assert!(rt; *template.condition() == joined);
     Ok(())
 }

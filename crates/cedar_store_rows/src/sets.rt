@@ -6,38 +6,33 @@ use cedar_store_policies::{Effect, LinkingError, Policy, PolicySet, PolicySetErr
 use std::alloc::Global;
 use std::test::Fail;
 
-// One policy of a set: its id, its template's, its effect, and what its first slot is bound to.
-fn line(alloc: Global, policy: &Policy) -> Result<String, Fail> {
-    let to = match policy.env().get(SlotId::principal()) {
-        Some(uid) => uid.eid().as_str(),
-        None => "",
-    };
-    let (id, of) = (policy.id(), policy.template().id());
-    let permits = policy.effect() == Effect::Permit;
-    Ok(format!(in alloc; "{id}/{of}/{permits}/{to} ")?)
-}
-
-// What stands in a set: the ids of its templates, and its policies.
-fn shown(alloc: Global, set: &PolicySet) -> Result<String, Fail> {
+// The ids of the templates of a set.
+fn templates_shown(alloc: Global, set: &PolicySet) -> Result<String, Fail> {
     let mut all = String::new(alloc);
     for template in set.templates() {
         all.push_str(template.id().as_str())?;
         all.push_str(" ")?;
     }
+    Ok(all)
+}
+
+// What stands in a set: the ids of its templates, and of each policy its id, its template's, its effect, and what its first slot
+// is bound to.
+fn shown(alloc: Global, set: &PolicySet) -> Result<String, Fail> {
+    let mut all = templates_shown(alloc, set)?;
     for policy in set.policies() {
-        all.push_str(line(alloc, policy)?.as_str())?;
+        let to = match policy.env().get(SlotId::principal()) {
+            Some(uid) => uid.eid().as_str(),
+            None => "",
+        };
+        let (id, of) = (policy.id(), policy.template().id());
+        let permits = policy.effect() == Effect::Permit;
+        all.push_str(format!(in alloc; "{id}/{of}/{permits}/{to} ")?.as_str())?;
     }
     Ok(all)
 }
 
 // The number of the refusal, and none where there is none.
-fn refusal(linked: Result<(), LinkingError>) -> Option<u32> {
-    match linked {
-        Ok(()) => None,
-        Err(e) => Some(e.number()),
-    }
-}
-
 fn refused(added: Result<(), PolicySetError>) -> Option<u32> {
     match added {
         Ok(()) => None,
@@ -56,20 +51,10 @@ fn link(
     let template = id(alloc, of)?;
     let new = id(alloc, text)?;
     let values = bound(alloc, bindings.0, bindings.1)?;
-    Ok(refusal(set.link(&template, new, values)))
-}
-
-fn add_template(alloc: Global, set: &mut PolicySet, text: &str) -> Result<Option<u32>, Fail> {
-    Ok(refused(set.add_template(template(alloc, text)?)))
-}
-
-fn add_static(
-    alloc: Global,
-    set: &mut PolicySet,
-    text: &str,
-    effect: Effect,
-) -> Result<Option<u32>, Fail> {
-    Ok(refused(set.add_static(always(alloc, text, effect)?)))
+    match set.link(&template, new, values) {
+        Ok(()) => Ok(None),
+        Err(e) => Ok(Some(e.number())),
+    }
 }
 
 // The template t, the policy z, and t linked as l to the user a.
@@ -88,13 +73,6 @@ fn a_link_is_added_at_the_end(rt: HostRuntime) -> Result<(), Fail> {
     let alloc = rt.alloc();
     let set = with_a_link(alloc)?;
     assert_eq!(rt; shown(alloc, &set)?.as_str(), "t z/z/false/ l/t/true/a ");
-    Ok(())
-}
-
-#[test]
-fn a_link_asks_what_its_template_asks(rt: HostRuntime) -> Result<(), Fail> {
-    let alloc = rt.alloc();
-    let set = with_a_link(alloc)?;
     let Some(link) = set.get(&id(alloc, "l")?) else {
         return Err(Fail::from("there is no link"));
     };
@@ -103,25 +81,11 @@ fn a_link_asks_what_its_template_asks(rt: HostRuntime) -> Result<(), Fail> {
     Ok(())
 }
 
-// A link is refused by this number, and the set stays as it was.
-fn refuses(
-    alloc: Global,
-    set: &mut PolicySet,
-    of: &str,
-    text: &str,
-    bindings: (Option<&str>, Option<&str>),
-    number: u32,
-) -> Result<bool, Fail> {
-    let before = shown(alloc, set)?;
-    let answer = link(alloc, set, of, text, bindings)?;
-    let after = shown(alloc, set)?;
-    Ok(answer == Some(number) && before.as_str() == after.as_str())
-}
-
 #[test]
 fn links_are_refused(rt: HostRuntime) -> Result<(), Fail> {
     let alloc = rt.alloc();
     let mut set = with_a_link(alloc)?;
+    let before = shown(alloc, &set)?;
     for (of, text, bindings, number) in [
         ("t", "l", (Some("a"), None), 1),
         ("t", "t", (Some("a"), None), 1),
@@ -131,10 +95,10 @@ fn links_are_refused(rt: HostRuntime) -> Result<(), Fail> {
         ("x", "k", (Some("a"), None), 4),
         ("l", "k", (Some("a"), None), 4),
     ] {
-        assert!(rt;
-            refuses(alloc, &mut set, of, text, bindings, number)?,
-            "{of} as {text}"
-        );
+        let answer = link(alloc, &mut set, of, text, bindings)?;
+        assert!(rt; answer == Some(number), "{of} as {text}");
+        let after = shown(alloc, &set)?;
+        assert!(rt; before.as_str() == after.as_str(), "{of} as {text}");
     }
     Ok(())
 }
@@ -145,12 +109,12 @@ fn templates_and_policies_share_their_ids(rt: HostRuntime) -> Result<(), Fail> {
     let mut set = with_a_link(alloc)?;
     let before = shown(alloc, &set)?;
     for text in ["t", "z", "l"] {
-        assert_eq!(rt; add_template(alloc, &mut set, text)?, Some(1));
-        assert_eq!(rt; add_static(alloc, &mut set, text, Effect::Permit)?, Some(1));
-        assert_eq!(rt;
-            refused(set.add(policy(alloc, text, Effect::Permit)?)),
-            Some(1)
-        );
+        let template = refused(set.add_template(template(alloc, text)?));
+        assert_eq!(rt; template, Some(1));
+        let bare = refused(set.add_static(always(alloc, text, Effect::Permit)?));
+        assert_eq!(rt; bare, Some(1));
+        let policy = refused(set.add(policy(alloc, text, Effect::Permit)?));
+        assert_eq!(rt; policy, Some(1));
     }
     assert_eq!(rt; shown(alloc, &set)?.as_str(), before.as_str());
     Ok(())
@@ -162,10 +126,11 @@ fn what_is_added_stands_last(rt: HostRuntime) -> Result<(), Fail> {
     let mut set = PolicySet::new(alloc);
     assert_eq!(rt; shown(alloc, &set)?.as_str(), "");
     for text in ["z", "a", "m"] {
-        assert_eq!(rt; add_static(alloc, &mut set, text, Effect::Permit)?, None);
+        let added = refused(set.add_static(always(alloc, text, Effect::Permit)?));
+        assert_eq!(rt; added, None);
     }
-    assert_eq!(rt; add_template(alloc, &mut set, "y")?, None);
-    assert_eq!(rt; add_template(alloc, &mut set, "b")?, None);
+    assert_eq!(rt; refused(set.add_template(template(alloc, "y")?)), None);
+    assert_eq!(rt; refused(set.add_template(template(alloc, "b")?)), None);
     assert_eq!(rt;
         shown(alloc, &set)?.as_str(),
         "y b z/z/true/ a/a/true/ m/m/true/ "
@@ -183,7 +148,7 @@ fn policies(alloc: Global, ids: &[&str]) -> Result<Vec<Policy>, Fail> {
 }
 
 #[test]
-fn lists_of_policies_make_sets(rt: HostRuntime) -> Result<(), Fail> {
+fn lists_of_policies_make_sets_without_repeated_ids(rt: HostRuntime) -> Result<(), Fail> {
     let alloc = rt.alloc();
     let listed = policies(alloc, &["b", "a", "c"])?;
     let set = PolicySet::try_from_iter(alloc, listed)?;
@@ -191,12 +156,6 @@ fn lists_of_policies_make_sets(rt: HostRuntime) -> Result<(), Fail> {
         shown(alloc, &set)?.as_str(),
         "b/b/true/ a/a/true/ c/c/true/ "
     );
-    Ok(())
-}
-
-#[test]
-fn the_first_repeated_id_is_named(rt: HostRuntime) -> Result<(), Fail> {
-    let alloc = rt.alloc();
     let listed = policies(alloc, &["b", "a", "c", "a", "b"])?;
     match PolicySet::try_from_iter(alloc, listed) {
         Err(PolicySetError::Occupied { id }) => assert_eq!(rt; id.as_str(), "a"),

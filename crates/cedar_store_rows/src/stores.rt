@@ -53,6 +53,8 @@ fn the_refusal_has_its_number(rt: HostRuntime) -> Result<(), Fail> {
     assert_eq!(rt; EntitiesError::OutOfMemory.number(), 0);
     let text = refusal.to_string(alloc)?;
     assert_eq!(rt; text.as_str(), "duplicate entity entry `User::\"a\"`");
+    let text = EntitiesError::OutOfMemory.to_string(alloc)?;
+    assert_eq!(rt; text.as_str(), "out of memory");
     Ok(())
 }
 
@@ -68,10 +70,22 @@ fn entities_come_as_they_were_given(rt: HostRuntime) -> Result<(), Fail> {
     Ok(())
 }
 
+// Whether the store gives the user of this id.
+fn gives(alloc: Global, store: &Entities, id: &str) -> Result<bool, Fail> {
+    let wanted = uid(alloc, "User", id)?;
+    match store.entity(alloc, &wanted)? {
+        Dereference::Data(e) => Ok(*e.uid() == wanted),
+        _ => Ok(false),
+    }
+}
+
 // Whether the store gives the user a, with the team red.
 fn gives_a(alloc: Global, store: &Entities) -> Result<bool, Fail> {
-    match store.entity(alloc, &uid(alloc, "User", "a")?)? {
-        Dereference::Data(e) => Ok(e.is_child_of(&uid(alloc, "Team", "red")?)),
+    let wanted = uid(alloc, "User", "a")?;
+    match store.entity(alloc, &wanted)? {
+        Dereference::Data(e) => {
+            Ok(*e.uid() == wanted && e.is_child_of(&uid(alloc, "Team", "red")?))
+        }
         _ => Ok(false),
     }
 }
@@ -89,9 +103,26 @@ fn a_whole_store_knows_what_is_missing(rt: HostRuntime) -> Result<(), Fail> {
     let alloc = rt.alloc();
     let store = store(alloc)?;
     assert!(rt; gives_a(alloc, &store)?);
+    assert!(rt; gives(alloc, &store, "b")?);
     assert!(rt; has_none(alloc, &store, &uid(alloc, "User", "missing")?)?);
     assert!(rt; has_none(alloc, &store, &uid(alloc, "Team", "a")?)?);
     assert!(rt; has_none(alloc, &Entities::new(alloc), &uid(alloc, "User", "a")?)?);
+    Ok(())
+}
+
+// Entities that have nothing are told apart by their uids.
+#[test]
+fn each_entity_is_given_under_its_uid(rt: HostRuntime) -> Result<(), Fail> {
+    let alloc = rt.alloc();
+    let store = Entities::from_entities(alloc, users(alloc, &["b", "a", "c"])?)?;
+    assert!(rt;
+        gives(alloc, &store, "a")? && gives(alloc, &store, "b")? && gives(alloc, &store, "c")?
+    );
+    let store = store.partial();
+    assert!(rt;
+        gives(alloc, &store, "a")? && gives(alloc, &store, "b")? && gives(alloc, &store, "c")?
+    );
+    assert!(rt; !gives(alloc, &store, "d")?);
     Ok(())
 }
 

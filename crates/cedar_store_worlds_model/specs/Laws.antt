@@ -1,17 +1,23 @@
 -- What the laws of these worlds say.
--- Rule: values and equality; the meaning; the store (docs/RULES.md).
+-- Rule: values and equality; the meaning; the store; what is known (docs/RULES.md).
 use Rattle.std.specs.Prelude.{◌≡◌, List, true}
+use Rattle.std.specs.List.{list_all}
 use Rattle.cedar_expr_model.specs.Name.{Text}
+use Rattle.cedar_expr_model.specs.Uid.{Uid}
 use Rattle.cedar_expr_model.specs.Whole.Value.{V}
 use Rattle.cedar_expr_model.specs.Whole.Canonical.{is_canonical}
 use Rattle.cedar_expr_model.specs.Whole.Tree.{Tree, is_in, get_tag, has_tag}
-use Rattle.cedar_store_model.specs.Whole.Outcome.{val}
+use Rattle.cedar_expr_model.specs.Whole.Table.{Table, all_typed}
+use Rattle.cedar_expr_model.specs.Whole.OfLaws.Fair.{IsFair}
+use Rattle.cedar_store_model.specs.Whole.Outcome.{Res, val}
 use Rattle.cedar_store_model.specs.Whole.World.{World}
-use Rattle.cedar_store_model.specs.Whole.Store.{Store, look_up}
+use Rattle.cedar_store_model.specs.Whole.Store.{Store, whole, look_up}
+use Rattle.cedar_store_model.specs.Whole.Knowledge.{holds_values, IsSettled}
 use Rattle.cedar_store_model.specs.Whole.Reads.{attribute_read, attribute_tested}
 use Rattle.cedar_store_model.specs.Whole.Meaning.{Means, combined, path_tested}
 use Rattle.cedar_store_worlds_model.specs.Rising.{Rises, WorldRises}
 use Rattle.cedar_store_worlds_model.specs.Alone.{store_alone}
+use Rattle.cedar_store_worlds_model.specs.Settled.{CallsLeaveNone, IsSettledWorld, BindsUnknowns}
 
 -- canonical values rise
 abbrev pub CanonicalValuesRise : Type 0
@@ -32,3 +38,15 @@ pub record ReadsAsAlone (w : World) (s : Store) : Type 0 where
 
 abbrev pub ReadsAskTheStore : Type 0
 ReadsAskTheStore = (w : World) (s : Store) → w.store ≡ look_up s → ReadsAsAlone w s
+
+-- where everything is known but unknowns, an expression whose unknowns are bound means one outcome and no other
+abbrev pub SettledWorldsAnswer : Type 0
+SettledWorldsAnswer = (w : World) → IsSettledWorld w → (t : Tree) → BindsUnknowns w t → (r : Res V) × Means w t r × ((s : Res V) → Means w t s → s ≡ r)
+
+-- each uid is known of a whole store of values
+abbrev pub WholeStoresAreSettled : Type 0
+WholeStoresAreSettled = (s : Store) → s.extent ≡ whole → list_all (λ e. holds_values e.1) s.entities ≡ true → (u : Uid) → IsSettled (look_up s u)
+
+-- calls of a fair table leave nothing, where each function has a result type
+abbrev pub TypedTablesLeaveNone : Type 0
+TypedTablesLeaveNone = (x : Table) → IsFair x → all_typed x ≡ true → CallsLeaveNone x

@@ -1,3 +1,4 @@
 pub mod Rising
 pub mod Alone
+pub mod Settled
 pub mod Laws

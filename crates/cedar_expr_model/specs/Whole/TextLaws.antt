@@ -1,6 +1,6 @@
 -- What the laws of the texts of uids and of patterns say.
 -- Rule: the uid text and its escape; texts; patterns (docs/RULES.md).
-use Rattle.std.specs.Prelude.{◌≡◌, ℕ, List, [], ◌∷◌, true, Option, Some}
+use Rattle.std.specs.Prelude.{◌≡◌, ℕ, List, [], ◌∷◌, true, Option, Some, Contains}
 use Rattle.std.specs.Str.{all_scalars}
 use Rattle.cedar_expr_model.specs.Name.{Text}
 use Rattle.cedar_expr_model.specs.Uid.{Uid, uid_text}
@@ -11,6 +11,10 @@ use Rattle.cedar_expr_model.specs.Whole.Texts.{pattern_text}
 -- Some reading of texts finds each uid from its text.
 abbrev pub UidsAreReadable : Type 0
 UidsAreReadable = (read : Text → Option Uid) × ((u : Uid) → is_uid u ≡ true → read (uid_text u) ≡ Some u)
+
+-- The text of a uid holds a double quote, which no name does.
+abbrev pub UidsHoldQuotes : Type 0
+UidsHoldQuotes = (u : Uid) → Contains (uid_text u) 34
 
 -- the characters that stand in a pattern, in order
 abbrev pub characters : Pattern → List ℕ

@@ -26,6 +26,6 @@ returns-in-Err-clause-refused c = inl (subst (λ f. TellsAmong (setting_of c.arg
 pub returns-in_ok-entity_type-in-Enum-clause-made : goal.returns-in_ok-entity_type-in-Enum-clause-made
 returns-in_ok-entity_type-in-Enum-clause-made c =
     let members = map rc_str_bytes c.in_ok-members-in-Enum.members.keys in
-    enumerated_made (setting_of c.args.resolver.now) (type_seen c.args.entry.now) (map name_of c.args.below.now.keys) (entity_type_seen c.in_ok-entity_type-in-Enum.entity_type) (type_name_of c.in_ok-name.name) (map rc_str_bytes c.in-Enum.ids.items) members (map type_name_of c.in_ok-below.below.keys)
+    enumerated_made (setting_of c.args.resolver.now) (type_seen c.args.entry.now) (map name_of c.args.below.now.keys) (entity_type_seen c.in_ok-entity_type-in-Enum.entity_type) (type_name_of c.in_ok-name.name) (rc_str_bytes c.in-Enum.ids.head ∷ map rc_str_bytes c.in-Enum.ids.tail.items) members (map type_name_of c.in_ok-below.below.keys)
     c.in_ok-entity_type-in-Enum.ensures.kept c.in_ok-name.ensures.made (ap (entity_form name_of) c.in-Enum.is)
-    (subst (λ xs. IsSetOf (map rc_str_bytes xs) members) c.deref.ensures.value c.in_ok-members-in-Enum.ensures) c.in_ok-below.ensures.made
+    c.in_ok-members-in-Enum.ensures c.in_ok-below.ensures.made

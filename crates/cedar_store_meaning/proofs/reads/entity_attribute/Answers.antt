@@ -12,4 +12,4 @@ returns-in-Data c =
     let u = uid_of c.args.uid.now in
     let e = c.in-Data.entity.now in
     let d = rw c.in-Data.is at c.in_ok-entity.ensures in
-    subst (λ o. IsMeaning o c.part.result) (sym (part_is (λ x. x.attributes) u c.args.name.now (look_up (store_seen c.args.entities.now) u) (entity_of e) (entity_seen e).attributes c.get.result d.0 refl c.get.ensures)) c.part.ensures
+    subst (λ o. IsMeaning o c.part.result) (sym (part_is (λ x. x.attributes) u c.args.name.now (look_up (store_seen c.args.entities.now) u) (entity_of e) (entity_seen e).attributes c.get.result d.0 refl c.get.ensures.value)) c.part.ensures

@@ -14,6 +14,6 @@ returns-in-Data c =
     let u = uid_of c.args.uid.now in
     let e = c.in-Data.entity.now in
     let d = rw c.in-Data.is at c.in_ok-entity.ensures in
-    test_is (λ x. x.attributes) u c.args.name.now (look_up (store_seen c.args.entities.now) u) (entity_of e) (entity_seen e).attributes c.get.result d.0 refl c.get.ensures
+    test_is (λ x. x.attributes) u c.args.name.now (look_up (store_seen c.args.entities.now) u) (entity_of e) (entity_seen e).attributes c.get.result d.0 refl c.get.ensures.value
     ∙ ap (λ b. Some (says b)) (sym c.is_some.ensures)
     ∙ ap (λ v. Some (val v)) (sym c.truth.ensures)

@@ -1,5 +1,6 @@
 use Rattle.cedar_store_records.specs.contracts.diagnostics.ValidationErrorOrd.TheImpl.Laws as order
 use Rattle.cedar_store_records.specs.contracts.diagnostics.ValidationErrorHash.TheImpl.Laws as hash
+use Rattle.cedar_store_records.proofs.Compared.{errors_decide}
 use Rattle.cedar_store_records.proofs.laws.errors_agree.Goals as goal
 
 pub returns-clause-order : goal.returns-clause-order
@@ -7,3 +8,6 @@ returns-clause-order c = order.matches_eq-law
 
 pub returns-clause-hash : goal.returns-clause-hash
 returns-clause-hash c = hash.respects_eq-law
+
+pub returns-clause-equality : goal.returns-clause-equality
+returns-clause-equality c = errors_decide

@@ -1,7 +1,7 @@
 use Rattle.std.proofs.Common.{Some, option_map, sym, ap, ◌∙◌}
 use Rattle.cedar_store_model.specs.Whole.Policy as model
 use Rattle.cedar_store_model.specs.Whole.PolicySet.{with_policy}
-use Rattle.cedar_store_parts.specs.Parts.{id_text, bindings_of}
+use Rattle.cedar_store_parts.specs.Parts.{id_text, bindings_of, binding_places}
 use Rattle.cedar_store_policies.specs.Templates.{template_of}
 use Rattle.cedar_store_policies.specs.PolicySets.{set_of, set_seen}
 use Rattle.cedar_store_policies.specs.Seen.{Seen, with_policy_seen, linked_seen}
@@ -34,5 +34,5 @@ pub returns-clause-seen : goal.returns-clause-seen
 returns-clause-seen c =
     let s = c.args.self.now in
     let made = c.new.ensures in
-    ap (option_map (λ (t : Seen). with_policy_seen (set_seen s) (linked_seen t (id_text c.args.new_id)))) c.in_ok-template.ensures.seen
-    ∙ ap Some (sym (policy_last s.templates.entries s.links.entries c.put.new.map.entries c.in_ok-id.id c.new.result c.in_ok-put.ensures.put ∙ (λ i. with_policy_seen (set_seen s) (record { id = (made.policy i).id; places = made.places i; template = made.template i }))))
+    ap (option_map (λ (t : Seen). with_policy_seen (set_seen s) (linked_seen t (id_text c.args.new_id) (binding_places c.args.values)))) c.in_ok-template.ensures.seen
+    ∙ ap Some (sym (policy_last s.templates.entries s.links.entries c.put.new.map.entries c.in_ok-id.id c.new.result c.in_ok-put.ensures.put ∙ (λ i. with_policy_seen (set_seen s) (record { id = (made.policy i).id; places = made.places i; template = made.template i; bound = made.bound i }))))

@@ -1,0 +1,95 @@
+//! Examples of declarations, and texts of what comes of them.
+
+use crate::fault::Fault;
+use cedar_expr_functions::Extensions;
+use cedar_expr_raw_names::ConditionalName;
+use cedar_schema_builder::SchemaError;
+use cedar_schema_built::ValidatorSchema;
+use cedar_schema_example_entries::{action_text, entity_type_text};
+use cedar_schema_examples::fragment;
+use cedar_schema_fragments::ValidatorSchemaFragment;
+use std::alloc::{AllocError, Global};
+
+type Written = ValidatorSchemaFragment<ConditionalName, ConditionalName>;
+
+const PEOPLE: &str =
+    "type Address | {street: String, zip?: Long}\nentity Group\nentity User | Group | home: Address, boss?: User | Set of String\nenum Color | red, green\naction all";
+
+const DOCUMENTS: &str =
+    "entity Doc |  | owner: User, color: Color\naction view | Action all | User, Group | Doc | {home: Address, quick?: Bool}\n";
+
+// The fragment of this namespace alone, with these lines.
+fn written(alloc: Global, space: &str, lines: &str) -> Result<Written, Fault> {
+    let fragment = fragment(alloc, &[(space, lines)])?;
+    Ok(Written::from_schema_fragment(alloc, fragment)?)
+}
+
+// The lines of documents, and of this many entity types whose parent the other fragment declares.
+fn documents(alloc: Global, size: u32) -> Result<String, AllocError> {
+    let mut lines = String::from_str(alloc, DOCUMENTS)?;
+    for n in 0..size {
+        let line = format!(in alloc; "entity Bot{n} | User\n")?;
+        lines.push_str(line.as_str())?;
+    }
+    Ok(lines)
+}
+
+// The texts of the entity types.
+fn types_text(alloc: Global, schema: &ValidatorSchema) -> Result<String, AllocError> {
+    let mut text = String::new(alloc);
+    for ty in schema.entity_types() {
+        text.push_str(entity_type_text(alloc, ty)?.as_str())?;
+    }
+    Ok(text)
+}
+
+// The texts of the actions.
+fn actions_text(alloc: Global, schema: &ValidatorSchema) -> Result<String, AllocError> {
+    let mut text = String::new(alloc);
+    for action in schema.action_ids() {
+        text.push_str(action_text(alloc, action)?.as_str())?;
+    }
+    Ok(text)
+}
+
+/// The text of the schema of two fragments. One declares a group, users, colors and an action in the empty namespace, the other in
+/// another namespace documents, an action of that group and this many entity types below users.
+pub fn mixed(alloc: Global, size: u32) -> Result<String, Fault> {
+    let documents = documents(alloc, size)?;
+    let mut fragments = Vec::new(alloc);
+    fragments.push(written(alloc, "N", documents.as_str())?)?;
+    fragments.push(written(alloc, "", PEOPLE)?)?;
+    let schema = ValidatorSchema::from_schema_fragments(
+        alloc,
+        fragments,
+        &Extensions::none(alloc),
+    )?;
+    let types = types_text(alloc, &schema)?;
+    let actions = actions_text(alloc, &schema)?;
+    Ok(format!(in alloc; "{types}{actions}")?)
+}
+
+// The lines that are to be refused under this number.
+fn faulty(number: u32) -> &'static str {
+    match number {
+        4 => "entity User | Missing",
+        5 => "action view | Action read",
+        6 => "type T | common U\ntype U | common T",
+        7 => "action a | Action b\naction b | Action a",
+        8 => "entity Action",
+        9 => "entity User\naction view |  | User | User | Long",
+        12 => "entity User |  | r: extension rank",
+        _ => "entity User",
+    }
+}
+
+/// What comes of lines that are to be refused under this number: the number of the refusal.
+pub fn refused(alloc: Global, number: u32) -> Result<String, Fault> {
+    let mut fragments = Vec::new(alloc);
+    fragments.push(written(alloc, "", faulty(number))?)?;
+    match ValidatorSchema::from_schema_fragments(alloc, fragments, &Extensions::none(alloc)) {
+        Ok(_) => Ok(format!(in alloc; "built\n")?),
+        Err(SchemaError::OutOfMemory) => Err(Fault::OutOfMemory),
+        Err(error) => Ok(format!(in alloc; "refused {}\n", error.number())?),
+    }
+}

@@ -1,0 +1,53 @@
+//! What descends from entity types.
+
+use crate::sets::{counts, has};
+use cedar_expr_names::InternalName;
+use cedar_schema_nodes::{RepeatedError, descendants};
+use std::alloc::Global;
+use std::test::Fail;
+
+fn named(alloc: Global, text: &str) -> Result<InternalName, Fail> {
+    Ok(InternalName::from_normalized_str(alloc, text)?)
+}
+
+// Types, each with one parent.
+pub(crate) fn types(
+    alloc: Global,
+    pairs: &[(&str, &str)],
+) -> Result<Vec<(InternalName, Vec<InternalName>)>, Fail> {
+    let mut types = Vec::new(alloc);
+    for (name, parent) in pairs {
+        let mut parents = Vec::new(alloc);
+        parents.push(named(alloc, parent)?)?;
+        types.push((named(alloc, name)?, parents))?;
+    }
+    Ok(types)
+}
+
+#[test]
+fn a_type_may_descend_from_itself(rt: HostRuntime) -> Result<(), Fail> {
+    let alloc = rt.alloc();
+    let types = types(
+        alloc,
+        &[("Group", "Group"), ("User", "Group"), ("Bot", "User")],
+    )?;
+    let sets = descendants(alloc, &types)?;
+    let group = named(alloc, "Group")?;
+    let bot = named(alloc, "Bot")?;
+    assert!(rt; has(&sets, 0, &group) && has(&sets, 0, &bot) && counts(&sets, 0, 3));
+    assert!(rt; has(&sets, 1, &bot) && counts(&sets, 1, 1) && counts(&sets, 2, 0));
+    Ok(())
+}
+
+#[test]
+fn a_type_stands_once(rt: HostRuntime) -> Result<(), Fail> {
+    let alloc = rt.alloc();
+    let types = types(alloc, &[("User", "Team"), ("Doc", "Team"), ("User", "Doc")])?;
+    let refused = match descendants(alloc, &types) {
+        Err(RepeatedError::Repeated { number }) => number == 2,
+        Err(RepeatedError::OutOfMemory) => false,
+        Ok(_) => false,
+    };
+    assert!(rt; refused);
+    Ok(())
+}
