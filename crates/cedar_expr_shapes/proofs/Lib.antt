@@ -1,2 +1,7 @@
+mod AlongData
 mod Comparing
+mod EqualLeaves
 mod Feeding
+mod LevelData
+mod Levels
+mod SameTrees

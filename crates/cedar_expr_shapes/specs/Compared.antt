@@ -1,12 +1,17 @@
 -- Shapes are totally ordered, the order finds no difference exactly between equal ones, and equal ones feed a hasher alike.
--- Rule: shapes (docs/RULES.md).
-use Rattle.std.specs.Prelude.{◌≡◌, ◌↔◌, true}
+-- Expressions are equal by their trees and their data.
+-- Rule: shapes; expressions (docs/RULES.md).
+use Rattle.std.specs.Prelude.{◌≡◌, ◌↔◌, ◌&&◌, Bool, true, map}
 use Rattle.std.proofs.Common.{ap}
+use Rattle.std.specs.Cmp.Lexicographic.{pointwise}
 use Rattle.std.specs.Cmp.{IsEquivalence, IsTotalOrder, eq_by_cmp_equiv}
 use Rattle.std.specs.declared.cmp.Ordering.TheVariants.{Equal}
 use Rattle.cedar_expr_model.specs.Whole.Tree.{Tree}
 use Rattle.cedar_expr_model.specs.Whole.Shape.{tree_cmp, tree_eq}
 use Rattle.cedar_expr_model.proofs.Whole.ShapeOrder.{tree_linear, trees_decide}
+use Rattle.cedar_expr_trees.specs.Positions.{positions}
+use Rattle.cedar_expr_trees.specs.Trees.{tree_of, data_of}
+use Rattle.cedar_expr_trees.specs.declared.expr.Expr.{Expr}
 use Rattle.cedar_expr_shapes.specs.Hashed.{tree_input}
 
 -- the order is total
@@ -27,3 +32,7 @@ trees_are_hashed t u h = ap tree_input ((trees_decide t u).0 h)
 -- the order finds no difference exactly between equal ones
 abbrev pub EqualByOrder : Type 0
 EqualByOrder = (t u : Tree) → (tree_cmp t u ≡ Equal) ↔ (tree_eq t u ≡ true)
+
+-- an equality of expressions is one of their trees and one of the data of their subexpressions, in order
+abbrev pub EqualByTrees : {T : Type 0} → (Expr T → Expr T → Bool) → (T → T → Bool) → Type 0
+EqualByTrees {T} eq data_eq = (e f : Expr T) → eq e f ≡ (tree_eq (tree_of e) (tree_of f) && pointwise data_eq (map data_of (positions e)) (map data_of (positions f)))

@@ -1,1 +1,4 @@
+mod EqualTypes
 mod Going
+mod SameTypes
+mod TypeLevels

@@ -1,11 +1,12 @@
 //! Laws of subtypes, joins and values of the code's types, each of which is well-formed. Each function's contract is the theorem;
 //! its body does nothing.
 
-ghost use Rattle.std.specs.Prelude.{◌≡◌, [], Bool, true, Option, Some};
+ghost use Rattle.std.specs.Prelude.{◌≡◌, ◌↔◌, [], Bool, true, Option, Some};
 ghost use Rattle.std.specs.Ordering.{is_eq};
 ghost use Rattle.cedar_schema_model.specs.Whole.Types.{Mode, never};
 ghost use Rattle.cedar_schema_model.specs.Whole.Join.{reduce_to_join};
 ghost use Rattle.cedar_expr_names.specs.declared.loc.Loc.{Loc};
+ghost use Rattle.cedar_schema_types.specs.Types.{type_of};
 ghost use Rattle.cedar_schema_types.specs.declared.types.Type.{«Type» as CodeType};
 ghost use Rattle.cedar_schema_types.specs.declared.types.AttributeType.{AttributeType};
 ghost use Rattle.cedar_schema_laws.specs.Laws.{SubtypesReflexive, SubtypesTransitive, SubtypesAntisymmetric, JoinIsAbove, JoinIsLeast, JoinSwaps, ReductionIsOfMembers, SupertypesKeepValues, DisjointShareNoValue};
@@ -42,8 +43,10 @@ pub fn values_keep_to_types<X: ExtensionValue>()
     ensures apart { DisjointShareNoValue X.seen }
 {}
 
-/// Types are equal exactly where their order finds no difference, and are then hashed alike. The places of attributes don't count.
+/// Types are equal exactly where they are the same type of the model, which is where their order finds no difference, and are then
+/// hashed alike. The places of attributes don't count.
 pub fn types_are_compared()
+    ensures equality { (a b : CodeType) → (⟦<Type as PartialEq>⟧.eq a b ≡ true) ↔ (type_of a ≡ type_of b) }
     ensures order { (a b : CodeType) → ⟦<Type as PartialEq>⟧.eq a b ≡ is_eq (⟦<Type as Ord>⟧.cmp a b) }
     ensures hash { (a b : CodeType) → ⟦<Type as PartialEq>⟧.eq a b ≡ true → ⟦<Type as Hash>⟧.hash_input a ≡ ⟦<Type as Hash>⟧.hash_input b }
     ensures places { (t : CodeType) (r : Bool) (l m : Option Loc) → ⟦<AttributeType as PartialEq>⟧.eq (record { attr_type = t; is_required = r; loc = l }) (record { attr_type = t; is_required = r; loc = m }) ≡ true }

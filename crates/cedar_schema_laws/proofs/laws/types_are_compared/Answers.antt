@@ -5,7 +5,14 @@ use Rattle.cedar_schema_types.specs.contracts.types.TypeOrd.TheImpl.Laws as orde
 use Rattle.cedar_schema_types.specs.contracts.types.TypeHash.TheImpl.Laws as hash_laws
 use Rattle.cedar_schema_types.specs.contracts.types.AttributeTypePartialEq.TheImpl.Laws as attribute_laws
 use Rattle.cedar_schema_types.specs.contracts.types.AttributeTypeEq.TheImpl.Laws as equality_laws
+use Rattle.cedar_schema_types.specs.Types.{type_of}
+use Rattle.cedar_schema_laws.proofs.EqualTypes.{equal_types}
+use Rattle.cedar_schema_laws.proofs.SameTypes.{same_type-Decides}
 use Rattle.cedar_schema_laws.proofs.laws.types_are_compared.Goals as goal
+
+-- both ways by the test of the model's types
+pub returns-clause-equality : goal.returns-clause-equality
+returns-clause-equality c = λ a b. (λ e. (same_type-Decides (type_of a) (type_of b)).0 (sym (equal_types a b) ∙ e), λ e. equal_types a b ∙ (same_type-Decides (type_of a) (type_of b)).1 e)
 
 pub returns-clause-order : goal.returns-clause-order
 returns-clause-order c = order_laws.matches_eq-law
