@@ -1,21 +1,18 @@
--- What is refused of what is gathered is a fault of the declarations that it writes.
-use Rattle.std.proofs.Common.{◌≡◌, List, [], ◌∷◌, ◌++◌, true, Some, refl, sym, inl, inr, ⊎_elim, subst}
-use Rattle.std.specs.Prelude.{Contains}
+-- What is refused of what is gathered names what is at fault in the declarations that it writes.
+use Rattle.std.proofs.Common.{List, refl, ◌∙◌, inl, inr, ⊎_elim, subst}
 use Rattle.std.specs.List.{flat_map}
 use Rattle.std.proofs.lemmas.List.Elements.{Contains-append_left, Contains-append_right}
-use Rattle.cedar_expr_model.specs.Name.{Text, Name, is_reserved}
+use Rattle.cedar_expr_model.specs.Name.{Text, Name}
 use Rattle.cedar_expr_model.specs.Uid.{Uid}
 use Rattle.cedar_expr_model.proofs.Lists.{flat_has}
 use Rattle.cedar_expr_names.specs.Views.{name_of, uid_of, refused_name_of}
-use Rattle.cedar_schema_model.specs.Whole.BagLaws.{HasTwice}
+use Rattle.cedar_schema_model.specs.Whole.Declarations.{Declarations}
 use Rattle.cedar_schema_model.specs.Whole.Types.{Ty}
-use Rattle.cedar_schema_model.specs.Whole.WellFormed.{SchemaFault, duplicate_entity_type, duplicate_action, cycle_of_actions, context_not_record, reserved_name, unknown_extension_type}
 use Rattle.cedar_schema_decl.specs.Defined.{Defined}
-use Rattle.cedar_schema_decl.specs.Forms.{TypeForm, ActionForm}
+use Rattle.cedar_schema_decl.specs.Forms.{ActionForm}
 use Rattle.cedar_schema_fragments.specs.WrittenDeclarations.{parents_written}
-use Rattle.cedar_schema_resolver.specs.Laws.{RefusalsAreFaults}
+use Rattle.cedar_schema_resolver.specs.Commons.{no_commons}
 use Rattle.cedar_schema_resolver.specs.Meanings.{Setting, setting}
-use Rattle.cedar_schema_resolver.specs.Refusals.{TellsUntold}
 use Rattle.cedar_schema_resolver.specs.Solved.{IsSolved, TellsUnsolved, names_of}
 use Rattle.cedar_schema_resolver.specs.declared.err.ResolveError.{ResolveError}
 use Rattle.cedar_schema_resolver.specs.declared.err.ResolveError.TheVariants as resolve
@@ -23,55 +20,64 @@ use Rattle.cedar_schema_assembly.specs.Lists.{StandsTwice}
 use Rattle.cedar_schema_assembly.specs.Refusals.{TellsTypes, TellsActions}
 use Rattle.cedar_schema_assembly.specs.declared.err.AssemblyError.{AssemblyError}
 use Rattle.cedar_schema_assembly.specs.declared.err.AssemblyError.TheVariants.{OutOfMemory, DuplicateEntityType, DuplicateAction, CycleInActionHierarchy, ContextNotRecord, UnknownExtensionType, ReservedName}
-use Rattle.cedar_schema_builder_model.specs.Laws.{WrongsAreFaults, ContextsAreFaults, UntoldAreFaults, type_twice, action_twice, action_below_itself, reserved_there, StandsIn}
-use Rattle.cedar_schema_builder_model.specs.Writing.{CommonForms, EntityForms, ActionForms, names_of_entities, uids_of_actions, names_declared, names_in_action, names_referred}
-use Rattle.cedar_schema_builder.specs.Faults.{fault_of_types, fault_of_assembly}
-use Rattle.cedar_schema_builder.specs.Steps.{IsFaultOfWritten}
-use Rattle.cedar_schema_builder.proofs.Handing.{IsTold, some_told, none_told}
+use Rattle.cedar_schema_builder_model.specs.Named.{NamesThere, AreNamesOf, NamesAreDeclared, ContextsAreNamed}
+use Rattle.cedar_schema_builder_model.specs.Writing.{CommonForms, EntityForms, ActionForms, WritesAll, names_of_entities, names_declared, names_in_action}
+use Rattle.cedar_schema_builder.specs.Faults.{of_types, of_assembly}
+use Rattle.cedar_schema_builder.specs.Named.{NamesFault}
+use Rattle.cedar_schema_builder.specs.Steps.{NamesFaultOfWritten}
 
-twice_of : {S : Type 0} (xs : List S) (s : S) → StandsTwice xs s → HasTwice xs
-twice_of [] s h = h
-twice_of (x ∷ xs) s h = ⊎_elim (λ p. inl (subst (Contains xs) (sym p.0) p.1)) (λ p. inr (twice_of xs s p)) h
+module _ (names : NamesAreDeclared) (d : Defined) (x : List Name) (cs : CommonForms) (es : EntityForms) (as_ : ActionForms) where
+  abbrev Names : Declarations → AssemblyError → Type 0
+  Names e a = NamesFault x e (of_assembly a)
 
-module _ (d : Defined) (x : List Name) (cs : CommonForms) (es : EntityForms) (as_ : ActionForms) where
-  abbrev Fault : SchemaFault → Type 0
-  Fault = IsFaultOfWritten d x cs es as_
+  -- what is refused of common types
+  resolved_named : (e : Declarations) (r : ResolveError) → NamesThere x e r → NamesFault x e (of_types r)
+  resolved_named e resolve.OutOfMemory h = tt
+  resolved_named e (resolve.UnknownExtensionType n) h = h
+  resolved_named e (resolve.ReservedName q) h = h
+  resolved_named e resolve.DuplicateCommonType h = h
+  resolved_named e (resolve.CycleInCommonTypeReferences n) h = h
 
-  pub commons_refused : RefusalsAreFaults → (r : ResolveError) → TellsUnsolved d x cs r → IsTold Fault (fault_of_types r)
-  commons_refused law r h f q = record { each = λ e w. law d x e cs w.commons r h f q }
+  pub commons_named : (r : ResolveError) → TellsUnsolved d x cs r → NamesFaultOfWritten d x cs es as_ (of_types r)
+  commons_named r h = record { each = λ e w. resolved_named e r ((names (setting no_commons d x) e cs es as_ w).commons r h) }
 
-  module _ (wrong : WrongsAreFaults) (untold : UntoldAreFaults) (commons : Name → Ty) where
+  module _ (commons : Name → Ty) where
     abbrev own : Setting
     own = setting commons d x
 
-    named_there : (n : Name) → is_reserved n ≡ true → Contains (names_declared cs es as_ ++ names_referred es as_) n → Fault reserved_name
-    named_there n r h = record { each = λ e w. wrong own e cs es as_ w reserved_there (n, h, r) }
+    types_there : (e : Declarations) → AreNamesOf own e cs es as_ → (a : AssemblyError) → TellsTypes own es a → Names e a
+    types_there e k OutOfMemory h = tt
+    types_there e k (DuplicateEntityType n) h = subst (λ l. StandsTwice l (name_of n)) k.entities h
+    types_there e k (DuplicateAction u) h = absurd h
+    types_there e k (CycleInActionHierarchy u) h = absurd h
+    types_there e k (ContextNotRecord u) h = absurd h
+    types_there e k (UnknownExtensionType n) h = k.types h.2.0 (inl (h.0, h.1, h.2.1)) (resolve.UnknownExtensionType n) h.2.2
+    types_there e k (ReservedName r) h =
+        ⊎_elim
+        (λ t. k.types t.2.0 (inl (t.0, t.1, t.2.1)) (resolve.ReservedName r) t.2.2)
+        (λ t. (k.written (refused_name_of r) (Contains-append_left _ _ _ (Contains-append_right (names_of cs) _ _ (Contains-append_left (names_of_entities es) _ _ t.1))), t.0))
+        h
 
-    stands_there : (t : TypeForm Name) → StandsIn es as_ t → (r : ResolveError) → (f : SchemaFault) → fault_of_types r ≡ Some f → TellsUntold own t r → Fault f
-    stands_there t s r f q h = record { each = λ e w. untold own e cs es as_ w t s r h f q }
+    pub types_named : (a : AssemblyError) → TellsTypes own es a → NamesFaultOfWritten d x cs es as_ (of_assembly a)
+    types_named a h = record { each = λ e w. types_there e (names own e cs es as_ w) a h }
 
-    pub types_refused : (a : AssemblyError) → TellsTypes own es a → IsTold Fault (fault_of_assembly a)
-    types_refused OutOfMemory h = none_told Fault
-    types_refused (DuplicateEntityType n) h = some_told Fault duplicate_entity_type (record { each = λ e w. wrong own e cs es as_ w type_twice (twice_of (names_of_entities es) (name_of n) h) })
-    types_refused (DuplicateAction u) h = absurd h
-    types_refused (CycleInActionHierarchy u) h = absurd h
-    types_refused (ContextNotRecord u) h = absurd h
-    types_refused (UnknownExtensionType n) h = some_told Fault unknown_extension_type (stands_there h.2.0 (inl (h.0, h.1, h.2.1)) (resolve.UnknownExtensionType n) unknown_extension_type refl h.2.2)
-    types_refused (ReservedName r) h = some_told Fault reserved_name (⊎_elim
-        (λ k. stands_there k.2.0 (inl (k.0, k.1, k.2.1)) (resolve.ReservedName r) reserved_name refl k.2.2)
-        (λ k. named_there (refused_name_of r) k.0 (Contains-append_left _ _ _ (Contains-append_right (names_of cs) _ _ (Contains-append_left (names_of_entities es) _ _ k.1))))
-        h)
+    module _ (contexts : ContextsAreNamed) (solved : IsSolved own cs) where
+      actions_there : (e : Declarations) → WritesAll d e cs es as_ → AreNamesOf own e cs es as_ → (a : AssemblyError) → TellsActions own as_ a → Names e a
+      actions_there e w k OutOfMemory h = tt
+      actions_there e w k (DuplicateEntityType n) h = absurd h
+      actions_there e w k (DuplicateAction u) h = subst (λ l. StandsTwice l (uid_of u)) k.actions h
+      actions_there e w k (CycleInActionHierarchy u) h = k.cycles (uid_of u) h.1
+      actions_there e w k (ContextNotRecord u) h = let b = contexts own e cs es as_ (record { writes = w; solved = solved }) h.0 h.1 h.3 in (b.0, b.1, b.2 ∙ h.2, b.3)
+      actions_there e w k (UnknownExtensionType n) h = k.types h.0.1.context (inr (h.0, h.1, refl)) (resolve.UnknownExtensionType n) h.2
+      actions_there e w k (ReservedName r) h =
+          ⊎_elim
+          (λ t. k.types t.0.1.context (inr (t.0, t.1, refl)) (resolve.ReservedName r) t.2)
+          (λ t. (
+            k.written (refused_name_of r) (Contains-append_right (names_declared cs es as_) _ _ (Contains-append_right (flat_map (λ e. parents_written e.1) es) _ _
+                (flat_has (λ (a : Uid × ActionForm Name (Name × Text)). names_in_action a.1) as_ t.1.0 _ t.1.1 (Contains-append_right t.1.0.1.principals _ _ (Contains-append_right t.1.0.1.resources _ _ t.1.2))))),
+            t.0,
+          ))
+          h
 
-    module _ (contexts : ContextsAreFaults) (solved : IsSolved own cs) where
-      pub actions_refused : (a : AssemblyError) → TellsActions own as_ a → IsTold Fault (fault_of_assembly a)
-      actions_refused OutOfMemory h = none_told Fault
-      actions_refused (DuplicateEntityType n) h = absurd h
-      actions_refused (DuplicateAction u) h = some_told Fault duplicate_action (record { each = λ e w. wrong own e cs es as_ w action_twice (twice_of (uids_of_actions as_) (uid_of u) h) })
-      actions_refused (CycleInActionHierarchy u) h = some_told Fault cycle_of_actions (record { each = λ e w. wrong own e cs es as_ w action_below_itself (uid_of u, h.1) })
-      actions_refused (ContextNotRecord u) h = some_told Fault context_not_record (record { each = λ e w. contexts own e cs es as_ (record { writes = w; solved = solved }) h.0 h.1 h.3 })
-      actions_refused (UnknownExtensionType n) h = some_told Fault unknown_extension_type (stands_there h.0.1.context (inr (h.0, h.1, refl)) (resolve.UnknownExtensionType n) unknown_extension_type refl h.2)
-      actions_refused (ReservedName r) h = some_told Fault reserved_name (⊎_elim
-          (λ k. stands_there k.0.1.context (inr (k.0, k.1, refl)) (resolve.ReservedName r) reserved_name refl k.2)
-          (λ k. named_there (refused_name_of r) k.0 (Contains-append_right (names_declared cs es as_) _ _ (Contains-append_right (flat_map (λ e. parents_written e.1) es) _ _
-          (flat_has (λ (a : Uid × ActionForm Name (Name × Text)). names_in_action a.1) as_ k.1.0 _ k.1.1 (Contains-append_right k.1.0.1.principals _ _ (Contains-append_right k.1.0.1.resources _ _ k.1.2))))))
-          h)
+      pub actions_named : (a : AssemblyError) → TellsActions own as_ a → NamesFaultOfWritten d x cs es as_ (of_assembly a)
+      actions_named a h = record { each = λ e w. actions_there e w (names own e cs es as_ w) a h }

@@ -14,8 +14,8 @@ use Rattle.cedar_schema_fragments.specs.WrittenDeclarations.{AreWritten}
 use Rattle.cedar_schema_fragments.specs.declared.namespace_def.ValidatorSchemaFragment.{ValidatorSchemaFragment}
 use Rattle.cedar_schema_told_model.specs.Pieces.{AreTypesOf, AreActionsOf}
 use Rattle.cedar_schema_builder_model.specs.Writing.{CommonForms, EntityForms, ActionForms}
-use Rattle.cedar_schema_builder.specs.Faults.{Tells}
-use Rattle.cedar_schema_builder.specs.Steps.{IsFaultIn, AreNamed, AreGathered, AreAssembled, IsFaultOfWritten}
+use Rattle.cedar_schema_builder.specs.Named.{NamesFault}
+use Rattle.cedar_schema_builder.specs.Steps.{NamesFaultIn, AreNamed, AreGathered, AreAssembled, NamesFaultOfWritten}
 use Rattle.cedar_schema_builder.specs.declared.build.SchemaParts.{SchemaParts}
 use Rattle.cedar_schema_builder.specs.declared.err.SchemaError.{SchemaError}
 
@@ -36,13 +36,17 @@ pub record AreBuiltOf (x : List Name) (fs : List (ValidatorSchemaFragment Condit
 pub record IsFaultOf (x : List Name) (fs : List (ValidatorSchemaFragment ConditionalName ConditionalName)) (f : SchemaFault) : Type 0 where
   pub each : (d : Declarations) → AreWritten fs d → HasSchemaFault x d f
 
+-- The error names what is at fault in the declarations that the fragments write.
+pub record NamesFaultOf (x : List Name) (fs : List (ValidatorSchemaFragment ConditionalName ConditionalName)) (e : SchemaError) : Type 0 where
+  pub each : (d : Declarations) → AreWritten fs d → NamesFault x d e
+
 -- What is assembled of what is gathered of fragments with such names is what is built of them.
 abbrev pub StepsBuildTheSchema : Type 0
 StepsBuildTheSchema = (x : List Name) (fs : List (ValidatorSchemaFragment ConditionalName ConditionalName)) (s : Defined) (cs : CommonForms) (es : EntityForms) (as_ : ActionForms) (ts : List KeptType) (ks : List KeptAction)
     → AreNamed fs → AreGathered fs s cs es as_ → AreAssembled s x cs es as_ ts ks → AreBuiltOf x fs ts ks
 
--- What a step refuses is a fault of the declarations that the fragments write.
-pub record RefusedStepsAreFaults : Type 0 where
-  pub at_first : (x : List Name) (fs : List (ValidatorSchemaFragment ConditionalName ConditionalName)) (e : SchemaError) → Tells (IsFaultIn fs) e → Tells (IsFaultOf x fs) e
+-- What a step refuses names what is at fault in the declarations that the fragments write.
+pub record RefusedStepsNameFaults : Type 0 where
+  pub at_first : (x : List Name) (fs : List (ValidatorSchemaFragment ConditionalName ConditionalName)) (e : SchemaError) → NamesFaultIn fs e → NamesFaultOf x fs e
   pub at_last : (x : List Name) (fs : List (ValidatorSchemaFragment ConditionalName ConditionalName)) (s : Defined) (cs : CommonForms) (es : EntityForms) (as_ : ActionForms) (e : SchemaError)
-      → AreGathered fs s cs es as_ → Tells (IsFaultOfWritten s x cs es as_) e → Tells (IsFaultOf x fs) e
+      → AreGathered fs s cs es as_ → NamesFaultOfWritten s x cs es as_ e → NamesFaultOf x fs e

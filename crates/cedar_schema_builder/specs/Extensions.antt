@@ -11,7 +11,8 @@ use Rattle.cedar_schema_model.specs.Whole.WellFormed.{SchemaFault}
 use Rattle.cedar_schema_kept_model.specs.Kept.{KeptType, KeptAction}
 use Rattle.cedar_schema_fragments.specs.declared.namespace_def.ValidatorSchemaFragment.{ValidatorSchemaFragment}
 use Rattle.cedar_schema_assembly.specs.Lists.{IsSetOf}
-use Rattle.cedar_schema_builder.specs.Built.{AreBuiltOf, IsFaultOf}
+use Rattle.cedar_schema_builder.specs.Built.{AreBuiltOf, IsFaultOf, NamesFaultOf}
+use Rattle.cedar_schema_builder.specs.declared.err.SchemaError.{SchemaError}
 
 abbrev pub types_given : {B : _} {F : _} {g : _} → Extensions B F g → List Name
 types_given t = filter_map given_type (functions_of t)
@@ -19,4 +20,5 @@ types_given t = filter_map given_type (functions_of t)
 -- Only which extension types are known counts, neither their order nor how often each is given.
 pub record ExtensionTypesAreASet : Type 0 where
   pub faults : (x y : List Name) → IsSetOf x y → (fs : List (ValidatorSchemaFragment ConditionalName ConditionalName)) (f : SchemaFault) → IsFaultOf y fs f → IsFaultOf x fs f
+  pub names : (x y : List Name) → IsSetOf x y → (fs : List (ValidatorSchemaFragment ConditionalName ConditionalName)) (e : SchemaError) → NamesFaultOf y fs e → NamesFaultOf x fs e
   pub built : (x y : List Name) → IsSetOf x y → (fs : List (ValidatorSchemaFragment ConditionalName ConditionalName)) (ts : List KeptType) (ks : List KeptAction) → AreBuiltOf y fs ts ks → AreBuiltOf x fs ts ks

@@ -6,7 +6,7 @@ use Rattle.cedar_expr_raw_names.specs.declared.conditional_name.ConditionalName.
 use Rattle.cedar_schema_model.specs.Whole.BagLaws.{HasSchemaFault}
 use Rattle.cedar_schema_model.specs.Whole.Declarations.{Declarations}
 use Rattle.cedar_schema_model.specs.Whole.Types.{Ty}
-use Rattle.cedar_schema_model.specs.Whole.WellFormed.{SchemaFault, action_as_entity_type, reserved_name}
+use Rattle.cedar_schema_model.specs.Whole.WellFormed.{action_as_entity_type, reserved_name}
 use Rattle.cedar_schema_kept_model.specs.Kept.{KeptType, KeptAction}
 use Rattle.cedar_schema_decl.specs.Defined.{Defined}
 use Rattle.cedar_schema_decl.specs.Shadowing.{first_shadowing}
@@ -16,10 +16,12 @@ use Rattle.cedar_schema_resolver.specs.Meanings.{setting}
 use Rattle.cedar_schema_resolver.specs.Solved.{IsSolved}
 use Rattle.cedar_schema_assembly.specs.Found.{AreTypesTold, AreActionsTold, AreTypesKnown, AreContextsKnown, AreContextsRecords, AreApart}
 use Rattle.cedar_schema_builder_model.specs.Writing.{CommonForms, EntityForms, ActionForms, WritesAll}
+use Rattle.cedar_schema_builder.specs.Named.{NamesFault}
+use Rattle.cedar_schema_builder.specs.declared.err.SchemaError.{SchemaError}
 
--- The fault is one of the declarations that the fragments write, whichever extension types are known.
-pub record IsFaultIn (fs : List (ValidatorSchemaFragment ConditionalName ConditionalName)) (f : SchemaFault) : Type 0 where
-  pub each : (x : List Name) (d : Declarations) → AreWritten fs d → HasSchemaFault x d f
+-- The error names what is at fault in the declarations that the fragments write, whichever extension types are known.
+pub record NamesFaultIn (fs : List (ValidatorSchemaFragment ConditionalName ConditionalName)) (e : SchemaError) : Type 0 where
+  pub each : (x : List Name) (d : Declarations) → AreWritten fs d → NamesFault x d e
 
 -- Names are as they have to be: none of them is reserved, and no entity type has the last name of the types of actions.
 pub record AreNamed (fs : List (ValidatorSchemaFragment ConditionalName ConditionalName)) : Type 0 where
@@ -42,6 +44,6 @@ pub record AreAssembled (d : Defined) (x : List Name) (cs : CommonForms) (es : E
   pub contexts_records : AreContextsRecords (setting commons d x) as_
   pub apart : AreApart (setting commons d x) as_
 
--- The fault is one of the declarations that these write.
-pub record IsFaultOfWritten (d : Defined) (x : List Name) (cs : CommonForms) (es : EntityForms) (as_ : ActionForms) (f : SchemaFault) : Type 0 where
-  pub each : (e : Declarations) → WritesAll d e cs es as_ → HasSchemaFault x e f
+-- The error names what is at fault in the declarations that these write.
+pub record NamesFaultOfWritten (s : Defined) (x : List Name) (cs : CommonForms) (es : EntityForms) (as_ : ActionForms) (e : SchemaError) : Type 0 where
+  pub each : (d : Declarations) → WritesAll s d cs es as_ → NamesFault x d e

@@ -5,27 +5,26 @@ ghost use Rattle.cedar_schema_decl.specs.Defined.{defined_of};
 ghost use Rattle.cedar_schema_fragments.specs.Marked.{HasAll};
 ghost use Rattle.cedar_schema_gathered.specs.Gathered.{commons_gathered, entities_gathered, actions_gathered};
 ghost use Rattle.cedar_schema_resolver.specs.Meanings.{extensions_seen};
-ghost use Rattle.cedar_schema_builder.specs.Built.{types_made, actions_made, AreBuiltOf, IsFaultOf};
+ghost use Rattle.cedar_schema_builder.specs.Built.{types_made, actions_made, AreBuiltOf, IsFaultOf, NamesFaultOf};
 ghost use Rattle.cedar_schema_builder.specs.Faults.{Tells};
-ghost use Rattle.cedar_schema_builder.specs.Steps.{AreNamed, AreGathered, AreAssembled, IsFaultIn, IsFaultOfWritten};
+ghost use Rattle.cedar_schema_builder.specs.Steps.{AreNamed, AreGathered, AreAssembled, NamesFaultIn, NamesFaultOfWritten};
 
 use crate::err::SchemaError;
-use crate::laws::{refused_steps_are_faults, steps_build_the_schema};
+use crate::laws::{named_are_faults, refused_steps_name_faults, steps_build_the_schema};
 use cedar_expr_names::Name;
 use cedar_expr_raw_names::ConditionalName;
 use cedar_schema_assembly::{actions, entity_types};
-use cedar_schema_builder_model::laws::{refused_are_faults, resolved_fragments_are_written};
+use cedar_schema_builder_model::laws::{names_are_declared, resolved_fragments_are_written};
 use cedar_schema_decl::AllDefs;
 use cedar_schema_entries::{ValidatorActionId, ValidatorEntityType};
-use cedar_schema_fragments::laws::{shadowing_is_declared, written_are_declared};
+use cedar_schema_fragments::laws::written_are_declared;
 use cedar_schema_fragments::{ValidatorSchemaFragment, all_defs};
 use cedar_schema_gathered::laws::{
-    action_types_are_found, reserved_names_are_written, resolving_tells_faults,
+    action_types_are_found, refusals_name_faults, reserved_names_are_written,
 };
 use cedar_schema_gathered::{
     GatheredDefs, action_entity_type, check_reserved, gather, resolve_all,
 };
-use cedar_schema_resolver::laws::refusals_are_faults;
 use cedar_schema_resolver::{TypeResolver, resolve_common_types};
 use std::alloc::Global;
 use std::collections::BTreeSet;
@@ -44,10 +43,11 @@ fn check_names(
     fragments: &[ValidatorSchemaFragment<ConditionalName, ConditionalName>],
 ) -> Result<(), SchemaError>
     ensures passed { IfOk result (λ _. AreNamed fragments.now) }
-    ensures refused { IfErr result (Tells (IsFaultIn fragments.now)) }
+    ensures named { IfErr result (NamesFaultIn fragments.now) }
 {
     reserved_names_are_written();
     action_types_are_found();
+    refusals_name_faults();
     check_reserved(fragments)?;
     match action_entity_type(fragments) {
         Some(name) => {
@@ -66,11 +66,10 @@ fn gathered(
 ) -> Result<GatheredDefs, SchemaError>
     requires { HasAll fragments.items (defined_of all_defs.now) }
     ensures gathered { IfOk result (λ g. AreGathered fragments.items (defined_of all_defs.now) (commons_gathered g) (entities_gathered g) (actions_gathered g)) }
-    ensures refused { IfErr result (Tells (IsFaultIn fragments.items)) }
+    ensures named { IfErr result (NamesFaultIn fragments.items) }
 {
-    shadowing_is_declared();
     written_are_declared();
-    resolving_tells_faults();
+    refusals_name_faults();
     resolved_fragments_are_written();
     all_defs.rfc_70_shadowing_checks(alloc)?;
     let resolved = resolve_all(alloc, fragments, all_defs)?;
@@ -86,10 +85,9 @@ fn assembled(
     extension_types: &BTreeSet<Name>,
 ) -> Result<SchemaParts, SchemaError>
     ensures made { IfOk result (λ p. AreAssembled (defined_of all_defs.now) (extensions_seen extension_types.now) (commons_gathered gathered.now) (entities_gathered gathered.now) (actions_gathered gathered.now) (types_made p) (actions_made p)) }
-    ensures refused { IfErr result (Tells (IsFaultOfWritten (defined_of all_defs.now) (extensions_seen extension_types.now) (commons_gathered gathered.now) (entities_gathered gathered.now) (actions_gathered gathered.now))) }
+    ensures named { IfErr result (NamesFaultOfWritten (defined_of all_defs.now) (extensions_seen extension_types.now) (commons_gathered gathered.now) (entities_gathered gathered.now) (actions_gathered gathered.now)) }
 {
-    refusals_are_faults();
-    refused_are_faults();
+    names_are_declared();
     let commons = resolve_common_types(alloc, &gathered.common_types, all_defs, extension_types)?;
     let resolver = TypeResolver {
         commons: &commons,
@@ -104,8 +102,27 @@ fn assembled(
     })
 }
 
+// The entity types and the actions, or a refusal that names what is at fault.
+fn named_parts(
+    alloc: Global,
+    fragments: Vec<ValidatorSchemaFragment<ConditionalName, ConditionalName>>,
+    extension_types: &BTreeSet<Name>,
+) -> Result<SchemaParts, SchemaError>
+    ensures built { IfOk result (λ p. AreBuiltOf (extensions_seen extension_types.now) fragments.items (types_made p) (actions_made p)) }
+    ensures named { IfErr result (NamesFaultOf (extensions_seen extension_types.now) fragments.items) }
+{
+    steps_build_the_schema();
+    refused_steps_name_faults();
+    check_names(&fragments)?;
+    let all_defs = all_defs::new(alloc, &fragments)?;
+    let gathered = gathered(alloc, fragments, &all_defs)?;
+    let parts = assembled(alloc, &gathered, &all_defs, extension_types)?;
+    Ok(parts)
+}
+
 /// The entity types and the actions of the schema that the declarations of these fragments tell, where these are well-formed and
-/// the extension types are the ones that are known. Refuses them else, with a fault that is there, and answers want of memory.
+/// the extension types are the ones that are known. Refuses them else, with a fault that is there and under the name of what is at
+/// fault, and answers want of memory.
 pub fn schema_parts(
     alloc: Global,
     fragments: Vec<ValidatorSchemaFragment<ConditionalName, ConditionalName>>,
@@ -113,12 +130,11 @@ pub fn schema_parts(
 ) -> Result<SchemaParts, SchemaError>
     ensures built { IfOk result (λ p. AreBuiltOf (extensions_seen extension_types.now) fragments.items (types_made p) (actions_made p)) }
     ensures refused { IfErr result (Tells (IsFaultOf (extensions_seen extension_types.now) fragments.items)) }
+    ensures named { IfErr result (NamesFaultOf (extensions_seen extension_types.now) fragments.items) }
 {
-    steps_build_the_schema();
-    refused_steps_are_faults();
-    check_names(&fragments)?;
-    let all_defs = all_defs::new(alloc, &fragments)?;
-    let gathered = gathered(alloc, fragments, &all_defs)?;
-    let parts = assembled(alloc, &gathered, &all_defs, extension_types)?;
-    Ok(parts)
+    named_are_faults();
+    match named_parts(alloc, fragments, extension_types) {
+        Ok(parts) => Ok(parts),
+        Err(error) => Err(error),
+    }
 }

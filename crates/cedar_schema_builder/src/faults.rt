@@ -1,7 +1,7 @@
 //! What the steps of building refuse, as why no schema is built.
 
 ghost use Rattle.std.specs.Prelude.{◌≡◌};
-ghost use Rattle.cedar_schema_builder.specs.Faults.{fault_told, fault_of_fragments, fault_of_shadowing, fault_of_types, fault_of_assembly};
+ghost use Rattle.cedar_schema_builder.specs.Faults.{of_shadowing, of_fragments, of_types, of_assembly};
 ghost use Rattle.cedar_schema_builder.specs.declared.err.SchemaError.TheVariants.{OutOfMemory, ReservedName};
 
 use crate::err::SchemaError;
@@ -36,7 +36,7 @@ impl From<ReservedNameError> for SchemaError {
 }
 
 impl From<ShadowingError> for SchemaError {
-    ghost from_gives = { λ s e. fault_told e ≡ fault_of_shadowing s };
+    ghost from_gives = { λ s e. e ≡ of_shadowing s };
 
     fn from(error: ShadowingError) -> SchemaError {
         match error {
@@ -52,7 +52,7 @@ impl From<ShadowingError> for SchemaError {
 }
 
 impl From<cedar_schema_fragments::FragmentError> for SchemaError {
-    ghost from_gives = { λ f e. fault_told e ≡ fault_of_fragments f };
+    ghost from_gives = { λ f e. e ≡ of_fragments f };
 
     fn from(error: cedar_schema_fragments::FragmentError) -> SchemaError {
         match error {
@@ -71,7 +71,7 @@ impl From<cedar_schema_fragments::FragmentError> for SchemaError {
 }
 
 impl From<ResolveError> for SchemaError {
-    ghost from_gives = { λ r e. fault_told e ≡ fault_of_types r };
+    ghost from_gives = { λ r e. e ≡ of_types r };
 
     fn from(error: ResolveError) -> SchemaError {
         match error {
@@ -89,7 +89,7 @@ impl From<ResolveError> for SchemaError {
 }
 
 impl From<AssemblyError> for SchemaError {
-    ghost from_gives = { λ a e. fault_told e ≡ fault_of_assembly a };
+    ghost from_gives = { λ a e. e ≡ of_assembly a };
 
     fn from(error: AssemblyError) -> SchemaError {
         match error {

@@ -1,7 +1,8 @@
 //! How the steps of building make a schema. Each function's contract is the theorem; its body calls the laws that it stands on.
 
-ghost use Rattle.cedar_schema_builder.specs.Built.{StepsBuildTheSchema, RefusedStepsAreFaults};
+ghost use Rattle.cedar_schema_builder.specs.Built.{StepsBuildTheSchema, RefusedStepsNameFaults};
 ghost use Rattle.cedar_schema_builder.specs.Extensions.{ExtensionTypesAreASet};
+ghost use Rattle.cedar_schema_builder.specs.Named.{NamedAreFaults};
 
 use cedar_schema_builder_model::laws::{
     built_are_well_formed, resolved_declarations_tell_the_schema,
@@ -16,9 +17,14 @@ pub fn steps_build_the_schema()
     built_are_well_formed();
 }
 
-/// What the steps refuse are faults of the declarations that the fragments write.
-pub fn refused_steps_are_faults()
-    ensures { RefusedStepsAreFaults }
+/// What the steps refuse names what is at fault in the declarations that the fragments write.
+pub fn refused_steps_name_faults()
+    ensures { RefusedStepsNameFaults }
+{}
+
+/// Where what an error names is at fault, the fault that it tells is there.
+pub fn named_are_faults()
+    ensures { NamedAreFaults }
 {}
 
 /// Of the extension types only which are known counts: with the same ones the same is built, and the same faults are there.

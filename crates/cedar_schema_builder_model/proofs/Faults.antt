@@ -6,15 +6,15 @@ use Rattle.std.proofs.lemmas.List.Elements.{Contains-append_left, Contains-appen
 use Rattle.cedar_expr_model.specs.Name.{Text, Name}
 use Rattle.cedar_expr_model.specs.Uid.{Uid}
 use Rattle.cedar_expr_model.proofs.Lists.{map_has, map_from, flat_from}
-use Rattle.cedar_expr_names.specs.Views.{plain_name_of, refused_name_of}
+use Rattle.cedar_expr_names.specs.Views.{name_of, plain_name_of, refused_name_of}
 use Rattle.cedar_schema_model.specs.Whole.BagLaws.{HasTwice, HasParentAction, HasSchemaFault}
 use Rattle.cedar_schema_model.specs.Whole.Schema.{Action}
 use Rattle.cedar_schema_model.specs.Whole.Reference.{Namespace}
-use Rattle.cedar_schema_model.specs.Whole.Declarations.{TypeExpr, EntityDeclaration, ActionDeclaration, Declarations, entity_name, common_names, entity_names, action_uids, parent_meant, extensions_in, references, extensions}
+use Rattle.cedar_schema_model.specs.Whole.Declarations.{TypeExpr, EntityDeclaration, ActionDeclaration, Declarations, entity_name, action_uid, common_names, entity_names, action_uids, parent_meant, extensions_in, references, extensions}
 use Rattle.cedar_schema_model.specs.Whole.Declarations as written
 use Rattle.cedar_schema_model.specs.Whole.Descent.{HasActionParent, ActionDescends}
 use Rattle.cedar_schema_model.specs.Whole.Resolved.{entity_meant}
-use Rattle.cedar_schema_model.specs.Whole.WellFormed.{SchemaFault, reserved_name, shadowing, unknown_extension_type, context_not_record, becomes_record, written_names}
+use Rattle.cedar_schema_model.specs.Whole.WellFormed.{SchemaFault, duplicate_common_type, cycle_of_common_types, reserved_name, shadowing, unknown_extension_type, context_not_record, becomes_record, written_names}
 use Rattle.cedar_schema_model.proofs.Whole.Decls.Faults.{schema_fault-Decides}
 use Rattle.cedar_schema_model.proofs.Whole.Decls.Named.{entity_declared, parent_declared}
 use Rattle.cedar_schema_model.proofs.Whole.Decls.Reordered.{reaches_along}
@@ -31,6 +31,7 @@ use Rattle.cedar_schema_resolver.specs.declared.err.ResolveError.{ResolveError}
 use Rattle.cedar_schema_resolver.specs.declared.err.ResolveError.TheVariants.{OutOfMemory, UnknownExtensionType, ReservedName, DuplicateCommonType, CycleInCommonTypeReferences}
 use Rattle.cedar_schema_told_model.specs.Told.{action_told, schema_told, types_in}
 use Rattle.cedar_schema_builder_model.specs.Laws.{AreTold, Wrong, type_twice, action_twice, action_below_itself, action_type, reserved_there, shadowing_there, fault_of, IsWrong, StandsIn}
+use Rattle.cedar_schema_builder_model.specs.Named.{NamesThere}
 use Rattle.cedar_schema_builder_model.specs.Writing.{CommonForms, EntityForms, ActionForms, WritesAll, names_of_entities, uids_of_actions, names_declared, names_in_action, names_referred}
 use Rattle.cedar_schema_builder_model.proofs.Coming.{in_whose_place}
 use Rattle.cedar_schema_builder_model.proofs.Written.{TypeWritten, told_is, untold_is, MeansEntity, MeansAction, EntityStands, ActionStands}
@@ -73,7 +74,7 @@ module _ (names : NamesMeanReferences) (refused : RefusedWhereUndeclared) (s : S
   names_same = same_entities names refused s.defined d cs es as_ w
 
   -- a parent of an action that is told is a parent of the declared one
-  parent_declares : (u v : Uid) → HasActionParent (schema_told s es as_) u v → HasParentAction d u v
+  pub parent_declares : (u v : Uid) → HasActionParent (schema_told s es as_) u v → HasParentAction d u v
   parent_declares u v h =
       let p = map_from (action_told s) as_ h.0 h.1 in
       let a = action_at p.0 p.1 in
@@ -116,7 +117,7 @@ module _ (names : NamesMeanReferences) (refused : RefusedWhereUndeclared) (s : S
       (Contains-append_cases (names_of_entities es) _ n i))
       (Contains-append_cases _ _ n h)
 
-  named : (n : Name) → Contains (names_declared cs es as_ ++ names_referred es as_) n → Contains (written_names d) n
+  pub named : (n : Name) → Contains (names_declared cs es as_ ++ names_referred es as_) n → Contains (written_names d) n
   named n h = ⊎_elim (λ i. declared_named n i) (λ i. ⊎_elim (λ j. parent_named n j) (λ j. in_action_named n j) (Contains-append_cases _ _ n i)) (Contains-append_cases (names_declared cs es as_) _ n h)
 
   pub wrong_is_fault : ShadowingIsDeclared → (k : Wrong) → IsWrong s cs es as_ k → HasSchemaFault s.extensions d (fault_of k)
@@ -133,29 +134,37 @@ module _ (names : NamesMeanReferences) (refused : RefusedWhereUndeclared) (s : S
   same_fault : (f g : SchemaFault) → Some f ≡ Some g → f ≡ g
   same_fault f g e = cc
 
-  untold_fault : (t : TypeExpr) → ((n : Name) → Contains (extensions_in t) n → Contains (extensions d) n) → (r : ResolveError) → TellsWritten s.extensions d t r → (f : SchemaFault) → fault_told r ≡ Some f → HasSchemaFault s.extensions d f
-  untold_fault t inside OutOfMemory u f e = absurd (cc)
-  untold_fault t inside (UnknownExtensionType n) u f e = subst (HasSchemaFault s.extensions d) (same_fault unknown_extension_type f e) (plain_name_of n, inside (plain_name_of n) u.0, u.1)
-  untold_fault t inside (ReservedName n) u f e =
-      subst (HasSchemaFault s.extensions d) (same_fault reserved_name f e)
-      (refused_name_of n, ⊎_elim (λ i. entity_is_written d (refused_name_of n) i) (λ i. extension_is_written d (refused_name_of n) (inside (refused_name_of n) i)) u.1, u.0)
-  untold_fault t inside DuplicateCommonType u f e = absurd u
-  untold_fault t inside (CycleInCommonTypeReferences n) u f e = absurd u
+  named_fault : (r : ResolveError) → NamesThere s.extensions d r → (f : SchemaFault) → fault_told r ≡ Some f → HasSchemaFault s.extensions d f
+  named_fault OutOfMemory h f e = absurd (cc)
+  named_fault (UnknownExtensionType n) h f e = subst (HasSchemaFault s.extensions d) (same_fault unknown_extension_type f e) (plain_name_of n, h.0, h.1)
+  named_fault (ReservedName r) h f e = subst (HasSchemaFault s.extensions d) (same_fault reserved_name f e) (refused_name_of r, h.0, h.1)
+  named_fault DuplicateCommonType h f e = subst (HasSchemaFault s.extensions d) (same_fault duplicate_common_type f e) h
+  named_fault (CycleInCommonTypeReferences n) h f e = subst (HasSchemaFault s.extensions d) (same_fault cycle_of_common_types f e) (name_of n, h)
 
-  module _ (law : RefusalsAreWritten) (r : ResolveError) (f : SchemaFault) (e : fault_told r ≡ Some f) where
-    untold_in_entity : (p : Name × EntityForm Name) → Contains es p → (t : TypeForm Name) → Contains (types_in p.1) t → TellsUntold s t r → HasSchemaFault s.extensions d f
+  pub untold_named : (t : TypeExpr) → ((n : Name) → Contains (extensions_in t) n → Contains (extensions d) n) → (r : ResolveError) → TellsWritten s.extensions d t r → NamesThere s.extensions d r
+  untold_named t inside OutOfMemory u = tt
+  untold_named t inside (UnknownExtensionType n) u = (inside (plain_name_of n) u.0, u.1)
+  untold_named t inside (ReservedName n) u = (⊎_elim (λ i. entity_is_written d (refused_name_of n) i) (λ i. extension_is_written d (refused_name_of n) (inside (refused_name_of n) i)) u.1, u.0)
+  untold_named t inside DuplicateCommonType u = absurd u
+  untold_named t inside (CycleInCommonTypeReferences n) u = absurd u
+
+  module _ (law : RefusalsAreWritten) (r : ResolveError) where
+    untold_in_entity : (p : Name × EntityForm Name) → Contains es p → (t : TypeForm Name) → Contains (types_in p.1) t → TellsUntold s t r → NamesThere s.extensions d r
     untold_in_entity p h t i u =
         let b = entity_at p h in
         let x = in_whose_place (TypeWritten s.defined b.0.namespace) (written.types_in b.0.kind) (types_in p.1) b.2.types t i in
-        untold_fault x.0 (λ n k. extension_of_entity d b.0 b.1 x.0 x.1 n k) r (untold_is law s d w.commons.declared b.0.namespace x.0 t x.2 r u) f e
+        untold_named x.0 (λ n k. extension_of_entity d b.0 b.1 x.0 x.1 n k) r (untold_is law s d w.commons.declared b.0.namespace x.0 t x.2 r u)
 
-    untold_in_action : (p : Uid × ActionForm Name (Name × Text)) → Contains as_ p → TellsUntold s p.1.context r → HasSchemaFault s.extensions d f
+    untold_in_action : (p : Uid × ActionForm Name (Name × Text)) → Contains as_ p → TellsUntold s p.1.context r → NamesThere s.extensions d r
     untold_in_action p h u =
         let a = action_at p h in
-        untold_fault a.0.context (λ n k. extension_of_action d a.0 a.1 n k) r (untold_is law s d w.commons.declared a.0.namespace a.0.context p.1.context a.2.context r u) f e
+        untold_named a.0.context (λ n k. extension_of_action d a.0 a.1 n k) r (untold_is law s d w.commons.declared a.0.namespace a.0.context p.1.context a.2.context r u)
 
-    pub untold_is_fault : (t : TypeForm Name) → StandsIn es as_ t → TellsUntold s t r → HasSchemaFault s.extensions d f
-    untold_is_fault t h u = ⊎_elim (λ k. untold_in_entity k.0 k.1 t k.2 u) (λ k. untold_in_action k.0 k.1 (subst (λ x. TellsUntold s x r) (sym k.2) u)) h
+    pub untold_is_named : (t : TypeForm Name) → StandsIn es as_ t → TellsUntold s t r → NamesThere s.extensions d r
+    untold_is_named t h u = ⊎_elim (λ k. untold_in_entity k.0 k.1 t k.2 u) (λ k. untold_in_action k.0 k.1 (subst (λ x. TellsUntold s x r) (sym k.2) u)) h
+
+    pub untold_is_fault : (f : SchemaFault) → fault_told r ≡ Some f → (t : TypeForm Name) → StandsIn es as_ t → TellsUntold s t r → HasSchemaFault s.extensions d f
+    untold_is_fault f e t h u = named_fault r (untold_is_named t h u) f e
 
 -- contexts
 module _ (names : NamesMeanReferences) (refused : RefusedWhereUndeclared) (types : SolvedTypesAreResolved) (becomes : ContextsBecomeRecords) (s : Setting) (d : Declarations) (cs : CommonForms) (es : EntityForms) (as_ : ActionForms) (t : AreTold s d cs es as_) where
@@ -165,5 +174,8 @@ module _ (names : NamesMeanReferences) (refused : RefusedWhereUndeclared) (types
   pub context_is : (a : ActionDeclaration) (p : Uid × ActionForm Name (Name × Text)) → ActionStands s.defined d a p → becomes_record d a ≡ is_record_type (told s p.1.context)
   context_is a p k = becomes d commons_once a ∙ ap is_record_type (sym (told_is types s d cs t.writes.commons t.solved a.namespace a.context p.1.context k.context))
 
+  pub context_is_named : (p : Uid × ActionForm Name (Name × Text)) → Contains as_ p → is_record_type (told s p.1.context) ≡ false → (b : ActionDeclaration) × Contains d.actions b × (action_uid b ≡ p.0) × (becomes_record d b ≡ false)
+  context_is_named p h e = let a = action_written names refused s.defined d cs es as_ t.writes p h in (a.0, a.1, sym a.2.uid, context_is a.0 p a.2 ∙ e)
+
   pub context_is_fault : (p : Uid × ActionForm Name (Name × Text)) → Contains as_ p → is_record_type (told s p.1.context) ≡ false → HasSchemaFault s.extensions d context_not_record
-  context_is_fault p h e = let a = action_written names refused s.defined d cs es as_ t.writes p h in (a.0, a.1, context_is a.0 p a.2 ∙ e)
+  context_is_fault p h e = let a = context_is_named p h e in (a.0, a.1, a.3)

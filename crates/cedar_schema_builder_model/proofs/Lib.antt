@@ -8,4 +8,5 @@ mod Matching
 mod Written
 mod Meant
 mod Faults
+mod Naming
 mod Formed

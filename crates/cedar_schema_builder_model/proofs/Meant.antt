@@ -46,6 +46,9 @@ module _ (names : NamesMeanReferences) (refused : RefusedWhereUndeclared) (s : D
   pub common_writes : (c : CommonDeclaration) → Contains d.commons c → (p : Name × TypeForm Name) × Contains cs p × IsWrittenAs s c p
   common_writes c h = in_its_place (IsWrittenAs s) d.commons cs (placed s d.commons cs w.commons.commons) c h
 
+  pub common_written : (p : Name × TypeForm Name) → Contains cs p → (c : CommonDeclaration) × Contains d.commons c × IsWrittenAs s c p
+  common_written p h = in_whose_place (IsWrittenAs s) d.commons cs (placed s d.commons cs w.commons.commons) p h
+
   pub entity_writes : (e : EntityDeclaration) → Contains d.entities e → (p : Name × EntityForm Name) × Contains es p × EntityStands s d e p
   entity_writes e h = let r = in_its_place (IsEntityWrittenAs s) d.entities es w.entities e h in (r.0, r.1, entity_of_writer e r.0 r.2)
 

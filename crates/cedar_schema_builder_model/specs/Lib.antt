@@ -1,3 +1,4 @@
 pub mod Writing
 pub mod Laws
 pub mod Alike
+pub mod Named

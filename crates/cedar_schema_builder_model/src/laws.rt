@@ -3,6 +3,7 @@
 
 ghost use Rattle.cedar_schema_builder_model.specs.Alike.{OrderOfBuiltIsFree};
 ghost use Rattle.cedar_schema_builder_model.specs.Laws.{ResolvedFragmentsAreWritten, ResolvedOneByOneAreWritten, ResolvedDeclarationsTellTheSchema, BuiltIsTheSchema, OrderOfDeclarationsIsFree, BuiltAreWellFormed, WrongsAreFaults, ContextsAreFaults, UntoldAreFaults};
+ghost use Rattle.cedar_schema_builder_model.specs.Named.{NamesAreDeclared, ContextsAreNamed};
 
 use cedar_schema_building_model::laws::contexts_become_records;
 use cedar_schema_decl::laws::{names_mean_references, resolved_types_are_declared};
@@ -64,5 +65,18 @@ pub fn refused_are_faults()
     solutions_are_the_common_types();
     contexts_become_records();
     shadowing_is_declared();
+    refusals_are_faults();
+}
+
+/// What stands in what is resolved stands in the declarations under the same names, and so does what is refused of it.
+pub fn names_are_declared()
+    ensures names { NamesAreDeclared }
+    ensures contexts { ContextsAreNamed }
+{
+    names_mean_references();
+    resolved_types_are_declared();
+    solutions_are_the_common_types();
+    uses_are_declared();
+    contexts_become_records();
     refusals_are_faults();
 }

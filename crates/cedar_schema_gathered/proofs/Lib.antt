@@ -8,3 +8,5 @@ mod Outcomes
 mod Told
 mod Rows
 mod Gathering
+mod Naming
+mod NamingAll

@@ -112,7 +112,7 @@ module _ (mean : NamesMeanReferences) (undeclared : RefusedWhereUndeclared) (s :
     abbrev with_id : Text → Name → Uid
     with_id id n = record { kind = n; id = id }
 
-    parent_lacks : (p : Name × Text) → is_none (find (λ n. is_defined_action s (with_id p.1 n)) (possibilities space p.0)) ≡ parent_missing p
+    pub parent_lacks : (p : Name × Text) → is_none (find (λ n. is_defined_action s (with_id p.1 n)) (possibilities space p.0)) ≡ parent_missing p
     parent_lacks p =
         lacking_alike (λ n. is_defined_action s (with_id p.1 n)) (λ n. is_declared_action d (with_id p.1 n)) (λ n. actions (with_id p.1 n)) (possibilities space p.0)
         ∙ lacking_places (λ n. is_declared_action d (with_id p.1 n)) space p.0.path p.0.base

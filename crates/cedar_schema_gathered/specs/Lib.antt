@@ -4,3 +4,4 @@ pub mod Checked
 pub mod AllResolved
 pub mod Gathered
 pub mod Laws
+pub mod Named

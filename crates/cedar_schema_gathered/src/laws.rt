@@ -2,6 +2,7 @@
 //! nothing but name laws of lower crates.
 
 ghost use Rattle.cedar_schema_gathered.specs.Laws.{NamesAreWritten, ReservedNamesAreFound, ActionTypesAreFound, RefusalsTellFaults, ResolvedAreDeclared};
+ghost use Rattle.cedar_schema_gathered.specs.Named.{RefusalsNameFaults, ReservedNamesAreThere, ActionTypesAreThere};
 
 use cedar_schema_decl::laws::{names_mean_references, resolved_types_are_declared};
 use cedar_schema_fragments::laws::written_are_declared;
@@ -23,6 +24,18 @@ pub fn action_types_are_found()
 pub fn resolving_tells_faults()
     ensures refused { RefusalsTellFaults }
     ensures made { ResolvedAreDeclared }
+{
+    names_mean_references();
+    resolved_types_are_declared();
+    written_are_declared();
+}
+
+/// What a refusal names is at fault: a name that is written and means nothing, or one that is reserved. So is the reserved name that
+/// is found, and the entity type under the last name of the types of actions.
+pub fn refusals_name_faults()
+    ensures refused { RefusalsNameFaults }
+    ensures reserved { ReservedNamesAreThere }
+    ensures action_type { ActionTypesAreThere }
 {
     names_mean_references();
     resolved_types_are_declared();

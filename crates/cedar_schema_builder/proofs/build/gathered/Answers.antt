@@ -1,24 +1,29 @@
+use Rattle.cedar_schema_decl.proofs.Gathered.{handed}
 use Rattle.cedar_schema_decl.specs.Defined.{defined_of}
 use Rattle.cedar_schema_gathered.specs.Gathered.{commons_gathered, entities_gathered, actions_gathered}
-use Rattle.cedar_schema_builder.specs.Faults.{fault_of_shadowing, fault_of_fragments}
-use Rattle.cedar_schema_builder.specs.Steps.{IsFaultIn}
-use Rattle.cedar_schema_builder.proofs.Gathering.{shadowing_refused, resolving_refused, are_gathered}
-use Rattle.cedar_schema_builder.proofs.Handing.{handed_on}
+use Rattle.cedar_schema_builder.specs.Faults.{of_shadowing, of_fragments}
+use Rattle.cedar_schema_builder.specs.Steps.{NamesFaultIn}
+use Rattle.cedar_schema_builder.specs.declared.err.SchemaError.TheVariants.{OutOfMemory}
+use Rattle.cedar_schema_builder.proofs.Gathering.{shadowing_named, resolving_named, are_gathered}
+use Rattle.cedar_schema_builder.proofs.Naming.{memory_named}
 use Rattle.cedar_schema_builder.proofs.build.gathered.Goals as goal
 
-pub returns-in_err-rfc_70_shadowing_checks-clause-refused : goal.returns-in_err-rfc_70_shadowing_checks-clause-refused
-returns-in_err-rfc_70_shadowing_checks-clause-refused c =
+pub returns-in_err-rfc_70_shadowing_checks-clause-named : goal.returns-in_err-rfc_70_shadowing_checks-clause-named
+returns-in_err-rfc_70_shadowing_checks-clause-named c =
     let fs = c.args.fragments.items in
     let e = c.in_err-rfc_70_shadowing_checks.field-0.0 in
-    handed_on (IsFaultIn fs) (fault_of_shadowing e) c.from_residual.result c.from_residual.ensures.1
-    (shadowing_refused fs (defined_of c.args.all_defs.now) c.requires c.shadowing_is_declared.ensures c.written_are_declared.ensures.types c.written_are_declared.ensures.actions e c.in_err-rfc_70_shadowing_checks.ensures.refused)
+    handed (NamesFaultIn fs) (of_shadowing e) c.from_residual.result c.from_residual.ensures.1
+    (shadowing_named fs (defined_of c.args.all_defs.now) c.requires c.written_are_declared.ensures.types c.written_are_declared.ensures.actions e c.in_err-rfc_70_shadowing_checks.ensures.refused)
 
-pub returns-in_err-resolved-clause-refused : goal.returns-in_err-resolved-clause-refused
-returns-in_err-resolved-clause-refused c =
+pub returns-in_err-resolved-clause-named : goal.returns-in_err-resolved-clause-named
+returns-in_err-resolved-clause-named c =
     let fs = c.args.fragments.items in
     let e = c.in_err-resolved.field-0.0 in
-    handed_on (IsFaultIn fs) (fault_of_fragments e) c.from_residual-in_err-resolved.result c.from_residual-in_err-resolved.ensures.1
-    (resolving_refused fs (defined_of c.args.all_defs.now) c.requires c.resolving_tells_faults.ensures.refused e c.in_err-resolved.ensures.refused)
+    handed (NamesFaultIn fs) (of_fragments e) c.from_residual-in_err-resolved.result c.from_residual-in_err-resolved.ensures.1
+    (resolving_named fs (defined_of c.args.all_defs.now) c.requires c.refusals_name_faults.ensures.refused e c.in_err-resolved.ensures.refused)
+
+pub returns-in_err-gathered-clause-named : goal.returns-in_err-gathered-clause-named
+returns-in_err-gathered-clause-named c = handed (NamesFaultIn c.args.fragments.items) OutOfMemory c.from_residual-in_err-gathered.result c.from_residual-in_err-gathered.ensures.1 (memory_named c.args.fragments.items)
 
 pub returns-clause-gathered : goal.returns-clause-gathered
 returns-clause-gathered c =
