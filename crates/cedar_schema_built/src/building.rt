@@ -3,7 +3,7 @@
 ghost use Rattle.std.specs.Prelude.{IfOk, IfErr};
 ghost use Rattle.cedar_schema_model.specs.Whole.Declarations.{Declarations};
 ghost use Rattle.cedar_schema_fragments.specs.WrittenDeclarations.{AreWritten};
-ghost use Rattle.cedar_schema_builder.specs.Built.{IsFaultOf};
+ghost use Rattle.cedar_schema_builder.specs.Built.{IsFaultOf, NamesFaultOf};
 ghost use Rattle.cedar_schema_builder.specs.Extensions.{types_given};
 ghost use Rattle.cedar_schema_builder.specs.Faults.{Tells};
 ghost use Rattle.cedar_schema_built.specs.BuiltOf.{IsBuiltOf};
@@ -23,7 +23,8 @@ use std::alloc::Global;
 impl ValidatorSchema {
     /// The schema of the declarations that these fragments write, where these are well-formed and the extension types that they name
     /// are given by the table. It lists the common types that are declared and the namespaces in which anything is, in the order of
-    /// their names, each once. Refuses the fragments else, with a fault that is there, and answers want of memory.
+    /// their names, each once. Refuses the fragments else, with a fault that is there and under the name of what is at fault, and
+    /// answers want of memory.
     pub fn from_schema_fragments(
         alloc: Global,
         fragments: Vec<ValidatorSchemaFragment<ConditionalName, ConditionalName>>,
@@ -33,6 +34,7 @@ impl ValidatorSchema {
         ensures listed { IfOk result (λ s. AreListed fragments.items (schema_listed s)) }
         ensures declared { IfOk result (λ s. (d : Declarations) → AreWritten fragments.items d → HasNamesOf d (schema_listed s)) }
         ensures refused { IfErr result (Tells (IsFaultOf (types_given extensions.now) fragments.items)) }
+        ensures named { IfErr result (NamesFaultOf (types_given extensions.now) fragments.items) }
     {
         new_keeps_the_schema();
         extension_types_are_a_set();

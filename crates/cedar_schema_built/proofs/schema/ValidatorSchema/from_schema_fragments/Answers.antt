@@ -3,8 +3,10 @@ use Rattle.cedar_expr_raw_names.specs.declared.conditional_name.ConditionalName.
 use Rattle.cedar_schema_resolver.specs.Meanings.{extensions_seen}
 use Rattle.cedar_schema_model.specs.Whole.Resolved.{schema_of}
 use Rattle.cedar_schema_fragments.specs.declared.namespace_def.ValidatorSchemaFragment.{ValidatorSchemaFragment}
-use Rattle.cedar_schema_builder.specs.Built.{types_made, actions_made}
+use Rattle.cedar_schema_builder.specs.Built.{types_made, actions_made, NamesFaultOf}
 use Rattle.cedar_schema_builder.specs.Extensions.{types_given}
+use Rattle.cedar_schema_builder.specs.declared.err.SchemaError.TheVariants.{OutOfMemory}
+use Rattle.cedar_schema_decl.proofs.Gathered.{handed}
 use Rattle.cedar_schema_built.specs.BuiltOf.{IsBuiltOf}
 use Rattle.cedar_schema_built.specs.Listed.{AreListed, HasNamesOf, names_listed}
 use Rattle.cedar_schema_built.proofs.schema.ValidatorSchema.from_schema_fragments.Goals as goal
@@ -26,3 +28,19 @@ returns-in_ok-schema-in-Ok-clause-declared g c =
     let e : c.deref.result.now ≡ c.args.fragments.items = cc in
     let is : AreListed c.args.fragments.items l = subst (λ (fs : List (ValidatorSchemaFragment ConditionalName ConditionalName)). AreListed fs l) e c.in_ok-names.ensures in
     λ d w. subst (HasNamesOf d) (sym c.with_names.ensures.listed) (c.listed_are_declared.ensures c.args.fragments.items d w l is)
+
+pub returns-in_err-names-clause-named : goal.returns-in_err-names-clause-named
+returns-in_err-names-clause-named g c =
+    handed (NamesFaultOf (types_given c.args.extensions.now) c.args.fragments.items) OutOfMemory c.from_residual.result c.from_residual.ensures.1 (record { each = λ d w. tt })
+
+pub returns-in_err-types-clause-named : goal.returns-in_err-types-clause-named
+returns-in_err-types-clause-named g c =
+    handed (NamesFaultOf (types_given c.args.extensions.now) c.args.fragments.items) OutOfMemory c.from_residual-in_err-types.result c.from_residual-in_err-types.ensures.1 (record { each = λ d w. tt })
+
+pub returns-in_err-schema-in-Ok-clause-named : goal.returns-in_err-schema-in-Ok-clause-named
+returns-in_err-schema-in-Ok-clause-named g c =
+    handed (NamesFaultOf (types_given c.args.extensions.now) c.args.fragments.items) OutOfMemory c.from_residual-in_err-schema-in-Ok.result c.from_residual-in_err-schema-in-Ok.ensures.1 (record { each = λ d w. tt })
+
+pub returns-in-Err-clause-named : goal.returns-in-Err-clause-named
+returns-in-Err-clause-named g c =
+    c.extension_types_are_a_set.ensures.names (types_given c.args.extensions.now) (extensions_seen c.in_ok-types.types) c.in_ok-types.ensures c.args.fragments.items c.in-Err.error c.in-Err.ensures.named
