@@ -1,4 +1,4 @@
--- The answer over policies beside their conditions is the answer of the policies.
+-- The answer over policies beside what their conditions come to is the answer of the policies.
 use Rattle.std.proofs.Common.{◌≡◌, Bool, true, false, ◌&&◌, ◌||◌, cond, List, [], ◌∷◌, ◌++◌, map, filter, refl, ap, sym, ◌∙◌, ◌⊎◌, inl, inr}
 use Rattle.std.proofs.lemmas.List.{append-nil}
 use Rattle.std.specs.List.{list_any, zip}
@@ -6,13 +6,12 @@ use Rattle.cedar_store_model.specs.World.{World}
 use Rattle.cedar_store_model.specs.Meaning.{outcome_of}
 use Rattle.cedar_store_model.specs.Policy as model
 use Rattle.cedar_store_model.specs.Answer.{is_true, ids, error_of, errors_of, satisfied_permits, satisfied_forbids, decided, determining, decision_of, allow, deny}
-use Rattle.cedar_expr_trees.specs.declared.expr.Expr.{Expr}
-use Rattle.cedar_gate_types.specs.Trees.{small_tree_of}
 use Rattle.cedar_store_policies.specs.declared.policy.Policy.{Policy}
 use Rattle.cedar_store_parts.specs.declared.policy_id.Effect.{Effect}
 use Rattle.cedar_store_parts.specs.declared.policy_id.Effect.TheVariants.{Permit, Forbid}
 use Rattle.cedar_gate_types.specs.Policies.{policy_of, policies_of}
-use Rattle.cedar_gate.specs.Answers.{has_effect, acts, AreConditions, Pair, pair_acts, acting_ids, pair_errors}
+use Rattle.cedar_gate.specs.Values.{outcome_seen}
+use Rattle.cedar_gate.specs.Answers.{has_effect, acts, Outcome, AreOutcomes, Pair, pair_acts, acting_ids, pair_errors}
 
 -- the head and the tail of two equal lists
 head_is : {X : Type 0} (x y : X) (xs ys : List X) → x ∷ xs ≡ y ∷ ys → x ≡ y
@@ -22,13 +21,13 @@ tail_is : {X : Type 0} (x y : X) (xs ys : List X) → x ∷ xs ≡ y ∷ ys → 
 tail_is x y xs ys e = cc
 
 -- some pair acts where some policy does
-pub any_pair : (effect : Effect) (w : World) (ps : List Policy) (cs : List (Expr (Unit {0}))) → AreConditions cs ps
-    → list_any (pair_acts effect w) (zip ps cs) ≡ list_any (acts effect w) (policies_of ps)
-any_pair effect w [] cs e = refl
+pub any_pair : (effect : Effect) (w : World) (ps : List Policy) (os : List Outcome) → AreOutcomes w os ps
+    → list_any (pair_acts effect) (zip ps os) ≡ list_any (acts effect w) (policies_of ps)
+any_pair effect w [] os e = refl
 any_pair effect w (p ∷ ps) [] e = cc
-any_pair effect w (p ∷ ps) (c ∷ cs) e =
-    let first : small_tree_of c ≡ model.condition (policy_of p) = head_is _ _ _ _ e in
-    let next : list_any (pair_acts effect w) (zip ps cs) ≡ list_any (acts effect w) (policies_of ps) = any_pair effect w ps cs (tail_is _ _ _ _ e) in
+any_pair effect w (p ∷ ps) (o ∷ os) e =
+    let first : outcome_seen o ≡ outcome_of w (model.condition (policy_of p)) = head_is _ _ _ _ e in
+    let next : list_any (pair_acts effect) (zip ps os) ≡ list_any (acts effect w) (policies_of ps) = any_pair effect w ps os (tail_is _ _ _ _ e) in
     rw (first, next) refl
 
 -- one more on both sides
@@ -40,24 +39,24 @@ ids_step true false p q xs ys e id next = cc
 ids_step false true p q xs ys e id next = cc
 
 -- the ids of the pairs that act are those of the policies
-pub ids_of_pairs : (effect : Effect) (w : World) (ps : List Policy) (cs : List (Expr (Unit {0}))) → AreConditions cs ps
-    → acting_ids effect w (zip ps cs) ≡ ids (filter (acts effect w) (policies_of ps))
-ids_of_pairs effect w [] cs e = refl
+pub ids_of_pairs : (effect : Effect) (w : World) (ps : List Policy) (os : List Outcome) → AreOutcomes w os ps
+    → acting_ids effect (zip ps os) ≡ ids (filter (acts effect w) (policies_of ps))
+ids_of_pairs effect w [] os e = refl
 ids_of_pairs effect w (p ∷ ps) [] e = cc
-ids_of_pairs effect w (p ∷ ps) (c ∷ cs) e =
-    let first : small_tree_of c ≡ model.condition (policy_of p) = head_is _ _ _ _ e in
-    let here : pair_acts effect w (p, c) ≡ acts effect w (policy_of p) = ap (λ t. has_effect effect (policy_of p).effect && is_true (outcome_of w t)) first in
-    ids_step _ _ (p, c) (policy_of p) (filter (pair_acts effect w) (zip ps cs)) (filter (acts effect w) (policies_of ps)) here refl (ids_of_pairs effect w ps cs (tail_is _ _ _ _ e))
+ids_of_pairs effect w (p ∷ ps) (o ∷ os) e =
+    let first : outcome_seen o ≡ outcome_of w (model.condition (policy_of p)) = head_is _ _ _ _ e in
+    let here : pair_acts effect (p, o) ≡ acts effect w (policy_of p) = ap (λ r. has_effect effect (policy_of p).effect && is_true r) first in
+    ids_step _ _ (p, o) (policy_of p) (filter (pair_acts effect) (zip ps os)) (filter (acts effect w) (policies_of ps)) here refl (ids_of_pairs effect w ps os (tail_is _ _ _ _ e))
 
 -- the errors of the pairs are those of the policies
-pub errors_of_pairs : (w : World) (ps : List Policy) (cs : List (Expr (Unit {0}))) → AreConditions cs ps
-    → pair_errors w (zip ps cs) ≡ errors_of w (policies_of ps)
-errors_of_pairs w [] cs e = refl
+pub errors_of_pairs : (w : World) (ps : List Policy) (os : List Outcome) → AreOutcomes w os ps
+    → pair_errors (zip ps os) ≡ errors_of w (policies_of ps)
+errors_of_pairs w [] os e = refl
 errors_of_pairs w (p ∷ ps) [] e = cc
-errors_of_pairs w (p ∷ ps) (c ∷ cs) e =
-    let first : small_tree_of c ≡ model.condition (policy_of p) = head_is _ _ _ _ e in
-    let next : pair_errors w (zip ps cs) ≡ errors_of w (policies_of ps) = errors_of_pairs w ps cs (tail_is _ _ _ _ e) in
-    let here : error_of (policy_of p).id (outcome_of w (small_tree_of c)) ≡ error_of (policy_of p).id (outcome_of w (model.condition (policy_of p))) = ap (λ t. error_of (policy_of p).id (outcome_of w t)) first in
+errors_of_pairs w (p ∷ ps) (o ∷ os) e =
+    let first : outcome_seen o ≡ outcome_of w (model.condition (policy_of p)) = head_is _ _ _ _ e in
+    let next : pair_errors (zip ps os) ≡ errors_of w (policies_of ps) = errors_of_pairs w ps os (tail_is _ _ _ _ e) in
+    let here : error_of (policy_of p).id (outcome_seen o) ≡ error_of (policy_of p).id (outcome_of w (model.condition (policy_of p))) = ap (λ r. error_of (policy_of p).id r) first in
     cc
 
 -- nothing is left where one of the two lists is empty
@@ -89,9 +88,9 @@ any_is p [] = refl
 any_is p (x ∷ xs) = any_of_cond (p x) x (list_any p xs) (filter p xs) (any_is p xs)
 
 -- whether some policy of the effect is satisfied, as the code finds it
-found : (effect : Effect) (w : World) (ps : List Policy) (cs : List (Expr (Unit {0}))) (b : Bool) → AreConditions cs ps
-    → list_any (pair_acts effect w) (zip ps cs) ≡ b → non_empty (filter (acts effect w) (policies_of ps)) ≡ b
-found effect w ps cs b e h = sym (any_is (acts effect w) (policies_of ps)) ∙ (sym (any_pair effect w ps cs e) ∙ h)
+found : (effect : Effect) (w : World) (ps : List Policy) (os : List Outcome) (b : Bool) → AreOutcomes w os ps
+    → list_any (pair_acts effect) (zip ps os) ≡ b → non_empty (filter (acts effect w) (policies_of ps)) ≡ b
+found effect w ps os b e h = sym (any_is (acts effect w) (policies_of ps)) ∙ (sym (any_pair effect w ps os e) ∙ h)
 
 denies : (ps fs : List model.Policy) → non_empty fs ≡ true → decided ps fs ≡ deny
 unfolding non_empty
@@ -125,25 +124,25 @@ by_permits ps [] h = refl
 by_permits ps (f ∷ fs) h = cc
 
 -- The decision by what the code finds.
-pub decision_denied : (w : World) (ps : List Policy) (cs : List (Expr (Unit {0}))) → AreConditions cs ps
-    → list_any (pair_acts Forbid w) (zip ps cs) ≡ true → deny ≡ decision_of w (policies_of ps)
-decision_denied w ps cs e h = sym (denies _ _ (found Forbid w ps cs true e h))
+pub decision_denied : (w : World) (ps : List Policy) (os : List Outcome) → AreOutcomes w os ps
+    → list_any (pair_acts Forbid) (zip ps os) ≡ true → deny ≡ decision_of w (policies_of ps)
+decision_denied w ps os e h = sym (denies _ _ (found Forbid w ps os true e h))
 
-pub decision_allowed : (w : World) (ps : List Policy) (cs : List (Expr (Unit {0}))) → AreConditions cs ps
-    → list_any (pair_acts Forbid w) (zip ps cs) ≡ false → list_any (pair_acts Permit w) (zip ps cs) ≡ true → allow ≡ decision_of w (policies_of ps)
-decision_allowed w ps cs e h k = sym (allows _ _ (found Forbid w ps cs false e h) (found Permit w ps cs true e k))
+pub decision_allowed : (w : World) (ps : List Policy) (os : List Outcome) → AreOutcomes w os ps
+    → list_any (pair_acts Forbid) (zip ps os) ≡ false → list_any (pair_acts Permit) (zip ps os) ≡ true → allow ≡ decision_of w (policies_of ps)
+decision_allowed w ps os e h k = sym (allows _ _ (found Forbid w ps os false e h) (found Permit w ps os true e k))
 
-pub decision_by_none : (w : World) (ps : List Policy) (cs : List (Expr (Unit {0}))) → AreConditions cs ps
-    → list_any (pair_acts Forbid w) (zip ps cs) ≡ false → list_any (pair_acts Permit w) (zip ps cs) ≡ false → deny ≡ decision_of w (policies_of ps)
-decision_by_none w ps cs e h k = sym (permits_none _ _ (found Forbid w ps cs false e h) (found Permit w ps cs false e k))
+pub decision_by_none : (w : World) (ps : List Policy) (os : List Outcome) → AreOutcomes w os ps
+    → list_any (pair_acts Forbid) (zip ps os) ≡ false → list_any (pair_acts Permit) (zip ps os) ≡ false → deny ≡ decision_of w (policies_of ps)
+decision_by_none w ps os e h k = sym (permits_none _ _ (found Forbid w ps os false e h) (found Permit w ps os false e k))
 
 -- The determining policies by what the code finds.
-pub forbids_determine : (w : World) (ps : List Policy) (cs : List (Expr (Unit {0}))) → AreConditions cs ps
-    → list_any (pair_acts Forbid w) (zip ps cs) ≡ true
+pub forbids_determine : (w : World) (ps : List Policy) (os : List Outcome) → AreOutcomes w os ps
+    → list_any (pair_acts Forbid) (zip ps os) ≡ true
     → determining (satisfied_permits w (policies_of ps)) (satisfied_forbids w (policies_of ps)) ≡ filter (acts Forbid w) (policies_of ps)
-forbids_determine w ps cs e h = by_forbids _ _ (found Forbid w ps cs true e h)
+forbids_determine w ps os e h = by_forbids _ _ (found Forbid w ps os true e h)
 
-pub permits_determine : (w : World) (ps : List Policy) (cs : List (Expr (Unit {0}))) → AreConditions cs ps
-    → list_any (pair_acts Forbid w) (zip ps cs) ≡ false
+pub permits_determine : (w : World) (ps : List Policy) (os : List Outcome) → AreOutcomes w os ps
+    → list_any (pair_acts Forbid) (zip ps os) ≡ false
     → determining (satisfied_permits w (policies_of ps)) (satisfied_forbids w (policies_of ps)) ≡ filter (acts Permit w) (policies_of ps)
-permits_determine w ps cs e h = by_permits _ _ (found Forbid w ps cs false e h)
+permits_determine w ps os e h = by_permits _ _ (found Forbid w ps os false e h)

@@ -1,15 +1,11 @@
 -- What sessions, runs and the service give by today's definitions, they give by those of the whole language.
-use Rattle.std.proofs.Common.{◌≡◌, ℕ, List, [], ◌∷◌, map, Some, None, Option, option_map, Result, Ok, Err, IfOk, IsOkAnd, Contains, refl, ap, sym, ◌∙◌, subst, arith}
-use Rattle.std.specs.Prelude.{◌↔◌}
-use Rattle.std.specs.declared.alloc.AllocError.{AllocError}
+use Rattle.std.proofs.Common.{◌≡◌, ℕ, List, [], Some, option_map, Result, Ok, Err, Contains, refl, ap, sym, ◌∙◌, subst, arith}
 use Rattle.cedar_expr_model.specs.Uid.{Uid}
 use Rattle.cedar_expr_model.specs.Name.{Text}
-use Rattle.cedar_expr_model.specs.Whole.Value.{V}
 use Rattle.cedar_store_model.specs.World as small_world
 use Rattle.cedar_store_model.specs.Policy as small_policy
 use Rattle.cedar_store_model.specs.Answer as small_answer
-use Rattle.cedar_store_model.specs.Whole.World.{World, Entity}
-use Rattle.cedar_store_model.specs.Whole.FirstPath.{KnowsRequest, whole_decision, whole_answer}
+use Rattle.cedar_store_model.specs.Whole.FirstPath.{whole_decision, whole_answer}
 use Rattle.cedar_store_model.proofs.Whole.FirstPathAnswers.{decision_is_whole, answer_is_whole}
 use Rattle.cedar_schema_model.specs.Whole.FirstPath.{IsFirstPath}
 use Rattle.cedar_gate_model.specs.Acceptance as small_acceptance
@@ -17,10 +13,9 @@ use Rattle.cedar_gate_model.specs.Transcript as small_transcript
 use Rattle.cedar_gate_model.specs.Transcript.{decisions_for}
 use Rattle.cedar_gate_model.specs.Lines as small_lines
 use Rattle.cedar_gate_model.specs.ReadingBundle.{input_read}
-use Rattle.cedar_gate_model.specs.Whole.Bundle.{Functions}
 use Rattle.cedar_gate_model.specs.Whole.Transcript.{Entry}
 use Rattle.cedar_gate_model.specs.Whole.Runs.{End, answered, answer_refused}
-use Rattle.cedar_gate_model.specs.Whole.Session.{State, not_conforming}
+use Rattle.cedar_gate_model.specs.Whole.Session.{not_conforming}
 use Rattle.cedar_gate_model.specs.Whole.FirstPath.{first_setup, whole_entries}
 use Rattle.cedar_gate_model.proofs.Whole.FirstPath.Sessions.{nothing_is_wanted, answering_runs_are_whole, refused_runs_are_whole}
 use Rattle.cedar_gate_model.proofs.Whole.FirstPathReading.Serving.{serving_is_whole}

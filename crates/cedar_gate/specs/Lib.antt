@@ -1,4 +1,5 @@
 pub mod Values
+pub mod Alone
 pub mod Answers
 pub mod Transcripts
 pub mod Printing

@@ -1,5 +1,5 @@
 -- What a session wants, decides and answers, what a run comes to and what the service writes, by the definitions of the whole language.
-use Rattle.std.specs.Prelude.{◌≡◌, ℕ, List, Option, Some, option_map, Result, Ok, Err, IsOkAnd}
+use Rattle.std.specs.Prelude.{◌≡◌, ℕ, List, Option, Some, option_map, Result, Ok, Err, IfOk}
 use Rattle.std.specs.declared.alloc.AllocError.{AllocError}
 use Rattle.cedar_expr_model.specs.Uid.{Uid}
 use Rattle.cedar_expr_model.specs.Name.{Text}
@@ -31,9 +31,9 @@ use Rattle.cedar_gate.specs.Transcripts.{transcript_of}
 abbrev pub IsWantedWhole : small_acceptance.Submission → small_world.Request → List Uid → Type 0
 IsWantedWhole s r uids = (f : Functions) (store : Uid → Option (Entity V)) (t : State) → IsWantedList (first_setup f s r store) t uids
 
--- in each world that knows the request the decision is the one that is given
+-- in each world that knows the request the decision is the one that is given; want of memory says nothing
 abbrev pub DecidesWhole : small_world.Request → List small_policy.Policy → Result (Option Decision) AllocError → Type 0
-DecidesWhole r ps result = (w : World) → KnowsRequest r w → IsOkAnd result (λ d. option_map (λ e. whole_decision (view.decision_of e)) d ≡ Some (decision_of w (whole_policies ps)))
+DecidesWhole r ps result = (w : World) → KnowsRequest r w → IfOk result (λ d. option_map (λ e. whole_decision (view.decision_of e)) d ≡ Some (decision_of w (whole_policies ps)))
 
 -- in each world that knows the request the answer is this
 abbrev pub AnswersWhole : small_world.Request → List small_policy.Policy → Response → Type 0

@@ -2,17 +2,16 @@
 
 ghost use Rattle.std.specs.Prelude.{◌≡◌, IfOk, map, filter};
 ghost use Rattle.std.specs.List.{list_any, zip};
-ghost use Rattle.cedar_gate_types.specs.Trees.{small_tree_of};
-ghost use Rattle.cedar_store_model.specs.Meaning.{outcome_of};
+ghost use Rattle.cedar_store_model.specs.World.{World as ModelWorld};
 ghost use Rattle.cedar_store_model.specs.Answer as answer;
 ghost use Rattle.cedar_gate_types.specs.Requests.{request_of};
 ghost use Rattle.cedar_gate_types.specs.Responses.{decision_of, error_of, response_of};
+ghost use Rattle.cedar_gate_types.specs.Language.{PoliciesAreWhole};
 ghost use Rattle.cedar_gate_types.specs.Policies.{id_text, policy_of, policies_of};
-ghost use Rattle.cedar_gate.specs.Values.{at_request};
-ghost use Rattle.cedar_gate.specs.Answers.{has_effect, acts, AreConditions, pair_acts, acting_ids, pair_errors};
+ghost use Rattle.cedar_gate.specs.Values.{at_request, outcome_seen};
+ghost use Rattle.cedar_gate.specs.Answers.{has_effect, acts, AreOutcomes, pair_acts, acting_ids, pair_errors};
 
-use crate::evaluator::{Value, interpret};
-use cedar_gate_exprs::Expr;
+use crate::evaluator::{Outcome, outcomes};
 use cedar_gate_types::{
     AuthorizationError, Decision, Diagnostics, Effect, Policy, PolicyID, Request, Response,
 };
@@ -34,38 +33,36 @@ fn acts_by(policy: &Policy, effect: Effect) -> bool
     }
 }
 
-// Whether the condition is true for the request.
-fn is_satisfied(request: &Request, condition: &Expr) -> bool
-    ensures { result ≡ answer.is_true (outcome_of (at_request (request_of request.now)) (small_tree_of condition.now)) }
+// Whether the condition is true.
+fn is_satisfied(outcome: &Outcome) -> bool
+    ensures { result ≡ answer.is_true (outcome_seen outcome.now) }
 {
-    match interpret(request, condition) {
-        Ok(Value::Bool(b)) => b,
-        Ok(Value::Long(_)) | Ok(Value::Entity(_)) => false,
+    match outcome {
+        Ok(b) => *b,
         Err(_) => false,
     }
 }
 
 // Whether some policy of this effect is satisfied.
-fn any_acts(request: &Request, effect: Effect, policies: &[Policy], conditions: &[Expr]) -> bool
-    ensures { result ≡ list_any (pair_acts effect (at_request (request_of request.now))) (zip policies.now conditions.now) }
+fn any_acts(effect: Effect, policies: &[Policy], outcomes: &[Outcome]) -> bool
+    ensures { result ≡ list_any (pair_acts effect) (zip policies.now outcomes.now) }
 {
-    policies.iter().zip(conditions).any(|(policy, condition)| acts_by(policy, effect)
-        && is_satisfied(request, condition))
+    policies.iter().zip(outcomes).any(|(policy, outcome)| acts_by(policy, effect)
+        && is_satisfied(outcome))
 }
 
 // The ids of the policies of this effect that are satisfied, in their order.
 fn ids_acting(
     alloc: Global,
-    request: &Request,
     effect: Effect,
     policies: &[Policy],
-    conditions: &[Expr],
+    outcomes: &[Outcome],
 ) -> Result<Vec<PolicyID>, AllocError>
-    ensures { IfOk result (λ ids. map id_text ids.items ≡ acting_ids effect (at_request (request_of request.now)) (zip policies.now conditions.now)) }
+    ensures { IfOk result (λ ids. map id_text ids.items ≡ acting_ids effect (zip policies.now outcomes.now)) }
 {
     let mut ids = Vec::new(alloc);
-    for (policy, condition) in policies.iter().zip(conditions) {
-        if acts_by(policy, effect) && is_satisfied(request, condition) {
+    for (policy, outcome) in policies.iter().zip(outcomes) {
+        if acts_by(policy, effect) && is_satisfied(outcome) {
             ids.push(policy.id().clone()?)?;
         }
     }
@@ -75,15 +72,14 @@ fn ids_acting(
 // The errors of the policies whose condition errs, in their order.
 fn errors(
     alloc: Global,
-    request: &Request,
     policies: &[Policy],
-    conditions: &[Expr],
+    outcomes: &[Outcome],
 ) -> Result<Vec<AuthorizationError>, AllocError>
-    ensures { IfOk result (λ es. map error_of es.items ≡ pair_errors (at_request (request_of request.now)) (zip policies.now conditions.now)) }
+    ensures { IfOk result (λ es. map error_of es.items ≡ pair_errors (zip policies.now outcomes.now)) }
 {
     let mut errors = Vec::new(alloc);
-    for (policy, condition) in policies.iter().zip(conditions) {
-        if let Err(error) = interpret(request, condition) {
+    for (policy, outcome) in policies.iter().zip(outcomes) {
+        if let Err(error) = *outcome {
             let id = policy.id().clone()?;
             errors.push(AuthorizationError::PolicyEvaluationError { id, error })?;
         }
@@ -92,42 +88,65 @@ fn errors(
 }
 
 /// What the policies decide of the request: it is allowed where some policy that permits and none that forbids is
-/// satisfied. The expressions are the policies' conditions. It takes no memory.
-#[tactic(auto, using(crate::proofs::Pairs::decision_denied, crate::proofs::Pairs::decision_allowed, crate::proofs::Pairs::decision_by_none))]
-pub fn decide(request: &Request, policies: &[Policy], conditions: &[Expr]) -> Decision
-    requires { AreConditions conditions.now policies.now }
-    ensures { decision_of result ≡ answer.decision_of (at_request (request_of request.now)) (policies_of policies.now) }
+/// satisfied.
+///
+/// # Errors
+///
+/// Want of memory alone.
+pub fn decide(alloc: Global, request: &Request, policies: &[Policy]) -> Result<Decision, AllocError>
+    requires { PoliciesAreWhole policies.now }
+    ensures { IfOk result (λ d. decision_of d ≡ answer.decision_of (at_request (request_of request.now)) (policies_of policies.now)) }
 {
-    if any_acts(request, Effect::Forbid, policies, conditions) {
+    let outcomes = outcomes(alloc, request, policies)?;
+    Ok(decided(policies, outcomes.as_slice()))
+}
+
+/// The answer of the policies to the request: the decision, the ids of the policies that determine it and the errors
+/// that were met, in policy order.
+///
+/// # Errors
+///
+/// Want of memory alone.
+pub fn respond(
+    alloc: Global,
+    request: &Request,
+    policies: &[Policy],
+) -> Result<Response, AllocError>
+    requires { PoliciesAreWhole policies.now }
+    ensures { IfOk result (λ r. response_of r ≡ answer.answer_of (at_request (request_of request.now)) (policies_of policies.now)) }
+{
+    let outcomes = outcomes(alloc, request, policies)?;
+    response(alloc, policies, outcomes.as_slice())
+}
+
+// The decision by what the policies' conditions come to.
+#[tactic(auto, using(crate::proofs::Pairs::decision_denied, crate::proofs::Pairs::decision_allowed, crate::proofs::Pairs::decision_by_none))]
+fn decided(policies: &[Policy], outcomes: &[Outcome]) -> Decision
+    ensures { (w : ModelWorld) → AreOutcomes w outcomes.now policies.now → decision_of result ≡ answer.decision_of w (policies_of policies.now) }
+{
+    if any_acts(Effect::Forbid, policies, outcomes) {
         return Decision::Deny;
     }
-    if any_acts(request, Effect::Permit, policies, conditions) {
+    if any_acts(Effect::Permit, policies, outcomes) {
         Decision::Allow
     } else {
         Decision::Deny
     }
 }
 
-/// The answer of the policies to the request: the decision, the ids of the policies that determine it and the errors
-/// that were met, in policy order. The expressions are the policies' conditions.
-///
-/// # Errors
-///
-/// Want of memory alone.
+// The answer by what the policies' conditions come to.
 #[tactic(auto, using(crate::proofs::Pairs::ids_of_pairs, crate::proofs::Pairs::errors_of_pairs))]
-pub fn respond(
+fn response(
     alloc: Global,
-    request: &Request,
     policies: &[Policy],
-    conditions: &[Expr],
+    outcomes: &[Outcome],
 ) -> Result<Response, AllocError>
-    requires { AreConditions conditions.now policies.now }
-    ensures { IfOk result (λ r. response_of r ≡ answer.answer_of (at_request (request_of request.now)) (policies_of policies.now)) }
+    ensures { (w : ModelWorld) → AreOutcomes w outcomes.now policies.now → IfOk result (λ r. response_of r ≡ answer.answer_of w (policies_of policies.now)) }
 {
-    let decision = decide(request, policies, conditions);
-    let effect = determining_effect(request, policies, conditions);
-    let reason = ids_acting(alloc, request, effect, policies, conditions)?;
-    let errors = errors(alloc, request, policies, conditions)?;
+    let decision = decided(policies, outcomes);
+    let effect = determining_effect(policies, outcomes);
+    let reason = ids_acting(alloc, effect, policies, outcomes)?;
+    let errors = errors(alloc, policies, outcomes)?;
     Ok(Response {
         decision,
         diagnostics: Diagnostics { reason, errors },
@@ -136,12 +155,11 @@ pub fn respond(
 
 // The effect of the policies that determine the decision: forbidding, where some policy that forbids is satisfied.
 #[tactic(auto, using(crate::proofs::Pairs::forbids_determine, crate::proofs::Pairs::permits_determine))]
-fn determining_effect(request: &Request, policies: &[Policy], conditions: &[Expr]) -> Effect
-    requires { AreConditions conditions.now policies.now }
-    ensures { let w = at_request (request_of request.now) in let ps = policies_of policies.now in
+fn determining_effect(policies: &[Policy], outcomes: &[Outcome]) -> Effect
+    ensures { (w : ModelWorld) → AreOutcomes w outcomes.now policies.now → let ps = policies_of policies.now in
         answer.determining (answer.satisfied_permits w ps) (answer.satisfied_forbids w ps) ≡ filter (acts result w) ps }
 {
-    if any_acts(request, Effect::Forbid, policies, conditions) {
+    if any_acts(Effect::Forbid, policies, outcomes) {
         Effect::Forbid
     } else {
         Effect::Permit

@@ -151,20 +151,20 @@ impl<'g, 't, 'e> Session<'g, 't, 'e> {
         }
     }
 
-    /// The decision, which is that of the answer over any store. Today one is always given.
+    /// The decision, which is that of the answer over any store. Today one is given wherever memory suffices.
     ///
     /// # Errors
     ///
-    /// Want of memory. Today it takes none.
+    /// Want of memory alone.
     #[tactic(auto, using(crate::proofs::Worlds::decision_anywhere))]
     pub fn decision(&self) -> Result<Option<Decision>, AllocError>
         ensures given { (w : World) → w.request ≡ session_request self.now
-            → IsOkAnd result (λ d. option_map decision_of d ≡ Some (answer.decision_of w (session_submission self.now).policies)) }
+            → IfOk result (λ d. option_map decision_of d ≡ Some (answer.decision_of w (session_submission self.now).policies)) }
         ensures whole { DecidesWhole (session_request self.now) (session_submission self.now).policies result }
     {
         let policies = self.gate.policies();
-        let conditions = self.gate.conditions();
-        Ok(Some(decide(&self.request, policies, conditions)))
+        let decision = decide(self.gate.allocator(), &self.request, policies)?;
+        Ok(Some(decision))
     }
 
     /// The answer, which is that over any store. It has no errors: an accepted policy never errs on a conforming request.
@@ -197,8 +197,7 @@ impl<'g, 't, 'e> Session<'g, 't, 'e> {
             return Err(AnswerFault::NotConforming);
         }
         let policies = self.gate.policies();
-        let conditions = self.gate.conditions();
-        respond(alloc, &self.request, policies, conditions).map_err(|_| AnswerFault::OutOfMemory)
+        respond(alloc, &self.request, policies).map_err(|_| AnswerFault::OutOfMemory)
     }
 }
 

@@ -1,14 +1,12 @@
 //! The gate: what it accepts.
 
 ghost use Rattle.std.specs.Prelude.{◌≡◌, true, map};
-ghost use Rattle.cedar_expr_model.specs.Sets.{trees_set, texts_set};
-ghost use Rattle.cedar_gate_types.specs.Trees.{small_tree_of};
-ghost use Rattle.cedar_store_model.specs.Policy.{condition};
+ghost use Rattle.cedar_expr_model.specs.Sets.{texts_set};
 ghost use Rattle.cedar_schema_model.specs.Whole.FirstPath.{is_plain};
 ghost use Rattle.cedar_gate_model.specs.Acceptance.{admits, warnings_of};
 ghost use Rattle.std.specs.List.{list_all};
 ghost use Rattle.cedar_gate_types.specs.Language.{is_first_path_policy};
-ghost use Rattle.cedar_gate_types.specs.Policies.{policies_of, id_text};
+ghost use Rattle.cedar_gate_types.specs.Policies.{id_text};
 ghost use Rattle.cedar_gate_schema.specs.Schema.{schema_of};
 ghost use Rattle.cedar_gate_accept.specs.Gates.{submission};
 
@@ -16,7 +14,7 @@ use crate::candidate::Candidate;
 use crate::err::GateFault;
 use crate::policies::conditions_of;
 use crate::warnings::warnings;
-use cedar_gate_exprs::{Expr, ExtTable};
+use cedar_gate_exprs::ExtTable;
 use cedar_gate_schema::ValidatorSchema;
 use cedar_gate_types::{Fragment, NestLimit, Policy, PolicyID};
 use std::alloc::Global;
@@ -26,7 +24,6 @@ use std::alloc::Global;
 pub struct Gate<'t, 'e> {
     schema: ValidatorSchema,
     policies: Vec<Policy>,
-    conditions: Vec<Expr>,
     warnings: Vec<PolicyID>,
     level: u32,
     limit: NestLimit,
@@ -35,15 +32,12 @@ pub struct Gate<'t, 'e> {
     pub ghost at_zero: { level ≡ 0 },
     pub ghost plain: { is_plain (schema_of schema) ≡ true },
     pub ghost first_path: { list_all is_first_path_policy policies.items ≡ true },
-    ghost kept: { map small_tree_of conditions.items ≡ map condition (policies_of policies.items) } by { trees_set (map small_tree_of conditions.items) (map condition (policies_of policies.items)) },
     ghost warned: { map id_text warnings.items ≡ warnings_of (submission schema policies.items level limit) } by { texts_set (map id_text warnings.items) (warnings_of (submission schema policies.items level limit)) },
 }
 
 impl<'t, 'e> Gate<'t, 'e> {
     ghost use Rattle.std.specs.Prelude.{◌≡◌, IfOk, IfErr, true, map};
-    ghost use Rattle.cedar_gate_types.specs.Trees.{small_tree_of};
     ghost use Rattle.cedar_expr_functions.specs.Tables.{are_typed};
-    ghost use Rattle.cedar_store_model.specs.Policy.{condition};
     ghost use Rattle.cedar_store_model.specs.Whole.FirstPath.{whole_policies};
     ghost use Rattle.cedar_gate_model.specs.Acceptance.{IsAccepted, warnings_of};
     ghost use Rattle.cedar_gate_types.specs.Limit.{levels_of};
@@ -115,7 +109,6 @@ impl<'t, 'e> Gate<'t, 'e> {
         Ok(Gate {
             schema,
             policies,
-            conditions,
             warnings,
             level,
             limit,
@@ -168,10 +161,8 @@ impl<'t, 'e> Gate<'t, 'e> {
         self.policies.as_slice()
     }
 
-    /// The policies' conditions, in the policies' order.
-    pub fn conditions(&self) -> &[Expr]
-        ensures { map small_tree_of result.now ≡ map condition (submission_of self.now).policies }
-    {
-        self.conditions.as_slice()
+    /// The allocator by which the gate keeps its policies.
+    pub fn allocator(&self) -> Global {
+        *self.policies.allocator()
     }
 }

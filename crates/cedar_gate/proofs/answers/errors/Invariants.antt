@@ -3,14 +3,12 @@ use Rattle.std.proofs.Common.{◌≡◌, map, ◌++◌}
 use Rattle.std.specs.List.{zip}
 use Rattle.std.specs.Slice.Iter.{iter_rest}
 use Rattle.std.specs.Iterator.Adapters.{zip_first, zip_second}
-use Rattle.cedar_gate_types.specs.Requests.{request_of}
 use Rattle.cedar_gate_types.specs.Responses.{error_of}
-use Rattle.cedar_gate.specs.Values.{at_request}
 use Rattle.cedar_gate.specs.Answers.{pair_errors}
 use Rattle.cedar_gate.proofs.answers.errors.Given as goal
 
 abbrev pub invariant-loop-policy : goal.invariant-loop-policy
 invariant-loop-policy l =
-    map error_of l.errors.items ++ pair_errors (at_request (request_of l.request))
+    map error_of l.errors.items ++ pair_errors
     (zip (iter_rest (zip_first l.policy-iterator)) (iter_rest (zip_second l.policy-iterator)))
-    ≡ pair_errors (at_request (request_of l.request)) (zip l.policies l.conditions)
+    ≡ pair_errors (zip l.policies l.outcomes)

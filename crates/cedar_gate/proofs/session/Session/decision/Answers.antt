@@ -5,4 +5,4 @@ use Rattle.cedar_gate.proofs.session.Session.decision.Goals as goal
 
 pub returns-clause-whole : goal.returns-clause-whole
 returns-clause-whole g c =
-    decides_whole (session_request c.args.self.now) (session_submission c.args.self.now).policies (policies_of c.policies-policies.result.now) c.decide.result c.decide.ensures c.policies-policies.ensures.first_path
+    decides_whole (session_request c.args.self.now) (session_submission c.args.self.now).policies (policies_of c.policies-policies.result.now) c.in_ok-decision.decision c.in_ok-decision.ensures c.policies-policies.ensures.first_path

@@ -2,7 +2,7 @@ use Rattle.cedar_gate_model.specs.Acceptance.{admits}
 use Rattle.cedar_gate_accept.specs.Gates.{submission}
 use Rattle.cedar_schema_model.specs.Whole.FirstPath.{is_plain}
 use Rattle.cedar_gate_accept.proofs.Refusals.{language_plain, language_zero, language_policies}
-use Rattle.std.proofs.Common.{◌≡◌, refl, ap, sym, ◌∙◌, List}
+use Rattle.std.proofs.Common.{◌≡◌, ap, sym, ◌∙◌, List}
 use Rattle.std.specs.Prelude.{map}
 use Rattle.cedar_expr_trees.specs.declared.expr.Expr.{Expr}
 use Rattle.cedar_gate_types.specs.Trees.{small_tree_of}
@@ -38,6 +38,5 @@ invariant_of-result g c = record {
   at_zero = language_zero c.args.fragments.now c.args.policies.items c.args.level c.requires;
   plain = ap is_plain c.in_ok-schema.ensures.built ∙ language_plain c.args.fragments.now c.args.policies.items c.args.level c.requires;
   first_path = language_policies c.args.fragments.now c.args.policies.items c.args.level c.requires;
-  kept = kept_of c.in_ok-conditions.conditions.items c.in_ok-conditions.conditions.items c.args.policies.items c.args.policies.items c.as_slice.result.now refl refl c.as_slice.ensures.value c.in_ok-conditions.ensures;
   warned = c.in_ok-warnings.ensures ∙ ap (λ ps. ids (filter (impossible (schema_of c.in_ok-schema.schema)) (policies_of ps))) c.as_slice-4.ensures.value;
 }
