@@ -38,8 +38,9 @@ fn store(alloc: Global) -> Result<Entities, Fail> {
     let mut entities = Vec::new(alloc);
     entities.push(member(alloc)?)?;
     entities.push(with_unknown(alloc)?)?;
-    entities.push(ranked(alloc, "d", "007")?)?;
-    entities.push(ranked(alloc, "e", "7")?)?;
+    for (id, text) in [("d", "007"), ("e", "7")] {
+        entities.push(ranked(alloc, id, text)?)?;
+    }
     Ok(Entities::from_entities(alloc, entities)?)
 }
 
@@ -176,16 +177,19 @@ fn is_at(part: Option<&PartialValue<ExtValue>>, at: usize) -> bool {
     }
 }
 
+// The store of both.
+fn placed_store(alloc: Global) -> Result<Entities, Fail> {
+    let entities = vec![in alloc; with_places(alloc)?, with_placed_unknown(alloc)?]?;
+    Ok(Entities::from_entities(alloc, entities)?)
+}
+
 #[test]
 fn parts_keep_their_places(rt: HostRuntime) -> Result<(), Fail> {
     let alloc = rt.alloc();
     let e = with_places(alloc)?;
     assert!(rt; is_at(e.get("age"), 1) && is_at(e.get_tag("spoon"), 2));
     assert!(rt; is_at(with_placed_unknown(alloc)?.get("foo"), 3));
-    let mut entities = Vec::new(alloc);
-    entities.push(e)?;
-    entities.push(with_placed_unknown(alloc)?)?;
-    let store = Entities::from_entities(alloc, entities)?;
+    let store = placed_store(alloc)?;
     match store.entity(alloc, &uid(alloc, "User", "p")?)? {
         Dereference::Data(e) => assert!(rt; is_at(e.get("age"), 1) && is_at(e.get_tag("spoon"), 2)),
         _ => assert!(rt; false),

@@ -23,11 +23,6 @@ pub fn shared(alloc: Global, kind: &str, id: &str) -> Result<Rc<EntityUID>, Fail
     Ok(Rc::new(alloc, uid(alloc, kind, id)?)?)
 }
 
-// The uid as an expression.
-pub fn written(alloc: Global, kind: &str, id: &str) -> Result<Expr, Fail> {
-    Ok(Expr::val(Literal::EntityUID(shared(alloc, kind, id)?)))
-}
-
 // The id of a policy.
 pub fn id(alloc: Global, text: &str) -> Result<PolicyID, Fail> {
     Ok(PolicyID::from_string(alloc, text)?)

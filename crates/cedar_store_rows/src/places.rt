@@ -88,33 +88,59 @@ fn link_stands(alloc: Global, set: &PolicySet) -> Result<bool, Fail> {
     }
 }
 
+// Whether the template t of the set stands at its place, with its annotation.
+fn template_stands(alloc: Global, set: &PolicySet) -> Result<bool, Fail> {
+    match set.get_template(&id(alloc, "t")?) {
+        None => Ok(false),
+        Some(template) => {
+            Ok(template.loc() == at(1) && notes_stand(alloc, template.annotations_arc())?)
+        }
+    }
+}
+
+// A set of the template and its link.
+fn set_of_link(alloc: Global) -> Result<PolicySet, Fail> {
+    let mut set = PolicySet::new(alloc);
+    set.add_template(placed(alloc)?)?;
+    let values = bound(alloc, Some("a"), Some("d"))?;
+    set.link(&id(alloc, "t")?, id(alloc, "l")?, values)?;
+    Ok(set)
+}
+
+// A set to which the policy was added.
+fn set_with_policy(alloc: Global) -> Result<PolicySet, Fail> {
+    let mut set = PolicySet::new(alloc);
+    set.add(linked(alloc)?)?;
+    Ok(set)
+}
+
+// A set of a list of the policy.
+fn set_of_list(alloc: Global) -> Result<PolicySet, Fail> {
+    let listed = vec![in alloc; linked(alloc)?]?;
+    Ok(PolicySet::try_from_iter(alloc, listed)?)
+}
+
 #[test]
 fn a_set_keeps_places(rt: HostRuntime) -> Result<(), Fail> {
     let alloc = rt.alloc();
-    let mut set = PolicySet::new(alloc);
-    set.add_template(placed(alloc)?)?;
-    let (of, new) = (id(alloc, "t")?, id(alloc, "l")?);
-    set.link(&of, new, bound(alloc, Some("a"), Some("d"))?)?;
+    let set = set_of_link(alloc)?;
     assert!(rt; link_stands(alloc, &set)?);
-    let Some(template) = set.get_template(&of) else {
-        return Err(Fail::from("there is no template"));
-    };
-    assert!(rt; template.loc() == at(1));
-    assert!(rt; notes_stand(alloc, template.annotations_arc())?);
-    let mut set = PolicySet::new(alloc);
-    set.add(linked(alloc)?)?;
-    assert!(rt; link_stands(alloc, &set)?);
-    let mut listed = Vec::new(alloc);
-    listed.push(linked(alloc)?)?;
-    let made = PolicySet::try_from_iter(alloc, listed)?;
-    assert!(rt; link_stands(alloc, &made)?);
+    assert!(rt; template_stands(alloc, &set)?);
     Ok(())
 }
 
 #[test]
-fn slots_keep_places(rt: HostRuntime) -> Result<(), Fail> {
+fn a_set_of_policies_keeps_places(rt: HostRuntime) -> Result<(), Fail> {
     let alloc = rt.alloc();
-    let [principal, resource] = both_slots();
+    assert!(rt; link_stands(alloc, &set_with_policy(alloc)?)?);
+    assert!(rt; link_stands(alloc, &set_of_list(alloc)?)?);
+    Ok(())
+}
+
+#[test]
+fn slots_of_scopes_keep_places(rt: HostRuntime) -> Result<(), Fail> {
+    let alloc = rt.alloc();
+    let [principal, _] = both_slots();
     let expr = asked().as_expr(alloc, PrincipalOrResource::Principal)?;
     let mut slots = expr.slots(alloc)?;
     assert!(rt; slots.next() == Some(principal) && slots.next().is_none());
@@ -124,6 +150,13 @@ fn slots_keep_places(rt: HostRuntime) -> Result<(), Fail> {
         }
         _ => return Err(Fail::from("the slot is gone")),
     }
+    Ok(())
+}
+
+#[test]
+fn slots_of_templates_keep_places(rt: HostRuntime) -> Result<(), Fail> {
+    let alloc = rt.alloc();
+    let [principal, resource] = both_slots();
     let template = placed(alloc)?;
     let mut slots = template.slots();
     assert!(rt; slots.next() == Some(&principal));
@@ -142,13 +175,17 @@ fn located(alloc: Global) -> Result<Rc<EntityUID>, Fail> {
     Ok(Rc::new(alloc, uid)?)
 }
 
-#[test]
-fn uids_keep_places_which_make_no_difference(rt: HostRuntime) -> Result<(), Fail> {
-    let alloc = rt.alloc();
+// The template bound to the uid, and copied.
+fn copied(alloc: Global) -> Result<Policy, Fail> {
     let mut values = SlotEnv::new();
     values.insert(SlotId::principal(), located(alloc)?);
     let template = Rc::new(alloc, placed(alloc)?)?;
-    let policy = Policy::new(template, None, values).clone()?;
+    Ok(Policy::new(template, None, values).clone()?)
+}
+
+#[test]
+fn uids_and_bodies_keep_places(rt: HostRuntime) -> Result<(), Fail> {
+    let policy = copied(rt.alloc())?;
     match policy.principal_constraint()?.constraint {
         PrincipalOrResourceConstraint::In(EntityReference::EUID(uid)) => {
             assert!(rt; uid.loc() == at(7))
@@ -159,6 +196,12 @@ fn uids_keep_places_which_make_no_difference(rt: HostRuntime) -> Result<(), Fail
         Some(body) => assert!(rt; body.source_loc() == at(3)),
         None => return Err(Fail::from("the body is gone")),
     }
+    Ok(())
+}
+
+#[test]
+fn places_make_no_difference(rt: HostRuntime) -> Result<(), Fail> {
+    let alloc = rt.alloc();
     assert!(rt; asked() == in_slot());
     let named = EntityReference::EUID(located(alloc)?);
     assert!(rt; named == EntityReference::EUID(shared(alloc, "User", "a")?));

@@ -54,6 +54,12 @@ fn a_copy_is_the_same_policy(rt: HostRuntime) -> Result<(), Fail> {
     assert!(rt; copy.id() == policy.id());
     assert!(rt; policy.id().clone()? == *policy.id());
     assert!(rt; policy.env().clone()? == *policy.env());
+    Ok(())
+}
+
+#[test]
+fn a_copy_stands_at_the_same_place(rt: HostRuntime) -> Result<(), Fail> {
+    let alloc = rt.alloc();
     let template = Rc::new(alloc, annotated(alloc)?)?;
     let policy = Policy::new(template, None, bound(alloc, None, Some("d"))?);
     let copy = policy.clone()?;
