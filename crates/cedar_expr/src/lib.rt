@@ -132,6 +132,3 @@ pub use pattern::{Pattern, PatternElem};
 pub use types::{StaticallyTyped, Type};
 pub use util::{CollectError, collect_no_duplicates};
 pub use value::{FromValue, NotValue, Set, TryFromExpr, Value, ValueKind};
-
-#[cfg(test)]
-mod tests;

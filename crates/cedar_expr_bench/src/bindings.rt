@@ -1,11 +1,7 @@
 //! Values in the place of unknowns.
 
 use crate::trees;
-use cedar_expr_builders::BuildFault;
-use cedar_expr_plain_builder::PlainBuilder;
-use cedar_expr_substitution::Substitute;
-use cedar_expr_trees::{Expr, Literal, Unknown};
-use cedar_expr_values::{ExtValue, Value};
+use cedar_expr::{BuildFault, Expr, ExtValue, Literal, PlainBuilder, Substitute, Unknown, Value};
 use std::alloc::{AllocError, Global};
 use std::collections::HashMap;
 use std::rc::RcStr;

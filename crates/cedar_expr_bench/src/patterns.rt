@@ -1,6 +1,6 @@
 //! Patterns that have to be tried at many places.
 
-use cedar_expr_leaves::{Pattern, PatternElem};
+use cedar_expr::{Pattern, PatternElem};
 use std::alloc::{AllocError, Global};
 
 /// Whether a pattern `*a*a..*ab` with so many wildcards matches a text of ten times as many `a`: 0, since it doesn't.

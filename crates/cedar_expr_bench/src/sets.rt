@@ -1,6 +1,6 @@
 //! Sets of numbers.
 
-use cedar_expr_values::{ExtValue, Literal, Set, Value};
+use cedar_expr::{ExtValue, Literal, Set, Value};
 use std::alloc::{AllocError, Global};
 
 // The set of the numbers below a size, each given twice and the greatest first.

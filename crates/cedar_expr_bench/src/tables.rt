@@ -3,11 +3,10 @@
 ghost use Rattle.std.specs.Prelude.{◌≡◌, Err};
 ghost use Rattle.cedar_expr_functions.specs.declared.err.CallFault.TheVariants.{OutOfMemory};
 
-use cedar_expr_functions::{
-    CallFault, CallStyle, Extension, ExtensionFunction, ExtensionOutputValue, Extensions, Func,
+use cedar_expr::{
+    CallFault, CallStyle, ExtValue, Extension, ExtensionFunction, ExtensionOutputValue, Extensions,
+    Func, Name, Type, Value,
 };
-use cedar_expr_names::Name;
-use cedar_expr_values::{ExtValue, Type, Value};
 use std::alloc::{AllocError, Global};
 
 // The name with this number.

@@ -1,6 +1,6 @@
 //! Wide and deep expressions.
 
-use cedar_expr_trees::{Expr, ExprIterator, Literal};
+use cedar_expr::{Expr, ExprIterator, Literal};
 use std::alloc::{AllocError, Global};
 
 /// How many subexpressions a set of so many numbers has.

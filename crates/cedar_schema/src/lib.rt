@@ -90,6 +90,3 @@ pub use types::{
     is_subtype, least_upper_bound, lookup_attribute_type, may_have_attr,
     reduce_to_least_upper_bound, typecheck_literal, typecheck_restricted_expr, typecheck_value,
 };
-
-#[cfg(test)]
-mod tests;

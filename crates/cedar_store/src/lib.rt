@@ -69,6 +69,3 @@ pub use policy::{
 pub use policy_set::{PolicySet, PolicySetError};
 pub use request::RequestType;
 pub use validation::{ValidationError, ValidationErrorKind, ValidationMode, ValidationWarning};
-
-#[cfg(test)]
-mod tests;

@@ -4,7 +4,7 @@ use crate::fault::Fault;
 use crate::parts::user;
 use cedar_expr_leaves::Literal;
 use cedar_expr_values::Value;
-use cedar_store_entities::{Dereference, Entities, Entity};
+use cedar_store::{Dereference, Entities, Entity};
 use std::alloc::Global;
 use std::rc::RcStr;
 

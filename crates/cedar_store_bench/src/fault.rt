@@ -1,8 +1,7 @@
 //! Why a path gives up.
 
 use cedar_expr_names::NameError;
-use cedar_store_entities::EntitiesError;
-use cedar_store_refusals::{LinkingError, PolicySetError, UnexpectedSlotError};
+use cedar_store::{EntitiesError, LinkingError, PolicySetError, UnexpectedSlotError};
 use std::alloc::{AllocError, AllocFailed};
 
 /// Why a path gives up.

@@ -2,7 +2,7 @@
 
 use crate::fault::Fault;
 use cedar_expr_names::{Eid, EntityType, EntityUID};
-use cedar_store_parts::PolicyID;
+use cedar_store::PolicyID;
 use std::alloc::Global;
 
 /// The id of a policy with this number.

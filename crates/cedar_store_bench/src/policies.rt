@@ -3,12 +3,11 @@
 use crate::fault::Fault;
 use crate::parts::{id, user};
 use cedar_expr_leaves::SlotId;
-use cedar_store_parts::{
-    ActionConstraint, Annotations, Effect, EntityReference, PolicyID, PrincipalConstraint,
-    PrincipalOrResourceConstraint, ResourceConstraint, SlotEnv,
+use cedar_store::{
+    ActionConstraint, Annotations, Effect, EntityReference, LinkingError, Policy, PolicyID,
+    PolicySet, PrincipalConstraint, PrincipalOrResourceConstraint, ResourceConstraint, SlotEnv,
+    StaticPolicy, Template,
 };
-use cedar_store_policies::{Policy, PolicySet, StaticPolicy, Template};
-use cedar_store_refusals::LinkingError;
 use std::alloc::Global;
 use std::rc::Rc;
 
