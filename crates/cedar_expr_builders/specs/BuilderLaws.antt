@@ -1,7 +1,6 @@
 -- What the laws of builders say.
 -- Rule: expressions; substitution (docs/RULES.md).
 use Rattle.std.specs.Prelude.{◌≡◌, List, Option}
-use Rattle.std.specs.declared.result.Result.{Result}
 use Rattle.std.specs.declared.result.Result.TheVariants.{Ok}
 use Rattle.cedar_expr_model.specs.Name.{Name}
 use Rattle.cedar_expr_model.specs.Whole.Tree.{Tree}

@@ -1,6 +1,8 @@
 //! The builder of expressions.
 
-ghost use Rattle.std.specs.Prelude.{◌≡◌, None, map, IfOk, IfErr, OnOk, refl};
+ghost use Rattle.std.specs.Prelude.{◌≡◌, ◌++◌, [], None, map, IfOk, IfErr, OnOk, refl};
+ghost use Rattle.std.specs.List.{flat_map};
+ghost use Rattle.std.specs.Map.{values_of};
 ghost use Rattle.std.specs.Rc.{rc_str_bytes};
 ghost use Rattle.std.specs.declared.convert.Infallible.{Infallible};
 ghost use Rattle.cedar_expr_names.specs.Views.{plain_name_of, type_name_of};
@@ -8,15 +10,16 @@ ghost use Rattle.cedar_expr_leaves.specs.Literals.{literal_of};
 ghost use Rattle.cedar_expr_leaves.specs.Patterns.{pattern_of};
 ghost use Rattle.cedar_expr_leaves.specs.Slots.{slot_of};
 ghost use Rattle.cedar_expr_leaves.specs.Variables.{var_of};
-ghost use Rattle.cedar_expr_model.specs.Whole.Builder.{tree_builder, trees, tree_fields, written_truth, conjunction, disjunction, path_test};
+ghost use Rattle.cedar_expr_model.specs.Whole.Builder.{tree_builder, trees, tree_fields, conjunction, disjunction, path_test};
 ghost use Rattle.cedar_expr_model.specs.Whole.Tree.{Tree, lit, var, slot, unknown, choice, unary, binary, call, get_attr, has_attr, like, is_type, set_literal, record_literal};
 ghost use Rattle.cedar_expr_leaves.specs.Operators.{unary_op_of, binary_op_of};
 ghost use Rattle.cedar_expr_trees.specs.Unknowns.{unknown_of};
-ghost use Rattle.cedar_expr_model.specs.Whole.Records.{record_tree};
+ghost use Rattle.cedar_expr_model.specs.Whole.Records.{record_tree, in_order};
 ghost use Rattle.cedar_expr_model.specs.Whole.Repeats.{repeated_name};
 ghost use Rattle.cedar_expr_trees.specs.Refusals.{RefusesRecord};
-ghost use Rattle.cedar_expr_trees.specs.Trees.{tree_of, kind_tree, place_of, data_of, named, field_trees};
-ghost use Rattle.cedar_expr_builders.specs.Views.{builder_place, builder_data, refuses_nothing};
+ghost use Rattle.cedar_expr_trees.specs.Positions.{below, positions};
+ghost use Rattle.cedar_expr_trees.specs.Trees.{tree_of, kind_tree, kind_of, place_of, data_of, named, field_trees};
+ghost use Rattle.cedar_expr_builders.specs.Views.{builder_place, builder_data, refuses_nothing, beside};
 ghost use Rattle.cedar_expr_builders.specs.declared.err.BuildFault.TheVariants.{OutOfMemory};
 ghost use Rattle.cedar_expr_model.proofs.Whole.Agreeing.{trees_are_lawful};
 
@@ -24,6 +27,7 @@ use crate::err::BuildFault;
 use crate::expr_builder;
 use cedar_expr_leaves::{Literal, Pattern, SlotId, Var};
 use cedar_expr_names::{EntityType, Loc, Name};
+use cedar_expr_trees::constructors::truth_of;
 use cedar_expr_trees::records::field_map;
 use cedar_expr_trees::sharing::share_two;
 use cedar_expr_trees::{
@@ -45,6 +49,7 @@ pub struct ExprBuilder<T> {
 impl<T: Drop> ExprBuilder<T> {
     /// The expression of this kind, at the builder's place, with its data.
     pub fn with_expr_kind(self, expr_kind: ExprKind<T>) -> Expr<T>
+        ensures kind { kind_of result ≡ expr_kind }
         ensures tree { tree_of result ≡ kind_tree expr_kind }
         ensures place { place_of result ≡ builder_place self }
         ensures data { data_of result ≡ builder_data self }
@@ -126,6 +131,7 @@ impl<T: Default + Clone + Drop> expr_builder::ExprBuilder for ExprBuilder<T> {
         ensures made { IfOk result (λ e. tree_of e ≡ lit (literal_of v)) }
         ensures place { IfOk result (λ e. place_of e ≡ builder_place self) }
         ensures data { IfOk result (λ e. data_of e ≡ builder_data self) }
+        ensures parts { IfOk result (λ e. below (kind_of e) ≡ []) }
     {
         Ok(self.with_expr_kind(ExprKind::Lit(v)))
     }
@@ -134,6 +140,7 @@ impl<T: Default + Clone + Drop> expr_builder::ExprBuilder for ExprBuilder<T> {
         ensures made { IfOk result (λ e. tree_of e ≡ var (var_of v)) }
         ensures place { IfOk result (λ e. place_of e ≡ builder_place self) }
         ensures data { IfOk result (λ e. data_of e ≡ builder_data self) }
+        ensures parts { IfOk result (λ e. below (kind_of e) ≡ []) }
     {
         Ok(self.with_expr_kind(ExprKind::Var(v)))
     }
@@ -142,6 +149,7 @@ impl<T: Default + Clone + Drop> expr_builder::ExprBuilder for ExprBuilder<T> {
         ensures made { IfOk result (λ e. tree_of e ≡ unknown (unknown_of u).name (unknown_of u).annotation) }
         ensures place { IfOk result (λ e. place_of e ≡ builder_place self) }
         ensures data { IfOk result (λ e. data_of e ≡ builder_data self) }
+        ensures parts { IfOk result (λ e. below (kind_of e) ≡ []) }
     {
         Ok(self.with_expr_kind(ExprKind::Unknown(u)))
     }
@@ -150,6 +158,7 @@ impl<T: Default + Clone + Drop> expr_builder::ExprBuilder for ExprBuilder<T> {
         ensures made { IfOk result (λ e. tree_of e ≡ slot (slot_of s)) }
         ensures place { IfOk result (λ e. place_of e ≡ builder_place self) }
         ensures data { IfOk result (λ e. data_of e ≡ builder_data self) }
+        ensures parts { IfOk result (λ e. below (kind_of e) ≡ []) }
     {
         Ok(self.with_expr_kind(ExprKind::Slot(s)))
     }
@@ -164,6 +173,7 @@ impl<T: Default + Clone + Drop> expr_builder::ExprBuilder for ExprBuilder<T> {
         ensures made { IfOk result (λ e. tree_of e ≡ choice (tree_of test_expr.value) (tree_of then_expr.value) (tree_of else_expr.value)) }
         ensures place { IfOk result (λ e. place_of e ≡ builder_place self) }
         ensures data { IfOk result (λ e. data_of e ≡ builder_data self) }
+        ensures parts { IfOk result (λ e. below (kind_of e) ≡ positions test_expr.value ++ (positions then_expr.value ++ positions else_expr.value)) }
     {
         Ok(self.with_expr_kind(ExprKind::If {
             test_expr,
@@ -176,8 +186,9 @@ impl<T: Default + Clone + Drop> expr_builder::ExprBuilder for ExprBuilder<T> {
         ensures made { IfOk result (λ e. tree_of e ≡ conjunction (tree_of e1) (tree_of e2)) }
         ensures place { IfOk result (λ e. place_of e ≡ builder_place self) }
         ensures data { IfOk result (λ e. data_of e ≡ builder_data self) }
+        ensures parts { IfOk result (λ e. below (kind_of e) ≡ beside e1 e2) }
     {
-        if let (Some(a), Some(b)) = (truth(&e1), truth(&e2)) {
+        if let (Some(a), Some(b)) = (truth_of(&e1), truth_of(&e2)) {
             drop(e1);
             drop(e2);
             return Ok(self.with_expr_kind(ExprKind::Lit(Literal::Bool(a && b))));
@@ -190,8 +201,9 @@ impl<T: Default + Clone + Drop> expr_builder::ExprBuilder for ExprBuilder<T> {
         ensures made { IfOk result (λ e. tree_of e ≡ disjunction (tree_of e1) (tree_of e2)) }
         ensures place { IfOk result (λ e. place_of e ≡ builder_place self) }
         ensures data { IfOk result (λ e. data_of e ≡ builder_data self) }
+        ensures parts { IfOk result (λ e. below (kind_of e) ≡ beside e1 e2) }
     {
-        if let (Some(a), Some(b)) = (truth(&e1), truth(&e2)) {
+        if let (Some(a), Some(b)) = (truth_of(&e1), truth_of(&e2)) {
             drop(e1);
             drop(e2);
             return Ok(self.with_expr_kind(ExprKind::Lit(Literal::Bool(a || b))));
@@ -204,6 +216,7 @@ impl<T: Default + Clone + Drop> expr_builder::ExprBuilder for ExprBuilder<T> {
         ensures made { IfOk result (λ e. tree_of e ≡ unary (unary_op_of op) (tree_of arg)) }
         ensures place { IfOk result (λ e. place_of e ≡ builder_place self) }
         ensures data { IfOk result (λ e. data_of e ≡ builder_data self) }
+        ensures parts { IfOk result (λ e. below (kind_of e) ≡ positions arg) }
     {
         let arg = Rc::new(alloc, arg)?;
         Ok(self.with_expr_kind(ExprKind::UnaryApp { op, arg }))
@@ -219,6 +232,7 @@ impl<T: Default + Clone + Drop> expr_builder::ExprBuilder for ExprBuilder<T> {
         ensures made { IfOk result (λ e. tree_of e ≡ binary (binary_op_of op) (tree_of arg1) (tree_of arg2)) }
         ensures place { IfOk result (λ e. place_of e ≡ builder_place self) }
         ensures data { IfOk result (λ e. data_of e ≡ builder_data self) }
+        ensures parts { IfOk result (λ e. below (kind_of e) ≡ positions arg1 ++ positions arg2) }
     {
         let (arg1, arg2) = share_two(alloc, arg1, arg2)?;
         Ok(self.with_expr_kind(ExprKind::BinaryApp { op, arg1, arg2 }))
@@ -234,6 +248,7 @@ impl<T: Default + Clone + Drop> expr_builder::ExprBuilder for ExprBuilder<T> {
         ensures made { IfOk result (λ e. tree_of e ≡ call (plain_name_of fn_name) (trees (map tree_of args.items))) }
         ensures place { IfOk result (λ e. place_of e ≡ builder_place self) }
         ensures data { IfOk result (λ e. data_of e ≡ builder_data self) }
+        ensures parts { IfOk result (λ e. below (kind_of e) ≡ flat_map positions args.items) }
         ensures want { IfErr result (λ f. f ≡ OutOfMemory) }
     {
         let args = Rc::new(alloc, args)?;
@@ -244,6 +259,7 @@ impl<T: Default + Clone + Drop> expr_builder::ExprBuilder for ExprBuilder<T> {
         ensures made { IfOk result (λ e. tree_of e ≡ get_attr (tree_of expr) (rc_str_bytes attr)) }
         ensures place { IfOk result (λ e. place_of e ≡ builder_place self) }
         ensures data { IfOk result (λ e. data_of e ≡ builder_data self) }
+        ensures parts { IfOk result (λ e. below (kind_of e) ≡ positions expr) }
     {
         let expr = Rc::new(alloc, expr)?;
         Ok(self.with_expr_kind(ExprKind::GetAttr { expr, attr }))
@@ -253,6 +269,7 @@ impl<T: Default + Clone + Drop> expr_builder::ExprBuilder for ExprBuilder<T> {
         ensures made { IfOk result (λ e. tree_of e ≡ has_attr (tree_of expr) (rc_str_bytes attr)) }
         ensures place { IfOk result (λ e. place_of e ≡ builder_place self) }
         ensures data { IfOk result (λ e. data_of e ≡ builder_data self) }
+        ensures parts { IfOk result (λ e. below (kind_of e) ≡ positions expr) }
     {
         let expr = Rc::new(alloc, expr)?;
         Ok(self.with_expr_kind(ExprKind::HasAttr { expr, attr }))
@@ -267,6 +284,7 @@ impl<T: Default + Clone + Drop> expr_builder::ExprBuilder for ExprBuilder<T> {
         ensures made { IfOk result (λ e. tree_of e ≡ path_test (tree_of expr) (rc_str_bytes attrs.value.head) (map rc_str_bytes attrs.value.tail.items)) }
         ensures place { IfOk result (λ e. place_of e ≡ builder_place self) }
         ensures data { IfOk result (λ e. data_of e ≡ builder_data self) }
+        ensures parts { IfOk result (λ e. below (kind_of e) ≡ positions expr) }
     {
         let expr = Rc::new(alloc, expr)?;
         if attrs.tail.is_empty() {
@@ -280,6 +298,7 @@ impl<T: Default + Clone + Drop> expr_builder::ExprBuilder for ExprBuilder<T> {
         ensures made { IfOk result (λ e. tree_of e ≡ like (tree_of expr) (pattern_of pattern)) }
         ensures place { IfOk result (λ e. place_of e ≡ builder_place self) }
         ensures data { IfOk result (λ e. data_of e ≡ builder_data self) }
+        ensures parts { IfOk result (λ e. below (kind_of e) ≡ positions expr) }
     {
         let expr = Rc::new(alloc, expr)?;
         Ok(self.with_expr_kind(ExprKind::Like { expr, pattern }))
@@ -294,6 +313,7 @@ impl<T: Default + Clone + Drop> expr_builder::ExprBuilder for ExprBuilder<T> {
         ensures made { IfOk result (λ e. tree_of e ≡ is_type (tree_of expr) (type_name_of entity_type)) }
         ensures place { IfOk result (λ e. place_of e ≡ builder_place self) }
         ensures data { IfOk result (λ e. data_of e ≡ builder_data self) }
+        ensures parts { IfOk result (λ e. below (kind_of e) ≡ positions expr) }
     {
         let expr = Rc::new(alloc, expr)?;
         Ok(self.with_expr_kind(ExprKind::Is { expr, entity_type }))
@@ -304,6 +324,7 @@ impl<T: Default + Clone + Drop> expr_builder::ExprBuilder for ExprBuilder<T> {
         ensures made { IfOk result (λ e. tree_of e ≡ set_literal (trees (map tree_of exprs.items))) }
         ensures place { IfOk result (λ e. place_of e ≡ builder_place self) }
         ensures data { IfOk result (λ e. data_of e ≡ builder_data self) }
+        ensures parts { IfOk result (λ e. below (kind_of e) ≡ flat_map positions exprs.items) }
     {
         let exprs = Rc::new(alloc, exprs)?;
         Ok(self.with_expr_kind(ExprKind::Set(exprs)))
@@ -318,6 +339,7 @@ impl<T: Default + Clone + Drop> expr_builder::ExprBuilder for ExprBuilder<T> {
         ensures made { IfOk result (λ e. tree_of e ≡ record_literal (tree_fields (named (field_trees map.value.entries)))) }
         ensures place { IfOk result (λ e. place_of e ≡ builder_place self) }
         ensures data { IfOk result (λ e. data_of e ≡ builder_data self) }
+        ensures parts { IfOk result (λ e. below (kind_of e) ≡ flat_map positions (values_of map.value.entries)) }
     {
         Ok(self.with_expr_kind(ExprKind::Record(map)))
     }
@@ -332,28 +354,10 @@ impl<T: Default + Clone + Drop> expr_builder::ExprBuilder for ExprBuilder<T> {
         ensures refused { IfErr result (λ f. RefusesRecord (named pairs.items) f) }
         ensures place { IfOk result (λ e. place_of e ≡ builder_place self) }
         ensures data { IfOk result (λ e. data_of e ≡ builder_data self) }
+        ensures parts { IfOk result (λ e. below (kind_of e) ≡ flat_map positions (values_of (in_order (named pairs.items)))) }
     {
         let fields = field_map(alloc, pairs)?;
         let fields = Rc::new(alloc, fields)?;
         Ok(self.record_arc(alloc, fields)?)
-    }
-}
-
-// The truth value that the expression writes, if it is one's literal.
-fn truth<T>(e: &Expr<T>) -> Option<bool>
-    ensures { result ≡ written_truth (tree_of e.now) }
-{
-    match e.expr_kind() {
-        ExprKind::Lit(Literal::Bool(b)) => Some(*b),
-        ExprKind::Lit(Literal::Long(_))
-        | ExprKind::Lit(Literal::String(_))
-        | ExprKind::Lit(Literal::EntityUID(_)) => None,
-        ExprKind::Var(_) | ExprKind::Slot(_) | ExprKind::Unknown(_) => None,
-        ExprKind::If { .. } | ExprKind::And { .. } | ExprKind::Or { .. } => None,
-        ExprKind::UnaryApp { .. } | ExprKind::BinaryApp { .. } => None,
-        ExprKind::ExtensionFunctionApp { .. } => None,
-        ExprKind::GetAttr { .. } | ExprKind::HasAttr { .. } => None,
-        ExprKind::ExtHasAttr { .. } | ExprKind::Like { .. } | ExprKind::Is { .. } => None,
-        ExprKind::Set(_) | ExprKind::Record(_) => None,
     }
 }

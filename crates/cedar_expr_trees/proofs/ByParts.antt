@@ -16,7 +16,7 @@ use Rattle.cedar_expr_model.specs.Whole.Tree.{Tree}
 use Rattle.cedar_expr_model.specs.Whole.Parts.{is_ref, is_ref_set, listed, may_project, is_projectable, subexpressions, subexpressions_among, subexpressions_in_fields, unknown_here}
 use Rattle.cedar_expr_model.specs.Whole.Unknowns.{has_unknown}
 use Rattle.cedar_expr_trees.specs.declared.expr.Expr.{Expr}
-use Rattle.cedar_expr_trees.specs.declared.expr.ExprKind.{ExprKind, Set, Record, ExtensionFunctionApp}
+use Rattle.cedar_expr_trees.specs.declared.expr.ExprKind.{Set, Record, ExtensionFunctionApp}
 use Rattle.cedar_expr_trees.specs.Trees.{tree_of, kind_tree, named, field_trees}
 use Rattle.cedar_expr_trees.proofs.Trees.{call_tree, set_tree, record_tree}
 

@@ -1,5 +1,5 @@
 -- The trees of calls, sets and records, by those of their arguments, members and fields.
-use Rattle.std.proofs.Common.{◌≡◌, List, [], ◌∷◌, map, refl, ap, ◌∙◌}
+use Rattle.std.proofs.Common.{◌≡◌, List, [], ◌∷◌, ◌++◌, map, flat_map, refl, ap, ◌∙◌}
 use mathlib.Core.Former.{list, pair, const, this}
 use Rattle.std.specs.Map.{values_of}
 use Rattle.std.specs.Rc.{rc_str_bytes}
@@ -11,10 +11,11 @@ use Rattle.std.specs.declared.vec.Vec.{Vec}
 use Rattle.cedar_expr_names.specs.Views.{plain_name_of}
 use Rattle.cedar_expr_names.specs.declared.name.Name.{Name}
 use Rattle.cedar_expr_model.specs.Whole.Builder.{trees, tree_fields}
-use Rattle.cedar_expr_model.specs.Whole.Tree.{Tree, call, set_literal, record_literal, tree, TreeFields, tree_field}
+use Rattle.cedar_expr_model.specs.Whole.Tree.{call, set_literal, record_literal, tree, TreeFields, tree_field}
 use Rattle.cedar_expr_trees.specs.declared.expr.Expr.{Expr}
-use Rattle.cedar_expr_trees.specs.declared.expr.ExprKind.{ExprKind, Set, Record, ExtensionFunctionApp, Row_of-Expr, end_of-Expr, more_of-Expr, items-the_row-Expr, items_hidden-the_row-Expr-0, items_hidden-the_row-Expr-1}
+use Rattle.cedar_expr_trees.specs.declared.expr.ExprKind.{Set, Record, ExtensionFunctionApp, Row_of-Expr, end_of-Expr, more_of-Expr, items-the_row-Expr, items_hidden-the_row-Expr-0, items_hidden-the_row-Expr-1}
 use Rattle.cedar_expr_trees.specs.declared.expr.ExprKind.TheBlock.{hidden-the_row-Expr-0, hidden-the_row-Expr-1, shape-the_row-Expr-1}
+use Rattle.cedar_expr_trees.specs.Positions.{below, row_below, positions}
 use Rattle.cedar_expr_trees.specs.Trees.{tree_of, kind_tree, row_trees, row_fields, named, field_trees}
 
 row_trees_are : {T : Type 0} (n : _) (row : Row_of-Expr T n) → row_trees row ≡ trees (map tree_of (items-the_row-Expr T n row))
@@ -52,3 +53,23 @@ record_tree {T} es =
 -- calls of one name on the same arguments
 pub same_call : {T : Type 0} (f g : Name) (es ds : Rc (Vec (Expr T) Global) Global) → plain_name_of f ≡ plain_name_of g → es.value ≡ ds.value → kind_tree {T = T} (ExtensionFunctionApp f es) ≡ kind_tree {T = T} (ExtensionFunctionApp g ds)
 same_call {T} f g es ds p q = ap (λ n. call n (row_trees (hidden-the_row-Expr-0 T es.value))) p ∙ ap (λ v. call (plain_name_of g) (row_trees (hidden-the_row-Expr-0 T v))) q
+
+-- what stands below calls, sets and records: their arguments, members and fields, each with all that is below it
+row_below_is : {T : Type 0} (n : _) (row : Row_of-Expr T n) → row_below row ≡ flat_map positions (items-the_row-Expr T n row)
+row_below_is n end_of-Expr = refl
+row_below_is {T} n (more_of-Expr k l d rest) =
+    let first : Expr T = record { expr_kind = k; source_loc = l; «data» = d } in
+    ap (λ es. positions first ++ es) (row_below_is _ rest)
+
+pub call_below : {T : Type 0} (f : Name) (es : Rc (Vec (Expr T) Global) Global) → below {T = T} (ExtensionFunctionApp f es) ≡ flat_map positions es.value.items
+call_below {T} f es = row_below_is _ (hidden-the_row-Expr-0 T es.value) ∙ ap (flat_map positions) (items_hidden-the_row-Expr-0 T es.value)
+
+pub set_below : {T : Type 0} (es : Rc (Vec (Expr T) Global) Global) → below {T = T} (Set es) ≡ flat_map positions es.value.items
+set_below {T} es = row_below_is _ (hidden-the_row-Expr-0 T es.value) ∙ ap (flat_map positions) (items_hidden-the_row-Expr-0 T es.value)
+
+pub record_below : {T : Type 0} (es : Rc (BTreeMap (RcStr Global) (Expr T) Global) Global) → below {T = T} (Record es) ≡ flat_map positions (values_of es.value.entries)
+record_below {T} es = row_below_is _ (hidden-the_row-Expr-1 T es.value) ∙ ap (flat_map positions) (items_hidden-the_row-Expr-1 T es.value)
+
+-- what stands below calls of the same arguments
+pub same_below : {T : Type 0} (f g : Name) (es ds : Rc (Vec (Expr T) Global) Global) → es.value ≡ ds.value → below {T = T} (ExtensionFunctionApp f es) ≡ below {T = T} (ExtensionFunctionApp g ds)
+same_below {T} f g es ds q = ap (λ v. row_below (hidden-the_row-Expr-0 T v)) q

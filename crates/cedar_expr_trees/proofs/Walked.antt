@@ -1,6 +1,6 @@
 -- The subexpressions of calls, sets and records are those of their arguments, members and fields; the trees of the
 -- subexpressions are those of the tree.
-use Rattle.std.proofs.Common.{◌≡◌, List, [], ◌∷◌, ◌++◌, map, Option, Some, None, option_map, refl, sym, ap, ◌∙◌}
+use Rattle.std.proofs.Common.{◌≡◌, List, [], ◌∷◌, ◌++◌, map, Option, Some, None, option_map, refl, ap, ◌∙◌}
 use Rattle.std.proofs.lemmas.List.{map-append}
 use Rattle.std.specs.BTreeMap.{values}
 use Rattle.std.specs.List.{flat_map, filter_map, cons_option}

@@ -112,7 +112,7 @@ impl Expr {
         ensures tree { IfOk result (λ r. tree_of r ≡ conjunction (tree_of e1) (tree_of e2)) }
         ensures place { IfOk result (λ r. place_of r ≡ None) }
     {
-        if let (Some(a), Some(b)) = (e1.written_truth(), e2.written_truth()) {
+        if let (Some(a), Some(b)) = (truth_of(&e1), truth_of(&e2)) {
             drop(e1);
             drop(e2);
             return Ok(Expr::val(Literal::Bool(a && b)));
@@ -126,7 +126,7 @@ impl Expr {
         ensures tree { IfOk result (λ r. tree_of r ≡ disjunction (tree_of e1) (tree_of e2)) }
         ensures place { IfOk result (λ r. place_of r ≡ None) }
     {
-        if let (Some(a), Some(b)) = (e1.written_truth(), e2.written_truth()) {
+        if let (Some(a), Some(b)) = (truth_of(&e1), truth_of(&e2)) {
             drop(e1);
             drop(e2);
             return Ok(Expr::val(Literal::Bool(a || b)));
@@ -377,23 +377,23 @@ impl Expr {
     {
         Expr::new(expr_kind, None, ())
     }
+}
 
-    // The truth value that the expression writes, if it is one's literal.
-    fn written_truth(&self) -> Option<bool>
-        ensures { result ≡ written_truth (tree_of self.now) }
-    {
-        match &self.expr_kind {
-            ExprKind::Lit(Literal::Bool(b)) => Some(*b),
-            ExprKind::Lit(Literal::Long(_))
-            | ExprKind::Lit(Literal::String(_))
-            | ExprKind::Lit(Literal::EntityUID(_)) => None,
-            ExprKind::Var(_) | ExprKind::Slot(_) | ExprKind::Unknown(_) => None,
-            ExprKind::If { .. } | ExprKind::And { .. } | ExprKind::Or { .. } => None,
-            ExprKind::UnaryApp { .. } | ExprKind::BinaryApp { .. } => None,
-            ExprKind::ExtensionFunctionApp { .. } => None,
-            ExprKind::GetAttr { .. } | ExprKind::HasAttr { .. } => None,
-            ExprKind::ExtHasAttr { .. } | ExprKind::Like { .. } | ExprKind::Is { .. } => None,
-            ExprKind::Set(_) | ExprKind::Record(_) => None,
-        }
+/// The truth value that the expression writes, if it is one's literal.
+pub fn truth_of<T>(e: &Expr<T>) -> Option<bool>
+    ensures { result ≡ written_truth (tree_of e.now) }
+{
+    match e.expr_kind() {
+        ExprKind::Lit(Literal::Bool(b)) => Some(*b),
+        ExprKind::Lit(Literal::Long(_))
+        | ExprKind::Lit(Literal::String(_))
+        | ExprKind::Lit(Literal::EntityUID(_)) => None,
+        ExprKind::Var(_) | ExprKind::Slot(_) | ExprKind::Unknown(_) => None,
+        ExprKind::If { .. } | ExprKind::And { .. } | ExprKind::Or { .. } => None,
+        ExprKind::UnaryApp { .. } | ExprKind::BinaryApp { .. } => None,
+        ExprKind::ExtensionFunctionApp { .. } => None,
+        ExprKind::GetAttr { .. } | ExprKind::HasAttr { .. } => None,
+        ExprKind::ExtHasAttr { .. } | ExprKind::Like { .. } | ExprKind::Is { .. } => None,
+        ExprKind::Set(_) | ExprKind::Record(_) => None,
     }
 }

@@ -1,11 +1,12 @@
 //! Copies of kinds of expressions: the same parts, which are shared.
 
-ghost use Rattle.std.specs.Prelude.{◌≡◌, IfOk};
+ghost use Rattle.std.specs.Prelude.{◌≡◌, ◌++◌, IfOk};
 ghost use Rattle.std.specs.Rc.{rc_str_bytes};
 ghost use Rattle.cedar_expr_names.specs.Views.{type_name_of};
 ghost use Rattle.cedar_expr_leaves.specs.Patterns.{pattern_of};
 ghost use Rattle.cedar_expr_model.specs.Whole.Tree.{choice, both, either, binary, get_attr, has_attr, like, is_type};
 ghost use Rattle.cedar_expr_leaves.specs.Operators.{binary_op_of};
+ghost use Rattle.cedar_expr_trees.specs.Positions.{below, positions};
 ghost use Rattle.cedar_expr_trees.specs.Trees.{tree_of, kind_tree};
 
 use crate::expr::{Expr, ExprKind};
@@ -20,7 +21,8 @@ pub fn choice_of<T: Drop>(
     first: &Rc<Expr<T>>,
     last: &Rc<Expr<T>>,
 ) -> Result<ExprKind<T>, AllocError>
-    ensures { IfOk result (λ k. kind_tree k ≡ choice (tree_of test.now.value) (tree_of first.now.value) (tree_of last.now.value)) }
+    ensures tree { IfOk result (λ k. kind_tree k ≡ choice (tree_of test.now.value) (tree_of first.now.value) (tree_of last.now.value)) }
+    ensures parts { IfOk result (λ k. below k ≡ positions test.now.value ++ (positions first.now.value ++ positions last.now.value)) }
 {
     Ok(ExprKind::If {
         test_expr: test.clone()?,
@@ -31,7 +33,8 @@ pub fn choice_of<T: Drop>(
 
 // `and` of the same parts.
 pub fn and_of<T: Drop>(left: &Rc<Expr<T>>, right: &Rc<Expr<T>>) -> Result<ExprKind<T>, AllocError>
-    ensures { IfOk result (λ k. kind_tree k ≡ both (tree_of left.now.value) (tree_of right.now.value)) }
+    ensures tree { IfOk result (λ k. kind_tree k ≡ both (tree_of left.now.value) (tree_of right.now.value)) }
+    ensures parts { IfOk result (λ k. below k ≡ positions left.now.value ++ positions right.now.value) }
 {
     Ok(ExprKind::And {
         left: left.clone()?,
@@ -41,7 +44,8 @@ pub fn and_of<T: Drop>(left: &Rc<Expr<T>>, right: &Rc<Expr<T>>) -> Result<ExprKi
 
 // `or` of the same parts.
 pub fn or_of<T: Drop>(left: &Rc<Expr<T>>, right: &Rc<Expr<T>>) -> Result<ExprKind<T>, AllocError>
-    ensures { IfOk result (λ k. kind_tree k ≡ either (tree_of left.now.value) (tree_of right.now.value)) }
+    ensures tree { IfOk result (λ k. kind_tree k ≡ either (tree_of left.now.value) (tree_of right.now.value)) }
+    ensures parts { IfOk result (λ k. below k ≡ positions left.now.value ++ positions right.now.value) }
 {
     Ok(ExprKind::Or {
         left: left.clone()?,
@@ -55,7 +59,8 @@ pub fn binary_of<T: Drop>(
     arg1: &Rc<Expr<T>>,
     arg2: &Rc<Expr<T>>,
 ) -> Result<ExprKind<T>, AllocError>
-    ensures { IfOk result (λ k. kind_tree k ≡ binary (binary_op_of op) (tree_of arg1.now.value) (tree_of arg2.now.value)) }
+    ensures tree { IfOk result (λ k. kind_tree k ≡ binary (binary_op_of op) (tree_of arg1.now.value) (tree_of arg2.now.value)) }
+    ensures parts { IfOk result (λ k. below k ≡ positions arg1.now.value ++ positions arg2.now.value) }
 {
     Ok(ExprKind::BinaryApp {
         op,
@@ -66,7 +71,8 @@ pub fn binary_of<T: Drop>(
 
 // The same attribute of the same part.
 pub fn attribute_of<T: Drop>(expr: &Rc<Expr<T>>, attr: &RcStr) -> Result<ExprKind<T>, AllocError>
-    ensures { IfOk result (λ k. kind_tree k ≡ get_attr (tree_of expr.now.value) (rc_str_bytes attr.now)) }
+    ensures tree { IfOk result (λ k. kind_tree k ≡ get_attr (tree_of expr.now.value) (rc_str_bytes attr.now)) }
+    ensures parts { IfOk result (λ k. below k ≡ positions expr.now.value) }
 {
     Ok(ExprKind::GetAttr {
         expr: expr.clone()?,
@@ -76,7 +82,8 @@ pub fn attribute_of<T: Drop>(expr: &Rc<Expr<T>>, attr: &RcStr) -> Result<ExprKin
 
 // A test of the same attribute of the same part.
 pub fn test_of<T: Drop>(expr: &Rc<Expr<T>>, attr: &RcStr) -> Result<ExprKind<T>, AllocError>
-    ensures { IfOk result (λ k. kind_tree k ≡ has_attr (tree_of expr.now.value) (rc_str_bytes attr.now)) }
+    ensures tree { IfOk result (λ k. kind_tree k ≡ has_attr (tree_of expr.now.value) (rc_str_bytes attr.now)) }
+    ensures parts { IfOk result (λ k. below k ≡ positions expr.now.value) }
 {
     Ok(ExprKind::HasAttr {
         expr: expr.clone()?,
@@ -86,7 +93,8 @@ pub fn test_of<T: Drop>(expr: &Rc<Expr<T>>, attr: &RcStr) -> Result<ExprKind<T>,
 
 // The same part tested against the same pattern.
 pub fn like_of<T: Drop>(expr: &Rc<Expr<T>>, pattern: &Pattern) -> Result<ExprKind<T>, AllocError>
-    ensures { IfOk result (λ k. kind_tree k ≡ like (tree_of expr.now.value) (pattern_of pattern.now)) }
+    ensures tree { IfOk result (λ k. kind_tree k ≡ like (tree_of expr.now.value) (pattern_of pattern.now)) }
+    ensures parts { IfOk result (λ k. below k ≡ positions expr.now.value) }
 {
     Ok(ExprKind::Like {
         expr: expr.clone()?,
@@ -99,7 +107,8 @@ pub fn is_of<T: Drop>(
     expr: &Rc<Expr<T>>,
     entity_type: &EntityType,
 ) -> Result<ExprKind<T>, AllocError>
-    ensures { IfOk result (λ k. kind_tree k ≡ is_type (tree_of expr.now.value) (type_name_of entity_type.now)) }
+    ensures tree { IfOk result (λ k. kind_tree k ≡ is_type (tree_of expr.now.value) (type_name_of entity_type.now)) }
+    ensures parts { IfOk result (λ k. below k ≡ positions expr.now.value) }
 {
     Ok(ExprKind::Is {
         expr: expr.clone()?,

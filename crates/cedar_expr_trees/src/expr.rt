@@ -206,6 +206,7 @@ impl<T> Expr<T> {
 
     /// The expression of this kind, at this place, with this data.
     pub fn new(expr_kind: ExprKind<T>, source_loc: Option<Loc>, data: T) -> Expr<T>
+        ensures kind { kind_of result ≡ expr_kind }
         ensures tree { tree_of result ≡ kind_tree expr_kind }
         ensures place { place_of result ≡ source_loc }
         ensures data { data_of result ≡ «data» }
@@ -279,6 +280,7 @@ impl<T: Drop> Expr<T> {
 
     /// The same expression at another place, or without one.
     pub fn with_maybe_source_loc(self, source_loc: Option<Loc>) -> Expr<T>
+        ensures kind { kind_of result ≡ kind_of self }
         ensures tree { tree_of result ≡ tree_of self }
         ensures place { place_of result ≡ source_loc }
         ensures data { data_of result ≡ data_of self }
@@ -293,6 +295,7 @@ impl<T: Drop> Expr<T> {
 
     /// Gives the expression other data.
     pub fn set_data(&mut self, data: T)
+        ensures kind { kind_of self.new ≡ kind_of self.old }
         ensures tree { tree_of self.new ≡ tree_of self.old }
         ensures place { place_of self.new ≡ place_of self.old }
         ensures data { data_of self.new ≡ «data» }
@@ -303,8 +306,9 @@ impl<T: Drop> Expr<T> {
 
 impl<T: Drop> Clone for ExprKind<T> {
     ghost use Rattle.cedar_expr_trees.specs.Trees.{kind_tree};
+    ghost use Rattle.cedar_expr_trees.specs.Positions.{below};
 
-    ghost is_clone = { λ k copy. kind_tree copy ≡ kind_tree k };
+    ghost is_clone = { λ k copy. (kind_tree copy ≡ kind_tree k) × (below copy ≡ below k) };
 
     /// The same kind over the same parts, which are shared.
     fn clone(&self) -> Result<ExprKind<T>, AllocError> {
@@ -346,9 +350,10 @@ impl<T: Drop> Clone for ExprKind<T> {
 }
 
 impl<T: Clone + Drop> Clone for Expr<T> {
-    ghost use Rattle.cedar_expr_trees.specs.Trees.{tree_of, place_of, data_of};
+    ghost use Rattle.cedar_expr_trees.specs.Trees.{tree_of, kind_of, place_of, data_of};
+    ghost use Rattle.cedar_expr_trees.specs.Positions.{below};
 
-    ghost is_clone = { λ e copy. (tree_of copy ≡ tree_of e) × (place_of copy ≡ place_of e) × T.is_clone (data_of e) (data_of copy) };
+    ghost is_clone = { λ e copy. (tree_of copy ≡ tree_of e) × (place_of copy ≡ place_of e) × T.is_clone (data_of e) (data_of copy) × (below (kind_of copy) ≡ below (kind_of e)) };
 
     /// The same expression over the same parts, which are shared, with a copy of its data.
     fn clone(&self) -> Result<Expr<T>, AllocError> {
