@@ -14,7 +14,8 @@ pub enum MeaningFault {
     #[error("out of memory")]
     OutOfMemory,
 
-    /// What is known gives no value and no error: an unknown isn't bound.
+    /// What is known gives no value and no error: an unknown isn't bound, an entity isn't loaded, or an attribute or a tag isn't a
+    /// value yet. The text names the first of these for all.
     #[error("an unknown has no value")]
     NotKnown,
 
