@@ -1,2 +1,2 @@
 mod OneByOne
-mod Entries
+pub mod Entries

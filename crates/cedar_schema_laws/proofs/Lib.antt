@@ -2,3 +2,6 @@ mod EqualTypes
 mod Going
 mod SameTypes
 mod TypeLevels
+mod EqualNames
+mod CoreLevels
+mod EqualCores
