@@ -1,6 +1,6 @@
 -- The actions that each descends from, as they are gathered.
-use Rattle.std.proofs.Common.{◌≡◌, Bool, true, false, not, cond, ◌||◌, ◌&&◌, List, [], ◌∷◌, ◌++◌, map, refl, sym, ap, ◌∙◌, subst, inl, inr, append_assoc, append-nil}
-use Rattle.std.specs.Prelude.{Contains, if◌then◌else◌}
+use Rattle.std.proofs.Common.{◌≡◌, Bool, true, false, not, cond, ◌||◌, ◌&&◌, List, [], ◌∷◌, ◌++◌, map, refl, sym, ap, ◌∙◌, subst, inl, inr, append_assoc, append-nil, Result, Ok, Err}
+use Rattle.std.specs.Prelude.{Contains, IfOk, if◌then◌else◌}
 use Rattle.std.specs.Bool.{Decides}
 use Rattle.std.specs.List.{list_any, list_all, filter}
 use Rattle.std.proofs.lemmas.Bool.{true≢false}
@@ -134,3 +134,8 @@ no_parents ks us vs h e = ap are_indirect (h ∙ ap (with_parents (with_indirect
 -- one more of which it holds
 pub all_more : {X : Type 0} (p : X → Bool) (xs : List X) (x : X) → list_all p xs ≡ true → p x ≡ true → list_all p (xs ++ x ∷ []) ≡ true
 all_more p xs x h e = list_all-append p xs (x ∷ []) ∙ (λ i. h i && (e i && true))
+
+-- what follows of what is made
+pub ok_more : {A B : Type 0} (P Q : A → Type 0) (r : Result A B) → ((x : A) → P x → Q x) → IfOk r P → IfOk r Q
+ok_more P Q (Ok x) f h = f x h
+ok_more P Q (Err e) f h = tt
