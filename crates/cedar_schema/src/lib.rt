@@ -11,8 +11,9 @@ pub mod core_types {
 /// Declarations as they are written.
 pub mod json_schema {
     pub use cedar_schema_decl::json_schema::{
-        ActionEntityUID, ActionType, ApplySpec, CommonType, EntityType, EntityTypeKind, Fragment,
-        NamespaceDefinition, RecordType, Type, TypeOfAttribute, TypeVariant,
+        ActionEntityUID, ActionType, ActionTypeKind, ApplySpec, CommonType, EntityType,
+        EntityTypeKind, Fragment, NamespaceDefinition, RecordType, Type, TypeOfAttribute,
+        TypeVariant,
     };
 }
 
@@ -31,8 +32,8 @@ pub mod schema {
         ValidatorEntityTypeKind,
     };
     pub use cedar_schema_fragments::{
-        ActionFragment, ActionsDef, DeclaredNames, DeclaredNamespaces, ValidatorApplySpec,
-        ValidatorNamespaceDef, ValidatorSchemaFragment,
+        ActionFragment, ActionFragmentKind, ActionsDef, DeclaredNames, DeclaredNamespaces,
+        ValidatorApplySpec, ValidatorNamespaceDef, ValidatorSchemaFragment,
     };
     pub use cedar_schema_located::{LocatedCommonType, LocatedNamespace, LocatedType};
     pub use cedar_schema_resolver::{CommonTypes, TypeResolver, resolve_common_types};
@@ -77,8 +78,8 @@ pub use schema::err::{
     UnsoundSchemaError,
 };
 pub use schema::{
-    ActionFragment, ActionGroups, ActionsDef, ActionsFor, AllDefs, Ancestors, AppliesTo,
-    CommonTypeDefs, EntityTypeFragment, EntityTypesDef, LocatedCommonType, LocatedNamespace,
+    ActionFragment, ActionFragmentKind, ActionGroups, ActionsDef, ActionsFor, AllDefs, Ancestors,
+    AppliesTo, CommonTypeDefs, EntityTypeFragment, EntityTypesDef, LocatedCommonType, LocatedNamespace,
     LocatedType, StandardValidatorEntityType, TryValidate, UnresolvedDeclaration,
     UnresolvedDeclarations, ValidatorActionId, ValidatorApplySpec, ValidatorEntityType,
     ValidatorEntityTypeKind, ValidatorNamespaceDef, ValidatorSchema, ValidatorSchemaFragment,

@@ -12,7 +12,8 @@ use Rattle.std.proofs.lemmas.Bool.{true≢false}
 use Rattle.std.proofs.lemmas.List.{take_more, map-append}
 use Rattle.std.proofs.lemmas.List.Elements.{Contains-append_left, Contains-push, Contains-push_cases}
 use Rattle.cedar_expr_model.proofs.Lists.{contains_head, contains_tail, contains_cases, contains_none}
-use Rattle.cedar_schema_assembly.specs.Lists.{IsSetOf, StandOnce, StandsTwice}
+use Rattle.cedar_schema_assembly.specs.Lists.{IsSetOf, StandOnce}
+use Rattle.cedar_schema_nodes.specs.Numbers.{StandsTwice}
 use Rattle.cedar_schema_nodes.proofs.Places.{once_more}
 
 module _ {N S : Type 0} (seen : N → S) (cmp : N → N → Ordering) (told : (a b : N) → Decides (is_at (cmp a) b) (seen a ≡ seen b)) where

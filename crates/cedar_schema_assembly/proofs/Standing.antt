@@ -1,16 +1,16 @@
 -- Entity types and actions as they are made of their declarations.
-use Rattle.std.proofs.Common.{◌≡◌, List, Bool, true, refl, sym, ap, subst}
+use Rattle.std.proofs.Common.{◌≡◌, List, [], Bool, true, refl, sym, ap, subst}
 use Rattle.std.specs.Prelude.{Contains}
 use Rattle.cedar_expr_model.specs.Name.{Name, Text}
 use Rattle.cedar_expr_model.specs.Uid.{Uid}
 use Rattle.cedar_expr_model.proofs.Lists.{contains_none}
 use Rattle.cedar_schema_building_model.specs.Contexts.{is_record_type}
-use Rattle.cedar_schema_decl.specs.Forms.{enumerated_form}
+use Rattle.cedar_schema_decl.specs.Forms.{record_form, no_field_forms, enumerated_form}
 use Rattle.cedar_schema_kept_model.specs.Kept.{KeptType, Applied, KeptAction}
 use Rattle.cedar_schema_kept_model.specs.KeptOf.{IsSameKind}
 use Rattle.cedar_schema_model.specs.Whole.Resolved.{attributes_of_record}
 use Rattle.cedar_schema_model.specs.Whole.Schema.{enumerated}
-use Rattle.cedar_schema_model.specs.Whole.Types.{Ty, record_type, is_closed}
+use Rattle.cedar_schema_model.specs.Whole.Types.{Ty, record_type, no_attributes, is_closed}
 use Rattle.cedar_schema_resolver.specs.Meanings.{Setting, told}
 use Rattle.cedar_schema_resolver.specs.Refusals.{AreKnown}
 use Rattle.cedar_schema_told_model.specs.Told.{kind_told, types_in}
@@ -49,7 +49,13 @@ action_made s a below k uid applied ps rs t x q w u p r c ext known rec apart =
       apart = apart;
     })
 
--- the same as one that is declared elsewhere
-pub elsewhere_made : (k d : KeptAction) (uid : Uid) (applied : Applied) (t : Ty) (x : Bool) (ds : List Uid) → k ≡ record d { is_external = true } → d ≡ record { uid = uid; applied = applied; context = t; is_external = x; descendants = ds }
-    → k ≡ record { uid = uid; applied = applied; context = t; is_external = true; descendants = ds }
-elsewhere_made k d uid applied t x ds e q = subst (λ (z : KeptAction). k ≡ record z { is_external = true }) q e
+-- one that is declared elsewhere
+pub external_made : (s : Setting) (a : WrittenAction) (below : List Uid) (k : KeptAction) (uid : Uid)
+    → k ≡ record { uid = uid; applied = record { principals = []; resources = [] }; context = record_type no_attributes is_closed; is_external = true; descendants = below }
+    → uid ≡ a.0 → a.1.principals ≡ [] → a.1.resources ≡ [] → a.1.context ≡ record_form no_field_forms → a.1.is_external ≡ true → (Contains below a.0 → ⊥) → IsActionMade s a below k
+external_made s a below k uid q u p r c x apart =
+    action_made s a below k uid (record { principals = []; resources = [] }) [] [] (record_type no_attributes is_closed) true q refl u
+    (subst (λ ns. IsSetOf ns []) (sym p) (record { only = λ n h. h; all = λ n h. h })) (subst (λ ns. IsSetOf ns []) (sym r) (record { only = λ n h. h; all = λ n h. h }))
+    (ap (λ t. record_type (attributes_of_record (told s t)) is_closed) (sym c)) (sym x)
+    (subst (AreKnown s.extensions) (sym c) (record { each = λ n h. absurd (contains_none n h) }))
+    (ap (λ t. is_record_type (told s t)) c) apart

@@ -25,7 +25,7 @@ pub untold_tells : (s : Setting) (t : TypeForm Name) (e : ResolveError) (f : Ass
 untold_tells s t resolve.OutOfMemory f h q = subst (TellsAmong s (t ∷ [])) (sym q) tt
 untold_tells s t (resolve.UnknownExtensionType n) f h q = subst (TellsAmong s (t ∷ [])) (sym q) (t, contains_head t [], h)
 untold_tells s t (resolve.ReservedName n) f h q = subst (TellsAmong s (t ∷ [])) (sym q) (t, contains_head t [], h)
-untold_tells s t resolve.DuplicateCommonType f h q = absurd h
+untold_tells s t (resolve.DuplicateCommonType n) f h q = absurd h
 untold_tells s t (resolve.CycleInCommonTypeReferences n) f h q = absurd h
 
 pub among_more : (s : Setting) (ts us : List (TypeForm Name)) (f : AssemblyError) → Within ts us → TellsAmong s ts f → TellsAmong s us f
@@ -92,16 +92,16 @@ module _ (s : Setting) (es : List WrittenType) where
       own n k = contains_cases (Contains (names_written es) n) e.0 ns n k (λ q. subst (Contains (names_written es)) q (map_has (λ (e : WrittenType). e.0) es e c)) (w n)
 
 -- of actions
-pub context_tells : (s : Setting) (a : WrittenAction) (f : AssemblyError) → TellsAmong s (a.1.context ∷ []) f → TellsContext s a f
-context_tells s a OutOfMemory h = tt
-context_tells s a (DuplicateEntityType n) h = absurd h
-context_tells s a (DuplicateAction u) h = absurd h
-context_tells s a (CycleInActionHierarchy u) h = absurd h
-context_tells s a (ContextNotRecord u) h = absurd h
-context_tells s a (UnknownExtensionType n) h = contains_cases (TellsContext s a (UnknownExtensionType n)) a.1.context [] h.0 h.1 (λ e. subst (λ t. IsUnknownIn s.extensions t (plain_name_of n)) (sym e) h.2) (λ k. absurd (contains_none h.0 k))
-context_tells s a (ReservedName r) h = contains_cases (TellsContext s a (ReservedName r)) a.1.context [] h.0 h.1 (λ e. subst (λ t. IsReservedIn s.defined t (refused_name_of r)) (sym e) h.2) (λ k. absurd (contains_none h.0 k))
+pub context_tells : (s : Setting) (v : Uid) (t : TypeForm Name) (f : AssemblyError) → TellsAmong s (t ∷ []) f → TellsContext s v t f
+context_tells s v t OutOfMemory h = tt
+context_tells s v t (DuplicateEntityType n) h = absurd h
+context_tells s v t (DuplicateAction u) h = absurd h
+context_tells s v t (CycleInActionHierarchy u) h = absurd h
+context_tells s v t (ContextNotRecord u) h = absurd h
+context_tells s v t (UnknownExtensionType n) h = contains_cases (TellsContext s v t (UnknownExtensionType n)) t [] h.0 h.1 (λ e. subst (λ t. IsUnknownIn s.extensions t (plain_name_of n)) (sym e) h.2) (λ k. absurd (contains_none h.0 k))
+context_tells s v t (ReservedName r) h = contains_cases (TellsContext s v t (ReservedName r)) t [] h.0 h.1 (λ e. subst (λ t. IsReservedIn s.defined t (refused_name_of r)) (sym e) h.2) (λ k. absurd (contains_none h.0 k))
 
-pub action_of_context : (s : Setting) (a : WrittenAction) (us : List Uid) (f : AssemblyError) → TellsContext s a f → TellsAction s a us f
+pub action_of_context : (s : Setting) (a : WrittenAction) (us : List Uid) (f : AssemblyError) → TellsContext s a.0 a.1.context f → TellsAction s a us f
 action_of_context s a us OutOfMemory h = h
 action_of_context s a us (DuplicateEntityType n) h = h
 action_of_context s a us (DuplicateAction u) h = h

@@ -1,18 +1,14 @@
 -- Sets of names, names that stand twice, and things that are made one of each.
 -- Rule: descent; schemas (docs/RULES.md).
-use Rattle.std.specs.Prelude.{◌≡◌, ◌⊎◌, List, [], ◌∷◌, map, Option, Some, None, Contains}
+use Rattle.std.specs.Prelude.{List, map, Option, Some, None, Contains}
 use Rattle.std.specs.BTreeSet.{BTreeSet}
 use Rattle.cedar_schema_model.specs.Whole.BagLaws.{HasTwice}
+use Rattle.cedar_schema_nodes.specs.Numbers.{StandsTwice}
 
 -- The set has these and no other.
 pub record IsSetOf {S : Type 0} (xs ks : List S) : Type 0 where
   pub only : (s : S) → Contains ks s → Contains xs s
   pub all : (s : S) → Contains xs s → Contains ks s
-
--- it stands twice
-abbrev pub StandsTwice : {S : Type 0} → List S → S → Type 0
-StandsTwice [] s = ⊥
-StandsTwice (x ∷ xs) s = ((x ≡ s) × Contains xs s) ⊎ StandsTwice xs s
 
 -- none stands twice
 pub record StandOnce {S : Type 0} (xs : List S) : Type 0 where

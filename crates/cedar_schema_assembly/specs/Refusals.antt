@@ -7,12 +7,12 @@ use Rattle.cedar_expr_names.specs.Views.{name_of, plain_name_of, uid_of, refused
 use Rattle.cedar_schema_building_model.specs.Contexts.{is_record_type}
 use Rattle.cedar_schema_decl.specs.Forms.{TypeForm}
 use Rattle.cedar_schema_model.specs.Whole.Descent.{ActionDescends}
+use Rattle.cedar_schema_nodes.specs.Numbers.{StandsTwice}
 use Rattle.cedar_schema_resolver.specs.Meanings.{Setting, told}
 use Rattle.cedar_schema_resolver.specs.Refusals.{IsUnknownIn, IsReservedIn}
 use Rattle.cedar_schema_resolver.specs.declared.err.ResolveError.{ResolveError}
 use Rattle.cedar_schema_resolver.specs.declared.err.ResolveError.TheVariants as resolve
 use Rattle.cedar_schema_told_model.specs.Told.{schema_told, types_in}
-use Rattle.cedar_schema_assembly.specs.Lists.{StandsTwice}
 use Rattle.cedar_schema_assembly.specs.Seen.{WrittenType, WrittenAction, names_written, uids_written, parent_kinds}
 use Rattle.cedar_schema_assembly.specs.declared.err.AssemblyError.{AssemblyError}
 use Rattle.cedar_schema_assembly.specs.declared.err.AssemblyError.TheVariants.{OutOfMemory, DuplicateEntityType, DuplicateAction, CycleInActionHierarchy, ContextNotRecord, UnknownExtensionType, ReservedName}
@@ -90,27 +90,27 @@ TellsLines as_ (ReservedName r) = (is_reserved (refused_name_of r) ≡ true) × 
 abbrev pub TellsType : Setting → WrittenType → List Name → AssemblyError → Type 0
 TellsType s e ns f = TellsAmong s (types_in e.1) f ⊎ TellsReserved (e.0 ∷ ns) f
 
--- The error tells a fault of the context.
-abbrev pub TellsContext : Setting → WrittenAction → AssemblyError → Type 0
-TellsContext s a OutOfMemory = Unit {0}
-TellsContext s a (DuplicateEntityType n) = ⊥
-TellsContext s a (DuplicateAction u) = ⊥
-TellsContext s a (CycleInActionHierarchy u) = ⊥
-TellsContext s a (ContextNotRecord u) = (a.0 ≡ uid_of u) × (is_record_type (told s a.1.context) ≡ false)
-TellsContext s a (UnknownExtensionType n) = IsUnknownIn s.extensions a.1.context (plain_name_of n)
-TellsContext s a (ReservedName r) = IsReservedIn s.defined a.1.context (refused_name_of r)
+-- The error tells a fault of this context of the action of this uid.
+abbrev pub TellsContext : Setting → Uid → TypeForm Name → AssemblyError → Type 0
+TellsContext s v t OutOfMemory = Unit {0}
+TellsContext s v t (DuplicateEntityType n) = ⊥
+TellsContext s v t (DuplicateAction u) = ⊥
+TellsContext s v t (CycleInActionHierarchy u) = ⊥
+TellsContext s v t (ContextNotRecord u) = (v ≡ uid_of u) × (is_record_type (told s t) ≡ false)
+TellsContext s v t (UnknownExtensionType n) = IsUnknownIn s.extensions t (plain_name_of n)
+TellsContext s v t (ReservedName r) = IsReservedIn s.defined t (refused_name_of r)
 
 -- The error tells a fault of one action: of its context, or that it descends from itself.
 abbrev pub TellsAction : Setting → WrittenAction → List Uid → AssemblyError → Type 0
 TellsAction s a us (CycleInActionHierarchy u) = (a.0 ≡ uid_of u) × Contains us a.0
-TellsAction s a us f = TellsContext s a f
+TellsAction s a us f = TellsContext s a.0 a.1.context f
 
 -- It is of a written type: none of the faults of common types.
 abbrev pub IsOfType : ResolveError → Type 0
 IsOfType resolve.OutOfMemory = Unit {0}
 IsOfType (resolve.UnknownExtensionType n) = Unit {0}
 IsOfType (resolve.ReservedName e) = Unit {0}
-IsOfType resolve.DuplicateCommonType = ⊥
+IsOfType (resolve.DuplicateCommonType n) = ⊥
 IsOfType (resolve.CycleInCommonTypeReferences n) = ⊥
 
 -- The two say the same.
@@ -118,5 +118,5 @@ abbrev pub SaysSame : ResolveError → AssemblyError → Type 0
 SaysSame resolve.OutOfMemory f = f ≡ OutOfMemory
 SaysSame (resolve.UnknownExtensionType n) f = f ≡ UnknownExtensionType n
 SaysSame (resolve.ReservedName e) f = f ≡ ReservedName e
-SaysSame resolve.DuplicateCommonType f = ⊥
+SaysSame (resolve.DuplicateCommonType n) f = ⊥
 SaysSame (resolve.CycleInCommonTypeReferences n) f = ⊥

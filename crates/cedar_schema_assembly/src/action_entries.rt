@@ -25,9 +25,10 @@ use crate::names::entity_type_of;
 use crate::resolved::told_type;
 use crate::sets::{below, first_repeated, has, set_of};
 use cedar_expr_names::{Eid, EntityType, EntityUID, InternalName};
+use cedar_schema_decl::json_schema;
 use cedar_schema_decl::json_schema::ActionEntityUID;
 use cedar_schema_entries::{AppliesTo, ValidatorActionId};
-use cedar_schema_fragments::ActionFragment;
+use cedar_schema_fragments::{ActionFragment, ActionFragmentKind};
 use cedar_schema_nodes::laws::descent_is_the_schemas;
 use cedar_schema_resolver::TypeResolver;
 use cedar_schema_types::{OpenTag, Type};
@@ -120,23 +121,24 @@ fn as_record(ty: Type) -> Option<Type>
     }
 }
 
-// The type of the context. Refuses one that is no record, an extension type that isn't known and a reserved name, and answers want
-// of memory.
+// The type of the context of the action of this uid. Refuses one that is no record, an extension type that isn't known and a
+// reserved name, and answers want of memory.
 fn context_type(
     alloc: Global,
-    entry: &(EntityUID, ActionFragment<InternalName, EntityType>),
+    uid: &EntityUID,
+    context: &json_schema::Type<InternalName>,
     resolver: &TypeResolver<'_>,
 ) -> Result<Type, AssemblyError>
-    ensures told { IfOk result (λ t. type_of t ≡ record_type (attributes_of_record (told (setting_of resolver.now) (type_form name_of entry.now.1.context))) is_closed) }
-    ensures is_record { IfOk result (λ t. is_record_type (told (setting_of resolver.now) (type_form name_of entry.now.1.context)) ≡ true) }
-    ensures known { IfOk result (λ t. AreKnown (extensions_seen resolver.now.extension_types.now) (type_form name_of entry.now.1.context)) }
-    ensures refused { IfErr result (TellsContext (setting_of resolver.now) (action_under_uid entry.now)) }
+    ensures told { IfOk result (λ t. type_of t ≡ record_type (attributes_of_record (told (setting_of resolver.now) (type_form name_of context.now))) is_closed) }
+    ensures is_record { IfOk result (λ t. is_record_type (told (setting_of resolver.now) (type_form name_of context.now)) ≡ true) }
+    ensures known { IfOk result (λ t. AreKnown (extensions_seen resolver.now.extension_types.now) (type_form name_of context.now)) }
+    ensures refused { IfErr result (TellsContext (setting_of resolver.now) (uid_of uid.now) (type_form name_of context.now)) }
 {
-    match told_type(alloc, &entry.1.context, resolver) {
+    match told_type(alloc, context, resolver) {
         Ok(ty) => match as_record(ty) {
             Some(context) => Ok(context),
             None => {
-                let uid = entry.0.clone()?;
+                let uid = uid.clone()?;
                 Err(AssemblyError::ContextNotRecord { uid })
             }
         },
@@ -158,19 +160,25 @@ fn action(
     if has(&below, &uid) {
         return Err(AssemblyError::CycleInActionHierarchy { uid });
     }
-    let context = match context_type(alloc, entry, resolver) {
-        Ok(context) => context,
-        Err(error) => return Err(error),
-    };
-    let principals = set_of(alloc, &entry.1.applies_to.principal_apply_spec)?;
-    let resources = set_of(alloc, &entry.1.applies_to.resource_apply_spec)?;
-    let applies_to = AppliesTo::new(principals, resources);
     let loc = uid.loc();
-    let action = ValidatorActionId::new_defined(uid, applies_to, below, context, loc);
-    if entry.1.is_external {
-        Ok(action.into_external())
-    } else {
-        Ok(action)
+    match &entry.1.kind {
+        ActionFragmentKind::Declared {
+            applies_to,
+            context,
+        } => {
+            let context = match context_type(alloc, &uid, context, resolver) {
+                Ok(context) => context,
+                Err(error) => return Err(error),
+            };
+            let principals = set_of(alloc, &applies_to.principal_apply_spec)?;
+            let resources = set_of(alloc, &applies_to.resource_apply_spec)?;
+            let applies_to = AppliesTo::new(principals, resources);
+            Ok(ValidatorActionId::new_defined(uid, applies_to, below, context, loc))
+        }
+        ActionFragmentKind::External => {
+            let action = ValidatorActionId::new_external(alloc, uid, below, loc)?;
+            Ok(action)
+        }
     }
 }
 

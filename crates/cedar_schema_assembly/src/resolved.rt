@@ -28,7 +28,7 @@ fn of_type(error: ResolveError) -> AssemblyError
         ResolveError::OutOfMemory => AssemblyError::OutOfMemory,
         ResolveError::UnknownExtensionType { name } => AssemblyError::UnknownExtensionType { name },
         ResolveError::ReservedName(error) => AssemblyError::ReservedName(error),
-        ResolveError::DuplicateCommonType => unreachable!(),
+        ResolveError::DuplicateCommonType { name: _ } => unreachable!(),
         ResolveError::CycleInCommonTypeReferences { name: _ } => unreachable!(),
     }
 }

@@ -1,17 +1,18 @@
 -- What is kept of a schema declares the same attributes.
-use Rattle.std.proofs.Common.{◌≡◌, List, [], ◌∷◌, false, Option, Some, None, option_map, refl, sym, ap, ◌∙◌}
+use Rattle.std.proofs.Common.{◌≡◌, ◌||◌, List, [], ◌∷◌, false, Option, Some, None, option_map, refl, sym, ap, ◌∙◌}
 use Rattle.std.specs.Prelude.{is_some, option_and_then}
+use Rattle.std.specs.List.{list_any}
 use Rattle.cedar_expr_model.specs.Name.{Text, Name}
 use Rattle.cedar_expr_model.specs.Whole.Lists.{all_given}
-use Rattle.cedar_schema_model.specs.Whole.Types.{Ty, never, bool_type, long_type, string_type, any_entity, entity_types, any_set, set_type, record_type, extension_type, Attributes, attribute_named}
+use Rattle.cedar_schema_model.specs.Whole.Types.{Ty, never, bool_type, long_type, string_type, any_entity, entity_types, any_set, set_type, record_type, extension_type, is_open, is_closed, Attributes, attribute_named}
 use Rattle.cedar_schema_model.specs.Whole.Schema.{EntityKind, standard, enumerated, external, EntityType, Schema, type_named}
 use Rattle.cedar_schema_model.specs.Whole.Conforming.{of_kind, attributes_at}
-use Rattle.cedar_schema_model.specs.Whole.Lookup.{declared_of, declared_by_all, lookup_attribute}
+use Rattle.cedar_schema_model.specs.Whole.Lookup.{declared_of, declared_by_all, lookup_attribute, may_have_attribute}
 use Rattle.cedar_schema_kept_model.specs.Kept.{KeptType, Kept, kept_type}
 use Rattle.cedar_schema_kept_model.specs.KeptOf.{IsSameKind, IsKeptOf}
 use Rattle.cedar_schema_kept_model.specs.Laws.{TypesAreDeclared, TypesAreFound}
 use Rattle.cedar_schema_attributes.specs.Known.{attributes_kept}
-use Rattle.cedar_schema_attributes.specs.Laws.{AttributesAreKept}
+use Rattle.cedar_schema_attributes.specs.Laws.{AttributesAreKept, MayHaveIsKept}
 use Rattle.cedar_schema_attributes.proofs.Kept.{kept_is_found}
 
 abbrev of_type : EntityType → Attributes
@@ -59,6 +60,26 @@ module _ (declared : TypesAreDeclared) (found : TypesAreFound) (s : Schema) (k :
   same_lookup (set_type t) a = refl
   same_lookup (record_type as_ o) a = refl
   same_lookup (extension_type n) a = refl
+
+  same_any : (a : Text) (ns : List Name) → list_any (λ n. is_some (declared_of (attributes_kept k) a n)) ns ≡ list_any (λ n. is_some (declared_of s a n)) ns
+  same_any a [] = refl
+  same_any a (n ∷ ns) = λ i. is_some (same_declared a n i) || same_any a ns i
+
+  same_may_have : (t : Ty) (a : Text) → may_have_attribute (attributes_kept k) t a ≡ may_have_attribute s t a
+  same_may_have never a = refl
+  same_may_have (bool_type b) a = refl
+  same_may_have long_type a = refl
+  same_may_have string_type a = refl
+  same_may_have any_entity a = refl
+  same_may_have (entity_types ns) a = same_any a ns
+  same_may_have any_set a = refl
+  same_may_have (set_type t) a = refl
+  same_may_have (record_type as_ is_open) a = refl
+  same_may_have (record_type as_ is_closed) a = refl
+  same_may_have (extension_type n) a = refl
+
+pub may_have_same : TypesAreDeclared → TypesAreFound → MayHaveIsKept
+may_have_same declared found s k h = same_may_have declared found s k h
 
 pub attributes_same : TypesAreDeclared → TypesAreFound → AttributesAreKept
 attributes_same declared found s k h = same_lookup declared found s k h

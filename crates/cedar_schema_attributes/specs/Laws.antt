@@ -7,7 +7,7 @@ use Rattle.cedar_schema_model.specs.Whole.Types.{Ty}
 use Rattle.cedar_schema_model.specs.Whole.Schema.{Schema}
 use Rattle.cedar_schema_model.specs.Whole.Declarations.{Declarations, entity_names}
 use Rattle.cedar_schema_model.specs.Whole.Resolved.{schema_of}
-use Rattle.cedar_schema_model.specs.Whole.Lookup.{lookup_attribute}
+use Rattle.cedar_schema_model.specs.Whole.Lookup.{lookup_attribute, may_have_attribute}
 use Rattle.cedar_schema_model.specs.Whole.TypeLaws.{HasPlainAttributes}
 use Rattle.cedar_schema_kept_model.specs.Kept.{Kept}
 use Rattle.cedar_schema_kept_model.specs.KeptOf.{IsKeptOf}
@@ -19,6 +19,10 @@ use Rattle.cedar_schema_attributes.specs.Known.{attributes_kept}
 -- What is kept of a schema declares of attributes what the schema declares.
 abbrev pub AttributesAreKept : Type 0
 AttributesAreKept = (s : Schema) (k : Kept) → IsKeptOf s k → (t : Ty) (a : Text) → lookup_attribute (attributes_kept k) t a ≡ lookup_attribute s t a
+
+-- A value may have the same attributes by it.
+abbrev pub MayHaveIsKept : Type 0
+MayHaveIsKept = (s : Schema) (k : Kept) → IsKeptOf s k → (t : Ty) (a : Text) → may_have_attribute (attributes_kept k) t a ≡ may_have_attribute s t a
 
 -- The attributes of the schema of declarations have well-formed types, and the type of all sets stands in none of these, where the
 -- names of the declared entity types are well-formed.

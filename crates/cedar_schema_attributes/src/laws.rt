@@ -1,12 +1,14 @@
 //! Laws of what a built schema declares. Each function's contract is the theorem; its body calls the law that it stands on, if it needs one.
 
-ghost use Rattle.cedar_schema_attributes.specs.Laws.{AttributesAreKept, NamedArePlain, WrittenArePlain, BuiltArePlain};
+ghost use Rattle.cedar_schema_attributes.specs.Laws.{AttributesAreKept, MayHaveIsKept, NamedArePlain, WrittenArePlain, BuiltArePlain};
 
 use cedar_schema_kept_model::laws::declarations_are_kept;
 
-/// What is kept of a schema declares of the attributes of every type what the schema declares.
+/// What is kept of a schema declares of the attributes of every type what the schema declares, and the values of a type may have the
+/// same attributes by both.
 pub fn attributes_are_kept()
-    ensures { AttributesAreKept }
+    ensures declared { AttributesAreKept }
+    ensures may_have { MayHaveIsKept }
 {
     declarations_are_kept();
 }

@@ -32,7 +32,7 @@ fault_on x y s d unresolved_external h = h
 name_on : (x y : List Name) → IsSetOf x y → (d : Declarations) (e : SchemaError) → NamesFault x d e → NamesFault y d e
 name_on x y s d OutOfMemory h = h
 name_on x y s d (DuplicateEntityType n) h = h
-name_on x y s d DuplicateCommonType h = h
+name_on x y s d (DuplicateCommonType n) h = h
 name_on x y s d (DuplicateAction u) h = h
 name_on x y s d (TypeNotDefined c) h = h
 name_on x y s d (ActionNotDefined c id) h = h

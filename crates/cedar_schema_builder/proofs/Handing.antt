@@ -1,12 +1,11 @@
 -- What an error names is at fault, so the fault that it tells is there.
-use Rattle.std.proofs.Common.{◌≡◌, List, [], ◌∷◌, Option, Some, None, sym, inl, inr, ⊎_elim, subst}
-use Rattle.std.specs.Prelude.{Contains}
+use Rattle.std.proofs.Common.{◌≡◌, List, Option, Some, None, inl, inr, subst}
 use Rattle.cedar_expr_model.specs.Name.{Name}
 use Rattle.cedar_expr_names.specs.Views.{name_of, plain_name_of, refused_name_of, uid_of}
-use Rattle.cedar_schema_model.specs.Whole.BagLaws.{HasTwice, HasSchemaFault}
-use Rattle.cedar_schema_model.specs.Whole.Declarations.{Declarations, entity_names, action_uids}
+use Rattle.cedar_schema_model.specs.Whole.BagLaws.{HasSchemaFault}
+use Rattle.cedar_schema_model.specs.Whole.Declarations.{Declarations, common_names, entity_names, action_uids}
 use Rattle.cedar_schema_model.specs.Whole.WellFormed.{SchemaFault, duplicate_entity_type, duplicate_common_type, duplicate_action, undeclared_type, undeclared_action, cycle_of_common_types, cycle_of_actions, action_as_entity_type, context_not_record, reserved_name, shadowing, unknown_extension_type}
-use Rattle.cedar_schema_assembly.specs.Lists.{StandsTwice}
+use Rattle.cedar_schema_nodes.proofs.Places.{twice_of}
 use Rattle.cedar_schema_builder.specs.Faults.{fault_told}
 use Rattle.cedar_schema_builder.specs.Named.{NamesFault}
 use Rattle.cedar_schema_builder.specs.declared.err.SchemaError.{SchemaError}
@@ -26,14 +25,10 @@ some_told P g p f q = subst P (some_is g f q) p
 none_told : (P : SchemaFault → Type 0) → IsTold P None
 none_told P f q = absurd (cc)
 
-twice_of : {S : Type 0} (xs : List S) (s : S) → StandsTwice xs s → HasTwice xs
-twice_of [] s h = h
-twice_of (x ∷ xs) s h = ⊎_elim (λ p. inl (subst (Contains xs) (sym p.0) p.1)) (λ p. inr (twice_of xs s p)) h
-
 pub named_told : (x : List Name) (d : Declarations) (e : SchemaError) → NamesFault x d e → IsTold (HasSchemaFault x d) (fault_told e)
 named_told x d OutOfMemory h = none_told (HasSchemaFault x d)
 named_told x d (DuplicateEntityType n) h = some_told (HasSchemaFault x d) duplicate_entity_type (twice_of (entity_names d) (name_of n) h)
-named_told x d DuplicateCommonType h = some_told (HasSchemaFault x d) duplicate_common_type h
+named_told x d (DuplicateCommonType n) h = some_told (HasSchemaFault x d) duplicate_common_type (twice_of (common_names d) (name_of n) h)
 named_told x d (DuplicateAction u) h = some_told (HasSchemaFault x d) duplicate_action (twice_of (action_uids d) (uid_of u) h)
 named_told x d (TypeNotDefined c) h = some_told (HasSchemaFault x d) undeclared_type (h.0, h.1, h.3)
 named_told x d (ActionNotDefined c id) h = some_told (HasSchemaFault x d) undeclared_action (h.0, h.1, (h.2.0, h.2.1, h.2.4))

@@ -16,7 +16,7 @@ use Rattle.cedar_schema_resolver.specs.Meanings.{Setting, setting}
 use Rattle.cedar_schema_resolver.specs.Solved.{IsSolved, TellsUnsolved, names_of}
 use Rattle.cedar_schema_resolver.specs.declared.err.ResolveError.{ResolveError}
 use Rattle.cedar_schema_resolver.specs.declared.err.ResolveError.TheVariants as resolve
-use Rattle.cedar_schema_assembly.specs.Lists.{StandsTwice}
+use Rattle.cedar_schema_nodes.specs.Numbers.{StandsTwice}
 use Rattle.cedar_schema_assembly.specs.Refusals.{TellsTypes, TellsActions}
 use Rattle.cedar_schema_assembly.specs.declared.err.AssemblyError.{AssemblyError}
 use Rattle.cedar_schema_assembly.specs.declared.err.AssemblyError.TheVariants.{OutOfMemory, DuplicateEntityType, DuplicateAction, CycleInActionHierarchy, ContextNotRecord, UnknownExtensionType, ReservedName}
@@ -35,7 +35,7 @@ module _ (names : NamesAreDeclared) (d : Defined) (x : List Name) (cs : CommonFo
   resolved_named e resolve.OutOfMemory h = tt
   resolved_named e (resolve.UnknownExtensionType n) h = h
   resolved_named e (resolve.ReservedName q) h = h
-  resolved_named e resolve.DuplicateCommonType h = h
+  resolved_named e (resolve.DuplicateCommonType n) h = h
   resolved_named e (resolve.CycleInCommonTypeReferences n) h = h
 
   pub commons_named : (r : ResolveError) → TellsUnsolved d x cs r → NamesFaultOfWritten d x cs es as_ (of_types r)

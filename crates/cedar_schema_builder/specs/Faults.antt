@@ -18,7 +18,7 @@ use Rattle.cedar_schema_builder.specs.declared.err.SchemaError.TheVariants.{OutO
 abbrev pub fault_told : SchemaError → Option SchemaFault
 fault_told OutOfMemory = None
 fault_told (DuplicateEntityType n) = Some duplicate_entity_type
-fault_told DuplicateCommonType = Some duplicate_common_type
+fault_told (DuplicateCommonType n) = Some duplicate_common_type
 fault_told (DuplicateAction u) = Some duplicate_action
 fault_told (TypeNotDefined c) = Some undeclared_type
 fault_told (ActionNotDefined c id) = Some undeclared_action
@@ -52,7 +52,7 @@ abbrev pub of_types : ResolveError → SchemaError
 of_types resolve.OutOfMemory = OutOfMemory
 of_types (resolve.UnknownExtensionType n) = UnknownExtensionType n
 of_types (resolve.ReservedName e) = ReservedName e
-of_types resolve.DuplicateCommonType = DuplicateCommonType
+of_types (resolve.DuplicateCommonType n) = DuplicateCommonType n
 of_types (resolve.CycleInCommonTypeReferences n) = CycleInCommonTypeReferences n
 
 abbrev pub of_assembly : AssemblyError → SchemaError

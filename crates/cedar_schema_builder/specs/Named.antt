@@ -6,13 +6,13 @@ use Rattle.cedar_expr_model.specs.Name.{Name}
 use Rattle.cedar_expr_model.specs.Uid.{Uid}
 use Rattle.cedar_expr_model.specs.Whole.Names.{unqualified, is_unqualified}
 use Rattle.cedar_expr_names.specs.Views.{name_of, plain_name_of, refused_name_of, uid_of}
-use Rattle.cedar_schema_model.specs.Whole.BagLaws.{HasTwice, Uses, HasParentAction, HasSchemaFault}
+use Rattle.cedar_schema_model.specs.Whole.BagLaws.{Uses, HasParentAction, HasSchemaFault}
 use Rattle.cedar_schema_model.specs.Whole.Declarations.{ActionDeclaration, Declarations, action_uid, common_names, entity_names, action_uids, extensions}
 use Rattle.cedar_schema_model.specs.Whole.Descent.{Reaches}
 use Rattle.cedar_schema_model.specs.Whole.WellFormed.{becomes_record, unqualified_uid, declared_types}
 use Rattle.cedar_schema_decl.specs.Conditional.{conditional_of}
 use Rattle.cedar_schema_gathered.specs.Named.{IsUndeclared, IsUndeclaredParent, IsReservedThere, IsActionType}
-use Rattle.cedar_schema_assembly.specs.Lists.{StandsTwice}
+use Rattle.cedar_schema_nodes.specs.Numbers.{StandsTwice}
 use Rattle.cedar_schema_builder.specs.Faults.{Tells}
 use Rattle.cedar_schema_builder.specs.declared.err.SchemaError.{SchemaError}
 use Rattle.cedar_schema_builder.specs.declared.err.SchemaError.TheVariants.{OutOfMemory, DuplicateEntityType, DuplicateCommonType, DuplicateAction, TypeNotDefined, ActionNotDefined, CycleInCommonTypeReferences, CycleInActionHierarchy, ActionEntityTypeDeclared, ContextNotRecord, ReservedName, TypeShadowing, ActionShadowing, UnknownExtensionType}
@@ -29,11 +29,11 @@ IsActionShadowing d u = Contains (action_uids d) u × (not (is_unqualified u.kin
 abbrev pub HasOtherContext : Declarations → Uid → Type 0
 HasOtherContext d u = (a : ActionDeclaration) × Contains d.actions a × (action_uid a ≡ u) × (becomes_record d a ≡ false)
 
--- What the error names is at fault in the declarations. Want of memory names nothing, nor does a common type that is declared twice.
+-- What the error names is at fault in the declarations. Want of memory names nothing.
 abbrev pub NamesFault : List Name → Declarations → SchemaError → Type 0
 NamesFault x d OutOfMemory = Unit {0}
 NamesFault x d (DuplicateEntityType n) = StandsTwice (entity_names d) (name_of n)
-NamesFault x d DuplicateCommonType = HasTwice (common_names d)
+NamesFault x d (DuplicateCommonType n) = StandsTwice (common_names d) (name_of n)
 NamesFault x d (DuplicateAction u) = StandsTwice (action_uids d) (uid_of u)
 NamesFault x d (TypeNotDefined c) = IsUndeclared d (conditional_of c)
 NamesFault x d (ActionNotDefined c id) = IsUndeclaredParent d (conditional_of c, rc_str_bytes id)

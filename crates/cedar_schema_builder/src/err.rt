@@ -23,8 +23,11 @@ pub enum SchemaError {
     },
 
     /// A common type is declared twice.
-    #[error("a common type is declared twice")]
-    DuplicateCommonType,
+    #[error("duplicate common type `{name}`")]
+    DuplicateCommonType {
+        /// The common type.
+        name: InternalName,
+    },
 
     /// An action is declared twice.
     #[error("duplicate action `{uid}`")]
@@ -111,7 +114,7 @@ impl SchemaError {
         match self {
             SchemaError::OutOfMemory => 0,
             SchemaError::DuplicateEntityType { ty: _ } => 1,
-            SchemaError::DuplicateCommonType => 2,
+            SchemaError::DuplicateCommonType { name: _ } => 2,
             SchemaError::DuplicateAction { uid: _ } => 3,
             SchemaError::TypeNotDefined { undefined_type: _ } => 4,
             SchemaError::ActionNotDefined { ty: _, id: _ } => 5,

@@ -80,7 +80,7 @@ impl From<ResolveError> for SchemaError {
                 SchemaError::UnknownExtensionType { name }
             }
             ResolveError::ReservedName(error) => SchemaError::ReservedName(error),
-            ResolveError::DuplicateCommonType => SchemaError::DuplicateCommonType,
+            ResolveError::DuplicateCommonType { name } => SchemaError::DuplicateCommonType { name },
             ResolveError::CycleInCommonTypeReferences { name } => {
                 SchemaError::CycleInCommonTypeReferences { name }
             }

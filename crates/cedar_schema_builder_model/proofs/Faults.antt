@@ -24,6 +24,7 @@ use Rattle.cedar_schema_decl.specs.Forms.{TypeForm, EntityForm, ActionForm}
 use Rattle.cedar_schema_decl.specs.Laws.{NamesMeanReferences, RefusedWhereUndeclared}
 use Rattle.cedar_schema_fragments.specs.Laws.{ShadowingIsDeclared}
 use Rattle.cedar_schema_fragments.specs.WrittenDeclarations.{parents_written, as_uid}
+use Rattle.cedar_schema_nodes.proofs.Places.{twice_of}
 use Rattle.cedar_schema_resolver.specs.Laws.{SolvedTypesAreResolved, RefusalsAreWritten, TellsWritten, fault_told}
 use Rattle.cedar_schema_resolver.specs.Meanings.{Setting, told}
 use Rattle.cedar_schema_resolver.specs.Refusals.{TellsUntold}
@@ -138,14 +139,14 @@ module _ (names : NamesMeanReferences) (refused : RefusedWhereUndeclared) (s : S
   named_fault OutOfMemory h f e = absurd (cc)
   named_fault (UnknownExtensionType n) h f e = subst (HasSchemaFault s.extensions d) (same_fault unknown_extension_type f e) (plain_name_of n, h.0, h.1)
   named_fault (ReservedName r) h f e = subst (HasSchemaFault s.extensions d) (same_fault reserved_name f e) (refused_name_of r, h.0, h.1)
-  named_fault DuplicateCommonType h f e = subst (HasSchemaFault s.extensions d) (same_fault duplicate_common_type f e) h
+  named_fault (DuplicateCommonType n) h f e = subst (HasSchemaFault s.extensions d) (same_fault duplicate_common_type f e) (twice_of (common_names d) (name_of n) h)
   named_fault (CycleInCommonTypeReferences n) h f e = subst (HasSchemaFault s.extensions d) (same_fault cycle_of_common_types f e) (name_of n, h)
 
   pub untold_named : (t : TypeExpr) → ((n : Name) → Contains (extensions_in t) n → Contains (extensions d) n) → (r : ResolveError) → TellsWritten s.extensions d t r → NamesThere s.extensions d r
   untold_named t inside OutOfMemory u = tt
   untold_named t inside (UnknownExtensionType n) u = (inside (plain_name_of n) u.0, u.1)
   untold_named t inside (ReservedName n) u = (⊎_elim (λ i. entity_is_written d (refused_name_of n) i) (λ i. extension_is_written d (refused_name_of n) (inside (refused_name_of n) i)) u.1, u.0)
-  untold_named t inside DuplicateCommonType u = absurd u
+  untold_named t inside (DuplicateCommonType n) u = absurd u
   untold_named t inside (CycleInCommonTypeReferences n) u = absurd u
 
   module _ (law : RefusalsAreWritten) (r : ResolveError) where

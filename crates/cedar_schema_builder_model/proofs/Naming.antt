@@ -3,11 +3,12 @@ use Rattle.std.proofs.Common.{subst}
 use Rattle.std.specs.Prelude.{Contains}
 use Rattle.cedar_expr_model.specs.Name.{Name}
 use Rattle.cedar_expr_names.specs.Views.{name_of}
-use Rattle.cedar_schema_model.specs.Whole.BagLaws.{HasTwice, Uses, HasParentAction}
+use Rattle.cedar_schema_model.specs.Whole.BagLaws.{Uses, HasParentAction}
 use Rattle.cedar_schema_model.specs.Whole.Declarations.{Declarations}
 use Rattle.cedar_schema_model.specs.Whole.Descent.{HasActionParent}
 use Rattle.cedar_schema_model.proofs.Whole.Decls.Reordered.{reaches_along}
 use Rattle.cedar_schema_decl.specs.Forms.{TypeForm}
+use Rattle.cedar_schema_nodes.specs.Numbers.{StandsTwice}
 use Rattle.cedar_schema_decl.specs.Laws.{NamesMeanReferences, RefusedWhereUndeclared}
 use Rattle.cedar_schema_resolver.specs.Laws.{UsesAreDeclared, RefusalsAreWritten}
 use Rattle.cedar_schema_resolver.specs.Meanings.{Setting}
@@ -35,7 +36,7 @@ module _ (names : NamesMeanReferences) (refused : RefusedWhereUndeclared) (uses 
   commons_named OutOfMemory u = tt
   commons_named (UnknownExtensionType n) u = definition_named (UnknownExtensionType n) u.0 u.1 u.2
   commons_named (ReservedName e) u = definition_named (ReservedName e) u.0 u.1 u.2
-  commons_named DuplicateCommonType u = subst HasTwice (same_commons names refused s.defined d cs es as_ w) u
+  commons_named (DuplicateCommonType n) u = subst (λ l. StandsTwice l (name_of n)) (same_commons names refused s.defined d cs es as_ w) u
   commons_named (CycleInCommonTypeReferences n) u = reaches_along (UsesIn s.defined cs) (Uses d) (λ m k. (uses s.defined d cs w.commons m k).0) (name_of n) (name_of n) u
 
   pub are_names : AreNamesOf s d cs es as_

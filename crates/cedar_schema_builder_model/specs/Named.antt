@@ -4,12 +4,13 @@ use Rattle.std.specs.Prelude.{◌≡◌, List, ◌++◌, true, false, Contains}
 use Rattle.cedar_expr_model.specs.Name.{Text, Name, is_reserved}
 use Rattle.cedar_expr_model.specs.Uid.{Uid}
 use Rattle.cedar_expr_names.specs.Views.{name_of, plain_name_of, refused_name_of}
-use Rattle.cedar_schema_model.specs.Whole.BagLaws.{HasTwice, Uses, HasParentAction}
+use Rattle.cedar_schema_model.specs.Whole.BagLaws.{Uses, HasParentAction}
 use Rattle.cedar_schema_model.specs.Whole.Declarations.{ActionDeclaration, Declarations, action_uid, common_names, entity_names, action_uids, extensions}
 use Rattle.cedar_schema_model.specs.Whole.Descent.{Reaches, ActionDescends}
 use Rattle.cedar_schema_model.specs.Whole.WellFormed.{becomes_record, written_names}
 use Rattle.cedar_schema_building_model.specs.Contexts.{is_record_type}
 use Rattle.cedar_schema_decl.specs.Forms.{TypeForm, ActionForm}
+use Rattle.cedar_schema_nodes.specs.Numbers.{StandsTwice}
 use Rattle.cedar_schema_resolver.specs.Meanings.{Setting, told}
 use Rattle.cedar_schema_resolver.specs.Refusals.{TellsUntold}
 use Rattle.cedar_schema_resolver.specs.Solved.{TellsUnsolved}
@@ -24,7 +25,7 @@ abbrev pub NamesThere : List Name → Declarations → ResolveError → Type 0
 NamesThere x d OutOfMemory = Unit {0}
 NamesThere x d (UnknownExtensionType n) = Contains (extensions d) (plain_name_of n) × (Contains x (plain_name_of n) → ⊥)
 NamesThere x d (ReservedName r) = Contains (written_names d) (refused_name_of r) × (is_reserved (refused_name_of r) ≡ true)
-NamesThere x d DuplicateCommonType = HasTwice (common_names d)
+NamesThere x d (DuplicateCommonType n) = StandsTwice (common_names d) (name_of n)
 NamesThere x d (CycleInCommonTypeReferences n) = Reaches (Uses d) (name_of n) (name_of n)
 
 -- Entity types and actions have the names of those that are declared; an action that descends from itself does so there, a name in

@@ -92,7 +92,7 @@ fn repeats_are_named(rt: HostRuntime) -> Result<(), Fail> {
     let text = repeated(alloc, "entity User", "entity Bot", "entity Bot")?;
     assert_eq!(rt; text.as_str(), "duplicate entity type `User`");
     let text = repeated(alloc, "type T | Long", "type S | Long", "type S | Long")?;
-    assert_eq!(rt; text.as_str(), "a common type is declared twice");
+    assert_eq!(rt; text.as_str(), "duplicate common type `T`");
     let text = repeated(alloc, "action view", "action edit", "action edit")?;
     assert_eq!(rt; text.as_str(), "duplicate action `Action::\"view\"`");
     Ok(())

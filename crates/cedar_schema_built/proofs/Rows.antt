@@ -1,17 +1,18 @@
 -- The actions that each descends from, as they are gathered.
-use Rattle.std.proofs.Common.{◌≡◌, Bool, true, false, cond, ◌||◌, List, [], ◌∷◌, ◌++◌, map, refl, sym, ap, ◌∙◌, subst, inl, inr, append_assoc, append-nil}
-use Rattle.std.specs.Prelude.{Contains, if◌then◌else◌}
+use Rattle.std.proofs.Common.{◌≡◌, Bool, true, false, not, cond, ◌||◌, ◌&&◌, List, [], ◌∷◌, ◌++◌, map, refl, sym, ap, ◌∙◌, subst, inl, inr, append_assoc, append-nil, Result, Ok, Err}
+use Rattle.std.specs.Prelude.{Contains, IfOk, if◌then◌else◌}
 use Rattle.std.specs.Bool.{Decides}
-use Rattle.std.specs.List.{list_any, filter}
+use Rattle.std.specs.List.{list_any, list_all, filter}
 use Rattle.std.proofs.lemmas.Bool.{true≢false}
+use Rattle.std.proofs.lemmas.List.Folds.{list_all-append}
 use Rattle.std.proofs.lemmas.Bool.Decides.{same_from_decides}
 use Rattle.cedar_expr_model.specs.Uid.{Uid, uid_eq}
 use Rattle.cedar_expr_model.proofs.Equality.{uid_eq-Decides}
 use Rattle.cedar_expr_model.proofs.Lists.{contains_head, contains_tail, map_has}
 use Rattle.cedar_schema_model.specs.Whole.BagLaws.{HasTwice}
-use Rattle.cedar_store_entities.specs.Recorded.{recorded, all_recorded}
+use Rattle.cedar_store_entities.specs.Recorded.{Kin, uids_of_kin, recorded, all_recorded, with_indirect, with_parents, with_indirects}
 use Rattle.cedar_schema_kept_model.specs.Kept.{KeptAction, Kept, kept_as_entity}
-use Rattle.cedar_schema_built.specs.Above.{with_above, all_above, above_all, recorded_entity}
+use Rattle.cedar_schema_built.specs.Above.{with_above, all_above, above_all, recorded_entity, are_indirect}
 
 pub uid_eq_turned : (u v : Uid) → uid_eq u v ≡ uid_eq v u
 uid_eq_turned u v =
@@ -114,3 +115,27 @@ all_recorded_above w (a ∷ as_) us fresh once =
 -- an action as an entity
 pub entity_recorded : (k : Kept) (w : Uid) → (HasTwice (map (λ (a : KeptAction). a.uid) k.actions) → ⊥) → recorded_entity w (above_all w k.actions []) ≡ (w, kept_as_entity k w)
 entity_recorded k w once = ap (λ us. (w, record { attributes = []; tags = []; ancestors = us })) (all_recorded_above w k.actions [] (λ a c. refl) once)
+
+-- none of these ancestors is recorded as a parent
+indirect_more : (ks : Kin) (u : Uid) → are_indirect ks ≡ true → are_indirect (with_indirect ks u) ≡ true
+indirect_more ks u h = go (list_any (uid_eq u) (uids_of_kin ks))
+  where
+    go : (b : Bool) → are_indirect (if b then ks else ks ++ (u, false) ∷ []) ≡ true
+    go true = h
+    go false = list_all-append (λ (k : Uid × Bool). not k.1) ks ((u, false) ∷ []) ∙ ap (λ b. b && (true && true)) h
+
+indirects_more : (ks : Kin) (us : List Uid) → are_indirect ks ≡ true → are_indirect (with_indirects ks us) ≡ true
+indirects_more ks [] h = h
+indirects_more ks (u ∷ us) h = indirects_more (with_indirect ks u) us (indirect_more ks u h)
+
+pub no_parents : (ks : Kin) (us vs : List Uid) → ks ≡ with_parents (with_indirects [] us) vs → vs ≡ [] → are_indirect ks ≡ true
+no_parents ks us vs h e = ap are_indirect (h ∙ ap (with_parents (with_indirects [] us)) e) ∙ indirects_more [] us refl
+
+-- one more of which it holds
+pub all_more : {X : Type 0} (p : X → Bool) (xs : List X) (x : X) → list_all p xs ≡ true → p x ≡ true → list_all p (xs ++ x ∷ []) ≡ true
+all_more p xs x h e = list_all-append p xs (x ∷ []) ∙ (λ i. h i && (e i && true))
+
+-- what follows of what is made
+pub ok_more : {A B : Type 0} (P Q : A → Type 0) (r : Result A B) → ((x : A) → P x → Q x) → IfOk r P → IfOk r Q
+ok_more P Q (Ok x) f h = f x h
+ok_more P Q (Err e) f h = tt

@@ -1,6 +1,7 @@
 -- Which actions each action descends from, as they are gathered: under the uid of each those above it.
 -- Rule: action entities (docs/RULES.md).
-use Rattle.std.specs.Prelude.{◌≡◌, ◌++◌, false, List, [], ◌∷◌, map, Option, if◌then◌else◌}
+use Rattle.std.specs.Prelude.{◌≡◌, ◌++◌, Bool, false, not, List, [], ◌∷◌, map, Option, if◌then◌else◌}
+use Rattle.std.specs.List.{list_all}
 use Rattle.std.specs.Borrow.{Bor}
 use Rattle.std.specs.Option.{option_map_or}
 use Rattle.std.specs.Cmp.Lexicographic.{slice_cmp}
@@ -14,7 +15,7 @@ use Rattle.cedar_expr_names.specs.Views.{eid_text, uid_of}
 use Rattle.cedar_expr_names.specs.declared.entity.EntityUID.{EntityUID}
 use Rattle.cedar_expr_model.specs.Whole.Value.{V}
 use Rattle.cedar_store_model.specs.Whole.World.{Entity}
-use Rattle.cedar_store_entities.specs.Recorded.{all_recorded}
+use Rattle.cedar_store_entities.specs.Recorded.{Kin, all_recorded}
 use Rattle.cedar_schema_kept_model.specs.Kept.{KeptAction}
 
 -- the order of uids in a map
@@ -62,3 +63,7 @@ pub record AreAbove (as_ : List KeptAction) (rows : EntityUID → Option (Vec (B
 -- an entity with these recorded ancestors alone
 abbrev pub recorded_entity : Uid → List Uid → Uid × Entity V
 recorded_entity u above = (u, record { attributes = []; tags = []; ancestors = all_recorded [] above })
+
+-- no recorded ancestor is a parent
+abbrev pub are_indirect : Kin → Bool
+are_indirect ks = list_all (λ k. not k.1) ks

@@ -1,12 +1,13 @@
 //! The actions of a schema as entities.
 
-ghost use Rattle.std.specs.Prelude.{◌≡◌, ◌∷◌, [], map, IfOk, OnOk};
+ghost use Rattle.std.specs.Prelude.{◌≡◌, ◌∷◌, [], map, true, IfOk, OnOk};
+ghost use Rattle.std.specs.List.{list_all};
 ghost use Rattle.std.specs.BTreeMap.{get};
 ghost use Rattle.cedar_expr_names.specs.Views.{uid_of};
-ghost use Rattle.cedar_store_entities.specs.Views.{entity_pair};
+ghost use Rattle.cedar_store_entities.specs.Views.{entity_pair, kin_seen};
 ghost use Rattle.cedar_schema_kept_model.specs.Kept.{kept_action_entities};
 ghost use Rattle.cedar_schema_entries.specs.Views.{action_seen};
-ghost use Rattle.cedar_schema_built.specs.Above.{uids_by, uids_in, above_in, IsTaken, IsAdded, IsAddedBelow, AreAbove, recorded_entity};
+ghost use Rattle.cedar_schema_built.specs.Above.{uids_by, uids_in, above_in, IsTaken, IsAdded, IsAddedBelow, AreAbove, recorded_entity, are_indirect};
 ghost use Rattle.cedar_schema_built.specs.Views.{schema_kept};
 
 use crate::schema::ValidatorSchema;
@@ -17,10 +18,11 @@ use std::alloc::{AllocError, Global};
 use std::collections::BTreeMap;
 
 impl ValidatorSchema {
-    /// The declared actions as entities, in the order of their uids: each with all actions that it descends from, and without
-    /// attributes and tags. Answers want of memory.
+    /// The declared actions as entities, in the order of their uids: each with all actions that it descends from, none of them as a
+    /// parent, and without attributes and tags. Answers want of memory.
     pub fn action_entities(&self, alloc: Global) -> Result<Vec<Entity>, AllocError>
-        ensures { IfOk result (λ es. map entity_pair es.items ≡ kept_action_entities (schema_kept self.now)) }
+        ensures indirect { IfOk result (λ es. list_all (λ e. are_indirect (kin_seen e)) es.items ≡ true) }
+        ensures entities { IfOk result (λ es. map entity_pair es.items ≡ kept_action_entities (schema_kept self.now)) }
     {
         let above = above(alloc, self)?;
         as_entities(alloc, self, &above)
@@ -110,13 +112,14 @@ fn ancestors_of(
     }
 }
 
-// The action of this uid as an entity. Answers want of memory.
+// The action of this uid as an entity, with no parents. Answers want of memory.
 fn as_entity(
     alloc: Global,
     uid: &EntityUID,
     above: &BTreeMap<EntityUID, Vec<&EntityUID>>,
 ) -> Result<Entity, AllocError>
-    ensures { IfOk result (λ e. entity_pair e ≡ recorded_entity (uid_of uid.now) (above_in (get uids_by above.now) uid.now)) }
+    ensures indirect { IfOk result (λ e. are_indirect (kin_seen e) ≡ true) }
+    ensures entity { IfOk result (λ e. entity_pair e ≡ recorded_entity (uid_of uid.now) (above_in (get uids_by above.now) uid.now)) }
 {
     let ancestors = ancestors_of(alloc, uid, above)?;
     let uid = uid.clone()?;
@@ -130,14 +133,15 @@ fn as_entity(
     )
 }
 
-// The actions as entities. Answers want of memory.
+// The actions as entities, with no parents. Answers want of memory.
 fn as_entities(
     alloc: Global,
     schema: &ValidatorSchema,
     above: &BTreeMap<EntityUID, Vec<&EntityUID>>,
 ) -> Result<Vec<Entity>, AllocError>
     requires { AreAbove (schema_kept schema.now).actions (get uids_by above.now) }
-    ensures { IfOk result (λ es. map entity_pair es.items ≡ kept_action_entities (schema_kept schema.now)) }
+    ensures indirect { IfOk result (λ es. list_all (λ e. are_indirect (kin_seen e)) es.items ≡ true) }
+    ensures entities { IfOk result (λ es. map entity_pair es.items ≡ kept_action_entities (schema_kept schema.now)) }
 {
     let mut entities = Vec::new(alloc);
     for uid in schema.action_ids.keys() {

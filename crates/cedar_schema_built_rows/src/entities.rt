@@ -3,6 +3,7 @@
 use crate::parts::schema;
 use cedar_schema_built::ValidatorSchema;
 use cedar_schema_example_entries::listed;
+use cedar_schema_examples::uid;
 use cedar_store_entities::Entity;
 use std::alloc::{AllocError, Global};
 use std::test::Fail;
@@ -23,7 +24,7 @@ fn entities_text(alloc: Global, schema: &ValidatorSchema) -> Result<String, Allo
     Ok(text)
 }
 
-/// Each action has all that it descends from, and no attributes or tags.
+/// Each action has all that it descends from, none of it as a parent, and no attributes or tags.
 #[test]
 fn actions_have_their_ancestors(rt: HostRuntime) -> Result<(), Fail> {
     let alloc = rt.alloc();
@@ -38,6 +39,9 @@ Action::\"view\" in Action::\"all\" Action::\"read\"
     for entity in &entities {
         assert!(rt; entity.attrs_len() == 0 && entity.tags_len() == 0);
     }
+    let read = uid(alloc, "Action", "read")?;
+    let view = entities.last().ok_or("no action")?;
+    assert!(rt; view.is_indirect_descendant_of(&read) && !view.is_child_of(&read));
     Ok(())
 }
 

@@ -165,15 +165,20 @@ fn applied_types_are_read(rt: HostRuntime) -> Result<(), Fail> {
     Ok(())
 }
 
-/// An action becomes one that is declared elsewhere and keeps the rest; one that is made so applies to nothing.
+// An action that is declared elsewhere, of this id, with these below it.
+fn external(alloc: Global, id: &str, below: &[&str]) -> Result<ValidatorActionId, AllocError> {
+    let name = uid(alloc, "Action", id)?;
+    ValidatorActionId::new_external(alloc, name, uids(alloc, below)?, None)
+}
+
+/// An action that is declared elsewhere applies to nothing, and its context is empty.
 #[test]
 fn actions_are_made_external(rt: HostRuntime) -> Result<(), Fail> {
     let alloc = rt.alloc();
-    let read = action(alloc, "read")?.into_external();
-    let want = "Action::\"read\" elsewhere for User on Color Doc with {} over Action::\"view\"\n";
+    let read = external(alloc, "read", &["view"])?;
+    let want = "Action::\"read\" elsewhere for on with {} over Action::\"view\"\n";
     assert_eq!(rt; action_text(alloc, &read)?.as_str(), want);
-    let id = uid(alloc, "Action", "all")?;
-    let all = ValidatorActionId::new_external(alloc, id, uids(alloc, &[])?, None)?;
+    let all = external(alloc, "all", &[])?;
     let want = "Action::\"all\" elsewhere for on with {} over\n";
     assert_eq!(rt; action_text(alloc, &all)?.as_str(), want);
     assert!(rt; all.is_external() && !all.is_group() && all.loc().is_none());
@@ -201,7 +206,7 @@ fn the_last_of_one_name_is_kept(rt: HostRuntime) -> Result<(), Fail> {
     let (name, below) = (ty(alloc, "User")?, types(alloc, &[])?);
     entity_types.push(ValidatorEntityType::new_external(alloc, name, below, None)?)?;
     let mut actions = Vec::new(alloc);
-    actions.push(action(alloc, "read")?.into_external())?;
+    actions.push(external(alloc, "read", &[])?)?;
     actions.push(action(alloc, "read")?)?;
     let schema = ValidatorSchema::new(alloc, entity_types, actions)?;
     assert!(rt; schema.entity_types().count() == 1 && schema.action_ids().count() == 1);

@@ -72,12 +72,22 @@ pub enum EntityTypeKind<N> {
 pub struct ActionType<N> {
     /// The actions that it is in.
     pub member_of: Vec<ActionEntityUID<N>>,
-    /// What it applies to. Without this it applies to nothing.
-    pub applies_to: Option<ApplySpec<N>>,
-    /// Whether it is declared elsewhere.
-    pub is_external: bool,
+    /// What else is declared of it.
+    pub kind: ActionTypeKind<N>,
     /// The place of the declaration.
     pub loc: Option<Loc>,
+}
+
+/// What is declared of an action beside the actions that it is in.
+#[derive(Drop)]
+pub enum ActionTypeKind<N> {
+    /// It is declared here.
+    Declared {
+        /// What it applies to. Without this it applies to nothing.
+        applies_to: Option<ApplySpec<N>>,
+    },
+    /// It is declared elsewhere.
+    External,
 }
 
 /// An action that is named as a parent.

@@ -5,7 +5,9 @@ ghost use Rattle.std.specs.Iterator.{IsFinite};
 use cedar_expr_names::EntityUID;
 use cedar_expr_raw_names::ConditionalName;
 use cedar_schema_examples::{ExampleName, fragment, names_text, type_text};
-use cedar_schema_fragments::{ActionFragment, ValidatorNamespaceDef, ValidatorSchemaFragment};
+use cedar_schema_fragments::{
+    ActionFragment, ActionFragmentKind, ValidatorNamespaceDef, ValidatorSchemaFragment,
+};
 use std::alloc::{AllocError, Global};
 use std::fmt::Display;
 
@@ -60,11 +62,21 @@ pub(crate) fn action_text(
     action: &(EntityUID, ActionFragment<ConditionalName, ConditionalName>),
 ) -> Result<String, AllocError> {
     let parents = parents_text(alloc, &action.1)?;
-    let principals = names_text(alloc, &action.1.applies_to.principal_apply_spec)?;
-    let resources = names_text(alloc, &action.1.applies_to.resource_apply_spec)?;
-    let context = type_text(alloc, &action.1.context)?;
-    format!(in alloc;
-        "{} in{parents} for {principals} on {resources} with {context}\n",
-        action.0
-    )
+    match &action.1.kind {
+        ActionFragmentKind::Declared {
+            applies_to,
+            context,
+        } => {
+            let principals = names_text(alloc, &applies_to.principal_apply_spec)?;
+            let resources = names_text(alloc, &applies_to.resource_apply_spec)?;
+            let context = type_text(alloc, context)?;
+            format!(in alloc;
+                "{} in{parents} for {principals} on {resources} with {context}\n",
+                action.0
+            )
+        }
+        ActionFragmentKind::External => {
+            format!(in alloc; "{} elsewhere in{parents}\n", action.0)
+        }
+    }
 }

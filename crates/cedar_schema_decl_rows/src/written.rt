@@ -100,7 +100,7 @@ fn wrong_action(
 }
 
 /// Each name of an action may stand for one of its namespace, and then for one of the empty one. An action of which nothing is
-/// written applies to nothing, and its context is the empty record.
+/// written applies to nothing, and its context is the empty record. One that is declared elsewhere has parents alone.
 #[test]
 fn names_of_actions_may_stand_for_several(rt: HostRuntime) -> Result<(), Fail> {
     let rows = [
@@ -111,8 +111,13 @@ fn names_of_actions_may_stand_for_several(rt: HostRuntime) -> Result<(), Fail> {
         ),
         (
             "",
-            "outside view | Action read | User | Doc | T",
+            "action view | Action read | User | Doc | T",
             "Action::\"view\" in Action read for User on Doc with T\n",
+        ),
+        (
+            "N",
+            "outside view | Action read",
+            "N::Action::\"view\" elsewhere in N::Action or Action read\n",
         ),
         (
             "N::M",

@@ -90,29 +90,6 @@ impl ValidatorActionId {
         })
     }
 
-    /// The same action as one that is declared elsewhere. All else is kept.
-    pub fn into_external(self) -> ValidatorActionId
-        ensures kept { action_seen result ≡ record (action_seen self) { is_external = true } }
-        ensures place { action_place result ≡ action_place self }
-    {
-        let ValidatorActionId {
-            name,
-            applies_to,
-            descendants,
-            context,
-            is_external: _,
-            loc,
-        } = self;
-        ValidatorActionId {
-            name,
-            applies_to,
-            descendants,
-            context,
-            is_external: true,
-            loc,
-        }
-    }
-
     /// The uid.
     pub fn name(&self) -> &EntityUID
         ensures { uid_of result.now ≡ (action_seen self.now).uid }

@@ -6,8 +6,8 @@ use cedar_expr_leaves::NonEmpty;
 use cedar_expr_names::{Id, InternalName};
 use cedar_expr_raw_names::{RawName, ReferenceType};
 use cedar_schema_decl::json_schema::{
-    ActionEntityUID, ActionType, ApplySpec, CommonType, EntityType, EntityTypeKind, Fragment,
-    NamespaceDefinition, Type,
+    ActionEntityUID, ActionType, ActionTypeKind, ApplySpec, CommonType, EntityType, EntityTypeKind,
+    Fragment, NamespaceDefinition, Type,
 };
 use std::alloc::{AllocError, Global};
 use std::collections::BTreeMap;
@@ -141,6 +141,22 @@ fn applied(alloc: Global, line: &str) -> Result<Option<ApplySpec<RawName>>, Allo
     }))
 }
 
+// What is declared of an action of this kind, beside its parents.
+fn action_kind(
+    alloc: Global,
+    kind: &str,
+    line: &str,
+) -> Result<ActionTypeKind<RawName>, AllocError> {
+    if kind == "action" {
+        let applies_to = applied(alloc, line)?;
+        Ok(ActionTypeKind::Declared { applies_to })
+    } else if line.is_empty() {
+        Ok(ActionTypeKind::External)
+    } else {
+        Err(AllocError)
+    }
+}
+
 // The action that the line declares, if it does.
 fn action(alloc: Global, line: &str) -> Result<Option<(RcStr, ActionType<RawName>)>, AllocError> {
     let (word, line) = line.split_once(' ').unwrap_or(("", line));
@@ -151,14 +167,16 @@ fn action(alloc: Global, line: &str) -> Result<Option<(RcStr, ActionType<RawName
     let (above, line) = parts(line);
     let id = RcStr::from_str(alloc, id)?;
     let member_of = parents(alloc, above)?;
-    let applies_to = applied(alloc, line)?;
-    let action = ActionType {
-        member_of,
-        applies_to,
-        is_external: word == "outside",
-        loc: None,
-    };
-    Ok(Some((id, action)))
+    let kind = action_kind(alloc, word, line)?;
+    let loc = None;
+    Ok(Some((
+        id,
+        ActionType {
+            member_of,
+            kind,
+            loc,
+        },
+    )))
 }
 
 // The actions that the lines declare.
@@ -176,8 +194,8 @@ fn actions(alloc: Global, lines: &str) -> Result<BTreeMap<RcStr, ActionType<RawN
 /// parents, attributes and tags, as `entity User | Group, Team | name: String, age?: Long | Long`; those with members alone, as
 /// `enum Color | red, green`; those that are declared elsewhere with their parents, as `extern Team | Group`; actions with their
 /// parents, types of principals, types of resources and context, as `action view | Action read | User, Bot | Doc | {}`, where what
-/// it applies to may be missing; and `outside` in the place of `action` for one that is declared elsewhere. Fails where a line isn't
-/// such a declaration, and for want of memory.
+/// it applies to may be missing; and those that are declared elsewhere with their parents, as `outside view | Action read`. Fails
+/// where a line isn't such a declaration, and for want of memory.
 pub fn definition(alloc: Global, lines: &str) -> Result<NamespaceDefinition<RawName>, AllocError> {
     let common_types = common_types(alloc, lines)?;
     let entity_types = entity_types(alloc, lines)?;

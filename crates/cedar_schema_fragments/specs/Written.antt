@@ -1,6 +1,6 @@
 -- Declarations as they are written: in a namespace, under words and ids.
 -- Rule: declarations (docs/RULES.md).
-use Rattle.std.specs.Prelude.{List, [], ◌∷◌, Option, map, option_map}
+use Rattle.std.specs.Prelude.{Bool, true, false, List, [], ◌∷◌, Option, map, option_map}
 use Rattle.std.specs.Option.{option_map_or}
 use Rattle.std.specs.Rc.{rc_str_bytes}
 use Rattle.std.specs.declared.alloc.Global.{Global}
@@ -17,6 +17,8 @@ use Rattle.cedar_schema_decl.specs.Forms.{TypeForm, record_form, no_field_forms,
 use Rattle.cedar_schema_decl.specs.Definitions.{common_form}
 use Rattle.cedar_schema_decl.specs.Trees.{type_form, record_fields}
 use Rattle.cedar_schema_decl.specs.declared.json_schema.ActionType.{ActionType}
+use Rattle.cedar_schema_decl.specs.declared.json_schema.ActionTypeKind.{ActionTypeKind}
+use Rattle.cedar_schema_decl.specs.declared.json_schema.ActionTypeKind.TheVariants as action
 use Rattle.cedar_schema_decl.specs.declared.json_schema.CommonType.{CommonType}
 use Rattle.cedar_schema_decl.specs.declared.json_schema.EntityType.{EntityType}
 use Rattle.cedar_schema_decl.specs.declared.json_schema.EntityTypeKind.{EntityTypeKind}
@@ -38,14 +40,33 @@ kind_form f (Standard ps fs t) = standard_form (map f ps.items) (record_fields f
 kind_form f (Enum ids) = enumerated_form (rc_str_bytes ids.head ∷ map rc_str_bytes ids.tail.items)
 kind_form f (External ps) = external_form (map f ps.items)
 
--- An action. One that applies to nothing has the empty record as its context.
+-- What an action applies to, and its context. One that applies to nothing has the empty record as its context, and one that is
+-- declared elsewhere applies to nothing.
+abbrev pub principals_written : {N A : Type 0} → (N → A) → ActionTypeKind N → List A
+principals_written f (action.Declared s) = option_map_or (λ s. map f s.principal_types.items) s []
+principals_written f action.External = []
+
+abbrev pub resources_written : {N A : Type 0} → (N → A) → ActionTypeKind N → List A
+resources_written f (action.Declared s) = option_map_or (λ s. map f s.resource_types.items) s []
+resources_written f action.External = []
+
+abbrev pub context_written : {N A : Type 0} → (N → A) → ActionTypeKind N → TypeForm A
+context_written f (action.Declared s) = option_map_or (λ s. type_form f s.context) s (record_form no_field_forms)
+context_written f action.External = record_form no_field_forms
+
+-- it is declared elsewhere
+abbrev pub is_written_elsewhere : {N : Type 0} → ActionTypeKind N → Bool
+is_written_elsewhere (action.Declared s) = false
+is_written_elsewhere action.External = true
+
+-- an action
 abbrev pub action_type_form : {N A : Type 0} → (N → A) → ActionType N → ActionForm A (A × Text)
 action_type_form f a = record {
   parents = map (parent_form f) a.member_of.items;
-  principals = option_map_or (λ s. map f s.principal_types.items) a.applies_to [];
-  resources = option_map_or (λ s. map f s.resource_types.items) a.applies_to [];
-  context = option_map_or (λ s. type_form f s.context) a.applies_to (record_form no_field_forms);
-  is_external = a.is_external;
+  principals = principals_written f a.kind;
+  resources = resources_written f a.kind;
+  context = context_written f a.kind;
+  is_external = is_written_elsewhere a.kind;
 }
 
 -- those that stand under words or ids

@@ -39,12 +39,22 @@ pub struct ValidatorApplySpec<N> {
 pub struct ActionFragment<N, A> {
     /// The actions that it is in.
     pub parents: Vec<ActionEntityUID<N>>,
-    /// What it applies to.
-    pub applies_to: ValidatorApplySpec<A>,
-    /// The type of its context.
-    pub context: Type<N>,
-    /// Whether it is declared elsewhere.
-    pub is_external: bool,
+    /// What else is declared of it.
+    pub kind: ActionFragmentKind<N, A>,
+}
+
+/// What is declared of an action beside the actions that it is in.
+#[derive(Drop)]
+pub enum ActionFragmentKind<N, A> {
+    /// It is declared here.
+    Declared {
+        /// What it applies to.
+        applies_to: ValidatorApplySpec<A>,
+        /// The type of its context.
+        context: Type<N>,
+    },
+    /// It is declared elsewhere.
+    External,
 }
 
 /// Actions under their uids.
@@ -236,17 +246,27 @@ impl ActionFragment<ConditionalName, ConditionalName> {
         ensures resolved { IfOk result (λ r. action_resolved (defined_of all_defs.now) (action_form conditional_of conditional_of self) ≡ Ok (action_form name_of type_name_of r)) }
         ensures refused { IfErr result (Refuses (action_resolved (defined_of all_defs.now) (action_form conditional_of conditional_of self))) }
     {
-        let applies_to = self
-            .applies_to
-            .fully_qualify_type_references(alloc, all_defs)?;
-        let context = resolved_context(alloc, self.context, all_defs)?;
-        let parents = resolve_each(alloc, self.parents, &Parents(all_defs))?;
-        Ok(ActionFragment {
-            parents,
-            applies_to,
-            context,
-            is_external: self.is_external,
-        })
+        let ActionFragment { parents, kind } = self;
+        match kind {
+            ActionFragmentKind::Declared {
+                applies_to,
+                context,
+            } => {
+                let applies_to = applies_to.fully_qualify_type_references(alloc, all_defs)?;
+                let context = resolved_context(alloc, context, all_defs)?;
+                let parents = resolve_each(alloc, parents, &Parents(all_defs))?;
+                let kind = ActionFragmentKind::Declared {
+                    applies_to,
+                    context,
+                };
+                Ok(ActionFragment { parents, kind })
+            }
+            ActionFragmentKind::External => {
+                let parents = resolve_each(alloc, parents, &Parents(all_defs))?;
+                let kind = ActionFragmentKind::External;
+                Ok(ActionFragment { parents, kind })
+            }
+        }
     }
 }
 

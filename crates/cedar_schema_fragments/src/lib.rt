@@ -10,7 +10,7 @@ pub mod namespace_def;
 pub mod naming;
 pub mod resolving;
 
-pub use actions::{ActionFragment, ActionsDef, ValidatorApplySpec};
+pub use actions::{ActionFragment, ActionFragmentKind, ActionsDef, ValidatorApplySpec};
 pub use declared_names::{DeclaredNames, DeclaredNamespaces};
 pub use err::FragmentError;
 pub use namespace_def::{ValidatorNamespaceDef, ValidatorSchemaFragment};

@@ -14,21 +14,21 @@ ghost use Rattle.cedar_schema_decl.specs.Conditional.{Conditional, conditional_o
 ghost use Rattle.cedar_schema_decl.specs.Definitions.{common_form, commons_form, entity_form, entities_form};
 ghost use Rattle.cedar_schema_decl.specs.Forms.{ActionForm, EntityForm, TypeForm, record_form, no_field_forms};
 ghost use Rattle.cedar_schema_decl.specs.Trees.{type_form};
-ghost use Rattle.cedar_schema_fragments.specs.Actions.{parent_form, action_form, actions_form, under_uid};
+ghost use Rattle.cedar_schema_fragments.specs.Actions.{parent_form, principals_form, resources_form, context_form, is_elsewhere, action_form, actions_form, under_uid};
 ghost use Rattle.cedar_schema_fragments.specs.Qualified.{type_with, entity_with, parent_with, action_with, full_name, common_named, common_qualified, entity_qualified, actions_qualified};
 ghost use Rattle.cedar_schema_fragments.specs.Refusals.{Refuses};
 ghost use Rattle.cedar_schema_fragments.specs.Resolved.{unreserved};
-ghost use Rattle.cedar_schema_fragments.specs.Written.{kind_form, action_type_form, commons_known, commons_written, entities_written, actions_written};
+ghost use Rattle.cedar_schema_fragments.specs.Written.{kind_form, principals_written, resources_written, context_written, is_written_elsewhere, action_type_form, commons_known, commons_written, entities_written, actions_written};
 
-use crate::actions::{ActionFragment, ActionsDef, ValidatorApplySpec};
+use crate::actions::{ActionFragment, ActionFragmentKind, ActionsDef, ValidatorApplySpec};
 use crate::err::FragmentError;
 use crate::resolving::{Resolve, resolve_each};
 use cedar_expr_names::{Eid, EntityType, EntityUID, Id, InternalName, Loc, Name};
 use cedar_expr_raw_names::{ConditionalName, RawName, ReferenceType};
 use cedar_schema_decl::definitions::requalify_entity;
 use cedar_schema_decl::json_schema::{
-    ActionEntityUID, ActionType, ApplySpec, CommonType, EntityType as WrittenEntityType,
-    EntityTypeKind, RecordType, Type, TypeVariant,
+    ActionEntityUID, ActionType, ActionTypeKind, ApplySpec, CommonType,
+    EntityType as WrittenEntityType, EntityTypeKind, RecordType, Type, TypeVariant,
 };
 use cedar_schema_decl::qualify::Within;
 use cedar_schema_decl::requalify::requalify_names;
@@ -305,6 +305,32 @@ fn empty_record(alloc: Global) -> Type<RawName>
     }
 }
 
+// What is declared of an action, with what each name may stand for.
+fn action_kind_in(
+    alloc: Global,
+    kind: ActionTypeKind<RawName>,
+    namespace: Option<&InternalName>,
+) -> Result<ActionFragmentKind<ConditionalName, ConditionalName>, AllocError>
+    ensures principals { IfOk result (λ r. principals_form conditional_of r ≡ map (conditional_in (space_of namespace.entry) to_entity) (principals_written raw_name_of kind)) }
+    ensures resources { IfOk result (λ r. resources_form conditional_of r ≡ map (conditional_in (space_of namespace.entry) to_entity) (resources_written raw_name_of kind)) }
+    ensures context { IfOk result (λ r. context_form conditional_of r ≡ type_with (conditional_in (space_of namespace.entry)) (context_written raw_name_of kind)) }
+    ensures elsewhere { IfOk result (λ r. is_elsewhere r ≡ is_written_elsewhere kind) }
+{
+    match kind {
+        ActionTypeKind::Declared { applies_to } => {
+            let spec = applied(alloc, applies_to);
+            let principals = names_in(alloc, spec.principal_types, namespace)?;
+            let resources = names_in(alloc, spec.resource_types, namespace)?;
+            let context = type_in(alloc, spec.context, namespace)?;
+            Ok(ActionFragmentKind::Declared {
+                applies_to: ValidatorApplySpec::new(principals, resources),
+                context,
+            })
+        }
+        ActionTypeKind::External => Ok(ActionFragmentKind::External),
+    }
+}
+
 // The action with what each name may stand for.
 fn action_in(
     alloc: Global,
@@ -313,17 +339,9 @@ fn action_in(
 ) -> Result<ActionFragment<ConditionalName, ConditionalName>, AllocError>
     ensures { IfOk result (λ r. action_form conditional_of conditional_of r ≡ action_with (conditional_in (space_of namespace.entry)) (action_type_form raw_name_of action)) }
 {
-    let spec = applied(alloc, action.applies_to);
     let parents = parents_in(alloc, action.member_of, namespace)?;
-    let principals = names_in(alloc, spec.principal_types, namespace)?;
-    let resources = names_in(alloc, spec.resource_types, namespace)?;
-    let context = type_in(alloc, spec.context, namespace)?;
-    Ok(ActionFragment {
-        parents,
-        applies_to: ValidatorApplySpec::new(principals, resources),
-        context,
-        is_external: action.is_external,
-    })
+    let kind = action_kind_in(alloc, action.kind, namespace)?;
+    Ok(ActionFragment { parents, kind })
 }
 
 impl<'a> Resolve for WrittenActions<'a> {

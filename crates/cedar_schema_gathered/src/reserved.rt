@@ -1,6 +1,6 @@
 //! Reserved names that fragments write.
 
-ghost use Rattle.std.specs.Prelude.{◌≡◌, [], ◌∷◌, map, find, option_map, IfOk, IfErr};
+ghost use Rattle.std.specs.Prelude.{◌≡◌, [], ◌∷◌, ◌++◌, map, find, option_map, IfOk, IfErr};
 ghost use Rattle.std.specs.List.{flat_map};
 ghost use Rattle.std.specs.declared.result.Result.TheVariants.{Ok};
 ghost use Rattle.cedar_expr_model.specs.Name.{is_reserved};
@@ -10,7 +10,7 @@ ghost use Rattle.cedar_schema_decl.specs.Conditional.{conditional_of};
 ghost use Rattle.cedar_schema_decl.specs.Definitions.{common_form, commons_form, entity_form, entities_form};
 ghost use Rattle.cedar_schema_decl.specs.Forms.{standard_form};
 ghost use Rattle.cedar_schema_decl.specs.Trees.{type_form, variant_form, record_fields, attribute_form};
-ghost use Rattle.cedar_schema_fragments.specs.Actions.{parent_form, action_form, under_uid, actions_form};
+ghost use Rattle.cedar_schema_fragments.specs.Actions.{parent_form, principals_form, resources_form, context_form, action_form, under_uid, actions_form};
 ghost use Rattle.cedar_schema_fragments.specs.Namespaces.{namespace_form, fragment_form};
 ghost use Rattle.cedar_schema_fragments.specs.Refusals.{Refuses};
 ghost use Rattle.cedar_schema_gathered.specs.Checked.{reserved_checked};
@@ -25,7 +25,8 @@ use cedar_schema_decl::json_schema::{
 };
 use cedar_schema_decl::{CommonTypeDefs, EntityTypeFragment, EntityTypesDef};
 use cedar_schema_fragments::{
-    ActionFragment, ActionsDef, FragmentError, ValidatorNamespaceDef, ValidatorSchemaFragment,
+    ActionFragment, ActionFragmentKind, ActionsDef, FragmentError, ValidatorNamespaceDef,
+    ValidatorSchemaFragment,
 };
 
 // Reserved ones among names.
@@ -227,6 +228,30 @@ impl Look for Entities {
     }
 }
 
+// The first reserved name that stands in what an action applies to or in its context, if there is one.
+#[tactic(auto, using(crate::proofs::Finding::found_before, crate::proofs::Finding::found_after))]
+fn reserved_in_action_kind(
+    kind: &ActionFragmentKind<ConditionalName, ConditionalName>,
+) -> Option<&InternalName>
+    ensures { name_found result ≡ find is_reserved (as_written (principals_form conditional_of kind.now) ++ (as_written (resources_form conditional_of kind.now) ++ names_in_type (context_form conditional_of kind.now))) }
+{
+    match kind {
+        ActionFragmentKind::Declared {
+            applies_to,
+            context,
+        } => {
+            if let Some(name) = reserved_among(applies_to.principal_apply_spec.as_slice()) {
+                return Some(name);
+            }
+            if let Some(name) = reserved_among(applies_to.resource_apply_spec.as_slice()) {
+                return Some(name);
+            }
+            reserved_in_type(context)
+        }
+        ActionFragmentKind::External => None,
+    }
+}
+
 // The first reserved name that is written of an action, if there is one.
 #[tactic(auto, using(crate::proofs::Finding::found_before, crate::proofs::Finding::found_after))]
 fn reserved_in_action(
@@ -237,13 +262,7 @@ fn reserved_in_action(
     if let Some(name) = reserved_among_parents(action.parents.as_slice()) {
         return Some(name);
     }
-    if let Some(name) = reserved_among(action.applies_to.principal_apply_spec.as_slice()) {
-        return Some(name);
-    }
-    if let Some(name) = reserved_among(action.applies_to.resource_apply_spec.as_slice()) {
-        return Some(name);
-    }
-    reserved_in_type(&action.context)
+    reserved_in_action_kind(&action.kind)
 }
 
 impl Look for Actions {

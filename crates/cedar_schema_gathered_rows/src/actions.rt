@@ -76,7 +76,8 @@ Action::\"d\" for on with {} over
     Ok(())
 }
 
-/// The types that an action applies to, each once, its context as a closed record, and whether it is declared elsewhere.
+/// The types that an action applies to, each once, and its context as a closed record. One that is declared elsewhere applies to
+/// nothing, and its context is the empty record.
 #[test]
 fn applied_types_and_contexts_are_told(rt: HostRuntime) -> Result<(), Fail> {
     let rows = [
@@ -89,8 +90,10 @@ fn applied_types_and_contexts_are_told(rt: HostRuntime) -> Result<(), Fail> {
             "Action::\"a\" for User on with {\"n\": Long} over\n",
         ),
         (
-            "outside a |  | User | Doc | {}",
-            "Action::\"a\" elsewhere for User on Doc with {} over\n",
+            "outside a\naction b | Action a | User | Doc | T",
+            "Action::\"a\" elsewhere for on with {} over Action::\"b\"
+Action::\"b\" for User on Doc with {\"n\": Long} over
+",
         ),
     ];
     assert_eq!(rt; wrong_row(rt.alloc(), &rows)?, "");

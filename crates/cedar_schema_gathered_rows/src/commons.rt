@@ -81,7 +81,7 @@ fn common_types_are_refused(rt: HostRuntime) -> Result<(), Fail> {
         ),
         (
             "A | Long\nB | Long\nA | Long",
-            "a common type is declared twice",
+            "duplicate common type `A`",
         ),
         ("A | Set of extension rank", "unknown extension type `rank`"),
         ("A | {d: __cedar::D}", "the name `__cedar::D` is reserved"),

@@ -92,7 +92,7 @@ fn actions_are_resolved(rt: HostRuntime) -> Result<(), Fail> {
         ),
         (
             "outside view | Action read",
-            "N::Action::\"view\" elsewhere in Action read for on with {}\n",
+            "N::Action::\"view\" elsewhere in Action read\n",
         ),
         (
             "action read\naction view | Action read",

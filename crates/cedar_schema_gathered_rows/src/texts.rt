@@ -5,7 +5,8 @@ use cedar_schema_decl::EntityTypeFragment;
 use cedar_schema_decl::json_schema::{ActionEntityUID, CommonType, Type};
 use cedar_schema_examples::{names_text, record_text, type_text};
 use cedar_schema_fragments::{
-    ActionFragment, ValidatorApplySpec, ValidatorNamespaceDef, ValidatorSchemaFragment,
+    ActionFragment, ActionFragmentKind, ValidatorApplySpec, ValidatorNamespaceDef,
+    ValidatorSchemaFragment,
 };
 use cedar_schema_gathered::GatheredDefs;
 use std::alloc::{AllocError, Global};
@@ -110,14 +111,19 @@ fn action_text(
     action: &(EntityUID, ActionFragment<InternalName, EntityType>),
 ) -> Result<String, AllocError> {
     let parents = parents_text(alloc, &action.1.parents)?;
-    let applied = applied_text(alloc, &action.1.applies_to)?;
-    let context = type_text(alloc, &action.1.context)?;
-    let kind = if action.1.is_external {
-        " elsewhere"
-    } else {
-        ""
-    };
-    format!(in alloc; "{}{kind} in{parents} {applied} with {context}\n", action.0)
+    match &action.1.kind {
+        ActionFragmentKind::Declared {
+            applies_to,
+            context,
+        } => {
+            let applied = applied_text(alloc, applies_to)?;
+            let context = type_text(alloc, context)?;
+            format!(in alloc; "{} in{parents} {applied} with {context}\n", action.0)
+        }
+        ActionFragmentKind::External => {
+            format!(in alloc; "{} elsewhere in{parents}\n", action.0)
+        }
+    }
 }
 
 impl Shown for (InternalName, CommonType<InternalName>) {

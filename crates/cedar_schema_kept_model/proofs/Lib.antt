@@ -1,5 +1,6 @@
 mod Found
 mod Above
+mod Applying
 mod Environs
 mod Entities
 mod External

@@ -6,10 +6,10 @@ use Rattle.cedar_expr_model.specs.Uid.{Uid}
 use Rattle.cedar_expr_model.specs.Whole.Value.{V}
 use Rattle.cedar_store_model.specs.Whole.World.{Entity}
 use Rattle.cedar_schema_model.specs.Whole.Schema.{external, EntityType, Action, Schema, type_named, action_with, declares_type, declares_action}
-use Rattle.cedar_schema_model.specs.Whole.Descent.{type_names, Descends}
+use Rattle.cedar_schema_model.specs.Whole.Descent.{type_names, action_uids, Descends, ActionDescends}
 use Rattle.cedar_schema_model.specs.Whole.Environment.{Environment, environments}
 use Rattle.cedar_schema_model.specs.Whole.ActionEntities.{action_entities}
-use Rattle.cedar_schema_kept_model.specs.Kept.{KeptType, KeptAction, Kept, kept_type, kept_action, kept_ancestors, RequestKind, kept_environments, kept_action_entities, Elsewhere, type_elsewhere, action_elsewhere, elsewhere}
+use Rattle.cedar_schema_kept_model.specs.Kept.{KeptType, KeptAction, Kept, kept_type, kept_action, kept_ancestors, kept_groups, kept_actions_for, kept_principals, kept_resources, RequestKind, kept_environments, kept_action_entities, Elsewhere, type_elsewhere, action_elsewhere, elsewhere}
 use Rattle.cedar_schema_kept_model.specs.KeptOf.{IsSameType, IsSameAction, IsKeptOf}
 
 -- The same types and actions are declared.
@@ -29,6 +29,21 @@ ActionsAreFound = (s : Schema) (k : Kept) → IsKeptOf s k → (u : Uid) (a : Ke
 -- The ancestors of a declared entity type are those that it descends from.
 abbrev pub AncestorsAreAbove : Type 0
 AncestorsAreAbove = (s : Schema) (k : Kept) → IsKeptOf s k → (n m : Name) → Contains (type_names s) n → Contains (kept_ancestors k n) m ↔ (Contains (type_names s) m × Descends s n m)
+
+-- The actions that some action descends from are those of the schema.
+abbrev pub GroupsAreKept : Type 0
+GroupsAreKept = (s : Schema) (k : Kept) → IsKeptOf s k → (u : Uid) → Contains (kept_groups k) u ↔ (Contains (action_uids s) u × ((v : Uid) × Contains (action_uids s) v × ActionDescends s v u))
+
+-- The actions for principals and resources of two types are those of the schema that apply to both.
+abbrev pub ActionsForAreKept : Type 0
+ActionsForAreKept = (s : Schema) (k : Kept) → IsKeptOf s k → (p r : Name) (u : Uid) → Contains (kept_actions_for k p r) u ↔ ((b : Action) × Contains s.actions b × (b.uid ≡ u) × Contains b.principals p × Contains b.resources r)
+
+-- The types of principals, and of resources, are those of the schema's actions.
+abbrev pub PrincipalsAreKept : Type 0
+PrincipalsAreKept = (s : Schema) (k : Kept) → IsKeptOf s k → (n : Name) → Contains (kept_principals k) n ↔ ((b : Action) × Contains s.actions b × Contains b.principals n)
+
+abbrev pub ResourcesAreKept : Type 0
+ResourcesAreKept = (s : Schema) (k : Kept) → IsKeptOf s k → (n : Name) → Contains (kept_resources k) n ↔ ((b : Action) × Contains s.actions b × Contains b.resources n)
 
 -- what kind an environment is of
 abbrev pub kind_of : Environment → RequestKind

@@ -1,6 +1,6 @@
 //! What is read from a kept schema is what the schema says. Each function's contract is the theorem; its body does nothing.
 
-ghost use Rattle.cedar_schema_kept_model.specs.Laws.{TypesAreDeclared, ActionsAreDeclared, TypesAreFound, ActionsAreFound, AncestorsAreAbove, EnvironmentsAreKept, ActionEntitiesAreKept, AllActionEntitiesAreKept, ElsewhereIsKept};
+ghost use Rattle.cedar_schema_kept_model.specs.Laws.{TypesAreDeclared, ActionsAreDeclared, TypesAreFound, ActionsAreFound, AncestorsAreAbove, GroupsAreKept, ActionsForAreKept, PrincipalsAreKept, ResourcesAreKept, EnvironmentsAreKept, ActionEntitiesAreKept, AllActionEntitiesAreKept, ElsewhereIsKept};
 
 /// The same entity types and actions are declared, and what is found by a name or a uid is what the schema has there.
 pub fn declarations_are_kept()
@@ -13,6 +13,19 @@ pub fn declarations_are_kept()
 /// The ancestors of a declared entity type are those that it descends from.
 pub fn ancestors_are_above()
     ensures { AncestorsAreAbove }
+{}
+
+/// The actions that some action descends from are those of the schema.
+pub fn action_groups_are_kept()
+    ensures { GroupsAreKept }
+{}
+
+/// The actions for principals and resources of two types are those of the schema that apply to both, and the types of principals and
+/// of resources are those that its actions apply to.
+pub fn applied_types_are_kept()
+    ensures actions { ActionsForAreKept }
+    ensures principals { PrincipalsAreKept }
+    ensures resources { ResourcesAreKept }
 {}
 
 /// The environments are those of the schema.

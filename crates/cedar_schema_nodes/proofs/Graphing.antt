@@ -13,12 +13,11 @@ use Rattle.cedar_schema_model.specs.Whole.Descent.{Chain, Reaches}
 use Rattle.cedar_schema_model.proofs.Whole.Decls.Schema.{kept_from, kept_has}
 use Rattle.cedar_schema_closure.specs.Found.{AreBelow}
 use Rattle.cedar_schema_closure.specs.Graphs.{Graph, targets, HasEdge, IsWithin, IsClosure, IsTurned}
-use Rattle.cedar_schema_nodes.specs.Numbers.{seen_nodes, names_in, IsAt, AreNumbers, AreOnce, rows_of, AreNamesAt, AreSetsAt, TellsRepeated}
+use Rattle.cedar_schema_nodes.specs.Numbers.{seen_nodes, names_in, IsAt, AreNumbers, AreOnce, rows_of, AreNamesAt, AreSetsAt, StoodBefore, TellsRepeated}
 use Rattle.cedar_schema_nodes.specs.Descent.{HasParentIn, nodes_in, IsGraphOf, AreDescendants, AreAncestors, TellsDescent}
 use Rattle.cedar_schema_nodes.specs.Faults.{as_descent}
 use Rattle.cedar_schema_nodes.specs.declared.err.RepeatedError.{RepeatedError}
 use Rattle.cedar_schema_nodes.specs.declared.err.RepeatedError.TheVariants as repeated
-use Rattle.cedar_schema_model.specs.Whole.BagLaws.{HasTwice}
 use Rattle.cedar_schema_closure.specs.Ranks.{LeadsToItself, LeadToOthers}
 use Rattle.cedar_schema_nodes.proofs.Places.{at_in, in_at, at_some, one_place, at_map, at_one}
 
@@ -208,4 +207,4 @@ turned_within c t back = record { each = λ i j h. let l = first_row c j i (back
 -- a node that stands twice
 pub repeated_tells : {S : Type 0} (ts : List (S × List S)) (names : List S) (e : RepeatedError) → nodes_in ts ≡ names → TellsRepeated names e → TellsDescent ts (as_descent e)
 repeated_tells ts names repeated.OutOfMemory q h = tt
-repeated_tells ts names (repeated.Repeated i) q h = subst HasTwice (sym q) h
+repeated_tells ts names (repeated.Repeated i) q h = subst (λ ns. StoodBefore ns i) (sym q) h

@@ -1,15 +1,15 @@
 -- One node after the other gets its number.
-use Rattle.std.proofs.Common.{◌≡◌, ℕ, List, [], ◌∷◌, ◌++◌, Bool, true, false, cond, Option, Some, None, length, get_or, take, drop, ◌<◌, ◌+◌, ◌≤◌, is_some, refl, sym, ap, ◌∙◌, subst, ⊎_elim, arith}
+use Rattle.std.proofs.Common.{◌≡◌, ℕ, List, [], ◌∷◌, ◌++◌, Bool, true, false, cond, Option, Some, None, length, get_or, take, ◌<◌, ◌+◌, ◌≤◌, is_some, refl, sym, ap, ◌∙◌, subst, ⊎_elim, arith}
 use Rattle.std.specs.List.{filter_map, cons_option}
 use Rattle.std.proofs.lemmas.List.Elements.{filter_map-append}
-use Rattle.std.proofs.lemmas.List.{append-nil, take_more, take_all, take-append-drop, length-take-le}
+use Rattle.std.proofs.lemmas.List.{append-nil, take_more, take_all, length-take-le}
 use Rattle.std.specs.Prelude.{Contains}
 use Rattle.std.specs.Bool.{Decides}
 use Rattle.std.proofs.lemmas.Bool.{true≢false}
 use Rattle.std.proofs.lemmas.List.Elements.{Contains-push_cases}
 use Rattle.cedar_expr_model.proofs.Lists.{contains_none}
-use Rattle.cedar_schema_nodes.specs.Numbers.{IsAt, AreNumbers, AreOnce}
-use Rattle.cedar_schema_nodes.proofs.Places.{at_in, at_kept, at_last, twice_left, twice_here, once_more}
+use Rattle.cedar_schema_nodes.specs.Numbers.{IsAt, AreNumbers, AreOnce, StoodBefore}
+use Rattle.cedar_schema_nodes.proofs.Places.{at_in, at_kept, at_last, once_more}
 use Rattle.cedar_schema_model.specs.Whole.BagLaws.{HasTwice}
 
 some_is : (i j : ℕ) → Some i ≡ Some j → i ≡ j
@@ -70,16 +70,13 @@ module _ {N S : Type 0} (seen : N → S) where
   pub numbered_ends : (names : List S) (n : ℕ) (f : N → Option ℕ) → length names ≤ n → Numbered names n f → AreNumbers seen names f × AreOnce names
   numbered_ends names n f l p = let e = take_all n names l in (subst (λ ns. AreNumbers seen ns f) e p.numbers, subst AreOnce e p.once)
 
-  -- a node that has a number already stands twice
-  pub stands_twice : (names : List S) (n : ℕ) (f : N → Option ℕ) (k : N) → IsAt names n (seen k) → is_some (f k) ≡ true → Numbered names n f → HasTwice names
-  stands_twice names n f k at e p = go (f k) refl e
+  -- a node that has a number already stood before
+  pub stood_before : (names : List S) (n : ℕ) (f : N → Option ℕ) (k : N) → IsAt names n (seen k) → is_some (f k) ≡ true → Numbered names n f → StoodBefore names n
+  stood_before names n f k at e p = go (f k) refl e
     where
-      go : (o : Option ℕ) → f k ≡ o → is_some o ≡ true → HasTwice names
+      go : (o : Option ℕ) → f k ≡ o → is_some o ≡ true → StoodBefore names n
       go None q h = absurd (true≢false (sym h))
-      go (Some i) q h =
-          subst HasTwice (take-append-drop (n + 1) names)
-          (twice_left (take (n + 1) names) (drop (n + 1) names)
-          (subst HasTwice (sym (names_next names n (seen k) at)) (twice_here (take n names) (seen k) (at_in (take n names) i (seen k) (p.numbers.only k i q)))))
+      go (Some i) q h = (seen k, at, at_in (take n names) i (seen k) (p.numbers.only k i q))
 
 pub none_there : (o : Option ℕ) → is_some o ≡ false → o ≡ None
 none_there None e = refl

@@ -1,11 +1,11 @@
 -- Names and their numbers in a list, and names that stand twice.
-use Rattle.std.proofs.Common.{◌≡◌, ℕ, zero, suc, ◌<◌, List, [], ◌∷◌, ◌++◌, map, length, refl, sym, ap, ◌∙◌, subst, inl, inr, ⊎_elim, arith, length-append}
+use Rattle.std.proofs.Common.{◌≡◌, ℕ, zero, suc, ◌<◌, List, [], ◌∷◌, ◌++◌, map, length, take, refl, sym, ap, ◌∙◌, subst, inl, inr, ⊎_elim, arith, length-append}
 use Rattle.std.specs.Prelude.{Contains}
 use Rattle.std.proofs.lemmas.List.{get_or_append_left, get_or_push}
 use Rattle.std.proofs.lemmas.List.Elements.{Contains-append_left, Contains-append_right, Contains-push_cases}
 use Rattle.cedar_expr_model.proofs.Lists.{contains_head, contains_tail, contains_cases, contains_none}
 use Rattle.cedar_schema_model.specs.Whole.BagLaws.{HasTwice}
-use Rattle.cedar_schema_nodes.specs.Numbers.{IsAt}
+use Rattle.cedar_schema_nodes.specs.Numbers.{IsAt, StandsTwice, StoodBefore}
 
 module _ {S : Type 0} where
   pub at_in : (xs : List S) (i : ℕ) (s : S) → IsAt xs i s → Contains xs s
@@ -26,16 +26,20 @@ module _ {S : Type 0} where
   at_some (x ∷ xs) (suc i) l = let r = at_some xs i (omega (arith, l)) in let m = r.1.0 in (r.0, (omega (arith, m), r.1.1))
 
   -- names that stand twice
-  pub twice_left : (xs ys : List S) → HasTwice xs → HasTwice (xs ++ ys)
-  twice_left [] ys h = absurd h
-  twice_left (x ∷ xs) ys h = ⊎_elim (λ c. inl (Contains-append_left xs ys x c)) (λ t. inr (twice_left xs ys t)) h
+  pub again_at : (xs : List S) (i : ℕ) (s : S) → IsAt xs i s → Contains (take i xs) s → StandsTwice xs s
+  again_at [] i s h c = let l = h.0 in absurd (omega (arith, l))
+  again_at (x ∷ xs) zero s h c = absurd (contains_none s c)
+  again_at (x ∷ xs) (suc i) s h c =
+      let l = h.0 in
+      let a : IsAt xs i s = (omega (arith, l), h.1) in
+      contains_cases (StandsTwice (x ∷ xs) s) x (take i xs) s c (λ e. inl (e, at_in xs i s a)) (λ k. inr (again_at xs i s a k))
 
-  pub twice_here : (xs : List S) (s : S) → Contains xs s → HasTwice (xs ++ s ∷ [])
-  twice_here [] s h = absurd (contains_none s h)
-  twice_here (x ∷ xs) s h =
-      contains_cases (HasTwice (x ∷ xs ++ s ∷ [])) x xs s h
-      (λ e. inl (Contains-append_right xs (s ∷ []) x (subst (Contains (s ∷ [])) (sym e) (contains_head s []))))
-      (λ c. inr (twice_here xs s c))
+  pub twice_of : (xs : List S) (s : S) → StandsTwice xs s → HasTwice xs
+  twice_of [] s h = h
+  twice_of (x ∷ xs) s h = ⊎_elim (λ p. inl (subst (Contains xs) (sym p.0) p.1)) (λ p. inr (twice_of xs s p)) h
+
+  pub stood_twice : (xs : List S) (i : ℕ) → StoodBefore xs i → HasTwice xs
+  stood_twice xs i h = twice_of xs h.0 (again_at xs i h.0 h.1 h.2)
 
   pub once_more : (xs : List S) (s : S) → (HasTwice xs → ⊥) → (Contains xs s → ⊥) → HasTwice (xs ++ s ∷ []) → ⊥
   once_more [] s t n h = ⊎_elim (λ c. contains_none s c) (λ k. k) h

@@ -1,12 +1,11 @@
 -- Descent by direct parents.
 -- Rule: descent (docs/RULES.md).
 use Rattle.std.specs.Prelude.{◌≡◌, ℕ, List, [], map, length, get_or, Contains}
-use Rattle.cedar_schema_model.specs.Whole.BagLaws.{HasTwice}
 use Rattle.cedar_schema_model.specs.Whole.Descent.{Reaches}
 use Rattle.cedar_schema_nodes.specs.declared.err.DescentError.{DescentError}
 use Rattle.cedar_schema_nodes.specs.declared.err.DescentError.TheVariants.{OutOfMemory, Repeated, Cycle}
 use Rattle.cedar_schema_closure.specs.Graphs.{Graph, HasEdge, IsWithin}
-use Rattle.cedar_schema_nodes.specs.Numbers.{IsAt}
+use Rattle.cedar_schema_nodes.specs.Numbers.{IsAt, StoodBefore}
 
 -- one has the other as a parent
 abbrev pub HasParentIn : {S : Type 0} → List (S × List S) → S → S → Type 0
@@ -36,8 +35,9 @@ pub record AreAncestors {S : Type 0} (ts : List (S × List S)) (sets : List (Lis
   pub all : (i : ℕ) (m n : S) → IsAt (nodes_in ts) i m → Contains (nodes_in ts) n → Reaches (HasParentIn ts) m n → Contains (get_or sets i []) n
   pub apart : (m : S) → Reaches (HasParentIn ts) m m → ⊥
 
--- The error tells that a node stands twice, or one that descends from itself. Want of memory tells nothing.
+-- The error tells a node that stands twice, by the number of a place at which it stood before, or one that descends from itself. Want
+-- of memory tells nothing.
 abbrev pub TellsDescent : {S : Type 0} → List (S × List S) → DescentError → Type 0
 TellsDescent ts OutOfMemory = Unit {0}
-TellsDescent ts (Repeated i) = HasTwice (nodes_in ts)
+TellsDescent ts (Repeated i) = StoodBefore (nodes_in ts) i
 TellsDescent {S} ts (Cycle i) = (m : S) × IsAt (nodes_in ts) i m × Reaches (HasParentIn ts) m m

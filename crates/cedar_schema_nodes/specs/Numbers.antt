@@ -1,6 +1,6 @@
 -- Nodes that stand with their parents, and their numbers.
 -- Rule: descent; well-formed declarations (docs/RULES.md).
-use Rattle.std.specs.Prelude.{◌≡◌, ℕ, ◌<◌, List, [], Option, Some, map, length, get_or, Contains, slice_index_or}
+use Rattle.std.specs.Prelude.{◌≡◌, ◌⊎◌, ℕ, ◌<◌, List, [], ◌∷◌, Option, Some, map, length, take, get_or, Contains, slice_index_or}
 use Rattle.std.specs.List.{filter_map}
 use Rattle.std.specs.declared.alloc.Global.{Global}
 use Rattle.std.specs.declared.vec.Vec.{Vec}
@@ -29,10 +29,19 @@ pub record AreNumbers {N S : Type 0} (seen : N → S) (names : List S) (number :
 pub record AreOnce {S : Type 0} (names : List S) : Type 0 where
   pub none : HasTwice names → ⊥
 
--- The error tells one that stands twice. Want of memory tells none.
+-- it stands twice
+abbrev pub StandsTwice : {S : Type 0} → List S → S → Type 0
+StandsTwice [] s = ⊥
+StandsTwice (x ∷ xs) s = ((x ≡ s) × Contains xs s) ⊎ StandsTwice xs s
+
+-- the name of this number stands before that place too
+abbrev pub StoodBefore : {S : Type 0} → List S → ℕ → Type 0
+StoodBefore {S} names i = (s : S) × IsAt names i s × Contains (take i names) s
+
+-- The error tells one that stands twice, by the number of a place at which it stood before. Want of memory tells none.
 abbrev pub TellsRepeated : {S : Type 0} → List S → RepeatedError → Type 0
 TellsRepeated names OutOfMemory = Unit {0}
-TellsRepeated names (Repeated i) = HasTwice names
+TellsRepeated names (Repeated i) = StoodBefore names i
 
 -- the numbers of the parents of each
 abbrev pub rows_of : {N : Type 0} → (N → Option ℕ) → List (N × Vec N Global) → List (List ℕ)

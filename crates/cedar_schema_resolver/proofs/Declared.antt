@@ -25,6 +25,7 @@ use Rattle.cedar_schema_resolver.specs.Laws.{IsWrittenAs, AreWrittenAs, WritesCo
 use Rattle.cedar_schema_resolver.specs.Meanings.{Setting, told, meant_in}
 use Rattle.cedar_schema_resolver.specs.Refusals.{IsUnknownIn, IsReservedIn, TellsUntold}
 use Rattle.cedar_schema_resolver.specs.Solved.{names_of, IsSolved, TellsUnsolved}
+use Rattle.cedar_schema_nodes.proofs.Places.{twice_of}
 use Rattle.cedar_schema_resolver.specs.Uses.{UsesIn}
 use Rattle.cedar_schema_resolver.specs.declared.err.ResolveError.{ResolveError}
 use Rattle.cedar_schema_resolver.specs.declared.err.ResolveError.TheVariants.{OutOfMemory, UnknownExtensionType, ReservedName, DuplicateCommonType, CycleInCommonTypeReferences}
@@ -140,7 +141,7 @@ module _ (law : ResolvedTypesAreDeclared) (d : Defined) where
     refusals x OutOfMemory t f q = absurd (cc)
     refusals x (UnknownExtensionType n) t f q = subst (HasSchemaFault x e) (same_fault unknown_extension_type f q) (unknown_declared x t.0 (plain_name_of n) t.1 t.2)
     refusals x (ReservedName r) t f q = subst (HasSchemaFault x e) (same_fault reserved_name f q) (reserved_declared x t.0 (refused_name_of r) t.1 t.2)
-    refusals x DuplicateCommonType t f q = subst (HasSchemaFault x e) (same_fault duplicate_common_type f q) (subst HasTwice (same_names e.commons ts writes.commons) t)
+    refusals x (DuplicateCommonType n) t f q = subst (HasSchemaFault x e) (same_fault duplicate_common_type f q) (subst HasTwice (same_names e.commons ts writes.commons) (twice_of (names_of ts) (name_of n) t))
     refusals x (CycleInCommonTypeReferences n) t f q = subst (HasSchemaFault x e) (same_fault cycle_of_common_types f q) (name_of n, (t.0, chain_declared (name_of n) t.0 (name_of n) t.1))
 
 -- solutions
@@ -180,5 +181,5 @@ module _ (law : ResolvedTypesAreDeclared) (s : Setting) (e : Declarations) (has 
   written OutOfMemory u = tt
   written (UnknownExtensionType n) u = (extension_there (plain_name_of n) u.0, u.1)
   written (ReservedName q) u = (u.0, ⊎_elim (λ m. inl (entity_there (refused_name_of q) m)) (λ k. inr (extension_there (refused_name_of q) k)) u.1)
-  written DuplicateCommonType u = u
+  written (DuplicateCommonType n) u = u
   written (CycleInCommonTypeReferences n) u = u

@@ -2,6 +2,7 @@
 use Rattle.std.proofs.Common.{◌≡◌, ℕ, ◌<◌, ◌+◌, List, [], ◌∷◌, ◌++◌, map, length, get_or, take, refl, sym, ap, ◌∙◌, subst, arith}
 use Rattle.std.proofs.lemmas.List.{take_more, map-append, length-map}
 use Rattle.std.proofs.lemmas.List.Elements.{Contains-get_or}
+use Rattle.std.specs.Prelude.{Contains}
 use Rattle.std.specs.declared.alloc.Global.{Global}
 use Rattle.std.specs.declared.vec.Vec.{Vec}
 use Rattle.cedar_expr_model.specs.Name.{Name}
@@ -15,9 +16,9 @@ use Rattle.cedar_schema_decl.specs.Definitions.{common_form}
 use Rattle.cedar_schema_decl.specs.Forms.{TypeForm}
 use Rattle.cedar_schema_decl.specs.declared.json_schema.CommonType.{CommonType}
 use Rattle.cedar_schema_nodes.specs.Descent.{nodes_in, IsGraphOf}
-use Rattle.cedar_schema_nodes.specs.Numbers.{IsAt, AreOnce, names_in, seen_nodes}
+use Rattle.cedar_schema_nodes.specs.Numbers.{IsAt, AreOnce, StandsTwice, StoodBefore, names_in, seen_nodes}
 use Rattle.cedar_schema_nodes.proofs.Graphing.{names_chain}
-use Rattle.cedar_schema_nodes.proofs.Places.{at_map}
+use Rattle.cedar_schema_nodes.proofs.Places.{again_at, at_map, at_one}
 use Rattle.cedar_schema_resolver.specs.Solved.{names_of, AreSorted}
 use Rattle.cedar_schema_resolver.specs.Uses.{UsesIn, common_forms, commons_in, with_uses}
 use Rattle.cedar_schema_resolver.proofs.Using.{reach_uses}
@@ -61,8 +62,10 @@ module _ (d : Defined) where
     node_names : names_in name_of ns ≡ names_of ts
     node_names = names_seen ns ∙ ap nodes_in h ∙ names_used ts
 
-    pub twice : HasTwice (names_in name_of ns) → HasTwice (names_of ts)
-    twice t = subst HasTwice node_names t
+    pub twice : (i : ℕ) (n : Name) → StoodBefore (names_in name_of ns) i → IsAt (names_of ts) i n → StandsTwice (names_of ts) n
+    twice i n t a =
+        let s = subst (λ ms. StoodBefore ms i) node_names t in
+        again_at (names_of ts) i n a (subst (Contains (take i (names_of ts))) (at_one (names_of ts) i s.0 n s.1 a) s.2)
 
     pub sorted : (g : Graph) (is : List ℕ) → IsGraphOf (seen_nodes name_of ns) g → AreOnce (names_in name_of ns) → IsOrder g is → AreSorted d ts is
     sorted g is graph once order = record {
@@ -76,6 +79,13 @@ module _ (d : Defined) where
     cycle g i n graph r a =
         let b = subst (λ ms. IsAt ms i n) (sym (names_used ts)) a in
         reach_uses d ts n n (names_chain (with_uses d ts) g (subst (λ ms. IsGraphOf ms g) h graph) i r.0 i n n r.1 b b)
+
+  -- a node that stood before
+  pub stood_there : (es : Written) (ns : Nodes) (i : ℕ) → seen_nodes name_of ns ≡ with_uses d (common_forms es) → StoodBefore (names_in name_of ns) i → i < length es
+  stood_there es ns i h t =
+      let l = t.1.0 in
+      let size = ap length (node_names ns (common_forms es) h) ∙ length-map (common_forms es) (λ (p : Name × TypeForm Name). p.0) ∙ length-map es (λ (f : InternalName × CommonType InternalName). (name_of f.0, common_form name_of f.1)) in
+      omega (arith, l, size)
 
   -- a node that something leads to
   pub led_to : (es : Written) (ns : Nodes) (g : Graph) (i : ℕ) → seen_nodes name_of ns ≡ with_uses d (common_forms es) → IsGraphOf (seen_nodes name_of ns) g → Reaches (HasEdge g) i i → i < length es

@@ -135,13 +135,13 @@ module _ (s : Setting) where
   IsFault ms ns (unknown_extension n) = Contains ns n × (Contains s.extensions n → ⊥)
   IsFault ms ns (reserved_type n) = (is_reserved n ≡ true) × (Contains ms (meant_entity n) ⊎ Contains ns n)
   IsFault ms ns (common_on_cycle n) = ⊥
-  IsFault ms ns repeated_common = ⊥
+  IsFault ms ns (repeated_common n) = ⊥
 
   wider : (ms ls : List Meant) (ns ks : List Name) → ((m : Meant) → Contains ms m → Contains ls m) → ((n : Name) → Contains ns n → Contains ks n) → (r : Refusal) → IsFault ms ns r → IsFault ls ks r
   wider ms ls ns ks f g (unknown_extension n) h = (g n h.0, h.1)
   wider ms ls ns ks f g (reserved_type n) h = (h.0, ⊎_elim (λ c. inl (f (meant_entity n) c)) (λ c. inr (g n c)) h.1)
   wider ms ls ns ks f g (common_on_cycle n) h = h
-  wider ms ls ns ks f g repeated_common h = h
+  wider ms ls ns ks f g (repeated_common n) h = h
 
   entity_fault : (n : Name) (b : Bool) → is_reserved n ≡ b → IfErr (and_then (λ m. Ok (entity_type m)) (cond b (Err (reserved_type n)) (Ok n))) (IsFault (meant_entity n ∷ []) [])
   entity_fault n true e = (e, inl (contains_head (meant_entity n) []))
@@ -187,7 +187,7 @@ module _ (s : Setting) where
   type_tells t OutOfMemory h = tt
   type_tells t (UnknownExtensionType n) h = fault t (unknown_extension (plain_name_of n)) (h (unknown_extension (plain_name_of n)) refl)
   type_tells t (ReservedName e) h = fault t (reserved_type (refused_name_of e)) (h (reserved_type (refused_name_of e)) refl)
-  type_tells t DuplicateCommonType h = fault t repeated_common (h repeated_common refl)
+  type_tells t (DuplicateCommonType n) h = fault t (repeated_common (name_of n)) (h (repeated_common (name_of n)) refl)
   type_tells t (CycleInCommonTypeReferences n) h = fault t (common_on_cycle (name_of n)) (h (common_on_cycle (name_of n)) refl)
 
   pub fields_tell : (fs : FieldForms Name) (e : ResolveError) → Refuses (fields_outcome s fs) e → TellsUntold s (record_form fs) e

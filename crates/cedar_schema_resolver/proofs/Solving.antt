@@ -207,7 +207,7 @@ pub some_tells : (c : Name → Ty) (d : Defined) (x : List Name) (ts : List (Nam
 some_tells c d x ts p h OutOfMemory t = tt
 some_tells c d x ts p h (UnknownExtensionType n) t = (p, h, t)
 some_tells c d x ts p h (ReservedName e) t = (p, h, t)
-some_tells c d x ts p h DuplicateCommonType t = absurd t
+some_tells c d x ts p h (DuplicateCommonType n) t = absurd t
 some_tells c d x ts p h (CycleInCommonTypeReferences n) t = absurd t
 
 -- of their order
@@ -215,7 +215,7 @@ pub unordered_tells : (d : Defined) (x : List Name) (ts : List (Name × TypeForm
 unordered_tells d x ts OutOfMemory t = tt
 unordered_tells d x ts (UnknownExtensionType n) t = absurd t
 unordered_tells d x ts (ReservedName e) t = absurd t
-unordered_tells d x ts DuplicateCommonType t = t
+unordered_tells d x ts (DuplicateCommonType n) t = t
 unordered_tells d x ts (CycleInCommonTypeReferences n) t = t
 
 -- the next of them, with the choice that is made

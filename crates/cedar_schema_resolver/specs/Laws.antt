@@ -56,7 +56,7 @@ abbrev pub fault_told : ResolveError → Option SchemaFault
 fault_told OutOfMemory = None
 fault_told (UnknownExtensionType n) = Some unknown_extension_type
 fault_told (ReservedName e) = Some reserved_name
-fault_told DuplicateCommonType = Some duplicate_common_type
+fault_told (DuplicateCommonType n) = Some duplicate_common_type
 fault_told (CycleInCommonTypeReferences n) = Some cycle_of_common_types
 
 -- The fault that an error tells is there.
@@ -70,7 +70,7 @@ abbrev pub TellsWritten : List Name → Declarations → TypeExpr → ResolveErr
 TellsWritten x e t OutOfMemory = Unit {0}
 TellsWritten x e t (UnknownExtensionType n) = Contains (extensions_in t) (plain_name_of n) × (Contains x (plain_name_of n) → ⊥)
 TellsWritten x e t (ReservedName r) = (is_reserved (refused_name_of r) ≡ true) × (Contains (entity_names e) (refused_name_of r) ⊎ Contains (extensions_in t) (refused_name_of r))
-TellsWritten x e t DuplicateCommonType = ⊥
+TellsWritten x e t (DuplicateCommonType n) = ⊥
 TellsWritten x e t (CycleInCommonTypeReferences n) = ⊥
 
 -- What is told of a type whose names are resolved is so of the type that is written.

@@ -18,15 +18,14 @@ use Rattle.cedar_schema_resolver.specs.declared.err.ResolveError.TheVariants.{Ou
 
 -- Why there is no type: an extension type that isn't known, a reserved name, a common type that is declared twice or uses itself.
 pub data Refusal : Type 0 where
-  unknown_extension reserved_type common_on_cycle : Name → Refusal
-  repeated_common : Refusal
+  unknown_extension reserved_type repeated_common common_on_cycle : Name → Refusal
 
 -- what is refused. Want of memory tells nothing.
 abbrev pub refusal : ResolveError → Option Refusal
 refusal OutOfMemory = None
 refusal (UnknownExtensionType n) = Some (unknown_extension (plain_name_of n))
 refusal (ReservedName e) = Some (reserved_type (refused_name_of e))
-refusal DuplicateCommonType = Some repeated_common
+refusal (DuplicateCommonType n) = Some (repeated_common (name_of n))
 refusal (CycleInCommonTypeReferences n) = Some (common_on_cycle (name_of n))
 
 -- The refusal that the error tells is the outcome.

@@ -33,5 +33,5 @@ abbrev pub TellsUntold : Setting → TypeForm Name → ResolveError → Type 0
 TellsUntold s t OutOfMemory = Unit {0}
 TellsUntold s t (UnknownExtensionType n) = IsUnknownIn s.extensions t (plain_name_of n)
 TellsUntold s t (ReservedName e) = IsReservedIn s.defined t (refused_name_of e)
-TellsUntold s t DuplicateCommonType = ⊥
+TellsUntold s t (DuplicateCommonType n) = ⊥
 TellsUntold s t (CycleInCommonTypeReferences n) = ⊥

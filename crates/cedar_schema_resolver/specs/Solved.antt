@@ -10,6 +10,7 @@ use Rattle.cedar_schema_closure.specs.Graphs.{Graph, IsOrder}
 use Rattle.cedar_schema_decl.specs.Defined.{Defined}
 use Rattle.cedar_schema_decl.specs.Forms.{TypeForm}
 use Rattle.cedar_schema_nodes.specs.Descent.{IsGraphOf}
+use Rattle.cedar_schema_nodes.specs.Numbers.{StandsTwice}
 use Rattle.cedar_schema_resolver.specs.Meanings.{Setting, told}
 use Rattle.cedar_schema_resolver.specs.Refusals.{AreKnown, IsUnknownIn, IsReservedIn}
 use Rattle.cedar_schema_resolver.specs.Uses.{UsesIn, with_uses}
@@ -43,7 +44,7 @@ abbrev pub TellsUnsolved : Defined → List Name → List (Name × TypeForm Name
 TellsUnsolved d x ts OutOfMemory = Unit {0}
 TellsUnsolved d x ts (UnknownExtensionType n) = SomeDefinition ts (λ t. IsUnknownIn x t (plain_name_of n))
 TellsUnsolved d x ts (ReservedName e) = SomeDefinition ts (λ t. IsReservedIn d t (refused_name_of e))
-TellsUnsolved d x ts DuplicateCommonType = HasTwice (names_of ts)
+TellsUnsolved d x ts (DuplicateCommonType n) = StandsTwice (names_of ts) (name_of n)
 TellsUnsolved d x ts (CycleInCommonTypeReferences n) = Reaches (UsesIn d ts) (name_of n) (name_of n)
 
 -- The same where the types aren't asked.
@@ -51,7 +52,7 @@ abbrev pub TellsUnordered : Defined → List (Name × TypeForm Name) → Resolve
 TellsUnordered d ts OutOfMemory = Unit {0}
 TellsUnordered d ts (UnknownExtensionType n) = ⊥
 TellsUnordered d ts (ReservedName e) = ⊥
-TellsUnordered d ts DuplicateCommonType = HasTwice (names_of ts)
+TellsUnordered d ts (DuplicateCommonType n) = StandsTwice (names_of ts) (name_of n)
 TellsUnordered d ts (CycleInCommonTypeReferences n) = Reaches (UsesIn d ts) (name_of n) (name_of n)
 
 -- All of them, by their numbers, each once and after those that it uses. None stands twice.

@@ -25,8 +25,11 @@ pub enum ResolveError {
     ReservedName(ReservedNameError),
 
     /// A common type is declared twice.
-    #[error("a common type is declared twice")]
-    DuplicateCommonType,
+    #[error("duplicate common type `{name}`")]
+    DuplicateCommonType {
+        /// The common type.
+        name: InternalName,
+    },
 
     /// A common type uses itself, by way of others or straight.
     #[error("cycle in common type references: {name}")]

@@ -48,8 +48,9 @@ fn in_order_of_use(
     let graph = match graph(alloc, &nodes) {
         Ok(graph) => graph,
         Err(RepeatedError::OutOfMemory) => return Err(ResolveError::OutOfMemory),
-        Err(RepeatedError::Repeated { number: _ }) => {
-            return Err(ResolveError::DuplicateCommonType);
+        Err(RepeatedError::Repeated { number }) => {
+            let name = common_at(commons, number).0.clone()?;
+            return Err(ResolveError::DuplicateCommonType { name });
         }
     };
     match in_order(alloc, &graph) {

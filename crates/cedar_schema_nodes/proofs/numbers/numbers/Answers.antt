@@ -1,13 +1,13 @@
 use Rattle.std.proofs.Common.{is_some, sym, ap, ◌∙◌, subst}
 use Rattle.std.specs.BTreeMap.{get, is_at}
 use Rattle.cedar_schema_nodes.specs.Numbers.{names_in, IsAt}
-use Rattle.cedar_schema_nodes.proofs.Numbering.{numbered_goes, stands_twice, none_there}
+use Rattle.cedar_schema_nodes.proofs.Numbering.{numbered_goes, stood_before, none_there}
 use Rattle.cedar_schema_nodes.proofs.numbers.numbers.Goals as goal
 
 pub returns-then-is_some-clause-repeated : goal.returns-then-is_some-clause-repeated
 returns-then-is_some-clause-repeated g c =
     let names = names_in g.N.Node.seen c.args.nodes.now in
-    stands_twice g.N.Node.seen names c.loop-number.number (get g.N.Ord.cmp c.loop-number.numbers) c.in_ok-name.name
+    stood_before g.N.Node.seen names c.loop-number.number (get g.N.Ord.cmp c.loop-number.numbers) c.in_ok-name.name
     (subst (IsAt names c.loop-number.number) (sym c.in_ok-name.ensures) c.name_at.ensures)
     (ap is_some (sym c.in_ok-insert.ensures.old) ∙ sym c.is_some.ensures ∙ c.if-is_some.true)
     c.loop-number.invariant.numbered
