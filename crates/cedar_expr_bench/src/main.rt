@@ -5,6 +5,7 @@
 #![tactic(auto)]
 
 mod bindings;
+mod names;
 mod patterns;
 mod sets;
 mod tables;

@@ -3,11 +3,9 @@
 use crate::fault::Fault;
 use cedar_expr_functions::Extensions;
 use cedar_expr_raw_names::ConditionalName;
-use cedar_schema_builder::SchemaError;
-use cedar_schema_built::ValidatorSchema;
+use cedar_schema::{SchemaError, ValidatorSchema, ValidatorSchemaFragment};
 use cedar_schema_example_entries::{action_text, entity_type_text};
 use cedar_schema_examples::fragment;
-use cedar_schema_fragments::ValidatorSchemaFragment;
 use std::alloc::{AllocError, Global};
 
 type Written = ValidatorSchemaFragment<ConditionalName, ConditionalName>;

@@ -1,7 +1,7 @@
 //! Why nothing is built.
 
 use cedar_expr_names::NameError;
-use cedar_schema_builder::SchemaError;
+use cedar_schema::{FragmentError, SchemaError};
 use std::alloc::{AllocError, AllocFailed};
 
 /// Why nothing is built.
@@ -34,10 +34,10 @@ impl From<NameError> for Fault {
     }
 }
 
-impl From<cedar_schema_fragments::FragmentError> for Fault {
-    fn from(error: cedar_schema_fragments::FragmentError) -> Fault {
+impl From<FragmentError> for Fault {
+    fn from(error: FragmentError) -> Fault {
         match error {
-            cedar_schema_fragments::FragmentError::OutOfMemory => Fault::OutOfMemory,
+            FragmentError::OutOfMemory => Fault::OutOfMemory,
             _ => Fault::Refused,
         }
     }

@@ -8,6 +8,7 @@
 
 mod examples;
 mod fault;
+mod names;
 mod shapes;
 
 use crate::fault::Fault;

@@ -2,9 +2,8 @@
 
 use crate::fault::Fault;
 use cedar_expr_functions::Extensions;
-use cedar_schema_built::ValidatorSchema;
+use cedar_schema::{ValidatorSchema, ValidatorSchemaFragment};
 use cedar_schema_examples::fragment;
-use cedar_schema_fragments::ValidatorSchemaFragment;
 use std::alloc::{AllocError, Global};
 
 /// How the declarations stand to each other.

@@ -9,6 +9,7 @@ use cedar_expr_functions::{
 };
 use cedar_expr_names::Name;
 use cedar_expr_values::{ExtValue, Type, Value};
+use cedar_schema_builder::extension_types;
 use std::alloc::Global;
 use std::test::Fail;
 
@@ -68,5 +69,8 @@ fn types_that_functions_give_are_known(rt: HostRuntime) -> Result<(), Fail> {
     functions.push(ExtensionFunction::nullary(alloc, called, style, func, rank))?;
     let extensions = [Extension::new(name(alloc, "ranks")?, functions, Vec::new(alloc))];
     let table = Extensions::specific_extensions(alloc, &extensions)?;
+    let known = extension_types(alloc, &table)?;
+    assert!(rt; known.len() == 1 && known.contains(&name(alloc, "rank")?));
+    assert_eq!(rt; extension_types(alloc, &Extensions::none(alloc))?.len(), 0);
     check_outcomes(alloc, &table)
 }

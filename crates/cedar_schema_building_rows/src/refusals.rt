@@ -22,7 +22,8 @@ fn wrong_row(alloc: Global, rows: &[(&'static str, u32)]) -> Result<&'static str
     Ok("")
 }
 
-/// Each fault of declarations is refused under its number.
+/// Each fault of declarations is refused under its number, also where a type or an action is declared elsewhere: only a schema that
+/// is built can be found incomplete.
 #[test]
 fn faults_are_refused(rt: HostRuntime) -> Result<(), Fail> {
     let rows = [
@@ -41,6 +42,9 @@ fn faults_are_refused(rt: HostRuntime) -> Result<(), Fail> {
             "entity User\naction view |  | User | User | {r: extension rank}",
             12,
         ),
+        ("extern X\nentity User | Missing", 4),
+        ("extern X\naction a | Action a", 7),
+        ("outside read\nentity User |  | a: Missing", 4),
     ];
     assert_eq!(rt; wrong_row(rt.alloc(), &rows)?, "");
     Ok(())

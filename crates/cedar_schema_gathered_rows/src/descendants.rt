@@ -2,7 +2,7 @@
 
 use crate::sets::{counts, has};
 use cedar_expr_names::InternalName;
-use cedar_schema_nodes::{RepeatedError, descendants};
+use cedar_schema_nodes::{RepeatedError, descendants, graph};
 use std::alloc::Global;
 use std::test::Fail;
 
@@ -49,5 +49,27 @@ fn a_type_stands_once(rt: HostRuntime) -> Result<(), Fail> {
         Ok(_) => false,
     };
     assert!(rt; refused);
+    Ok(())
+}
+
+/// A node has an edge to each of its parents that is a node.
+#[test]
+fn parents_are_edges(rt: HostRuntime) -> Result<(), Fail> {
+    let alloc = rt.alloc();
+    let types = types(
+        alloc,
+        &[
+            ("Group", "Group"),
+            ("User", "Group"),
+            ("Bot", "User"),
+            ("Robot", "Other"),
+        ],
+    )?;
+    let edges = graph(alloc, &types)?;
+    let wanted: [&[usize]; 4] = [&[0], &[0], &[1], &[]];
+    assert_eq!(rt; edges.len(), 4);
+    for (row, wanted) in edges.iter().zip(wanted) {
+        assert!(rt; row.as_slice() == wanted);
+    }
     Ok(())
 }

@@ -7,6 +7,7 @@
 
 mod entities;
 mod fault;
+mod names;
 mod parts;
 mod policies;
 

@@ -106,7 +106,7 @@ fn variables_mean_the_request(rt: HostRuntime) -> Result<(), Fail> {
     says(alloc, variable(&world, Var::Principal), "User::\"a\"")?;
     says(alloc, variable(&world, Var::Action), "Action::\"view\"")?;
     says(alloc, variable(&world, Var::Resource), "Doc::\"d\"")?;
-    says(alloc, variable(&world, Var::Context), "record of 1")
+    says(alloc, variable(&world, Var::Context), "record of 2")
 }
 
 #[test]

@@ -25,6 +25,8 @@ pub const MISTYPED: &str = "a value has a wrong type";
 
 pub const OVERFLOW: &str = "integer overflow";
 
+pub const NO_FIELD: &str = "there is no such field";
+
 pub const NOT_KNOWN: &str = "an unknown has no value";
 
 /// What is known, but for a table of functions.
@@ -81,6 +83,7 @@ fn owned(alloc: Global) -> Made<Vec<(RcStr, V)>> {
     attrs.push((word(alloc, "owner")?, entity_value(alloc, "User::b")?))?;
     let spoon = Value::from(Literal::from_str(alloc, "spoon")?);
     attrs.push((word(alloc, "fork")?, spoon))?;
+    attrs.push((word(alloc, "spoon")?, Value::from(Literal::from(787))))?;
     Ok(attrs)
 }
 
@@ -91,29 +94,49 @@ fn uids(alloc: Global, text: &str) -> Made<Vec<EntityUID>> {
     Ok(made)
 }
 
-// The document lies in the folder f, and through that in the folder top; it has a tag, which its attribute fork names.
+// The document lies in the folder f, and through that in the folder top; it has two tags, one of which its attribute fork names.
 pub fn document(alloc: Global) -> Made<Entity> {
     let mut tags = Vec::new(alloc);
     tags.push((word(alloc, "spoon")?, Value::from(Literal::from(-121))))?;
+    tags.push((word(alloc, "knife")?, Value::from(Literal::from(5))))?;
     let (indirect, parents) = (uids(alloc, "Folder::top")?, uids(alloc, "Folder::f")?);
     let (of, attrs) = (uid(alloc, "Doc::d")?, owned(alloc)?);
     let made = Entity::new(alloc, of, attrs, indirect, parents, tags);
     made.map_err(|_| AllocError)
 }
 
-// The store of these users and of the document.
+// The folder f lies in the folder root.
+fn folder(alloc: Global) -> Made<Entity> {
+    let (of, parents) = (uid(alloc, "Folder::f")?, uids(alloc, "Folder::root")?);
+    let (attrs, indirect, tags) = (Vec::new(alloc), Vec::new(alloc), Vec::new(alloc));
+    let made = Entity::new(alloc, of, attrs, indirect, parents, tags);
+    made.map_err(|_| AllocError)
+}
+
+// The store of these users, of the document and of the folder f.
 pub fn store(alloc: Global, users: &[&str]) -> Made<Entities> {
     let mut entities = Vec::new(alloc);
     entities.push(document(alloc)?)?;
+    entities.push(folder(alloc)?)?;
     for text in users {
         entities.push(user(alloc, text)?)?;
     }
     Entities::from_entities(alloc, entities).map_err(|_| AllocError)
 }
 
-// `{n: 7}`.
-fn context(alloc: Global) -> Made<V> {
+// The record of one field.
+fn one_field(alloc: Global, name: &str, value: V) -> Made<V> {
     let mut fields = Vec::new(alloc);
+    fields.push((word(alloc, name)?, value))?;
+    Value::record(alloc, fields, None)
+}
+
+// `{device_properties: {os_name: "Windows"}, n: 7}`.
+fn context(alloc: Global) -> Made<V> {
+    let system = Value::from(Literal::from_str(alloc, "Windows")?);
+    let device = one_field(alloc, "os_name", system)?;
+    let mut fields = Vec::new(alloc);
+    fields.push((word(alloc, "device_properties")?, device))?;
     fields.push((word(alloc, "n")?, Value::from(Literal::from(7))))?;
     Value::record(alloc, fields, None)
 }

@@ -13,8 +13,8 @@ const NO_ATTRIBUTE: &str = "there is no such attribute or tag";
 
 const NO_X: &str = "entity `User::\"x\"` does not exist";
 
-// No store has the user x.
-const ATTRIBUTES: [Row; 8] = [
+// No store has the user x. The document has an attribute spoon and a tag of that name, and a tag knife and no such attribute.
+const ATTRIBUTES: [Row; 12] = [
     ("resource .owner .boss", "User::\"a\""),
     ("resource .ok", NO_ATTRIBUTE),
     ("User::x .ok", NO_X),
@@ -23,10 +23,14 @@ const ATTRIBUTES: [Row; 8] = [
     ("User::x has=ok", "false"),
     ("resource has=owner.ok", "true"),
     ("resource has=owner.nick", "false"),
+    ("Folder::f has=ok", "false"),
+    ("resource .spoon", "787"),
+    ("resource .knife", NO_ATTRIBUTE),
+    ("resource has=knife", "false"),
 ];
 
 // The name of a tag may be computed; it has to be a text, and what has tags an entity.
-const TAGS: [Row; 12] = [
+const TAGS: [Row; 15] = [
     ("resource \"spoon getTag", "-121"),
     ("resource \"owner getTag", NO_ATTRIBUTE),
     ("User::x \"spoon getTag", NO_X),
@@ -37,15 +41,24 @@ const TAGS: [Row; 12] = [
     ("resource resource .fork hasTag", "true"),
     ("resource resource .fork getTag", "-121"),
     ("resource resource .owner getTag", MISTYPED),
+    ("resource \"knife getTag", "5"),
+    (
+        "resource context .device_properties .os_name getTag",
+        NO_ATTRIBUTE,
+    ),
+    ("Folder::f \"spoon hasTag", "false"),
     ("context \"n getTag", MISTYPED),
     ("context \"n hasTag", MISTYPED),
 ];
 
-// Of `in` the left side alone is looked up, and a missing entity is in itself.
-const ANCESTORS: [Row; 9] = [
+// Of `in` the left side alone is looked up, and a missing entity is in itself. The folder f lies in the folder root, which isn't
+// recorded of the document: a store computes no closure.
+const ANCESTORS: [Row; 11] = [
     ("resource Doc::d in", "true"),
     ("resource Folder::f in", "true"),
     ("resource Folder::top in", "true"),
+    ("Folder::f Folder::root in", "true"),
+    ("resource Folder::root in", "false"),
     ("resource User::x in", "false"),
     ("User::x User::x in", "true"),
     ("User::x resource in", "false"),

@@ -2,13 +2,12 @@
 //! ancestors, and the places of its attributes and tags.
 
 use crate::entities::{kin, member, unknown, with_unknown};
-use crate::parts::uid;
+use crate::parts::{uid, user};
 use cedar_expr_leaves::Literal;
 use cedar_expr_names::{Loc, Name};
 use cedar_expr_partial::PartialValue;
-use cedar_expr_trees::{Expr, Unknown};
 use cedar_expr_values::{ExtValue, Value, ValueKind};
-use cedar_store_entities::{Dereference, Entities, Entity};
+use cedar_store_entities::{Entities, Entity};
 use std::alloc::Global;
 use std::rc::{Rc, RcStr};
 use std::test::Fail;
@@ -37,7 +36,7 @@ fn ranked(alloc: Global, id: &str, text: &str) -> Result<Entity, Fail> {
 fn store(alloc: Global) -> Result<Entities, Fail> {
     let mut entities = Vec::new(alloc);
     entities.push(member(alloc)?)?;
-    entities.push(with_unknown(alloc)?)?;
+    entities.push(with_unknown(alloc, "c", None)?)?;
     for (id, text) in [("d", "007"), ("e", "7")] {
         entities.push(ranked(alloc, id, text)?)?;
     }
@@ -52,8 +51,11 @@ fn is_called(value: &ExtValue, function: &Name, text: &Literal) -> bool {
     }
 }
 
-// Whether the entity has a rank that was made by a call on this text.
-fn is_ranked(alloc: Global, e: &Entity, text: &str) -> Result<bool, Fail> {
+// Whether the entity is there and has a rank that was made by a call on this text.
+fn is_ranked(alloc: Global, e: Option<&Entity>, text: &str) -> Result<bool, Fail> {
+    let Some(e) = e else {
+        return Ok(false);
+    };
     let function = Name::from_normalized_str(alloc, "rank_of")?;
     let text = Literal::from_str(alloc, text)?;
     match e.get("rank") {
@@ -65,24 +67,16 @@ fn is_ranked(alloc: Global, e: &Entity, text: &str) -> Result<bool, Fail> {
     }
 }
 
-// Whether the store gives the user of this id with a rank that was made by a call on this text.
-fn gives_ranked(alloc: Global, store: &Entities, id: &str, text: &str) -> Result<bool, Fail> {
-    match store.entity(alloc, &uid(alloc, "User", id)?)? {
-        Dereference::Data(e) => is_ranked(alloc, e, text),
-        _ => Ok(false),
-    }
-}
-
 #[test]
 fn an_extension_value_keeps_its_call(rt: HostRuntime) -> Result<(), Fail> {
     let alloc = rt.alloc();
     assert!(rt; rank(alloc, "007")? == rank(alloc, "7")?);
     let store = store(alloc)?;
-    assert!(rt; gives_ranked(alloc, &store, "d", "007")?);
-    assert!(rt; gives_ranked(alloc, &store, "e", "7")?);
+    assert!(rt; is_ranked(alloc, user(alloc, &store, "d")?, "007")?);
+    assert!(rt; is_ranked(alloc, user(alloc, &store, "e")?, "7")?);
     let store = store.partial();
-    assert!(rt; gives_ranked(alloc, &store, "d", "007")?);
-    assert!(rt; gives_ranked(alloc, &store, "e", "7")?);
+    assert!(rt; is_ranked(alloc, user(alloc, &store, "d")?, "007")?);
+    assert!(rt; is_ranked(alloc, user(alloc, &store, "e")?, "7")?);
     Ok(())
 }
 
@@ -90,7 +84,7 @@ fn an_extension_value_keeps_its_call(rt: HostRuntime) -> Result<(), Fail> {
 fn has_ranked(alloc: Global, store: &Entities, text: &str) -> Result<bool, Fail> {
     let mut found = false;
     for e in store.iter() {
-        found = found || is_ranked(alloc, e, text)?;
+        found = found || is_ranked(alloc, Some(e), text)?;
     }
     Ok(found)
 }
@@ -105,40 +99,36 @@ fn entities_come_with_their_calls(rt: HostRuntime) -> Result<(), Fail> {
     Ok(())
 }
 
-// Whether the store gives the member of teams with one parent and one other ancestor.
-fn gives_kin(alloc: Global, store: &Entities) -> Result<bool, Fail> {
-    match store.entity(alloc, &uid(alloc, "User", "a")?)? {
-        Dereference::Data(e) => {
-            let (all, red) = (kin(alloc, e, "all")?, kin(alloc, e, "red")?);
-            Ok(all == (true, false, true) && red == (true, true, false))
+// Whether the entity is there, with the team red as its parent and the team all as another ancestor.
+pub fn has_kin(alloc: Global, e: Option<&Entity>) -> Result<bool, Fail> {
+    let Some(e) = e else {
+        return Ok(false);
+    };
+    let (all, red) = (kin(alloc, e, "all")?, kin(alloc, e, "red")?);
+    Ok(all == (true, false, true) && red == (true, true, false))
+}
+
+// Whether the entity is there, with an attribute that isn't known, and without such a tag.
+fn has_unknown(alloc: Global, e: Option<&Entity>) -> Result<bool, Fail> {
+    match e {
+        None => Ok(false),
+        Some(e) => {
+            let unknown = unknown(alloc, None)?;
+            Ok(e.get("foo") == Some(&unknown) && e.get_tag("foo").is_none())
         }
-        _ => Ok(false),
     }
 }
 
 #[test]
-fn a_store_tells_parents_from_other_ancestors(rt: HostRuntime) -> Result<(), Fail> {
+fn a_store_keeps_ancestors_and_expressions(rt: HostRuntime) -> Result<(), Fail> {
     let alloc = rt.alloc();
+    assert!(rt; has_unknown(alloc, Some(&with_unknown(alloc, "c", None)?))?);
     let store = store(alloc)?;
-    assert!(rt; gives_kin(alloc, &store)?);
-    assert!(rt; gives_kin(alloc, &store.partial())?);
-    Ok(())
-}
-
-// Whether the store gives the user whose one attribute isn't known.
-fn gives_unknown(alloc: Global, store: &Entities) -> Result<bool, Fail> {
-    match store.entity(alloc, &uid(alloc, "User", "c")?)? {
-        Dereference::Data(e) => Ok(e.get("foo") == Some(&unknown(alloc, "u")?)),
-        _ => Ok(false),
-    }
-}
-
-#[test]
-fn an_expression_is_kept(rt: HostRuntime) -> Result<(), Fail> {
-    let alloc = rt.alloc();
-    let store = store(alloc)?;
-    assert!(rt; gives_unknown(alloc, &store)?);
-    assert!(rt; gives_unknown(alloc, &store.partial())?);
+    assert!(rt; has_kin(alloc, user(alloc, &store, "a")?)?);
+    assert!(rt; has_unknown(alloc, user(alloc, &store, "c")?)?);
+    let store = store.partial();
+    assert!(rt; has_kin(alloc, user(alloc, &store, "a")?)?);
+    assert!(rt; has_unknown(alloc, user(alloc, &store, "c")?)?);
     Ok(())
 }
 
@@ -157,17 +147,6 @@ fn with_places(alloc: Global) -> Result<Entity, Fail> {
     Ok(Entity::new(alloc, uid, attrs, indirect, parents, tags)?)
 }
 
-// A user of whom an attribute isn't known, which stands at the place 3.
-fn with_placed_unknown(alloc: Global) -> Result<Entity, Fail> {
-    let name = RcStr::from_str(alloc, "u")?;
-    let e = Expr::unknown(Unknown::new_untyped(name)).with_maybe_source_loc(Some(Loc::new(3, 3)));
-    let mut attrs = Vec::new(alloc);
-    attrs.push((RcStr::from_str(alloc, "foo")?, PartialValue::Residual(e)))?;
-    let uid = uid(alloc, "User", "q")?;
-    let (indirect, parents, tags) = (Vec::new(alloc), Vec::new(alloc), Vec::new(alloc));
-    Ok(Entity::new_with_attr_partial_value(alloc, uid, attrs, indirect, parents, tags)?)
-}
-
 // Whether the part is there at this place.
 fn is_at(part: Option<&PartialValue<ExtValue>>, at: usize) -> bool {
     match part {
@@ -177,22 +156,17 @@ fn is_at(part: Option<&PartialValue<ExtValue>>, at: usize) -> bool {
     }
 }
 
-// The store of both.
-fn placed_store(alloc: Global) -> Result<Entities, Fail> {
-    let entities = vec![in alloc; with_places(alloc)?, with_placed_unknown(alloc)?]?;
-    Ok(Entities::from_entities(alloc, entities)?)
-}
-
 #[test]
 fn parts_keep_their_places(rt: HostRuntime) -> Result<(), Fail> {
     let alloc = rt.alloc();
     let e = with_places(alloc)?;
     assert!(rt; is_at(e.get("age"), 1) && is_at(e.get_tag("spoon"), 2));
-    assert!(rt; is_at(with_placed_unknown(alloc)?.get("foo"), 3));
-    let store = placed_store(alloc)?;
-    match store.entity(alloc, &uid(alloc, "User", "p")?)? {
-        Dereference::Data(e) => assert!(rt; is_at(e.get("age"), 1) && is_at(e.get_tag("spoon"), 2)),
-        _ => assert!(rt; false),
+    let unknown = with_unknown(alloc, "q", Some(Loc::new(3, 3)))?;
+    assert!(rt; is_at(unknown.get("foo"), 3));
+    let store = Entities::from_entities(alloc, vec![in alloc; e, unknown]?)?;
+    match user(alloc, &store, "p")? {
+        Some(e) => assert!(rt; is_at(e.get("age"), 1) && is_at(e.get_tag("spoon"), 2)),
+        None => return Err(Fail::from("there is no such user")),
     }
     Ok(())
 }

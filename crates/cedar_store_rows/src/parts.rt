@@ -1,8 +1,8 @@
 //! Parts that the tests share.
 
-use cedar_expr_leaves::{Literal, SlotId, Var};
+use cedar_expr_leaves::SlotId;
 use cedar_expr_names::{Eid, EntityType, EntityUID};
-use cedar_expr_trees::Expr;
+use cedar_store_entities::{Dereference, Entities, Entity};
 use cedar_store_policies::{
     ActionConstraint, Annotations, Effect, EntityReference, Policy, PolicyID, PrincipalConstraint,
     PrincipalOrResourceConstraint, ResourceConstraint, SlotEnv, StaticPolicy, Template,
@@ -28,12 +28,7 @@ pub fn id(alloc: Global, text: &str) -> Result<PolicyID, Fail> {
     Ok(PolicyID::from_string(alloc, text)?)
 }
 
-// What is asked of the principal.
-pub fn of_principal(constraint: PrincipalOrResourceConstraint) -> PrincipalConstraint {
-    PrincipalConstraint { constraint }
-}
-
-// That it is in what the slot is bound to.
+// That the principal is in what the slot is bound to.
 pub fn in_slot() -> PrincipalOrResourceConstraint {
     PrincipalOrResourceConstraint::In(EntityReference::Slot(None))
 }
@@ -41,25 +36,22 @@ pub fn in_slot() -> PrincipalOrResourceConstraint {
 // The template `permit(principal in ?principal, action, resource)`.
 pub fn template(alloc: Global, text: &str) -> Result<Template, Fail> {
     let id = id(alloc, text)?;
+    let constraint = in_slot();
     Ok(Template::new(
         alloc,
         id,
         None,
         Annotations::new(alloc),
         Effect::Permit,
-        of_principal(in_slot()),
+        PrincipalConstraint { constraint },
         ActionConstraint::any(),
         ResourceConstraint::any(),
         None,
     )?)
 }
 
-// What it asks: `(principal in ?principal) && true`.
-pub fn asked(alloc: Global) -> Result<Expr, Fail> {
-    let slot = Expr::slot(SlotId::principal());
-    let inside = Expr::is_in(alloc, Expr::var(Var::Principal), slot)?;
-    Ok(Expr::and(alloc, inside, Expr::val(Literal::Bool(true)))?)
-}
+// What it asks.
+pub const ASKED: &str = "principal ?principal in true &&";
 
 // The policy without slots that holds for any request.
 pub fn always(alloc: Global, text: &str, effect: Effect) -> Result<StaticPolicy, Fail> {
@@ -93,4 +85,12 @@ pub fn bound(alloc: Global, user: Option<&str>, document: Option<&str>) -> Resul
         values.insert(SlotId::resource(), shared(alloc, "Doc", document)?);
     }
     Ok(values)
+}
+
+// What the store has of the user of this id, if it has such a user.
+pub fn user<'a>(alloc: Global, store: &'a Entities, id: &str) -> Result<Option<&'a Entity>, Fail> {
+    match store.entity(alloc, &uid(alloc, "User", id)?)? {
+        Dereference::Data(e) => Ok(Some(e)),
+        _ => Ok(None),
+    }
 }

@@ -1,13 +1,13 @@
 //! Places of policies, of their annotations and of their slots, and what refusals say.
 
-use crate::parts::{bound, id, in_slot, of_principal, shared};
+use crate::parts::{bound, id, in_slot, shared};
 use cedar_expr_leaves::{Slot, SlotId};
 use cedar_expr_names::{AnyId, Eid, EntityType, EntityUID, Loc};
 use cedar_expr_trees::Expr;
 use cedar_store_policies::{
     ActionConstraint, Annotation, Annotations, Effect, EntityReference, LinkingError, Policy,
-    PolicySet, PolicySetError, PrincipalOrResource, PrincipalOrResourceConstraint,
-    ResourceConstraint, SlotEnv, Template, UnexpectedSlotError,
+    PolicySet, PolicySetError, PrincipalConstraint, PrincipalOrResource,
+    PrincipalOrResourceConstraint, ResourceConstraint, SlotEnv, Template, UnexpectedSlotError,
 };
 use std::alloc::Global;
 use std::rc::{Rc, RcStr};
@@ -36,28 +36,24 @@ fn asked() -> PrincipalOrResourceConstraint {
     PrincipalOrResourceConstraint::In(EntityReference::Slot(at(2)))
 }
 
-// `?resource` at the place 3.
-fn body() -> Option<Expr> {
-    Some(Expr::slot(SlotId::resource()).with_maybe_source_loc(at(3)))
-}
-
-// The template t, at the place 1. The annotation x of the name note stands at the place 5.
+// The template t, at the place 1, whose body is `?resource` at the place 3. The annotation x of the name note stands at the place 5.
 fn placed(alloc: Global) -> Result<Template, Fail> {
     let id = id(alloc, "t")?;
     let mut notes = Annotations::new(alloc);
     let name = AnyId::from_normalized_str(alloc, "note")?;
     let val = RcStr::from_str(alloc, "x")?;
     notes.insert(name, Annotation { val, loc: at(5) })?;
+    let constraint = asked();
     Ok(Template::new(
         alloc,
         id,
         at(1),
         notes,
         Effect::Permit,
-        of_principal(asked()),
+        PrincipalConstraint { constraint },
         ActionConstraint::any(),
         ResourceConstraint::any(),
-        body(),
+        Some(Expr::slot(SlotId::resource()).with_maybe_source_loc(at(3))),
     )?)
 }
 
@@ -107,33 +103,18 @@ fn set_of_link(alloc: Global) -> Result<PolicySet, Fail> {
     Ok(set)
 }
 
-// A set to which the policy was added.
-fn set_with_policy(alloc: Global) -> Result<PolicySet, Fail> {
-    let mut set = PolicySet::new(alloc);
-    set.add(linked(alloc)?)?;
-    Ok(set)
-}
-
-// A set of a list of the policy.
-fn set_of_list(alloc: Global) -> Result<PolicySet, Fail> {
-    let listed = vec![in alloc; linked(alloc)?]?;
-    Ok(PolicySet::try_from_iter(alloc, listed)?)
-}
-
 #[test]
-fn a_set_keeps_places(rt: HostRuntime) -> Result<(), Fail> {
+fn sets_keep_places(rt: HostRuntime) -> Result<(), Fail> {
     let alloc = rt.alloc();
     let set = set_of_link(alloc)?;
     assert!(rt; link_stands(alloc, &set)?);
     assert!(rt; template_stands(alloc, &set)?);
-    Ok(())
-}
-
-#[test]
-fn a_set_of_policies_keeps_places(rt: HostRuntime) -> Result<(), Fail> {
-    let alloc = rt.alloc();
-    assert!(rt; link_stands(alloc, &set_with_policy(alloc)?)?);
-    assert!(rt; link_stands(alloc, &set_of_list(alloc)?)?);
+    let mut set = PolicySet::new(alloc);
+    set.add(linked(alloc)?)?;
+    assert!(rt; link_stands(alloc, &set)?);
+    let listed = vec![in alloc; linked(alloc)?]?;
+    let set = PolicySet::try_from_iter(alloc, listed)?;
+    assert!(rt; link_stands(alloc, &set)?);
     Ok(())
 }
 

@@ -1,7 +1,7 @@
 //! Policies and what they are made of.
 
 use crate::parts;
-use crate::parts::{always, asked, bound, id, in_slot, of_principal, shared, template};
+use crate::parts::{ASKED, always, bound, id, in_slot, shared, template};
 use cedar_expr_leaves::{Literal, Slot, SlotId};
 use cedar_expr_names::{AnyId, Loc};
 use cedar_expr_trees::Expr;
@@ -10,13 +10,10 @@ use cedar_store_policies::{
     PrincipalConstraint, PrincipalOrResourceConstraint, ResourceConstraint, StaticPolicy, Template,
     UnexpectedSlotError,
 };
+use cedar_test_exprs::expr;
 use std::alloc::Global;
 use std::rc::{Rc, RcStr};
 use std::test::Fail;
-
-fn truth(b: bool) -> Expr {
-    Expr::val(Literal::Bool(b))
-}
 
 // The template t linked as l to the user a.
 fn linked(alloc: Global) -> Result<Policy, Fail> {
@@ -31,21 +28,21 @@ fn a_linked_policy_asks_its_slot_and_names_what_it_is_bound_to(
 ) -> Result<(), Fail> {
     let alloc = rt.alloc();
     let policy = linked(alloc)?;
-    assert!(rt; *policy.condition() == asked(alloc)?);
+    assert!(rt; *policy.condition() == expr(alloc, ASKED)?);
     assert_eq!(rt; policy.id().as_str(), "l");
     assert_eq!(rt; policy.template().id().as_str(), "t");
     assert!(rt; policy.effect() == Effect::Permit);
     assert!(rt; policy.env().get(SlotId::resource()).is_none());
     let user = EntityReference::EUID(shared(alloc, "User", "a")?);
-    let wanted = of_principal(PrincipalOrResourceConstraint::In(user));
-    assert!(rt; policy.principal_constraint()? == wanted);
+    let constraint = PrincipalOrResourceConstraint::In(user);
+    assert!(rt; policy.principal_constraint()? == PrincipalConstraint { constraint });
     assert!(rt; policy.resource_constraint()? == ResourceConstraint::any());
     assert!(rt; *policy.action_constraint() == ActionConstraint::Any);
     Ok(())
 }
 
 #[test]
-fn a_copy_is_the_same_policy(rt: HostRuntime) -> Result<(), Fail> {
+fn a_copy_is_the_same_policy_at_the_same_place(rt: HostRuntime) -> Result<(), Fail> {
     let alloc = rt.alloc();
     let policy = linked(alloc)?;
     let copy = policy.clone()?;
@@ -54,12 +51,6 @@ fn a_copy_is_the_same_policy(rt: HostRuntime) -> Result<(), Fail> {
     assert!(rt; copy.id() == policy.id());
     assert!(rt; policy.id().clone()? == *policy.id());
     assert!(rt; policy.env().clone()? == *policy.env());
-    Ok(())
-}
-
-#[test]
-fn a_copy_stands_at_the_same_place(rt: HostRuntime) -> Result<(), Fail> {
-    let alloc = rt.alloc();
     let template = Rc::new(alloc, annotated(alloc)?)?;
     let policy = Policy::new(template, None, bound(alloc, None, Some("d"))?);
     let copy = policy.clone()?;
@@ -82,7 +73,9 @@ fn slot_found(
         None,
         Annotations::new(alloc),
         Effect::Permit,
-        of_principal(principal),
+        PrincipalConstraint {
+            constraint: principal,
+        },
         ActionConstraint::any(),
         ResourceConstraint::any(),
         body,
@@ -110,8 +103,7 @@ fn static_policies_have_no_slots(rt: HostRuntime) -> Result<(), Fail> {
 #[test]
 fn a_policy_that_is_not_linked_has_its_templates_id(rt: HostRuntime) -> Result<(), Fail> {
     let alloc = rt.alloc();
-    let (one, two) = (Literal::from(1), Literal::from(2));
-    let body = Expr::add(alloc, Expr::val(one), Expr::val(two))?;
+    let body = expr(alloc, "1 2 +")?;
     let when = body.clone()?;
     let policy = Policy::from_when_clause(alloc, Effect::Permit, when, id(alloc, "foo")?, None)?;
     assert!(rt; policy.effect() == Effect::Permit);
@@ -123,7 +115,7 @@ fn a_policy_that_is_not_linked_has_its_templates_id(rt: HostRuntime) -> Result<(
     let forbids = parts::policy(alloc, "p", Effect::Forbid)?;
     assert_eq!(rt; forbids.id().as_str(), "p");
     assert!(rt; forbids.effect() == Effect::Forbid);
-    assert!(rt; *forbids.condition() == truth(true));
+    assert!(rt; *forbids.condition() == Expr::val(Literal::from(true)));
     assert!(rt; forbids.non_scope_constraints().is_none());
     Ok(())
 }
@@ -153,14 +145,14 @@ fn the_last_annotation_of_a_name_stands_and_may_be_shared(rt: HostRuntime) -> Re
     let other = AnyId::from_normalized_str(alloc, "c")?;
     assert!(rt; all.get(&other).is_none());
     let notes = Rc::new(alloc, notes(alloc, &[("a", "x")])?)?;
-    let body = Rc::new(alloc, truth(false))?;
+    let body = Rc::new(alloc, Expr::val(Literal::from(false)))?;
     let id = id(alloc, "r")?;
     let place = Some(Loc::new(1, 2));
     let policy = Policy::from_when_clause_annos(alloc, Effect::Forbid, body, id, place, notes)?;
     assert!(rt; policy.loc() == place);
     assert_eq!(rt; policy.annotations().count(), 1);
     assert_eq!(rt; policy.annotations_arc().iter().count(), 1);
-    assert!(rt; *policy.condition() == truth(false));
+    assert!(rt; *policy.condition() == Expr::val(Literal::from(false)));
     Ok(())
 }
 

@@ -37,21 +37,6 @@ fn misfit(alloc: Global, policy: &str, would_in_fix: bool) -> Result<ValidationW
     })
 }
 
-#[test]
-fn warnings_are_told_apart(rt: HostRuntime) -> Result<(), Fail> {
-    let alloc = rt.alloc();
-    let fits_nothing = misfit(alloc, "p", true)?;
-    assert!(rt; fits_nothing == misfit(alloc, "p", true)?);
-    assert!(rt; fits_nothing != misfit(alloc, "p", false)?);
-    assert!(rt; fits_nothing != misfit(alloc, "q", true)?);
-    let impossible = ValidationWarning::ImpossiblePolicy {
-        policy_id: id(alloc, "p")?,
-        source_loc: Some(Loc::new(0, 4)),
-    };
-    assert!(rt; fits_nothing != impossible);
-    Ok(())
-}
-
 // The error that a policy steps too deep, at a place.
 fn too_deep(alloc: Global, level: Option<u64>, start: usize) -> Result<ValidationError, Fail> {
     Ok(ValidationError {
@@ -62,8 +47,17 @@ fn too_deep(alloc: Global, level: Option<u64>, start: usize) -> Result<Validatio
 }
 
 #[test]
-fn errors_are_told_apart(rt: HostRuntime) -> Result<(), Fail> {
+fn warnings_and_errors_are_told_apart(rt: HostRuntime) -> Result<(), Fail> {
     let alloc = rt.alloc();
+    let fits_nothing = misfit(alloc, "p", true)?;
+    assert!(rt; fits_nothing == misfit(alloc, "p", true)?);
+    assert!(rt; fits_nothing != misfit(alloc, "p", false)?);
+    assert!(rt; fits_nothing != misfit(alloc, "q", true)?);
+    let impossible = ValidationWarning::ImpossiblePolicy {
+        policy_id: id(alloc, "p")?,
+        source_loc: Some(Loc::new(0, 4)),
+    };
+    assert!(rt; fits_nothing != impossible);
     let wants_two = too_deep(alloc, Some(2), 1)?;
     assert!(rt; wants_two == too_deep(alloc, Some(2), 1)?);
     assert!(rt; wants_two != too_deep(alloc, Some(3), 1)?);

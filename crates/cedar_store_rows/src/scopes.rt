@@ -1,19 +1,15 @@
 //! What scopes ask, written as expressions.
 
-use crate::parts::{id, in_slot, of_principal, shared};
-use cedar_expr_names::{EntityType, EntityUID};
+use crate::parts::{id, in_slot, shared};
+use cedar_expr_names::EntityUID;
 use cedar_store_policies::{
-    ActionConstraint, Annotations, Effect, EntityReference, PrincipalOrResource,
-    PrincipalOrResourceConstraint, ResourceConstraint, Template,
+    ActionConstraint, Annotations, Effect, EntityReference, PrincipalConstraint,
+    PrincipalOrResource, PrincipalOrResourceConstraint, ResourceConstraint, Template,
 };
 use cedar_test_exprs::{entity_type, expr};
 use std::alloc::Global;
 use std::rc::Rc;
 use std::test::Fail;
-
-fn user(alloc: Global) -> Result<Rc<EntityType>, Fail> {
-    Ok(Rc::new(alloc, entity_type(alloc, "User")?)?)
-}
 
 // Whether what the constraint asks of the principal is this.
 fn asks(
@@ -30,12 +26,13 @@ fn scopes_of_the_principal_are_asked(rt: HostRuntime) -> Result<(), Fail> {
     let alloc = rt.alloc();
     assert!(rt; asks(alloc, &PrincipalOrResourceConstraint::Any, "true")?);
     assert!(rt; asks(alloc, &in_slot(), "principal ?principal in")?);
-    let is = PrincipalOrResourceConstraint::Is(user(alloc)?);
+    let user = Rc::new(alloc, entity_type(alloc, "User")?)?;
+    let is = PrincipalOrResourceConstraint::Is(user.clone()?);
     assert!(rt; asks(alloc, &is, "principal is=User")?);
     let named = EntityReference::EUID(shared(alloc, "User", "a")?);
     let exactly = PrincipalOrResourceConstraint::Eq(named);
     assert!(rt; asks(alloc, &exactly, "principal User::a ==")?);
-    let both = PrincipalOrResourceConstraint::IsIn(user(alloc)?, EntityReference::Slot(None));
+    let both = PrincipalOrResourceConstraint::IsIn(user, EntityReference::Slot(None));
     assert!(rt; asks(alloc, &both, "principal is=User principal ?principal in &&")?);
     Ok(())
 }
@@ -77,14 +74,16 @@ fn bound_slots_are_filled(rt: HostRuntime) -> Result<(), Fail> {
 // `principal in ?principal`, `action in [view]`, `resource is User`, and `principal` as the body.
 fn of_all_parts(alloc: Global) -> Result<Template, Fail> {
     let (id, action) = (id(alloc, "m")?, views(alloc)?);
-    let constraint = PrincipalOrResourceConstraint::Is(user(alloc)?);
+    let user = Rc::new(alloc, entity_type(alloc, "User")?)?;
+    let constraint = PrincipalOrResourceConstraint::Is(user);
+    let asked = in_slot();
     Ok(Template::new(
         alloc,
         id,
         None,
         Annotations::new(alloc),
         Effect::Forbid,
-        of_principal(in_slot()),
+        PrincipalConstraint { constraint: asked },
         action,
         ResourceConstraint { constraint },
         Some(expr(alloc, "principal")?),

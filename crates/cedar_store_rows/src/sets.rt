@@ -1,8 +1,9 @@
 //! Sets of policies.
 
-use crate::parts::{always, asked, bound, id, policy, template};
+use crate::parts::{ASKED, always, bound, id, policy, template};
 use cedar_expr_leaves::SlotId;
 use cedar_store_policies::{Effect, LinkingError, Policy, PolicySet, PolicySetError};
+use cedar_test_exprs::expr;
 use std::alloc::Global;
 use std::test::Fail;
 
@@ -76,7 +77,7 @@ fn a_link_is_added_at_the_end(rt: HostRuntime) -> Result<(), Fail> {
     let Some(link) = set.get(&id(alloc, "l")?) else {
         return Err(Fail::from("there is no link"));
     };
-    assert!(rt; *link.condition() == asked(alloc)?);
+    assert!(rt; *link.condition() == expr(alloc, ASKED)?);
     assert!(rt; set.get_template(&id(alloc, "l")?).is_none());
     Ok(())
 }

@@ -1,7 +1,8 @@
 //! Stores of entities.
 
 use crate::entities::member;
-use crate::parts::uid;
+use crate::made::has_kin;
+use crate::parts::{uid, user};
 use cedar_expr_names::{EntityType, EntityUID};
 use cedar_expr_trees::{Expr, Type, Unknown};
 use cedar_store_entities::{Dereference, Entities, EntitiesError, Entity};
@@ -35,17 +36,11 @@ fn repeated(alloc: Global, ids: &[&str]) -> Result<Option<EntityUID>, Fail> {
 }
 
 #[test]
-fn the_first_repeated_uid_is_named(rt: HostRuntime) -> Result<(), Fail> {
+fn the_first_repeated_uid_is_told(rt: HostRuntime) -> Result<(), Fail> {
     let alloc = rt.alloc();
     assert!(rt; repeated(alloc, &["a", "a"])? == Some(uid(alloc, "User", "a")?));
     assert!(rt; repeated(alloc, &["b", "a", "a", "b"])? == Some(uid(alloc, "User", "a")?));
     assert!(rt; repeated(alloc, &["b", "a"])?.is_none());
-    Ok(())
-}
-
-#[test]
-fn the_refusal_has_its_number(rt: HostRuntime) -> Result<(), Fail> {
-    let alloc = rt.alloc();
     let refusal = EntitiesError::Duplicate {
         uid: uid(alloc, "User", "a")?,
     };
@@ -58,35 +53,11 @@ fn the_refusal_has_its_number(rt: HostRuntime) -> Result<(), Fail> {
     Ok(())
 }
 
-#[test]
-fn entities_come_as_they_were_given(rt: HostRuntime) -> Result<(), Fail> {
-    let alloc = rt.alloc();
-    let store = Entities::from_entities(alloc, users(alloc, &["b", "a", "c"])?)?;
-    let mut ids = String::new(alloc);
-    for entity in store.iter() {
-        ids.push_str(entity.uid().eid().as_str())?;
-    }
-    assert_eq!(rt; ids.as_str(), "bac");
-    Ok(())
-}
-
 // Whether the store gives the user of this id.
 fn gives(alloc: Global, store: &Entities, id: &str) -> Result<bool, Fail> {
-    let wanted = uid(alloc, "User", id)?;
-    match store.entity(alloc, &wanted)? {
-        Dereference::Data(e) => Ok(*e.uid() == wanted),
-        _ => Ok(false),
-    }
-}
-
-// Whether the store gives the user a, with the team red.
-fn gives_a(alloc: Global, store: &Entities) -> Result<bool, Fail> {
-    let wanted = uid(alloc, "User", "a")?;
-    match store.entity(alloc, &wanted)? {
-        Dereference::Data(e) => {
-            Ok(*e.uid() == wanted && e.is_child_of(&uid(alloc, "Team", "red")?))
-        }
-        _ => Ok(false),
+    match user(alloc, store, id)? {
+        Some(e) => Ok(*e.uid() == uid(alloc, "User", id)?),
+        None => Ok(false),
     }
 }
 
@@ -102,19 +73,24 @@ fn has_none(alloc: Global, store: &Entities, absent: &EntityUID) -> Result<bool,
 fn a_whole_store_knows_what_is_missing(rt: HostRuntime) -> Result<(), Fail> {
     let alloc = rt.alloc();
     let store = store(alloc)?;
-    assert!(rt; gives_a(alloc, &store)?);
-    assert!(rt; gives(alloc, &store, "b")?);
+    assert!(rt; gives(alloc, &store, "a")? && gives(alloc, &store, "b")?);
+    assert!(rt; has_kin(alloc, user(alloc, &store, "a")?)?);
     assert!(rt; has_none(alloc, &store, &uid(alloc, "User", "missing")?)?);
     assert!(rt; has_none(alloc, &store, &uid(alloc, "Team", "a")?)?);
     assert!(rt; has_none(alloc, &Entities::new(alloc), &uid(alloc, "User", "a")?)?);
     Ok(())
 }
 
-// Entities that have nothing are told apart by their uids.
+// Entities that have nothing are told apart by their uids, and come as they were given.
 #[test]
 fn each_entity_is_given_under_its_uid(rt: HostRuntime) -> Result<(), Fail> {
     let alloc = rt.alloc();
     let store = Entities::from_entities(alloc, users(alloc, &["b", "a", "c"])?)?;
+    let mut ids = String::new(alloc);
+    for entity in store.iter() {
+        ids.push_str(entity.uid().eid().as_str())?;
+    }
+    assert_eq!(rt; ids.as_str(), "bac");
     assert!(rt;
         gives(alloc, &store, "a")? && gives(alloc, &store, "b")? && gives(alloc, &store, "c")?
     );
@@ -147,7 +123,8 @@ fn left(alloc: Global, store: &Entities, id: &str) -> Result<Option<Expr>, Fail>
 fn a_partial_store_leaves_what_is_missing(rt: HostRuntime) -> Result<(), Fail> {
     let alloc = rt.alloc();
     let store = store(alloc)?.partial();
-    assert!(rt; gives_a(alloc, &store)?);
+    assert!(rt; gives(alloc, &store, "a")?);
+    assert!(rt; has_kin(alloc, user(alloc, &store, "a")?)?);
     let missing = left(alloc, &store, "missing")?;
     assert!(rt; missing == Some(stand_in(alloc, "User::\"missing\"")?));
     let quoted = left(alloc, &store, "\"")?;
