@@ -79,8 +79,8 @@ pub use schema::err::{
 };
 pub use schema::{
     ActionFragment, ActionFragmentKind, ActionGroups, ActionsDef, ActionsFor, AllDefs, Ancestors,
-    AppliesTo, CommonTypeDefs, EntityTypeFragment, EntityTypesDef, LocatedCommonType, LocatedNamespace,
-    LocatedType, StandardValidatorEntityType, TryValidate, UnresolvedDeclaration,
+    AppliesTo, CommonTypeDefs, EntityTypeFragment, EntityTypesDef, LocatedCommonType,
+    LocatedNamespace, LocatedType, StandardValidatorEntityType, TryValidate, UnresolvedDeclaration,
     UnresolvedDeclarations, ValidatorActionId, ValidatorApplySpec, ValidatorEntityType,
     ValidatorEntityTypeKind, ValidatorNamespaceDef, ValidatorSchema, ValidatorSchemaFragment,
     first_unsound, resolve, try_validate,

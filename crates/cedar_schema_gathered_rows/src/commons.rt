@@ -79,10 +79,7 @@ fn common_types_are_refused(rt: HostRuntime) -> Result<(), Fail> {
             "A | Set of {a: common A}\nB | A",
             "cycle in common type references: A",
         ),
-        (
-            "A | Long\nB | Long\nA | Long",
-            "duplicate common type `A`",
-        ),
+        ("A | Long\nB | Long\nA | Long", "duplicate common type `A`"),
         ("A | Set of extension rank", "unknown extension type `rank`"),
         ("A | {d: __cedar::D}", "the name `__cedar::D` is reserved"),
         (
