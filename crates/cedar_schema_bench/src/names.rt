@@ -9,16 +9,17 @@ mod core_types {
 
 mod json_schema {
     use cedar_schema::json_schema::{
-        ActionEntityUID, ActionType, ApplySpec, CommonType, EntityType, EntityTypeKind, Fragment,
-        NamespaceDefinition, RecordType, Type, TypeOfAttribute, TypeVariant,
+        ActionEntityUID, ActionType, ActionTypeKind, ApplySpec, CommonType, EntityType,
+        EntityTypeKind, Fragment, NamespaceDefinition, RecordType, Type, TypeOfAttribute,
+        TypeVariant,
     };
 }
 
 mod schema {
     use cedar_schema::schema::{
-        ActionFragment, ActionGroups, ActionsDef, ActionsFor, AllDefs, Ancestors, AppliesTo,
-        CommonTypeDefs, CommonTypes, DeclaredNames, DeclaredNamespaces, EntityTypeFragment,
-        EntityTypesDef, LocatedCommonType, LocatedNamespace, LocatedType,
+        ActionFragment, ActionFragmentKind, ActionGroups, ActionsDef, ActionsFor, AllDefs,
+        Ancestors, AppliesTo, CommonTypeDefs, CommonTypes, DeclaredNames, DeclaredNamespaces,
+        EntityTypeFragment, EntityTypesDef, LocatedCommonType, LocatedNamespace, LocatedType,
         StandardValidatorEntityType, TryValidate, TypeResolver, UnresolvedDeclaration,
         UnresolvedDeclarations, Unsound, ValidatorActionId, ValidatorApplySpec,
         ValidatorEntityType, ValidatorEntityTypeKind, ValidatorNamespaceDef, ValidatorSchema,
@@ -49,17 +50,17 @@ mod types {
 
 mod all {
     use cedar_schema::{
-        ActionFragment, ActionGroups, ActionsDef, ActionsFor, AllDefs, Ancestors, AppliesTo,
-        AttributeType, Attributes, BoolType, CommonTypeDefs, CoreSchemaType, DeclaredAttributes,
-        EntityKind, EntityLUB, EntityTypeFragment, EntityTypesDef, FragmentError,
-        LocatedCommonType, LocatedNamespace, LocatedType, OpenTag, SchemaAttributes, SchemaError,
-        ShadowingError, StandardValidatorEntityType, TryValidate, Type, TypeNotDefinedError,
-        UnresolvedDeclaration, UnresolvedDeclarations, UnresolvedExternalError, UnsoundSchemaError,
-        ValidationMode, ValidatorActionId, ValidatorApplySpec, ValidatorEntityType,
-        ValidatorEntityTypeKind, ValidatorNamespaceDef, ValidatorSchema, ValidatorSchemaFragment,
-        all_attributes, all_known_attrs, are_types_disjoint, core_schema_type, first_unsound,
-        is_subtype, least_upper_bound, lookup_attribute_type, may_have_attr,
-        reduce_to_least_upper_bound, resolve, try_validate, typecheck_literal,
-        typecheck_restricted_expr, typecheck_value,
+        ActionFragment, ActionFragmentKind, ActionGroups, ActionsDef, ActionsFor, AllDefs,
+        Ancestors, AppliesTo, AttributeType, Attributes, BoolType, CommonTypeDefs, CoreSchemaType,
+        DeclaredAttributes, EntityKind, EntityLUB, EntityTypeFragment, EntityTypesDef,
+        FragmentError, LocatedCommonType, LocatedNamespace, LocatedType, OpenTag, SchemaAttributes,
+        SchemaError, ShadowingError, StandardValidatorEntityType, TryValidate, Type,
+        TypeNotDefinedError, UnresolvedDeclaration, UnresolvedDeclarations,
+        UnresolvedExternalError, UnsoundSchemaError, ValidationMode, ValidatorActionId,
+        ValidatorApplySpec, ValidatorEntityType, ValidatorEntityTypeKind, ValidatorNamespaceDef,
+        ValidatorSchema, ValidatorSchemaFragment, all_attributes, all_known_attrs,
+        are_types_disjoint, core_schema_type, first_unsound, is_subtype, least_upper_bound,
+        lookup_attribute_type, may_have_attr, reduce_to_least_upper_bound, resolve, try_validate,
+        typecheck_literal, typecheck_restricted_expr, typecheck_value,
     };
 }
