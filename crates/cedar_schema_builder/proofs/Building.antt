@@ -16,7 +16,7 @@ use Rattle.cedar_schema_builder_model.specs.Writing.{CommonForms, EntityForms, A
 use Rattle.cedar_schema_builder.specs.Built.{AreBuiltOf}
 use Rattle.cedar_schema_builder.specs.Steps.{AreNamed, AreGathered, AreAssembled}
 
-same_mapped : {A B C : Type 0} (f : A → B) (g : B → C) (h : A → C) → ((x : A) → g (f x) ≡ h x) → (xs : List A) → map g (map f xs) ≡ map h xs
+pub same_mapped : {A B C : Type 0} (f : A → B) (g : B → C) (h : A → C) → ((x : A) → g (f x) ≡ h x) → (xs : List A) → map g (map f xs) ≡ map h xs
 same_mapped f g h e [] = refl
 same_mapped f g h e (x ∷ xs) = λ i. e x i ∷ same_mapped f g h e xs i
 

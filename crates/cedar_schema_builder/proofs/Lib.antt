@@ -5,3 +5,11 @@ mod Shadowing
 mod Gathering
 mod Telling
 mod Extending
+mod Coming
+mod Spaces
+mod Reserved
+mod Forming
+mod FormTelling
+mod OneSolution
+mod FormLaws
+mod FaultsWritten

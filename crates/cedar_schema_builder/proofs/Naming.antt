@@ -19,6 +19,7 @@ use Rattle.cedar_schema_gathered.specs.Laws.{ReservedNamesAreFound, ActionTypesA
 use Rattle.cedar_schema_gathered.specs.Named.{ReservedNamesAreThere, ActionTypesAreThere}
 use Rattle.cedar_schema_gathered.specs.WrittenNames.{names_in, entities_named}
 use Rattle.cedar_schema_builder.specs.Faults.{of_fragments}
+use Rattle.cedar_schema_builder.specs.FormSteps.{AreNamesFormed, IsFaultOfNames}
 use Rattle.cedar_schema_builder.specs.Steps.{NamesFaultIn, AreNamed}
 use Rattle.cedar_schema_builder.specs.declared.err.SchemaError.TheVariants as schema
 
@@ -29,6 +30,10 @@ checked o = option_map_or (λ n. Err (reserved_type n)) o (Ok tt)
 none_found : (o : Option Name) (u : Unit {0}) → checked o ≡ Ok u → is_some o ≡ false
 none_found None u h = refl
 none_found (Some n) u h = absurd (cc)
+
+nothing_found : (o : Option Name) (u : Unit {0}) → checked o ≡ Ok u → o ≡ None
+nothing_found None u h = refl
+nothing_found (Some n) u h = absurd (cc)
 
 -- nothing else is told than a reserved name
 no_type_told : (o : Option Name) (c : Conditional) → checked o ≡ Err (no_type c) → ⊥
@@ -62,3 +67,19 @@ module _ (fs : List (ValidatorSchemaFragment ConditionalName ConditionalName)) w
 
   pub typed_named : ActionTypesAreThere → (n : InternalName) → find is_action_word (entities_named fs) ≡ Some (name_of n) → NamesFaultIn fs (schema.ActionEntityTypeDeclared n)
   typed_named there n h = record { each = λ x d w. there fs d w (name_of n) h }
+
+  -- the same of any fragments
+  pub names_formed : (u : Unit {0}) → reserved_checked fs ≡ Ok u → find is_action_word (entities_named fs) ≡ None → AreNamesFormed fs
+  names_formed u h k = record { none_reserved = nothing_found (find is_reserved (names_in fs)) u h; no_action_type = k }
+
+  pub memory_of_names : IsFaultOfNames fs schema.OutOfMemory
+  memory_of_names = record { each = λ s x. tt }
+
+  pub reserved_at_fault : (e : FragmentError) → Refuses (reserved_checked fs) e → IsFaultOfNames fs (of_fragments e)
+  reserved_at_fault OutOfMemory h = memory_of_names
+  reserved_at_fault (TypeNotDefined c) h = absurd (no_type_told (find is_reserved (names_in fs)) (conditional_of c) (h (no_type (conditional_of c)) refl))
+  reserved_at_fault (ActionNotDefined c id) h = absurd (no_action_told (find is_reserved (names_in fs)) (conditional_of c, rc_str_bytes id) (h (no_action (conditional_of c, rc_str_bytes id)) refl))
+  reserved_at_fault (ReservedName e) h = record { each = λ s x. reserved_told (find is_reserved (names_in fs)) (refused_name_of e) (h (reserved_type (refused_name_of e)) refl) }
+
+  pub typed_at_fault : (n : InternalName) → find is_action_word (entities_named fs) ≡ Some (name_of n) → IsFaultOfNames fs (schema.ActionEntityTypeDeclared n)
+  typed_at_fault n h = record { each = λ s x. h }

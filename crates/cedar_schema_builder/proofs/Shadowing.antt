@@ -1,5 +1,5 @@
 -- What shadows by the sets shadows in the declarations, under the same name.
-use Rattle.std.proofs.Common.{◌≡◌, Bool, true, false, cond, ◌||◌, List, [], ◌∷◌, Option, Some, None, option_map, find, refl, sym, ◌∙◌, subst, inl, inr, ⊎_elim}
+use Rattle.std.proofs.Common.{◌≡◌, Bool, true, false, ◌||◌, Option, Some, None, option_map, find, refl, sym, ◌∙◌, inl, inr, ⊎_elim}
 use Rattle.std.proofs.lemmas.List.Elements.{Contains-append_left, Contains-append_right}
 use Rattle.std.specs.Prelude.{Contains, ◌⊎◌, not}
 use Rattle.std.specs.List.{list_any}
@@ -8,7 +8,7 @@ use Rattle.cedar_expr_model.specs.Name.{Name, name_eq}
 use Rattle.cedar_expr_model.specs.Uid.{Uid, uid_eq}
 use Rattle.cedar_expr_model.specs.Whole.Names.{is_unqualified, unqualified}
 use Rattle.cedar_expr_model.proofs.Equality.{name_eq-Decides, uid_eq-Decides}
-use Rattle.cedar_expr_model.proofs.Lists.{both_hold, contains_head, contains_tail, found-Decides}
+use Rattle.cedar_expr_model.proofs.Lists.{both_hold, found-Decides}
 use Rattle.cedar_schema_model.specs.Whole.Declarations.{Declarations, common_names, entity_names, action_uids}
 use Rattle.cedar_schema_model.specs.Whole.Reference.{meant_common, meant_entity}
 use Rattle.cedar_schema_model.specs.Whole.WellFormed.{declared_types, unqualified_uid}
@@ -17,6 +17,7 @@ use Rattle.cedar_schema_decl.specs.Laws.{HasDeclared}
 use Rattle.cedar_schema_decl.specs.Shadowing.{is_type, type_shadows, action_shadows, Shadowing, shadowing_type, shadowing_action, first_shadowing}
 use Rattle.cedar_schema_fragments.specs.Laws.{HasActions}
 use Rattle.cedar_schema_builder.specs.Named.{IsTypeShadowing, IsActionShadowing}
+use Rattle.cedar_schema_builder.proofs.Coming.{found_there}
 
 -- which of them it is
 abbrev first_of : Option Name → Option Name → Option Uid → Option Shadowing
@@ -33,18 +34,6 @@ an_action (Some m) p q u h = absurd (cc)
 an_action None (Some m) q u h = absurd (cc)
 an_action None None (Some v) u h = cc
 an_action None None None u h = absurd (cc)
-
--- what is found is there, and passes
-found_there : {A : Type 0} (p : A → Bool) (xs : List A) (y : A) → find p xs ≡ Some y → Contains xs y × (p y ≡ true)
-found_there p [] y h = absurd (cc)
-found_there {A} p (x ∷ xs) y h = go (found_there p xs y) (p x) refl h
-  where
-    same : Some x ≡ Some y → x ≡ y
-    same e = cc
-
-    go : (find p xs ≡ Some y → Contains xs y × (p y ≡ true)) → (b : Bool) → p x ≡ b → cond b (Some x) (find p xs) ≡ Some y → Contains (x ∷ xs) y × (p y ≡ true)
-    go later true e k = subst (λ (z : A). Contains (x ∷ xs) z × (p z ≡ true)) (same k) (contains_head x xs, e)
-    go later false e k = let r = later k in (contains_tail x xs y r.0, r.1)
 
 either : (a b : Bool) → (a || b) ≡ true → (a ≡ true) ⊎ (b ≡ true)
 either true b h = inl refl

@@ -12,6 +12,7 @@ use Rattle.cedar_schema_kept_model.specs.Kept.{KeptType, KeptAction}
 use Rattle.cedar_schema_fragments.specs.declared.namespace_def.ValidatorSchemaFragment.{ValidatorSchemaFragment}
 use Rattle.cedar_schema_assembly.specs.Lists.{IsSetOf}
 use Rattle.cedar_schema_builder.specs.Built.{AreBuiltOf, IsFaultOf, NamesFaultOf}
+use Rattle.cedar_schema_builder.specs.OfFragments.{AreBuiltOfFormed, IsFaultInFragments}
 use Rattle.cedar_schema_builder.specs.declared.err.SchemaError.{SchemaError}
 
 abbrev pub types_given : {B : _} {F : _} {g : _} → Extensions B F g → List Name
@@ -22,3 +23,5 @@ pub record ExtensionTypesAreASet : Type 0 where
   pub faults : (x y : List Name) → IsSetOf x y → (fs : List (ValidatorSchemaFragment ConditionalName ConditionalName)) (f : SchemaFault) → IsFaultOf y fs f → IsFaultOf x fs f
   pub names : (x y : List Name) → IsSetOf x y → (fs : List (ValidatorSchemaFragment ConditionalName ConditionalName)) (e : SchemaError) → NamesFaultOf y fs e → NamesFaultOf x fs e
   pub built : (x y : List Name) → IsSetOf x y → (fs : List (ValidatorSchemaFragment ConditionalName ConditionalName)) (ts : List KeptType) (ks : List KeptAction) → AreBuiltOf y fs ts ks → AreBuiltOf x fs ts ks
+  pub formed : (x y : List Name) → IsSetOf x y → (fs : List (ValidatorSchemaFragment ConditionalName ConditionalName)) (ts : List KeptType) (ks : List KeptAction) → AreBuiltOfFormed y fs ts ks → AreBuiltOfFormed x fs ts ks
+  pub at_fault : (x y : List Name) → IsSetOf x y → (fs : List (ValidatorSchemaFragment ConditionalName ConditionalName)) (e : SchemaError) → IsFaultInFragments y fs e → IsFaultInFragments x fs e

@@ -7,6 +7,8 @@ ghost use Rattle.cedar_schema_gathered.specs.Gathered.{commons_gathered, entitie
 ghost use Rattle.cedar_schema_resolver.specs.Meanings.{extensions_seen};
 ghost use Rattle.cedar_schema_builder.specs.Built.{types_made, actions_made, AreBuiltOf, IsFaultOf, NamesFaultOf};
 ghost use Rattle.cedar_schema_builder.specs.Faults.{Tells};
+ghost use Rattle.cedar_schema_builder.specs.FormSteps.{AreNamesFormed, IsFaultOfNames, AreFormsOf, IsFaultOfSets, IsFaultOfForms};
+ghost use Rattle.cedar_schema_builder.specs.OfFragments.{AreBuiltOfFormed, IsFaultInFragments};
 ghost use Rattle.cedar_schema_builder.specs.Steps.{AreNamed, AreGathered, AreAssembled, NamesFaultIn, NamesFaultOfWritten};
 
 use crate::err::SchemaError;
@@ -43,7 +45,9 @@ fn check_names(
     fragments: &[ValidatorSchemaFragment<ConditionalName, ConditionalName>],
 ) -> Result<(), SchemaError>
     ensures passed { IfOk result (λ _. AreNamed fragments.now) }
+    ensures formed { IfOk result (λ _. AreNamesFormed fragments.now) }
     ensures named { IfErr result (NamesFaultIn fragments.now) }
+    ensures at_fault { IfErr result (IsFaultOfNames fragments.now) }
 {
     reserved_names_are_written();
     action_types_are_found();
@@ -66,7 +70,9 @@ fn gathered(
 ) -> Result<GatheredDefs, SchemaError>
     requires { HasAll fragments.items (defined_of all_defs.now) }
     ensures gathered { IfOk result (λ g. AreGathered fragments.items (defined_of all_defs.now) (commons_gathered g) (entities_gathered g) (actions_gathered g)) }
+    ensures formed { IfOk result (λ g. AreFormsOf fragments.items (defined_of all_defs.now) (commons_gathered g) (entities_gathered g) (actions_gathered g)) }
     ensures named { IfErr result (NamesFaultIn fragments.items) }
+    ensures at_fault { IfErr result (IsFaultOfSets fragments.items (defined_of all_defs.now)) }
 {
     written_are_declared();
     refusals_name_faults();
@@ -86,6 +92,7 @@ fn assembled(
 ) -> Result<SchemaParts, SchemaError>
     ensures made { IfOk result (λ p. AreAssembled (defined_of all_defs.now) (extensions_seen extension_types.now) (commons_gathered gathered.now) (entities_gathered gathered.now) (actions_gathered gathered.now) (types_made p) (actions_made p)) }
     ensures named { IfErr result (NamesFaultOfWritten (defined_of all_defs.now) (extensions_seen extension_types.now) (commons_gathered gathered.now) (entities_gathered gathered.now) (actions_gathered gathered.now)) }
+    ensures at_fault { IfErr result (IsFaultOfForms (defined_of all_defs.now) (extensions_seen extension_types.now) (commons_gathered gathered.now) (entities_gathered gathered.now) (actions_gathered gathered.now)) }
 {
     names_are_declared();
     let commons = resolve_common_types(alloc, &gathered.common_types, all_defs, extension_types)?;
@@ -109,7 +116,9 @@ fn named_parts(
     extension_types: &BTreeSet<Name>,
 ) -> Result<SchemaParts, SchemaError>
     ensures built { IfOk result (λ p. AreBuiltOf (extensions_seen extension_types.now) fragments.items (types_made p) (actions_made p)) }
+    ensures formed { IfOk result (λ p. AreBuiltOfFormed (extensions_seen extension_types.now) fragments.items (types_made p) (actions_made p)) }
     ensures named { IfErr result (NamesFaultOf (extensions_seen extension_types.now) fragments.items) }
+    ensures at_fault { IfErr result (IsFaultInFragments (extensions_seen extension_types.now) fragments.items) }
 {
     steps_build_the_schema();
     refused_steps_name_faults();
@@ -122,15 +131,18 @@ fn named_parts(
 
 /// The entity types and the actions of the schema that the declarations of these fragments tell, where these are well-formed and
 /// the extension types are the ones that are known. Refuses them else, with a fault that is there and under the name of what is at
-/// fault, and answers want of memory.
+/// fault, and answers want of memory. Of fragments that no declarations write it builds what their names mean by what is declared in
+/// them, under the same conditions, and refuses them else with what is at fault in them.
 pub fn schema_parts(
     alloc: Global,
     fragments: Vec<ValidatorSchemaFragment<ConditionalName, ConditionalName>>,
     extension_types: &BTreeSet<Name>,
 ) -> Result<SchemaParts, SchemaError>
     ensures built { IfOk result (λ p. AreBuiltOf (extensions_seen extension_types.now) fragments.items (types_made p) (actions_made p)) }
+    ensures formed { IfOk result (λ p. AreBuiltOfFormed (extensions_seen extension_types.now) fragments.items (types_made p) (actions_made p)) }
     ensures refused { IfErr result (Tells (IsFaultOf (extensions_seen extension_types.now) fragments.items)) }
     ensures named { IfErr result (NamesFaultOf (extensions_seen extension_types.now) fragments.items) }
+    ensures at_fault { IfErr result (IsFaultInFragments (extensions_seen extension_types.now) fragments.items) }
 {
     named_are_faults();
     match named_parts(alloc, fragments, extension_types) {
