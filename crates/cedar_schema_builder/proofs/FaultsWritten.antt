@@ -107,8 +107,8 @@ module _ (refusals : RefusalsNameFaults) (reserved : ReservedNamesAreThere) (typ
         (λ i. let p = flat_from (λ (z : Name × TypeForm Name). extensions_of z.1) cs (plain_name_of n) i in are_names.commons (resolve.UnknownExtensionType n) (p.0, p.1, (p.2, out)))
         (λ j. ⊎_elim
         (λ i. let p = flat_from (λ (z : Name × EntityForm Name). flat_map extensions_of (types_in z.1)) es (plain_name_of n) i in
-            let t = flat_from extensions_of (types_in p.0.1) (plain_name_of n) p.2 in
-            are_names.types t.0 (inl (p.0, p.1, t.1)) (resolve.UnknownExtensionType n) (t.2, out))
+        let t = flat_from extensions_of (types_in p.0.1) (plain_name_of n) p.2 in
+        are_names.types t.0 (inl (p.0, p.1, t.1)) (resolve.UnknownExtensionType n) (t.2, out))
         (λ i. let p = flat_from (λ (z : Uid × ActionForm Name (Name × Text)). extensions_of z.1.context) us (plain_name_of n) i in are_names.types p.0.1.context (inr (p.0, p.1, refl)) (resolve.UnknownExtensionType n) (p.2, out))
         (Contains-append_cases (flat_map (λ (z : Name × EntityForm Name). flat_map extensions_of (types_in z.1)) es) _ (plain_name_of n) j))
         (Contains-append_cases (flat_map (λ (z : Name × TypeForm Name). extensions_of z.1) cs) _ (plain_name_of n) c)

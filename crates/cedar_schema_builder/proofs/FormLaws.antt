@@ -1,5 +1,5 @@
 -- Fragments of which a schema is built: what they write, and that nothing is at fault in them.
-use Rattle.std.proofs.Common.{◌≡◌, true, false, List, Option, Some, None, Ok, find, refl, sym, ap, ◌∙◌, subst}
+use Rattle.std.proofs.Common.{◌≡◌, List, Option, Some, None, Ok, find, refl, sym, ap, ◌∙◌, subst}
 use Rattle.std.proofs.lemmas.Bool.{true≢false}
 use Rattle.std.proofs.lemmas.List.Elements.{Contains-append_left, Contains-append_right}
 use Rattle.std.specs.Prelude.{Contains, is_some}

@@ -1,7 +1,7 @@
 -- A reserved name in what fragments declare with each name resolved is written in the fragments.
 use Rattle.std.proofs.Common.{◌≡◌, Bool, true, false, cond, List, [], ◌++◌, Option, Some, None, find, Result, Ok, Err, refl, sym, ap, ◌∙◌, subst, ⊎_elim}
 use Rattle.std.proofs.lemmas.List.Elements.{Contains-append_left, Contains-append_right, Contains-append_cases}
-use Rattle.std.specs.Prelude.{Contains, ◌⊎◌}
+use Rattle.std.specs.Prelude.{Contains}
 use Rattle.std.specs.List.{flat_map, list_any}
 use Rattle.std.specs.Option.{option_map_or, option_to_list}
 use Rattle.cedar_expr_model.specs.Name.{Text, Name, name_eq, is_reserved}
@@ -197,18 +197,18 @@ module _ (fs : Fragments) (s : Defined) (has : HasAll fs s) where
     extension_named n c =
         ⊎_elim
         (λ i. let p = flat_from (λ (z : Name × TypeForm Name). extensions_of z.1) (commons_of (all_of gs)) n i in
-            let q = common_from s fs gs h p.0 p.1 in
-            common_there q.0 q.1 q.2.0 q.2.1 n (contains_tail q.2.0.0 _ n (extension_kept s q.2.0.1 p.0.1 q.2.3 n p.2)))
+        let q = common_from s fs gs h p.0 p.1 in
+        common_there q.0 q.1 q.2.0 q.2.1 n (contains_tail q.2.0.0 _ n (extension_kept s q.2.0.1 p.0.1 q.2.3 n p.2)))
         (λ j. ⊎_elim
         (λ i. let p = flat_from (λ (z : Name × EntityForm Name). flat_map extensions_of (types_in z.1)) (entities_of (all_of gs)) n i in
-            let t = flat_from extensions_of (types_in p.0.1) n p.2 in
-            let q = entity_from s fs gs h p.0 p.1 in
-            entity_there q.0 q.1 q.2.0 q.2.1 n (contains_tail q.2.0.0 _ n (kind_kept s q.2.0.1 p.0.1 q.2.3 t.0 t.1 n t.2)))
+        let t = flat_from extensions_of (types_in p.0.1) n p.2 in
+        let q = entity_from s fs gs h p.0 p.1 in
+        entity_there q.0 q.1 q.2.0 q.2.1 n (contains_tail q.2.0.0 _ n (kind_kept s q.2.0.1 p.0.1 q.2.3 t.0 t.1 n t.2)))
         (λ i. let p = flat_from (λ (z : Uid × ActionForm Name (Name × Text)). extensions_of z.1.context) (actions_of (all_of gs)) n i in
-            let q = action_from s fs gs h p.0 p.1 in
-            let k : ActionMade s q.2.0.1 p.0.1 = action_made s q.2.0.1 p.0.1 q.2.3 in
-            action_there q.0 q.1 q.2.0 q.2.1 n (contains_tail q.2.0.0.kind _ n
-            (Contains-append_right (parents_as_written q.2.0.1.parents) _ n (Contains-append_right (as_written q.2.0.1.principals) _ n (Contains-append_right (as_written q.2.0.1.resources) _ n (extension_kept s q.2.0.1.context p.0.1.context k.context n p.2))))))
+        let q = action_from s fs gs h p.0 p.1 in
+        let k : ActionMade s q.2.0.1 p.0.1 = action_made s q.2.0.1 p.0.1 q.2.3 in
+        action_there q.0 q.1 q.2.0 q.2.1 n (contains_tail q.2.0.0.kind _ n
+        (Contains-append_right (parents_as_written q.2.0.1.parents) _ n (Contains-append_right (as_written q.2.0.1.principals) _ n (Contains-append_right (as_written q.2.0.1.resources) _ n (extension_kept s q.2.0.1.context p.0.1.context k.context n p.2))))))
         (Contains-append_cases (flat_map (λ (z : Name × EntityForm Name). flat_map extensions_of (types_in z.1)) (entities_of (all_of gs))) _ n j))
         (Contains-append_cases (flat_map (λ (z : Name × TypeForm Name). extensions_of z.1) (commons_of (all_of gs))) _ n c)
 
@@ -255,7 +255,7 @@ module _ (fs : Fragments) (s : Defined) (has : HasAll fs s) where
       ⊎_elim
       (λ e. absurd (no_type_only (resolved s c) n e))
       (λ k. let u = unreserved_refused k.0 n k.2 in
-          (subst (Contains (names_in fs)) u.0 (resolved_defined c (meant_by s c) k.0 refl (of_types_made (resolved s c) k.0 k.1)), subst (λ z. is_reserved z ≡ true) u.0 u.1))
+      (subst (Contains (names_in fs)) u.0 (resolved_defined c (meant_by s c) k.0 refl (of_types_made (resolved s c) k.0 k.1)), subst (λ z. is_reserved z ≡ true) u.0 u.1))
       (bind_refused unreserved (of_types (resolved s c)) (reserved_type n) h)
 
   entities_refused : (n : Name) (cs : List Conditional) → each (entity_resolved s) cs ≡ Err (reserved_type n) → Contains (names_in fs) n × (is_reserved n ≡ true)
@@ -291,8 +291,8 @@ module _ (fs : Fragments) (s : Defined) (has : HasAll fs s) where
       (λ k. ⊎_elim
       (λ e. absurd (no_type_only (entities_resolved s v.entities) n e))
       (λ m.
-          let a = each_refused (with_uid (action_resolved s)) v.actions (reserved_type n) (last_refused (λ us. of_space v k.0 m.0 us) actions (reserved_type n) m.2) in
-          action_refused n a.0.1 (last_refused (λ y. (a.0.0, y)) (action_resolved s a.0.1) (reserved_type n) a.2))
+      let a = each_refused (with_uid (action_resolved s)) v.actions (reserved_type n) (last_refused (λ us. of_space v k.0 m.0 us) actions (reserved_type n) m.2) in
+      action_refused n a.0.1 (last_refused (λ y. (a.0.0, y)) (action_resolved s a.0.1) (reserved_type n) a.2))
       (bind_refused (λ es. and_then (λ us. Ok (of_space v k.0 es us)) actions) (of_types (entities_resolved s v.entities)) (reserved_type n) k.2))
       (bind_refused (λ cs. and_then (λ es. and_then (λ us. Ok (of_space v cs es us)) actions) (of_types (entities_resolved s v.entities))) (of_types (commons_resolved s v.commons)) (reserved_type n) h)
 
