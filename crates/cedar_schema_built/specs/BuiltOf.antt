@@ -10,8 +10,14 @@ use Rattle.cedar_schema_kept_model.specs.Kept.{Kept}
 use Rattle.cedar_schema_kept_model.specs.KeptOf.{IsKeptOf}
 use Rattle.cedar_schema_fragments.specs.WrittenDeclarations.{AreWritten}
 use Rattle.cedar_schema_fragments.specs.declared.namespace_def.ValidatorSchemaFragment.{ValidatorSchemaFragment}
+use Rattle.cedar_schema_builder.specs.OfFragments.{AreFormed, schema_formed}
 
 -- The declarations that the fragments write are well-formed with these extension types, and their schema is what is kept.
 pub record IsBuiltOf (x : List Name) (fs : List (ValidatorSchemaFragment ConditionalName ConditionalName)) (k : Kept) : Type 0 where
   pub are_well_formed : (d : Declarations) → AreWritten fs d → IsWellFormed x d
   pub keeps : (d : Declarations) → AreWritten fs d → IsKeptOf (schema_of d) k
+
+-- The fragments are such as a schema is built of, whether or not declarations write them, and the schema that they tell is what is kept.
+pub record IsBuiltOfFormed (x : List Name) (fs : List (ValidatorSchemaFragment ConditionalName ConditionalName)) (k : Kept) : Type 0 where
+  pub formed : AreFormed x fs
+  pub keeps : IsKeptOf (schema_formed x fs formed) k

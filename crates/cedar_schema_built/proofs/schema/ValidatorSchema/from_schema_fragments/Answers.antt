@@ -5,9 +5,10 @@ use Rattle.cedar_schema_model.specs.Whole.Resolved.{schema_of}
 use Rattle.cedar_schema_fragments.specs.declared.namespace_def.ValidatorSchemaFragment.{ValidatorSchemaFragment}
 use Rattle.cedar_schema_builder.specs.Built.{types_made, actions_made, NamesFaultOf}
 use Rattle.cedar_schema_builder.specs.Extensions.{types_given}
+use Rattle.cedar_schema_builder.specs.OfFragments.{schema_formed, IsFaultInFragments}
 use Rattle.cedar_schema_builder.specs.declared.err.SchemaError.TheVariants.{OutOfMemory}
 use Rattle.cedar_schema_decl.proofs.Gathered.{handed}
-use Rattle.cedar_schema_built.specs.BuiltOf.{IsBuiltOf}
+use Rattle.cedar_schema_built.specs.BuiltOf.{IsBuiltOf, IsBuiltOfFormed}
 use Rattle.cedar_schema_built.specs.Listed.{AreListed, HasNamesOf, names_listed}
 use Rattle.cedar_schema_built.proofs.schema.ValidatorSchema.from_schema_fragments.Goals as goal
 
@@ -44,3 +45,30 @@ returns-in_err-schema-in-Ok-clause-named g c =
 pub returns-in-Err-clause-named : goal.returns-in-Err-clause-named
 returns-in-Err-clause-named g c =
     c.extension_types_are_a_set.ensures.names (types_given c.args.extensions.now) (extensions_seen c.in_ok-types.types) c.in_ok-types.ensures c.args.fragments.items c.in-Err.error c.in-Err.ensures.named
+
+pub returns-in_ok-schema-in-Ok-clause-formed : goal.returns-in_ok-schema-in-Ok-clause-formed
+returns-in_ok-schema-in-Ok-clause-formed g c =
+    let x = types_given c.args.extensions.now in
+    let fs = c.args.fragments.items in
+    let p = c.in-Ok.parts in
+    let b = c.extension_types_are_a_set.ensures.formed x (extensions_seen c.in_ok-types.types) c.in_ok-types.ensures fs (types_made p) (actions_made p) c.in-Ok.ensures.formed in
+    subst (IsBuiltOfFormed x fs) (sym (c.with_names.ensures.kept ∙ c.in_ok-schema-in-Ok.ensures.kept)) (record {
+      formed = b.formed;
+      keeps = c.new_keeps_the_schema.ensures (schema_formed x fs b.formed) p.entity_types.items p.actions.items b.types b.actions;
+    })
+
+pub returns-in_err-names-clause-at_fault : goal.returns-in_err-names-clause-at_fault
+returns-in_err-names-clause-at_fault g c =
+    handed (IsFaultInFragments (types_given c.args.extensions.now) c.args.fragments.items) OutOfMemory c.from_residual.result c.from_residual.ensures.1 tt
+
+pub returns-in_err-types-clause-at_fault : goal.returns-in_err-types-clause-at_fault
+returns-in_err-types-clause-at_fault g c =
+    handed (IsFaultInFragments (types_given c.args.extensions.now) c.args.fragments.items) OutOfMemory c.from_residual-in_err-types.result c.from_residual-in_err-types.ensures.1 tt
+
+pub returns-in_err-schema-in-Ok-clause-at_fault : goal.returns-in_err-schema-in-Ok-clause-at_fault
+returns-in_err-schema-in-Ok-clause-at_fault g c =
+    handed (IsFaultInFragments (types_given c.args.extensions.now) c.args.fragments.items) OutOfMemory c.from_residual-in_err-schema-in-Ok.result c.from_residual-in_err-schema-in-Ok.ensures.1 tt
+
+pub returns-in-Err-clause-at_fault : goal.returns-in-Err-clause-at_fault
+returns-in-Err-clause-at_fault g c =
+    c.extension_types_are_a_set.ensures.at_fault (types_given c.args.extensions.now) (extensions_seen c.in_ok-types.types) c.in_ok-types.ensures c.args.fragments.items c.in-Err.error c.in-Err.ensures.at_fault
