@@ -1,7 +1,7 @@
 //! Why nothing is built.
 
 use cedar_expr_names::NameError;
-use cedar_schema::{FragmentError, SchemaError};
+use cedar_schema::{FragmentError, SchemaError, UnsoundSchemaError};
 use std::alloc::{AllocError, AllocFailed};
 
 /// Why nothing is built.
@@ -47,6 +47,15 @@ impl From<SchemaError> for Fault {
     fn from(error: SchemaError) -> Fault {
         match error {
             SchemaError::OutOfMemory => Fault::OutOfMemory,
+            _ => Fault::Refused,
+        }
+    }
+}
+
+impl From<UnsoundSchemaError> for Fault {
+    fn from(error: UnsoundSchemaError) -> Fault {
+        match error {
+            UnsoundSchemaError::OutOfMemory => Fault::OutOfMemory,
             _ => Fault::Refused,
         }
     }

@@ -1,9 +1,9 @@
 //! Builds a schema of a size, and prints a number that tells what it has, or its text.
 //!
-//! Standard input holds a word and a number, as `chain 1000`. For `mixed` the text of the schema is printed, and for `refused` the
-//! number of the refusal. The exit status is 0, or 2 where the input names no shape, or 3 where the declarations were refused, or 4
-//! where memory, reading or writing failed; where it isn't 0 nothing is printed. bench/schema.py measures it, and sweeps/run refuses it
-//! memory.
+//! Standard input holds a word and a number, as `chain 1000`. After `checked_`, as in `checked_chain 1000`, `try_validate` is asked of the
+//! schema too. For `mixed` the text of the schema is printed, and for `refused` the number of the refusal. The exit status is 0, or 2
+//! where the input names no shape, or 3 where the declarations were refused, or 4 where memory, reading or writing failed; where it
+//! isn't 0 nothing is printed. bench/schema.py measures it, and sweeps/run refuses it memory.
 #![tactic(auto)]
 
 mod examples;
@@ -13,15 +13,18 @@ mod shapes;
 
 use crate::fault::Fault;
 use crate::shapes::Shape;
+use cedar_schema::ValidatorSchema;
 use std::alloc::Global;
 use std::io;
 use std::io::Write;
 use std::process::ExitCode;
 
-// What is built: a shape, of which is printed what it has, or an example, of which the text is.
+// What is built: a shape, of which is printed what it has, perhaps after it is asked whether it is what it has to be, or an example, of
+// which the text is.
 #[derive(Clone, Copy)]
 enum Wanted {
     Shape(Shape),
+    Checked(Shape),
     Mixed,
     Refused,
 }
@@ -54,6 +57,10 @@ fn named(text: &str) -> Option<(Wanted, u32)> {
         "groups" => Wanted::Shape(Shape::Groups),
         "group_chain" => Wanted::Shape(Shape::GroupChain),
         "nested" => Wanted::Shape(Shape::Nested),
+        "checked_chain" => Wanted::Checked(Shape::Chain),
+        "checked_wide" => Wanted::Checked(Shape::Wide),
+        "checked_groups" => Wanted::Checked(Shape::Groups),
+        "checked_group_chain" => Wanted::Checked(Shape::GroupChain),
         "mixed" => Wanted::Mixed,
         "refused" => Wanted::Refused,
         _ => return None,
@@ -64,15 +71,15 @@ fn named(text: &str) -> Option<(Wanted, u32)> {
 // Builds what is wanted of this size, and gives the text that is printed.
 fn run(alloc: Global, wanted: Wanted, size: u32) -> Result<String, Fault> {
     match wanted {
-        Wanted::Shape(shape) => counted(alloc, shape, size),
+        Wanted::Shape(shape) => counted(alloc, &shapes::built(alloc, shape, size)?),
+        Wanted::Checked(shape) => counted(alloc, &shapes::checked(alloc, shape, size)?),
         Wanted::Mixed => examples::mixed(alloc, size),
         Wanted::Refused => examples::refused(alloc, size),
     }
 }
 
-// Builds the schema of this shape and size, and counts what it has.
-fn counted(alloc: Global, shape: Shape, size: u32) -> Result<String, Fault> {
-    let schema = shapes::built(alloc, shape, size)?;
+// Counts what the schema has.
+fn counted(alloc: Global, schema: &ValidatorSchema) -> Result<String, Fault> {
     let types = schema.entity_types().count();
     let actions = schema.action_ids().count();
     let count = types.wrapping_add(actions);

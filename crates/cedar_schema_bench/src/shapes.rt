@@ -2,7 +2,7 @@
 
 use crate::fault::Fault;
 use cedar_expr_functions::Extensions;
-use cedar_schema::{ValidatorSchema, ValidatorSchemaFragment};
+use cedar_schema::{TryValidate, ValidatorSchema, ValidatorSchemaFragment};
 use cedar_schema_examples::fragment;
 use std::alloc::{AllocError, Global};
 
@@ -64,4 +64,10 @@ pub fn built(alloc: Global, shape: Shape, size: u32) -> Result<ValidatorSchema, 
     let fragment = ValidatorSchemaFragment::from_schema_fragment(alloc, fragment)?;
     let fragments = vec![in alloc; fragment]?;
     Ok(ValidatorSchema::from_schema_fragments(alloc, fragments, &Extensions::none(alloc))?)
+}
+
+/// The same, after it was asked whether it is what it has to be.
+pub fn checked(alloc: Global, shape: Shape, size: u32) -> Result<ValidatorSchema, Fault> {
+    let schema = built(alloc, shape, size)?;
+    Ok(schema.try_validate(alloc, &Extensions::none(alloc))?)
 }

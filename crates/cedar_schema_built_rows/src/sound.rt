@@ -74,6 +74,30 @@ fn an_extension_type_is_unknown(rt: HostRuntime) -> Result<(), Fail> {
     Ok(())
 }
 
+/// Chains, trees and circles of entity types and of actions: nothing is wrong with them, or something is left out in the middle.
+#[test]
+fn what_is_left_out_is_found(rt: HostRuntime) -> Result<(), Fail> {
+    let rows = r#"A < B C D; B < C D; C < D; D; Doc; User | view
+D < A B C; C < A B; B < A; A; Doc; User | view
+A < B C D E; B < C; C; D < E; E; Doc; User | view
+A < A B C; B < A B C; C; Doc; User | view
+A < B C D; B < C; C < D; D; Doc; User | view | entity type `D` is left out of what descends from `B`
+A < B C; B < C D; C < D; D; Doc; User | view | entity type `D` is left out of what descends from `A`
+D < A B C; C < A B; B; A < B; Doc; User | view
+D < A B C; C < B; B < A; A; Doc; User | view | entity type `A` is left out of what descends from `C`
+A < B C D E; B < C; C; D < E; E < F; F; Doc; User | view | entity type `F` is left out of what descends from `A`
+A < B D E F; B < C; C; D < E; E < F; F; Doc; User | view | entity type `C` is left out of what descends from `A`
+A < B C D; B < C D; C < D; Doc; User | view | entity type `D` is not declared
+A < B C; B < A C; C; Doc; User | view | entity type `A` is left out of what descends from `A`
+Doc; User | a < b c d; b < c d; c < d; d
+Doc; User | d < a b c; c < a b; b < a; a
+Doc; User | a < b c d; b < c; c < d; d | action `Action::"d"` is left out of what descends from `Action::"b"`
+Doc; User | a < b d e; b < c; c; d < e; e | action `Action::"c"` is left out of what descends from `Action::"a"`
+Doc; User | a < b c d; b < c d; c < d | action `Action::"d"` is not declared"#;
+    assert_eq!(rt; wrong_row(rt.alloc(), rows)?, "");
+    Ok(())
+}
+
 // The text of the refusal of the schema, by a table without functions. It is empty where the schema passes.
 fn refusal_by_none(alloc: Global, schema: ValidatorSchema) -> Result<String, AllocError> {
     match schema.try_validate(alloc, &Extensions::none(alloc)) {

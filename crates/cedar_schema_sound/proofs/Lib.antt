@@ -4,3 +4,4 @@ mod Searched
 mod MoreKnown
 mod Passing
 mod Equal
+mod Closing

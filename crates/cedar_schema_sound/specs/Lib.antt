@@ -1,3 +1,4 @@
 pub mod Views
 pub mod Refusals
 pub mod OfFragments
+pub mod Closed

@@ -1,12 +1,13 @@
 //! Whether an action of a built schema is what it has to be.
 
-ghost use Rattle.std.specs.Prelude.{◌≡◌, List, option_map, map};
+ghost use Rattle.std.specs.Prelude.{◌≡◌, List, option_map, map, true};
 ghost use Rattle.std.specs.Option.{option_or};
 ghost use Rattle.cedar_expr_names.specs.Views.{type_name_of, uid_of};
 ghost use Rattle.cedar_expr_model.specs.Whole.Lists.{first_found};
 ghost use Rattle.cedar_schema_entries.specs.Views.{action_seen};
 ghost use Rattle.cedar_schema_built.specs.Views.{schema_kept};
 ghost use Rattle.cedar_schema_sound_model.specs.Unsound.{type_fault, applied_fault, context_fault, descendants_fault, action_among, action_below_fault, action_fault};
+ghost use Rattle.cedar_schema_sound.specs.Closed.{is_action_closed};
 ghost use Rattle.cedar_schema_sound.specs.Views.{fault_seen, names_known};
 
 use crate::known::{is_action_type, undeclared, unknown_in_attributes};
@@ -18,12 +19,14 @@ use cedar_schema_types::{OpenTag, Type};
 use std::collections::BTreeSet;
 use std::collections::btree_set::Iter;
 
-// What is wrong with the action, if anything is.
+// What is wrong with the action, if anything is. Where it is known to be closed, what descends from it isn't looked at.
 pub(crate) fn unsound_action<'a>(
     schema: &'a ValidatorSchema,
     extension_types: &BTreeSet<Name>,
     action: &'a ValidatorActionId,
+    closed: bool,
 ) -> Option<Unsound<'a>>
+    requires { closed ≡ true → is_action_closed (schema_kept schema.now) (action_seen action.now) ≡ true }
     ensures { option_map fault_seen result ≡ action_fault (names_known extension_types.now) (schema_kept schema.entry.now) (action_seen action.entry.now) }
 {
     if !is_action_type(action.name().entity_type()) {
@@ -35,7 +38,7 @@ pub(crate) fn unsound_action<'a>(
     if let Some(unsound) = unsound_context(schema, extension_types, action) {
         return Some(unsound);
     }
-    unsound_descendants(schema, action)
+    unsound_descendants(schema, action, closed)
 }
 
 // The first type that it applies to and that isn't declared: of principals, and then of resources.
@@ -90,21 +93,39 @@ fn unsound_context<'a>(
     }
 }
 
-// What is wrong with what descends from it.
+// What is wrong with what descends from it: where it is known to be closed, no more than that it descends from itself.
 fn unsound_descendants<'a>(
     schema: &'a ValidatorSchema,
     action: &'a ValidatorActionId,
+    closed: bool,
 ) -> Option<Unsound<'a>>
+    requires { closed ≡ true → is_action_closed (schema_kept schema.now) (action_seen action.now) ≡ true }
     ensures { option_map fault_seen result ≡ descendants_fault (schema_kept schema.entry.now) (action_seen action.entry.now) }
 {
     if action.has_descendant(action.name()) {
         return Some(Unsound::ActionBelowItself(action.name()));
     }
-    unsound_below(schema, action)
+    unsound_unless_closed(schema, action, closed)
+}
+
+// What is wrong with those that descend from it: nothing, where it is known to be closed.
+fn unsound_unless_closed<'a>(
+    schema: &'a ValidatorSchema,
+    action: &'a ValidatorActionId,
+    closed: bool,
+) -> Option<Unsound<'a>>
+    requires { closed ≡ true → is_action_closed (schema_kept schema.now) (action_seen action.now) ≡ true }
+    ensures { option_map fault_seen result ≡ first_found (action_below_fault (schema_kept schema.entry.now) (action_seen action.entry.now)) (action_seen action.entry.now).descendants }
+{
+    if closed {
+        None
+    } else {
+        unsound_below(schema, action)
+    }
 }
 
 // What is wrong with the first of those that descend from it with which something is wrong.
-fn unsound_below<'a>(
+pub(crate) fn unsound_below<'a>(
     schema: &'a ValidatorSchema,
     action: &'a ValidatorActionId,
 ) -> Option<Unsound<'a>>
@@ -119,7 +140,7 @@ fn unsound_below<'a>(
 }
 
 // What is wrong with one that descends from it.
-fn unsound_at<'a>(
+pub(crate) fn unsound_at<'a>(
     schema: &'a ValidatorSchema,
     action: &'a ValidatorActionId,
     descendant: &'a EntityUID,
@@ -133,7 +154,10 @@ fn unsound_at<'a>(
 }
 
 // The first that descends from the other and not from it.
-fn left_out<'a>(action: &'a ValidatorActionId, below: &'a ValidatorActionId) -> Option<Unsound<'a>>
+pub(crate) fn left_out<'a>(
+    action: &'a ValidatorActionId,
+    below: &'a ValidatorActionId,
+) -> Option<Unsound<'a>>
     ensures { option_map fault_seen result ≡ first_found (action_among (action_seen action.entry.now)) (action_seen below.entry.now).descendants }
 {
     for descendant in below.descendants() {

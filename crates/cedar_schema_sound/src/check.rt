@@ -8,6 +8,8 @@ ghost use Rattle.cedar_schema_sound.specs.Views.{fault_seen, names_known};
 ghost use Rattle.cedar_schema_sound.specs.Refusals.{Refuses};
 
 use crate::actions::unsound_action;
+use crate::closed_actions::are_actions_closed;
+use crate::closed_types::are_types_closed;
 use crate::entity_types::unsound_type;
 use crate::err::UnsoundSchemaError;
 use crate::unsound::Unsound;
@@ -37,8 +39,9 @@ fn first_unsound_type<'a>(
 ) -> Option<Unsound<'a>>
     ensures { option_map fault_seen result ≡ first_found (entity_type_fault (names_known extension_types.now) (schema_kept schema.entry.now)) (schema_kept schema.entry.now).types }
 {
+    let closed = are_types_closed(schema);
     for entity_type in schema.entity_types() {
-        if let Some(unsound) = unsound_type(schema, extension_types, entity_type) {
+        if let Some(unsound) = unsound_type(schema, extension_types, entity_type, closed) {
             return Some(unsound);
         }
     }
@@ -52,8 +55,9 @@ fn first_unsound_action<'a>(
 ) -> Option<Unsound<'a>>
     ensures { option_map fault_seen result ≡ first_found (action_fault (names_known extension_types.now) (schema_kept schema.entry.now)) (schema_kept schema.entry.now).actions }
 {
+    let closed = are_actions_closed(schema);
     for action in schema.action_ids() {
-        if let Some(unsound) = unsound_action(schema, extension_types, action) {
+        if let Some(unsound) = unsound_action(schema, extension_types, action, closed) {
             return Some(unsound);
         }
     }

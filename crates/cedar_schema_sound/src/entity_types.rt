@@ -1,12 +1,13 @@
 //! Whether an entity type of a built schema is what it has to be.
 
-ghost use Rattle.std.specs.Prelude.{◌≡◌, option_map};
+ghost use Rattle.std.specs.Prelude.{◌≡◌, option_map, true};
 ghost use Rattle.std.specs.Option.{option_or};
 ghost use Rattle.cedar_expr_names.specs.Views.{type_name_of};
 ghost use Rattle.cedar_expr_model.specs.Whole.Lists.{first_found};
 ghost use Rattle.cedar_schema_entries.specs.Views.{entity_type_seen};
 ghost use Rattle.cedar_schema_built.specs.Views.{schema_kept};
 ghost use Rattle.cedar_schema_sound_model.specs.Unsound.{kind_fault, type_among, type_below_fault, entity_type_fault};
+ghost use Rattle.cedar_schema_sound.specs.Closed.{is_type_closed};
 ghost use Rattle.cedar_schema_sound.specs.Views.{fault_seen, names_known};
 
 use crate::known::{is_action_type, unknown_in_attributes, unknown_in_type};
@@ -16,12 +17,14 @@ use cedar_schema_built::ValidatorSchema;
 use cedar_schema_entries::ValidatorEntityType;
 use std::collections::BTreeSet;
 
-// What is wrong with the entity type, if anything is.
+// What is wrong with the entity type, if anything is. Where it is known to be closed, what descends from it isn't looked at.
 pub(crate) fn unsound_type<'a>(
     schema: &'a ValidatorSchema,
     extension_types: &BTreeSet<Name>,
     entity_type: &'a ValidatorEntityType,
+    closed: bool,
 ) -> Option<Unsound<'a>>
+    requires { closed ≡ true → is_type_closed (schema_kept schema.now) (entity_type_seen entity_type.now) ≡ true }
     ensures { option_map fault_seen result ≡ entity_type_fault (names_known extension_types.now) (schema_kept schema.entry.now) (entity_type_seen entity_type.entry.now) }
 {
     if is_action_type(entity_type.name()) {
@@ -30,7 +33,7 @@ pub(crate) fn unsound_type<'a>(
     if let Some(unsound) = unknown_in_kind(schema, extension_types, entity_type) {
         return Some(unsound);
     }
-    unsound_below(schema, entity_type)
+    unsound_unless_closed(schema, entity_type, closed)
 }
 
 // What is wrong with its attributes, and then with its tags.
@@ -54,8 +57,24 @@ fn unknown_in_kind<'a>(
     }
 }
 
+// What is wrong with what descends from it: nothing, where it is known to be closed.
+fn unsound_unless_closed<'a>(
+    schema: &'a ValidatorSchema,
+    entity_type: &'a ValidatorEntityType,
+    closed: bool,
+) -> Option<Unsound<'a>>
+    requires { closed ≡ true → is_type_closed (schema_kept schema.now) (entity_type_seen entity_type.now) ≡ true }
+    ensures { option_map fault_seen result ≡ first_found (type_below_fault (schema_kept schema.entry.now) (entity_type_seen entity_type.entry.now)) (entity_type_seen entity_type.entry.now).descendants }
+{
+    if closed {
+        None
+    } else {
+        unsound_below(schema, entity_type)
+    }
+}
+
 // What is wrong with what descends from it.
-fn unsound_below<'a>(
+pub(crate) fn unsound_below<'a>(
     schema: &'a ValidatorSchema,
     entity_type: &'a ValidatorEntityType,
 ) -> Option<Unsound<'a>>
@@ -70,7 +89,7 @@ fn unsound_below<'a>(
 }
 
 // What is wrong with one that descends from it.
-fn unsound_at<'a>(
+pub(crate) fn unsound_at<'a>(
     schema: &'a ValidatorSchema,
     entity_type: &'a ValidatorEntityType,
     descendant: &'a EntityType,
@@ -84,7 +103,7 @@ fn unsound_at<'a>(
 }
 
 // The first that descends from the other and not from it.
-fn left_out<'a>(
+pub(crate) fn left_out<'a>(
     entity_type: &'a ValidatorEntityType,
     below: &'a ValidatorEntityType,
 ) -> Option<Unsound<'a>>

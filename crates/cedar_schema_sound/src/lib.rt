@@ -3,6 +3,8 @@
 
 mod actions;
 mod check;
+mod closed_actions;
+mod closed_types;
 mod entity_types;
 mod err;
 mod known;

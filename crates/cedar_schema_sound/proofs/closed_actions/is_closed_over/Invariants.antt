@@ -1,0 +1,17 @@
+use Rattle.std.proofs.Common.{◌≡◌, map, true}
+use Rattle.cedar_expr_model.specs.Whole.Lists.{first_found}
+use Rattle.std.specs.Prelude.{Contains}
+use Rattle.cedar_expr_model.specs.Uid.{Uid}
+use Rattle.cedar_expr_names.specs.Views.{uid_of}
+use Rattle.cedar_schema_entries.specs.Views.{action_seen}
+use Rattle.cedar_schema_built.specs.Views.{schema_kept}
+use Rattle.cedar_schema_sound_model.specs.Unsound.{action_below_fault}
+use Rattle.cedar_schema_sound.specs.Closed.{is_action_closed}
+use Rattle.cedar_schema_sound.proofs.closed_actions.is_closed_over.Given as goal
+
+abbrev pub invariant-loop-descendant : goal.invariant-loop-descendant
+invariant-loop-descendant l = record {
+  rest : is_action_closed (schema_kept l.schema) (action_seen l.below) ≡ true
+      → first_found (action_below_fault (schema_kept l.schema) (action_seen l.action)) (map uid_of l.descendant-iterator) ≡ first_found (action_below_fault (schema_kept l.schema) (action_seen l.action)) (action_seen l.action).descendants;
+  among : (u : Uid) → Contains (map uid_of l.descendant-iterator) u → Contains (action_seen l.action).descendants u;
+}
