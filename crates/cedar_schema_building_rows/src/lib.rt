@@ -15,3 +15,5 @@ mod refusals;
 mod schemas;
 #[cfg(test)]
 mod told;
+#[cfg(test)]
+mod unwritten;
