@@ -5,6 +5,8 @@ use Rattle.cedar_expr_model.specs.Name.{Text}
 use Rattle.cedar_store_model.specs.World.{World}
 use Rattle.cedar_store_model.specs.Policy as model
 use Rattle.cedar_store_model.specs.Answer.{permits, satisfied, is_true, PolicyError, error_of}
+use Rattle.cedar_store_model.specs.Whole.Answer as whole
+use Rattle.cedar_store_model.specs.Whole.FirstPath.{plain_world, whole_policies}
 use Rattle.cedar_store_policies.specs.declared.policy.Policy.{Policy}
 use Rattle.cedar_store_parts.specs.declared.policy_id.Effect.{Effect}
 use Rattle.cedar_store_parts.specs.declared.policy_id.Effect.TheVariants.{Permit, Forbid}
@@ -20,6 +22,11 @@ has_effect Forbid e = not (permits e)
 -- whether a policy has this effect and is satisfied
 abbrev pub acts : Effect → World → model.Policy → Bool
 acts effect w p = has_effect effect p.effect && satisfied w p
+
+-- the policies that determine the answer, in the whole language, are these
+abbrev pub Determine : World → List model.Policy → List model.Policy → Type 0
+Determine w ps qs =
+    whole.determining (whole.satisfied_permits (plain_world w) (whole_policies ps)) (whole.satisfied_forbids (plain_world w) (whole_policies ps)) ≡ whole_policies qs
 
 -- what a condition comes to
 abbrev pub Outcome : Type 0

@@ -9,7 +9,7 @@ ghost use Rattle.cedar_gate_types.specs.Responses.{decision_of, error_of, respon
 ghost use Rattle.cedar_gate_types.specs.Language.{PoliciesAreWhole};
 ghost use Rattle.cedar_gate_types.specs.Policies.{id_text, policy_of, policies_of};
 ghost use Rattle.cedar_gate.specs.Values.{at_request, outcome_seen};
-ghost use Rattle.cedar_gate.specs.Answers.{has_effect, acts, AreOutcomes, pair_acts, acting_ids, pair_errors};
+ghost use Rattle.cedar_gate.specs.Answers.{has_effect, acts, Determine, AreOutcomes, pair_acts, acting_ids, pair_errors};
 
 use crate::evaluator::{Outcome, outcomes};
 use cedar_gate_types::{
@@ -156,8 +156,8 @@ fn response(
 // The effect of the policies that determine the decision: forbidding, where some policy that forbids is satisfied.
 #[tactic(auto, using(crate::proofs::Pairs::forbids_determine, crate::proofs::Pairs::permits_determine))]
 fn determining_effect(policies: &[Policy], outcomes: &[Outcome]) -> Effect
-    ensures { (w : ModelWorld) → AreOutcomes w outcomes.now policies.now → let ps = policies_of policies.now in
-        answer.determining (answer.satisfied_permits w ps) (answer.satisfied_forbids w ps) ≡ filter (acts result w) ps }
+    ensures { (w : ModelWorld) → AreOutcomes w outcomes.now policies.now
+        → Determine w (policies_of policies.now) (filter (acts result w) (policies_of policies.now)) }
 {
     if any_acts(Effect::Forbid, policies, outcomes) {
         Effect::Forbid

@@ -7,7 +7,7 @@ ghost use Rattle.cedar_gate_model.specs.Acceptance.{IsAccepted};
 ghost use Rattle.cedar_gate_model.specs.Lines as lines;
 ghost use Rattle.cedar_gate_model.specs.Lines.{Prints};
 ghost use Rattle.cedar_gate_model.specs.ReadingBundle.{input_read};
-ghost use Rattle.cedar_gate_types.specs.Requests.{request_of, entity_uids, steps_of};
+ghost use Rattle.cedar_gate_types.specs.Requests.{request_of, stored_uids, steps_of};
 ghost use Rattle.cedar_gate_types.specs.Responses.{response_of};
 ghost use Rattle.cedar_gate_types.specs.Schemas.{is_first_path};
 ghost use Rattle.cedar_gate_types.specs.Language.{is_first_path_policy};
@@ -27,7 +27,7 @@ use crate::transcript::Transcript;
 use cedar_gate_accept::{Gate, GateFault};
 use cedar_gate_bundle::{Bundle, ReadFault, read_text};
 use cedar_gate_exprs::ExtTable;
-use cedar_gate_types::{Entity, Request, Step};
+use cedar_gate_types::{Entities, Request, Step};
 use std::alloc::{AllocError, Global};
 
 /// What is printed for an input.
@@ -116,13 +116,13 @@ fn print_run(
     gate: &Gate<'_, '_>,
     request: Request,
     steps: &[Step],
-    store: Vec<Entity>,
+    store: Entities,
 ) -> Result<Printed, AllocError>
     requires { IsAccepted (submission_of gate.now) }
     ensures { IfOk result (λ p. Prints (Some (record {
       submission = submission_of gate.now;
       request = request_of request;
-      store = entity_uids store.items;
+      store = stored_uids store;
       steps = steps_of steps.now;
     })) (status_of p.status) (string_bytes p.text)) }
 {

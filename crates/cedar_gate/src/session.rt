@@ -156,7 +156,6 @@ impl<'g, 't, 'e> Session<'g, 't, 'e> {
     /// # Errors
     ///
     /// Want of memory alone.
-    #[tactic(auto, using(crate::proofs::Worlds::decision_anywhere))]
     pub fn decision(&self) -> Result<Option<Decision>, AllocError>
         ensures given { (w : World) → w.request ≡ session_request self.now
             → IfOk result (λ d. option_map decision_of d ≡ Some (answer.decision_of w (session_submission self.now).policies)) }
@@ -186,7 +185,6 @@ impl<'g, 't, 'e> Session<'g, 't, 'e> {
     }
 
     // The answer, which is that over any store.
-    #[tactic(auto, using(crate::proofs::Worlds::answer_anywhere))]
     fn answer_over_any_store(&self, alloc: Global) -> Result<Response, AnswerFault>
         ensures conforming { IsErrOf result AnswerFault.NotConforming ↔ (conforms (session_submission self.now).declarations (session_request self.now) ≡ false) }
         ensures conforms { OnOk result (conforms (session_submission self.now).declarations (session_request self.now) ≡ true) }
@@ -197,7 +195,10 @@ impl<'g, 't, 'e> Session<'g, 't, 'e> {
             return Err(AnswerFault::NotConforming);
         }
         let policies = self.gate.policies();
-        respond(alloc, &self.request, policies).map_err(|_| AnswerFault::OutOfMemory)
+        match respond(alloc, &self.request, policies) {
+            Ok(response) => Ok(response),
+            Err(AllocError) => Err(AnswerFault::OutOfMemory),
+        }
     }
 }
 

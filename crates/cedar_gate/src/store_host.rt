@@ -1,29 +1,32 @@
-//! A host that answers from a list of entities.
+//! A host that answers from a store of entities.
 
-ghost use Rattle.std.specs.Prelude.{◌≡◌, [], map, IfOk, IfErr};
-ghost use Rattle.std.specs.List.{list_any};
+ghost use Rattle.std.specs.Prelude.{◌≡◌, [], map, option_map, IfSome, IfOk, IfErr};
+ghost use Rattle.std.specs.Map.{lookup};
 ghost use Rattle.cedar_expr_names.specs.Views.{uid_of};
 ghost use Rattle.cedar_expr_model.specs.Uid.{uid_eq};
-ghost use Rattle.cedar_gate_types.specs.Requests.{entity_uid, entity_uids};
+ghost use Rattle.cedar_store_entities.specs.Stores.{store_made};
+ghost use Rattle.cedar_store_entities.specs.Views.{entity_uid, entity_kept};
+ghost use Rattle.cedar_gate_types.specs.Requests.{stored_uids};
 ghost use Rattle.cedar_gate.specs.Hosts.{answered_of, answer_from, held_in};
 ghost use Rattle.cedar_gate.specs.Stores.{store_uids, store_asked};
 
 use crate::host::{Host, HostFault};
 use cedar_gate_exprs::EntityUID;
-use cedar_gate_types::Entity;
+use cedar_gate_types::{Dereference, Entities, Entity};
+use cedar_store_entities::laws::uids_are_uids;
 use std::alloc::{AllocError, Global};
 
-/// A host that answers from a list of entities. It has no faults of its own.
+/// A host that answers from a store of entities: by copies of those that it has. It has no faults of its own.
 #[derive(Drop)]
 pub struct StoreHost {
-    entities: Vec<Entity>,
+    entities: Entities,
     asked: Vec<Vec<EntityUID>>,
 }
 
 impl StoreHost {
     /// The host of these entities. Nothing was asked of it.
-    pub fn new(alloc: Global, entities: Vec<Entity>) -> StoreHost
-        ensures store { store_uids result ≡ entity_uids entities.items }
+    pub fn new(alloc: Global, entities: Entities) -> StoreHost
+        ensures store { store_uids result ≡ stored_uids entities }
         ensures asked { store_asked result ≡ [] }
     {
         StoreHost {
@@ -33,43 +36,50 @@ impl StoreHost {
     }
 }
 
-// Whether one of the entities has this uid.
-fn holds(entities: &[Entity], uid: &EntityUID) -> bool
-    ensures { result ≡ list_any (λ e. uid_eq (uid_of uid.now) (entity_uid e)) entities.now }
+// The store's entity of this uid, where it has one.
+#[tactic(auto, using(crate::proofs::Stored::none_missing, crate::proofs::Stored::none_unloaded))]
+fn found<'a>(
+    alloc: Global,
+    entities: &'a Entities,
+    uid: &EntityUID,
+) -> Result<Option<&'a Entity>, AllocError>
+    ensures kept { IfOk result (λ o. option_map (λ e. entity_kept e.now) o ≡ lookup (uid_eq (uid_of uid.now)) (store_made entities.entry.now)) }
+    ensures uid { IfOk result (λ o. IfSome o (λ e. entity_uid e.now ≡ uid_of uid.now)) }
 {
-    entities.iter().any(|e| uid.same(e.uid()))
+    uids_are_uids();
+    match entities.entity(alloc, uid)? {
+        Dereference::Data(entity) => Ok(Some(entity)),
+        Dereference::NoSuchEntity => Ok(None),
+        Dereference::Residual(_) => Ok(None),
+    }
 }
 
-// Whether one of the entities has this uid, as the uids say it.
-fn holds_uid(entities: &[Entity], uid: &EntityUID) -> bool
-    ensures { result ≡ held_in (entity_uids entities.now) (uid_of uid.now) }
-{
-    holds(entities, uid)
-}
-
-// What the entities answer to a uid.
+// What the store answers to a uid: a copy of its entity, where it has one.
+#[tactic(auto, using(crate::proofs::Stored::by_copy, crate::proofs::Stored::by_none))]
 fn answer_one(
     alloc: Global,
-    entities: &[Entity],
+    entities: &Entities,
     uid: &EntityUID,
 ) -> Result<(EntityUID, Option<Entity>), AllocError>
-    ensures { IfOk result (λ a. answered_of a ≡ answer_from (held_in (entity_uids entities.now)) (uid_of uid.now)) }
+    ensures answer { IfOk result (λ a. answered_of a ≡ answer_from (held_in (stored_uids entities.now)) (uid_of uid.now)) }
+    ensures entity { IfOk result (λ a. option_map entity_kept a.1 ≡ lookup (uid_eq (uid_of uid.now)) (store_made entities.now)) }
 {
-    let answer = if holds_uid(entities, uid) {
-        Some(Entity::with_uid(alloc, uid.clone()?))
-    } else {
-        None
+    let asked = uid.clone()?;
+    let Some(entity) = found(alloc, entities, uid)? else {
+        return Ok((asked, None));
     };
-    Ok((uid.clone()?, answer))
+    let copy = entity.clone()?;
+    Ok((asked, Some(copy)))
 }
 
-// What the entities answer to uids, in their order.
+// What the store answers to uids, in their order.
 fn answer_all(
     alloc: Global,
-    entities: &[Entity],
+    entities: &Entities,
     uids: &[EntityUID],
 ) -> Result<Vec<(EntityUID, Option<Entity>)>, AllocError>
-    ensures { IfOk result (λ answers. map answered_of answers.items ≡ map (answer_from (held_in (entity_uids entities.now))) (map uid_of uids.now)) }
+    ensures answers { IfOk result (λ answers. map answered_of answers.items ≡ map (answer_from (held_in (stored_uids entities.now))) (map uid_of uids.now)) }
+    ensures entities { IfOk result (λ answers. map (λ a. option_map entity_kept a.1) answers.items ≡ map (λ u. lookup (uid_eq u) (store_made entities.now)) (map uid_of uids.now)) }
 {
     let mut answers = Vec::new(alloc);
     for uid in uids {
@@ -107,9 +117,7 @@ impl Host for StoreHost {
         alloc: Global,
         ids: &[EntityUID],
     ) -> Result<Vec<(EntityUID, Option<Entity>)>, HostFault> {
-        let answers = answer_all(alloc, self.entities.as_slice(), ids).map_err(
-            |_| HostFault::Memory,
-        )?;
+        let answers = answer_all(alloc, &self.entities, ids).map_err(|_| HostFault::Memory)?;
         let copy = copied(alloc, ids).map_err(|_| HostFault::Memory)?;
         self.asked.push(copy).map_err(|_| HostFault::Memory)?;
         Ok(answers)

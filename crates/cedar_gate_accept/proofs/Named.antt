@@ -9,7 +9,9 @@ use Rattle.cedar_gate_schema.proofs.Lists.{list_all-same}
 use Rattle.cedar_expr_model.specs.Uid.{Uid}
 use Rattle.cedar_expr_model.specs.Value.{truth, long, entity}
 use Rattle.cedar_expr_model.specs.Tree.{Tree, lit, var, both, unary, binary, Var, principal, action, resource, written_truth, folded, conjunction}
-use Rattle.cedar_store_model.specs.Policy.{Policy, Scope, any, exactly, scope_tree, condition}
+use Rattle.cedar_store_model.specs.Policy.{Policy, Scope, any, exactly, condition}
+use Rattle.cedar_store_model.proofs.ByShape.{scope_tree}
+use Rattle.cedar_store_model.proofs.Whole.FirstPathAnswers.{condition_by_parts}
 use Rattle.cedar_typechecker_model.specs.ScopeRules.{each_uid, each_named, scope_passes}
 
 -- a tree that writes a truth value writes no uid
@@ -37,7 +39,8 @@ scope_named test x (exactly u) = refl
 -- a test of each uid that a condition names is one of each that its policy names
 pub condition_named : (test : Uid → Bool) (p : Policy) → each_uid test (condition p) ≡ each_named test p
 condition_named test p =
-    conjunction_named test (scope_tree principal p.principal) (conjunction (scope_tree action p.action) (conjunction (scope_tree resource p.resource) p.body))
+    ap (each_uid test) (condition_by_parts p)
+    ∙ conjunction_named test (scope_tree principal p.principal) (conjunction (scope_tree action p.action) (conjunction (scope_tree resource p.resource) p.body))
     ∙ ap (λ b. b && each_uid test (conjunction (scope_tree action p.action) (conjunction (scope_tree resource p.resource) p.body))) (scope_named test principal p.principal)
     ∙ ap (λ b. scope_passes test p.principal && b) (
     conjunction_named test (scope_tree action p.action) (conjunction (scope_tree resource p.resource) p.body)

@@ -1,5 +1,6 @@
 pub mod Gathered
 pub mod Shapes
 pub mod Inputs
-pub mod Distinct
+pub mod Steps
+pub mod Stored
 pub mod Joints

@@ -2,7 +2,7 @@
 use Rattle.cedar_gate_model.specs.Bundle as model
 use Rattle.cedar_gate_types.specs.Limit.{levels_of}
 use Rattle.cedar_gate_types.specs.Policies.{policies_of}
-use Rattle.cedar_gate_types.specs.Requests.{request_of, entity_uids, steps_of}
+use Rattle.cedar_gate_types.specs.Requests.{request_of, stored_uids, steps_of}
 use Rattle.cedar_gate_types.specs.Schemas.{declarations_of}
 use Rattle.cedar_gate_bundle.specs.declared.bundle.Bundle.{Bundle}
 
@@ -15,6 +15,6 @@ bundle_of b = record {
     limit = levels_of b.limit;
   };
   request = request_of b.request;
-  store = entity_uids b.store.items;
+  store = stored_uids b.store;
   steps = steps_of b.steps.items;
 }

@@ -3,3 +3,4 @@ pub mod Joints
 pub mod Namespaces
 pub mod Bundles
 pub mod Made
+pub mod Stored

@@ -1,16 +1,17 @@
 //! Bundles: what is handed to the gate, the request, the whole store and the steps.
-ghost use Rattle.std.specs.Prelude.{◌≡◌, codes, [], true, Option, Some, None, IfOk, IfErr, option_map};
+ghost use Rattle.std.specs.Prelude.{◌≡◌, codes, [], true, Option, Some, None, IfOk, IfErr};
 ghost use Rattle.std.specs.List.{list_all};
 ghost use Rattle.serde_json.specs.View.{view};
 ghost use Rattle.cedar_gate_types.specs.Limit.{levels_of};
 ghost use Rattle.cedar_gate_types.specs.Schemas.{is_first_path};
 ghost use Rattle.cedar_gate_types.specs.Language.{is_first_path_policy};
-ghost use Rattle.cedar_gate_types.specs.Requests.{entity_uids, steps_of};
+ghost use Rattle.cedar_gate_types.specs.Requests.{stored_uids, steps_of};
 ghost use Rattle.cedar_expr_model.specs.Uid.{uid_eq};
 ghost use Rattle.cedar_schema_model.specs.Declarations.{are_distinct};
-ghost use Rattle.cedar_gate_model.specs.Reading.{has_at, if_there, list_of};
+ghost use Rattle.cedar_gate_model.specs.Reading.{has_at, optional, list_of};
 ghost use Rattle.cedar_gate_model.specs.ReadingBundle.{is_version, is_bundle, number_between, step_read, bundle_read, input_read};
 ghost use Rattle.cedar_gate_bundle.specs.Bundles.{bundle_of};
+ghost use Rattle.cedar_gate_bundle.specs.Stored.{IsPlainStore};
 ghost use Rattle.cedar_gate_bundle.specs.declared.fault.ReadFault.TheVariants.{Unreadable};
 
 use crate::fault::ReadFault;
@@ -19,7 +20,7 @@ use crate::objects::{has_only, required};
 use crate::requests::read_request;
 use crate::schemas::read_schema;
 use crate::store::read_store;
-use cedar_gate_types::{Entity, Fragment, NestLimit, Policy, Request, Step};
+use cedar_gate_types::{Entities, Fragment, NestLimit, Policy, Request, Step};
 use serde_json::{Category, Error, Value};
 use std::alloc::Global;
 
@@ -36,8 +37,8 @@ pub struct Bundle {
     pub limit: NestLimit,
     /// The request.
     pub request: Request,
-    /// The entities of the whole store. No two have one uid.
-    pub store: Vec<Entity>,
+    /// The whole store.
+    pub store: Entities,
     /// The steps of the run.
     pub steps: Vec<Step>,
 }
@@ -51,7 +52,8 @@ pub fn read_bundle(alloc: Global, value: &Value) -> Result<Bundle, ReadFault>
     ensures plain { IfOk result (λ b. is_first_path b.fragments.items ≡ true) }
     ensures policies { IfOk result (λ b. list_all is_first_path_policy b.policies.items ≡ true) }
     ensures level { IfOk result (λ b. b.level ≡ 0) }
-    ensures distinct { IfOk result (λ b. are_distinct uid_eq (entity_uids b.store.items) ≡ true) }
+    ensures distinct { IfOk result (λ b. are_distinct uid_eq (stored_uids b.store) ≡ true) }
+    ensures stored { IfOk result (λ b. IsPlainStore b.store) }
     ensures unreadable { IfErr result (λ f. f ≡ Unreadable → bundle_read (view value.now) ≡ None) }
 {
     if !is_bundle(value) {
@@ -62,8 +64,8 @@ pub fn read_bundle(alloc: Global, value: &Value) -> Result<Bundle, ReadFault>
     let fragments = read_schema(alloc, required(value, "schema")?)?;
     let policies = read_list(alloc, required(value, "policies")?)?;
     let request = read_request(alloc, required(value, "request")?)?;
+    let steps = read_steps(alloc, value)?;
     let store = read_store(alloc, required(value, "store")?)?;
-    let steps = read_steps(alloc, value.get("steps"))?;
     Ok(Bundle {
         fragments,
         policies,
@@ -84,7 +86,8 @@ pub fn read_text(alloc: Global, bytes: &[u8]) -> Result<Bundle, ReadFault>
     ensures plain { IfOk result (λ b. is_first_path b.fragments.items ≡ true) }
     ensures policies { IfOk result (λ b. list_all is_first_path_policy b.policies.items ≡ true) }
     ensures level { IfOk result (λ b. b.level ≡ 0) }
-    ensures distinct { IfOk result (λ b. are_distinct uid_eq (entity_uids b.store.items) ≡ true) }
+    ensures distinct { IfOk result (λ b. are_distinct uid_eq (stored_uids b.store) ≡ true) }
+    ensures stored { IfOk result (λ b. IsPlainStore b.store) }
     ensures unreadable { IfErr result (λ f. f ≡ Unreadable → input_read bytes.now ≡ None) }
 {
     let value = parse(alloc, bytes)?;
@@ -158,14 +161,12 @@ fn read_limit(value: &Value) -> Result<NestLimit, ReadFault>
     }
 }
 
-// Reads the steps: none, where they lack.
-fn read_steps(alloc: Global, value: Option<&Value>) -> Result<Vec<Step>, ReadFault>
-    ensures ok { IfOk result (λ v. if_there (list_of step_read) [] (option_map (λ v. view v.now) value.entry)
-        ≡ Some (steps_of v.items)) }
-    ensures unreadable { IfErr result (λ f. f ≡ Unreadable
-        → if_there (list_of step_read) [] (option_map (λ v. view v.now) value.entry) ≡ None) }
+// Reads the steps of a bundle: none, where they lack.
+fn read_steps(alloc: Global, value: &Value) -> Result<Vec<Step>, ReadFault>
+    ensures ok { IfOk result (λ v. optional (codes "steps") (list_of step_read) [] (view value.now) ≡ Some (steps_of v.items)) }
+    ensures unreadable { IfErr result (λ f. f ≡ Unreadable → optional (codes "steps") (list_of step_read) [] (view value.now) ≡ None) }
 {
-    match value {
+    match value.get("steps") {
         None => Ok(Vec::new(alloc)),
         Some(value) => read_list(alloc, value),
     }

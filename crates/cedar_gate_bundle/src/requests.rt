@@ -2,10 +2,14 @@
 ghost use Rattle.std.specs.Prelude.{◌≡◌, true, Option, Some, None, IfOk, IfErr};
 ghost use Rattle.serde_json.specs.View.{view};
 ghost use Rattle.cedar_expr_model.specs.Uid.{Uid};
+ghost use Rattle.cedar_expr_model.specs.Whole.Value.{V};
+ghost use Rattle.cedar_store_model.specs.Whole.World as world;
+ghost use Rattle.cedar_store_entities.specs.Views.{entity_pair};
+ghost use Rattle.cedar_gate_bundle.specs.Stored.{plain_read};
 ghost use Rattle.cedar_gate_model.specs.Transcript as run;
-ghost use Rattle.cedar_gate_types.specs.Requests.{entity_uid, entity_uids, entry_uid, request_of, step_of};
+ghost use Rattle.cedar_gate_types.specs.Requests.{entry_uid, request_of, step_of};
 ghost use Rattle.cedar_gate_model.specs.ReadingExpression.{uid_read};
-ghost use Rattle.cedar_gate_model.specs.ReadingBundle.{is_request, request_read, is_bare_entity, entity_read, store_read, step_read};
+ghost use Rattle.cedar_gate_model.specs.ReadingBundle.{is_request, request_read, is_bare_entity, step_read};
 ghost use Rattle.cedar_gate_bundle.specs.declared.fault.ReadFault.TheVariants.{Unreadable};
 
 use crate::fault::ReadFault;
@@ -49,11 +53,11 @@ fn read_entry(alloc: Global, value: &Value) -> Result<EntityUIDEntry, ReadFault>
 }
 
 impl Readable for Entity {
-    ghost Meaning = { Uid };
+    ghost Meaning = { Uid × world.Entity V };
 
-    ghost reading = { entity_read };
+    ghost reading = { plain_read };
 
-    ghost seen = { entity_uid };
+    ghost seen = { entity_pair };
 
     ghost fits = { λ _. true };
 

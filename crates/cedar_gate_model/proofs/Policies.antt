@@ -1,5 +1,5 @@
 -- What acceptance promises of the answer.
-use Rattle.std.proofs.Common.{◌≡◌, List, [], ◌∷◌, ◌++◌, Bool, true, false, not, ◌&&◌, refl, sym, ap, ◌∙◌, subst, ◌↔◌}
+use Rattle.std.proofs.Common.{◌≡◌, List, [], ◌∷◌, ◌++◌, Bool, true, false, not, refl, sym, ap, ◌∙◌, subst, ◌↔◌}
 use Rattle.std.specs.Prelude.{Contains}
 use Rattle.std.specs.Str.{bytes_eq}
 use Rattle.std.specs.List.{list_any, flat_map, filter}
@@ -11,8 +11,10 @@ use Rattle.cedar_store_model.specs.Outcome.{val}
 use Rattle.cedar_store_model.specs.World.{World}
 use Rattle.cedar_store_model.specs.Meaning.{outcome_of, truth_value}
 use Rattle.cedar_store_model.specs.Policy.{Policy, condition, IsSatisfied}
-use Rattle.cedar_store_model.specs.Answer.{permits, satisfied, satisfied_permits, satisfied_forbids, determining, ids, error_of, errors_of, reasons_of}
-use Rattle.cedar_store_model.proofs.Meaning.{means_outcome, satisfied-Decides}
+use Rattle.cedar_store_model.specs.Answer.{ids, error_of, errors_of, reasons_of}
+use Rattle.cedar_store_model.proofs.Meaning.{means_outcome}
+use Rattle.cedar_store_model.proofs.Reports.{reasons_are_those}
+use Rattle.cedar_store_model.proofs.Whole.FirstPathAnswers.{errors_by_policies}
 use Rattle.cedar_schema_model.specs.Declarations.{are_distinct}
 use Rattle.cedar_schema_model.specs.Conforming.{Conforms}
 use Rattle.cedar_typechecker_model.specs.Verdicts.{IsImpossible, passes, impossible}
@@ -32,7 +34,7 @@ no_error s w a c p h =
     ap (error_of p.id) (means_outcome w (condition p) (val (truth_value r.0)) r.1)
 
 pub policies_dont_err : (s : Submission) (w : World) → IsAccepted s → Conforms s.declarations w.request → errors_of w s.policies ≡ []
-policies_dont_err s w a c = flat_none (λ (p : Policy). error_of p.id (outcome_of w (condition p))) s.policies (no_error s w a c)
+policies_dont_err s w a c = errors_by_policies w s.policies ∙ flat_none (λ (p : Policy). error_of p.id (outcome_of w (condition p))) s.policies (no_error s w a c)
 
 not_both : (b : Bool) → b ≡ true → not b ≡ true → ⊥
 not_both true e f = cc
@@ -52,32 +54,13 @@ one_of_id (x ∷ xs) d p q h k e =
     (λ f. contains_cases (p ≡ q) x xs q k (λ g. sym f ∙ g) (λ m. absurd (apart x xs b.0 q m (ap (λ (y : Policy). y.id) f ∙ e))))
     (λ m. contains_cases (p ≡ q) x xs q k (λ g. absurd (apart x xs b.0 p m (ap (λ (y : Policy). y.id) g ∙ sym e))) (λ n. one_of_id xs b.1 p q m n e))
 
--- the policies that determine the answer are satisfied
-pub determining_satisfied : (w : World) (ps : List Policy) (p : Policy) → Contains (determining (satisfied_permits w ps) (satisfied_forbids w ps)) p → Contains ps p × IsSatisfied w p
-determining_satisfied w ps p h = go (satisfied_permits w ps) (satisfied_forbids w ps) permitting forbidding h
-  where
-    permitting : Contains (satisfied_permits w ps) p → Contains ps p × IsSatisfied w p
-    permitting k =
-        let r = filter_only (λ (q : Policy). permits q.effect && satisfied w q) ps p k in
-        (r.0, (satisfied-Decides w p).0 (both_hold (permits p.effect) (satisfied w p) r.1).1)
-
-    forbidding : Contains (satisfied_forbids w ps) p → Contains ps p × IsSatisfied w p
-    forbidding k =
-        let r = filter_only (λ (q : Policy). not (permits q.effect) && satisfied w q) ps p k in
-        (r.0, (satisfied-Decides w p).0 (both_hold (not (permits p.effect)) (satisfied w p) r.1).1)
-
-    go : (ps' fs : List Policy) → (Contains ps' p → Contains ps p × IsSatisfied w p) → (Contains fs p → Contains ps p × IsSatisfied w p) → Contains (determining ps' fs) p → Contains ps p × IsSatisfied w p
-    go ps' [] f g k = f k
-    go ps' (x ∷ fs) f g k = g k
-
 pub warned_is_no_reason : (s : Submission) (w : World) (id : Text) → IsAccepted s → Conforms s.declarations w.request → Contains (warnings_of s) id → Contains (reasons_of w s.policies) id → ⊥
 warned_is_no_reason s w id a c h k =
     let x = map_from (λ (p : Policy). p.id) (filter (impossible s.declarations) s.policies) id h in
     let y = filter_only (impossible s.declarations) s.policies x.0 x.1 in
-    let z = map_from (λ (p : Policy). p.id) (determining (satisfied_permits w s.policies) (satisfied_forbids w s.policies)) id k in
-    let q = determining_satisfied w s.policies z.0 z.1 in
-    let e : x.0 ≡ z.0 = one_of_id s.policies (a repeated_policy) x.0 z.0 y.0 q.0 (x.2 ∙ sym z.2) in
-    impossible_is_sound s.declarations x.0 w ((impossible-Decides s.declarations x.0).0 y.1) c (subst (IsSatisfied w) (sym e) q.1)
+    let z = (reasons_are_those w s.policies id).0 k in
+    let e : x.0 ≡ z.0 = one_of_id s.policies (a repeated_policy) x.0 z.0 y.0 z.1 (x.2 ∙ sym z.4) in
+    impossible_is_sound s.declarations x.0 w ((impossible-Decides s.declarations x.0).0 y.1) c (subst (IsSatisfied w) (sym e) z.3)
 
 pub warned_are_impossible : (s : Submission) (id : Text) → Contains (warnings_of s) id ↔ ((p : Policy) × Contains s.policies p × IsImpossible s.declarations p × (p.id ≡ id))
 warned_are_impossible s id = (

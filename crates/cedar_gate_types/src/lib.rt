@@ -9,7 +9,7 @@ pub mod request;
 pub mod response;
 pub mod step;
 
-pub use cedar_store_entities::Entity;
+pub use cedar_store_entities::{Dereference, Entities, EntitiesError, Entity};
 pub use cedar_store_policies::{
     ActionConstraint, Annotations, Effect, EntityReference, Policy, PolicyID, PrincipalConstraint,
     PrincipalOrResourceConstraint, ResourceConstraint, StaticPolicy, UnexpectedSlotError,

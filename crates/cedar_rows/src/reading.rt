@@ -420,13 +420,14 @@ fn is_read_as(bundle: &Bundle, limit: u32, resource: &str, steps: &[Step]) -> bo
 
 // Whether a bundle has one policy, which permits, and one entity, with these ids.
 fn holds(bundle: &Bundle, policy: &str, entity: &str) -> bool {
-    match (bundle.policies.first(), bundle.store.first()) {
+    let mut entities = bundle.store.iter();
+    match (bundle.policies.first(), entities.next()) {
         (Some(p), Some(e)) => {
             p.id().as_str() == policy
                 && p.effect() == Effect::Permit
                 && e.uid().eid().as_str() == entity
                 && bundle.policies.len() == 1
-                && bundle.store.len() == 1
+                && entities.next().is_none()
         }
         _ => false,
     }

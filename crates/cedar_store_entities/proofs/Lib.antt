@@ -4,3 +4,4 @@ mod Keyed
 mod Kin
 mod Gathered
 mod Mapped
+mod Copies

@@ -9,7 +9,7 @@ ghost use Rattle.cedar_expr_names.specs.Views.{uid_of};
 ghost use Rattle.cedar_expr_model.specs.Uid.{uid_eq};
 ghost use Rattle.cedar_expr_model.specs.Whole.Records.{in_order};
 ghost use Rattle.cedar_expr_partial.specs.Parts.{part_place};
-ghost use Rattle.cedar_store_entities.specs.Views.{part_seen, part_pair, value_pair, placed_part, placed_value, names_in, entity_uid, entity_seen, kin_seen, attribute_places, tag_places};
+ghost use Rattle.cedar_store_entities.specs.Views.{part_seen, part_pair, value_pair, placed_part, placed_value, names_in, entity_uid, entity_seen, entity_kept, kin_seen, attribute_places, tag_places};
 ghost use Rattle.cedar_store_entities.specs.Recorded.{recorded, all_recorded, with_parent, with_indirect, with_parents, with_indirects, is_parent, is_indirect};
 
 use crate::entries::has_key;
@@ -42,6 +42,20 @@ impl Drop for Entity {
             tags: _,
             ancestors: _,
         } = self;
+    }
+}
+
+impl Clone for Entity {
+    ghost is_clone = { λ e copy. (entity_uid copy ≡ entity_uid e) × (entity_kept copy ≡ entity_kept e) };
+
+    /// The same entity, whose values are shared. Answers want of memory.
+    fn clone(&self) -> Result<Entity, AllocError> {
+        Ok(Entity {
+            uid: self.uid.clone()?,
+            attrs: self.attrs.clone()?,
+            tags: self.tags.clone()?,
+            ancestors: self.ancestors.clone()?,
+        })
     }
 }
 

@@ -5,13 +5,16 @@ use Rattle.cedar_expr_model.specs.Value.{V, prim, truth, long, entity}
 use Rattle.cedar_expr_model.specs.Tree.{Tree, lit, both, Var, principal, action, resource, conjunction}
 use Rattle.cedar_expr_model.proofs.Equality.{uid_eq-Decides}
 use Rattle.cedar_expr_model.proofs.Lists.{both_hold, hold_both}
-use Rattle.cedar_store_model.specs.Outcome.{Res, val, err, bind}
-use Rattle.cedar_store_model.specs.World.{World, bound}
-use Rattle.cedar_store_model.specs.Meaning.{Means, truth_value, truth_of, and_then, outcome_of}
-use Rattle.cedar_store_model.specs.Policy.{Policy, Scope, any, exactly, scope_tree, IsSatisfied}
+use Rattle.cedar_store_model.specs.Outcome.{Res, val, err}
+use Rattle.cedar_store_model.specs.World.{World}
+use Rattle.cedar_store_model.specs.Meaning.{Means, truth_value}
+use Rattle.cedar_store_model.specs.Policy.{Policy, Scope, any, exactly, IsSatisfied}
 use Rattle.cedar_store_model.specs.Answer.{is_true, satisfied}
 use Rattle.cedar_store_model.specs.Laws.{Matches}
-use Rattle.cedar_store_model.proofs.Meaning.{outcome_means, means_outcome, true_outcome, satisfied-Decides}
+use Rattle.cedar_store_model.proofs.ByShape.{bound, bind, truth_of, and_then, outcome_of, scope_tree}
+use Rattle.cedar_store_model.proofs.Meaning.{true_outcome, satisfied-Decides}
+use Rattle.cedar_store_model.proofs.Whole.FirstPath.{means_shape, shape_means}
+use Rattle.cedar_store_model.proofs.Whole.FirstPathAnswers.{satisfied_by_shape}
 
 -- the conjunction that is built has the outcome of the conjunction
 pub conjunction_outcome : (w : World) (a b : Tree) → outcome_of w (conjunction a b) ≡ outcome_of w (both a b)
@@ -21,8 +24,8 @@ conjunction_outcome w a b = refl
 
 pub conjunction_is_both : (w : World) (a b : Tree) (r : Res V) → Means w (conjunction a b) r ↔ Means w (both a b) r
 conjunction_is_both w a b r = (
-  λ h. outcome_means w (both a b) r (sym (conjunction_outcome w a b) ∙ means_outcome w (conjunction a b) r h),
-  λ h. outcome_means w (conjunction a b) r (conjunction_outcome w a b ∙ means_outcome w (both a b) r h),
+  λ h. shape_means w (both a b) r (sym (conjunction_outcome w a b) ∙ means_shape w (conjunction a b) r h),
+  λ h. shape_means w (conjunction a b) r (conjunction_outcome w a b ∙ means_shape w (both a b) r h),
 )
 
 true_truth : (r : Res V) → is_true (bind r truth_of) ≡ is_true r
@@ -51,14 +54,14 @@ scope-Decides w x any = (λ _. tt, λ _. refl)
 scope-Decides w x (exactly u) = uid_eq-Decides (bound w.request x) u
 
 pub holds-Decides : (w : World) (t : Tree) → Decides (holds_in w t) (Means w t (val (truth_value true)))
-holds-Decides w t = (λ h. outcome_means w t (val (truth_value true)) (true_outcome (outcome_of w t) h), λ h. ap is_true (means_outcome w t (val (truth_value true)) h))
+holds-Decides w t = (λ h. shape_means w t (val (truth_value true)) (true_outcome (outcome_of w t) h), λ h. ap is_true (means_shape w t (val (truth_value true)) h))
 
 pub satisfied_parts : (w : World) (p : Policy) → satisfied w p ≡ (holds_in w (scope_tree principal p.principal) && (holds_in w (scope_tree action p.action) && (holds_in w (scope_tree resource p.resource) && holds_in w p.body)))
 satisfied_parts w p =
     let c = conjunction_true w (scope_tree resource p.resource) p.body in
     let b = conjunction_true w (scope_tree action p.action) (conjunction (scope_tree resource p.resource) p.body) in
     let a = conjunction_true w (scope_tree principal p.principal) (conjunction (scope_tree action p.action) (conjunction (scope_tree resource p.resource) p.body)) in
-    a ∙ ap (λ x. holds_in w (scope_tree principal p.principal) && x) (b ∙ ap (λ x. holds_in w (scope_tree action p.action) && x) c)
+    satisfied_by_shape w p ∙ a ∙ ap (λ x. holds_in w (scope_tree principal p.principal) && x) (b ∙ ap (λ x. holds_in w (scope_tree action p.action) && x) c)
 
 pub satisfied_by_parts : (w : World) (p : Policy) → IsSatisfied w p ↔ (Matches p.principal w.request.principal × Matches p.action w.request.action × Matches p.resource w.request.resource × Means w p.body (val (truth_value true)))
 satisfied_by_parts w p = (forward, back)

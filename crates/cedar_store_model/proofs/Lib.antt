@@ -1,4 +1,5 @@
-pub mod Agree
+pub mod ByShape
+pub mod ByPolicies
 pub mod Meaning
 pub mod Answers
 pub mod Conditions

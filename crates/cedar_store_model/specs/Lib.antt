@@ -1,5 +1,7 @@
 pub mod Outcome
 pub mod World
+pub mod Policies
+pub mod Answers
 pub mod Meaning
 pub mod Looks
 pub mod Policy

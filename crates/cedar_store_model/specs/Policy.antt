@@ -1,43 +1,17 @@
--- Policies and their condition.
+-- Policies and their condition, which is that of the whole language.
 -- Rule: conditions (docs/RULES.md).
-use Rattle.std.specs.Prelude.{true}
-use Rattle.cedar_expr_model.specs.Name.{Text}
-use Rattle.cedar_expr_model.specs.Uid.{Uid}
-use Rattle.cedar_expr_model.specs.Value.{truth, entity}
-use Rattle.cedar_expr_model.specs.Tree.{Tree, lit, var, binary, equal, conjunction, Var, principal, action, resource}
-use Rattle.cedar_store_model.specs.Outcome.{val}
+pub use Rattle.cedar_store_model.specs.Policies.{Effect, permit, forbid, Scope, any, exactly, Policy}
+use Rattle.cedar_expr_model.specs.Tree.{Tree}
+use Rattle.cedar_expr_model.specs.Whole.FirstPath.{first_path_tree}
 use Rattle.cedar_store_model.specs.World.{World}
-use Rattle.cedar_store_model.specs.Meaning.{Means, truth_value}
+use Rattle.cedar_store_model.specs.Whole.Policy as whole
+use Rattle.cedar_store_model.specs.Whole.Answer as whole_answers
+use Rattle.cedar_store_model.specs.Whole.FirstPath.{plain_world, whole_policy}
 
-pub data Effect : Type 0 where
-  permit : Effect
-  forbid : Effect
-
--- one part of a policy's scope: anything, or one uid
-pub data Scope : Type 0 where
-  any : Scope
-  exactly : Uid → Scope
-
--- A policy; one without a body has the body `true`.
-pub record Policy : Type 0 where
-  pub id : Text
-  pub effect : Effect
-  pub principal : Scope
-  pub action : Scope
-  pub resource : Scope
-  pub body : Tree
-
--- what a part of the scope asks of its variable
-abbrev pub scope_tree : Var → Scope → Tree
-scope_tree x any = lit (truth true)
-scope_tree x (exactly u) = binary equal (var x) (lit (entity u))
-
--- The condition: principal, action and resource part, then the body, joined from the right.
+-- the condition: of the scope's parts and the body
 abbrev pub condition : Policy → Tree
-condition p = conjunction (scope_tree principal p.principal)
-    (conjunction (scope_tree action p.action)
-    (conjunction (scope_tree resource p.resource) p.body))
+condition p = first_path_tree (whole.condition (whole_policy p))
 
--- a policy is satisfied where its condition means true
+-- a policy is satisfied where it is in the whole language
 abbrev pub IsSatisfied : World → Policy → Type 0
-IsSatisfied w p = Means w (condition p) (val (truth_value true))
+IsSatisfied w p = whole_answers.IsSatisfied (plain_world w) (whole_policy p)

@@ -1,4 +1,4 @@
--- The definitions for every kind of expression. They take the place of those beside this folder once the code stands on them.
+-- The definitions for every kind of expression. Those beside this folder are views of them.
 pub mod Outcome
 pub mod World
 pub mod Operators
@@ -15,5 +15,6 @@ pub mod AnswerLaws
 pub mod StoreLaws
 pub mod Store
 pub mod FirstPath
+pub mod FirstPathLaws
 pub mod Worked
 pub mod WorkedPolicies

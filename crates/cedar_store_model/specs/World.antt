@@ -2,7 +2,6 @@
 -- Rule: the meaning (docs/RULES.md).
 use Rattle.std.specs.Prelude.{Bool}
 use Rattle.cedar_expr_model.specs.Uid.{Uid}
-use Rattle.cedar_expr_model.specs.Tree.{Var, principal, action, resource}
 
 -- the three uids of a request
 pub record Request : Type 0 where
@@ -14,9 +13,3 @@ pub record Request : Type 0 where
 pub record World : Type 0 where
   pub request : Request
   pub holds : Uid → Bool
-
--- what a variable of the scope stands for
-abbrev pub bound : Request → Var → Uid
-bound r principal = r.principal
-bound r action = r.action
-bound r resource = r.resource

@@ -4,10 +4,12 @@ use Rattle.cedar_expr_model.specs.Uid.{Uid}
 use Rattle.cedar_expr_model.specs.Value.{V, Literal, prim, truth, long, entity}
 use Rattle.cedar_expr_model.specs.Tree.{Tree, lit, var, both, unary, binary, Var, principal, action, resource}
 use Rattle.cedar_store_model.specs.Outcome.{val}
-use Rattle.cedar_store_model.specs.World.{World, bound}
-use Rattle.cedar_store_model.specs.Meaning.{Means, truth_value, outcome_of}
+use Rattle.cedar_store_model.specs.World.{World}
+use Rattle.cedar_store_model.specs.Meaning.{Means, truth_value}
 use Rattle.cedar_store_model.specs.Policy.{Policy, condition, IsSatisfied}
-use Rattle.cedar_store_model.proofs.Meaning.{outcome_means, means_outcome}
+use Rattle.cedar_store_model.proofs.ByShape.{bound, outcome_of}
+use Rattle.cedar_store_model.proofs.Meaning.{satisfied_means}
+use Rattle.cedar_store_model.proofs.Whole.FirstPath.{means_shape, shape_means}
 use Rattle.cedar_schema_model.specs.Declarations.{Declarations, declares_type, declares_action}
 use Rattle.cedar_schema_model.specs.Types.{Ty, bool_type, entity_type, BoolType, only_false}
 use Rattle.cedar_schema_model.specs.Environment.{Environment}
@@ -60,7 +62,7 @@ sound s w e (binary o a b) known ty out h =
 pub types_are_sound : (s : Setting) (w : World) (t : Tree) (ty : Ty) (out : Facts) → s.env ≡ environment_of w.request → Types s no_facts t ty out → (v : V) × Means w t (val v) × IsOf ty v
 types_are_sound s w t ty out e h =
     let r = good_value ty (outcome_of w t) (sound s w e t no_facts ty out h) in
-    (r.0, outcome_means w t (val r.0) r.1, r.2)
+    (r.0, shape_means w t (val r.0) r.1, r.2)
 
 -- a value of a type of truth values
 truth_there : (t : BoolType) (v : V) → IsOf (bool_type t) v → (b : Bool) × (v ≡ truth_value b) × IsTruthOf t b
@@ -80,8 +82,8 @@ impossible_is_sound d p w h c s =
     let k = h (environment_of w.request) (has_environment d w.request c) in
     let r = types_are_sound (setting d (environment_of w.request)) w (condition p) (bool_type only_false) k.0 refl k.1 in
     let q = truth_there only_false r.0 r.2 in
-    let e : outcome_of w (condition p) ≡ val r.0 = means_outcome w (condition p) (val r.0) r.1 in
-    let t : outcome_of w (condition p) ≡ val (truth_value true) = means_outcome w (condition p) (val (truth_value true)) s in
+    let e : outcome_of w (condition p) ≡ val r.0 = means_shape w (condition p) (val r.0) r.1 in
+    let t : outcome_of w (condition p) ≡ val (truth_value true) = means_shape w (condition p) (val (truth_value true)) (satisfied_means w p s) in
     let a = q.1 in
     let b = q.2 in
     cc

@@ -6,8 +6,9 @@ use Rattle.cedar_expr_model.specs.Name.{Name, name_eq}
 use Rattle.cedar_expr_model.specs.Uid.{Uid, uid_eq}
 use Rattle.cedar_expr_model.specs.Value.{V, prim, truth, long, entity}
 use Rattle.cedar_expr_model.specs.Tree.{Tree, UnaryOp, negation, BinaryOp, equal, less}
-use Rattle.cedar_store_model.specs.Outcome.{Res, val, err, bind}
-use Rattle.cedar_store_model.specs.Meaning.{truth_value, truth_of, and_then, applied, compared}
+use Rattle.cedar_store_model.specs.Outcome.{Res, val, err}
+use Rattle.cedar_store_model.specs.Meaning.{truth_value}
+use Rattle.cedar_store_model.proofs.ByShape.{bind, truth_of, and_then, applied, compared}
 use Rattle.cedar_schema_model.specs.Types.{Ty, bool_type, long_type, entity_type, BoolType, only_true, only_false, any_bool, strict_join}
 use Rattle.cedar_typechecker_model.specs.Facts.{Facts}
 use Rattle.cedar_typechecker_model.specs.Rules.{Setting, bool_known, negated, unary_type, conjoined, written_equal, equal_type, less_type, binary_type, literal_uid}

@@ -8,11 +8,10 @@ use Rattle.cedar_expr_model.specs.Name.{Name, Text, name_eq}
 use Rattle.cedar_expr_model.specs.Uid.{Uid}
 use Rattle.cedar_expr_model.specs.Value as small_value
 use Rattle.cedar_expr_model.specs.Tree as small_tree
-use Rattle.cedar_expr_model.specs.Whole.Tree.{Tree, principal, resource, principal_slot, resource_slot, both}
+use Rattle.cedar_expr_model.specs.Whole.Tree.{Tree}
 use Rattle.cedar_expr_model.specs.Whole.Parts.{subexpressions, uid_here}
-use Rattle.cedar_expr_model.specs.Whole.Builder.{written_truth, folded, conjunction}
 use Rattle.cedar_store_model.specs.Policy as small_policy
-use Rattle.cedar_store_model.specs.Whole.Policy.{scope_tree, action_tree, condition}
+use Rattle.cedar_store_model.specs.Whole.Policy.{condition}
 use Rattle.cedar_schema_model.specs.Declarations as small_declarations
 use Rattle.cedar_schema_model.specs.Whole.Schema.{EntityType, Action}
 use Rattle.cedar_schema_model.specs.Whole.FirstPath.{schema_entity, schema_action, whole_schema, IsFirstPath}
@@ -22,51 +21,11 @@ use Rattle.cedar_schema_model.proofs.Whole.FirstPath.Schemas.{types_of_schema, a
 use Rattle.cedar_typechecker_model.specs.ScopeRules as small_scope
 use Rattle.cedar_typechecker_model.specs.Whole.ScopeRules.{kind_here, policy_uids, is_action_type, is_known_type, is_no_unknown_action, is_no_unknown_member, names_known_types, names_known_actions, names_known_members}
 use Rattle.cedar_expr_model.specs.Whole.FirstPath.{whole_tree}
-use Rattle.cedar_store_model.specs.Whole.FirstPath.{whole_scope, whole_action_scope, whole_policy}
+use Rattle.cedar_store_model.specs.Whole.FirstPath.{whole_policy}
 use Rattle.cedar_typechecker_model.specs.Whole.FirstPath.{first_schema}
+use Rattle.cedar_store_model.proofs.ByShape as shape
+use Rattle.cedar_store_model.proofs.Whole.FirstPathAnswers.{condition_by_parts, conditions_are_whole}
 use Rattle.cedar_typechecker_model.proofs.Whole.Named.{is_id_of, uids_of, kinds_of}
-
--- conditions
-written_same : (t : small_tree.Tree) → written_truth (whole_tree t) ≡ small_tree.written_truth t
-written_same (small_tree.lit (small_value.truth b)) = refl
-written_same (small_tree.lit (small_value.long n)) = refl
-written_same (small_tree.lit (small_value.entity u)) = refl
-written_same (small_tree.var x) = refl
-written_same (small_tree.both a b) = refl
-written_same (small_tree.unary o a) = refl
-written_same (small_tree.binary o a b) = refl
-
-folded_same : (o p : Option Bool) (t : small_tree.Tree) → folded (λ a b. a && b) o p (whole_tree t) ≡ whole_tree (small_tree.folded o p t)
-folded_same (Some a) (Some b) t = refl
-folded_same (Some a) None t = refl
-folded_same None p t = refl
-
-conjunction_same : (a b : small_tree.Tree) → conjunction (whole_tree a) (whole_tree b) ≡ whole_tree (small_tree.conjunction a b)
-conjunction_same a b =
-    (λ i. folded (λ p q. p && q) (written_same a i) (written_same b i) (both (whole_tree a) (whole_tree b)))
-    ∙ folded_same (small_tree.written_truth a) (small_tree.written_truth b) (small_tree.both a b)
-
-principal_same : (s : small_policy.Scope) → scope_tree principal principal_slot (whole_scope s) ≡ whole_tree (small_policy.scope_tree small_tree.principal s)
-principal_same small_policy.any = refl
-principal_same (small_policy.exactly u) = refl
-
-action_same : (s : small_policy.Scope) → action_tree (whole_action_scope s) ≡ whole_tree (small_policy.scope_tree small_tree.action s)
-action_same small_policy.any = refl
-action_same (small_policy.exactly u) = refl
-
-resource_same : (s : small_policy.Scope) → scope_tree resource resource_slot (whole_scope s) ≡ whole_tree (small_policy.scope_tree small_tree.resource s)
-resource_same small_policy.any = refl
-resource_same (small_policy.exactly u) = refl
-
-pub same_condition : (p : small_policy.Policy) → condition (whole_policy p) ≡ whole_tree (small_policy.condition p)
-same_condition p =
-    let a = small_policy.scope_tree small_tree.principal p.principal in
-    let b = small_policy.scope_tree small_tree.action p.action in
-    let c = small_policy.scope_tree small_tree.resource p.resource in
-    (λ i. conjunction (principal_same p.principal i) (conjunction (action_same p.action i) (conjunction (resource_same p.resource i) (whole_tree p.body))))
-    ∙ (ap (λ t. conjunction (whole_tree a) (conjunction (whole_tree b) t)) (conjunction_same c p.body)
-    ∙ (ap (conjunction (whole_tree a)) (conjunction_same b (small_tree.conjunction c p.body))
-    ∙ conjunction_same a (small_tree.conjunction b (small_tree.conjunction c p.body))))
 
 -- a test of the uids that an expression writes
 all_two : (test : Uid → Bool) (xs ys : List Tree) → list_all test (filter_map uid_here (xs ++ ys)) ≡ (list_all test (filter_map uid_here xs) && list_all test (filter_map uid_here ys))
@@ -103,24 +62,25 @@ each_conjunction test (small_tree.both a c) b = refl
 each_conjunction test (small_tree.unary o a) b = refl
 each_conjunction test (small_tree.binary o a c) b = refl
 
-each_scope : (test : Uid → Bool) (x : small_tree.Var) (s : small_policy.Scope) → small_scope.each_uid test (small_policy.scope_tree x s) ≡ small_scope.scope_passes test s
+each_scope : (test : Uid → Bool) (x : small_tree.Var) (s : small_policy.Scope) → small_scope.each_uid test (shape.scope_tree x s) ≡ small_scope.scope_passes test s
 each_scope test x small_policy.any = refl
 each_scope test x (small_policy.exactly u) = refl
 
 each_condition : (test : Uid → Bool) (p : small_policy.Policy) → small_scope.each_uid test (small_policy.condition p) ≡ small_scope.each_named test p
 each_condition test p =
-    let a = small_policy.scope_tree small_tree.principal p.principal in
-    let b = small_policy.scope_tree small_tree.action p.action in
-    let c = small_policy.scope_tree small_tree.resource p.resource in
-    each_conjunction test a (small_tree.conjunction b (small_tree.conjunction c p.body))
+    let a = shape.scope_tree small_tree.principal p.principal in
+    let b = shape.scope_tree small_tree.action p.action in
+    let c = shape.scope_tree small_tree.resource p.resource in
+    ap (small_scope.each_uid test) (condition_by_parts p)
+    ∙ (each_conjunction test a (small_tree.conjunction b (small_tree.conjunction c p.body))
     ∙ (ap (λ t. small_scope.each_uid test a && t) (each_conjunction test b (small_tree.conjunction c p.body) ∙ ap (λ t. small_scope.each_uid test b && t) (each_conjunction test c p.body))
-    ∙ (λ i. each_scope test small_tree.principal p.principal i && (each_scope test small_tree.action p.action i && (each_scope test small_tree.resource p.resource i && small_scope.each_uid test p.body))))
+    ∙ (λ i. each_scope test small_tree.principal p.principal i && (each_scope test small_tree.action p.action i && (each_scope test small_tree.resource p.resource i && small_scope.each_uid test p.body)))))
 
 pub each_named_same : (test : Uid → Bool) (p : small_policy.Policy) → list_all test (policy_uids (whole_policy p)) ≡ small_scope.each_named test p
 each_named_same test p =
     list_all-append test (uids_of (condition (whole_policy p))) []
     ∙ (and_true (list_all test (uids_of (condition (whole_policy p))))
-    ∙ (ap (λ t. list_all test (uids_of t)) (same_condition p)
+    ∙ (ap (λ t. list_all test (uids_of t)) (conditions_are_whole p)
     ∙ (each_same test (small_policy.condition p)
     ∙ each_condition test p)))
 
@@ -137,7 +97,7 @@ named_agree f g h p = all_agree f g h (policy_uids (whole_policy p)) ∙ each_na
 known_types : (d : small_declarations.Declarations) (p : small_policy.Policy) → names_known_types (whole_schema d) (whole_policy p) ≡ small_scope.each_named (small_scope.has_known_type d) p
 known_types d p =
     let test = is_known_type (whole_schema d) in
-    let kinds : kinds_of (condition (whole_policy p)) ≡ [] = ap kinds_of (same_condition p) ∙ no_kinds (small_policy.condition p) in
+    let kinds : kinds_of (condition (whole_policy p)) ≡ [] = ap kinds_of (conditions_are_whole p) ∙ no_kinds (small_policy.condition p) in
     list_all-append test (map (λ (u : Uid). u.kind) (policy_uids (whole_policy p))) (kinds_of (condition (whole_policy p)))
     ∙ (ap (λ l. list_all test (map (λ (u : Uid). u.kind) (policy_uids (whole_policy p))) && list_all test l) kinds
     ∙ (and_true (list_all test (map (λ (u : Uid). u.kind) (policy_uids (whole_policy p))))

@@ -27,9 +27,9 @@ use Rattle.cedar_typechecker_model.specs.Whole.Levels.{Violation, unless_false, 
 use Rattle.cedar_typechecker_model.specs.Whole.Verdicts.{scope_use, policy_environments, in_mode, strictly, fits, is_bool, is_false, condition_type, passes, impossible, violations_in, policy_violations_in}
 use Rattle.cedar_expr_model.specs.Whole.FirstPath.{whole_tree}
 use Rattle.cedar_store_model.specs.Whole.FirstPath.{whole_scope, whole_policy}
+use Rattle.cedar_store_model.proofs.Whole.FirstPathAnswers.{conditions_are_whole}
 use Rattle.cedar_typechecker_model.specs.Whole.FirstPath.{first_schema}
 use Rattle.cedar_typechecker_model.proofs.Whole.FirstPath.Typing.{types_same}
-use Rattle.cedar_typechecker_model.proofs.Whole.FirstPath.Naming.{same_condition}
 use Rattle.cedar_typechecker_model.proofs.Whole.Named.{if_typed}
 
 -- the environments of a policy: it has no slots
@@ -64,7 +64,7 @@ false_same (Some (small_types.entity_type n)) = refl
 
 -- the type of the condition
 condition_same : (d : small_declarations.Declarations) (x : Table) (p : small_policy.Policy) (e : small_environment.Environment) → condition_type (whole_schema d) x (whole_policy p) (whole_environment e) ≡ option_map whole_type (small.type_of (small_verdicts.setting d e) (small_policy.condition p))
-condition_same d x p e = ap (type_of (strictly (whole_schema d) x (whole_environment e))) (same_condition p) ∙ types_same d x e (small_policy.condition p)
+condition_same d x p e = ap (type_of (strictly (whole_schema d) x (whole_environment e))) (conditions_are_whole p) ∙ types_same d x e (small_policy.condition p)
 
 abbrev small_type : small_declarations.Declarations → small_policy.Policy → small_environment.Environment → Option small_types.Ty
 small_type d p e = small.type_of (small_verdicts.setting d e) (small_policy.condition p)
@@ -128,7 +128,7 @@ none_if (Some t) = refl
 pub no_policy_violations : (m : Mode) (n : ℕ) (s : Schema) (x : Table) (p : small_policy.Policy) → policy_violations_in m n s x (whole_policy p) ≡ []
 no_policy_violations m n s x p =
     flat_none (violations_in m n s x (whole_policy p))
-    (λ e. ap (λ t. if_typed (type_of (in_mode m s x e) (condition (whole_policy p))) (violations n (in_mode m s x e) no_facts t)) (same_condition p)
+    (λ e. ap (λ t. if_typed (type_of (in_mode m s x e) (condition (whole_policy p))) (violations n (in_mode m s x e) no_facts t)) (conditions_are_whole p)
     ∙ (ap (if_typed (type_of (in_mode m s x e) (condition (whole_policy p)))) (no_violations n (in_mode m s x e) no_facts (small_policy.condition p))
     ∙ none_if (type_of (in_mode m s x e) (condition (whole_policy p)))))
     (policy_environments s (whole_policy p))
