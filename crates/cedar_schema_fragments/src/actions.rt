@@ -1,10 +1,12 @@
 //! Declarations of actions under their uids.
 
 ghost use Rattle.std.specs.Prelude.{◌≡◌, [], map, find, IfOk, IfErr};
+ghost use Rattle.std.specs.List.{list_any};
 ghost use Rattle.std.specs.Option.{option_copied};
 ghost use Rattle.std.specs.Rc.{rc_str_bytes};
+ghost use Rattle.std.specs.Slice.Iter.{iter_rest};
 ghost use Rattle.std.specs.declared.result.Result.TheVariants.{Ok};
-ghost use Rattle.cedar_expr_model.specs.Name.{Name, Text};
+ghost use Rattle.cedar_expr_model.specs.Name.{Name, Text, name_eq};
 ghost use Rattle.cedar_expr_model.specs.Uid.{Uid};
 ghost use Rattle.cedar_expr_names.specs.Views.{name_of, type_name_of, uid_of};
 ghost use Rattle.cedar_schema_decl.specs.Conditional.{Conditional, conditional_of};
@@ -24,6 +26,7 @@ use cedar_schema_decl::json_schema::{ActionEntityUID, Type};
 use cedar_schema_decl::{AllDefs, resolve};
 use std::alloc::{AllocError, Global};
 use std::rc::RcStr;
+use std::slice::Iter;
 
 /// The types of principals and of resources that an action applies to.
 #[derive(Drop)]
@@ -86,6 +89,36 @@ impl<N> ValidatorApplySpec<N> {
             principal_apply_spec,
             resource_apply_spec,
         }
+    }
+}
+
+impl ValidatorApplySpec<EntityType> {
+    /// Whether the action applies to principals of this type.
+    pub fn is_applicable_principal_type(&self, ty: &EntityType) -> bool
+        ensures { result ≡ list_any (name_eq (type_name_of ty.now)) (map type_name_of self.now.principal_apply_spec.items) }
+    {
+        self.applicable_principal_types().any(|t| ty.same(t))
+    }
+
+    /// Whether the action applies to resources of this type.
+    pub fn is_applicable_resource_type(&self, ty: &EntityType) -> bool
+        ensures { result ≡ list_any (name_eq (type_name_of ty.now)) (map type_name_of self.now.resource_apply_spec.items) }
+    {
+        self.applicable_resource_types().any(|t| ty.same(t))
+    }
+
+    /// Goes over the types of principals, in the order in which they stand.
+    pub fn applicable_principal_types(&self) -> Iter<'_, EntityType>
+        ensures { iter_rest result ≡ self.now.principal_apply_spec.items }
+    {
+        self.principal_apply_spec.iter()
+    }
+
+    /// Goes over the types of resources, in the order in which they stand.
+    pub fn applicable_resource_types(&self) -> Iter<'_, EntityType>
+        ensures { iter_rest result ≡ self.now.resource_apply_spec.items }
+    {
+        self.resource_apply_spec.iter()
     }
 }
 
