@@ -40,7 +40,7 @@ fn entity_text(
 }
 
 // The texts of entity types.
-fn entities_text(
+pub(crate) fn entities_text(
     alloc: Global,
     entities: &EntityTypesDef<InternalName>,
 ) -> Result<String, AllocError> {
@@ -55,7 +55,7 @@ fn entities_text(
 }
 
 // The texts of common types.
-fn commons_text(
+pub(crate) fn commons_text(
     alloc: Global,
     commons: &CommonTypeDefs<InternalName>,
 ) -> Result<String, AllocError> {

@@ -3,6 +3,10 @@
 #![tactic(auto)]
 
 #[cfg(test)]
+mod actions;
+#[cfg(test)]
+mod applied;
+#[cfg(test)]
 mod declared;
 #[cfg(test)]
 mod definitions;

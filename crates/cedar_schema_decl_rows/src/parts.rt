@@ -2,7 +2,7 @@
 
 ghost use Rattle.std.specs.Iterator.{IsFinite};
 
-use cedar_expr_names::EntityUID;
+use cedar_expr_names::{EntityType, EntityUID, InternalName};
 use cedar_expr_raw_names::ConditionalName;
 use cedar_schema_examples::{ExampleName, fragment, names_text, type_text};
 use cedar_schema_fragments::{
@@ -78,5 +78,25 @@ pub(crate) fn action_text(
         ActionFragmentKind::External => {
             format!(in alloc; "{} elsewhere in{parents}\n", action.0)
         }
+    }
+}
+
+// The text of what is declared of an action with each name resolved.
+pub(crate) fn resolved_action_text(
+    alloc: Global,
+    action: &ActionFragment<InternalName, EntityType>,
+) -> Result<String, AllocError> {
+    let parents = parents_text(alloc, action)?;
+    match &action.kind {
+        ActionFragmentKind::Declared {
+            applies_to,
+            context,
+        } => {
+            let principals = listed(alloc, applies_to.applicable_principal_types())?;
+            let resources = listed(alloc, applies_to.applicable_resource_types())?;
+            let context = type_text(alloc, context)?;
+            format!(in alloc; "in{parents} for{principals} on{resources} with {context}")
+        }
+        ActionFragmentKind::External => format!(in alloc; "elsewhere in{parents}"),
     }
 }
