@@ -1,7 +1,7 @@
 //! Examples of types: what is below what, joins, and attributes.
 
 use crate::fixtures::{docs_and_users, kind, parts, plain, ty};
-use cedar_expr_names::Loc;
+use cedar_expr_names::{EntityType, Loc};
 use cedar_schema_joins::{
     ValidationMode, are_types_disjoint, is_subtype, least_upper_bound, reduce_to_least_upper_bound,
 };
@@ -356,10 +356,10 @@ fn docs(alloc: Global) -> Result<EntityLUB, AllocError> {
     EntityLUB::single_entity(alloc, kind(alloc, "Doc")?)
 }
 
-// Whether documents are its only member.
-fn has_docs_alone(alloc: Global, union: &EntityLUB) -> Result<bool, AllocError> {
+// Whether there is an only member, and it is documents.
+fn is_docs(alloc: Global, only: Option<&EntityType>) -> Result<bool, AllocError> {
     let want = kind(alloc, "Doc")?;
-    match union.get_single_entity() {
+    match only {
         Some(only) => Ok(only.same(&want)),
         None => Ok(false),
     }
@@ -370,9 +370,9 @@ fn has_docs_alone(alloc: Global, union: &EntityLUB) -> Result<bool, AllocError> 
 fn single_entities(rt: HostRuntime) -> Result<(), Fail> {
     let alloc = rt.alloc();
     let doc = kept(alloc, docs(alloc))?;
-    assert!(rt; has_docs_alone(alloc, &doc)?);
+    assert!(rt; is_docs(alloc, doc.get_single_entity())?);
     let taken = kept(alloc, docs(alloc)?.into_single_entity())?;
-    assert!(rt; taken.is_some());
+    assert!(rt; is_docs(alloc, (*taken).as_ref())?);
     Ok(())
 }
 
@@ -383,6 +383,7 @@ fn larger_unions(rt: HostRuntime) -> Result<(), Fail> {
     let doc = kept(alloc, docs(alloc))?;
     let union = kept(alloc, docs_and_users(alloc))?;
     assert!(rt; union.get_single_entity().is_none() && union.iter().count() == 2);
+    assert!(rt; kept(alloc, docs_and_users(alloc)?.into_single_entity())?.is_none());
     assert!(rt; doc.is_subset(&union) && !union.is_subset(&doc) && !union.is_disjoint(&doc));
     Ok(())
 }
