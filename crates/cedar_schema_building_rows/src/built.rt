@@ -14,17 +14,12 @@ type Written = ValidatorSchemaFragment<ConditionalName, ConditionalName>;
 // A namespace with its lines.
 pub(crate) type Lines<'a> = (&'a str, &'a str);
 
-// What was made. Fails where it wasn't made.
-fn made<T: Drop, E: Drop>(made: Result<T, E>) -> Result<T, AllocError> {
-    made.ok().ok_or(AllocError)
-}
-
-// The fragments of these namespaces, each with its lines.
-fn fragments(alloc: Global, parts: &[&[Lines<'_>]]) -> Result<Vec<Written>, AllocError> {
+// The fragments of these namespaces, each with its lines, or why one is refused.
+fn fragments(alloc: Global, parts: &[&[Lines<'_>]]) -> Result<Vec<Written>, SchemaError> {
     let mut fragments = Vec::new(alloc);
     for part in parts {
         let fragment = fragment(alloc, part)?;
-        fragments.push(made(Written::from_schema_fragment(alloc, fragment))?)?;
+        fragments.push(Written::from_schema_fragment(alloc, fragment)?)?;
     }
     Ok(fragments)
 }

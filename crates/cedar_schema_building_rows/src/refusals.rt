@@ -50,6 +50,13 @@ fn faults_are_refused(rt: HostRuntime) -> Result<(), Fail> {
     Ok(())
 }
 
+/// What is refused as a fragment is made is told as well.
+#[test]
+fn actions_of_reserved_types_are_refused(rt: HostRuntime) -> Result<(), Fail> {
+    assert!(rt; refusal(rt.alloc(), &[&[("N::__cedar", "action view")]]) == Some(10));
+    Ok(())
+}
+
 // Whether what two fragments declare in the empty namespace is refused under this number.
 fn is_refused_twice(alloc: Global, lines: &str, number: u32) -> bool {
     refusal(alloc, &[&[("", lines)], &[("", lines)]]) == Some(number)

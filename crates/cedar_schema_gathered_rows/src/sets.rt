@@ -23,12 +23,18 @@ pub(crate) fn counts<N: Node>(sets: &[BTreeSet<N>], number: usize, count: usize)
     }
 }
 
-// The members of the set of these texts, one after the other.
-fn members(alloc: Global, texts: &[&str]) -> Result<String, AllocError> {
+// The list of these texts.
+fn list(alloc: Global, texts: &[&str]) -> Result<Vec<RcStr>, AllocError> {
     let mut parts = Vec::new(alloc);
     for text in texts {
         parts.push(RcStr::from_str(alloc, text)?)?;
     }
+    Ok(parts)
+}
+
+// The members of the set of these texts, one after the other.
+fn members(alloc: Global, texts: &[&str]) -> Result<String, AllocError> {
+    let parts = list(alloc, texts)?;
     let mut all = String::new(alloc);
     for text in set_of(alloc, &parts)?.iter() {
         all.push_str(text.as_str())?;
