@@ -9,3 +9,4 @@ pub mod Wholes
 mod WrittenSets
 mod Together
 mod Listed
+mod Reserved

@@ -4,3 +4,4 @@ mod Applying
 mod Environs
 mod Entities
 mod External
+mod Faults

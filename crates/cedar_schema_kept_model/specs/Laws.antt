@@ -1,10 +1,14 @@
 -- What the laws of kept schemas say: what is read from what is kept is what the schema says.
 -- Rule: schemas; descent; environments; action entities; external declarations (docs/RULES.md).
-use Rattle.std.specs.Prelude.{◌≡◌, ◌↔◌, Some, Contains, is_some, true}
+use Rattle.std.specs.Prelude.{◌≡◌, ◌↔◌, List, Some, Contains, is_some, true}
 use Rattle.cedar_expr_model.specs.Name.{Name}
 use Rattle.cedar_expr_model.specs.Uid.{Uid}
 use Rattle.cedar_expr_model.specs.Whole.Value.{V}
 use Rattle.cedar_store_model.specs.Whole.World.{Entity}
+use Rattle.cedar_schema_model.specs.Whole.BagLaws.{HasSchemaFault}
+use Rattle.cedar_schema_model.specs.Whole.Declarations.{Declarations}
+use Rattle.cedar_schema_model.specs.Whole.Resolved.{schema_of}
+use Rattle.cedar_schema_model.specs.Whole.WellFormed.{unresolved_external}
 use Rattle.cedar_schema_model.specs.Whole.Schema.{external, EntityType, Action, Schema, type_named, action_with, declares_type, declares_action}
 use Rattle.cedar_schema_model.specs.Whole.Descent.{type_names, action_uids, Descends, ActionDescends}
 use Rattle.cedar_schema_model.specs.Whole.Environment.{Environment, environments}
@@ -75,3 +79,8 @@ HasElsewhere s (action_elsewhere u) = (b : Action) × Contains s.actions b × (u
 -- What is declared elsewhere is that of the schema.
 abbrev pub ElsewhereIsKept : Type 0
 ElsewhereIsKept = (s : Schema) (k : Kept) → IsKeptOf s k → (x : Elsewhere) → Contains (elsewhere k) x ↔ HasElsewhere s x
+
+-- Declarations have the fault of an external one exactly where something of their schema is declared elsewhere, whatever the
+-- extension types.
+abbrev pub ExternalIsFault : Type 0
+ExternalIsFault = (x : List Name) (d : Declarations) → HasSchemaFault x d unresolved_external ↔ ((e : Elsewhere) × HasElsewhere (schema_of d) e)

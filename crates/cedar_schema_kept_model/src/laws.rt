@@ -1,6 +1,6 @@
 //! What is read from a kept schema is what the schema says. Each function's contract is the theorem; its body does nothing.
 
-ghost use Rattle.cedar_schema_kept_model.specs.Laws.{TypesAreDeclared, ActionsAreDeclared, TypesAreFound, ActionsAreFound, AncestorsAreAbove, GroupsAreKept, ActionsForAreKept, PrincipalsAreKept, ResourcesAreKept, EnvironmentsAreKept, ActionEntitiesAreKept, AllActionEntitiesAreKept, ElsewhereIsKept};
+ghost use Rattle.cedar_schema_kept_model.specs.Laws.{TypesAreDeclared, ActionsAreDeclared, TypesAreFound, ActionsAreFound, AncestorsAreAbove, GroupsAreKept, ActionsForAreKept, PrincipalsAreKept, ResourcesAreKept, EnvironmentsAreKept, ActionEntitiesAreKept, AllActionEntitiesAreKept, ElsewhereIsKept, ExternalIsFault};
 
 /// The same entity types and actions are declared, and what is found by a name or a uid is what the schema has there.
 pub fn declarations_are_kept()
@@ -39,7 +39,9 @@ pub fn action_entities_are_kept()
     ensures all { AllActionEntitiesAreKept }
 {}
 
-/// What is declared elsewhere is what the schema has as external.
+/// What is declared elsewhere is what the schema has as external, and the schema of declarations has such exactly where they have the
+/// fault of an external declaration.
 pub fn external_declarations_are_kept()
-    ensures { ElsewhereIsKept }
+    ensures kept { ElsewhereIsKept }
+    ensures fault { ExternalIsFault }
 {}
