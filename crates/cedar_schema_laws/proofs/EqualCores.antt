@@ -9,9 +9,9 @@ use Rattle.std.specs.Rc.{rc_str_bytes}
 use Rattle.std.specs.declared.alloc.Global.{Global}
 use Rattle.std.specs.declared.rc.RcStr.{RcStr}
 use Rattle.cedar_schema_core_types.specs.CoreTypes.{core_set, core_record, core_entity, core_extension, core_attribute, core_attributes_from}
-use Rattle.cedar_schema_core_types.specs.Views.{core_type_of, core_attributes_of, core_pairs, core_entries}
+use Rattle.cedar_schema_core_types.specs.Views.{core_type_of, core_attributes_of, core_declared_of, core_pairs, core_entries}
 use Rattle.cedar_schema_core_types.specs.declared.core_types.CoreAttributeType.{CoreAttributeType, CoreAttributeType-F, map-CoreAttributeType, roll-CoreAttributeType}
-use Rattle.cedar_schema_core_types.specs.declared.core_types.CoreAttributes.{CoreAttributes, CoreAttributes-F, map-CoreAttributes, roll-CoreAttributes, out-roll-CoreAttributes}
+use Rattle.cedar_schema_core_types.specs.declared.core_types.CoreAttributes.{CoreAttributes, CoreAttributes-F, map-CoreAttributes, roll-CoreAttributes, out-roll-CoreAttributes, ind-CoreAttributes}
 use Rattle.cedar_schema_core_types.specs.declared.core_types.CoreSchemaType.{CoreSchemaType, CoreSchemaType-F, map-CoreSchemaType, out-CoreSchemaType, roll-CoreSchemaType, out-roll-CoreSchemaType, ind-CoreSchemaType}
 use Rattle.cedar_schema_core_types.proofs.Entries.{attributes_are}
 use Rattle.cedar_schema_laws.proofs.EqualNames.{names_decide, types_decide}
@@ -88,3 +88,13 @@ declared_decided x y e d =
 -- types are equal exactly where the model's are
 pub cores_decide : (a b : CoreSchemaType) → Decides (core_by a b) (core_type_of a ≡ core_type_of b)
 cores_decide = ind-CoreSchemaType TypeDecided DeclaredDecided AttributesDecided types_decided declared_decided attributes_decided
+
+-- and so are attributes, and what is declared of one
+pub core_attributes_decide : (as_ bs : CoreAttributes) → Decides (core_attributes_by as_ bs) (core_attributes_of as_ ≡ core_attributes_of bs)
+core_attributes_decide = ind-CoreAttributes TypeDecided DeclaredDecided AttributesDecided types_decided declared_decided attributes_decided
+
+pub core_declared_decide : (d e : CoreAttributeType) → Decides (core_declared_by d e) (core_declared_of d ≡ core_declared_of e)
+core_declared_decide d e =
+    Decides-like _ (λ h i. record { type = h.0 i; required = h.1 i }) (λ h. (ap (λ c. c.type) h, ap (λ c. c.required) h))
+    (subst (λ b. Decides b ((core_type_of d.attr_type ≡ core_type_of e.attr_type) × (d.required ≡ e.required))) (sym (core_declared_is d e))
+    (Decides-and _ _ (cores_decide d.attr_type e.attr_type) (booleans_Decides d.required e.required)))

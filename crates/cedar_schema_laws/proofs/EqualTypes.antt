@@ -14,18 +14,20 @@ use Rattle.cedar_expr_names.proofs.Equality.{names_eq_is}
 use Rattle.cedar_schema_types.specs.AttributeLists.{attributes_from, declared_pairs}
 use Rattle.cedar_schema_types.specs.Kinds.{bool_type_of, openness_of}
 use Rattle.cedar_schema_types.specs.Types.{type_of, attributes_of, entries_of}
-use Rattle.cedar_schema_types.specs.Unions.{entities_of}
+use Rattle.cedar_schema_types.specs.Unions.{members_of, entities_of}
 use Rattle.cedar_schema_types.specs.contracts.entity_kind.EntityKindPartialEq.TheImpl as entities_equality
+use Rattle.cedar_schema_types.specs.contracts.entity_lub.EntityLUBPartialEq.TheImpl as unions_equality
 use Rattle.cedar_schema_types.specs.contracts.kinds.BoolTypePartialEq.TheImpl as bool_equality
 use Rattle.cedar_schema_types.specs.contracts.kinds.OpenTagPartialEq.TheImpl as tag_equality
 use Rattle.cedar_schema_types.specs.declared.entity_kind.EntityKind.{EntityKind}
 use Rattle.cedar_schema_types.specs.declared.entity_kind.EntityKind.TheVariants.{AnyEntity, Entity}
+use Rattle.cedar_schema_types.specs.declared.entity_lub.EntityLUB.{EntityLUB}
 use Rattle.cedar_schema_types.specs.declared.kinds.BoolType.{BoolType}
 use Rattle.cedar_schema_types.specs.declared.kinds.BoolType.TheVariants.{AnyBool, True, False}
 use Rattle.cedar_schema_types.specs.declared.kinds.OpenTag.{OpenTag}
 use Rattle.cedar_schema_types.specs.declared.kinds.OpenTag.TheVariants.{OpenAttributes, ClosedAttributes}
 use Rattle.cedar_schema_types.specs.declared.types.AttributeType.{AttributeType, AttributeType-F, map-AttributeType, roll-AttributeType}
-use Rattle.cedar_schema_types.specs.declared.types.Attributes.{Attributes, Attributes-F, map-Attributes, roll-Attributes, out-roll-Attributes}
+use Rattle.cedar_schema_types.specs.declared.types.Attributes.{Attributes, Attributes-F, map-Attributes, roll-Attributes, out-roll-Attributes, ind-Attributes}
 use Rattle.cedar_schema_types.specs.declared.types.Type.{«Type» as CodeType, Type-F, map-Type, out-Type, roll-Type, out-roll-Type, ind-Type}
 use Rattle.cedar_schema_types.proofs.Entries.{attributes_are}
 use Rattle.cedar_schema_laws.proofs.SameTypes.{same_bool, same_openness, same_type, same_attributes}
@@ -35,13 +37,13 @@ use Rattle.cedar_schema_laws.proofs.TypeLevels.{level_type, level_eq, type_rolle
 both_same : (a b c d : Truth) → a ≡ c → b ≡ d → (a && b) ≡ (c && d)
 both_same a b c d e f = ap (λ x. x && b) e ∙ ap (λ x. c && x) f
 
-bools_are : (b c : BoolType) → (bool_equality.ghosts).eq b c ≡ same_bool (bool_type_of b) (bool_type_of c)
+pub bools_are : (b c : BoolType) → (bool_equality.ghosts).eq b c ≡ same_bool (bool_type_of b) (bool_type_of c)
 bools_are AnyBool AnyBool = refl
 bools_are True True = refl
 bools_are False False = refl
 bools_are b c = refl
 
-tags_are : (o p : OpenTag) → (tag_equality.ghosts).eq o p ≡ same_openness (openness_of o) (openness_of p)
+pub tags_are : (o p : OpenTag) → (tag_equality.ghosts).eq o p ≡ same_openness (openness_of o) (openness_of p)
 tags_are OpenAttributes OpenAttributes = refl
 tags_are ClosedAttributes ClosedAttributes = refl
 tags_are o p = refl
@@ -53,9 +55,12 @@ lists_by E F view h [] (y ∷ ys) = refl
 lists_by E F view h (x ∷ xs) [] = refl
 lists_by E F view h (x ∷ xs) (y ∷ ys) = both_same (E x y) (pointwise E xs ys) _ _ (h x y) (lists_by E F view h xs ys)
 
-entities_are : (k l : EntityKind) → (entities_equality.ghosts).eq k l ≡ same_type (entities_of k) (entities_of l)
+pub unions_are : (u v : EntityLUB) → (unions_equality.ghosts).eq u v ≡ pointwise name_eq (members_of u) (members_of v)
+unions_are u v = lists_by _ name_eq type_name_of (λ s t. names_eq_is s.0.internal t.0.internal) u.lub_elements.value.keys v.lub_elements.value.keys
+
+pub entities_are : (k l : EntityKind) → (entities_equality.ghosts).eq k l ≡ same_type (entities_of k) (entities_of l)
 entities_are AnyEntity AnyEntity = refl
-entities_are (Entity u) (Entity v) = lists_by _ name_eq type_name_of (λ s t. names_eq_is s.0.internal t.0.internal) u.lub_elements.value.keys v.lub_elements.value.keys
+entities_are (Entity u) (Entity v) = unions_are u v
 entities_are k l = refl
 
 -- what the equalities compare by the model
@@ -149,3 +154,10 @@ declared_agrees x y e d =
 -- types are equal where the model's are
 pub equal_types : (a b : CodeType) → type_by a b ≡ same_type (type_of a) (type_of b)
 equal_types = ind-Type TypeAgrees DeclaredAgrees AttributesAgree types_agree declared_agrees attributes_agree
+
+-- and so are attributes, and what is declared of one
+pub equal_attributes : (as_ bs : Attributes) → attributes_by as_ bs ≡ same_attributes (attributes_of as_) (attributes_of bs)
+equal_attributes = ind-Attributes TypeAgrees DeclaredAgrees AttributesAgree types_agree declared_agrees attributes_agree
+
+pub equal_declared : (d e : AttributeType) → declared_by d e ≡ (same_type (type_of d.attr_type) (type_of e.attr_type) && beq d.is_required e.is_required)
+equal_declared d e = declared_is d e ∙ ap (λ b. b && beq d.is_required e.is_required) (equal_types d.attr_type e.attr_type)

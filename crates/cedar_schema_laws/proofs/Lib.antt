@@ -5,3 +5,4 @@ mod TypeLevels
 mod EqualNames
 mod CoreLevels
 mod EqualCores
+mod Compared

@@ -51,7 +51,7 @@ second_holds false b h = absurd (cc)
 both_hold : (a b : Bool) → a ≡ true → b ≡ true → (a && b) ≡ true
 both_hold a b e f = ap (λ c. c && b) e ∙ f
 
-names_decide : (ms ns : List Name) → Decides (pointwise name_eq ms ns) (ms ≡ ns)
+pub names_decide : (ms ns : List Name) → Decides (pointwise name_eq ms ns) (ms ≡ ns)
 names_decide ms ns = pointwise_decides name_eq-Decides ms ns
 
 -- types of which it holds are one
@@ -127,3 +127,13 @@ mutual
 -- the test decides equality
 pub same_type-Decides : (t u : Ty) → Decides (same_type t u) (t ≡ u)
 same_type-Decides t u = (types_exact t u, λ e. ap (same_type t) (sym e) ∙ types_same t)
+
+-- so do those of what stands in a type
+pub same_bool-Decides : (b c : BoolType) → Decides (same_bool b c) (b ≡ c)
+same_bool-Decides b c = (bools_exact b c, λ e. ap (same_bool b) (sym e) ∙ bools_same b)
+
+pub same_openness-Decides : (o p : Openness) → Decides (same_openness o p) (o ≡ p)
+same_openness-Decides o p = (opennesses_exact o p, λ e. ap (same_openness o) (sym e) ∙ opennesses_same o)
+
+pub same_attributes-Decides : (as_ bs : Attributes) → Decides (same_attributes as_ bs) (as_ ≡ bs)
+same_attributes-Decides as_ bs = (attributes_exact as_ bs, λ e. ap (same_attributes as_) (sym e) ∙ attributes_same as_)
