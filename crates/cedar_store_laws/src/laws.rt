@@ -1,5 +1,5 @@
-//! How parts of policies, refusals and faults are compared and hashed. Each function's contract is the theorem; its body does
-//! nothing.
+//! What the plain evaluator answers, by the relations of the model, and how parts of policies, refusals and faults are compared and
+//! hashed. Each function's contract is the theorem; its body does nothing.
 
 ghost use Rattle.std.specs.Prelude.{◌≡◌, true, false};
 ghost use Rattle.std.specs.Bool.{Decides};
@@ -13,11 +13,12 @@ ghost use Rattle.cedar_store_parts.specs.declared.policy_id.Effect.TheVariants.{
 ghost use Rattle.cedar_store_parts.specs.declared.constraint.PrincipalOrResource.{PrincipalOrResource as Part};
 ghost use Rattle.cedar_store_parts.specs.declared.constraint.PrincipalOrResource.TheVariants.{Principal, Resource};
 ghost use Rattle.cedar_store_refusals.specs.declared.err.UnexpectedSlotError.TheVariants.{OutOfMemory, FoundSlot};
+ghost use Rattle.cedar_store_laws.specs.Laws.{AnswersAreMeanings, AnswersArePolicyMeanings, AnswersDecideSatisfaction};
 ghost use Rattle.cedar_store_meaning.specs.Outcomes.{told};
 ghost use Rattle.cedar_store_meaning.specs.declared.fault.MeaningFault.{MeaningFault as Fault};
 
 use cedar_expr_leaves::Slot;
-use cedar_store_meaning::MeaningFault;
+use cedar_store_meaning::{FunctionTable, MeaningFault};
 use cedar_store_parts::{Effect, PrincipalOrResource};
 use cedar_store_refusals::UnexpectedSlotError;
 use std::hash::Hash;
@@ -52,4 +53,21 @@ pub fn slot_refusals_are_compared()
 /// both want of memory.
 pub fn faults_are_compared()
     ensures { (e f : Fault) → Decides (⟦<MeaningFault as PartialEq>⟧.eq e f) (told {A = V} e ≡ told {A = V} f) }
+{}
+
+/// What the plain evaluator answers for an expression, by the function of the meaning, it answers by its relation, and back. In each
+/// world of the model that the code's world is the expression means the value that is answered, or the error that is told, and
+/// nothing else; where it is answered that something isn't known, the expression means nothing.
+pub fn evaluation_is_the_meaning<T: FunctionTable>()
+    ensures { AnswersAreMeanings T.functions T.ordered T.answers_as }
+{}
+
+/// The same of what is answered for a policy.
+pub fn policy_outcomes_are_the_meaning<T: FunctionTable>()
+    ensures { AnswersArePolicyMeanings T.functions T.ordered T.answers_as }
+{}
+
+/// What is answered for whether a policy is satisfied decides whether its condition means true, and back.
+pub fn satisfaction_is_the_meaning<T: FunctionTable>()
+    ensures { AnswersDecideSatisfaction T.functions T.ordered T.answers_as }
 {}

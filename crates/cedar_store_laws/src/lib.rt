@@ -1,4 +1,4 @@
-//! Laws of how parts of policies, refusals and faults are compared and hashed.
+//! Laws of what the plain evaluator answers, and of how parts of policies, refusals and faults are compared and hashed.
 #![tactic(auto)]
 
 pub mod laws;
