@@ -11,3 +11,4 @@ mod Forms
 mod Declared
 pub mod Rising
 mod InOrder
+mod External

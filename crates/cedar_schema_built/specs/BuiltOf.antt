@@ -1,12 +1,13 @@
 -- What is built of fragments.
--- Rule: schemas; declarations; well-formed declarations (docs/RULES.md).
-use Rattle.std.specs.Prelude.{List}
+-- Rule: schemas; declarations; well-formed declarations; external declarations (docs/RULES.md).
+use Rattle.std.specs.Prelude.{◌≡◌, ◌↔◌, List, []}
 use Rattle.cedar_expr_model.specs.Name.{Name}
 use Rattle.cedar_expr_raw_names.specs.declared.conditional_name.ConditionalName.{ConditionalName}
+use Rattle.cedar_schema_model.specs.Whole.BagLaws.{HasSchemaFault}
 use Rattle.cedar_schema_model.specs.Whole.Declarations.{Declarations}
 use Rattle.cedar_schema_model.specs.Whole.Resolved.{schema_of}
-use Rattle.cedar_schema_model.specs.Whole.WellFormed.{IsWellFormed}
-use Rattle.cedar_schema_kept_model.specs.Kept.{Kept}
+use Rattle.cedar_schema_model.specs.Whole.WellFormed.{unresolved_external, IsWellFormed}
+use Rattle.cedar_schema_kept_model.specs.Kept.{Kept, Elsewhere, elsewhere, IsFirst}
 use Rattle.cedar_schema_kept_model.specs.KeptOf.{IsKeptOf}
 use Rattle.cedar_schema_fragments.specs.WrittenDeclarations.{AreWritten}
 use Rattle.cedar_schema_fragments.specs.declared.namespace_def.ValidatorSchemaFragment.{ValidatorSchemaFragment}
@@ -21,3 +22,13 @@ pub record IsBuiltOf (x : List Name) (fs : List (ValidatorSchemaFragment Conditi
 pub record IsBuiltOfFormed (x : List Name) (fs : List (ValidatorSchemaFragment ConditionalName ConditionalName)) (k : Kept) : Type 0 where
   pub formed : AreFormed x fs
   pub keeps : IsKeptOf (schema_formed x fs formed) k
+
+-- Where fragments write declarations, what is built of them has a first that is declared elsewhere exactly where the declarations have
+-- the fault of an external one, and nothing that is declared elsewhere exactly where they don't.
+abbrev pub FirstElsewhereIsFault : Type 0
+FirstElsewhereIsFault = (x : List Name) (fs : List (ValidatorSchemaFragment ConditionalName ConditionalName)) (k : Kept) → IsBuiltOf x fs k → (d : Declarations) → AreWritten fs d
+    → ((e : Elsewhere) × IsFirst (elsewhere k) e) ↔ HasSchemaFault x d unresolved_external
+
+abbrev pub CompleteIsFaultless : Type 0
+CompleteIsFaultless = (x : List Name) (fs : List (ValidatorSchemaFragment ConditionalName ConditionalName)) (k : Kept) → IsBuiltOf x fs k → (d : Declarations) → AreWritten fs d
+    → (elsewhere k ≡ []) ↔ (HasSchemaFault x d unresolved_external → ⊥)

@@ -6,6 +6,7 @@ ghost use Rattle.std.specs.List.{list_all};
 ghost use Rattle.cedar_expr_model.specs.Whole.Lists.{rises};
 ghost use Rattle.cedar_schema_kept_model.specs.Kept.{kept_environments};
 ghost use Rattle.cedar_schema_entries.specs.InOrder.{type_in_order, action_in_order};
+ghost use Rattle.cedar_schema_built.specs.BuiltOf.{FirstElsewhereIsFault, CompleteIsFaultless};
 ghost use Rattle.cedar_schema_built.specs.InOrder.{IsInOrder, kind_cmp};
 ghost use Rattle.cedar_schema_built.specs.Listed.{ListedAreDeclared, OrderOfListedIsFree};
 ghost use Rattle.cedar_schema_built.specs.Sorted.{NewKeepsTheSchema};
@@ -13,6 +14,7 @@ ghost use Rattle.cedar_schema_built.specs.Views.{schema_kept};
 
 use crate::schema::ValidatorSchema;
 use cedar_schema_entries::laws::{actions_are_in_order, entity_types_are_in_order};
+use cedar_schema_kept_model::laws::external_declarations_are_kept;
 use cedar_schema_told_model::laws::pieces_are_kept;
 
 /// What `ValidatorSchema::new` makes of the entity types and actions of a schema is what a built schema keeps of it.
@@ -20,6 +22,15 @@ pub fn new_keeps_the_schema()
     ensures { NewKeepsTheSchema }
 {
     pieces_are_kept();
+}
+
+/// A schema that is built of the fragments of some declarations is refused as incomplete exactly where these have the fault of an
+/// external declaration, and is complete exactly where they don't.
+pub fn external_declarations_are_refused()
+    ensures refused { FirstElsewhereIsFault }
+    ensures complete { CompleteIsFaultless }
+{
+    external_declarations_are_kept();
 }
 
 /// The common types and the namespaces that are listed of fragments have the names that the declarations have which the fragments
