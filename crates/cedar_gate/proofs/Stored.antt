@@ -10,7 +10,7 @@ use Rattle.cedar_expr_model.specs.Whole.Uids.{is_uid}
 use Rattle.cedar_expr_model.specs.Whole.Value.{V}
 use Rattle.cedar_store_model.specs.Whole.World as world
 use Rattle.cedar_store_model.specs.Whole.World.{Found, held, missing, not_loaded}
-use Rattle.cedar_store_model.specs.Whole.Store.{Extent, whole, partial, found_as, if_uid, look_up}
+use Rattle.cedar_store_model.specs.Whole.Store.{Extent, whole, partial, found_as, look_up}
 use Rattle.cedar_store_entities.specs.StoreParts.{entities_in, kept_in}
 use Rattle.cedar_store_entities.specs.Stores.{store_seen, store_made}
 use Rattle.cedar_store_entities.specs.Views.{Kept, entity_uid}

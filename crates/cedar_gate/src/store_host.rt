@@ -1,14 +1,14 @@
 //! A host that answers from a store of entities.
 
-ghost use Rattle.std.specs.Prelude.{◌≡◌, [], map, option_map, IfSome, IfOk, IfErr};
+ghost use Rattle.std.specs.Prelude.{◌≡◌, [], ◌∷◌, ◌++◌, map, option_map, is_ok, if◌then◌else◌, IfSome, IfOk, IfErr};
 ghost use Rattle.std.specs.Map.{lookup};
 ghost use Rattle.cedar_expr_names.specs.Views.{uid_of};
 ghost use Rattle.cedar_expr_model.specs.Uid.{uid_eq};
 ghost use Rattle.cedar_store_entities.specs.Stores.{store_made};
 ghost use Rattle.cedar_store_entities.specs.Views.{entity_uid, entity_kept};
 ghost use Rattle.cedar_gate_types.specs.Requests.{stored_uids};
-ghost use Rattle.cedar_gate.specs.Hosts.{answered_of, answer_from, held_in};
-ghost use Rattle.cedar_gate.specs.Stores.{store_uids, store_asked};
+ghost use Rattle.cedar_gate.specs.Hosts.{answered_of, answer_from, failures_after, held_in};
+ghost use Rattle.cedar_gate.specs.Stores.{store_uids, store_holds, store_kept, store_asked};
 
 use crate::host::{Host, HostFault};
 use cedar_gate_exprs::EntityUID;
@@ -24,9 +24,10 @@ pub struct StoreHost {
 }
 
 impl StoreHost {
-    /// The host of these entities. Nothing was asked of it.
+    /// The host of these entities, with all that is kept of each. Nothing was asked of it.
     pub fn new(alloc: Global, entities: Entities) -> StoreHost
         ensures store { store_uids result ≡ stored_uids entities }
+        ensures kept { store_kept result ≡ store_made entities }
         ensures asked { store_asked result ≡ [] }
     {
         StoreHost {
@@ -100,7 +101,7 @@ fn copied(alloc: Global, uids: &[EntityUID]) -> Result<Vec<EntityUID>, AllocErro
 }
 
 impl Host for StoreHost {
-    ghost store = { λ h u. held_in (store_uids h) u };
+    ghost store = { store_holds };
 
     ghost asked = { store_asked };
 
@@ -112,11 +113,19 @@ impl Host for StoreHost {
         0
     }
 
+    /// Answers with copies of its entities, with all that is kept of each, and keeps its own. Its errors are want of memory.
     fn fetch(
         &mut self,
         alloc: Global,
         ids: &[EntityUID],
-    ) -> Result<Vec<(EntityUID, Option<Entity>)>, HostFault> {
+    ) -> Result<Vec<(EntityUID, Option<Entity>)>, HostFault>
+        ensures store { store_holds self.new ≡ store_holds self.old }
+        ensures asked { store_asked self.new ≡ (if is_ok result then store_asked self.old ++ map uid_of ids.now ∷ [] else store_asked self.old) }
+        ensures faults { failures_after result 0 ≡ 0 }
+        ensures answers { IfOk result (λ answers. map answered_of answers.items ≡ map (answer_from (store_holds self.old)) (map uid_of ids.now)) }
+        ensures entities { IfOk result (λ answers. map (λ a. option_map entity_kept a.1) answers.items ≡ map (λ u. lookup (uid_eq u) (store_kept self.old)) (map uid_of ids.now)) }
+        ensures kept { store_kept self.new ≡ store_kept self.old }
+    {
         let answers = answer_all(alloc, &self.entities, ids).map_err(|_| HostFault::Memory)?;
         let copy = copied(alloc, ids).map_err(|_| HostFault::Memory)?;
         self.asked.push(copy).map_err(|_| HostFault::Memory)?;
