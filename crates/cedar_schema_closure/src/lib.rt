@@ -9,5 +9,5 @@ mod turn;
 
 pub use closures::closure;
 pub use err::CycleError;
-pub use order::{first_on_cycle, in_order};
+pub use order::in_order;
 pub use turn::turned;

@@ -17,8 +17,8 @@ struct Rank {
     node: usize,
 }
 
-/// The first node from which an edge leads to itself.
-pub fn first_on_cycle(rows: &[Vec<usize>]) -> Option<usize>
+// The first node from which an edge leads to itself.
+fn first_on_cycle(rows: &[Vec<usize>]) -> Option<usize>
     ensures found { IfSome result (LeadsToItself rows.now) }
     ensures none { IfNone result (LeadToOthers rows.now) }
 {

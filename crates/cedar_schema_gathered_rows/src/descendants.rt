@@ -1,7 +1,7 @@
-//! What descends from entity types.
+//! What descends from entity types and from actions.
 
 use crate::sets::{counts, has};
-use cedar_expr_names::InternalName;
+use cedar_expr_names::{Eid, EntityType, EntityUID, InternalName};
 use cedar_schema_nodes::{RepeatedError, descendants, graph};
 use std::alloc::Global;
 use std::test::Fail;
@@ -71,5 +71,38 @@ fn parents_are_edges(rt: HostRuntime) -> Result<(), Fail> {
     for (row, wanted) in edges.iter().zip(wanted) {
         assert!(rt; row.as_slice() == wanted);
     }
+    Ok(())
+}
+
+fn action(alloc: Global, id: &str) -> Result<EntityUID, Fail> {
+    let kind = EntityType::from_normalized_str(alloc, "Action")?;
+    let id = Eid::from_str(alloc, id)?;
+    Ok(EntityUID::from_components(kind, id, None))
+}
+
+// Actions, each with one parent.
+fn actions(
+    alloc: Global,
+    pairs: &[(&str, &str)],
+) -> Result<Vec<(EntityUID, Vec<EntityUID>)>, Fail> {
+    let mut actions = Vec::new(alloc);
+    for (id, parent) in pairs {
+        let mut parents = Vec::new(alloc);
+        parents.push(action(alloc, parent)?)?;
+        actions.push((action(alloc, id)?, parents))?;
+    }
+    Ok(actions)
+}
+
+/// Actions descend by their groups in the same way.
+#[test]
+fn actions_descend_by_groups(rt: HostRuntime) -> Result<(), Fail> {
+    let alloc = rt.alloc();
+    let actions = actions(alloc, &[("view", "read"), ("read", "all"), ("all", "none")])?;
+    let sets = descendants(alloc, &actions)?;
+    let view = action(alloc, "view")?;
+    let read = action(alloc, "read")?;
+    assert!(rt; counts(&sets, 0, 0) && has(&sets, 1, &view) && counts(&sets, 1, 1));
+    assert!(rt; has(&sets, 2, &view) && has(&sets, 2, &read) && counts(&sets, 2, 2));
     Ok(())
 }

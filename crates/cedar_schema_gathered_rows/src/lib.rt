@@ -5,8 +5,6 @@
 #[cfg(test)]
 mod actions;
 #[cfg(test)]
-mod ancestors;
-#[cfg(test)]
 mod checks;
 #[cfg(test)]
 mod commons;

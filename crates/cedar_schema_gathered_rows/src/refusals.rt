@@ -1,19 +1,10 @@
 //! The texts of what graphs of names are refused for.
 
-use crate::ancestors::actions;
 use crate::descendants::types;
 use cedar_schema_closure::CycleError;
-use cedar_schema_nodes::{DescentError, RepeatedError, ancestors, descendants};
+use cedar_schema_nodes::{RepeatedError, descendants};
 use std::alloc::Global;
 use std::test::Fail;
-
-// The text of why these actions have no ancestors. It is empty where they have.
-fn actions_refused(alloc: Global, pairs: &[(&str, &str)]) -> Result<String, Fail> {
-    match ancestors(alloc, &actions(alloc, pairs)?) {
-        Ok(_) => Ok(String::new(alloc)),
-        Err(error) => Ok(error.to_string(alloc)?),
-    }
-}
 
 // The text of why these types have no descendants. It is empty where they have.
 fn types_refused(alloc: Global, pairs: &[(&str, &str)]) -> Result<String, Fail> {
@@ -27,12 +18,6 @@ fn types_refused(alloc: Global, pairs: &[(&str, &str)]) -> Result<String, Fail> 
 #[test]
 fn refusals_are_told(rt: HostRuntime) -> Result<(), Fail> {
     let alloc = rt.alloc();
-    let text = actions_refused(alloc, &[("view", "all"), ("edit", "all")])?;
-    assert_eq!(rt; text.as_str(), "");
-    let text = actions_refused(alloc, &[("view", "all"), ("view", "none")])?;
-    assert_eq!(rt; text.as_str(), "repeated name");
-    let text = actions_refused(alloc, &[("view", "all"), ("all", "view")])?;
-    assert_eq!(rt; text.as_str(), "cycle of parents");
     let text = types_refused(alloc, &[("User", "Team"), ("Doc", "User")])?;
     assert_eq!(rt; text.as_str(), "");
     let text = types_refused(alloc, &[("User", "Team"), ("User", "Doc")])?;
@@ -47,8 +32,6 @@ fn refusals_are_told(rt: HostRuntime) -> Result<(), Fail> {
 fn want_of_memory_is_told(rt: HostRuntime) -> Result<(), Fail> {
     let alloc = rt.alloc();
     let text = RepeatedError::OutOfMemory.to_string(alloc)?;
-    assert_eq!(rt; text.as_str(), "out of memory");
-    let text = DescentError::OutOfMemory.to_string(alloc)?;
     assert_eq!(rt; text.as_str(), "out of memory");
     let text = CycleError::OutOfMemory.to_string(alloc)?;
     assert_eq!(rt; text.as_str(), "out of memory");

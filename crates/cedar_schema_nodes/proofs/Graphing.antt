@@ -13,12 +13,8 @@ use Rattle.cedar_schema_model.specs.Whole.Descent.{Chain, Reaches}
 use Rattle.cedar_schema_model.proofs.Whole.Decls.Schema.{kept_from, kept_has}
 use Rattle.cedar_schema_closure.specs.Found.{AreBelow}
 use Rattle.cedar_schema_closure.specs.Graphs.{Graph, targets, HasEdge, IsWithin, IsClosure, IsTurned}
-use Rattle.cedar_schema_nodes.specs.Numbers.{seen_nodes, names_in, IsAt, AreNumbers, AreOnce, rows_of, AreNamesAt, AreSetsAt, StoodBefore, TellsRepeated}
-use Rattle.cedar_schema_nodes.specs.Descent.{HasParentIn, nodes_in, IsGraphOf, AreDescendants, AreAncestors, TellsDescent}
-use Rattle.cedar_schema_nodes.specs.Faults.{as_descent}
-use Rattle.cedar_schema_nodes.specs.declared.err.RepeatedError.{RepeatedError}
-use Rattle.cedar_schema_nodes.specs.declared.err.RepeatedError.TheVariants as repeated
-use Rattle.cedar_schema_closure.specs.Ranks.{LeadsToItself, LeadToOthers}
+use Rattle.cedar_schema_nodes.specs.Numbers.{seen_nodes, names_in, IsAt, AreNumbers, AreOnce, rows_of, AreNamesAt, AreSetsAt}
+use Rattle.cedar_schema_nodes.specs.Descent.{HasParentIn, nodes_in, IsGraphOf, AreDescendants}
 use Rattle.cedar_schema_nodes.proofs.Places.{at_in, in_at, at_some, one_place, at_map, at_one}
 
 -- the row of a node
@@ -134,33 +130,6 @@ module _ {S : Type 0} (ts : List (S × List S)) (g : Graph) (is : IsGraphOf ts g
         (at.each i (omega (arith, l, sized, back.size, closed.size))).all m k.0 (back.all k.0 i ((closed.each k.0 (omega (arith, q, sized))).all i (numbers_chain m r.0 n k.0 i r.1 k.1 a))) k.1;
   }
 
-  -- what the closure leads to are the ancestors
-  pub ancestors_are : (c : Graph) (sets : List (List S)) → IsClosure g c → LeadToOthers c → AreSetsAt (nodes_in ts) c sets → AreAncestors ts sets
-  ancestors_are c sets closed others at = record {
-    size = at.size ∙ closed.size ∙ is.size;
-    only = λ i m n a h.
-        let l = a.0 in
-        let k = (at.each i (omega (arith, l, sized, closed.size))).only n h in
-        let r = (closed.each i (omega (arith, l, sized))).only k.0 k.1 in
-        (at_in (nodes_in ts) k.0 n k.2, names_chain i r.0 k.0 m n r.1 a k.2);
-    all = λ i m n a h r.
-        let l = a.0 in
-        let k = in_at (nodes_in ts) n h in
-        (at.each i (omega (arith, l, sized, closed.size))).all n k.0 ((closed.each i (omega (arith, l, sized))).all k.0 (numbers_chain m r.0 n i k.0 r.1 a k.1)) k.1;
-    apart = λ m r.
-        let k = in_at (nodes_in ts) m (starts m m r.0 r.1) in
-        let q = k.1.0 in
-        others.none k.0 ((closed.each k.0 (omega (arith, q, sized))).all k.0 (numbers_chain m r.0 m k.0 k.0 r.1 k.1 k.1));
-  }
-
-  -- a node on a cycle
-  pub descends_from_itself : (c : Graph) (i : ℕ) → IsClosure g c → LeadsToItself c i → (m : S) × IsAt (nodes_in ts) i m × Reaches (HasParentIn ts) m m
-  descends_from_itself c i closed h =
-      let l = first_row c i i h.edge in
-      let s = at_some (nodes_in ts) i (omega (arith, l, closed.size, sized)) in
-      let r = (closed.each i (omega (arith, l, closed.size))).only i h.edge in
-      (s.0, s.1, names_chain i r.0 i s.0 s.0 r.1 s.1 s.1)
-
 -- rows in turn
 pub record SetsTo {S : Type 0} (names : List S) (g : Graph) (k : ℕ) (sets : List (List S)) : Type 0 where
   pub size : length sets ≡ k
@@ -203,8 +172,3 @@ closure_within g c w closed = record { each = λ i j h. let l = first_row c i j 
 
 pub turned_within : (c t : Graph) → IsTurned c t → IsWithin t
 turned_within c t back = record { each = λ i j h. let l = first_row c j i (back.only i j h) in omega (arith, l, back.size) }
-
--- a node that stands twice
-pub repeated_tells : {S : Type 0} (ts : List (S × List S)) (names : List S) (e : RepeatedError) → nodes_in ts ≡ names → TellsRepeated names e → TellsDescent ts (as_descent e)
-repeated_tells ts names repeated.OutOfMemory q h = tt
-repeated_tells ts names (repeated.Repeated i) q h = subst (λ ns. StoodBefore ns i) (sym q) h

@@ -2,10 +2,8 @@
 -- Rule: descent (docs/RULES.md).
 use Rattle.std.specs.Prelude.{◌≡◌, ℕ, List, [], map, length, get_or, Contains}
 use Rattle.cedar_schema_model.specs.Whole.Descent.{Reaches}
-use Rattle.cedar_schema_nodes.specs.declared.err.DescentError.{DescentError}
-use Rattle.cedar_schema_nodes.specs.declared.err.DescentError.TheVariants.{OutOfMemory, Repeated, Cycle}
 use Rattle.cedar_schema_closure.specs.Graphs.{Graph, HasEdge, IsWithin}
-use Rattle.cedar_schema_nodes.specs.Numbers.{IsAt, StoodBefore}
+use Rattle.cedar_schema_nodes.specs.Numbers.{IsAt}
 
 -- one has the other as a parent
 abbrev pub HasParentIn : {S : Type 0} → List (S × List S) → S → S → Type 0
@@ -27,17 +25,3 @@ pub record AreDescendants {S : Type 0} (ts : List (S × List S)) (sets : List (L
   pub size : length sets ≡ length ts
   pub only : (i : ℕ) (m n : S) → IsAt (nodes_in ts) i n → Contains (get_or sets i []) m → Contains (nodes_in ts) m × Reaches (HasParentIn ts) m n
   pub all : (i : ℕ) (m n : S) → IsAt (nodes_in ts) i n → Contains (nodes_in ts) m → Reaches (HasParentIn ts) m n → Contains (get_or sets i []) m
-
--- These are, for each node, those that it descends from. None descends from itself.
-pub record AreAncestors {S : Type 0} (ts : List (S × List S)) (sets : List (List S)) : Type 0 where
-  pub size : length sets ≡ length ts
-  pub only : (i : ℕ) (m n : S) → IsAt (nodes_in ts) i m → Contains (get_or sets i []) n → Contains (nodes_in ts) n × Reaches (HasParentIn ts) m n
-  pub all : (i : ℕ) (m n : S) → IsAt (nodes_in ts) i m → Contains (nodes_in ts) n → Reaches (HasParentIn ts) m n → Contains (get_or sets i []) n
-  pub apart : (m : S) → Reaches (HasParentIn ts) m m → ⊥
-
--- The error tells a node that stands twice, by the number of a place at which it stood before, or one that descends from itself. Want
--- of memory tells nothing.
-abbrev pub TellsDescent : {S : Type 0} → List (S × List S) → DescentError → Type 0
-TellsDescent ts OutOfMemory = Unit {0}
-TellsDescent ts (Repeated i) = StoodBefore (nodes_in ts) i
-TellsDescent {S} ts (Cycle i) = (m : S) × IsAt (nodes_in ts) i m × Reaches (HasParentIn ts) m m

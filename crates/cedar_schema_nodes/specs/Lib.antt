@@ -1,5 +1,4 @@
 pub mod Numbers
 pub mod Descent
 pub mod Told
-pub mod Faults
 pub mod Laws

@@ -3,12 +3,12 @@
 ghost use Rattle.std.specs.Prelude.{◌≡◌, map, length, IfOk, IfErr};
 ghost use Rattle.cedar_schema_closure.specs.Graphs.{IsWithin};
 ghost use Rattle.cedar_schema_nodes.specs.Numbers.{names_in, AreOnce, TellsRepeated, AreSetsAt, seen_nodes};
-ghost use Rattle.cedar_schema_nodes.specs.Descent.{IsGraphOf, AreDescendants, AreAncestors, TellsDescent};
+ghost use Rattle.cedar_schema_nodes.specs.Descent.{IsGraphOf, AreDescendants};
 
-use crate::err::{DescentError, RepeatedError};
+use crate::err::RepeatedError;
 use crate::node::Node;
 use crate::numbers::{names_at, numbers, rows};
-use cedar_schema_closure::{closure, first_on_cycle, turned};
+use cedar_schema_closure::{closure, turned};
 use std::alloc::{AllocError, Global};
 use std::collections::BTreeSet;
 
@@ -58,27 +58,4 @@ pub fn descendants<N: Node>(
     let below = turned(alloc, &above)?;
     let sets = sets(alloc, nodes, &below)?;
     Ok(sets)
-}
-
-/// For each of these nodes, which stand with their parents, the set of those that it descends from by one or more parents. Refuses a
-/// node that stands twice, or descends from itself, and answers want of memory.
-pub fn ancestors<N: Node>(
-    alloc: Global,
-    nodes: &[(N, Vec<N>)],
-) -> Result<Vec<BTreeSet<N>>, DescentError>
-    ensures ancestors { IfOk result (λ ss. AreAncestors (seen_nodes N.seen nodes.now) (map (λ s. map N.seen s.keys) ss.items)) }
-    ensures refused { IfErr result (TellsDescent (seen_nodes N.seen nodes.now)) }
-{
-    let graph = match graph(alloc, nodes) {
-        Ok(graph) => graph,
-        Err(error) => return Err(DescentError::from(error)),
-    };
-    let above = closure(alloc, &graph)?;
-    match first_on_cycle(&above) {
-        Some(number) => Err(DescentError::Cycle { number }),
-        None => {
-            let sets = sets(alloc, nodes, &above)?;
-            Ok(sets)
-        }
-    }
 }

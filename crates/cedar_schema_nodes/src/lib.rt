@@ -7,6 +7,6 @@ pub mod laws;
 mod node;
 mod numbers;
 
-pub use descent::{ancestors, descendants, graph};
-pub use err::{DescentError, RepeatedError};
+pub use descent::{descendants, graph};
+pub use err::RepeatedError;
 pub use node::Node;
