@@ -7,9 +7,10 @@ use Rattle.std.specs.declared.cmp.Ordering.TheVariants.{Equal}
 use Rattle.std.proofs.lemmas.List.Elements.{Contains-append_left, Contains-append_right, Contains-append_cases}
 use Rattle.std.specs.List.Sorted.{IsPermutation}
 use Rattle.std.proofs.lemmas.List.Sorted.{IsPermutation-map, Contains-permutation}
+use Rattle.std.proofs.lemmas.List.{same_from_push}
 use Rattle.cedar_expr_model.specs.Name.{Text, Name, is_well_formed}
 use Rattle.cedar_expr_model.specs.Order.{name_cmp}
-use Rattle.cedar_expr_model.specs.Whole.Lists.{is_nil}
+use Rattle.cedar_expr_model.specs.Whole.Lists.{is_nil, rises}
 use Rattle.cedar_expr_model.proofs.Lists.{contains_cases, contains_none, contains_head, map_has, map_from, flat_has, flat_from}
 use Rattle.cedar_expr_names.proofs.Equality.{well_formed}
 use Rattle.cedar_expr_names.specs.declared.internal_name.InternalName.{InternalName}
@@ -26,6 +27,8 @@ use Rattle.cedar_schema_fragments.specs.WrittenDeclarations.{common_declaration,
 use Rattle.cedar_schema_located.specs.OfFragments.{common_in, commons_of_space, commons_of_fragment, commons_of_fragments, declares_any, space_at, space_in, spaces_of_fragment, spaces_of_fragments}
 use Rattle.cedar_schema_located.specs.Views.{ListedCommon, ListedSpace}
 use Rattle.cedar_schema_built.proofs.Forms.{Fragment, Form, all_put_names, commons_named, any_in, space_found, spaces_named}
+use Rattle.cedar_schema_built.proofs.PutRises.{all_put_rises}
+use Rattle.cedar_schema_built.proofs.Rising.{name_total, same_rising}
 use Rattle.cedar_schema_built.proofs.Sorted.{name_same, put_only, one_put}
 use Rattle.cedar_schema_built.specs.Listed.{Listed, AreListed, namespaces_of, parts_of, HasNamesOf, HaveSameNames}
 use Rattle.cedar_schema_built.specs.Put.{all_put}
@@ -251,18 +254,44 @@ spaces_moved d e m ns h =
     (Contains-append_cases (map of_entity d.entities) (map of_action d.actions) ns g)))
     (Contains-append_cases (map of_common d.commons) (map of_entity d.entities ++ map of_action d.actions) ns h)
 
+-- of the names that are listed none stands twice, and they rise
+module _ (fs : List Fragment) (d : Declarations) (w : AreWritten fs d) (l : Listed) (is : AreListed fs l) where
+  commons_rise : rises name_cmp (map (λ c. c.name) l.commons) ≡ true
+  commons_rise = ap (rises name_cmp) (listed_declared fs d w l is).commons ∙ all_put_rises name_total [] (common_names d) refl
+
+  spaces_rise : rises name_cmp (map (λ n. n.name) l.spaces) ≡ true
+  spaces_rise =
+      ap (rises name_cmp) (ap (map (λ n. n.name)) is.spaces ∙ all_put_names name_cmp (λ n. n.name) [] (spaces_of_fragments fs))
+      ∙ all_put_rises name_total [] (map (λ n. n.name) (spaces_of_fragments fs)) refl
+
+-- a namespace of these parts has this name
+name_is : (m n : Name) → namespace_parts (Some m) ≡ namespace_parts (Some n) → m ≡ n
+name_is m n e = let s = same_from_push m.path n.path m.base n.base e in λ i. record { path = s.0 i; base = s.1 i }
+
+named_space : (ss : List ListedSpace) (n : Name) → Contains (map (λ (s : ListedSpace). s.name) ss) n → Contains (map parts_of ss) (namespace_parts (Some n))
+named_space ss n h =
+    let r = map_from (λ (s : ListedSpace). s.name) ss n h in
+    subst (λ m. Contains (map parts_of ss) (namespace_parts (Some m))) r.2 (map_has parts_of ss r.0 r.1)
+
+space_named : (ss : List ListedSpace) (n : Name) → Contains (map parts_of ss) (namespace_parts (Some n)) → Contains (map (λ (s : ListedSpace). s.name) ss) n
+space_named ss n h =
+    let r = map_from parts_of ss (namespace_parts (Some n)) h in
+    subst (Contains (map (λ (s : ListedSpace). s.name) ss)) (name_is r.0.name n r.2) (map_has (λ (s : ListedSpace). s.name) ss r.0 r.1)
+
+-- what is listed of declarations is listed of the same in another order
+module _ (fs gs : List Fragment) (d e : Declarations) (w : AreWritten fs d) (v : AreWritten gs e) (r : IsReordered d e) (l m : Listed) (p : AreListed fs l) (q : AreListed gs m) where
+  commons_there : (n : Name) → Contains (map (λ c. c.name) l.commons) n → Contains (map (λ c. c.name) m.commons) n
+  commons_there n h = (commons_listed gs e v m q n).1 (moved common_name d.commons e.commons r.commons n ((commons_listed fs d w l p n).0 h))
+
+  spaces_there : (n : Name) → Contains (map (λ (s : ListedSpace). s.name) l.spaces) n → Contains (map (λ (s : ListedSpace). s.name) m.spaces) n
+  spaces_there n h =
+      let k = ((listed_declared fs d w l p).spaces (namespace_parts (Some n))).0 (named_space l.spaces n h) in
+      space_named m.spaces n (((listed_declared gs e v m q).spaces (namespace_parts (Some n))).1 (spaces_moved d e r (namespace_parts (Some n)) k.0, k.1))
+
 pub same_listed : (fs gs : List Fragment) (d e : Declarations) → AreWritten fs d → AreWritten gs e → IsReordered d e → (l m : Listed) → AreListed fs l → AreListed gs m → HaveSameNames l m
 same_listed fs gs d e w v r l m p q =
     let back = reordered_back d e r in
-    let a = listed_declared fs d w l p in
-    let b = listed_declared gs e v m q in
     record {
-      commons = λ n. (
-        λ h. (commons_listed gs e v m q n).1 (moved common_name d.commons e.commons r.commons n ((commons_listed fs d w l p n).0 h)),
-        λ h. (commons_listed fs d w l p n).1 (moved common_name e.commons d.commons back.commons n ((commons_listed gs e v m q n).0 h)),
-      );
-      spaces = λ ns. (
-        λ h. let k = (a.spaces ns).0 h in (b.spaces ns).1 (spaces_moved d e r ns k.0, k.1),
-        λ h. let k = (b.spaces ns).0 h in (a.spaces ns).1 (spaces_moved e d back ns k.0, k.1),
-      );
+      commons = same_rising name_total _ _ (commons_rise fs d w l p) (commons_rise gs e v m q) (commons_there fs gs d e w v r l m p q) (commons_there gs fs e d v w back m l q p);
+      spaces = same_rising name_total _ _ (spaces_rise fs d w l p) (spaces_rise gs e v m q) (spaces_there fs gs d e w v r l m p q) (spaces_there gs fs e d v w back m l q p);
     }

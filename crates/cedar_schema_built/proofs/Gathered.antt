@@ -1,33 +1,62 @@
--- The actions that each descends from, action by action, and the actions as entities.
-use Rattle.std.proofs.Common.{◌≡◌, List, [], ◌∷◌, map, refl, sym, ap, ◌∙◌, subst}
+-- Entity types and actions, each with descendants that stand once, and the uids of the actions of a schema, which do too.
+use Rattle.std.proofs.Common.{◌≡◌, Bool, true, false, Option, List, [], ◌∷◌, map, refl, sym, ap, ◌∙◌, subst, inl, inr}
+use Rattle.std.specs.Prelude.{Contains}
 use Rattle.std.specs.List.Sorted.{IsStrictlySortedBy}
 use Rattle.std.specs.Map.{keys_of}
-use Rattle.cedar_expr_model.specs.Uid.{Uid}
+use Rattle.std.specs.Ordering.{eq_by_cmp}
+use Rattle.std.specs.declared.alloc.Global.{Global}
+use Rattle.std.specs.declared.vec.Vec.{Vec}
+use Rattle.cedar_expr_model.specs.Name.{name_eq}
+use Rattle.cedar_expr_model.specs.Uid.{Uid, uid_eq}
+use Rattle.cedar_expr_model.specs.Order.{name_cmp, uid_cmp}
+use Rattle.cedar_expr_model.specs.Whole.Lists.{rises}
+use Rattle.cedar_expr_model.proofs.Equality.{uid_eq-Decides}
+use Rattle.cedar_expr_model.proofs.Lists.{both_hold, contains_tail}
 use Rattle.cedar_expr_names.specs.Views.{uid_of}
 use Rattle.cedar_expr_names.specs.declared.entity.EntityUID.{EntityUID}
 use Rattle.cedar_schema_model.specs.Whole.BagLaws.{HasTwice}
-use Rattle.cedar_schema_kept_model.specs.Kept.{KeptAction}
+use Rattle.cedar_schema_kept_model.specs.Kept.{KeptType, KeptAction}
+use Rattle.cedar_schema_entries.specs.InOrder.{type_in_order, action_in_order}
 use Rattle.cedar_schema_entries.specs.Views.{action_seen}
 use Rattle.cedar_schema_entries.specs.declared.action.ValidatorActionId.{ValidatorActionId}
-use Rattle.cedar_schema_built.specs.Above.{uids_by, with_above, all_above, above_all}
+use Rattle.cedar_schema_entries.proofs.Among.{same_uid}
+use Rattle.cedar_schema_entries.proofs.InOrder.{uids_rise}
+use Rattle.cedar_schema_built.specs.Above.{row_of, IsTaken}
+use Rattle.cedar_schema_built.specs.Ancestors.{uids_by}
 use Rattle.cedar_schema_built.specs.Entries.{actions_in, action_keys, action_names}
 use Rattle.cedar_schema_built.proofs.Putting.{of_keys, of_names}
-use Rattle.cedar_schema_built.proofs.Adding.{rising_once}
+use Rattle.cedar_schema_built.proofs.Rising.{name_total, uid_total, rises_once}
 
-pub one_below : (w v n : Uid) (rest later : List EntityUID) (d : EntityUID) (old new whole : List Uid) → all_above w v (map uid_of rest) old ≡ whole → rest ≡ d ∷ later → n ≡ v → new ≡ with_above w n (uid_of d) old → all_above w v (map uid_of later) new ≡ whole
-one_below w v n rest later d old new whole h is named e =
-    ap (all_above w v (map uid_of later)) (e ∙ ap (λ n. with_above w n (uid_of d) old) named)
-    ∙ ap (λ ds. all_above w v (map uid_of ds) old) (sym is) ∙ h
+pub type_once : (t : KeptType) → type_in_order t ≡ true → HasTwice t.descendants → ⊥
+type_once t h = rises_once name_total t.descendants (both_hold _ (rises name_cmp t.descendants) h).1
 
-pub one_action : (w : Uid) (rest later : List ValidatorActionId) (a : ValidatorActionId) (old new whole : List Uid) → above_all w (map action_seen rest) old ≡ whole → rest ≡ a ∷ later → new ≡ all_above w (action_seen a).uid (action_seen a).descendants old → above_all w (map action_seen later) new ≡ whole
-one_action w rest later a old new whole h is e = ap (above_all w (map action_seen later)) e ∙ ap (λ as_. above_all w (map action_seen as_) old) (sym is) ∙ h
+pub action_once : (a : KeptAction) → action_in_order a ≡ true → HasTwice a.descendants → ⊥
+action_once a h = rises_once uid_total a.descendants (both_hold _ (rises uid_cmp a.descendants) (both_hold (rises name_cmp a.applied.principals) _ h).1).1
 
 -- the uids under which actions stand are theirs, each once
 pub keys_are : (es : List (EntityUID × ValidatorActionId)) → action_keys es ≡ action_names es → map uid_of (keys_of es) ≡ map (λ (a : KeptAction). a.uid) (actions_in es)
 keys_are es n = of_keys uid_of es ∙ n ∙ of_names action_seen (λ (a : KeptAction). a.uid) es
 
-pub keys_once : (es : List (EntityUID × ValidatorActionId)) → action_keys es ≡ action_names es → IsStrictlySortedBy uids_by (keys_of es) → HasTwice (map (λ (a : KeptAction). a.uid) (actions_in es)) → ⊥
-keys_once es n s = subst (λ us. HasTwice us → ⊥) (keys_are es n) (rising_once (keys_of es) s)
+pub keys_once : (es : List (EntityUID × ValidatorActionId)) → IsStrictlySortedBy uids_by (keys_of es) → HasTwice (map uid_of (keys_of es)) → ⊥
+keys_once es s = rises_once uid_total (map uid_of (keys_of es)) (uids_rise (keys_of es) s)
+
+pub names_once : (es : List (EntityUID × ValidatorActionId)) → action_keys es ≡ action_names es → IsStrictlySortedBy uids_by (keys_of es) → HasTwice (map (λ (a : KeptAction). a.uid) (actions_in es)) → ⊥
+names_once es n s = subst (λ us. HasTwice us → ⊥) (keys_are es n) (keys_once es s)
+
+-- what is under the later uids stays where the row of the first is taken out
+pub left_below : (rest later : List EntityUID) (u : EntityUID) → rest ≡ u ∷ later → (HasTwice (map uid_of rest) → ⊥) → (old new : EntityUID → Option (Vec EntityUID Global)) → IsTaken uids_by u old new
+    → (as_ : Uid → List Uid) → ((q : EntityUID) → Contains (map uid_of rest) (uid_of q) → map uid_of (row_of old q) ≡ as_ (uid_of q))
+    → (q : EntityUID) → Contains (map uid_of later) (uid_of q) → map uid_of (row_of new q) ≡ as_ (uid_of q)
+left_below rest later u is once old new taken as_ h q c =
+    ap (map uid_of) (taken.others q (apart (uid_eq (uid_of q) (uid_of u)) refl))
+    ∙ h q (subst (λ us. Contains (map uid_of us) (uid_of q)) (sym is) (contains_tail (uid_of u) (map uid_of later) (uid_of q) c))
+  where
+    apart : (b : Bool) → uid_eq (uid_of q) (uid_of u) ≡ b → eq_by_cmp uids_by q u ≡ false
+    apart true e = absurd (subst (λ us. HasTwice (map uid_of us) → ⊥) is once (inl (subst (Contains (map uid_of later)) ((uid_eq-Decides (uid_of q) (uid_of u)).0 e) c)))
+    apart false e = same_uid q u ∙ e
+
+pub rest_once : (rest later : List EntityUID) (u : EntityUID) → rest ≡ u ∷ later → (HasTwice (map uid_of rest) → ⊥) → HasTwice (map uid_of later) → ⊥
+rest_once rest later u is once t = subst (λ us. HasTwice (map uid_of us) → ⊥) is once (inr t)
 
 pub mapped : {X Y Z : Type 0} (f : Y → Z) (g : X → Y) (xs : List X) → map f (map g xs) ≡ map (λ x. f (g x)) xs
 mapped f g [] = refl

@@ -29,7 +29,8 @@ use Rattle.cedar_schema_built.proofs.Putting.{all_put_more, map_more, put_in, na
 types_same : (s t : EntityType) → types_by s t ≡ name_cmp (type_name_of s) (type_name_of t)
 types_same s t = names_cmp_is s.0.internal t.0.internal
 
-types_told : (s t : EntityType) → is_eq (types_by s t) ≡ name_eq (type_name_of s) (type_name_of t)
+-- the order of entity types tells those of one name
+pub types_told : (s t : EntityType) → is_eq (types_by s t) ≡ name_eq (type_name_of s) (type_name_of t)
 types_told s t = is_eq-slice_cmp (rc_str_bytes s.0.internal.text) (rc_str_bytes t.0.internal.text) ∙ names_eq_is s.0.internal t.0.internal
 
 abbrev pub all_types : List ValidatorEntityType → List KeptType

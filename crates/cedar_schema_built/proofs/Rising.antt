@@ -14,6 +14,7 @@ use Rattle.cedar_expr_model.specs.Order.{name_cmp, uid_cmp}
 use Rattle.cedar_expr_model.specs.Whole.Lists.{rises}
 use Rattle.cedar_expr_model.proofs.Lists.{both_hold, hold_both, contains_head, contains_tail, contains_cases, contains_none, flat_from}
 use Rattle.cedar_expr_model.proofs.Whole.Rising.{is_less, less_is}
+use Rattle.cedar_schema_model.specs.Whole.BagLaws.{HasTwice}
 
 pub name_total : IsTotalOrder name_cmp
 name_total = on_total name_text nat_list_cmp_total
@@ -40,7 +41,7 @@ module _ {A : Type 0} {by : A → A → Ordering} (o : IsTotalOrder by) where
   never_below_itself x e = let q = tied_itself o x in cc
 
   -- the rest of a rising list rises, and the first stands before each of it
-  rest_rises : (x : A) (xs : List A) → rises by (x ∷ xs) ≡ true → rises by xs ≡ true
+  pub rest_rises : (x : A) (xs : List A) → rises by (x ∷ xs) ≡ true → rises by xs ≡ true
   rest_rises x [] r = refl
   rest_rises x (y ∷ ys) r = (both_hold (is_lt (by x y)) (rises by (y ∷ ys)) r).1
 
@@ -51,9 +52,14 @@ module _ {A : Type 0} {by : A → A → Ordering} (o : IsTotalOrder by) where
       let first = less_is (by x z) p.0 in
       contains_cases (by x y ≡ Less) z zs y k (λ e. ap (by x) (sym e) ∙ first) (λ m. o.trans x z y first (below_each z zs p.1 y m))
 
-  rises_more : (x : A) (xs : List A) → ((y : A) → Contains xs y → by x y ≡ Less) → rises by xs ≡ true → rises by (x ∷ xs) ≡ true
+  pub rises_more : (x : A) (xs : List A) → ((y : A) → Contains xs y → by x y ≡ Less) → rises by xs ≡ true → rises by (x ∷ xs) ≡ true
   rises_more x [] h r = refl
   rises_more x (y ∷ ys) h r = hold_both (is_lt (by x y)) (rises by (y ∷ ys)) (is_less (by x y) (h y (contains_head y ys))) r
+
+  -- and none of it stands twice
+  pub rises_once : (xs : List A) → rises by xs ≡ true → HasTwice xs → ⊥
+  rises_once [] r t = t
+  rises_once (x ∷ xs) r t = ⊎_elim (λ k. never_below_itself x (below_each x xs r x k)) (rises_once xs (rest_rises x xs r)) t
 
   -- one list behind another
   both_rise : (xs ys : List A) → rises by xs ≡ true → rises by ys ≡ true → ((x y : A) → Contains xs x → Contains ys y → by x y ≡ Less) → rises by (xs ++ ys) ≡ true

@@ -1,8 +1,10 @@
 -- What is left to the iterators over a schema.
 -- Rule: schemas (docs/RULES.md).
-use Rattle.std.specs.Prelude.{◌++◌, List, map, not}
-use Rattle.std.specs.List.{list_any, filter}
-use Rattle.cedar_expr_model.specs.Name.{Name, name_eq}
+use Rattle.std.specs.Prelude.{◌++◌, List, [], map, not}
+use Rattle.std.specs.List.{filter}
+use Rattle.std.specs.Option.{option_map_or}
+use Rattle.std.specs.Slice.Iter.{iter_rest}
+use Rattle.cedar_expr_model.specs.Name.{Name}
 use Rattle.cedar_expr_model.specs.Uid.{Uid}
 use Rattle.cedar_expr_model.specs.Whole.Lists.{is_nil}
 use Rattle.cedar_expr_names.specs.Views.{type_name_of}
@@ -14,7 +16,7 @@ use Rattle.cedar_schema_built.specs.declared.iterators.ActionsFor.{ActionsFor}
 use Rattle.cedar_schema_built.specs.declared.unresolved.UnresolvedDeclarations.{UnresolvedDeclarations}
 
 abbrev pub ancestors_left : Ancestors → List Name
-ancestors_left i = map (λ t. t.name) (filter (λ t. list_any (name_eq (type_name_of i.ty.now)) t.descendants) (map entity_type_seen i.types))
+ancestors_left i = option_map_or (λ r. map type_name_of (iter_rest r)) i.row []
 
 abbrev pub groups_left : ActionGroups → List Uid
 groups_left i = map (λ a. a.uid) (filter (λ a. not (is_nil a.descendants)) (map action_seen i.actions))

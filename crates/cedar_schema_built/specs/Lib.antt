@@ -4,6 +4,8 @@ pub mod Entries
 pub mod Views
 pub mod Iterators
 pub mod Above
+pub mod Ancestors
+pub mod Entities
 pub mod BuiltOf
 pub mod Listed
 pub mod InOrder

@@ -1,14 +1,14 @@
 //! Iterators over some of the entity types or actions of a schema.
 
 use cedar_expr_names::{EntityType, EntityUID};
-use cedar_schema_entries::{ValidatorActionId, ValidatorEntityType};
+use cedar_schema_entries::ValidatorActionId;
 use std::collections::btree_map::Values;
+use std::slice::Iter;
 
 /// Goes over the names of those entity types that one descends from.
 #[derive(Drop)]
 pub struct Ancestors<'a> {
-    types: Values<'a, EntityType, ValidatorEntityType>,
-    ty: &'a EntityType,
+    row: Option<Iter<'a, EntityType>>,
 }
 
 /// Goes over the uids of those actions that some action descends from.
@@ -26,21 +26,21 @@ pub struct ActionsFor<'a> {
 }
 
 impl<'a> Ancestors<'a> {
-    ghost use Rattle.std.specs.Prelude.{◌≡◌, map};
-    ghost use Rattle.std.specs.List.{list_any, filter};
-    ghost use Rattle.cedar_expr_model.specs.Name.{name_eq};
+    ghost use Rattle.std.specs.Prelude.{◌≡◌, [], map};
+    ghost use Rattle.std.specs.Option.{option_map_or};
     ghost use Rattle.cedar_expr_names.specs.Views.{type_name_of};
-    ghost use Rattle.cedar_schema_entries.specs.Views.{entity_type_seen};
     ghost use Rattle.cedar_schema_built.specs.Iterators.{ancestors_left};
 
-    // Those of these types that the type descends from.
-    pub(crate) fn new(
-        types: Values<'a, EntityType, ValidatorEntityType>,
-        ty: &'a EntityType,
-    ) -> Ancestors<'a>
-        ensures { ancestors_left result ≡ map (λ t. t.name) (filter (λ t. list_any (name_eq (type_name_of ty.entry.now)) t.descendants) (map entity_type_seen types.entry)) }
+    // Those of the row, none without one.
+    pub(crate) fn new(row: Option<&'a Vec<EntityType>>) -> Ancestors<'a>
+        ensures { ancestors_left result ≡ option_map_or (λ r. map type_name_of r.now.items) row.entry [] }
     {
-        Ancestors { types, ty }
+        match row {
+            Some(row) => Ancestors {
+                row: Some(row.iter()),
+            },
+            None => Ancestors { row: None },
+        }
     }
 }
 
@@ -95,12 +95,10 @@ impl<'a> Iterator for Ancestors<'a> {
     ghost remaining = { item_count ancestors_left };
 
     fn next(&mut self) -> Option<&'a EntityType> {
-        while let Some(entity_type) = self.types.next() {
-            if entity_type.has_descendant_entity_type(self.ty) {
-                return Some(entity_type.name());
-            }
+        match &mut self.row {
+            Some(row) => row.next(),
+            None => None,
         }
-        None
     }
 }
 

@@ -1,6 +1,8 @@
 //! Built schemas: entity types and actions by name, and what is read from them.
 #![tactic(auto)]
 
+mod above;
+mod ancestors;
 mod building;
 mod entities;
 mod environments;

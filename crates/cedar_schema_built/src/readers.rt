@@ -108,11 +108,11 @@ impl ValidatorSchema {
     }
 
     /// Goes over the entity types that this one descends from, in the order of their names, if it is declared.
-    pub fn ancestors<'a>(&'a self, ty: &'a EntityType) -> Option<Ancestors<'a>>
+    pub fn ancestors<'a>(&'a self, ty: &EntityType) -> Option<Ancestors<'a>>
         ensures { option_map ancestors_left result ≡ option_map (λ t. kept_ancestors (schema_kept self.entry.now) (type_name_of ty.entry.now)) (kept_type (schema_kept self.entry.now) (type_name_of ty.entry.now)) }
     {
         match self.get_entity_type(ty) {
-            Some(_) => Some(Ancestors::new(self.entity_types(), ty)),
+            Some(_) => Some(Ancestors::new(self.ancestors.get(ty))),
             None => None,
         }
     }

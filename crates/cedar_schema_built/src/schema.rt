@@ -1,25 +1,30 @@
 //! Built schemas.
 
 ghost use Rattle.std.specs.Prelude.{◌≡◌, [], map, IfOk};
+ghost use Rattle.std.specs.BTreeMap.{get};
 ghost use Rattle.cedar_expr_model.specs.Order.{name_cmp, uid_cmp};
 ghost use Rattle.cedar_schema_entries.specs.Views.{entity_type_seen, action_seen};
+ghost use Rattle.cedar_schema_built.specs.Ancestors.{types_by, TypesAreAbove};
 ghost use Rattle.cedar_schema_built.specs.Put.{all_put};
 ghost use Rattle.cedar_schema_built.specs.Entries.{types_in, type_keys, type_names, actions_in, action_keys, action_names};
 
+use crate::ancestors::types_above;
 use crate::names::SchemaNames;
 use cedar_expr_names::{EntityType, EntityUID};
 use cedar_schema_entries::{ValidatorActionId, ValidatorEntityType};
 use std::alloc::{AllocError, Global};
 use std::collections::BTreeMap;
 
-/// A built schema: its entity types by name, its actions by uid, and the common types and the namespaces of the fragments that it is
-/// built of.
+/// A built schema: its entity types by name, those that each descends from, its actions by uid, and the common types and the
+/// namespaces of the fragments that it is built of.
 #[derive(Debug, Drop)]
 pub struct ValidatorSchema {
     pub(crate) entity_types: BTreeMap<EntityType, ValidatorEntityType>,
+    pub(crate) ancestors: BTreeMap<EntityType, Vec<EntityType>>,
     pub(crate) action_ids: BTreeMap<EntityUID, ValidatorActionId>,
     pub(crate) names: SchemaNames,
     ghost types_named: { type_keys entity_types.entries ≡ type_names entity_types.entries },
+    ghost ancestors_known: { TypesAreAbove (types_in entity_types.entries) (get types_by ancestors) },
     ghost actions_named: { action_keys action_ids.entries ≡ action_names action_ids.entries },
 }
 
@@ -38,9 +43,11 @@ impl ValidatorSchema {
         ensures listed { IfOk result (λ s. schema_listed s ≡ record { commons = []; spaces = [] }) }
     {
         let entity_types = types_by_name(alloc, entity_types)?;
+        let ancestors = types_above(alloc, &entity_types)?;
         let action_ids = actions_by_uid(alloc, action_ids)?;
         Ok(ValidatorSchema {
             entity_types,
+            ancestors,
             action_ids,
             names: SchemaNames::empty(alloc),
         })
@@ -53,6 +60,7 @@ impl ValidatorSchema {
     {
         ValidatorSchema {
             entity_types: BTreeMap::new(alloc),
+            ancestors: BTreeMap::new(alloc),
             action_ids: BTreeMap::new(alloc),
             names: SchemaNames::empty(alloc),
         }
@@ -65,6 +73,7 @@ impl ValidatorSchema {
     {
         ValidatorSchema {
             entity_types: self.entity_types,
+            ancestors: self.ancestors,
             action_ids: self.action_ids,
             names,
         }
