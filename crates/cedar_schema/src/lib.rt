@@ -35,6 +35,7 @@ pub mod schema {
         ActionFragment, ActionFragmentKind, ActionsDef, DeclaredNames, DeclaredNamespaces,
         ValidatorApplySpec, ValidatorNamespaceDef, ValidatorSchemaFragment,
     };
+    pub use cedar_schema_gathered::DefsOfFragments;
     pub use cedar_schema_located::{LocatedCommonType, LocatedNamespace, LocatedType};
     pub use cedar_schema_resolver::{CommonTypes, TypeResolver, resolve_common_types};
     pub use cedar_schema_sound::{TryValidate, Unsound, first_unsound, try_validate};
@@ -61,7 +62,9 @@ pub mod types {
         DeclaredAttributes, lookup_attribute_type, may_have_attr, typecheck_literal,
         typecheck_value,
     };
-    pub use cedar_schema_attributes::{SchemaAttributes, all_attributes, all_known_attrs};
+    pub use cedar_schema_attributes::{
+        AllAttributes, AllKnownAttrs, SchemaAttributes, all_attributes, all_known_attrs,
+    };
     pub use cedar_schema_joins::{
         ValidationMode, are_types_disjoint, is_subtype, least_upper_bound,
         reduce_to_least_upper_bound,
@@ -79,15 +82,16 @@ pub use schema::err::{
 };
 pub use schema::{
     ActionFragment, ActionFragmentKind, ActionGroups, ActionsDef, ActionsFor, AllDefs, Ancestors,
-    AppliesTo, CommonTypeDefs, EntityTypeFragment, EntityTypesDef, LocatedCommonType,
-    LocatedNamespace, LocatedType, StandardValidatorEntityType, TryValidate, UnresolvedDeclaration,
-    UnresolvedDeclarations, ValidatorActionId, ValidatorApplySpec, ValidatorEntityType,
-    ValidatorEntityTypeKind, ValidatorNamespaceDef, ValidatorSchema, ValidatorSchemaFragment,
-    first_unsound, resolve, try_validate,
+    AppliesTo, CommonTypeDefs, DefsOfFragments, EntityTypeFragment, EntityTypesDef,
+    LocatedCommonType, LocatedNamespace, LocatedType, StandardValidatorEntityType, TryValidate,
+    UnresolvedDeclaration, UnresolvedDeclarations, ValidatorActionId, ValidatorApplySpec,
+    ValidatorEntityType, ValidatorEntityTypeKind, ValidatorNamespaceDef, ValidatorSchema,
+    ValidatorSchemaFragment, first_unsound, resolve, try_validate,
 };
 pub use types::{
-    AttributeType, Attributes, BoolType, DeclaredAttributes, EntityKind, EntityLUB, OpenTag,
-    SchemaAttributes, Type, ValidationMode, all_attributes, all_known_attrs, are_types_disjoint,
-    is_subtype, least_upper_bound, lookup_attribute_type, may_have_attr,
-    reduce_to_least_upper_bound, typecheck_literal, typecheck_restricted_expr, typecheck_value,
+    AllAttributes, AllKnownAttrs, AttributeType, Attributes, BoolType, DeclaredAttributes,
+    EntityKind, EntityLUB, OpenTag, SchemaAttributes, Type, ValidationMode, all_attributes,
+    all_known_attrs, are_types_disjoint, is_subtype, least_upper_bound, lookup_attribute_type,
+    may_have_attr, reduce_to_least_upper_bound, typecheck_literal, typecheck_restricted_expr,
+    typecheck_value,
 };

@@ -19,8 +19,8 @@ mod schema {
     use cedar_schema::schema::{
         ActionFragment, ActionFragmentKind, ActionGroups, ActionsDef, ActionsFor, AllDefs,
         Ancestors, AppliesTo, CommonTypeDefs, CommonTypes, DeclaredNames, DeclaredNamespaces,
-        EntityTypeFragment, EntityTypesDef, LocatedCommonType, LocatedNamespace, LocatedType,
-        StandardValidatorEntityType, TryValidate, TypeResolver, UnresolvedDeclaration,
+        DefsOfFragments, EntityTypeFragment, EntityTypesDef, LocatedCommonType, LocatedNamespace,
+        LocatedType, StandardValidatorEntityType, TryValidate, TypeResolver, UnresolvedDeclaration,
         UnresolvedDeclarations, Unsound, ValidatorActionId, ValidatorApplySpec,
         ValidatorEntityType, ValidatorEntityTypeKind, ValidatorNamespaceDef, ValidatorSchema,
         ValidatorSchemaFragment, extension_types, first_unsound, resolve, resolve_common_types,
@@ -41,26 +41,27 @@ mod schema_err {
 
 mod types {
     use cedar_schema::types::{
-        AttributeType, Attributes, BoolType, DeclaredAttributes, EntityKind, EntityLUB, OpenTag,
-        SchemaAttributes, Type, ValidationMode, all_attributes, all_known_attrs,
-        are_types_disjoint, is_subtype, least_upper_bound, lookup_attribute_type, may_have_attr,
-        reduce_to_least_upper_bound, typecheck_literal, typecheck_restricted_expr, typecheck_value,
+        AllAttributes, AllKnownAttrs, AttributeType, Attributes, BoolType, DeclaredAttributes,
+        EntityKind, EntityLUB, OpenTag, SchemaAttributes, Type, ValidationMode, all_attributes,
+        all_known_attrs, are_types_disjoint, is_subtype, least_upper_bound, lookup_attribute_type,
+        may_have_attr, reduce_to_least_upper_bound, typecheck_literal, typecheck_restricted_expr,
+        typecheck_value,
     };
 }
 
 mod all {
     use cedar_schema::{
-        ActionFragment, ActionFragmentKind, ActionGroups, ActionsDef, ActionsFor, AllDefs,
-        Ancestors, AppliesTo, AttributeType, Attributes, BoolType, CommonTypeDefs, CoreSchemaType,
-        DeclaredAttributes, EntityKind, EntityLUB, EntityTypeFragment, EntityTypesDef,
-        FragmentError, LocatedCommonType, LocatedNamespace, LocatedType, OpenTag, SchemaAttributes,
-        SchemaError, ShadowingError, StandardValidatorEntityType, TryValidate, Type,
-        TypeNotDefinedError, UnresolvedDeclaration, UnresolvedDeclarations,
-        UnresolvedExternalError, UnsoundSchemaError, ValidationMode, ValidatorActionId,
-        ValidatorApplySpec, ValidatorEntityType, ValidatorEntityTypeKind, ValidatorNamespaceDef,
-        ValidatorSchema, ValidatorSchemaFragment, all_attributes, all_known_attrs,
-        are_types_disjoint, core_schema_type, first_unsound, is_subtype, least_upper_bound,
-        lookup_attribute_type, may_have_attr, reduce_to_least_upper_bound, resolve, try_validate,
-        typecheck_literal, typecheck_restricted_expr, typecheck_value,
+        ActionFragment, ActionFragmentKind, ActionGroups, ActionsDef, ActionsFor, AllAttributes,
+        AllDefs, AllKnownAttrs, Ancestors, AppliesTo, AttributeType, Attributes, BoolType,
+        CommonTypeDefs, CoreSchemaType, DeclaredAttributes, DefsOfFragments, EntityKind, EntityLUB,
+        EntityTypeFragment, EntityTypesDef, FragmentError, LocatedCommonType, LocatedNamespace,
+        LocatedType, OpenTag, SchemaAttributes, SchemaError, ShadowingError,
+        StandardValidatorEntityType, TryValidate, Type, TypeNotDefinedError, UnresolvedDeclaration,
+        UnresolvedDeclarations, UnresolvedExternalError, UnsoundSchemaError, ValidationMode,
+        ValidatorActionId, ValidatorApplySpec, ValidatorEntityType, ValidatorEntityTypeKind,
+        ValidatorNamespaceDef, ValidatorSchema, ValidatorSchemaFragment, all_attributes,
+        all_known_attrs, are_types_disjoint, core_schema_type, first_unsound, is_subtype,
+        least_upper_bound, lookup_attribute_type, may_have_attr, reduce_to_least_upper_bound,
+        resolve, try_validate, typecheck_literal, typecheck_restricted_expr, typecheck_value,
     };
 }

@@ -3,7 +3,7 @@
 use crate::parts::made;
 use cedar_expr_functions::Extensions;
 use cedar_expr_names::EntityType;
-use cedar_schema_attributes::{SchemaAttributes, all_attributes, all_known_attrs};
+use cedar_schema_attributes::{AllAttributes, AllKnownAttrs, SchemaAttributes};
 use cedar_schema_built::ValidatorSchema;
 use cedar_schema_examples::fragment;
 use cedar_schema_fragments::ValidatorSchemaFragment;
@@ -35,7 +35,7 @@ fn text(alloc: Global, attributes: &Attributes) -> Result<String, AllocError> {
 fn of_type(alloc: Global, schema: &ValidatorSchema, name: &str) -> Result<String, AllocError> {
     let ty = made(EntityType::from_normalized_str(alloc, name))?;
     let ty = Type::named_entity_reference(alloc, ty)?;
-    let attributes = all_attributes(alloc, &SchemaAttributes::new(schema), &ty)?;
+    let attributes = ty.all_attributes(alloc, &SchemaAttributes::new(schema))?;
     text(alloc, &attributes)
 }
 
@@ -58,7 +58,7 @@ fn entity_types_have_their_attributes(rt: HostRuntime) -> Result<(), Fail> {
 fn other_types_have_none(rt: HostRuntime) -> Result<(), Fail> {
     let alloc = rt.alloc();
     let schema = schema(alloc, "entity User |  | name: String")?;
-    let long = all_attributes(alloc, &SchemaAttributes::new(&schema), &Type::Long)?;
+    let long = Type::Long.all_attributes(alloc, &SchemaAttributes::new(&schema))?;
     assert_eq!(rt; text(alloc, &long)?.as_str(), "");
     Ok(())
 }
@@ -81,9 +81,9 @@ fn of_both(
 ) -> Result<String, Fail> {
     let kind = union(alloc, first, second)?;
     let declared = SchemaAttributes::new(schema);
-    let known = all_known_attrs(alloc, &declared, &kind)?;
+    let known = kind.all_known_attrs(alloc, &declared)?;
     let known = text(alloc, &known)?;
-    let all = all_attributes(alloc, &declared, &Type::Entity(kind))?;
+    let all = Type::Entity(kind).all_attributes(alloc, &declared)?;
     if text(alloc, &all)?.as_str() != known.as_str() {
         return Err(Fail::from("another list"));
     }
@@ -123,11 +123,11 @@ fn nothing_is_known_of_any_entity(rt: HostRuntime) -> Result<(), Fail> {
     let alloc = rt.alloc();
     let schema = schema(alloc, "entity User |  | name: String")?;
     let declared = SchemaAttributes::new(&schema);
-    let known = all_known_attrs(alloc, &declared, &EntityKind::AnyEntity)?;
+    let known = EntityKind::AnyEntity.all_known_attrs(alloc, &declared)?;
     assert_eq!(rt; text(alloc, &known)?.as_str(), "");
     let user = made(EntityType::from_normalized_str(alloc, "User"))?;
     let user = EntityKind::Entity(EntityLUB::single_entity(alloc, user)?);
-    let known = all_known_attrs(alloc, &declared, &user)?;
+    let known = user.all_known_attrs(alloc, &declared)?;
     assert_eq!(rt; text(alloc, &known)?.as_str(), "name ");
     Ok(())
 }
@@ -148,10 +148,10 @@ fn records_have_their_attributes(rt: HostRuntime) -> Result<(), Fail> {
         AttributeType::required_attribute(Type::Long),
     ))?;
     let record = Type::record_with_attributes(alloc, pairs, OpenTag::OpenAttributes)?;
-    let all = all_attributes(alloc, &declared, &record)?;
+    let all = record.all_attributes(alloc, &declared)?;
     assert_eq!(rt; text(alloc, &all)?.as_str(), "a b? ");
     let empty = Type::record_with_attributes(alloc, Vec::new(alloc), OpenTag::ClosedAttributes)?;
-    let all = all_attributes(alloc, &declared, &empty)?;
+    let all = empty.all_attributes(alloc, &declared)?;
     assert_eq!(rt; text(alloc, &all)?.as_str(), "");
     Ok(())
 }

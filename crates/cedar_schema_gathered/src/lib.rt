@@ -2,6 +2,7 @@
 #![tactic(auto)]
 
 pub mod action_types;
+pub mod defs;
 pub mod gathered;
 pub mod laws;
 pub mod looking;
@@ -9,6 +10,7 @@ pub mod reserved;
 pub mod resolved;
 
 pub use action_types::action_entity_type;
+pub use defs::DefsOfFragments;
 pub use gathered::{GatheredDefs, gather};
 pub use reserved::{check_reserved, first_reserved_name};
 pub use resolved::resolve_all;

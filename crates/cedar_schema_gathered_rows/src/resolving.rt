@@ -3,8 +3,9 @@
 use crate::parts::{Written, fragments};
 use crate::texts::joined;
 use cedar_expr_names::{EntityType, InternalName};
-use cedar_schema_fragments::{FragmentError, ValidatorSchemaFragment, all_defs};
-use cedar_schema_gathered::resolve_all;
+use cedar_schema_decl::AllDefs;
+use cedar_schema_fragments::{FragmentError, ValidatorSchemaFragment};
+use cedar_schema_gathered::{DefsOfFragments, resolve_all};
 use std::alloc::{AllocError, Global};
 use std::test::Fail;
 
@@ -12,7 +13,7 @@ type Resolved = ValidatorSchemaFragment<InternalName, EntityType>;
 
 // The fragments with each name resolved by what they declare together.
 fn resolved(alloc: Global, fragments: Vec<Written>) -> Result<Vec<Resolved>, FragmentError> {
-    let all_defs = all_defs::new(alloc, &fragments)?;
+    let all_defs = AllDefs::new(alloc, &fragments)?;
     resolve_all(alloc, fragments, &all_defs)
 }
 
