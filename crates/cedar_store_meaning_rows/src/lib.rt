@@ -15,4 +15,6 @@ mod policies;
 #[cfg(test)]
 mod records;
 #[cfg(test)]
+mod scopes;
+#[cfg(test)]
 mod stores;

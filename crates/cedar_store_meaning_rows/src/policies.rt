@@ -14,7 +14,7 @@ use std::alloc::{AllocError, Global};
 use std::rc::Rc;
 use std::test::Fail;
 
-fn id(alloc: Global, text: &str) -> Made<PolicyID> {
+pub fn id(alloc: Global, text: &str) -> Made<PolicyID> {
     PolicyID::from_string(alloc, text)
 }
 
@@ -52,7 +52,7 @@ fn linked(alloc: Global) -> Made<Policy> {
 const IS_BOSS: &str = "resource .owner .boss principal ==";
 
 // What the policy means, and whether it is satisfied.
-fn outcome(alloc: Global, known: &Facts, policy: &Policy) -> Made<String> {
+pub fn outcome(alloc: Global, known: &Facts, policy: &Policy) -> Made<String> {
     let table = Extensions::none(alloc);
     let world = known.world(&table);
     let outcome = said(alloc, policy_outcome(alloc, &world, policy))?;
@@ -130,6 +130,26 @@ const BOSS_IS_OK: &str = "principal .ok principal .boss resource .owner .boss if
 
 const BAD: &str = "context .bad 2 ==";
 
+// The user a is ok and has no nick; no store has the users alice and bob.
+const CONDITIONS: [(&str, &str); 7] = [
+    (
+        "principal has=nick principal .nick \"x == &&",
+        "false, false",
+    ),
+    (
+        "principal .nick \"x ==",
+        "there is no such attribute or tag, false",
+    ),
+    ("principal is=Doc", "false, false"),
+    ("principal is=User", "true, true"),
+    (
+        "User::alice User::bob record=foo,bar .foo .ok",
+        "entity `User::\"alice\"` does not exist, false",
+    ),
+    ("false Phantom::g principal == &&", "false, false"),
+    ("false principal .ok ||", "true, true"),
+];
+
 // Conditions, each with what it comes to.
 fn come_to(alloc: Global, known: &Facts, rows: &[(&str, &str)]) -> Result<(), Fail> {
     for (body, wanted) in rows {
@@ -149,6 +169,7 @@ fn worked_policies_come_to_their_outcomes(rt: HostRuntime) -> Result<(), Fail> {
         ("true", "true, true"),
     ];
     come_to(alloc, &usual(alloc)?, &all)?;
+    come_to(alloc, &usual(alloc)?, &CONDITIONS)?;
     let missing = "entity `User::\"a\"` does not exist, false";
     let without_a = [
         (IS_BOSS, "true, true"),

@@ -1,10 +1,6 @@
-//! Tests of policies, sets of them, records of validation, entities and stores of these: worked examples, refusals, and each call that takes memory.
+//! Tests of policies, sets of them and records of validation: worked examples, refusals, and each call that takes memory.
 #![tactic(auto)]
 
-#[cfg(test)]
-mod entities;
-#[cfg(test)]
-mod made;
 #[cfg(test)]
 mod parts;
 #[cfg(test)]
@@ -17,5 +13,3 @@ mod records;
 mod scopes;
 #[cfg(test)]
 mod sets;
-#[cfg(test)]
-mod stores;

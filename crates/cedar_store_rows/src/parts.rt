@@ -1,26 +1,19 @@
 //! Parts that the tests share.
 
 use cedar_expr_leaves::SlotId;
-use cedar_expr_names::{Eid, EntityType, EntityUID};
-use cedar_store_entities::{Dereference, Entities, Entity};
+use cedar_expr_names::EntityUID;
 use cedar_store_policies::{
     ActionConstraint, Annotations, Effect, EntityReference, Policy, PolicyID, PrincipalConstraint,
     PrincipalOrResourceConstraint, ResourceConstraint, SlotEnv, StaticPolicy, Template,
 };
+use cedar_test_exprs::uid_of;
 use std::alloc::Global;
 use std::rc::Rc;
 use std::test::Fail;
 
-// The uid of this type and id.
-pub fn uid(alloc: Global, kind: &str, id: &str) -> Result<EntityUID, Fail> {
-    let kind = EntityType::from_normalized_str(alloc, kind)?;
-    let id = Eid::from_str(alloc, id)?;
-    Ok(EntityUID::from_components(kind, id, None))
-}
-
-// The same, shared.
+// The uid of this type and id, shared.
 pub fn shared(alloc: Global, kind: &str, id: &str) -> Result<Rc<EntityUID>, Fail> {
-    Ok(Rc::new(alloc, uid(alloc, kind, id)?)?)
+    Ok(Rc::new(alloc, uid_of(alloc, kind, id)?)?)
 }
 
 // The id of a policy.
@@ -33,21 +26,29 @@ pub fn in_slot() -> PrincipalOrResourceConstraint {
     PrincipalOrResourceConstraint::In(EntityReference::Slot(None))
 }
 
-// The template `permit(principal in ?principal, action, resource)`.
-pub fn template(alloc: Global, text: &str) -> Result<Template, Fail> {
-    let id = id(alloc, text)?;
-    let constraint = in_slot();
+// The template `permit(principal in ?principal, action, resource)`, where this is asked of the resource.
+pub fn template_on(
+    alloc: Global,
+    text: &str,
+    constraint: PrincipalOrResourceConstraint,
+) -> Result<Template, Fail> {
+    let (id, asked) = (id(alloc, text)?, in_slot());
     Ok(Template::new(
         alloc,
         id,
         None,
         Annotations::new(alloc),
         Effect::Permit,
-        PrincipalConstraint { constraint },
+        PrincipalConstraint { constraint: asked },
         ActionConstraint::any(),
-        ResourceConstraint::any(),
+        ResourceConstraint { constraint },
         None,
     )?)
+}
+
+// The same, where nothing is.
+pub fn template(alloc: Global, text: &str) -> Result<Template, Fail> {
+    template_on(alloc, text, PrincipalOrResourceConstraint::Any)
 }
 
 // What it asks.
@@ -85,12 +86,4 @@ pub fn bound(alloc: Global, user: Option<&str>, document: Option<&str>) -> Resul
         values.insert(SlotId::resource(), shared(alloc, "Doc", document)?);
     }
     Ok(values)
-}
-
-// What the store has of the user of this id, if it has such a user.
-pub fn user<'a>(alloc: Global, store: &'a Entities, id: &str) -> Result<Option<&'a Entity>, Fail> {
-    match store.entity(alloc, &uid(alloc, "User", id)?)? {
-        Dereference::Data(e) => Ok(Some(e)),
-        _ => Ok(None),
-    }
 }

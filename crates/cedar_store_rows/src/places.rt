@@ -9,6 +9,7 @@ use cedar_store_policies::{
     PolicySet, PolicySetError, PrincipalConstraint, PrincipalOrResource,
     PrincipalOrResourceConstraint, ResourceConstraint, SlotEnv, Template, UnexpectedSlotError,
 };
+use cedar_test_exprs::expr;
 use std::alloc::Global;
 use std::rc::{Rc, RcStr};
 use std::test::Fail;
@@ -176,6 +177,67 @@ fn uids_and_bodies_keep_places(rt: HostRuntime) -> Result<(), Fail> {
     match policy.non_scope_constraints() {
         Some(body) => assert!(rt; body.source_loc() == at(3)),
         None => return Err(Fail::from("the body is gone")),
+    }
+    Ok(())
+}
+
+// A policy of this body. Its scope asks something of each part, or nothing.
+fn with_body(alloc: Global, asks: bool, body: Expr) -> Result<Policy, Fail> {
+    let id = id(alloc, "p")?;
+    if !asks {
+        return Ok(Policy::from_when_clause(alloc, Effect::Permit, body, id, None)?);
+    }
+    let user = EntityReference::EUID(shared(alloc, "User", "a")?);
+    let document = EntityReference::EUID(shared(alloc, "Doc", "d")?);
+    let template = Template::new(
+        alloc,
+        id,
+        None,
+        Annotations::new(alloc),
+        Effect::Permit,
+        PrincipalConstraint {
+            constraint: PrincipalOrResourceConstraint::Eq(user),
+        },
+        ActionConstraint::Eq(shared(alloc, "Action", "view")?),
+        ResourceConstraint {
+            constraint: PrincipalOrResourceConstraint::In(document),
+        },
+        Some(body),
+    )?;
+    Ok(Policy::new(Rc::new(alloc, template)?, None, SlotEnv::new()))
+}
+
+// Whether the first part of an expression that stands at the place 4 is the expression of this text.
+fn stands_in(alloc: Global, text: &str, whole: &Expr) -> Result<bool, Fail> {
+    for part in whole.subexpressions(alloc)? {
+        if part.source_loc() == at(4) {
+            return Ok(*part == expr(alloc, text)?);
+        }
+    }
+    Ok(false)
+}
+
+// The body keeps its place in the condition, whatever the scope asks. Where it is a truth value and the scope asks nothing, the
+// condition is one literal, which has no place.
+#[test]
+fn bodies_keep_their_places(rt: HostRuntime) -> Result<(), Fail> {
+    let alloc = rt.alloc();
+    for (asks, text, stands) in [
+        (false, "context .n", true),
+        (true, "context .n", true),
+        (true, "true", true),
+        (false, "true", false),
+    ] {
+        let body = expr(alloc, text)?.with_maybe_source_loc(at(4));
+        let policy = with_body(alloc, asks, body)?;
+        assert!(rt;
+            stands_in(alloc, text, policy.condition())? == stands,
+            "{text}"
+        );
+        match policy.non_scope_constraints() {
+            Some(body) => assert!(rt; stands_in(alloc, text, body)?, "{text}"),
+            None => return Err(Fail::from("the body is gone")),
+        }
     }
     Ok(())
 }

@@ -100,21 +100,42 @@ fn static_policies_have_no_slots(rt: HostRuntime) -> Result<(), Fail> {
     Ok(())
 }
 
+// Whether the policy has no annotations, and its scope asks nothing.
+fn is_open(policy: &Policy) -> Result<bool, Fail> {
+    Ok(
+        policy.annotations().next().is_none()
+            && policy.principal_constraint()? == PrincipalConstraint::any()
+            && *policy.action_constraint() == ActionConstraint::Any
+            && policy.resource_constraint()? == ResourceConstraint::any(),
+    )
+}
+
 #[test]
 fn a_policy_that_is_not_linked_has_its_templates_id(rt: HostRuntime) -> Result<(), Fail> {
     let alloc = rt.alloc();
-    let body = expr(alloc, "1 2 +")?;
-    let when = body.clone()?;
-    let policy = Policy::from_when_clause(alloc, Effect::Permit, when, id(alloc, "foo")?, None)?;
-    assert!(rt; policy.effect() == Effect::Permit);
-    assert!(rt; policy.annotations().next().is_none());
-    assert!(rt; *policy.action_constraint() == ActionConstraint::Any);
-    assert!(rt; policy.principal_constraint()? == PrincipalConstraint::any());
-    assert_eq!(rt; policy.id().as_str(), "foo");
-    assert!(rt; policy.non_scope_constraints() == Some(&body));
+    for (effect, text, written) in [
+        (Effect::Permit, "foo", "1 2 +"),
+        (Effect::Forbid, "bar", "1 2 =="),
+    ] {
+        let body = expr(alloc, written)?;
+        let when = body.clone()?;
+        let policy = Policy::from_when_clause(alloc, effect, when, id(alloc, text)?, None)?;
+        assert!(rt; policy.effect() == effect);
+        assert!(rt; is_open(&policy)?);
+        assert_eq!(rt; policy.id().as_str(), text);
+        assert_eq!(rt; policy.template().id().as_str(), text);
+        assert!(rt; policy.non_scope_constraints() == Some(&body));
+    }
+    Ok(())
+}
+
+#[test]
+fn a_policy_without_a_body_asks_nothing(rt: HostRuntime) -> Result<(), Fail> {
+    let alloc = rt.alloc();
     let forbids = parts::policy(alloc, "p", Effect::Forbid)?;
     assert_eq!(rt; forbids.id().as_str(), "p");
     assert!(rt; forbids.effect() == Effect::Forbid);
+    assert!(rt; is_open(&forbids)?);
     assert!(rt; *forbids.condition() == Expr::val(Literal::from(true)));
     assert!(rt; forbids.non_scope_constraints().is_none());
     Ok(())

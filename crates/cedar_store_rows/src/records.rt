@@ -1,19 +1,20 @@
 //! Records of validation: what tells them apart, and copies of types of requests.
 
-use crate::parts::{id, uid};
+use crate::parts::id;
 use cedar_expr_names::Loc;
 use cedar_store_records::{
     RequestType, ValidationError, ValidationErrorKind, ValidationMode, ValidationWarning,
 };
+use cedar_test_exprs::uid_of;
 use std::alloc::Global;
 use std::test::Fail;
 
 // Requests of users that view this kind of resources.
 fn viewing(alloc: Global, kind: &str) -> Result<RequestType, Fail> {
     Ok(RequestType {
-        principal: uid(alloc, "User", "a")?.entity_type().clone()?,
-        action: uid(alloc, "Action", "view")?,
-        resource: uid(alloc, kind, "d")?.entity_type().clone()?,
+        principal: uid_of(alloc, "User", "a")?.entity_type().clone()?,
+        action: uid_of(alloc, "Action", "view")?,
+        resource: uid_of(alloc, kind, "d")?.entity_type().clone()?,
     })
 }
 

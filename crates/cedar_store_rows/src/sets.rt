@@ -1,34 +1,43 @@
 //! Sets of policies.
 
-use crate::parts::{ASKED, always, bound, id, policy, template};
+use crate::parts::{ASKED, always, bound, id, in_slot, policy, template, template_on};
 use cedar_expr_leaves::SlotId;
 use cedar_store_policies::{Effect, LinkingError, Policy, PolicySet, PolicySetError};
 use cedar_test_exprs::expr;
 use std::alloc::Global;
 use std::test::Fail;
 
-// The ids of the templates of a set.
+// The templates of a set: of each its id, its effect, and which slots it has.
 fn templates_shown(alloc: Global, set: &PolicySet) -> Result<String, Fail> {
     let mut all = String::new(alloc);
     for template in set.templates() {
-        all.push_str(template.id().as_str())?;
-        all.push_str(" ")?;
+        let (id, permits) = (template.id(), template.effect() == Effect::Permit);
+        let of_principal = template.has_slot(SlotId::principal());
+        let of_resource = template.has_slot(SlotId::resource());
+        let slots = format!(in alloc; "{id}/{permits}/{of_principal}/{of_resource} ")?;
+        all.push_str(slots.as_str())?;
     }
     Ok(all)
 }
 
-// What stands in a set: the ids of its templates, and of each policy its id, its template's, its effect, and what its first slot
-// is bound to.
+// The id of what the slot of a policy is bound to, empty where it isn't bound.
+fn bound_to(policy: &Policy, slot: SlotId) -> &str {
+    match policy.env().get(slot) {
+        Some(uid) => uid.eid().as_str(),
+        None => "",
+    }
+}
+
+// What stands in a set: its templates, and of each policy its id, its template's, its effect, and what its slots are bound to.
 fn shown(alloc: Global, set: &PolicySet) -> Result<String, Fail> {
     let mut all = templates_shown(alloc, set)?;
     for policy in set.policies() {
-        let to = match policy.env().get(SlotId::principal()) {
-            Some(uid) => uid.eid().as_str(),
-            None => "",
-        };
+        let user = bound_to(policy, SlotId::principal());
+        let document = bound_to(policy, SlotId::resource());
         let (id, of) = (policy.id(), policy.template().id());
         let permits = policy.effect() == Effect::Permit;
-        all.push_str(format!(in alloc; "{id}/{of}/{permits}/{to} ")?.as_str())?;
+        let text = format!(in alloc; "{id}/{of}/{permits}/{user}/{document} ")?;
+        all.push_str(text.as_str())?;
     }
     Ok(all)
 }
@@ -69,11 +78,24 @@ fn with_a_link(alloc: Global) -> Result<PolicySet, Fail> {
     }
 }
 
+// The same with the template b, linked as m to the user a and the document d.
+fn with_two_links(alloc: Global) -> Result<PolicySet, Fail> {
+    let mut set = with_a_link(alloc)?;
+    set.add_template(template_on(alloc, "b", in_slot())?)?;
+    match link(alloc, &mut set, "b", "m", (Some("a"), Some("d")))? {
+        None => Ok(set),
+        Some(_) => Err(Fail::from("a link was refused")),
+    }
+}
+
 #[test]
 fn a_link_is_added_at_the_end(rt: HostRuntime) -> Result<(), Fail> {
     let alloc = rt.alloc();
     let set = with_a_link(alloc)?;
-    assert_eq!(rt; shown(alloc, &set)?.as_str(), "t z/z/false/ l/t/true/a ");
+    assert_eq!(rt;
+        shown(alloc, &set)?.as_str(),
+        "t/true/true/false z/z/false// l/t/true/a/ "
+    );
     let Some(link) = set.get(&id(alloc, "l")?) else {
         return Err(Fail::from("there is no link"));
     };
@@ -85,14 +107,21 @@ fn a_link_is_added_at_the_end(rt: HostRuntime) -> Result<(), Fail> {
 #[test]
 fn links_are_refused(rt: HostRuntime) -> Result<(), Fail> {
     let alloc = rt.alloc();
-    let mut set = with_a_link(alloc)?;
+    let mut set = with_two_links(alloc)?;
     let before = shown(alloc, &set)?;
+    assert_eq!(rt;
+        before.as_str(),
+        "t/true/true/false b/true/true/true z/z/false// l/t/true/a/ m/b/true/a/d "
+    );
     for (of, text, bindings, number) in [
         ("t", "l", (Some("a"), None), 1),
         ("t", "t", (Some("a"), None), 1),
         ("t", "z", (Some("a"), None), 1),
         ("t", "k", (None, None), 2),
         ("t", "k", (Some("a"), Some("d")), 3),
+        ("b", "m", (Some("c"), Some("e")), 1),
+        ("b", "k", (Some("a"), None), 2),
+        ("b", "k", (None, Some("d")), 2),
         ("x", "k", (Some("a"), None), 4),
         ("l", "k", (Some("a"), None), 4),
     ] {
@@ -134,7 +163,7 @@ fn what_is_added_stands_last(rt: HostRuntime) -> Result<(), Fail> {
     assert_eq!(rt; refused(set.add_template(template(alloc, "b")?)), None);
     assert_eq!(rt;
         shown(alloc, &set)?.as_str(),
-        "y b z/z/true/ a/a/true/ m/m/true/ "
+        "y/true/true/false b/true/true/false z/z/true// a/a/true// m/m/true// "
     );
     Ok(())
 }
@@ -155,7 +184,7 @@ fn lists_of_policies_make_sets_without_repeated_ids(rt: HostRuntime) -> Result<(
     let set = PolicySet::try_from_iter(alloc, listed)?;
     assert_eq!(rt;
         shown(alloc, &set)?.as_str(),
-        "b/b/true/ a/a/true/ c/c/true/ "
+        "b/b/true// a/a/true// c/c/true// "
     );
     let listed = policies(alloc, &["b", "a", "c", "a", "b"])?;
     match PolicySet::try_from_iter(alloc, listed) {

@@ -8,5 +8,5 @@ mod nodes;
 mod reading;
 mod stack;
 
-pub use naming::{entity_type, name, uid, word};
+pub use naming::{entity_type, name, uid, uid_of, word};
 pub use reading::expr;

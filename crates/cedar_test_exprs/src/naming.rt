@@ -19,12 +19,17 @@ pub fn entity_type(alloc: Global, text: &str) -> Result<EntityType, AllocError> 
     EntityType::from_normalized_str(alloc, text).map_err(|_| AllocError)
 }
 
+/// The uid of this type and id. Fails where the type is no name, and for want of memory.
+pub fn uid_of(alloc: Global, of: &str, id: &str) -> Result<EntityUID, AllocError> {
+    let of = entity_type(alloc, of)?;
+    Ok(EntityUID::from_components(of, Eid::from_str(alloc, id)?, None))
+}
+
 /// The uid of a type and an id, as in `User::a`: what stands behind the last `::` is the id. Fails where there is none, and for want
 /// of memory.
 pub fn uid(alloc: Global, text: &str) -> Result<EntityUID, AllocError> {
-    let Some((of, id)) = text.rsplit_once("::") else {
-        return Err(AllocError);
-    };
-    let of = entity_type(alloc, of)?;
-    Ok(EntityUID::from_components(of, Eid::from_str(alloc, id)?, None))
+    match text.rsplit_once("::") {
+        Some((of, id)) => uid_of(alloc, of, id),
+        None => Err(AllocError),
+    }
 }

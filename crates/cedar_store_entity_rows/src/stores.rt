@@ -2,10 +2,11 @@
 
 use crate::entities::member;
 use crate::made::has_kin;
-use crate::parts::{uid, user};
+use crate::parts::user;
 use cedar_expr_names::{EntityType, EntityUID};
 use cedar_expr_trees::{Expr, Type, Unknown};
 use cedar_store_entities::{Dereference, Entities, EntitiesError, Entity};
+use cedar_test_exprs::uid_of;
 use std::alloc::Global;
 use std::rc::RcStr;
 use std::test::Fail;
@@ -14,7 +15,7 @@ use std::test::Fail;
 fn users(alloc: Global, ids: &[&str]) -> Result<Vec<Entity>, Fail> {
     let mut users = Vec::new(alloc);
     for id in ids {
-        users.push(Entity::with_uid(alloc, uid(alloc, "User", id)?))?;
+        users.push(Entity::with_uid(alloc, uid_of(alloc, "User", id)?))?;
     }
     Ok(users)
 }
@@ -38,11 +39,11 @@ fn repeated(alloc: Global, ids: &[&str]) -> Result<Option<EntityUID>, Fail> {
 #[test]
 fn the_first_repeated_uid_is_told(rt: HostRuntime) -> Result<(), Fail> {
     let alloc = rt.alloc();
-    assert!(rt; repeated(alloc, &["a", "a"])? == Some(uid(alloc, "User", "a")?));
-    assert!(rt; repeated(alloc, &["b", "a", "a", "b"])? == Some(uid(alloc, "User", "a")?));
+    assert!(rt; repeated(alloc, &["a", "a"])? == Some(uid_of(alloc, "User", "a")?));
+    assert!(rt; repeated(alloc, &["b", "a", "a", "b"])? == Some(uid_of(alloc, "User", "a")?));
     assert!(rt; repeated(alloc, &["b", "a"])?.is_none());
     let refusal = EntitiesError::Duplicate {
-        uid: uid(alloc, "User", "a")?,
+        uid: uid_of(alloc, "User", "a")?,
     };
     assert_eq!(rt; refusal.number(), 1);
     assert_eq!(rt; EntitiesError::OutOfMemory.number(), 0);
@@ -56,7 +57,7 @@ fn the_first_repeated_uid_is_told(rt: HostRuntime) -> Result<(), Fail> {
 // Whether the store gives the user of this id.
 fn gives(alloc: Global, store: &Entities, id: &str) -> Result<bool, Fail> {
     match user(alloc, store, id)? {
-        Some(e) => Ok(*e.uid() == uid(alloc, "User", id)?),
+        Some(e) => Ok(*e.uid() == uid_of(alloc, "User", id)?),
         None => Ok(false),
     }
 }
@@ -75,9 +76,9 @@ fn a_whole_store_knows_what_is_missing(rt: HostRuntime) -> Result<(), Fail> {
     let store = store(alloc)?;
     assert!(rt; gives(alloc, &store, "a")? && gives(alloc, &store, "b")?);
     assert!(rt; has_kin(alloc, user(alloc, &store, "a")?)?);
-    assert!(rt; has_none(alloc, &store, &uid(alloc, "User", "missing")?)?);
-    assert!(rt; has_none(alloc, &store, &uid(alloc, "Team", "a")?)?);
-    assert!(rt; has_none(alloc, &Entities::new(alloc), &uid(alloc, "User", "a")?)?);
+    assert!(rt; has_none(alloc, &store, &uid_of(alloc, "User", "missing")?)?);
+    assert!(rt; has_none(alloc, &store, &uid_of(alloc, "Team", "a")?)?);
+    assert!(rt; has_none(alloc, &Entities::new(alloc), &uid_of(alloc, "User", "a")?)?);
     Ok(())
 }
 
@@ -113,7 +114,7 @@ fn stand_in(alloc: Global, name: &str) -> Result<Expr, Fail> {
 
 // What stands for an entity that isn't known, where the store gives that.
 fn left(alloc: Global, store: &Entities, id: &str) -> Result<Option<Expr>, Fail> {
-    match store.entity(alloc, &uid(alloc, "User", id)?)? {
+    match store.entity(alloc, &uid_of(alloc, "User", id)?)? {
         Dereference::Residual(e) => Ok(Some(e)),
         _ => Ok(None),
     }

@@ -2,12 +2,13 @@
 //! ancestors, and the places of its attributes and tags.
 
 use crate::entities::{kin, member, unknown, with_unknown};
-use crate::parts::{uid, user};
+use crate::parts::user;
 use cedar_expr_leaves::Literal;
 use cedar_expr_names::{Loc, Name};
 use cedar_expr_partial::PartialValue;
 use cedar_expr_values::{ExtValue, Value, ValueKind};
 use cedar_store_entities::{Entities, Entity};
+use cedar_test_exprs::uid_of;
 use std::alloc::Global;
 use std::rc::{Rc, RcStr};
 use std::test::Fail;
@@ -22,10 +23,10 @@ fn rank(alloc: Global, text: &str) -> Result<Value<ExtValue>, Fail> {
 }
 
 // A user of such a rank.
-fn ranked(alloc: Global, id: &str, text: &str) -> Result<Entity, Fail> {
+pub fn ranked(alloc: Global, id: &str, text: &str) -> Result<Entity, Fail> {
     let mut attrs = Vec::new(alloc);
     attrs.push((RcStr::from_str(alloc, "rank")?, rank(alloc, text)?))?;
-    let uid = uid(alloc, "User", id)?;
+    let uid = uid_of(alloc, "User", id)?;
     let (indirect, parents) = (Vec::new(alloc), Vec::new(alloc));
     let tags = Vec::new(alloc);
     Ok(Entity::new(alloc, uid, attrs, indirect, parents, tags)?)
@@ -52,7 +53,7 @@ fn is_called(value: &ExtValue, function: &Name, text: &Literal) -> bool {
 }
 
 // Whether the entity is there and has a rank that was made by a call on this text.
-fn is_ranked(alloc: Global, e: Option<&Entity>, text: &str) -> Result<bool, Fail> {
+pub fn is_ranked(alloc: Global, e: Option<&Entity>, text: &str) -> Result<bool, Fail> {
     let Some(e) = e else {
         return Ok(false);
     };
@@ -133,7 +134,7 @@ fn a_store_keeps_ancestors_and_expressions(rt: HostRuntime) -> Result<(), Fail> 
 }
 
 // A whole number at this place.
-fn placed(n: i64, at: usize) -> Value<ExtValue> {
+pub fn placed(n: i64, at: usize) -> Value<ExtValue> {
     Value::new(ValueKind::Lit(Literal::from(n)), Some(Loc::new(at, at)))
 }
 
@@ -142,13 +143,13 @@ fn with_places(alloc: Global) -> Result<Entity, Fail> {
     let (mut attrs, mut tags) = (Vec::new(alloc), Vec::new(alloc));
     attrs.push((RcStr::from_str(alloc, "age")?, placed(40, 1)))?;
     tags.push((RcStr::from_str(alloc, "spoon")?, placed(-121, 2)))?;
-    let uid = uid(alloc, "User", "p")?;
+    let uid = uid_of(alloc, "User", "p")?;
     let (indirect, parents) = (Vec::new(alloc), Vec::new(alloc));
     Ok(Entity::new(alloc, uid, attrs, indirect, parents, tags)?)
 }
 
 // Whether the part is there at this place.
-fn is_at(part: Option<&PartialValue<ExtValue>>, at: usize) -> bool {
+pub fn is_at(part: Option<&PartialValue<ExtValue>>, at: usize) -> bool {
     match part {
         Some(PartialValue::Value(value)) => value.source_loc() == Some(Loc::new(at, at)),
         Some(PartialValue::Residual(e)) => e.source_loc() == Some(Loc::new(at, at)),

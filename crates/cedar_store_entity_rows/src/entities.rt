@@ -1,12 +1,12 @@
 //! Entities.
 
-use crate::parts::uid;
 use cedar_expr_leaves::Literal;
 use cedar_expr_names::{EntityUID, Loc};
 use cedar_expr_partial::PartialValue;
 use cedar_expr_trees::{Expr, Unknown};
 use cedar_expr_values::{ExtValue, Value};
 use cedar_store_entities::Entity;
+use cedar_test_exprs::uid_of;
 use std::alloc::Global;
 use std::collections::btree_map::Keys;
 use std::rc::RcStr;
@@ -23,10 +23,11 @@ fn longs(alloc: Global, pairs: &[(&str, i64)]) -> Result<Vec<(RcStr, Value<ExtVa
     Ok(values)
 }
 
-fn teams(alloc: Global, ids: &[&str]) -> Result<Vec<EntityUID>, Fail> {
+// The uids of these teams.
+pub fn teams(alloc: Global, ids: &[&str]) -> Result<Vec<EntityUID>, Fail> {
     let mut teams = Vec::new(alloc);
     for id in ids {
-        teams.push(uid(alloc, "Team", id)?)?;
+        teams.push(uid_of(alloc, "Team", id)?)?;
     }
     Ok(teams)
 }
@@ -37,7 +38,7 @@ pub fn member(alloc: Global) -> Result<Entity, Fail> {
     let indirect = teams(alloc, &["all", "red"])?;
     let parents = teams(alloc, &["red"])?;
     let tags = longs(alloc, &[("spoon", -121)])?;
-    let uid = uid(alloc, "User", "a")?;
+    let uid = uid_of(alloc, "User", "a")?;
     Ok(Entity::new(alloc, uid, attrs, indirect, parents, tags)?)
 }
 
@@ -71,8 +72,8 @@ fn attributes_and_tags_stand_apart_in_order(rt: HostRuntime) -> Result<(), Fail>
 #[test]
 fn an_entity_of_a_uid_has_nothing(rt: HostRuntime) -> Result<(), Fail> {
     let alloc = rt.alloc();
-    let e = Entity::with_uid(alloc, uid(alloc, "User", "b")?);
-    assert!(rt; *e.uid() == uid(alloc, "User", "b")?);
+    let e = Entity::with_uid(alloc, uid_of(alloc, "User", "b")?);
+    assert!(rt; *e.uid() == uid_of(alloc, "User", "b")?);
     assert!(rt; e.attrs_len() == 0 && e.tags_len() == 0);
     assert_eq!(rt; e.ancestors().count(), 0);
     Ok(())
@@ -89,14 +90,14 @@ pub fn unknown(alloc: Global, at: Option<Loc>) -> Result<Part, Fail> {
 pub fn with_unknown(alloc: Global, id: &str, at: Option<Loc>) -> Result<Entity, Fail> {
     let mut attrs = Vec::new(alloc);
     attrs.push((RcStr::from_str(alloc, "foo")?, unknown(alloc, at)?))?;
-    let uid = uid(alloc, "User", id)?;
+    let uid = uid_of(alloc, "User", id)?;
     let (indirect, parents, tags) = (Vec::new(alloc), Vec::new(alloc), Vec::new(alloc));
     Ok(Entity::new_with_attr_partial_value(alloc, uid, attrs, indirect, parents, tags)?)
 }
 
 // How the team is an ancestor: as a parent, as another, or not at all.
 pub fn kin(alloc: Global, e: &Entity, team: &str) -> Result<(bool, bool, bool), Fail> {
-    let team = uid(alloc, "Team", team)?;
+    let team = uid_of(alloc, "Team", team)?;
     Ok((
         e.is_descendant_of(&team),
         e.is_child_of(&team),
@@ -112,8 +113,8 @@ fn parents_are_told_from_other_ancestors(rt: HostRuntime) -> Result<(), Fail> {
     assert!(rt; kin(alloc, &e, "all")? == (true, false, true));
     assert!(rt; kin(alloc, &e, "red")? == (true, true, false));
     assert!(rt; kin(alloc, &e, "blue")? == (false, false, false));
-    e.add_parent(uid(alloc, "Team", "blue")?)?;
-    e.add_indirect_ancestor(uid(alloc, "Team", "top")?)?;
+    e.add_parent(uid_of(alloc, "Team", "blue")?)?;
+    e.add_indirect_ancestor(uid_of(alloc, "Team", "top")?)?;
     assert!(rt; kin(alloc, &e, "blue")? == (true, true, false));
     assert!(rt; kin(alloc, &e, "top")? == (true, false, true));
     assert_eq!(rt; e.ancestors().count(), 4);
@@ -125,9 +126,9 @@ fn parents_are_told_from_other_ancestors(rt: HostRuntime) -> Result<(), Fail> {
 fn a_parent_stays_one(rt: HostRuntime) -> Result<(), Fail> {
     let alloc = rt.alloc();
     let mut e = member(alloc)?;
-    e.add_indirect_ancestor(uid(alloc, "Team", "red")?)?;
+    e.add_indirect_ancestor(uid_of(alloc, "Team", "red")?)?;
     assert!(rt; kin(alloc, &e, "red")? == (true, true, false));
-    e.add_parent(uid(alloc, "Team", "all")?)?;
+    e.add_parent(uid_of(alloc, "Team", "all")?)?;
     assert!(rt; kin(alloc, &e, "all")? == (true, true, false));
     assert_eq!(rt; e.ancestors().count(), 2);
     Ok(())
