@@ -16,7 +16,7 @@ const BOTH: &str =
 const TURNED: &str =
     "action view |  | User | Doc | {}\nentity Doc |  | owner: User\nentity User |  | boss: User, ok: Bool, nick?: String";
 
-/// A list of declarations may be split among fragments, and stand in any order.
+/// A list of declarations may be split among fragments, and stand in any order. What two of them declare is declared twice.
 #[test]
 fn fragments_are_built_together(rt: HostRuntime) -> Result<(), Fail> {
     let alloc = rt.alloc();
@@ -29,6 +29,8 @@ fn fragments_are_built_together(rt: HostRuntime) -> Result<(), Fail> {
     );
     assert_eq!(rt; two.as_str(), one.as_str());
     assert_eq!(rt; turned.as_str(), one.as_str());
+    let twice = outcome(alloc, &[&[("", PEOPLE)], &[("", BOTH)]])?;
+    assert_eq!(rt; twice.as_str(), "refused 1");
     Ok(())
 }
 

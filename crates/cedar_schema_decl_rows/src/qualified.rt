@@ -53,6 +53,11 @@ fn names_may_stand_for_several(rt: HostRuntime) -> Result<(), Fail> {
             "{a: M::User, b: extension ip}",
         ),
         (
+            "N",
+            "{a: {b: User, c?: Set of {d: common T}}, e: Set of Set of entity User}",
+            "{a: {b: N::User or User, c?: Set of {d: common N::T or T}}, e: Set of Set of entity N::User or User}",
+        ),
+        (
             "",
             "{a: User, b: Long, c: String, d: Bool}",
             "{a: User, b: Long, c: String, d: Bool}",
@@ -109,9 +114,24 @@ fn names_of_types_are_resolved(rt: HostRuntime) -> Result<(), Fail> {
             "{a: Set of Long, b: extension ip}",
         ),
         (
+            "entity User\ntype N::T",
+            "{a: {b: User, c?: Set of {d: common T}}, e: Set of Set of entity User}",
+            "{a: {b: User, c?: Set of {d: common N::T}}, e: Set of Set of entity User}",
+        ),
+        (
             "entity User",
             "{a: User, c: Y, b: X}",
             "failed to resolve type: X",
+        ),
+        (
+            "entity User",
+            "{b: Y, a: {b: User, c: Set of {d: X}}}",
+            "failed to resolve type: X",
+        ),
+        (
+            "entity User",
+            "{a: Set of Set of User, b: {c: {d: common User}}}",
+            "failed to resolve type: User",
         ),
         (
             "entity User",

@@ -46,26 +46,17 @@ fn set<N: ExampleName>(alloc: Global, element: Type<N>) -> Result<Type<N>, Alloc
     Ok(unplaced(TypeVariant::Set { element }))
 }
 
-// The type of this text, without parts or of sets of types without parts.
-fn flat<N: ExampleName>(alloc: Global, text: &str) -> Result<Type<N>, AllocError> {
-    match text.strip_prefix("Set of ") {
-        Some(element) => set(alloc, plain(alloc, element)?),
-        None => plain(alloc, text),
-    }
-}
-
-// What is declared of an attribute, by its name, with a `?` where it isn't required, and its type.
+// What is declared of an attribute of this type, by its name, behind which is a `?` where it isn't required.
 fn attribute<N: ExampleName>(
     alloc: Global,
-    text: &str,
+    name: &str,
+    ty: Type<N>,
 ) -> Result<(RcStr, TypeOfAttribute<N>), AllocError> {
-    let (name, ty) = text.split_once(": ").unwrap_or((text, "Bool"));
     let (name, required) = match name.strip_suffix('?') {
         Some(name) => (name, false),
         None => (name, true),
     };
     let name = RcStr::from_str(alloc, name)?;
-    let ty = flat(alloc, ty)?;
     Ok((
         name,
         TypeOfAttribute {
@@ -76,35 +67,82 @@ fn attribute<N: ExampleName>(
     ))
 }
 
-/// The record type of these attributes, with commas between them, as `a: Long, b?: Set of entity User`. Fails where one is no
-/// attribute, and for want of memory.
-pub fn record<N: ExampleName>(alloc: Global, text: &str) -> Result<RecordType<N>, AllocError> {
+// Whether each brace of the text that is opened there is closed there.
+fn is_whole(text: &str) -> bool {
+    text.matches('{').count() == text.matches('}').count()
+}
+
+// The parts of the text, with commas between them. A comma in braces is part of a part. Fails where a brace isn't closed.
+fn parts(alloc: Global, text: &str) -> Result<Vec<String>, AllocError> {
+    let mut parts = Vec::new(alloc);
+    let mut part = String::new(alloc);
+    for piece in text.split(", ") {
+        part.push_str(piece)?;
+        if is_whole(part.as_str()) {
+            parts.push(part)?;
+            part = String::new(alloc);
+        } else {
+            part.push_str(", ")?;
+        }
+    }
+    if part.is_empty() {
+        Ok(parts)
+    } else {
+        Err(AllocError)
+    }
+}
+
+// How deep types may nest.
+const DEPTH: u8 = 8;
+
+// The type of this text. Fails where types nest deeper than this.
+#[cycle(nesting)]
+fn nested<N: ExampleName>(alloc: Global, text: &str, depth: u8) -> Result<Type<N>, AllocError> {
+    if depth == 0 {
+        return Err(AllocError);
+    }
+    if let Some(element) = text.strip_prefix("Set of ") {
+        return set(alloc, nested(alloc, element, depth - 1)?);
+    }
+    match text.strip_prefix('{') {
+        Some(text) => {
+            let text = text.strip_suffix('}').unwrap_or(text);
+            let fields = fields(alloc, text, depth - 1)?;
+            Ok(unplaced(TypeVariant::Record(fields)))
+        }
+        None => plain(alloc, text),
+    }
+}
+
+// The record type of these attributes. Fails where their types nest deeper than this.
+#[cycle(nesting)]
+fn fields<N: ExampleName>(
+    alloc: Global,
+    text: &str,
+    depth: u8,
+) -> Result<RecordType<N>, AllocError> {
     let mut attributes = BTreeMap::new(alloc);
-    for text in text.split(", ") {
-        if !text.is_empty() {
-            let (name, attribute) = attribute(alloc, text)?;
+    for part in &parts(alloc, text)? {
+        let part = part.as_str();
+        if !part.is_empty() {
+            let (name, of) = part.split_once(": ").unwrap_or((part, "Bool"));
+            let ty = nested(alloc, of, depth)?;
+            let (name, attribute) = attribute(alloc, name, ty)?;
             attributes.insert(name, attribute)?;
         }
     }
     Ok(RecordType { attributes })
 }
 
-// The type of this text that is no type of sets.
-fn unnested<N: ExampleName>(alloc: Global, text: &str) -> Result<Type<N>, AllocError> {
-    match text.strip_prefix('{') {
-        Some(text) => {
-            let text = text.strip_suffix('}').unwrap_or(text);
-            Ok(unplaced(TypeVariant::Record(record(alloc, text)?)))
-        }
-        None => plain(alloc, text),
-    }
+/// The record type of these attributes, with commas between them, as `a: Long, b?: Set of entity User, c: {d: Bool}`. Fails where one
+/// is no attribute, where types nest too deep, and for want of memory.
+pub fn record<N: ExampleName>(alloc: Global, text: &str) -> Result<RecordType<N>, AllocError> {
+    fields(alloc, text, DEPTH)
 }
 
 /// The type of this text: `Bool`, `Long`, `String`, `entity User`, `common Name`, `extension ip`, or the name alone of an entity type
-/// or a common type; `{a: Long}`, or `Set of` one of these. Fails where the text is none, and for want of memory.
+/// or a common type; `{a: Long}`, or `Set of` any of these. They nest, to eight types in one another. Fails where the text is none, or
+/// nests deeper, and for want of memory.
 pub fn ty<N: ExampleName>(alloc: Global, text: &str) -> Result<Type<N>, AllocError> {
-    match text.strip_prefix("Set of ") {
-        Some(element) => set(alloc, unnested(alloc, element)?),
-        None => unnested(alloc, text),
-    }
+    nested(alloc, text, DEPTH)
 }

@@ -41,6 +41,14 @@ fn reserved_names_are_found(rt: HostRuntime) -> Result<(), Fail> {
         ("type __cedar | Long", "__cedar"),
         ("type T | __cedar::Long", "__cedar::Long"),
         ("type T | Set of {a: common __cedar::T}", "__cedar::T"),
+        (
+            "type T | {a: {b: Long, c: {d: __cedar::T}}, e: __cedar::A}",
+            "__cedar::T",
+        ),
+        (
+            "entity User |  | a: Set of {b: Set of Set of entity __cedar::A}",
+            "__cedar::A",
+        ),
         ("entity __cedar", "__cedar"),
         ("entity User | __cedar::Group", "__cedar::Group"),
         (
@@ -112,6 +120,8 @@ fn reserved_names_are_refused(rt: HostRuntime) -> Result<(), Fail> {
     assert_eq!(rt; passes.as_str(), "");
     let second = refusal(alloc, &[("", "entity User"), ("N", "entity Doc | __cedar")])?;
     assert_eq!(rt; second.as_str(), "__cedar");
+    let deep = refusal(alloc, &[("", "entity User |  | a: {b: {c: __cedar::T}}")])?;
+    assert_eq!(rt; deep.as_str(), "__cedar::T");
     let space = refusal(alloc, &[("N::__cedar", "entity User")])?;
     assert_eq!(rt; space.as_str(), "N::__cedar::User");
     Ok(())

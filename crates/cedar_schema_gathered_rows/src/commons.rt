@@ -63,6 +63,10 @@ fn common_types_are_replaced(rt: HostRuntime) -> Result<(), Fail> {
             "{\"x\": Long, \"y\"?: Set<Long>, \"z\": Long}",
         ),
         ("A | extension ip", "ip"),
+        (
+            "B | Set of {c: Long}\nA | {a: {b: Set of B}}",
+            "{\"a\": {\"b\": Set<Set<{\"c\": Long}>>}}",
+        ),
         ("A | entity B\nB | Long\nC | B", "__cedar::internal::Never"),
         ("B | Long", "none"),
     ];
@@ -77,6 +81,10 @@ fn common_types_are_refused(rt: HostRuntime) -> Result<(), Fail> {
         ("B | Long\nA | A", "cycle in common type references: A"),
         (
             "A | Set of {a: common A}\nB | A",
+            "cycle in common type references: A",
+        ),
+        (
+            "A | Set of {a: {b: A}}\nB | {a: {b: A}}",
             "cycle in common type references: A",
         ),
         ("A | Long\nB | Long\nA | Long", "duplicate common type `A`"),
@@ -129,6 +137,8 @@ fn references_are_gathered(rt: HostRuntime) -> Result<(), Fail> {
     assert_eq!(rt; references(alloc, record)?.as_str(), " T U T");
     assert_eq!(rt; references(alloc, "U")?.as_str(), " U");
     assert_eq!(rt; references(alloc, "Set of V")?.as_str(), "");
+    let deep = "{a: {b: T, c: Set of Set of {d: U}}, e: common T}";
+    assert_eq!(rt; references(alloc, deep)?.as_str(), " T U T");
     Ok(())
 }
 

@@ -78,6 +78,11 @@ fn written_types_stand_for_types(rt: HostRuntime) -> Result<(), Fail> {
             "{\"a\": Set<Long>, \"b\"?: Set<User>}",
         ),
         ("Set of {}", "Set<{}>"),
+        ("Set of Set of T", "Set<Set<Set<Long>>>"),
+        (
+            "{a: {b: Long, c?: {d: User}}, e: Set of {f: {g: T}}}",
+            "{\"a\": {\"b\": Long, \"c\"?: {\"d\": User}}, \"e\": Set<{\"f\": {\"g\": Set<Long>}}>}",
+        ),
     ];
     assert_eq!(rt; wrong_row(rt.alloc(), &rows)?, "");
     Ok(())
@@ -94,6 +99,10 @@ fn undeclared_names_stand_for_no_value(rt: HostRuntime) -> Result<(), Fail> {
         ("Both", never),
         ("entity Both", "Both"),
         ("Set of Doc", "Set<__cedar::internal::Never>"),
+        (
+            "{a: {b: Set of Doc}}",
+            "{\"a\": {\"b\": Set<__cedar::internal::Never>}}",
+        ),
     ];
     assert_eq!(rt; wrong_row(rt.alloc(), &rows)?, "");
     Ok(())
@@ -117,6 +126,14 @@ fn types_are_refused(rt: HostRuntime) -> Result<(), Fail> {
         (
             "{b: extension x, a: extension y}",
             "unknown extension type `y`",
+        ),
+        (
+            "{b: extension x, a: {b: Long, c: Set of {d: extension y}}}",
+            "unknown extension type `y`",
+        ),
+        (
+            "{a: Set of Set of {b: {c: __cedar::A}}}",
+            "the name `__cedar::A` is reserved",
         ),
     ];
     assert_eq!(rt; wrong_row(rt.alloc(), &rows)?, "");
