@@ -10,6 +10,7 @@ mod examples;
 mod fault;
 mod names;
 mod shapes;
+mod written;
 
 use crate::fault::Fault;
 use crate::shapes::Shape;
@@ -19,12 +20,13 @@ use std::io;
 use std::io::Write;
 use std::process::ExitCode;
 
-// What is built: a shape, of which is printed what it has, perhaps after it is asked whether it is what it has to be, or an example, of
-// which the text is.
+// What is built: a shape, of which is printed what it has, perhaps after it is asked whether it is what it has to be, a type that is
+// written deep, of which is printed the same, or an example, of which the text is.
 #[derive(Clone, Copy)]
 enum Wanted {
     Shape(Shape),
     Checked(Shape),
+    Written,
     Mixed,
     Refused,
 }
@@ -54,9 +56,12 @@ fn named(text: &str) -> Option<(Wanted, u32)> {
         "flat" => Wanted::Shape(Shape::Flat),
         "chain" => Wanted::Shape(Shape::Chain),
         "wide" => Wanted::Shape(Shape::Wide),
+        "tree" => Wanted::Shape(Shape::Tree),
         "groups" => Wanted::Shape(Shape::Groups),
         "group_chain" => Wanted::Shape(Shape::GroupChain),
+        "group_tree" => Wanted::Shape(Shape::GroupTree),
         "nested" => Wanted::Shape(Shape::Nested),
+        "written" => Wanted::Written,
         "checked_chain" => Wanted::Checked(Shape::Chain),
         "checked_wide" => Wanted::Checked(Shape::Wide),
         "checked_groups" => Wanted::Checked(Shape::Groups),
@@ -73,6 +78,7 @@ fn run(alloc: Global, wanted: Wanted, size: u32) -> Result<String, Fault> {
     match wanted {
         Wanted::Shape(shape) => counted(alloc, &shapes::built(alloc, shape, size)?),
         Wanted::Checked(shape) => counted(alloc, &shapes::checked(alloc, shape, size)?),
+        Wanted::Written => counted(alloc, &written::built(alloc, size)?),
         Wanted::Mixed => examples::mixed(alloc, size),
         Wanted::Refused => examples::refused(alloc, size),
     }
