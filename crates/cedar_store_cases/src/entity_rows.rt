@@ -1,0 +1,68 @@
+//! What entities and stores of them are.
+
+use cedar_expr_functions::Extensions;
+use cedar_test_store::hold;
+use std::test::Fail;
+
+const ENTITIES: &str =
+    r##"# an entity has what it was made of: of an attribute that is given twice the last, and its ancestors in the order given
+attr spoon 1 ; attr age 40 ; attr spoon 2 ; tag spoon -121 ; above Team::all@2 ; parent Team::red@3 ; entity User::a@1
+shown : User::"a"@1 age 40 spoon 2 tag spoon -121 above Team::"all"@2 parent Team::"red"@3
+- what is added is recorded behind the others
+add_parent Team::blue@4 : done
+add_above Team::top@5 : done
+shown : User::"a"@1 age 40 spoon 2 tag spoon -121 above Team::"all"@2 parent Team::"red"@3 parent Team::"blue"@4 above Team::"top"@5
+- an ancestor that is recorded again stands where it was recorded first; a parent stays one
+add_parent Team::all@8 : done
+add_above Team::red@9 : done
+shown : User::"a"@1 age 40 spoon 2 tag spoon -121 parent Team::"all"@2 parent Team::"red"@3 parent Team::"blue"@4 above Team::"top"@5
+copy
+shown : User::"a"@1 age 40 spoon 2 tag spoon -121 parent Team::"all"@2 parent Team::"red"@3 parent Team::"blue"@4 above Team::"top"@5
+# what is given as a parent and as another ancestor is a parent
+above Team::all ; above Team::red ; parent Team::red ; entity User::a
+shown : User::"a" above Team::"all" parent Team::"red"
+# an attribute and a tag may be no value yet
+attr age 40 ; attr foo $u ; tag spoon $t:Bool ; above Team::all@2 ; parent Team::red@3 ; partial_entity User::c@6
+shown : User::"c"@6 age 40 foo unknown("u") tag spoon unknown("t") bool above Team::"all"@2 parent Team::"red"@3
+copy
+shown : User::"c"@6 age 40 foo unknown("u") tag spoon unknown("t") bool above Team::"all"@2 parent Team::"red"@3
+# no uid stands twice in a store: of those that do, the first that is met again is told
+entity User::a
+entity User::a
+store : duplicate entity entry `User::"a"`
+entity User::b
+entity User::a
+entity User::a
+entity User::b
+store : duplicate entity entry `User::"a"`
+entity User::b
+entity User::a
+store : done
+lacking_store memory : out of memory
+# a store that has nothing is whole
+find User::a : none
+# a whole store knows what is missing, and a partial one has an unknown for it
+attr age 40 ; attr foo $u ; tag spoon -121 ; above Team::all@2 ; parent Team::red@3 ; partial_entity User::a@1
+entity User::b
+entity Team::red
+store : done
+find User::a@7 : User::"a"@1 age 40 foo unknown("u") tag spoon -121 above Team::"all"@2 parent Team::"red"@3
+find User::b : User::"b"
+find Team::red : Team::"red"
+find User::missing : none
+find Team::a : none
+partial
+find User::a@7 : User::"a"@1 age 40 foo unknown("u") tag spoon -121 above Team::"all"@2 parent Team::"red"@3
+find User::b : User::"b"
+find User::missing@7 : unknown("User::\"missing\"") (entity of type `User`)
+find User::" : unknown("User::\"\\\"\"") (entity of type `User`)
+find Team::a : unknown("Team::\"a\"") (entity of type `Team`)
+# the types and the action of a request
+request_type User Action::view Doc : User Action::"view" Doc
+"##;
+
+#[test]
+fn entities_and_stores_are_what_they_were_made_of(rt: HostRuntime) -> Result<(), Fail> {
+    let alloc = rt.alloc();
+    Ok(hold(alloc, &Extensions::none(alloc), ENTITIES)?)
+}
