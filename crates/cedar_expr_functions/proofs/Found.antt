@@ -1,8 +1,9 @@
 -- What a table finds under a name, and how it answers there.
 use Rattle.std.proofs.Common.{◌≡◌, ◌<◌, List, [], ◌∷◌, map, length, Bool, true, false, cond, ◌&&◌, Option, Some, None, option_map, IfSome, find, refl, sym, ap, ◌∙◌, subst}
-use Rattle.std.specs.Prelude.{IsPermutation, All}
+use Rattle.std.specs.Prelude.{IsPermutation, All, Contains}
 use Rattle.std.proofs.lemmas.List.Sorted.{IsPermutation-map}
 use Rattle.std.proofs.lemmas.List.{length-map, get_or-map}
+use Rattle.std.proofs.lemmas.List.Elements.{All-contains_itself}
 use Rattle.std.proofs.lemmas.Map.Views.{All-map-IsPermutation, IfSome-lookup_from_All}
 use Rattle.std.specs.BTreeMap.{is_at, values}
 use Rattle.std.specs.Borrow.{Bor}
@@ -17,7 +18,7 @@ use Rattle.cedar_expr_names.specs.declared.name.Name.{Name}
 use Rattle.cedar_expr_functions.specs.Signatures.{given_type}
 use Rattle.cedar_expr_functions.specs.Functions.{function_name, function_signature, IsAnsweredBy}
 use Rattle.cedar_expr_functions.specs.Named.{are_named, all_functions, all_signatures}
-use Rattle.cedar_expr_functions.specs.Tables.{AnswersInTable, AnswersAsExtensions, AnswersAs}
+use Rattle.cedar_expr_functions.specs.Tables.{AnswersInTable, AnswersAsExtensions, AnswersAs, IsNamedIn, stored_in}
 use Rattle.cedar_expr_functions.specs.declared.extension.Extension.{Extension}
 use Rattle.cedar_expr_functions.specs.declared.extension.ExtensionFunction.{ExtensionFunction}
 use Rattle.cedar_expr_functions.specs.declared.extensions.Extensions.{Extensions}
@@ -78,6 +79,20 @@ module _ {B : _} {F : _} {g : _} where
         (subst (λ o. IfSome o (λ f. function_name f.now ≡ plain_name_of k)) (sym e) (found_name k t.functions.entries t.named))
         (subst (λ o. IfSome o (λ f. IsAnsweredBy f.now (answers (function_name f.now)))) (sym e) (IfSome-lookup_from_All (λ f. IsAnsweredBy f.now (answers (function_name f.now))) (is_at ((name_order.ghosts).cmp k)) t.functions.entries by.each));
   }
+
+  -- what is found is one of the table's functions, under its name
+  pub found_named : (t : Extensions B F g) (k : Name) (o : Option (Bor (ExtensionFunction B F g))) → o ≡ lookup (is_at ((name_order.ghosts).cmp k)) t.functions.entries → IfSome o (λ f. IsNamedIn t (plain_name_of k) f.now)
+  found_named t k None e = tt
+  found_named t k (Some f) e = record {
+    named = subst (λ o. IfSome o (λ f. function_name f.now ≡ plain_name_of k)) (sym e) (found_name k t.functions.entries t.named);
+    among =
+        subst (λ o. IfSome o (λ f. Contains (stored_in t) f.now)) (sym e)
+        (IfSome-lookup_from_All (λ f. Contains (stored_in t) f.now) (is_at ((name_order.ghosts).cmp k)) t.functions.entries (all_before (Contains (stored_in t)) (λ f. f.now) (values t.functions) (All-contains_itself (stored_in t))));
+  }
+
+  -- a table of these functions keeps them
+  pub moved_functions : (es : List (Extension B F g)) (fs vs : List (Bor (ExtensionFunction B F g))) → map (λ f. f.now) fs ≡ all_functions es → IsPermutation fs vs → IsPermutation (all_functions es) (map (λ f. f.now) vs)
+  moved_functions es fs vs e m = subst (λ gs. IsPermutation gs (map (λ f. f.now) vs)) e (IsPermutation-map (λ (f : Bor (ExtensionFunction B F g)). f.now) fs vs m)
 
   -- a table of these functions has their signatures
   pub moved_signatures : (es : List (Extension B F g)) (fs vs : List (Bor (ExtensionFunction B F g))) → map (λ f. f.now) fs ≡ all_functions es → IsPermutation fs vs → IsPermutation (all_signatures es) (map (λ f. function_signature f.now) vs)

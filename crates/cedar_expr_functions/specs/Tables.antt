@@ -1,6 +1,6 @@
 -- What a table of extension functions is in the model, and how it answers.
 -- Rule: extension functions (docs/RULES.md).
-use Rattle.std.specs.Prelude.{◌≡◌, Bool, List, [], ◌∷◌, Option, map, All, is_some}
+use Rattle.std.specs.Prelude.{◌≡◌, Bool, List, [], ◌∷◌, Option, map, All, Contains, is_some}
 use Rattle.std.specs.List.{filter_map, list_all}
 use Rattle.std.specs.BTreeMap.{values}
 use Rattle.std.specs.Borrow.{Bor}
@@ -43,6 +43,15 @@ pub record AnswersAs {B : _} {F : _} {g : _} (t : Extensions B F g) (answers : N
 -- A function that the table has under this name answers as each table of the model does by which this one is answered.
 pub record AnswersInTable {B : _} {F : _} {g : _} (t : Extensions B F g) (n : Name) (f : ExtensionFunction B F g) : Type 0 where
   pub answered : (answers : Name → List V → Called) → AnswersAs t answers → IsAnsweredBy f (answers n)
+
+-- the functions of the table, in the order of their names
+abbrev pub stored_in : {B : _} {F : _} {g : _} → Extensions B F g → List (ExtensionFunction B F g)
+stored_in t = map (λ f. f.now) (values t.functions)
+
+-- The function is one of the table's, and has this name.
+pub record IsNamedIn {B : _} {F : _} {g : _} (t : Extensions B F g) (n : Name) (f : ExtensionFunction B F g) : Type 0 where
+  pub among : Contains (stored_in t) f
+  pub named : function_name f ≡ n
 
 -- The table answers as its extensions' functions do.
 pub record AnswersAsExtensions {B : _} {F : _} {g : _} (es : List (Extension B F g)) (t : Extensions B F g) : Type 0 where

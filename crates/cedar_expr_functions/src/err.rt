@@ -99,7 +99,7 @@ impl<K: Display> Display for CollectError<K> {
 }
 
 /// A function that doesn't exist was asked for.
-#[derive(Debug, PartialEq, Eq, Drop, Error)]
+#[derive(Debug, Clone, PartialEq, Eq, Drop, Error)]
 #[error("extension function `{name}` does not exist")]
 pub struct FuncDoesNotExistError {
     /// The name that was asked for.
@@ -109,7 +109,7 @@ pub struct FuncDoesNotExistError {
 }
 
 /// Why a look-up finds no function.
-#[derive(Debug, PartialEq, Eq, Drop, Error)]
+#[derive(Debug, Clone, PartialEq, Eq, Drop, Error)]
 pub enum ExtensionFunctionLookupError {
     /// There is no memory for the refusal.
     #[error("out of memory")]
@@ -141,7 +141,7 @@ impl From<FuncDoesNotExistError> for ExtensionFunctionLookupError {
 }
 
 /// A name of a function stands twice.
-#[derive(Debug, PartialEq, Eq, Drop, Error)]
+#[derive(Debug, Clone, PartialEq, Eq, Drop, Error)]
 #[error("extension function `{name}` is defined multiple times")]
 pub struct FuncMultiplyDefinedError {
     /// The name.
@@ -149,7 +149,7 @@ pub struct FuncMultiplyDefinedError {
 }
 
 /// Two constructors make values of one extension type.
-#[derive(Debug, PartialEq, Eq, Drop, Error)]
+#[derive(Debug, Clone, PartialEq, Eq, Drop, Error)]
 #[error("multiple extension constructors for the same extension type {return_type}")]
 pub struct MultipleConstructorsSameSignatureError {
     /// The type.
@@ -157,7 +157,7 @@ pub struct MultipleConstructorsSameSignatureError {
 }
 
 /// Why extensions make no table.
-#[derive(Debug, PartialEq, Eq, Drop, Error)]
+#[derive(Debug, Clone, PartialEq, Eq, Drop, Error)]
 pub enum ExtensionInitializationError {
     /// There is no memory for the table.
     #[error("out of memory")]

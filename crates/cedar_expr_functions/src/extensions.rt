@@ -37,12 +37,12 @@ impl<'a> Extensions<'a> {
     ghost use Rattle.cedar_expr_model.specs.Whole.Table.{Called, signature_of, all_typed};
     ghost use Rattle.std.specs.Prelude.{List, [], Some, None, find, option_map, IfErr, IfSome, OnOk, IsPermutation};
     ghost use Rattle.cedar_expr_model.specs.Whole.Repeats.{table_fault};
-    ghost use Rattle.cedar_expr_functions.specs.Named.{all_signatures, all_ordered};
+    ghost use Rattle.cedar_expr_functions.specs.Named.{all_functions as model_functions, all_signatures, all_ordered};
     ghost use Rattle.std.specs.Slice.Iter.{iter_rest};
     ghost use Rattle.cedar_expr_names.specs.Views.{plain_name_loc};
     ghost use Rattle.cedar_expr_functions.specs.Refusals.{RefusesLookup, RefusesTable};
     ghost use Rattle.cedar_expr_functions.specs.Extended.{extension_name};
-    ghost use Rattle.cedar_expr_functions.specs.Tables.{names_of, functions_of, ordered_of, table_of, table_types_left, are_typed, AnswersInTable, AnswersAsExtensions};
+    ghost use Rattle.cedar_expr_functions.specs.Tables.{names_of, functions_of, ordered_of, table_of, table_types_left, are_typed, AnswersInTable, AnswersAsExtensions, IsNamedIn, stored_in};
 
     /// The table without functions.
     pub fn none(alloc: Global) -> Extensions<'a>
@@ -65,6 +65,7 @@ impl<'a> Extensions<'a> {
     ) -> Result<Extensions<'a>, ExtensionInitializationError>
         ensures functions { IfOk result (λ t. IsPermutation (all_signatures extensions.entry.now) (functions_of t)) }
         ensures answers { IfOk result (AnswersAsExtensions extensions.entry.now) }
+        ensures stored { IfOk result (λ t. IsPermutation (model_functions extensions.entry.now) (stored_in t)) }
         ensures ordered { IfOk result (λ t. ordered_of t ≡ all_ordered extensions.entry.now) }
         ensures names { IfOk result (λ t. names_of t ≡ map extension_name extensions.entry.now) }
         ensures sound { OnOk result (table_fault (all_signatures extensions.entry.now) ≡ None) }
@@ -114,6 +115,7 @@ impl<'a> Extensions<'a> {
     pub fn func(&self, name: &Name) -> Result<&'a ExtensionFunction, ExtensionFunctionLookupError>
         ensures found { (answers : ModelName → List V → Called) → IfOk result (λ f. signature_of (table_of self.now answers) (plain_name_of name.now) ≡ Some (function_signature f.now)) }
         ensures answers { IfOk result (λ f. AnswersInTable self.now (plain_name_of name.now) f.now) }
+        ensures named { IfOk result (λ f. IsNamedIn self.now (plain_name_of name.now) f.now) }
         ensures refused { (answers : ModelName → List V → Called) → IfErr result (RefusesLookup (table_of self.now answers) (plain_name_of name.now) (plain_name_loc name.now)) }
     {
         match self.found(name) {
@@ -129,6 +131,7 @@ impl<'a> Extensions<'a> {
     fn found(&self, name: &Name) -> Option<&'a ExtensionFunction>
         ensures found { option_map (λ f. function_signature f.now) result ≡ find (λ s. name_eq (plain_name_of name.now) s.name) (functions_of self.now) }
         ensures answers { IfSome result (λ f. AnswersInTable self.now (plain_name_of name.now) f.now) }
+        ensures named { IfSome result (λ f. IsNamedIn self.now (plain_name_of name.now) f.now) }
     {
         self.functions.get(name).copied()
     }

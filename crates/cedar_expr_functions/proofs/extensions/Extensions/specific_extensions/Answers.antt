@@ -6,7 +6,7 @@ use Rattle.cedar_expr_model.specs.Whole.Repeats.{repeated}
 use Rattle.cedar_expr_model.specs.Whole.Table.{constructed}
 use Rattle.cedar_expr_functions.specs.Functions.{function_signature}
 use Rattle.cedar_expr_functions.specs.Refusals.{RefusesConstructors}
-use Rattle.cedar_expr_functions.proofs.Found.{moved_signatures, moved_answers}
+use Rattle.cedar_expr_functions.proofs.Found.{moved_signatures, moved_answers, moved_functions}
 use Rattle.cedar_expr_functions.proofs.Faulty.{none_there, names_refused, constructors_refused}
 use Rattle.cedar_expr_functions.proofs.extensions.Extensions.specific_extensions.Goals as goal
 
@@ -24,3 +24,6 @@ returns-clause-answers g c = moved_answers c.args.extensions.now c.as_slice.resu
 
 pub returns-clause-sound : goal.returns-clause-sound
 returns-clause-sound g c = none_there c.args.extensions.now c.as_slice.result.now (ap (map (λ f. f.now)) c.as_slice.ensures.value ∙ c.in_ok-all.ensures) c.in_ok-functions.ensures.distinct (subst (λ fs. repeated core_eq (filter_map constructed (map (λ f. function_signature f.now) fs)) ≡ None) (c.as_slice-2.ensures.value ∙ sym c.as_slice.ensures.value) c.in_ok-refuse_two_constructors.ensures.distinct)
+
+pub returns-clause-stored : goal.returns-clause-stored
+returns-clause-stored g c = moved_functions c.args.extensions.now c.as_slice.result.now (values c.in_ok-functions.functions) (ap (map (λ f. f.now)) c.as_slice.ensures.value ∙ c.in_ok-all.ensures) c.in_ok-functions.ensures.functions
