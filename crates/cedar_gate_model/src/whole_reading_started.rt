@@ -56,10 +56,10 @@ pub fn worked_requests()
     ensures no_requests { refuses (request_read ranks) (codes "{'principal':['User','a'],'action':['Action','view']}" ∷ codes "{'principal':['User','a'],'action':null,'resource':'unknown'}" ∷ codes "{'principal':['User','a'],'action':'unknown','resource':'unknown','context':null}" ∷ codes "{'principal':'unknown','action':'unknown','resource':'unknown','more':1}" ∷ codes "[]" ∷ []) ≡ true }
 {}
 
-/// Entities and stores. Attributes and tags are values alone, and no uid is repeated.
+/// Entities and stores. Attributes and tags are values alone, an ancestor counts once, and no uid is repeated.
 pub fn worked_stores()
     ensures bare { reads_as (entity_read ranks) (codes "{'uid':['User','a']}") ≡ Some (user_a, plain_entity) }
-    ensures full { reads_as (entity_read ranks) (codes "{'uid':['User','a'],'attrs':{'r':['call','rank','7']},'tags':{'t':1},'ancestors':[['User','a'],['User','a']]}") ≡ Some (user_a, record { attributes = (codes "r", known (extension rank (codes "7"))) ∷ []; tags = (codes "t", known (prim (long (pos 1)))) ∷ []; ancestors = user_a ∷ user_a ∷ [] }) }
+    ensures full { reads_as (entity_read ranks) (codes "{'uid':['User','a'],'attrs':{'r':['call','rank','7']},'tags':{'t':1},'ancestors':[['User','a'],['User','a']]}") ≡ Some (user_a, record { attributes = (codes "r", known (extension rank (codes "7"))) ∷ []; tags = (codes "t", known (prim (long (pos 1)))) ∷ []; ancestors = user_a ∷ [] }) }
     ensures parts { reads_as (parts_read ranks) (codes "{'b':1,'a':['record',{'c':2}]}") ≡ Some ((codes "a", known (record_of (field (codes "c") (prim (long (pos 2))) no_fields))) ∷ (codes "b", known (prim (long (pos 1)))) ∷ []) }
     ensures no_parts { refuses (parts_read ranks) (codes "[]" ∷ codes "{'a':['unknown','u']}" ∷ codes "{'a':['call','rank','x']}" ∷ codes "{'a':['var','principal']}" ∷ []) ≡ true }
     ensures no_entities { refuses (entity_read ranks) (codes "{}" ∷ codes "{'uid':['__cedar','a']}" ∷ codes "{'uid':['User','a'],'attrs':null}" ∷ codes "{'uid':['User','a'],'tags':{'t':{}}}" ∷ codes "{'uid':['User','a'],'ancestors':['User','a']}" ∷ codes "{'uid':['User','a'],'parents':[]}" ∷ codes "['User','a']" ∷ []) ≡ true }

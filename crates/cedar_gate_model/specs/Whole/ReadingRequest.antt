@@ -1,10 +1,11 @@
 -- Reading requests, stores and steps.
 -- Rule: what a bundle reads as (docs/RULES.md).
-use Rattle.std.specs.Prelude.{List, [], ◌∷◌, codes, Option, Some, None, option_map}
+use Rattle.std.specs.Prelude.{List, [], ◌∷◌, ◌++◌, if◌then◌else◌, codes, Option, Some, None, option_map}
+use Rattle.std.specs.List.{list_any}
 use Rattle.serde_json.specs.Data.{Data}
 use Rattle.serde_json.specs.Find.{as_str}
 use Rattle.cedar_expr_model.specs.Name.{Text}
-use Rattle.cedar_expr_model.specs.Uid.{Uid}
+use Rattle.cedar_expr_model.specs.Uid.{Uid, uid_eq}
 use Rattle.cedar_expr_model.specs.Whole.Value.{V}
 use Rattle.cedar_expr_model.specs.Whole.Made.{no_made_fields, bare}
 use Rattle.cedar_expr_model.specs.Whole.ValueParts.{Part, known}
@@ -39,14 +40,22 @@ request_read x d =
 abbrev pub parts_read : Functions → Data → Option (List (Text × Part V))
 parts_read x d = members_of (λ name e. option_map (λ m. (name, known (bare m))) (value_read x e)) d
 
--- an entity and its uid
+-- one more uid, unless it is there; and each of these
+abbrev pub with_uid : List Uid → Uid → List Uid
+with_uid us u = if list_any (uid_eq u) us then us else us ++ u ∷ []
+
+abbrev pub with_uids : List Uid → List Uid → List Uid
+with_uids us [] = us
+with_uids us (v ∷ vs) = with_uids (with_uid us v) vs
+
+-- An entity and its uid. Its ancestors are recorded, each once.
 abbrev pub entity_read : Functions → Data → Option (Uid × Entity V)
 entity_read x d =
     when (has_only (codes "uid" ∷ codes "attrs" ∷ codes "tags" ∷ codes "ancestors" ∷ []) d)
     (given (required (codes "uid") uid_read d) (λ u.
     given (optional (codes "attrs") (parts_read x) [] d) (λ attributes.
     given (optional (codes "tags") (parts_read x) [] d) (λ tags.
-    option_map (λ ancestors. (u, record { attributes = attributes; tags = tags; ancestors = ancestors }))
+    option_map (λ ancestors. (u, record { attributes = attributes; tags = tags; ancestors = with_uids [] ancestors }))
     (optional (codes "ancestors") (list_of uid_read) [] d)))))
 
 -- a store, in which no uid is repeated

@@ -1,0 +1,11 @@
+-- Which fault of reading another fault is.
+use Rattle.cedar_expr_names.specs.declared.err.NameError.{NameError}
+use Rattle.cedar_expr_names.specs.declared.err.NameError.TheVariants as name
+use Rattle.cedar_gate_reading.specs.declared.fault.ReadFault.{ReadFault}
+use Rattle.cedar_gate_reading.specs.declared.fault.ReadFault.TheVariants.{OutOfMemory, Unreadable}
+
+-- A text that is no name is unreadable.
+abbrev pub names_as : NameError → ReadFault
+names_as name.OutOfMemory = OutOfMemory
+names_as name.NotNormalized = Unreadable
+names_as (name.Reserved e) = Unreadable

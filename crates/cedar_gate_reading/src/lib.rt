@@ -1,0 +1,20 @@
+//! What each part of a bundle is read with: faults, lists, objects, names and uids.
+//! Each reader gives exactly what its definition reads, and refuses what that doesn't read.
+//! The crates that read expressions, fragments, policies and requests stand on it.
+#![tactic(auto)]
+
+mod annotations;
+mod fault;
+mod lists;
+mod members;
+mod names;
+mod objects;
+mod optionals;
+
+pub use annotations::read_annotation;
+pub use fault::ReadFault;
+pub use lists::{Readable, read_each, read_list};
+pub use members::{ReadableMember, read_members};
+pub use names::{read_name, read_text, read_type, read_uid, read_uid_from, text};
+pub use objects::{has_only, only_member, required};
+pub use optionals::{optional, optional_list, optional_members};
