@@ -8,6 +8,7 @@ ghost use Rattle.cedar_expr_shapes.specs.Hashed.{tree_input};
 use crate::compare::compared;
 use crate::hashed::feed;
 use cedar_expr_trees::Expr;
+use std::alloc::AllocError;
 use std::borrow::Cow;
 use std::cmp::Ordering;
 use std::hash::{Hash, Hasher};
@@ -73,6 +74,20 @@ impl<'a, T> ExprShapeOnly<'a, T> {
     {
         ExprShapeOnly {
             expr: Cow::Owned(expr),
+        }
+    }
+}
+
+impl<'a, T: Clone + Drop> Clone for ExprShapeOnly<'a, T> {
+    ghost use Rattle.cedar_expr_shapes.specs.Shapes.{shape_of};
+
+    ghost is_clone = { λ e copy. shape_of copy ≡ shape_of e };
+
+    /// A copy. An expression that is borrowed stays borrowed; of one that is owned the parts are shared.
+    fn clone(&self) -> Result<ExprShapeOnly<'a, T>, AllocError> {
+        match &self.expr {
+            Cow::Borrowed(e) => Ok(ExprShapeOnly::new_from_borrowed(*e)),
+            Cow::Owned(e) => Ok(ExprShapeOnly::new_from_owned(e.clone()?)),
         }
     }
 }

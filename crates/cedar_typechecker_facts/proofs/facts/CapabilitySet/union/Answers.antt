@@ -1,0 +1,5 @@
+use Rattle.cedar_typechecker_facts.proofs.Told.{together, copies_are_same}
+use Rattle.cedar_typechecker_facts.proofs.facts.CapabilitySet.union.Goals as goal
+
+pub returns : goal.returns
+returns c = together c.args.self.now.capabilities.keys c.args.other.now.capabilities.keys c.in_ok-capabilities.capabilities.keys (c.in_ok-capabilities.ensures.4 copies_are_same)

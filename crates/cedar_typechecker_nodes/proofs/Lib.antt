@@ -1,0 +1,3 @@
+pub mod RowMarks
+pub mod Fields
+pub mod Copied

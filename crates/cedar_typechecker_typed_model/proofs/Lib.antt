@@ -1,0 +1,4 @@
+mod Held
+pub mod Judged
+pub mod Same
+pub mod Counted
