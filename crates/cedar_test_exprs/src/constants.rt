@@ -55,8 +55,8 @@ fn slot(word: &str) -> Option<SlotId> {
     }
 }
 
-// The literal that the word writes: `true`, `-5`, `"text`, `User::a`. Fails where it writes none, and for want of memory.
-fn literal(alloc: Global, text: &str) -> Result<Literal, AllocError> {
+/// The literal that the word writes: `true`, `-5`, `"text`, `User::a`. Fails where it writes none, and for want of memory.
+pub fn literal(alloc: Global, text: &str) -> Result<Literal, AllocError> {
     if let Some(text) = text.strip_prefix("\"") {
         return Literal::from_str(alloc, text);
     }

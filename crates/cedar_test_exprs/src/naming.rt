@@ -1,6 +1,6 @@
 //! Names, types and uids of texts.
 
-use cedar_expr_names::{Eid, EntityType, EntityUID, Name};
+use cedar_expr_names::{Eid, EntityType, EntityUID, Loc, Name};
 use std::alloc::{AllocError, Global};
 use std::rc::RcStr;
 
@@ -31,5 +31,16 @@ pub fn uid(alloc: Global, text: &str) -> Result<EntityUID, AllocError> {
     match text.rsplit_once("::") {
         Some((of, id)) => uid_of(alloc, of, id),
         None => Err(AllocError),
+    }
+}
+
+/// The word without the place behind it, and that place: of `1@4` it is `1`, and the place that begins and ends at 4.
+pub fn placed(word: &str) -> (&str, Option<Loc>) {
+    let Some((before, behind)) = word.rsplit_once('@') else {
+        return (word, None);
+    };
+    match behind.parse::<usize>() {
+        Ok(n) => (before, Some(Loc::new(n, n))),
+        Err(_) => (word, None),
     }
 }

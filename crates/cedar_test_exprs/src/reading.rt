@@ -1,7 +1,7 @@
 //! Expressions as texts.
 
 use crate::constants::{binary, constant, unary};
-use crate::naming::word;
+use crate::naming::{placed, word};
 use crate::nodes::{call, has, is, like, record, set};
 use crate::stack::{one, the_one, three, two};
 use cedar_expr_trees::Expr;
@@ -16,12 +16,15 @@ use std::alloc::{AllocError, Global};
 /// - `.owner`, an attribute; `has=owner.boss`; `like=a*b`; `is=User`
 /// - `set=2`, a set of the last two; `record=a,b`, a record of the last two; `call=f/2`, a call with the last two
 ///
+/// Behind a word may stand the place of what it makes: `1@4` is the number 1 at the place that begins and ends at 4.
+///
 /// Fails where the text writes no expression, and for want of memory.
 pub fn expr(alloc: Global, text: &str) -> Result<Expr, AllocError> {
     let mut made = Vec::new(alloc);
     for word in text.split(' ') {
+        let (word, place) = placed(word);
         let next = of_word(alloc, &mut made, word)?;
-        made.push(next)?;
+        made.push(next.with_maybe_source_loc(place))?;
     }
     the_one(made)
 }

@@ -2,9 +2,14 @@
 //! and that of a function over any type doesn't.
 #![tactic(auto)]
 
+mod said;
+
 ghost use Rattle.std.specs.Prelude.{◌≡◌, IfOk};
 ghost use Rattle.std.specs.declared.result.Result.TheVariants.{Ok};
 
+pub use said::{
+    after_all, before, copied, made, one, refused, same, say, show, tell, told, told_twice,
+};
 use std::alloc::{AllocError, Global};
 use std::rc::Rc;
 
