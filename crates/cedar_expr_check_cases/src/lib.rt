@@ -1,0 +1,13 @@
+//! Tests of partial values, of calls, and of tables of functions with the checks of expressions against them, as rows: a command, and
+//! behind ` : ` what it comes to. What a row says comes from the rules. No function has a contract but those that tables store, and
+//! nothing uses this crate.
+#![tactic(auto)]
+
+#[cfg(test)]
+mod calls;
+#[cfg(test)]
+mod partial;
+#[cfg(test)]
+mod tables;
+#[cfg(test)]
+mod written;
