@@ -1,0 +1,387 @@
+//! Conjunctions and disjunctions.
+
+ghost use Rattle.std.specs.Prelude.{◌≡◌, Some, option_map, option_and_then, IfOk};
+ghost use Rattle.cedar_expr_trees.specs.Trees.{tree_of, data_of};
+ghost use Rattle.cedar_schema_model.specs.Whole.Types.{bool_type};
+ghost use Rattle.cedar_schema_types.specs.Types.{type_of};
+ghost use Rattle.cedar_schema_types.specs.Kinds.{bool_type_of};
+ghost use Rattle.cedar_typechecker_facts.specs.Facts.{facts_of};
+ghost use Rattle.cedar_typechecker_model.specs.Whole.Facts.{no_facts};
+ghost use Rattle.cedar_typechecker_model.specs.Whole.Typing.{conjoined, disjoined};
+ghost use Rattle.cedar_typechecker_typed_model.specs.Typed.{and_step as model_and_step, or_step as model_or_step, and_typed, or_typed, conjoined_by, disjoined_by};
+ghost use Rattle.cedar_typechecker_answers.specs.Answers.{seen, typed_at, judgement_seen};
+ghost use Rattle.cedar_typechecker_answers.specs.Steps.{goes_on_with, step_seen, true_where_true};
+
+use crate::answer::{Judged, TypecheckAnswer, judged_node};
+use crate::faults::{Faults, failed, no_type};
+use cedar_expr_names::Loc;
+use cedar_expr_trees::{Expr, ExprKind};
+use cedar_schema_types::{BoolType, Type};
+use cedar_store_records::ValidationErrorKind;
+use cedar_typechecker_facts::CapabilitySet;
+use cedar_typechecker_nodes::untyped;
+use std::alloc::{AllocError, Global};
+use std::rc::Rc;
+
+/// What follows the left side: an answer, or going on to the right side with it and with what is known then.
+#[derive(Drop)]
+pub enum Step<'a> {
+    /// This is the answer.
+    Done(TypecheckAnswer<'a>),
+    /// The right side is typed.
+    GoesOn {
+        /// The answer of the left side.
+        left: TypecheckAnswer<'a>,
+        /// What is known on the right side.
+        known: CapabilitySet<'a>,
+    },
+}
+
+/// What follows the left side of a conjunction: behind False the right side isn't typed.
+pub fn and_step<'a>(
+    alloc: Global,
+    known: &CapabilitySet<'a>,
+    faults: &mut Faults,
+    place: Option<Loc>,
+    left: TypecheckAnswer<'a>,
+    right: &Expr,
+) -> Result<Step<'a>, AllocError>
+    ensures { IfOk result (λ r. step_seen r ≡ model_and_step (facts_of known.now) (tree_of right.now) (seen left.entry)) }
+{
+    let TypecheckAnswer::Success {
+        expr_type: expr,
+        expr_capability: own,
+    } = left
+    else {
+        return Ok(Step::Done(no_type()));
+    };
+    match expr.data() {
+        Some(Type::Bool(BoolType::False)) => {
+            let right = untyped(alloc, right)?;
+            let left = Rc::new(alloc, expr)?;
+            let right = Rc::new(alloc, right)?;
+            let judged = Judged {
+                ty: Type::Bool(BoolType::False),
+                known: CapabilitySet::new(alloc),
+            };
+            let kind = ExprKind::And { left, right };
+            Ok(Step::Done(judged_node(
+                faults,
+                kind,
+                place,
+                Some(judged),
+                ValidationErrorKind::UnexpectedType,
+            )?))
+        }
+        Some(Type::Bool(BoolType::True)) | Some(Type::Bool(BoolType::AnyBool)) => {
+            let known = known.union(&own)?;
+            Ok(Step::GoesOn {
+                left: TypecheckAnswer::Success {
+                    expr_type: expr,
+                    expr_capability: own,
+                },
+                known,
+            })
+        }
+        Some(Type::Never)
+        | Some(Type::Long)
+        | Some(Type::String)
+        | Some(Type::Entity(_))
+        | Some(Type::Set { .. })
+        | Some(Type::Record { .. })
+        | Some(Type::ExtensionType { .. })
+        | None => {
+            let kind = ValidationErrorKind::UnexpectedType;
+            Ok(Step::Done(failed(faults, kind, expr.source_loc())?))
+        }
+    }
+}
+
+/// The answer of a conjunction by those of both sides.
+pub fn and_answer<'a>(
+    alloc: Global,
+    faults: &mut Faults,
+    place: Option<Loc>,
+    left: TypecheckAnswer<'a>,
+    right: TypecheckAnswer<'a>,
+) -> Result<TypecheckAnswer<'a>, AllocError>
+    ensures { IfOk result (λ a. seen a ≡ option_and_then (λ x. option_and_then (and_typed x) (seen right.entry)) (seen left.entry)) }
+{
+    let TypecheckAnswer::Success {
+        expr_type: left,
+        expr_capability: own,
+    } = left
+    else {
+        return Ok(no_type());
+    };
+    let TypecheckAnswer::Success {
+        expr_type: right,
+        expr_capability: other,
+    } = right
+    else {
+        return Ok(no_type());
+    };
+    let (Some(first), Some(second)) = (left.data(), right.data()) else {
+        return Ok(no_type());
+    };
+    let judged = conjoined(alloc, first, own, second, other)?;
+    let left = Rc::new(alloc, left)?;
+    let right = Rc::new(alloc, right)?;
+    let kind = ExprKind::And { left, right };
+    judged_node(
+        faults,
+        kind,
+        place,
+        judged,
+        ValidationErrorKind::UnexpectedType,
+    )
+}
+
+// The judgement of a conjunction of sides of these types.
+fn conjoined<'a>(
+    alloc: Global,
+    left: &Type,
+    own: CapabilitySet<'a>,
+    right: &Type,
+    other: CapabilitySet<'a>,
+) -> Result<Option<Judged<'a>>, AllocError>
+    ensures { IfOk result (λ j. option_map judgement_seen j ≡ conjoined_by (type_of left.now) (facts_of own.entry) (type_of right.now) (facts_of other.entry)) }
+{
+    match left {
+        Type::Bool(b) => conjoined_bool(alloc, *b, own, right, other),
+        Type::Never
+        | Type::Long
+        | Type::String
+        | Type::Entity(_)
+        | Type::Set { .. }
+        | Type::Record { .. }
+        | Type::ExtensionType { .. } => Ok(None),
+    }
+}
+
+/// The judgement of a conjunction whose left side is of this type of truth values.
+pub fn conjoined_bool<'a>(
+    alloc: Global,
+    left: BoolType,
+    own: CapabilitySet<'a>,
+    right: &Type,
+    other: CapabilitySet<'a>,
+) -> Result<Option<Judged<'a>>, AllocError>
+    ensures { IfOk result (λ j. option_map judgement_seen j ≡ conjoined (bool_type_of left) (facts_of own.entry) (type_of right.now) (facts_of other.entry)) }
+{
+    match right {
+        Type::Bool(BoolType::False) => Ok(Some(Judged {
+            ty: Type::Bool(BoolType::False),
+            known: CapabilitySet::new(alloc),
+        })),
+        Type::Bool(BoolType::True) => Ok(Some(Judged {
+            ty: Type::Bool(true_where_true(left)),
+            known: own.union(&other)?,
+        })),
+        Type::Bool(BoolType::AnyBool) => Ok(Some(Judged {
+            ty: Type::Bool(BoolType::AnyBool),
+            known: own.union(&other)?,
+        })),
+        Type::Never
+        | Type::Long
+        | Type::String
+        | Type::Entity(_)
+        | Type::Set { .. }
+        | Type::Record { .. }
+        | Type::ExtensionType { .. } => Ok(None),
+    }
+}
+
+// True of True, and else the type of both truth values.
+fn true_where_true(b: BoolType) -> BoolType
+    ensures { bool_type_of result ≡ true_where_true (bool_type_of b) }
+{
+    match b {
+        BoolType::True => BoolType::True,
+        BoolType::False | BoolType::AnyBool => BoolType::AnyBool,
+    }
+}
+
+/// What follows the left side of a disjunction: behind True the right side isn't typed.
+pub fn or_step<'a>(
+    alloc: Global,
+    faults: &mut Faults,
+    place: Option<Loc>,
+    left: TypecheckAnswer<'a>,
+    right: &Expr,
+) -> Result<Step<'a>, AllocError>
+    ensures { IfOk result (λ r. step_seen r ≡ model_or_step (tree_of right.now) (seen left.entry)) }
+{
+    let TypecheckAnswer::Success {
+        expr_type: expr,
+        expr_capability: own,
+    } = left
+    else {
+        return Ok(Step::Done(no_type()));
+    };
+    match expr.data() {
+        Some(Type::Bool(BoolType::True)) => {
+            let right = untyped(alloc, right)?;
+            let left = Rc::new(alloc, expr)?;
+            let right = Rc::new(alloc, right)?;
+            let judged = Judged {
+                ty: Type::Bool(BoolType::True),
+                known: own,
+            };
+            let kind = ExprKind::Or { left, right };
+            Ok(Step::Done(judged_node(
+                faults,
+                kind,
+                place,
+                Some(judged),
+                ValidationErrorKind::UnexpectedType,
+            )?))
+        }
+        Some(Type::Bool(BoolType::False)) => Ok(goes_on(alloc, expr, own)),
+        Some(Type::Bool(BoolType::AnyBool)) => Ok(goes_on(alloc, expr, own)),
+        Some(Type::Never)
+        | Some(Type::Long)
+        | Some(Type::String)
+        | Some(Type::Entity(_))
+        | Some(Type::Set { .. })
+        | Some(Type::Record { .. })
+        | Some(Type::ExtensionType { .. })
+        | None => {
+            let kind = ValidationErrorKind::UnexpectedType;
+            Ok(Step::Done(failed(faults, kind, expr.source_loc())?))
+        }
+    }
+}
+
+// The right side is typed, with nothing more known than before.
+fn goes_on<'a>(
+    alloc: Global,
+    expr_type: Expr<Option<Type>>,
+    expr_capability: CapabilitySet<'a>,
+) -> Step<'a>
+    ensures { step_seen result ≡ goes_on_with (typed_at expr_type (facts_of expr_capability.entry) (data_of expr_type)) no_facts }
+{
+    Step::GoesOn {
+        left: TypecheckAnswer::Success {
+            expr_type,
+            expr_capability,
+        },
+        known: CapabilitySet::new(alloc),
+    }
+}
+
+/// The answer of a disjunction by those of both sides.
+pub fn or_answer<'a>(
+    alloc: Global,
+    faults: &mut Faults,
+    place: Option<Loc>,
+    left: TypecheckAnswer<'a>,
+    right: TypecheckAnswer<'a>,
+) -> Result<TypecheckAnswer<'a>, AllocError>
+    ensures { IfOk result (λ a. seen a ≡ option_and_then (λ x. option_and_then (or_typed x) (seen right.entry)) (seen left.entry)) }
+{
+    let TypecheckAnswer::Success {
+        expr_type: left,
+        expr_capability: own,
+    } = left
+    else {
+        return Ok(no_type());
+    };
+    let TypecheckAnswer::Success {
+        expr_type: right,
+        expr_capability: other,
+    } = right
+    else {
+        return Ok(no_type());
+    };
+    let (Some(first), Some(second)) = (left.data(), right.data()) else {
+        return Ok(no_type());
+    };
+    let judged = disjoined(alloc, first, own, second, other)?;
+    let left = Rc::new(alloc, left)?;
+    let right = Rc::new(alloc, right)?;
+    let kind = ExprKind::Or { left, right };
+    judged_node(
+        faults,
+        kind,
+        place,
+        judged,
+        ValidationErrorKind::UnexpectedType,
+    )
+}
+
+// The judgement of a disjunction of sides of these types.
+fn disjoined<'a>(
+    alloc: Global,
+    left: &Type,
+    own: CapabilitySet<'a>,
+    right: &Type,
+    other: CapabilitySet<'a>,
+) -> Result<Option<Judged<'a>>, AllocError>
+    ensures { IfOk result (λ j. option_map judgement_seen j ≡ disjoined_by (type_of left.now) (facts_of own.entry) (type_of right.now) (facts_of other.entry)) }
+{
+    match left {
+        Type::Bool(b) => disjoined_bool(alloc, *b, own, right, other),
+        Type::Never
+        | Type::Long
+        | Type::String
+        | Type::Entity(_)
+        | Type::Set { .. }
+        | Type::Record { .. }
+        | Type::ExtensionType { .. } => Ok(None),
+    }
+}
+
+// The judgement of a disjunction whose left side is of this type of truth values.
+fn disjoined_bool<'a>(
+    alloc: Global,
+    left: BoolType,
+    own: CapabilitySet<'a>,
+    right: &Type,
+    other: CapabilitySet<'a>,
+) -> Result<Option<Judged<'a>>, AllocError>
+    ensures { IfOk result (λ j. option_map judgement_seen j ≡ disjoined (bool_type_of left) (facts_of own.entry) (type_of right.now) (facts_of other.entry)) }
+{
+    match right {
+        Type::Bool(second) => Ok(Some(disjoined_bools(alloc, left, own, *second, other)?)),
+        Type::Never
+        | Type::Long
+        | Type::String
+        | Type::Entity(_)
+        | Type::Set { .. }
+        | Type::Record { .. }
+        | Type::ExtensionType { .. } => Ok(None),
+    }
+}
+
+// The judgement of a disjunction of sides of these types of truth values.
+fn disjoined_bools<'a>(
+    alloc: Global,
+    left: BoolType,
+    own: CapabilitySet<'a>,
+    right: BoolType,
+    other: CapabilitySet<'a>,
+) -> Result<Judged<'a>, AllocError>
+    ensures { IfOk result (λ j. Some (judgement_seen j) ≡ disjoined (bool_type_of left) (facts_of own.entry) (bool_type (bool_type_of right)) (facts_of other.entry)) }
+{
+    match (left, right) {
+        (BoolType::True, BoolType::True)
+        | (BoolType::AnyBool, BoolType::True)
+        | (BoolType::False, BoolType::True)
+        | (BoolType::False, BoolType::False)
+        | (BoolType::False, BoolType::AnyBool) => Ok(Judged {
+            ty: Type::Bool(right),
+            known: other,
+        }),
+        (BoolType::True, BoolType::False) | (BoolType::AnyBool, BoolType::False) => Ok(Judged {
+            ty: Type::Bool(left),
+            known: own,
+        }),
+        (BoolType::True, BoolType::AnyBool) | (BoolType::AnyBool, BoolType::AnyBool) => Ok(
+            Judged {
+                ty: Type::Bool(BoolType::AnyBool),
+                known: own.intersect(&other)?,
+            },
+        ),
+    }
+}

@@ -1,0 +1,6 @@
+pub mod Settings
+pub mod Uids
+pub mod Kinds
+pub mod Decided
+pub mod Arguments
+pub mod Signatures
