@@ -7,7 +7,8 @@ use Rattle.cedar_expr_model.specs.Whole.Table.{Signature, signature_of, takes_co
 use Rattle.cedar_expr_model.specs.Whole.Lists.{all_given}
 use Rattle.cedar_schema_model.specs.Whole.Types.{Ty, Mode, strict, permissive}
 use Rattle.cedar_typechecker_model.specs.Whole.Rules.{Setting, call_type, signature_type, core_as_type, arguments_fit, takes_literal}
-use Rattle.cedar_typechecker_rules.specs.Signatures.{CallSignature, call_signature, literal_taken, called_type}
+use Rattle.cedar_typechecker_environments.specs.Signatures.{CallSignature, call_signature}
+use Rattle.cedar_typechecker_rules.specs.Signatures.{literal_taken, called_type}
 
 literal_is : (m : Mode) (f : Signature) (es : Trees) → literal_taken m (is_constructor f) es ≡ takes_literal m f es
 literal_is strict f es = refl

@@ -1,4 +1,3 @@
-pub mod Settings
 pub mod Uids
 pub mod Kinds
 pub mod Decided

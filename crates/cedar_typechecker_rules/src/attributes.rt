@@ -6,11 +6,11 @@ ghost use Rattle.cedar_schema_types.specs.Kinds.{bool_type_of, openness_of};
 ghost use Rattle.cedar_schema_types.specs.Types.{type_of, attribute_of};
 ghost use Rattle.cedar_typechecker_model.specs.Whole.Rules.{has_type, has_field, attribute_type};
 ghost use Rattle.cedar_typechecker_model.specs.Whole.Typing.{step_type};
-ghost use Rattle.cedar_typechecker_rules.specs.Settings.{setting_of};
+ghost use Rattle.cedar_typechecker_environments.specs.Settings.{setting_of};
 
-use crate::setting::{TypingSchema, World};
 use cedar_schema_admission::{lookup_attribute_type, may_have_attr};
 use cedar_schema_types::{AttributeType, BoolType, OpenTag, Type};
+use cedar_typechecker_environments::{TypingSchema, World};
 use std::alloc::{AllocError, Global};
 
 /// Whether the values of the type have the attribute, where that may be asked of them.

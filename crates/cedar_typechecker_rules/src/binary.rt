@@ -8,14 +8,14 @@ ghost use Rattle.cedar_schema_model.specs.Whole.Types.{long_type};
 ghost use Rattle.cedar_schema_joins.specs.Modes.{mode_of};
 ghost use Rattle.cedar_schema_types.specs.Types.{type_of};
 ghost use Rattle.cedar_typechecker_model.specs.Whole.Rules.{binary_type, written_equal, number_type, order_type, comparable, member_type, sets_type, is_set_type, if_there};
-ghost use Rattle.cedar_typechecker_rules.specs.Settings.{setting_of};
+ghost use Rattle.cedar_typechecker_environments.specs.Settings.{setting_of};
 
-use crate::setting::{TypingSchema, World};
 use crate::uids::written_uid;
 use cedar_expr_names::EntityUID;
 use cedar_expr_trees::Expr;
 use cedar_schema_joins::{ValidationMode, are_types_disjoint, least_upper_bound};
 use cedar_schema_types::Type;
+use cedar_typechecker_environments::{TypingSchema, World};
 use std::alloc::{AllocError, Global};
 
 /// The type of a sum, a difference or a product.

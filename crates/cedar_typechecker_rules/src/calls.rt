@@ -10,16 +10,17 @@ ghost use Rattle.cedar_schema_joins.specs.Modes.{mode_of};
 ghost use Rattle.cedar_schema_types.specs.Types.{type_of};
 ghost use Rattle.cedar_typechecker_model.specs.Whole.Rules.{call_type, core_as_type, arguments_fit};
 ghost use Rattle.cedar_typechecker_rules.specs.Arguments.{after_one};
-ghost use Rattle.cedar_typechecker_rules.specs.Settings.{setting_of};
-ghost use Rattle.cedar_typechecker_rules.specs.Signatures.{signature_seen, counts, literal_taken, called_type};
+ghost use Rattle.cedar_typechecker_environments.specs.Settings.{setting_of};
+ghost use Rattle.cedar_typechecker_environments.specs.Signatures.{signature_seen};
+ghost use Rattle.cedar_typechecker_rules.specs.Signatures.{counts, literal_taken, called_type};
 
-use crate::setting::{FunctionSignature, TypingSchema, World};
 use crate::uids::is_text_literal;
 use cedar_expr_names::Name;
 use cedar_expr_trees::Expr;
 use cedar_expr_values::Type as CoreType;
 use cedar_schema_joins::{ValidationMode, is_subtype};
 use cedar_schema_types::Type;
+use cedar_typechecker_environments::{FunctionSignature, TypingSchema, World};
 use std::alloc::{AllocError, Global};
 
 /// The type of a call of the function of this name on these arguments, which are of these types: that of its result, if the table

@@ -15,13 +15,13 @@ ghost use Rattle.cedar_schema_types.specs.Unions.{members_of};
 ghost use Rattle.cedar_typechecker_model.specs.Whole.Rules.{in_type, entity_kinds, entity_or_set_kinds, may_be_in, action_literal, written_actions};
 ghost use Rattle.cedar_typechecker_rules.specs.Decided.{is_within, within_some, decided_in};
 ghost use Rattle.cedar_typechecker_rules.specs.Kinds.{kinds_of, holders_of};
-ghost use Rattle.cedar_typechecker_rules.specs.Settings.{setting_of};
+ghost use Rattle.cedar_typechecker_environments.specs.Settings.{setting_of};
 
-use crate::setting::{TypingSchema, World};
 use crate::uids::{action_literal, set_members, written_action};
 use cedar_expr_names::{EntityType, EntityUID};
 use cedar_expr_trees::Expr;
 use cedar_schema_types::{BoolType, EntityKind, EntityLUB, Type};
+use cedar_typechecker_environments::{TypingSchema, World};
 
 /// The type of `in`. Of actions that are written it is True or False, as the declared actions stand. It is False where the types
 /// exclude it, and else Bool. Anything but an entity on the left, or an entity or a set of entities on the right, has none.

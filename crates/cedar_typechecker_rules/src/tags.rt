@@ -9,11 +9,11 @@ ghost use Rattle.cedar_schema_types.specs.Kinds.{bool_type_of};
 ghost use Rattle.cedar_schema_types.specs.Types.{type_of};
 ghost use Rattle.cedar_schema_types.specs.Unions.{members_of, entities_of};
 ghost use Rattle.cedar_typechecker_model.specs.Whole.Rules.{has_tag_type, tag_type, tags_of, may_have_tags, is_string_type};
-ghost use Rattle.cedar_typechecker_rules.specs.Settings.{setting_of};
+ghost use Rattle.cedar_typechecker_environments.specs.Settings.{setting_of};
 
-use crate::setting::{TypingSchema, World};
 use cedar_schema_joins::{ValidationMode, least_upper_bound};
 use cedar_schema_types::{BoolType, EntityKind, EntityLUB, Type};
+use cedar_typechecker_environments::{TypingSchema, World};
 use std::alloc::{AllocError, Global};
 
 /// Whether an entity of type `t` has the tag of a name of type `u`, where that may be asked of them.

@@ -9,13 +9,13 @@ ghost use Rattle.cedar_expr_model.specs.Whole.Parts.{uid_here};
 ghost use Rattle.cedar_expr_model.specs.Whole.Tree.{lit, var};
 ghost use Rattle.cedar_expr_trees.specs.Trees.{tree_of};
 ghost use Rattle.cedar_typechecker_model.specs.Whole.Rules.{written_uid, written_action, action_literal, is_text_literal};
-ghost use Rattle.cedar_typechecker_rules.specs.Settings.{setting_of};
+ghost use Rattle.cedar_typechecker_environments.specs.Settings.{setting_of};
 ghost use Rattle.cedar_typechecker_rules.specs.Uids.{is_action_variable, set_here, is_text};
 
-use crate::setting::{TypingSchema, World};
 use cedar_expr_leaves::{Literal, Var};
 use cedar_expr_names::EntityUID;
 use cedar_expr_trees::{Expr, ExprKind};
+use cedar_typechecker_environments::{TypingSchema, World};
 
 /// The uid that an expression writes, if any; the variable of the action writes that of the environment.
 #[tactic(auto, using(crate::proofs::Written::written_uid_is))]

@@ -1,7 +1,7 @@
 use Rattle.std.proofs.Common.{◌≡◌, Some, IfOk, option_map, ap, sym, ◌∙◌, subst}
 use Rattle.cedar_schema_types.specs.Types.{type_of}
-use Rattle.cedar_typechecker_rules.specs.Settings.{setting_of}
-use Rattle.cedar_typechecker_rules.specs.Signatures.{signature_seen}
+use Rattle.cedar_typechecker_environments.specs.Settings.{setting_of}
+use Rattle.cedar_typechecker_environments.specs.Signatures.{signature_seen}
 use Rattle.cedar_typechecker_rules.proofs.Signed.{call_is}
 use Rattle.cedar_typechecker_rules.proofs.calls.call_type.Goals as goal
 

@@ -2,7 +2,7 @@ use Rattle.std.proofs.Common.{◌||◌, ◌+◌, ◌∷◌, map, drop, ap, sym, 
 use Rattle.std.proofs.lemmas.List.{drop_more}
 use Rattle.cedar_expr_names.specs.Views.{uid_of}
 use Rattle.cedar_expr_trees.specs.Trees.{tree_of}
-use Rattle.cedar_typechecker_rules.specs.Settings.{setting_of}
+use Rattle.cedar_typechecker_environments.specs.Settings.{setting_of}
 use Rattle.cedar_typechecker_rules.proofs.Included.{left_to_find, found_first, found_on}
 use Rattle.cedar_typechecker_rules.proofs.inclusion.is_within_listed.Goals as goal
 

@@ -6,7 +6,7 @@ use Rattle.cedar_expr_names.specs.Views.{uid_of}
 use Rattle.cedar_expr_trees.specs.Trees.{tree_of}
 use Rattle.cedar_typechecker_model.specs.Whole.Rules.{action_literal}
 use Rattle.cedar_typechecker_rules.specs.Decided.{within_some}
-use Rattle.cedar_typechecker_rules.specs.Settings.{setting_of}
+use Rattle.cedar_typechecker_environments.specs.Settings.{setting_of}
 use Rattle.cedar_typechecker_rules.proofs.Included.{left_to_find}
 use Rattle.cedar_typechecker_rules.proofs.inclusion.is_within_listed.Given as goal
 
