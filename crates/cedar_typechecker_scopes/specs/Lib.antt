@@ -1,0 +1,6 @@
+pub mod Uses
+pub mod Faults
+pub mod Rules
+pub mod Applying
+pub mod Asking
+pub mod Laws
