@@ -2,5 +2,7 @@ pub mod Named
 pub mod Shapes
 pub mod Alone
 pub mod Gathered
-pub mod Uids
+pub mod UidParts
 pub mod Sorted
+pub mod Keys
+pub mod InputForms

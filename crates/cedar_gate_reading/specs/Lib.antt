@@ -1,2 +1,4 @@
 pub mod Faults
 pub mod Alone
+pub mod Maps
+pub mod Json

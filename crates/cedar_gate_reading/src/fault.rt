@@ -11,7 +11,7 @@ pub enum ReadFault {
     /// There was too little memory to hold what is read.
     #[error("out of memory")]
     OutOfMemory,
-    /// The input is no expression.
+    /// The input has another form.
     #[error("unreadable")]
     Unreadable,
 }

@@ -4,11 +4,12 @@ ghost use Rattle.std.specs.Rc.{rc_str_bytes};
 ghost use Rattle.serde_json.specs.Find.{as_str};
 ghost use Rattle.serde_json.specs.View.{view, items_view};
 ghost use Rattle.cedar_expr_names.specs.Views.{plain_name_of, type_name_of, uid_of};
+ghost use Rattle.cedar_expr_raw_names.specs.Views.{raw_name_of};
 ghost use Rattle.cedar_gate_model.specs.Whole.ReadingName.{any_name_read, plain_name_read, uid_from, uid_in, uid_read};
 ghost use Rattle.cedar_gate_reading.specs.declared.fault.ReadFault.TheVariants.{Unreadable};
 
 use crate::fault::ReadFault;
-use crate::lists::Readable;
+use crate::lists::Reader;
 use cedar_expr_names::{Eid, EntityType, EntityUID, Name, NameError};
 use cedar_expr_raw_names::RawName;
 use serde_json::Value;
@@ -44,16 +45,21 @@ pub fn read_text(alloc: Global, value: &Value) -> Result<RcStr, ReadFault>
     Ok(RcStr::from_str(alloc, text(value)?)?)
 }
 
-impl Readable for RcStr {
+/// Reads texts.
+pub struct Texts;
+
+impl Reader for Texts {
+    type Item = RcStr;
+
     ghost use Rattle.cedar_expr_model.specs.Name.{Text};
 
     ghost Meaning = { Text };
 
-    ghost reading = { as_str };
+    ghost reading = { λ _. as_str };
 
     ghost seen = { rc_str_bytes };
 
-    fn read(alloc: Global, value: &Value) -> Result<RcStr, ReadFault> {
+    fn read(&self, alloc: Global, value: &Value) -> Result<RcStr, ReadFault> {
         read_text(alloc, value)
     }
 }
@@ -97,7 +103,7 @@ pub fn read_uid(alloc: Global, value: &Value) -> Result<EntityUID, ReadFault>
 }
 
 // Reads a uid of its parts.
-#[tactic(auto, using(crate::proofs::Shapes::two, crate::proofs::Uids::short_uid, crate::proofs::Uids::long_uid))]
+#[tactic(auto, using(crate::proofs::Shapes::two, crate::proofs::UidParts::short_uid, crate::proofs::UidParts::long_uid))]
 fn read_uid_in(alloc: Global, items: &[Value]) -> Result<EntityUID, ReadFault>
     ensures ok { IfOk result (λ u. uid_in plain_name_read (items_view items.now) ≡ Some (uid_of u)) }
     ensures unreadable { IfErr result (λ f. f ≡ Unreadable → uid_in plain_name_read (items_view items.now) ≡ None) }
@@ -110,46 +116,68 @@ fn read_uid_in(alloc: Global, items: &[Value]) -> Result<EntityUID, ReadFault>
     }
 }
 
-impl Readable for EntityUID {
+/// Reads uids that are shared.
+pub struct SharedUids;
+
+impl Reader for SharedUids {
+    type Item = Rc<EntityUID>;
+
     ghost use Rattle.cedar_expr_model.specs.Uid.{Uid};
 
     ghost Meaning = { Uid };
 
-    ghost reading = { uid_read };
-
-    ghost seen = { uid_of };
-
-    fn read(alloc: Global, value: &Value) -> Result<EntityUID, ReadFault> {
-        read_uid(alloc, value)
-    }
-}
-
-impl Readable for Rc<EntityUID> {
-    ghost use Rattle.cedar_expr_model.specs.Uid.{Uid};
-
-    ghost Meaning = { Uid };
-
-    ghost reading = { uid_read };
+    ghost reading = { λ _. uid_read };
 
     ghost seen = { λ u. uid_of u.value };
 
-    fn read(alloc: Global, value: &Value) -> Result<Rc<EntityUID>, ReadFault> {
+    fn read(&self, alloc: Global, value: &Value) -> Result<Rc<EntityUID>, ReadFault> {
         let uid = read_uid(alloc, value)?;
         Ok(Rc::new(alloc, uid)?)
     }
 }
 
-impl Readable for RawName {
-    ghost use Rattle.cedar_expr_model.specs.Name.{Name};
-    ghost use Rattle.cedar_expr_raw_names.specs.Views.{raw_name_of};
+/// Reads uids.
+pub struct Uids;
 
-    ghost Meaning = { Name };
+impl Reader for Uids {
+    type Item = EntityUID;
 
-    ghost reading = { any_name_read };
+    ghost use Rattle.cedar_expr_model.specs.Uid.{Uid};
+
+    ghost Meaning = { Uid };
+
+    ghost reading = { λ _. uid_read };
+
+    ghost seen = { uid_of };
+
+    fn read(&self, alloc: Global, value: &Value) -> Result<EntityUID, ReadFault> {
+        read_uid(alloc, value)
+    }
+}
+
+/// Reads a name of the grammar, a reserved one too.
+pub fn read_any_name(alloc: Global, value: &Value) -> Result<RawName, ReadFault>
+    ensures ok { IfOk result (λ n. any_name_read (view value.now) ≡ Some (raw_name_of n)) }
+    ensures unreadable { IfErr result (λ f. f ≡ Unreadable → any_name_read (view value.now) ≡ None) }
+{
+    Ok(RawName::from_normalized_str(alloc, text(value)?)?)
+}
+
+/// Reads names of the grammar, reserved ones too.
+pub struct AnyNames;
+
+impl Reader for AnyNames {
+    type Item = RawName;
+
+    ghost use Rattle.cedar_expr_model.specs.Name as model;
+
+    ghost Meaning = { model.Name };
+
+    ghost reading = { λ _. any_name_read };
 
     ghost seen = { raw_name_of };
 
-    fn read(alloc: Global, value: &Value) -> Result<RawName, ReadFault> {
-        Ok(RawName::from_normalized_str(alloc, text(value)?)?)
+    fn read(&self, alloc: Global, value: &Value) -> Result<RawName, ReadFault> {
+        read_any_name(alloc, value)
     }
 }

@@ -6,5 +6,5 @@ use Rattle.cedar_gate_reading.proofs.lists.read_each.Given as goal
 
 abbrev pub invariant-loop-item : goal.invariant-loop-item
 invariant-loop-item g l =
-    then_rest (map g.T.Readable.seen l.list.items) (each g.T.Readable.reading (items_view (drop l.item-index l.items)))
-    ≡ each g.T.Readable.reading (items_view l.items)
+    then_rest (map g.R.Reader.seen l.list.items) (each (g.R.Reader.reading l.reader) (items_view (drop l.item-index l.items)))
+    ≡ each (g.R.Reader.reading l.reader) (items_view l.items)

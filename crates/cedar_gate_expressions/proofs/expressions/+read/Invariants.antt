@@ -1,0 +1,21 @@
+use Rattle.std.proofs.Common.{◌≡◌, List, ◌++◌, drop, map, string_bytes}
+use Rattle.std.specs.Rc.{rc_str_bytes}
+use Rattle.serde_json.specs.View.{members_view}
+use Rattle.serde_json.proofs.Views.{Entry}
+use Rattle.cedar_expr_model.specs.Whole.Lists.{all_given}
+use Rattle.cedar_expr_trees.specs.Trees.{tree_of, named, field_trees}
+use Rattle.cedar_gate_model.specs.Whole.ReadingExpression.{fields_in}
+use Rattle.cedar_gate_expressions.specs.Parts.{parts}
+use Rattle.cedar_gate_reading.proofs.Gathered.{then_rest}
+use Rattle.cedar_gate_reading.proofs.Sorted.{SameNames}
+use Rattle.cedar_gate_expressions.proofs.Fields.{then_fields}
+use Rattle.cedar_gate_expressions.proofs.expressions.+read.Given as goal
+
+abbrev pub invariant-read_each_expression-loop-i : goal.invariant-read_each_expression-loop-i
+invariant-read_each_expression-loop-i l =
+    then_rest (map tree_of l.list.items) (all_given (λ x. x.tree) (parts (drop l.i l.items))) ≡ all_given (λ x. x.tree) (parts (drop l.from l.items))
+
+abbrev pub invariant-read_fields-loop-key : goal.invariant-read_fields-loop-key
+invariant-read_fields-loop-key l =
+    (done : List Entry) × (l.members.entries ≡ done ++ l.key-iterator) × SameNames rc_str_bytes l.fields.entries done
+    × (then_fields (named (field_trees l.fields.entries)) (fields_in (members_view l.key-iterator)) ≡ fields_in (members_view l.members.entries))

@@ -1,0 +1,182 @@
+//! Expressions.
+ghost use Rattle.std.specs.Prelude.{◌≡◌, Some, None, IfOk, IfErr, map, drop};
+ghost use Rattle.serde_json.specs.View.{view, members_view};
+ghost use Rattle.cedar_expr_model.specs.Whole.Lists.{all_given};
+ghost use Rattle.cedar_expr_model.specs.Whole.Builder.{tree_fields};
+ghost use Rattle.cedar_expr_trees.specs.Trees.{tree_of, named, field_trees};
+ghost use Rattle.cedar_gate_model.specs.Whole.ReadingExpression.{expression_read, fields_in, of_two, of_three, call_form};
+ghost use Rattle.cedar_gate_expressions.specs.Forms.{form_of, joint_of};
+ghost use Rattle.cedar_expr_model.specs.Whole.Tree.{choice};
+ghost use Rattle.cedar_gate_expressions.specs.declared.forms.Form.TheVariants.{OfTest, Record};
+ghost use Rattle.cedar_gate_expressions.specs.Parts.{parts};
+ghost use Rattle.cedar_gate_reading.specs.declared.fault.ReadFault.TheVariants.{Unreadable};
+
+use crate::finished::{join, test};
+use crate::forms::{Form, Joint, Test};
+use crate::leaves::{form_of_word, read_leaf, read_long, read_string};
+use cedar_expr_leaves::Literal;
+use cedar_expr_trees::Expr;
+use cedar_gate_reading::{ReadFault, read_name};
+use serde_json::{Map, Value};
+use std::alloc::Global;
+use std::collections::BTreeMap;
+use std::rc::{Rc, RcStr};
+
+/// Reads an expression: a truth value, a whole number, a text, or a list that begins with a word.
+#[cycle(read)]
+pub fn read_expression(alloc: Global, value: &Value) -> Result<Expr, ReadFault>
+    ensures ok { IfOk result (λ e. expression_read (view value.now) ≡ Some (tree_of e)) }
+    ensures unreadable { IfErr result (λ f. f ≡ Unreadable → expression_read (view value.now) ≡ None) }
+{
+    match value {
+        Value::Bool(b) => Ok(Expr::val(Literal::Bool(*b))),
+        Value::Number(n) => read_long(n),
+        Value::String(s) => Ok(read_string(alloc, s.as_str())?),
+        Value::Array(items) => match items.as_slice() {
+            [word, rest @ ..] => read_form(alloc, form_of_word(word)?, rest),
+            [] => Err(ReadFault::Unreadable),
+        },
+        Value::Null | Value::Object(_) => Err(ReadFault::Unreadable),
+    }
+}
+
+// Reads an expression of this form, of what follows its word.
+#[cycle(read)]
+fn read_form(alloc: Global, form: Form, items: &[Value]) -> Result<Expr, ReadFault>
+    ensures ok { IfOk result (λ e. form_of form (parts items.now) ≡ Some (tree_of e)) }
+    ensures unreadable { IfErr result (λ f. f ≡ Unreadable → form_of form (parts items.now) ≡ None) }
+{
+    match form {
+        Form::OfLeaf(leaf) => read_leaf(alloc, leaf, items),
+        Form::OfTest(kind) => read_test(alloc, kind, items),
+        Form::OfJoint(joint) => read_joint(alloc, joint, items),
+        Form::If => read_choice(alloc, items),
+        Form::Call => read_call(alloc, items),
+        Form::Set => Ok(Expr::set(alloc, read_each_expression(alloc, items, 0)?)?),
+        Form::Record => read_record(alloc, items),
+    }
+}
+
+// Reads an expression, and what else this form takes.
+#[cycle(read)]
+#[tactic(auto, using(cedar_gate_reading::proofs::Shapes::first, crate::proofs::Heads::tested, crate::proofs::Heads::no_test))]
+fn read_test(alloc: Global, kind: Test, items: &[Value]) -> Result<Expr, ReadFault>
+    ensures ok { IfOk result (λ e. form_of (OfTest kind) (parts items.now) ≡ Some (tree_of e)) }
+    ensures unreadable { IfErr result (λ f. f ≡ Unreadable → form_of (OfTest kind) (parts items.now) ≡ None) }
+{
+    match items {
+        [x, rest @ ..] => test(alloc, kind, read_expression(alloc, x)?, rest),
+        [] => Err(ReadFault::Unreadable),
+    }
+}
+
+// Reads two expressions, and joins them.
+#[cycle(read)]
+#[tactic(auto, using(cedar_gate_reading::proofs::Shapes::two, crate::proofs::Short::too_few_for_two, crate::proofs::Short::too_many_for_two))]
+fn read_joint(alloc: Global, joint: Joint, items: &[Value]) -> Result<Expr, ReadFault>
+    ensures ok { IfOk result (λ e. of_two (joint_of joint) (parts items.now) ≡ Some (tree_of e)) }
+    ensures unreadable { IfErr result (λ f. f ≡ Unreadable → of_two (joint_of joint) (parts items.now) ≡ None) }
+{
+    match items {
+        [x, y] => {
+            let left = read_expression(alloc, x)?;
+            let right = read_expression(alloc, y)?;
+            Ok(join(joint, alloc, left, right)?)
+        }
+        [] => Err(ReadFault::Unreadable),
+        [_] => Err(ReadFault::Unreadable),
+        [_, _, _, ..] => Err(ReadFault::Unreadable),
+    }
+}
+
+// Reads a choice.
+#[cycle(read)]
+#[tactic(auto, using(cedar_gate_reading::proofs::Shapes::three, crate::proofs::Short::too_few_for_three, crate::proofs::Short::too_many_for_three))]
+fn read_choice(alloc: Global, items: &[Value]) -> Result<Expr, ReadFault>
+    ensures ok { IfOk result (λ e. of_three choice (parts items.now) ≡ Some (tree_of e)) }
+    ensures unreadable { IfErr result (λ f. f ≡ Unreadable → of_three choice (parts items.now) ≡ None) }
+{
+    match items {
+        [x, y, z] => {
+            let test_expr = read_expression(alloc, x)?;
+            let then_expr = read_expression(alloc, y)?;
+            let else_expr = read_expression(alloc, z)?;
+            Ok(Expr::ite(alloc, test_expr, then_expr, else_expr)?)
+        }
+        [] => Err(ReadFault::Unreadable),
+        [_] => Err(ReadFault::Unreadable),
+        [_, _] => Err(ReadFault::Unreadable),
+        [_, _, _, _, ..] => Err(ReadFault::Unreadable),
+    }
+}
+
+// Reads a call.
+#[cycle(read)]
+#[tactic(auto, using(cedar_gate_reading::proofs::Shapes::first))]
+fn read_call(alloc: Global, items: &[Value]) -> Result<Expr, ReadFault>
+    ensures ok { IfOk result (λ e. call_form (parts items.now) ≡ Some (tree_of e)) }
+    ensures unreadable { IfErr result (λ f. f ≡ Unreadable → call_form (parts items.now) ≡ None) }
+{
+    match items {
+        [name, ..] => {
+            let name = read_name(alloc, name)?;
+            let args = read_each_expression(alloc, items, 1)?;
+            Ok(Expr::call_extension_fn(alloc, name, args)?)
+        }
+        [] => Err(ReadFault::Unreadable),
+    }
+}
+
+// Reads a record.
+#[cycle(read)]
+#[tactic(auto, using(cedar_gate_reading::proofs::Shapes::one, crate::proofs::Short::no_record))]
+fn read_record(alloc: Global, items: &[Value]) -> Result<Expr, ReadFault>
+    ensures ok { IfOk result (λ e. form_of Record (parts items.now) ≡ Some (tree_of e)) }
+    ensures unreadable { IfErr result (λ f. f ≡ Unreadable → form_of Record (parts items.now) ≡ None) }
+{
+    match items {
+        [x] => match x {
+            Value::Object(members) => {
+                let fields = read_fields(alloc, members)?;
+                Ok(Expr::record_arc(Rc::new(alloc, fields)?))
+            }
+            _ => Err(ReadFault::Unreadable),
+        },
+        [] => Err(ReadFault::Unreadable),
+        [_, _, ..] => Err(ReadFault::Unreadable),
+    }
+}
+
+// Reads each of these expressions from this place on, in their order.
+#[cycle(read)]
+#[tactic(auto, using(cedar_gate_reading::proofs::Gathered::nothing_before, cedar_gate_reading::proofs::Gathered::one_more, crate::proofs::Arguments::ended, crate::proofs::Arguments::here))]
+fn read_each_expression(alloc: Global, items: &[Value], from: usize) -> Result<Vec<Expr>, ReadFault>
+    ensures ok { IfOk result (λ v. all_given (λ x. x.tree) (parts (drop from items.now)) ≡ Some (map tree_of v.items)) }
+    ensures unreadable { IfErr result (λ f. f ≡ Unreadable → all_given (λ x. x.tree) (parts (drop from items.now)) ≡ None) }
+{
+    let mut list = Vec::new(alloc);
+    for i in from..items.len() {
+        let e = read_expression(alloc, &items[i])?;
+        list.push(e)?;
+    }
+    Ok(list)
+}
+
+/// Reads an object of expressions, in the order of its keys.
+#[cycle(read)]
+#[tactic(auto, using(crate::proofs::Fields::start, crate::proofs::Fields::all_fields))]
+pub fn read_fields(
+    alloc: Global,
+    members: &Map<String, Value>,
+) -> Result<BTreeMap<RcStr, Expr>, ReadFault>
+    ensures ok { IfOk result (λ m. fields_in (members_view members.now.entries) ≡ Some (tree_fields (named (field_trees m.entries)))) }
+    ensures unreadable { IfErr result (λ f. f ≡ Unreadable → fields_in (members_view members.now.entries) ≡ None) }
+{
+    let mut fields = BTreeMap::new(alloc);
+    for (key, member) in members.iter() {
+        let name = RcStr::from_str(alloc, key.as_str())?;
+        let field = read_expression(alloc, member)?;
+        drop(fields.insert(name, field)?);
+    }
+    Ok(fields)
+}
