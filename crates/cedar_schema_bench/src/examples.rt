@@ -4,8 +4,7 @@ use crate::fault::Fault;
 use cedar_expr_functions::Extensions;
 use cedar_expr_raw_names::ConditionalName;
 use cedar_schema::{SchemaError, ValidatorSchema, ValidatorSchemaFragment};
-use cedar_schema_example_entries::{action_text, entity_type_text};
-use cedar_schema_examples::fragment;
+use cedar_schema_examples::{action_text, entity_type_text, fragment};
 use std::alloc::{AllocError, Global};
 
 type Written = ValidatorSchemaFragment<ConditionalName, ConditionalName>;
@@ -14,11 +13,11 @@ const PEOPLE: &str =
     "type Address | {street: String, zip?: Long}\nentity Group\nentity User | Group | home: Address, boss?: User | Set of String\nenum Color | red, green\naction all";
 
 const DOCUMENTS: &str =
-    "entity Doc |  | owner: User, color: Color\naction view | Action all | User, Group | Doc | {home: Address, quick?: Bool}\n";
+    "namespace N\nentity Doc |  | owner: User, color: Color\naction view | Action all | User, Group | Doc | {home: Address, quick?: Bool}\n";
 
-// The fragment of this namespace alone, with these lines.
-fn written(alloc: Global, space: &str, lines: &str) -> Result<Written, Fault> {
-    let fragment = fragment(alloc, &[(space, lines)])?;
+// The fragment of these lines.
+fn written(alloc: Global, lines: &str) -> Result<Written, Fault> {
+    let fragment = fragment(alloc, lines)?;
     Ok(Written::from_schema_fragment(alloc, fragment)?)
 }
 
@@ -55,8 +54,8 @@ fn actions_text(alloc: Global, schema: &ValidatorSchema) -> Result<String, Alloc
 pub fn mixed(alloc: Global, size: u32) -> Result<String, Fault> {
     let documents = documents(alloc, size)?;
     let mut fragments = Vec::new(alloc);
-    fragments.push(written(alloc, "N", documents.as_str())?)?;
-    fragments.push(written(alloc, "", PEOPLE)?)?;
+    fragments.push(written(alloc, documents.as_str())?)?;
+    fragments.push(written(alloc, PEOPLE)?)?;
     let schema = ValidatorSchema::from_schema_fragments(
         alloc,
         fragments,
@@ -84,7 +83,7 @@ fn faulty(number: u32) -> &'static str {
 /// What comes of lines that are to be refused under this number: the number of the refusal.
 pub fn refused(alloc: Global, number: u32) -> Result<String, Fault> {
     let mut fragments = Vec::new(alloc);
-    fragments.push(written(alloc, "", faulty(number))?)?;
+    fragments.push(written(alloc, faulty(number))?)?;
     match ValidatorSchema::from_schema_fragments(alloc, fragments, &Extensions::none(alloc)) {
         Ok(_) => Ok(format!(in alloc; "built\n")?),
         Err(SchemaError::OutOfMemory) => Err(Fault::OutOfMemory),

@@ -78,7 +78,7 @@ pub fn schema_of(alloc: Global, fragment: Fragment<RawName>) -> Result<Validator
 /// The schema of declarations of this shape and size.
 pub fn built(alloc: Global, shape: Shape, size: u32) -> Result<ValidatorSchema, Fault> {
     let lines = lines(alloc, shape, size)?;
-    schema_of(alloc, fragment(alloc, &[("", lines.as_str())])?)
+    schema_of(alloc, fragment(alloc, lines.as_str())?)
 }
 
 /// The same, after it was asked whether it is what it has to be.

@@ -1,14 +1,13 @@
-//! Written types and declarations from short lines, and their texts, for tests to name.
+//! Declarations of a schema from short lines, and the texts of the entity types and actions that come of them, for tests and the bench.
+//! Its contract is its text: `fragment` says which lines it reads. Used by `cedar_schema_cases` and `cedar_schema_bench`.
 #![tactic(auto)]
 
-mod declared;
 mod naming;
 mod texts;
 mod types;
 mod written;
 
-pub use declared::{all_defs, commons, entities, entity};
-pub use naming::{ExampleName, id, name, names, raw, uid};
-pub use texts::{names_text, record_text, type_text};
-pub use types::{record, ty};
-pub use written::{definition, fragment};
+pub use naming::{WrittenName, id, name, placed};
+pub use texts::{action_text, entity_type_text, listed};
+pub use types::ty;
+pub use written::{definition, fragment, kind};

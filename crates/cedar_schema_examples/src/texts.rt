@@ -1,106 +1,86 @@
-//! The texts of written types, from which they can be read.
+//! Texts of entity types and actions of a schema.
 
-use crate::naming::ExampleName;
-use cedar_schema_decl::json_schema::{RecordType, Type, TypeOfAttribute, TypeVariant};
+ghost use Rattle.std.specs.Iterator.{IsFinite};
+
+use cedar_schema_entries::{ValidatorActionId, ValidatorEntityType, ValidatorEntityTypeKind};
+use cedar_schema_types::{AttributeType, Attributes, Type};
 use std::alloc::{AllocError, Global};
+use std::fmt::Display;
+use std::rc::RcStr;
 
-// Puts the name behind the text, and before it what it refers to.
-fn add_name<N: ExampleName>(
-    text: &mut String,
+/// The texts of these, with a space before each. Answers want of memory.
+pub fn listed<'a, T: Display + 'a, I: Iterator<Item = &'a T> + Drop>(
     alloc: Global,
-    kind: &str,
-    name: &N,
-) -> Result<(), AllocError> {
-    let name = name.text(alloc)?;
-    text.push_str(kind)?;
-    text.push_str(name.as_str())?;
-    Ok(())
-}
-
-// What stands before a part of a list.
-fn between(is_first: bool) -> &'static str {
-    if is_first { "" } else { ", " }
-}
-
-// Puts the type behind the text.
-#[cycle(texts)]
-fn add_type<N: ExampleName>(
-    text: &mut String,
-    alloc: Global,
-    ty: &Type<N>,
-) -> Result<(), AllocError> {
-    match &ty.ty {
-        TypeVariant::String => Ok(text.push_str("String")?),
-        TypeVariant::Long => Ok(text.push_str("Long")?),
-        TypeVariant::Boolean => Ok(text.push_str("Bool")?),
-        TypeVariant::Set { element } => {
-            text.push_str("Set of ")?;
-            add_type(text, alloc, element)
-        }
-        TypeVariant::Record(fields) => {
-            text.push_str("{")?;
-            add_record(text, alloc, fields)?;
-            Ok(text.push_str("}")?)
-        }
-        TypeVariant::Entity { name } => add_name(text, alloc, "entity ", name),
-        TypeVariant::EntityOrCommon { type_name } => add_name(text, alloc, "", type_name),
-        TypeVariant::CommonTypeRef { type_name } => add_name(text, alloc, "common ", type_name),
-        TypeVariant::Extension { name } => add_name(text, alloc, "extension ", name),
-    }
-}
-
-// Puts the attributes of the record behind the text.
-#[cycle(texts)]
-fn add_record<N: ExampleName>(
-    text: &mut String,
-    alloc: Global,
-    fields: &RecordType<N>,
-) -> Result<(), AllocError> {
-    let mut is_first = true;
-    for (name, attribute) in fields.attributes.iter() {
-        text.push_str(between(is_first))?;
-        text.push_str(name.as_str())?;
-        add_attribute(text, alloc, attribute)?;
-        is_first = false;
-    }
-    Ok(())
-}
-
-// Puts what is declared of an attribute behind the text.
-#[cycle(texts)]
-fn add_attribute<N: ExampleName>(
-    text: &mut String,
-    alloc: Global,
-    attribute: &TypeOfAttribute<N>,
-) -> Result<(), AllocError> {
-    text.push_str(if attribute.required { ": " } else { "?: " })?;
-    add_type(text, alloc, &attribute.ty)
-}
-
-/// The text of the type. Answers want of memory.
-pub fn type_text<N: ExampleName>(alloc: Global, ty: &Type<N>) -> Result<String, AllocError> {
+    items: I,
+) -> Result<String, AllocError>
+    requires { I.can_next items × IsFinite (I.remaining items) }
+{
     let mut text = String::new(alloc);
-    add_type(&mut text, alloc, ty)?;
+    for item in items {
+        text.push_str(" ")?;
+        text.push_str(item.to_string(alloc)?.as_str())?;
+    }
     Ok(text)
 }
 
-/// The text of the attributes of the record. Answers want of memory.
-pub fn record_text<N: ExampleName>(
+// The text of what is declared of an attribute.
+fn attribute_text(
     alloc: Global,
-    fields: &RecordType<N>,
+    name: &RcStr,
+    declared: &AttributeType,
 ) -> Result<String, AllocError> {
+    let mark = if declared.is_required() { "" } else { "?" };
+    format!(in alloc; " {}{mark}: {}", name.as_str(), declared.attr_type)
+}
+
+// The text of the attributes, with a space before each.
+fn attributes_text(alloc: Global, attributes: &Attributes) -> Result<String, AllocError> {
     let mut text = String::new(alloc);
-    add_record(&mut text, alloc, fields)?;
+    for (name, declared) in attributes.iter() {
+        text.push_str(attribute_text(alloc, name, declared)?.as_str())?;
+    }
     Ok(text)
 }
 
-/// The text of the names, with commas between them. Answers want of memory.
-pub fn names_text<N: ExampleName>(alloc: Global, names: &[N]) -> Result<String, AllocError> {
-    let mut text = String::new(alloc);
-    let mut is_first = true;
-    for name in names {
-        add_name(&mut text, alloc, between(is_first), name)?;
-        is_first = false;
+// The text of the type of tags, which is empty where there is none.
+fn tags_text(alloc: Global, tags: Option<&Type>) -> Result<String, AllocError> {
+    match tags {
+        Some(ty) => format!(in alloc; " tags {ty}"),
+        None => Ok(String::new(alloc)),
     }
-    Ok(text)
+}
+
+// The text of the kind: that of the tags, or that of the members.
+fn kind_text(alloc: Global, kind: &ValidatorEntityTypeKind) -> Result<String, AllocError> {
+    match kind {
+        ValidatorEntityTypeKind::Standard(standard) => tags_text(alloc, standard.tag_type()),
+        ValidatorEntityTypeKind::Enum(members) => {
+            let members = listed(alloc, members.iter())?;
+            format!(in alloc; " of{members}")
+        }
+        ValidatorEntityTypeKind::External => format!(in alloc; " elsewhere"),
+    }
+}
+
+/// The text of an entity type: its name, attributes, tags or members, and what descends from it. Answers want of memory.
+pub fn entity_type_text(alloc: Global, ty: &ValidatorEntityType) -> Result<String, AllocError> {
+    let attributes = attributes_text(alloc, ty.attributes())?;
+    let kind = kind_text(alloc, ty.kind())?;
+    let below = listed(alloc, ty.descendants())?;
+    format!(in alloc; "{}{attributes}{kind} over{below}\n", ty.name())
+}
+
+/// The text of an action: its uid, what it applies to, its context, and what descends from it. Answers want of memory.
+pub fn action_text(alloc: Global, action: &ValidatorActionId) -> Result<String, AllocError> {
+    let principals = listed(alloc, action.principals())?;
+    let resources = listed(alloc, action.resources())?;
+    let below = listed(alloc, action.descendants())?;
+    let mark = if action.is_external() {
+        " elsewhere"
+    } else {
+        ""
+    };
+    let context = action.context();
+    let name = action.name();
+    format!(in alloc; "{name}{mark} for{principals} on{resources} with {context} over{below}\n")
 }

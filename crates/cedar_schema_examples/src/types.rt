@@ -1,18 +1,18 @@
 //! Written types from their texts.
 
-use crate::naming::{ExampleName, name};
+use crate::naming::{WrittenName, name, placed};
 use cedar_expr_raw_names::ReferenceType;
 use cedar_schema_decl::json_schema::{RecordType, Type, TypeOfAttribute, TypeVariant};
 use std::alloc::{AllocError, Global};
 use std::collections::BTreeMap;
 use std::rc::RcStr;
 
-fn unplaced<N: ExampleName>(ty: TypeVariant<N>) -> Type<N> {
+fn unplaced<N: WrittenName>(ty: TypeVariant<N>) -> Type<N> {
     Type { ty, loc: None }
 }
 
 // What is written by the name of a type of this kind, if a kind is said.
-fn referred<N: ExampleName>(alloc: Global, text: &str) -> Result<TypeVariant<N>, AllocError> {
+fn referred<N: WrittenName>(alloc: Global, text: &str) -> Result<TypeVariant<N>, AllocError> {
     let (kind, text) = text.split_once(' ').unwrap_or(("", text));
     match kind {
         "entity" => Ok(TypeVariant::Entity {
@@ -31,7 +31,7 @@ fn referred<N: ExampleName>(alloc: Global, text: &str) -> Result<TypeVariant<N>,
 }
 
 // The type without parts of this text.
-fn plain<N: ExampleName>(alloc: Global, text: &str) -> Result<Type<N>, AllocError> {
+fn plain<N: WrittenName>(alloc: Global, text: &str) -> Result<Type<N>, AllocError> {
     match text {
         "String" => Ok(unplaced(TypeVariant::String)),
         "Long" => Ok(unplaced(TypeVariant::Long)),
@@ -41,30 +41,24 @@ fn plain<N: ExampleName>(alloc: Global, text: &str) -> Result<Type<N>, AllocErro
 }
 
 // The type of sets of this element.
-fn set<N: ExampleName>(alloc: Global, element: Type<N>) -> Result<Type<N>, AllocError> {
+fn set<N: WrittenName>(alloc: Global, element: Type<N>) -> Result<Type<N>, AllocError> {
     let element = Box::new(alloc, element)?;
     Ok(unplaced(TypeVariant::Set { element }))
 }
 
-// What is declared of an attribute of this type, by its name, behind which is a `?` where it isn't required.
-fn attribute<N: ExampleName>(
+// What is declared of an attribute of this type, by its name, behind which is a `?` where it isn't required, and its place, if it has one.
+fn attribute<N: WrittenName>(
     alloc: Global,
     name: &str,
     ty: Type<N>,
 ) -> Result<(RcStr, TypeOfAttribute<N>), AllocError> {
+    let (name, loc, _) = placed(name);
     let (name, required) = match name.strip_suffix('?') {
         Some(name) => (name, false),
         None => (name, true),
     };
     let name = RcStr::from_str(alloc, name)?;
-    Ok((
-        name,
-        TypeOfAttribute {
-            ty,
-            required,
-            loc: None,
-        },
-    ))
+    Ok((name, TypeOfAttribute { ty, required, loc }))
 }
 
 // Whether each brace of the text that is opened there is closed there.
@@ -97,7 +91,7 @@ const DEPTH: u8 = 8;
 
 // The type of this text. Fails where types nest deeper than this.
 #[cycle(nesting)]
-fn nested<N: ExampleName>(alloc: Global, text: &str, depth: u8) -> Result<Type<N>, AllocError> {
+fn nested<N: WrittenName>(alloc: Global, text: &str, depth: u8) -> Result<Type<N>, AllocError> {
     if depth == 0 {
         return Err(AllocError);
     }
@@ -116,7 +110,7 @@ fn nested<N: ExampleName>(alloc: Global, text: &str, depth: u8) -> Result<Type<N
 
 // The record type of these attributes. Fails where their types nest deeper than this.
 #[cycle(nesting)]
-fn fields<N: ExampleName>(
+fn fields<N: WrittenName>(
     alloc: Global,
     text: &str,
     depth: u8,
@@ -134,15 +128,18 @@ fn fields<N: ExampleName>(
     Ok(RecordType { attributes })
 }
 
-/// The record type of these attributes, with commas between them, as `a: Long, b?: Set of entity User, c: {d: Bool}`. Fails where one
-/// is no attribute, where types nest too deep, and for want of memory.
-pub fn record<N: ExampleName>(alloc: Global, text: &str) -> Result<RecordType<N>, AllocError> {
+// The record type of these attributes, with commas between them, as `a: Long, b?: Set of entity User, c: {d: Bool}`. Fails where one
+// is no attribute, where types nest too deep, and for want of memory.
+pub(crate) fn record<N: WrittenName>(
+    alloc: Global,
+    text: &str,
+) -> Result<RecordType<N>, AllocError> {
     fields(alloc, text, DEPTH)
 }
 
 /// The type of this text: `Bool`, `Long`, `String`, `entity User`, `common Name`, `extension ip`, or the name alone of an entity type
 /// or a common type; `{a: Long}`, or `Set of` any of these. They nest, to eight types in one another. Fails where the text is none, or
 /// nests deeper, and for want of memory.
-pub fn ty<N: ExampleName>(alloc: Global, text: &str) -> Result<Type<N>, AllocError> {
+pub fn ty<N: WrittenName>(alloc: Global, text: &str) -> Result<Type<N>, AllocError> {
     nested(alloc, text, DEPTH)
 }

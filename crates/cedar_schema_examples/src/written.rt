@@ -1,9 +1,9 @@
 //! Declarations as they are written, from short lines.
 
-use crate::naming::{ExampleName, id, name, names, raw};
+use crate::naming::{WrittenName, id, name, names, placed, raw};
 use crate::types::{record, ty};
 use cedar_expr_leaves::NonEmpty;
-use cedar_expr_names::{Id, InternalName};
+use cedar_expr_names::{Id, InternalName, Loc};
 use cedar_expr_raw_names::{RawName, ReferenceType};
 use cedar_schema_decl::json_schema::{
     ActionEntityUID, ActionType, ActionTypeKind, ApplySpec, CommonType, EntityType, EntityTypeKind,
@@ -14,7 +14,7 @@ use std::collections::BTreeMap;
 use std::rc::RcStr;
 
 // The first part of a line, and what is behind it.
-pub(crate) fn parts(line: &str) -> (&str, &str) {
+fn parts(line: &str) -> (&str, &str) {
     line.split_once(" | ").unwrap_or((line, ""))
 }
 
@@ -31,7 +31,7 @@ fn texts(alloc: Global, text: &str) -> Result<NonEmpty<RcStr>, AllocError> {
 }
 
 // The type of tags of this text. Without a text there are no tags.
-fn tags<N: ExampleName>(alloc: Global, text: &str) -> Result<Option<Type<N>>, AllocError> {
+fn tags<N: WrittenName>(alloc: Global, text: &str) -> Result<Option<Type<N>>, AllocError> {
     if text.is_empty() {
         return Ok(None);
     }
@@ -39,7 +39,7 @@ fn tags<N: ExampleName>(alloc: Global, text: &str) -> Result<Option<Type<N>>, Al
 }
 
 // What is declared of a standard entity type: its parents, attributes and tags.
-fn standard<N: ExampleName>(alloc: Global, line: &str) -> Result<EntityTypeKind<N>, AllocError> {
+fn standard<N: WrittenName>(alloc: Global, line: &str) -> Result<EntityTypeKind<N>, AllocError> {
     let (parents, line) = parts(line);
     let (shape, of_tags) = parts(line);
     let member_of_types = names(alloc, parents)?;
@@ -52,8 +52,9 @@ fn standard<N: ExampleName>(alloc: Global, line: &str) -> Result<EntityTypeKind<
     })
 }
 
-// What is declared of an entity type of this kind.
-pub(crate) fn kind<N: ExampleName>(
+/// What is declared of an entity type of this kind, as behind its name in a line of `fragment`: `entity`, `enum`, or another word for
+/// one that is declared elsewhere. Fails where the line declares nothing of one, and for want of memory.
+pub fn kind<N: WrittenName>(
     alloc: Global,
     kind: &str,
     line: &str,
@@ -78,8 +79,10 @@ fn common_types(
     for line in lines.lines() {
         if let Some(line) = line.strip_prefix("type ") {
             let (word, text) = parts(line);
-            let ty = ty(alloc, text)?;
-            commons.insert(id(alloc, word)?, CommonType { ty, loc: None })?;
+            let (word, loc, of_type) = placed(word);
+            let mut ty = ty(alloc, text)?;
+            ty.loc = of_type;
+            commons.insert(id(alloc, word)?, CommonType { ty, loc })?;
         }
     }
     Ok(commons)
@@ -92,9 +95,10 @@ fn entity_type(alloc: Global, line: &str) -> Result<Option<(Id, EntityType<RawNa
         return Ok(None);
     }
     let (name, line) = parts(line);
+    let (name, loc, _) = placed(name);
     let name = id(alloc, name)?;
     let kind = kind(alloc, word, line)?;
-    Ok(Some((name, EntityType { kind, loc: None })))
+    Ok(Some((name, EntityType { kind, loc })))
 }
 
 // The entity types that the lines declare.
@@ -165,10 +169,10 @@ fn action(alloc: Global, line: &str) -> Result<Option<(RcStr, ActionType<RawName
     }
     let (id, line) = parts(line);
     let (above, line) = parts(line);
+    let (id, loc, _) = placed(id);
     let id = RcStr::from_str(alloc, id)?;
     let member_of = parents(alloc, above)?;
     let kind = action_kind(alloc, word, line)?;
-    let loc = None;
     Ok(Some((
         id,
         ActionType {
@@ -194,8 +198,9 @@ fn actions(alloc: Global, lines: &str) -> Result<BTreeMap<RcStr, ActionType<RawN
 /// parents, attributes and tags, as `entity User | Group, Team | name: String, age?: Long | Long`; those with members alone, as
 /// `enum Color | red, green`; those that are declared elsewhere with their parents, as `extern Team | Group`; actions with their
 /// parents, types of principals, types of resources and context, as `action view | Action read | User, Bot | Doc | {}`, where what
-/// it applies to may be missing; and those that are declared elsewhere with their parents, as `outside view | Action read`. Fails
-/// where a line isn't such a declaration, and for want of memory.
+/// it applies to may be missing; and those that are declared elsewhere with their parents, as `outside view | Action read`. A name
+/// that is declared may have its place behind it, and that of a common type its type's too. Fails where a line isn't such a
+/// declaration, and for want of memory.
 pub fn definition(alloc: Global, lines: &str) -> Result<NamespaceDefinition<RawName>, AllocError> {
     let common_types = common_types(alloc, lines)?;
     let entity_types = entity_types(alloc, lines)?;
@@ -208,21 +213,35 @@ pub fn definition(alloc: Global, lines: &str) -> Result<NamespaceDefinition<RawN
     })
 }
 
-// The namespace of this name. The empty text names the empty one.
-fn namespace(alloc: Global, text: &str) -> Result<Option<InternalName>, AllocError> {
-    if text.is_empty() {
-        return Ok(None);
+// The namespace of this text, at this place.
+fn namespace(
+    alloc: Global,
+    text: &str,
+    loc: Option<Loc>,
+) -> Result<Option<InternalName>, AllocError> {
+    let name = name(alloc, text)?;
+    match loc {
+        None => Ok(Some(name)),
+        Some(_) => Ok(Some(InternalName::new(alloc, id(alloc, text)?, Vec::new(alloc), loc)?)),
     }
-    Ok(Some(name(alloc, text)?))
 }
 
-/// The fragment of these namespaces, each with the lines that declare what is in it; the empty one is named by the empty text. Fails
-/// where a line isn't a declaration, and for want of memory.
-pub fn fragment(alloc: Global, parts: &[(&str, &str)]) -> Result<Fragment<RawName>, AllocError> {
+/// The fragment that the lines declare: those of the empty namespace, and behind each line `namespace N` those of the namespace `N`. The
+/// name of a namespace may have its place behind it, and that of its definition. Fails where a declaration isn't whole, where the name
+/// of a namespace with a place has more than one part, and for want of memory.
+pub fn fragment(alloc: Global, text: &str) -> Result<Fragment<RawName>, AllocError> {
     let mut namespaces = BTreeMap::new(alloc);
-    for (space, lines) in parts {
-        let space = namespace(alloc, space)?;
-        namespaces.insert(space, definition(alloc, lines)?)?;
+    let mut parts = text.split("namespace ");
+    let first = parts.next().unwrap_or("");
+    if !first.is_empty() {
+        namespaces.insert(None, definition(alloc, first)?)?;
+    }
+    for part in parts {
+        let (space, lines) = part.split_once('\n').unwrap_or((part, ""));
+        let (space, loc, of_definition) = placed(space);
+        let mut definition = definition(alloc, lines)?;
+        definition.loc = of_definition;
+        namespaces.insert(namespace(alloc, space, loc)?, definition)?;
     }
     Ok(Fragment(namespaces))
 }
