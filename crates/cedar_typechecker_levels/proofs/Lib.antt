@@ -1,0 +1,4 @@
+pub mod OfPaths
+pub mod Rows
+pub mod OfKinds
+pub mod Walking

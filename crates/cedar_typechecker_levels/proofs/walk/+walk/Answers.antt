@@ -1,0 +1,83 @@
+use Rattle.std.proofs.Common.{rules, arith, Option, map, sym, ap, ◌∙◌, ◌++◌, append-nil}
+use Rattle.std.specs.BTreeMap.{values}
+use Rattle.std.specs.List.{flat_map}
+use Rattle.std.specs.Rc.{rc_str_bytes}
+use Rattle.std.specs.declared.alloc.Global.{Global}
+use Rattle.std.specs.declared.collections.BTreeMap.{BTreeMap}
+use Rattle.std.specs.declared.rc.RcStr.{RcStr}
+use Rattle.cedar_expr_trees.specs.declared.expr.Expr.{Expr}
+use Rattle.cedar_expr_trees.proofs.Sizes.{arguments_are_smaller}
+use Rattle.cedar_schema_types.specs.declared.types.Type.{«Type» as CodeType}
+use Rattle.cedar_typechecker_environments.specs.Settings.{setting_of}
+use Rattle.cedar_typechecker_levels.specs.InRows.{reported_of, reached_of, others_in, reached_in}
+use Rattle.cedar_typechecker_levels.specs.Paths.{path_of}
+use Rattle.cedar_typechecker_levels.specs.Views.{violation_of}
+use Rattle.cedar_typechecker_levels.proofs.OfKinds.{members_are_smaller, call_reported, set_reported, record_reported, record_reached_all, record_reached}
+use Rattle.cedar_typechecker_levels.proofs.Walking.{goes, goes_on, goes_from, reach_here, reach_end}
+use Rattle.cedar_typechecker_levels.proofs.walk.+walk.Goals as goal
+
+pub report-report_all-requires : goal.report-report_all-requires
+report-report_all-requires g t c κs within =
+    let made = c.in-ExtensionFunctionApp in
+    let smaller = arguments_are_smaller {T = Option CodeType} c.args.expr.now made.fn_name made.args c.as_slice.result.now (sym c.expr_kind.ensures.kind ∙ made.is) (c.as_slice.ensures.value ∙ ap (λ v. v.items) c.deref-in-ExtensionFunctionApp.ensures) in
+    (omega (arith, smaller), search rules)
+
+pub report-report_all-requires-in-Set : goal.report-report_all-requires-in-Set
+report-report_all-requires-in-Set g t c κs within =
+    let made = c.in-Set in
+    let smaller = members_are_smaller {T = Option CodeType} c.args.expr.now made.members c.as_slice-in-Set.result.now (sym c.expr_kind.ensures.kind ∙ made.is) (c.as_slice-in-Set.ensures.value ∙ ap (λ v. v.items) c.deref-in-Set.ensures) in
+    (omega (arith, smaller), search rules)
+
+pub reach-returns-in-None : goal.reach-returns-in-None
+reach-returns-in-None g t c =
+    let s = setting_of g.S.DeclaredAttributes.schema g.S.TypingSchema.table c.args.world.now in
+    goes c.report_fields.result (map violation_of c.args.found.now.items) (map violation_of c.report_fields.new.found.items) (flat_map (reported_of c.args.level s) (values c.deref-in-None.result.now)) (reached_of c.args.level s (path_of c.args.path.now) c.args.expr.now)
+    (record_reached_all c.args.level s c.args.expr.now (path_of c.args.path.now) c.in-Record.fields c.deref-in-None.result.now (sym c.expr_kind.ensures.kind ∙ c.in-Record.is) c.deref-in-None.ensures (sym c.in-None.ensures))
+    c.report_fields.ensures
+
+pub reach-returns-in_ok-report_others-in-Some : goal.reach-returns-in_ok-report_others-in-Some
+reach-returns-in_ok-report_others-in-Some g t c =
+    let s = setting_of g.S.DeclaredAttributes.schema g.S.TypingSchema.table c.args.world.now in
+    let split = c.in-Some.split in
+    goes_on c.reach_in.result (map violation_of c.args.found.now.items) (map violation_of c.report_others.new.found.items) (map violation_of c.reach_in.new.found.items)
+    (others_in c.args.level s (rc_str_bytes split.name.now) c.deref-in-Some.result.now.entries) (reached_in c.args.level s (rc_str_bytes split.name.now) (path_of split.others) c.deref-in-Some-2.result.now.entries) (reached_of c.args.level s (path_of c.args.path.now) c.args.expr.now)
+    c.in_ok-report_others-in-Some.ensures
+    (ap (λ (y : BTreeMap (RcStr Global) (Expr (Option CodeType)) Global). others_in c.args.level s (rc_str_bytes split.name.now) c.deref-in-Some.result.now.entries ++ reached_in c.args.level s (rc_str_bytes split.name.now) (path_of split.others) y.entries) (c.deref-in-Some-2.ensures ∙ sym c.deref-in-Some.ensures)
+    ∙ record_reached c.args.level s c.args.expr.now (path_of c.args.path.now) (rc_str_bytes split.name.now) (path_of split.others) c.in-Record.fields c.deref-in-Some.result.now (sym c.expr_kind.ensures.kind ∙ c.in-Record.is) c.deref-in-Some.ensures (sym c.in-Some.ensures))
+    c.reach_in.ensures
+
+pub reach_in-returns-then-eq : goal.reach_in-returns-then-eq
+reach_in-returns-then-eq g t c =
+    let s = setting_of g.S.DeclaredAttributes.schema g.S.TypingSchema.table c.args.world.now in
+    goes_from c.reach.result (map violation_of c.args.found.now.items) (map violation_of c.loop-key.found.items) (map violation_of c.reach.new.found.items) (reached_of c.args.level s (path_of c.args.others.now) c.in-Some.e.now) (reached_in c.args.level s (rc_str_bytes c.args.name.now) (path_of c.args.others.now) c.args.fields.now.entries)
+    c.loop-key.invariant.1
+    (reach_here c.args.level s (rc_str_bytes c.args.name.now) (path_of c.args.others.now) c.args.fields.now.entries c.loop-key.key-iterator c.next.new.self c.in-Some.key.now c.in-Some.e.now c.loop-key.invariant.0 c.in-Some.ensures.steps (sym c.eq.ensures ∙ c.if-eq.true))
+    c.reach.ensures
+
+pub reach_in-returns : goal.reach_in-returns
+reach_in-returns g t c =
+    let s = setting_of g.S.DeclaredAttributes.schema g.S.TypingSchema.table c.args.world.now in
+    c.loop-key.invariant.1 ∙ sym (append-nil (map violation_of c.args.found.now.items)) ∙ ap (λ vs. map violation_of c.args.found.now.items ++ vs) (reach_end c.args.level s (rc_str_bytes c.args.name.now) (path_of c.args.others.now) c.args.fields.now.entries c.loop-key.key-iterator c.loop-key.invariant.0 (c.in-None.ensures.steps).0)
+
+pub report-returns-in-ExtensionFunctionApp : goal.report-returns-in-ExtensionFunctionApp
+report-returns-in-ExtensionFunctionApp g t c =
+    let s = setting_of g.S.DeclaredAttributes.schema g.S.TypingSchema.table c.args.world.now in
+    let made = c.in-ExtensionFunctionApp in
+    goes c.report_all.result (map violation_of c.args.found.now.items) (map violation_of c.report_all.new.found.items) (flat_map (reported_of c.args.level s) c.as_slice.result.now) (reported_of c.args.level s c.args.expr.now)
+    (call_reported c.args.level s c.args.expr.now made.fn_name made.args c.as_slice.result.now (sym c.expr_kind.ensures.kind ∙ made.is) (c.as_slice.ensures.value ∙ ap (λ v. v.items) c.deref-in-ExtensionFunctionApp.ensures))
+    c.report_all.ensures
+
+pub report-returns-in-Set : goal.report-returns-in-Set
+report-returns-in-Set g t c =
+    let s = setting_of g.S.DeclaredAttributes.schema g.S.TypingSchema.table c.args.world.now in
+    let made = c.in-Set in
+    goes c.report_all-in-Set.result (map violation_of c.args.found.now.items) (map violation_of c.report_all-in-Set.new.found.items) (flat_map (reported_of c.args.level s) c.as_slice-in-Set.result.now) (reported_of c.args.level s c.args.expr.now)
+    (set_reported c.args.level s c.args.expr.now made.members c.as_slice-in-Set.result.now (sym c.expr_kind.ensures.kind ∙ made.is) (c.as_slice-in-Set.ensures.value ∙ ap (λ v. v.items) c.deref-in-Set.ensures))
+    c.report_all-in-Set.ensures
+
+pub report-returns-in-Record : goal.report-returns-in-Record
+report-returns-in-Record g t c =
+    let s = setting_of g.S.DeclaredAttributes.schema g.S.TypingSchema.table c.args.world.now in
+    goes c.report_fields.result (map violation_of c.args.found.now.items) (map violation_of c.report_fields.new.found.items) (flat_map (reported_of c.args.level s) (values c.deref-in-Record.result.now)) (reported_of c.args.level s c.args.expr.now)
+    (record_reported c.args.level s c.args.expr.now c.in-Record.fields c.deref-in-Record.result.now (sym c.expr_kind.ensures.kind ∙ c.in-Record.is) c.deref-in-Record.ensures)
+    c.report_fields.ensures

@@ -1,0 +1,5 @@
+pub mod Marked
+pub mod Views
+pub mod Paths
+pub mod Along
+pub mod InRows
