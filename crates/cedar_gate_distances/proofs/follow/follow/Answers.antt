@@ -1,0 +1,26 @@
+use Rattle.std.proofs.Common.{rules, ◌+◌, ◌≡◌, Some, take, add-one}
+use Rattle.cedar_expr_names.specs.Views.{uid_of}
+use Rattle.cedar_gate_distances.specs.Rows.{found_at, mentions_in, uids}
+use Rattle.cedar_gate_distances.proofs.Going.{next_uid}
+use Rattle.cedar_gate_distances.proofs.Following.{followed_more, followed_skip}
+use Rattle.cedar_gate_distances.proofs.follow.follow.Goals.{then-eq+in_ok-spread, else-eq}
+use Rattle.cedar_gate_distances.proofs.follow.follow.Goals as goal
+
+pub loop-key-preserved : goal.loop-key-preserved
+loop-key-preserved c =
+    let more = next_uid c.args.keys.now c.loop-key.key-index c.key-item.result c.loop-key-test.true c.key-item.is in
+    elim c.if-eq.branch [
+      | then-eq+in_ok-spread w ↦
+          let at : found_at c.loop-key.near (uid_of c.key-item.result) ≡ Some c.args.distance = search rules in
+          rw w.near-is rw w.log-is rw w.next-is record {
+            followed = followed_more (mentions_in c.args.loaded.now) _ _ _ c.args.distance (c.args.distance + 1) (uids (take c.loop-key.key-index c.args.keys.now)) _ (uids c.loop-key.next.items) _ (uids w.mentions.result.now) _ c.loop-key.invariant.followed more w.spread.ensures.next at w.mentions.ensures (add-one c.args.distance) w.in_ok-spread.ensures.spread;
+            next = λ x k. w.spread.ensures.next x (c.loop-key.invariant.next x k);
+            undo = λ f i. w.spread.ensures.undo f (c.loop-key.invariant.undo f i);
+          }
+      | else-eq w ↦
+          rw w.near-is rw w.log-is rw w.next-is record {
+            followed = followed_skip (mentions_in c.args.loaded.now) _ _ c.args.distance (uids (take c.loop-key.key-index c.args.keys.now)) _ (uids c.loop-key.next.items) _ c.loop-key.invariant.followed more (λ e. search rules);
+            next = c.loop-key.invariant.next;
+            undo = c.loop-key.invariant.undo;
+          }
+    ]
