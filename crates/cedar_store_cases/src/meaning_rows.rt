@@ -2,8 +2,8 @@
 //! them.
 
 use cedar_expr_functions::{Extension, Extensions};
-use cedar_test_store::hold;
 use cedar_test_exprs::name;
+use cedar_test_store::hold;
 use std::test::Fail;
 
 const EXPRESSIONS: &str = r##"# operators, choices, sets, records and texts
