@@ -1,4 +1,6 @@
-//! Definitions of partial evaluation and of partial responses.
+//! Definitions of partial evaluation, completions, partial responses and reauthorizing.
+//! Contract: the law functions: with nothing unknown it is the meaning, and what is left stands for the expression in every completion.
+//! Used by `cedar_gate_model`.
 #![tactic(auto)]
 
 pub mod laws;

@@ -1,4 +1,6 @@
 //! The leaves of expressions: literals, variables, slots and patterns; the operators; and lists that are not empty.
+//! Contract: `Pattern::wildcard_match` is true exactly where the pattern matches the text, and takes no memory.
+//! Used by values, expressions, policies and the reader of bundles.
 #![tactic(auto)]
 
 pub mod laws;

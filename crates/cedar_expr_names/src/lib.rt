@@ -1,4 +1,6 @@
-//! Identifiers, names, entity types, ids and uids of entities, and places in a source text.
+//! Identifiers, names, entity types, uids and places in a source text.
+//! Contract: `from_normalized_str` reads exactly what the text writes, or refuses with the fault that is there; `Display` gives the text back.
+//! Used by all code that names something: the first code crate to open.
 #![tactic(auto)]
 
 mod any_id;

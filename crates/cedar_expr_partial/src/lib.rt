@@ -1,4 +1,6 @@
-//! Values that may still be expressions, and what turns values into expressions and back.
+//! Values that may still be expressions, and values written as expressions and read again.
+//! Contract: a canonical value written as an expression and read again is the same, exactly where it has no extension value.
+//! Used by entities, whose attributes may be residual, by substitution and by the plain evaluator.
 #![tactic(auto)]
 
 pub mod conversions;

@@ -1,4 +1,6 @@
-//! Cedar's expressions compared and hashed by their shape: by what they are but for places and data.
+//! Expressions compared and hashed by shape: by what they are but for places and data.
+//! Contract: `eq_shape`, `cmp_shape` and `hash_shape` are those of the bare tree, and agree with each other.
+//! Used by callers of `cedar_expr`, through the trait `ExprShape`.
 #![tactic(auto)]
 
 mod compare;

@@ -1,4 +1,6 @@
-//! Values of Cedar's expressions: core types, extension values, values with places, and sets.
+//! Values with places: core types, sets, records and extension values.
+//! Contract: what is made is the value of the definitions as it was made (`made`), canonical where its parts are.
+//! Used by expressions, entities, the plain evaluator and schemas.
 #![tactic(auto)]
 
 pub mod extension;

@@ -1,5 +1,6 @@
-//! The gate's sessions and runs: evaluation of conditions, the answer, what is asked of a host, the lines that are
-//! printed, and the service that reads a bundle and prints them.
+//! Sessions, hosts and runs at a gate, the lines that are printed, and `serve`, which reads a bundle and prints them.
+//! Contract: what `serve` writes is a text that may be printed for the input, with its status; what `run` hands out is a run of the rules.
+//! Used by the program `cedargate`. Open `service.rt` first.
 #![tactic(auto)]
 
 mod answers;

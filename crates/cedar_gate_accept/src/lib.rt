@@ -1,4 +1,6 @@
-//! The gate: what it accepts, and why it refuses the rest.
+//! The gate: which declarations and policies it accepts, and why it refuses the rest.
+//! Contract: `Gate::accept` gives a gate only where the acceptance rules hold, and refuses only by a fault that is there, under its number.
+//! Used by `cedar_gate`, whose sessions borrow a gate.
 #![tactic(auto)]
 
 mod candidate;

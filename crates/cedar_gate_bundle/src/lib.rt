@@ -1,4 +1,6 @@
-//! Reads a bundle from JSON: what is handed to the gate, the request, the store and the steps.
+//! Reads a bundle from JSON: declarations, policies, request, store and steps.
+//! Contract: a bundle is read exactly as the rules read it, and `Unreadable` is answered only where they read nothing.
+//! Used by `serve` of `cedar_gate`.
 #![tactic(auto)]
 
 mod bundle;

@@ -1,4 +1,6 @@
-//! What the gate names of expressions, under one name.
+//! What the gate names of expressions and of the table of functions, under one name.
+//! Contract: that of the items; this crate has no code of its own.
+//! Used by the gate's crates and by `main`.
 #![tactic(auto)]
 
 pub use cedar_expr_functions::{ExtTable, ExtensionFunction, Extensions};

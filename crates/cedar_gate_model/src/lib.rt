@@ -1,4 +1,6 @@
-//! Definitions of acceptance, runs, bundles and the lines that the program prints.
+//! Definitions of acceptance, the slice, sessions, runs, bundles and the lines that the program prints.
+//! Contract: the law functions: the slice suffices, runs are legal transcripts, and given decisions are those of the answer.
+//! Used by the gate's crates; the folder `Whole` has the whole language, what stands beside it the first path.
 #![tactic(auto)]
 
 pub mod laws;

@@ -1,4 +1,6 @@
-//! The declared types and actions: well-formed declarations, and which requests conform to them.
+//! The declared types and actions of today's language, and which requests conform to them.
+//! Contract: a schema is built exactly where the declarations are well-formed, else a fault that is there is told.
+//! Used by `cedar_gate_accept` and `cedar_gate`.
 #![tactic(auto)]
 
 mod conformance;

@@ -1,4 +1,6 @@
-//! The types that the gate's calls name: policies, declarations, requests, entities, steps and responses.
+//! The types that the gate's calls name: declarations, requests, steps, responses and the limit on nesting.
+//! Contract: each getter gives its part; policies of today's language are in the whole one what they are on the first path (`laws`).
+//! Used by all crates of the gate.
 #![tactic(auto)]
 
 pub mod first_path;

@@ -1,4 +1,6 @@
-//! The entity types and actions that a built schema keeps, of resolved declarations.
+//! The entity types and actions of a schema, made of resolved declarations.
+//! Contract: each has the types that it tells and exactly its descendants; a refusal tells a fault that is there.
+//! Used by `cedar_schema_builder`.
 #![tactic(auto)]
 
 mod action_entries;

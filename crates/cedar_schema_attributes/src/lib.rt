@@ -1,4 +1,6 @@
 //! All attributes that a schema declares for the values of a type.
+//! Contract: `all_attributes` gives exactly those that are declared, each as it is declared.
+//! Used by callers of `cedar_schema`, through the traits `AllAttributes` and `AllKnownAttrs`.
 #![tactic(auto)]
 
 mod known;

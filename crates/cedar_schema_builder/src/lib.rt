@@ -1,4 +1,6 @@
-//! What a schema is built of: the entity types and the actions that fragments tell, or why they are refused.
+//! All steps from fragments to the entity types and actions of a schema.
+//! Contract: `schema_parts` gives those of well-formed declarations, and else a fault that is there with the name of what is at fault.
+//! Used by `cedar_schema_built`, in `ValidatorSchema::from_schema_fragments`.
 #![tactic(auto)]
 
 mod build;

@@ -1,4 +1,6 @@
 //! Built schemas: entity types and actions by name, and what is read from them.
+//! Contract: `from_schema_fragments` builds only of well-formed declarations and keeps exactly their schema; readers give what is kept.
+//! Used by `cedar_schema_sound`, `cedar_schema_attributes`, and by users through `cedar_schema`.
 #![tactic(auto)]
 
 mod above;

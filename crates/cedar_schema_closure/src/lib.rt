@@ -1,4 +1,6 @@
-//! Graphs of numbered nodes: what each node leads to by one or more edges, and orders in which what a node leads to comes first.
+//! Graphs of numbered nodes: what each leads to, and orders in which what a node leads to comes first.
+//! Contract: `closure` gives for each node exactly what one or more edges lead to; `in_order` gives an order, or a node on a cycle.
+//! Used by `cedar_schema_nodes`, `cedar_schema_resolver` and `cedar_schema_assembly`.
 #![tactic(auto)]
 
 mod closures;

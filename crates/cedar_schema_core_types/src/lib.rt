@@ -1,4 +1,6 @@
 //! The types by which values can be read, and what a schema's type is as one of them.
+//! Contract: `core_schema_type` gives that type, or the first part that stands in its way.
+//! Used by callers of `cedar_schema`.
 #![tactic(auto)]
 
 mod core_types;

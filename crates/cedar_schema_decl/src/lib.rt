@@ -1,4 +1,6 @@
-//! Declarations of a schema: as they are written, with names that may stand for one of several, and with each name resolved.
+//! Declarations of a schema over names in any state: as written, with names that may stand for several, and resolved.
+//! Contract: `resolve` gives the first that is declared of what a name may stand for; each step replaces every name so, or refuses the first.
+//! Used by `cedar_schema_fragments` and all steps that build a schema.
 #![tactic(auto)]
 
 pub mod all_defs;

@@ -1,4 +1,6 @@
-//! Entity types and actions as a built schema keeps them.
+//! Entity types and actions as a built schema keeps them, with what descends from each.
+//! Contract: each maker makes the entry of the model, each reader gives its part, and lists stand in order, each item once.
+//! Used by `cedar_schema_assembly` and `cedar_schema_built`.
 #![tactic(auto)]
 
 mod action;

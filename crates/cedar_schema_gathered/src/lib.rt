@@ -1,4 +1,6 @@
-//! Checks of the names that fragments of a schema write, and what the fragments declare: resolved, and gathered.
+//! Checks of the names that fragments write, and all that they declare, resolved and gathered.
+//! Contract: each check finds something exactly where its fault is there; `gather` lists all declarations in order.
+//! Used by `cedar_schema_builder`.
 #![tactic(auto)]
 
 pub mod action_types;

@@ -1,4 +1,6 @@
 //! Types, common types and namespaces with their places in a source text, and those that fragments declare.
+//! Contract: each part is given back as it was put in; the lists have each declared name once, in order.
+//! Used by `cedar_schema_built`, which lists them for tools.
 #![tactic(auto)]
 
 mod common_type;

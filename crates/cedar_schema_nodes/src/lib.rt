@@ -1,4 +1,6 @@
-//! Names and uids as nodes of graphs: their numbers, and what descends from each by direct parents.
+//! Names and uids as nodes of graphs: what descends from each by direct parents.
+//! Contract: `descendants` gives for each node exactly those that descend from it; a repeated name is refused.
+//! Used by `cedar_schema_resolver` and `cedar_schema_assembly`.
 #![tactic(auto)]
 
 mod descent;

@@ -1,4 +1,6 @@
-//! What written types with resolved names stand for, with the common types replaced.
+//! What written types with resolved names stand for, with common types replaced.
+//! Contract: `resolve_common_types` gives the type that each common type stands for, or a fault that is there.
+//! Used by `cedar_schema_assembly` and `cedar_schema_builder`.
 #![tactic(auto)]
 
 mod common_types;

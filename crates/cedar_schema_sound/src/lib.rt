@@ -1,4 +1,6 @@
 //! Whether a built schema is what it has to be.
+//! Contract: `try_validate` passes exactly sound schemas, and so every one that is built of fragments that declarations write.
+//! Used by callers of `cedar_schema` who made a schema by hand.
 #![tactic(auto)]
 
 mod actions;

@@ -1,4 +1,6 @@
-//! Types of a schema: attributes, and unions of entity types.
+//! Types of a schema: attributes, unions of entity types, records and their texts.
+//! Contract: each maker makes the type of the model (`type_of`), always a well-formed one; `Display` gives the text of the rules.
+//! Used by all crates of schemas that speak of types.
 #![tactic(auto)]
 
 mod attributes;

@@ -1,4 +1,6 @@
-//! Cedar's entities, and stores of them, whole or partial.
+//! Entities, and stores of them, whole or partial.
+//! Contract: a store is a map by uid that refuses a repeated one; a look-up says data, missing, or the unknown that stands for what isn't loaded.
+//! Used by the plain evaluator, built schemas (`action_entities`) and the gate's hosts.
 #![tactic(auto)]
 
 pub mod entities;

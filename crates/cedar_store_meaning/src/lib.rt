@@ -1,4 +1,6 @@
 //! A plain evaluator of the meaning: slow and obvious, to judge others by.
+//! Contract: `evaluate` gives the value or the first error that the expression means in the world, or says that something isn't known.
+//! Used by the gate, which evaluates conditions by `policy_outcome`.
 #![tactic(auto)]
 
 pub mod binary;

@@ -1,4 +1,6 @@
-//! What Cedar's policies are made of: ids, effects, annotations, scopes, and what slots are bound to.
+//! What policies are made of: ids, effects, annotations, parts of scopes, and bindings of slots.
+//! Contract: each maker makes the part of the model and each getter gives it back; `as_expr` is what a part of a scope asks.
+//! Used by policies, records of validation, the plain evaluator and the gate.
 #![tactic(auto)]
 
 pub mod annotation;

@@ -1,4 +1,6 @@
-//! Cedar's policies: templates, policies and sets of them. What they are made of is given out again.
+//! Templates, policies and sets of policies.
+//! Contract: `condition` is exactly the condition of the rules; a set lists distinct ids as inserted, and refuses one that is present.
+//! Used by the plain evaluator and by the gate.
 #![tactic(auto)]
 
 mod bindings;

@@ -1,5 +1,6 @@
-//! Plain records that validation speaks of: modes, request types, errors and warnings. Each kind has an order, an equality and
-//! a hash that agree: they are derived, over those of ids, uids, names and places.
+//! Plain records that validation speaks of: modes, request types, errors and warnings.
+//! Contract: each kind has an order, an equality and a hash that agree (`laws`).
+//! Used by joins of types (`ValidationMode`) and by built schemas (`RequestType`).
 #![tactic(auto)]
 
 pub mod diagnostics;
