@@ -1,0 +1,5 @@
+pub mod ByParts
+pub mod Depth
+pub mod Failing
+pub mod Repeating
+pub mod Slots
