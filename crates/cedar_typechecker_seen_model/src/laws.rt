@@ -1,0 +1,31 @@
+//! Schemas that answer alike type alike. Each function's contract is the theorem; its body does nothing, or calls the laws that it stands on.
+
+ghost use Rattle.cedar_typechecker_seen_model.specs.Laws.{TypesAreAlike, CountsAreAlike, EnvironmentsAreAlike, PassingIsAlike, WarningsAreAlike, ImpossibleIsAlike, IrrelevantIsAlike, ViolationsAreAlike, LevelsAreAlike, KnownTypesAreAlike, KnownActionsAreAlike, KnownMembersAreAlike};
+
+/// By schemas that answer alike an expression has the same type, facts and violations, and a policy the same environments.
+pub fn expressions_are_alike()
+    ensures types { TypesAreAlike }
+    ensures counts { CountsAreAlike }
+    ensures environments { EnvironmentsAreAlike }
+{}
+
+/// The same policies pass, are warned of, are impossible, and are irrelevant for the types of a request.
+pub fn verdicts_are_alike()
+    ensures passing { PassingIsAlike }
+    ensures warnings { WarningsAreAlike }
+    ensures impossible { ImpossibleIsAlike }
+    ensures irrelevant { IrrelevantIsAlike }
+{}
+
+/// A policy has the same violations at each level, and none by both schemas or by neither.
+pub fn levels_are_alike()
+    ensures violations { ViolationsAreAlike }
+    ensures none { LevelsAreAlike }
+{}
+
+/// The same policies keep each of the scope rules.
+pub fn scope_rules_are_alike()
+    ensures types { KnownTypesAreAlike }
+    ensures actions { KnownActionsAreAlike }
+    ensures members { KnownMembersAreAlike }
+{}
