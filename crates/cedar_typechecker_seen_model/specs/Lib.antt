@@ -1,2 +1,4 @@
 pub mod Alike
+pub mod Seen
 pub mod Laws
+pub mod SeenLaws

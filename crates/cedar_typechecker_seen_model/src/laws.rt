@@ -1,6 +1,9 @@
 //! Schemas that answer alike type alike. Each function's contract is the theorem; its body does nothing, or calls the laws that it stands on.
 
 ghost use Rattle.cedar_typechecker_seen_model.specs.Laws.{TypesAreAlike, CountsAreAlike, EnvironmentsAreAlike, PassingIsAlike, WarningsAreAlike, ImpossibleIsAlike, IrrelevantIsAlike, ViolationsAreAlike, LevelsAreAlike, KnownTypesAreAlike, KnownActionsAreAlike, KnownMembersAreAlike};
+ghost use Rattle.cedar_typechecker_seen_model.specs.SeenLaws.{KeptAreClosed, SeenAnswerAlike, DeclaredDescend, DeclaredAnswerAlike};
+
+use cedar_schema_kept_model::laws::declarations_are_kept;
 
 /// By schemas that answer alike an expression has the same type, facts and violations, and a policy the same environments.
 pub fn expressions_are_alike()
@@ -29,3 +32,14 @@ pub fn scope_rules_are_alike()
     ensures actions { KnownActionsAreAlike }
     ensures members { KnownMembersAreAlike }
 {}
+
+/// What is kept of a schema, taken as a schema, is closed under descent, and answers as the schema does where what this names as
+/// ancestors is declared, as it is of declarations.
+pub fn seen_schemas_answer_alike()
+    ensures closed { KeptAreClosed }
+    ensures alike { SeenAnswerAlike }
+    ensures descend { DeclaredDescend }
+    ensures declared { DeclaredAnswerAlike }
+{
+    declarations_are_kept();
+}

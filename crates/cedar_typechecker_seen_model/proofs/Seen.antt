@@ -1,0 +1,4 @@
+pub mod Found
+pub mod Reaching
+pub mod Above
+pub mod Answers
