@@ -3,6 +3,7 @@
 use Rattle.std.specs.Prelude.{◌≡◌, ◌↔◌, Contains}
 use Rattle.cedar_expr_model.specs.Name.{Text, Name}
 use Rattle.cedar_expr_model.specs.Uid.{Uid}
+use Rattle.cedar_expr_model.specs.Whole.Table.{Table}
 use Rattle.cedar_schema_model.specs.Whole.Schema.{Schema, declares_type, declares_action}
 use Rattle.cedar_schema_model.specs.Whole.Descent.{type_names, action_uids, Descends, ActionDescends, type_descends, action_descends}
 use Rattle.cedar_schema_model.specs.Whole.Environment.{Environment, environments, types_above}
@@ -28,3 +29,8 @@ pub record AnswersAlike (s t : Schema) : Type 0 where
 pub record DescendsToDeclared (s : Schema) : Type 0 where
   pub types : (m n : Name) → Descends s m n → Contains (type_names s) n
   pub actions : (u v : Uid) → ActionDescends s u v → Contains (action_uids s) v
+
+-- Tables of the same functions and ordered types, whatever the functions answer.
+pub record HasSameSignatures (x y : Table) : Type 0 where
+  pub functions : x.functions ≡ y.functions
+  pub ordered : x.ordered ≡ y.ordered

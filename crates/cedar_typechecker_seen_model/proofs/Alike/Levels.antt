@@ -16,15 +16,15 @@ use Rattle.cedar_typechecker_model.specs.Whole.Levels.{joined, further, stepped,
 use Rattle.cedar_typechecker_model.specs.Whole.Rules.{Setting}
 use Rattle.cedar_typechecker_model.specs.Whole.Typing.{step_type, judgement, type_under}
 use Rattle.cedar_typechecker_model.specs.Whole.Verdicts.{is_bool, violations_in}
-use Rattle.cedar_typechecker_seen_model.specs.Alike.{AnswersAlike}
+use Rattle.cedar_typechecker_seen_model.specs.Alike.{AnswersAlike, HasSameSignatures}
 use Rattle.cedar_typechecker_seen_model.proofs.Alike.Typing.{first, second, same_step, same_judgement, same_type}
 
-module _ (s t : Schema) (m : AnswersAlike s t) (mode : Mode) (x : Table) (e : Environment) where
+module _ (s t : Schema) (m : AnswersAlike s t) (mode : Mode) (x z : Table) (q : HasSameSignatures x z) (e : Environment) where
   abbrev one : Setting
-  one = first s t m mode x e
+  one = first s t m mode x z q e
 
   abbrev two : Setting
-  two = second s t m mode x e
+  two = second s t m mode x z q e
 
   same_literal_count : (p : Literal) → literal_count one p ≡ literal_count two p
   same_literal_count (entity u) = refl
@@ -36,25 +36,25 @@ module _ (s t : Schema) (m : AnswersAlike s t) (mode : Mode) (x : Table) (e : En
   same_steps a bs None = refl
   same_steps a [] (Some y) = refl
   same_steps a (b ∷ bs) (Some y) =
-      (λ i. (if is_entity (Some y) then 1 else 0) + entity_steps one b bs (same_step s t m mode x e y a i)) ∙ (λ i. (if is_entity (Some y) then 1 else 0) + same_steps b bs (step_type two y a) i)
+      (λ i. (if is_entity (Some y) then 1 else 0) + entity_steps one b bs (same_step s t m mode x z q e y a i)) ∙ (λ i. (if is_entity (Some y) then 1 else 0) + same_steps b bs (step_type two y a) i)
 
   same_before : (a : Text) (bs : List Text) (o : Option Ty) → fields_before one a bs o ≡ fields_before two a bs o
   same_before a bs None = refl
   same_before a [] (Some y) = refl
   same_before a (b ∷ bs) (Some y) =
-      (λ i. if is_entity (Some y) then [] else a ∷ fields_before one b bs (same_step s t m mode x e y a i)) ∙ (λ i. if is_entity (Some y) then [] else a ∷ same_before b bs (step_type two y a) i)
+      (λ i. if is_entity (Some y) then [] else a ∷ fields_before one b bs (same_step s t m mode x z q e y a i)) ∙ (λ i. if is_entity (Some y) then [] else a ∷ same_before b bs (step_type two y a) i)
 
   same_on : (known : Facts) (r : Tree) → on_entity one known r ≡ on_entity two known r
-  same_on known r = ap is_entity (same_type s t m mode x e known r)
+  same_on known r = ap is_entity (same_type s t m mode x z q e known r)
 
   abbrev judged_same : (known : Facts) (r : Tree) → judgement one known r ≡ judgement two known r
-  judged_same known r = same_judgement s t m mode x e known r
+  judged_same known r = same_judgement s t m mode x z q e known r
 
   steps_of : (known : Facts) (r : Tree) (a : Text) (bs : List Text) → entity_steps one a bs (type_under one known r) ≡ entity_steps two a bs (type_under two known r)
-  steps_of known r a bs = (λ i. entity_steps one a bs (same_type s t m mode x e known r i)) ∙ same_steps a bs (type_under two known r)
+  steps_of known r a bs = (λ i. entity_steps one a bs (same_type s t m mode x z q e known r i)) ∙ same_steps a bs (type_under two known r)
 
   before_of : (known : Facts) (r : Tree) (a : Text) (bs : List Text) → fields_before one a bs (type_under one known r) ≡ fields_before two a bs (type_under two known r)
-  before_of known r a bs = (λ i. fields_before one a bs (same_type s t m mode x e known r i)) ∙ same_before a bs (type_under two known r)
+  before_of known r a bs = (λ i. fields_before one a bs (same_type s t m mode x z q e known r i)) ∙ same_before a bs (type_under two known r)
 
   module _ (n : ℕ) where
     mutual
@@ -101,7 +101,7 @@ module _ (s t : Schema) (m : AnswersAlike s t) (mode : Mode) (x : Table) (e : En
 
   -- of a policy in an environment
   pub same_is_bool : (p : Policy) → is_bool (type_under one no_facts (condition p)) ≡ is_bool (type_under two no_facts (condition p))
-  same_is_bool p = ap is_bool (same_type s t m mode x e no_facts (condition p))
+  same_is_bool p = ap is_bool (same_type s t m mode x z q e no_facts (condition p))
 
-  pub same_violations_in : (n : ℕ) (p : Policy) → violations_in mode n s x p e ≡ violations_in mode n t x p e
-  same_violations_in n p = λ i. option_map_or (λ y. same_violations n no_facts (condition p) i) (same_type s t m mode x e no_facts (condition p) i) []
+  pub same_violations_in : (n : ℕ) (p : Policy) → violations_in mode n s x p e ≡ violations_in mode n t z p e
+  same_violations_in n p = λ i. option_map_or (λ y. same_violations n no_facts (condition p) i) (same_type s t m mode x z q e no_facts (condition p) i) []

@@ -15,7 +15,7 @@ use Rattle.cedar_typechecker_model.specs.Whole.Facts.{no_facts}
 use Rattle.cedar_typechecker_model.specs.Whole.Levels.{Violation}
 use Rattle.cedar_typechecker_model.specs.Whole.Typing.{type_of}
 use Rattle.cedar_typechecker_model.specs.Whole.Verdicts.{scope_use, policy_environments, in_mode, is_bool, is_false, fits, RequestType, is_of_request, passes_in, is_warned, impossible, irrelevant_for, violations_in, policy_violations_in}
-use Rattle.cedar_typechecker_seen_model.specs.Alike.{AnswersAlike}
+use Rattle.cedar_typechecker_seen_model.specs.Alike.{AnswersAlike, HasSameSignatures}
 use Rattle.cedar_typechecker_seen_model.specs.Laws.{TypesAreAlike, CountsAreAlike, EnvironmentsAreAlike, PassingIsAlike, WarningsAreAlike, ImpossibleIsAlike, IrrelevantIsAlike, ViolationsAreAlike, LevelsAreAlike}
 use Rattle.cedar_typechecker_seen_model.proofs.Alike.Schemas.{alike_back, same_test}
 use Rattle.cedar_typechecker_seen_model.proofs.Alike.Typing.{same_judgement, same_type}
@@ -69,77 +69,81 @@ module _ (s t : Schema) (m : AnswersAlike s t) where
       (flat_has (λ o. map (with_slots e.0 o) (slot_types t b e.0.resource)) (slot_types t a e.0.principal) o.0 (with_slots e.0 o.0 q.0) (slots_into a e.0.principal o.0 o.1)
       (map_has (with_slots e.0 o.0) (slot_types t b e.0.resource) q.0 (slots_into b e.0.resource q.0 q.1))))
 
-module _ (s t : Schema) (m : AnswersAlike s t) where
+module _ (s t : Schema) (m : AnswersAlike s t) (x y : Table) (q : HasSameSignatures x y) where
   abbrev there : (p : Policy) → AreWithin (policy_environments s p) (policy_environments t p)
   there p = policies_into s t m p
 
   abbrev back : (p : Policy) → AreWithin (policy_environments t p) (policy_environments s p)
   back p = policies_into t s (alike_back s t m) p
 
-  same_condition : (w : Mode) (x : Table) (p : Policy) (e : Environment) → type_of (in_mode w s x e) (condition p) ≡ type_of (in_mode w t x e) (condition p)
-  same_condition w x p e = same_type s t m w x e no_facts (condition p)
+  same_condition : (w : Mode) (p : Policy) (e : Environment) → type_of (in_mode w s x e) (condition p) ≡ type_of (in_mode w t y e) (condition p)
+  same_condition w p e = same_type s t m w x y q e no_facts (condition p)
 
-  same_passing : (w : Mode) (x : Table) (p : Policy) → passes_in w s x p ≡ passes_in w t x p
-  same_passing w x p =
-      all_alike (λ e. is_bool (type_of (in_mode w s x e) (condition p))) (λ e. is_bool (type_of (in_mode w t x e) (condition p)))
-      (λ e. ap is_bool (same_condition w x p e)) (policy_environments s p) (policy_environments t p) (there p) (back p)
+  same_passing : (w : Mode) (p : Policy) → passes_in w s x p ≡ passes_in w t y p
+  same_passing w p =
+      all_alike (λ e. is_bool (type_of (in_mode w s x e) (condition p))) (λ e. is_bool (type_of (in_mode w t y e) (condition p)))
+      (λ e. ap is_bool (same_condition w p e)) (policy_environments s p) (policy_environments t p) (there p) (back p)
 
   abbrev is_false_in : Mode → Schema → Table → Policy → Environment → Bool
-  is_false_in w r x p e = is_false (type_of (in_mode w r x e) (condition p))
+  is_false_in w r o p e = is_false (type_of (in_mode w r o e) (condition p))
 
-  same_false : (w : Mode) (x : Table) (p : Policy) (e : Environment) → is_false_in w s x p e ≡ is_false_in w t x p e
-  same_false w x p e = ap is_false (same_condition w x p e)
+  same_false : (w : Mode) (p : Policy) (e : Environment) → is_false_in w s x p e ≡ is_false_in w t y p e
+  same_false w p e = ap is_false (same_condition w p e)
 
-  same_warned : (w : Mode) (x : Table) (p : Policy) → is_warned w s x p ≡ is_warned w t x p
-  same_warned w x p = all_alike (is_false_in w s x p) (is_false_in w t x p) (same_false w x p) (policy_environments s p) (policy_environments t p) (there p) (back p)
+  same_warned : (w : Mode) (p : Policy) → is_warned w s x p ≡ is_warned w t y p
+  same_warned w p = all_alike (is_false_in w s x p) (is_false_in w t y p) (same_false w p) (policy_environments s p) (policy_environments t p) (there p) (back p)
 
-  same_impossible : (x : Table) (p : Policy) → impossible s x p ≡ impossible t x p
-  same_impossible x p =
-      all_alike (is_false_in strict s x p) (is_false_in strict t x p) (same_false strict x p) (filter (fits p) (policy_environments s p)) (filter (fits p) (policy_environments t p))
+  same_impossible : (p : Policy) → impossible s x p ≡ impossible t y p
+  same_impossible p =
+      all_alike (is_false_in strict s x p) (is_false_in strict t y p) (same_false strict p) (filter (fits p) (policy_environments s p)) (filter (fits p) (policy_environments t p))
       (filter_within (fits p) (policy_environments s p) (policy_environments t p) (there p)) (filter_within (fits p) (policy_environments t p) (policy_environments s p) (back p))
 
-  same_irrelevant : (x : Table) (r : RequestType) (p : Policy) → irrelevant_for s x r p ≡ irrelevant_for t x r p
-  same_irrelevant x r p =
+  same_irrelevant : (r : RequestType) (p : Policy) → irrelevant_for s x r p ≡ irrelevant_for t y r p
+  same_irrelevant r p =
       let es = filter (fits p) (policy_environments s p) in
       let fs = filter (fits p) (policy_environments t p) in
-      all_alike (is_false_in strict s x p) (is_false_in strict t x p) (same_false strict x p) (filter (is_of_request r) es) (filter (is_of_request r) fs)
+      all_alike (is_false_in strict s x p) (is_false_in strict t y p) (same_false strict p) (filter (is_of_request r) es) (filter (is_of_request r) fs)
       (filter_within (is_of_request r) es fs (filter_within (fits p) (policy_environments s p) (policy_environments t p) (there p)))
       (filter_within (is_of_request r) fs es (filter_within (fits p) (policy_environments t p) (policy_environments s p) (back p)))
 
-  violations_into : (w : Mode) (n : ℕ) (x : Table) (p : Policy) → AreWithin (policy_violations_in w n s x p) (policy_violations_in w n t x p)
-  violations_into w n x p v k =
+  violations_into : (w : Mode) (n : ℕ) (p : Policy) → AreWithin (policy_violations_in w n s x p) (policy_violations_in w n t y p)
+  violations_into w n p v k =
       let r = flat_from (violations_in w n s x p) (policy_environments s p) v k in
-      flat_has (violations_in w n t x p) (policy_environments t p) r.0 v (there p r.0 r.1) (subst (λ l. Contains l v) (same_violations_in s t m w x r.0 n p) r.2)
+      flat_has (violations_in w n t y p) (policy_environments t p) r.0 v (there p r.0 r.1) (subst (λ l. Contains l v) (same_violations_in s t m w x y q r.0 n p) r.2)
 
-  same_levels : (w : Mode) (n : ℕ) (x : Table) (p : Policy) → is_nil (policy_violations_in w n s x p) ≡ is_nil (policy_violations_in w n t x p)
-  same_levels w n x p =
+  same_levels : (w : Mode) (n : ℕ) (p : Policy) → is_nil (policy_violations_in w n s x p) ≡ is_nil (policy_violations_in w n t y p)
+  same_levels w n p =
       nil_of_each (violations_in w n s x p) (policy_environments s p)
-      ∙ all_alike (λ e. is_nil (violations_in w n s x p e)) (λ e. is_nil (violations_in w n t x p e)) (λ e. ap is_nil (same_violations_in s t m w x e n p)) (policy_environments s p) (policy_environments t p) (there p) (back p)
-      ∙ sym (nil_of_each (violations_in w n t x p) (policy_environments t p))
+      ∙ all_alike (λ e. is_nil (violations_in w n s x p e)) (λ e. is_nil (violations_in w n t y p e)) (λ e. ap is_nil (same_violations_in s t m w x y q e n p)) (policy_environments s p) (policy_environments t p) (there p) (back p)
+      ∙ sym (nil_of_each (violations_in w n t y p) (policy_environments t p))
+
+-- tables back
+signatures_back : (x y : Table) → HasSameSignatures x y → HasSameSignatures y x
+signatures_back x y q = record { functions = sym q.functions; ordered = sym q.ordered }
 
 pub types_alike : TypesAreAlike
-types_alike s t m w x e known a = same_judgement s t m w x e known a
+types_alike s t m x y q w e known a = same_judgement s t m w x y q e known a
 
 pub counts_alike : CountsAreAlike
-counts_alike s t m w x e n known a = same_violations s t m w x e n known a
+counts_alike s t m x y q w e n known a = same_violations s t m w x y q e n known a
 
 pub environments_alike : EnvironmentsAreAlike
-environments_alike s t m p e = (there s t m p e, back s t m p e)
+environments_alike s t m p e = (policies_into s t m p e, policies_into t s (alike_back s t m) p e)
 
 pub passing_alike : PassingIsAlike
-passing_alike s t m w x p = same_passing s t m w x p
+passing_alike s t m x y q w p = same_passing s t m x y q w p
 
 pub warnings_alike : WarningsAreAlike
-warnings_alike s t m w x p = same_warned s t m w x p
+warnings_alike s t m x y q w p = same_warned s t m x y q w p
 
 pub impossible_alike : ImpossibleIsAlike
-impossible_alike s t m x p = same_impossible s t m x p
+impossible_alike s t m x y q p = same_impossible s t m x y q p
 
 pub irrelevant_alike : IrrelevantIsAlike
-irrelevant_alike s t m x r p = same_irrelevant s t m x r p
+irrelevant_alike s t m x y q r p = same_irrelevant s t m x y q r p
 
 pub violations_alike : ViolationsAreAlike
-violations_alike s t m w n x p v = (violations_into s t m w n x p v, violations_into t s (alike_back s t m) w n x p v)
+violations_alike s t m x y q w n p v = (violations_into s t m x y q w n p v, violations_into t s (alike_back s t m) y x (signatures_back x y q) w n p v)
 
 pub levels_alike : LevelsAreAlike
-levels_alike s t m w n x p = same_levels s t m w n x p
+levels_alike s t m x y q w n p = same_levels s t m x y q w n p

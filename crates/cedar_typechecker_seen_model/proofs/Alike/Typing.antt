@@ -1,8 +1,8 @@
 -- Typing by schemas that answer alike.
 use Rattle.std.proofs.Common.{◌≡◌, ◌∙◌, true, ◌||◌, ◌&&◌, List, [], ◌∷◌, Option, Some, None, is_some, refl, option_map, if◌then◌else◌}
-use Rattle.std.specs.Prelude.{option_and_then}
+use Rattle.std.specs.Prelude.{option_and_then, find}
 use Rattle.std.specs.List.{list_any}
-use Rattle.cedar_expr_model.specs.Name.{Text, Name}
+use Rattle.cedar_expr_model.specs.Name.{Text, Name, name_eq}
 use Rattle.cedar_expr_model.specs.Uid.{Uid, uid_eq}
 use Rattle.cedar_expr_model.specs.Whole.Lists.{all_given}
 use Rattle.cedar_expr_model.specs.Whole.Parts.{uid_here, listed}
@@ -14,19 +14,19 @@ use Rattle.cedar_schema_model.specs.Whole.Join.{reduce_to_join, are_disjoint}
 use Rattle.cedar_schema_model.specs.Whole.Schema.{Schema}
 use Rattle.cedar_schema_model.specs.Whole.Types.{any_bool, only_true, only_false, Ty, any_entity, bool_type, long_type, any_set, set_type, extension_type, entity_types, entity_type, record_type, attribute, Mode, permissive}
 use Rattle.cedar_typechecker_model.specs.Whole.Facts.{Facts, union, attribute_part, tag_part}
-use Rattle.cedar_typechecker_model.specs.Whole.Rules.{Setting, known_truth, literal_type, var_type, slot_type, written_uid, written_equal, order_type, member_type, sets_type, action_literal, written_action, written_actions, within_kinds, entity_kinds, entity_or_set_kinds, in_type, binary_type, has_type, attribute_type, get_type, tag_type, may_have_tags, is_string_type, has_tag_type, get_tag_type, unary_type, like_type, is_type_type, set_literal_type, record_literal_type, call_type}
+use Rattle.cedar_typechecker_model.specs.Whole.Rules.{Setting, known_truth, literal_type, var_type, slot_type, written_uid, written_equal, order_type, member_type, sets_type, action_literal, written_action, written_actions, within_kinds, entity_kinds, entity_or_set_kinds, in_type, binary_type, has_type, attribute_type, get_type, tag_type, may_have_tags, is_string_type, has_tag_type, get_tag_type, unary_type, like_type, is_type_type, set_literal_type, record_literal_type, signature_type, call_type}
 use Rattle.cedar_typechecker_model.specs.Whole.Typing.{Judgement, plain, tested, chosen, step_type, and_judged, or_judged, path_judged, binary_judged, choice_judged, judgement, judgements, field_judgements, type_under}
 use Rattle.cedar_typechecker_model.specs.Whole.Verdicts.{in_mode}
-use Rattle.cedar_typechecker_seen_model.specs.Alike.{AnswersAlike}
+use Rattle.cedar_typechecker_seen_model.specs.Alike.{AnswersAlike, HasSameSignatures}
 use Rattle.cedar_typechecker_seen_model.proofs.Alike.Schemas.{same_declares_type, same_declares_action, same_action_descends, same_may_be_in, same_lookup, same_may_have, same_tags}
 use Rattle.cedar_typechecker_model.proofs.Whole.Named.{equal_type}
 
-module _ (s t : Schema) (m : AnswersAlike s t) (mode : Mode) (x : Table) (e : Environment) where
+module _ (s t : Schema) (m : AnswersAlike s t) (mode : Mode) (x z : Table) (q : HasSameSignatures x z) (e : Environment) where
   abbrev pub first : Setting
   first = in_mode mode s x e
 
   abbrev pub second : Setting
-  second = in_mode mode t x e
+  second = in_mode mode t z e
 
   same_literal : (p : Literal) → literal_type first p ≡ literal_type second p
   same_literal (truth b) = refl
@@ -61,7 +61,7 @@ module _ (s t : Schema) (m : AnswersAlike s t) (mode : Mode) (x : Table) (e : En
 
   same_order : (y z : Ty) → order_type first y z ≡ order_type second y z
   same_order long_type long_type = refl
-  same_order (extension_type k) (extension_type l) = refl
+  same_order (extension_type k) (extension_type l) = λ i. if name_eq k l && list_any (name_eq k) (q.ordered i) then Some (bool_type any_bool) else None
   same_order y z = refl
 
   same_member : (y z : Ty) → member_type first y z ≡ member_type second y z
@@ -150,7 +150,7 @@ module _ (s t : Schema) (m : AnswersAlike s t) (mode : Mode) (x : Table) (e : En
   same_choice one two y f = refl
 
   same_call : (n : Name) (ts : Trees) (us : List Ty) → call_type first n ts us ≡ call_type second n ts us
-  same_call n ts us = refl
+  same_call n ts us = λ i. option_and_then (signature_type first ts us) (find (λ s. name_eq n s.name) (q.functions i))
 
   mutual
     pub same_judgement : (known : Facts) (a : Tree) → judgement first known a ≡ judgement second known a
