@@ -2,3 +2,4 @@ pub mod Found
 pub mod Reaching
 pub mod Above
 pub mod Answers
+pub mod Asked

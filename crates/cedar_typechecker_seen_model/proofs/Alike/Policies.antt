@@ -1,5 +1,5 @@
 -- Policies by schemas that answer alike.
-use Rattle.std.proofs.Common.{◌≡◌, ◌↔◌, ◌∙◌, ℕ, Bool, true, ◌&&◌, List, [], ◌∷◌, ◌++◌, Option, Some, None, refl, sym, ap, subst}
+use Rattle.std.proofs.Common.{◌≡◌, ◌∙◌, ℕ, Bool, true, ◌&&◌, List, [], ◌∷◌, ◌++◌, Some, refl, sym, ap, subst}
 use Rattle.std.specs.Prelude.{Contains, map}
 use Rattle.std.specs.List.{list_all, filter, flat_map}
 use Rattle.cedar_expr_model.specs.Name.{Name}
@@ -7,12 +7,11 @@ use Rattle.cedar_expr_model.specs.Whole.Lists.{is_nil}
 use Rattle.cedar_expr_model.specs.Whole.Table.{Table}
 use Rattle.cedar_expr_model.proofs.Lists.{contains_head, contains_tail, contains_cases, map_has, map_from, filter_has, filter_only, all_each, all_from, flat_from, flat_has}
 use Rattle.cedar_store_model.specs.Whole.Policy.{Policy, condition}
-use Rattle.cedar_schema_model.specs.Whole.Environment.{Environment, SlotUse, no_slot, equal_slot, in_slot, environments, types_above, slot_types, with_slots, environments_for}
+use Rattle.cedar_schema_model.specs.Whole.Environment.{Environment, SlotUse, no_slot, equal_slot, in_slot, environments, types_above, slot_types, with_slots}
 use Rattle.cedar_schema_model.specs.Whole.Schema.{Schema}
-use Rattle.cedar_schema_model.specs.Whole.Types.{Ty, Mode, strict}
+use Rattle.cedar_schema_model.specs.Whole.Types.{Mode, strict}
 use Rattle.cedar_schema_model.proofs.Whole.Named.{linked}
 use Rattle.cedar_typechecker_model.specs.Whole.Facts.{no_facts}
-use Rattle.cedar_typechecker_model.specs.Whole.Levels.{Violation}
 use Rattle.cedar_typechecker_model.specs.Whole.Typing.{type_of}
 use Rattle.cedar_typechecker_model.specs.Whole.Verdicts.{scope_use, policy_environments, in_mode, is_bool, is_false, fits, RequestType, is_of_request, passes_in, is_warned, impossible, irrelevant_for, violations_in, policy_violations_in}
 use Rattle.cedar_typechecker_seen_model.specs.Alike.{AnswersAlike, HasSameSignatures}

@@ -1,6 +1,6 @@
 -- What schemas that answer alike say of types and in the scope rules.
-use Rattle.std.proofs.Common.{◌≡◌, ◌↔◌, Bool, true, ◌||◌, not, List, Option, Some, None, is_some, refl, sym, inl, inr}
-use Rattle.std.specs.Prelude.{Contains, option_and_then}
+use Rattle.std.proofs.Common.{◌≡◌, Bool, true, ◌||◌, not, List, Option, Some, None, is_some, refl, sym}
+use Rattle.std.specs.Prelude.{option_and_then}
 use Rattle.std.specs.Bool.{one_answer}
 use Rattle.std.specs.List.{list_any, list_all}
 use Rattle.cedar_expr_model.specs.Name.{Text, Name, name_eq}
@@ -12,7 +12,7 @@ use Rattle.cedar_schema_model.specs.Whole.Schema.{Schema, declares_type, declare
 use Rattle.cedar_schema_model.specs.Whole.Descent.{action_descends}
 use Rattle.cedar_schema_model.specs.Whole.Lookup.{declared_by_all, lookup_attribute, may_have_attribute}
 use Rattle.cedar_typechecker_model.specs.Whole.Rules.{may_be_in, tags_of}
-use Rattle.cedar_typechecker_model.specs.Whole.ScopeRules.{is_known_type, is_no_unknown_action, is_no_unknown_member, policy_kinds, policy_uids, names_known_types, names_known_actions, names_known_members}
+use Rattle.cedar_typechecker_model.specs.Whole.ScopeRules.{is_known_type, is_no_unknown_action, policy_kinds, policy_uids, names_known_types, names_known_actions, names_known_members}
 use Rattle.cedar_typechecker_seen_model.specs.Alike.{AnswersAlike}
 
 pub alike_back : (s t : Schema) → AnswersAlike s t → AnswersAlike t s

@@ -1,5 +1,5 @@
 -- What is kept of a schema is closed: what stands above in it is what descends in the schema.
-use Rattle.std.proofs.Common.{◌≡◌, ◌↔◌, ◌∙◌, List, [], ◌∷◌, map, refl, sym, ap, subst}
+use Rattle.std.proofs.Common.{◌≡◌, ◌∙◌, sym, subst}
 use Rattle.std.specs.Prelude.{Contains}
 use Rattle.std.specs.List.{list_any, filter}
 use Rattle.cedar_expr_model.specs.Name.{Name, name_eq}
@@ -10,7 +10,7 @@ use Rattle.cedar_schema_model.specs.Whole.Schema.{EntityType, Action, Schema}
 use Rattle.cedar_schema_model.specs.Whole.Descent.{type_names, action_uids, HasParent, HasActionParent, Descends, ActionDescends}
 use Rattle.cedar_schema_model.proofs.Whole.Decls.Descent.{reaches_on}
 use Rattle.cedar_schema_kept_model.specs.Kept.{KeptType, KeptAction, Kept, kept_ancestors, kept_action_ancestors}
-use Rattle.cedar_schema_kept_model.specs.KeptOf.{IsSameType, IsSameAction, IsKeptOf}
+use Rattle.cedar_schema_kept_model.specs.KeptOf.{IsKeptOf}
 use Rattle.cedar_typechecker_seen_model.specs.Seen.{names_kept, uids_kept, IsClosed}
 
 module _ (s : Schema) (k : Kept) (h : IsKeptOf s k) where

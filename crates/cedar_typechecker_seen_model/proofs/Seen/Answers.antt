@@ -1,30 +1,29 @@
 -- A schema as it is seen answers as the schema of which it is kept.
-use Rattle.std.proofs.Common.{◌≡◌, ◌↔◌, ◌∙◌, List, [], ◌∷◌, map, Bool, true, false, not, ◌&&◌, Option, Some, None, option_map, is_some, refl, sym, ap, subst, inl, inr, ⊎_elim}
-use Rattle.std.specs.Prelude.{Contains, option_and_then}
+use Rattle.std.proofs.Common.{◌≡◌, ◌↔◌, ◌∙◌, List, Bool, true, false, not, ◌&&◌, Option, Some, None, is_some, refl, sym, ap, subst, inl, inr, ⊎_elim}
+use Rattle.std.specs.Prelude.{Contains}
 use Rattle.std.specs.Bool.{one_answer}
-use Rattle.std.specs.List.{list_any, filter}
+use Rattle.std.specs.List.{list_any}
 use Rattle.std.specs.Option.{option_map_or}
 use Rattle.std.specs.Str.{bytes_eq}
-use Rattle.std.proofs.lemmas.Slice.Eq.{bytes_eq-Decides}
 use Rattle.cedar_expr_model.specs.Name.{Text, Name, name_eq}
 use Rattle.cedar_expr_model.specs.Uid.{Uid}
-use Rattle.cedar_expr_model.proofs.Lists.{map_has, map_from, filter_has, filter_only, any_has, any_from, found-Decides}
-use Rattle.cedar_schema_model.specs.Whole.Types.{Attributes, attribute_named, record_type, is_closed}
+use Rattle.cedar_expr_model.proofs.Lists.{map_has, map_from, filter_has, filter_only, any_has, any_from}
+use Rattle.cedar_schema_model.specs.Whole.Types.{attribute_named}
 use Rattle.cedar_schema_model.specs.Whole.Schema.{EntityKind, standard, enumerated, external, EntityType, Action, Schema, type_named, declares_type, declares_action}
 use Rattle.cedar_schema_model.specs.Whole.Descent.{type_names, action_uids, HasParent, HasActionParent, Descends, descends, ActionDescends, action_descends, type_descends}
-use Rattle.cedar_schema_model.specs.Whole.DeclLaws.{ActionTypeDescends, TypeDescends, IsProduct}
+use Rattle.cedar_schema_model.specs.Whole.DeclLaws.{TypeDescends, IsProduct}
 use Rattle.cedar_schema_model.specs.Whole.Conforming.{of_kind, attributes_at, tags_at}
 use Rattle.cedar_schema_model.specs.Whole.Environment.{Environment, environment_at, environments, types_above}
 use Rattle.cedar_schema_model.specs.Whole.Lookup.{declared_of}
 use Rattle.cedar_schema_model.proofs.Whole.Decls.Descent.{chain_starts, descends-Decides, action_descends-Decides, type_descends-Decides}
 use Rattle.cedar_schema_model.proofs.Whole.Decls.Environments.{products}
 use Rattle.cedar_schema_kept_model.specs.Kept.{KeptType, KeptAction, Kept, kept_type, kept_action}
-use Rattle.cedar_schema_kept_model.specs.KeptOf.{IsSameKind, IsSameType, IsSameAction, IsKeptOf}
+use Rattle.cedar_schema_kept_model.specs.KeptOf.{IsSameKind, IsSameAction, IsKeptOf}
 use Rattle.cedar_schema_kept_model.specs.Laws.{TypesAreDeclared, ActionsAreDeclared, TypesAreFound}
 use Rattle.cedar_typechecker_model.specs.Whole.Rules.{tags_of}
 use Rattle.cedar_typechecker_model.specs.Whole.ScopeRules.{is_action_type, has_id, is_no_unknown_member}
 use Rattle.cedar_typechecker_seen_model.specs.Alike.{AnswersAlike, DescendsToDeclared}
-use Rattle.cedar_typechecker_seen_model.specs.Seen.{context_of, type_seen, action_seen, schema_seen, names_kept, uids_kept, IsClosed}
+use Rattle.cedar_typechecker_seen_model.specs.Seen.{context_of, type_seen, action_seen, schema_seen, IsClosed}
 use Rattle.cedar_typechecker_seen_model.proofs.Alike.Schemas.{same_test}
 use Rattle.cedar_typechecker_seen_model.proofs.Seen.Found.{type_found, action_found, type_names_seen, action_uids_seen, some_seen, then_there, by_kind}
 use Rattle.cedar_typechecker_seen_model.proofs.Seen.Reaching.{descends_above, action_descends_above}

@@ -1,11 +1,10 @@
 -- What is found in a schema as it is seen is what is kept.
-use Rattle.std.proofs.Common.{◌≡◌, ◌∙◌, List, [], ◌∷◌, map, Bool, true, false, cond, Option, Some, None, option_map, is_some, refl, sym, ap, subst}
-use Rattle.std.specs.Prelude.{Contains, option_and_then}
+use Rattle.std.proofs.Common.{◌≡◌, ◌∙◌, List, [], ◌∷◌, map, Bool, true, false, cond, Option, Some, None, option_map, is_some, refl, ap}
+use Rattle.std.specs.Prelude.{option_and_then}
 use Rattle.std.specs.List.{find}
 use Rattle.std.specs.Option.{option_map_or}
 use Rattle.cedar_expr_model.specs.Name.{Name, name_eq}
 use Rattle.cedar_expr_model.specs.Uid.{Uid, uid_eq}
-use Rattle.cedar_expr_model.proofs.Lists.{map_has, map_from}
 use Rattle.cedar_schema_model.specs.Whole.Schema.{EntityKind, EntityType, Action, type_named, action_with}
 use Rattle.cedar_schema_model.specs.Whole.Descent.{type_names, action_uids}
 use Rattle.cedar_schema_kept_model.specs.Kept.{KeptType, KeptAction, Kept, kept_type, kept_action}

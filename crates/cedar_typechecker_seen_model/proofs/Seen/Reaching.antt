@@ -1,5 +1,5 @@
 -- Descent in a schema as it is seen is one step, where what is kept is closed.
-use Rattle.std.proofs.Common.{◌≡◌, ◌↔◌, ◌∙◌, List, [], ◌∷◌, map, Bool, refl, sym, ap, subst}
+use Rattle.std.proofs.Common.{◌≡◌, ◌↔◌, ◌∙◌, List, [], ◌∷◌, sym, ap, subst}
 use Rattle.std.specs.Prelude.{Contains}
 use Rattle.std.specs.Bool.{one_answer}
 use Rattle.std.specs.List.{list_any}
@@ -8,7 +8,7 @@ use Rattle.cedar_expr_model.specs.Uid.{Uid, uid_eq}
 use Rattle.cedar_expr_model.proofs.Equality.{name_eq-Decides, uid_eq-Decides}
 use Rattle.cedar_expr_model.proofs.Lists.{map_has, map_from, found-Decides}
 use Rattle.cedar_schema_model.specs.Whole.Schema.{EntityType, Action}
-use Rattle.cedar_schema_model.specs.Whole.Descent.{Chain, Reaches, HasParent, HasActionParent, Descends, descends, ActionDescends, action_descends}
+use Rattle.cedar_schema_model.specs.Whole.Descent.{Chain, HasParent, HasActionParent, Descends, descends, ActionDescends, action_descends}
 use Rattle.cedar_schema_model.proofs.Whole.Decls.Descent.{descends-Decides, action_descends-Decides}
 use Rattle.cedar_schema_kept_model.specs.Kept.{KeptType, KeptAction, Kept, kept_ancestors, kept_action_ancestors}
 use Rattle.cedar_typechecker_seen_model.specs.Seen.{type_seen, action_seen, schema_seen, names_kept, uids_kept, IsClosed}
