@@ -1,11 +1,13 @@
--- What is asked of what is kept: whether one descends from another, and which types of actions descend from which.
--- Rule: descent (docs/RULES.md).
-use Rattle.std.specs.Prelude.{List, map, Bool, false, ◌&&◌, not}
+-- What is asked of what is kept: whether one descends from another, which types of actions descend from which, and the environments.
+-- Rule: descent; environments (docs/RULES.md).
+use Rattle.std.specs.Prelude.{List, map, Bool, false, ◌&&◌, not, None}
 use Rattle.std.specs.List.{list_any, filter, flat_map}
 use Rattle.std.specs.Option.{option_map_or}
 use Rattle.cedar_expr_model.specs.Name.{Name, name_eq}
 use Rattle.cedar_expr_model.specs.Uid.{Uid, uid_eq}
+use Rattle.cedar_schema_model.specs.Whole.Environment.{Environment}
 use Rattle.cedar_schema_kept_model.specs.Kept.{KeptAction, Kept, kept_type, kept_action, kept_ancestors}
+use Rattle.cedar_typechecker_seen_model.specs.Seen.{context_of}
 
 -- the first is one of those that descend from the second
 abbrev pub type_is_below : Kept → Name → Name → Bool
@@ -36,3 +38,13 @@ is_kind as_ n = list_any (λ a. name_eq n a.uid.kind) as_
 -- the other entity types that one descends from
 abbrev pub others_above : Kept → Name → List Name
 others_above k n = filter (λ m. not (name_eq m n)) (kept_ancestors k n)
+
+-- the environments of an action: each of its types of principals with each of its types of resources
+abbrev pub environment_kept : KeptAction → Name → Name → Environment
+environment_kept a p r = record { principal = p; action = a.uid; resource = r; context = context_of a.context; principal_slot = None; resource_slot = None }
+
+abbrev pub environments_with : KeptAction → Name → List Environment
+environments_with a p = map (environment_kept a p) a.applied.resources
+
+abbrev pub environments_kept : KeptAction → List Environment
+environments_kept a = flat_map (environments_with a) a.applied.principals

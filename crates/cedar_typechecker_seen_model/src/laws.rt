@@ -1,7 +1,7 @@
 //! Schemas that answer alike type alike. Each function's contract is the theorem; its body does nothing, or calls the laws that it stands on.
 
 ghost use Rattle.cedar_typechecker_seen_model.specs.Laws.{TypesAreAlike, CountsAreAlike, EnvironmentsAreAlike, PassingIsAlike, WarningsAreAlike, ImpossibleIsAlike, IrrelevantIsAlike, ViolationsAreAlike, LevelsAreAlike, KnownTypesAreAlike, KnownActionsAreAlike, KnownMembersAreAlike};
-ghost use Rattle.cedar_typechecker_seen_model.specs.AskedLaws.{TypesAreAsked, ActionsAreAsked, OthersAreAsked, KindsAreAsked};
+ghost use Rattle.cedar_typechecker_seen_model.specs.AskedLaws.{TypesAreAsked, ActionsAreAsked, OthersAreAsked, KindsAreAsked, EnvironmentsAreAsked};
 ghost use Rattle.cedar_typechecker_seen_model.specs.SeenLaws.{KeptAreClosed, SeenAnswerAlike, DeclaredDescend, DeclaredAnswerAlike};
 
 use cedar_schema_kept_model::laws::declarations_are_kept;
@@ -45,10 +45,12 @@ pub fn seen_schemas_answer_alike()
     declarations_are_kept();
 }
 
-/// Where what is kept is closed, and nothing is kept twice, one step answers what descends from what.
+/// Where what is kept is closed, and nothing is kept twice, one step answers what descends from what. The environments
+/// are those of the kept actions.
 pub fn what_is_kept_is_asked()
     ensures types { TypesAreAsked }
     ensures actions { ActionsAreAsked }
     ensures others { OthersAreAsked }
     ensures kinds { KindsAreAsked }
+    ensures environments { EnvironmentsAreAsked }
 {}

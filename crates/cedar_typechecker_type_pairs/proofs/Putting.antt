@@ -10,7 +10,9 @@ use Rattle.std.specs.Rc.{rc_str_bytes}
 use Rattle.std.specs.Str.{bytes_eq}
 use Rattle.std.proofs.lemmas.Map.Text.{is_eq-slice_cmp}
 use Rattle.std.proofs.lemmas.Slice.Eq.{bytes_eq-Decides}
-use Rattle.cedar_expr_model.specs.Name.{name_eq}
+use Rattle.std.specs.Bool.{one_answer}
+use Rattle.cedar_expr_model.specs.Name.{Name, name_eq}
+use Rattle.cedar_expr_model.proofs.Equality.{name_eq-Decides}
 use Rattle.cedar_expr_names.specs.Views.{type_name_of}
 use Rattle.cedar_expr_names.specs.declared.entity.EntityType.{EntityType}
 use Rattle.cedar_expr_names.proofs.Equality.{names_eq_is}
@@ -19,8 +21,11 @@ use Rattle.cedar_typechecker_type_pairs.specs.Pairs.{types_by}
 same_bytes : (s t : EntityType) → is_at (types_by s) t ≡ bytes_eq (rc_str_bytes s.0.internal.text) (rc_str_bytes t.0.internal.text)
 same_bytes s t = is_eq-slice_cmp (rc_str_bytes s.0.internal.text) (rc_str_bytes t.0.internal.text)
 
-same_at : (s t : EntityType) → is_at (types_by s) t ≡ name_eq (type_name_of s) (type_name_of t)
-same_at s t = same_bytes s t ∙ names_eq_is s.0.internal t.0.internal
+swapped : (m n : Name) → name_eq m n ≡ name_eq n m
+swapped m n = one_answer _ _ (λ e. sym ((name_eq-Decides m n).0 e), λ e. (name_eq-Decides m n).1 (sym e)) (name_eq-Decides n m)
+
+same_at : (s t : EntityType) → is_at (types_by s) t ≡ name_eq (type_name_of t) (type_name_of s)
+same_at s t = same_bytes s t ∙ names_eq_is s.0.internal t.0.internal ∙ swapped (type_name_of s) (type_name_of t)
 
 abbrev pub Row : Type 0
 Row = BTreeSet EntityType
@@ -40,13 +45,13 @@ one_more false b = refl
 
 pub pair_put : (m : BTreeMap EntityType Row) (new : EntityType → Option Row) (first second : EntityType) (row : Row) → ((q : EntityType) → new q ≡ cond (is_at (types_by first) q) (Some row) (get types_by m q))
     → ((r : EntityType) → contains types_by row r ≡ cond (is_at (types_by second) r) true (row_has (get types_by m first) r))
-    → (q r : EntityType) → row_has (new q) r ≡ ((name_eq (type_name_of first) (type_name_of q) && name_eq (type_name_of second) (type_name_of r)) || row_has (get types_by m q) r)
+    → (q r : EntityType) → row_has (new q) r ≡ ((name_eq (type_name_of q) (type_name_of first) && name_eq (type_name_of r) (type_name_of second)) || row_has (get types_by m q) r)
 pair_put m new first second row news more q r =
     ap (λ o. row_has o r) (news q)
     ∙ go (is_at (types_by first) q) refl
-    ∙ ap (λ b. (b && name_eq (type_name_of second) (type_name_of r)) || row_has (get types_by m q) r) (same_at first q)
+    ∙ ap (λ b. (b && name_eq (type_name_of r) (type_name_of second)) || row_has (get types_by m q) r) (same_at first q)
   where
-    go : (b : Bool) → is_at (types_by first) q ≡ b → row_has (cond b (Some row) (get types_by m q)) r ≡ ((b && name_eq (type_name_of second) (type_name_of r)) || row_has (get types_by m q) r)
+    go : (b : Bool) → is_at (types_by first) q ≡ b → row_has (cond b (Some row) (get types_by m q)) r ≡ ((b && name_eq (type_name_of r) (type_name_of second)) || row_has (get types_by m q) r)
     go true e = more r ∙ one_more (is_at (types_by second) r) (row_has (get types_by m first) r) ∙ (λ i. same_at second r i || row_has (found_same m first q e i) r)
     go false e = refl
 

@@ -43,7 +43,7 @@ impl TypePairs {
         first: EntityType,
         second: EntityType,
     ) -> Result<(), AllocError>
-        ensures added { OnOk result ((q r : CodeType) → has_pair self.new q r ≡ ((name_eq (type_name_of first) (type_name_of q) && name_eq (type_name_of second) (type_name_of r)) || has_pair self.old q r)) }
+        ensures added { OnOk result ((q r : CodeType) → has_pair self.new q r ≡ ((name_eq (type_name_of q) (type_name_of first) && name_eq (type_name_of r) (type_name_of second)) || has_pair self.old q r)) }
         ensures kept { OnErr result ((q r : CodeType) → has_pair self.new q r ≡ has_pair self.old q r) }
     {
         if let Some(row) = self.rows.get_mut(&first) {

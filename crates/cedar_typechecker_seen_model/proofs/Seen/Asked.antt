@@ -1,5 +1,5 @@
 -- What is asked of what is kept is what a schema as it is seen answers.
-use Rattle.std.proofs.Common.{◌≡◌, ◌∙◌, List, [], ◌∷◌, map, Bool, true, false, cond, not, ◌&&◌, ◌||◌, Some, refl, sym, ap, subst, inl, inr}
+use Rattle.std.proofs.Common.{◌++◌, ◌≡◌, ◌∙◌, List, [], ◌∷◌, map, Bool, true, false, cond, not, ◌&&◌, ◌||◌, Some, refl, sym, ap, subst, inl, inr}
 use Rattle.std.specs.Prelude.{Contains}
 use Rattle.std.specs.Bool.{Decides, one_answer}
 use Rattle.std.specs.List.{list_any, filter, flat_map, find}
@@ -12,12 +12,13 @@ use Rattle.cedar_expr_model.proofs.Lists.{contains_head, contains_tail, contains
 use Rattle.cedar_schema_model.specs.Whole.BagLaws.{HasTwice}
 use Rattle.cedar_schema_model.specs.Whole.DeclLaws.{ActionTypeDescends}
 use Rattle.cedar_schema_model.specs.Whole.Descent.{action_uids, descends, action_descends, action_type_descends}
-use Rattle.cedar_schema_model.specs.Whole.Environment.{types_above}
+use Rattle.cedar_schema_model.specs.Whole.Environment.{environments, types_above}
+use Rattle.cedar_schema_model.proofs.Whole.Named.{environments_of}
 use Rattle.cedar_schema_model.proofs.Whole.Decls.Descent.{action_type_descends-Decides}
 use Rattle.cedar_schema_kept_model.specs.Kept.{KeptType, KeptAction, Kept, kept_action_ancestors}
 use Rattle.cedar_typechecker_model.specs.Whole.ScopeRules.{is_action_type}
-use Rattle.cedar_typechecker_seen_model.specs.Asked.{type_is_below, action_is_below, KindPair, pairs_of, is_pair, kind_is_below, is_kind, others_above}
-use Rattle.cedar_typechecker_seen_model.specs.Seen.{schema_seen, uids_kept, IsClosed, IsKeptOnce}
+use Rattle.cedar_typechecker_seen_model.specs.Asked.{type_is_below, action_is_below, KindPair, pairs_of, is_pair, kind_is_below, is_kind, others_above, environments_kept}
+use Rattle.cedar_typechecker_seen_model.specs.Seen.{action_seen, schema_seen, uids_kept, IsClosed, IsKeptOnce}
 use Rattle.cedar_typechecker_seen_model.proofs.Seen.Found.{type_names_seen, action_uids_seen}
 use Rattle.cedar_typechecker_seen_model.proofs.Seen.Reaching.{descends_one, action_descends_one, action_descends_above}
 
@@ -163,3 +164,11 @@ module _ (k : Kept) (h : IsClosed k) where
       let a = pair-Decides m n in
       let b = action_type_descends-Decides (schema_seen k) m n in
       one_answer _ _ (λ e. pair_from m n (a.0 e), λ c. a.1 (pair_there m n c)) b
+
+-- environments
+pub environments_asked : (k : Kept) → flat_map environments_kept k.actions ≡ environments (schema_seen k)
+environments_asked k = go k.actions
+  where
+    go : (as_ : List KeptAction) → flat_map environments_kept as_ ≡ flat_map environments_of (map (action_seen k) as_)
+    go [] = refl
+    go (a ∷ as_) = ap (λ es. environments_kept a ++ es) (go as_)

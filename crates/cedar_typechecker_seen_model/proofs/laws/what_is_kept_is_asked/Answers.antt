@@ -1,5 +1,5 @@
 use Rattle.std.proofs.Common.{◌||◌}
-use Rattle.cedar_typechecker_seen_model.proofs.Seen.Asked.{type_asked, action_asked, others_asked, kind_asked, kinds_asked}
+use Rattle.cedar_typechecker_seen_model.proofs.Seen.Asked.{type_asked, action_asked, others_asked, kind_asked, kinds_asked, environments_asked}
 use Rattle.cedar_typechecker_seen_model.proofs.laws.what_is_kept_is_asked.Goals as goal
 
 pub returns-clause-types : goal.returns-clause-types
@@ -13,3 +13,6 @@ returns-clause-others c = others_asked
 
 pub returns-clause-kinds : goal.returns-clause-kinds
 returns-clause-kinds c = kind_asked
+
+pub returns-clause-environments : goal.returns-clause-environments
+returns-clause-environments c = environments_asked
