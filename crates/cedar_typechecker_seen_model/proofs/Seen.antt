@@ -3,3 +3,4 @@ pub mod Reaching
 pub mod Above
 pub mod Answers
 pub mod Asked
+pub mod Told

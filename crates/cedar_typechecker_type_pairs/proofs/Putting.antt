@@ -24,7 +24,7 @@ same_bytes s t = is_eq-slice_cmp (rc_str_bytes s.0.internal.text) (rc_str_bytes 
 swapped : (m n : Name) → name_eq m n ≡ name_eq n m
 swapped m n = one_answer _ _ (λ e. sym ((name_eq-Decides m n).0 e), λ e. (name_eq-Decides m n).1 (sym e)) (name_eq-Decides n m)
 
-same_at : (s t : EntityType) → is_at (types_by s) t ≡ name_eq (type_name_of t) (type_name_of s)
+pub same_at : (s t : EntityType) → is_at (types_by s) t ≡ name_eq (type_name_of t) (type_name_of s)
 same_at s t = same_bytes s t ∙ names_eq_is s.0.internal t.0.internal ∙ swapped (type_name_of s) (type_name_of t)
 
 abbrev pub Row : Type 0
@@ -39,7 +39,7 @@ found_same m s t h =
 abbrev pub row_has : Option Row → EntityType → Bool
 row_has o r = option_map_or (λ row. contains types_by row r) o false
 
-one_more : (t b : Bool) → cond t true b ≡ (t || b)
+pub one_more : (t b : Bool) → cond t true b ≡ (t || b)
 one_more true b = refl
 one_more false b = refl
 
