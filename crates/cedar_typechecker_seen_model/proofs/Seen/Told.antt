@@ -1,20 +1,23 @@
 -- What a look-up of what is kept tells of the schema as it is seen.
-use Rattle.std.proofs.Common.{◌≡◌, ◌∙◌, List, Bool, true, false, ◌||◌, Option, Some, None, option_map, is_some, refl, sym, ap}
-use Rattle.std.specs.Prelude.{option_and_then}
-use Rattle.std.specs.List.{list_any}
+use Rattle.std.proofs.Common.{◌≡◌, ◌∙◌, List, [], ◌∷◌, map, Bool, true, false, cond, not, ◌||◌, Option, Some, None, option_map, is_some, refl, sym, ap}
+use Rattle.std.specs.Prelude.{Contains, option_and_then}
+use Rattle.std.specs.List.{list_any, filter, find}
 use Rattle.std.specs.Option.{option_map_or}
 use Rattle.cedar_expr_model.specs.Name.{Text, Name, name_eq}
 use Rattle.cedar_expr_model.specs.Uid.{Uid, uid_eq}
+use Rattle.cedar_expr_model.proofs.Equality.{name_eq-Decides}
+use Rattle.cedar_expr_model.proofs.Lists.{contains_head, contains_cases, contains_none}
 use Rattle.cedar_schema_model.specs.Whole.Conforming.{of_kind, attributes_at, tags_at}
 use Rattle.cedar_schema_model.specs.Whole.Descent.{type_descends, action_descends}
+use Rattle.cedar_schema_model.specs.Whole.Environment.{types_above}
 use Rattle.cedar_schema_model.specs.Whole.Schema.{EntityType, Action, type_named, declares_type, declares_action}
 use Rattle.cedar_schema_model.specs.Whole.Types.{Ty, Attributes}
-use Rattle.cedar_schema_kept_model.specs.Kept.{KeptType, KeptAction, Kept, kept_type, kept_action}
+use Rattle.cedar_schema_kept_model.specs.Kept.{KeptType, KeptAction, Kept, kept_type, kept_action, kept_ancestors}
 use Rattle.cedar_typechecker_model.specs.Whole.Rules.{tags_of}
 use Rattle.cedar_typechecker_model.specs.Whole.ScopeRules.{has_id, is_no_unknown_member}
 use Rattle.cedar_typechecker_seen_model.specs.Asked.{type_is_below, action_is_below, kind_is_below}
 use Rattle.cedar_typechecker_seen_model.specs.Seen.{type_seen, action_seen, schema_seen, IsClosed, IsKeptOnce}
-use Rattle.cedar_typechecker_seen_model.proofs.Seen.Asked.{type_asked, action_asked, kinds_asked}
+use Rattle.cedar_typechecker_seen_model.proofs.Seen.Asked.{type_asked, action_asked, others_asked, kinds_asked}
 use Rattle.cedar_typechecker_seen_model.proofs.Seen.Found.{type_found, action_found, some_seen, then_there, by_kind}
 
 module _ {A : Type 0} (k : Kept) where
@@ -72,3 +75,36 @@ action_below_none k h o u v e = ap (λ o. option_map_or (λ (a : KeptAction). li
 -- of types, or by way of actions
 pub descends_either : (k : Kept) → IsClosed k → IsKeptOnce k → (m n : Name) → (type_is_below k m n || kind_is_below k.actions m n) ≡ type_descends (schema_seen k) m n
 descends_either k h o m n = λ i. type_asked k h o m n i || kinds_asked k h m n i
+
+-- what isn't declared has nothing above it
+name_found : (n : Name) (ts : List KeptType) → Contains (map (λ (t : KeptType). t.name) ts) n → is_some (find (λ (t : KeptType). name_eq n t.name) ts) ≡ true
+name_found n [] c = absurd (contains_none n c)
+name_found n (t ∷ ts) c =
+    contains_cases (is_some (find (λ (t : KeptType). name_eq n t.name) (t ∷ ts)) ≡ true) t.name (map (λ (t : KeptType). t.name) ts) n c
+    (λ e. ap (λ b. is_some (cond b (Some t) (find (λ (t : KeptType). name_eq n t.name) ts))) ((name_eq-Decides n t.name).1 (sym e)))
+    (λ d. go (name_eq n t.name) (name_found n ts d))
+  where
+    go : (b : Bool) → is_some (find (λ (t : KeptType). name_eq n t.name) ts) ≡ true → is_some (cond b (Some t) (find (λ (t : KeptType). name_eq n t.name) ts)) ≡ true
+    go true h = refl
+    go false h = h
+
+without_members : {A : Type 0} (xs : List A) → ((x : A) → Contains xs x → ⊥) → [] ≡ xs
+without_members [] h = refl
+without_members (x ∷ xs) h = absurd (h x (contains_head x xs))
+
+pub none_above : (k : Kept) → IsClosed k → IsKeptOnce k → (n : Name) → None ≡ kept_type k n → [] ≡ types_above (schema_seen k) n
+none_above k h o n e =
+    ap (filter (λ m. not (name_eq m n))) (without_members (kept_ancestors k n) (λ m c. apart (ap is_some e ∙ name_found n k.types (h.types_there n m c))))
+    ∙ others_asked k h o n
+  where
+    apart : false ≡ true → ⊥
+    apart q = cc
+
+-- what is found of a look-up that is mapped
+pub found_is : {A B : Type 0} (b : B) (x : B) (o : Option A) → Some x ≡ option_map (λ (a : A). b) o → x ≡ b
+found_is b x None h = absurd (cc)
+found_is b x (Some a) h = cc
+
+pub none_is : {A B : Type 0} (b : B) (o : Option A) → None ≡ option_map (λ (a : A). b) o → None ≡ o
+none_is b None h = refl
+none_is b (Some a) h = absurd (cc)
