@@ -1,11 +1,13 @@
 //! What typing asks.
 
-ghost use Rattle.std.specs.Prelude.{◌≡◌};
+ghost use Rattle.std.specs.Prelude.{◌≡◌, ◌||◌};
 ghost use Rattle.std.specs.List.{list_any};
+ghost use Rattle.std.specs.Slice.Iter.{iter_rest};
 ghost use Rattle.cedar_expr_model.specs.Name.{name_eq};
 ghost use Rattle.cedar_expr_functions.specs.Tables.{ordered_of};
 ghost use Rattle.cedar_expr_names.specs.Views.{plain_name_of, type_name_of};
 ghost use Rattle.cedar_schema_built.specs.Views.{schema_kept};
+ghost use Rattle.cedar_typechecker_actions.specs.Types.{descends_by_actions};
 ghost use Rattle.cedar_typechecker_schemas.specs.Views.{schema_of, table_seen};
 ghost use Rattle.cedar_typechecker_seen_model.specs.Asked.{type_is_below};
 
@@ -17,6 +19,7 @@ use cedar_schema_built::ValidatorSchema;
 use cedar_schema_types::{Attributes, Type};
 use cedar_typechecker_environments::{FunctionSignature, TypingSchema};
 use std::alloc::AllocError;
+use std::slice::Iter;
 
 impl DeclaredAttributes for SchemaAndFunctions<'_> {
     ghost schema = { schema_of };
@@ -41,7 +44,7 @@ impl TypingSchema for SchemaAndFunctions<'_> {
     }
 
     fn type_descends(&self, ty: &EntityType, above: &EntityType) -> bool {
-        is_below(self.schema, ty, above) || self.action_types.descends(ty, above)
+        self.is_type_below(ty, above)
     }
 
     fn action_descends(&self, uid: &EntityUID, above: &EntityUID) -> bool {
@@ -76,6 +79,15 @@ impl TypingSchema for SchemaAndFunctions<'_> {
     }
 }
 
+impl SchemaAndFunctions<'_> {
+    // Whether the first type descends from the second as an entity type, or an action of it from one of the second.
+    fn is_type_below(&self, ty: &EntityType, above: &EntityType) -> bool
+        ensures { result ≡ (type_is_below (schema_kept self.now.schema.now) (type_name_of ty.now) (type_name_of above.now) || descends_by_actions self.now.action_types ty.now above.now) }
+    {
+        is_below(self.schema, ty, above) || self.action_types.descends(ty, above)
+    }
+}
+
 // Whether the first entity type is one of those that descend from the second.
 fn is_below(schema: &ValidatorSchema, ty: &EntityType, above: &EntityType) -> bool
     ensures { result ≡ type_is_below (schema_kept schema.now) (type_name_of ty.now) (type_name_of above.now) }
@@ -86,14 +98,16 @@ fn is_below(schema: &ValidatorSchema, ty: &EntityType, above: &EntityType) -> bo
     }
 }
 
-// Whether the type is one of those of which the table orders the values.
+// Whether the table orders the values of this type.
 fn is_ordered_in(functions: &Extensions<'_>, name: &Name) -> bool
     ensures { result ≡ list_any (name_eq (plain_name_of name.now)) (ordered_of functions.now) }
 {
-    for ordered in functions.types_with_operator_overloading() {
-        if name == *ordered {
-            return true;
-        }
-    }
-    false
+    is_among(functions.types_with_operator_overloading(), name)
+}
+
+// Whether the name is one of those that are left.
+fn is_among(mut names: Iter<'_, &Name>, name: &Name) -> bool
+    ensures { result ≡ list_any (λ n. name_eq (plain_name_of name.now) (plain_name_of n.now)) (iter_rest names.entry) }
+{
+    names.any(|n| name.same(n))
 }
