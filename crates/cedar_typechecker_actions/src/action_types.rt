@@ -58,10 +58,7 @@ impl ActionTypes {
 }
 
 // Puts the type of the action among the types. Answers want of memory.
-fn add_type(
-    types: &mut BTreeSet<EntityType>,
-    action: &ValidatorActionId,
-) -> Result<(), AllocError>
+fn add_type(types: &mut BTreeSet<EntityType>, action: &ValidatorActionId) -> Result<(), AllocError>
     ensures { OnOk result ((q : CodeType) → contains types_by types.new q ≡ (name_eq (type_name_of q) (action_seen action.now).uid.kind || contains types_by types.old q)) }
 {
     let ty = action.name().entity_type().clone()?;

@@ -1,21 +1,21 @@
 -- What a look-up of what is kept tells of the schema as it is seen.
 use Rattle.std.proofs.Common.{◌≡◌, ◌∙◌, List, [], ◌∷◌, map, Bool, true, false, cond, not, ◌||◌, Option, Some, None, option_map, is_some, refl, sym, ap}
-use Rattle.std.specs.Prelude.{Contains, option_and_then}
+use Rattle.std.specs.Prelude.{Contains}
 use Rattle.std.specs.List.{list_any, filter, find}
 use Rattle.std.specs.Option.{option_map_or}
-use Rattle.cedar_expr_model.specs.Name.{Text, Name, name_eq}
+use Rattle.cedar_expr_model.specs.Name.{Name, name_eq}
 use Rattle.cedar_expr_model.specs.Uid.{Uid, uid_eq}
 use Rattle.cedar_expr_model.proofs.Equality.{name_eq-Decides}
 use Rattle.cedar_expr_model.proofs.Lists.{contains_head, contains_cases, contains_none}
 use Rattle.cedar_schema_model.specs.Whole.Conforming.{of_kind, attributes_at, tags_at}
 use Rattle.cedar_schema_model.specs.Whole.Descent.{type_descends, action_descends}
 use Rattle.cedar_schema_model.specs.Whole.Environment.{types_above}
-use Rattle.cedar_schema_model.specs.Whole.Schema.{EntityType, Action, type_named, declares_type, declares_action}
-use Rattle.cedar_schema_model.specs.Whole.Types.{Ty, Attributes}
+use Rattle.cedar_schema_model.specs.Whole.Schema.{EntityType, type_named, declares_type, declares_action}
+use Rattle.cedar_schema_model.specs.Whole.Types.{Attributes}
 use Rattle.cedar_schema_kept_model.specs.Kept.{KeptType, KeptAction, Kept, kept_type, kept_action, kept_ancestors}
 use Rattle.cedar_typechecker_model.specs.Whole.Rules.{tags_of}
 use Rattle.cedar_typechecker_model.specs.Whole.ScopeRules.{has_id, is_no_unknown_member}
-use Rattle.cedar_typechecker_seen_model.specs.Asked.{type_is_below, action_is_below, kind_is_below}
+use Rattle.cedar_typechecker_seen_model.specs.Asked.{type_is_below, kind_is_below}
 use Rattle.cedar_typechecker_seen_model.specs.Seen.{type_seen, action_seen, schema_seen, IsClosed, IsKeptOnce}
 use Rattle.cedar_typechecker_seen_model.proofs.Seen.Asked.{type_asked, action_asked, others_asked, kinds_asked}
 use Rattle.cedar_typechecker_seen_model.proofs.Seen.Found.{type_found, action_found, some_seen, then_there, by_kind}
