@@ -6,9 +6,9 @@
 mod answers;
 mod evaluator;
 pub mod host;
-mod lines;
-mod output;
-mod printing;
+pub mod lines;
+pub mod output;
+pub mod printing;
 pub mod runs;
 pub mod service;
 pub mod session;

@@ -63,8 +63,8 @@ fn print_read(alloc: Global, bytes: &[u8], table: &ExtTable<'_>) -> Result<Print
     }
 }
 
-// What is printed for an input that doesn't read.
-fn print_unreadable(alloc: Global) -> Result<Printed, AllocError>
+/// What is printed for an input that doesn't read. Fails only for want of memory.
+pub fn print_unreadable(alloc: Global) -> Result<Printed, AllocError>
     ensures { IfOk result (λ p. (p.status ≡ Status.Unreadable) × (string_bytes p.text ≡ lines.unreadable_line)) }
 {
     let mut text = String::new(alloc);
@@ -73,8 +73,8 @@ fn print_unreadable(alloc: Global) -> Result<Printed, AllocError>
     Ok(Printed { status, text })
 }
 
-// What is printed for a bundle.
-fn print_bundle(alloc: Global, bundle: Bundle, table: &ExtTable<'_>) -> Result<Printed, AllocError>
+/// What is printed for a bundle of today's language. Fails only for want of memory.
+pub fn print_bundle(alloc: Global, bundle: Bundle, table: &ExtTable<'_>) -> Result<Printed, AllocError>
     requires typed { are_typed table.now ≡ true }
     requires plain { is_first_path bundle.fragments.items ≡ true }
     requires policies { list_all is_first_path_policy bundle.policies.items ≡ true }

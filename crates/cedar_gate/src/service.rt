@@ -44,8 +44,12 @@ impl ServeFault {
     }
 }
 
-// Reads all of an input.
-fn read_all<R: Read>(alloc: Global, reader: &mut R) -> Result<Vec<u8>, ServeFault>
+/// Reads all of an input.
+///
+/// # Errors
+///
+/// Want of memory, or a fault of the reader.
+pub fn read_all<R: Read>(alloc: Global, reader: &mut R) -> Result<Vec<u8>, ServeFault>
     ensures read { IfOk result (λ input. IfSome (R.remaining reader.old) (λ bytes. input.items ≡ bytes)) }
     ensures fault { IfErr result IsOfReading }
 {
