@@ -1,0 +1,4 @@
+pub mod Schemas
+pub mod Typing
+pub mod Levels
+pub mod Policies
