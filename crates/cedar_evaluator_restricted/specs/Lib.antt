@@ -1,0 +1,4 @@
+pub mod Alike
+pub mod Answers
+pub mod Lefts
+pub mod Restricted
