@@ -1,7 +1,6 @@
 -- What is kept is closed where its tests say so.
-use Rattle.std.proofs.Common.{◌≡◌}
-use Rattle.cedar_expr_model.specs.Name.{Name, name_eq}
-use Rattle.cedar_expr_model.specs.Uid.{Uid, uid_eq}
+use Rattle.cedar_expr_model.specs.Name.{name_eq}
+use Rattle.cedar_expr_model.specs.Uid.{uid_eq}
 use Rattle.cedar_expr_model.proofs.Equality.{name_eq-Decides, uid_eq-Decides}
 use Rattle.cedar_expr_model.proofs.Lists.{found-Decides}
 use Rattle.cedar_schema_kept_model.specs.Kept.{Kept, kept_ancestors, kept_action_ancestors}

@@ -1,6 +1,6 @@
 use Rattle.std.proofs.Common.{Some, ap, ◌∙◌}
-use Rattle.cedar_expr_names.specs.Views.{type_name_of, uid_of}
-use Rattle.cedar_schema_entries.specs.Views.{entity_type_seen, action_seen}
+use Rattle.cedar_expr_names.specs.Views.{type_name_of}
+use Rattle.cedar_schema_entries.specs.Views.{entity_type_seen}
 use Rattle.cedar_schema_built.specs.Views.{schema_kept}
 use Rattle.cedar_typechecker_seen_model.proofs.Seen.Told.{attributes_found, attributes_none}
 use Rattle.cedar_typechecker_schemas.proofs.typing.SchemaAndFunctionsDeclaredAttributes.entity_attributes.Goals as goal

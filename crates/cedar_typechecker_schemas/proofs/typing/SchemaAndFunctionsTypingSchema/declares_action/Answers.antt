@@ -1,7 +1,7 @@
 use Rattle.std.proofs.Common.{◌∙◌}
 use Rattle.std.specs.Borrow.{Bor}
-use Rattle.cedar_expr_names.specs.Views.{type_name_of, uid_of}
-use Rattle.cedar_schema_entries.specs.Views.{entity_type_seen, action_seen}
+use Rattle.cedar_expr_names.specs.Views.{uid_of}
+use Rattle.cedar_schema_entries.specs.Views.{action_seen}
 use Rattle.cedar_schema_built.specs.Views.{schema_kept}
 use Rattle.cedar_schema_entries.specs.declared.action.ValidatorActionId.{ValidatorActionId}
 use Rattle.cedar_typechecker_seen_model.proofs.Seen.Told.{action_there}

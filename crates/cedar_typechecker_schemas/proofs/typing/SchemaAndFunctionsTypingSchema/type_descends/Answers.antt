@@ -1,6 +1,5 @@
 use Rattle.std.proofs.Common.{◌||◌, ap, ◌∙◌}
-use Rattle.cedar_expr_names.specs.Views.{type_name_of, uid_of}
-use Rattle.cedar_schema_entries.specs.Views.{entity_type_seen, action_seen}
+use Rattle.cedar_expr_names.specs.Views.{type_name_of}
 use Rattle.cedar_schema_built.specs.Views.{schema_kept}
 use Rattle.cedar_typechecker_seen_model.specs.Asked.{type_is_below}
 use Rattle.cedar_typechecker_seen_model.proofs.Seen.Told.{descends_either}
