@@ -1,0 +1,3 @@
+pub mod Ranks
+pub mod Outcomes
+pub mod Tables
