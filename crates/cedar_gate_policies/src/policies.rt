@@ -1,10 +1,11 @@
 //! Policies.
-ghost use Rattle.std.specs.Prelude.{◌≡◌, [], Some, None, IfOk, IfErr};
+ghost use Rattle.std.specs.Prelude.{◌≡◌, [], ◌∷◌, codes, Some, None, IfOk, IfErr};
 ghost use Rattle.serde_json.specs.View.{view};
 ghost use Rattle.cedar_store_model.specs.Whole.Policy as model;
 ghost use Rattle.cedar_store_model.specs.Whole.Policy.{permit, forbid};
 ghost use Rattle.cedar_store_parts.specs.Parts.{effect_of, annotations_of};
 ghost use Rattle.cedar_store_policies.specs.Policies.{policy_of};
+ghost use Rattle.cedar_gate_model.specs.Reading.{has_only};
 ghost use Rattle.cedar_gate_model.specs.Whole.ReadingForms.{word_of};
 ghost use Rattle.cedar_gate_model.specs.Whole.ReadingPolicy.{policy_read};
 ghost use Rattle.cedar_gate_policies.specs.Policies.{effect_words};
@@ -44,16 +45,7 @@ impl Reader for PolicyReader {
     ghost seen = { policy_of };
 
     fn read(&self, alloc: Global, value: &Value) -> Result<Policy, ReadFault> {
-        let keys = [
-            "id",
-            "effect",
-            "principal",
-            "action",
-            "resource",
-            "when",
-            "link",
-        ];
-        if !has_only(value, &keys) {
+        if !has_keys(value) {
             return Err(ReadFault::Unreadable);
         }
         let annotations = self.annotations.clone()?;
@@ -84,6 +76,22 @@ impl Reader for PolicyReader {
         let template = Rc::new(alloc, template)?;
         Ok(Policy::new(template, None, optional_bindings(alloc, value)?))
     }
+}
+
+// Whether the value has the keys of a policy alone.
+fn has_keys(value: &Value) -> bool
+    ensures { result ≡ has_only (codes "id" ∷ codes "effect" ∷ codes "principal" ∷ codes "action" ∷ codes "resource" ∷ codes "when" ∷ codes "link" ∷ []) (view value.now) }
+{
+    let keys = [
+        "id",
+        "effect",
+        "principal",
+        "action",
+        "resource",
+        "when",
+        "link",
+    ];
+    has_only(value, &keys)
 }
 
 // Reads an effect.

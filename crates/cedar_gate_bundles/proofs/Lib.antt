@@ -1,0 +1,3 @@
+pub mod Evaluated
+pub mod Parted
+pub mod Unread

@@ -1,0 +1,47 @@
+use Rattle.std.proofs.Common.{◌≡◌, Some, None, IfOk, IfErr, true, rules, subst, sym, ap, ◌∙◌}
+use Rattle.serde_json.specs.Data.{object}
+use Rattle.serde_json.specs.View.{members_view}
+use Rattle.cedar_expr_model.specs.Whole.Builder.{tree_fields}
+use Rattle.cedar_expr_model.specs.Whole.Restricted.{is_restricted}
+use Rattle.cedar_expr_model.specs.Whole.Tree.{record_literal}
+use Rattle.cedar_expr_trees.specs.Trees.{tree_of, named, field_trees}
+use Rattle.cedar_evaluator_model.specs.Reauthorize.{context_from}
+use Rattle.cedar_gate_model.specs.Whole.ReadingValue.{fields_context_read, left_of_restricted}
+use Rattle.cedar_gate_reading.specs.declared.fault.ReadFault.TheVariants.{Unreadable}
+use Rattle.cedar_gate_bundles.specs.Requests.{context_of}
+use Rattle.cedar_gate_bundles.proofs.Parted.{stopped_context}
+use Rattle.cedar_gate_bundles.proofs.Unread.{context_of_record, handed_on}
+use Rattle.cedar_gate_bundles.proofs.requests.context_in.Goals as goal
+
+pub returns-in_err-left-clause-unreadable : goal.returns-in_err-left-clause-unreadable
+returns-in_err-left-clause-unreadable g c =
+    let x = g.E.Evaluate.functions c.args.functions.now in
+    let ms = members_view c.args.members.now.entries in
+    let t = tree_of {T = Unit} c.record_arc-record.result in
+    let fs = tree_fields (named (field_trees {T = Unit} c.in_ok-fields.fields.entries)) in
+    let e : t ≡ record_literal fs = c.record_arc-record.ensures.tree ∙ ap (λ m. record_literal (tree_fields (named (field_trees {T = Unit} m.entries)))) c.in_ok-new.ensures.ok in
+    let r : is_restricted t ≡ true = search rules in
+    let is = context_of_record x ms fs t c.in_ok-fields.ensures.ok e r in
+    handed_on (fields_context_read x (object ms) ≡ None) c.in_err-left.field-0.0 c.from_residual-in_err-left.result c.from_residual-in_err-left.ensures.1 (λ q. is ∙ stopped_context (left_of_restricted x t) (c.in_err-left.ensures.stopped q))
+
+pub returns-clause-ok : goal.returns-clause-ok
+returns-clause-ok g c =
+    let x = g.E.Evaluate.functions c.args.functions.now in
+    let ms = members_view c.args.members.now.entries in
+    let t = tree_of {T = Unit} c.record_arc-record.result in
+    let fs = tree_fields (named (field_trees {T = Unit} c.in_ok-fields.fields.entries)) in
+    let e : t ≡ record_literal fs = c.record_arc-record.ensures.tree ∙ ap (λ m. record_literal (tree_fields (named (field_trees {T = Unit} m.entries)))) c.in_ok-new.ensures.ok in
+    let r : is_restricted t ≡ true = search rules in
+    let is = context_of_record x ms fs t c.in_ok-fields.ensures.ok e r in
+    subst (λ o. IfOk c.context_left.result (λ k. o ≡ Some (context_of k))) (sym (is ∙ ap context_from c.in_ok-left.ensures.left)) c.context_left.ensures.ok
+
+pub returns-clause-unreadable : goal.returns-clause-unreadable
+returns-clause-unreadable g c =
+    let x = g.E.Evaluate.functions c.args.functions.now in
+    let ms = members_view c.args.members.now.entries in
+    let t = tree_of {T = Unit} c.record_arc-record.result in
+    let fs = tree_fields (named (field_trees {T = Unit} c.in_ok-fields.fields.entries)) in
+    let e : t ≡ record_literal fs = c.record_arc-record.ensures.tree ∙ ap (λ m. record_literal (tree_fields (named (field_trees {T = Unit} m.entries)))) c.in_ok-new.ensures.ok in
+    let r : is_restricted t ≡ true = search rules in
+    let is = context_of_record x ms fs t c.in_ok-fields.ensures.ok e r in
+    subst (λ o. IfErr c.context_left.result (λ f. f ≡ Unreadable → o ≡ None)) (sym (is ∙ ap context_from c.in_ok-left.ensures.left)) c.context_left.ensures.unreadable

@@ -1,0 +1,38 @@
+use Rattle.std.proofs.Common.{◌≡◌, Some, None, true, codes, [], ◌∷◌, map, sym, ap, ◌∙◌}
+use Rattle.serde_json.specs.View.{view}
+use Rattle.cedar_expr_names.specs.Views.{uid_of}
+use Rattle.cedar_expr_values.specs.Extensions.{extension_of}
+use Rattle.cedar_expr_values.specs.Values.{made}
+use Rattle.cedar_store_entities.specs.Recorded.{all_recorded}
+use Rattle.cedar_gate_model.specs.Reading.{given, required, has_only}
+use Rattle.cedar_gate_model.specs.Whole.ReadingName.{uid_read}
+use Rattle.cedar_gate_model.specs.Whole.ReadingRequest.{entity_read}
+use Rattle.cedar_gate_reading.specs.Maps.{texts_seen}
+use Rattle.cedar_gate_bundles.proofs.Parted.{entity_made}
+use Rattle.cedar_gate_bundles.proofs.Unread.{handed_on, tags_unread, ancestors_unread}
+use Rattle.cedar_gate_bundles.proofs.stores.EntityReaderReader.read.Goals as goal
+
+pub returns-in_err-tags-clause-unreadable : goal.returns-in_err-tags-clause-unreadable
+returns-in_err-tags-clause-unreadable g c =
+    let x = g.E.Evaluate.functions c.args.self.now.functions.now in
+    let d = view c.args.value.now in
+    let h : has_only (codes "uid" ∷ codes "attrs" ∷ codes "tags" ∷ codes "ancestors" ∷ []) d ≡ true = sym c.has_only.ensures ∙ c.if-not-has_only.false in
+    let hu : required (codes "uid") uid_read d ≡ Some (uid_of c.in_ok-uid.uid) = ap (λ o. given o uid_read) c.in_ok-required.ensures.ok ∙ c.in_ok-uid.ensures.ok in
+    handed_on (entity_read x d ≡ None) c.in_err-tags.field-0.0 c.from_residual-in_err-tags.result c.from_residual-in_err-tags.ensures.1 (λ q. tags_unread x d (uid_of c.in_ok-uid.uid) (texts_seen (made extension_of) c.in_ok-attrs.attrs.items) h hu c.in_ok-attrs.ensures.ok (c.in_err-tags.ensures.unreadable q))
+
+pub returns-in_err-ancestors-clause-unreadable : goal.returns-in_err-ancestors-clause-unreadable
+returns-in_err-ancestors-clause-unreadable g c =
+    let x = g.E.Evaluate.functions c.args.self.now.functions.now in
+    let d = view c.args.value.now in
+    let h : has_only (codes "uid" ∷ codes "attrs" ∷ codes "tags" ∷ codes "ancestors" ∷ []) d ≡ true = sym c.has_only.ensures ∙ c.if-not-has_only.false in
+    let hu : required (codes "uid") uid_read d ≡ Some (uid_of c.in_ok-uid.uid) = ap (λ o. given o uid_read) c.in_ok-required.ensures.ok ∙ c.in_ok-uid.ensures.ok in
+    handed_on (entity_read x d ≡ None) c.in_err-ancestors.field-0.0 c.from_residual-in_err-ancestors.result c.from_residual-in_err-ancestors.ensures.1 (λ q. ancestors_unread x d (uid_of c.in_ok-uid.uid) (texts_seen (made extension_of) c.in_ok-attrs.attrs.items) h hu c.in_ok-attrs.ensures.ok (texts_seen (made extension_of) c.in_ok-tags.tags.items) c.in_ok-tags.ensures.ok (c.in_err-ancestors.ensures.unreadable q))
+
+pub returns-clause-ok : goal.returns-clause-ok
+returns-clause-ok g c =
+    let x = g.E.Evaluate.functions c.args.self.now.functions.now in
+    let d = view c.args.value.now in
+    let h : has_only (codes "uid" ∷ codes "attrs" ∷ codes "tags" ∷ codes "ancestors" ∷ []) d ≡ true = sym c.has_only.ensures ∙ c.if-not-has_only.false in
+    let hu : required (codes "uid") uid_read d ≡ Some (uid_of c.in_ok-uid.uid) = ap (λ o. given o uid_read) c.in_ok-required.ensures.ok ∙ c.in_ok-uid.ensures.ok in
+    let us = map uid_of c.in_ok-ancestors.ancestors.items in
+    entity_made x d c.in_ok-new.field-0 (uid_of c.in_ok-uid.uid) c.in_ok-attrs.attrs.items c.in_ok-tags.tags.items us h hu c.in_ok-attrs.ensures.ok c.in_ok-tags.ensures.ok c.in_ok-ancestors.ensures.ok c.in_ok-attrs.ensures.rising c.in_ok-tags.ensures.rising c.in_ok-new.ensures.uid c.in_ok-new.ensures.attributes c.in_ok-new.ensures.tags (c.in_ok-new.ensures.ancestors ∙ ap (λ vs. all_recorded (all_recorded [] us) (map uid_of vs)) c.new.ensures.items)

@@ -1,0 +1,142 @@
+//! Bundles: what is handed to the gate, the request, the whole store and the steps.
+ghost use Rattle.std.specs.Prelude.{◌≡◌, Some, None, IfOk, IfErr, codes};
+ghost use Rattle.serde_json.specs.View.{view};
+ghost use Rattle.cedar_gate_model.specs.Reading.{has_at};
+ghost use Rattle.cedar_gate_model.specs.Whole.ReadingForms.{number_between, is_number};
+ghost use Rattle.cedar_gate_model.specs.Whole.ReadingBundle.{is_bundle, submission_read, bundle_read, input_read};
+ghost use Rattle.cedar_gate_model.specs.Whole.Bundle.{Functions};
+ghost use Rattle.cedar_gate_bundles.specs.Bundles.{submission_of, bundle_of};
+ghost use Rattle.cedar_gate_reading.specs.declared.fault.ReadFault.TheVariants.{Unreadable};
+
+use crate::requests::{RequestRead, read_request};
+use crate::steps::{Step, StepReader};
+use crate::stores::read_store;
+use crate::values::Evaluate;
+use cedar_expr_raw_names::RawName;
+use cedar_gate_fragments::read_schema;
+use cedar_gate_policies::PolicyReader;
+use cedar_gate_reading::{ReadFault, has_only, optional_list, read_json, read_list, required};
+use cedar_schema_decl::json_schema::Fragment;
+use cedar_store_entities::Entities;
+use cedar_store_policies::Policy;
+use serde_json::Value;
+use std::alloc::Global;
+
+/// What is handed to the gate.
+#[derive(Drop)]
+pub struct Submission {
+    /// The declarations, a fragment for each namespace that is written.
+    pub fragments: Vec<Fragment<RawName>>,
+    /// The policies.
+    pub policies: Vec<Policy>,
+    /// The level.
+    pub level: u32,
+    /// The limit on nesting, from 1 to 512.
+    pub limit: u32,
+}
+
+/// A bundle, once it is read.
+#[derive(Drop)]
+pub struct Bundle {
+    /// What is handed to the gate.
+    pub submission: Submission,
+    /// The request.
+    pub request: RequestRead,
+    /// The whole store.
+    pub store: Entities,
+    /// The steps of the run.
+    pub steps: Vec<Step>,
+}
+
+/// Reads a bundle from a whole input, which has to be JSON in UTF-8. Values in it are evaluated by these functions.
+///
+/// # Errors
+/// The input is no bundle of this version, or memory is wanting.
+#[tactic(auto, using(crate::proofs::Parted::of_input))]
+pub fn read_input<E: Evaluate>(
+    alloc: Global,
+    functions: &E,
+    bytes: &[u8],
+) -> Result<Bundle, ReadFault>
+    ensures ok { IfOk result (λ b. input_read (E.functions functions.now) bytes.now ≡ Some (bundle_of (E.functions functions.now) b)) }
+    ensures unreadable { IfErr result (λ f. f ≡ Unreadable → input_read (E.functions functions.now) bytes.now ≡ None) }
+{
+    let value = read_json(alloc, bytes)?;
+    read_bundle(alloc, functions, &value)
+}
+
+/// Reads a bundle from its JSON value. Values in it are evaluated by these functions.
+///
+/// # Errors
+/// The value is no bundle of this version, or memory is wanting.
+pub fn read_bundle<E: Evaluate>(
+    alloc: Global,
+    functions: &E,
+    value: &Value,
+) -> Result<Bundle, ReadFault>
+    ensures ok { IfOk result (λ b. bundle_read (E.functions functions.now) (view value.now) ≡ Some (bundle_of (E.functions functions.now) b)) }
+    ensures unreadable { IfErr result (λ f. f ≡ Unreadable → bundle_read (E.functions functions.now) (view value.now) ≡ None) }
+{
+    if !is_bundle(value) {
+        return Err(ReadFault::Unreadable);
+    }
+    let submission = read_submission(alloc, value)?;
+    let request = read_request(alloc, functions, required(value, "request")?)?;
+    let store = read_store(alloc, functions, required(value, "store")?)?;
+    let steps = optional_list(alloc, &StepReader { functions }, value, "steps")?;
+    Ok(Bundle {
+        submission,
+        request,
+        store,
+        steps,
+    })
+}
+
+// Reads what is handed to the gate.
+fn read_submission(alloc: Global, value: &Value) -> Result<Submission, ReadFault>
+    ensures ok { IfOk result (λ s. (x : Functions) → submission_read x (view value.now) ≡ Some (submission_of x s)) }
+    ensures unreadable { IfErr result (λ f. f ≡ Unreadable → (x : Functions) → submission_read x (view value.now) ≡ None) }
+{
+    let level = read_number(required(value, "level")?, 0, 4294967295)?;
+    let limit = read_number(required(value, "limit")?, 1, 512)?;
+    let fragments = read_schema(alloc, required(value, "schema")?)?;
+    let reader = PolicyReader::new(alloc)?;
+    let policies = read_list(alloc, &reader, required(value, "policies")?)?;
+    Ok(Submission {
+        fragments,
+        policies,
+        level,
+        limit,
+    })
+}
+
+// Whether the value has the keys of a bundle alone, and this version.
+fn is_bundle(value: &Value) -> bool
+    ensures { result ≡ is_bundle (view value.now) }
+{
+    let keys = [
+        "version", "level", "limit", "schema", "policies", "request", "store", "steps",
+    ];
+    has_only(value, &keys) && has_version(value)
+}
+
+// Whether the version is the one that is read.
+fn has_version(value: &Value) -> bool
+    ensures { result ≡ has_at (codes "version") (is_number 1) (view value.now) }
+{
+    match value.get("version") {
+        None => false,
+        Some(version) => matches!(version.as_u64(), Some(1)),
+    }
+}
+
+// Reads a whole number from low to high.
+fn read_number(value: &Value, low: u32, high: u32) -> Result<u32, ReadFault>
+    ensures ok { IfOk result (λ n. number_between low high (view value.now) ≡ Some n) }
+    ensures unreadable { IfErr result (λ f. (f ≡ Unreadable) × (number_between low high (view value.now) ≡ None)) }
+{
+    match value.as_u64() {
+        Some(n) if u64::from(low) <= n && n <= u64::from(high) => Ok(n as u32),
+        _ => Err(ReadFault::Unreadable),
+    }
+}

@@ -1,0 +1,111 @@
+//! Values and contexts: restricted expressions, evaluated where they are read.
+ghost use Rattle.std.specs.Prelude.{◌≡◌, true, Some, None, IfOk, IfErr, is_none};
+ghost use Rattle.serde_json.specs.View.{view};
+ghost use Rattle.cedar_expr_model.specs.Whole.Made.{Made};
+ghost use Rattle.cedar_expr_model.specs.Whole.Restricted.{is_restricted, feature_here};
+ghost use Rattle.cedar_expr_trees.specs.Trees.{tree_of};
+ghost use Rattle.cedar_expr_values.specs.Extensions.{extension_of};
+ghost use Rattle.cedar_expr_values.specs.Values.{made};
+ghost use Rattle.cedar_gate_model.specs.Whole.Bundle.{Functions};
+ghost use Rattle.cedar_gate_model.specs.Whole.ReadingValue.{left_of_restricted, value_read};
+ghost use Rattle.cedar_gate_bundles.specs.Values.{left_of_part, IsStopped};
+ghost use Rattle.cedar_gate_reading.specs.declared.fault.ReadFault.TheVariants.{Unreadable};
+
+use cedar_expr_partial::PartialValue;
+use cedar_expr_trees::{Expr, ExprKind};
+use cedar_expr_values::{ExtValue, Value as CedarValue};
+use cedar_gate_expressions::read_expression;
+use cedar_gate_reading::{ReadFault, Reader};
+use serde_json::Value;
+use std::alloc::{AllocError, Global};
+
+/// Evaluates restricted expressions, by the functions of a table.
+pub trait Evaluate {
+    // The functions.
+    ghost functions: { Self → Functions };
+
+    /// What is left of a restricted expression: a value, or an expression where an unknown stands in it. Refuses one whose
+    /// evaluation stops.
+    fn evaluate(&self, alloc: Global, e: &Expr) -> Result<PartialValue<ExtValue>, ReadFault>
+        requires { is_restricted (tree_of e.now) ≡ true }
+        ensures left { IfOk result (λ p. left_of_restricted (functions self.now) (tree_of e.now) ≡ left_of_part p) }
+        ensures stopped { IfErr result (λ f. f ≡ Unreadable → IsStopped (left_of_restricted (functions self.now) (tree_of e.now))) };
+}
+
+/// Whether the expression is restricted: whether it has literals, unknowns, calls, sets and records alone.
+pub(crate) fn is_restricted(alloc: Global, e: &Expr) -> Result<bool, AllocError>
+    ensures { IfOk result (λ b. b ≡ is_restricted (tree_of e.now)) }
+{
+    for part in e.subexpressions(alloc)? {
+        if !may_stand(part) {
+            return Ok(false);
+        }
+    }
+    Ok(true)
+}
+
+// Whether the expression, apart from what is in it, may stand in a restricted one.
+fn may_stand(e: &Expr) -> bool
+    ensures { result ≡ is_none (feature_here (tree_of e.now)) }
+{
+    match e.expr_kind() {
+        ExprKind::Lit(_)
+        | ExprKind::Unknown(_)
+        | ExprKind::ExtensionFunctionApp { .. }
+        | ExprKind::Set(_)
+        | ExprKind::Record(_) => true,
+        ExprKind::Var(_)
+        | ExprKind::Slot(_)
+        | ExprKind::If { .. }
+        | ExprKind::And { .. }
+        | ExprKind::Or { .. }
+        | ExprKind::UnaryApp { .. }
+        | ExprKind::BinaryApp { .. }
+        | ExprKind::GetAttr { .. }
+        | ExprKind::HasAttr { .. }
+        | ExprKind::ExtHasAttr { .. }
+        | ExprKind::Like { .. }
+        | ExprKind::Is { .. } => false,
+    }
+}
+
+/// Reads a value.
+#[tactic(auto, using(crate::proofs::Parted::stopped_value))]
+pub(crate) fn read_value<E: Evaluate>(
+    alloc: Global,
+    functions: &E,
+    value: &Value,
+) -> Result<CedarValue<ExtValue>, ReadFault>
+    ensures ok { IfOk result (λ v. value_read (E.functions functions.now) (view value.now) ≡ Some (made extension_of v)) }
+    ensures unreadable { IfErr result (λ f. f ≡ Unreadable → value_read (E.functions functions.now) (view value.now) ≡ None) }
+{
+    let e = read_expression(alloc, value)?;
+    if !is_restricted(alloc, &e)? {
+        return Err(ReadFault::Unreadable);
+    }
+    match functions.evaluate(alloc, &e)? {
+        PartialValue::Value(v) => Ok(v),
+        PartialValue::Residual(_) => Err(ReadFault::Unreadable),
+    }
+}
+
+/// Reads values.
+#[derive(Drop)]
+pub(crate) struct ValueReader<'a, E> {
+    /// What evaluates them.
+    pub(crate) functions: &'a E,
+}
+
+impl<'a, E: Evaluate> Reader for ValueReader<'a, E> {
+    type Item = CedarValue<ExtValue>;
+
+    ghost Meaning = { Made };
+
+    ghost reading = { λ r. value_read (E.functions r.functions.now) };
+
+    ghost seen = { made extension_of };
+
+    fn read(&self, alloc: Global, value: &Value) -> Result<CedarValue<ExtValue>, ReadFault> {
+        read_value(alloc, self.functions, value)
+    }
+}
