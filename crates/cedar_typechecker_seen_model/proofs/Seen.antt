@@ -4,3 +4,4 @@ pub mod Above
 pub mod Answers
 pub mod Asked
 pub mod Told
+pub mod Tests

@@ -1,9 +1,10 @@
 -- A built schema as the schema that typing asks: the entity types and actions in the order in which they are kept, each with all that it
 -- descends from as its parents.
 -- Rule: schemas; descent (docs/RULES.md).
-use Rattle.std.specs.Prelude.{List, map, Contains}
-use Rattle.cedar_expr_model.specs.Name.{Name}
-use Rattle.cedar_expr_model.specs.Uid.{Uid}
+use Rattle.std.specs.Prelude.{◌≡◌, List, map, true, Contains}
+use Rattle.std.specs.List.{list_any}
+use Rattle.cedar_expr_model.specs.Name.{Name, name_eq}
+use Rattle.cedar_expr_model.specs.Uid.{Uid, uid_eq}
 use Rattle.cedar_schema_model.specs.Whole.BagLaws.{HasTwice}
 use Rattle.cedar_schema_model.specs.Whole.Types.{Ty, record_type, Attributes, no_attributes}
 use Rattle.cedar_schema_model.specs.Whole.Schema.{EntityType, Action, Schema}
@@ -48,3 +49,10 @@ pub record IsClosed (k : Kept) : Type 0 where
 pub record IsKeptOnce (k : Kept) : Type 0 where
   pub types : HasTwice (names_kept k) → ⊥
   pub actions : HasTwice (uids_kept k) → ⊥
+
+-- The same as equations of tests, of which there is one proof at most.
+pub record ClosedByTests (k : Kept) : Type 0 where
+  pub types_there : (m n : Name) → list_any (name_eq n) (kept_ancestors k m) ≡ true → list_any (name_eq m) (names_kept k) ≡ true
+  pub types_on : (l m n : Name) → list_any (name_eq m) (kept_ancestors k l) ≡ true → list_any (name_eq n) (kept_ancestors k m) ≡ true → list_any (name_eq n) (kept_ancestors k l) ≡ true
+  pub actions_there : (u v : Uid) → list_any (uid_eq v) (kept_action_ancestors k u) ≡ true → list_any (uid_eq u) (uids_kept k) ≡ true
+  pub actions_on : (t u v : Uid) → list_any (uid_eq u) (kept_action_ancestors k t) ≡ true → list_any (uid_eq v) (kept_action_ancestors k u) ≡ true → list_any (uid_eq v) (kept_action_ancestors k t) ≡ true
