@@ -1,0 +1,4 @@
+pub mod Alone
+pub mod Kept
+pub mod Refused
+pub mod Scopes

@@ -1,0 +1,10 @@
+//! The gate: which submissions are accepted, by the acceptance rules in their order.
+//! Contract: what passes a check is clear of its rules, and what is refused has the fault that is named.
+//! Used by sessions and by the program.
+#![tactic(auto)]
+
+mod names;
+mod plain;
+
+pub use names::check_names;
+pub use plain::check_policies;
