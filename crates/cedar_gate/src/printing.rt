@@ -74,7 +74,11 @@ pub fn print_unreadable(alloc: Global) -> Result<Printed, AllocError>
 }
 
 /// What is printed for a bundle of today's language. Fails only for want of memory.
-pub fn print_bundle(alloc: Global, bundle: Bundle, table: &ExtTable<'_>) -> Result<Printed, AllocError>
+pub fn print_bundle(
+    alloc: Global,
+    bundle: Bundle,
+    table: &ExtTable<'_>,
+) -> Result<Printed, AllocError>
     requires typed { are_typed table.now ≡ true }
     requires plain { is_first_path bundle.fragments.items ≡ true }
     requires policies { list_all is_first_path_policy bundle.policies.items ≡ true }
