@@ -2,3 +2,4 @@ pub mod Alone
 pub mod Kept
 pub mod Refused
 pub mod Scopes
+pub mod Together

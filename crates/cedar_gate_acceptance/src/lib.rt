@@ -3,8 +3,10 @@
 //! Used by sessions and by the program.
 #![tactic(auto)]
 
+mod admitted;
 mod names;
 mod plain;
 
+pub use admitted::admitted_schema;
 pub use names::check_names;
 pub use plain::check_policies;
