@@ -30,10 +30,10 @@ use cedar_typechecker_seen_model::laws::seen_schemas_answer_alike;
 use std::alloc::Global;
 
 // Checks the scope rules by a built schema.
-fn check_by<'e>(
+fn check_by(
     alloc: Global,
     schema: &ValidatorSchema,
-    table: &'e Extensions<'e>,
+    table: &Extensions<'_>,
     policies: &[Policy],
 ) -> Result<(), GateFault>
     requires { IsClosed (schema_kept schema.now) }
@@ -50,11 +50,11 @@ fn check_by<'e>(
 /// # Errors
 /// Want of memory, or a fault of what is handed in, by the first rule that is broken.
 #[tactic(auto, using(crate::proofs::Together::as_policies))]
-pub fn admitted_schema<'e>(
+pub fn admitted_schema(
     alloc: Global,
     fragments: &[Fragment<RawName>],
     policies: &[Policy],
-    table: &'e Extensions<'e>,
+    table: &Extensions<'_>,
     limit: NestLimit,
 ) -> Result<ValidatorSchema, GateFault>
     ensures admitted { (s : Submission) → IsHandedIn (declared_by fragments.now) (policies_of policies.now) (functions_of table.now) (ordered_of table.now) (levels_of limit) s → OnOk result (admits_untyped s ≡ true) }

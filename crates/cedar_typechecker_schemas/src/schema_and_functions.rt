@@ -12,16 +12,16 @@ use std::alloc::{AllocError, Global};
 
 /// A built schema with a table of extension functions, and what is asked often of the types of its actions.
 #[derive(Drop)]
-pub struct SchemaAndFunctions<'s, 't> {
+pub struct SchemaAndFunctions<'s, 't, 'e> {
     pub(crate) schema: &'s ValidatorSchema,
-    pub(crate) functions: &'t Extensions<'t>,
+    pub(crate) functions: &'t Extensions<'e>,
     pub(crate) action_types: ActionTypes,
     ghost closed: { ClosedByTests (schema_kept schema.now) },
     ghost once: { IsKeptOnce (schema_kept schema.now) },
     ghost typed: { AreTypesOf (schema_kept schema.now).actions action_types },
 }
 
-impl<'s, 't> SchemaAndFunctions<'s, 't> {
+impl<'s, 't, 'e> SchemaAndFunctions<'s, 't, 'e> {
     ghost use Rattle.std.specs.Prelude.{◌≡◌, IfOk};
     ghost use Rattle.cedar_expr_functions.specs.Tables.{table_of};
     ghost use Rattle.cedar_typechecker_schemas.specs.Views.{schema_of, table_seen, silent};
@@ -32,8 +32,8 @@ impl<'s, 't> SchemaAndFunctions<'s, 't> {
     pub fn new(
         alloc: Global,
         schema: &'s ValidatorSchema,
-        functions: &'t Extensions<'t>,
-    ) -> Result<SchemaAndFunctions<'s, 't>, AllocError>
+        functions: &'t Extensions<'e>,
+    ) -> Result<SchemaAndFunctions<'s, 't, 'e>, AllocError>
         requires { IsClosed (schema_kept schema.now) }
         ensures schema { IfOk result (λ s. schema_of s ≡ schema_seen (schema_kept schema.entry.now)) }
         ensures table { IfOk result (λ s. table_seen s ≡ table_of functions.entry.now silent) }

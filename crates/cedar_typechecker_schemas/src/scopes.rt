@@ -18,7 +18,7 @@ use cedar_typechecker_environments::RequestEnv;
 use cedar_typechecker_scopes::{SchemaEnvironments, ScopeSchema};
 use std::alloc::{AllocError, Global};
 
-impl SchemaEnvironments for SchemaAndFunctions<'_, '_> {
+impl SchemaEnvironments for SchemaAndFunctions<'_, '_, '_> {
     fn environments(&self, alloc: Global) -> Result<Vec<RequestEnv>, AllocError> {
         environments_of(alloc, self.schema.action_ids())
     }
@@ -31,7 +31,7 @@ impl SchemaEnvironments for SchemaAndFunctions<'_, '_> {
     }
 }
 
-impl ScopeSchema for SchemaAndFunctions<'_, '_> {
+impl ScopeSchema for SchemaAndFunctions<'_, '_, '_> {
     fn is_action_type(&self, ty: &EntityType) -> bool {
         self.action_types.contains(ty)
     }

@@ -21,7 +21,7 @@ use cedar_typechecker_environments::{FunctionSignature, TypingSchema};
 use std::alloc::AllocError;
 use std::slice::Iter;
 
-impl DeclaredAttributes for SchemaAndFunctions<'_, '_> {
+impl DeclaredAttributes for SchemaAndFunctions<'_, '_, '_> {
     ghost schema = { schema_of };
 
     fn entity_attributes(&self, ty: &EntityType) -> Option<&Attributes> {
@@ -32,7 +32,7 @@ impl DeclaredAttributes for SchemaAndFunctions<'_, '_> {
     }
 }
 
-impl TypingSchema for SchemaAndFunctions<'_, '_> {
+impl TypingSchema for SchemaAndFunctions<'_, '_, '_> {
     ghost table = { table_seen };
 
     fn declares_type(&self, ty: &EntityType) -> bool {
@@ -80,7 +80,7 @@ impl TypingSchema for SchemaAndFunctions<'_, '_> {
     }
 }
 
-impl SchemaAndFunctions<'_, '_> {
+impl SchemaAndFunctions<'_, '_, '_> {
     // Whether the first type descends from the second as an entity type, or an action of it from one of the second.
     fn is_type_below(&self, ty: &EntityType, above: &EntityType) -> bool
         ensures { result ≡ (type_is_below (schema_kept self.now.schema.now) (type_name_of ty.now) (type_name_of above.now) || descends_by_actions self.now.action_types ty.now above.now) }

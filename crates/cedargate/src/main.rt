@@ -4,14 +4,36 @@
 //! the session was stopped, and 4 where memory, reading or writing failed. Arguments are ignored, and nothing goes to standard error.
 #![tactic(auto)]
 
-use cedar_gate::serve;
-use cedar_gate_exprs::Extensions;
+mod table;
+
+use crate::table::{RankCalls, V, label_function, rank_function, ranks, table_of};
+use cedar_expr_functions::Func;
+use cedar_gate_ranks::{label, rank};
+use cedar_gate_service::serve;
+use std::alloc::{AllocError, Global};
 use std::process::ExitCode;
 
 fn main(rt: HostRuntime) -> ExitCode {
-    let table = Extensions::none(rt.alloc());
-    match serve(rt.alloc(), rt.stdin(), &mut rt.stdout(), &table) {
-        Ok(status) => ExitCode::from(status.number()),
+    match status(rt) {
+        Ok(status) => ExitCode::from(status),
         Err(_) => ExitCode::from(4),
+    }
+}
+
+// Makes the table and serves the bundle by it: the status with which the program ends.
+fn status(rt: HostRuntime) -> Result<u8, AllocError> {
+    let alloc = rt.alloc();
+    let ranked: Func = Box::new(alloc, |alloc: Global, args: &[V]| rank(alloc, args))?;
+    let labelled: Func = Box::new(alloc, |alloc: Global, args: &[V]| label(alloc, args))?;
+    let extension = ranks(
+        alloc,
+        rank_function(alloc, ranked)?,
+        label_function(alloc, labelled)?,
+    )?;
+    let table = table_of(alloc, &extension)?;
+    let calls = RankCalls::new(&table);
+    match serve(alloc, rt.stdin(), &mut rt.stdout(), &calls, &table) {
+        Ok(status) => Ok(status.number()),
+        Err(_) => Ok(4),
     }
 }

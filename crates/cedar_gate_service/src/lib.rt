@@ -1,0 +1,10 @@
+//! The service: `serve` reads a bundle, and writes what is printed for it.
+//! Contract: what is written is a text that may be printed for the input, with its status.
+//! Used by the program `cedargate`. Open `printing.rt` first.
+#![tactic(auto)]
+
+mod printing;
+mod service;
+
+pub use cedar_gate::{ServeFault, Status};
+pub use service::serve;
