@@ -1,0 +1,2 @@
+pub mod TypedRows
+pub mod PathTests

@@ -1,0 +1,40 @@
+use Rattle.std.proofs.Common.{◌≡◌, ◌∙◌, map, refl, ap, sym, rules, None, Some, option_map, option_and_then}
+use Rattle.cedar_expr_model.specs.Whole.Builder.{trees}
+use Rattle.cedar_expr_model.specs.Whole.Lists.{all_given}
+use Rattle.cedar_expr_model.specs.Whole.Tree.{call}
+use Rattle.cedar_expr_names.specs.Views.{plain_name_of}
+use Rattle.cedar_expr_trees.specs.Trees.{tree_of, kind_tree}
+use Rattle.cedar_schema_types.specs.Types.{type_of}
+use Rattle.cedar_typechecker_environments.specs.Settings.{setting_of}
+use Rattle.cedar_typechecker_model.specs.Whole.Rules.{call_type}
+use Rattle.cedar_typechecker_model.specs.Whole.Typing.{plain}
+use Rattle.cedar_typechecker_nodes.specs.Marked.{kind_marks}
+use Rattle.cedar_typechecker_typed_model.specs.Typed.{call_typed, noted}
+use Rattle.cedar_typechecker_operators.specs.Rows.{type_at, row_found}
+use Rattle.cedar_typechecker_operators.proofs.TypedRows.{row_lacks, row_has, answered}
+use Rattle.cedar_typechecker_operators.proofs.rows.call_answer.Goals as goal
+
+pub returns-in_default-2 : goal.returns-in_default-2
+returns-in_default-2 g c =
+    let s = setting_of g.S.DeclaredAttributes.schema g.S.TypingSchema.table c.args.world.now in
+    let n = plain_name_of c.args.name.now in
+    let ts = trees (map tree_of c.args.args.now) in
+    let row = c.in-Some.row.items in
+    let none : None ≡ option_map (call_type s n ts) (all_given type_at row) = ap (option_map (option_map type_of)) (sym c.in_default-2.is) ∙ c.in_ok-ty.ensures ∙ ap (λ es. option_map (call_type s n ts) (all_given type_at es)) c.as_slice.ensures.value in
+    c.no_type-in_default-2.ensures ∙ row_lacks (call_type s n ts) (call_typed s n ts) row none ∙ ap (λ o. option_and_then (call_typed s n ts) (row_found o)) (sym c.in-Some.is)
+
+pub returns : goal.returns
+returns g c =
+    let s = setting_of g.S.DeclaredAttributes.schema g.S.TypingSchema.table c.args.world.now in
+    let n = plain_name_of c.args.name.now in
+    let ts = trees (map tree_of c.args.args.now) in
+    let row = c.in-Some.row.items in
+    let ty = option_map type_of c.in-Some-2.ty in
+    let found : Some ty ≡ option_map (call_type s n ts) (all_given type_at row) = ap (option_map (option_map type_of)) (sym c.in-Some-2.is) ∙ c.in_ok-ty.ensures ∙ ap (λ es. option_map (call_type s n ts) (all_given type_at es)) c.as_slice.ensures.value in
+    let named : plain_name_of c.in_ok-clone.field-0 ≡ n = search rules in
+    let tree : kind_tree c.in_ok-kind.kind ≡ call n (trees (map tree_of row)) = c.in_ok-kind.ensures.tree ∙ ap (λ m. call m (trees (map tree_of row))) named in
+    answered c.plain_node.result (noted (kind_tree c.in_ok-kind.kind) (kind_marks c.in_ok-kind.kind) (plain ty)) (option_and_then (call_typed s n ts) (row_found c.args.row))
+    ((λ i. noted (tree i) (c.in_ok-kind.ensures.marks i) (plain ty))
+    ∙ row_has (call_type s n ts) ty row (call n (trees (map tree_of row))) (call_typed s n ts) (λ us. refl) found
+    ∙ ap (λ o. option_and_then (call_typed s n ts) (row_found o)) (sym c.in-Some.is))
+    c.plain_node.ensures

@@ -1,0 +1,9 @@
+use Rattle.std.proofs.Common.{◌≡◌, drop}
+use Rattle.cedar_expr_model.specs.Whole.Lists.{all_given}
+use Rattle.cedar_schema_types.specs.AttributeLists.{required_pairs}
+use Rattle.cedar_typechecker_rules.proofs.Gathered.{left_to_give}
+use Rattle.cedar_typechecker_operators.specs.Rows.{required_at}
+use Rattle.cedar_typechecker_operators.proofs.rows.field_types.Given as goal
+
+abbrev pub invariant-loop-name : goal.invariant-loop-name
+invariant-loop-name l = left_to_give required_at (required_pairs l.types.items) (drop l.name-index l.row) ≡ all_given required_at l.row

@@ -1,0 +1,159 @@
+//! Operators of two operands.
+
+ghost use Rattle.std.specs.Prelude.{◌≡◌, option_map, option_and_then, IfOk};
+ghost use Rattle.cedar_expr_leaves.specs.Operators.{binary_op_of};
+ghost use Rattle.cedar_expr_trees.specs.Trees.{tree_of};
+ghost use Rattle.cedar_schema_types.specs.Types.{type_of};
+ghost use Rattle.cedar_typechecker_facts.specs.Facts.{facts_of};
+ghost use Rattle.cedar_typechecker_model.specs.Whole.Facts.{tag_part};
+ghost use Rattle.cedar_typechecker_model.specs.Whole.Rules.{get_tag_type as model_get_tag_type, has_tag_type as model_has_tag_type};
+ghost use Rattle.cedar_typechecker_model.specs.Whole.Typing.{binary_judged, plain, tested as model_tested};
+ghost use Rattle.cedar_typechecker_environments.specs.Settings.{setting_of};
+ghost use Rattle.cedar_typechecker_typed_model.specs.Typed.{binary_typed};
+ghost use Rattle.cedar_typechecker_answers.specs.Answers.{seen, judgement_seen};
+
+use crate::operators::tested;
+use cedar_expr_leaves::BinaryOp;
+use cedar_expr_names::Loc;
+use cedar_expr_trees::{Expr, ExprKind};
+use cedar_schema_types::Type;
+use cedar_store_records::ValidationErrorKind;
+use cedar_typechecker_answers::{Faults, Judged, TypecheckAnswer, judged_node, no_type};
+use cedar_typechecker_environments::{TypingSchema, World};
+use cedar_typechecker_facts::{Capability, CapabilitySet};
+use cedar_typechecker_rules::{
+    equal_type, get_tag_type, has_tag_type, in_type, member_type, number_type, order_type,
+    sets_type,
+};
+use std::alloc::{AllocError, Global};
+use std::rc::Rc;
+
+/// The answer of an operator by those of its operands, where these facts are known.
+pub fn binary_answer<'a, S: TypingSchema>(
+    alloc: Global,
+    world: &World<'_, S>,
+    known: &CapabilitySet<'a>,
+    faults: &mut Faults,
+    place: Option<Loc>,
+    op: BinaryOp,
+    a: &'a Expr,
+    b: &'a Expr,
+    first: TypecheckAnswer<'a>,
+    second: TypecheckAnswer<'a>,
+) -> Result<TypecheckAnswer<'a>, AllocError>
+    ensures { IfOk result (λ r. seen r ≡ option_and_then (λ x. option_and_then (binary_typed (setting_of S.schema S.table world.now) (facts_of known.now) (binary_op_of op) (tree_of a.entry.now) (tree_of b.entry.now) x) (seen second.entry)) (seen first.entry)) }
+{
+    let TypecheckAnswer::Success {
+        expr_type: arg1,
+        ..
+    } = first
+    else {
+        return Ok(no_type());
+    };
+    let TypecheckAnswer::Success {
+        expr_type: arg2,
+        ..
+    } = second
+    else {
+        return Ok(no_type());
+    };
+    let (Some(t), Some(u)) = (arg1.data(), arg2.data()) else {
+        return Ok(no_type());
+    };
+    let judged = binary_judgement(alloc, world, known, op, a, b, t, u)?;
+    let arg1 = Rc::new(alloc, arg1)?;
+    let arg2 = Rc::new(alloc, arg2)?;
+    judged_node(
+        faults,
+        ExprKind::BinaryApp { op, arg1, arg2 },
+        place,
+        judged,
+        wrong(op),
+    )
+}
+
+// What is wrong where an operator has no type.
+fn wrong(op: BinaryOp) -> ValidationErrorKind {
+    match op {
+        BinaryOp::Eq | BinaryOp::Contains => ValidationErrorKind::IncompatibleTypes,
+        BinaryOp::ContainsAll | BinaryOp::ContainsAny => ValidationErrorKind::IncompatibleTypes,
+        BinaryOp::GetTag => ValidationErrorKind::UnsafeTagAccess,
+        BinaryOp::Less | BinaryOp::LessEq => ValidationErrorKind::UnexpectedType,
+        BinaryOp::Add | BinaryOp::Sub | BinaryOp::Mul => ValidationErrorKind::UnexpectedType,
+        BinaryOp::In | BinaryOp::HasTag => ValidationErrorKind::UnexpectedType,
+    }
+}
+
+// The judgement of an operator of operands of these types.
+fn binary_judgement<'a, S: TypingSchema>(
+    alloc: Global,
+    world: &World<'_, S>,
+    known: &CapabilitySet<'a>,
+    op: BinaryOp,
+    a: &'a Expr,
+    b: &'a Expr,
+    t: &Type,
+    u: &Type,
+) -> Result<Option<Judged<'a>>, AllocError>
+    ensures { IfOk result (λ j. option_map judgement_seen j ≡ binary_judged (setting_of S.schema S.table world.now) (facts_of known.now) (binary_op_of op) (tree_of a.entry.now) (tree_of b.entry.now) (type_of t.now) (type_of u.now)) }
+{
+    match op {
+        BinaryOp::GetTag => {
+            let ty = known_tag_type(alloc, world, known, a, b, t, u)?;
+            Ok(plain(alloc, ty))
+        }
+        BinaryOp::HasTag => tag_judgement(alloc, world, a, b, t, u),
+        BinaryOp::Eq => Ok(plain(alloc, equal_type(alloc, world, a, b, t, u)?)),
+        BinaryOp::Less | BinaryOp::LessEq => Ok(plain(alloc, order_type(world, t, u))),
+        BinaryOp::Add | BinaryOp::Sub | BinaryOp::Mul => Ok(plain(alloc, number_type(t, u))),
+        BinaryOp::In => Ok(plain(alloc, in_type(world, a, b, t, u))),
+        BinaryOp::Contains => Ok(plain(alloc, member_type(alloc, world, t, u)?)),
+        BinaryOp::ContainsAll | BinaryOp::ContainsAny => {
+            Ok(plain(alloc, sets_type(alloc, world, t, u)?))
+        }
+    }
+}
+
+// The judgement of this type without facts.
+fn plain<'a>(alloc: Global, ty: Option<Type>) -> Option<Judged<'a>>
+    ensures { option_map judgement_seen result ≡ plain (option_map type_of ty) }
+{
+    match ty {
+        Some(ty) => Some(Judged {
+            ty,
+            known: CapabilitySet::new(alloc),
+        }),
+        None => None,
+    }
+}
+
+// The type of a tag that is one of the facts.
+fn known_tag_type<'a, S: TypingSchema>(
+    alloc: Global,
+    world: &World<'_, S>,
+    known: &CapabilitySet<'a>,
+    a: &'a Expr,
+    b: &'a Expr,
+    t: &Type,
+    u: &Type,
+) -> Result<Option<Type>, AllocError>
+    ensures { IfOk result (λ r. option_map type_of r ≡ model_get_tag_type (setting_of S.schema S.table world.now) (facts_of known.now) (tree_of a.entry.now) (tree_of b.entry.now) (type_of t.now) (type_of u.now)) }
+{
+    let is_known = known.contains(&Capability::new_borrowed_tag(a, b));
+    get_tag_type(alloc, world, t, u, is_known)
+}
+
+// The judgement of a test of a tag.
+fn tag_judgement<'a, S: TypingSchema>(
+    alloc: Global,
+    world: &World<'_, S>,
+    a: &'a Expr,
+    b: &'a Expr,
+    t: &Type,
+    u: &Type,
+) -> Result<Option<Judged<'a>>, AllocError>
+    ensures { IfOk result (λ j. option_map judgement_seen j ≡ option_map (model_tested (tree_of a.entry.now) (tag_part (tree_of b.entry.now))) (model_has_tag_type (setting_of S.schema S.table world.now) (type_of t.now) (type_of u.now))) }
+{
+    let there = has_tag_type(world, t, u);
+    tested(alloc, Capability::new_borrowed_tag(a, b), there)
+}

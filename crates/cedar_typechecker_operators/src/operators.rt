@@ -1,0 +1,278 @@
+//! Operators of one operand, attributes, patterns and tests of types.
+
+ghost use Rattle.std.specs.Prelude.{◌≡◌, option_map, option_and_then, IfOk};
+ghost use Rattle.std.specs.Rc.{rc_str_bytes};
+ghost use Rattle.cedar_expr_names.specs.Views.{type_name_of};
+ghost use Rattle.cedar_expr_leaves.specs.Operators.{unary_op_of};
+ghost use Rattle.cedar_expr_leaves.specs.Patterns.{pattern_of};
+ghost use Rattle.cedar_expr_trees.specs.Trees.{tree_of};
+ghost use Rattle.cedar_typechecker_facts.specs.Facts.{capability_of, facts_of};
+ghost use Rattle.cedar_typechecker_environments.specs.Settings.{setting_of};
+ghost use Rattle.cedar_typechecker_typed_model.specs.Typed.{unary_typed, like_typed, is_typed, get_typed, has_typed};
+ghost use Rattle.cedar_schema_types.specs.Kinds.{bool_type_of};
+ghost use Rattle.cedar_schema_types.specs.Types.{type_of};
+ghost use Rattle.cedar_typechecker_model.specs.Whole.Rules.{get_type as model_get_type, has_type as model_has_type};
+ghost use Rattle.cedar_typechecker_model.specs.Whole.Facts.{attribute_part};
+ghost use Rattle.cedar_typechecker_model.specs.Whole.Typing.{tested as model_tested};
+ghost use Rattle.cedar_typechecker_answers.specs.Answers.{seen, judgement_seen};
+
+use cedar_expr_leaves::{Pattern, UnaryOp};
+use cedar_expr_names::{EntityType, Loc};
+use cedar_expr_trees::{Expr, ExprKind};
+use cedar_schema_types::{BoolType, Type};
+use cedar_store_records::ValidationErrorKind;
+use cedar_typechecker_answers::{
+    Faults, Judged, TypecheckAnswer, judged_node, no_type, plain_node,
+};
+use cedar_typechecker_environments::{TypingSchema, World};
+use cedar_typechecker_facts::{Capability, CapabilitySet};
+use cedar_typechecker_rules::{get_type, has_type, is_type_type, like_type, unary_type};
+use std::alloc::{AllocError, Global};
+use std::rc::{Rc, RcStr};
+
+/// The answer of an operator by that of its operand.
+pub fn unary_answer<'a>(
+    alloc: Global,
+    faults: &mut Faults,
+    place: Option<Loc>,
+    op: UnaryOp,
+    arg: TypecheckAnswer<'a>,
+) -> Result<TypecheckAnswer<'a>, AllocError>
+    ensures { IfOk result (λ a. seen a ≡ option_and_then (unary_typed (unary_op_of op)) (seen arg.entry)) }
+{
+    let TypecheckAnswer::Success {
+        expr_type: expr,
+        ..
+    } = arg
+    else {
+        return Ok(no_type());
+    };
+    let Some(operand) = expr.data() else {
+        return Ok(no_type());
+    };
+    let ty = unary_type(op, operand);
+    let arg = Rc::new(alloc, expr)?;
+    let kind = ExprKind::UnaryApp { op, arg };
+    plain_node(
+        alloc,
+        faults,
+        kind,
+        place,
+        ty,
+        ValidationErrorKind::UnexpectedType,
+    )
+}
+
+/// The answer of a test against a pattern by that of its operand.
+pub fn like_answer<'a>(
+    alloc: Global,
+    faults: &mut Faults,
+    place: Option<Loc>,
+    pattern: &Pattern,
+    arg: TypecheckAnswer<'a>,
+) -> Result<TypecheckAnswer<'a>, AllocError>
+    ensures { IfOk result (λ a. seen a ≡ option_and_then (like_typed (pattern_of pattern.now)) (seen arg.entry)) }
+{
+    let TypecheckAnswer::Success {
+        expr_type: expr,
+        ..
+    } = arg
+    else {
+        return Ok(no_type());
+    };
+    let Some(operand) = expr.data() else {
+        return Ok(no_type());
+    };
+    let ty = like_type(operand);
+    let pattern = pattern.clone()?;
+    let expr = Rc::new(alloc, expr)?;
+    let kind = ExprKind::Like { expr, pattern };
+    plain_node(
+        alloc,
+        faults,
+        kind,
+        place,
+        ty,
+        ValidationErrorKind::UnexpectedType,
+    )
+}
+
+/// The answer of a test of an entity's type by that of its operand.
+pub fn is_answer<'a>(
+    alloc: Global,
+    faults: &mut Faults,
+    place: Option<Loc>,
+    kind: &EntityType,
+    arg: TypecheckAnswer<'a>,
+) -> Result<TypecheckAnswer<'a>, AllocError>
+    ensures { IfOk result (λ a. seen a ≡ option_and_then (is_typed (type_name_of kind.now)) (seen arg.entry)) }
+{
+    let TypecheckAnswer::Success {
+        expr_type: expr,
+        ..
+    } = arg
+    else {
+        return Ok(no_type());
+    };
+    let Some(operand) = expr.data() else {
+        return Ok(no_type());
+    };
+    let ty = is_type_type(kind, operand);
+    let entity_type = kind.clone()?;
+    let expr = Rc::new(alloc, expr)?;
+    let kind = ExprKind::Is { expr, entity_type };
+    plain_node(
+        alloc,
+        faults,
+        kind,
+        place,
+        ty,
+        ValidationErrorKind::UnexpectedType,
+    )
+}
+
+/// The answer of an attribute's value by that of what has it, where these facts are known.
+pub fn get_answer<'a, S: TypingSchema>(
+    alloc: Global,
+    world: &World<'_, S>,
+    known: &CapabilitySet<'a>,
+    faults: &mut Faults,
+    place: Option<Loc>,
+    of: &'a Expr,
+    attr: &RcStr,
+    arg: TypecheckAnswer<'a>,
+) -> Result<TypecheckAnswer<'a>, AllocError>
+    ensures { IfOk result (λ a. seen a ≡ option_and_then (get_typed (setting_of S.schema S.table world.now) (facts_of known.now) (tree_of of.entry.now) (rc_str_bytes attr.now)) (seen arg.entry)) }
+{
+    let TypecheckAnswer::Success {
+        expr_type: expr,
+        ..
+    } = arg
+    else {
+        return Ok(no_type());
+    };
+    let Some(operand) = expr.data() else {
+        return Ok(no_type());
+    };
+    let ty = known_type(alloc, world, known, of, operand, attr)?;
+    let wrong = ValidationErrorKind::UnsafeAttributeAccess(attr.clone()?);
+    let attr = attr.clone()?;
+    let expr = Rc::new(alloc, expr)?;
+    plain_node(
+        alloc,
+        faults,
+        ExprKind::GetAttr { expr, attr },
+        place,
+        ty,
+        wrong,
+    )
+}
+
+// The type of an attribute that is declared and required, or one of the facts.
+fn known_type<'a, S: TypingSchema>(
+    alloc: Global,
+    world: &World<'_, S>,
+    known: &CapabilitySet<'a>,
+    of: &'a Expr,
+    ty: &Type,
+    attr: &RcStr,
+) -> Result<Option<Type>, AllocError>
+    ensures { IfOk result (λ t. option_map type_of t ≡ model_get_type (setting_of S.schema S.table world.now) (facts_of known.now) (tree_of of.entry.now) (type_of ty.now) (rc_str_bytes attr.now)) }
+{
+    let is_known = is_known(known, of, attr)?;
+    get_type(alloc, world, ty, attr.as_str(), is_known)
+}
+
+// Whether it is one of the facts that the expression has the attribute.
+fn is_known<'a>(known: &CapabilitySet<'a>, of: &'a Expr, attr: &RcStr) -> Result<bool, AllocError>
+    ensures { IfOk result (λ b. b ≡ facts_of known.now (tree_of of.entry.now) (attribute_part (rc_str_bytes attr.now))) }
+{
+    let fact = Capability::new_attribute(of, attr.clone()?);
+    Ok(known.contains(&fact))
+}
+
+/// The answer of a test of an attribute by that of what may have it.
+pub fn has_answer<'a, S: TypingSchema>(
+    alloc: Global,
+    world: &World<'_, S>,
+    faults: &mut Faults,
+    place: Option<Loc>,
+    of: &'a Expr,
+    attr: &RcStr,
+    arg: TypecheckAnswer<'a>,
+) -> Result<TypecheckAnswer<'a>, AllocError>
+    ensures { IfOk result (λ a. seen a ≡ option_and_then (has_typed (setting_of S.schema S.table world.now) (tree_of of.entry.now) (rc_str_bytes attr.now)) (seen arg.entry)) }
+{
+    let TypecheckAnswer::Success {
+        expr_type: expr,
+        ..
+    } = arg
+    else {
+        return Ok(no_type());
+    };
+    let Some(operand) = expr.data() else {
+        return Ok(no_type());
+    };
+    let judged = attribute_judgement(alloc, world, of, attr, operand)?;
+    let attr = attr.clone()?;
+    let expr = Rc::new(alloc, expr)?;
+    let kind = ExprKind::HasAttr { expr, attr };
+    judged_node(
+        faults,
+        kind,
+        place,
+        judged,
+        ValidationErrorKind::UnexpectedType,
+    )
+}
+
+// The judgement of the test that the expression, which is of this type, has the attribute.
+fn attribute_judgement<'a, S: TypingSchema>(
+    alloc: Global,
+    world: &World<'_, S>,
+    of: &'a Expr,
+    attr: &RcStr,
+    ty: &Type,
+) -> Result<Option<Judged<'a>>, AllocError>
+    ensures { IfOk result (λ j. option_map judgement_seen j ≡ option_map (model_tested (tree_of of.entry.now) (attribute_part (rc_str_bytes attr.now))) (model_has_type (setting_of S.schema S.table world.now) (type_of ty.now) (rc_str_bytes attr.now))) }
+{
+    let there = attribute_there(world, ty, attr);
+    let fact = Capability::new_attribute(of, attr.clone()?);
+    tested(alloc, fact, there)
+}
+
+// Whether the values of the type have the attribute, where that may be asked of them.
+pub(crate) fn attribute_there<S: TypingSchema>(
+    world: &World<'_, S>,
+    ty: &Type,
+    attr: &RcStr,
+) -> Option<BoolType>
+    ensures { option_map bool_type_of result ≡ model_has_type (setting_of S.schema S.table world.now) (type_of ty.now) (rc_str_bytes attr.now) }
+{
+    has_type(world, ty, attr.as_str())
+}
+
+// The judgement of a test of a part, by whether it is there. Where that isn't decided the test gives the fact.
+pub(crate) fn tested<'a>(
+    alloc: Global,
+    fact: Capability<'a>,
+    there: Option<BoolType>,
+) -> Result<Option<Judged<'a>>, AllocError>
+    ensures { IfOk result (λ j. option_map judgement_seen j ≡ option_map (model_tested (capability_of fact.entry).0 (capability_of fact.entry).1) (option_map bool_type_of there)) }
+{
+    match there {
+        Some(BoolType::AnyBool) => Ok(Some(Judged {
+            ty: Type::Bool(BoolType::AnyBool),
+            known: CapabilitySet::singleton(alloc, fact)?,
+        })),
+        Some(BoolType::True) => Ok(Some(Judged {
+            ty: Type::Bool(BoolType::True),
+            known: CapabilitySet::new(alloc),
+        })),
+        Some(BoolType::False) => Ok(Some(Judged {
+            ty: Type::Bool(BoolType::False),
+            known: CapabilitySet::new(alloc),
+        })),
+        None => Ok(None),
+    }
+}

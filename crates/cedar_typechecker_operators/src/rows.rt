@@ -1,0 +1,160 @@
+//! Calls, sets and records, by the types of their parts.
+
+ghost use Rattle.std.specs.Prelude.{◌≡◌, true, map, option_map, option_and_then, IfOk};
+ghost use Rattle.cedar_expr_model.specs.Whole.Builder.{trees};
+ghost use Rattle.cedar_expr_model.specs.Whole.Lists.{all_given};
+ghost use Rattle.cedar_expr_names.specs.Views.{plain_name_of};
+ghost use Rattle.cedar_expr_trees.specs.Trees.{tree_of};
+ghost use Rattle.cedar_schema_types.specs.AttributeLists.{required_pairs};
+ghost use Rattle.cedar_schema_types.specs.Types.{type_of};
+ghost use Rattle.cedar_typechecker_model.specs.Whole.Rules.{call_type as model_call_type, set_literal_type as model_set_type};
+ghost use Rattle.cedar_typechecker_environments.specs.Settings.{setting_of};
+ghost use Rattle.cedar_typechecker_typed_model.specs.Typed.{call_typed, set_typed, record_typed};
+ghost use Rattle.cedar_typechecker_answers.specs.Answers.{seen};
+ghost use Rattle.cedar_typechecker_operators.specs.Rows.{type_at, row_found, required_at, fields_found, rising_found};
+
+use cedar_expr_names::{Loc, Name};
+use cedar_expr_trees::Expr;
+use cedar_schema_types::{OpenTag, Type};
+use cedar_store_records::ValidationErrorKind;
+use cedar_typechecker_answers::{Faults, TypecheckAnswer, no_type, plain_node};
+use cedar_typechecker_environments::{TypingSchema, World};
+use cedar_typechecker_nodes::{call_kind, record_kind, set_kind};
+use cedar_typechecker_rules::{call_type, set_literal_type};
+use std::alloc::{AllocError, Global};
+use std::rc::RcStr;
+
+/// The answer of a call by its arguments, typed, if each has a type.
+pub fn call_answer<'a, S: TypingSchema>(
+    alloc: Global,
+    world: &World<'_, S>,
+    faults: &mut Faults,
+    place: Option<Loc>,
+    name: &Name,
+    args: &[Expr],
+    row: Option<Vec<Expr<Option<Type>>>>,
+) -> Result<TypecheckAnswer<'a>, AllocError>
+    ensures { IfOk result (λ a. seen a ≡ option_and_then (call_typed (setting_of S.schema S.table world.now) (plain_name_of name.now) (trees (map tree_of args.now))) (row_found row)) }
+{
+    let Some(row) = row else {
+        return Ok(no_type());
+    };
+    let Some(ty) = call_type_of(alloc, world, name, args, row.as_slice())? else {
+        return Ok(no_type());
+    };
+    let wrong = ValidationErrorKind::UnexpectedType;
+    let kind = call_kind(alloc, name.clone()?, row)?;
+    plain_node(alloc, faults, kind, place, ty, wrong)
+}
+
+// The type of a call of the function of this name, if each argument has a type.
+fn call_type_of<S: TypingSchema>(
+    alloc: Global,
+    world: &World<'_, S>,
+    name: &Name,
+    args: &[Expr],
+    row: &[Expr<Option<Type>>],
+) -> Result<Option<Option<Type>>, AllocError>
+    ensures { IfOk result (λ t. option_map (option_map type_of) t ≡ option_map (model_call_type (setting_of S.schema S.table world.now) (plain_name_of name.now) (trees (map tree_of args.now))) (all_given type_at row.now)) }
+{
+    match row_types(alloc, row)? {
+        Some(types) => Ok(Some(call_type(alloc, world, name, args, types.as_slice())?)),
+        None => Ok(None),
+    }
+}
+
+/// The answer of a set by its members, typed, if each has a type.
+pub fn set_answer<'a, S: TypingSchema>(
+    alloc: Global,
+    world: &World<'_, S>,
+    faults: &mut Faults,
+    place: Option<Loc>,
+    row: Option<Vec<Expr<Option<Type>>>>,
+) -> Result<TypecheckAnswer<'a>, AllocError>
+    ensures { IfOk result (λ a. seen a ≡ option_and_then (set_typed (setting_of S.schema S.table world.now)) (row_found row)) }
+{
+    let Some(row) = row else {
+        return Ok(no_type());
+    };
+    let Some(ty) = set_type_of(alloc, world, row.as_slice())? else {
+        return Ok(no_type());
+    };
+    let wrong = if row.is_empty() {
+        ValidationErrorKind::EmptySetForbidden
+    } else {
+        ValidationErrorKind::IncompatibleTypes
+    };
+    let kind = set_kind(alloc, row)?;
+    plain_node(alloc, faults, kind, place, ty, wrong)
+}
+
+// The type of a set of these members, if each has a type.
+fn set_type_of<S: TypingSchema>(
+    alloc: Global,
+    world: &World<'_, S>,
+    row: &[Expr<Option<Type>>],
+) -> Result<Option<Option<Type>>, AllocError>
+    ensures { IfOk result (λ t. option_map (option_map type_of) t ≡ option_map (model_set_type (setting_of S.schema S.table world.now).mode) (all_given type_at row.now)) }
+{
+    match row_types(alloc, row)? {
+        Some(types) => Ok(Some(set_literal_type(alloc, world.mode, types.as_slice())?)),
+        None => Ok(None),
+    }
+}
+
+// The types of expressions in a row, if each has one.
+fn row_types<'r>(
+    alloc: Global,
+    row: &'r [Expr<Option<Type>>],
+) -> Result<Option<Vec<&'r Type>>, AllocError>
+    ensures { IfOk result (λ ts. option_map (λ v. map (λ t. type_of t.now) v.items) ts ≡ all_given type_at row.entry.now) }
+{
+    let mut types = Vec::with_capacity(alloc, row.len())?;
+    for e in row {
+        match e.data() {
+            Some(ty) => types.push(ty)?,
+            None => return Ok(None),
+        }
+    }
+    Ok(Some(types))
+}
+
+/// The answer of a record by its fields, typed, if each has a type. The names of the fields rise.
+pub fn record_answer<'a>(
+    alloc: Global,
+    faults: &mut Faults,
+    place: Option<Loc>,
+    row: Option<Vec<(RcStr, Expr<Option<Type>>)>>,
+) -> Result<TypecheckAnswer<'a>, AllocError>
+    requires { rising_found row ≡ true }
+    ensures { IfOk result (λ a. seen a ≡ option_and_then record_typed (fields_found row)) }
+{
+    let Some(row) = row else {
+        return Ok(no_type());
+    };
+    let Some(types) = field_types(alloc, row.as_slice())? else {
+        return Ok(no_type());
+    };
+    let tag = OpenTag::ClosedAttributes;
+    let ty = Type::record_with_required_attributes(alloc, types, tag)?;
+    let kind = record_kind(alloc, row)?;
+    let wrong = ValidationErrorKind::UnexpectedType;
+    plain_node(alloc, faults, kind, place, Some(ty), wrong)
+}
+
+// The types of fields, under their names, if each has one.
+fn field_types(
+    alloc: Global,
+    row: &[(RcStr, Expr<Option<Type>>)],
+) -> Result<Option<Vec<(RcStr, Type)>>, AllocError>
+    ensures { IfOk result (λ ts. option_map (λ v. required_pairs v.items) ts ≡ all_given required_at row.now) }
+{
+    let mut types = Vec::with_capacity(alloc, row.len())?;
+    for (name, e) in row {
+        match e.data() {
+            Some(ty) => types.push((name.clone()?, ty.clone()?))?,
+            None => return Ok(None),
+        }
+    }
+    Ok(Some(types))
+}
