@@ -1,0 +1,4 @@
+pub mod Found
+pub mod Identified
+pub mod Listed
+pub mod Once
