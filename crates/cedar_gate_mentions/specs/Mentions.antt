@@ -1,0 +1,28 @@
+-- What the mentions of the code's values and entities are.
+-- Rule: mentions (docs/RULES.md).
+use Rattle.std.specs.Prelude.{List, map}
+use Rattle.std.specs.declared.alloc.Global.{Global}
+use Rattle.std.specs.declared.rc.RcStr.{RcStr}
+use Rattle.cedar_expr_model.specs.Uid.{Uid}
+use Rattle.cedar_expr_model.specs.Whole.Records.{fields}
+use Rattle.cedar_expr_names.specs.Views.{uid_of}
+use Rattle.cedar_expr_names.specs.declared.entity.EntityUID.{EntityUID}
+use Rattle.cedar_expr_partial.specs.declared.partial_value.PartialValue.{PartialValue}
+use Rattle.cedar_expr_values.specs.Extensions.{extension_of}
+use Rattle.cedar_expr_values.specs.Values.{bare_pair}
+use Rattle.cedar_expr_values.specs.declared.extension.ExtValue.{ExtValue}
+use Rattle.cedar_expr_values.specs.declared.value.Value.{Value}
+use Rattle.cedar_store_entities.specs.Views.{bare_part, part_seen, part_pair}
+use Rattle.cedar_gate_model.specs.Whole.Slice.{mentioned_in_fields, mentioned_by_parts}
+
+-- the uids of a list
+abbrev pub uids : List EntityUID → List Uid
+uids us = map uid_of us
+
+-- what fields mention
+abbrev pub mentioned_in : List (RcStr Global × Value ExtValue) → List Uid
+mentioned_in es = mentioned_in_fields (fields (map (bare_pair extension_of) es))
+
+-- what attributes or tags mention
+abbrev pub mentioned_by_these : List (RcStr Global × PartialValue ExtValue) → List Uid
+mentioned_by_these ps = mentioned_by_parts (map (λ p. (p.0, bare_part p.1)) (map part_pair ps))

@@ -1,0 +1,17 @@
+use Rattle.cedar_gate_distances.specs.Rows.{found_at, uids, writes, row_of}
+use Rattle.cedar_gate_wanted.proofs.Opening.{stays}
+use Rattle.cedar_gate_wanted.proofs.Taking.{after_supply, loaded_besides}
+use Rattle.cedar_gate_wanted.proofs.loading.take.Goals as goal
+
+pub returns-in-Ok-clause-exact : goal.returns-in-Ok-clause-exact
+returns-in-Ok-clause-exact g c = λ exact keys.
+    after_supply (g.S.DeclaredActions.schema c.args.schema.now) (uids c.args.wanted.now) c.args.more.items (found_at c.args.near.now) (found_at c.args.rows.now) exact keys (uids c.in-Ok.wanted.items) c.in_ok-log.log.items
+    (found_at c.supply.new.near) (found_at c.put_rows.new.rows) c.in_ok-put_rows.ensures.filled c.in_ok-log.ensures.log c.in-Ok.ensures.members
+
+pub returns-in-Ok-clause-stays : goal.returns-in-Ok-clause-stays
+returns-in-Ok-clause-stays g c = λ u k. stays (writes c.in_ok-log.log.items) (found_at c.args.near.now) (found_at c.supply.new.near) u c.in_ok-log.ensures.log k
+
+pub returns-in-Ok-clause-kept : goal.returns-in-Ok-clause-kept
+returns-in-Ok-clause-kept g c = λ exact keys r k.
+    c.in_ok-log.ensures.kept r (row_of (found_at c.args.rows.now))
+    (loaded_besides (g.S.DeclaredActions.schema c.args.schema.now) (uids c.args.wanted.now) c.args.more.items (found_at c.args.near.now) (found_at c.args.rows.now) exact keys (found_at c.put_rows.new.rows) c.in_ok-put_rows.ensures.filled) k

@@ -1,0 +1,7 @@
+use Rattle.std.proofs.Common.{ap, ◌∙◌}
+use Rattle.std.specs.Prelude.{is_some}
+use Rattle.cedar_gate_wanted.proofs.ByUid.{by_its_uid}
+use Rattle.cedar_gate_wanted.proofs.supplied.has_key.Goals as goal
+
+pub returns : goal.returns
+returns c = c.contains_key.ensures ∙ ap is_some (by_its_uid c.args.keys.now.entries c.args.uid.now)

@@ -1,0 +1,3 @@
+pub mod Wanting
+pub mod Supplying
+pub mod Laws

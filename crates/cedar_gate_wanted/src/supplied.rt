@@ -1,0 +1,126 @@
+//! Whether what is supplied is what is wanted.
+
+ghost use Rattle.std.specs.Prelude.{◌≡◌, ◌⊎◌, ◌↔◌, Contains, OnOk, IfOk, IfErr, is_some, IsSome, MatchOption, true, None, Some};
+ghost use Rattle.std.specs.List.{list_all};
+ghost use Rattle.cedar_expr_model.specs.Uid.{Uid, uid_eq};
+ghost use Rattle.cedar_expr_model.specs.Whole.Repeats.{repeated};
+ghost use Rattle.cedar_expr_names.specs.Views.{uid_of};
+ghost use Rattle.cedar_gate_distances.specs.Rows.{found_at, uids};
+ghost use Rattle.cedar_schema_model.specs.Whole.Schema.{Schema};
+ghost use Rattle.cedar_gate_wanted.specs.Wanting.{is_open};
+ghost use Rattle.cedar_gate_wanted.specs.Supplying.{keys_in, AreKeys, IsUnfit};
+
+use crate::next::{DeclaredActions, is_open};
+use cedar_expr_names::EntityUID;
+use cedar_gate_distances::{Loaded, Near};
+use std::alloc::{AllocError, Global};
+use std::collections::BTreeMap;
+
+/// Why what is supplied isn't taken in.
+#[derive(Clone, Copy, Debug, PartialEq, Eq)]
+pub enum Unfit {
+    /// Want of memory.
+    OutOfMemory,
+    /// A uid isn't wanted.
+    NotWanted,
+    /// A wanted uid lacks.
+    Lacking,
+    /// A uid stands twice.
+    Repeated,
+}
+
+impl From<AllocError> for Unfit {
+    ghost use Rattle.cedar_gate_wanted.specs.declared.supplied.Unfit.TheVariants.{OutOfMemory};
+
+    ghost from_gives = { λ _ e. e ≡ OutOfMemory };
+
+    fn from(_error: AllocError) -> Unfit {
+        Unfit::OutOfMemory
+    }
+}
+
+// Whether each uid is wanted.
+fn are_open<S: DeclaredActions>(
+    schema: &S,
+    near: &Near,
+    rows: &Loaded,
+    supplied: &[(EntityUID, Vec<EntityUID>)],
+) -> bool
+    ensures { result ≡ list_all (λ u. is_open (S.schema schema.now) (found_at near.now u) (found_at rows.now u) u) (keys_in supplied.now) }
+{
+    for (uid, _) in supplied {
+        if !is_open(schema, near, rows, uid) {
+            return false;
+        }
+    }
+    true
+}
+
+// Puts a uid among others, and says whether it stood there.
+fn put_key(keys: &mut BTreeMap<EntityUID, ()>, uid: EntityUID) -> Result<bool, AllocError>
+    ensures stood { IfOk result (λ b. b ≡ is_some (found_at keys.old (uid_of uid))) }
+    ensures here { OnOk result (found_at keys.new (uid_of uid) ≡ Some tt) }
+    ensures apart { OnOk result ((x : Uid) → (x ≡ uid_of uid) ⊎ (found_at keys.new x ≡ found_at keys.old x)) }
+{
+    Ok(keys.insert(uid, ())?.is_some())
+}
+
+// The uids of a supply, where none stands twice.
+fn keys_once(
+    alloc: Global,
+    supplied: &[(EntityUID, Vec<EntityUID>)],
+) -> Result<Option<BTreeMap<EntityUID, ()>>, AllocError>
+    ensures { IfOk result (λ o. MatchOption o (is_some (repeated uid_eq (keys_in supplied.now)) ≡ true) (λ m. (repeated uid_eq (keys_in supplied.now) ≡ None) × ((u : Uid) → IsSome (found_at m u) ↔ Contains (keys_in supplied.now) u))) }
+{
+    let mut keys = BTreeMap::new(alloc);
+    for (uid, _) in supplied {
+        if put_key(&mut keys, uid.clone()?)? {
+            return Ok(None);
+        }
+    }
+    Ok(Some(keys))
+}
+
+// Whether each of these uids is among the keys.
+fn are_all_among(keys: &BTreeMap<EntityUID, ()>, wanted: &[EntityUID]) -> bool
+    ensures { result ≡ list_all (λ u. is_some (found_at keys.now u)) (uids wanted.now) }
+{
+    for uid in wanted {
+        if !has_key(keys, uid) {
+            return false;
+        }
+    }
+    true
+}
+
+// Whether the uid is among the keys.
+fn has_key(keys: &BTreeMap<EntityUID, ()>, uid: &EntityUID) -> bool
+    ensures { result ≡ is_some (found_at keys.now (uid_of uid.now)) }
+{
+    keys.contains_key(uid)
+}
+
+/// Whether the uids of a supply are those that are wanted, each once. Errors: a fault that is there, or want of memory.
+pub(crate) fn check<S: DeclaredActions>(
+    alloc: Global,
+    schema: &S,
+    near: &Near,
+    rows: &Loaded,
+    wanted: &[EntityUID],
+    supplied: &[(EntityUID, Vec<EntityUID>)],
+) -> Result<(), Unfit>
+    ensures ok { OnOk result (((u : Uid) → Contains (uids wanted.now) u ↔ (is_open (S.schema schema.now) (found_at near.now u) (found_at rows.now u) u ≡ true)) → AreKeys (uids wanted.now) (keys_in supplied.now)) }
+    ensures refused { IfErr result (λ f. ((u : Uid) → Contains (uids wanted.now) u ↔ (is_open (S.schema schema.now) (found_at near.now u) (found_at rows.now u) u ≡ true)) → IsUnfit (uids wanted.now) (keys_in supplied.now) f) }
+{
+    if !are_open(schema, near, rows, supplied) {
+        return Err(Unfit::NotWanted);
+    }
+    let Some(keys) = keys_once(alloc, supplied)? else {
+        return Err(Unfit::Repeated);
+    };
+    if are_all_among(&keys, wanted) {
+        Ok(())
+    } else {
+        Err(Unfit::Lacking)
+    }
+}
