@@ -1,0 +1,4 @@
+pub mod Ordered
+pub mod Lists
+pub mod Called
+pub mod Alike

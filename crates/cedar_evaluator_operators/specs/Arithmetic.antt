@@ -1,0 +1,64 @@
+-- Operators of two whole numbers, and the order of two values.
+-- Rule: the meaning (docs/RULES.md).
+use Rattle.std.specs.Prelude.{◌&&◌, ℤ, ◌+ℤ◌, ◌-ℤ◌, ◌*ℤ◌, Bool, true, false, List, [], Option, Some, None, if◌then◌else◌}
+use Rattle.std.specs.List.{list_any}
+use Rattle.std.specs.Ordering.{int_cmp, is_lt, is_le}
+use Rattle.std.specs.declared.cmp.Ordering.{Ordering}
+use Rattle.cedar_expr_model.specs.Name.{Name, name_eq}
+use Rattle.cedar_expr_model.specs.Whole.Order.{text_cmp, value_eq}
+use Rattle.cedar_expr_model.specs.Whole.Table.{Table, fails}
+use Rattle.cedar_expr_model.specs.Whole.Tree.{BinaryOp, equal, less, less_or_equal, plus, difference, times, is_in, get_tag, has_tag}
+use Rattle.cedar_expr_model.specs.Whole.Value.{V, prim, long, extension}
+use Rattle.cedar_store_model.specs.Whole.Operators.{says, ordered, calculated}
+use Rattle.cedar_store_model.specs.Whole.Outcome.{Res, val, err, overflow, wrong_type}
+
+-- the operators of two whole numbers
+abbrev pub is_arithmetic : BinaryOp → Bool
+is_arithmetic plus = true
+is_arithmetic difference = true
+is_arithmetic times = true
+is_arithmetic o = false
+
+-- their results, of any size; of another operator nothing is said
+abbrev pub result_of : BinaryOp → ℤ → ℤ → ℤ
+result_of plus m n = m +ℤ n
+result_of difference m n = m -ℤ n
+result_of o m n = m *ℤ n
+
+abbrev pub arithmetic : BinaryOp → V → V → Res V
+arithmetic o v w = calculated (result_of o) v w
+
+-- a whole number of 64 bits, or an overflow
+abbrev pub long_result : Option ℤ → Res V
+long_result (Some n) = val (prim (long n))
+long_result None = err overflow
+
+-- the operators that compare
+abbrev pub is_relation : BinaryOp → Bool
+is_relation equal = true
+is_relation less = true
+is_relation less_or_equal = true
+is_relation o = false
+
+-- the operators that ask no store
+abbrev pub asks_no_store : BinaryOp → Bool
+asks_no_store is_in = false
+asks_no_store get_tag = false
+asks_no_store has_tag = false
+asks_no_store o = true
+
+-- a table of which is known which types it orders
+abbrev pub table_ordering : List Name → Table
+table_ordering names = record { functions = []; ordered = names; answers = λ f vs. fails f }
+
+-- what they give; of another operator nothing is said
+abbrev pub related : Table → BinaryOp → V → V → Res V
+related x equal v w = says (value_eq v w)
+related x less v w = ordered x is_lt v w
+related x o v w = ordered x is_le v w
+
+-- the order of two whole numbers, or of two values of one of these extension types
+abbrev pub order_of : List Name → V → V → Option Ordering
+order_of ns (prim (long m)) (prim (long n)) = Some (int_cmp m n)
+order_of ns (extension m j) (extension n k) = if name_eq m n && list_any (name_eq m) ns then Some (text_cmp j k) else None
+order_of ns v w = None

@@ -1,0 +1,5 @@
+pub mod Truths
+pub mod Arithmetic
+pub mod Calls
+pub mod Answers
+pub mod Scopes

@@ -1,0 +1,5 @@
+pub mod Found
+pub mod Along
+pub mod Members
+pub mod Five
+pub mod Held

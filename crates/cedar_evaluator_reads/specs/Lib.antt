@@ -1,0 +1,5 @@
+pub mod Errors
+pub mod Scopes
+pub mod Seen
+pub mod Ancestors
+pub mod Paths
