@@ -1,0 +1,6 @@
+pub mod Answered
+pub mod Kept
+pub mod Pushed
+pub mod Put
+pub mod Scoped
+pub mod Told

@@ -1,0 +1,4 @@
+pub mod Authorizers
+pub mod Gathering
+pub mod Scopes
+pub mod Verdicts

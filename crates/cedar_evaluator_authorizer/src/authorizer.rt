@@ -1,0 +1,114 @@
+//! Authorizers.
+
+ghost use Rattle.std.specs.Prelude.{◌≡◌, IfOk};
+ghost use Rattle.cedar_store_model.specs.Whole.Policy.{no_bindings};
+ghost use Rattle.cedar_store_policies.specs.PolicySets.{set_of};
+ghost use Rattle.cedar_evaluator_model.specs.Members.{concretize};
+ghost use Rattle.cedar_evaluator_model.specs.Response.{PartialRequest, response_of};
+ghost use Rattle.cedar_evaluator_operators.specs.Calls.{Functions};
+ghost use Rattle.cedar_evaluator_core.specs.Evaluators.{asked_of, limit_of, scope_in, Serves};
+ghost use Rattle.cedar_evaluator_requests.specs.Views.{request_of, answer_of};
+ghost use Rattle.cedar_evaluator_responses.specs.Responses.{response_seen};
+ghost use Rattle.cedar_evaluator_authorizer.specs.Gathering.{gathered};
+ghost use Rattle.cedar_evaluator_authorizer.specs.Scopes.{Knows, scope_for};
+
+use crate::gathering::Gathering;
+use crate::verdicts::verdict_on;
+use cedar_evaluator_core::Evaluator;
+use cedar_evaluator_operators::FunctionTable;
+use cedar_evaluator_requests::{Request, Response};
+use cedar_evaluator_responses::PartialResponse;
+use cedar_store_entities::Entities;
+use cedar_store_policies::PolicySet;
+use cedar_store_policies::laws::ids_are_distinct;
+use std::alloc::{AllocError, Global};
+use std::rc::Rc;
+
+/// Answers requests by policies, over a table of extension functions, within a limit on the depth of expressions.
+#[derive(Drop)]
+pub struct Authorizer<'a, T> {
+    table: &'a T,
+    limit: u32,
+}
+
+impl<T> Clone for Authorizer<'_, T> {
+    ghost is_clone = { λ a copy. (copy.table.now ≡ a.table.now) × (copy.limit ≡ a.limit) };
+
+    fn clone(&self) -> Result<Self, AllocError> {
+        Ok(Authorizer {
+            table: self.table,
+            limit: self.limit,
+        })
+    }
+}
+
+impl<'a, T: FunctionTable> Authorizer<'a, T> {
+    ghost use Rattle.cedar_evaluator_authorizer.specs.Authorizers.{asks_table, keeps_limit};
+
+    /// The authorizer over this table and within this limit.
+    pub fn new(table: &'a T, limit: u32) -> Authorizer<'a, T>
+        ensures table { asks_table result ≡ table.now }
+        ensures limit { keeps_limit result ≡ limit }
+    {
+        Authorizer { table, limit }
+    }
+
+    /// The answer to the request by these policies, over these entities, where each residual counts as an error. Answers want of memory.
+    pub fn is_authorized(
+        &self,
+        alloc: Global,
+        q: Request,
+        policies: &PolicySet,
+        entities: &Entities,
+    ) -> Result<Response, AllocError>
+        ensures { (fs : Functions) → Knows T.table T.answers_as (asks_table self.now) (request_of q) entities.now fs → IfOk result (λ a. answer_of a ≡ concretize (response_of (scope_for T.table (asks_table self.now) (request_of q) entities.now fs) (keeps_limit self.now) (set_of policies.now).policies)) }
+    {
+        let response = self.is_authorized_core(alloc, q, policies, entities)?;
+        response.concretize(alloc)
+    }
+
+    /// What is left of these policies for the request, over these entities. Answers want of memory.
+    pub fn is_authorized_core(
+        &self,
+        alloc: Global,
+        q: Request,
+        policies: &PolicySet,
+        entities: &Entities,
+    ) -> Result<PartialResponse, AllocError>
+        ensures { (fs : Functions) → Knows T.table T.answers_as (asks_table self.now) (request_of q) entities.now fs → IfOk result (λ r. response_seen r ≡ response_of (scope_for T.table (asks_table self.now) (request_of q) entities.now fs) (keeps_limit self.now) (set_of policies.now).policies) }
+    {
+        let request = Rc::new(alloc, q.clone()?)?;
+        let evaluator = Evaluator::new(q, entities, self.table, self.limit);
+        respond(alloc, &evaluator, request, policies)
+    }
+}
+
+// The response to the evaluator's request by these policies; it keeps that request.
+pub(crate) fn respond<T: FunctionTable>(
+    alloc: Global,
+    evaluator: &Evaluator<'_, T>,
+    request: Rc<Request>,
+    policies: &PolicySet,
+) -> Result<PartialResponse, AllocError>
+    ensures { (fs : Functions) → request_of request.value ≡ asked_of evaluator.now → Serves T.table T.answers_as evaluator.now no_bindings fs → IfOk result (λ r. response_seen r ≡ response_of (scope_in T.table fs evaluator.now no_bindings) (limit_of evaluator.now) (set_of policies.now).policies) }
+{
+    ids_are_distinct();
+    let gathering = gather(alloc, evaluator, policies)?;
+    gathering.into_response(alloc, request)
+}
+
+// The groups of these policies, each by what is left of it.
+fn gather<T: FunctionTable>(
+    alloc: Global,
+    evaluator: &Evaluator<'_, T>,
+    policies: &PolicySet,
+) -> Result<Gathering, AllocError>
+    ensures { (fs : Functions) → Serves T.table T.answers_as evaluator.now no_bindings fs → IfOk result (λ g. gathered (asked_of evaluator.now) g ≡ response_of (scope_in T.table fs evaluator.now no_bindings) (limit_of evaluator.now) (set_of policies.now).policies) }
+{
+    let mut gathering = Gathering::new(alloc);
+    for policy in policies.policies() {
+        let left = verdict_on(alloc, evaluator, policy)?;
+        gathering.put(alloc, policy, left)?;
+    }
+    Ok(gathering)
+}

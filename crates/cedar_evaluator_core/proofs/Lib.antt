@@ -1,0 +1,6 @@
+pub mod Levels
+pub mod Gathered
+pub mod Named
+pub mod Nodes
+pub mod OneLevel
+pub mod Concluded

@@ -1,0 +1,53 @@
+use Rattle.std.proofs.Common.{◌+◌, ◌*◌, drop}
+use Rattle.std.specs.BTreeMap.{values}
+use Rattle.cedar_evaluator_model.specs.Evaluation.{evaluated}
+use Rattle.cedar_evaluator_operators.specs.Calls.{Functions}
+use Rattle.cedar_evaluator_operators.specs.Scopes.{scope_of}
+use Rattle.cedar_evaluator_core.specs.Walked.{Suits}
+use Rattle.cedar_evaluator_core.proofs.Gathered.{SoFar, trees_in}
+use Rattle.cedar_evaluator_core.proofs.walk.+walk.Given as goal
+
+abbrev pub decreases-walk : goal.decreases-walk
+decreases-walk g l = 5 * l.limit
+
+abbrev pub decreases-level : goal.decreases-level
+decreases-level g l = 5 * l.deeper + 3
+
+abbrev pub decreases-choice : goal.decreases-choice
+decreases-choice g l = 5 * l.deeper + 2
+
+abbrev pub decreases-both : goal.decreases-both
+decreases-both g l = 5 * l.deeper + 2
+
+abbrev pub decreases-either : goal.decreases-either
+decreases-either g l = 5 * l.deeper + 2
+
+abbrev pub decreases-attribute : goal.decreases-attribute
+decreases-attribute g l = 5 * l.deeper + 2
+
+abbrev pub decreases-called : goal.decreases-called
+decreases-called g l = 5 * l.deeper + 2
+
+abbrev pub decreases-set : goal.decreases-set
+decreases-set g l = 5 * l.deeper + 2
+
+abbrev pub decreases-record : goal.decreases-record
+decreases-record g l = 5 * l.deeper + 2
+
+abbrev pub decreases-attempt : goal.decreases-attempt
+decreases-attempt g l = 5 * l.deeper + 1
+
+abbrev pub decreases-attribute_left : goal.decreases-attribute_left
+decreases-attribute_left g l = 5 * l.deeper + 1
+
+abbrev pub decreases-pieces : goal.decreases-pieces
+decreases-pieces g l = 5 * l.deeper + 1
+
+abbrev pub decreases-field_pieces : goal.decreases-field_pieces
+decreases-field_pieces g l = 5 * l.deeper + 1
+
+abbrev pub invariant-pieces-loop-e : goal.invariant-pieces-loop-e
+invariant-pieces-loop-e g l = (fs : Functions) → Suits g.T.FunctionTable.table g.T.FunctionTable.answers_as l.known fs → SoFar (evaluated (scope_of g.T.FunctionTable.table fs l.known) l.deeper) (trees_in l.exprs) l.values.items (trees_in (drop l.e-index l.exprs))
+
+abbrev pub invariant-field_pieces-loop-e : goal.invariant-field_pieces-loop-e
+invariant-field_pieces-loop-e g l = (fs : Functions) → Suits g.T.FunctionTable.table g.T.FunctionTable.answers_as l.known fs → SoFar (evaluated (scope_of g.T.FunctionTable.table fs l.known) l.deeper) (trees_in (values l.fields)) l.values.items (trees_in l.e-iterator)

@@ -1,0 +1,170 @@
+//! What is left of an expression whose parts are evaluated already.
+
+ghost use Rattle.std.specs.Prelude.{◌≡◌, true, false, map};
+ghost use Rattle.std.specs.Option.{option_map_or};
+ghost use Rattle.std.specs.Rc.{rc_str_bytes};
+ghost use Rattle.cedar_expr_leaves.specs.Patterns.{pattern_of};
+ghost use Rattle.cedar_expr_leaves.specs.Operators.{unary_op_of};
+ghost use Rattle.cedar_expr_model.specs.Name.{name_eq};
+ghost use Rattle.cedar_expr_model.specs.Whole.Builder.{conjunction, disjunction};
+ghost use Rattle.cedar_expr_model.specs.Whole.Made.{bare};
+ghost use Rattle.cedar_expr_model.specs.Whole.Tree.{choice, unary, like as like_tree, is_type};
+ghost use Rattle.cedar_expr_names.specs.Views.{type_name_of};
+ghost use Rattle.cedar_expr_trees.specs.Trees.{tree_of};
+ghost use Rattle.cedar_store_model.specs.Whole.Operators.{applied as model_applied, like_pattern, of_type};
+ghost use Rattle.cedar_evaluator_model.specs.Scope.{Left as ModelLeft, value_left, residual};
+ghost use Rattle.cedar_evaluator_model.specs.Steps.{on_value, best, left_of, truth_left, kind_of_unknown};
+ghost use Rattle.cedar_evaluator_model.specs.Evaluation.{right_left};
+ghost use Rattle.cedar_evaluator_errors.specs.Outcomes.{Leaves, IsTree, left_seen};
+
+use cedar_evaluator_errors::EvaluationError;
+use cedar_evaluator_operators::unary::{as_truth, is_of_type, like, unary_app};
+use cedar_evaluator_reads::Left;
+use cedar_evaluator_reads::leaves::truth;
+use cedar_evaluator_reads::reads::{get_left, has_left};
+use cedar_evaluator_reads::seen::{annotated, field_expr, record_of};
+use cedar_expr_leaves::{Literal, Pattern, UnaryOp};
+use cedar_expr_names::{EntityType, Loc};
+use cedar_expr_partial::{FromValue, PartialValue};
+use cedar_expr_trees::Expr;
+use std::alloc::Global;
+use std::rc::RcStr;
+
+/// The right side of `and`, whose left side is true.
+pub fn and_right(alloc: Global, right: Left) -> Result<Left, EvaluationError>
+    ensures { Leaves (right_left conjunction true (left_seen right)) result }
+{
+    match right {
+        PartialValue::Value(v) => Ok(PartialValue::Value(as_truth(alloc, &v)?)),
+        PartialValue::Residual(r) => {
+            let whole = Expr::and(alloc, Expr::val(Literal::from(true)), r)?;
+            Ok(PartialValue::Residual(whole))
+        }
+    }
+}
+
+/// The right side of `or`, whose left side is false.
+pub fn or_right(alloc: Global, right: Left) -> Result<Left, EvaluationError>
+    ensures { Leaves (right_left disjunction false (left_seen right)) result }
+{
+    match right {
+        PartialValue::Value(v) => Ok(PartialValue::Value(as_truth(alloc, &v)?)),
+        PartialValue::Residual(r) => {
+            let whole = Expr::or(alloc, Expr::val(Literal::from(false)), r)?;
+            Ok(PartialValue::Residual(whole))
+        }
+    }
+}
+
+/// A conjunction that stays.
+pub fn and_left(alloc: Global, left: Expr, right: Expr) -> Result<Left, EvaluationError>
+    ensures { Leaves (residual (conjunction (tree_of left) (tree_of right))) result }
+{
+    Ok(PartialValue::Residual(Expr::and(alloc, left, right)?))
+}
+
+/// A disjunction that stays.
+pub fn or_left(alloc: Global, left: Expr, right: Expr) -> Result<Left, EvaluationError>
+    ensures { Leaves (residual (disjunction (tree_of left) (tree_of right))) result }
+{
+    Ok(PartialValue::Residual(Expr::or(alloc, left, right)?))
+}
+
+/// A choice that stays.
+pub fn choice_left(
+    alloc: Global,
+    test: Expr,
+    first: Expr,
+    last: Expr,
+) -> Result<Left, EvaluationError>
+    ensures { Leaves (residual (choice (tree_of test) (tree_of first) (tree_of last))) result }
+{
+    Ok(PartialValue::Residual(Expr::ite(alloc, test, first, last)?))
+}
+
+/// An operator of one operand; an overflow has this place.
+pub fn unary_left(
+    alloc: Global,
+    op: UnaryOp,
+    arg: Left,
+    loc: Option<Loc>,
+) -> Result<Left, EvaluationError>
+    ensures { Leaves (on_value (left_seen arg) (λ m. left_of (model_applied (unary_op_of op) (bare m))) (λ r. residual (unary (unary_op_of op) r))) result }
+{
+    match arg {
+        PartialValue::Value(v) => Ok(PartialValue::Value(unary_app(alloc, op, &v, loc)?)),
+        PartialValue::Residual(r) => Ok(PartialValue::Residual(Expr::unary_app(alloc, op, r)?)),
+    }
+}
+
+/// Whether it matches a pattern.
+pub fn like_left(alloc: Global, arg: Left, pattern: &Pattern) -> Result<Left, EvaluationError>
+    ensures { Leaves (on_value (left_seen arg) (λ m. left_of (like_pattern (pattern_of pattern.now) (bare m))) (λ r. residual (like_tree r (pattern_of pattern.now)))) result }
+{
+    match arg {
+        PartialValue::Value(v) => Ok(PartialValue::Value(like(alloc, pattern, &v)?)),
+        PartialValue::Residual(r) => {
+            Ok(PartialValue::Residual(Expr::like(alloc, r, pattern.clone()?)?))
+        }
+    }
+}
+
+/// Whether it is of an entity type; an unknown annotated with an entity type is decided by that type.
+pub fn is_left(alloc: Global, arg: Left, kind: &EntityType) -> Result<Left, EvaluationError>
+    ensures { Leaves (on_value (left_seen arg) (λ m. left_of (of_type (type_name_of kind.now) (bare m))) (λ r. option_map_or (λ k. truth_left (name_eq k (type_name_of kind.now))) (kind_of_unknown r) (residual (is_type r (type_name_of kind.now))))) result }
+{
+    match arg {
+        PartialValue::Value(v) => Ok(PartialValue::Value(is_of_type(alloc, kind, &v)?)),
+        PartialValue::Residual(r) => match annotated(&r) {
+            Some(k) => Ok(PartialValue::Value(truth(k.same(kind)))),
+            None => Ok(PartialValue::Residual(Expr::is_entity_type(alloc, r, kind.clone()?)?)),
+        },
+    }
+}
+
+ghost use Rattle.cedar_evaluator_model.specs.Evaluation.{has_of_residual};
+
+/// Whether a residual has an attribute.
+pub fn has_of(alloc: Global, r: Expr, attr: &RcStr) -> Result<Left, EvaluationError>
+    ensures { Leaves (has_of_residual (rc_str_bytes attr.now) (tree_of r)) result }
+{
+    if let Some(fields) = record_of(&r) {
+        if r.is_projectable() {
+            let there = field_expr(fields, attr.as_str()).is_some();
+            return Ok(PartialValue::Value(truth(there)));
+        }
+    }
+    has_left(alloc, r, attr)
+}
+
+/// A residual that is asked for an attribute and stays.
+pub fn get_of(alloc: Global, r: &Expr, attr: &RcStr) -> Result<Left, EvaluationError>
+    ensures { Leaves (residual (get_attr (tree_of r.now) (rc_str_bytes attr.now))) result }
+{
+    get_left(alloc, r.clone()?, attr)
+}
+
+ghost use Rattle.cedar_expr_model.specs.Whole.Tree.{Tree, get_attr};
+ghost use Rattle.cedar_evaluator_model.specs.Scope.{Stop, stopped};
+ghost use Rattle.cedar_evaluator_errors.specs.Outcomes.{is_memory, stop_or};
+
+/// What is left of an expression, as an expression.
+pub fn expr_of(alloc: Global, left: Left) -> Result<Expr, EvaluationError>
+    ensures { (t : Tree) → IsTree (best t (left_seen left)) result }
+{
+    match left {
+        PartialValue::Value(v) => Ok(Expr::from_value(alloc, &v)?),
+        PartialValue::Residual(r) => Ok(r),
+    }
+}
+
+/// An expression of which best effort left nothing, as it was, unless memory is wanting.
+pub fn given_up(e: &Expr, error: EvaluationError) -> Result<Expr, EvaluationError>
+    ensures { (l : ModelLeft) → ((other : Stop) → is_memory error ≡ false → l ≡ stopped (stop_or other error)) → IsTree (best (tree_of e.now) l) result }
+{
+    if error.is_out_of_memory() {
+        Err(error)
+    } else {
+        Ok(e.clone()?)
+    }
+}

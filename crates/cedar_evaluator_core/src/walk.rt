@@ -1,0 +1,330 @@
+//! The walk along an expression, within a limit on its depth.
+
+ghost use Rattle.std.specs.Prelude.{map};
+ghost use Rattle.std.specs.Map.{values_of};
+ghost use Rattle.std.specs.Rc.{rc_str_bytes};
+ghost use Rattle.cedar_expr_model.specs.Whole.Builder.{trees, tree_fields};
+ghost use Rattle.cedar_expr_model.specs.Whole.Parts.{listed, listed_fields};
+ghost use Rattle.cedar_expr_model.specs.Whole.Tree.{choice, both, either, get_attr, call, set_literal, record_literal};
+ghost use Rattle.cedar_expr_names.specs.Views.{plain_name_of};
+ghost use Rattle.cedar_expr_trees.specs.Trees.{tree_of, kind_tree, named, field_trees};
+ghost use Rattle.cedar_evaluator_core.specs.Walked.{LeavesWithin, LeavesLevel, LeavesField, BestWithin, PiecesWithin};
+
+use crate::calls::call_left;
+use crate::parts::{record_left, set_left};
+use crate::rebuilt::{
+    and_left, and_right, choice_left, expr_of, get_of, given_up, is_left, like_left, or_left,
+    or_right, unary_left,
+};
+use crate::tested::tested;
+use cedar_evaluator_errors::EvaluationError;
+use cedar_evaluator_errors::evaluation_errors::RecursionLimitError;
+use cedar_evaluator_operators::FunctionTable;
+use cedar_evaluator_operators::binary::binary_left;
+use cedar_evaluator_operators::unary::as_bool;
+use cedar_evaluator_reads::leaves::{literal_value, truth};
+use cedar_evaluator_reads::missing::no_such_field;
+use cedar_evaluator_reads::seen::{field_expr, record_of};
+use cedar_evaluator_reads::{Knowledge, Left};
+use cedar_expr_names::{Loc, Name};
+use cedar_expr_partial::PartialValue;
+use cedar_expr_trees::{Expr, ExprKind};
+use std::alloc::Global;
+use std::collections::BTreeMap;
+use std::rc::RcStr;
+
+/// What is left of the expression, which may nest as deep as the limit. What is left takes the expression's place, and so does an error
+/// without a place. Errors: those of the steps, and `RecursionLimit`.
+#[cycle(walk)]
+pub fn walk<T: FunctionTable>(
+    alloc: Global,
+    known: &Knowledge<'_, T>,
+    limit: u32,
+    e: &Expr,
+) -> Result<Left, EvaluationError>
+    ensures { LeavesWithin T.table T.answers_as known.now limit (tree_of e.now) result }
+{
+    let source_loc = e.source_loc();
+    if limit == 0 {
+        return Err(EvaluationError::RecursionLimit(RecursionLimitError { source_loc }));
+    }
+    match level(alloc, known, limit - 1, e.expr_kind(), source_loc) {
+        Ok(left) => Ok(left.with_maybe_source_loc(source_loc)),
+        Err(error) => Err(error.or_at(source_loc)),
+    }
+}
+
+// One level.
+#[cycle(walk)]
+fn level<T: FunctionTable>(
+    alloc: Global,
+    known: &Knowledge<'_, T>,
+    deeper: u32,
+    kind: &ExprKind,
+    loc: Option<Loc>,
+) -> Result<Left, EvaluationError>
+    ensures { LeavesLevel T.table T.answers_as known.now deeper (kind_tree kind.now) result }
+{
+    match kind {
+        ExprKind::Lit(literal) => literal_value(literal),
+        ExprKind::Var(v) => known.variable(alloc, *v),
+        ExprKind::Slot(s) => known.slot(*s),
+        ExprKind::Unknown(u) => known.unknown(alloc, u),
+        ExprKind::If {
+            test_expr,
+            then_expr,
+            else_expr,
+        } => choice(alloc, known, deeper, test_expr, then_expr, else_expr),
+        ExprKind::And { left, right } => both(alloc, known, deeper, left, right),
+        ExprKind::Or { left, right } => either(alloc, known, deeper, left, right),
+        ExprKind::UnaryApp { op, arg } => {
+            let arg = walk(alloc, known, deeper, arg)?;
+            unary_left(alloc, *op, arg, loc)
+        }
+        ExprKind::Like { expr, pattern } => {
+            let arg = walk(alloc, known, deeper, expr)?;
+            like_left(alloc, arg, pattern)
+        }
+        ExprKind::Is { expr, entity_type } => {
+            let arg = walk(alloc, known, deeper, expr)?;
+            is_left(alloc, arg, entity_type)
+        }
+        ExprKind::BinaryApp { op, arg1, arg2 } => {
+            let first = walk(alloc, known, deeper, arg1)?;
+            let second = walk(alloc, known, deeper, arg2)?;
+            binary_left(alloc, known, *op, first, second, loc)
+        }
+        ExprKind::ExtensionFunctionApp { fn_name, args } => {
+            called(alloc, known, deeper, fn_name, args.as_slice())
+        }
+        ExprKind::GetAttr { expr, attr } => attribute(alloc, known, deeper, expr, attr),
+        ExprKind::HasAttr { expr, attr } => {
+            let arg = walk(alloc, known, deeper, expr)?;
+            tested(alloc, known, arg, attr)
+        }
+        ExprKind::ExtHasAttr { expr, attrs } => {
+            let arg = walk(alloc, known, deeper, expr)?;
+            known.path_left(alloc, arg, attrs)
+        }
+        ExprKind::Set(members) => set(alloc, known, deeper, members.as_slice()),
+        ExprKind::Record(fields) => record(alloc, known, deeper, fields),
+    }
+}
+
+// `if`.
+#[cycle(walk)]
+fn choice<T: FunctionTable>(
+    alloc: Global,
+    known: &Knowledge<'_, T>,
+    deeper: u32,
+    test: &Expr,
+    first: &Expr,
+    last: &Expr,
+) -> Result<Left, EvaluationError>
+    ensures { LeavesLevel T.table T.answers_as known.now deeper (choice (tree_of test.now) (tree_of first.now) (tree_of last.now)) result }
+{
+    match walk(alloc, known, deeper, test)? {
+        PartialValue::Value(v) => {
+            if as_bool(alloc, &v)? {
+                walk(alloc, known, deeper, first)
+            } else {
+                walk(alloc, known, deeper, last)
+            }
+        }
+        PartialValue::Residual(r) => {
+            let first = attempt(alloc, known, deeper, first)?;
+            let last = attempt(alloc, known, deeper, last)?;
+            choice_left(alloc, r, first, last)
+        }
+    }
+}
+
+// `and`.
+#[cycle(walk)]
+fn both<T: FunctionTable>(
+    alloc: Global,
+    known: &Knowledge<'_, T>,
+    deeper: u32,
+    left: &Expr,
+    right: &Expr,
+) -> Result<Left, EvaluationError>
+    ensures { LeavesLevel T.table T.answers_as known.now deeper (both (tree_of left.now) (tree_of right.now)) result }
+{
+    match walk(alloc, known, deeper, left)? {
+        PartialValue::Value(v) => {
+            if as_bool(alloc, &v)? {
+                let second = walk(alloc, known, deeper, right)?;
+                and_right(alloc, second)
+            } else {
+                Ok(PartialValue::Value(truth(false)))
+            }
+        }
+        PartialValue::Residual(r) => {
+            let second = attempt(alloc, known, deeper, right)?;
+            and_left(alloc, r, second)
+        }
+    }
+}
+
+// `or`.
+#[cycle(walk)]
+fn either<T: FunctionTable>(
+    alloc: Global,
+    known: &Knowledge<'_, T>,
+    deeper: u32,
+    left: &Expr,
+    right: &Expr,
+) -> Result<Left, EvaluationError>
+    ensures { LeavesLevel T.table T.answers_as known.now deeper (either (tree_of left.now) (tree_of right.now)) result }
+{
+    match walk(alloc, known, deeper, left)? {
+        PartialValue::Value(v) => {
+            if as_bool(alloc, &v)? {
+                Ok(PartialValue::Value(truth(true)))
+            } else {
+                let second = walk(alloc, known, deeper, right)?;
+                or_right(alloc, second)
+            }
+        }
+        PartialValue::Residual(r) => {
+            let second = attempt(alloc, known, deeper, right)?;
+            or_left(alloc, r, second)
+        }
+    }
+}
+
+// A call.
+#[cycle(walk)]
+fn called<T: FunctionTable>(
+    alloc: Global,
+    known: &Knowledge<'_, T>,
+    deeper: u32,
+    name: &Name,
+    args: &[Expr],
+) -> Result<Left, EvaluationError>
+    ensures { LeavesLevel T.table T.answers_as known.now deeper (call (plain_name_of name.now) (trees (map tree_of args.now))) result }
+{
+    let parts = pieces(alloc, known, deeper, args)?;
+    call_left(alloc, known, name, parts)
+}
+
+// A set.
+#[cycle(walk)]
+fn set<T: FunctionTable>(
+    alloc: Global,
+    known: &Knowledge<'_, T>,
+    deeper: u32,
+    members: &[Expr],
+) -> Result<Left, EvaluationError>
+    ensures { LeavesLevel T.table T.answers_as known.now deeper (set_literal (trees (map tree_of members.now))) result }
+{
+    let parts = pieces(alloc, known, deeper, members)?;
+    set_left(alloc, parts)
+}
+
+// What each of these leaves.
+#[cycle(walk)]
+fn pieces<T: FunctionTable>(
+    alloc: Global,
+    known: &Knowledge<'_, T>,
+    deeper: u32,
+    exprs: &[Expr],
+) -> Result<Vec<Left>, EvaluationError>
+    ensures { PiecesWithin T.table T.answers_as known.now deeper (listed (trees (map tree_of exprs.now))) result }
+{
+    let mut values = Vec::with_capacity(alloc, exprs.len())?;
+    for e in exprs {
+        values.push(walk(alloc, known, deeper, e)?)?;
+    }
+    Ok(values)
+}
+
+// A record.
+#[cycle(walk)]
+fn record<T: FunctionTable>(
+    alloc: Global,
+    known: &Knowledge<'_, T>,
+    deeper: u32,
+    fields: &BTreeMap<RcStr, Expr>,
+) -> Result<Left, EvaluationError>
+    ensures { LeavesLevel T.table T.answers_as known.now deeper (record_literal (tree_fields (named (field_trees fields.now.entries)))) result }
+{
+    let parts = field_pieces(alloc, known, deeper, fields)?;
+    record_left(alloc, fields, parts)
+}
+
+// What the fields of a record leave, in the order of their names.
+#[cycle(walk)]
+fn field_pieces<T: FunctionTable>(
+    alloc: Global,
+    known: &Knowledge<'_, T>,
+    deeper: u32,
+    fields: &BTreeMap<RcStr, Expr>,
+) -> Result<Vec<Left>, EvaluationError>
+    ensures { PiecesWithin T.table T.answers_as known.now deeper (values_of (listed_fields (tree_fields (named (field_trees fields.now.entries))))) result }
+{
+    let mut values = Vec::with_capacity(alloc, fields.len())?;
+    for e in fields.values() {
+        values.push(walk(alloc, known, deeper, e)?)?;
+    }
+    Ok(values)
+}
+
+// An attribute.
+#[cycle(walk)]
+fn attribute<T: FunctionTable>(
+    alloc: Global,
+    known: &Knowledge<'_, T>,
+    deeper: u32,
+    e: &Expr,
+    attr: &RcStr,
+) -> Result<Left, EvaluationError>
+    ensures { LeavesLevel T.table T.answers_as known.now deeper (get_attr (tree_of e.now) (rc_str_bytes attr.now)) result }
+{
+    match walk(alloc, known, deeper, e)? {
+        PartialValue::Value(v) => known.attribute(alloc, attr, &v),
+        PartialValue::Residual(r) => attribute_left(alloc, known, deeper, &r, attr),
+    }
+}
+
+// An attribute of a residual: one of a record that may be projected is evaluated again.
+#[cycle(walk)]
+fn attribute_left<T: FunctionTable>(
+    alloc: Global,
+    known: &Knowledge<'_, T>,
+    deeper: u32,
+    r: &Expr,
+    attr: &RcStr,
+) -> Result<Left, EvaluationError>
+    ensures { LeavesField T.table T.answers_as known.now deeper (rc_str_bytes attr.now) (tree_of r.now) result }
+{
+    match record_of(r) {
+        None => get_of(alloc, r, attr),
+        Some(fields) => match field_expr(fields, attr.as_str()) {
+            None => no_such_field(alloc, fields, attr),
+            Some(field) => {
+                if r.is_projectable() {
+                    walk(alloc, known, deeper, field)
+                } else {
+                    get_of(alloc, r, attr)
+                }
+            }
+        },
+    }
+}
+
+// What best effort leaves of an expression: where it stops, the expression as it was.
+#[cycle(walk)]
+fn attempt<T: FunctionTable>(
+    alloc: Global,
+    known: &Knowledge<'_, T>,
+    deeper: u32,
+    e: &Expr,
+) -> Result<Expr, EvaluationError>
+    ensures { BestWithin T.table T.answers_as known.now deeper (tree_of e.now) result }
+{
+    match walk(alloc, known, deeper, e) {
+        Ok(left) => expr_of(alloc, left),
+        Err(error) => given_up(e, error),
+    }
+}

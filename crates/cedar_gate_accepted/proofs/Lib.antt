@@ -1,0 +1,4 @@
+pub mod Judging
+pub mod Listed
+pub mod Tested
+pub mod Together

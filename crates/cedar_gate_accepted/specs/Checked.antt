@@ -1,0 +1,43 @@
+-- What typing and levels say of policies, together.
+-- Rule: the acceptance rules; impossible policies (docs/RULES.md).
+use Rattle.std.specs.Prelude.{◌≡◌, ℕ, List, map, not, true}
+use Rattle.std.specs.List.{list_all, filter, flat_map}
+use Rattle.cedar_expr_model.specs.Name.{Text}
+use Rattle.cedar_expr_model.specs.Whole.Lists.{is_nil}
+use Rattle.cedar_expr_model.specs.Whole.Table.{Table}
+use Rattle.cedar_gate_accepted.specs.declared.checked.Checked.{Checked}
+use Rattle.cedar_gate_model.specs.Whole.Acceptance.{Submission, ill_typed, reaches_too_far, schema_in, is_clear_of}
+use Rattle.cedar_gate_typing.specs.Views.{reach_of}
+use Rattle.cedar_schema_model.specs.Whole.Schema.{Schema}
+use Rattle.cedar_store_model.specs.Whole.Answer.{ids}
+use Rattle.cedar_store_model.specs.Whole.Policy.{Policy}
+use Rattle.cedar_store_parts.specs.Parts.{id_text}
+use Rattle.cedar_typechecker_model.specs.Whole.Verdicts.{RequestType, passes, impossible, irrelevant_for, policy_violations}
+use Rattle.cedar_typechecker_seen_model.specs.Alike.{AnswersAlike, HasSameSignatures}
+
+-- The check says of these policies what is to be said of them.
+pub record ChecksAll (n : ℕ) (s : Schema) (x : Table) (ps : List Policy) (c : Checked) : Type 0 where
+  pub passes : c.passes ≡ list_all (passes s x) ps
+  pub violations : map reach_of c.violations.items ≡ flat_map (policy_violations n s x) ps
+  pub warnings : map id_text c.warnings.items ≡ ids (filter (impossible s x) ps)
+
+-- The submission has these policies and this level, a schema that answers as this one does, and a table of the same functions.
+pub record IsTypedBy (t : Schema) (y : Table) (ps : List Policy) (n : ℕ) (s : Submission) : Type 0 where
+  pub schema : AnswersAlike (schema_in s) t
+  pub table : HasSameSignatures s.table y
+  pub policies : s.policies ≡ ps
+  pub level : s.level ≡ n
+
+-- The check says whether the submission is clear of the faults of typing and of levels.
+pub record IsJudgedBy (s : Submission) (c : Checked) : Type 0 where
+  pub typed : is_clear_of ill_typed s ≡ c.passes
+  pub near : is_clear_of reaches_too_far s ≡ is_nil c.violations.items
+
+-- It has neither.
+pub record IsClearOfTyping (s : Submission) : Type 0 where
+  pub typed : is_clear_of ill_typed s ≡ true
+  pub near : is_clear_of reaches_too_far s ≡ true
+
+-- the ids of the policies that aren't irrelevant for a request's types
+abbrev pub relevant_ids : Schema → Table → RequestType → List Policy → List Text
+relevant_ids s x r ps = ids (filter (λ p. not (irrelevant_for s x r p)) ps)

@@ -1,0 +1,102 @@
+//! What typing and levels say of policies, together.
+
+ghost use Rattle.std.specs.Prelude.{◌≡◌, ◌&&◌, ◌++◌, ◌∷◌, [], List, map, if◌then◌else◌, IfOk, OnOk};
+ghost use Rattle.cedar_gate_accepted.specs.Checked.{ChecksAll};
+ghost use Rattle.cedar_gate_rules.specs.Policies.{policies_of};
+ghost use Rattle.cedar_gate_typing.specs.Views.{reach_of};
+ghost use Rattle.cedar_store_model.specs.Whole.Policy.{Policy as ModelPolicy};
+ghost use Rattle.cedar_store_parts.specs.Parts.{id_text};
+ghost use Rattle.cedar_store_policies.specs.Policies.{policy_of};
+
+use cedar_gate_faults::PolicyViolation;
+use cedar_gate_typing::check_policy;
+use cedar_store_parts::PolicyID;
+use cedar_store_policies::Policy;
+use cedar_typechecker_scopes::SchemaEnvironments;
+use std::alloc::{AllocError, Global};
+
+// What typing and levels say of policies.
+#[derive(Drop)]
+pub(crate) struct Checked {
+    // Whether each of them passes.
+    pub(crate) passes: bool,
+    // Where they reach too far.
+    pub(crate) violations: Vec<PolicyViolation>,
+    // The ids of the impossible ones.
+    pub(crate) warnings: Vec<PolicyID>,
+}
+
+// Puts these violations behind those that were found.
+fn add_violations(
+    found: &mut Vec<PolicyViolation>,
+    violations: Vec<PolicyViolation>,
+) -> Result<(), AllocError>
+    ensures { OnOk result (map reach_of found.new.items ≡ map reach_of found.old.items ++ map reach_of violations.items) }
+{
+    for violation in violations {
+        found.push(violation)?;
+    }
+    Ok(())
+}
+
+// Puts the policy's id behind the warnings, if the policy is impossible.
+fn add_warning(
+    warnings: &mut Vec<PolicyID>,
+    policy: &Policy,
+    is_impossible: bool,
+) -> Result<(), AllocError>
+    ensures { OnOk result (map id_text warnings.new.items ≡ map id_text warnings.old.items ++ (if is_impossible then ((policy_of policy.now).id ∷ []) else [])) }
+{
+    if is_impossible {
+        let id = policy.id().clone()?;
+        warnings.push(id)?;
+    }
+    Ok(())
+}
+
+// Adds whether one more policy passes.
+fn add_pass(checked: &mut Checked, passes: bool)
+    ensures passes { checked.new.passes ≡ (checked.old.passes && passes) }
+    ensures violations { checked.new.violations ≡ checked.old.violations }
+    ensures warnings { checked.new.warnings ≡ checked.old.warnings }
+{
+    checked.passes = checked.passes && passes;
+}
+
+// Adds what typing and levels say of one more policy.
+#[tactic(auto, using(crate::proofs::Judging::checks_more))]
+fn add_policy<S: SchemaEnvironments>(
+    alloc: Global,
+    schema: &S,
+    level: u32,
+    policy: &Policy,
+    checked: &mut Checked,
+) -> Result<(), AllocError>
+    ensures { OnOk result ((ps : List ModelPolicy) → ChecksAll level (S.schema schema.now) (S.table schema.now) ps checked.old → ChecksAll level (S.schema schema.now) (S.table schema.now) (ps ++ policy_of policy.now ∷ []) checked.new) }
+{
+    let check = check_policy(alloc, schema, level, policy)?;
+    add_warning(&mut checked.warnings, policy, check.is_impossible)?;
+    add_pass(checked, check.passes);
+    add_violations(&mut checked.violations, check.violations)
+}
+
+// What typing and levels say of these policies: the condition of each is typed once in each of its environments. Answers want of
+// memory.
+pub(crate) fn check_all<S: SchemaEnvironments>(
+    alloc: Global,
+    schema: &S,
+    level: u32,
+    policies: &[Policy],
+) -> Result<Checked, AllocError>
+    ensures { IfOk result (ChecksAll level (S.schema schema.now) (S.table schema.now) (policies_of policies.now)) }
+{
+    let mut checked = Checked {
+        passes: true,
+        violations: Vec::new(alloc),
+        warnings: Vec::new(alloc),
+    };
+    for policy in policies {
+        add_policy(alloc, schema, level, policy, &mut checked)?;
+    }
+    Ok(checked)
+}

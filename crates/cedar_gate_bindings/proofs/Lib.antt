@@ -1,0 +1,5 @@
+pub mod Asking
+pub mod Absent
+pub mod Opened
+pub mod Taken
+pub mod Refused

@@ -1,0 +1,6 @@
+mod Texts
+mod Placed
+mod Numbered
+mod Shown
+mod Whole
+mod Rising

@@ -1,0 +1,12 @@
+use Rattle.std.proofs.Common.{◌≡◌, map}
+use Rattle.cedar_expr_names.specs.Views.{uid_of}
+use Rattle.cedar_gate_conforming_model.specs.Asked.{has_wrong_ancestor}
+use Rattle.cedar_schema_built.specs.Views.{schema_kept}
+use Rattle.cedar_schema_model.specs.Whole.Conforming.{among_actions}
+use Rattle.cedar_store_entities.specs.Views.{entity_uid, entity_of}
+use Rattle.cedar_gate_conforming.proofs.ancestors.action_has_wrong_ancestor.Given as goal
+
+abbrev pub invariant-loop-above : goal.invariant-loop-above
+invariant-loop-above l =
+    has_wrong_ancestor (schema_kept l.schema) (entity_uid l.entity) among_actions (map uid_of l.above-iterator)
+    ≡ has_wrong_ancestor (schema_kept l.schema) (entity_uid l.entity) among_actions (entity_of l.entity).ancestors

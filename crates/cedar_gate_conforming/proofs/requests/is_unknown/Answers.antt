@@ -1,0 +1,11 @@
+use Rattle.std.proofs.Common.{ap, ◌∙◌}
+use Rattle.std.specs.Prelude.{is_none}
+use Rattle.cedar_evaluator_requests.specs.Views.{entry_of}
+use Rattle.cedar_gate_conforming.proofs.Placed.{known_is}
+use Rattle.cedar_gate_conforming.proofs.requests.is_unknown.Goals as goal
+
+pub returns-in-Some : goal.returns-in-Some
+returns-in-Some c = ap is_none (c.in-Some.ensures ∙ known_is (entry_of c.args.entry.now))
+
+pub returns-in-None : goal.returns-in-None
+returns-in-None c = ap is_none (c.in-None.ensures ∙ known_is (entry_of c.args.entry.now))

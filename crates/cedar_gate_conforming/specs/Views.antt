@@ -1,0 +1,49 @@
+-- What the code's requests and parts of entities are where conformance asks.
+-- Rule: conforming entities; conforming requests (docs/RULES.md).
+use Rattle.std.specs.Prelude.{List, map, Option, option_map, option_and_then, Bool, true, false}
+use Rattle.std.specs.Borrow.{Bor}
+use Rattle.cedar_expr_model.specs.Name.{Text}
+use Rattle.cedar_expr_model.specs.Whole.Made.{Made}
+use Rattle.cedar_expr_model.specs.Whole.Value.{V}
+use Rattle.cedar_expr_model.specs.Whole.ValueParts.{Part}
+use Rattle.cedar_store_model.specs.Whole.Store.{OpenRequest}
+use Rattle.cedar_store_entities.specs.Views.{bare_part}
+use Rattle.cedar_schema_model.specs.Whole.Schema.{EntityKind, standard, enumerated, external}
+use Rattle.cedar_schema_model.specs.Whole.Types.{Ty}
+use Rattle.cedar_schema_types.specs.Types.{type_of}
+use Rattle.cedar_schema_types.specs.declared.types.Type.{«Type» as CodeType}
+use Rattle.cedar_schema_kept_model.specs.Kept.{KeptAction, Kept, kept_action}
+use Rattle.cedar_evaluator_model.specs.Known.{known_entry, known_context}
+use Rattle.cedar_evaluator_model.specs.Response.{PartialRequest}
+use Rattle.cedar_evaluator_requests.specs.Views.{request_of, context_or_unknown}
+use Rattle.cedar_evaluator_requests.specs.declared.context.Context.{Context}
+use Rattle.cedar_evaluator_requests.specs.declared.request.Request.{Request}
+
+-- attributes or tags, without the calls that make their values
+abbrev pub bare_parts : List (Text × Part Made) → List (Text × Part V)
+bare_parts ps = map (λ p. (p.0, bare_part p.1)) ps
+
+-- the request, of which what isn't a value is open
+abbrev pub open_request : PartialRequest → OpenRequest
+open_request r = record { principal = known_entry r.principal; action = known_entry r.action; resource = known_entry r.resource; context = known_context r.context }
+
+abbrev pub request_seen : Request → OpenRequest
+request_seen q = open_request (request_of q)
+
+-- a context, where it is there and a value
+abbrev pub context_seen : Option (Bor Context) → Option V
+context_seen c = known_context (context_or_unknown (option_map (λ c. c.now) c))
+
+-- a type, where there is one
+abbrev pub type_seen : Option (Bor CodeType) → Option Ty
+type_seen t = option_map (λ t. type_of t.now) t
+
+-- the action that is asked for, where it is known and kept
+abbrev pub action_asked : Kept → OpenRequest → Option KeptAction
+action_asked k r = option_and_then (kept_action k) r.action
+
+-- an enumerated kind
+abbrev pub is_enumerated : EntityKind → Bool
+is_enumerated (standard as_ t) = false
+is_enumerated (enumerated ids) = true
+is_enumerated external = false

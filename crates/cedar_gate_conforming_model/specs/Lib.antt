@@ -1,0 +1,4 @@
+pub mod Asked
+pub mod Alike
+pub mod First
+pub mod Laws

@@ -1,0 +1,5 @@
+pub mod Answers
+pub mod Bounds
+pub mod Laws
+pub mod Outcomes
+pub mod Verdicts

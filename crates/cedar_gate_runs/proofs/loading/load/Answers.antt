@@ -1,0 +1,38 @@
+use Rattle.std.proofs.Common.{◌≡◌, [], ◌∷◌, map, length, refl, sym, ap, ◌∙◌, subst}
+use Rattle.cedar_expr_names.specs.Views.{uid_of}
+use Rattle.cedar_gate_model.specs.Whole.Runs.{supplied_by, with_asked}
+use Rattle.cedar_gate_model.specs.Whole.RunsAnswer.{session_of}
+use Rattle.cedar_gate_model.specs.Whole.Session.{SupplyRefusal, SupplyFault}
+use Rattle.cedar_gate_model.specs.Whole.Transcript.{round}
+use Rattle.cedar_gate_runs.proofs.Faulted.{round_stops}
+use Rattle.cedar_gate_runs.proofs.Looped.{not_none, round_done}
+use Rattle.cedar_gate_runs.proofs.Pushed.{handed, pushed, uids_none}
+use Rattle.cedar_gate_runs.specs.Running.{StopsSupply}
+use Rattle.cedar_gate_runs.proofs.loading.load.Goals as goal
+
+pub returns-in_err-take_in-clause-stopped : goal.returns-in_err-take_in-clause-stopped
+returns-in_err-take_in-clause-stopped g c =
+    let items = c.in_ok-wanted.wanted.items in
+    let us = map uid_of items in
+    let stop = c.in_err-take_in.field-0.0 in
+    let some = not_none items _ c.is_empty.result (sym c.as_slice.ensures.len ∙ ap length c.as_slice.ensures.value) c.is_empty.ensures c.if-is_empty.false in
+    handed _ stop c.from_residual-in_err-take_in.result c.from_residual-in_err-take_in.ensures.1
+    (λ d s h i.
+    round_stops (session_of d) s us stop (λ k. some (uids_none items k)) (c.in_ok-wanted.ensures.exact d s h)
+    (subst (λ xs. StopsSupply (session_of d) s (supplied_by (session_of d) (map uid_of xs)) stop) c.as_slice.ensures.value (c.in_err-take_in.ensures.refused d s h i)))
+
+pub returns-clause-did : goal.returns-clause-did
+returns-clause-did g c =
+    let items = c.in_ok-wanted.wanted.items in
+    let us = map uid_of items in
+    let some = not_none items _ c.is_empty.result (sym c.as_slice.ensures.len ∙ ap length c.as_slice.ensures.value) c.is_empty.ensures c.if-is_empty.false in
+    λ d s h i.
+    let same : map uid_of c.as_slice.result.now ≡ us = ap (map uid_of) c.as_slice.ensures.value in
+    record {
+      entries = round us ∷ [];
+      state = with_asked s us;
+      leads = round_done (session_of d) s us (λ k. some (uids_none items k)) (c.in_ok-wanted.ensures.exact d s h)
+          (subst (λ vs. (f : SupplyRefusal) → SupplyFault (session_of d) s (supplied_by (session_of d) vs) f → ⊥) same (c.in_ok-take_in.ensures.taken d s h i));
+      added = pushed _ _ _ (round us) c.in_ok-push.ensures.items refl;
+      at = subst (λ vs. g.E.SessionCalls.stands d (with_asked s vs) c.take_in.new.session) same (c.in_ok-take_in.ensures.at d s h i (same ∙ c.in_ok-wanted.ensures.wanted));
+    }

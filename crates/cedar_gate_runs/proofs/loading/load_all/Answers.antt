@@ -1,0 +1,67 @@
+use Rattle.std.proofs.Common.{rules, ◌≡◌, ◌<◌, true, false, refl, ◌∙◌, subst, arith}
+use Rattle.cedar_gate_model.specs.Whole.RunsAnswer.{session_of}
+use Rattle.cedar_gate_runs.proofs.Looped.{loading_none, loading_more, loading_ends, loading_halts, loading_few}
+use Rattle.cedar_gate_runs.proofs.Pushed.{handed}
+use Rattle.cedar_gate_runs.specs.Running.{Went, DidLoad}
+use Rattle.cedar_gate_transcripts.specs.Transcripts.{entries_of}
+use Rattle.cedar_gate_runs.proofs.loading.load_all.Goals as goal
+
+pub loop-round-init : goal.loop-round-init
+loop-round-init g c = record {
+  faults = refl;
+  host = λ d i. i;
+  loading = λ d s h i. loading_none (g.E.SessionCalls.stands d) (session_of d) s _ _ h;
+}
+
+pub loop-round-preserved : goal.loop-round-preserved
+loop-round-preserved g c =
+    let i = c.loop-round.invariant in
+    let more : c.in_ok-load.field-0 ≡ true = search rules in
+    record {
+      faults = c.in_ok-load.ensures.faults ∙ i.faults;
+      host = λ d k. c.in_ok-load.ensures.host d (i.host d k);
+      loading = λ d s h k.
+          let l = i.loading d s h k in
+          let w = c.in_ok-load.ensures.did d l.went.state l.went.at (i.host d k) in
+          loading_more (g.E.SessionCalls.stands d) (session_of d) s c.loop-round._round _ _ _ _ _ l
+          (subst (λ b. Went (g.E.SessionCalls.stands d) (DidLoad (session_of d) l.went.state b) (entries_of c.loop-round.entries.items) (entries_of c.load.new.entries.items) c.load.new.session) more w);
+    }
+
+pub returns-in_err-load-clause-host : goal.returns-in_err-load-clause-host
+returns-in_err-load-clause-host g c = λ d k. c.in_err-load.ensures.host d (c.loop-round.invariant.host d k)
+
+pub returns-in_err-load-clause-stopped : goal.returns-in_err-load-clause-stopped
+returns-in_err-load-clause-stopped g c = handed _ c.in_err-load.field-0.0 c.from_residual.result c.from_residual.ensures.1
+    (λ d s h k.
+    let i = c.loop-round.invariant in
+    let l = i.loading d s h k in
+    loading_halts (g.E.SessionCalls.stands d) (session_of d) s c.loop-round._round _ _ _ _ c.in_err-load.field-0.0 l c.in_err-load.ensures.unchanged (c.in_err-load.ensures.stopped d l.went.state l.went.at (i.host d k)))
+
+pub returns-then-not-branch-clause-host : goal.returns-then-not-branch-clause-host
+returns-then-not-branch-clause-host g c = λ d k. c.in_ok-load.ensures.host d (c.loop-round.invariant.host d k)
+
+pub returns-then-not-branch-clause-faults : goal.returns-then-not-branch-clause-faults
+returns-then-not-branch-clause-faults g c = c.in_ok-load.ensures.faults ∙ c.loop-round.invariant.faults
+
+pub returns-then-not-branch-clause-did : goal.returns-then-not-branch-clause-did
+returns-then-not-branch-clause-did g c =
+    let i = c.loop-round.invariant in
+    let none : c.in_ok-load.field-0 ≡ false = search rules in
+    λ d s h k.
+    let l = i.loading d s h k in
+    let w = c.in_ok-load.ensures.did d l.went.state l.went.at (i.host d k) in
+    loading_ends (g.E.SessionCalls.stands d) (session_of d) s c.loop-round._round _ _ _ _ _ l
+    (subst (λ b. Went (g.E.SessionCalls.stands d) (DidLoad (session_of d) l.went.state b) (entries_of c.loop-round.entries.items) (entries_of c.load.new.entries.items) c.load.new.session) none w)
+
+pub returns-clause-host : goal.returns-clause-host
+returns-clause-host g c = c.loop-round.invariant.host
+
+pub returns-clause-faults : goal.returns-clause-faults
+returns-clause-faults g c = c.loop-round.invariant.faults
+
+pub returns-clause-did : goal.returns-clause-did
+returns-clause-did g c = λ d s h k.
+    let i = c.loop-round.invariant in
+    let at : d.submission.level ≡ c.level.result = c.level.ensures d s h in
+    let high : d.submission.level < c.loop-round._round = omega (arith, at, c.loop-round-test.false, c.from-round-end.ensures) in
+    loading_few (g.E.SessionCalls.stands d) (session_of d) s c.loop-round._round _ _ _ (i.loading d s h k) high

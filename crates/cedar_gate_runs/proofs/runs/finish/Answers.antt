@@ -1,0 +1,15 @@
+use Rattle.std.proofs.Common.{[], refl, sym, subst}
+use Rattle.cedar_store_model.specs.Whole.Answer.{answer_of}
+use Rattle.cedar_gate_model.specs.Whole.RunsAnswer.{session_of}
+use Rattle.cedar_gate_model.specs.Whole.Session.{world_now}
+use Rattle.cedar_gate_runs.proofs.Faulted.{answer_stops}
+use Rattle.cedar_gate_runs.specs.Stopping.{IsRefused}
+use Rattle.cedar_gate_runs.proofs.runs.finish.Goals as goal
+
+pub returns-in-Ok-clause-answered : goal.returns-in-Ok-clause-answered
+returns-in-Ok-clause-answered g c = λ d s h none.
+    record { answer = answer_of (world_now (session_of d) s) d.submission.policies; same = c.in-Ok.ensures.answer d s h; finishes = (none, c.in-Ok.ensures.given d s h, refl) }
+
+pub returns-in-Err-clause-stopped : goal.returns-in-Err-clause-stopped
+returns-in-Err-clause-stopped g c = λ d s h none.
+    subst (IsRefused (session_of d) d.submission.policies s [] []) (sym c.answering.ensures) (answer_stops (session_of d) d.submission.policies s c.in-Err.refusal none (c.in-Err.ensures.refused d s h))

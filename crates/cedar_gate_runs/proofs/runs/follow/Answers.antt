@@ -1,0 +1,29 @@
+use Rattle.cedar_gate_runs.proofs.Ended.{carried_err, comes_to, halts_last}
+use Rattle.cedar_gate_runs.proofs.Looped.{halts_after}
+use Rattle.cedar_gate_runs.proofs.Pushed.{handed, carried}
+use Rattle.cedar_gate_runs.specs.Steps.{steps_of}
+use Rattle.cedar_evaluator_requests.specs.Views.{answer_of}
+use Rattle.cedar_gate_runs.proofs.runs.follow.Goals as goal
+
+pub returns-in_err-take_steps-clause-stopped : goal.returns-in_err-take_steps-clause-stopped
+returns-in_err-take_steps-clause-stopped g c = handed _ c.in_err-take_steps.field-0.0 c.from_residual.result c.from_residual.ensures.1 c.in_err-take_steps.ensures.stopped
+
+pub returns-in_err-load_all-clause-stopped : goal.returns-in_err-load_all-clause-stopped
+returns-in_err-load_all-clause-stopped g c = handed _ c.in_err-load_all.field-0.0 c.from_residual-in_err-load_all.result c.from_residual-in_err-load_all.ensures.1
+    (λ d s h i b.
+    let w = c.in_ok-take_steps.ensures.did d s h i b in
+    halts_after (g.E.SessionCalls.stands d) d s (steps_of c.args.steps.items) _ _ _ _ c.in_err-load_all.field-0.0 w (c.in_err-load_all.ensures.stopped d w.state w.at (c.in_ok-take_steps.ensures.host d i)))
+
+pub returns-clause-answered : goal.returns-clause-answered
+returns-clause-answered g c = carried _ _ c.finish.result
+    (λ r p d s h i b.
+    let w = c.in_ok-take_steps.ensures.did d s h i b in
+    let v = c.in_ok-load_all.ensures.did d w.state w.at (c.in_ok-take_steps.ensures.host d i) in
+    comes_to (g.E.SessionCalls.stands d) d s (steps_of c.args.steps.items) _ _ _ _ _ w v (answer_of r) (p d v.state v.at v.leads.1)) c.finish.ensures.answered
+
+pub returns-clause-stopped : goal.returns-clause-stopped
+returns-clause-stopped g c = carried_err _ _ c.finish.result
+    (λ stop p d s h i b.
+    let w = c.in_ok-take_steps.ensures.did d s h i b in
+    let v = c.in_ok-load_all.ensures.did d w.state w.at (c.in_ok-take_steps.ensures.host d i) in
+    halts_last (g.E.SessionCalls.stands d) d s (steps_of c.args.steps.items) _ _ _ _ _ w v stop (p d v.state v.at v.leads.1)) c.finish.ensures.stopped

@@ -1,0 +1,17 @@
+use Rattle.std.proofs.Common.{Some, refl, ap}
+use Rattle.cedar_gate_model.specs.Whole.Session.{at_start}
+use Rattle.cedar_gate_runs.proofs.Ended.{steps_bind_well, run_answers, run_stops}
+use Rattle.cedar_gate_transcripts.specs.Transcripts.{entries_of}
+use Rattle.cedar_gate_transcripts.specs.declared.transcript.Transcript.{Transcript}
+use Rattle.cedar_gate_runs.proofs.runs.run.Goals as goal
+
+pub returns-in-Ok-clause-answered : goal.returns-in-Ok-clause-answered
+returns-in-Ok-clause-answered g c = λ d o i.
+    let stands = g.E.SessionCalls.stands in
+    let t : Transcript = record { entries = c.follow.new.entries; answer = Some c.in-Ok.response } in
+    run_answers stands d c.args.session c.args.steps.items o t c.in-Ok.response _ refl (ap entries_of c.new-entries.ensures.items) (c.in-Ok.ensures.answered d at_start o.stands i (steps_bind_well stands d c.args.session c.args.steps.items o))
+
+pub returns-clause-stopped : goal.returns-clause-stopped
+returns-clause-stopped g c = λ d o i.
+    let stands = g.E.SessionCalls.stands in
+    c.stopped.ensures d o.opens (run_stops stands d c.args.session c.args.steps.items o _ _ c.in-Err.stop (ap entries_of c.new-entries.ensures.items) (c.in-Err.ensures.stopped d at_start o.stands i (steps_bind_well stands d c.args.session c.args.steps.items o)))

@@ -1,0 +1,39 @@
+use Rattle.std.proofs.Common.{[], ◌∷◌, sym, subst}
+use Rattle.std.specs.Rc.{rc_str_bytes}
+use Rattle.cedar_expr_values.specs.Extensions.{extension_of}
+use Rattle.cedar_expr_values.specs.Values.{made}
+use Rattle.cedar_gate_model.specs.Whole.RunsAnswer.{session_of}
+use Rattle.cedar_gate_runs.proofs.Ended.{carried_err}
+use Rattle.cedar_gate_runs.proofs.Looped.{bound_well}
+use Rattle.cedar_gate_runs.proofs.Pushed.{handed, carried_ok}
+use Rattle.cedar_gate_runs.proofs.Stepped.{load_stops}
+use Rattle.cedar_gate_runs.specs.Courses.{BindWell, DidSteps}
+use Rattle.cedar_gate_runs.specs.Running.{Went}
+use Rattle.cedar_gate_runs.specs.Steps.{step_of}
+use Rattle.cedar_gate_runs.specs.Stopping.{IsRefused}
+use Rattle.cedar_gate_transcripts.specs.Transcripts.{entries_of}
+use Rattle.cedar_gate_runs.proofs.stepping.take_step.Goals as goal
+
+pub returns-in_err-load-in-Load-clause-stopped : goal.returns-in_err-load-in-Load-clause-stopped
+returns-in_err-load-in-Load-clause-stopped g c =
+    let stop = c.in_err-load-in-Load.field-0.0 in
+    handed _ stop c.from_residual.result c.from_residual.ensures.1
+    (λ d s rest h i.
+    subst (λ z. IsRefused (session_of d) d.submission.policies s (step_of z ∷ rest) [] stop) (sym c.in-Load.is)
+    (load_stops (session_of d) d.submission.policies s stop rest (c.in_err-load-in-Load.ensures.stopped d s h i)))
+
+pub returns-in-Bind-clause-did : goal.returns-in-Bind-clause-did
+returns-in-Bind-clause-did g c = carried_ok _ _ c.bind_name.result
+    (λ p d s h i b.
+    let well = bound_well d (rc_str_bytes c.in-Bind.name) (made extension_of c.in-Bind.value) (subst (λ z. BindWell d (step_of z ∷ [])) c.in-Bind.is b) in
+    subst (λ z. Went (g.E.SessionCalls.stands d) (DidSteps d s (step_of z ∷ [])) (entries_of c.args.entries.now.items) (entries_of c.bind_name.new.entries.items) c.bind_name.new.session) (sym c.in-Bind.is) (p d s h well))
+    c.bind_name.ensures.did
+
+pub returns-in-Bind-clause-stopped : goal.returns-in-Bind-clause-stopped
+returns-in-Bind-clause-stopped g c = carried_err _ _ c.bind_name.result
+    (λ stop p d s rest h i. subst (λ z. IsRefused (session_of d) d.submission.policies s (step_of z ∷ rest) [] stop) (sym c.in-Bind.is) (p d s rest h)) c.bind_name.ensures.stopped
+
+pub returns-in-Decide-clause-did : goal.returns-in-Decide-clause-did
+returns-in-Decide-clause-did g c = carried_ok _ _ c.decide.result
+    (λ p d s h i b. subst (λ z. Went (g.E.SessionCalls.stands d) (DidSteps d s (step_of z ∷ [])) (entries_of c.args.entries.now.items) (entries_of c.decide.new.entries.items) c.args.session.now) (sym c.in-Decide.is) (p d s h))
+    c.decide.ensures.did

@@ -1,0 +1,90 @@
+//! Loading: rounds of what is wanted.
+
+ghost use Rattle.std.specs.Prelude.{◌≡◌, ◌<◌, IfOk, IfErr, OnOk, OnErr, map};
+ghost use Rattle.cedar_expr_names.specs.Views.{uid_of};
+ghost use Rattle.cedar_gate_model.specs.Whole.Runs.{supplied_by, with_asked};
+ghost use Rattle.cedar_gate_model.specs.Whole.RunsAnswer.{Course, session_of};
+ghost use Rattle.cedar_gate_model.specs.Whole.Session.{State, IsWantedList, SupplyRefusal, SupplyFault};
+ghost use Rattle.cedar_gate_transcripts.specs.Transcripts.{entries_of};
+ghost use Rattle.cedar_gate_runs.specs.Courses.{IsHost};
+ghost use Rattle.cedar_gate_runs.specs.Running.{Went, DidLoad, DidLoadAll, StopsSupply, StopsLoad, HaltsLoading};
+
+use crate::sessions::SessionCalls;
+use crate::stops::Stop;
+use cedar_expr_names::EntityUID;
+use cedar_gate_hosts::{Host, copied};
+use cedar_gate_transcripts::Entry;
+use std::alloc::{AllocError, Global};
+
+// Asks the host for these, which are wanted, and takes in what it answers.
+fn take_in<E: SessionCalls, H: Host>(
+    alloc: Global,
+    session: &mut E,
+    host: &mut H,
+    wanted: &[EntityUID],
+) -> Result<(), Stop>
+    requires { H.faults host.old < u64.MAX }
+    ensures host { (c : Course) → IsHost H.honest H.store c host.old → IsHost H.honest H.store c host.new }
+    ensures faults { OnOk result (H.faults host.new ≡ H.faults host.old) }
+    ensures at { OnOk result ((c : Course) (s : State) → E.stands c s session.old → IsHost H.honest H.store c host.old → map uid_of wanted.now ≡ E.wants session.old → E.stands c (with_asked s (map uid_of wanted.now)) session.new) }
+    ensures taken { OnOk result ((c : Course) (s : State) → E.stands c s session.old → IsHost H.honest H.store c host.old → (f : SupplyRefusal) → SupplyFault (session_of c) s (supplied_by (session_of c) (map uid_of wanted.now)) f → ⊥) }
+    ensures refused { IfErr result (λ stop. (c : Course) (s : State) → E.stands c s session.old → IsHost H.honest H.store c host.old → StopsSupply (session_of c) s (supplied_by (session_of c) (map uid_of wanted.now)) stop) }
+{
+    let supplied = host.fetch(alloc, wanted)?;
+    match session.supply(alloc, supplied) {
+        Ok(()) => Ok(()),
+        Err(refusal) => Err(Stop::supplying(refusal)),
+    }
+}
+
+// A copy of what is wanted.
+fn copy_wanted<E: SessionCalls>(alloc: Global, session: &E) -> Result<Vec<EntityUID>, AllocError>
+    ensures wanted { IfOk result (λ copy. map uid_of copy.items ≡ E.wants session.now) }
+    ensures exact { IfOk result (λ copy. (c : Course) (s : State) → E.stands c s session.now → IsWantedList (session_of c) s (map uid_of copy.items)) }
+{
+    copied(alloc, session.wanted())
+}
+
+/// A round, where something is wanted. Answers whether there was one.
+pub(crate) fn load<E: SessionCalls, H: Host>(
+    alloc: Global,
+    session: &mut E,
+    host: &mut H,
+    entries: &mut Vec<Entry>,
+) -> Result<bool, Stop>
+    requires { H.faults host.old < u64.MAX }
+    ensures host { (c : Course) → IsHost H.honest H.store c host.old → IsHost H.honest H.store c host.new }
+    ensures faults { OnOk result (H.faults host.new ≡ H.faults host.old) }
+    ensures did { IfOk result (λ b. (c : Course) (s : State) → E.stands c s session.old → IsHost H.honest H.store c host.old → Went (E.stands c) (DidLoad (session_of c) s b) (entries_of entries.old.items) (entries_of entries.new.items) session.new) }
+    ensures stopped { IfErr result (λ stop. (c : Course) (s : State) → E.stands c s session.old → IsHost H.honest H.store c host.old → StopsLoad (session_of c) s stop) }
+    ensures unchanged { OnErr result (entries_of entries.new.items ≡ entries_of entries.old.items) }
+{
+    let wanted = copy_wanted(alloc, session)?;
+    if wanted.is_empty() {
+        return Ok(false);
+    }
+    take_in(alloc, session, host, wanted.as_slice())?;
+    entries.push(Entry::Round(wanted))?;
+    Ok(true)
+}
+
+/// Rounds until nothing is wanted: at most as many as the level.
+pub(crate) fn load_all<E: SessionCalls, H: Host>(
+    alloc: Global,
+    session: &mut E,
+    host: &mut H,
+    entries: &mut Vec<Entry>,
+) -> Result<(), Stop>
+    requires { H.faults host.old < u64.MAX }
+    ensures host { (c : Course) → IsHost H.honest H.store c host.old → IsHost H.honest H.store c host.new }
+    ensures faults { OnOk result (H.faults host.new ≡ H.faults host.old) }
+    ensures did { OnOk result ((c : Course) (s : State) → E.stands c s session.old → IsHost H.honest H.store c host.old → Went (E.stands c) (DidLoadAll (session_of c) s) (entries_of entries.old.items) (entries_of entries.new.items) session.new) }
+    ensures stopped { IfErr result (λ stop. (c : Course) (s : State) → E.stands c s session.old → IsHost H.honest H.store c host.old → HaltsLoading (session_of c) s (entries_of entries.old.items) (entries_of entries.new.items) stop) }
+{
+    for _round in 0..u64::from(session.level()) + 1 {
+        if !load(alloc, session, host, entries)? {
+            return Ok(());
+        }
+    }
+    Ok(())
+}

@@ -1,0 +1,107 @@
+//! Runs: steps over a session and a host, up to the answer.
+
+ghost use Rattle.std.specs.Prelude.{◌<◌, [], IfOk, IfErr};
+ghost use Rattle.cedar_evaluator_requests.specs.Views.{answer_of};
+ghost use Rattle.cedar_gate_model.specs.Whole.RunsAnswer.{Course, session_of};
+ghost use Rattle.cedar_gate_model.specs.Whole.Session.{State, at_start, NothingIsWanted, OpenRefusal, OpenFault};
+ghost use Rattle.cedar_gate_transcripts.specs.Transcripts.{entries_of};
+ghost use Rattle.cedar_gate_runs.specs.Courses.{IsHost, BindWell, IsOf};
+ghost use Rattle.cedar_gate_runs.specs.Ends.{IsAnswered, IsStopped};
+ghost use Rattle.cedar_gate_runs.specs.Refusals.{IsOpenRefusal};
+ghost use Rattle.cedar_gate_runs.specs.Steps.{steps_of};
+ghost use Rattle.cedar_gate_runs.specs.Stopping.{Finished, IsRefused, HasStopped, Halts, ComesTo};
+
+use crate::loading::load_all;
+use crate::sessions::{Refusal, SessionCalls};
+use crate::stepping::take_steps;
+use crate::steps::Step;
+use crate::stops::Stop;
+use cedar_evaluator_requests::Response;
+use cedar_gate_hosts::Host;
+use cedar_gate_transcripts::{Entry, RunFault, Transcript};
+use std::alloc::Global;
+
+// The answer of a session, of which nothing is wanted.
+fn finish<E: SessionCalls>(alloc: Global, session: &E) -> Result<Response, Stop>
+    ensures answered { IfOk result (λ r. (c : Course) (s : State) → E.stands c s session.now → NothingIsWanted (session_of c) s → Finished c s (answer_of r)) }
+    ensures stopped { IfErr result (λ stop. (c : Course) (s : State) → E.stands c s session.now → NothingIsWanted (session_of c) s → IsRefused (session_of c) c.submission.policies s [] [] stop) }
+{
+    match session.answer(alloc) {
+        Ok(response) => Ok(response),
+        Err(refusal) => Err(Stop::answering(refusal)),
+    }
+}
+
+// Does the steps in their order, loads until nothing is wanted, and answers.
+fn follow<E: SessionCalls, H: Host>(
+    alloc: Global,
+    session: &mut E,
+    steps: Vec<Step>,
+    host: &mut H,
+    entries: &mut Vec<Entry>,
+) -> Result<Response, Stop>
+    requires { H.faults host.old < u64.MAX }
+    ensures answered { IfOk result (λ r. (c : Course) (s : State) → E.stands c s session.old → IsHost H.honest H.store c host.old → BindWell c (steps_of steps.items) → ComesTo (session_of c) c.submission.policies s (steps_of steps.items) (entries_of entries.old.items) (entries_of entries.new.items) (answer_of r)) }
+    ensures stopped { IfErr result (λ stop. (c : Course) (s : State) → E.stands c s session.old → IsHost H.honest H.store c host.old → BindWell c (steps_of steps.items) → Halts (session_of c) c.submission.policies s (steps_of steps.items) (entries_of entries.old.items) (entries_of entries.new.items) stop) }
+{
+    take_steps(alloc, session, steps, host, entries)?;
+    load_all(alloc, session, host, entries)?;
+    finish(alloc, session)
+}
+
+// A run that stopped with these entries.
+fn stopped(stop: Stop, entries: Vec<Entry>) -> RunFault
+    ensures { (c : Course) → ((f : OpenRefusal) → OpenFault c.start f → ⊥) → HasStopped (session_of c) c.submission.policies at_start c.steps (entries_of entries.items) stop → IsStopped c result }
+{
+    let transcript = Transcript {
+        entries,
+        answer: None,
+    };
+    match stop {
+        Stop::Memory => RunFault::Memory { transcript },
+        Stop::Host => RunFault::Host { transcript },
+        Stop::Supplying(number) => RunFault::Supplying { number, transcript },
+        Stop::Binding(number) => RunFault::Binding { number, transcript },
+        Stop::Answering(number) => RunFault::Answering { number, transcript },
+    }
+}
+
+/// A run whose session isn't opened.
+pub fn not_opened(alloc: Global, refusal: Refusal) -> RunFault
+    ensures { (c : Course) → IsOpenRefusal c.start refusal → IsStopped c result }
+{
+    let transcript = Transcript {
+        entries: Vec::new(alloc),
+        answer: None,
+    };
+    match refusal {
+        Refusal::OutOfMemory => RunFault::Memory { transcript },
+        Refusal::Numbered(number) => RunFault::Opening { number, transcript },
+    }
+}
+
+/// Runs a session that was opened: does the steps in their order, loads until nothing is wanted, and answers.
+///
+/// # Errors
+///
+/// Want of memory, the host's too; a fault of the host; and what a call of the session refuses, by its number. Each has what was done so
+/// far.
+pub fn run<E: SessionCalls + Drop, H: Host>(
+    alloc: Global,
+    mut session: E,
+    steps: Vec<Step>,
+    host: &mut H,
+) -> Result<Transcript, RunFault>
+    requires { H.faults host.old < u64.MAX }
+    ensures answered { IfOk result (λ t. (c : Course) → IsOf E.stands c session steps.items → IsHost H.honest H.store c host.old → IsAnswered c t) }
+    ensures stopped { IfErr result (λ f. (c : Course) → IsOf E.stands c session steps.items → IsHost H.honest H.store c host.old → IsStopped c f) }
+{
+    let mut entries = Vec::new(alloc);
+    match follow(alloc, &mut session, steps, host, &mut entries) {
+        Ok(response) => Ok(Transcript {
+            entries,
+            answer: Some(response),
+        }),
+        Err(stop) => Err(stopped(stop, entries)),
+    }
+}

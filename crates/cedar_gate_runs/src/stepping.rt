@@ -1,0 +1,117 @@
+//! What steps do.
+
+ghost use Rattle.std.specs.Prelude.{◌≡◌, ◌<◌, [], ◌∷◌, List, IfOk, IfErr, OnOk, OnErr};
+ghost use Rattle.std.specs.Rc.{rc_str_bytes};
+ghost use Rattle.cedar_expr_values.specs.Extensions.{extension_of};
+ghost use Rattle.cedar_expr_values.specs.Values.{made};
+ghost use Rattle.cedar_evaluator_model.specs.OfLaws.WellMade.{IsWellMade};
+ghost use Rattle.cedar_gate_model.specs.Whole.RunsAnswer.{Course, session_of};
+ghost use Rattle.cedar_gate_model.specs.Whole.Session.{State, with_bound, BindRefusal, BindFault};
+ghost use Rattle.cedar_gate_model.specs.Whole.Transcript as model;
+ghost use Rattle.cedar_gate_transcripts.specs.Transcripts.{entries_of};
+ghost use Rattle.cedar_gate_runs.specs.Courses.{IsHost, BindWell, DidSteps};
+ghost use Rattle.cedar_gate_runs.specs.Running.{Went};
+ghost use Rattle.cedar_gate_runs.specs.Steps.{step_of, steps_of};
+ghost use Rattle.cedar_gate_runs.specs.Stopping.{IsRefused, Halts};
+ghost use Rattle.cedar_gate_runs.specs.declared.stops.Stop.TheVariants.{Memory};
+
+use crate::loading::load;
+use crate::sessions::SessionCalls;
+use crate::steps::Step;
+use crate::stops::Stop;
+use cedar_expr_values::{ExtValue, Value};
+use cedar_gate_hosts::Host;
+use cedar_gate_transcripts::Entry;
+use std::alloc::Global;
+use std::rc::RcStr;
+
+// Binds a name of the session.
+fn bind_in<E: SessionCalls>(
+    alloc: Global,
+    session: &mut E,
+    name: RcStr,
+    value: Value<ExtValue>,
+) -> Result<(), Stop>
+    ensures at { OnOk result ((c : Course) (s : State) → E.stands c s session.old → IsWellMade c.functions.table (made extension_of value) → E.stands c (with_bound s (rc_str_bytes name) (made extension_of value)) session.new) }
+    ensures taken { OnOk result ((c : Course) (s : State) → E.stands c s session.old → (f : BindRefusal) → BindFault (session_of c) s (rc_str_bytes name) (made extension_of value) f → ⊥) }
+    ensures stopped { IfErr result (λ stop. (c : Course) (s : State) (rest : List model.Step) → E.stands c s session.old → IsRefused (session_of c) c.submission.policies s (model.bind_name (rc_str_bytes name) (made extension_of value) ∷ rest) [] stop) }
+{
+    match session.bind(alloc, name, value) {
+        Ok(()) => Ok(()),
+        Err(refusal) => Err(Stop::binding(refusal)),
+    }
+}
+
+// Binds a name.
+fn bind_name<E: SessionCalls>(
+    alloc: Global,
+    session: &mut E,
+    name: RcStr,
+    value: Value<ExtValue>,
+    entries: &mut Vec<Entry>,
+) -> Result<(), Stop>
+    ensures did { OnOk result ((c : Course) (s : State) → E.stands c s session.old → IsWellMade c.functions.table (made extension_of value) → Went (E.stands c) (DidSteps c s (model.bind_name (rc_str_bytes name) (made extension_of value) ∷ [])) (entries_of entries.old.items) (entries_of entries.new.items) session.new) }
+    ensures stopped { IfErr result (λ stop. (c : Course) (s : State) (rest : List model.Step) → E.stands c s session.old → IsRefused (session_of c) c.submission.policies s (model.bind_name (rc_str_bytes name) (made extension_of value) ∷ rest) [] stop) }
+    ensures unchanged { OnErr result (entries_of entries.new.items ≡ entries_of entries.old.items) }
+{
+    let copy = name.clone()?;
+    bind_in(alloc, session, name, value)?;
+    entries.push(Entry::Bound(copy))?;
+    Ok(())
+}
+
+// Asks for the decision.
+fn decide<E: SessionCalls>(alloc: Global, session: &E, entries: &mut Vec<Entry>) -> Result<(), Stop>
+    ensures did { OnOk result ((c : Course) (s : State) → E.stands c s session.now → Went (E.stands c) (DidSteps c s (model.decide ∷ [])) (entries_of entries.old.items) (entries_of entries.new.items) session.now) }
+    ensures stopped { IfErr result (λ stop. stop ≡ Memory) }
+    ensures unchanged { OnErr result (entries_of entries.new.items ≡ entries_of entries.old.items) }
+{
+    let decision = session.decision(alloc)?;
+    entries.push(Entry::Decided(decision))?;
+    Ok(())
+}
+
+// Does one step.
+fn take_step<E: SessionCalls, H: Host>(
+    alloc: Global,
+    session: &mut E,
+    step: Step,
+    host: &mut H,
+    entries: &mut Vec<Entry>,
+) -> Result<(), Stop>
+    requires { H.faults host.old < u64.MAX }
+    ensures host { (c : Course) → IsHost H.honest H.store c host.old → IsHost H.honest H.store c host.new }
+    ensures faults { OnOk result (H.faults host.new ≡ H.faults host.old) }
+    ensures did { OnOk result ((c : Course) (s : State) → E.stands c s session.old → IsHost H.honest H.store c host.old → BindWell c (step_of step ∷ []) → Went (E.stands c) (DidSteps c s (step_of step ∷ [])) (entries_of entries.old.items) (entries_of entries.new.items) session.new) }
+    ensures stopped { IfErr result (λ stop. (c : Course) (s : State) (rest : List model.Step) → E.stands c s session.old → IsHost H.honest H.store c host.old → IsRefused (session_of c) c.submission.policies s (step_of step ∷ rest) [] stop) }
+    ensures unchanged { OnErr result (entries_of entries.new.items ≡ entries_of entries.old.items) }
+{
+    match step {
+        Step::Load => {
+            load(alloc, session, host, entries)?;
+            Ok(())
+        }
+        Step::Bind(name, value) => bind_name(alloc, session, name, value, entries),
+        Step::Decide => decide(alloc, session, entries),
+    }
+}
+
+/// Does the steps in their order.
+pub(crate) fn take_steps<E: SessionCalls, H: Host>(
+    alloc: Global,
+    session: &mut E,
+    steps: Vec<Step>,
+    host: &mut H,
+    entries: &mut Vec<Entry>,
+) -> Result<(), Stop>
+    requires { H.faults host.old < u64.MAX }
+    ensures host { (c : Course) → IsHost H.honest H.store c host.old → IsHost H.honest H.store c host.new }
+    ensures faults { OnOk result (H.faults host.new ≡ H.faults host.old) }
+    ensures did { OnOk result ((c : Course) (s : State) → E.stands c s session.old → IsHost H.honest H.store c host.old → BindWell c (steps_of steps.items) → Went (E.stands c) (DidSteps c s (steps_of steps.items)) (entries_of entries.old.items) (entries_of entries.new.items) session.new) }
+    ensures stopped { IfErr result (λ stop. (c : Course) (s : State) → E.stands c s session.old → IsHost H.honest H.store c host.old → BindWell c (steps_of steps.items) → Halts (session_of c) c.submission.policies s (steps_of steps.items) (entries_of entries.old.items) (entries_of entries.new.items) stop) }
+{
+    for step in steps {
+        take_step(alloc, session, step, host, entries)?;
+    }
+    Ok(())
+}

@@ -1,0 +1,13 @@
+pub mod Lifting
+pub mod Loadings
+pub mod Lookups
+pub mod Opened
+pub mod Parts
+pub mod Refusing
+pub mod Scopes
+pub mod Standing
+pub mod Stopping
+pub mod Stores
+pub mod Supplying
+pub mod Taking
+pub mod Texts

@@ -1,0 +1,147 @@
+-- What evaluations know at a state of a session.
+use Rattle.std.proofs.Common.{◌≡◌, ◌∙◌, ◌||◌, Bool, true, false, cond, List, Option, Some, None, codes, if◌then◌else◌, refl, sym, ap, subst}
+use Rattle.std.specs.Prelude.{Contains, IfSome, unwrap_or, option_and_then}
+use Rattle.std.specs.List.{list_any}
+use Rattle.cedar_expr_model.specs.Name.{Text, Name}
+use Rattle.cedar_expr_model.specs.Uid.{Uid, uid_eq}
+use Rattle.cedar_expr_model.specs.Whole.Made.{Made, made_prim, made_set, made_record, made_extension}
+use Rattle.cedar_expr_model.specs.Whole.Substitution.{substituted}
+use Rattle.cedar_expr_model.specs.Whole.Table.{Table}
+use Rattle.cedar_expr_model.specs.Whole.Tree.{record_literal, SlotId, principal_slot, resource_slot}
+use Rattle.cedar_expr_model.specs.Whole.Value.{V}
+use Rattle.cedar_store_model.specs.Whole.Answer.{answer_of}
+use Rattle.cedar_store_model.specs.Whole.Knowledge.{IsSettled}
+use Rattle.cedar_store_model.specs.Whole.Policy.{binding_of, no_bindings}
+use Rattle.cedar_store_model.specs.Whole.World.{World, Entity, Found, held, missing, not_loaded}
+use Rattle.cedar_schema_model.specs.Whole.Conforming.{EntityConforms}
+use Rattle.cedar_schema_model.specs.Whole.Schema.{declares_action}
+use Rattle.cedar_evaluator_model.specs.Known.{known_found, known_world}
+use Rattle.cedar_evaluator_model.specs.OfLaws.Calls.{Agrees}
+use Rattle.cedar_evaluator_model.specs.OfLaws.WellMade.{IsFoundMadeWell, IsContextMadeWell}
+use Rattle.cedar_evaluator_model.specs.OfLaws.Whole.{NothingUnknown, AllLoaded, HoldsValues}
+use Rattle.cedar_evaluator_model.specs.Reauthorize.{context_from}
+use Rattle.cedar_evaluator_model.specs.Response.{PartialRequest}
+use Rattle.cedar_evaluator_model.specs.Scope.{Scope, Context, closed, residual_fields, unknown_context, MadeCalled, Left, value_left, residual, stopped}
+use Rattle.cedar_evaluator_rising.specs.Rising.{MadeRises, FoundRises, ContextRises, CallsRise, ScopeRises, LeftRises}
+use Rattle.cedar_evaluator_rising.proofs.Rising.{values_rise}
+use Rattle.cedar_gate_model.specs.Whole.ReadingValue.{with_functions}
+use Rattle.cedar_gate_model.specs.Whole.RunsAnswer.{Course, session_of, IsProper, IsOpened}
+use Rattle.cedar_gate_model.specs.Whole.Session.{Setup, State, value_of, context_now, scope_now, whole_store, world_now, IsWantedNow, AnswerRefusal, AnswerFault, entry_now}
+use Rattle.cedar_gate_model.proofs.Whole.Runs.Answering.{loaded_answers}
+use Rattle.cedar_gate_model.proofs.Whole.Runs.Completing.{Stands, taken_value, parts_there, store_settled}
+use Rattle.cedar_gate_model.proofs.Whole.Runs.Deciding.{leaves_nothing}
+use Rattle.cedar_gate_sessions.proofs.Lifting.{found_rises, context_rises, value_rises}
+use Rattle.cedar_gate_sessions.proofs.Opened.{stands_in}
+
+-- a store that knows nothing
+empty_rises : (b : Bool) → FoundRises (cond b not_loaded missing)
+empty_rises true = tt
+empty_rises false = tt
+
+-- the context that is left rises where the value does
+left_rises : (l : Left) → LeftRises l → ContextRises (unwrap_or (context_from l) unknown_context)
+left_rises (value_left (made_record fs)) h = h
+left_rises (value_left (made_prim p)) h = tt
+left_rises (value_left (made_set ms)) h = tt
+left_rises (value_left (made_extension n k f ps)) h = tt
+left_rises (residual (record_literal fs)) h = tt
+left_rises (residual t) h = tt
+left_rises (stopped e) h = tt
+
+bound_rises : (o : Option Made) → IfSome o MadeRises → ContextRises (unwrap_or (option_and_then (λ m. context_from (value_left m)) o) unknown_context)
+bound_rises None h = tt
+bound_rises (Some m) h = left_rises (value_left m) h
+
+no_slots : (s : SlotId) → binding_of no_bindings s ≡ None
+no_slots principal_slot = refl
+no_slots resource_slot = refl
+
+-- the scope of these parts
+abbrev pub scope_by : PartialRequest → (Text → Option Made) → Table → (Name → List Made → MadeCalled) → (Uid → Found Made) → Scope
+scope_by q values table calls store = record {
+  principal = q.principal;
+  action = q.action;
+  resource = q.resource;
+  context = q.context;
+  slots = binding_of no_bindings;
+  values = values;
+  table = table;
+  calls = calls;
+  store = store;
+}
+
+module _ (x : Setup) (s : State) (opened : IsOpened x s) (conform : (u : Uid) (e : Entity V) → Contains s.asked u → x.store u ≡ Some e → EntityConforms x.schema u e) (rise : CallsRise x.functions.calls)
+    (start : IsContextMadeWell x.functions.table x.start.context) where
+  pub value_known : (n : Text) (o : Option Made) → value_of s n ≡ o → IfSome o MadeRises
+  value_known n None e = tt
+  value_known n (Some m) e = value_rises x.functions.table m (taken_value x s (stands_in x s opened conform) n m e).1
+
+  functions_rise : ScopeRises (with_functions x.functions)
+  functions_rise = record { known_context = tt; bound = λ n. tt; stored = λ u. empty_rises _; answered = rise }
+
+  context_known : (c : Context) → IsContextMadeWell x.functions.table c → ContextRises (context_now x.functions s c)
+  context_known (closed fs) h = context_rises x.functions.table (closed fs) h
+  context_known (residual_fields fs) h = left_rises _ ((values_rise (with_functions x.functions) functions_rise).each 512 (substituted (value_of s) (record_literal fs)))
+  context_known unknown_context h = bound_rises (value_of s (codes "context")) (value_known (codes "context") (value_of s (codes "context")) refl)
+
+  -- what is known rises
+  pub scope_rises : (store : Uid → Found Made) → ((u : Uid) → IsFoundMadeWell x.functions.table (store u)) → ScopeRises (scope_now x s store)
+  scope_rises store well = record {
+    known_context = context_known x.start.context start;
+    bound = λ n. value_known n (value_of s n) refl;
+    stored = λ u. found_rises x.functions.table (store u) (well u);
+    answered = rise;
+  }
+
+-- the request at a state
+abbrev pub asked_at : Setup → State → PartialRequest
+asked_at x s = record {
+  principal = entry_now s (codes "principal") x.start.principal;
+  action = entry_now s (codes "action") x.start.action;
+  resource = entry_now s (codes "resource") x.start.resource;
+  context = context_now x.functions s x.start.context;
+}
+
+-- the scope of what a session has is that of its state
+pub scope_is : (x : Setup) (s : State) (q : PartialRequest) (values : Text → Option Made) (table : Table) (store : Uid → Found Made) → q ≡ asked_at x s → ((n : Text) → values n ≡ value_of s n) → table ≡ x.functions.table
+    → scope_by q values table x.functions.calls store ≡ scope_now x s store
+scope_is x s q values table store of_request of_values of_table =
+    λ i. record (scope_by (of_request i) (λ n. of_values n i) (of_table i) x.functions.calls store) { slots = λ z. no_slots z i }
+
+module _ (c : Course) (proper : IsProper c) (s : State) (opened : IsOpened (session_of c) s) (conform : (u : Uid) (e : Entity V) → Contains s.asked u → c.store u ≡ Some e → EntityConforms (session_of c).schema u e)
+    (nothing : (u : Uid) → IsWantedNow (session_of c) s u → ⊥) (fine : (f : AnswerRefusal) → AnswerFault (session_of c) s f → ⊥) (store : Uid → Found Made)
+    (is : (u : Uid) → known_found (store u) ≡ (if declares_action (session_of c).schema u || list_any (uid_eq u) s.asked then whole_store (session_of c) u else missing)) where
+  abbrev x : Setup
+  x = session_of c
+
+  stands : Stands x s
+  stands = stands_in x s opened conform
+
+  settled_case : (b : Bool) (f : Found V) → IsSettled f → IsSettled (cond b f missing)
+  settled_case true f h = h
+  settled_case false f h = tt
+
+  settled : (u : Uid) → IsSettled (known_found (store u))
+  settled u = subst IsSettled (sym (is u)) (settled_case _ _ (store_settled x proper.store u))
+
+  held_values : (f : Found V) → IsSettled f → HoldsValues f
+  held_values (held e) h = h
+  held_values missing h = tt
+  held_values not_loaded h = absurd h
+
+  pub all_loaded : AllLoaded (scope_now x s store)
+  all_loaded = settled
+
+  pub nothing_unknown : NothingUnknown (scope_now x s store)
+  nothing_unknown =
+      let p = parts_there x s stands nothing fine in
+      record { principal = p.0; action = p.1; resource = p.2; context = p.3; store = λ u. held_values (known_found (store u)) (settled u); calls = leaves_nothing c proper }
+
+  pub agrees_now : Agrees (scope_now x s store)
+  agrees_now = (proper.fair).agrees
+
+  -- the answer by what is loaded is that by the whole store
+  pub answer_now : answer_of (known_world (scope_now x s store)) c.submission.policies ≡ answer_of (world_now x s) c.submission.policies
+  answer_now =
+      ap (λ (w : World). answer_of w c.submission.policies) (λ i. record (known_world (scope_now x s store)) { store = λ u. is u i })
+      ∙ loaded_answers c proper s stands opened.opened nothing fine

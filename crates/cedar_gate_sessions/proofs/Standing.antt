@@ -1,0 +1,191 @@
+-- At which state a session stands after each call.
+use Rattle.std.proofs.Common.{◌≡◌, ◌∙◌, ◌++◌, Bool, true, false, cond, List, map, Contains, Option, Some, None, refl, sym, ap, subst}
+use Rattle.std.specs.List.{list_all, list_any}
+use Rattle.std.specs.Map.{lookup}
+use Rattle.std.specs.Option.{option_or}
+use Rattle.std.specs.Prelude.{IfSome, if◌then◌else◌}
+use Rattle.std.specs.Str.{bytes_eq}
+use Rattle.std.specs.declared.alloc.Global.{Global}
+use Rattle.std.specs.declared.vec.Vec.{Vec}
+use Rattle.std.proofs.lemmas.Slice.Eq.{bytes_eq-Decides}
+use Rattle.cedar_expr_model.specs.Name.{Text}
+use Rattle.cedar_expr_model.specs.Uid.{Uid, uid_eq}
+use Rattle.cedar_expr_model.specs.Whole.Made.{Made}
+use Rattle.cedar_expr_model.specs.Whole.Uids.{is_uid}
+use Rattle.cedar_expr_model.proofs.Equality.{uid_eq-Decides}
+use Rattle.cedar_expr_model.proofs.Lists.{found-Decides, map_from}
+use Rattle.cedar_expr_names.specs.Views.{uid_of}
+use Rattle.cedar_expr_names.specs.declared.entity.EntityUID.{EntityUID}
+use Rattle.cedar_store_entities.specs.Views.{Kept, entity_seen, entity_pair, kept_pair}
+use Rattle.cedar_store_entities.specs.declared.entity.Entity.{Entity}
+use Rattle.cedar_store_model.specs.Whole.Store.{are_distinct, if_uid, partial}
+use Rattle.cedar_store_model.specs.Whole.World.{held, missing}
+use Rattle.cedar_schema_model.specs.Whole.Schema as model
+use Rattle.cedar_evaluator_model.specs.OfLaws.WellMade.{IsWellMade, IsFoundMadeWell}
+use Rattle.cedar_evaluator_reads.specs.Scopes.{found_kept}
+use Rattle.cedar_evaluator_requests.specs.Views.{request_of}
+use Rattle.cedar_gate_bindings.specs.Names.{bound_in}
+use Rattle.cedar_gate_distances.specs.Kept.{IsKept}
+use Rattle.cedar_gate_model.specs.Whole.Bundle.{Functions}
+use Rattle.cedar_gate_model.specs.Whole.Runs.{with_asked, supplied_by}
+use Rattle.cedar_gate_model.specs.Whole.Session.{Setup, State, with_bound, IsWantedList, BindRefusal, BindFault, known_now}
+use Rattle.cedar_gate_model.specs.Whole.Slice.{roots}
+use Rattle.cedar_gate_openings.specs.Requests.{request_at}
+use Rattle.cedar_gate_wanted.specs.Laws.{IsLoadedAt, IsBoundMore}
+use Rattle.cedar_gate_wanted.specs.Supplying.{rows_of, keys_in, IsFilled, AreKeys}
+use Rattle.cedar_gate_wanted.specs.Wanting.{IsWanting, IsSameLoading, near_in, rows_in, mentions_of, wanted_in, level_of}
+use Rattle.cedar_gate_wanted.specs.declared.loading.Loading.{Loading}
+use Rattle.cedar_gate_wanted.proofs.Rounds.{supply_is_round, roots_bound}
+use Rattle.cedar_gate_wanted.proofs.Slicing.{next_round}
+use Rattle.cedar_gate_sessions.specs.Entities.{supplied_of, supplied_uids, supplied_entities, row_pair, mentions_pair}
+use Rattle.cedar_gate_sessions.specs.Loaded.{loaded_at, is_right}
+use Rattle.cedar_gate_sessions.specs.Sessions.{IsAt, IsSetup, AreFromStore, AreLoaded, stored_in}
+use Rattle.cedar_gate_sessions.specs.declared.session.Session.{Session}
+use Rattle.cedar_gate_sessions.proofs.Loadings.{wanting_same, loaded_same}
+use Rattle.cedar_gate_sessions.proofs.Lookups.{lookup_both}
+use Rattle.cedar_gate_sessions.proofs.Opened.{opened_with}
+use Rattle.cedar_gate_sessions.proofs.Parts.{pairs_of, map_both, keys_same, rows_answer, kept_from}
+use Rattle.cedar_gate_sessions.proofs.Supplying.{entities_of, loaded_more, distinct_more, conform_more}
+
+-- the uids of the code are uids
+abbrev AreUids : Type 0
+AreUids = (u : EntityUID) → is_uid (uid_of u) ≡ true
+
+uid_there : AreUids → (ps : List (EntityUID × Option Entity)) (u : Uid) → Contains (supplied_uids ps) u → is_uid u ≡ true
+uid_there uids ps u k = let (p, c, e) = map_from (λ (q : EntityUID × Option Entity). uid_of q.0) ps u k in subst (λ v. is_uid v ≡ true) e (uids p.0)
+
+module _ (x : Setup) (s : State) (l : Loading) (wanting : IsWanting x.schema l) (near : IsLoadedAt x s l) where
+  pub wanted_list : IsWantedList x s (wanted_in l)
+  wanted_list = next_round x s l wanting near
+
+  -- what is wanted is no declared action's, and wasn't asked for
+  pub wanted_apart : (u : Uid) → Contains (wanted_in l) u → (model.declares_action x.schema u ≡ false) × (list_any (uid_eq u) s.asked ≡ false)
+  wanted_apart u k =
+      let w = ((wanted_list).exact u).0 k in
+      ((w.0).1, none (list_any (uid_eq u) s.asked) (λ e. w.1 ((found-Decides uid_eq uid_eq-Decides u s.asked).0 e)))
+    where
+      none : (b : Bool) → (b ≡ true → ⊥) → b ≡ false
+      none true h = absurd (h refl)
+      none false h = refl
+
+  pub none_loaded : (u : Uid) → Contains (wanted_in l) u → loaded_at x s u ≡ None
+  none_loaded u k = let a = wanted_apart u k in rw (a.0, a.1) refl
+
+module _ (x : Setup) (s : State) (es : List Entity) (ps : List (EntityUID × Option Entity)) (ws : List Uid) (loaded : AreLoaded x s es) (from : AreFromStore x ps) (right : list_all (is_right x.schema) (supplied_of ps) ≡ true)
+    (there : (u : Uid) → Contains (supplied_uids ps) u → Contains ws u) (back : (u : Uid) → Contains ws u → Contains (supplied_uids ps) u) where
+  abbrev us : List Uid
+  us = supplied_uids ps
+
+  all_pairs : map entity_pair (es ++ supplied_entities ps) ≡ map entity_pair es ++ entities_of (supplied_by x us)
+  all_pairs = map_both entity_pair es (supplied_entities ps) ∙ ap (λ zs. map entity_pair es ++ zs) (pairs_of ps ∙ ap entities_of from.answered)
+
+  each_now : (u : Uid) → lookup (uid_eq u) (map entity_pair (es ++ supplied_entities ps)) ≡ loaded_at x (with_asked s ws) u
+  each_now u =
+      ap (lookup (uid_eq u)) all_pairs ∙ lookup_both (uid_eq u) (map entity_pair es) (entities_of (supplied_by x us))
+      ∙ ap (λ o. option_or o (lookup (uid_eq u) (entities_of (supplied_by x us)))) (loaded.each u)
+      ∙ loaded_more x s us ws u there back
+
+  not_there : (b : Bool) → IsFoundMadeWell x.functions.table (cond b (found_kept partial None) missing)
+  not_there true = tt
+  not_there false = tt
+
+  held_there : (b : Bool) (k : Kept) → IsFoundMadeWell x.functions.table (held k.0) → IsFoundMadeWell x.functions.table (cond b (found_kept partial (Some k)) missing)
+  held_there true k h = h
+  held_there false k h = tt
+
+  written_of : (p : EntityUID × Option Entity) (e : Entity) → Contains ps p → p.1 ≡ Some e → IsFoundMadeWell x.functions.table (held (entity_seen e))
+  written_of p e c is = subst (λ o. IfSome o (λ e. IsFoundMadeWell x.functions.table (held (entity_seen e)))) is (from.written p c)
+
+  written_more : (u : Uid) (o n : Option Kept) → lookup (uid_eq u) (map kept_pair es) ≡ o → lookup (uid_eq u) (map kept_pair (supplied_entities ps)) ≡ n → IsFoundMadeWell x.functions.table (if_uid u (found_kept partial (option_or o n)))
+  written_more u (Some k) n e f = subst (λ z. IsFoundMadeWell x.functions.table (if_uid u (found_kept partial z))) e (loaded.written u)
+  written_more u None None e f = not_there (is_uid u)
+  written_more u None (Some k) e f =
+      let (p, d, c, is, at) = kept_from ps u k f in
+      held_there (is_uid u) k (subst (λ (z : Kept). IsFoundMadeWell x.functions.table (held z.0)) at (written_of p d c is))
+
+  written_now : (u : Uid) → IsFoundMadeWell x.functions.table (stored_in (es ++ supplied_entities ps) u)
+  written_now u = subst (λ o. IsFoundMadeWell x.functions.table (if_uid u (found_kept partial o)))
+      (sym (ap (lookup (uid_eq u)) (map_both kept_pair es (supplied_entities ps)) ∙ lookup_both (uid_eq u) (map kept_pair es) (map kept_pair (supplied_entities ps))))
+      (written_more u (lookup (uid_eq u) (map kept_pair es)) (lookup (uid_eq u) (map kept_pair (supplied_entities ps))) refl refl)
+
+  pub more_is_loaded : are_distinct (map entity_pair (es ++ supplied_entities ps)) ≡ true → AreLoaded x (with_asked s ws) (es ++ supplied_entities ps)
+  more_is_loaded once = record {
+    each = each_now;
+    distinct = once;
+    written = written_now;
+    conform = conform_more x s us ws back (subst (λ qs. list_all (is_right x.schema) qs ≡ true) from.answered right) loaded.conform;
+  }
+
+  pub more_is_distinct : ((u : Uid) → Contains us u → loaded_at x s u ≡ None) → AreKeys ws us → are_distinct (map entity_pair (es ++ supplied_entities ps)) ≡ true
+  more_is_distinct fresh keys = subst (λ zs. are_distinct zs ≡ true) (sym all_pairs) (distinct_more x (map entity_pair es) us loaded.distinct keys.once (λ u k. loaded.each u ∙ fresh u k))
+
+module _ {S : Type 0} {T : Type 0} {B : _} {F : _} {g : _} (schema_of : S → model.Schema) (functions_of : T → Functions) (x : Setup) (s : State) (d : Session S T B F g) (at : IsAt schema_of functions_of x s d) where
+  -- after a supply
+  pub after_supply : (e : Session S T B F g) (ps : List (EntityUID × Option Entity)) (rs : List (EntityUID × Vec EntityUID Global)) → AreUids
+      → e.basis ≡ d.basis → e.start ≡ d.start → e.now ≡ d.now → e.bound ≡ d.bound → e.loaded.items ≡ d.loaded.items ++ supplied_entities ps → level_of e.loading ≡ level_of d.loading
+      → map row_pair rs ≡ map mentions_pair ps → list_all (is_right x.schema) (supplied_of ps) ≡ true
+      → IsFilled (rows_of rs) (rows_in d.loading) (rows_in e.loading) → AreKeys (wanted_in d.loading) (keys_in rs) → IsWanting x.schema e.loading
+      → ((r : List Uid) → IsKept r (mentions_of d.loading) x.level (near_in d.loading) → IsKept r (mentions_of e.loading) x.level (near_in e.loading))
+      → AreFromStore x ps → IsAt schema_of functions_of x (with_asked s (wanted_in d.loading)) e
+  after_supply e ps rs uids basis start now bound loaded level rows right filled keys wanting keeps from =
+      let same : keys_in rs ≡ supplied_uids ps = keys_same rs ps rows in
+      let of_us : AreKeys (wanted_in d.loading) (supplied_uids ps) = subst (AreKeys (wanted_in d.loading)) same keys in
+      let once = more_is_distinct x s d.loaded.items ps (wanted_in d.loading) at.loaded from right of_us.each of_us.all (λ u k. none_loaded x s d.loading at.wanting at.near u (of_us.each u k)) of_us in
+      record {
+        setup = subst (λ q. IsSetup schema_of functions_of x e.basis q) (sym start) (subst (λ b. IsSetup schema_of functions_of x b d.start) (sym basis) at.setup);
+        context = at.context;
+        opened = record { opened = (at.opened).opened; bound = (at.opened).bound };
+        bound = λ n. ap (λ b. bound_in b n) bound ∙ at.bound n;
+        now = ap request_of now ∙ at.now;
+        level = level ∙ at.level;
+        wanting = wanting;
+        near = supply_is_round x s d.loading e.loading rs at.near filled keys
+            (rows_answer x ps from.answered rs rows (λ u k. ((wanted_apart x s d.loading at.wanting at.near u (of_us.each u k)).0, uid_there uids ps u k))) keeps;
+        loaded = subst (AreLoaded x (with_asked s (wanted_in d.loading))) (sym loaded) (more_is_loaded x s d.loaded.items ps (wanted_in d.loading) at.loaded from right of_us.each of_us.all once);
+      }
+
+  -- after a binding
+  pub after_bind : (e : Session S T B F g) (n : Text) (m : Made) (rs : List Uid) → IsBoundMore x s (with_bound s n m)
+      → e.basis ≡ d.basis → e.start ≡ d.start → ((k : Text) → bound_in e.bound k ≡ (if bytes_eq n k then Some m else bound_in d.bound k)) → request_of e.now ≡ request_at x.functions (with_bound s n m) x.start → e.loaded.items ≡ d.loaded.items
+      → level_of e.loading ≡ level_of d.loading → (e.loading).rows ≡ (d.loading).rows → IsWanting x.schema e.loading
+      → ((r : List Uid) → IsKept r (mentions_of d.loading) x.level (near_in d.loading) → IsKept (r ++ rs) (mentions_of e.loading) x.level (near_in e.loading))
+      → rs ≡ roots (known_now x (with_bound s n m)) → ((f : BindRefusal) → BindFault x s n m f → ⊥) → IsWellMade x.functions.table m → IsAt schema_of functions_of x (with_bound s n m) e
+  after_bind e n m rs more basis start bound now loaded level rows wanting keeps listed ok well = record {
+    setup = subst (λ q. IsSetup schema_of functions_of x e.basis q) (sym start) (subst (λ b. IsSetup schema_of functions_of x b d.start) (sym basis) at.setup);
+    context = at.context;
+    opened = opened_with x s n m at.opened ok well;
+    bound = λ k. bound k ∙ value_with k (bytes_eq n k) (bytes_eq k n) refl refl ∙ ap (λ o. cond (bytes_eq k n) (Some m) o) (at.bound k);
+    now = now;
+    level = level ∙ at.level;
+    wanting = wanting;
+    near = roots_bound x s (with_bound s n m) d.loading e.loading rs at.near more rows (λ u. ((λ k. subst (λ us. Contains us u) listed k), (λ k. subst (λ us. Contains us u) (sym listed) k))) keeps;
+    loaded = record { each = λ u. ap (λ es. lookup (uid_eq u) (map entity_pair es)) loaded ∙ (at.loaded).each u; distinct = subst (λ es. are_distinct (map entity_pair es) ≡ true) (sym loaded) (at.loaded).distinct; written = λ u. subst (λ es. IsFoundMadeWell x.functions.table (stored_in es u)) (sym loaded) ((at.loaded).written u); conform = (at.loaded).conform };
+  }
+    where
+      lie : {P : Type 0} → true ≡ false → P
+      lie e = cc
+
+      value_with : (k : Text) (a b : Bool) → bytes_eq n k ≡ a → bytes_eq k n ≡ b → (if a then Some m else bound_in d.bound k) ≡ cond b (Some m) (bound_in d.bound k)
+      value_with k true true e f = refl
+      value_with k false false e f = refl
+      value_with k true false e f = lie (sym ((bytes_eq-Decides k n).1 (sym ((bytes_eq-Decides n k).0 e))) ∙ f)
+      value_with k false true e f = lie (sym ((bytes_eq-Decides n k).1 (sym ((bytes_eq-Decides k n).0 f))) ∙ e)
+
+  -- where all says the same
+  pub at_same : (e : Session S T B F g) → e.basis ≡ d.basis → e.start ≡ d.start → ((k : Text) → bound_in e.bound k ≡ bound_in d.bound k) → e.now ≡ d.now → e.loaded.items ≡ d.loaded.items → IsSameLoading d.loading e.loading
+      → IsAt schema_of functions_of x s e
+  at_same e basis start bound now loaded same = record {
+    setup = subst (λ q. IsSetup schema_of functions_of x e.basis q) (sym start) (subst (λ b. IsSetup schema_of functions_of x b d.start) (sym basis) at.setup);
+    context = at.context;
+    opened = at.opened;
+    bound = λ k. bound k ∙ at.bound k;
+    now = ap request_of now ∙ at.now;
+    level = same.level ∙ at.level;
+    wanting = wanting_same d.loading e.loading same x.schema at.wanting;
+    near = loaded_same d.loading e.loading same x s at.near;
+    loaded = subst (AreLoaded x s) (sym loaded) at.loaded;
+  }
+
+  -- the schema's own words
+  pub schema_is : schema_of (d.basis).schema.now ≡ x.schema
+  schema_is = ((at.setup).over).schema

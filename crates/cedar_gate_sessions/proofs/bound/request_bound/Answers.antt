@@ -1,0 +1,5 @@
+use Rattle.std.proofs.Common.{rules, ◌≡◌, false}
+use Rattle.cedar_gate_sessions.proofs.bound.request_bound.Goals as goal
+
+pub returns-clause-evaluates : goal.returns-clause-evaluates
+returns-clause-evaluates g c = λ s v. (let fine : c.in_ok-made.made.1 ≡ false = search rules in c.in_ok-made.ensures.evaluates fine s v)

@@ -1,0 +1,41 @@
+-- The entities that a session loads, and what is supplied of them.
+-- Rule: sessions; the store (docs/RULES.md).
+use Rattle.std.specs.Prelude.{List, map, Option, option_map, option_to_list}
+use Rattle.std.specs.List.{flat_map}
+use Rattle.std.specs.declared.alloc.Global.{Global}
+use Rattle.std.specs.declared.vec.Vec.{Vec}
+use Rattle.cedar_expr_model.specs.Uid.{Uid}
+use Rattle.cedar_expr_model.specs.Whole.Value.{V}
+use Rattle.cedar_expr_names.specs.Views.{uid_of}
+use Rattle.cedar_expr_names.specs.declared.entity.EntityUID.{EntityUID}
+use Rattle.cedar_store_entities.specs.Views.{entity_of, entity_pair}
+use Rattle.cedar_store_entities.specs.declared.entity.Entity.{Entity}
+use Rattle.cedar_store_model.specs.Whole.World as world
+use Rattle.cedar_gate_distances.specs.Rows.{uids}
+use Rattle.cedar_gate_model.specs.Whole.Session.{Supplied}
+use Rattle.cedar_gate_sessions.specs.Loaded.{mentioned_there}
+
+-- what was supplied, and for which uids
+abbrev pub supplied_pair : EntityUID × Option Entity → Uid × Option (Uid × world.Entity V)
+supplied_pair p = (uid_of p.0, option_map entity_pair p.1)
+
+abbrev pub supplied_of : List (EntityUID × Option Entity) → Supplied
+supplied_of ps = map supplied_pair ps
+
+abbrev pub supplied_uids : List (EntityUID × Option Entity) → List Uid
+supplied_uids ps = map (λ p. uid_of p.0) ps
+
+-- the entities in it
+abbrev pub supplied_entities : List (EntityUID × Option Entity) → List Entity
+supplied_entities ps = flat_map (λ p. option_to_list p.1) ps
+
+-- what an entity mentions, if there is one
+abbrev pub mentioned_by_this : Option Entity → List Uid
+mentioned_by_this e = mentioned_there (option_map entity_of e)
+
+-- the rows of what was supplied: what stands at each uid, and what is mentioned there
+abbrev pub row_pair : EntityUID × Vec EntityUID Global → Uid × List Uid
+row_pair p = (uid_of p.0, uids p.1.items)
+
+abbrev pub mentions_pair : EntityUID × Option Entity → Uid × List Uid
+mentions_pair p = (uid_of p.0, mentioned_by_this p.1)

@@ -1,0 +1,5 @@
+pub mod Entities
+pub mod Faults
+pub mod Loaded
+pub mod Requests
+pub mod Sessions

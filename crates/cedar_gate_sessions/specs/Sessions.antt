@@ -1,0 +1,93 @@
+-- What a session of the code stands at.
+-- Rule: sessions; refusals of a session (docs/RULES.md).
+use Rattle.std.specs.Prelude.{◌≡◌, true, List, Contains, map, Option, Some, IfSome}
+use Rattle.std.specs.Map.{lookup}
+use Rattle.cedar_expr_functions.specs.Tables.{table_of}
+use Rattle.cedar_expr_model.specs.Name.{Text}
+use Rattle.cedar_expr_model.specs.Uid.{Uid, uid_eq}
+use Rattle.cedar_expr_model.specs.Whole.Made.{Made}
+use Rattle.cedar_expr_model.specs.Whole.Value.{V}
+use Rattle.cedar_expr_names.specs.declared.entity.EntityUID.{EntityUID}
+use Rattle.cedar_store_entities.specs.Views.{entity_pair, entity_seen, kept_pair}
+use Rattle.cedar_store_entities.specs.declared.entity.Entity.{Entity}
+use Rattle.cedar_store_model.specs.Whole.Policy.{Policy}
+use Rattle.cedar_store_model.specs.Whole.Store.{are_distinct, if_uid, partial}
+use Rattle.cedar_store_model.specs.Whole.World as world
+use Rattle.cedar_store_model.specs.Whole.World.{Found, held}
+use Rattle.cedar_store_policies.specs.Policies.{policy_of}
+use Rattle.cedar_schema_model.specs.Whole.Conforming.{EntityConforms}
+use Rattle.cedar_schema_model.specs.Whole.Schema as model
+use Rattle.cedar_evaluator_model.specs.OfLaws.WellMade.{IsFoundMadeWell, IsContextMadeWell}
+use Rattle.cedar_evaluator_operators.specs.Answers.{AnswersMade}
+use Rattle.cedar_evaluator_reads.specs.Scopes.{found_kept}
+use Rattle.cedar_evaluator_requests.specs.Views.{request_of}
+use Rattle.cedar_evaluator_requests.specs.declared.request.Request.{Request}
+use Rattle.cedar_evaluator_rising.specs.Rising.{CallsRise}
+use Rattle.cedar_gate_bindings.specs.Names.{bound_in}
+use Rattle.cedar_gate_model.specs.Whole.Bundle.{Functions}
+use Rattle.cedar_gate_model.specs.Whole.Runs.{supplied_by}
+use Rattle.cedar_gate_model.specs.Whole.RunsAnswer.{IsOpened}
+use Rattle.cedar_gate_model.specs.Whole.RunsAsk.{IsMadeContext}
+use Rattle.cedar_gate_model.specs.Whole.Session.{Setup, State, value_of}
+use Rattle.cedar_gate_wanted.specs.Laws.{IsLoadedAt}
+use Rattle.cedar_gate_wanted.specs.Wanting.{IsWanting, level_of, wanted_in}
+use Rattle.cedar_gate_openings.specs.Requests.{request_at}
+use Rattle.cedar_gate_sessions.specs.Entities.{supplied_of, supplied_uids}
+use Rattle.cedar_gate_sessions.specs.Loaded.{loaded_at}
+use Rattle.cedar_gate_sessions.specs.declared.basis.Basis.{Basis}
+use Rattle.cedar_gate_sessions.specs.declared.session.Session.{Session}
+
+-- What is supplied is what the store answers, and its values are as they are written.
+pub record AreFromStore (x : Setup) (ps : List (EntityUID × Option Entity)) : Type 0 where
+  pub answered : supplied_of ps ≡ supplied_by x (supplied_uids ps)
+  pub written : (p : EntityUID × Option Entity) → Contains ps p → IfSome p.1 (λ e. IsFoundMadeWell x.functions.table (held (entity_seen e)))
+
+-- The setup's schema, level and limit, and its functions; the table's answer so, and rising arguments with values that rise.
+pub record StandsOn {S : Type 0} {T : Type 0} {B : _} {F : _} {g : _} (schema_of : S → model.Schema) (functions_of : T → Functions) (x : Setup) (on : Basis S T B F g) : Type 0 where
+  pub schema : schema_of on.schema.now ≡ x.schema
+  pub level : on.level ≡ x.level
+  pub limit : on.limit ≡ x.limit
+  pub functions : functions_of on.functions.now ≡ x.functions
+  pub table : table_of on.table.now x.functions.table.answers ≡ x.functions.table
+  pub answered : AnswersMade on.table.now x.functions.calls
+  pub rise : CallsRise x.functions.calls
+
+-- The setup is that of a session over this with this request, whose context is as it is written.
+pub record IsSetup {S : Type 0} {T : Type 0} {B : _} {F : _} {g : _} (schema_of : S → model.Schema) (functions_of : T → Functions) (x : Setup) (on : Basis S T B F g) (q : Request) : Type 0 where
+  pub over : StandsOn schema_of functions_of x on
+  pub start : request_of q ≡ x.start
+  pub written : IsContextMadeWell x.functions.table x.start.context
+
+-- the uids that are wanted, and the policies
+abbrev pub wanted_of : {S : Type 0} {T : Type 0} {B : _} {F : _} {g : _} → Session S T B F g → List Uid
+wanted_of e = wanted_in e.loading
+
+abbrev pub policies_in : {S : Type 0} {T : Type 0} {B : _} {F : _} {g : _} → Session S T B F g → List Policy
+policies_in e = map policy_of e.basis.policies.now
+
+-- the store of the entities that are loaded, as they were made
+abbrev pub stored_in : List Entity → Uid → Found Made
+stored_in es u = if_uid u (found_kept partial (lookup (uid_eq u) (map kept_pair es)))
+
+abbrev pub store_in : {S : Type 0} {T : Type 0} {B : _} {F : _} {g : _} → Session S T B F g → Uid → Found Made
+store_in e = stored_in e.loaded.items
+
+-- These entities are loaded: the declared actions and what the store answered, each once, with values as they are written; what was
+-- answered conforms.
+pub record AreLoaded (x : Setup) (s : State) (es : List Entity) : Type 0 where
+  pub each : (u : Uid) → lookup (uid_eq u) (map entity_pair es) ≡ loaded_at x s u
+  pub distinct : are_distinct (map entity_pair es) ≡ true
+  pub written : (u : Uid) → IsFoundMadeWell x.functions.table (stored_in es u)
+  pub conform : (u : Uid) (e : world.Entity V) → Contains s.asked u → x.store u ≡ Some e → EntityConforms x.schema u e
+
+-- The session is at this state, over what it stands on.
+pub record IsAt {S : Type 0} {T : Type 0} {B : _} {F : _} {g : _} (schema_of : S → model.Schema) (functions_of : T → Functions) (x : Setup) (s : State) (e : Session S T B F g) : Type 0 where
+  pub setup : IsSetup schema_of functions_of x e.basis e.start
+  pub context : IsMadeContext x.start.context
+  pub opened : IsOpened x s
+  pub bound : (n : Text) → bound_in e.bound n ≡ value_of s n
+  pub now : request_of e.now ≡ request_at x.functions s x.start
+  pub level : level_of e.loading ≡ x.level
+  pub wanting : IsWanting x.schema e.loading
+  pub near : IsLoadedAt x s e.loading
+  pub loaded : AreLoaded x s e.loaded.items

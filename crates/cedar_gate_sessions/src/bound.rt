@@ -1,0 +1,91 @@
+//! What names are bound to, and the request with it.
+
+ghost use Rattle.std.specs.Prelude.{◌≡◌, ◌++◌, List, Some, None, IfOk, IfErr, OnOk, OnErr, if◌then◌else◌};
+ghost use Rattle.std.specs.Rc.{rc_str_bytes};
+ghost use Rattle.std.specs.Str.{bytes_eq};
+ghost use Rattle.cedar_expr_model.specs.Name.{Text};
+ghost use Rattle.cedar_expr_model.specs.Uid.{Uid};
+ghost use Rattle.cedar_expr_values.specs.Extensions.{extension_of};
+ghost use Rattle.cedar_expr_values.specs.Values.{made};
+ghost use Rattle.cedar_evaluator_requests.specs.Views.{request_of};
+ghost use Rattle.cedar_gate_bindings.specs.Names.{bound_in};
+ghost use Rattle.cedar_gate_distances.specs.Kept.{IsKept};
+ghost use Rattle.cedar_gate_model.specs.Whole.Session.{State, ContextFails};
+ghost use Rattle.cedar_gate_openings.specs.Requests.{request_at, AreValuesOf};
+ghost use Rattle.cedar_gate_openings.specs.Roots.{known_roots};
+ghost use Rattle.cedar_gate_wanted.specs.Wanting.{IsWanting, IsSameLoading, near_in, mentions_of, level_of};
+
+use crate::basis::{Basis, Schema};
+use cedar_evaluator_requests::Request;
+use cedar_evaluator_restricted::FunctionCalls;
+use cedar_gate_bindings::{BindFault, V};
+use cedar_gate_openings::{request_now, roots};
+use cedar_gate_wanted::Loading;
+use std::alloc::{AllocError, Global};
+use std::collections::HashMap;
+use std::rc::RcStr;
+
+/// Binds the name to the value. Answers want of memory, and then all is as before.
+pub(crate) fn put_value(
+    bound: &mut HashMap<RcStr, V>,
+    name: RcStr,
+    value: V,
+) -> Result<(), AllocError>
+    ensures put { OnOk result ((k : Text) → bound_in bound.new k ≡ (if bytes_eq (rc_str_bytes name) k then Some (made extension_of value) else bound_in bound.old k)) }
+    ensures unchanged { OnErr result ((k : Text) → bound_in bound.new k ≡ bound_in bound.old k) }
+{
+    bound.insert(name, value)?;
+    Ok(())
+}
+
+/// Takes away what the name is bound to.
+pub(crate) fn take_value(bound: &mut HashMap<RcStr, V>, name: &str)
+    ensures { (k : Text) → bound_in bound.new k ≡ (if bytes_eq name.now k then None else bound_in bound.old k) }
+{
+    bound.remove(name);
+}
+
+/// Adds the roots of the request, as far as they are known. Answers want of memory, and then all is as before.
+pub(crate) fn add_known_roots<S: Schema>(
+    alloc: Global,
+    schema: &S,
+    request: &Request,
+    loading: &mut Loading,
+) -> Result<(), AllocError>
+    ensures wanting { OnOk result (IsWanting (S.schema schema.now) loading.old → IsWanting (S.schema schema.now) loading.new) }
+    ensures kept { OnOk result ((r : List Uid) → IsKept r (mentions_of loading.old) (level_of loading.old) (near_in loading.old) → IsKept (r ++ known_roots (request_of request.now)) (mentions_of loading.new) (level_of loading.new) (near_in loading.new)) }
+    ensures rows { loading.new.rows ≡ loading.old.rows }
+    ensures level { level_of loading.new ≡ level_of loading.old }
+    ensures unchanged { OnErr result (IsSameLoading loading.old loading.new) }
+{
+    let roots = roots(alloc, request)?;
+    loading.add_roots(alloc, schema, roots.as_slice())
+}
+
+/// The request with what is bound, of which the known roots are added.
+///
+/// # Errors
+///
+/// 4 the context fails to evaluate; or want of memory. All is as before then.
+pub(crate) fn request_bound<S: Schema, T: FunctionCalls>(
+    alloc: Global,
+    basis: &Basis<'_, S, T>,
+    start: &Request,
+    bound: &HashMap<RcStr, V>,
+    loading: &mut Loading,
+) -> Result<Request, BindFault>
+    ensures now { IfOk result (λ q. (s : State) → AreValuesOf s (bound_in bound.now) → request_of q ≡ request_at (T.functions basis.now.functions.now) s (request_of start.now)) }
+    ensures evaluates { OnOk result ((s : State) → AreValuesOf s (bound_in bound.now) → ContextFails (T.functions basis.now.functions.now) s (request_of start.now).context → ⊥) }
+    ensures wanting { OnOk result (IsWanting (S.schema basis.now.schema.now) loading.old → IsWanting (S.schema basis.now.schema.now) loading.new) }
+    ensures kept { IfOk result (λ q. (r : List Uid) → IsKept r (mentions_of loading.old) (level_of loading.old) (near_in loading.old) → IsKept (r ++ known_roots (request_of q)) (mentions_of loading.new) (level_of loading.new) (near_in loading.new)) }
+    ensures rows { loading.new.rows ≡ loading.old.rows }
+    ensures level { level_of loading.new ≡ level_of loading.old }
+    ensures unchanged { OnErr result (IsSameLoading loading.old loading.new) }
+{
+    let made = request_now(alloc, basis.functions, start, bound)?;
+    if made.1 {
+        return Err(BindFault::ContextFails);
+    }
+    add_known_roots(alloc, basis.schema, &made.0, loading)?;
+    Ok(made.0)
+}

@@ -1,0 +1,4 @@
+pub mod Printing
+pub mod Statuses
+pub mod Stops
+pub mod Transcripts

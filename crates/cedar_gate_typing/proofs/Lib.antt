@@ -1,0 +1,4 @@
+pub mod Excused
+pub mod Loops
+pub mod Marked
+pub mod Typing

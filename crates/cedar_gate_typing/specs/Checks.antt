@@ -1,0 +1,54 @@
+-- What the verdict of a type is, and what is asked of environments one by one.
+-- Rule: the acceptance rules; impossible policies (docs/RULES.md).
+use Rattle.std.specs.Prelude.{◌≡◌, ◌&&◌, ◌||◌, ℕ, Bool, not, List, map, Option, Some}
+use Rattle.std.specs.List.{list_all, flat_map}
+use Rattle.cedar_expr_model.specs.Whole.Table.{Table}
+use Rattle.cedar_expr_model.specs.Whole.Tree.{Tree}
+use Rattle.cedar_expr_names.specs.Views.{type_name_of, uid_of}
+use Rattle.cedar_expr_trees.specs.Trees.{tree_of}
+use Rattle.cedar_expr_trees.specs.declared.expr.Expr.{Expr}
+use Rattle.cedar_gate_typing.specs.Views.{reach_of}
+use Rattle.cedar_gate_typing.specs.declared.check.PolicyCheck.{PolicyCheck}
+use Rattle.cedar_gate_typing.specs.declared.verdict.Verdict.{Verdict}
+use Rattle.cedar_schema_model.specs.Whole.Environment.{Environment}
+use Rattle.cedar_schema_model.specs.Whole.Schema.{Schema}
+use Rattle.cedar_schema_model.specs.Whole.Types.{Ty, strict}
+use Rattle.cedar_schema_types.specs.Types.{type_of}
+use Rattle.cedar_schema_types.specs.declared.types.Type.{«Type» as CodeType}
+use Rattle.cedar_store_model.specs.Whole.Policy.{Policy}
+use Rattle.cedar_store_records.specs.declared.request_type.RequestType.{RequestType as CodeKind}
+use Rattle.cedar_typechecker_model.specs.Whole.Facts.{Facts, no_facts}
+use Rattle.cedar_typechecker_model.specs.Whole.Rules.{Setting}
+use Rattle.cedar_typechecker_model.specs.Whole.Verdicts.{RequestType, is_bool, is_false, fits, is_of_request, condition_type, violations_in}
+use Rattle.cedar_typechecker_nodes.specs.Marked.{kind_marks}
+use Rattle.cedar_typechecker_typed_model.specs.Typed.{typed}
+
+-- The expression is the tree with the types of its parts, of which it has one itself.
+pub record IsTypedAs (s : Setting) (t : Tree) (e : Expr (Option CodeType)) : Type 0 where
+  pub type : CodeType
+  pub facts : Facts
+  pub held : e.«data» ≡ Some type
+  pub is : typed s no_facts t ≡ Some (record { type = type_of type; facts = facts; at = tree_of e; below = kind_marks e.expr_kind })
+
+-- The verdict says of the type what the tests say.
+pub record IsVerdictOf (t : Option Ty) (v : Verdict) : Type 0 where
+  pub bools : v.is_bool ≡ is_bool t
+  pub falses : v.is_false ≡ is_false t
+
+-- the types of a request
+abbrev pub kind_asked : CodeKind → RequestType
+kind_asked k = record { principal = type_name_of k.principal; action = uid_of k.action; resource = type_name_of k.resource }
+
+-- the environment doesn't fit, or gives False
+abbrev pub is_excused : Schema → Table → Policy → Environment → Bool
+is_excused s x p e = not (fits p e) || is_false (condition_type s x p e)
+
+-- the same of those of a request's types
+abbrev pub is_excused_for : RequestType → Schema → Table → Policy → Environment → Bool
+is_excused_for r s x p e = not (fits p e && is_of_request r e) || is_false (condition_type s x p e)
+
+-- The check says of the policy what is to be said of it over these environments.
+pub record ChecksOver (n : ℕ) (s : Schema) (x : Table) (p : Policy) (es : List Environment) (c : PolicyCheck) : Type 0 where
+  pub passes : c.passes ≡ list_all (λ e. is_bool (condition_type s x p e)) es
+  pub impossible : c.is_impossible ≡ list_all (is_excused s x p) es
+  pub violations : map reach_of c.violations.items ≡ flat_map (violations_in strict n s x p) es
