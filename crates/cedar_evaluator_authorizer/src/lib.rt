@@ -1,6 +1,6 @@
 //! Authorization: the policies of a set evaluated for a request, over a store of entities.
 //! Contract: `is_authorized_core` answers the model's response to the policies, and `is_authorized` that response as an answer.
-//! Used by sessions and by callers that have all entities at hand.
+//! For callers that have all entities at hand; nothing here calls it yet.
 #![tactic(auto)]
 
 pub mod authorizer;

@@ -1,7 +1,7 @@
 //! Steps, and runs of a session over a host up to the answer.
 //! Contract: what `run` hands out is a run of the definitions (`IsRun`) over the host's store: the entries and the answer, or the refusal
 //! with which it ended. For want of memory and after a fault of the host it is what was done by then.
-//! Used by the service. Open `runs.rt` first.
+//! Used by `cedar_gate_serving`. Open `runs.rt` first.
 #![tactic(auto)]
 
 mod loading;

@@ -1,28 +1,15 @@
 //! Sessions.
 
-ghost use Rattle.std.specs.Prelude.{◌≡◌, IfOk, IfErr, OnOk, OnErr, map, option_map};
-ghost use Rattle.std.specs.Rc.{rc_str_bytes};
-ghost use Rattle.cedar_expr_values.specs.Extensions.{extension_of};
-ghost use Rattle.cedar_expr_values.specs.Values.{made};
-ghost use Rattle.cedar_store_model.specs.Whole.Answer.{answer_of as answer_meant};
+ghost use Rattle.std.specs.Prelude.{◌≡◌, IfOk, IfErr, OnOk, OnErr, map};
 ghost use Rattle.cedar_store_policies.specs.Policies.{policy_of};
-ghost use Rattle.cedar_evaluator_model.specs.Laws.{as_concrete};
-ghost use Rattle.cedar_evaluator_model.specs.Members.{bounds_in_session};
-ghost use Rattle.cedar_evaluator_model.specs.OfLaws.WellMade.{IsWellMade};
-ghost use Rattle.cedar_evaluator_model.specs.Response.{response_of};
-ghost use Rattle.cedar_evaluator_requests.specs.Views.{request_of, decision_of, answer_of};
-ghost use Rattle.cedar_expr_model.specs.Whole.ListLaws.{AreDistinct};
-ghost use Rattle.cedar_store_model.specs.Whole.Answer.{ids};
+ghost use Rattle.cedar_evaluator_requests.specs.Views.{request_of};
 ghost use Rattle.cedar_gate_bindings.specs.Faults.{opens, IsOpenFault};
-ghost use Rattle.cedar_gate_decisions.specs.Bounds.{bounds_of};
-ghost use Rattle.cedar_gate_decisions.specs.Verdicts.{verdicts_of};
 ghost use Rattle.cedar_gate_distances.specs.Rows.{uids};
-ghost use Rattle.cedar_gate_model.specs.Whole.Runs.{MayDecide, with_asked};
-ghost use Rattle.cedar_gate_model.specs.Whole.RunsAnswer.{Course, session_of, IsProper, MakeFairly};
-ghost use Rattle.cedar_gate_model.specs.Whole.Session.{Setup, State, at_start, with_bound, scope_now, world_now, IsWantedList, NothingIsWanted, SupplyRefusal, BindRefusal, AnswerRefusal, SupplyFault as SupplyIsRefused, BindFault as BindIsRefused, AnswerFault as AnswerIsRefused};
+ghost use Rattle.cedar_gate_model.specs.Whole.Runs.{with_asked};
+ghost use Rattle.cedar_gate_model.specs.Whole.Session.{Setup, State, IsWantedList, SupplyRefusal, SupplyFault as SupplyIsRefused};
 ghost use Rattle.cedar_gate_sessions.specs.Entities.{supplied_of};
-ghost use Rattle.cedar_gate_sessions.specs.Faults.{IsSupplyFault, IsBindFault, IsAnswerFault};
-ghost use Rattle.cedar_gate_sessions.specs.Sessions.{IsSetup, IsAt, AreFromStore, wanted_of, policies_in, store_in};
+ghost use Rattle.cedar_gate_sessions.specs.Faults.{IsSupplyFault};
+ghost use Rattle.cedar_gate_sessions.specs.Sessions.{IsAt, AreFromStore, wanted_of, policies_in};
 
 use crate::basis::{Basis, Schema};
 use crate::bound::{add_known_roots, put_value, request_bound, take_value};
@@ -35,10 +22,8 @@ use cedar_evaluator_restricted::FunctionCalls;
 use cedar_expr_functions::Extensions;
 use cedar_expr_names::EntityUID;
 use cedar_gate_bindings::{BindFault, OpenFault, V, check_names, check_value, has_open, is_open};
-use cedar_gate_decisions::laws::{accepted_policies_are_fit, decisions_may_be_given};
 use cedar_gate_decisions::{Bounds, Verdict, bounded, decided, respond, verdicts};
-use cedar_gate_openings::laws::{a_binding_is_more, roots_are_known};
-use cedar_gate_openings::{context_is_made, request_now};
+use cedar_gate_openings::request_now;
 use cedar_gate_wanted::Loading;
 use cedar_store_entities::Entity;
 use cedar_store_entities::laws::uids_are_uids;
