@@ -1,6 +1,6 @@
 //! The gate: what it accepted, the ids that it warns of, and which policies may decide a request of given types.
 //! Contract: what `Gate::accept` lets through is accepted by the acceptance rules, and what it refuses has the fault that is named.
-//! Nothing calls it yet; it is made for sessions and the service.
+//! Used by the sessions of a gate and by the service.
 #![tactic(auto)]
 
 mod actions;

@@ -1,3 +1,5 @@
 pub mod Evaluated
 pub mod Parted
 pub mod Unread
+pub mod Written
+pub mod Kept

@@ -25,7 +25,7 @@ use Rattle.cedar_expr_values.specs.declared.value.Value.{Value}
 use Rattle.cedar_store_model.specs.Whole.Store.{Store, whole, store_of, are_distinct}
 use Rattle.cedar_store_model.specs.Whole.World as world
 use Rattle.cedar_store_entities.specs.Recorded.{all_recorded}
-use Rattle.cedar_store_entities.specs.Views.{entity_uid, entity_seen, entity_pair, value_pair, bare_part}
+use Rattle.cedar_store_entities.specs.Views.{entity_uid, entity_seen, entity_pair, value_pair}
 use Rattle.cedar_store_entities.specs.declared.entity.Entity.{Entity}
 use Rattle.cedar_evaluator_model.specs.Reauthorize.{context_from}
 use Rattle.cedar_evaluator_model.specs.Scope.{Left}
@@ -34,11 +34,12 @@ use Rattle.cedar_gate_model.specs.Whole.Bundle.{Functions}
 use Rattle.cedar_gate_model.specs.Whole.ReadingBundle.{bundle_read, input_read}
 use Rattle.cedar_gate_model.specs.Whole.ReadingForms.{if_passing}
 use Rattle.cedar_gate_model.specs.Whole.ReadingName.{uid_read}
-use Rattle.cedar_gate_model.specs.Whole.ReadingRequest.{parts_read, with_uid, with_uids, entity_read, step_read, binding_read}
+use Rattle.cedar_gate_model.specs.Whole.ReadingRequest.{parts_read, with_uid, with_uids, step_read, binding_read}
 use Rattle.cedar_gate_model.specs.Whole.ReadingValue.{value_read, if_value, context_read, fields_context_read}
 use Rattle.cedar_gate_reading.specs.Json.{json_read}
 use Rattle.cedar_gate_reading.specs.Maps.{under_text, texts_seen}
 use Rattle.cedar_gate_bundles.specs.Values.{IsStopped}
+use Rattle.cedar_gate_bundles.specs.Written.{known_made, entity_read_made, entity_pair_made}
 
 or_none : {A : Type 0} (o : Option A) → option_or o None ≡ o
 or_none None = refl
@@ -99,17 +100,14 @@ value_names : (ps : List (RcStr Global × Value ExtValue)) → map (λ p. p.0) (
 value_names [] = refl
 value_names (p ∷ ps) = ap (λ ns. rc_str_bytes p.0 ∷ ns) (value_names ps)
 
-bare_values : (ps : List (RcStr Global × Value ExtValue)) → map (λ p. (p.0, bare_part p.1)) (map value_pair ps) ≡ map as_known (texts_seen (made extension_of) ps)
-bare_values [] = refl
-bare_values (p ∷ ps) = ap (λ qs. as_known (rc_str_bytes p.0, made extension_of p.1) ∷ qs) (bare_values ps)
-
-abbrev bare_pair : Text × Part Made → Text × Part V
-bare_pair p = (p.0, bare_part p.1)
+known_values : (ps : List (RcStr Global × Value ExtValue)) → map value_pair ps ≡ map known_made (texts_seen (made extension_of) ps)
+known_values [] = refl
+known_values (p ∷ ps) = ap (λ qs. known_made (rc_str_bytes p.0, made extension_of p.1) ∷ qs) (known_values ps)
 
 -- the attributes, or the tags, that are kept are those that are read
 kept_parts : (ps : List (RcStr Global × Value ExtValue)) (kept : List (Text × Part Made)) → names_rise (texts_seen (made extension_of) ps) ≡ true → kept ≡ in_order (map value_pair ps)
-    → map bare_pair kept ≡ map as_known (texts_seen (made extension_of) ps)
-kept_parts ps kept r k = ap (map bare_pair) (k ∙ in_order_stays (map value_pair ps) (ap (rises text_cmp) (value_names ps) ∙ r)) ∙ bare_values ps
+    → kept ≡ map known_made (texts_seen (made extension_of) ps)
+kept_parts ps kept r k = k ∙ in_order_stays (map value_pair ps) (ap (rises text_cmp) (value_names ps) ∙ r) ∙ known_values ps
 
 -- an entity that is made of what is read
 pub entity_made : (x : Functions) (d : Data) (e : Entity) (u : Uid) (ps ts : List (RcStr Global × Value ExtValue)) (us : List Uid)
@@ -121,9 +119,9 @@ pub entity_made : (x : Functions) (d : Data) (e : Entity) (u : Uid) (ps ts : Lis
     → names_rise (texts_seen (made extension_of) ps) ≡ true → names_rise (texts_seen (made extension_of) ts) ≡ true
     → entity_uid e ≡ u → (entity_seen e).attributes ≡ in_order (map value_pair ps) → (entity_seen e).tags ≡ in_order (map value_pair ts)
     → (entity_seen e).ancestors ≡ all_recorded (all_recorded [] us) []
-    → entity_read x d ≡ Some (entity_pair e)
+    → entity_read_made x d ≡ Some (entity_pair_made e)
 entity_made x d e u ps ts us h hu ha ht hr ra rt eu ea et er =
-    rw (h, hu, parts_are x (codes "attrs") d, ha, parts_are x (codes "tags") d, ht, hr)
+    rw (h, hu, ha, ht, hr)
     (λ i. Some (
       sym eu i,
       record {

@@ -29,7 +29,8 @@ use Rattle.cedar_gate_model.specs.Whole.ReadingValue.{value_read, fields_context
 use Rattle.cedar_gate_reading.specs.Maps.{under_text}
 use Rattle.cedar_gate_reading.specs.declared.fault.ReadFault.{ReadFault}
 use Rattle.cedar_gate_reading.specs.declared.fault.ReadFault.TheVariants.{Unreadable}
-use Rattle.cedar_gate_bundles.proofs.Parted.{parts_are, store_repeats}
+use Rattle.cedar_gate_bundles.specs.Written.{entity_read_made}
+use Rattle.cedar_gate_bundles.proofs.Parted.{store_repeats}
 
 -- an error that is handed on
 pub handed_on : {A : Type 0} (P : Type 0) (e : ReadFault) (r : Result A ReadFault) → IsErrAnd r (λ y. y ≡ e) → (e ≡ Unreadable → P) → IfErr r (λ f. f ≡ Unreadable → P)
@@ -46,11 +47,11 @@ module _ (x : Functions) (ms : Members) (fs : TreeFields) (t : Tree) (h : fields
 
 -- an entity whose tags, or whose ancestors, aren't read
 module _ (x : Functions) (d : Data) (u : Uid) (ps : List (Text × Made)) (h : has_only (codes "uid" ∷ codes "attrs" ∷ codes "tags" ∷ codes "ancestors" ∷ []) d ≡ true) (hu : required (codes "uid") uid_read d ≡ Some u) (ha : optional (codes "attrs") (members_of (under_text (value_read x))) [] d ≡ Some ps) where
-  pub tags_unread : optional (codes "tags") (members_of (under_text (value_read x))) [] d ≡ None → entity_read x d ≡ None
-  tags_unread ht = rw (h, hu, parts_are x (codes "attrs") d, ha, parts_are x (codes "tags") d, ht) refl
+  pub tags_unread : optional (codes "tags") (members_of (under_text (value_read x))) [] d ≡ None → entity_read_made x d ≡ None
+  tags_unread ht = rw (h, hu, ha, ht) refl
 
-  pub ancestors_unread : (ts : List (Text × Made)) → optional (codes "tags") (members_of (under_text (value_read x))) [] d ≡ Some ts → optional (codes "ancestors") (list_of uid_read) [] d ≡ None → entity_read x d ≡ None
-  ancestors_unread ts ht hr = rw (h, hu, parts_are x (codes "attrs") d, ha, parts_are x (codes "tags") d, ht, hr) refl
+  pub ancestors_unread : (ts : List (Text × Made)) → optional (codes "tags") (members_of (under_text (value_read x))) [] d ≡ Some ts → optional (codes "ancestors") (list_of uid_read) [] d ≡ None → entity_read_made x d ≡ None
+  ancestors_unread ts ht hr = rw (h, hu, ha, ht, hr) refl
 
 -- a list of entities of which two have one uid is no store
 pub repeats_unread : (x : Functions) (d : Data) (es : List Entity) (u : Uid) → list_of (entity_read x) d ≡ Some (map entity_pair es) → repeated uid_eq (map entity_uid es) ≡ Some u → store_read x d ≡ None

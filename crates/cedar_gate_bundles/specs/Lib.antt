@@ -1,3 +1,4 @@
 pub mod Values
 pub mod Requests
+pub mod Written
 pub mod Bundles

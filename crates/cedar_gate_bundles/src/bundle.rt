@@ -5,7 +5,11 @@ ghost use Rattle.cedar_gate_model.specs.Reading.{has_at};
 ghost use Rattle.cedar_gate_model.specs.Whole.ReadingForms.{number_between, is_number};
 ghost use Rattle.cedar_gate_model.specs.Whole.ReadingBundle.{is_bundle, submission_read, bundle_read, input_read};
 ghost use Rattle.cedar_gate_model.specs.Whole.Bundle.{Functions};
+ghost use Rattle.cedar_gate_model.specs.Whole.RunsAnswer.{MakeFairly};
+ghost use Rattle.cedar_evaluator_model.specs.OfLaws.WellMade.{IsContextMadeWell};
 ghost use Rattle.cedar_gate_bundles.specs.Bundles.{submission_of, bundle_of};
+ghost use Rattle.cedar_gate_bundles.specs.Requests.{request_of};
+ghost use Rattle.cedar_gate_bundles.specs.Written.{IsStoreWritten};
 ghost use Rattle.cedar_gate_reading.specs.declared.fault.ReadFault.TheVariants.{Unreadable};
 
 use crate::requests::{RequestRead, read_request};
@@ -60,6 +64,8 @@ pub fn read_input<E: Evaluate>(
 ) -> Result<Bundle, ReadFault>
     ensures ok { IfOk result (λ b. input_read (E.functions functions.now) bytes.now ≡ Some (bundle_of (E.functions functions.now) b)) }
     ensures unreadable { IfErr result (λ f. f ≡ Unreadable → input_read (E.functions functions.now) bytes.now ≡ None) }
+    ensures context_written { IfOk result (λ b. MakeFairly (E.functions functions.now) → IsContextMadeWell (E.functions functions.now).table (request_of b.request).context) }
+    ensures store_written { IfOk result (λ b. MakeFairly (E.functions functions.now) → IsStoreWritten (E.functions functions.now).table b.store) }
 {
     let value = read_json(alloc, bytes)?;
     read_bundle(alloc, functions, &value)
@@ -76,6 +82,8 @@ pub fn read_bundle<E: Evaluate>(
 ) -> Result<Bundle, ReadFault>
     ensures ok { IfOk result (λ b. bundle_read (E.functions functions.now) (view value.now) ≡ Some (bundle_of (E.functions functions.now) b)) }
     ensures unreadable { IfErr result (λ f. f ≡ Unreadable → bundle_read (E.functions functions.now) (view value.now) ≡ None) }
+    ensures context_written { IfOk result (λ b. MakeFairly (E.functions functions.now) → IsContextMadeWell (E.functions functions.now).table (request_of b.request).context) }
+    ensures store_written { IfOk result (λ b. MakeFairly (E.functions functions.now) → IsStoreWritten (E.functions functions.now).table b.store) }
 {
     if !is_bundle(value) {
         return Err(ReadFault::Unreadable);

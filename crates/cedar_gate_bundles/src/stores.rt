@@ -1,12 +1,15 @@
 //! The store of a bundle.
-ghost use Rattle.std.specs.Prelude.{◌≡◌, Some, None, IfOk, IfErr};
+ghost use Rattle.std.specs.Prelude.{◌≡◌, Some, None, IfOk, IfErr, map};
 ghost use Rattle.serde_json.specs.View.{view};
 ghost use Rattle.cedar_expr_model.specs.Uid.{Uid};
-ghost use Rattle.cedar_expr_model.specs.Whole.Value.{V};
+ghost use Rattle.cedar_expr_model.specs.Whole.Made.{Made};
 ghost use Rattle.cedar_store_model.specs.Whole.World as world;
 ghost use Rattle.cedar_store_entities.specs.Stores.{store_seen};
 ghost use Rattle.cedar_store_entities.specs.Views.{entity_pair};
+ghost use Rattle.cedar_gate_model.specs.Reading.{list_of};
 ghost use Rattle.cedar_gate_model.specs.Whole.ReadingRequest.{entity_read, store_read};
+ghost use Rattle.cedar_gate_model.specs.Whole.RunsAnswer.{MakeFairly};
+ghost use Rattle.cedar_gate_bundles.specs.Written.{entity_read_made, entity_pair_made, AreWritten, IsStoreWritten};
 ghost use Rattle.cedar_gate_reading.specs.declared.fault.ReadFault.TheVariants.{Unreadable};
 
 use crate::values::{Evaluate, ValueReader};
@@ -26,14 +29,28 @@ pub(crate) fn read_store<E: Evaluate>(
 ) -> Result<Entities, ReadFault>
     ensures ok { IfOk result (λ s. store_read (E.functions functions.now) (view value.now) ≡ Some (store_seen s).entities) }
     ensures unreadable { IfErr result (λ f. f ≡ Unreadable → store_read (E.functions functions.now) (view value.now) ≡ None) }
+    ensures store_written { IfOk result (λ s. MakeFairly (E.functions functions.now) → IsStoreWritten (E.functions functions.now).table s) }
 {
-    let reader = EntityReader { functions };
-    let entities = read_list(alloc, &reader, value)?;
+    let entities = read_entities(alloc, functions, value)?;
     match Entities::from_entities(alloc, entities) {
         Ok(store) => Ok(store),
         Err(EntitiesError::OutOfMemory) => Err(ReadFault::OutOfMemory),
         Err(EntitiesError::Duplicate { .. }) => Err(ReadFault::Unreadable),
     }
+}
+
+// Reads the entities of a store.
+fn read_entities<E: Evaluate>(
+    alloc: Global,
+    functions: &E,
+    value: &Value,
+) -> Result<Vec<Entity>, ReadFault>
+    ensures ok { IfOk result (λ es. list_of (entity_read (E.functions functions.now)) (view value.now) ≡ Some (map entity_pair es.items)) }
+    ensures unreadable { IfErr result (λ f. f ≡ Unreadable → list_of (entity_read (E.functions functions.now)) (view value.now) ≡ None) }
+    ensures written { IfOk result (λ es. MakeFairly (E.functions functions.now) → AreWritten (E.functions functions.now).table (map entity_pair_made es.items)) }
+{
+    let reader = EntityReader { functions };
+    read_list(alloc, &reader, value)
 }
 
 // Reads entities.
@@ -45,13 +62,13 @@ struct EntityReader<'a, E> {
 impl<'a, E: Evaluate> Reader for EntityReader<'a, E> {
     type Item = Entity;
 
-    ghost Meaning = { Uid × world.Entity V };
+    ghost Meaning = { Uid × world.Entity Made };
 
-    ghost reading = { λ r. entity_read (E.functions r.functions.now) };
+    ghost reading = { λ r. entity_read_made (E.functions r.functions.now) };
 
-    ghost seen = { entity_pair };
+    ghost seen = { entity_pair_made };
 
-    #[tactic(auto, using(crate::proofs::Parted::entity_made, crate::proofs::Parted::parts_are))]
+    #[tactic(auto, using(crate::proofs::Parted::entity_made))]
     fn read(&self, alloc: Global, value: &Value) -> Result<Entity, ReadFault> {
         if !has_only(value, &["uid", "attrs", "tags", "ancestors"]) {
             return Err(ReadFault::Unreadable);

@@ -1,7 +1,7 @@
 //! Whether entities and requests conform to a built schema, and its actions as entities.
 //! Contract: by each schema that conforms alike (`ConformsAlike`) what passes has no fault, and what is refused has the fault that is
 //! named, the first in the order of the numbers; the actions are those of the schema.
-//! Nothing calls it yet; it is made for the gate's sessions. Open `entities.rt` first.
+//! Used by the sessions of a gate. Open `entities.rt` first.
 #![tactic(auto)]
 
 mod ancestors;

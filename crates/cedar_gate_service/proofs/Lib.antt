@@ -1,1 +1,3 @@
+pub mod Contexts
+pub mod Courses
 pub mod Printed

@@ -1,60 +1,31 @@
--- What is printed so far may be printed.
-use Rattle.std.proofs.Common.{◌≡◌, ◌≤◌, ◌≢◌, ℕ, List, Bool, true, false, Option, Some, None, is_none, is_some, option_map, Result, Ok, Err, IfOk, string_bytes, subst, refl, sym, ap, ◌∙◌}
-use Rattle.std.specs.Prelude.{if◌then◌else◌}
+-- What is printed may be printed.
+use Rattle.std.proofs.Common.{◌≡◌, ◌++◌, ◌≤◌, ℕ, List, [], false, Option, Some, None, is_none, option_map, Result, Ok, Err, IfOk, string_bytes, subst, refl, sym, ap, ◌∙◌}
 use Rattle.std.specs.Option.{option_map_or}
-use Rattle.std.specs.declared.alloc.AllocError.{AllocError}
 use Rattle.std.specs.Str.{is_utf8}
+use Rattle.std.specs.declared.alloc.AllocError.{AllocError}
 use Rattle.serde_json.specs.Data.{Data}
 use Rattle.serde_json.specs.Read.{read}
-use Rattle.cedar_expr_model.specs.Name.{Text, Name}
-use Rattle.cedar_expr_model.specs.Whole.Table.{Signature}
-use Rattle.cedar_store_model.specs.Whole.Policy.{Policy}
-use Rattle.cedar_schema_model.specs.Whole.Declarations.{Declarations}
-use Rattle.cedar_gate_model.specs.Bundle as small_bundle
-use Rattle.cedar_gate_model.specs.Lines as small_lines
-use Rattle.cedar_gate_model.specs.Reading.{given}
-use Rattle.cedar_gate_model.specs.ReadingBundle as small
-use Rattle.cedar_gate_model.specs.Whole.Acceptance.{Submission, Cause, schema, external, repeated_policy, unlinked_slot, slot_outside_scope, unknown_in_policy, nests_too_deep, unknown_entity_type, unknown_action, no_member, ill_typed, reaches_too_far, number_of}
-use Rattle.cedar_gate_model.specs.Whole.Bundle.{Functions, Bundle}
-use Rattle.cedar_gate_model.specs.Whole.FirstPath.{whole_status}
-use Rattle.cedar_gate_model.specs.Whole.Lines.{Status, is_refused, is_unreadable, Prints, refused_line}
-use Rattle.cedar_gate_model.specs.Whole.ReadingBundle.{input_read, bundle_read}
-use Rattle.cedar_gate_model.proofs.Whole.FirstPathReading.Serving.{serving_is_whole}
-use Rattle.cedar_gate_model.proofs.Whole.Reading.Bundles.{numbers_in_range}
-use Rattle.cedar_gate_model.proofs.Whole.Reading.Steps.{given_some, if_some_of}
+use Rattle.cedar_expr_model.specs.Name.{Text}
 use Rattle.cedar_schema_builder.specs.Faults.{fault_told}
 use Rattle.cedar_schema_model.specs.Whole.WellFormed.{SchemaFault}
+use Rattle.cedar_gate_model.proofs.Whole.Reading.Bundles.{numbers_in_range}
+use Rattle.cedar_gate_model.proofs.Whole.Reading.Steps.{given_some, if_some_of}
+use Rattle.cedar_gate_model.specs.Reading.{given}
+use Rattle.cedar_gate_model.specs.Whole.Acceptance.{Submission, Cause, schema, external, repeated_policy, unlinked_slot, slot_outside_scope, unknown_in_policy, nests_too_deep, unknown_entity_type, unknown_action, no_member, ill_typed, reaches_too_far, number_of, HasFault, IsAccepted}
+use Rattle.cedar_gate_model.specs.Whole.Bundle.{Functions, Bundle}
+use Rattle.cedar_gate_model.specs.Whole.Lines.{Status, Prints, refused_line, unreadable_line, warning_lines, run_lines, end_status}
+use Rattle.cedar_gate_model.specs.Whole.ReadingBundle.{input_read, bundle_read}
+use Rattle.cedar_gate_model.specs.Whole.Runs.{End, answered, opening_refused, supply_refused, binding_refused, answer_refused}
+use Rattle.cedar_gate_model.specs.Whole.RunsAnswer.{Course, IsRun, course_of}
+use Rattle.cedar_gate_model.specs.Whole.Transcript.{Entry}
 use Rattle.cedar_gate_faults.specs.Causes.{cause_named, gate_fault_number, IsRefusedFor}
 use Rattle.cedar_gate_faults.specs.declared.fault.GateFault.{GateFault}
 use Rattle.cedar_gate_faults.specs.declared.fault.GateFault.TheVariants as fault
-use Rattle.cedar_gate.specs.Statuses.{status_of}
-use Rattle.cedar_gate.specs.declared.printing.Printed.{Printed}
-use Rattle.cedar_gate.specs.declared.status.Status.{Status as CodeStatus}
-use Rattle.cedar_gate.specs.declared.status.Status.TheVariants.{Refused, Unreadable}
-use Rattle.cedar_gate_acceptance.specs.Handed.{IsHandedIn}
-use Rattle.cedar_gate_acceptance.specs.Untyped.{admits_untyped}
-use Rattle.cedar_gate_service.specs.SoFar.{PrintsUntyped, PrintsBeyond, PrintsByReading, PrintsSoFar}
-
--- what today's language reads is printed by it
-pub first_path_prints : (f : Functions) (bytes : List ℕ) (b : small_bundle.Bundle) (status : small_lines.Status) (text : Text) → small.input_read bytes ≡ Some b
-    → small_lines.Prints (Some b) status text → PrintsSoFar f bytes status text
-first_path_prints f bytes b status text e p =
-    let served = serving_is_whole f bytes status text (subst (λ (r : Option small_bundle.Bundle). small_lines.Prints r status text) (sym e) p) in
-    let here = subst (λ (r : Option small_bundle.Bundle). Prints f (if is_some r then input_read f bytes else None) (whole_status status) text) e served in
-    subst (λ (r : Option small_bundle.Bundle). PrintsByReading f bytes r (whole_status status) text) (sym e) here
-
--- what it doesn't read is printed as what lies beyond it
-pub beyond_prints : (f : Functions) (bytes : List ℕ) (status : small_lines.Status) (text : Text) → small.input_read bytes ≡ None
-    → PrintsBeyond (input_read f bytes) (whole_status status) text → PrintsSoFar f bytes status text
-beyond_prints f bytes status text e p = subst (λ (r : Option small_bundle.Bundle). PrintsByReading f bytes r (whole_status status) text) (sym e) p
-
-pub read_prints : (f : Functions) (bytes : List ℕ) (b : Bundle) (status : Status) (text : Text) → input_read f bytes ≡ Some b
-    → PrintsUntyped b.submission status text → PrintsBeyond (input_read f bytes) status text
-read_prints f bytes b status text e p = subst (λ (r : Option Bundle). PrintsBeyond r status text) (sym e) p
-
-pub unread_prints : (f : Functions) (bytes : List ℕ) (status : Status) (text : Text) → input_read f bytes ≡ None
-    → PrintsBeyond None status text → PrintsBeyond (input_read f bytes) status text
-unread_prints f bytes status text e p = subst (λ (r : Option Bundle). PrintsBeyond r status text) (sym e) p
+use Rattle.cedar_gate_serving.specs.Printed.{AddsAccepted}
+use Rattle.cedar_gate_transcripts.specs.Statuses.{status_of}
+use Rattle.cedar_gate_transcripts.specs.declared.status.Status.{Status as CodeStatus}
+use Rattle.cedar_gate_transcripts.specs.declared.status.Status.TheVariants.{Refused, Unreadable}
+use Rattle.cedar_gate_service.specs.declared.printing.Printed.{Printed}
 
 -- a cause that is named has the number of the fault
 number_is : (d c : Cause) → Some d ≡ Some c → number_of c ≡ number_of d
@@ -79,18 +50,22 @@ named_number fault.EnumMember c e = number_is no_member c e
 named_number fault.IllTyped c e = number_is ill_typed c e
 named_number (fault.Level vs) c e = number_is reaches_too_far c e
 
+-- A fault of the submission is named, by its number.
+abbrev NamesFault : Submission → Text → Type 0
+NamesFault s text = (c : Cause) × HasFault c s × (text ≡ refused_line (number_of c))
+
 -- a fault that names a cause is printed by its number
 refused_by : (s : Submission) (f : GateFault) (text : Text) (o : Option Cause) → cause_named f ≡ o → is_none o ≡ false → IsRefusedFor s f → text ≡ refused_line (gate_fault_number f)
-    → PrintsUntyped s is_refused text
+    → NamesFault s text
 refused_by s f text None k named there e = cc
 refused_by s f text (Some c) k named there e = (c, there c k, e ∙ ap refused_line (sym (named_number f c k)))
 
-pub refusal_prints : (s : Submission) (f : GateFault) (text : Text) → IsRefusedFor s f → is_none (cause_named f) ≡ false → text ≡ refused_line (gate_fault_number f)
-    → PrintsUntyped s is_refused text
+refusal_prints : (s : Submission) (f : GateFault) (text : Text) → IsRefusedFor s f → is_none (cause_named f) ≡ false → text ≡ refused_line (gate_fault_number f)
+    → NamesFault s text
 refusal_prints s f text there named e = refused_by s f text (cause_named f) refl named there e
 
 -- the limit of a bundle that is read
-input_bundle : (x : Functions) (bytes : List ℕ) (b : Bundle) → input_read x bytes ≡ Some b → (d : Data) × (bundle_read x d ≡ Some b)
+pub input_bundle : (x : Functions) (bytes : List ℕ) (b : Bundle) → input_read x bytes ≡ Some b → (d : Data) × (bundle_read x d ≡ Some b)
 unfolding input_read
 input_bundle x bytes b e =
     let p = if_some_of (is_utf8 bytes) (given (read bytes) (bundle_read x)) b e in
@@ -103,44 +78,38 @@ input_range x bytes b e =
     let q = numbers_in_range x p.0 b p.1 in
     (q.1, q.2)
 
--- what is printed for a submission that is not served yet, and for one that is refused
-pub unserved_prints : (s : Submission) (r : Result Printed AllocError) → admits_untyped s ≡ true
-    → IfOk r (λ p. (p.status ≡ Unreadable) × (string_bytes p.text ≡ small_lines.unreadable_line)) → IfOk r (λ p. PrintsUntyped s (whole_status (status_of p.status)) (string_bytes p.text))
-unserved_prints s (Ok p) a h = subst (λ (t : CodeStatus). PrintsUntyped s (whole_status (status_of t)) (string_bytes p.text)) (sym h.0) (a, h.1)
-unserved_prints s (Err e) a h = tt
-
-pub fault_prints : (s : Submission) (f : GateFault) (r : Result Printed AllocError) → IsRefusedFor s f
+-- what is printed for a bundle: the number of a fault, or the lines of a run
+pub fault_prints : (x : Functions) (b : Bundle) (P Q : Type 0) (f : GateFault) (r : Result Printed AllocError) → IsRefusedFor b.submission f
     → IfOk r (λ p. (is_none (cause_named f) ≡ false) × (p.status ≡ Refused) × (string_bytes p.text ≡ refused_line (gate_fault_number f)))
-    → IfOk r (λ p. PrintsUntyped s (whole_status (status_of p.status)) (string_bytes p.text))
-fault_prints s f (Ok p) there h =
-    subst (λ (t : CodeStatus). PrintsUntyped s (whole_status (status_of t)) (string_bytes p.text)) (sym h.1) (refusal_prints s f (string_bytes p.text) there h.0 h.2)
-fault_prints s f (Err e) there h = tt
+    → IfOk r (λ p. P → Q → Prints x (Some b) (status_of p.status) (string_bytes p.text))
+fault_prints x b P Q f (Ok p) there h = λ _ _.
+    subst (λ (t : CodeStatus). Prints x (Some b) (status_of t) (string_bytes p.text)) (sym h.1) (refusal_prints b.submission f (string_bytes p.text) there h.0 h.2)
+fault_prints x b P Q f (Err e) there h = tt
+
+-- what was appended to nothing
+pub added_to_nothing : (c : Course) (status : Status) (before after : Text) → before ≡ [] → AddsAccepted c status before after → AddsAccepted c status [] after
+added_to_nothing c status before after e h = subst (λ (l : Text). AddsAccepted c status l after) e h
+
+end_prints : (x : Functions) (b : Bundle) → IsAccepted b.submission → (es : List Entry) (end : End) → IsRun (course_of x b) es end → (text : Text) → text ≡ run_lines b es end → Prints x (Some b) (end_status end) text
+end_prints x b accepted es (answered a) run text e = (accepted, (es, answered a, run, refl, e))
+end_prints x b accepted es (opening_refused f) run text e = (accepted, (es, opening_refused f, run, refl, e))
+end_prints x b accepted es (supply_refused f) run text e = (accepted, (es, supply_refused f, run, refl, e))
+end_prints x b accepted es (binding_refused f) run text e = (accepted, (es, binding_refused f, run, refl, e))
+end_prints x b accepted es (answer_refused f) run text e = (accepted, (es, answer_refused f, run, refl, e))
+
+pub run_prints : (x : Functions) (b : Bundle) (status : Status) (text : Text) → IsAccepted b.submission → AddsAccepted (course_of x b) status [] text → Prints x (Some b) status text
+run_prints x b status text accepted h =
+    let (es, end, run, is, lines) = h.prints in
+    subst (λ (m : Status). Prints x (Some b) m text) (sym is) (end_prints x b accepted es end run text (h.added ∙ ap (λ l. warning_lines b.submission ++ l) lines))
 
 -- what is printed for an input that is a bundle, and for one that is none
-pub bundle_prints : (f : Functions) (bytes : List ℕ) (b : Bundle) (r : Result Printed AllocError) → input_read f bytes ≡ Some b
-    → IfOk r (λ p. PrintsUntyped b.submission (whole_status (status_of p.status)) (string_bytes p.text)) → IfOk r (λ p. PrintsBeyond (input_read f bytes) (whole_status (status_of p.status)) (string_bytes p.text))
-bundle_prints f bytes b (Ok p) e h = read_prints f bytes b (whole_status (status_of p.status)) (string_bytes p.text) e h
-bundle_prints f bytes b (Err x) e h = tt
+pub bundle_prints : (x : Functions) (bytes : List ℕ) (b : Bundle) (P Q : Type 0) (r : Result Printed AllocError) → input_read x bytes ≡ Some b → (P → Q)
+    → IfOk r (λ p. P → Q → Prints x (Some b) (status_of p.status) (string_bytes p.text)) → IfOk r (λ p. P → Prints x (input_read x bytes) (status_of p.status) (string_bytes p.text))
+bundle_prints x bytes b P Q (Ok p) e q h = λ given. subst (λ (o : Option Bundle). Prints x o (status_of p.status) (string_bytes p.text)) (sym e) (h given (q given))
+bundle_prints x bytes b P Q (Err a) e q h = tt
 
-pub no_bundle_prints : (f : Functions) (bytes : List ℕ) (r : Result Printed AllocError) → input_read f bytes ≡ None
-    → IfOk r (λ p. (p.status ≡ Unreadable) × (string_bytes p.text ≡ small_lines.unreadable_line)) → IfOk r (λ p. PrintsBeyond (input_read f bytes) (whole_status (status_of p.status)) (string_bytes p.text))
-no_bundle_prints f bytes (Ok p) e h =
-    unread_prints f bytes (whole_status (status_of p.status)) (string_bytes p.text) e (ap (λ (t : CodeStatus). whole_status (status_of t)) h.0, h.1)
-no_bundle_prints f bytes (Err x) e h = tt
-
--- what is printed for an input that today's language reads, and for another
-pub today_prints : (f : Functions) (bytes : List ℕ) (b : small_bundle.Bundle) (r : Result Printed AllocError) → small.input_read bytes ≡ Some b
-    → IfOk r (λ p. small_lines.Prints (Some b) (status_of p.status) (string_bytes p.text)) → IfOk r (λ p. PrintsSoFar f bytes (status_of p.status) (string_bytes p.text))
-today_prints f bytes b (Ok p) e h = first_path_prints f bytes b (status_of p.status) (string_bytes p.text) e h
-today_prints f bytes b (Err x) e h = tt
-
-pub other_prints : (f : Functions) (bytes : List ℕ) (r : Result Printed AllocError) → small.input_read bytes ≡ None
-    → IfOk r (λ p. PrintsBeyond (input_read f bytes) (whole_status (status_of p.status)) (string_bytes p.text)) → IfOk r (λ p. PrintsSoFar f bytes (status_of p.status) (string_bytes p.text))
-other_prints f bytes (Ok p) e h = beyond_prints f bytes (status_of p.status) (string_bytes p.text) e h
-other_prints f bytes (Err x) e h = tt
-
--- what is handed in, under other words for its parts
-pub handed_on : (d e : Declarations) (ps qs : List Policy) (fs : List Signature) (os : List Name) (m n : ℕ) (s : Submission) → e ≡ d → qs ≡ ps → n ≡ m
-    → IsHandedIn d ps fs os m s → IsHandedIn e qs fs os n s
-handed_on d e ps qs fs os m n s a b l k =
-    record { declarations = k.declarations ∙ sym a; policies = k.policies ∙ sym b; functions = k.functions; ordered = k.ordered; limit = k.limit ∙ sym l }
+pub no_bundle_prints : (x : Functions) (bytes : List ℕ) (P : Type 0) (r : Result Printed AllocError) → input_read x bytes ≡ None
+    → IfOk r (λ p. (p.status ≡ Unreadable) × (string_bytes p.text ≡ unreadable_line)) → IfOk r (λ p. P → Prints x (input_read x bytes) (status_of p.status) (string_bytes p.text))
+no_bundle_prints x bytes P (Ok p) e h = λ _.
+    subst (λ (o : Option Bundle). Prints x o (status_of p.status) (string_bytes p.text)) (sym e) (ap (λ (t : CodeStatus). status_of t) h.0, h.1)
+no_bundle_prints x bytes P (Err a) e h = tt

@@ -3,8 +3,11 @@
 //! Used by the program `cedargate`. Open `printing.rt` first.
 #![tactic(auto)]
 
+mod faults;
 mod printing;
+mod runs;
 mod service;
 
-pub use cedar_gate::{ServeFault, Status};
+pub use cedar_gate_transcripts::Status;
+pub use faults::ServeFault;
 pub use service::serve;

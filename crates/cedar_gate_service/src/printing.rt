@@ -1,31 +1,37 @@
 //! What is printed for an input.
 
-ghost use Rattle.std.specs.Prelude.{◌≡◌, ◌≤◌, true, false, IfOk, is_none, string_bytes};
-ghost use Rattle.cedar_expr_model.specs.Whole.Table.{all_typed};
+ghost use Rattle.std.specs.Prelude.{◌≡◌, ◌≤◌, false, Some, IfOk, is_none, string_bytes};
 ghost use Rattle.cedar_expr_functions.specs.Tables.{functions_of, ordered_of};
-ghost use Rattle.cedar_gate.specs.Statuses.{status_of};
-ghost use Rattle.cedar_gate_acceptance.specs.Handed.{IsHandedIn};
+ghost use Rattle.cedar_gate_transcripts.specs.Statuses.{status_of};
 ghost use Rattle.cedar_gate_faults.specs.Causes.{cause_named, gate_fault_number};
-ghost use Rattle.cedar_gate_fragments.specs.Written.{declared_by};
-ghost use Rattle.cedar_gate_model.specs.Whole.Lines.{refused_line};
-ghost use Rattle.cedar_gate_rules.specs.Policies.{policies_of};
-ghost use Rattle.cedar_schema_builder.specs.Faults.{fault_told};
-ghost use Rattle.cedar_gate_model.specs.Whole.Acceptance as gate;
-ghost use Rattle.cedar_gate_model.specs.Whole.FirstPath.{whole_status};
+ghost use Rattle.cedar_gate_bundles.specs.Bundles.{bundle_of};
+ghost use Rattle.cedar_gate_bundles.specs.Requests.{request_of};
+ghost use Rattle.cedar_gate_model.specs.Whole.RunsAsk.{IsMadeContext};
+ghost use Rattle.cedar_gate_model.specs.Whole.Lines.{Prints, refused_line, unreadable_line};
 ghost use Rattle.cedar_gate_model.specs.Whole.ReadingBundle.{input_read};
-ghost use Rattle.cedar_gate_service.specs.SoFar.{PrintsUntyped, PrintsBeyond, PrintsSoFar};
+ghost use Rattle.cedar_schema_builder.specs.Faults.{fault_told};
+ghost use Rattle.cedar_gate_service.specs.Runs.{AnswersFairly, IsReadWell};
 
+use crate::runs::print_run_at;
 use cedar_evaluator_restricted::FunctionCalls;
 use cedar_expr_functions::Extensions;
-use cedar_gate::lines::push_refused;
-use cedar_gate::printing::{Printed, print_bundle, print_unreadable};
-use cedar_gate::{ReadFault, Status, read_text};
-use cedar_gate_acceptance::admitted_schema;
-use cedar_gate_bundles::{ReadFault as BundleFault, Submission, read_input};
+use cedar_gate_accepted::Gate;
+use cedar_gate_bundles::{Bundle, ReadFault, Submission, read_input};
 use cedar_gate_faults::GateFault;
 use cedar_gate_rules::NestLimit;
+use cedar_gate_transcripts::Status;
+use cedar_gate_transcripts::lines::{push_numbered, push_unreadable};
 use cedar_schema_builder::SchemaError;
 use std::alloc::{AllocError, Global};
+
+/// What is printed for an input.
+#[derive(Drop)]
+pub(crate) struct Printed {
+    /// The status.
+    pub(crate) status: Status,
+    /// The text.
+    pub(crate) text: String,
+}
 
 /// What is printed for an input, with its status. Fails only for want of memory.
 pub(crate) fn print_input<T: FunctionCalls>(
@@ -34,55 +40,59 @@ pub(crate) fn print_input<T: FunctionCalls>(
     functions: &T,
     table: &Extensions<'_>,
 ) -> Result<Printed, AllocError>
-    requires typed { all_typed (T.functions functions.now).table ≡ true }
     requires functions { (T.functions functions.now).table.functions ≡ functions_of table.now }
     requires ordered { (T.functions functions.now).table.ordered ≡ ordered_of table.now }
-    ensures { IfOk result (λ p. PrintsSoFar (T.functions functions.now) bytes.now (status_of p.status) (string_bytes p.text)) }
+    ensures { IfOk result (λ p. AnswersFairly (T.functions functions.now) table.now → Prints (T.functions functions.now) (input_read (T.functions functions.now) bytes.now) (status_of p.status) (string_bytes p.text)) }
 {
-    match read_text(alloc, bytes) {
-        Ok(bundle) => print_bundle(alloc, bundle, table),
-        Err(ReadFault::Unreadable) => print_beyond(alloc, bytes, functions, table),
+    match read_input(alloc, functions, bytes) {
+        Ok(bundle) => print_submitted(alloc, bundle, functions, table),
+        Err(ReadFault::Unreadable) => print_unreadable(alloc),
         Err(ReadFault::OutOfMemory) => Err(AllocError),
     }
 }
 
-// What is printed for an input that today's language doesn't read.
-fn print_beyond<T: FunctionCalls>(
+// What is printed for an input that is no bundle.
+fn print_unreadable(alloc: Global) -> Result<Printed, AllocError>
+    ensures { IfOk result (λ p. (p.status ≡ Status.Unreadable) × (string_bytes p.text ≡ unreadable_line)) }
+{
+    let mut text = String::new(alloc);
+    push_unreadable(&mut text)?;
+    let status = Status::Unreadable;
+    Ok(Printed { status, text })
+}
+
+// What is printed for a bundle: a refusal of what is handed to the gate, or the lines of its warnings and of a run.
+fn print_submitted<T: FunctionCalls>(
     alloc: Global,
-    bytes: &[u8],
+    bundle: Bundle,
     functions: &T,
     table: &Extensions<'_>,
 ) -> Result<Printed, AllocError>
+    requires low { 1 ≤ bundle.submission.limit }
+    requires high { bundle.submission.limit ≤ 512 }
+    requires made { IsMadeContext (request_of bundle.request).context }
     requires functions { (T.functions functions.now).table.functions ≡ functions_of table.now }
     requires ordered { (T.functions functions.now).table.ordered ≡ ordered_of table.now }
-    ensures { IfOk result (λ p. PrintsBeyond (input_read (T.functions functions.now) bytes.now) (whole_status (status_of p.status)) (string_bytes p.text)) }
+    ensures { IfOk result (λ p. AnswersFairly (T.functions functions.now) table.now → IsReadWell (T.functions functions.now) bundle → Prints (T.functions functions.now) (Some (bundle_of (T.functions functions.now) bundle)) (status_of p.status) (string_bytes p.text)) }
 {
-    match read_input(alloc, functions, bytes) {
-        Ok(bundle) => print_submission(alloc, &bundle.submission, table),
-        Err(BundleFault::Unreadable) => print_unreadable(alloc),
-        Err(BundleFault::OutOfMemory) => Err(AllocError),
-    }
-}
-
-// What is printed for what is handed to the gate: a refusal, or that it isn't served yet.
-#[tactic(auto, using(crate::proofs::Printed::refusal_prints))]
-fn print_submission(
-    alloc: Global,
-    submission: &Submission,
-    table: &Extensions<'_>,
-) -> Result<Printed, AllocError>
-    requires low { 1 ≤ submission.now.limit }
-    requires high { submission.now.limit ≤ 512 }
-    ensures { (s : gate.Submission) → IsHandedIn (declared_by submission.now.fragments.items) (policies_of submission.now.policies.items) (functions_of table.now) (ordered_of table.now) submission.now.limit s
-        → IfOk result (λ p. PrintsUntyped s (whole_status (status_of p.status)) (string_bytes p.text)) }
-{
-    let Some(limit) = NestLimit::new(submission.limit) else {
+    let Bundle {
+        submission,
+        request,
+        store,
+        steps,
+    } = bundle;
+    let Submission {
+        fragments,
+        policies,
+        level,
+        limit,
+    } = submission;
+    let Some(limit) = NestLimit::new(limit) else {
         unreachable!();
     };
-    let fragments = submission.fragments.as_slice();
-    let policies = submission.policies.as_slice();
-    match admitted_schema(alloc, fragments, policies, table, limit) {
-        Ok(_schema) => print_unreadable(alloc),
+    let fragments = fragments.as_slice();
+    match Gate::accept(alloc, fragments, policies, table, level, limit) {
+        Ok(gate) => print_run_at(alloc, &gate, functions, request, steps, store),
         Err(fault) => print_refusal(alloc, &fault),
     }
 }
@@ -123,7 +133,7 @@ fn print_refusal(alloc: Global, fault: &GateFault) -> Result<Printed, AllocError
         return Err(AllocError);
     }
     let mut text = String::new(alloc);
-    push_refused(&mut text, fault.number())?;
+    push_numbered(&mut text, "refused", fault.number())?;
     Ok(Printed {
         status: Status::Refused,
         text,

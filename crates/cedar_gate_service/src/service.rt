@@ -1,23 +1,24 @@
 //! The service: reads a bundle, and writes the lines that are printed for it.
 
-ghost use Rattle.std.specs.Prelude.{◌≡◌, List, ℕ, true, Some, IfErr};
+ghost use Rattle.std.specs.Prelude.{◌≡◌, List, ℕ, Some, IfErr};
 ghost use Rattle.cedar_expr_functions.specs.Tables.{functions_of, ordered_of};
-ghost use Rattle.cedar_expr_model.specs.Whole.Table.{all_typed};
-ghost use Rattle.cedar_gate.specs.Serving.{ServeGives, LeavesAlone};
-ghost use Rattle.cedar_gate_service.specs.SoFar.{PrintsSoFar};
+ghost use Rattle.cedar_gate_model.specs.Whole.Lines.{Prints};
+ghost use Rattle.cedar_gate_model.specs.Whole.ReadingBundle.{input_read};
+ghost use Rattle.cedar_gate_service.specs.Serving.{ServeGives, LeavesAlone};
+ghost use Rattle.cedar_gate_service.specs.Runs.{AnswersFairly};
 
+use crate::faults::{ServeFault, read_all};
 use crate::printing::print_input;
 use cedar_evaluator_restricted::FunctionCalls;
 use cedar_expr_functions::Extensions;
-use cedar_gate::output::write_out;
-use cedar_gate::service::read_all;
-use cedar_gate::{ServeFault, Status};
+use cedar_gate_transcripts::Status;
+use cedar_gate_transcripts::output::write_out;
 use std::alloc::Global;
 use std::io::{Read, Write};
 
 /// Reads a bundle and writes the lines that are printed for it: all input is read, then all output is made, and then it is written.
-/// The functions are those of the table, each of which has a result type. A bundle of today's language is answered. Beyond it what breaks a rule that is
-/// asked before typing is refused, and all else is `unreadable`.
+/// The functions are those of the table. What the gate refuses is refused under the number of a fault; what it accepts is answered by
+/// rounds over the store of the bundle, or stops with a refusal of the session.
 ///
 /// # Errors
 ///
@@ -30,11 +31,11 @@ pub fn serve<R: Read + Drop, W: Write + Drop, T: FunctionCalls>(
     functions: &T,
     table: &Extensions<'_>,
 ) -> Result<Status, ServeFault>
-    requires typed { all_typed (T.functions functions.now).table ≡ true }
     requires functions { (T.functions functions.now).table.functions ≡ functions_of table.now }
     requires ordered { (T.functions functions.now).table.ordered ≡ ordered_of table.now }
     ensures printed { (bytes : List ℕ) → R.remaining reader ≡ Some bytes
-        → ServeGives (PrintsSoFar (T.functions functions.now) bytes) (W.contents writer.old) (W.contents writer.new) result }
+        → AnswersFairly (T.functions functions.now) table.now
+        → ServeGives (Prints (T.functions functions.now) (input_read (T.functions functions.now) bytes)) (W.contents writer.old) (W.contents writer.new) result }
     ensures unchanged { IfErr result (λ e. LeavesAlone e (writer.new ≡ writer.old)) }
 {
     let input = read_all(alloc, &mut reader)?;

@@ -1,6 +1,6 @@
 //! Runs of whole bundles, and what is printed for them.
 //! Contract: what is printed for a request at an accepted submission are the lines of a run of it (`AddsRun`), after those of the warnings.
-//! Nothing calls it yet; it is made for the service.
+//! Used by the service.
 #![tactic(auto)]
 
 pub mod bundles;

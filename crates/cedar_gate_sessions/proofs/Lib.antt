@@ -1,3 +1,7 @@
+pub mod Answerable
+pub mod Answered
+pub mod Binding
+pub mod Knowing
 pub mod Lifting
 pub mod Loadings
 pub mod Lookups
@@ -6,6 +10,8 @@ pub mod Parts
 pub mod Refusing
 pub mod Scopes
 pub mod Standing
+pub mod Starting
+pub mod Steady
 pub mod Stopping
 pub mod Stores
 pub mod Supplying

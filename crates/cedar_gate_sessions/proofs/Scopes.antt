@@ -1,35 +1,26 @@
 -- What evaluations know at a state of a session.
-use Rattle.std.proofs.Common.{◌≡◌, ◌∙◌, ◌||◌, Bool, true, false, cond, List, Option, Some, None, codes, if◌then◌else◌, refl, sym, ap, subst}
+use Rattle.std.proofs.Common.{◌≡◌, Bool, true, false, cond, List, Option, Some, None, codes, refl}
 use Rattle.std.specs.Prelude.{Contains, IfSome, unwrap_or, option_and_then}
-use Rattle.std.specs.List.{list_any}
 use Rattle.cedar_expr_model.specs.Name.{Text, Name}
-use Rattle.cedar_expr_model.specs.Uid.{Uid, uid_eq}
+use Rattle.cedar_expr_model.specs.Uid.{Uid}
 use Rattle.cedar_expr_model.specs.Whole.Made.{Made, made_prim, made_set, made_record, made_extension}
 use Rattle.cedar_expr_model.specs.Whole.Substitution.{substituted}
 use Rattle.cedar_expr_model.specs.Whole.Table.{Table}
 use Rattle.cedar_expr_model.specs.Whole.Tree.{record_literal, SlotId, principal_slot, resource_slot}
 use Rattle.cedar_expr_model.specs.Whole.Value.{V}
-use Rattle.cedar_store_model.specs.Whole.Answer.{answer_of}
-use Rattle.cedar_store_model.specs.Whole.Knowledge.{IsSettled}
 use Rattle.cedar_store_model.specs.Whole.Policy.{binding_of, no_bindings}
-use Rattle.cedar_store_model.specs.Whole.World.{World, Entity, Found, held, missing, not_loaded}
+use Rattle.cedar_store_model.specs.Whole.World.{Entity, Found, missing, not_loaded}
 use Rattle.cedar_schema_model.specs.Whole.Conforming.{EntityConforms}
-use Rattle.cedar_schema_model.specs.Whole.Schema.{declares_action}
-use Rattle.cedar_evaluator_model.specs.Known.{known_found, known_world}
-use Rattle.cedar_evaluator_model.specs.OfLaws.Calls.{Agrees}
 use Rattle.cedar_evaluator_model.specs.OfLaws.WellMade.{IsFoundMadeWell, IsContextMadeWell}
-use Rattle.cedar_evaluator_model.specs.OfLaws.Whole.{NothingUnknown, AllLoaded, HoldsValues}
 use Rattle.cedar_evaluator_model.specs.Reauthorize.{context_from}
 use Rattle.cedar_evaluator_model.specs.Response.{PartialRequest}
 use Rattle.cedar_evaluator_model.specs.Scope.{Scope, Context, closed, residual_fields, unknown_context, MadeCalled, Left, value_left, residual, stopped}
 use Rattle.cedar_evaluator_rising.specs.Rising.{MadeRises, FoundRises, ContextRises, CallsRise, ScopeRises, LeftRises}
 use Rattle.cedar_evaluator_rising.proofs.Rising.{values_rise}
 use Rattle.cedar_gate_model.specs.Whole.ReadingValue.{with_functions}
-use Rattle.cedar_gate_model.specs.Whole.RunsAnswer.{Course, session_of, IsProper, IsOpened}
-use Rattle.cedar_gate_model.specs.Whole.Session.{Setup, State, value_of, context_now, scope_now, whole_store, world_now, IsWantedNow, AnswerRefusal, AnswerFault, entry_now}
-use Rattle.cedar_gate_model.proofs.Whole.Runs.Answering.{loaded_answers}
-use Rattle.cedar_gate_model.proofs.Whole.Runs.Completing.{Stands, taken_value, parts_there, store_settled}
-use Rattle.cedar_gate_model.proofs.Whole.Runs.Deciding.{leaves_nothing}
+use Rattle.cedar_gate_model.specs.Whole.RunsAnswer.{IsOpened}
+use Rattle.cedar_gate_model.specs.Whole.Session.{Setup, State, value_of, context_now, scope_now, entry_now}
+use Rattle.cedar_gate_model.proofs.Whole.Runs.Completing.{taken_value}
 use Rattle.cedar_gate_sessions.proofs.Lifting.{found_rises, context_rises, value_rises}
 use Rattle.cedar_gate_sessions.proofs.Opened.{stands_in}
 
@@ -107,41 +98,3 @@ pub scope_is : (x : Setup) (s : State) (q : PartialRequest) (values : Text → O
     → scope_by q values table x.functions.calls store ≡ scope_now x s store
 scope_is x s q values table store of_request of_values of_table =
     λ i. record (scope_by (of_request i) (λ n. of_values n i) (of_table i) x.functions.calls store) { slots = λ z. no_slots z i }
-
-module _ (c : Course) (proper : IsProper c) (s : State) (opened : IsOpened (session_of c) s) (conform : (u : Uid) (e : Entity V) → Contains s.asked u → c.store u ≡ Some e → EntityConforms (session_of c).schema u e)
-    (nothing : (u : Uid) → IsWantedNow (session_of c) s u → ⊥) (fine : (f : AnswerRefusal) → AnswerFault (session_of c) s f → ⊥) (store : Uid → Found Made)
-    (is : (u : Uid) → known_found (store u) ≡ (if declares_action (session_of c).schema u || list_any (uid_eq u) s.asked then whole_store (session_of c) u else missing)) where
-  abbrev x : Setup
-  x = session_of c
-
-  stands : Stands x s
-  stands = stands_in x s opened conform
-
-  settled_case : (b : Bool) (f : Found V) → IsSettled f → IsSettled (cond b f missing)
-  settled_case true f h = h
-  settled_case false f h = tt
-
-  settled : (u : Uid) → IsSettled (known_found (store u))
-  settled u = subst IsSettled (sym (is u)) (settled_case _ _ (store_settled x proper.store u))
-
-  held_values : (f : Found V) → IsSettled f → HoldsValues f
-  held_values (held e) h = h
-  held_values missing h = tt
-  held_values not_loaded h = absurd h
-
-  pub all_loaded : AllLoaded (scope_now x s store)
-  all_loaded = settled
-
-  pub nothing_unknown : NothingUnknown (scope_now x s store)
-  nothing_unknown =
-      let p = parts_there x s stands nothing fine in
-      record { principal = p.0; action = p.1; resource = p.2; context = p.3; store = λ u. held_values (known_found (store u)) (settled u); calls = leaves_nothing c proper }
-
-  pub agrees_now : Agrees (scope_now x s store)
-  agrees_now = (proper.fair).agrees
-
-  -- the answer by what is loaded is that by the whole store
-  pub answer_now : answer_of (known_world (scope_now x s store)) c.submission.policies ≡ answer_of (world_now x s) c.submission.policies
-  answer_now =
-      ap (λ (w : World). answer_of w c.submission.policies) (λ i. record (known_world (scope_now x s store)) { store = λ u. is u i })
-      ∙ loaded_answers c proper s stands opened.opened nothing fine

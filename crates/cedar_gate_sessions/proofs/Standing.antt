@@ -12,6 +12,7 @@ use Rattle.cedar_expr_model.specs.Name.{Text}
 use Rattle.cedar_expr_model.specs.Uid.{Uid, uid_eq}
 use Rattle.cedar_expr_model.specs.Whole.Made.{Made}
 use Rattle.cedar_expr_model.specs.Whole.Uids.{is_uid}
+use Rattle.cedar_expr_model.specs.Whole.Value.{V}
 use Rattle.cedar_expr_model.proofs.Equality.{uid_eq-Decides}
 use Rattle.cedar_expr_model.proofs.Lists.{found-Decides, map_from}
 use Rattle.cedar_expr_names.specs.Views.{uid_of}
@@ -19,7 +20,8 @@ use Rattle.cedar_expr_names.specs.declared.entity.EntityUID.{EntityUID}
 use Rattle.cedar_store_entities.specs.Views.{Kept, entity_seen, entity_pair, kept_pair}
 use Rattle.cedar_store_entities.specs.declared.entity.Entity.{Entity}
 use Rattle.cedar_store_model.specs.Whole.Store.{are_distinct, if_uid, partial}
-use Rattle.cedar_store_model.specs.Whole.World.{held, missing}
+use Rattle.cedar_store_model.specs.Whole.World as world
+use Rattle.cedar_store_model.specs.Whole.World.{Found, held, missing}
 use Rattle.cedar_schema_model.specs.Whole.Schema as model
 use Rattle.cedar_evaluator_model.specs.OfLaws.WellMade.{IsWellMade, IsFoundMadeWell}
 use Rattle.cedar_evaluator_reads.specs.Scopes.{found_kept}
@@ -68,8 +70,8 @@ module _ (x : Setup) (s : State) (l : Loading) (wanting : IsWanting x.schema l) 
       none true h = absurd (h refl)
       none false h = refl
 
-  pub none_loaded : (u : Uid) → Contains (wanted_in l) u → loaded_at x s u ≡ None
-  none_loaded u k = let a = wanted_apart u k in rw (a.0, a.1) refl
+  pub none_loaded : (acts : Uid → world.Entity V) (u : Uid) → Contains (wanted_in l) u → loaded_at acts x s u ≡ None
+  none_loaded acts u k = let a = wanted_apart u k in rw (a.0, a.1) refl
 
 module _ (x : Setup) (s : State) (es : List Entity) (ps : List (EntityUID × Option Entity)) (ws : List Uid) (loaded : AreLoaded x s es) (from : AreFromStore x ps) (right : list_all (is_right x.schema) (supplied_of ps) ≡ true)
     (there : (u : Uid) → Contains (supplied_uids ps) u → Contains ws u) (back : (u : Uid) → Contains ws u → Contains (supplied_uids ps) u) where
@@ -79,11 +81,11 @@ module _ (x : Setup) (s : State) (es : List Entity) (ps : List (EntityUID × Opt
   all_pairs : map entity_pair (es ++ supplied_entities ps) ≡ map entity_pair es ++ entities_of (supplied_by x us)
   all_pairs = map_both entity_pair es (supplied_entities ps) ∙ ap (λ zs. map entity_pair es ++ zs) (pairs_of ps ∙ ap entities_of from.answered)
 
-  each_now : (u : Uid) → lookup (uid_eq u) (map entity_pair (es ++ supplied_entities ps)) ≡ loaded_at x (with_asked s ws) u
+  each_now : (u : Uid) → lookup (uid_eq u) (map entity_pair (es ++ supplied_entities ps)) ≡ loaded_at loaded.acts x (with_asked s ws) u
   each_now u =
       ap (lookup (uid_eq u)) all_pairs ∙ lookup_both (uid_eq u) (map entity_pair es) (entities_of (supplied_by x us))
       ∙ ap (λ o. option_or o (lookup (uid_eq u) (entities_of (supplied_by x us)))) (loaded.each u)
-      ∙ loaded_more x s us ws u there back
+      ∙ loaded_more x loaded.acts s us ws u there back
 
   not_there : (b : Bool) → IsFoundMadeWell x.functions.table (cond b (found_kept partial None) missing)
   not_there true = tt
@@ -110,13 +112,15 @@ module _ (x : Setup) (s : State) (es : List Entity) (ps : List (EntityUID × Opt
 
   pub more_is_loaded : are_distinct (map entity_pair (es ++ supplied_entities ps)) ≡ true → AreLoaded x (with_asked s ws) (es ++ supplied_entities ps)
   more_is_loaded once = record {
+    acts = loaded.acts;
+    same = loaded.same;
     each = each_now;
     distinct = once;
     written = written_now;
     conform = conform_more x s us ws back (subst (λ qs. list_all (is_right x.schema) qs ≡ true) from.answered right) loaded.conform;
   }
 
-  pub more_is_distinct : ((u : Uid) → Contains us u → loaded_at x s u ≡ None) → AreKeys ws us → are_distinct (map entity_pair (es ++ supplied_entities ps)) ≡ true
+  pub more_is_distinct : ((u : Uid) → Contains us u → loaded_at loaded.acts x s u ≡ None) → AreKeys ws us → are_distinct (map entity_pair (es ++ supplied_entities ps)) ≡ true
   more_is_distinct fresh keys = subst (λ zs. are_distinct zs ≡ true) (sym all_pairs) (distinct_more x (map entity_pair es) us loaded.distinct keys.once (λ u k. loaded.each u ∙ fresh u k))
 
 module _ {S : Type 0} {T : Type 0} {B : _} {F : _} {g : _} (schema_of : S → model.Schema) (functions_of : T → Functions) (x : Setup) (s : State) (d : Session S T B F g) (at : IsAt schema_of functions_of x s d) where
@@ -130,7 +134,7 @@ module _ {S : Type 0} {T : Type 0} {B : _} {F : _} {g : _} (schema_of : S → mo
   after_supply e ps rs uids basis start now bound loaded level rows right filled keys wanting keeps from =
       let same : keys_in rs ≡ supplied_uids ps = keys_same rs ps rows in
       let of_us : AreKeys (wanted_in d.loading) (supplied_uids ps) = subst (AreKeys (wanted_in d.loading)) same keys in
-      let once = more_is_distinct x s d.loaded.items ps (wanted_in d.loading) at.loaded from right of_us.each of_us.all (λ u k. none_loaded x s d.loading at.wanting at.near u (of_us.each u k)) of_us in
+      let once = more_is_distinct x s d.loaded.items ps (wanted_in d.loading) at.loaded from right of_us.each of_us.all (λ u k. none_loaded x s d.loading at.wanting at.near (at.loaded).acts u (of_us.each u k)) of_us in
       record {
         setup = subst (λ q. IsSetup schema_of functions_of x e.basis q) (sym start) (subst (λ b. IsSetup schema_of functions_of x b d.start) (sym basis) at.setup);
         context = at.context;
@@ -159,7 +163,7 @@ module _ {S : Type 0} {T : Type 0} {B : _} {F : _} {g : _} (schema_of : S → mo
     level = level ∙ at.level;
     wanting = wanting;
     near = roots_bound x s (with_bound s n m) d.loading e.loading rs at.near more rows (λ u. ((λ k. subst (λ us. Contains us u) listed k), (λ k. subst (λ us. Contains us u) (sym listed) k))) keeps;
-    loaded = record { each = λ u. ap (λ es. lookup (uid_eq u) (map entity_pair es)) loaded ∙ (at.loaded).each u; distinct = subst (λ es. are_distinct (map entity_pair es) ≡ true) (sym loaded) (at.loaded).distinct; written = λ u. subst (λ es. IsFoundMadeWell x.functions.table (stored_in es u)) (sym loaded) ((at.loaded).written u); conform = (at.loaded).conform };
+    loaded = record { acts = (at.loaded).acts; same = (at.loaded).same; each = λ u. ap (λ es. lookup (uid_eq u) (map entity_pair es)) loaded ∙ (at.loaded).each u; distinct = subst (λ es. are_distinct (map entity_pair es) ≡ true) (sym loaded) (at.loaded).distinct; written = λ u. subst (λ es. IsFoundMadeWell x.functions.table (stored_in es u)) (sym loaded) ((at.loaded).written u); conform = (at.loaded).conform };
   }
     where
       lie : {P : Type 0} → true ≡ false → P

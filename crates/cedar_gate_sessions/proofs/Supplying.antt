@@ -18,7 +18,6 @@ use Rattle.cedar_store_model.specs.Whole.World.{Entity}
 use Rattle.cedar_store_model.proofs.Whole.Stores.{stands_found}
 use Rattle.cedar_schema_model.specs.Whole.Conforming.{EntityConforms, entity_conforms}
 use Rattle.cedar_schema_model.specs.Whole.Schema.{Schema, declares_action}
-use Rattle.cedar_schema_model.specs.Whole.ActionEntities.{as_entity}
 use Rattle.cedar_schema_model.proofs.Whole.Decls.Conforming.{entity_conforms-Decides}
 use Rattle.cedar_gate_model.specs.Whole.Session.{Setup, State, Supplied, IsWantedNow, IsWantedList, IsWrong, SupplyRefusal, SupplyFault, not_wanted, lacking, wrong_entity}
 use Rattle.cedar_gate_model.specs.Whole.Session as session
@@ -92,12 +91,12 @@ module _ (x : Setup) where
   more_loaded false true false action None = refl
   more_loaded false false m action st = refl
 
-  pub loaded_more : (s : State) (us ws : List Uid) (u : Uid) → ((v : Uid) → Contains us v → Contains ws v) → ((v : Uid) → Contains ws v → Contains us v)
-      → option_or (loaded_at x s u) (lookup (uid_eq u) (entities_of (supplied_by x us))) ≡ loaded_at x (with_asked s ws) u
-  loaded_more s us ws u there back =
-      ap (option_or (loaded_at x s u)) (found_supplied us u ∙ ap (λ b. if b then x.store u else None) (same_any u us ws there back))
-      ∙ more_loaded (declares_action x.schema u) (list_any (uid_eq u) s.asked) (list_any (uid_eq u) ws) (as_entity x.schema u) (x.store u)
-      ∙ ap (λ b. if declares_action x.schema u then Some (as_entity x.schema u) else (if b then x.store u else None)) (sym (list_any-append (uid_eq u) s.asked ws))
+  pub loaded_more : (acts : Uid → Entity V) (s : State) (us ws : List Uid) (u : Uid) → ((v : Uid) → Contains us v → Contains ws v) → ((v : Uid) → Contains ws v → Contains us v)
+      → option_or (loaded_at acts x s u) (lookup (uid_eq u) (entities_of (supplied_by x us))) ≡ loaded_at acts x (with_asked s ws) u
+  loaded_more acts s us ws u there back =
+      ap (option_or (loaded_at acts x s u)) (found_supplied us u ∙ ap (λ b. if b then x.store u else None) (same_any u us ws there back))
+      ∙ more_loaded (declares_action x.schema u) (list_any (uid_eq u) s.asked) (list_any (uid_eq u) ws) (acts u) (x.store u)
+      ∙ ap (λ b. if declares_action x.schema u then Some (acts u) else (if b then x.store u else None)) (sym (list_any-append (uid_eq u) s.asked ws))
 
   is_none_of : {A : Type 0} (o : Option A) → is_none o ≡ true → o ≡ None
   is_none_of None e = refl

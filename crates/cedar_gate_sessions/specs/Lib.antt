@@ -1,3 +1,4 @@
+pub mod Courses
 pub mod Entities
 pub mod Faults
 pub mod Loaded

@@ -33,7 +33,7 @@ use Rattle.cedar_gate_wanted.specs.Laws.{IsLoadedAt}
 use Rattle.cedar_gate_wanted.specs.Wanting.{IsWanting, level_of, wanted_in}
 use Rattle.cedar_gate_openings.specs.Requests.{request_at}
 use Rattle.cedar_gate_sessions.specs.Entities.{supplied_of, supplied_uids}
-use Rattle.cedar_gate_sessions.specs.Loaded.{loaded_at}
+use Rattle.cedar_gate_sessions.specs.Loaded.{AreActions, loaded_at}
 use Rattle.cedar_gate_sessions.specs.declared.basis.Basis.{Basis}
 use Rattle.cedar_gate_sessions.specs.declared.session.Session.{Session}
 
@@ -75,7 +75,9 @@ store_in e = stored_in e.loaded.items
 -- These entities are loaded: the declared actions and what the store answered, each once, with values as they are written; what was
 -- answered conforms.
 pub record AreLoaded (x : Setup) (s : State) (es : List Entity) : Type 0 where
-  pub each : (u : Uid) → lookup (uid_eq u) (map entity_pair es) ≡ loaded_at x s u
+  pub acts : Uid → world.Entity V
+  pub same : AreActions x.schema acts
+  pub each : (u : Uid) → lookup (uid_eq u) (map entity_pair es) ≡ loaded_at acts x s u
   pub distinct : are_distinct (map entity_pair es) ≡ true
   pub written : (u : Uid) → IsFoundMadeWell x.functions.table (stored_in es u)
   pub conform : (u : Uid) (e : world.Entity V) → Contains s.asked u → x.store u ≡ Some e → EntityConforms x.schema u e

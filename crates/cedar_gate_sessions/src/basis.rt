@@ -4,6 +4,7 @@ ghost use Rattle.std.specs.Prelude.{◌≡◌, IfOk, map};
 ghost use Rattle.cedar_schema_model.specs.Whole.Conforming.{entity_conforms, request_conforms};
 ghost use Rattle.cedar_store_entities.specs.Views.{entity_uid, entity_of, entity_pair};
 ghost use Rattle.cedar_evaluator_requests.specs.Views.{request_of};
+ghost use Rattle.cedar_gate_sessions.specs.Loaded.{HasActions};
 ghost use Rattle.cedar_gate_sessions.specs.Requests.{known_request};
 
 use cedar_evaluator_requests::Request;
@@ -16,7 +17,8 @@ use std::alloc::{AllocError, Global};
 /// What a schema is asked by sessions.
 pub trait Schema: DeclaredActions {
     /// The declared actions as entities, each once. Answers want of memory.
-    fn actions(&self, alloc: Global) -> Result<Vec<Entity>, AllocError>;
+    fn actions(&self, alloc: Global) -> Result<Vec<Entity>, AllocError>
+        ensures { IfOk result (λ es. HasActions (Self.schema self.now) (map entity_pair es.items)) };
 
     /// Whether the entity conforms to the schema. Answers want of memory.
     fn entity_conforms(&self, alloc: Global, entity: &Entity) -> Result<bool, AllocError>
@@ -29,7 +31,7 @@ pub trait Schema: DeclaredActions {
 
 /// What sessions stand on: what a gate accepted.
 #[derive(Drop)]
-pub struct Basis<'g, S, T> {
+pub struct Basis<'g, 'e, S, T> {
     /// The schema.
     pub schema: &'g S,
     /// The policies.
@@ -37,7 +39,7 @@ pub struct Basis<'g, S, T> {
     /// The functions, as contexts call them.
     pub functions: &'g T,
     /// The functions, as policies call them.
-    pub table: &'g Extensions<'g>,
+    pub table: &'g Extensions<'e>,
     /// The level.
     pub level: u32,
     /// The limit on nesting.

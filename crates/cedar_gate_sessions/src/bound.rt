@@ -14,6 +14,7 @@ ghost use Rattle.cedar_gate_model.specs.Whole.Session.{State, ContextFails};
 ghost use Rattle.cedar_gate_openings.specs.Requests.{request_at, AreValuesOf};
 ghost use Rattle.cedar_gate_openings.specs.Roots.{known_roots};
 ghost use Rattle.cedar_gate_wanted.specs.Wanting.{IsWanting, IsSameLoading, near_in, mentions_of, level_of};
+ghost use Rattle.cedar_gate_sessions.specs.Faults.{IsContextFault};
 
 use crate::basis::{Basis, Schema};
 use cedar_evaluator_requests::Request;
@@ -69,7 +70,7 @@ pub(crate) fn add_known_roots<S: Schema>(
 /// 4 the context fails to evaluate; or want of memory. All is as before then.
 pub(crate) fn request_bound<S: Schema, T: FunctionCalls>(
     alloc: Global,
-    basis: &Basis<'_, S, T>,
+    basis: &Basis<'_, '_, S, T>,
     start: &Request,
     bound: &HashMap<RcStr, V>,
     loading: &mut Loading,
@@ -80,6 +81,7 @@ pub(crate) fn request_bound<S: Schema, T: FunctionCalls>(
     ensures kept { IfOk result (λ q. (r : List Uid) → IsKept r (mentions_of loading.old) (level_of loading.old) (near_in loading.old) → IsKept (r ++ known_roots (request_of q)) (mentions_of loading.new) (level_of loading.new) (near_in loading.new)) }
     ensures rows { loading.new.rows ≡ loading.old.rows }
     ensures level { level_of loading.new ≡ level_of loading.old }
+    ensures refused { IfErr result (λ f. (s : State) → AreValuesOf s (bound_in bound.now) → IsContextFault (T.functions basis.now.functions.now) s (request_of start.now).context f) }
     ensures unchanged { OnErr result (IsSameLoading loading.old loading.new) }
 {
     let made = request_now(alloc, basis.functions, start, bound)?;

@@ -1,15 +1,28 @@
 //! Sessions.
 
-ghost use Rattle.std.specs.Prelude.{◌≡◌, IfOk, IfErr, OnOk, OnErr, map};
+ghost use Rattle.std.specs.Prelude.{◌≡◌, IfOk, IfErr, OnOk, OnErr, map, option_map};
+ghost use Rattle.std.specs.Rc.{rc_str_bytes};
+ghost use Rattle.cedar_expr_values.specs.Extensions.{extension_of};
+ghost use Rattle.cedar_expr_values.specs.Values.{made};
+ghost use Rattle.cedar_store_model.specs.Whole.Answer.{answer_of as answer_meant};
 ghost use Rattle.cedar_store_policies.specs.Policies.{policy_of};
-ghost use Rattle.cedar_evaluator_requests.specs.Views.{request_of};
+ghost use Rattle.cedar_evaluator_model.specs.Laws.{as_concrete};
+ghost use Rattle.cedar_evaluator_model.specs.Members.{bounds_in_session};
+ghost use Rattle.cedar_evaluator_model.specs.OfLaws.WellMade.{IsWellMade};
+ghost use Rattle.cedar_evaluator_model.specs.Response.{response_of};
+ghost use Rattle.cedar_evaluator_requests.specs.Views.{request_of, decision_of, answer_of};
+ghost use Rattle.cedar_expr_model.specs.Whole.ListLaws.{AreDistinct};
+ghost use Rattle.cedar_store_model.specs.Whole.Answer.{ids};
 ghost use Rattle.cedar_gate_bindings.specs.Faults.{opens, IsOpenFault};
+ghost use Rattle.cedar_gate_decisions.specs.Bounds.{bounds_of};
+ghost use Rattle.cedar_gate_decisions.specs.Verdicts.{verdicts_of};
 ghost use Rattle.cedar_gate_distances.specs.Rows.{uids};
-ghost use Rattle.cedar_gate_model.specs.Whole.Runs.{with_asked};
-ghost use Rattle.cedar_gate_model.specs.Whole.Session.{Setup, State, IsWantedList, SupplyRefusal, SupplyFault as SupplyIsRefused};
+ghost use Rattle.cedar_gate_model.specs.Whole.Runs.{MayDecide, with_asked};
+ghost use Rattle.cedar_gate_model.specs.Whole.RunsAnswer.{Course, session_of, IsProper, MakeFairly};
+ghost use Rattle.cedar_gate_model.specs.Whole.Session.{Setup, State, at_start, with_bound, scope_now, world_now, IsWantedList, NothingIsWanted, SupplyRefusal, BindRefusal, AnswerRefusal, SupplyFault as SupplyIsRefused, BindFault as BindIsRefused, AnswerFault as AnswerIsRefused};
 ghost use Rattle.cedar_gate_sessions.specs.Entities.{supplied_of};
-ghost use Rattle.cedar_gate_sessions.specs.Faults.{IsSupplyFault};
-ghost use Rattle.cedar_gate_sessions.specs.Sessions.{IsAt, AreFromStore, wanted_of, policies_in};
+ghost use Rattle.cedar_gate_sessions.specs.Faults.{IsSupplyFault, IsBindFault, IsAnswerFault};
+ghost use Rattle.cedar_gate_sessions.specs.Sessions.{IsSetup, IsAt, AreFromStore, wanted_of, policies_in, store_in};
 
 use crate::basis::{Basis, Schema};
 use crate::bound::{add_known_roots, put_value, request_bound, take_value};
@@ -22,8 +35,12 @@ use cedar_evaluator_restricted::FunctionCalls;
 use cedar_expr_functions::Extensions;
 use cedar_expr_names::EntityUID;
 use cedar_gate_bindings::{BindFault, OpenFault, V, check_names, check_value, has_open, is_open};
+use cedar_gate_decisions::laws::{
+    accepted_policies_are_fit, answers_are_the_meaning, decisions_may_be_given,
+};
 use cedar_gate_decisions::{Bounds, Verdict, bounded, decided, respond, verdicts};
-use cedar_gate_openings::request_now;
+use cedar_gate_openings::laws::{a_binding_is_more, roots_are_known};
+use cedar_gate_openings::{context_is_made, request_now};
 use cedar_gate_wanted::Loading;
 use cedar_store_entities::Entity;
 use cedar_store_entities::laws::uids_are_uids;
@@ -33,8 +50,8 @@ use std::rc::RcStr;
 
 /// One request at a gate, over a store that is loaded round by round.
 #[derive(Drop)]
-pub struct Session<'g, S, T> {
-    basis: Basis<'g, S, T>,
+pub struct Session<'g, 'e, S, T> {
+    basis: Basis<'g, 'e, S, T>,
     start: Request,
     now: Request,
     bound: HashMap<RcStr, V>,
@@ -42,7 +59,7 @@ pub struct Session<'g, S, T> {
     loaded: Vec<Entity>,
 }
 
-impl<'g, S: Schema, T: FunctionCalls> Session<'g, S, T> {
+impl<'g, 'e, S: Schema, T: FunctionCalls> Session<'g, 'e, S, T> {
     /// A session of this request.
     ///
     /// # Errors
@@ -50,14 +67,17 @@ impl<'g, S: Schema, T: FunctionCalls> Session<'g, S, T> {
     /// 1 the name of an unknown in the context holds a double quote, 2 it is that of a variable; or want of memory.
     pub fn open(
         alloc: Global,
-        basis: Basis<'g, S, T>,
+        basis: Basis<'g, 'e, S, T>,
         request: Request,
-    ) -> Result<Session<'g, S, T>, OpenFault>
+    ) -> Result<Session<'g, 'e, S, T>, OpenFault>
+        ensures at { IfOk result (λ e. (x : Setup) → IsSetup S.schema T.functions x basis.entry request → IsAt S.schema T.functions x at_start e) }
         ensures policies { IfOk result (λ e. policies_in e ≡ map policy_of basis.entry.policies.now) }
         ensures opens { OnOk result (opens (request_of request)) }
         ensures refused { IfErr result (IsOpenFault (request_of request)) }
     {
         check_names(alloc, &request)?;
+        context_is_made(&request);
+        roots_are_known();
         let bound = HashMap::new(alloc);
         let (now, _) = request_now(alloc, basis.functions, &request, &bound)?;
         let mut loading = Loading::new(alloc, basis.level);
@@ -122,12 +142,18 @@ impl<'g, S: Schema, T: FunctionCalls> Session<'g, S, T> {
     /// 1 the name isn't open, 2 the value is against the annotation, 3 a variable gets no entity or `context` no record, 4 the context
     /// fails to evaluate with it; or want of memory.
     pub fn bind(&mut self, alloc: Global, name: RcStr, value: V) -> Result<(), BindFault>
+        ensures at { OnOk result ((x : Setup) (s : State) → IsAt S.schema T.functions x s self.old → IsWellMade x.functions.table (made extension_of value) → IsAt S.schema T.functions x (with_bound s (rc_str_bytes name) (made extension_of value)) self.new) }
+        ensures taken { OnOk result ((x : Setup) (s : State) → IsAt S.schema T.functions x s self.old → (f : BindRefusal) → BindIsRefused x s (rc_str_bytes name) (made extension_of value) f → ⊥) }
+        ensures refused { IfErr result (λ f. (x : Setup) (s : State) → IsAt S.schema T.functions x s self.old → IsBindFault x s (rc_str_bytes name) (made extension_of value) f) }
+        ensures unchanged { OnErr result ((x : Setup) (s : State) → IsAt S.schema T.functions x s self.old → IsAt S.schema T.functions x s self.new) }
         ensures policies { policies_in self.new ≡ policies_in self.old }
     {
         if !is_open(alloc, &self.start, &self.bound, name.as_str())? {
             return Err(BindFault::NotOpen);
         }
         check_value(alloc, &self.start, name.as_str(), &value)?;
+        a_binding_is_more();
+        roots_are_known();
         let key = name.clone()?;
         put_value(&mut self.bound, name, value)?;
         match request_bound(
@@ -149,7 +175,9 @@ impl<'g, S: Schema, T: FunctionCalls> Session<'g, S, T> {
     }
 
     // What is left of each policy by what is known.
-    fn verdicts(&self, alloc: Global) -> Result<Vec<Verdict>, AllocError> {
+    fn verdicts(&self, alloc: Global) -> Result<Vec<Verdict>, AllocError>
+        ensures { IfOk result (λ vs. (x : Setup) (s : State) → IsAt S.schema T.functions x s self.entry.now → vs.items ≡ verdicts_of (scope_now x s (store_in self.entry.now)) x.limit (policies_in self.entry.now)) }
+    {
         let entities = store_of(alloc, self.loaded.as_slice())?.partial();
         let evaluator: Evaluator<'_, Extensions<'_>> = Evaluator::new(
             self.now.clone()?,
@@ -163,13 +191,19 @@ impl<'g, S: Schema, T: FunctionCalls> Session<'g, S, T> {
     }
 
     /// The decision that is known by now, if one is. Answers want of memory.
-    pub fn decision(&self, alloc: Global) -> Result<Option<Decision>, AllocError> {
+    pub fn decision(&self, alloc: Global) -> Result<Option<Decision>, AllocError>
+        ensures { IfOk result (λ d. (c : Course) (s : State) → IsProper c → MakeFairly c.functions → IsAt S.schema T.functions (session_of c) s self.entry.now → policies_in self.entry.now ≡ c.submission.policies → MayDecide (session_of c) c.submission.policies s (option_map decision_of d)) }
+    {
+        uids_are_uids();
+        decisions_may_be_given();
         let verdicts = self.verdicts(alloc)?;
         Ok(decided(self.basis.policies, verdicts.as_slice()))
     }
 
     /// What must and what may determine the decision, by what is known. Answers want of memory.
-    pub fn bounds(&self, alloc: Global) -> Result<Option<Bounds>, AllocError> {
+    pub fn bounds(&self, alloc: Global) -> Result<Option<Bounds>, AllocError>
+        ensures { IfOk result (λ b. (x : Setup) (s : State) → IsAt S.schema T.functions x s self.entry.now → AreDistinct (ids (policies_in self.entry.now)) → option_map bounds_of b ≡ bounds_in_session (policies_in self.entry.now) (response_of (scope_now x s (store_in self.entry.now)) x.limit (policies_in self.entry.now))) }
+    {
         let verdicts = self.verdicts(alloc)?;
         bounded(alloc, self.basis.policies, verdicts.as_slice())
     }
@@ -179,13 +213,20 @@ impl<'g, S: Schema, T: FunctionCalls> Session<'g, S, T> {
     /// # Errors
     ///
     /// 1 something isn't bound, 2 something is wanted, 3 all is bound and the request doesn't conform; or want of memory.
-    pub fn answer(&self, alloc: Global) -> Result<Response, AnswerFault> {
+    pub fn answer(&self, alloc: Global) -> Result<Response, AnswerFault>
+        ensures answer { IfOk result (λ r. (c : Course) (s : State) → IsProper c → IsAt S.schema T.functions (session_of c) s self.entry.now → policies_in self.entry.now ≡ c.submission.policies → answer_of r ≡ as_concrete (answer_meant (world_now (session_of c) s) c.submission.policies)) }
+        ensures given { OnOk result ((x : Setup) (s : State) → IsAt S.schema T.functions x s self.entry.now → (f : AnswerRefusal) → AnswerIsRefused x s f → ⊥) }
+        ensures refused { IfErr result (λ f. (x : Setup) (s : State) → IsAt S.schema T.functions x s self.entry.now → IsAnswerFault x s f) }
+    {
         self.check_answer(alloc)?;
         Ok(self.respond(alloc)?)
     }
 
     // Whether there is an answer.
-    fn check_answer(&self, alloc: Global) -> Result<(), AnswerFault> {
+    fn check_answer(&self, alloc: Global) -> Result<(), AnswerFault>
+        ensures given { OnOk result ((x : Setup) (s : State) → IsAt S.schema T.functions x s self.entry.now → (f : AnswerRefusal) → AnswerIsRefused x s f → ⊥) }
+        ensures refused { IfErr result (λ f. (x : Setup) (s : State) → IsAt S.schema T.functions x s self.entry.now → IsAnswerFault x s f) }
+    {
         if has_open(alloc, &self.start, &self.bound)? {
             return Err(AnswerFault::NotBound);
         }
@@ -199,7 +240,12 @@ impl<'g, S: Schema, T: FunctionCalls> Session<'g, S, T> {
     }
 
     // The answer over what is loaded.
-    fn respond(&self, alloc: Global) -> Result<Response, AllocError> {
+    fn respond(&self, alloc: Global) -> Result<Response, AllocError>
+        ensures { IfOk result (λ r. (c : Course) (s : State) → IsProper c → IsAt S.schema T.functions (session_of c) s self.entry.now → policies_in self.entry.now ≡ c.submission.policies → NothingIsWanted (session_of c) s → ((f : AnswerRefusal) → AnswerIsRefused (session_of c) s f → ⊥) → answer_of r ≡ as_concrete (answer_meant (world_now (session_of c) s) c.submission.policies)) }
+    {
+        uids_are_uids();
+        accepted_policies_are_fit();
+        answers_are_the_meaning();
         let entities = store_of(alloc, self.loaded.as_slice())?;
         let evaluator: Evaluator<'_, Extensions<'_>> = Evaluator::new(
             self.now.clone()?,

@@ -4,12 +4,13 @@
 //! the session was stopped, and 4 where memory, reading or writing failed. Arguments are ignored, and nothing goes to standard error.
 #![tactic(auto)]
 
+mod serving;
 mod table;
 
-use crate::table::{RankCalls, V, label_function, rank_function, ranks, table_of};
+use crate::serving::serve_ranks;
+use crate::table::{V, label_function, rank_function, ranks, table_of};
 use cedar_expr_functions::Func;
 use cedar_gate_ranks::{label, rank};
-use cedar_gate_service::serve;
 use std::alloc::{AllocError, Global};
 use std::process::ExitCode;
 
@@ -31,8 +32,7 @@ fn status(rt: HostRuntime) -> Result<u8, AllocError> {
         label_function(alloc, labelled)?,
     )?;
     let table = table_of(alloc, &extension)?;
-    let calls = RankCalls::new(&table);
-    match serve(alloc, rt.stdin(), &mut rt.stdout(), &calls, &table) {
+    match serve_ranks(alloc, rt.stdin(), &mut rt.stdout(), &table) {
         Ok(status) => Ok(status.number()),
         Err(_) => Ok(4),
     }

@@ -7,6 +7,7 @@ use Rattle.cedar_gate_model.specs.Whole.ReadingRequest.{request_read, store_read
 use Rattle.cedar_gate_bundles.specs.Bundles.{submission_of}
 use Rattle.cedar_gate_bundles.specs.Requests.{request_of}
 use Rattle.cedar_gate_bundles.proofs.Unread.{handed_on, steps_unread}
+use Rattle.cedar_gate_bundles.proofs.Written.{asked_well}
 use Rattle.cedar_gate_bundles.proofs.bundle.read_bundle.Goals as goal
 
 pub returns-in_err-steps-clause-unreadable : goal.returns-in_err-steps-clause-unreadable
@@ -17,3 +18,10 @@ returns-in_err-steps-clause-unreadable g c =
     let asked : required (codes "request") (request_read x) d ≡ Some (request_of c.in_ok-request.request) = ap (λ o. given o (request_read x)) c.in_ok-required.ensures.ok ∙ c.in_ok-request.ensures.ok in
     let kept : required (codes "store") (store_read x) d ≡ Some (store_seen c.in_ok-store.store).entities = ap (λ o. given o (store_read x)) c.in_ok-required-2.ensures.ok ∙ c.in_ok-store.ensures.ok in
     handed_on (bundle_read x d ≡ None) c.in_err-steps.field-0.0 c.from_residual-in_err-steps.result c.from_residual-in_err-steps.ensures.1 (λ q. steps_unread x d (submission_of x c.in_ok-submission.submission) (request_of c.in_ok-request.request) (store_seen c.in_ok-store.store).entities is (c.in_ok-submission.ensures.ok x) asked kept (c.in_err-steps.ensures.unreadable q))
+
+pub returns-clause-context_written : goal.returns-clause-context_written
+returns-clause-context_written g c = λ fair.
+    let x = g.E.Evaluate.functions c.args.functions.now in
+    let d = view c.args.value.now in
+    let asked : required (codes "request") (request_read x) d ≡ Some (request_of c.in_ok-request.request) = ap (λ o. given o (request_read x)) c.in_ok-required.ensures.ok ∙ c.in_ok-request.ensures.ok in
+    asked_well x fair d (request_of c.in_ok-request.request) asked

@@ -1,5 +1,8 @@
-use Rattle.std.proofs.Common.{rules, ◌≡◌, false}
+use Rattle.std.proofs.Common.{rules, ◌≡◌, true, false}
 use Rattle.cedar_gate_sessions.proofs.bound.request_bound.Goals as goal
 
 pub returns-clause-evaluates : goal.returns-clause-evaluates
 returns-clause-evaluates g c = λ s v. (let fine : c.in_ok-made.made.1 ≡ false = search rules in c.in_ok-made.ensures.evaluates fine s v)
+
+pub returns-then-made-clause-refused : goal.returns-then-made-clause-refused
+returns-then-made-clause-refused g c = λ s v. (let fails : c.in_ok-made.made.1 ≡ true = search rules in c.in_ok-made.ensures.fails fails s v)

@@ -1,4 +1,4 @@
-use Rattle.std.proofs.Common.{subst, sym, ap, ◌∙◌}
+use Rattle.std.proofs.Common.{subst, ap, ◌∙◌}
 use Rattle.std.specs.Prelude.{IsPermutation}
 use Rattle.cedar_expr_functions.specs.Named.{all_functions, all_signatures, all_ordered}
 use Rattle.cedar_expr_functions.specs.Tables.{table_of, functions_of, stored_in}

@@ -6,8 +6,8 @@ use Rattle.cedar_expr_values.specs.Values.{made}
 use Rattle.cedar_store_entities.specs.Recorded.{all_recorded}
 use Rattle.cedar_gate_model.specs.Reading.{given, required, has_only}
 use Rattle.cedar_gate_model.specs.Whole.ReadingName.{uid_read}
-use Rattle.cedar_gate_model.specs.Whole.ReadingRequest.{entity_read}
 use Rattle.cedar_gate_reading.specs.Maps.{texts_seen}
+use Rattle.cedar_gate_bundles.specs.Written.{entity_read_made}
 use Rattle.cedar_gate_bundles.proofs.Parted.{entity_made}
 use Rattle.cedar_gate_bundles.proofs.Unread.{handed_on, tags_unread, ancestors_unread}
 use Rattle.cedar_gate_bundles.proofs.stores.EntityReaderReader.read.Goals as goal
@@ -18,7 +18,7 @@ returns-in_err-tags-clause-unreadable g c =
     let d = view c.args.value.now in
     let h : has_only (codes "uid" ∷ codes "attrs" ∷ codes "tags" ∷ codes "ancestors" ∷ []) d ≡ true = sym c.has_only.ensures ∙ c.if-not-has_only.false in
     let hu : required (codes "uid") uid_read d ≡ Some (uid_of c.in_ok-uid.uid) = ap (λ o. given o uid_read) c.in_ok-required.ensures.ok ∙ c.in_ok-uid.ensures.ok in
-    handed_on (entity_read x d ≡ None) c.in_err-tags.field-0.0 c.from_residual-in_err-tags.result c.from_residual-in_err-tags.ensures.1 (λ q. tags_unread x d (uid_of c.in_ok-uid.uid) (texts_seen (made extension_of) c.in_ok-attrs.attrs.items) h hu c.in_ok-attrs.ensures.ok (c.in_err-tags.ensures.unreadable q))
+    handed_on (entity_read_made x d ≡ None) c.in_err-tags.field-0.0 c.from_residual-in_err-tags.result c.from_residual-in_err-tags.ensures.1 (λ q. tags_unread x d (uid_of c.in_ok-uid.uid) (texts_seen (made extension_of) c.in_ok-attrs.attrs.items) h hu c.in_ok-attrs.ensures.ok (c.in_err-tags.ensures.unreadable q))
 
 pub returns-in_err-ancestors-clause-unreadable : goal.returns-in_err-ancestors-clause-unreadable
 returns-in_err-ancestors-clause-unreadable g c =
@@ -26,7 +26,7 @@ returns-in_err-ancestors-clause-unreadable g c =
     let d = view c.args.value.now in
     let h : has_only (codes "uid" ∷ codes "attrs" ∷ codes "tags" ∷ codes "ancestors" ∷ []) d ≡ true = sym c.has_only.ensures ∙ c.if-not-has_only.false in
     let hu : required (codes "uid") uid_read d ≡ Some (uid_of c.in_ok-uid.uid) = ap (λ o. given o uid_read) c.in_ok-required.ensures.ok ∙ c.in_ok-uid.ensures.ok in
-    handed_on (entity_read x d ≡ None) c.in_err-ancestors.field-0.0 c.from_residual-in_err-ancestors.result c.from_residual-in_err-ancestors.ensures.1 (λ q. ancestors_unread x d (uid_of c.in_ok-uid.uid) (texts_seen (made extension_of) c.in_ok-attrs.attrs.items) h hu c.in_ok-attrs.ensures.ok (texts_seen (made extension_of) c.in_ok-tags.tags.items) c.in_ok-tags.ensures.ok (c.in_err-ancestors.ensures.unreadable q))
+    handed_on (entity_read_made x d ≡ None) c.in_err-ancestors.field-0.0 c.from_residual-in_err-ancestors.result c.from_residual-in_err-ancestors.ensures.1 (λ q. ancestors_unread x d (uid_of c.in_ok-uid.uid) (texts_seen (made extension_of) c.in_ok-attrs.attrs.items) h hu c.in_ok-attrs.ensures.ok (texts_seen (made extension_of) c.in_ok-tags.tags.items) c.in_ok-tags.ensures.ok (c.in_err-ancestors.ensures.unreadable q))
 
 pub returns-clause-ok : goal.returns-clause-ok
 returns-clause-ok g c =

@@ -1,4 +1,0 @@
-pub mod Depth
-pub mod Types
-pub mod Named
-pub mod Refusals

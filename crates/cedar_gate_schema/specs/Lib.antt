@@ -1,4 +1,0 @@
-pub mod Schema
-pub mod Indexes
-pub mod Plain
-pub mod Faults

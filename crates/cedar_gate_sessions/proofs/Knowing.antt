@@ -1,0 +1,182 @@
+-- What the evaluators of a session know.
+use Rattle.std.proofs.Common.{◌≡◌, ◌∙◌, ℕ, Bool, true, false, cond, List, [], ◌∷◌, map, Option, Some, None, option_map, refl, sym, ap, subst, if◌then◌else◌}
+use Rattle.std.specs.List.{list_any}
+use Rattle.std.specs.Map.{lookup}
+use Rattle.cedar_expr_functions.specs.Tables.{table_of}
+use Rattle.cedar_expr_functions.specs.declared.extensions.Extensions.{Extensions}
+use Rattle.cedar_expr_model.specs.Name.{Text}
+use Rattle.cedar_expr_model.specs.Uid.{Uid, uid_eq}
+use Rattle.cedar_expr_model.specs.Whole.Made.{Made}
+use Rattle.cedar_expr_model.specs.Whole.Table.{Table}
+use Rattle.cedar_expr_model.specs.Whole.Uids.{is_uid}
+use Rattle.cedar_expr_model.specs.Whole.Value.{V}
+use Rattle.cedar_expr_model.specs.Whole.ValueParts.{Part, known, left}
+use Rattle.cedar_expr_model.proofs.Equality.{uid_eq-Decides}
+use Rattle.cedar_expr_names.specs.Views.{uid_of}
+use Rattle.cedar_expr_names.specs.declared.entity.EntityUID.{EntityUID}
+use Rattle.cedar_store_entities.specs.Stores.{store_seen, store_made}
+use Rattle.cedar_store_entities.specs.Views.{Kept, entity_uid, entity_kept, entity_pair, kept_pair, bare_part, bare_entity}
+use Rattle.cedar_store_entities.specs.declared.entities.Entities.{Entities}
+use Rattle.cedar_store_entities.specs.declared.entity.Entity.{Entity}
+use Rattle.cedar_store_model.specs.Whole.Policy.{no_bindings}
+use Rattle.cedar_store_model.specs.Whole.Store.{Extent, if_uid, whole, partial}
+use Rattle.cedar_store_model.specs.Whole.World as world
+use Rattle.cedar_store_model.specs.Whole.World.{Found, held, missing}
+use Rattle.cedar_schema_model.specs.Whole.Schema as model
+use Rattle.cedar_evaluator_model.specs.Known.{known_found, known_entity, known_parts, known_part}
+use Rattle.cedar_evaluator_model.specs.OfLaws.WellMade.{IsFoundMadeWell}
+use Rattle.cedar_evaluator_core.specs.Evaluators.{asked_of, table_in, entities_in, scope_in, limit_of, Serves}
+use Rattle.cedar_evaluator_core.specs.Evaluators as evaluator
+use Rattle.cedar_evaluator_core.specs.declared.evaluator.Evaluator.{Evaluator}
+use Rattle.cedar_evaluator_model.specs.Scope.{Scope}
+use Rattle.cedar_evaluator_operators.specs.Answers.{AnswersMade}
+use Rattle.cedar_evaluator_operators.specs.Calls as operators
+use Rattle.cedar_evaluator_reads.specs.Scopes.{found_kept, values_in, store_of}
+use Rattle.cedar_evaluator_requests.specs.Views.{request_of}
+use Rattle.cedar_evaluator_rising.specs.Rising.{ScopeRises}
+use Rattle.cedar_gate_decisions.specs.Laws.{loaded_store}
+use Rattle.cedar_gate_model.specs.Whole.Bundle.{Functions}
+use Rattle.cedar_gate_model.specs.Whole.RunsAnswer.{Course, session_of, IsKnownStore}
+use Rattle.cedar_gate_model.specs.Whole.Session.{Setup, State, scope_now, known_now}
+use Rattle.cedar_gate_sessions.specs.Loaded.{loaded_at}
+use Rattle.cedar_gate_sessions.specs.Sessions.{IsAt, AreLoaded, stored_in, store_in}
+use Rattle.cedar_gate_sessions.specs.declared.session.Session.{Session}
+use Rattle.cedar_gate_sessions.proofs.Lookups.{lookup_seen}
+use Rattle.cedar_gate_sessions.proofs.Scopes.{scope_by, scope_is, scope_rises}
+use Rattle.cedar_gate_sessions.proofs.Steady.{IsAlike}
+use Rattle.cedar_gate_sessions.proofs.Stores.{found_made, action_made, steady, store_alike, known_partly, known_wholly}
+
+-- the entity of the code is the one that is known
+part_same : (p : Part Made) → bare_part p ≡ known_part p
+part_same (known m) = refl
+part_same (left t) = refl
+
+parts_same : (ps : List (Text × Part Made)) → map (λ p. (p.0, bare_part p.1)) ps ≡ known_parts ps
+parts_same [] = refl
+parts_same (p ∷ ps) = ap (λ z. (p.0, z) ∷ map (λ (q : Text × Part Made). (q.0, bare_part q.1)) ps) (part_same p.1) ∙ ap (λ l. (p.0, known_part p.1) ∷ l) (parts_same ps)
+
+entity_same : (e : world.Entity Made) → bare_entity e ≡ known_entity e
+entity_same e = λ i. record { attributes = parts_same e.attributes i; tags = parts_same e.tags i; ancestors = e.ancestors }
+
+abbrev seen : Kept → world.Entity Made
+seen k = k.0
+
+abbrev bare_kept : Kept → world.Entity V
+bare_kept k = bare_entity k.0
+
+-- what is found among what is kept
+kept_found : (es : List Entity) (u : Uid) → lookup (uid_eq u) (map entity_pair es) ≡ option_map bare_kept (lookup (uid_eq u) (map kept_pair es))
+kept_found es u = lookup_seen (uid_eq u) entity_uid entity_kept bare_kept es
+
+known_is : (o : Option Kept) → option_map bare_kept o ≡ option_map known_entity (option_map seen o)
+known_is None = refl
+known_is (Some k) = ap Some (entity_same k.0)
+
+made_is : (t : Extent) (o : Option Kept) → found_kept t o ≡ found_made t (option_map seen o)
+made_is whole None = refl
+made_is partial None = refl
+made_is t (Some k) = refl
+
+-- the uids of the code are uids
+abbrev pub AreUids : Type 0
+AreUids = (u : EntityUID) → is_uid (uid_of u) ≡ true
+
+uid_of_found : AreUids → (es : List Entity) (u : Uid) (k : Kept) → lookup (uid_eq u) (map kept_pair es) ≡ Some k → is_uid u ≡ true
+uid_of_found uids [] u k h = absurd (cc)
+uid_of_found uids (e ∷ es) u k h = go (uid_eq u (entity_uid e)) refl h (uid_of_found uids es u k)
+  where
+    go : (b : Bool) → uid_eq u (entity_uid e) ≡ b → cond b (Some (entity_kept e)) (lookup (uid_eq u) (map kept_pair es)) ≡ Some k → (lookup (uid_eq u) (map kept_pair es) ≡ Some k → is_uid u ≡ true) → is_uid u ≡ true
+    go true q f later = subst (λ v. is_uid v ≡ true) (sym ((uid_eq-Decides u (entity_uid e)).0 q)) (uids e.uid)
+    go false q f later = later f
+
+-- the store of these entities, of which the others aren't known, or as all that there are
+abbrev pub made_store : Extent → List Entity → Uid → Found Made
+made_store t es u = if_uid u (found_kept t (lookup (uid_eq u) (map kept_pair es)))
+
+-- the store of the code is that
+pub store_is_made : (t : Extent) (z : Entities) (es : List Entity) → (store_seen z).extent ≡ t → store_made z ≡ map kept_pair es → (u : Uid) → store_of z u ≡ made_store t es u
+store_is_made t z es extent made u = ap (λ a. if_uid u (found_kept a (lookup (uid_eq u) (store_made z)))) extent ∙ ap (λ l. if_uid u (found_kept t (lookup (uid_eq u) l))) made
+
+action_written : (t : Table) (s : model.Schema) (u : Uid) (d : Bool) (f : Found Made) → IsFoundMadeWell t f → IsFoundMadeWell t (if d then held (action_made s u) else f)
+action_written t s u true f h = λ a. (tt, tt)
+action_written t s u false f h = h
+
+module _ (x : Setup) (s : State) (es : List Entity) (loaded : AreLoaded x s es) (u : Uid) where
+  abbrev found : Option Kept
+  found = lookup (uid_eq u) (map kept_pair es)
+
+  found_is : option_map known_entity (option_map seen found) ≡ loaded_at loaded.acts x s u
+  found_is = sym (known_is found) ∙ sym (kept_found es u) ∙ loaded.each u
+
+  action_is_uid : AreUids → model.declares_action x.schema u ≡ true → is_uid u ≡ true
+  action_is_uid uids d = go found refl (found_is ∙ ap (λ b. if b then Some (loaded.acts u) else (if list_any (uid_eq u) s.asked then x.store u else None)) d)
+    where
+      go : (o : Option Kept) → lookup (uid_eq u) (map kept_pair es) ≡ o → option_map known_entity (option_map seen o) ≡ Some (loaded.acts u) → is_uid u ≡ true
+      go None e f = absurd (cc)
+      go (Some k) e f = uid_of_found uids es u k e
+
+  abbrev steadied : Found Made → Found Made
+  steadied f = if model.declares_action x.schema u then held (action_made x.schema u) else f
+
+  -- the steady store is alike
+  pub made_alike : AreUids → (t : Extent) → IsAlike (made_store t es u) (steady x.schema (made_store t es) u)
+  made_alike uids t = subst (λ f. IsAlike (if_uid u f) (steadied (if_uid u f))) (sym (made_is t found)) (store_alike x s loaded.acts loaded.same u (option_map seen found) found_is t (action_is_uid uids))
+
+  -- it is what is known, where the rest isn't
+  pub steady_known : known_found (steady x.schema (stored_in es) u) ≡ (known_now x s).store u
+  steady_known = ap (λ f. known_found (steadied (if_uid u f))) (made_is partial found) ∙ known_partly x s loaded.acts loaded.same u (option_map seen found) found_is
+
+  -- and as a whole store it is what was loaded
+  pub steady_whole : known_found (steady x.schema (made_store whole es) u) ≡ loaded_store x s u
+  steady_whole = ap (λ f. known_found (steadied (if_uid u f))) (made_is whole found) ∙ known_wholly x s loaded.acts loaded.same u (option_map seen found) found_is
+
+  pub steady_written : IsFoundMadeWell x.functions.table (steady x.schema (stored_in es) u)
+  steady_written = action_written x.functions.table x.schema u (model.declares_action x.schema u) (stored_in es u) (loaded.written u)
+
+  whole_case : (b : Bool) (o : Option Kept) → IsFoundMadeWell x.functions.table (cond b (found_kept partial o) missing) → IsFoundMadeWell x.functions.table (cond b (found_kept whole o) missing)
+  whole_case true None h = tt
+  whole_case true (Some k) h = h
+  whole_case false o h = tt
+
+  pub made_written : (t : Extent) → IsFoundMadeWell x.functions.table (made_store t es u)
+  made_written partial = loaded.written u
+  made_written whole = whole_case (is_uid u) found (loaded.written u)
+
+module _ {S : Type 0} {T : Type 0} {B : _} {F : _} {g : _} (schema_of : S → model.Schema) (functions_of : T → Functions) where
+  -- the steady store is what is known of the store
+  pub known_store : (c : Course) (s : State) (d : Session S T B F g) → IsAt schema_of functions_of (session_of c) s d → IsKnownStore c s (steady (session_of c).schema (store_in d))
+  known_store c s d at = record {
+    known = λ u. steady_known (session_of c) s d.loaded.items at.loaded u;
+    well = λ u. steady_written (session_of c) s d.loaded.items at.loaded u;
+    context = (at.setup).written;
+  }
+
+  module _ (x : Setup) (s : State) (d : Session S T B F g) (at : IsAt schema_of functions_of x s d) where
+    -- how the table's functions answer
+    abbrev pub functions_at : operators.Functions
+    functions_at = record { answers = x.functions.table.answers; calls = x.functions.calls }
+
+    module _ (e : Evaluator (Extensions B F g)) (t : Extent) (z : Entities) (extent : (store_seen z).extent ≡ t) (kept : store_made z ≡ map kept_pair d.loaded.items)
+        (asked : asked_of e ≡ request_of d.now) (bound : evaluator.bound_in e ≡ values_in d.bound) (entities : entities_in e ≡ z) (table : table_in e ≡ (d.basis).table.now) (limit : limit_of e ≡ (d.basis).limit) where
+      abbrev store : Uid → Found Made
+      store = made_store t d.loaded.items
+
+      stored : (u : Uid) → store_of (entities_in e) u ≡ store u
+      stored u = ap (λ y. store_of y u) entities ∙ store_is_made t z d.loaded.items extent kept u
+
+      -- what the evaluator knows is what is known at the state
+      pub scope_same : scope_in table_of functions_at e no_bindings ≡ scope_now x s store
+      scope_same =
+          ap (λ st. scope_by (asked_of e) (evaluator.bound_in e) (table_of (table_in e) x.functions.table.answers) x.functions.calls st) (λ i u. stored u i)
+          ∙ scope_is x s (asked_of e) (evaluator.bound_in e) (table_of (table_in e) x.functions.table.answers) store (asked ∙ at.now) (λ n. ap (λ f. f n) bound ∙ at.bound n)
+          (ap (λ y. table_of y x.functions.table.answers) table ∙ ((at.setup).over).table)
+
+      pub serves : Serves table_of AnswersMade e no_bindings functions_at
+      serves = record {
+        answered = subst (λ y. AnswersMade y x.functions.calls) (sym table) ((at.setup).over).answered;
+        rises = subst ScopeRises (sym scope_same) (scope_rises x s at.opened (at.loaded).conform ((at.setup).over).rise (at.setup).written store (λ u. made_written x s d.loaded.items at.loaded u t));
+      }
+
+      -- so what it says of a scope and a limit it says of those of the state
+      pub says_same : {A : Type 0} (r : A) (said : Scope → ℕ → A) → (Serves table_of AnswersMade e no_bindings functions_at → r ≡ said (scope_in table_of functions_at e no_bindings) (limit_of e)) → r ≡ said (scope_now x s store) x.limit
+      says_same r said h = h serves ∙ (λ i. said (scope_same i) ((limit ∙ ((at.setup).over).limit) i))

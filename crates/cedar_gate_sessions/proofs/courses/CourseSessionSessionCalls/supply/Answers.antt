@@ -1,0 +1,16 @@
+use Rattle.std.proofs.Common.{◌∙◌}
+use Rattle.cedar_gate_model.specs.Whole.RunsAnswer.{session_of}
+use Rattle.cedar_gate_sessions.specs.Entities.{supplied_of}
+use Rattle.cedar_gate_sessions.proofs.courses.CourseSessionSessionCalls.supply.Goals as goal
+
+pub returns-in-Ok-clause-at : goal.returns-in-Ok-clause-at
+returns-in-Ok-clause-at g c = λ d s h a. record {
+  proper = h.proper;
+  fair = h.fair;
+  at = c.in-Ok.ensures.at (session_of d) s h.at (record { answered = a.answered; written = a.written });
+  policies = c.in-Ok.ensures.policies ∙ h.policies;
+  level = h.level;
+}
+
+pub returns-in-Err-clause-refused : goal.returns-in-Err-clause-refused
+returns-in-Err-clause-refused g c = λ d s h. c.refused_supply.ensures (session_of d) s (supplied_of c.args.supplied.items) (c.in-Err.ensures.refused (session_of d) s h.at)

@@ -1,6 +1,0 @@
--- The limit on nesting as a number.
-use Rattle.std.specs.Prelude.{ℕ}
-use Rattle.cedar_gate_types.specs.declared.nest_limit.NestLimit.{NestLimit}
-
-abbrev pub levels_of : NestLimit → ℕ
-levels_of limit = limit.levels

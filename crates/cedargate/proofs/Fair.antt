@@ -1,0 +1,76 @@
+-- The program's functions meet what serving asks of them.
+use Rattle.std.proofs.Common.{◌≡◌, Bool, true, false, cond, List, [], ◌∷◌, Option, Some, None, Result, Ok, Err, Contains, refl, subst}
+use Rattle.std.specs.List.{AllByRecursion}
+use Rattle.std.proofs.lemmas.List.Elements.{All-from_recursion}
+use Rattle.std.specs.Option.{option_map_or}
+use Rattle.std.specs.Prelude.{ℕ, All}
+use Rattle.cedar_expr_model.specs.Name.{Name, name_eq}
+use Rattle.cedar_expr_model.specs.Whole.Made.{Made}
+use Rattle.cedar_expr_model.proofs.Lists.{contains_head, contains_tail}
+use Rattle.cedar_expr_names.specs.Views.{plain_name_of}
+use Rattle.cedar_expr_values.specs.Values.{made}
+use Rattle.cedar_expr_values.specs.Extensions.{extension_of}
+use Rattle.cedar_expr_trees.specs.Unknowns.{unknown_of}
+use Rattle.cedar_expr_functions.specs.Functions.{function_name}
+use Rattle.cedar_expr_functions.specs.Tables.{stored_in, table_of}
+use Rattle.cedar_expr_functions.specs.declared.extensions.Extensions.{Extensions}
+use Rattle.cedar_expr_functions.specs.declared.extension.ExtensionOutputValue.{ExtensionOutputValue}
+use Rattle.cedar_expr_functions.specs.declared.extension.ExtensionOutputValue.TheVariants.{Known, Unknown}
+use Rattle.cedar_expr_functions.specs.declared.err.CallFault.{CallFault}
+use Rattle.cedar_expr_functions.specs.declared.err.CallFault.TheVariants.{OutOfMemory, WrongNumArguments, ArgumentType, Fault}
+use Rattle.cedar_evaluator_model.specs.Scope.{MadeCalled, makes, faults, leaves_unknown}
+use Rattle.cedar_evaluator_operators.specs.Answers as operators
+use Rattle.cedar_evaluator_restricted.specs.Answers as restricted
+use Rattle.cedar_evaluator_restricted.proofs.Alike.{same_answer}
+use Rattle.cedar_evaluator_rising.specs.Rising.{MadeRises, CallsRise}
+use Rattle.cedar_gate_ranks.specs.Ranks.{rank_name, rank_made, label_made, ranked, labelled, number_read, number_kept, rank_calls, rank_answers}
+use Rattle.cedar_gate_ranks.specs.Tables.{HoldsRanks}
+use Rattle.cedar_gate_ranks.proofs.Fair.{ranks_make_fairly}
+use Rattle.cedar_gate_service.specs.Runs.{AnswersFairly}
+use Rattle.cedargate.specs.Served.{served_by}
+
+-- an outcome that is alike to the answer is that answer
+is_the_answer : (c : MadeCalled) (r : Result ExtensionOutputValue CallFault) → restricted.is_answer c r ≡ true → operators.IsAnswer c r
+is_the_answer c (Ok (Known v)) h = same_answer c (makes (made extension_of v)) h
+is_the_answer c (Ok (Unknown u)) h = same_answer c (leaves_unknown (unknown_of u).name) h
+is_the_answer c (Err OutOfMemory) h = tt
+is_the_answer c (Err (WrongNumArguments f m n)) h = tt
+is_the_answer c (Err (ArgumentType a b)) h = tt
+is_the_answer c (Err (Fault e m a)) h = same_answer c (faults (plain_name_of e)) h
+
+each_by : {X : Type 0} (P : X → Type 0) (xs : List X) → ((x : X) → Contains xs x → P x) → AllByRecursion P xs
+each_by P [] h = tt
+each_by P (x ∷ xs) h = (h x (contains_head x xs), each_by P xs (λ y k. h y (contains_tail x xs y k)))
+
+all_by : {X : Type 0} (P : X → Type 0) (xs : List X) → ((x : X) → Contains xs x → P x) → All P xs
+all_by P xs h = All-from_recursion P xs (each_by P xs h)
+
+-- A table answers in the words of the operators as it does in those of restricted expressions.
+pub answers_made : {B : _} {F : _} {g : _} (t : Extensions B F g) (calls : Name → List Made → MadeCalled) → restricted.AnswersMade t calls → operators.AnswersMade t calls
+answers_made t calls h =
+    record { each = all_by (λ f. operators.IsMadeBy f (calls (function_name f))) (stored_in t) (λ f k. record { agreeing = λ a xs r takes may. is_the_answer _ r ((h.each f k).agreeing a xs r takes may) }) }
+
+ranked_rises : (m : Made) (o : Option ℕ) → option_map_or (λ n. makes (rank_made n)) o (faults rank_name) ≡ makes m → MadeRises m
+ranked_rises m None k = absurd (cc)
+ranked_rises m (Some n) k = let same : rank_made n ≡ m = cc in subst MadeRises same tt
+
+labelled_rises : (m : Made) (o : Option ℕ) → option_map_or (λ n. makes (label_made n)) o (faults rank_name) ≡ makes m → MadeRises m
+labelled_rises m None k = absurd (cc)
+labelled_rises m (Some n) k = let same : label_made n ≡ m = cc in subst MadeRises same tt
+
+rises_case : (b : Bool) (ms : List Made) (m : Made) → cond b (ranked ms) (labelled ms) ≡ makes m → MadeRises m
+rises_case true ms m k = ranked_rises m (number_read ms) k
+rises_case false ms m k = labelled_rises m (number_kept ms) k
+
+-- What they answer rises.
+pub ranks_rise : CallsRise rank_calls
+ranks_rise f ms m rise k = rises_case (name_eq f rank_name) ms m k
+
+-- The functions of a table that holds them, and answers as they do, answer fairly.
+pub fair_answers : {B : _} {F : _} {g : _} (t : Extensions B F g) → restricted.AnswersMade t rank_calls → HoldsRanks (table_of t rank_answers) → AnswersFairly (served_by t) t
+fair_answers t made holds = record {
+  fair = ranks_make_fairly (table_of t rank_answers) holds;
+  answered = answers_made t rank_calls made;
+  rise = ranks_rise;
+  table = refl;
+}

@@ -1,0 +1,44 @@
+//! Serving by the program's functions.
+
+ghost use Rattle.std.specs.Prelude.{◌≡◌, List, ℕ, Some, IfErr};
+ghost use Rattle.cedar_evaluator_restricted.specs.Answers.{AnswersMade};
+ghost use Rattle.cedar_expr_functions.specs.Tables.{table_of};
+ghost use Rattle.cedar_gate_headline.specs.Headline.{Promises};
+ghost use Rattle.cedar_gate_model.specs.Whole.Lines.{Prints};
+ghost use Rattle.cedar_gate_ranks.specs.Ranks.{rank_calls, rank_answers};
+ghost use Rattle.cedar_gate_ranks.specs.Tables.{HoldsRanks};
+ghost use Rattle.cedar_gate_service.specs.Serving.{ServeGives, LeavesAlone};
+ghost use Rattle.cedargate.specs.Served.{served_by, read_by};
+
+use crate::table::RankCalls;
+use cedar_expr_functions::Extensions;
+use cedar_gate_headline::what_is_printed_is_promised;
+use cedar_gate_service::{ServeFault, Status, serve};
+use std::alloc::Global;
+use std::io::{Read, Write};
+
+/// Reads a bundle and writes the lines that are printed for it, by the functions `rank` and `label` of this table, which answer fairly. The
+/// lines of a run keep the promises of the headline.
+///
+/// # Errors
+///
+/// Want of memory or a fault of the reader, and nothing is written; or a fault of the writer, which then holds a beginning
+/// of the lines.
+pub fn serve_ranks<R: Read + Drop, W: Write + Drop>(
+    alloc: Global,
+    reader: R,
+    writer: &mut W,
+    table: &Extensions<'_>,
+) -> Result<Status, ServeFault>
+    requires made { AnswersMade table.now rank_calls }
+    requires ranks { HoldsRanks (table_of table.now rank_answers) }
+    ensures printed { (bytes : List ℕ) → R.remaining reader ≡ Some bytes
+        → ServeGives (Prints (served_by table.now) (read_by table.now bytes)) (W.contents writer.old) (W.contents writer.new) result }
+    ensures headline { (bytes : List ℕ) → R.remaining reader ≡ Some bytes
+        → ServeGives (Promises (served_by table.now) (read_by table.now bytes)) (W.contents writer.old) (W.contents writer.new) result }
+    ensures unchanged { IfErr result (λ e. LeavesAlone e (writer.new ≡ writer.old)) }
+{
+    what_is_printed_is_promised();
+    let calls = RankCalls::new(table);
+    serve(alloc, reader, writer, &calls, table)
+}
