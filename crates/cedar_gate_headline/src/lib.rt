@@ -1,6 +1,6 @@
 //! The headline: what a run promises, in one statement.
 //! Contract: a run of an accepted bundle keeps the promises (`Headline`), and so do the lines that are printed of one (`PrintedIsPromised`).
-//! Used by the program, whose `serve_ranks` cites it.
+//! Used by the service, whose `serve` cites it.
 #![tactic(auto)]
 
 ghost use Rattle.cedar_gate_headline.specs.Headline.{Headline, PrintedIsPromised};

@@ -1,3 +1,4 @@
 pub mod Contexts
 pub mod Courses
 pub mod Printed
+pub mod Promised

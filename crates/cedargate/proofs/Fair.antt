@@ -1,10 +1,10 @@
 -- The program's functions meet what serving asks of them.
-use Rattle.std.proofs.Common.{◌≡◌, Bool, true, false, cond, List, [], ◌∷◌, Option, Some, None, Result, Ok, Err, Contains, refl, subst}
+use Rattle.std.proofs.Common.{◌≡◌, Bool, true, false, cond, List, [], ◌∷◌, Option, Some, None, Result, Ok, Err, Contains, refl, sym, subst}
 use Rattle.std.specs.List.{AllByRecursion}
 use Rattle.std.proofs.lemmas.List.Elements.{All-from_recursion}
 use Rattle.std.specs.Option.{option_map_or}
 use Rattle.std.specs.Prelude.{ℕ, All}
-use Rattle.cedar_expr_model.specs.Name.{Name, name_eq}
+use Rattle.cedar_expr_model.specs.Name.{Text, Name, name_eq}
 use Rattle.cedar_expr_model.specs.Whole.Made.{Made}
 use Rattle.cedar_expr_model.proofs.Lists.{contains_head, contains_tail}
 use Rattle.cedar_expr_names.specs.Views.{plain_name_of}
@@ -27,7 +27,13 @@ use Rattle.cedar_gate_ranks.specs.Ranks.{rank_name, rank_made, label_made, ranke
 use Rattle.cedar_gate_ranks.specs.Tables.{HoldsRanks}
 use Rattle.cedar_gate_ranks.proofs.Fair.{ranks_make_fairly}
 use Rattle.cedar_gate_service.specs.Runs.{AnswersFairly}
-use Rattle.cedargate.specs.Served.{served_by}
+use Rattle.cedar_gate_service.specs.Serving.{ServeGives}
+use Rattle.cedar_gate_service.specs.declared.faults.ServeFault.{ServeFault}
+use Rattle.cedar_gate_transcripts.specs.declared.status.Status.{Status}
+use Rattle.cedar_gate_model.specs.Whole.Bundle.{Functions, Bundle}
+use Rattle.cedar_gate_model.specs.Whole.Lines as lines
+use Rattle.cedar_gate_model.specs.Whole.ReadingBundle.{input_read}
+use Rattle.cedargate.specs.Served.{served_by, read_by}
 
 -- an outcome that is alike to the answer is that answer
 is_the_answer : (c : MadeCalled) (r : Result ExtensionOutputValue CallFault) → restricted.is_answer c r ≡ true → operators.IsAnswer c r
@@ -74,3 +80,9 @@ fair_answers t made holds = record {
   rise = ranks_rise;
   table = refl;
 }
+
+-- So what is served by functions that answer fairly is served by them.
+pub served_fairly : {B : _} {F : _} {g : _} (May : Functions → Option Bundle → lines.Status → Text → Type 0) (t : Extensions B F g) (f : Functions) (bytes : List ℕ) (old new : Option (List ℕ)) (r : Result Status ServeFault) → f ≡ served_by t
+    → restricted.AnswersMade t rank_calls → HoldsRanks (table_of t rank_answers) → (AnswersFairly f t → ServeGives (May f (input_read f bytes)) old new r) → ServeGives (May (served_by t) (read_by t bytes)) old new r
+served_fairly May t f bytes old new r same made holds says =
+    subst (λ h. ServeGives (May h (input_read h bytes)) old new r) same (says (subst (λ h. AnswersFairly h t) (sym same) (fair_answers t made holds)))

@@ -12,7 +12,6 @@ ghost use Rattle.cedargate.specs.Served.{served_by, read_by};
 
 use crate::table::RankCalls;
 use cedar_expr_functions::Extensions;
-use cedar_gate_headline::what_is_printed_is_promised;
 use cedar_gate_service::{ServeFault, Status, serve};
 use std::alloc::Global;
 use std::io::{Read, Write};
@@ -38,7 +37,6 @@ pub fn serve_ranks<R: Read + Drop, W: Write + Drop>(
         → ServeGives (Promises (served_by table.now) (read_by table.now bytes)) (W.contents writer.old) (W.contents writer.new) result }
     ensures unchanged { IfErr result (λ e. LeavesAlone e (writer.new ≡ writer.old)) }
 {
-    what_is_printed_is_promised();
     let calls = RankCalls::new(table);
     serve(alloc, reader, writer, &calls, table)
 }
