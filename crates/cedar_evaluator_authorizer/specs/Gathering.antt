@@ -23,7 +23,7 @@ gathered q g = record {
   request = q;
 }
 
--- the same, where an id that is repeated in a group stands once
+-- the response to a request that has these groups, where an id that is repeated in a group stands once
 abbrev pub each_kept : PartialRequest → Gathering → Response
 each_kept q g = record {
   true_permits = map noted_seen (each_once g.true_permits.items);

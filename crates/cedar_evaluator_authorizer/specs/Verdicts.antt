@@ -22,7 +22,7 @@ abbrev pub TellsStop : Verdict → Type 0
 TellsStop (Erred e) = cause_of e ≡ stops (stop_or limit e)
 TellsStop v = Unit {0}
 
--- the same with another residual
+-- what is left, with a residual changed by this function; a value and a stop stay
 abbrev pub with_residual : (Tree → Tree) → Left → Left
 with_residual f (residual r) = residual (f r)
 with_residual f (value_left m) = value_left m

@@ -127,7 +127,7 @@ impl Gathering {
         }
     }
 
-    // The same of one that is false.
+    // Puts a policy that is false, with whether it erred, in its group.
     fn put_false(&mut self, policy: &Policy, state: ErrorState) -> Result<(), AllocError>
         ensures { (q : PartialRequest) → OnOk result (gathered q self.new ≡ with_false (gathered q self.old) (policy_of policy.now).effect (noted (policy_of policy.now), state_of state)) }
     {
@@ -144,7 +144,7 @@ impl Gathering {
         }
     }
 
-    // The same of one of which an expression is left.
+    // Puts a policy of which an expression is left, with the expression, in its group.
     fn put_residual(&mut self, policy: &Policy, left: Rc<Expr>) -> Result<(), AllocError>
         ensures { (q : PartialRequest) → OnOk result (gathered q self.new ≡ with_residual (gathered q self.old) (policy_of policy.now).effect (noted (policy_of policy.now), tree_of left.value)) }
     {
@@ -161,7 +161,7 @@ impl Gathering {
         }
     }
 
-    // The same of one that erred, and lists its error.
+    // Puts a policy that erred in the group of those that are false, and its error behind the errors.
     fn put_erred(&mut self, policy: &Policy, error: EvaluationError) -> Result<(), AllocError>
         ensures { (q : PartialRequest) → OnOk result (gathered q self.new ≡ with_false (with_error (gathered q self.old) (record { id = (policy_of policy.now).id; cause = cause_of error })) (policy_of policy.now).effect (noted (policy_of policy.now), with_error_state)) }
     {

@@ -77,7 +77,7 @@ abbrev pub IsValueOf : Left → Result (Value ExtValue) EvaluationError → Type
 IsValueOf l (Ok v) = l ≡ value_left (made extension_of v)
 IsValueOf l (Err e) = (other : Stop) → is_memory e ≡ false → l ≡ left_by other e
 
--- the same of a truth value
+-- This truth value is left; or it stopped so, or a residual is left. Want of memory says nothing.
 abbrev pub IsTruthOf : Left → Result Bool EvaluationError → Type 0
 IsTruthOf l (Ok b) = l ≡ truth_left b
 IsTruthOf l (Err e) = (other : Stop) → is_memory e ≡ false → l ≡ left_by other e

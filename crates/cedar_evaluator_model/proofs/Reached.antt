@@ -46,7 +46,7 @@ reached_picks a b l r h k m = inr refl
 reached_truth : (join : Tree → Tree → Tree) (b : Bool) (o : Option (Res V)) (l : Left) → Reached o l → Reached (bind o (λ v. Some (truth_asked v))) (right_left join b l)
 reached_truth join b o l h = reached_bind o l (λ v. Some (truth_asked v)) truth_wanted _ h (λ m. inr (given_asked m))
 
--- the same of several
+-- The limit was met in the pieces of several expressions, or the pieces are as their outcome is, by this view of the values.
 abbrev ReachedAs : {A : Type 0} → (List Made → A) → Option (Res A) → Pieces → Type 0
 ReachedAs view o ps = (ps ≡ halted limit) ⊎ GivenAs view o ps
 

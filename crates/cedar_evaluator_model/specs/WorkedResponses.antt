@@ -89,7 +89,7 @@ groups =
       request = request_of scope;
     }
 
--- the same without the satisfied forbid
+-- those groups without the satisfied forbid
 abbrev pub without_forbid : Response
 without_forbid = record groups { true_forbids = [] }
 

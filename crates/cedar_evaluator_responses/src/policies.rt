@@ -48,7 +48,7 @@ pub(crate) fn push_true(
     Ok(())
 }
 
-// The same of a group of policies that are false.
+// Puts the policies of a group of false ones at the end.
 pub(crate) fn push_false(
     alloc: Global,
     policies: &mut Vec<Policy>,
@@ -64,7 +64,7 @@ pub(crate) fn push_false(
     Ok(())
 }
 
-// The same of a group of residual policies.
+// Puts the policies of a group of residual ones at the end, each with what is left of it.
 pub(crate) fn push_residual(
     alloc: Global,
     policies: &mut Vec<Policy>,
@@ -79,7 +79,7 @@ pub(crate) fn push_residual(
     Ok(())
 }
 
-// The same of the groups of an effect: true, false, residual.
+// Puts the policies of the groups of an effect at the end: first the satisfied ones, then the false ones, then the residual ones.
 pub(crate) fn push_all(
     alloc: Global,
     policies: &mut Vec<Policy>,

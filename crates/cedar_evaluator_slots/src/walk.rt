@@ -110,7 +110,7 @@ fn path_expr(alloc: Global, expr: Expr, attrs: &Rc<NonEmpty<RcStr>>) -> Result<E
     Ok(Expr::new(ExprKind::ExtHasAttr { expr, attrs }, None, ()))
 }
 
-// The same of a call of this function on these arguments.
+// The call of this function on these arguments, with the uids that slots are bound to in the place of the slots.
 #[cycle(walk)]
 fn call_bound(
     alloc: Global,
@@ -124,7 +124,7 @@ fn call_bound(
     Expr::call_extension_fn(alloc, fn_name.clone()?, args)
 }
 
-// The same of the set of these members.
+// The set of these members, with the uids that slots are bound to in the place of the slots.
 #[cycle(walk)]
 fn set_bound(alloc: Global, members: &[Expr], slots: &SlotEnv) -> Result<Expr, AllocError>
     ensures { IfOk result (λ r. tree_of r ≡ slots_bound (binding_of (bindings_of slots.now)) (set_literal (trees (map tree_of members.now)))) }
@@ -133,7 +133,7 @@ fn set_bound(alloc: Global, members: &[Expr], slots: &SlotEnv) -> Result<Expr, A
     Expr::set(alloc, members)
 }
 
-// The same of the record of these fields.
+// The record of these fields, with the uids that slots are bound to in the place of the slots.
 #[cycle(walk)]
 fn record_bound(
     alloc: Global,
@@ -146,7 +146,7 @@ fn record_bound(
     record_expr(alloc, fields)
 }
 
-// The same of each of these.
+// Each of these expressions, with the uids that slots are bound to in the place of the slots.
 #[cycle(walk)]
 fn all_bound(alloc: Global, exprs: &[Expr], slots: &SlotEnv) -> Result<Vec<Expr>, AllocError>
     ensures { IfOk result (λ rs. map tree_of rs.items ≡ built_list (binding (binding_of (bindings_of slots.now))) (trees (map tree_of exprs.now))) }
@@ -158,7 +158,7 @@ fn all_bound(alloc: Global, exprs: &[Expr], slots: &SlotEnv) -> Result<Vec<Expr>
     Ok(made)
 }
 
-// The same of each of these fields, by their names.
+// The expression of each of these fields, by their names, with the uids that slots are bound to in the place of the slots.
 #[cycle(walk)]
 fn fields_bound(
     alloc: Global,

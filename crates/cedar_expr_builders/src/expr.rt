@@ -57,7 +57,7 @@ impl<T: Drop> ExprBuilder<T> {
         Expr::new(expr_kind, self.source_loc, self.data)
     }
 
-    /// The same builder, which gives the place of this expression.
+    /// The builder with its data, which gives the place of this expression.
     pub fn with_same_source_loc<U>(self, expr: &Expr<U>) -> ExprBuilder<T>
         ensures place { builder_place result ≡ place_of expr.now }
         ensures data { builder_data result ≡ builder_data self }

@@ -69,7 +69,7 @@ pub trait ExprBuilder: Clone + Drop {
         ensures place { placed result ≡ None }
         ensures data { held result ≡ «data» };
 
-    /// The same builder, which gives this place or none.
+    /// The builder with its data, which gives this place or none.
     fn with_maybe_source_loc(self, maybe_source_loc: Option<Loc>) -> Self
         ensures place { placed result ≡ maybe_source_loc }
         ensures data { held result ≡ held self };
@@ -210,7 +210,7 @@ pub trait ExprBuilder: Clone + Drop {
         Self::with_data(Self::Data::default())
     }
 
-    /// The same builder, which gives this place.
+    /// The builder with its data, which gives this place.
     fn with_source_loc(self, source_loc: Loc) -> Self
         ensures place { placed result ≡ Some source_loc }
         ensures data { held result ≡ held self }

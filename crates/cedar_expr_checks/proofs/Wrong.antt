@@ -91,7 +91,7 @@ no_fault_decides x t = all_right x (subexpressions t)
 pub are_valid : (x : Table) (t : Tree) → first_wrong_call x.functions t ≡ None → has_valid_calls x t ≡ true
 are_valid x t h = sym (no_fault_decides x t) ∙ ap is_none h
 
--- the same of a result
+-- Where a result is a value, all calls of the expression are valid, if none of them is wrong there.
 pub valid_then : {E A : Type 0} (r : Result A E) (x : Table) (t : Tree) → OnOk r (first_wrong_call x.functions t ≡ None) → OnOk r (has_valid_calls x t ≡ true)
 valid_then (Ok a) x t h = are_valid x t h
 valid_then (Err e) x t h = tt

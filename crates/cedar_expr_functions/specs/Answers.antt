@@ -32,14 +32,14 @@ answer (Err (WrongNumArguments f m n)) = None
 answer (Err (ArgumentType a b)) = None
 answer (Err (Fault e m a)) = Some (fails (plain_name_of e))
 
--- the same answer
+-- whether two answers of calls are equal: the values that they give, the names of their failures, or the unknowns that they leave
 abbrev pub called_eq : Called → Called → Bool
 called_eq (gives v) (gives w) = value_eq v w
 called_eq (fails m) (fails n) = name_eq m n
 called_eq (leaves s) (leaves t) = bytes_eq s t
 called_eq c d = false
 
--- the same answer, where there are two
+-- whether two answers of calls are equal, where both are there; true where one is missing
 abbrev pub agree : Option Called → Option Called → Bool
 agree (Some c) (Some d) = called_eq c d
 agree o p = true

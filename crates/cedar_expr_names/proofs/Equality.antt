@@ -56,7 +56,7 @@ uids_cmp_is u v =
 pub names_cmp_is : (m n : InternalName) → slice_cmp nat_cmp (rc_str_bytes m.text) (rc_str_bytes n.text) ≡ name_cmp (name_of m) (name_of n)
 names_cmp_is m n = ap (λ t. slice_cmp nat_cmp t (rc_str_bytes n.text)) m.written ∙ ap (slice_cmp nat_cmp (name_text (name_of m))) n.written
 
--- the same by the order in which names that are not well-formed are told apart too
+-- what `cmp` computes of two names, by the order in which names that are not well-formed are told apart too
 pub names_order_is : (m n : InternalName) → slice_cmp nat_cmp (rc_str_bytes m.text) (rc_str_bytes n.text) ≡ name_order (name_of m) (name_of n)
 names_order_is m n = names_cmp_is m n ∙ sym (names_by_text (name_of m) (name_of n) (well_formed m) (well_formed n))
 

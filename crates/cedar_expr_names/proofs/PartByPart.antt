@@ -7,7 +7,7 @@ use Rattle.cedar_expr_model.specs.Name.{Text, Name, parts, with_byte, is_identif
 abbrev pub read_from : List Text → Text → Option Name
 read_from before rest = cond (list_all is_identifier (parts rest)) (name_of_parts before (parts rest)) None
 
--- the same of the parts of the text
+-- the name of these parts behind the parts before them, if each of these parts is an identifier
 abbrev read_parts : List Text → List Text → Option Name
 read_parts before ps = cond (list_all is_identifier ps) (name_of_parts before ps) None
 

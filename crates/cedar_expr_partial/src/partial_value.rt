@@ -39,7 +39,7 @@ impl<X: ExtensionValue> PartialValue<X> {
         PartialValue::Residual(Expr::unknown(u))
     }
 
-    /// The same at this place, or without one.
+    /// The value or expression at this place, or without one.
     pub fn with_maybe_source_loc(self, source_loc: Option<Loc>) -> PartialValue<X>
         ensures part { part_of X.seen result ≡ part_of X.seen self }
         ensures place { part_place result ≡ source_loc }
@@ -78,7 +78,7 @@ impl<X: Drop> Clone for PartialValue<X> {
 
     ghost is_clone = { λ p copy. ((seen : X → Extension) → part_of seen copy ≡ part_of seen p) × (part_place copy ≡ part_place p) };
 
-    /// The same value or expression, whose parts are shared.
+    /// A copy of the value or expression that shares its parts.
     fn clone(&self) -> Result<PartialValue<X>, AllocError> {
         match self {
             PartialValue::Value(v) => Ok(PartialValue::Value(v.clone()?)),

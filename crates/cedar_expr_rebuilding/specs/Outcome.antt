@@ -14,7 +14,7 @@ use Rattle.cedar_expr_builders.specs.declared.err.BuildFault.TheVariants.{OutOfM
 abbrev pub with_placed : {B : Type 0} → Builder B → (Text → Option CoreType → Tree) → Builder B
 with_placed b placed = record b { of_unknown = λ n a. built b (placed n a) }
 
--- the same of a builder that refuses calls
+-- the builder that refuses these calls, and makes of an unknown what it makes of the expression in its place
 abbrev pub placing : {M R : Type 0} → Builder M → (Name → List M → Option R) → (Text → Option CoreType → Tree) → Builder (Result M R)
 placing b refuses placed = with_placed (refusing b refuses) placed
 

@@ -28,7 +28,7 @@ pub trait Rebuild {
         ensures made { IfOk result (λ r. built_or_refused B.steps B.refuses (tree self.now) ≡ Ok (B.means r)) }
         ensures refused { IfErr result (λ f. IsRefusal B.says (refusal (built_or_refused B.steps B.refuses (tree self.now))) f) };
 
-    /// The same by a builder that has no refusals. Answers want of memory.
+    /// What a builder that has no refusals makes of the expression, each part at its place, with default data.
     fn into_expr<B: ExprBuilder<BuildError = Infallible>>(
         &self,
         alloc: Global,

@@ -24,7 +24,7 @@ use Rattle.cedar_expr_substitution.specs.declared.err.SubstitutionError.TheVaria
 abbrev pub bindings_of : {X S : Type 0} → (X → Extension) → HashMap (RcStr Global) (Value X) S → Bindings
 bindings_of seen m = λ n. option_map (made seen) (get_by (λ k. bytes_eq n (rc_str_bytes k)) m)
 
--- the same of bound unknowns
+-- the bindings of bound unknowns: of each name the value that it is bound to, as it was made
 abbrev pub bound_by : {X : Type 0} → (X → Extension) → Bound X → Bindings
 bound_by seen b = bindings_of seen b.bindings.now
 

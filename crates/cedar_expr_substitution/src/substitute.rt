@@ -36,8 +36,9 @@ pub trait Substitute {
     ) -> Result<Expr, AllocError>
         ensures { IfOk result (λ e. tree_of e ≡ substituted (bindings_of X.seen bindings.now) (tree self.now)) };
 
-    /// The same where each bound unknown that is annotated is bound to a value of its annotation. Refuses the leftmost that isn't,
-    /// children in order and the fields of a record by their names, and answers want of memory.
+    /// The expression with the values of these bindings in the place of the unknowns that they bind, made anew through the constructors.
+    /// Refuses the leftmost bound unknown that is annotated and isn't bound to a value of its annotation, children in order and the fields
+    /// of a record by their names.
     fn substitute_typed<X: ExtensionCall>(
         &self,
         alloc: Global,

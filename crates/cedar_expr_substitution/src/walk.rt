@@ -114,7 +114,7 @@ fn path_expr(alloc: Global, expr: Expr, attrs: &Rc<NonEmpty<RcStr>>) -> Result<E
     Ok(Expr::new(ExprKind::ExtHasAttr { expr, attrs }, None, ()))
 }
 
-// The same of a call of this function on these arguments.
+// The call of this function on these arguments, with the values of these bindings in the place of the unknowns that they bind.
 #[cycle(walk)]
 fn put_in_call<X: ExtensionCall>(
     alloc: Global,
@@ -128,7 +128,7 @@ fn put_in_call<X: ExtensionCall>(
     Expr::call_extension_fn(alloc, fn_name.clone()?, args)
 }
 
-// The same of the set of these members.
+// The set of these members, with the values of these bindings in the place of the unknowns that they bind.
 #[cycle(walk)]
 fn put_in_set<X: ExtensionCall>(
     alloc: Global,
@@ -141,7 +141,7 @@ fn put_in_set<X: ExtensionCall>(
     Expr::set(alloc, members)
 }
 
-// The same of the record of these fields.
+// The record of these fields, with the values of these bindings in the place of the unknowns that they bind.
 #[cycle(walk)]
 fn put_in_record<X: ExtensionCall>(
     alloc: Global,
@@ -154,7 +154,7 @@ fn put_in_record<X: ExtensionCall>(
     record_expr(alloc, fields)
 }
 
-// The same of each of these.
+// Each of these expressions, with the values of these bindings in the place of the unknowns that they bind.
 #[cycle(walk)]
 fn put_in_all<X: ExtensionCall>(
     alloc: Global,
@@ -170,7 +170,7 @@ fn put_in_all<X: ExtensionCall>(
     Ok(made)
 }
 
-// The same of each of these fields, by their names.
+// The expression of each of these fields, by their names, with the values of these bindings in the place of the unknowns that they bind.
 #[cycle(walk)]
 fn put_in_fields<X: ExtensionCall>(
     alloc: Global,

@@ -49,7 +49,7 @@ two es fs ts us h k = map-append tree_of es fs ∙ (λ i. h i ++ k i)
 abbrev trees_at : {T : Type 0} → ExprKind T → List Tree
 trees_at k = kind_tree k ∷ map tree_of (below k)
 
--- the same below a node of two children
+-- The trees of a node of two children are its own, then the subexpressions of the first child, then those of the second.
 of_two : {T : Type 0} (t : Tree) (k m : ExprKind T) (l n : Option Loc) (d e : T) → trees_at k ≡ subexpressions (kind_tree k) → trees_at m ≡ subexpressions (kind_tree m) → (t ∷ map tree_of ((expr_of k l d ∷ below k) ++ (expr_of m n e ∷ below m))) ≡ t ∷ (subexpressions (kind_tree k) ++ subexpressions (kind_tree m))
 of_two t k m l n d e h j = ap (λ ts. t ∷ ts) (two (expr_of k l d ∷ below k) (expr_of m n e ∷ below m) (subexpressions (kind_tree k)) (subexpressions (kind_tree m)) h j)
 

@@ -23,7 +23,7 @@ abbrev pub RefusesRecord : {A : Type 0} → List (Text × A) → ExpressionConst
 RefusesRecord ps OutOfMemory = Unit {0}
 RefusesRecord ps (DuplicateKey e) = (repeated_name ps ≡ Some (repeated_key e)) × (repeated_context e ≡ codes "in record literal")
 
--- The same where one more name is put among others.
+-- The fault is there where a field of this name is put among fields of these names. Want of memory says nothing.
 abbrev pub RefusesField : List Text → Text → ExpressionConstructionError → Type 0
 RefusesField names a OutOfMemory = Unit {0}
 RefusesField names a (DuplicateKey e) = (list_any (bytes_eq a) names ≡ true) × (repeated_key e ≡ a) × (repeated_context e ≡ codes "in record literal")

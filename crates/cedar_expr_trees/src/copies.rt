@@ -53,7 +53,7 @@ pub fn or_of<T: Drop>(left: &Rc<Expr<T>>, right: &Rc<Expr<T>>) -> Result<ExprKin
     })
 }
 
-// The same operator of the same two parts.
+// The binary operator on these two parts, which are shared.
 pub fn binary_of<T: Drop>(
     op: BinaryOp,
     arg1: &Rc<Expr<T>>,
@@ -69,7 +69,7 @@ pub fn binary_of<T: Drop>(
     })
 }
 
-// The same attribute of the same part.
+// The attribute of this name of this part, which is shared.
 pub fn attribute_of<T: Drop>(expr: &Rc<Expr<T>>, attr: &RcStr) -> Result<ExprKind<T>, AllocError>
     ensures tree { IfOk result (λ k. kind_tree k ≡ get_attr (tree_of expr.now.value) (rc_str_bytes attr.now)) }
     ensures parts { IfOk result (λ k. below k ≡ positions expr.now.value) }
@@ -91,7 +91,7 @@ pub fn test_of<T: Drop>(expr: &Rc<Expr<T>>, attr: &RcStr) -> Result<ExprKind<T>,
     })
 }
 
-// The same part tested against the same pattern.
+// The test of this part, which is shared, against this pattern.
 pub fn like_of<T: Drop>(expr: &Rc<Expr<T>>, pattern: &Pattern) -> Result<ExprKind<T>, AllocError>
     ensures tree { IfOk result (λ k. kind_tree k ≡ like (tree_of expr.now.value) (pattern_of pattern.now)) }
     ensures parts { IfOk result (λ k. below k ≡ positions expr.now.value) }
@@ -102,7 +102,7 @@ pub fn like_of<T: Drop>(expr: &Rc<Expr<T>>, pattern: &Pattern) -> Result<ExprKin
     })
 }
 
-// The same part tested against the same entity type.
+// The test of this part, which is shared, for this entity type.
 pub fn is_of<T: Drop>(
     expr: &Rc<Expr<T>>,
     entity_type: &EntityType,

@@ -40,7 +40,7 @@ impl DuplicateKeyError {
         self.context
     }
 
-    /// The same refusal in another context.
+    /// The refusal of the key that stands twice, with this context in the place of its own.
     pub fn with_context(self, context: &'static str) -> DuplicateKeyError
         ensures key { repeated_key result ≡ repeated_key self }
         ensures context { repeated_context result ≡ context.now }

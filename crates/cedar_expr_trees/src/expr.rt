@@ -278,7 +278,7 @@ impl<T: Drop> Expr<T> {
         (expr_kind, source_loc, data)
     }
 
-    /// The same expression at another place, or without one.
+    /// The expression with its kind and its data, at this place, or without one.
     pub fn with_maybe_source_loc(self, source_loc: Option<Loc>) -> Expr<T>
         ensures kind { kind_of result ≡ kind_of self }
         ensures tree { tree_of result ≡ tree_of self }
@@ -310,7 +310,7 @@ impl<T: Drop> Clone for ExprKind<T> {
 
     ghost is_clone = { λ k copy. (kind_tree copy ≡ kind_tree k) × (below copy ≡ below k) };
 
-    /// The same kind over the same parts, which are shared.
+    /// A copy of the kind that shares its parts.
     fn clone(&self) -> Result<ExprKind<T>, AllocError> {
         match self {
             ExprKind::Lit(literal) => Ok(ExprKind::Lit(literal.clone()?)),
@@ -355,7 +355,7 @@ impl<T: Clone + Drop> Clone for Expr<T> {
 
     ghost is_clone = { λ e copy. (tree_of copy ≡ tree_of e) × (place_of copy ≡ place_of e) × T.is_clone (data_of e) (data_of copy) × (below (kind_of copy) ≡ below (kind_of e)) };
 
-    /// The same expression over the same parts, which are shared, with a copy of its data.
+    /// A copy of the expression that shares its parts, with a copy of its data.
     fn clone(&self) -> Result<Expr<T>, AllocError> {
         let data = self.data.clone()?;
         let expr_kind = self.expr_kind.clone()?;

@@ -77,7 +77,7 @@ module _ {X : Type 0} (seen : X → Extension) where
       ap (λ qs. made_record (made_fields qs))
       (sym (by_text_made es) ∙ ap (map (under (made seen))) e ∙ sym (in_order_under (made seen) (map by_text ps)) ∙ ap in_order (by_text_made ps))
 
-  -- the same without the calls
+  -- The record that a list of pairs makes, without the calls that make extension values, is that of the pairs without them.
   pub recorded_bare : (ps : List (RcStr Global × Value X)) → model.bare (record_as_made (map (made_pair seen) ps)) ≡ record_made (map (bare_pair seen) ps)
   recorded_bare ps =
       ap record_of (bare_made_fields (in_order (map (made_pair seen) ps)))

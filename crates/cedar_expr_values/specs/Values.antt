@@ -66,7 +66,7 @@ made_kind {X} seen = fold-ValueKind X Made Mades Made (kind_step seen) set_step 
 abbrev pub mades : {X : Type 0} → (X → Extension) → Set X → Mades
 mades {X} seen = fold-Set X Made Mades Made (kind_step seen) set_step value_step
 
--- The same without the calls that make extension values.
+-- A value, a kind and a set without the calls that make extension values.
 abbrev pub bare : {X : Type 0} → (X → Extension) → Value X → V
 bare seen v = model.bare (made seen v)
 

@@ -177,7 +177,7 @@ impl<X: Drop> Clone for RepresentableExtensionValue<X> {
 
     ghost is_clone = { λ x copy. (seen : X → Extension) → with_call seen copy ≡ with_call seen x };
 
-    /// The same value, which is shared, with a copy of the call.
+    /// A copy that shares the value, with a copy of the call.
     fn clone(&self) -> Result<RepresentableExtensionValue<X>, AllocError> {
         Ok(RepresentableExtensionValue {
             value: self.value.clone()?,

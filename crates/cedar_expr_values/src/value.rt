@@ -161,7 +161,7 @@ impl<X: Drop> Clone for Set<X> {
 
     ghost is_clone = { λ s copy. (seen : X → Extension) → mades seen copy ≡ mades seen s };
 
-    /// The same set, whose members are shared.
+    /// A copy of the set that shares its members.
     fn clone(&self) -> Result<Set<X>, AllocError> {
         Ok(Set {
             members: self.members.clone()?,
@@ -326,7 +326,7 @@ impl<X: ExtensionValue> Value<X> {
         Value { kind, loc }
     }
 
-    /// The same value at this place.
+    /// The value at this place, or without one.
     pub fn with_maybe_source_loc(self, loc: Option<Loc>) -> Value<X>
         ensures value { made X.seen result ≡ made X.seen self }
         ensures place { place_of result ≡ loc }
@@ -405,7 +405,7 @@ impl<X: Drop> Clone for ValueKind<X> {
 
     ghost is_clone = { λ k copy. (seen : X → Extension) → made_kind seen copy ≡ made_kind seen k };
 
-    /// The same kind, whose parts are shared.
+    /// A copy of the kind that shares its parts.
     fn clone(&self) -> Result<ValueKind<X>, AllocError> {
         match self {
             ValueKind::Lit(literal) => Ok(ValueKind::Lit(literal.clone()?)),
@@ -423,7 +423,7 @@ impl<X: Drop> Clone for Value<X> {
 
     ghost is_clone = { λ v copy. ((seen : X → Extension) → made seen copy ≡ made seen v) × (place_of copy ≡ place_of v) };
 
-    /// The same value, whose parts are shared.
+    /// A copy of the value that shares its parts.
     fn clone(&self) -> Result<Value<X>, AllocError> {
         Ok(Value {
             kind: self.kind.clone()?,

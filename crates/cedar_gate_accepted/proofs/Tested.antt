@@ -23,6 +23,6 @@ kept_by_tests s k h = record { tested = λ n. n h }
 pub tested_alike : (s : Schema) (k : Kept) → IsKeptByTests s k → (b c : Bool) → (IsKeptOf s k → b ≡ c) → b ≡ c
 tested_alike s k h b c law = settled b c (λ n. h.tested (λ w. n (law w)))
 
--- the same actions are declared
+-- What is kept declares the actions that the declarations declare.
 pub actions_alike : DeclaredAnswerAlike → (d : Declarations) (k : Kept) → IsKeptByTests (schema_of d) k → (u : Uid) → declares_action (schema_seen k) u ≡ declares_action (schema_of d) u
 actions_alike law d k h u = tested_alike (schema_of d) k h (declares_action (schema_seen k) u) (declares_action (schema_of d) u) (λ w. sym ((law d k w).actions u))

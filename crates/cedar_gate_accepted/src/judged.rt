@@ -57,7 +57,8 @@ fn judge_by<S: SchemaEnvironments>(
     judged(checked)
 }
 
-// The same by a built schema and a table.
+// Checks by a built schema and a table that each of these policies passes, and then that none reaches further than the level. Answers the
+// ids to warn of.
 pub(crate) fn judge(
     alloc: Global,
     schema: &ValidatorSchema,

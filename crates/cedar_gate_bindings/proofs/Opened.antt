@@ -80,7 +80,7 @@ module _ (r : PartialRequest) (values : Text → Option Made) where
       let p = both_hold (not (is_some (values n))) (is_open_entry (entry_named r n) || is_open_context r.context n) h.1 in
       never (sym e ∙ ⊎_elim (λ k. hold_left Variables _ (entry_open n p.0 k)) (λ k. hold_right Variables _ (context_seen n r.context p.0 k)) (either_true (is_open_entry (entry_named r n)) (is_open_context r.context n) p.1))
 
-  -- the same of what a call answers
+  -- A call that answers whether anything is open by these values says so of the request.
   pub open_where : {E : Type 0} (q : Result Bool E) → IfOk q (λ b. b ≡ has_open_by r values) → IfOk q (λ b. b ≡ true → HasOpenBy r values)
   open_where (Ok b) h = λ e. open_there (sym h ∙ e)
   open_where (Err x) h = tt

@@ -35,7 +35,8 @@ IsOpenFault r opening.OutOfMemory = Unit {0}
 IsOpenFault r opening.QuoteInName = session.OpenFault r session.quote_in_name
 IsOpenFault r opening.NameOfVariable = session.OpenFault r session.name_of_variable
 
--- the same of the unknowns of a context
+-- That no unknown of a context has a quote in its name, or the name of a variable; and that this fault of opening is there among its
+-- unknowns.
 pub record HaveFitNames (us : List Unknown) : Type 0 where
   pub quotes : (u : Unknown) → Contains us u → Contains u.name 34 → ⊥
   pub variables : (u : Unknown) → Contains us u → Contains session.variable_names u.name → ⊥
@@ -53,7 +54,7 @@ IsValueFault r n m binding.AgainstAnnotation = IsAgainst r n m
 IsValueFault r n m binding.NoEntityOrRecord = IsOfWrongForm r n m
 IsValueFault r n m binding.ContextFails = ⊥
 
--- the same of the entry of a variable, and of the unknowns of a context
+-- The fault of a value is there for the entry of a variable, and for the unknowns of a context. Want of memory says nothing.
 abbrev pub IsEntryFault : Option Entry → Made → BindFault → Type 0
 IsEntryFault e m binding.OutOfMemory = Unit {0}
 IsEntryFault e m binding.NotOpen = ⊥

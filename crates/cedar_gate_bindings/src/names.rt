@@ -144,7 +144,7 @@ fn check_fields(alloc: Global, fields: &RestrictedFields) -> Result<(), OpenFaul
     Ok(())
 }
 
-// The same of a context. Errors: a fault that is there.
+// Whether the names of the unknowns of a context, if it is there, are fit. Errors: a fault that is there.
 fn check_context(alloc: Global, context: Option<&Context>) -> Result<(), OpenFault>
     ensures fit { OnOk result (HaveFitNames (context_unknowns (context_or_unknown (option_map (λ c. c.now) context.entry)))) }
     ensures refused { IfErr result (IsNameFault (context_unknowns (context_or_unknown (option_map (λ c. c.now) context.entry)))) }

@@ -109,7 +109,7 @@ fn check_entry(entry: &EntityUIDEntry, value: &V) -> Result<(), BindFault>
     }
 }
 
-// The same where there is an entry. Errors: a fault that is there.
+// Whether the value may stand for the entry, if there is one. Errors: a fault that is there.
 fn check_variable(entry: Option<&EntityUIDEntry>, value: &V) -> Result<(), BindFault>
     ensures kind { OnOk result (IsOtherKind (option_map (λ e. entry_of e.now) entry.entry) (made extension_of value.now) → ⊥) }
     ensures entity { OnOk result (IsNoEntity (option_map (λ e. entry_of e.now) entry.entry) (made extension_of value.now) → ⊥) }

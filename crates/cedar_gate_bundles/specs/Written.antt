@@ -42,7 +42,7 @@ entity_read_made x d =
 abbrev pub entity_pair_made : Entity → Uid × world.Entity Made
 entity_pair_made e = (entity_uid e, entity_seen e)
 
--- the same without the calls
+-- an entity with its uid, without the calls that make extension values
 abbrev pub bare_entity_pair : Uid × world.Entity Made → Uid × world.Entity V
 bare_entity_pair e = (e.0, bare_entity e.1)
 

@@ -33,7 +33,7 @@ pub fn check_entity(schema: &ValidatorSchema, entity: &Entity) -> Result<(), Con
     check_kept(schema, entity)
 }
 
-// The same by what is kept.
+// Checks whether the entity conforms to what the schema keeps. Errors: the first of its faults.
 fn check_kept(schema: &ValidatorSchema, entity: &Entity) -> Result<(), ConformFault>
     ensures none { OnOk result (first_fault (kept_entity_fault (schema_kept schema.now) (entity_uid entity.now) (entity_of entity.now)) ≡ None) }
     ensures first { IfErr result (IsFirst (kept_entity_fault (schema_kept schema.now) (entity_uid entity.now) (entity_of entity.now))) }
@@ -44,7 +44,7 @@ fn check_kept(schema: &ValidatorSchema, entity: &Entity) -> Result<(), ConformFa
     }
 }
 
-// The same of the entity of an action.
+// Checks whether the entity of a declared action conforms. Errors: the first of its faults.
 fn check_action(schema: &ValidatorSchema, entity: &Entity) -> Result<(), ConformFault>
     ensures none { OnOk result (first_fault (kept_fault_at (schema_kept schema.now) (entity_uid entity.now) (entity_of entity.now) among_actions) ≡ None) }
     ensures first { IfErr result (IsFirst (kept_fault_at (schema_kept schema.now) (entity_uid entity.now) (entity_of entity.now) among_actions)) }
@@ -82,7 +82,7 @@ ghost use Rattle.std.specs.Option.{option_map_or};
 ghost use Rattle.cedar_schema_kept_model.specs.Kept.{kept_type};
 ghost use Rattle.cedar_schema_model.specs.Whole.Conforming.{nowhere};
 
-// The same of an entity that is no action's.
+// Checks whether an entity that is no action's conforms to what the schema keeps of its type. Errors: the first of its faults.
 fn check_typed(schema: &ValidatorSchema, entity: &Entity) -> Result<(), ConformFault>
     ensures none { OnOk result (first_fault (kept_fault_at (schema_kept schema.now) (entity_uid entity.now) (entity_of entity.now) (option_map_or (λ t. of_kind t.kind) (kept_type (schema_kept schema.now) (entity_uid entity.now).kind) nowhere)) ≡ None) }
     ensures first { IfErr result (IsFirst (kept_fault_at (schema_kept schema.now) (entity_uid entity.now) (entity_of entity.now) (option_map_or (λ t. of_kind t.kind) (kept_type (schema_kept schema.now) (entity_uid entity.now).kind) nowhere))) }
@@ -93,7 +93,7 @@ fn check_typed(schema: &ValidatorSchema, entity: &Entity) -> Result<(), ConformF
     }
 }
 
-// The same of an entity of this type.
+// Checks whether the entity conforms to this type that the schema keeps. Errors: the first of its faults.
 fn check_of_type(
     schema: &ValidatorSchema,
     ty: &ValidatorEntityType,

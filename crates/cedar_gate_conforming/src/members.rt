@@ -62,7 +62,7 @@ ghost use Rattle.std.specs.Option.{option_map_or};
 ghost use Rattle.cedar_schema_kept_model.specs.Kept.{kept_type};
 ghost use Rattle.cedar_schema_model.specs.Whole.Conforming.{nowhere};
 
-// The same where the uid is no action's.
+// Whether the uid, which is no action's, is of a type that is enumerated by the schema, and its entity is no member.
 fn is_no_typed_member(schema: &ValidatorSchema, uid: &EntityUID) -> bool
     ensures { result ≡ is_no_member (option_map_or (λ t. of_kind t.kind) (kept_type (schema_kept schema.now) (uid_of uid.now).kind) nowhere) (uid_of uid.now).id }
 {

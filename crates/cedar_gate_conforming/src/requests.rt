@@ -37,7 +37,7 @@ pub fn check_request(schema: &ValidatorSchema, request: &Request) -> Result<(), 
     check_kept(schema, request)
 }
 
-// The same by what is kept.
+// Checks whether the request conforms to what the schema keeps. Errors: the first of its faults.
 fn check_kept(schema: &ValidatorSchema, request: &Request) -> Result<(), ConformFault>
     ensures none { OnOk result (first_fault (kept_request_fault (schema_kept schema.now) (request_seen request.now)) ≡ None) }
     ensures first { IfErr result (IsFirst (kept_request_fault (schema_kept schema.now) (request_seen request.now))) }

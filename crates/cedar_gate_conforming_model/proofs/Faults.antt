@@ -22,7 +22,7 @@ use Rattle.cedar_gate_conforming_model.specs.Asked.{kept_place, is_nowhere, lack
 use Rattle.cedar_gate_conforming_model.proofs.Looked.{any_alike, none_there}
 use Rattle.cedar_gate_conforming_model.proofs.Descent.{type_below_alike, ancestor_alike, lacking_alike, ancestors_alike}
 
--- the same place, but for the order of members
+-- Two places are equal, but for the order of the members of an enumeration.
 abbrev SamePlace : Place → Place → Type 0
 SamePlace among_actions q = q ≡ among_actions
 SamePlace nowhere q = q ≡ nowhere

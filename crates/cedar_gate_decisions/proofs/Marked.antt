@@ -148,7 +148,7 @@ must_case tp [] [] i e v p f = p ∙ and_swap (has_effect Permit e) (is_satisfie
 must_case tp [] (r ∷ rf) i e v p f = sym (and_none (is_satisfied v))
 must_case tp (t ∷ tf) rf i e v p f = f ∙ and_swap (has_effect Forbid e) (is_satisfied v)
 
--- the same of those that may
+-- Where no forbid is satisfied, a satisfied permit may determine, and so may any policy that is open.
 may_open : (e : model.Effect) (v : Verdict) → ((has_effect Permit e && is_satisfied v) || ((has_effect Permit e && is_open v) || (has_effect Forbid e && is_open v))) ≡ may_by false e v
 may_open permit Satisfied = refl
 may_open permit Open = refl

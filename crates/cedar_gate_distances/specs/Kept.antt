@@ -8,7 +8,8 @@ pub record IsKept {K : Type 0} (roots : List K) (m : K → List K) (n : ℕ) (f 
   pub near : (k : ℕ) (u : K) → k ≤ n → IsNear roots m k u ↔ IsBelow f k u
   pub below : (u : K) (d : ℕ) → f u ≡ Some d → d < n
 
--- The same but for keys that are yet to be followed: those in P.
+-- What is kept below n while the keys in P are yet to be followed: each key at no less than its distance, all roots, and what any key
+-- outside P leads to.
 pub record IsSettling {K : Type 0} (roots : List K) (m : K → List K) (n : ℕ) (f : K → Option ℕ) (P : K → Type 0) : Type 0 where
   pub below : (u : K) (d : ℕ) → f u ≡ Some d → d < n
   pub sound : (u : K) (d : ℕ) → f u ≡ Some d → IsNear roots m (suc d) u

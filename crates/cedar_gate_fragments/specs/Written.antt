@@ -97,7 +97,7 @@ definition_seen n = record {
 abbrev pub space_seen : Option InternalName → Namespace
 space_seen n = namespace_parts (option_map name_of n)
 
--- the same in a namespace
+-- a common type, an entity type and an action as they are declared in a namespace
 abbrev pub common_at : Namespace → Text × TypeExpr → CommonDeclaration
 common_at ns c = record { namespace = ns; word = c.0; definition = c.1 }
 

@@ -88,8 +88,8 @@ pub fn pruned_answers_are_alike()
 /// The premises of these laws are met by each bundle that is read and accepted, where the functions are fair. They are met here: a
 /// policy at level 2 over a store of three entities and one that doesn't conform, in two rounds. The world at its end completes its start,
 /// where something is wanted that isn't asked for yet; evaluating the policy over what is known there decides nothing.
-/// The same where the principal is bound late: the owner of the document was met at distance 1; once the owner is the principal its
-/// boss is near, and is asked for in one round more.
+/// They are met by a course too in which the principal is bound late: the owner of the document was met at distance 1; once the owner is
+/// the principal its boss is near, and is asked for in one round more.
 pub fn worked_courses()
     ensures bundles { BundlesAreProper }
     ensures proper { IsProper loaded_course }

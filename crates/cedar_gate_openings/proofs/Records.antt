@@ -97,7 +97,7 @@ left_as_context c l e = as_unwrapped c ∙ ap (λ (o : Option Context). unwrap_o
     as_unwrapped None = refl
     as_unwrapped (Some k) = refl
 
--- the same of what a call answers
+-- What a call answers, if it is a restricted expression with values put into it, is restricted, and is a record where that is one.
 pub all_restricted : {E : Type 0} (values : Bindings) (t : Tree) (q : Result (Expr Unit) E) → is_restricted t ≡ true → IfOk q (λ e. tree_of e ≡ substituted values t) → IfOk q (λ e. is_restricted (tree_of e) ≡ true)
 all_restricted values t (Ok e) r h = restricted_with values t (tree_of e) r h
 all_restricted values t (Err x) r h = tt

@@ -82,7 +82,7 @@ pub request_made : (f : Functions) (values : Bindings) (r q : PartialRequest) (p
     → q ≡ request_by f values r
 request_made f values r q p a o c e ep ea eo ec = e ∙ (λ i. record { principal = ep i; action = ea i; resource = eo i; context = ec i })
 
--- the same of what a call answers
+-- What a call answers of a request, and of whether its context fails, by values, holds at each state that has these values.
 module _ {E : Type 0} (f : Functions) (values : Bindings) (r : PartialRequest) (q : Result (Request × Bool) E) where
   pub at_states : IfOk q (λ p. request_of p.0 ≡ request_by f values r) → IfOk q (λ p. (s : State) → AreValuesOf s values → request_of p.0 ≡ request_at f s r)
   at_states h = ok_maps q (λ p e. request_is f values r (request_of p.0) e) h

@@ -65,7 +65,7 @@ labelled ms = option_map_or (λ n. makes (label_made n)) (number_kept ms) (fault
 abbrev pub rank_calls : Name → List Made → MadeCalled
 rank_calls f ms = if name_eq f rank_name then ranked ms else labelled ms
 
--- the same of values alone
+-- what the functions answer for values without the calls that made them
 abbrev pub bare_number_read : List V → Option ℕ
 bare_number_read (prim (text t) ∷ []) = rank_read t
 bare_number_read vs = None

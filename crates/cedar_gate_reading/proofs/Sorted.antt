@@ -23,7 +23,7 @@ below_middle : (first : Entry) (es : List Entry) (e : Entry) (more : List Entry)
 below_middle first [] e more h = h.0
 below_middle first (x ∷ es) e more h = below_middle first es e more h.1
 
--- the same names
+-- The entries are of the names of those that are done, in order.
 abbrev pub SameNames : {K V : Type 0} → (K → Text) → List (K × V) → List Entry → Type 0
 SameNames key es done = map (λ e. key e.0) es ≡ map (λ e. string_bytes e.0) done
 

@@ -37,7 +37,7 @@ pub text_updates : {X S : Type 0} (bs : List ℕ) (m n : HashMap (RcStr Global) 
 text_updates bs m n w h = by_bytes (λ cs. get_by (λ k. bytes_eq cs (rc_str_bytes k)) m) (λ cs. get_by (λ k. bytes_eq cs (rc_str_bytes k)) n) bs w h.1
     (λ cs e. other_entries key_eq (λ k. bytes_eq bs (rc_str_bytes k)) m.entries n.entries h.3 (λ k. bytes_eq cs (rc_str_bytes k)) (λ x y q. ap (λ z. bytes_eq z (rc_str_bytes y)) ((bytes_eq-Decides cs (rc_str_bytes x)).0 q)) (λ k. apart bs cs (rc_str_bytes k) e))
 
--- the same of what the values are
+-- A function is applied to a choice of two by being applied to both.
 pub map_cond : {A B : Type 0} (f : A → B) (b : Bool) (o p : Option A) → option_map f (cond b o p) ≡ cond b (option_map f o) (option_map f p)
 map_cond f true o p = refl
 map_cond f false o p = refl

@@ -13,7 +13,7 @@ use Rattle.cedar_schema_model.specs.Whole.Schema.{Schema, declares_action}
 use Rattle.cedar_gate_model.specs.Whole.Session.{Setup, State}
 use Rattle.cedar_gate_model.specs.Whole.Slice.{mentioned_by_found}
 
--- the same entity, with ancestors in any order
+-- Two entities have the same attributes and tags, and the same ancestors in any order.
 pub record IsSame (d e : Entity V) : Type 0 where
   pub attributes : d.attributes ≡ e.attributes
   pub tags : d.tags ≡ e.tags

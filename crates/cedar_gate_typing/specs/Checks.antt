@@ -43,7 +43,7 @@ kind_asked k = record { principal = type_name_of k.principal; action = uid_of k.
 abbrev pub is_excused : Schema → Table → Policy → Environment → Bool
 is_excused s x p e = not (fits p e) || is_false (condition_type s x p e)
 
--- the same of those of a request's types
+-- the environment doesn't fit, or isn't of the request's types, or gives False
 abbrev pub is_excused_for : RequestType → Schema → Table → Policy → Environment → Bool
 is_excused_for r s x p e = not (fits p e && is_of_request r e) || is_false (condition_type s x p e)
 

@@ -15,7 +15,7 @@ use Rattle.cedar_gate_wanted.proofs.Taking.{keys_are}
 abbrev Row : Type 0
 Row = Vec EntityUID Global
 
--- the same uid, or another
+-- Two uids are equal, or they aren't.
 same_or_other : (u v : Uid) → (u ≡ v) ⊎ (u ≡ v → ⊥)
 same_or_other u v = go (uid_eq u v) refl
   where

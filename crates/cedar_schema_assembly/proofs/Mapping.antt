@@ -8,7 +8,7 @@ use Rattle.cedar_schema_assembly.proofs.Putting.{next_of}
 pub one_mapped : {A B S : Type 0} (f : A → S) (g : B → S) (xs : List A) (i : ℕ) (x : A) (ys zs : List B) (y : B) → i < length xs → x ≡ get_or xs i x → map g ys ≡ map f (take i xs) → zs ≡ ys ++ y ∷ [] → g y ≡ f x → map g zs ≡ map f (take (i + 1) xs)
 one_mapped f g xs i x ys zs y l is h push e = ap (map g) push ∙ map-append g ys (y ∷ []) ∙ (λ j. h j ++ e j ∷ []) ∙ sym (next_of f xs i x l is)
 
--- the same through two steps
+-- Where items are made in two steps, the items so far are what the first few tell, and one more.
 pub twice_mapped : {A B S X : Type 0} (f : A → B) (h : B → S) (g : X → S) (xs : List A) (i : ℕ) (x : A) (ys zs : List X) (y : X) → i < length xs → x ≡ get_or xs i x → map g ys ≡ map h (map f (take i xs)) → zs ≡ ys ++ y ∷ [] → g y ≡ h (f x)
     → map g zs ≡ map h (map f (take (i + 1) xs))
 twice_mapped f h g xs i x ys zs y l is k push e =

@@ -35,7 +35,7 @@ fn entity_types_of(
     Ok(types)
 }
 
-/// The same as a set.
+/// The set of the entity types of these names. Refuses a reserved one.
 pub fn set_of_types(
     alloc: Global,
     names: &BTreeSet<InternalName>,

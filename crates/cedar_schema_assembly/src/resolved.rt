@@ -19,7 +19,7 @@ use cedar_schema_resolver::{ResolveError, TypeResolver};
 use cedar_schema_types::{Attributes, Type};
 use std::alloc::Global;
 
-// The same error of a written type. The common types are resolved already, so it is none of theirs.
+// The error of assembly that says what this error of a written type says. The common types are resolved already, so it is none of theirs.
 fn of_type(error: ResolveError) -> AssemblyError
     requires { IsOfType error }
     ensures { SaysSame error result }

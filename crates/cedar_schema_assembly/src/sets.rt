@@ -24,7 +24,7 @@ pub trait Part: Ord + Drop {
 
     ghost seen: { Self → Seen };
 
-    /// The same part. Answers want of memory.
+    /// A copy of the part.
     fn copy(&self) -> Result<Self, AllocError>
         ensures { IfOk result (λ c. seen c ≡ seen self.now) };
 

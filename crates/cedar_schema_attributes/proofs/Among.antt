@@ -123,7 +123,7 @@ pub members_some : (ks : List CodeType) → is_nil ks ≡ false → is_nil (map 
 members_some [] h = h
 members_some (k ∷ ks) h = refl
 
--- the same attributes, and none
+-- A record type declares its attributes and no others, and a type in which no attribute is found declares none.
 pub declared_of_record : (s : Schema) (as_ bs : Attributes) (o : Openness) → bs ≡ as_ → AreDeclared s (record_type as_ o) bs
 declared_of_record s as_ bs o e = record { each = λ a. ap (attribute_named a) e }
 

@@ -81,7 +81,7 @@ pub fn built(alloc: Global, shape: Shape, size: u32) -> Result<ValidatorSchema, 
     schema_of(alloc, fragment(alloc, lines.as_str())?)
 }
 
-/// The same, after it was asked whether it is what it has to be.
+/// The schema of declarations of this shape and size, after it was asked whether it is what it has to be.
 pub fn checked(alloc: Global, shape: Shape, size: u32) -> Result<ValidatorSchema, Fault> {
     let schema = built(alloc, shape, size)?;
     Ok(schema.try_validate(alloc, &Extensions::none(alloc))?)

@@ -1,4 +1,4 @@
--- The same extension types make the same faults.
+-- Declarations have the same faults by any list of the same extension types.
 use Rattle.std.proofs.Common.{◌≡◌, Bool, true, false, List, [], ◌∷◌, map, refl, sym, ◌∙◌, subst}
 use Rattle.std.proofs.lemmas.Bool.{true≢false}
 use Rattle.std.specs.Bool.{Decides}

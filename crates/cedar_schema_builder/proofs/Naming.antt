@@ -68,7 +68,7 @@ module _ (fs : List (ValidatorSchemaFragment ConditionalName ConditionalName)) w
   pub typed_named : ActionTypesAreThere → (n : InternalName) → find is_action_word (entities_named fs) ≡ Some (name_of n) → NamesFaultIn fs (schema.ActionEntityTypeDeclared n)
   typed_named there n h = record { each = λ x d w. there fs d w (name_of n) h }
 
-  -- the same of any fragments
+  -- Names of fragments that pass the checks are formed, and an error of the checks tells a fault of the names.
   pub names_formed : (u : Unit {0}) → reserved_checked fs ≡ Ok u → find is_action_word (entities_named fs) ≡ None → AreNamesFormed fs
   names_formed u h k = record { none_reserved = nothing_found (find is_reserved (names_in fs)) u h; no_action_type = k }
 

@@ -61,7 +61,7 @@ module _ (names : NamesMeanReferences) (refused : RefusedWhereUndeclared) (s : D
   pub action_written : (p : Uid × ActionForm Name (Name × Text)) → Contains as_ p → (a : ActionDeclaration) × Contains d.actions a × ActionStands s d a p
   action_written p h = let r = in_whose_place (IsActionWrittenAs s) d.actions as_ w.actions p h in (r.0, r.1, action_of_writer r.0 p r.2)
 
-  -- the same names
+  -- What is written has the names of the declared common types and entity types, and the uids of the declared actions.
   pub same_commons : names_of cs ≡ common_names d
   same_commons = seen_same (IsWrittenAs s) common_name (λ p. p.0) (λ c p k. k.name) d.commons cs (placed s d.commons cs w.commons.commons)
 

@@ -10,13 +10,13 @@ use Rattle.cedar_schema_model.specs.Whole.WellFormed.{IsWellFormed}
 use Rattle.cedar_schema_kept_model.specs.Kept.{KeptType, KeptAction, Kept}
 use Rattle.cedar_schema_kept_model.specs.KeptOf.{IsSameKind, IsKeptOf}
 
--- The same entity type, with the same that descend from it, in any order.
+-- Two kept entity types have the same name and kind, and the same that descend from them, in any order.
 pub record AreSameTypes (t u : KeptType) : Type 0 where
   pub name : t.name ≡ u.name
   pub kind : IsSameKind t.kind u.kind
   pub below : (n : Name) → Contains t.descendants n ↔ Contains u.descendants n
 
--- The same action, with the same that descend from it, in any order.
+-- Two kept actions have the same uid, apply to the same, and have the same that descend from them, in any order.
 pub record AreSameActions (a b : KeptAction) : Type 0 where
   pub uid : a.uid ≡ b.uid
   pub principals : (n : Name) → Contains a.applied.principals n ↔ Contains b.applied.principals n
@@ -30,7 +30,7 @@ pub record IsWithin (k l : Kept) : Type 0 where
   pub types : (t : KeptType) → Contains k.types t → (u : KeptType) × Contains l.types u × AreSameTypes t u
   pub actions : (a : KeptAction) → Contains k.actions a → (b : KeptAction) × Contains l.actions b × AreSameActions a b
 
--- The same is kept, in any order.
+-- Two schemas keep the same entity types and actions, in any order.
 abbrev pub AreAlike : Kept → Kept → Type 0
 AreAlike k l = IsWithin k l × IsWithin l k
 

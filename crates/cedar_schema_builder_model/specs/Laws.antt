@@ -46,7 +46,7 @@ abbrev pub ResolvedFragmentsAreWritten : Type 0
 ResolvedFragmentsAreWritten = (fs : List (ValidatorSchemaFragment ConditionalName ConditionalName)) (d : Declarations) → AreWritten fs d → (s : Defined) → HasAll fs s
     → (ns : List (NamespaceForm Name (Name × Text))) → each (namespace_resolved s) (all_forms fs) ≡ Ok ns → WritesAll s d (commons_of ns) (entities_of ns) (actions_of ns)
 
--- The same where each fragment is resolved by itself.
+-- What comes of fragments that are resolved each by itself writes the declarations that they write.
 abbrev pub ResolvedOneByOneAreWritten : Type 0
 ResolvedOneByOneAreWritten = (fs : List (ValidatorSchemaFragment ConditionalName ConditionalName)) (d : Declarations) → AreWritten fs d → (s : Defined) → HasAll fs s
     → (gs : List (ValidatorSchemaFragment InternalName EntityType)) → each (each (namespace_resolved s)) (map (fragment_form conditional_of conditional_of) fs) ≡ Ok (map (fragment_form name_of type_name_of) gs)

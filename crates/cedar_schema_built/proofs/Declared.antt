@@ -240,7 +240,7 @@ module _ (fs : List Fragment) (d : Declarations) (w : AreWritten fs d) (l : List
       let r = names_put (λ (c : ListedCommon). c.name) (commons_of_fragments fs) (common_formed fs) (common_names d) names_are n in
       (λ h. r.0 (subst (λ cs. Contains (map (λ c. c.name) cs) n) is.commons h), λ h. subst (λ cs. Contains (map (λ c. c.name) cs) n) (sym is.commons) (r.1 h))
 
--- the same declarations in another order have the same namespaces
+-- Declarations in another order have the same namespaces.
 moved : {X Y : Type 0} (f : X → Y) (xs ys : List X) → IsPermutation xs ys → (y : Y) → Contains (map f xs) y → Contains (map f ys) y
 moved f xs ys m y h = Contains-permutation (map f xs) (map f ys) y (IsPermutation-map f xs ys m) h
 

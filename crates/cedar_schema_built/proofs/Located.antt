@@ -1,4 +1,4 @@
--- The same of common types and of namespaces by their names.
+-- What is put under its own name among the entries of a map of common types, or of namespaces.
 use Rattle.std.proofs.Common.{◌≡◌, ◌++◌, [], ◌∷◌, List, map, sym, ap, ◌∙◌}
 use Rattle.std.proofs.lemmas.Map.Text.{is_eq-slice_cmp}
 use Rattle.std.specs.BTreeMap.{insert_entry}

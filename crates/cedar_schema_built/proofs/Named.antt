@@ -1,4 +1,4 @@
--- The same of entity types by their names, and of actions by their uids.
+-- What is put under its own name among entity types, or under its own uid among actions, and what is found there.
 use Rattle.std.proofs.Common.{◌≡◌, ◌++◌, [], ◌∷◌, List, Option, map, option_map, sym, ap, ◌∙◌}
 use Rattle.std.proofs.lemmas.Map.Text.{is_eq-slice_cmp}
 use Rattle.std.specs.Borrow.{Bor}

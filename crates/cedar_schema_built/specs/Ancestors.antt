@@ -30,7 +30,8 @@ TypeIsAddedBelow = IsAddedBelow name_eq (λ (t : KeptType). t.name) (λ t. t.des
 abbrev pub TypesAreAbove : List KeptType → (EntityType → Option (Vec EntityType Global)) → Type 0
 TypesAreAbove = AreAbove name_eq (λ (t : KeptType). t.name) (λ t. t.descendants) type_name_of
 
--- the same of actions by their uids
+-- under the uid of each of those that descend from the action it is one more, and under each uid are those of the actions that it descends
+-- from
 abbrev pub ActionIsAddedBelow : KeptAction → (EntityUID → Option (Vec EntityUID Global)) → (EntityUID → Option (Vec EntityUID Global)) → Type 0
 ActionIsAddedBelow = IsAddedBelow uid_eq (λ (a : KeptAction). a.uid) (λ a. a.descendants) uid_of
 

@@ -59,7 +59,7 @@ pub record HasNamesOf (d : Declarations) (l : Listed) : Type 0 where
 abbrev pub ListedAreDeclared : Type 0
 ListedAreDeclared = (fs : List (ValidatorSchemaFragment ConditionalName ConditionalName)) (d : Declarations) → AreWritten fs d → (l : Listed) → AreListed fs l → HasNamesOf d l
 
--- The same declarations in another order, or split among other fragments, list the same names in the same order.
+-- Declarations in another order, or split among other fragments, list the same names in the same order.
 pub record HaveSameNames (l m : Listed) : Type 0 where
   pub commons : map (λ c. c.name) l.commons ≡ map (λ c. c.name) m.commons
   pub spaces : map (λ n. n.name) l.spaces ≡ map (λ n. n.name) m.spaces

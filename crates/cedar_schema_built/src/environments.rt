@@ -40,7 +40,7 @@ fn add_environments(
     Ok(())
 }
 
-// The same for one of its types of principals.
+// Puts the environments of the action with principals of this type behind those that were found.
 fn add_kinds(
     found: &mut Vec<RequestType>,
     action: &ValidatorActionId,
@@ -54,7 +54,7 @@ fn add_kinds(
     Ok(())
 }
 
-// The same for one of its types of resources.
+// Puts the environment of the action with a principal and a resource of these types behind those that were found.
 fn add_kind(
     found: &mut Vec<RequestType>,
     action: &EntityUID,

@@ -39,7 +39,7 @@ pub fn listed_are_declared()
     ensures { ListedAreDeclared }
 {}
 
-/// The same declarations in another order, or split among other fragments, list the same names in the same order.
+/// Declarations in another order, or split among other fragments, list the same names in the same order.
 pub fn order_of_listed_is_free()
     ensures { OrderOfListedIsFree }
 {}

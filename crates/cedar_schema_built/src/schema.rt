@@ -66,7 +66,7 @@ impl ValidatorSchema {
         }
     }
 
-    // The same schema with these common types and namespaces.
+    // The schema with these common types and namespaces in the place of its own.
     pub(crate) fn with_names(self, names: SchemaNames) -> ValidatorSchema
         ensures kept { schema_kept result ≡ schema_kept self }
         ensures listed { schema_listed result ≡ names_listed names }

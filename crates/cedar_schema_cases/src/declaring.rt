@@ -143,7 +143,7 @@ fn all_declare(
     declares(alloc, &AllDefs::new(alloc, fragments)?, rest, said)
 }
 
-// The same of what the first fragment declares.
+// As what the first fragment declares a name, or, where an id stands behind it, a uid too.
 fn first_declares(
     alloc: Global,
     fragments: &[Written],

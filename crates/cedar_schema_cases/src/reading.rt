@@ -350,7 +350,7 @@ fn attributes(
     Ok(true)
 }
 
-// The same of entities.
+// All attributes that are known of entities of these types.
 fn known(
     alloc: Global,
     schema: &ValidatorSchema,

@@ -126,7 +126,7 @@ fn part(desk: &mut Desk, rest: &str, said: &mut String) -> Result<bool, AllocErr
     }
 }
 
-// The same of a namespace.
+// The namespace alone, a kind of what it declares, or the last of a kind.
 fn of_space(
     alloc: Global,
     space: Space,

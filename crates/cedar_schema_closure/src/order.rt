@@ -42,7 +42,7 @@ fn ranks(alloc: Global, rows: &[Vec<usize>]) -> Result<Vec<Rank>, AllocError>
     Ok(ranks)
 }
 
-// The same, those of a lesser count first.
+// The ranks in the order of their counts, those of a lesser count first.
 fn sorted(ranks: Vec<Rank>) -> Vec<Rank>
     ensures same { IsPermutation ranks.items result.items }
     ensures rise { IsNonDecreasingBy (λ r. r.count) result.items }

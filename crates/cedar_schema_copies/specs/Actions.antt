@@ -14,6 +14,6 @@ use Rattle.cedar_schema_fragments.specs.Written.{principals_written, resources_w
 abbrev pub apply_seen : ApplySpec RawName → List Name × List Name × TypeForm Name
 apply_seen s = (map raw_name_of s.principal_types.items, map raw_name_of s.resource_types.items, type_form raw_name_of s.context)
 
--- the same of an action, with whether it is declared elsewhere
+-- the names of principal and resource types and the context of an action, with whether it is declared elsewhere
 abbrev pub kind_seen : ActionTypeKind RawName → List Name × List Name × TypeForm Name × Bool
 kind_seen k = (principals_written raw_name_of k, resources_written raw_name_of k, context_written raw_name_of k, is_written_elsewhere k)

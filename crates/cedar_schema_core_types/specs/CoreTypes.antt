@@ -63,6 +63,6 @@ abbrev mutual
   core_attributes_read no_attributes = Ok no_core_attributes
   core_attributes_read (attribute a t r as_) = read_then (λ c. read_then (λ cs. Ok (core_attribute a c r cs)) (core_attributes_read as_)) (core_read t)
 
--- the same of what is declared of an attribute
+-- what is declared of an attribute, with its type read as a core type, or why that can't be read
 abbrev pub core_declared_read : Declared → Result CoreDeclared Unreadable
 core_declared_read d = read_then (λ c. Ok (record { type = c; required = d.is_required })) (core_read d.type)

@@ -81,7 +81,7 @@ impl CoreAttributeType {
 impl Clone for CoreSchemaType {
     ghost is_clone = { λ t copy. core_type_of copy ≡ core_type_of t };
 
-    /// The same type, whose parts are shared.
+    /// A copy of the type that shares its parts.
     fn clone(&self) -> Result<CoreSchemaType, AllocError> {
         match self {
             CoreSchemaType::Bool => Ok(CoreSchemaType::Bool),
@@ -106,7 +106,7 @@ impl Clone for CoreSchemaType {
 impl Clone for CoreAttributes {
     ghost is_clone = { λ a copy. core_attributes_of copy ≡ core_attributes_of a };
 
-    /// The same attributes, which are shared.
+    /// A copy that shares the attributes.
     fn clone(&self) -> Result<CoreAttributes, AllocError> {
         Ok(CoreAttributes {
             attrs: self.attrs.clone()?,

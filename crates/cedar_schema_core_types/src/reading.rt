@@ -66,7 +66,7 @@ fn core_attributes(alloc: Global, attrs: &Attributes) -> Result<CoreAttributes, 
     Ok(CoreAttributes { attrs })
 }
 
-// The same, in the order of their names.
+// The attributes of a record with core types, in the order of their names. Refuses the first type of which there is no core type.
 #[cycle(reading)]
 fn core_pairs(
     alloc: Global,

@@ -51,7 +51,7 @@ meant_name (meant_entity n) = n
 abbrev pub resolved : Defined → Conditional → Result Name Conditional
 resolved d c = option_map_or (λ m. Ok (meant_name m)) (meant_by d c) (Err c)
 
--- the same whatever is due: a name tells what is due itself
+-- the name that is meant, whatever is due, as a name tells what is due itself; a name that means nothing is refused
 abbrev pub resolving : Defined → ReferenceKind → Conditional → Result Name Conditional
 resolving d k c = resolved d c
 
@@ -60,7 +60,7 @@ abbrev pub uid_inserted : Uid → List Uid → List Uid
 uid_inserted u [] = u ∷ []
 uid_inserted u (v ∷ vs) = match_ordering (uid_cmp u v) (u ∷ v ∷ vs) (v ∷ vs) (v ∷ uid_inserted u vs)
 
--- the same with one more that is declared
+-- what is declared, with one more common type, entity type or action
 abbrev pub with_common : Name → Defined → Defined
 with_common n d = record d { commons = name_inserted n d.commons }
 

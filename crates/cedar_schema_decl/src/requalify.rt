@@ -66,7 +66,7 @@ pub fn requalify_type<R: Requalify>(
     })
 }
 
-// The same of what is written there.
+// What a type writes, with other names in the place of its own. Refuses the first name in the place of which there is none.
 #[cycle(requalify)]
 fn requalify_variant<R: Requalify>(
     alloc: Global,
@@ -121,7 +121,8 @@ pub fn requalify_record<R: Requalify>(
     Ok(RecordType { attributes })
 }
 
-// The same of its attributes, in the order of their names.
+// The attributes of the record, in the order of their names, with other names in the place of their own. Refuses the first name in the
+// place of which there is none.
 #[cycle(requalify)]
 fn requalify_attributes<R: Requalify>(
     alloc: Global,
@@ -139,7 +140,7 @@ fn requalify_attributes<R: Requalify>(
     Ok(made)
 }
 
-// The same of one attribute.
+// The attribute, with other names in the place of its own. Refuses the first name in the place of which there is none.
 #[cycle(requalify)]
 fn requalify_attribute<R: Requalify>(
     alloc: Global,

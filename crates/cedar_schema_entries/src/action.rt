@@ -153,14 +153,14 @@ impl ValidatorActionId {
         self.applies_to.applicable_resource_types()
     }
 
-    /// The same as `principals`.
+    /// Goes over the types of principals that the action applies to, in the order of their names, as `principals` does.
     pub fn applies_to_principals(&self) -> Iter<'_, EntityType>
         ensures { map type_name_of result ≡ (action_seen self.now).applied.principals }
     {
         self.principals()
     }
 
-    /// The same as `resources`.
+    /// Goes over the types of resources that the action applies to, in the order of their names, as `resources` does.
     pub fn applies_to_resources(&self) -> Iter<'_, EntityType>
         ensures { map type_name_of result ≡ (action_seen self.now).applied.resources }
     {

@@ -41,19 +41,19 @@ use std::rc::RcStr;
 #[derive(Drop)]
 struct Commons<'a>(Option<&'a InternalName>);
 
-// The same for common types whose names may stand for one of several already.
+// A namespace, or the empty one: for common types that are written in it, and whose names may stand for one of several already.
 #[derive(Drop)]
 struct NamedCommons<'a>(Option<&'a InternalName>);
 
-// The same for entity types.
+// A namespace, or the empty one: for entity types that are written in it.
 #[derive(Drop)]
 struct Entities<'a>(Option<&'a InternalName>);
 
-// The same for parents of actions.
+// A namespace, or the empty one: for parents of actions that are written in it.
 #[derive(Drop)]
 struct WrittenParents<'a>(Option<&'a InternalName>);
 
-// The same for actions, with the type that they have.
+// A namespace, or the empty one, and the type that its actions have: for actions that are written in it.
 #[derive(Drop)]
 struct WrittenActions<'a> {
     namespace: Option<&'a InternalName>,

@@ -171,7 +171,7 @@ module _ (p : Name → Bool) where
         ∙ (λ i. commons_written i || (list_any-append p (flat_map names_in_entity (map (entity_qualified w.namespace) w.entities)) (flat_map names_in_action (map (action_qualified w.namespace) w.actions)) ∙ (λ j. entities_written j || actions_written j)) i)
         ∙ ten_turned NC RC XC NE RE XE NA RA XA PA
 
-  -- the same of all, one kind after the other
+  -- whether the test holds of a name in all that is written, one kind of names after the other
   module _ (ws : List WrittenNamespace) where
     abbrev D : Declarations
     D = declarations_of ws

@@ -79,7 +79,7 @@ fn reserved_in_type(ty: &Type<ConditionalName>) -> Option<&InternalName>
     reserved_in_variant(&ty.ty)
 }
 
-// The same of what is written there.
+// The first reserved name in what a type writes, if there is one.
 #[cycle(reserved)]
 fn reserved_in_variant(ty: &TypeVariant<ConditionalName>) -> Option<&InternalName>
     ensures { name_found result ≡ find is_reserved (names_in_type (variant_form conditional_of ty.now)) }
@@ -97,7 +97,7 @@ fn reserved_in_variant(ty: &TypeVariant<ConditionalName>) -> Option<&InternalNam
     }
 }
 
-// The same of the attributes of a record.
+// The first reserved name that the attributes of a record write, if there is one.
 #[cycle(reserved)]
 fn reserved_in_record(fields: &RecordType<ConditionalName>) -> Option<&InternalName>
     ensures { name_found result ≡ find is_reserved (names_in_fields (record_fields conditional_of fields.now)) }
@@ -110,7 +110,7 @@ fn reserved_in_record(fields: &RecordType<ConditionalName>) -> Option<&InternalN
     None
 }
 
-// The same of one attribute.
+// The first reserved name that the type of an attribute writes, if there is one.
 #[cycle(reserved)]
 fn reserved_in_attribute(attribute: &TypeOfAttribute<ConditionalName>) -> Option<&InternalName>
     ensures { name_found result ≡ find is_reserved (names_in_type (attribute_form conditional_of attribute.now).0) }

@@ -47,7 +47,7 @@ ancestors_above s k h n m d = (only, all)
         let below = (h.types_below t.0 t.1 n).1 (d, subst (Descends s n) (sym same) p.1) in
         subst (Contains (kept_ancestors k n)) same (map_has type_name (filter test k.types) t.0 (filter_has test k.types t.0 t.1 ((found-Decides name_eq name_eq-Decides n t.0.descendants).1 below)))
 
--- the same of actions
+-- The ancestors of an action are declared actions that it descends from, and those of a declared action are all of these.
 pub actions_above : (s : Schema) (k : Kept) → IsKeptOf s k → (u v : Uid) → Contains (kept_action_ancestors k u) v → Contains (action_uids s) v × ActionDescends s u v
 actions_above s k h u v c =
     let r = map_from action_uid (filter (λ a. list_any (uid_eq u) a.descendants) k.actions) v c in

@@ -9,18 +9,18 @@ use Rattle.cedar_schema_model.specs.Whole.Schema.{EntityKind, standard, enumerat
 use Rattle.cedar_schema_model.specs.Whole.Descent.{type_names, action_uids, Descends, ActionDescends}
 use Rattle.cedar_schema_kept_model.specs.Kept.{KeptType, KeptAction, Kept}
 
--- the same kind; the members of an enumeration may stand in another order, and repeated
+-- Two kinds of entity types are equal; the members of an enumeration may stand in another order, and repeated.
 abbrev pub IsSameKind : EntityKind → EntityKind → Type 0
 IsSameKind (standard as_ t) k = k ≡ standard as_ t
 IsSameKind (enumerated ids) k = (js : List Text) × (k ≡ enumerated js) × ((id : Text) → Contains ids id ↔ Contains js id)
 IsSameKind external k = k ≡ external
 
--- the same entity type, but for what it descends from
+-- A kept entity type is this one of the schema, whatever either descends from.
 pub record IsSameType (t : KeptType) (e : EntityType) : Type 0 where
   pub name : t.name ≡ e.name
   pub kind : IsSameKind t.kind e.kind
 
--- the same action, but for what it descends from
+-- A kept action is this one of the schema, whatever either descends from.
 pub record IsSameAction (a : KeptAction) (b : Action) : Type 0 where
   pub uid : a.uid ≡ b.uid
   pub principals : (n : Name) → Contains a.applied.principals n ↔ Contains b.principals n
@@ -28,7 +28,7 @@ pub record IsSameAction (a : KeptAction) (b : Action) : Type 0 where
   pub context : a.context ≡ record_type b.context is_closed
   pub is_external : a.is_external ≡ b.is_external
 
--- The same entity types and actions, none of them twice, each with exactly those that descend from it.
+-- What is kept are the entity types and actions of the schema, none of them twice, each with exactly those that descend from it.
 pub record IsKeptOf (s : Schema) (k : Kept) : Type 0 where
   pub types : (t : KeptType) → Contains k.types t → (e : EntityType) × Contains s.types e × IsSameType t e
   pub all_types : (e : EntityType) → Contains s.types e → (t : KeptType) × Contains k.types t × IsSameType t e

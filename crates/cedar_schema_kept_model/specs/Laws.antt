@@ -16,7 +16,7 @@ use Rattle.cedar_schema_model.specs.Whole.ActionEntities.{action_entities}
 use Rattle.cedar_schema_kept_model.specs.Kept.{KeptType, KeptAction, Kept, kept_type, kept_action, kept_ancestors, kept_groups, kept_actions_for, kept_principals, kept_resources, RequestKind, kept_environments, kept_action_entities, Elsewhere, type_elsewhere, action_elsewhere, elsewhere}
 use Rattle.cedar_schema_kept_model.specs.KeptOf.{IsSameType, IsSameAction, IsKeptOf}
 
--- The same types and actions are declared.
+-- What is kept declares the types and actions that the schema declares.
 abbrev pub TypesAreDeclared : Type 0
 TypesAreDeclared = (s : Schema) (k : Kept) → IsKeptOf s k → (n : Name) → is_some (kept_type k n) ≡ declares_type s n
 
@@ -57,7 +57,7 @@ kind_of e = record { principal = e.principal; action = e.action; resource = e.re
 abbrev pub EnvironmentsAreKept : Type 0
 EnvironmentsAreKept = (s : Schema) (k : Kept) → IsKeptOf s k → (r : RequestKind) → Contains (kept_environments k) r ↔ ((e : Environment) × Contains (environments s) e × (kind_of e ≡ r))
 
--- the same entity, with ancestors in any order
+-- Two entities have the same uid, attributes and tags, and the same ancestors in any order.
 pub record IsSameEntity (d e : Uid × Entity V) : Type 0 where
   pub uid : d.0 ≡ e.0
   pub attributes : d.1.attributes ≡ e.1.attributes

@@ -2,7 +2,8 @@
 
 ghost use Rattle.cedar_schema_kept_model.specs.Laws.{TypesAreDeclared, ActionsAreDeclared, TypesAreFound, ActionsAreFound, AncestorsAreAbove, GroupsAreKept, ActionsForAreKept, PrincipalsAreKept, ResourcesAreKept, EnvironmentsAreKept, ActionEntitiesAreKept, AllActionEntitiesAreKept, ElsewhereIsKept, ExternalIsFault};
 
-/// The same entity types and actions are declared, and what is found by a name or a uid is what the schema has there.
+/// What is kept declares the entity types and actions that the schema declares, and what is found by a name or a uid is what the schema has
+/// there.
 pub fn declarations_are_kept()
     ensures types { TypesAreDeclared }
     ensures actions { ActionsAreDeclared }

@@ -31,7 +31,7 @@ impl LocatedType {
         LocatedType { ty, loc }
     }
 
-    /// The same type at this place.
+    /// The type at this place, or without one.
     pub fn with_loc(self, loc: Option<Loc>) -> LocatedType
         ensures kept { located_type result ≡ located_type self }
         ensures place { type_place result ≡ loc }

@@ -23,7 +23,7 @@ fn add_commons<N>(
     Ok(())
 }
 
-// The same for those of a fragment.
+// Puts the common types of a fragment behind those that were found.
 fn add_commons_of<N, A>(
     found: &mut Vec<LocatedCommonType>,
     fragment: &ValidatorSchemaFragment<N, A>,
@@ -79,7 +79,7 @@ fn add_namespace<N, A>(
     }
 }
 
-// The same for the namespaces of a fragment.
+// Puts the namespaces of a fragment that have a name and declare anything behind those that were found.
 fn add_namespaces_of<N, A>(
     found: &mut Vec<LocatedNamespace>,
     fragment: &ValidatorSchemaFragment<N, A>,

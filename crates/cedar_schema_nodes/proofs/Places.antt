@@ -57,7 +57,7 @@ module _ {S : Type 0} where
   one_place (x ∷ xs) t (suc i) zero s h k = let l = h.0 in absurd (t (inl (subst (Contains xs) (sym k.1) (at_in xs i s (omega (arith, l), h.1)))))
   one_place (x ∷ xs) t (suc i) (suc j) s h k = let l = h.0 in let m = k.0 in ap suc (one_place xs (λ d. t (inr d)) i j s (omega (arith, l), h.1) (omega (arith, m), k.1))
 
--- the same of what is seen
+-- What stands at a number in a list is seen at that number in the list of what is seen.
 pub at_map : {N S : Type 0} (f : N → S) (xs : List N) (i : ℕ) (x : N) → IsAt xs i x → IsAt (map f xs) i (f x)
 at_map f [] i x h = let l = h.0 in absurd (omega (arith, l))
 at_map f (y ∷ ys) zero x h = (omega arith, ap f h.1)

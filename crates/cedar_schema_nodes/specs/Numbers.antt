@@ -52,7 +52,7 @@ pub record AreNamesAt {S : Type 0} (names : List S) (is : List ℕ) (ss : List S
   pub only : (s : S) → Contains ss s → (i : ℕ) × Contains is i × IsAt names i s
   pub all : (s : S) (i : ℕ) → Contains is i → IsAt names i s → Contains ss s
 
--- the same of each row
+-- These sets are, row by row, the names of the numbers in the graph.
 pub record AreSetsAt {S : Type 0} (names : List S) (g : Graph) (sets : List (List S)) : Type 0 where
   pub size : length sets ≡ length g
   pub each : (i : ℕ) → i < length g → AreNamesAt names (targets g i) (get_or sets i [])

@@ -18,7 +18,7 @@ pub trait Node: Ord + Drop {
 
     ghost seen: { Self → Seen };
 
-    /// The same name. Answers want of memory.
+    /// A copy of the name or uid.
     fn copy(&self) -> Result<Self, AllocError>
         ensures { IfOk result (λ c. seen c ≡ seen self.now) };
 

@@ -121,7 +121,7 @@ copied (Some t) = refl
 pub type_found : (n : InternalName) (es : List (InternalName × CodeType)) (r : Option (Bor CodeType)) → option_copied r ≡ lookup (is_at (by_text n)) es → option_map_or (λ t. type_of t.now) r never ≡ option_map_or type_of (lookup (λ k. name_eq (name_of n) (name_of k)) es) never
 type_found n es r h = copied r ∙ ap (λ o. option_map_or type_of o never) (h ∙ found_by_name n es)
 
--- the same with the name that is kept
+-- The type that is found by a key, if there is one, is what is kept under its name.
 copied_kept : (r : Option (Bor CodeType)) → option_map (λ t. type_of t.now) r ≡ option_map type_of (option_copied r)
 copied_kept None = refl
 copied_kept (Some t) = refl

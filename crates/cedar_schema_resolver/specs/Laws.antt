@@ -27,7 +27,7 @@ pub record IsWrittenAs (d : Defined) (c : CommonDeclaration) (p : Name × TypeFo
   pub definition : as_expr form ≡ c.definition
   pub resolved : resolved_in d space form ≡ Ok p.1
 
--- the same of each of them
+-- The names with their types write these declared common types, one by one.
 abbrev pub AreWrittenAs : Defined → List CommonDeclaration → List (Name × TypeForm Name) → Type 0
 AreWrittenAs d [] [] = Unit {0}
 AreWrittenAs d (c ∷ cs) (p ∷ ps) = IsWrittenAs d c p × AreWrittenAs d cs ps

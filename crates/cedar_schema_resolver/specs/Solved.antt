@@ -47,7 +47,7 @@ TellsUnsolved d x ts (ReservedName e) = SomeDefinition ts (λ t. IsReservedIn d 
 TellsUnsolved d x ts (DuplicateCommonType n) = StandsTwice (names_of ts) (name_of n)
 TellsUnsolved d x ts (CycleInCommonTypeReferences n) = Reaches (UsesIn d ts) (name_of n) (name_of n)
 
--- The same where the types aren't asked.
+-- The error tells a fault of the common types where what their types write isn't asked. Want of memory tells none.
 abbrev pub TellsUnordered : Defined → List (Name × TypeForm Name) → ResolveError → Type 0
 TellsUnordered d ts OutOfMemory = Unit {0}
 TellsUnordered d ts (UnknownExtensionType n) = ⊥

@@ -25,7 +25,7 @@ fn add_type(
     add_variant(used, &ty.ty, all_defs)
 }
 
-// The same of what is written there.
+// These names with the common types that what a type writes refers to.
 #[cycle(references)]
 #[tactic(auto, using(crate::proofs::Using::nothing_more, crate::proofs::Using::entity_named, crate::proofs::Using::common_alone, crate::proofs::Using::common_first))]
 fn add_variant(
@@ -48,7 +48,7 @@ fn add_variant(
     }
 }
 
-// The same of the attributes of a record.
+// These names with the common types that the attributes of a record refer to.
 #[cycle(references)]
 fn add_record(
     used: Vec<InternalName>,
@@ -64,7 +64,7 @@ fn add_record(
     Ok(found)
 }
 
-// The same of one attribute.
+// These names with the common types that the type of an attribute refers to.
 #[cycle(references)]
 fn add_attribute(
     used: Vec<InternalName>,

@@ -86,7 +86,7 @@ fn convert_type(
     convert_variant(alloc, &ty.ty, resolver)
 }
 
-// The same of what is written there.
+// The type of what a type writes, or the first refusal.
 #[cycle(resolver)]
 fn convert_variant(
     alloc: Global,
@@ -134,7 +134,7 @@ fn convert_record(
     Ok(attrs)
 }
 
-// The same in the order of their names.
+// The attributes of the record in the order of their names, or the first refusal.
 #[cycle(resolver)]
 fn convert_attributes(
     alloc: Global,

@@ -163,7 +163,7 @@ module _ (k : Kept) where
   pub type_not_closed : (t : KeptType) → Contains k.types t → is_type_closed k t ≡ false → list_all (is_type_closed k) k.types ≡ false
   type_not_closed = not_closed name_eq name_eq-Decides types_below type_left undeclared_type (kept_type k) k.types
 
--- The same of actions, by their uids.
+-- Actions, by their uids.
 module _ (k : Kept) where
   abbrev action_left : KeptAction → Uid → Unsound
   action_left a v = action_left_out a.uid v

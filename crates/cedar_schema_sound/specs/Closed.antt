@@ -22,7 +22,7 @@ pub record IsTypeBelow (k : Kept) (t u : KeptType) : Type 0 where
 abbrev pub IsTypeClosedAfter : Kept → KeptType → Type 0
 IsTypeClosedAfter k t = ((u : KeptType) → Contains k.types u → length u.descendants < length t.descendants → is_type_closed k u ≡ true) → is_type_closed k t ≡ true
 
--- the same of an action
+-- Of an action: nothing is wrong with any that descends from it.
 abbrev pub is_action_closed : Kept → KeptAction → Bool
 is_action_closed k a = is_none (first_found (action_below_fault k a) a.descendants)
 

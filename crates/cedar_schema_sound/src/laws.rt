@@ -26,8 +26,8 @@ pub fn built_schemas_are_not_refused()
     kept_are_sound();
 }
 
-/// The same declarations in another order, or split among other fragments, give the same entity types and actions, in some order, or a
-/// refusal both times.
+/// Declarations in another order, or split among other fragments, give the same entity types and actions, in some order, or a refusal both
+/// times.
 pub fn order_of_fragments_is_free()
     ensures same { OrderOfFragmentsIsFree }
     ensures refused { RefusedInEachOrder }

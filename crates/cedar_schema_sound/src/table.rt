@@ -20,8 +20,8 @@ pub trait TryValidate: Sized {
     /// What is kept.
     ghost kept: { Self → Kept };
 
-    /// The same again, if it is what it has to be where the extension types are known that the functions of the table give. Refuses
-    /// any other by what is wrong with it first, and answers want of memory.
+    /// Gives back what is as it has to be where the extension types are known that the functions of the table give. Refuses any other by
+    /// what is wrong with it first.
     fn try_validate(
         self,
         alloc: Global,

@@ -9,14 +9,14 @@ use Rattle.cedar_schema_model.specs.Whole.Descent.{type_names, action_uids, Desc
 use Rattle.cedar_schema_kept_model.specs.Kept.{KeptType, KeptAction, Kept}
 use Rattle.cedar_schema_kept_model.specs.KeptOf.{IsSameType, IsSameAction, IsKeptOf}
 
--- The same entity types, none of them twice, each with exactly those that descend from it.
+-- These are the entity types of the schema, none of them twice, each with exactly those that descend from it.
 pub record AreTypesOf (s : Schema) (ts : List KeptType) : Type 0 where
   pub each : (t : KeptType) → Contains ts t → (e : EntityType) × Contains s.types e × IsSameType t e
   pub all : (e : EntityType) → Contains s.types e → (t : KeptType) × Contains ts t × IsSameType t e
   pub once : HasTwice (type_names s) → ⊥
   pub below : (t : KeptType) → Contains ts t → (m : Name) → Contains t.descendants m ↔ (Contains (type_names s) m × Descends s m t.name)
 
--- The same actions, none of them twice, each with exactly those that descend from it.
+-- These are the actions of the schema, none of them twice, each with exactly those that descend from it.
 pub record AreActionsOf (s : Schema) (as_ : List KeptAction) : Type 0 where
   pub each : (a : KeptAction) → Contains as_ a → (b : Action) × Contains s.actions b × IsSameAction a b
   pub all : (b : Action) → Contains s.actions b → (a : KeptAction) × Contains as_ a × IsSameAction a b

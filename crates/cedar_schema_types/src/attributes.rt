@@ -80,7 +80,7 @@ impl Attributes {
 impl Clone for Attributes {
     ghost is_clone = { λ a copy. attributes_of copy ≡ attributes_of a };
 
-    /// The same attributes, which are shared.
+    /// A copy that shares the attributes.
     fn clone(&self) -> Result<Attributes, AllocError> {
         Ok(Attributes {
             attrs: self.attrs.clone()?,

@@ -23,7 +23,7 @@ pub enum EntityKind {
 impl Clone for EntityKind {
     ghost is_clone = { λ k copy. entities_of copy ≡ entities_of k };
 
-    /// The same type; a union is shared.
+    /// A copy of the type; a union is shared.
     fn clone(&self) -> Result<EntityKind, AllocError> {
         match self {
             EntityKind::AnyEntity => Ok(EntityKind::AnyEntity),

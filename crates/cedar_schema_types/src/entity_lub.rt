@@ -48,7 +48,7 @@ impl EntityLUB {
         }
     }
 
-    /// The same, as a copy. Answers want of memory.
+    /// A copy of the entity type of a union of one alone.
     pub fn into_single_entity(self) -> Result<Option<EntityType>, AllocError>
         ensures { IfOk result (λ t. option_map type_name_of t ≡ only_member (members_of self)) }
     {
@@ -115,7 +115,7 @@ impl Clone for EntityLUB {
 
     ghost is_clone = { λ u copy. members_of copy ≡ members_of u };
 
-    /// The same union, which is shared.
+    /// A copy of the union that shares its members.
     fn clone(&self) -> Result<EntityLUB, AllocError> {
         Ok(EntityLUB {
             lub_elements: self.lub_elements.clone()?,

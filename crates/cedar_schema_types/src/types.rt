@@ -173,7 +173,7 @@ impl Type {
 impl Clone for Type {
     ghost is_clone = { λ t copy. type_of copy ≡ type_of t };
 
-    /// The same type, whose parts are shared.
+    /// A copy of the type that shares its parts.
     fn clone(&self) -> Result<Type, AllocError> {
         match self {
             Type::Never => Ok(Type::Never),
@@ -257,7 +257,7 @@ impl AttributeType {
 impl Clone for AttributeType {
     ghost is_clone = { λ a copy. (attribute_of copy ≡ attribute_of a) × (attribute_place copy ≡ attribute_place a) };
 
-    /// The same, with a type whose parts are shared.
+    /// A copy of what is declared of the attribute, with a type whose parts are shared.
     fn clone(&self) -> Result<AttributeType, AllocError> {
         Ok(AttributeType {
             attr_type: self.attr_type.clone()?,

@@ -94,7 +94,7 @@ fn link(alloc: Global, set: &mut PolicySet, of: &PolicyID, number: u32) -> Resul
     }
 }
 
-// The same again, of a set in which no other links than those of lower numbers may stand.
+// Adds the link with this number once more. Refuses a set in which other links stand than those of lower numbers.
 fn link_again(alloc: Global, set: &mut PolicySet, of: &PolicyID, number: u32) -> Result<(), Fault> {
     let (new, values) = (id(alloc, number)?, bound(alloc, number)?);
     if set.get(&new).is_some() || found(alloc, set, number)? != set.policies().count() {

@@ -80,7 +80,7 @@ entity_kept e = (entity_seen e, kin_seen e, attribute_places e, tag_places e)
 abbrev pub kept_pair : Entity → Uid × Kept
 kept_pair e = (entity_uid e, entity_kept e)
 
--- the same without the calls
+-- a part and an entity without the calls that make extension values
 abbrev pub bare_part : Part Made → Part V
 bare_part (known m) = known (bare m)
 bare_part (left t) = left t

@@ -77,7 +77,7 @@ impl Entities {
         Ok(store)
     }
 
-    /// The same entities as some of a store, of which the others aren't known.
+    /// The entities as some of a store, of which the others aren't known.
     pub fn partial(self) -> Entities
         ensures seen { store_seen result ≡ record (store_seen self) { extent = partial } }
         ensures kept { store_made result ≡ store_made self }

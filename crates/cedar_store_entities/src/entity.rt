@@ -48,7 +48,7 @@ impl Drop for Entity {
 impl Clone for Entity {
     ghost is_clone = { λ e copy. (entity_uid copy ≡ entity_uid e) × (entity_kept copy ≡ entity_kept e) };
 
-    /// The same entity, whose values are shared. Answers want of memory.
+    /// A copy of the entity that shares its values.
     fn clone(&self) -> Result<Entity, AllocError> {
         Ok(Entity {
             uid: self.uid.clone()?,
@@ -83,7 +83,8 @@ impl Entity {
         Entity::new_with_attr_partial_value(alloc, uid, attrs, indirect_ancestors, parents, tags)
     }
 
-    /// The same with attributes and tags that may be expressions. Answers want of memory.
+    /// The entity of this uid with these attributes and tags, which may be expressions, of a repeated name the last, and with these
+    /// recorded ancestors, each once; what is given as both is a parent. Each attribute and tag keeps its place.
     pub fn new_with_attr_partial_value(
         alloc: Global,
         uid: EntityUID,

@@ -46,7 +46,7 @@ AnswersAreMeanings {T} functions ordered answers_as =
     (w : World T) (t : Tree) (r : Result (Value ExtValue) MeaningFault) → MeaningIn functions ordered answers_as w t r
     ↔ OfEach functions ordered answers_as w (λ m. IsRelated (bare extension_of) (Means m t) r)
 
--- the same of a policy
+-- The answer is what a policy means there exactly where it is the one outcome that the policy has by the relation.
 abbrev pub AnswersArePolicyMeanings : {T : Type 0} → (T → List Signature) → (T → List Name) → (T → (Name → List V → Called) → Type 0) → Type 0
 AnswersArePolicyMeanings {T} functions ordered answers_as =
     (w : World T) (p : Policy) (r : Result (Value ExtValue) MeaningFault) → PolicyMeaningIn functions ordered answers_as w p r

@@ -62,7 +62,7 @@ pub fn evaluation_is_the_meaning<T: FunctionTable>()
     ensures { AnswersAreMeanings T.functions T.ordered T.answers_as }
 {}
 
-/// The same of what is answered for a policy.
+/// What the plain evaluator answers for a policy, by the function of the meaning, it answers by its relation, and back.
 pub fn policy_outcomes_are_the_meaning<T: FunctionTable>()
     ensures { AnswersArePolicyMeanings T.functions T.ordered T.answers_as }
 {}

@@ -83,6 +83,6 @@ module _ (w : World) (whole : Option (Res V)) (names : List (RcStr Global)) (i :
 pub path_ends : (w : World) (whole : Option (Res V)) (names : List (RcStr Global)) (i : ℕ) (a : Text) (v : V) (r : Result (Value ExtValue) MeaningFault) → length names ≤ i → whole ≡ path_tested w a (map rc_str_bytes (drop i names)) v → IsMeaning (attribute_tested w a v) r → IsMeaning whole r
 path_ends w whole names i a v r past was h = subst (λ o. IsMeaning o r) (sym (was ∙ ap (λ ns. path_tested w a (map rc_str_bytes ns) v) (drop_of_length-le names past))) h
 
--- the same step by equal names and answers
+-- A step to an answer by a name is a step to an equal answer by an equal name.
 pub step_at : (w : World) (a b : Text) (v : V) (r s : Result (Option (Value ExtValue)) MeaningFault) → a ≡ b → r ≡ s → Steps w a v r → Steps w b v s
 step_at w a b v r s e f h = subst (λ t. Steps w b v t) f (subst (λ n. Steps w n v r) e h)

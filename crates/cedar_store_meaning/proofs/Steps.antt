@@ -111,7 +111,7 @@ one_more done more v o os e m = ap (λ q. after done (and_then q os)) e ∙ go o
 pub ends : (done : List V) → after done (Some (val [])) ≡ Some (val done)
 ends done = ap (λ vs. Some (val vs)) (append-nil done)
 
--- the same of fields
+-- these pairs as fields before others
 abbrev pub onto : List (Text × V) → Fields → Fields
 onto [] fs = fs
 onto (p ∷ ps) fs = field p.0 p.1 (onto ps fs)

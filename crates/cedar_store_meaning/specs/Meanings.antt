@@ -33,7 +33,7 @@ InEach functions ordered answers_as w seen o r =
 pub record MeaningIn {T : Type 0} (functions : T → List Signature) (ordered : T → List Name) (answers_as : T → (Name → List V → Called) → Type 0) (w : World T) (t : Tree) (r : Result (Value ExtValue) MeaningFault) : Type 0 where
   pub each : InEach functions ordered answers_as w (bare extension_of) (λ m. outcome_of m t) r
 
--- the same of several expressions
+-- The answer is what several expressions mean there, one after the other.
 pub record MeaningsIn {T : Type 0} (functions : T → List Signature) (ordered : T → List Name) (answers_as : T → (Name → List V → Called) → Type 0) (w : World T) (ts : Trees) (r : Result (Vec (Value ExtValue) Global) MeaningFault) : Type 0 where
   pub each : InEach functions ordered answers_as w (λ vs. bare_values vs.items) (λ m. outcomes_of m ts) r
 
@@ -41,6 +41,6 @@ pub record MeaningsIn {T : Type 0} (functions : T → List Signature) (ordered :
 abbrev pub fields_seen : Vec (RcStr Global × Value ExtValue) Global → Fields
 fields_seen ps = fields (map (bare_pair extension_of) ps.items)
 
--- the same of the fields of a record
+-- The answer is what the fields of a record mean there, by their names.
 pub record FieldsIn {T : Type 0} (functions : T → List Signature) (ordered : T → List Name) (answers_as : T → (Name → List V → Called) → Type 0) (w : World T) (fs : TreeFields) (r : Result (Vec (RcStr Global × Value ExtValue) Global) MeaningFault) : Type 0 where
   pub each : InEach functions ordered answers_as w fields_seen (λ m. field_outcomes_of m fs) r

@@ -36,7 +36,7 @@ abbrev pub IsSeen : {A R : Type 0} → (R → A) → Option (Res A) → Result R
 IsSeen seen o (Ok x) = o ≡ Some (val (seen x))
 IsSeen seen o (Err e) = IfSome (told e) (λ p. o ≡ p)
 
--- the same of a value
+-- The answer is this outcome of an expression, or says that there is none. Want of memory says nothing.
 abbrev pub IsMeaning : Option (Res V) → Result (Value ExtValue) MeaningFault → Type 0
 IsMeaning o r = IsSeen (bare extension_of) o r
 

@@ -34,6 +34,6 @@ abbrev pub world_seen : {T : Type 0} → (T → List Signature) → (T → List 
 world_seen functions ordered w answers =
     record (world_of (table_with (functions w.table.now) (ordered w.table.now) answers) (unknowns_of w.unknowns.now) (request_seen w) (store_seen w.entities.now)) { slots = binding_of (bindings_of w.slots.now) }
 
--- the same where each call fails
+-- the world of the model, where each call of a function fails
 abbrev pub unanswered : {T : Type 0} → (T → List Signature) → (T → List Name) → World T → model.World
 unanswered functions ordered w = world_seen functions ordered w (λ f vs. fails f)

@@ -34,7 +34,7 @@ pub fn unknown(unknowns: &HashMap<RcStr, V>, name: &str) -> Result<V, MeaningFau
     }
 }
 
-// The same value.
+// A copy of the value.
 pub(crate) fn copied(v: &V) -> Result<V, MeaningFault>
     ensures { IsMeaning (Some (val (bare extension_of v.now))) result }
 {

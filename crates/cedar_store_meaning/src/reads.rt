@@ -334,7 +334,7 @@ fn is_below_some(uid: &EntityUID, entity: Option<&Entity>, mut values: Iter<'_, 
     values.any(|v| is_below_value(uid, entity, v))
 }
 
-// The same of one value.
+// Whether the value is this uid, or a recorded ancestor of the entity; false of a value that is no entity.
 fn is_below_value(uid: &EntityUID, entity: Option<&Entity>, v: &V) -> bool
     ensures { result ≡ option_map_or (λ u. uid_eq (uid_of uid.now) u || list_any (uid_eq u) (ancestors_of entity.entry)) (value_uid (bare extension_of v.now)) false }
 {

@@ -71,7 +71,7 @@ impl EntityReference {
         }
     }
 
-    // The same, with the uid that the slot is bound to in the slot's place.
+    // What is named, with the uid that the slot is bound to, if there is one, in the slot's place.
     fn with_filled_slot(&self, uid: Option<&Rc<EntityUID>>) -> Result<EntityReference, AllocError>
         ensures target { IfOk result (λ r. target_of r ≡ filled_target (option_map (λ u. uid_of u.now.value) uid.entry) (target_of self.now)) }
         ensures places { IfOk result (λ r. target_places r ≡ places_left (option_map (λ u. uid_of u.now.value) uid.entry) (target_places self.now)) }
@@ -122,7 +122,7 @@ impl PrincipalOrResourceConstraint {
         }
     }
 
-    /// The same, with the uid that the slot is bound to in the slot's place. Answers want of memory.
+    /// The constraint with the uid that the slot is bound to, if there is one, in the slot's place.
     pub fn with_filled_slot(
         &self,
         uid: Option<&Rc<EntityUID>>,

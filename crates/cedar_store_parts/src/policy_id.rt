@@ -48,7 +48,7 @@ impl PolicyID {
 impl Clone for PolicyID {
     ghost is_clone = { λ id copy. id_text copy ≡ id_text id };
 
-    /// The same id; its text is shared. Answers want of memory.
+    /// A copy of the id that shares its text.
     fn clone(&self) -> Result<PolicyID, AllocError> {
         let text = self.0.clone()?;
         Ok(PolicyID(text))

@@ -60,7 +60,7 @@ impl SlotEnv {
 impl Clone for SlotEnv {
     ghost is_clone = { λ b copy. (bindings_of copy ≡ bindings_of b) × (binding_places copy ≡ binding_places b) };
 
-    /// The same bindings; the uids are shared. Answers want of memory.
+    /// A copy of the bindings that shares the uids.
     fn clone(&self) -> Result<SlotEnv, AllocError> {
         Ok(SlotEnv {
             principal: shared(&self.principal)?,
@@ -69,7 +69,7 @@ impl Clone for SlotEnv {
     }
 }
 
-// The same uid, shared.
+// The uid, if there is one, shared.
 fn shared(uid: &Option<Rc<EntityUID>>) -> Result<Option<Rc<EntityUID>>, AllocError>
     ensures uid { IfOk result (λ copy. option_map (λ u. uid_of u.value) copy ≡ option_map (λ u. uid_of u.value) uid.now) }
     ensures place { IfOk result (λ copy. option_map (λ u. uid_loc u.value) copy ≡ option_map (λ u. uid_loc u.value) uid.now) }

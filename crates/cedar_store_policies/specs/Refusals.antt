@@ -16,7 +16,7 @@ abbrev pub RefusesSlot : Policy → UnexpectedSlotError → Type 0
 RefusesSlot p OutOfMemory = Unit {0}
 RefusesSlot p (FoundSlot s) = first_of (slots (condition p)) ≡ Some (slot_of s.id)
 
--- The same with the place: it is the first of these slots.
+-- The fault is there where there should be no slots: it is the first of these, with its place. Want of memory says nothing.
 abbrev pub RefusesSlotAt : List (SlotId × Option Loc) → UnexpectedSlotError → Type 0
 RefusesSlotAt ss OutOfMemory = Unit {0}
 RefusesSlotAt ss (FoundSlot s) = first_of ss ≡ Some (slot_placed s)

@@ -36,7 +36,7 @@ static_seen p = record { id = (static_of p).id; places = static_places p; templa
 abbrev pub policy_seen : Policy → Seen
 policy_seen p = record { id = (policy_of p).id; places = policy_places p; template = template_behind p; bound = policy_bound p }
 
--- the same of a set, in order
+-- the templates and the policies of a set as they are seen, in order
 pub record SetSeen : Type 0 where
   pub templates : List Seen
   pub policies : List Seen

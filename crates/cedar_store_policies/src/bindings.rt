@@ -24,7 +24,7 @@ impl Template {
         self.check_binding(SlotId::resource(), values)
     }
 
-    // The same of one slot.
+    // Refuses the slot if the template has it and it isn't bound, or if it is bound and isn't the template's.
     fn check_binding(&self, slot: SlotId, values: &SlotEnv) -> Result<(), LinkingError>
         ensures fits { OnOk result (uses_slot (template_of self.now) (slot_of slot) ≡ is_some (binding_of (bindings_of values.now) (slot_of slot))) }
         ensures refused { IfErr result (RefusesBindings (template_of self.now) (bindings_of values.now)) }

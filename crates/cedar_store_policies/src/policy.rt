@@ -259,7 +259,7 @@ impl Policy {
 impl Clone for Policy {
     ghost is_clone = { λ p copy. (policy_of copy ≡ policy_of p) × (template_behind copy ≡ template_behind p) × (policy_loc copy ≡ policy_loc p) × (policy_places copy ≡ policy_places p) × (policy_bound copy ≡ policy_bound p) };
 
-    /// The same policy over the same template, which is shared. Answers want of memory.
+    /// A copy of the policy that shares its template.
     fn clone(&self) -> Result<Policy, AllocError> {
         let template = self.template.clone()?;
         let link = match &self.link {

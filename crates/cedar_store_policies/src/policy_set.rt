@@ -101,7 +101,7 @@ impl PolicySet {
         self.add_shared(template)
     }
 
-    // The same of a template that is shared.
+    // Puts a shared template at the end of the templates. Refuses an id that is present.
     fn add_shared(&mut self, template: Rc<Template>) -> Result<(), PolicySetError>
         ensures added { OnOk result (add_template (set_of self.old) (template_of template.value) ≡ Some (set_of self.new)) }
         ensures unchanged { OnErr result (set_of self.new ≡ set_of self.old) }

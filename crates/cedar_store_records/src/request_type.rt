@@ -22,7 +22,7 @@ pub struct RequestType {
 impl Clone for RequestType {
     ghost is_clone = { λ r copy. (kind_of copy ≡ kind_of r) × (kind_places copy ≡ kind_places r) };
 
-    /// The same types and the same action. Answers want of memory.
+    /// A copy of the types and the action.
     fn clone(&self) -> Result<RequestType, AllocError> {
         let principal = self.principal.clone()?;
         let action = self.action.clone()?;

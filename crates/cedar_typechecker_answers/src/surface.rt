@@ -101,7 +101,7 @@ impl<'a> TypecheckAnswer<'a> {
         }
     }
 
-    /// The same expression without a type.
+    /// The answer that the expression has no type.
     pub fn into_fail(self) -> TypecheckAnswer<'a>
         ensures { seen result ≡ None }
     {

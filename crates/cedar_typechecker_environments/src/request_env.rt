@@ -202,7 +202,7 @@ impl RequestEnv {
 impl Clone for RequestEnv {
     ghost is_clone = { λ e copy. environment_of copy ≡ environment_of e };
 
-    /// The same types.
+    /// A copy of the environment.
     fn clone(&self) -> Result<RequestEnv, AllocError> {
         self.with_slots(self.principal_slot.as_ref(), self.resource_slot.as_ref())
     }

@@ -60,7 +60,7 @@ pub(crate) fn entity_steps<S: TypingSchema>(
     }
 }
 
-// The same of a path that begins with a type that may lack.
+// The steps that stand on an entity, of a path that begins at this type, if there is one, up to the number that stands for any greater one.
 fn steps_along<S: TypingSchema>(
     alloc: Global,
     world: &World<'_, S>,
@@ -106,7 +106,7 @@ pub(crate) fn fields_before<'p, S: TypingSchema>(
     }
 }
 
-// The same of a path that begins with a type that may lack.
+// The fields of records by which a path that begins at this type, if there is one, reaches its first entity.
 fn fields_along<'p, S: TypingSchema>(
     alloc: Global,
     world: &World<'_, S>,

@@ -52,7 +52,7 @@ pub(crate) fn is_entity(ty: &Option<Type>) -> bool
     }
 }
 
-// The same of a type that is there.
+// Whether a type that is there is one of entities.
 pub(crate) fn is_entity_type(ty: &Type) -> bool
     ensures { result ≡ is_entity (Some (type_of ty.now)) }
 {

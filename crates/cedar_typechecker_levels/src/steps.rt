@@ -57,7 +57,7 @@ pub(crate) fn steps<'p>(expr: &'p Expr<Option<Type>>, path: &'p Path<'p>) -> u64
     }
 }
 
-// The same from the field of this name, or none where there is no such field.
+// The number of steps from the field of this name, up to the number that stands for any greater one; none where there is no such field.
 #[cycle(steps)]
 fn steps_in<'p>(
     fields: &'p BTreeMap<RcStr, Expr<Option<Type>>>,

@@ -141,7 +141,7 @@ fn report<'a, S: TypingSchema>(
     }
 }
 
-// The same of each of these.
+// Puts the violations of each of these expressions behind what was found.
 #[cycle(walk)]
 fn report_all<'a, S: TypingSchema>(
     alloc: Global,
@@ -158,7 +158,7 @@ fn report_all<'a, S: TypingSchema>(
     Ok(())
 }
 
-// The same of each field.
+// Puts the violations of the expression of each field behind what was found.
 #[cycle(walk)]
 fn report_fields<'a, S: TypingSchema>(
     alloc: Global,
@@ -175,7 +175,7 @@ fn report_fields<'a, S: TypingSchema>(
     Ok(())
 }
 
-// The same of each field but the first of this name.
+// Puts the violations of the expression of each field but the first of this name behind what was found.
 #[cycle(walk)]
 fn report_others<'a, S: TypingSchema>(
     alloc: Global,
@@ -274,7 +274,7 @@ fn reach<'a, S: TypingSchema>(
     }
 }
 
-// The same from the first field of this name, if there is one.
+// Puts the violations on the way to what the path leads to from the first field of this name, if there is one, behind what was found.
 #[cycle(walk)]
 fn reach_in<'a, S: TypingSchema>(
     alloc: Global,

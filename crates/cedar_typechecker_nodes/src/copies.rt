@@ -115,7 +115,7 @@ fn of_kind(kind: ExprKind<Option<Type>>, place: Option<Loc>) -> Untyped
     Expr::new(kind, place, None)
 }
 
-// The same as a part.
+// A shared copy of the expression without types, as a part of another.
 #[cycle(untyped)]
 fn part(alloc: Global, expr: &Expr) -> Result<Rc<Untyped>, AllocError>
     ensures tree { IfOk result (λ e. tree_of e.value ≡ tree_of expr.now) }
@@ -125,7 +125,7 @@ fn part(alloc: Global, expr: &Expr) -> Result<Rc<Untyped>, AllocError>
     Ok(Rc::new(alloc, e)?)
 }
 
-// The same of each of these.
+// Copies of these expressions without types.
 #[cycle(untyped)]
 fn untyped_all(alloc: Global, exprs: &[Expr]) -> Result<Vec<Untyped>, AllocError>
     ensures trees { IfOk result (λ es. map tree_of es.items ≡ map tree_of exprs.now) }
@@ -138,7 +138,7 @@ fn untyped_all(alloc: Global, exprs: &[Expr]) -> Result<Vec<Untyped>, AllocError
     Ok(all)
 }
 
-// The same of each of these fields.
+// Copies of these fields without types, by their names.
 #[cycle(untyped)]
 fn untyped_fields(
     alloc: Global,

@@ -45,7 +45,7 @@ fn add_environments(
     Ok(())
 }
 
-// The same for one of its types of principals.
+// Puts the environments of the action with principals of this type behind those that were found.
 fn add_with(
     alloc: Global,
     found: &mut Vec<RequestEnv>,
@@ -60,7 +60,7 @@ fn add_with(
     Ok(())
 }
 
-// The same for one of its types of resources.
+// Puts the environment of the action with a principal and a resource of these types behind those that were found.
 fn add_environment(
     alloc: Global,
     found: &mut Vec<RequestEnv>,

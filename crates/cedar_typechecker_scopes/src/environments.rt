@@ -83,7 +83,7 @@ fn add_linked<S: SchemaEnvironments>(
     add_for_each(found, env, principals.as_slice(), resources.as_slice())
 }
 
-// The same with each of these types of the principal's slot, and each of these of the resource's.
+// Puts the environment, with each of these types of the principal's slot and each of these of the resource's, behind those that were found.
 fn add_for_each(
     found: &mut Vec<RequestEnv>,
     env: &RequestEnv,
@@ -98,7 +98,7 @@ fn add_for_each(
     Ok(())
 }
 
-// The same with this type of the principal's slot, and with each of these of the resource's.
+// Puts the environment, with this type of the principal's slot and each of these of the resource's, behind those that were found.
 fn add_each(
     found: &mut Vec<RequestEnv>,
     env: &RequestEnv,

@@ -50,7 +50,7 @@ pub(crate) fn add_expr<S: ScopeSchema>(
     }
 }
 
-// The same of a literal.
+// Puts what is wrong with a literal, if it is a uid, behind what was found.
 fn add_literal<S: ScopeSchema>(
     schema: &S,
     rule: ScopeRule,
@@ -66,7 +66,7 @@ fn add_literal<S: ScopeSchema>(
     }
 }
 
-// The same of an entity type.
+// Puts what is wrong with the entity type by the rule behind what was found.
 fn add_type<S: ScopeSchema>(
     schema: &S,
     rule: ScopeRule,
@@ -82,7 +82,7 @@ fn add_type<S: ScopeSchema>(
     }
 }
 
-// The same of a uid.
+// Puts what is wrong with the uid by the rule behind what was found.
 pub(crate) fn add_uid<S: ScopeSchema>(
     schema: &S,
     rule: ScopeRule,

@@ -26,7 +26,7 @@ CountsAreAlike = (s t : Schema) → AnswersAlike s t → (x y : Table) → HasSa
 abbrev pub EnvironmentsAreAlike : Type 0
 EnvironmentsAreAlike = (s t : Schema) → AnswersAlike s t → (p : Policy) (e : Environment) → Contains (policy_environments s p) e ↔ Contains (policy_environments t p) e
 
--- The same policies pass, are warned of, are impossible, and are irrelevant for a request's types.
+-- By schemas that answer alike the same policies pass, are warned of, are impossible, and are irrelevant for a request's types.
 abbrev pub PassingIsAlike : Type 0
 PassingIsAlike = (s t : Schema) → AnswersAlike s t → (x y : Table) → HasSameSignatures x y → (w : Mode) (p : Policy) → passes_in w s x p ≡ passes_in w t y p
 
@@ -46,7 +46,7 @@ ViolationsAreAlike = (s t : Schema) → AnswersAlike s t → (x y : Table) → H
 abbrev pub LevelsAreAlike : Type 0
 LevelsAreAlike = (s t : Schema) → AnswersAlike s t → (x y : Table) → HasSameSignatures x y → (w : Mode) (n : ℕ) (p : Policy) → is_nil (policy_violations_in w n s x p) ≡ is_nil (policy_violations_in w n t y p)
 
--- The same policies keep each of the scope rules.
+-- By schemas that answer alike the same policies keep each of the scope rules.
 abbrev pub KnownTypesAreAlike : Type 0
 KnownTypesAreAlike = (s t : Schema) → AnswersAlike s t → (p : Policy) → names_known_types s p ≡ names_known_types t p
 

@@ -50,7 +50,7 @@ pub record IsKeptOnce (k : Kept) : Type 0 where
   pub types : HasTwice (names_kept k) → ⊥
   pub actions : HasTwice (uids_kept k) → ⊥
 
--- The same as equations of tests, of which there is one proof at most.
+-- What is kept is closed under descent, by equations of tests, of which there is one proof at most.
 pub record ClosedByTests (k : Kept) : Type 0 where
   pub types_there : (m n : Name) → list_any (name_eq n) (kept_ancestors k m) ≡ true → list_any (name_eq m) (names_kept k) ≡ true
   pub types_on : (l m n : Name) → list_any (name_eq m) (kept_ancestors k l) ≡ true → list_any (name_eq n) (kept_ancestors k m) ≡ true → list_any (name_eq n) (kept_ancestors k l) ≡ true

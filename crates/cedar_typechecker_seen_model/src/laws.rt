@@ -13,7 +13,7 @@ pub fn expressions_are_alike()
     ensures environments { EnvironmentsAreAlike }
 {}
 
-/// The same policies pass, are warned of, are impossible, and are irrelevant for the types of a request.
+/// By schemas that answer alike the same policies pass, are warned of, are impossible, and are irrelevant for the types of a request.
 pub fn verdicts_are_alike()
     ensures passing { PassingIsAlike }
     ensures warnings { WarningsAreAlike }
@@ -27,7 +27,7 @@ pub fn levels_are_alike()
     ensures none { LevelsAreAlike }
 {}
 
-/// The same policies keep each of the scope rules.
+/// By schemas that answer alike the same policies keep each of the scope rules.
 pub fn scope_rules_are_alike()
     ensures types { KnownTypesAreAlike }
     ensures actions { KnownActionsAreAlike }

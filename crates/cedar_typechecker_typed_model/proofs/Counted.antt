@@ -27,7 +27,7 @@ module _ (n : ℕ) (s : Setting) where
     here : violations_at n s t (marked x) ≡ violations n s known t
     far : (path : List Text) → target_at n s path t (marked x) ≡ target n s known path t
 
-  -- the same without the judgement, which follows
+  -- what stands in the marks of a typed expression, without the judgement, which follows
   record Both (known : Facts) (t : Tree) (x : Typed) : Type 0 where
     here : violations_at n s t (marked x) ≡ violations n s known t
     far : (path : List Text) → target_at n s path t (marked x) ≡ target n s known path t

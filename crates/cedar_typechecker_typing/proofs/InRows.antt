@@ -72,7 +72,7 @@ module _ (s : Setting) (known : Facts) where
   pub row_end : (es : List (Expr Unit)) (i : ℕ) (made : List (Expr (Option CodeType))) → length es ≤ i → RowSoFar es made (drop i es) → then_row made (Some no_row) ≡ rest_of es
   row_end es i made past was = ap (λ ds. then_row made (rest_of ds)) (sym (drop_of_length-le es past)) ∙ was.is
 
--- the same of fields
+-- To put fields with one more at the end before a row is to put that one there first, and then the fields.
 fields_more : (ps : List (RcStr Global × Expr (Option CodeType))) (p : RcStr Global × Expr (Option CodeType)) (o : Option FieldRow) → then_fields (ps ++ p ∷ []) o ≡ then_fields ps (then_fields (p ∷ []) o)
 fields_more [] p o = refl
 fields_more (x ∷ ps) p o = ap (λ q. option_and_then (λ y. option_map (field_row_with (rc_str_bytes x.0) y) q) (typed_at x.1 no_facts x.1.«data»)) (fields_more ps p o)

@@ -98,7 +98,7 @@ module _ {B : _} {F : _} {g : _} (e : Extension B F g) (t : Extensions B F g) (a
 pub table_typed : (x : Table) → HoldsRanks x → all_typed x ≡ true
 table_typed x h = (ranks_make_fairly x h).typed
 
--- The same of what `unary` gives.
+-- A function that `unary` gives answers as `rank`, or `label`, does, if it gives one.
 module _ {B : _} {F : _} {g : _} {E : Type 0} (post : Global → Bor (List (Value ExtValue)) → Result ExtensionOutputValue CallFault → Type 0) where
   pub rank_if_made : (r : Result (ExtensionFunction B F g) E) → ((a : Global) (xs : Bor (List (Value ExtValue))) (r : Result ExtensionOutputValue CallFault) → post a xs r → ComesTo (ranked (made_values xs.now)) r) → IfOk r (AnswersBy post) → IfOk r (λ f. IsMadeBy f (rank_calls rank_name))
   rank_if_made (Ok f) comes h = rank_made_by f post h comes

@@ -62,7 +62,7 @@ none_second None p f h = tt
 none_second (Some (val v)) p f h = none_bind p (f v) h
 none_second (Some (err e)) p f h = tt
 
--- the same where nothing is known of the outcome
+-- What is left stands for an outcome of which nothing is known, if it stands for any outcome.
 pub stands_unasked : (w : World) (o : Option (Res V)) (l : Left) → Stands w o l → Stands w None l
 stands_unasked w o (value_left m) h = (tt, h.1)
 stands_unasked w o (residual r) h = (tt, h.1)

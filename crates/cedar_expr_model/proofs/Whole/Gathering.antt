@@ -79,7 +79,7 @@ abbrev mutual
   EachInFields P no_tree_fields = Unit {0}
   EachInFields P (tree_field a t fs) = EachIn P t × EachInFields P fs
 
--- the same by the list of them
+-- that a property holds of each unknown in a list of expressions
 module _ (P : Unknown → Type 0) where
   abbrev At : Text → Option CoreType → Type 0
   At n a = P (record { name = n; annotation = a })

@@ -84,7 +84,7 @@ made_Decides v vs =
     let d = member_Decides v (members_made vs) (made_rises vs) in
     (λ h. made_from v vs (d.0 h), λ h. d.1 (made_has v vs h))
 
--- the same members make the same set
+-- Two lists with the same members make the same set.
 pub made_same : (vs ws : List V) → ((u : V) → Contains vs u ↔ Contains ws u) → set_made vs ≡ set_made ws
 made_same vs ws h =
     ap set_of (same_rising (members_made vs) (members_made ws) (made_rises vs) (made_rises ws)

@@ -44,7 +44,7 @@ abbrev pub members_made : List V → Vs
 members_made [] = no_values
 members_made (v ∷ vs) = inserted v (members_made vs)
 
--- the same as a value
+-- the set of these members as a value
 abbrev pub set_made : List V → V
 set_made vs = set_of (members_made vs)
 

@@ -24,7 +24,7 @@ abbrev pub after_some : (List ℕ → Bool) → List ℕ → Bool
 after_some test [] = test []
 after_some test (c ∷ cs) = test (c ∷ cs) || after_some test cs
 
--- the same as a test
+-- whether the pattern matches these characters
 abbrev pub matches : Pattern → List ℕ → Bool
 matches [] [] = true
 matches [] (c ∷ cs) = false

@@ -40,7 +40,7 @@ binary_rank contains_any = 9
 binary_rank get_tag = 10
 binary_rank has_tag = 11
 
--- the same as orders
+-- the orders of variables, slots and operators, by their ranks
 abbrev pub var_cmp : Var → Var → Ordering
 var_cmp x y = nat_cmp (var_rank x) (var_rank y)
 

@@ -110,7 +110,7 @@ HoldsNamesOnce w = (u : Uid) (e : Entity V) → w.store u ≡ held e → HasName
 abbrev pub KnowledgeKeepsTheSlice : Type 0
 KnowledgeKeepsTheSlice = (s : Schema) (n : ℕ) (k w : World) (u : Uid) → HoldsNamesOnce k → Extends k w → InSlice s n k u → InSlice s n w u
 
--- the same principal, resource and context
+-- Two worlds have the same principal, resource and context.
 pub record SameRoots (v w : World) : Type 0 where
   pub principal : v.principal ≡ w.principal
   pub resource : v.resource ≡ w.resource

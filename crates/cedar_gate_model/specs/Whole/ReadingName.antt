@@ -13,7 +13,7 @@ use Rattle.cedar_gate_model.specs.Whole.ReadingForms.{word_of, first_form, alone
 abbrev pub any_name_read : Data → Option Name
 any_name_read d = given (as_str d) name_read
 
--- the same, but no reserved name
+-- a name of the grammar that is no reserved name
 abbrev pub plain_name_read : Data → Option Name
 plain_name_read d = given (any_name_read d) (if_passing (λ n. not (is_reserved n)))
 

@@ -21,7 +21,7 @@ use Rattle.cedar_gate_model.specs.Whole.Lines.{Status, is_answered, is_refused, 
 abbrev pub NothingTwice : Type 0
 NothingTwice = (c : Case) (w : World) (es : List Entry) → AreLegal c w at_first es → HasTwice (asked_in es) → ⊥
 
--- the same rounds and bindings, and decisions in the same places
+-- Two transcripts have the same rounds and bindings, and decisions in the same places.
 abbrev pub EntriesAlike : List Entry → List Entry → Type 0
 EntriesAlike [] [] = Unit {0}
 EntriesAlike (round us ∷ es) (round vs ∷ fs) = (us ≡ vs) × EntriesAlike es fs
@@ -29,7 +29,7 @@ EntriesAlike (bound m ∷ es) (bound n ∷ fs) = (m ≡ n) × EntriesAlike es fs
 EntriesAlike (decided d ∷ es) (decided e ∷ fs) = EntriesAlike es fs
 EntriesAlike es fs = ⊥
 
--- the same answer, or a refusal of the same call
+-- Two ends give the same answer, or refuse the same call.
 abbrev pub EndsAlike : End → End → Type 0
 EndsAlike (answered a) (answered b) = a ≡ b
 EndsAlike (opening_refused f) (opening_refused g) = Unit {0}

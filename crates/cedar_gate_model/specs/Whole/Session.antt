@@ -91,7 +91,7 @@ abbrev pub known_now : Setup → State → World
 known_now x s =
     record (known_world (scope_now x s (λ u. unloaded u))) { store = λ u. if declares_action x.schema u || list_any (uid_eq u) s.asked then told u (whole_store x u) else unloaded u }
 
--- the same with the whole store, which the answer stands on
+-- what is known by now, over the whole store, which the answer stands on
 abbrev pub world_now : Setup → State → World
 world_now x s = record (known_now x s) { store = whole_store x }
 

@@ -43,7 +43,7 @@ IsNear (suc n) w u = Contains (roots w) u ⊎ ((v : Uid) × IsNear n w v × Cont
 abbrev pub InSlice : Schema → ℕ → World → Uid → Type 0
 InSlice s n w u = IsNear n w u × (declares_action s u ≡ false)
 
--- The same as lists.
+-- The ends of chains of fewer than n steps, and the slice at level n, as lists.
 abbrev pub near : ℕ → World → List Uid
 near zero w = []
 near (suc n) w = roots w ++ flat_map (λ v. mentioned_by_found (w.store v)) (near n w)

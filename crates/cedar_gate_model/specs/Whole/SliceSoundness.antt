@@ -44,7 +44,7 @@ LookupsAreInReach = (n : ℕ) (s : Schema) (x : Table) (e : Environment) (w : Wo
     → (known : Facts) (t : Tree) → Hold w known → SlotsAreBound w t → (ty : Ty) (out : Facts) → Types (strictly s x e) known t ty out
     → violations n (strictly s x e) known t ≡ [] → (u : Uid) → Looks w t u → IsInReach s n w u
 
--- the same of the condition of a policy that passes without violations, whatever its slots are bound to
+-- Where the condition of a policy that passes has no violation at the level, what it looks up is in reach, whatever its slots are bound to.
 abbrev pub ConditionsAreInReach : Type 0
 ConditionsAreInReach = (n : ℕ) (s : Schema) (x : Table) (w : World) (p : Policy) → IsOrderly s → IsConforming s x w → SliceConforms s n w → IsBound p
     → Passes s x p → policy_violations n s x p ≡ [] → (u : Uid) → Looks (with_slots w p.bindings) (condition p) u → IsInReach s n w u

@@ -259,7 +259,7 @@ nothing_known = known_now (setup_with 2 no_functions by_a staff) at_start
 abbrev pub nobody_known : World
 nobody_known = known_now (setup_with 2 no_functions by_some_user staff) at_start
 
--- the same after a round in which the principal, who isn't ok, and the document were loaded
+-- a store in which the principal isn't ok, and what is known of it after a round in which the principal and the document were loaded
 abbrev pub not_ok : Entities
 not_ok = (user_a, person user_a false) ∷ (doc_d, document user_b) ∷ []
 
@@ -347,7 +347,7 @@ loaded_course = record { submission = level_two; functions = no_functions; start
 abbrev pub actions_alone : Uid → Found Made
 actions_alone u = let s = (session_of loaded_course).schema in if declares_action s u then held (record { attributes = []; tags = []; ancestors = (as_entity s u).ancestors }) else unloaded u
 
--- the same by some user, who is bound late: to the owner of the document, who isn't the boss
+-- the course of a request by some user, who is bound late: to the owner of the document, who isn't the boss
 abbrev pub late_course : Course
 late_course = record loaded_course { start = by_some_user; steps = load ∷ load ∷ bind_name (codes "principal") (uid_made user_b) ∷ [] }
 

@@ -72,7 +72,7 @@ WellFormedDecides = (x : List Name) (d : Declarations) → Decides (well_formed 
 abbrev pub WellFormedIsFaultless : Type 0
 WellFormedIsFaultless = (x : List Name) (d : Declarations) → IsWellFormed x d ↔ ((f : SchemaFault) → Contains ill_forms f → HasSchemaFault x d f → ⊥)
 
--- the same declarations in another order
+-- Two declarations are the same but for their order.
 pub record IsReordered (d e : Declarations) : Type 0 where
   pub commons : IsPermutation d.commons e.commons
   pub entities : IsPermutation d.entities e.entities

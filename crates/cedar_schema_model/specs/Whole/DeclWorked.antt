@@ -101,7 +101,7 @@ user_fragment = record { commons = []; entities = user_declared ∷ []; actions 
 abbrev pub doc_fragment : Declarations
 doc_fragment = record { commons = []; entities = doc_declared ∷ []; actions = view_declared ∷ [] }
 
--- the same with one thing more
+-- the declarations `m` with one entity type or action more, with these common types, or with another context as well
 abbrev pub with_type : EntityDeclaration → Declarations
 with_type t = record m { entities = t ∷ m.entities }
 
@@ -130,11 +130,11 @@ view_action = record { uid = view; parents = []; principals = user ∷ []; resou
 abbrev pub m_schema : Schema
 m_schema = record { types = user_type ∷ doc_type ∷ []; actions = view_action ∷ [] }
 
--- the same with an enumerated type `Color` of `red`
+-- the schema `m_schema` with an enumerated type `Color` of `red`
 abbrev pub color_schema : Schema
 color_schema = record m_schema { types = record { name = color; parents = []; kind = enumerated (codes "red" ∷ []) } ∷ m_schema.types }
 
--- the same with tags that are numbers, and a group above users and documents
+-- a group, and the schema `m_schema` with tags that are numbers, and with the group above users and documents
 abbrev pub group_type : EntityType
 group_type = record { name = group; parents = group ∷ []; kind = standard no_attributes None }
 

@@ -15,7 +15,7 @@ Chain step x (z ∷ zs) y = step x z × Chain step z zs y
 abbrev pub Reaches : {X : Type 0} → (X → X → Type 0) → X → X → Type 0
 Reaches {X} step x y = (zs : List X) × Chain step x zs y
 
--- The same as a test, by way of these alone: straight, or, for each of them, to it and on from it.
+-- Whether a chain leads from one to the other by way of these alone: straight, or, for each of them, to it and on from it.
 abbrev pub reaches : {X : Type 0} → (X → X → Bool) → List X → X → X → Bool
 reaches step [] x y = step x y
 reaches step (z ∷ zs) x y = reaches step zs x y || (reaches step zs x z && reaches step zs z y)

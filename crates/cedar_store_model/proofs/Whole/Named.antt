@@ -51,6 +51,6 @@ resource_tree p = scope_tree resource resource_slot p.resource
 abbrev pub uid_trees : List Uid → Trees
 uid_trees us = trees (map (λ u. lit (entity u)) us)
 
--- the same slots
+-- whether two slots are the same
 abbrev pub slot_eq : SlotId → SlotId → Bool
 slot_eq s r = slot_rank s == slot_rank r

@@ -30,7 +30,7 @@ with_slots w b = record w { slots = binding_of b }
 abbrev pub PolicyMeans : World → Policy → Res V → Type 0
 PolicyMeans w p = Then (Means (with_slots w p.bindings) (condition p)) (λ v. Is (truth_asked v))
 
--- the same as a function
+-- the outcome of a policy, in the world with its slots: its condition's truth value or error, a type error of any other value
 abbrev pub policy_outcome : World → Policy → Option (Res V)
 policy_outcome w p = bind (outcome_of (with_slots w p.bindings) (condition p)) (λ v. Some (truth_asked v))
 

@@ -53,7 +53,7 @@ Picks on_true on_false (prim (truth true)) = on_true
 Picks on_true on_false (prim (truth false)) = on_false
 Picks on_true on_false v = Is (err wrong_type)
 
--- the same as a function
+-- the outcome that comes next by a truth value; a type error of any other value
 abbrev pub picked : Option (Res V) → Option (Res V) → V → Option (Res V)
 picked on_true on_false (prim (truth true)) = on_true
 picked on_true on_false (prim (truth false)) = on_false
@@ -95,7 +95,7 @@ abbrev mutual
   FieldsMean w no_tree_fields = Is (val no_fields)
   FieldsMean w (tree_field a t fs) = Then (Means w t) (λ v. Then (FieldsMean w fs) (λ vs. Is (val (field a v vs))))
 
--- The same as functions.
+-- What expressions and the fields of a record mean, as functions; none where something isn't known.
 abbrev mutual
   pub outcome_of : World → Tree → Option (Res V)
   outcome_of w (lit p) = Some (val (prim p))

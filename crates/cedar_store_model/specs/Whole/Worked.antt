@@ -165,7 +165,7 @@ bound_world = world_of table u_bound (as_open request) (record { extent = whole;
 abbrev pub world_without_b : World
 world_without_b = world_of table no_unknowns (as_open request) (record { extent = whole; entities = without_b })
 
--- the same request where nothing is loaded, where `User::"a"` is, and where the principal is open
+-- the worlds of the request: where nothing is loaded, where `User::"a"` is, and where the principal is open
 abbrev pub nothing_loaded : World
 nothing_loaded = world_of table no_unknowns (as_open request) (record { extent = partial; entities = [] })
 

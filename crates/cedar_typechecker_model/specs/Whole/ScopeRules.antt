@@ -65,7 +65,7 @@ NamesKnownActions s p = (u : Uid) → NamesUid p u → is_no_unknown_action s u 
 abbrev pub NamesKnownMembers : Schema → Policy → Type 0
 NamesKnownMembers s p = (u : Uid) → NamesUid p u → is_no_unknown_member s u ≡ true
 
--- the same as tests
+-- whether the policy keeps each of the scope rules
 abbrev pub names_known_types : Schema → Policy → Bool
 names_known_types s p = list_all (is_known_type s) (policy_kinds p)
 

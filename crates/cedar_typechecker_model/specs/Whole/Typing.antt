@@ -126,7 +126,7 @@ abbrev mutual
   FieldsTyped s known no_tree_fields as_ = as_ ≡ no_attributes
   FieldsTyped s known (tree_field a e fs) as_ = (t : Ty) × (f : Facts) × Types s known e t f × (bs : Attributes) × FieldsTyped s known fs bs × (as_ ≡ attribute a t true bs)
 
--- The same as functions.
+-- What the rules of types judge of expressions, as functions of what they judge of the parts; none where there is no type.
 abbrev pub or_judged : Option Judgement → Ty → Facts → Option Judgement
 or_judged right (bool_type only_true) f = judged (bool_type only_true) f
 or_judged right (bool_type left) f = option_and_then (λ r. disjoined left f r.type r.facts) right

@@ -79,7 +79,7 @@ pub record RequestType : Type 0 where
 abbrev pub is_of_request : RequestType → Environment → Bool
 is_of_request r e = name_eq r.principal e.principal && (uid_eq r.action e.action && name_eq r.resource e.resource)
 
--- The same among the environments of a request's types: the policy is irrelevant for it.
+-- Each environment of a request's types that fits gives the type False, or none fits: the policy is irrelevant for the request's types.
 abbrev pub IsIrrelevant : Schema → Table → RequestType → Policy → Type 0
 IsIrrelevant s x r p = (e : Environment) → Contains (policy_environments s p) e → fits p e ≡ true → is_of_request r e ≡ true → HasFalse (strictly s x e) (condition p)
 
@@ -97,7 +97,7 @@ verdict_of (Some (bool_type only_false)) = irrelevant
 verdict_of (Some (bool_type b)) = success
 verdict_of t = fail
 
--- the same as tests
+-- whether a type, if there is one, is of truth values, and whether it is that of false alone
 abbrev pub is_bool : Option Ty → Bool
 is_bool (Some (bool_type b)) = true
 is_bool t = false

@@ -88,7 +88,7 @@ viewing = record { principal = user; action = view; resource = doc; context = no
 abbrev pub here : Setting
 here = strictly small no_table viewing
 
--- the same in Permissive
+-- the setting in which a user views a document, in Permissive
 abbrev pub loosely : Setting
 loosely = in_mode permissive small no_table viewing
 

@@ -14,7 +14,7 @@ use Rattle.cedar_schema_kept_model.specs.KeptOf.{IsKeptOf}
 use Rattle.cedar_typechecker_seen_model.specs.Seen.{names_kept, uids_kept, IsClosed}
 
 module _ (s : Schema) (k : Kept) (h : IsKeptOf s k) where
-  -- the same names and uids
+  -- What is kept has the names and uids of the schema, and no others.
   pub name_into : (n : Name) → Contains (names_kept k) n → Contains (type_names s) n
   name_into n c =
       let t = map_from (λ (t : KeptType). t.name) k.types n c in

@@ -125,7 +125,7 @@ root_kept k w e u h =
 pub knowledge_keeps_the_slice : (s : Schema) (n : ℕ) (k w : World) (u : Uid) → HoldsNamesOnce k → Extends k w → InSlice s n k u → InSlice s n w u
 knowledge_keeps_the_slice s n k w u once e h = (near_kept k w (root_kept k w e) (λ v x m. found_kept (k.store v) (w.store v) x (once v) (e.store v) m) n u h.0, h.1)
 
--- the same roots
+-- Worlds with the same principal, resource and context have the same roots.
 pub same_root : (v w : World) → SameRoots v w → (u : Uid) → IsRoot w u ↔ IsRoot v u
 same_root v w r u = (
   λ h. root_from v u (⊎_elim (λ m. inl (subst (λ o. IsKnown o u) (sym r.principal) m)) (λ m. inr (⊎_elim (λ q. inl (subst (λ o. IsKnown o u) (sym r.resource) q)) (λ q. inr (subst (λ o. ContextMentions o u) (sym r.context) q)) m)) (root_cases w u h)),

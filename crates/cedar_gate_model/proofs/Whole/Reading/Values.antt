@@ -127,7 +127,7 @@ some_open (t ∷ ts) [] h e = absurd h
 some_open (t ∷ ts) (known m ∷ qs) h e = some_right (subexpressions (written m)) (parts_of (map part_tree qs)) (some_open ts qs h.1 (none_map (λ ns. m ∷ ns) (all_known qs) e))
 some_open (t ∷ ts) (left r ∷ qs) h e = some_left (subexpressions r) (parts_of (map part_tree qs)) h.0.0
 
--- the same of fields
+-- the subexpressions of fields that have these names and these expressions
 abbrev parts_of_fields : List Text → List Tree → List Tree
 parts_of_fields names ts = subexpressions_in_fields (tree_fields (zip names ts))
 

@@ -23,7 +23,7 @@ use Rattle.cedar_store_model.proofs.Whole.Conditions.{condition_asked}
 use Rattle.cedar_store_model.proofs.Whole.Named.{attributes_of, tags_of, tag_read, tag_tested}
 use Rattle.cedar_store_model.proofs.Whole.Stores.{same_answers}
 
--- the same attributes and tags, and the same ancestors in some order
+-- Two entities have the same attributes and tags, and the same ancestors in some order.
 pub record Alike (e d : Entity V) : Type 0 where
   pub attributes : e.attributes ≡ d.attributes
   pub tags : e.tags ≡ d.tags

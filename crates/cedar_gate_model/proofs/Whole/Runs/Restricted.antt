@@ -73,7 +73,7 @@ module _ (s : Scope) (w : World) (agrees : Agrees s) (none : (n : Text) → s.va
       let p = no_feature_split (subexpressions t) (subexpressions_among ts) e in
       one_more t ts (go t) (pieces_of go (listed ts)) (right t p.0) (all_meant go right ts p.1)
 
-  -- the same of fields
+  -- If all pieces of the fields of a record are known, they are the values that the fields mean. Nothing is said where a limit was met.
   abbrev FieldsMeant : TreeFields → Pieces → Type 0
   FieldsMeant fs (pieces qs) = (ms : List Made) → all_known qs ≡ Some ms → field_outcomes_of w fs ≡ Some (val (bare_fields (fields_named (field_names fs) ms)))
   FieldsMeant fs (halted s) = Unit {0}

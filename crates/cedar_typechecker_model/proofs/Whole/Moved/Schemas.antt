@@ -21,7 +21,7 @@ use Rattle.cedar_typechecker_model.specs.Whole.Rules.{may_be_in, tags_of}
 use Rattle.cedar_typechecker_model.specs.Whole.ScopeRules.{is_action_type, is_known_type, is_no_unknown_action, has_id, is_no_unknown_member}
 use Rattle.cedar_schema_model.specs.Whole.Conforming.{of_kind, tags_at, attributes_at}
 
--- the same types and actions in another order, each found alike
+-- Two schemas have the same types and actions, in another order, and find each alike.
 pub record IsMoved (s t : Schema) : Type 0 where
   pub types : IsPermutation s.types t.types
   pub actions : IsPermutation s.actions t.actions

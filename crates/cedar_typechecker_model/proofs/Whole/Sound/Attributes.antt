@@ -27,7 +27,7 @@ use Rattle.cedar_typechecker_model.proofs.Whole.Named.{field_value}
 use Rattle.std.specs.Map.{lookup}
 use Rattle.std.specs.Str.{bytes_eq}
 
--- the same of what is known of an outcome
+-- What is known of an outcome, if anything is, is good for the type.
 abbrev pub Fine : Ty → Option (Res V) → Type 0
 Fine ty None = Unit {0}
 Fine ty (Some r) = IsGood ty r

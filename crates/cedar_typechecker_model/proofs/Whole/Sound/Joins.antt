@@ -161,7 +161,7 @@ module _ (as_ bs : Attributes) (parts : (n : Text) (d : Declared) → attribute_
             subst (λ x. HasType x (record_type js (opened as_ o bs p js))) (sym r.1) (second_required r.0 r.2, subst (λ x. FieldsFit js x r.0) (sym a.1) (second_fits p r.0 a.3 r.3)));
       })
 
--- the same type on both sides
+-- A type is kept on both sides, if it is simple and each value of either side has it.
 kept_both : (a b j : Ty) → is_simple j ≡ true → ((v : V) → HasType v a → HasType v j) → ((v : V) → HasType v b → HasType v j) → Kept a b j
 kept_both a b j s f g = record { simple = s; first = f; second = g }
 

@@ -133,7 +133,7 @@ module _ (s : Schema) (x : Table) (e : Environment) (w : World) (suits : Suits s
         let k = next_value t a o.what v y j rest z h o.declared g f l in
         path_reached bs m (get_attr b a) o.what.type y k.0 o.is_simple o.of_type k.1 (subst (λ i. k.0 + i ≤ n) (steps_onward m bs t a o.what o.declared) k.2) o.type o.facts o.typed u q
 
-    -- the same where only the first entity of the path is reached, or where the path has no entity
+    -- A path has no entity, or its first entity is reached, and its steps on entities are no more than are left.
     abbrev Begins : Text → List Text → Ty → V → ℕ → Type 0
     Begins a bs t v j = (entity_steps (strictly s x e) a bs (Some t) ≡ 0) ⊎ (((u : Uid) → At (fields_before (strictly s x e) a bs (Some t)) v u → Reached s Near (suc j) u) × (j + entity_steps (strictly s x e) a bs (Some t) ≤ n))
 
