@@ -7,15 +7,15 @@ use Rattle.std.specs.Str.{bytes_eq}
 use Rattle.std.specs.declared.alloc.Global.{Global}
 use Rattle.std.specs.declared.rc.Rc.{Rc}
 use Rattle.cedar_expr_model.specs.Name.{Text}
-use Rattle.cedar_expr_model.specs.Whole.ListLaws.{AreDistinct}
-use Rattle.cedar_expr_model.specs.Whole.Made.{made_prim, made_set, made_record, made_extension}
-use Rattle.cedar_expr_model.specs.Whole.Tree.{Tree}
-use Rattle.cedar_expr_model.specs.Whole.Value.{truth, long, text, entity}
+use Rattle.cedar_expr_model.specs.ListLaws.{AreDistinct}
+use Rattle.cedar_expr_model.specs.Made.{made_prim, made_set, made_record, made_extension}
+use Rattle.cedar_expr_model.specs.Tree.{Tree}
+use Rattle.cedar_expr_model.specs.Value.{truth, long, text, entity}
 use Rattle.cedar_expr_trees.specs.declared.expr.Expr.{Expr}
-use Rattle.cedar_store_model.specs.Whole.OfLaws.Distinct.{has_distinct_ids}
-use Rattle.cedar_store_model.specs.Whole.Policy.{Policy, Effect, permit, forbid}
-use Rattle.cedar_store_model.specs.Whole.PolicySet.{PolicySet}
-use Rattle.cedar_store_model.proofs.Whole.Distinct.{distinct-Decides}
+use Rattle.cedar_store_model.specs.OfLaws.Distinct.{has_distinct_ids}
+use Rattle.cedar_store_model.specs.Policy.{Policy, Effect, permit, forbid}
+use Rattle.cedar_store_model.specs.PolicySet.{PolicySet}
+use Rattle.cedar_store_model.proofs.Distinct.{distinct-Decides}
 use Rattle.cedar_store_parts.specs.Parts.{id_text}
 use Rattle.cedar_store_parts.specs.declared.policy_id.PolicyID.{PolicyID}
 use Rattle.cedar_store_parts.specs.declared.annotation.Annotations.{Annotations}

@@ -1,8 +1,8 @@
 -- What a group holds once something is put at its end.
 use Rattle.std.proofs.Common.{◌≡◌, List, [], ◌∷◌, ◌++◌, map, ap, ◌∙◌}
 use Rattle.std.proofs.lemmas.List.{map-append}
-use Rattle.cedar_expr_model.specs.Whole.Tree.{Tree}
-use Rattle.cedar_store_model.specs.Whole.Policy.{Effect, permit, forbid}
+use Rattle.cedar_expr_model.specs.Tree.{Tree}
+use Rattle.cedar_store_model.specs.Policy.{Effect, permit, forbid}
 use Rattle.cedar_evaluator_model.specs.Response.{Noted, ErrorState, ResponseError, Response}
 use Rattle.cedar_evaluator_authorizer.specs.Gathering.{with_true, with_false, with_residual, with_error}
 

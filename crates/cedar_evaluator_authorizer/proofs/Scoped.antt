@@ -2,11 +2,11 @@
 use Rattle.std.proofs.Common.{◌≡◌, ℕ, List, sym, ap, ◌∙◌, subst}
 use Rattle.std.specs.Prelude.{Option, None}
 use Rattle.cedar_expr_model.specs.Name.{Text, Name}
-use Rattle.cedar_expr_model.specs.Whole.Made.{Made}
-use Rattle.cedar_expr_model.specs.Whole.Table.{Table, Called}
-use Rattle.cedar_expr_model.specs.Whole.Value.{V}
+use Rattle.cedar_expr_model.specs.Made.{Made}
+use Rattle.cedar_expr_model.specs.Table.{Table, Called}
+use Rattle.cedar_expr_model.specs.Value.{V}
 use Rattle.cedar_store_entities.specs.declared.entities.Entities.{Entities}
-use Rattle.cedar_store_model.specs.Whole.Policy.{binding_of, no_bindings}
+use Rattle.cedar_store_model.specs.Policy.{binding_of, no_bindings}
 use Rattle.cedar_evaluator_model.specs.Scope.{MadeCalled}
 use Rattle.cedar_evaluator_model.specs.Response.{PartialRequest}
 use Rattle.cedar_evaluator_operators.specs.Calls.{Functions}

@@ -1,12 +1,12 @@
 -- What is left of a policy, as it is told.
 use Rattle.std.proofs.Common.{◌≡◌, Bool, true, false, List, refl, sym, ap, ◌∙◌}
-use Rattle.cedar_expr_model.specs.Whole.Made.{Made, made_prim, made_set, made_record, made_extension}
+use Rattle.cedar_expr_model.specs.Made.{Made, made_prim, made_set, made_record, made_extension}
 use Rattle.cedar_expr_model.specs.Name.{Name}
-use Rattle.cedar_expr_model.specs.Whole.Table.{Table, Called}
-use Rattle.cedar_expr_model.specs.Whole.Tree.{Tree}
-use Rattle.cedar_expr_model.specs.Whole.Value.{V, truth, long, text, entity}
-use Rattle.cedar_store_model.specs.Whole.Outcome.{overflow}
-use Rattle.cedar_store_model.specs.Whole.Policy.{SlotBindings}
+use Rattle.cedar_expr_model.specs.Table.{Table, Called}
+use Rattle.cedar_expr_model.specs.Tree.{Tree}
+use Rattle.cedar_expr_model.specs.Value.{V, truth, long, text, entity}
+use Rattle.cedar_store_model.specs.Outcome.{overflow}
+use Rattle.cedar_store_model.specs.Policy.{SlotBindings}
 use Rattle.cedar_evaluator_model.specs.Scope.{MadeCalled, Stop, fault, limit, Left, value_left, residual, stopped}
 use Rattle.cedar_evaluator_model.specs.Steps.{on_value, truth_wanted, truth_left}
 use Rattle.cedar_evaluator_model.specs.Response.{stops}

@@ -2,8 +2,8 @@
 -- Rule: partial responses (docs/RULES.md).
 use Rattle.std.specs.Prelude.{List, [], ◌∷◌, ◌++◌, map, Option, Some, None}
 use Rattle.std.specs.List.{cons_option}
-use Rattle.cedar_expr_model.specs.Whole.Tree.{Tree}
-use Rattle.cedar_store_model.specs.Whole.Policy.{Policy, Effect, permit, forbid}
+use Rattle.cedar_expr_model.specs.Tree.{Tree}
+use Rattle.cedar_store_model.specs.Policy.{Policy, Effect, permit, forbid}
 use Rattle.cedar_evaluator_model.specs.Scope.{Left}
 use Rattle.cedar_evaluator_model.specs.Response.{PartialRequest, Noted, ErrorState, ResponseError, Response, of_effect, if_true, if_false, if_residual, if_stopped}
 use Rattle.cedar_evaluator_requests.specs.Views.{error_of}

@@ -2,11 +2,11 @@
 -- Rule: partial evaluation; partial responses (docs/RULES.md).
 use Rattle.std.specs.Prelude.{List, None}
 use Rattle.cedar_expr_model.specs.Name.{Name}
-use Rattle.cedar_expr_model.specs.Whole.Made.{Made}
-use Rattle.cedar_expr_model.specs.Whole.Table.{Table, Called}
-use Rattle.cedar_expr_model.specs.Whole.Value.{V}
+use Rattle.cedar_expr_model.specs.Made.{Made}
+use Rattle.cedar_expr_model.specs.Table.{Table, Called}
+use Rattle.cedar_expr_model.specs.Value.{V}
 use Rattle.cedar_store_entities.specs.declared.entities.Entities.{Entities}
-use Rattle.cedar_store_model.specs.Whole.Policy.{no_bindings, binding_of}
+use Rattle.cedar_store_model.specs.Policy.{no_bindings, binding_of}
 use Rattle.cedar_evaluator_model.specs.Scope.{Scope, MadeCalled}
 use Rattle.cedar_evaluator_model.specs.Response.{PartialRequest}
 use Rattle.cedar_evaluator_operators.specs.Calls.{Functions}

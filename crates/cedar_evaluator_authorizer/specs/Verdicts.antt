@@ -1,9 +1,9 @@
 -- What is left of a policy, in the model.
 -- Rule: partial responses (docs/RULES.md).
 use Rattle.std.specs.Prelude.{◌≡◌, true, false}
-use Rattle.cedar_expr_model.specs.Whole.Made.{made_prim}
-use Rattle.cedar_expr_model.specs.Whole.Tree.{Tree}
-use Rattle.cedar_expr_model.specs.Whole.Value.{truth}
+use Rattle.cedar_expr_model.specs.Made.{made_prim}
+use Rattle.cedar_expr_model.specs.Tree.{Tree}
+use Rattle.cedar_expr_model.specs.Value.{truth}
 use Rattle.cedar_expr_trees.specs.Trees.{tree_of}
 use Rattle.cedar_evaluator_model.specs.Scope.{limit, Left, value_left, residual, stopped}
 use Rattle.cedar_evaluator_model.specs.Response.{stops}

@@ -1,7 +1,7 @@
 //! Authorizers.
 
 ghost use Rattle.std.specs.Prelude.{◌≡◌, IfOk};
-ghost use Rattle.cedar_store_model.specs.Whole.Policy.{no_bindings};
+ghost use Rattle.cedar_store_model.specs.Policy.{no_bindings};
 ghost use Rattle.cedar_store_policies.specs.PolicySets.{set_of};
 ghost use Rattle.cedar_evaluator_model.specs.Members.{concretize};
 ghost use Rattle.cedar_evaluator_model.specs.Response.{PartialRequest, response_of};

@@ -1,9 +1,9 @@
 //! What is left of a policy.
 
 ghost use Rattle.std.specs.Prelude.{◌≡◌, Ok, Err, IfOk};
-ghost use Rattle.cedar_expr_model.specs.Whole.Tree.{Tree};
+ghost use Rattle.cedar_expr_model.specs.Tree.{Tree};
 ghost use Rattle.cedar_expr_trees.specs.Trees.{tree_of};
-ghost use Rattle.cedar_store_model.specs.Whole.Policy.{binding_of, no_bindings};
+ghost use Rattle.cedar_store_model.specs.Policy.{binding_of, no_bindings};
 ghost use Rattle.cedar_store_parts.specs.Parts.{bindings_of};
 ghost use Rattle.cedar_store_policies.specs.Policies.{policy_of};
 ghost use Rattle.cedar_evaluator_model.specs.Scope.{Left as ModelLeft};

@@ -1,10 +1,10 @@
 -- What an evaluator's answers say of what is left.
 use Rattle.std.proofs.Common.{◌≡◌, ◌⊎◌, inl, inr, Bool, true, false, refl, sym, ap, ◌∙◌, subst}
 use Rattle.std.specs.Prelude.{Result, Ok, Err, IfErr}
-use Rattle.cedar_expr_model.specs.Whole.Made as model
-use Rattle.cedar_expr_model.specs.Whole.Made.{Made, made_prim, made_set, made_record, made_extension}
-use Rattle.cedar_expr_model.specs.Whole.Tree.{Tree}
-use Rattle.cedar_expr_model.specs.Whole.Value.{V, truth, long, text, entity}
+use Rattle.cedar_expr_model.specs.Made as model
+use Rattle.cedar_expr_model.specs.Made.{Made, made_prim, made_set, made_record, made_extension}
+use Rattle.cedar_expr_model.specs.Tree.{Tree}
+use Rattle.cedar_expr_model.specs.Value.{V, truth, long, text, entity}
 use Rattle.cedar_expr_values.specs.Extensions.{extension_of}
 use Rattle.cedar_expr_values.specs.Values.{made}
 use Rattle.cedar_expr_values.specs.declared.value.Value.{Value}
@@ -12,7 +12,7 @@ use Rattle.cedar_expr_values.specs.declared.extension.ExtValue.{ExtValue}
 use Rattle.cedar_expr_trees.specs.Trees.{tree_of}
 use Rattle.cedar_expr_partial.specs.declared.partial_value.PartialValue.{PartialValue}
 use Rattle.cedar_expr_partial.specs.declared.partial_value.PartialValue.TheVariants as partial
-use Rattle.cedar_store_model.specs.Whole.Outcome.{Res, val, err, overflow}
+use Rattle.cedar_store_model.specs.Outcome.{Res, val, err, overflow}
 use Rattle.cedar_evaluator_model.specs.Scope.{Stop, fault, limit, Left, value_left, residual, stopped}
 use Rattle.cedar_evaluator_model.specs.Steps.{on_value, truth_left, truth_wanted, picks}
 use Rattle.cedar_evaluator_model.specs.OfLaws.Standing.{IsOutcome}

@@ -1,6 +1,6 @@
 -- One level of an evaluation.
 use Rattle.std.proofs.Common.{◌≡◌, ◌-◌, ◌<◌, ℕ, zero, suc, sym, ap, ◌∙◌, arith}
-use Rattle.cedar_expr_model.specs.Whole.Tree.{Tree}
+use Rattle.cedar_expr_model.specs.Tree.{Tree}
 use Rattle.cedar_evaluator_model.specs.Scope.{Scope, limit, stopped}
 use Rattle.cedar_evaluator_model.specs.Evaluation.{evaluated, node}
 

@@ -7,13 +7,13 @@ use Rattle.std.specs.Map.{keys_of, values_of}
 use Rattle.std.specs.declared.alloc.Global.{Global}
 use Rattle.std.specs.declared.vec.Vec.{Vec}
 use Rattle.cedar_expr_model.specs.Name.{Text, Name, name_eq}
-use Rattle.cedar_expr_model.specs.Whole.Builder.{conjunction, disjunction, path_test, trees}
-use Rattle.cedar_expr_model.specs.Whole.Made.{Made, made_prim, made_set, bare}
-use Rattle.cedar_expr_model.specs.Whole.Parts.{is_projectable, listed, listed_fields}
-use Rattle.cedar_expr_model.specs.Whole.Pattern.{Pattern}
-use Rattle.cedar_expr_model.specs.Whole.Table.{Table, Called}
-use Rattle.cedar_expr_model.specs.Whole.Tree.{Var, SlotId, CoreType, UnaryOp, BinaryOp, Tree, Trees, TreeFields, lit, var, slot, unknown, choice, both, either, unary, binary, call, get_attr, has_attr, has_path, like, is_type, set_literal, record_literal}
-use Rattle.cedar_expr_model.specs.Whole.Value.{Literal, truth, entity, V}
+use Rattle.cedar_expr_model.specs.Builder.{conjunction, disjunction, path_test, trees}
+use Rattle.cedar_expr_model.specs.Made.{Made, made_prim, made_set, bare}
+use Rattle.cedar_expr_model.specs.Parts.{is_projectable, listed, listed_fields}
+use Rattle.cedar_expr_model.specs.Pattern.{Pattern}
+use Rattle.cedar_expr_model.specs.Table.{Table, Called}
+use Rattle.cedar_expr_model.specs.Tree.{Var, SlotId, CoreType, UnaryOp, BinaryOp, Tree, Trees, TreeFields, lit, var, slot, unknown, choice, both, either, unary, binary, call, get_attr, has_attr, has_path, like, is_type, set_literal, record_literal}
+use Rattle.cedar_expr_model.specs.Value.{Literal, truth, entity, V}
 use Rattle.cedar_expr_values.specs.Extensions.{extension_of}
 use Rattle.cedar_expr_values.specs.Values.{made}
 use Rattle.cedar_expr_values.specs.declared.value.Value.{Value}
@@ -22,8 +22,8 @@ use Rattle.cedar_expr_trees.specs.Trees.{tree_of}
 use Rattle.cedar_expr_trees.specs.declared.expr.Expr.{Expr}
 use Rattle.cedar_expr_partial.specs.declared.partial_value.PartialValue.{PartialValue}
 use Rattle.cedar_expr_partial.specs.declared.partial_value.PartialValue.TheVariants as partial
-use Rattle.cedar_store_model.specs.Whole.Operators.{applied, like_pattern, of_type}
-use Rattle.cedar_store_model.specs.Whole.Outcome.{missing_field, unlinked_slot}
+use Rattle.cedar_store_model.specs.Operators.{applied, like_pattern, of_type}
+use Rattle.cedar_store_model.specs.Outcome.{missing_field, unlinked_slot}
 use Rattle.cedar_evaluator_model.specs.Scope.{Scope, MadeCalled, Stop, Left, value_left, residual, stopped}
 use Rattle.cedar_evaluator_model.specs.Steps.{errs, truth_left, on_value, best, left_of, picks, mapped, attribute_of, test_of, path_of, kind_of_unknown, called_left, Pieces, pieces, halted, from_pieces, made_members, record_left}
 use Rattle.cedar_evaluator_model.specs.Evaluation.{evaluated, node, variable_left, right_left, binary_left, get_of_residual, has_of_residual, tree_named, pieces_of}

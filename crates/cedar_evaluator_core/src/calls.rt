@@ -1,8 +1,8 @@
 //! Calls whose arguments are evaluated already.
 
 ghost use Rattle.std.specs.Prelude.{map};
-ghost use Rattle.cedar_expr_model.specs.Whole.Builder.{trees};
-ghost use Rattle.cedar_expr_model.specs.Whole.Tree.{call};
+ghost use Rattle.cedar_expr_model.specs.Builder.{trees};
+ghost use Rattle.cedar_expr_model.specs.Tree.{call};
 ghost use Rattle.cedar_expr_names.specs.Views.{plain_name_of};
 ghost use Rattle.cedar_expr_values.specs.Extensions.{extension_of};
 ghost use Rattle.cedar_expr_values.specs.Values.{made};

@@ -2,10 +2,10 @@
 
 ghost use Rattle.std.specs.Prelude.{◌≡◌, false, None, IfErr};
 ghost use Rattle.cedar_expr_trees.specs.Trees.{tree_of};
-ghost use Rattle.cedar_store_model.specs.Whole.Meaning.{Means};
-ghost use Rattle.cedar_store_model.specs.Whole.Outcome.{Res};
-ghost use Rattle.cedar_store_model.specs.Whole.Policy.{condition};
-ghost use Rattle.cedar_expr_model.specs.Whole.Value.{V as ModelValue};
+ghost use Rattle.cedar_store_model.specs.Meaning.{Means};
+ghost use Rattle.cedar_store_model.specs.Outcome.{Res};
+ghost use Rattle.cedar_store_model.specs.Policy.{condition};
+ghost use Rattle.cedar_expr_model.specs.Value.{V as ModelValue};
 ghost use Rattle.cedar_store_parts.specs.Parts.{bindings_of};
 ghost use Rattle.cedar_store_policies.specs.Policies.{policy_of};
 ghost use Rattle.cedar_evaluator_model.specs.Scope.{residual};

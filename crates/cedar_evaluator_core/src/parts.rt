@@ -2,9 +2,9 @@
 
 ghost use Rattle.std.specs.Prelude.{◌≡◌, map, IfOk};
 ghost use Rattle.std.specs.Vec.Iter.{into_iter_items};
-ghost use Rattle.cedar_expr_model.specs.Whole.Builder.{trees};
-ghost use Rattle.cedar_expr_model.specs.Whole.Made.{made_set};
-ghost use Rattle.cedar_expr_model.specs.Whole.Tree.{set_literal};
+ghost use Rattle.cedar_expr_model.specs.Builder.{trees};
+ghost use Rattle.cedar_expr_model.specs.Made.{made_set};
+ghost use Rattle.cedar_expr_model.specs.Tree.{set_literal};
 ghost use Rattle.cedar_expr_values.specs.Extensions.{extension_of};
 ghost use Rattle.cedar_expr_values.specs.Values.{made};
 ghost use Rattle.cedar_evaluator_model.specs.Scope.{value_left};
@@ -73,8 +73,8 @@ fn set_value(alloc: Global, values: Vec<V>) -> Result<Left, EvaluationError>
 }
 
 ghost use Rattle.std.specs.Map.{keys_of};
-ghost use Rattle.cedar_expr_model.specs.Whole.Builder.{tree_fields};
-ghost use Rattle.cedar_expr_model.specs.Whole.Parts.{listed_fields};
+ghost use Rattle.cedar_expr_model.specs.Builder.{tree_fields};
+ghost use Rattle.cedar_expr_model.specs.Parts.{listed_fields};
 ghost use Rattle.cedar_expr_trees.specs.Trees.{named, field_trees};
 ghost use Rattle.cedar_evaluator_model.specs.Steps.{record_left};
 

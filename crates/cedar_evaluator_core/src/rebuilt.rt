@@ -6,12 +6,12 @@ ghost use Rattle.std.specs.Rc.{rc_str_bytes};
 ghost use Rattle.cedar_expr_leaves.specs.Patterns.{pattern_of};
 ghost use Rattle.cedar_expr_leaves.specs.Operators.{unary_op_of};
 ghost use Rattle.cedar_expr_model.specs.Name.{name_eq};
-ghost use Rattle.cedar_expr_model.specs.Whole.Builder.{conjunction, disjunction};
-ghost use Rattle.cedar_expr_model.specs.Whole.Made.{bare};
-ghost use Rattle.cedar_expr_model.specs.Whole.Tree.{choice, unary, like as like_tree, is_type};
+ghost use Rattle.cedar_expr_model.specs.Builder.{conjunction, disjunction};
+ghost use Rattle.cedar_expr_model.specs.Made.{bare};
+ghost use Rattle.cedar_expr_model.specs.Tree.{choice, unary, like as like_tree, is_type};
 ghost use Rattle.cedar_expr_names.specs.Views.{type_name_of};
 ghost use Rattle.cedar_expr_trees.specs.Trees.{tree_of};
-ghost use Rattle.cedar_store_model.specs.Whole.Operators.{applied as model_applied, like_pattern, of_type};
+ghost use Rattle.cedar_store_model.specs.Operators.{applied as model_applied, like_pattern, of_type};
 ghost use Rattle.cedar_evaluator_model.specs.Scope.{Left as ModelLeft, value_left, residual};
 ghost use Rattle.cedar_evaluator_model.specs.Steps.{on_value, best, left_of, truth_left, kind_of_unknown};
 ghost use Rattle.cedar_evaluator_model.specs.Evaluation.{right_left};
@@ -144,7 +144,7 @@ pub fn get_of(alloc: Global, r: &Expr, attr: &RcStr) -> Result<Left, EvaluationE
     get_left(alloc, r.clone()?, attr)
 }
 
-ghost use Rattle.cedar_expr_model.specs.Whole.Tree.{Tree, get_attr};
+ghost use Rattle.cedar_expr_model.specs.Tree.{Tree, get_attr};
 ghost use Rattle.cedar_evaluator_model.specs.Scope.{Stop, stopped};
 ghost use Rattle.cedar_evaluator_errors.specs.Outcomes.{is_memory, stop_or};
 

@@ -3,9 +3,9 @@
 ghost use Rattle.std.specs.Prelude.{map};
 ghost use Rattle.std.specs.Map.{values_of};
 ghost use Rattle.std.specs.Rc.{rc_str_bytes};
-ghost use Rattle.cedar_expr_model.specs.Whole.Builder.{trees, tree_fields};
-ghost use Rattle.cedar_expr_model.specs.Whole.Parts.{listed, listed_fields};
-ghost use Rattle.cedar_expr_model.specs.Whole.Tree.{choice, both, either, get_attr, call, set_literal, record_literal};
+ghost use Rattle.cedar_expr_model.specs.Builder.{trees, tree_fields};
+ghost use Rattle.cedar_expr_model.specs.Parts.{listed, listed_fields};
+ghost use Rattle.cedar_expr_model.specs.Tree.{choice, both, either, get_attr, call, set_literal, record_literal};
 ghost use Rattle.cedar_expr_names.specs.Views.{plain_name_of};
 ghost use Rattle.cedar_expr_trees.specs.Trees.{tree_of, kind_tree, named, field_trees};
 ghost use Rattle.cedar_evaluator_core.specs.Walked.{LeavesWithin, LeavesLevel, LeavesField, BestWithin, PiecesWithin};

@@ -2,7 +2,7 @@
 -- Rule: partial evaluation (docs/RULES.md).
 use Rattle.std.specs.Prelude.{◌≡◌, Bool, true, false, Result, Ok, Err}
 use Rattle.cedar_expr_names.specs.Views.{uid_of, plain_name_of}
-use Rattle.cedar_expr_model.specs.Whole.Tree.{Tree}
+use Rattle.cedar_expr_model.specs.Tree.{Tree}
 use Rattle.cedar_expr_values.specs.Values.{made}
 use Rattle.cedar_expr_values.specs.Extensions.{extension_of}
 use Rattle.cedar_expr_values.specs.declared.value.Value.{Value}
@@ -13,7 +13,7 @@ use Rattle.cedar_expr_partial.specs.Parts.{part_of}
 use Rattle.cedar_expr_partial.specs.declared.partial_value.PartialValue.{PartialValue}
 use Rattle.cedar_expr_functions.specs.declared.err.ExtensionFunctionLookupError.{ExtensionFunctionLookupError}
 use Rattle.cedar_expr_functions.specs.declared.err.ExtensionFunctionLookupError.TheVariants as lookup
-use Rattle.cedar_store_model.specs.Whole.Outcome.{missing_entity, missing_attribute_or_tag, missing_field, wrong_type, overflow, no_function, wrong_count, unlinked_slot, extension_failed}
+use Rattle.cedar_store_model.specs.Outcome.{missing_entity, missing_attribute_or_tag, missing_field, wrong_type, overflow, no_function, wrong_count, unlinked_slot, extension_failed}
 use Rattle.cedar_evaluator_model.specs.Scope.{Stop, fault, limit, Left, value_left, stopped}
 use Rattle.cedar_evaluator_model.specs.Steps.{tag_left}
 use Rattle.cedar_evaluator_model.specs.Response.{Cause, stops, no_value}

@@ -3,6 +3,7 @@
 ghost use Rattle.std.specs.Prelude.{◌≡◌};
 ghost use Rattle.cedar_evaluator_model.specs.Scope.{Stop};
 ghost use Rattle.cedar_evaluator_errors.specs.Outcomes.{is_memory, stop_or};
+ghost use Rattle.cedar_evaluator_errors.specs.Places.{error_place, error_moved, error_placed};
 ghost use Rattle.cedar_evaluator_errors.specs.declared.err.EvaluationError.TheVariants.{OutOfMemory};
 
 use crate::evaluation_errors::{
@@ -258,7 +259,9 @@ impl EvaluationError {
     }
 
     /// The place of the error, if it has one.
-    pub fn source_loc(&self) -> Option<Loc> {
+    pub fn source_loc(&self) -> Option<Loc>
+        ensures { result ≡ error_place self.now }
+    {
         match self {
             EvaluationError::OutOfMemory => None,
             EvaluationError::FailedExtensionFunctionLookup(e) => lookup_loc(e),
@@ -275,8 +278,9 @@ impl EvaluationError {
         }
     }
 
-    /// The error at this place, or without one.
+    /// The error at this place, or without one. All else is as it was.
     pub fn with_maybe_source_loc(self, source_loc: Option<Loc>) -> EvaluationError
+        ensures moved { result ≡ error_moved source_loc self }
         ensures memory { is_memory result ≡ is_memory self }
         ensures stop { (other : Stop) → stop_or other result ≡ stop_or other self }
     {
@@ -324,6 +328,7 @@ impl EvaluationError {
 
     /// The error at its own place, or at this one where it has none.
     pub fn or_at(self, source_loc: Option<Loc>) -> EvaluationError
+        ensures placed { result ≡ error_placed source_loc self }
         ensures memory { is_memory result ≡ is_memory self }
         ensures stop { (other : Stop) → stop_or other result ≡ stop_or other self }
     {

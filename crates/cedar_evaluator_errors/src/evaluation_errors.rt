@@ -205,16 +205,22 @@ impl From<UnaryOpOverflowError> for IntegerOverflowError {
 }
 
 impl IntegerOverflowError {
+    ghost use Rattle.cedar_evaluator_errors.specs.Places.{overflow_place, overflow_moved};
+
     /// The place of the error, if it has one.
-    pub fn source_loc(&self) -> Option<Loc> {
+    pub fn source_loc(&self) -> Option<Loc>
+        ensures { result ≡ overflow_place self.now }
+    {
         match self {
             IntegerOverflowError::BinaryOp(e) => e.source_loc,
             IntegerOverflowError::UnaryOp(e) => e.source_loc,
         }
     }
 
-    /// The error at this place, or without one.
-    pub fn with_maybe_source_loc(self, source_loc: Option<Loc>) -> IntegerOverflowError {
+    /// The error at this place, or without one. All else is as it was.
+    pub fn with_maybe_source_loc(self, source_loc: Option<Loc>) -> IntegerOverflowError
+        ensures { result ≡ overflow_moved source_loc self }
+    {
         match self {
             IntegerOverflowError::BinaryOp(e) => {
                 IntegerOverflowError::BinaryOp(BinaryOpOverflowError { source_loc, ..e })
@@ -283,9 +289,12 @@ pub struct RecursionLimitError {
 }
 
 ghost use Rattle.cedar_evaluator_errors.specs.Outcomes.{is_lookup_memory};
+ghost use Rattle.cedar_evaluator_errors.specs.Places.{lookup_place, lookup_moved};
 
 // The place of a look-up that failed, if it has one.
-pub(crate) fn lookup_loc(error: &ExtensionFunctionLookupError) -> Option<Loc> {
+pub(crate) fn lookup_loc(error: &ExtensionFunctionLookupError) -> Option<Loc>
+    ensures { result ≡ lookup_place error.now }
+{
     match error {
         ExtensionFunctionLookupError::OutOfMemory => None,
         ExtensionFunctionLookupError::FuncDoesNotExist(e) => e.source_loc,
@@ -307,7 +316,8 @@ pub(crate) fn lookup_at(
     error: ExtensionFunctionLookupError,
     source_loc: Option<Loc>,
 ) -> ExtensionFunctionLookupError
-    ensures { is_lookup_memory result ≡ is_lookup_memory error }
+    ensures moved { result ≡ lookup_moved source_loc error }
+    ensures memory { is_lookup_memory result ≡ is_lookup_memory error }
 {
     match error {
         ExtensionFunctionLookupError::OutOfMemory => ExtensionFunctionLookupError::OutOfMemory,

@@ -2,9 +2,9 @@
 use Rattle.std.proofs.Common.{◌≡◌, ℕ, false, List, [], sym, ap, ◌∙◌, bytes_eq}
 use Rattle.std.specs.Prelude.{Option, Some, None, All}
 use Rattle.cedar_expr_model.specs.Name.{Text}
-use Rattle.cedar_expr_model.specs.Whole.Substitution.{Bindings}
-use Rattle.cedar_store_model.specs.Whole.Policy.{Policy}
-use Rattle.cedar_store_model.specs.Whole.Answer.{ids, answer_of}
+use Rattle.cedar_expr_model.specs.Substitution.{Bindings}
+use Rattle.cedar_store_model.specs.Policy.{Policy}
+use Rattle.cedar_store_model.specs.Answer.{ids, answer_of}
 use Rattle.cedar_evaluator_model.specs.Scope.{Scope}
 use Rattle.cedar_evaluator_model.specs.OfLaws.Calls.{Agrees}
 use Rattle.cedar_evaluator_model.specs.Known.{known_world}
@@ -14,7 +14,7 @@ use Rattle.cedar_evaluator_model.specs.Members.{all_residuals, concretize, met_l
 use Rattle.cedar_evaluator_model.specs.Reauthorize.{Outcome, makes_it, and_next, request_bound, resumed, reauthorized, repeated_id, refuses}
 use Rattle.cedar_evaluator_model.specs.Laws.{IsBound, as_concrete}
 use Rattle.cedar_evaluator_model.proofs.Responses.{answers, no_residuals}
-use Rattle.cedar_expr_model.specs.Whole.Repeats.{repeated}
+use Rattle.cedar_expr_model.specs.Repeats.{repeated}
 use Rattle.std.specs.Option.{option_map_or}
 
 -- what reauthorizing makes is the response to what is left

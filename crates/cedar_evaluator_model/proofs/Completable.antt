@@ -8,16 +8,16 @@ use Rattle.std.proofs.lemmas.List.Folds.{list_any-append}
 use Rattle.std.proofs.lemmas.Slice.Eq.{bytes_eq-Decides}
 use Rattle.cedar_expr_model.specs.Name.{Text, Name, colons, name_text}
 use Rattle.cedar_expr_model.specs.Uid.{Uid, uid_text}
-use Rattle.cedar_expr_model.specs.Whole.Uids.{is_uid}
-use Rattle.cedar_expr_model.specs.Whole.Value.{V, prim, entity, record_of, no_fields, truth_value}
-use Rattle.cedar_expr_model.specs.Whole.Made.{Made, bare, bare_fields}
-use Rattle.cedar_expr_model.specs.Whole.ValueParts.{Part, known, left}
+use Rattle.cedar_expr_model.specs.Uids.{is_uid}
+use Rattle.cedar_expr_model.specs.Value.{V, prim, entity, record_of, no_fields, truth_value}
+use Rattle.cedar_expr_model.specs.Made.{Made, bare, bare_fields}
+use Rattle.cedar_expr_model.specs.ValueParts.{Part, known, left}
 use Rattle.cedar_expr_model.proofs.Lists.{both_hold}
 use Rattle.cedar_expr_model.proofs.UidRead.{uid_read, uids_are_read}
 use Rattle.cedar_expr_model.proofs.UidText.{inside, uid_text_is}
-use Rattle.cedar_store_model.specs.Whole.World.{World, Entity, Found, held, missing, not_loaded, by_found}
-use Rattle.cedar_store_model.specs.Whole.Knowledge.{IsWhole, IsSettled, is_known, holds_values}
-use Rattle.cedar_store_model.specs.Whole.OfLaws.Extends.{Keeps}
+use Rattle.cedar_store_model.specs.World.{World, Entity, Found, held, missing, not_loaded, by_found}
+use Rattle.cedar_store_model.specs.Knowledge.{IsWhole, IsSettled, is_known, holds_values}
+use Rattle.cedar_store_model.specs.OfLaws.Extends.{Keeps}
 use Rattle.cedar_evaluator_model.specs.Scope.{Scope, Entry, uid, unknown_uid, Context, closed, residual_fields, unknown_context}
 use Rattle.cedar_evaluator_model.specs.Known.{known_part, known_parts, known_entity, known_found}
 use Rattle.cedar_evaluator_model.specs.OfLaws.Whole.{HoldsValues}

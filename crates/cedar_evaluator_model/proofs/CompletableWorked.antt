@@ -3,14 +3,14 @@ use Rattle.std.proofs.Common.{◌≡◌, Bool, true, false, cond, codes, None, r
 use Rattle.std.specs.Prelude.{Some}
 use Rattle.cedar_expr_model.specs.Name.{Text}
 use Rattle.cedar_expr_model.specs.Uid.{uid_eq}
-use Rattle.cedar_expr_model.specs.Whole.Uids.{is_uid}
-use Rattle.cedar_expr_model.specs.Whole.Value.{V, record_of, no_fields, field, truth_value}
-use Rattle.cedar_expr_model.specs.Whole.Tree.{Tree, record_literal, tree_field, no_tree_fields}
-use Rattle.cedar_expr_model.proofs.Whole.Gathering.{each_in}
-use Rattle.cedar_store_model.specs.Whole.Outcome.{val}
-use Rattle.cedar_store_model.specs.Whole.Meaning.{outcome_of}
-use Rattle.cedar_store_model.specs.Whole.World.{World, held, missing, not_loaded}
-use Rattle.cedar_store_model.proofs.Whole.Meaning.{outcome_means}
+use Rattle.cedar_expr_model.specs.Uids.{is_uid}
+use Rattle.cedar_expr_model.specs.Value.{V, record_of, no_fields, field, truth_value}
+use Rattle.cedar_expr_model.specs.Tree.{Tree, record_literal, tree_field, no_tree_fields}
+use Rattle.cedar_expr_model.proofs.Gathering.{each_in}
+use Rattle.cedar_store_model.specs.Outcome.{val}
+use Rattle.cedar_store_model.specs.Meaning.{outcome_of}
+use Rattle.cedar_store_model.specs.World.{World, held, missing, not_loaded}
+use Rattle.cedar_store_model.proofs.Meaning.{outcome_means}
 use Rattle.cedar_evaluator_model.specs.OfLaws.Completable.{Agree}
 use Rattle.cedar_evaluator_model.specs.Completion.{Fits, PartIs}
 use Rattle.cedar_evaluator_model.specs.Known.{known_found}

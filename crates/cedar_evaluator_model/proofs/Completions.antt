@@ -3,11 +3,11 @@ use Rattle.std.proofs.Common.{List, sym, subst, ap, is_some}
 use Rattle.std.specs.Prelude.{Option, Some, None, option_map}
 use Rattle.cedar_expr_model.specs.Name.{Text}
 use Rattle.cedar_expr_model.specs.Uid.{Uid}
-use Rattle.cedar_expr_model.specs.Whole.Value.{V}
-use Rattle.cedar_expr_model.specs.Whole.Made.{Made}
-use Rattle.cedar_expr_model.specs.Whole.ValueParts.{Part, known, left}
-use Rattle.cedar_store_model.specs.Whole.World.{World, Found, held, missing, not_loaded}
-use Rattle.cedar_store_model.specs.Whole.OfLaws.Extends.{Keeps, KeepsPart, KeepsParts, KeepsFound, Extends}
+use Rattle.cedar_expr_model.specs.Value.{V}
+use Rattle.cedar_expr_model.specs.Made.{Made}
+use Rattle.cedar_expr_model.specs.ValueParts.{Part, known, left}
+use Rattle.cedar_store_model.specs.World.{World, Found, held, missing, not_loaded}
+use Rattle.cedar_store_model.specs.OfLaws.Extends.{Keeps, KeepsPart, KeepsParts, KeepsFound, Extends}
 use Rattle.cedar_evaluator_model.specs.Scope.{Scope, Entry, uid, unknown_uid, Context, closed, residual_fields, unknown_context}
 use Rattle.cedar_evaluator_model.specs.Known.{known_entry, known_context, known_part, known_parts, known_found, known_world}
 use Rattle.cedar_evaluator_model.specs.OfLaws.Completing.{EntryMeans, ContextMeans, PartMeans, PartsMean, FoundMeans, Completes}

@@ -3,17 +3,17 @@ use Rattle.std.proofs.Common.{◌≡◌, ℕ, ◌≤◌, Bool, true, false, cond
 use Rattle.std.specs.Prelude.{Option, Some, map, is_some, IsSome}
 use Rattle.std.specs.List.{list_all}
 use Rattle.cedar_expr_model.specs.Name.{Text, Name, name_eq}
-use Rattle.cedar_expr_model.specs.Whole.Value.{V}
-use Rattle.cedar_expr_model.specs.Whole.Tree.{CoreType, Tree, nesting}
-use Rattle.cedar_expr_model.specs.Whole.Made.{bare}
-use Rattle.cedar_expr_model.specs.Whole.Table.{Table, Signature, leaves, all_typed}
-use Rattle.cedar_expr_model.specs.Whole.OfLaws.Fair.{IsAnswer, IsFair}
-use Rattle.cedar_expr_model.specs.Whole.Unknowns.{EachUnknown}
+use Rattle.cedar_expr_model.specs.Value.{V}
+use Rattle.cedar_expr_model.specs.Tree.{CoreType, Tree, nesting}
+use Rattle.cedar_expr_model.specs.Made.{bare}
+use Rattle.cedar_expr_model.specs.Table.{Table, Signature, leaves, all_typed}
+use Rattle.cedar_expr_model.specs.OfLaws.Fair.{IsAnswer, IsFair}
+use Rattle.cedar_expr_model.specs.Unknowns.{EachUnknown}
 use Rattle.cedar_expr_model.proofs.Lists.{both_hold}
-use Rattle.cedar_store_model.specs.Whole.Outcome.{Res, val, err}
-use Rattle.cedar_store_model.specs.Whole.Meaning.{Means, outcome_of}
-use Rattle.cedar_store_model.proofs.Whole.Known.{what_is_there}
-use Rattle.cedar_store_model.proofs.Whole.Meaning.{outcome_means}
+use Rattle.cedar_store_model.specs.Outcome.{Res, val, err}
+use Rattle.cedar_store_model.specs.Meaning.{Means, outcome_of}
+use Rattle.cedar_store_model.proofs.Known.{what_is_there}
+use Rattle.cedar_store_model.proofs.Meaning.{outcome_means}
 use Rattle.cedar_evaluator_model.specs.Scope.{Scope, fault, Left, value_left, residual, stopped}
 use Rattle.cedar_evaluator_model.specs.OfLaws.Calls.{bare_called, Agrees}
 use Rattle.cedar_evaluator_model.specs.Evaluation.{evaluated}

@@ -2,13 +2,13 @@
 use Rattle.std.proofs.Common.{◌≡◌, ℕ, true, false, cond, List, [], ◌∷◌, Contains, refl, sym, ap, ◌∙◌, subst, ◌⊎◌, inl, inr}
 use Rattle.std.specs.Prelude.{Option, Some, None, All}
 use Rattle.std.specs.List.{cons_option}
-use Rattle.cedar_expr_model.specs.Whole.Value.{V, truth, long, text, entity, prim, set_of, record_of, extension, truth_value}
+use Rattle.cedar_expr_model.specs.Value.{V, truth, long, text, entity, prim, set_of, record_of, extension, truth_value}
 use Rattle.cedar_expr_model.proofs.Lists.{contains_head, contains_tail, contains_cases, contains_none}
-use Rattle.cedar_store_model.specs.Whole.Outcome.{Res, val, err, Fault, bind}
-use Rattle.cedar_store_model.specs.Whole.Meaning.{Means, outcome_of, truth_asked}
-use Rattle.cedar_store_model.specs.Whole.Policy.{Policy, Effect, permit, forbid, condition}
-use Rattle.cedar_store_model.specs.Whole.Answer.{Decision, allow, deny, with_slots, policy_outcome, IsSatisfied}
-use Rattle.cedar_store_model.proofs.Whole.Meaning.{means_outcome}
+use Rattle.cedar_store_model.specs.Outcome.{Res, val, err, Fault, bind}
+use Rattle.cedar_store_model.specs.Meaning.{Means, outcome_of, truth_asked}
+use Rattle.cedar_store_model.specs.Policy.{Policy, Effect, permit, forbid, condition}
+use Rattle.cedar_store_model.specs.Answer.{Decision, allow, deny, with_slots, policy_outcome, IsSatisfied}
+use Rattle.cedar_store_model.proofs.Meaning.{means_outcome}
 use Rattle.cedar_evaluator_model.specs.Scope.{Scope, Left}
 use Rattle.cedar_evaluator_model.specs.Steps.{errs, truth_left}
 use Rattle.cedar_evaluator_model.specs.Evaluation.{evaluated}

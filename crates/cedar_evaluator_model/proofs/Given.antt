@@ -4,16 +4,16 @@ use Rattle.std.specs.Prelude.{List, Option, Some, None, neg_ℤ}
 use Rattle.std.specs.declared.cmp.Ordering.{Ordering}
 use Rattle.cedar_expr_model.specs.Name.{Name, name_eq}
 use Rattle.cedar_expr_model.specs.Uid.{Uid}
-use Rattle.cedar_expr_model.specs.Whole.Value.{truth, long, text, entity, V, prim, set_of, record_of, extension, Vs}
-use Rattle.cedar_expr_model.specs.Whole.Order.{text_cmp}
-use Rattle.cedar_expr_model.specs.Whole.Pattern.{Pattern}
-use Rattle.cedar_expr_model.specs.Whole.Tree.{Tree, UnaryOp, negation, minus, is_empty}
-use Rattle.cedar_expr_model.specs.Whole.Made.{Made, made_prim, bare}
-use Rattle.cedar_expr_model.specs.Whole.Table.{Table, is_ordered}
-use Rattle.cedar_store_model.specs.Whole.Outcome.{Res, val, err, wrong_type, overflow, bind}
-use Rattle.cedar_store_model.specs.Whole.Operators.{is_long, in_range, says, applied, ordered, calculated, among_members, of_sets, like_pattern, of_type}
-use Rattle.cedar_store_model.specs.Whole.Reads.{is_in_some}
-use Rattle.cedar_store_model.specs.Whole.Meaning.{picked, truth_asked}
+use Rattle.cedar_expr_model.specs.Value.{truth, long, text, entity, V, prim, set_of, record_of, extension, Vs}
+use Rattle.cedar_expr_model.specs.Order.{text_cmp}
+use Rattle.cedar_expr_model.specs.Pattern.{Pattern}
+use Rattle.cedar_expr_model.specs.Tree.{Tree, UnaryOp, negation, minus, is_empty}
+use Rattle.cedar_expr_model.specs.Made.{Made, made_prim, bare}
+use Rattle.cedar_expr_model.specs.Table.{Table, is_ordered}
+use Rattle.cedar_store_model.specs.Outcome.{Res, val, err, wrong_type, overflow, bind}
+use Rattle.cedar_store_model.specs.Operators.{is_long, in_range, says, applied, ordered, calculated, among_members, of_sets, like_pattern, of_type}
+use Rattle.cedar_store_model.specs.Reads.{is_in_some}
+use Rattle.cedar_store_model.specs.Meaning.{picked, truth_asked}
 use Rattle.cedar_evaluator_model.specs.Scope.{Left, value_left}
 use Rattle.cedar_evaluator_model.specs.Steps.{on_value, left_of, truth_wanted, picks}
 use Rattle.cedar_evaluator_model.specs.Evaluation.{right_left}

@@ -4,17 +4,17 @@ use Rattle.std.specs.Prelude.{Option, Some, None, option_map, map}
 use Rattle.std.specs.Ordering.{match_ordering}
 use Rattle.std.specs.declared.cmp.Ordering.{Ordering}
 use Rattle.std.specs.declared.cmp.Ordering.TheVariants.{Less, Equal, Greater}
-use Rattle.cedar_expr_model.specs.Whole.Value.{V, value}
-use Rattle.cedar_expr_model.specs.Whole.Order.{value_cmp}
-use Rattle.cedar_expr_model.specs.Whole.Canonical.{inserted, members_made}
-use Rattle.cedar_expr_model.specs.Whole.Tree.{Tree}
-use Rattle.cedar_expr_model.specs.Whole.Made.{Made, Mades, no_mades, made, bare, bares}
-use Rattle.cedar_expr_model.proofs.Whole.ValueOrder.{value_exact}
-use Rattle.cedar_store_model.specs.Whole.Outcome.{Res, val, err, bind}
+use Rattle.cedar_expr_model.specs.Value.{V, value}
+use Rattle.cedar_expr_model.specs.Order.{value_cmp}
+use Rattle.cedar_expr_model.specs.Canonical.{inserted, members_made}
+use Rattle.cedar_expr_model.specs.Tree.{Tree}
+use Rattle.cedar_expr_model.specs.Made.{Made, Mades, no_mades, made, bare, bares}
+use Rattle.cedar_expr_model.proofs.ValueOrder.{value_exact}
+use Rattle.cedar_store_model.specs.Outcome.{Res, val, err, bind}
 use Rattle.cedar_evaluator_model.specs.Scope.{Stop, fault, Left, value_left, stopped, residual}
 use Rattle.cedar_evaluator_model.specs.Steps.{Pieces, pieces, halted, with_piece, from_pieces, made_inserted, made_members}
 use Rattle.cedar_evaluator_model.proofs.Given.{Given}
-use Rattle.cedar_expr_model.specs.Whole.ValueParts.{all_known, known, part_tree}
+use Rattle.cedar_expr_model.specs.ValueParts.{all_known, known, part_tree}
 use Rattle.std.specs.Option.{option_map_or}
 
 -- sets of values as they were made have the bare sets

@@ -5,21 +5,21 @@ use Rattle.std.specs.Ordering.{is_lt, is_le}
 use Rattle.std.specs.Str.{bytes_eq}
 use Rattle.cedar_expr_model.specs.Name.{Text, Name}
 use Rattle.cedar_expr_model.specs.Uid.{Uid}
-use Rattle.cedar_expr_model.specs.Whole.Value.{truth, text, entity, V, field_of, truth_value}
-use Rattle.cedar_expr_model.specs.Whole.Order.{value_eq}
-use Rattle.cedar_expr_model.specs.Whole.Tree.{CoreType, unknown, BinaryOp, equal, less, less_or_equal, plus, difference, times, is_in, contains, contains_all, contains_any, get_tag, has_tag}
-use Rattle.cedar_expr_model.specs.Whole.Made.{Made, made_prim, made_record, MadeFields, no_made_fields, made_field, bare, bare_fields}
-use Rattle.cedar_expr_model.specs.Whole.Table.{Signature, signature_of, takes_count, are_of_types}
-use Rattle.cedar_expr_model.specs.Whole.OfLaws.Fair.{IsTaken}
-use Rattle.cedar_expr_model.proofs.Whole.CoreTypes.{fits-Decides}
-use Rattle.cedar_expr_model.specs.Whole.Canonical.{is_subset, is_disjoint}
-use Rattle.cedar_store_model.specs.Whole.Outcome.{Res, val, err, wrong_type, wrong_count, bind, missing_attribute_or_tag, missing_field}
-use Rattle.cedar_expr_model.specs.Whole.ValueParts.{Part, known, left}
-use Rattle.cedar_store_model.specs.Whole.World.{Found, held, missing, not_loaded}
-use Rattle.cedar_store_model.specs.Whole.Operators.{says, answered}
-use Rattle.cedar_store_model.proofs.Whole.Named.{attributes_of, tags_of, tag_read, tag_tested, bound_value, called_of}
-use Rattle.cedar_store_model.specs.Whole.Reads.{part_value, part_read, part_tested, attribute_read, attribute_tested, uids_in, is_in_some, found_in, within}
-use Rattle.cedar_store_model.specs.Whole.Meaning.{combined, path_tested, picked}
+use Rattle.cedar_expr_model.specs.Value.{truth, text, entity, V, field_of, truth_value}
+use Rattle.cedar_expr_model.specs.Order.{value_eq}
+use Rattle.cedar_expr_model.specs.Tree.{CoreType, unknown, BinaryOp, equal, less, less_or_equal, plus, difference, times, is_in, contains, contains_all, contains_any, get_tag, has_tag}
+use Rattle.cedar_expr_model.specs.Made.{Made, made_prim, made_record, MadeFields, no_made_fields, made_field, bare, bare_fields}
+use Rattle.cedar_expr_model.specs.Table.{Signature, signature_of, takes_count, are_of_types}
+use Rattle.cedar_expr_model.specs.OfLaws.Fair.{IsTaken}
+use Rattle.cedar_expr_model.proofs.CoreTypes.{fits-Decides}
+use Rattle.cedar_expr_model.specs.Canonical.{is_subset, is_disjoint}
+use Rattle.cedar_store_model.specs.Outcome.{Res, val, err, wrong_type, wrong_count, bind, missing_attribute_or_tag, missing_field}
+use Rattle.cedar_expr_model.specs.ValueParts.{Part, known, left}
+use Rattle.cedar_store_model.specs.World.{Found, held, missing, not_loaded}
+use Rattle.cedar_store_model.specs.Operators.{says, answered}
+use Rattle.cedar_store_model.proofs.Named.{attributes_of, tags_of, tag_read, tag_tested, bound_value, called_of}
+use Rattle.cedar_store_model.specs.Reads.{part_value, part_read, part_tested, attribute_read, attribute_tested, uids_in, is_in_some, found_in, within}
+use Rattle.cedar_store_model.specs.Meaning.{combined, path_tested, picked}
 use Rattle.cedar_evaluator_model.specs.Scope.{Scope, MadeCalled, makes, faults, leaves_unknown, Left, value_left, residual}
 use Rattle.cedar_evaluator_model.specs.OfLaws.Calls.{bare_called, Agrees}
 use Rattle.cedar_evaluator_model.specs.Steps.{errs, truth_left, mapped, part_left, tag_left, part_or_missing, made_named, attribute_of, test_of, path_step, path_of, get_tag_found, has_tag_found, tag_of, in_found, in_of, combined_left, answer_left, call_left}

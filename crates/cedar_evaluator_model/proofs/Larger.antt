@@ -1,15 +1,15 @@
 -- Where what is known gives an expression an outcome and the limit isn't met, every larger limit leaves the same.
 use Rattle.std.proofs.Common.{◌≡◌, ℕ, zero, suc, ◌+◌, ◌-◌, ◌≤◌, Bool, true, false, List, ◌∷◌, refl, sym, ap, ◌∙◌, inl, inr, arith, zip}
 use Rattle.std.specs.Prelude.{Option, Some, None}
-use Rattle.cedar_expr_model.specs.Whole.Value.{truth, V, field}
-use Rattle.cedar_expr_model.specs.Whole.Tree.{Tree, choice, both, either, unary, binary, call, get_attr, has_attr, has_path, like, is_type, set_literal, record_literal, Trees, no_trees, tree, TreeFields, no_tree_fields, tree_field}
-use Rattle.cedar_expr_model.specs.Whole.Builder.{conjunction, disjunction, trees, tree_fields}
-use Rattle.cedar_expr_model.specs.Whole.Made.{Made, made_prim, made_set, made_record, bare}
-use Rattle.cedar_store_model.specs.Whole.Outcome.{Res, val, err, bind}
-use Rattle.cedar_store_model.specs.Whole.Operators.{says}
-use Rattle.cedar_store_model.specs.Whole.Meaning.{picked, combined, truth_asked, outcome_of, outcomes_of, field_outcomes_of}
-use Rattle.cedar_store_model.specs.Whole.Laws.{IsGrounded}
-use Rattle.cedar_store_model.proofs.Whole.Meaning.{means_outcome}
+use Rattle.cedar_expr_model.specs.Value.{truth, V, field}
+use Rattle.cedar_expr_model.specs.Tree.{Tree, choice, both, either, unary, binary, call, get_attr, has_attr, has_path, like, is_type, set_literal, record_literal, Trees, no_trees, tree, TreeFields, no_tree_fields, tree_field}
+use Rattle.cedar_expr_model.specs.Builder.{conjunction, disjunction, trees, tree_fields}
+use Rattle.cedar_expr_model.specs.Made.{Made, made_prim, made_set, made_record, bare}
+use Rattle.cedar_store_model.specs.Outcome.{Res, val, err, bind}
+use Rattle.cedar_store_model.specs.Operators.{says}
+use Rattle.cedar_store_model.specs.Meaning.{picked, combined, truth_asked, outcome_of, outcomes_of, field_outcomes_of}
+use Rattle.cedar_store_model.specs.Laws.{IsGrounded}
+use Rattle.cedar_store_model.proofs.Meaning.{means_outcome}
 use Rattle.cedar_evaluator_model.specs.Scope.{Scope, limit, Left, value_left, stopped}
 use Rattle.cedar_evaluator_model.specs.OfLaws.Calls.{Agrees}
 use Rattle.cedar_evaluator_model.specs.Steps.{truth_left, on_value, picks, truth_wanted, combined_left, called_left, made_members, Pieces, halted, with_piece, from_pieces}
@@ -19,7 +19,7 @@ use Rattle.cedar_evaluator_model.specs.Completion.{FitsAnnotations}
 use Rattle.cedar_evaluator_model.specs.OfLaws.Standing.{LeavesUnbound, NoLimit}
 use Rattle.cedar_evaluator_model.proofs.Reached.{Reached, reached}
 use Rattle.cedar_evaluator_model.proofs.Named.{field_names, field_trees, fields_named, FitsIn, FitsAmong, FitsInFields, fits_in}
-use Rattle.cedar_expr_model.specs.Whole.Parts.{listed}
+use Rattle.cedar_expr_model.specs.Parts.{listed}
 
 -- where there is an outcome and the limit isn't met, the other is the same
 abbrev Stays : Option (Res V) → Left → Left → Type 0

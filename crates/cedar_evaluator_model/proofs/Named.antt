@@ -5,20 +5,20 @@ use Rattle.std.specs.Map.{lookup, keys_of, values_of}
 use Rattle.std.specs.Str.{bytes_eq}
 use Rattle.cedar_expr_model.specs.Name.{Text, Name, name_eq}
 use Rattle.cedar_expr_model.specs.Uid.{Uid}
-use Rattle.cedar_expr_model.specs.Whole.Tree.{Tree, get_attr, has_attr, has_path, Trees, TreeFields, is_type}
-use Rattle.cedar_expr_model.specs.Whole.Parts.{listed_fields}
-use Rattle.cedar_expr_model.specs.Whole.Made.{Made, MadeFields, made_prim}
-use Rattle.cedar_expr_model.specs.Whole.Table.{Signature}
-use Rattle.cedar_expr_model.proofs.Whole.Gathering.{EachIn, EachAmong, EachInFields, each_in}
-use Rattle.cedar_store_model.specs.Whole.Outcome.{missing_entity, no_function, unlinked_slot}
-use Rattle.cedar_store_model.specs.Whole.World.{World, Found, by_found}
-use Rattle.cedar_store_model.specs.Whole.Store.{stand_in}
+use Rattle.cedar_expr_model.specs.Tree.{Tree, get_attr, has_attr, has_path, Trees, TreeFields, is_type}
+use Rattle.cedar_expr_model.specs.Parts.{listed_fields}
+use Rattle.cedar_expr_model.specs.Made.{Made, MadeFields, made_prim}
+use Rattle.cedar_expr_model.specs.Table.{Signature}
+use Rattle.cedar_expr_model.proofs.Gathering.{EachIn, EachAmong, EachInFields, each_in}
+use Rattle.cedar_store_model.specs.Outcome.{missing_entity, no_function, unlinked_slot}
+use Rattle.cedar_store_model.specs.World.{World, Found, by_found}
+use Rattle.cedar_store_model.specs.Store.{stand_in}
 use Rattle.cedar_evaluator_model.specs.Scope.{Scope, Left, residual, Context, value_left}
 use Rattle.cedar_evaluator_model.specs.Steps.{errs, truth_left, part_left, part_or_missing, part_there, path_step, call_left, made_fields, kind_of_unknown}
 use Rattle.cedar_evaluator_model.specs.Completion.{Fits, FitsAnnotations}
 use Rattle.cedar_evaluator_model.specs.Reauthorize.{Outcome, and_next, context_bound, context_substituted}
-use Rattle.cedar_expr_model.specs.Whole.Value.{entity}
-use Rattle.cedar_expr_model.specs.Whole.Substitution.{Bindings}
+use Rattle.cedar_expr_model.specs.Value.{entity}
+use Rattle.cedar_expr_model.specs.Substitution.{Bindings}
 
 -- what a slot leaves
 abbrev pub slot_left : Option Uid → Left

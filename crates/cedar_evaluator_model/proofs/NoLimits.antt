@@ -4,19 +4,19 @@ use Rattle.std.specs.Prelude.{Option, Some, None, map, option_map, length, IsSom
 use Rattle.std.specs.List.{list_all}
 use Rattle.cedar_expr_model.specs.Name.{Text, Name}
 use Rattle.cedar_expr_model.specs.Uid.{Uid}
-use Rattle.cedar_expr_model.specs.Whole.Value.{V}
-use Rattle.cedar_expr_model.specs.Whole.Tree.{CoreType, Var, principal, action, resource, context, Tree, lit, var, slot, unknown, choice, both, either, unary, binary, call, get_attr, has_attr, has_path, like, is_type, set_literal, record_literal, Trees, no_trees, tree, TreeFields, no_tree_fields, tree_field, nesting, nestings, field_nestings}
-use Rattle.cedar_expr_model.specs.Whole.Parts.{is_projectable, may_project, listed, subexpressions, subexpressions_among, subexpressions_in_fields}
-use Rattle.cedar_expr_model.specs.Whole.Made.{Made, made_set, made_record, bare, written}
-use Rattle.cedar_expr_model.specs.Whole.Substitution.{fits_annotation}
-use Rattle.cedar_expr_model.specs.Whole.Table.{Signature, signature_of, takes_count, are_of_types}
-use Rattle.cedar_expr_model.specs.Whole.OfLaws.Fair.{IsTaken}
+use Rattle.cedar_expr_model.specs.Value.{V}
+use Rattle.cedar_expr_model.specs.Tree.{CoreType, Var, principal, action, resource, context, Tree, lit, var, slot, unknown, choice, both, either, unary, binary, call, get_attr, has_attr, has_path, like, is_type, set_literal, record_literal, Trees, no_trees, tree, TreeFields, no_tree_fields, tree_field, nesting, nestings, field_nestings}
+use Rattle.cedar_expr_model.specs.Parts.{is_projectable, may_project, listed, subexpressions, subexpressions_among, subexpressions_in_fields}
+use Rattle.cedar_expr_model.specs.Made.{Made, made_set, made_record, bare, written}
+use Rattle.cedar_expr_model.specs.Substitution.{fits_annotation}
+use Rattle.cedar_expr_model.specs.Table.{Signature, signature_of, takes_count, are_of_types}
+use Rattle.cedar_expr_model.specs.OfLaws.Fair.{IsTaken}
 use Rattle.cedar_expr_model.proofs.Lists.{both_hold}
-use Rattle.cedar_store_model.specs.Whole.Outcome.{wrong_type, wrong_count}
-use Rattle.cedar_expr_model.specs.Whole.ValueParts.{Part, known, left, all_known, part_tree}
-use Rattle.cedar_store_model.specs.Whole.World.{Found, held, missing, not_loaded}
-use Rattle.cedar_store_model.specs.Whole.Operators.{applied, like_pattern, of_type}
-use Rattle.cedar_store_model.specs.Whole.Knowledge.{is_known}
+use Rattle.cedar_store_model.specs.Outcome.{wrong_type, wrong_count}
+use Rattle.cedar_expr_model.specs.ValueParts.{Part, known, left, all_known, part_tree}
+use Rattle.cedar_store_model.specs.World.{Found, held, missing, not_loaded}
+use Rattle.cedar_store_model.specs.Operators.{applied, like_pattern, of_type}
+use Rattle.cedar_store_model.specs.Knowledge.{is_known}
 use Rattle.cedar_evaluator_model.specs.Scope.{Scope, MadeCalled, makes, faults, leaves_unknown, Entry, uid, unknown_uid, Context, closed, residual_fields, unknown_context, fault, limit, Left, value_left, residual, stopped}
 use Rattle.cedar_evaluator_model.specs.OfLaws.Calls.{bare_called, Agrees}
 use Rattle.cedar_evaluator_model.specs.Steps.{errs, truth_left, best, mapped, attribute_of, test_of, path_of, combined_left, kind_of_value, kind_of_unknown, with_residual, answer_left, called_left, made_members, Pieces, pieces, halted, with_piece, from_pieces}
@@ -30,8 +30,8 @@ use Rattle.cedar_evaluator_model.proofs.Sure.{Sure, sure_if, sure_value, sure_le
 use Rattle.std.proofs.lemmas.List.Folds.{list_all-append}
 use Rattle.cedar_evaluator_model.proofs.Named.{call_of, field_names, field_trees, fields_named, slot_left}
 use Rattle.std.specs.Option.{option_map_or}
-use Rattle.cedar_expr_model.specs.Whole.Builder.{tree_fields, trees}
-use Rattle.cedar_expr_model.proofs.Whole.Gathering.{EachAmong, EachIn, EachInFields, each_in}
+use Rattle.cedar_expr_model.specs.Builder.{tree_fields, trees}
+use Rattle.cedar_expr_model.proofs.Gathering.{EachAmong, EachIn, EachInFields, each_in}
 
 -- several pieces: values, or what is rebuilt of them can't be projected
 abbrev SureWhole : (List Tree → Bool) → List (Part Made) → Option (List Made) → Type 0

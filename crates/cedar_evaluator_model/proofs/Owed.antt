@@ -4,18 +4,18 @@ use Rattle.std.proofs.Math.Nat.{le-max_left, le-max_right}
 use Rattle.std.specs.Prelude.{Option, Some, None, map, option_map}
 use Rattle.cedar_expr_model.specs.Name.{Text}
 use Rattle.cedar_expr_model.specs.Uid.{Uid}
-use Rattle.cedar_expr_model.specs.Whole.Value.{truth, V, set_of, record_of, field}
-use Rattle.cedar_expr_model.specs.Whole.Canonical.{set_made}
-use Rattle.cedar_expr_model.specs.Whole.Builder.{conjunction, disjunction, trees, tree_fields}
-use Rattle.cedar_expr_model.specs.Whole.Tree.{CoreType, Tree, lit, var, slot, unknown, choice, both, either, unary, binary, call, get_attr, has_attr, has_path, like, is_type, set_literal, record_literal, Trees, no_trees, tree, TreeFields, no_tree_fields, tree_field, Var, principal, action, resource, context, nesting, nestings, field_nestings}
-use Rattle.cedar_expr_model.specs.Whole.Made.{made_prim, made_set, made_record, bare, bare_fields}
-use Rattle.cedar_expr_model.specs.Whole.Table.{signature_of}
-use Rattle.cedar_store_model.specs.Whole.Outcome.{Res, val, bind}
-use Rattle.cedar_store_model.proofs.Whole.Named.{bound_value, known_uid}
-use Rattle.cedar_store_model.specs.Whole.Operators.{says, applied, like_pattern, of_type, called}
-use Rattle.cedar_store_model.specs.Whole.Reads.{attribute_read, attribute_tested}
-use Rattle.cedar_store_model.specs.Whole.Meaning.{variable, combined, slot_value, outcome_of, outcomes_of, field_outcomes_of, path_tested}
-use Rattle.cedar_store_model.proofs.Whole.Meaning.{means_outcome}
+use Rattle.cedar_expr_model.specs.Value.{truth, V, set_of, record_of, field}
+use Rattle.cedar_expr_model.specs.Canonical.{set_made}
+use Rattle.cedar_expr_model.specs.Builder.{conjunction, disjunction, trees, tree_fields}
+use Rattle.cedar_expr_model.specs.Tree.{CoreType, Tree, lit, var, slot, unknown, choice, both, either, unary, binary, call, get_attr, has_attr, has_path, like, is_type, set_literal, record_literal, Trees, no_trees, tree, TreeFields, no_tree_fields, tree_field, Var, principal, action, resource, context, nesting, nestings, field_nestings}
+use Rattle.cedar_expr_model.specs.Made.{made_prim, made_set, made_record, bare, bare_fields}
+use Rattle.cedar_expr_model.specs.Table.{signature_of}
+use Rattle.cedar_store_model.specs.Outcome.{Res, val, bind}
+use Rattle.cedar_store_model.proofs.Named.{bound_value, known_uid}
+use Rattle.cedar_store_model.specs.Operators.{says, applied, like_pattern, of_type, called}
+use Rattle.cedar_store_model.specs.Reads.{attribute_read, attribute_tested}
+use Rattle.cedar_store_model.specs.Meaning.{variable, combined, slot_value, outcome_of, outcomes_of, field_outcomes_of, path_tested}
+use Rattle.cedar_store_model.proofs.Meaning.{means_outcome}
 use Rattle.cedar_evaluator_model.specs.Scope.{Scope, Entry, uid, unknown_uid, Context, closed, residual_fields, unknown_context, Left, value_left}
 use Rattle.cedar_evaluator_model.specs.OfLaws.Calls.{Agrees}
 use Rattle.cedar_evaluator_model.specs.Steps.{truth_left, left_of, combined_left, attribute_of, test_of, path_of, called_left, made_members}
@@ -27,7 +27,7 @@ use Rattle.cedar_evaluator_model.proofs.Given.{Given, given_value, given_bind, g
 use Rattle.cedar_evaluator_model.proofs.GivenReads.{given_mapped, given_attribute, given_test, given_path, given_combined, given_call}
 use Rattle.cedar_evaluator_model.proofs.GivenLists.{bare_members, GivenAs, given_from, given_more}
 use Rattle.cedar_evaluator_model.proofs.Named.{field_names, field_trees, fields_named, FitsIn, FitsAmong, FitsInFields, fits_in, slot_left}
-use Rattle.cedar_expr_model.specs.Whole.Parts.{listed}
+use Rattle.cedar_expr_model.specs.Parts.{listed}
 
 -- variables and slots
 given_entry : (n : Text) (e : Entry) → Given (known_uid (known_entry e)) (entry_left n e)

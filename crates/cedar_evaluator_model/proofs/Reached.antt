@@ -1,17 +1,17 @@
 -- At every limit: where what is known gives an expression an outcome, that outcome is left, or the limit is met.
 use Rattle.std.proofs.Common.{◌≡◌, ℕ, zero, suc, Bool, true, false, List, [], ◌∷◌, refl, sym, ap, ◌∙◌, subst, ◌⊎◌, inl, inr, ⊎_elim, zip}
 use Rattle.std.specs.Prelude.{Option, Some, None, map}
-use Rattle.cedar_expr_model.specs.Whole.Value.{truth, V, set_of, record_of, field}
-use Rattle.cedar_expr_model.specs.Whole.Canonical.{set_made}
-use Rattle.cedar_expr_model.specs.Whole.Builder.{conjunction, disjunction, trees, tree_fields}
-use Rattle.cedar_expr_model.specs.Whole.Tree.{Tree, lit, var, slot, unknown, choice, both, either, unary, binary, call, get_attr, has_attr, has_path, like, is_type, set_literal, record_literal, Trees, no_trees, tree, TreeFields, no_tree_fields, tree_field}
-use Rattle.cedar_expr_model.specs.Whole.Made.{Made, made_prim, made_set, made_record, bare, bare_fields}
-use Rattle.cedar_expr_model.specs.Whole.Table.{signature_of}
-use Rattle.cedar_store_model.specs.Whole.Outcome.{Res, val, err, bind}
-use Rattle.cedar_store_model.specs.Whole.Operators.{says, applied, like_pattern, of_type, called}
-use Rattle.cedar_store_model.specs.Whole.Reads.{attribute_read, attribute_tested}
-use Rattle.cedar_store_model.specs.Whole.Meaning.{Means, combined, picked, truth_asked, outcome_of, outcomes_of, field_outcomes_of, path_tested}
-use Rattle.cedar_store_model.proofs.Whole.Meaning.{means_outcome}
+use Rattle.cedar_expr_model.specs.Value.{truth, V, set_of, record_of, field}
+use Rattle.cedar_expr_model.specs.Canonical.{set_made}
+use Rattle.cedar_expr_model.specs.Builder.{conjunction, disjunction, trees, tree_fields}
+use Rattle.cedar_expr_model.specs.Tree.{Tree, lit, var, slot, unknown, choice, both, either, unary, binary, call, get_attr, has_attr, has_path, like, is_type, set_literal, record_literal, Trees, no_trees, tree, TreeFields, no_tree_fields, tree_field}
+use Rattle.cedar_expr_model.specs.Made.{Made, made_prim, made_set, made_record, bare, bare_fields}
+use Rattle.cedar_expr_model.specs.Table.{signature_of}
+use Rattle.cedar_store_model.specs.Outcome.{Res, val, err, bind}
+use Rattle.cedar_store_model.specs.Operators.{says, applied, like_pattern, of_type, called}
+use Rattle.cedar_store_model.specs.Reads.{attribute_read, attribute_tested}
+use Rattle.cedar_store_model.specs.Meaning.{Means, combined, picked, truth_asked, outcome_of, outcomes_of, field_outcomes_of, path_tested}
+use Rattle.cedar_store_model.proofs.Meaning.{means_outcome}
 use Rattle.cedar_evaluator_model.specs.Scope.{Scope, limit, Left, value_left, stopped}
 use Rattle.cedar_evaluator_model.specs.OfLaws.Calls.{Agrees}
 use Rattle.cedar_evaluator_model.specs.Steps.{truth_left, left_of, on_value, picks, truth_wanted, combined_left, attribute_of, test_of, path_of, called_left, made_members, Pieces, halted, with_piece, from_pieces}
@@ -24,7 +24,7 @@ use Rattle.cedar_evaluator_model.proofs.GivenReads.{given_mapped, given_attribut
 use Rattle.cedar_evaluator_model.proofs.GivenLists.{bare_members, GivenAs, given_from, given_more}
 use Rattle.cedar_evaluator_model.proofs.Owed.{given_variable, given_slot}
 use Rattle.cedar_evaluator_model.proofs.Named.{field_names, field_trees, fields_named, FitsIn, FitsAmong, FitsInFields, fits_in}
-use Rattle.cedar_expr_model.specs.Whole.Parts.{listed}
+use Rattle.cedar_expr_model.specs.Parts.{listed}
 
 -- the limit is met, or the outcome is left, where there is one
 abbrev pub Reached : Option (Res V) → Left → Type 0

@@ -3,15 +3,15 @@ use Rattle.std.proofs.Common.{◌≡◌, ℕ, Bool, true, false, cond, not, ◌&
 use Rattle.std.specs.Prelude.{Option, Some, None, map, All, slice_index_or}
 use Rattle.std.specs.List.{filter_map, cons_option, list_any}
 use Rattle.std.proofs.lemmas.List.Elements.{All-head, All-tail, Contains-get_or}
-use Rattle.cedar_expr_model.specs.Whole.Value.{V, truth, truth_value}
-use Rattle.cedar_expr_model.specs.Whole.Tree.{Tree}
-use Rattle.cedar_expr_model.specs.Whole.Made.{Made, made_prim, bare}
-use Rattle.cedar_store_model.specs.Whole.Outcome.{Res, val, err, Fault, wrong_type, bind}
-use Rattle.cedar_store_model.specs.Whole.World.{World}
-use Rattle.cedar_store_model.specs.Whole.Meaning.{outcome_of, truth_asked}
-use Rattle.cedar_store_model.specs.Whole.Policy.{Policy, Effect, permit, forbid, condition}
-use Rattle.cedar_store_model.specs.Whole.Answer.{PolicyError, with_slots, policy_outcome, is_true, satisfied, permits, satisfied_permits, satisfied_forbids, ids, decided, determining, error_of, errors_of, decision_of, answer_of}
-use Rattle.cedar_store_model.proofs.Whole.Meaning.{means_outcome}
+use Rattle.cedar_expr_model.specs.Value.{V, truth, truth_value}
+use Rattle.cedar_expr_model.specs.Tree.{Tree}
+use Rattle.cedar_expr_model.specs.Made.{Made, made_prim, bare}
+use Rattle.cedar_store_model.specs.Outcome.{Res, val, err, Fault, wrong_type, bind}
+use Rattle.cedar_store_model.specs.World.{World}
+use Rattle.cedar_store_model.specs.Meaning.{outcome_of, truth_asked}
+use Rattle.cedar_store_model.specs.Policy.{Policy, Effect, permit, forbid, condition}
+use Rattle.cedar_store_model.specs.Answer.{PolicyError, with_slots, policy_outcome, is_true, satisfied, permits, satisfied_permits, satisfied_forbids, ids, decided, determining, error_of, errors_of, decision_of, answer_of}
+use Rattle.cedar_store_model.proofs.Meaning.{means_outcome}
 use Rattle.cedar_evaluator_model.specs.Scope.{Scope, fault, limit, Left, stopped}
 use Rattle.cedar_evaluator_model.specs.OfLaws.Calls.{Agrees}
 use Rattle.cedar_evaluator_model.specs.Steps.{errs, truth_left, on_value, truth_wanted}

@@ -3,14 +3,14 @@ use Rattle.std.proofs.Common.{◌≡◌, List, [], ◌∷◌, refl}
 use Rattle.std.specs.Prelude.{Option, Some, false}
 use Rattle.cedar_expr_model.specs.Name.{Text}
 use Rattle.cedar_expr_model.specs.Uid.{Uid}
-use Rattle.cedar_expr_model.specs.Whole.Value.{text, entity, V, prim}
-use Rattle.cedar_expr_model.specs.Whole.Tree.{SlotId, Var, principal, action, resource, context, BinaryOp, is_in, get_tag, has_tag}
-use Rattle.cedar_store_model.specs.Whole.World.{World}
-use Rattle.cedar_store_model.specs.Whole.Outcome.{bind}
-use Rattle.cedar_store_model.specs.Whole.Operators.{says}
-use Rattle.cedar_store_model.specs.Whole.Reads.{attribute_read, attribute_tested, within}
-use Rattle.cedar_store_model.specs.Whole.Meaning.{variable, combined, picked, path_tested}
-use Rattle.cedar_store_model.proofs.Whole.Named.{tag_read, tag_tested}
+use Rattle.cedar_expr_model.specs.Value.{text, entity, V, prim}
+use Rattle.cedar_expr_model.specs.Tree.{SlotId, Var, principal, action, resource, context, BinaryOp, is_in, get_tag, has_tag}
+use Rattle.cedar_store_model.specs.World.{World}
+use Rattle.cedar_store_model.specs.Outcome.{bind}
+use Rattle.cedar_store_model.specs.Operators.{says}
+use Rattle.cedar_store_model.specs.Reads.{attribute_read, attribute_tested, within}
+use Rattle.cedar_store_model.specs.Meaning.{variable, combined, picked, path_tested}
+use Rattle.cedar_store_model.proofs.Named.{tag_read, tag_tested}
 
 module _ (w : World) (y : SlotId → Option Uid) (z : Text → Option V) where
   pub same_variable : (x : Var) → variable (record w { slots = y; unknowns = z }) x ≡ variable w x

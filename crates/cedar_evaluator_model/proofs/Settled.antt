@@ -3,20 +3,20 @@ use Rattle.std.proofs.Common.{◌≡◌, Bool, true, false, cond, List, ◌∷�
 use Rattle.std.specs.Prelude.{Option, Some, None, length, IsSome, unwrap_or}
 use Rattle.cedar_expr_model.specs.Name.{Text, Name}
 use Rattle.cedar_expr_model.specs.Uid.{Uid}
-use Rattle.cedar_expr_model.specs.Whole.Value.{V, record_of, field, truth_value}
-use Rattle.cedar_expr_model.specs.Whole.Canonical.{set_made}
-use Rattle.cedar_expr_model.specs.Whole.Tree.{CoreType, Tree, lit, var, slot, unknown, choice, both, either, unary, binary, call, get_attr, has_attr, has_path, like, is_type, set_literal, record_literal, Trees, no_trees, tree, TreeFields, no_tree_fields, tree_field}
-use Rattle.cedar_expr_model.specs.Whole.Unknowns.{EachUnknown}
-use Rattle.cedar_expr_model.specs.Whole.Table.{Signature, Called, gives, fails, leaves, signature_of, takes_count, are_of_types}
-use Rattle.cedar_expr_model.specs.Whole.OfLaws.Fair.{IsTaken}
-use Rattle.cedar_expr_model.proofs.Whole.Gathering.{EachIn, each_in, EachAmong, EachInFields}
-use Rattle.cedar_store_model.specs.Whole.Outcome.{Res, val, err, bind, wrong_type, wrong_count}
-use Rattle.cedar_store_model.specs.Whole.World.{World}
-use Rattle.cedar_store_model.specs.Whole.Operators.{says, applied, like_pattern, of_type, answered}
-use Rattle.cedar_store_model.proofs.Whole.Named.{bound_value, called_of}
-use Rattle.cedar_store_model.specs.Whole.Meaning.{picked, truth_asked, outcome_of, outcomes_of, field_outcomes_of}
-use Rattle.cedar_store_model.specs.Whole.Knowledge.{IsSettled, IsWhole}
-use Rattle.cedar_store_model.proofs.Whole.Known.{there}
+use Rattle.cedar_expr_model.specs.Value.{V, record_of, field, truth_value}
+use Rattle.cedar_expr_model.specs.Canonical.{set_made}
+use Rattle.cedar_expr_model.specs.Tree.{CoreType, Tree, lit, var, slot, unknown, choice, both, either, unary, binary, call, get_attr, has_attr, has_path, like, is_type, set_literal, record_literal, Trees, no_trees, tree, TreeFields, no_tree_fields, tree_field}
+use Rattle.cedar_expr_model.specs.Unknowns.{EachUnknown}
+use Rattle.cedar_expr_model.specs.Table.{Signature, Called, gives, fails, leaves, signature_of, takes_count, are_of_types}
+use Rattle.cedar_expr_model.specs.OfLaws.Fair.{IsTaken}
+use Rattle.cedar_expr_model.proofs.Gathering.{EachIn, each_in, EachAmong, EachInFields}
+use Rattle.cedar_store_model.specs.Outcome.{Res, val, err, bind, wrong_type, wrong_count}
+use Rattle.cedar_store_model.specs.World.{World}
+use Rattle.cedar_store_model.specs.Operators.{says, applied, like_pattern, of_type, answered}
+use Rattle.cedar_store_model.proofs.Named.{bound_value, called_of}
+use Rattle.cedar_store_model.specs.Meaning.{picked, truth_asked, outcome_of, outcomes_of, field_outcomes_of}
+use Rattle.cedar_store_model.specs.Knowledge.{IsSettled, IsWhole}
+use Rattle.cedar_store_model.proofs.Known.{there}
 use Rattle.cedar_evaluator_model.specs.OfLaws.Whole.{LeavesNothing}
 use Rattle.cedar_evaluator_model.proofs.SameReads.{same_variable, same_read, same_tested, same_path, same_combined}
 

@@ -6,17 +6,17 @@ use Rattle.std.specs.List.{list_all}
 use Rattle.std.specs.Str.{bytes_eq}
 use Rattle.cedar_expr_model.specs.Name.{Text, Name}
 use Rattle.cedar_expr_model.specs.Uid.{Uid}
-use Rattle.cedar_expr_model.specs.Whole.Value.{truth, text, entity, V, prim}
-use Rattle.cedar_expr_model.specs.Whole.Tree.{entity_core, BinaryOp, equal, less, less_or_equal, plus, difference, times, is_in, contains, contains_all, contains_any, get_tag, has_tag, Tree, lit, unknown, binary, has_attr, record_literal, TreeFields, get_attr}
-use Rattle.cedar_expr_model.specs.Whole.Builder.{conjunction, disjunction, path_test}
-use Rattle.cedar_expr_model.specs.Whole.Parts.{is_projectable}
-use Rattle.cedar_expr_model.specs.Whole.Made.{Made, made_prim, made_record, bare}
+use Rattle.cedar_expr_model.specs.Value.{truth, text, entity, V, prim}
+use Rattle.cedar_expr_model.specs.Tree.{entity_core, BinaryOp, equal, less, less_or_equal, plus, difference, times, is_in, contains, contains_all, contains_any, get_tag, has_tag, Tree, lit, unknown, binary, has_attr, record_literal, TreeFields, get_attr}
+use Rattle.cedar_expr_model.specs.Builder.{conjunction, disjunction, path_test}
+use Rattle.cedar_expr_model.specs.Parts.{is_projectable}
+use Rattle.cedar_expr_model.specs.Made.{Made, made_prim, made_record, bare}
 use Rattle.cedar_expr_model.proofs.Lists.{both_hold}
-use Rattle.cedar_store_model.specs.Whole.Outcome.{Res, val, err, missing_attribute_or_tag, missing_field}
-use Rattle.cedar_expr_model.specs.Whole.ValueParts.{Part, known, left}
-use Rattle.cedar_store_model.specs.Whole.World.{Found, held, missing, not_loaded}
-use Rattle.cedar_store_model.specs.Whole.Reads.{is_in_some, uids_in}
-use Rattle.cedar_store_model.specs.Whole.Knowledge.{is_known}
+use Rattle.cedar_store_model.specs.Outcome.{Res, val, err, missing_attribute_or_tag, missing_field}
+use Rattle.cedar_expr_model.specs.ValueParts.{Part, known, left}
+use Rattle.cedar_store_model.specs.World.{Found, held, missing, not_loaded}
+use Rattle.cedar_store_model.specs.Reads.{is_in_some, uids_in}
+use Rattle.cedar_store_model.specs.Knowledge.{is_known}
 use Rattle.cedar_evaluator_model.specs.Scope.{Scope, fault, limit, Left, value_left, residual, stopped}
 use Rattle.cedar_evaluator_model.specs.Steps.{truth_left, on_value, left_of, truth_wanted, picks, part_left, tag_left, made_named, attribute_of, test_of, path_step, path_of, get_tag_found, has_tag_found, tag_of, in_found, in_of, combined_left, differ, with_residual, errs}
 use Rattle.cedar_evaluator_model.specs.Evaluation.{tree_named, get_of_residual, has_of_residual, right_left}

@@ -2,17 +2,17 @@
 use Rattle.std.proofs.Common.{◌≡◌, ℕ, ◌≤◌, Bool, true, false, cond, List, [], ◌∷◌, refl, ap, ◌∙◌}
 use Rattle.std.specs.Prelude.{Option, Some, map, length}
 use Rattle.cedar_expr_model.specs.Name.{Text, Name}
-use Rattle.cedar_expr_model.specs.Whole.Value.{Literal, V, prim, set_of, record_of, extension, values_list, field, Vs}
-use Rattle.cedar_expr_model.specs.Whole.Canonical.{set_made, are_rising}
-use Rattle.cedar_expr_model.specs.Whole.Tree.{CoreType, nesting, lit}
-use Rattle.cedar_expr_model.specs.Whole.Made.{Made, made_prim, made_set, made_record, made_extension, Mades, no_mades, made, MadeFields, no_made_fields, made_field, bare, bares, bare_fields, written, writtens, written_fields}
-use Rattle.cedar_expr_model.specs.Whole.Table.{Table, takes_count, are_of_types}
-use Rattle.cedar_expr_model.proofs.Whole.Sets.{made_of_rising}
-use Rattle.cedar_store_model.specs.Whole.Outcome.{Res, val, err, wrong_type, wrong_count, bind}
-use Rattle.cedar_store_model.specs.Whole.World.{World}
-use Rattle.cedar_store_model.specs.Whole.Operators.{answered, called}
-use Rattle.cedar_store_model.specs.Whole.Meaning.{Means, outcome_of, outcomes_of, field_outcomes_of}
-use Rattle.cedar_store_model.proofs.Whole.Meaning.{outcome_means}
+use Rattle.cedar_expr_model.specs.Value.{Literal, V, prim, set_of, record_of, extension, values_list, field, Vs}
+use Rattle.cedar_expr_model.specs.Canonical.{set_made, are_rising}
+use Rattle.cedar_expr_model.specs.Tree.{CoreType, nesting, lit}
+use Rattle.cedar_expr_model.specs.Made.{Made, made_prim, made_set, made_record, made_extension, Mades, no_mades, made, MadeFields, no_made_fields, made_field, bare, bares, bare_fields, written, writtens, written_fields}
+use Rattle.cedar_expr_model.specs.Table.{Table, takes_count, are_of_types}
+use Rattle.cedar_expr_model.proofs.Sets.{made_of_rising}
+use Rattle.cedar_store_model.specs.Outcome.{Res, val, err, wrong_type, wrong_count, bind}
+use Rattle.cedar_store_model.specs.World.{World}
+use Rattle.cedar_store_model.specs.Operators.{answered, called}
+use Rattle.cedar_store_model.specs.Meaning.{Means, outcome_of, outcomes_of, field_outcomes_of}
+use Rattle.cedar_store_model.proofs.Meaning.{outcome_means}
 use Rattle.cedar_evaluator_model.specs.Scope.{Scope}
 use Rattle.cedar_evaluator_model.specs.OfLaws.Calls.{Agrees}
 use Rattle.cedar_evaluator_model.specs.Evaluation.{evaluated}
@@ -21,10 +21,10 @@ use Rattle.cedar_evaluator_model.specs.OfLaws.WellMade.{IsWellMade}
 use Rattle.cedar_evaluator_model.specs.Completion.{Fits}
 use Rattle.cedar_evaluator_model.specs.OfLaws.Standing.{IsOutcome, LeavesUnbound}
 use Rattle.cedar_evaluator_model.proofs.Owed.{owed}
-use Rattle.cedar_store_model.proofs.Whole.Named.{called_of}
-use Rattle.cedar_expr_model.specs.Whole.OfLaws.Represented.{Makes, AreMade, HaveMade}
-use Rattle.cedar_expr_model.proofs.Whole.Gathering.{EachAmong, EachIn, each_in, EachInFields}
-use Rattle.cedar_expr_model.specs.Whole.Builder.{trees}
+use Rattle.cedar_store_model.proofs.Named.{called_of}
+use Rattle.cedar_expr_model.specs.OfLaws.Represented.{Makes, AreMade, HaveMade}
+use Rattle.cedar_expr_model.proofs.Gathering.{EachAmong, EachIn, each_in, EachInFields}
+use Rattle.cedar_expr_model.specs.Builder.{trees}
 
 -- a call that makes a value means it
 guarded_answer : (count types : Bool) (o : Option (Res V)) → count ≡ true → types ≡ true → cond count (cond types o (Some (err wrong_type))) (Some (err wrong_count)) ≡ o

@@ -2,13 +2,13 @@
 -- Rule: completions (docs/RULES.md).
 use Rattle.std.specs.Prelude.{Option, IfSome}
 use Rattle.cedar_expr_model.specs.Uid.{Uid}
-use Rattle.cedar_expr_model.specs.Whole.Value.{V}
-use Rattle.cedar_expr_model.specs.Whole.Tree.{CoreType, SlotId, Tree}
-use Rattle.cedar_expr_model.specs.Whole.Unknowns.{EachUnknown}
-use Rattle.cedar_expr_model.specs.Whole.Substitution.{IsOfType}
-use Rattle.cedar_store_model.specs.Whole.Outcome.{val}
-use Rattle.cedar_store_model.specs.Whole.World.{World}
-use Rattle.cedar_store_model.specs.Whole.Meaning.{Means}
+use Rattle.cedar_expr_model.specs.Value.{V}
+use Rattle.cedar_expr_model.specs.Tree.{CoreType, SlotId, Tree}
+use Rattle.cedar_expr_model.specs.Unknowns.{EachUnknown}
+use Rattle.cedar_expr_model.specs.Substitution.{IsOfType}
+use Rattle.cedar_store_model.specs.Outcome.{val}
+use Rattle.cedar_store_model.specs.World.{World}
+use Rattle.cedar_store_model.specs.Meaning.{Means}
 
 -- a value, where there is one, of the annotation's type, where there is one
 abbrev pub Fits : Option CoreType → Option V → Type 0

@@ -4,13 +4,13 @@
 use Rattle.std.specs.Prelude.{ℕ, zero, suc, List, [], ◌∷◌, Bool, true, false, Option, None, is_some, if◌then◌else◌, codes, option_map}
 use Rattle.std.specs.Str.{bytes_eq}
 use Rattle.cedar_expr_model.specs.Name.{Text, name_eq}
-use Rattle.cedar_expr_model.specs.Whole.Value.{truth, entity}
-use Rattle.cedar_expr_model.specs.Whole.Tree.{Var, principal, action, resource, context, entity_core, BinaryOp, Tree, lit, var, slot, unknown, choice, both, either, unary, binary, call, get_attr, has_attr, has_path, like, is_type, set_literal, record_literal, TreeFields}
-use Rattle.cedar_expr_model.specs.Whole.Builder.{conjunction, disjunction, path_test, trees}
-use Rattle.cedar_expr_model.specs.Whole.Parts.{is_projectable, listed, listed_fields}
-use Rattle.cedar_expr_model.specs.Whole.Made.{made_prim, made_set, made_record, bare, written}
-use Rattle.cedar_store_model.specs.Whole.Outcome.{missing_field, unlinked_slot}
-use Rattle.cedar_store_model.specs.Whole.Operators.{applied, like_pattern, of_type}
+use Rattle.cedar_expr_model.specs.Value.{truth, entity}
+use Rattle.cedar_expr_model.specs.Tree.{Var, principal, action, resource, context, entity_core, BinaryOp, Tree, lit, var, slot, unknown, choice, both, either, unary, binary, call, get_attr, has_attr, has_path, like, is_type, set_literal, record_literal, TreeFields}
+use Rattle.cedar_expr_model.specs.Builder.{conjunction, disjunction, path_test, trees}
+use Rattle.cedar_expr_model.specs.Parts.{is_projectable, listed, listed_fields}
+use Rattle.cedar_expr_model.specs.Made.{made_prim, made_set, made_record, bare, written}
+use Rattle.cedar_store_model.specs.Outcome.{missing_field, unlinked_slot}
+use Rattle.cedar_store_model.specs.Operators.{applied, like_pattern, of_type}
 use Rattle.cedar_evaluator_model.specs.Scope.{Scope, Entry, uid, unknown_uid, Context, closed, residual_fields, unknown_context, limit, Left, value_left, residual, stopped}
 use Rattle.cedar_evaluator_model.specs.Steps.{errs, truth_left, on_value, best, left_of, truth_wanted, picks, mapped, attribute_of, test_of, path_of, combined_left, kind_of_value, kind_of_unknown, with_residual, called_left, made_members, Pieces, pieces, with_piece, from_pieces, record_left}
 use Rattle.std.specs.Map.{lookup, keys_of, values_of}

@@ -3,10 +3,10 @@
 use Rattle.std.specs.Prelude.{List, map, Option, Some, None, option_map}
 use Rattle.cedar_expr_model.specs.Name.{Text}
 use Rattle.cedar_expr_model.specs.Uid.{Uid}
-use Rattle.cedar_expr_model.specs.Whole.Value.{V, record_of}
-use Rattle.cedar_expr_model.specs.Whole.Made.{Made, bare, bare_fields}
-use Rattle.cedar_expr_model.specs.Whole.ValueParts.{Part, known, left}
-use Rattle.cedar_store_model.specs.Whole.World.{World, Entity, Found, held, missing, not_loaded, by_found}
+use Rattle.cedar_expr_model.specs.Value.{V, record_of}
+use Rattle.cedar_expr_model.specs.Made.{Made, bare, bare_fields}
+use Rattle.cedar_expr_model.specs.ValueParts.{Part, known, left}
+use Rattle.cedar_store_model.specs.World.{World, Entity, Found, held, missing, not_loaded, by_found}
 use Rattle.cedar_evaluator_model.specs.Scope.{Scope, Entry, uid, unknown_uid, Context, closed}
 
 -- the uid, where it is known

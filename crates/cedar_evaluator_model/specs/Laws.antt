@@ -2,18 +2,18 @@
 -- Rule: partial evaluation; partial responses; completions (docs/RULES.md).
 use Rattle.std.specs.Prelude.{◌≡◌, ◌↔◌, ◌≤◌, ℕ, suc, true, false, List, [], map, All, Contains, Some, None}
 use Rattle.cedar_expr_model.specs.Name.{Text}
-use Rattle.cedar_expr_model.specs.Whole.Value.{Literal, V, truth_value}
-use Rattle.cedar_expr_model.specs.Whole.Tree.{Tree, lit, nesting}
-use Rattle.cedar_expr_model.specs.Whole.Made.{Made, made_prim, bare, written}
-use Rattle.cedar_expr_model.specs.Whole.Table.{Table, all_typed}
-use Rattle.cedar_expr_model.specs.Whole.OfLaws.Fair.{IsFair}
-use Rattle.cedar_store_model.specs.Whole.Outcome.{Res, val}
-use Rattle.cedar_store_model.specs.Whole.World.{World}
-use Rattle.cedar_store_model.specs.Whole.Meaning.{Means}
-use Rattle.cedar_store_model.specs.Whole.Laws.{IsGrounded}
-use Rattle.cedar_store_model.specs.Whole.OfLaws.Extends.{Extends}
-use Rattle.cedar_store_model.specs.Whole.Policy.{Policy, permit, forbid, condition}
-use Rattle.cedar_store_model.specs.Whole.Answer.{allow, deny, PolicyError, Answer, with_slots, IsSatisfied, answer_of, decision_of}
+use Rattle.cedar_expr_model.specs.Value.{Literal, V, truth_value}
+use Rattle.cedar_expr_model.specs.Tree.{Tree, lit, nesting}
+use Rattle.cedar_expr_model.specs.Made.{Made, made_prim, bare, written}
+use Rattle.cedar_expr_model.specs.Table.{Table, all_typed}
+use Rattle.cedar_expr_model.specs.OfLaws.Fair.{IsFair}
+use Rattle.cedar_store_model.specs.Outcome.{Res, val}
+use Rattle.cedar_store_model.specs.World.{World}
+use Rattle.cedar_store_model.specs.Meaning.{Means}
+use Rattle.cedar_store_model.specs.Laws.{IsGrounded}
+use Rattle.cedar_store_model.specs.OfLaws.Extends.{Extends}
+use Rattle.cedar_store_model.specs.Policy.{Policy, permit, forbid, condition}
+use Rattle.cedar_store_model.specs.Answer.{allow, deny, PolicyError, Answer, with_slots, IsSatisfied, answer_of, decision_of}
 use Rattle.cedar_evaluator_model.specs.Scope.{Scope, fault, limit, value_left, residual, stopped}
 use Rattle.cedar_evaluator_model.specs.OfLaws.Calls.{Agrees}
 use Rattle.cedar_evaluator_model.specs.Evaluation.{evaluated}
@@ -24,7 +24,7 @@ use Rattle.cedar_evaluator_model.specs.Completion.{FitsAnnotations}
 use Rattle.cedar_evaluator_model.specs.OfLaws.Completing.{Completes}
 use Rattle.cedar_evaluator_model.specs.Response.{stops, PartialRequest, Response, with_bindings, response_of}
 use Rattle.cedar_evaluator_model.specs.Reauthorize.{makes_it, request_bound, resumed, reauthorized}
-use Rattle.cedar_expr_model.specs.Whole.Substitution.{Bindings}
+use Rattle.cedar_expr_model.specs.Substitution.{Bindings}
 use Rattle.cedar_evaluator_model.specs.Members.{all_residuals, Concrete, concretize, met_limit, decision_in_session, nontrivial_residuals}
 use Rattle.cedar_evaluator_model.specs.OfLaws.Standing.{StandsInAll, IsOutcome, LeavesUnbound, Owed, NoLimit}
 

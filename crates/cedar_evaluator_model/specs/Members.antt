@@ -4,10 +4,10 @@ use Rattle.std.specs.Prelude.{List, [], ◌∷◌, ◌++◌, map, Bool, true, fa
 use Rattle.std.specs.List.{filter, filter_map, list_any}
 use Rattle.std.specs.Str.{bytes_eq}
 use Rattle.cedar_expr_model.specs.Name.{Text}
-use Rattle.cedar_expr_model.specs.Whole.Value.{truth}
-use Rattle.cedar_expr_model.specs.Whole.Tree.{Tree, lit}
-use Rattle.cedar_store_model.specs.Whole.Policy.{Policy, Effect, permit, forbid, any, any_action, no_bindings}
-use Rattle.cedar_store_model.specs.Whole.Answer.{Decision, allow, deny, ids, decided}
+use Rattle.cedar_expr_model.specs.Value.{truth}
+use Rattle.cedar_expr_model.specs.Tree.{Tree, lit}
+use Rattle.cedar_store_model.specs.Policy.{Policy, Effect, permit, forbid, any, any_action, no_bindings}
+use Rattle.cedar_store_model.specs.Answer.{Decision, allow, deny, ids, decided}
 use Rattle.cedar_evaluator_model.specs.Scope.{limit}
 use Rattle.cedar_evaluator_model.specs.Response.{Noted, ErrorState, no_error, with_error, Cause, stops, no_value, ResponseError, Response}
 

@@ -4,18 +4,18 @@ use Rattle.std.specs.Prelude.{List, ℕ, Option, Some, None, if◌then◌else◌
 use Rattle.std.specs.Str.{bytes_eq}
 use Rattle.cedar_expr_model.specs.Name.{Text, name_eq}
 use Rattle.cedar_expr_model.specs.Uid.{Uid}
-use Rattle.cedar_expr_model.specs.Whole.Value.{entity}
-use Rattle.cedar_expr_model.specs.Whole.Tree.{Tree, record_literal, Var, principal, action, resource, context}
-use Rattle.cedar_expr_model.specs.Whole.Made.{Made, made_prim, made_record}
-use Rattle.cedar_expr_model.specs.Whole.Substitution.{Bindings, substituted}
-use Rattle.cedar_store_model.specs.Whole.Policy.{Policy}
-use Rattle.cedar_store_model.specs.Whole.Answer.{ids}
+use Rattle.cedar_expr_model.specs.Value.{entity}
+use Rattle.cedar_expr_model.specs.Tree.{Tree, record_literal, Var, principal, action, resource, context}
+use Rattle.cedar_expr_model.specs.Made.{Made, made_prim, made_record}
+use Rattle.cedar_expr_model.specs.Substitution.{Bindings, substituted}
+use Rattle.cedar_store_model.specs.Policy.{Policy}
+use Rattle.cedar_store_model.specs.Answer.{ids}
 use Rattle.cedar_evaluator_model.specs.Scope.{Scope, Entry, uid, unknown_uid, Context, closed, residual_fields, unknown_context, Stop, Left, value_left, residual, stopped}
 use Rattle.cedar_evaluator_model.specs.Evaluation.{evaluated}
 use Rattle.cedar_evaluator_model.specs.Response.{PartialRequest, Response, response_of}
 use Rattle.cedar_evaluator_model.specs.Members.{all_residuals}
 use Rattle.std.specs.Option.{option_map_or}
-use Rattle.cedar_expr_model.specs.Whole.Repeats.{repeated}
+use Rattle.cedar_expr_model.specs.Repeats.{repeated}
 
 -- Why a response isn't reauthorized: an id stands twice; a variable gets no uid, or the context no record; a variable that is known
 -- already; a uid of another type than is known of it; the context doesn't evaluate with the values.

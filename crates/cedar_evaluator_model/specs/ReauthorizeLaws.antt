@@ -2,13 +2,13 @@
 -- Rule: reauthorizing; completions (docs/RULES.md).
 use Rattle.std.specs.Prelude.{◌≡◌, ℕ, List, [], ◌∷◌, Contains, Some, option_map, false, codes}
 use Rattle.cedar_expr_model.specs.Name.{Text}
-use Rattle.cedar_expr_model.specs.Whole.Made.{bare}
-use Rattle.cedar_expr_model.specs.Whole.ListLaws.{AreDistinct}
-use Rattle.cedar_expr_model.specs.Whole.Substitution.{Bindings}
-use Rattle.cedar_store_model.specs.Whole.World.{World}
-use Rattle.cedar_store_model.specs.Whole.OfLaws.Extends.{Keeps}
-use Rattle.cedar_store_model.specs.Whole.Policy.{Policy}
-use Rattle.cedar_store_model.specs.Whole.Answer.{Decision, ids, decision_of}
+use Rattle.cedar_expr_model.specs.Made.{bare}
+use Rattle.cedar_expr_model.specs.ListLaws.{AreDistinct}
+use Rattle.cedar_expr_model.specs.Substitution.{Bindings}
+use Rattle.cedar_store_model.specs.World.{World}
+use Rattle.cedar_store_model.specs.OfLaws.Extends.{Keeps}
+use Rattle.cedar_store_model.specs.Policy.{Policy}
+use Rattle.cedar_store_model.specs.Answer.{Decision, ids, decision_of}
 use Rattle.cedar_evaluator_model.specs.Scope.{Scope}
 use Rattle.cedar_evaluator_model.specs.OfLaws.Calls.{Agrees}
 use Rattle.cedar_evaluator_model.specs.OfLaws.WellMade.{IsMadeWell, IsContextMadeWell, AllMadeWell}

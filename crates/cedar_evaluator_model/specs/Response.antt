@@ -5,11 +5,11 @@ use Rattle.std.specs.List.{filter_map}
 use Rattle.std.specs.Option.{option_map_or}
 use Rattle.cedar_expr_model.specs.Name.{Text}
 use Rattle.cedar_expr_model.specs.Uid.{Uid}
-use Rattle.cedar_expr_model.specs.Whole.Value.{truth, entity}
-use Rattle.cedar_expr_model.specs.Whole.Tree.{SlotId, Tree, lit, slot}
-use Rattle.cedar_expr_model.specs.Whole.Builder.{built, tree_builder}
-use Rattle.cedar_expr_model.specs.Whole.Made.{made_prim}
-use Rattle.cedar_store_model.specs.Whole.Policy.{Policy, Effect, permit, forbid, SlotBindings, binding_of, condition}
+use Rattle.cedar_expr_model.specs.Value.{truth, entity}
+use Rattle.cedar_expr_model.specs.Tree.{SlotId, Tree, lit, slot}
+use Rattle.cedar_expr_model.specs.Builder.{built, tree_builder}
+use Rattle.cedar_expr_model.specs.Made.{made_prim}
+use Rattle.cedar_store_model.specs.Policy.{Policy, Effect, permit, forbid, SlotBindings, binding_of, condition}
 use Rattle.cedar_evaluator_model.specs.Scope.{Scope, Entry, Context, Stop, Left, value_left, residual, stopped}
 use Rattle.cedar_evaluator_model.specs.Steps.{on_value, truth_wanted}
 use Rattle.cedar_evaluator_model.specs.Evaluation.{evaluated}

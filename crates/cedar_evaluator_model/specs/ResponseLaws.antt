@@ -1,13 +1,13 @@
 -- What the laws of partial responses say of the completions of a scope.
 -- Rule: partial responses; completions (docs/RULES.md).
 use Rattle.std.specs.Prelude.{◌≡◌, ◌↔◌, ℕ, List, All, Contains, Some, true, false}
-use Rattle.cedar_expr_model.specs.Whole.Value.{truth}
-use Rattle.cedar_expr_model.specs.Whole.ListLaws.{AreDistinct}
-use Rattle.cedar_expr_model.specs.Whole.Made.{made_prim}
-use Rattle.cedar_store_model.specs.Whole.World.{World}
-use Rattle.cedar_store_model.specs.Whole.Policy.{Policy, no_bindings, condition}
-use Rattle.cedar_store_model.specs.Whole.Answer.{Decision, with_slots, IsSatisfied, ids, decision_of, reasons_of}
-use Rattle.cedar_store_model.specs.Whole.AnswerLaws.{Holds}
+use Rattle.cedar_expr_model.specs.Value.{truth}
+use Rattle.cedar_expr_model.specs.ListLaws.{AreDistinct}
+use Rattle.cedar_expr_model.specs.Made.{made_prim}
+use Rattle.cedar_store_model.specs.World.{World}
+use Rattle.cedar_store_model.specs.Policy.{Policy, no_bindings, condition}
+use Rattle.cedar_store_model.specs.Answer.{Decision, with_slots, IsSatisfied, ids, decision_of, reasons_of}
+use Rattle.cedar_store_model.specs.AnswerLaws.{Holds}
 use Rattle.cedar_evaluator_model.specs.Scope.{Scope, fault, limit, Left, value_left, residual, stopped}
 use Rattle.cedar_evaluator_model.specs.OfLaws.Calls.{Agrees}
 use Rattle.cedar_evaluator_model.specs.OfLaws.WellMade.{AllMadeWell}

@@ -3,11 +3,11 @@
 use Rattle.std.specs.Prelude.{List, Option}
 use Rattle.cedar_expr_model.specs.Name.{Text, Name}
 use Rattle.cedar_expr_model.specs.Uid.{Uid}
-use Rattle.cedar_expr_model.specs.Whole.Tree.{Tree, SlotId, TreeFields}
-use Rattle.cedar_expr_model.specs.Whole.Made.{Made, MadeFields}
-use Rattle.cedar_expr_model.specs.Whole.Table.{Table}
-use Rattle.cedar_store_model.specs.Whole.Outcome.{Fault}
-use Rattle.cedar_store_model.specs.Whole.World.{Found}
+use Rattle.cedar_expr_model.specs.Tree.{Tree, SlotId, TreeFields}
+use Rattle.cedar_expr_model.specs.Made.{Made, MadeFields}
+use Rattle.cedar_expr_model.specs.Table.{Table}
+use Rattle.cedar_store_model.specs.Outcome.{Fault}
+use Rattle.cedar_store_model.specs.World.{Found}
 
 -- what a call answers, with the call that makes its value
 pub data MadeCalled : Type 0 where

@@ -5,22 +5,22 @@ use Rattle.std.specs.Ordering.{match_ordering}
 use Rattle.std.specs.Str.{bytes_eq}
 use Rattle.cedar_expr_model.specs.Name.{Text, Name, name_eq}
 use Rattle.cedar_expr_model.specs.Uid.{Uid}
-use Rattle.cedar_expr_model.specs.Whole.Value.{truth, text, entity, V, prim}
-use Rattle.cedar_expr_model.specs.Whole.Order.{value_cmp}
-use Rattle.cedar_expr_model.specs.Whole.Tree.{CoreType, entity_core, BinaryOp, equal, is_in, get_tag, has_tag, Tree, lit, unknown, binary, get_attr, has_attr, has_path, record_literal}
-use Rattle.cedar_expr_model.specs.Whole.Builder.{path_test, tree_fields}
-use Rattle.cedar_expr_model.specs.Whole.Made.{Made, made_prim, made_record, Mades, no_mades, made, MadeFields, no_made_fields, made_field, bare, written}
-use Rattle.cedar_expr_model.specs.Whole.Substitution.{fits_annotation}
-use Rattle.cedar_expr_model.specs.Whole.Table.{Signature, signature_of, takes_count, are_of_types}
-use Rattle.cedar_store_model.specs.Whole.Outcome.{Fault, Res, val, err, missing_entity, missing_attribute_or_tag, missing_field, wrong_type, no_function, wrong_count, extension_failed}
-use Rattle.cedar_expr_model.specs.Whole.ValueParts.{Part, known, left, all_known, part_tree}
-use Rattle.cedar_store_model.specs.Whole.World.{Found, by_found}
-use Rattle.cedar_store_model.specs.Whole.Reads.{uids_in, is_in_some, uid_of}
+use Rattle.cedar_expr_model.specs.Value.{truth, text, entity, V, prim}
+use Rattle.cedar_expr_model.specs.Order.{value_cmp}
+use Rattle.cedar_expr_model.specs.Tree.{CoreType, entity_core, BinaryOp, equal, is_in, get_tag, has_tag, Tree, lit, unknown, binary, get_attr, has_attr, has_path, record_literal}
+use Rattle.cedar_expr_model.specs.Builder.{path_test, tree_fields}
+use Rattle.cedar_expr_model.specs.Made.{Made, made_prim, made_record, Mades, no_mades, made, MadeFields, no_made_fields, made_field, bare, written}
+use Rattle.cedar_expr_model.specs.Substitution.{fits_annotation}
+use Rattle.cedar_expr_model.specs.Table.{Signature, signature_of, takes_count, are_of_types}
+use Rattle.cedar_store_model.specs.Outcome.{Fault, Res, val, err, missing_entity, missing_attribute_or_tag, missing_field, wrong_type, no_function, wrong_count, extension_failed}
+use Rattle.cedar_expr_model.specs.ValueParts.{Part, known, left, all_known, part_tree}
+use Rattle.cedar_store_model.specs.World.{Found, by_found}
+use Rattle.cedar_store_model.specs.Reads.{uids_in, is_in_some, uid_of}
 use Rattle.cedar_evaluator_model.specs.Scope.{Scope, MadeCalled, makes, faults, leaves_unknown, Stop, fault, Left, value_left, residual, stopped}
 use Rattle.std.specs.Map.{lookup}
-use Rattle.cedar_store_model.specs.Whole.Meaning.{truth_asked, combined}
+use Rattle.cedar_store_model.specs.Meaning.{truth_asked, combined}
 use Rattle.std.specs.Option.{option_map_or}
-use Rattle.cedar_store_model.specs.Whole.Store.{stand_in}
+use Rattle.cedar_store_model.specs.Store.{stand_in}
 use Rattle.cedar_evaluator_model.specs.Known.{known_world}
 
 abbrev pub errs : Fault → Left

@@ -4,12 +4,12 @@ use Rattle.std.specs.Prelude.{ℕ, pos, List, [], ◌∷◌, codes, true, false,
 use Rattle.std.specs.Str.{bytes_eq}
 use Rattle.cedar_expr_model.specs.Name.{Text, Name, name_eq}
 use Rattle.cedar_expr_model.specs.Uid.{Uid, uid_eq, uid_text}
-use Rattle.cedar_expr_model.specs.Whole.Value.{truth, long, text, entity, V, prim}
-use Rattle.cedar_expr_model.specs.Whole.Tree.{Tree, lit, unknown, string_core, extension_core, entity_core, no_tree_fields, tree_field, SlotId, record_literal}
-use Rattle.cedar_expr_model.specs.Whole.Made.{Made, made_prim, made_record, made_extension, no_made_fields, made_field}
-use Rattle.cedar_expr_model.specs.Whole.Table.{Table, Signature, function_style, Called, fails, leaves}
-use Rattle.cedar_expr_model.specs.Whole.ValueParts.{known, left}
-use Rattle.cedar_store_model.specs.Whole.World.{Entity, Found, held, missing, not_loaded}
+use Rattle.cedar_expr_model.specs.Value.{truth, long, text, entity, V, prim}
+use Rattle.cedar_expr_model.specs.Tree.{Tree, lit, unknown, string_core, extension_core, entity_core, no_tree_fields, tree_field, SlotId, record_literal}
+use Rattle.cedar_expr_model.specs.Made.{Made, made_prim, made_record, made_extension, no_made_fields, made_field}
+use Rattle.cedar_expr_model.specs.Table.{Table, Signature, function_style, Called, fails, leaves}
+use Rattle.cedar_expr_model.specs.ValueParts.{known, left}
+use Rattle.cedar_store_model.specs.World.{Entity, Found, held, missing, not_loaded}
 use Rattle.cedar_evaluator_model.specs.Scope.{Scope, MadeCalled, makes, faults, leaves_unknown, uid, unknown_uid, Context, closed, residual_fields, unknown_context}
 use Rattle.cedar_evaluator_model.specs.OfLaws.Calls.{bare_called}
 

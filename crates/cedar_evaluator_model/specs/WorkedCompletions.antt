@@ -4,10 +4,10 @@ use Rattle.std.specs.Prelude.{◌≡◌, [], ◌∷◌, codes, true, Some, if◌
 use Rattle.std.specs.Str.{bytes_eq}
 use Rattle.cedar_expr_model.specs.Name.{Text}
 use Rattle.cedar_expr_model.specs.Uid.{Uid, uid_eq, uid_text}
-use Rattle.cedar_expr_model.specs.Whole.Value.{V, prim, entity, record_of, no_fields, truth_value}
-use Rattle.cedar_expr_model.specs.Whole.Table.{Table, fails}
-use Rattle.cedar_store_model.specs.Whole.World.{World, held, missing, not_loaded}
-use Rattle.cedar_store_model.specs.Whole.Store.{unloaded}
+use Rattle.cedar_expr_model.specs.Value.{V, prim, entity, record_of, no_fields, truth_value}
+use Rattle.cedar_expr_model.specs.Table.{Table, fails}
+use Rattle.cedar_store_model.specs.World.{World, held, missing, not_loaded}
+use Rattle.cedar_store_model.specs.Store.{unloaded}
 use Rattle.cedar_evaluator_model.specs.OfLaws.Completing.{Completes}
 use Rattle.cedar_evaluator_model.specs.Scope.{Scope}
 use Rattle.cedar_evaluator_model.specs.Worked.{user_a, user_b, doc_d, view, no_slot, worked_table, scope, open_scope, deep_context, entity_d}

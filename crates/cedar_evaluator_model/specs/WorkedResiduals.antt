@@ -2,12 +2,12 @@
 -- Rule: partial responses; reauthorizing; completions (docs/RULES.md).
 use Rattle.std.specs.Prelude.{[], ◌∷◌, codes, true, Some, if◌then◌else◌}
 use Rattle.cedar_expr_model.specs.Uid.{Uid, uid_eq}
-use Rattle.cedar_expr_model.specs.Whole.Value.{V, entity, truth_value}
-use Rattle.cedar_expr_model.specs.Whole.Tree.{Tree, bool_core, lit, unknown, either, get_attr}
-use Rattle.cedar_expr_model.specs.Whole.Substitution.{Bindings}
-use Rattle.cedar_expr_model.specs.Whole.ValueParts.{known}
-use Rattle.cedar_store_model.specs.Whole.World.{World, Entity, Found, held, missing, not_loaded}
-use Rattle.cedar_store_model.specs.Whole.Policy.{Policy, permit}
+use Rattle.cedar_expr_model.specs.Value.{V, entity, truth_value}
+use Rattle.cedar_expr_model.specs.Tree.{Tree, bool_core, lit, unknown, either, get_attr}
+use Rattle.cedar_expr_model.specs.Substitution.{Bindings}
+use Rattle.cedar_expr_model.specs.ValueParts.{known}
+use Rattle.cedar_store_model.specs.World.{World, Entity, Found, held, missing, not_loaded}
+use Rattle.cedar_store_model.specs.Policy.{Policy, permit}
 use Rattle.cedar_evaluator_model.specs.Scope.{Scope}
 use Rattle.cedar_evaluator_model.specs.Response.{Response, response_of}
 use Rattle.cedar_evaluator_model.specs.Members.{all_residuals}

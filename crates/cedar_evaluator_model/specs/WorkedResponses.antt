@@ -4,11 +4,11 @@ use Rattle.std.specs.Prelude.{[], ◌∷◌, codes, true, Option, Some, None, if
 use Rattle.std.specs.Str.{bytes_eq}
 use Rattle.cedar_expr_model.specs.Name.{Text}
 use Rattle.cedar_expr_model.specs.Uid.{Uid}
-use Rattle.cedar_expr_model.specs.Whole.Value.{entity}
-use Rattle.cedar_expr_model.specs.Whole.Tree.{Tree, principal_slot, lit, var, slot, unknown, both, binary, equal, get_attr, principal, resource, context, no_tree_fields, tree_field}
-use Rattle.cedar_expr_model.specs.Whole.Made.{Made, made_prim}
-use Rattle.cedar_store_model.specs.Whole.Policy.{Policy, Effect, permit, forbid, any, any_action, exactly, named, no_bindings}
-use Rattle.cedar_store_model.specs.Whole.Answer.{Decision}
+use Rattle.cedar_expr_model.specs.Value.{entity}
+use Rattle.cedar_expr_model.specs.Tree.{Tree, principal_slot, lit, var, slot, unknown, both, binary, equal, get_attr, principal, resource, context, no_tree_fields, tree_field}
+use Rattle.cedar_expr_model.specs.Made.{Made, made_prim}
+use Rattle.cedar_store_model.specs.Policy.{Policy, Effect, permit, forbid, any, any_action, exactly, named, no_bindings}
+use Rattle.cedar_store_model.specs.Answer.{Decision}
 use Rattle.cedar_evaluator_model.specs.Scope.{Scope, uid, unknown_uid, residual_fields}
 use Rattle.cedar_evaluator_model.specs.Response.{Noted, no_error, with_error, Response, request_of, response_of}
 use Rattle.cedar_evaluator_model.specs.Members.{decision}

@@ -2,13 +2,13 @@
 //! body does nothing.
 
 ghost use Rattle.std.specs.Prelude.{◌≡◌, true, false, Some, None, codes, pos, [], ◌∷◌};
-ghost use Rattle.cedar_expr_model.specs.Whole.Value.{prim, long, text, entity, record_of, no_fields, truth_value};
-ghost use Rattle.cedar_expr_model.specs.Whole.Tree.{bool_core, long_core, principal, context, principal_slot, lit, var, slot, unknown, get_attr, has_attr, both, unary, negation, no_tree_fields, tree_field};
-ghost use Rattle.cedar_expr_model.specs.Whole.Made.{made_set, made_record, made_extension, no_mades, made, no_made_fields, made_field};
-ghost use Rattle.cedar_store_model.specs.Whole.Outcome.{val, err, wrong_type, overflow};
-ghost use Rattle.cedar_expr_model.specs.Whole.ValueParts.{known, left};
-ghost use Rattle.cedar_store_model.specs.Whole.World.{held, missing, not_loaded};
-ghost use Rattle.cedar_store_model.specs.Whole.Meaning.{outcome_of};
+ghost use Rattle.cedar_expr_model.specs.Value.{prim, long, text, entity, record_of, no_fields, truth_value};
+ghost use Rattle.cedar_expr_model.specs.Tree.{bool_core, long_core, principal, context, principal_slot, lit, var, slot, unknown, get_attr, has_attr, both, unary, negation, no_tree_fields, tree_field};
+ghost use Rattle.cedar_expr_model.specs.Made.{made_set, made_record, made_extension, no_mades, made, no_made_fields, made_field};
+ghost use Rattle.cedar_store_model.specs.Outcome.{val, err, wrong_type, overflow};
+ghost use Rattle.cedar_expr_model.specs.ValueParts.{known, left};
+ghost use Rattle.cedar_store_model.specs.World.{held, missing, not_loaded};
+ghost use Rattle.cedar_store_model.specs.Meaning.{outcome_of};
 ghost use Rattle.cedar_evaluator_model.specs.Scope.{unknown_uid, uid, closed, residual_fields, unknown_context, fault, limit, value_left, residual, stopped};
 ghost use Rattle.cedar_evaluator_model.specs.OfLaws.Calls.{Agrees};
 ghost use Rattle.cedar_evaluator_model.specs.Steps.{truth_left};

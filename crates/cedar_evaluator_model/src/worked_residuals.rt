@@ -2,8 +2,8 @@
 //! nothing.
 
 ghost use Rattle.std.specs.Prelude.{◌≡◌, true, false, Some, None, codes, [], ◌∷◌};
-ghost use Rattle.cedar_expr_model.specs.Whole.Tree.{either, both, get_attr};
-ghost use Rattle.cedar_store_model.specs.Whole.Answer.{allow, decision_of};
+ghost use Rattle.cedar_expr_model.specs.Tree.{either, both, get_attr};
+ghost use Rattle.cedar_store_model.specs.Answer.{allow, decision_of};
 ghost use Rattle.cedar_evaluator_model.specs.OfLaws.Calls.{Agrees};
 ghost use Rattle.cedar_evaluator_model.specs.OfLaws.WellMade.{AllMadeWell};
 ghost use Rattle.cedar_evaluator_model.specs.OfLaws.Completing.{Completes};

@@ -2,12 +2,12 @@
 //! nothing.
 
 ghost use Rattle.std.specs.Prelude.{◌≡◌, Bool, true, false, Some, None, codes, map, [], ◌∷◌};
-ghost use Rattle.cedar_expr_model.specs.Whole.Value.{text, entity};
-ghost use Rattle.cedar_expr_model.specs.Whole.Tree.{long_core, principal, action, resource, context, lit, unknown, both, binary, equal, call, no_trees, tree, no_tree_fields, tree_field};
-ghost use Rattle.cedar_expr_model.specs.Whole.Made.{made_prim, made_set, made_record, no_mades, no_made_fields, made_field};
-ghost use Rattle.cedar_store_model.specs.Whole.Outcome.{missing_field, wrong_type, extension_failed};
-ghost use Rattle.cedar_store_model.specs.Whole.Policy.{permit, forbid};
-ghost use Rattle.cedar_store_model.specs.Whole.Answer.{allow, deny, ids};
+ghost use Rattle.cedar_expr_model.specs.Value.{text, entity};
+ghost use Rattle.cedar_expr_model.specs.Tree.{long_core, principal, action, resource, context, lit, unknown, both, binary, equal, call, no_trees, tree, no_tree_fields, tree_field};
+ghost use Rattle.cedar_expr_model.specs.Made.{made_prim, made_set, made_record, no_mades, no_made_fields, made_field};
+ghost use Rattle.cedar_store_model.specs.Outcome.{missing_field, wrong_type, extension_failed};
+ghost use Rattle.cedar_store_model.specs.Policy.{permit, forbid};
+ghost use Rattle.cedar_store_model.specs.Answer.{allow, deny, ids};
 ghost use Rattle.cedar_evaluator_model.specs.Scope.{uid, unknown_uid, closed, residual_fields, unknown_context, limit, fault};
 ghost use Rattle.cedar_evaluator_model.specs.Response.{no_error, with_error, stops, no_value, noted, request_of, response_of};
 ghost use Rattle.cedar_evaluator_model.specs.Members.{decision, must_be_determining, may_be_determining, definitely_satisfied, definitely_errored, nontrivial_residuals, nontrivial_residual_ids, nontrivial_forbids, all_residuals, get, left_policy, concretize, met_limit, decision_in_session, bounds_in_session};

@@ -7,14 +7,14 @@ use Rattle.std.specs.Ordering.{is_lt, is_le}
 use Rattle.std.specs.declared.cmp.Ordering.{Ordering}
 use Rattle.std.specs.Prelude.{Bool}
 use Rattle.cedar_expr_model.specs.Name.{Text, Name}
-use Rattle.cedar_expr_model.specs.Whole.Made.{Made, made_prim, made_set, made_record, made_extension, bare}
-use Rattle.cedar_expr_model.specs.Whole.Table.{Table, Called}
-use Rattle.cedar_expr_model.specs.Whole.Tree.{has_path, Var, BinaryOp, equal, less, less_or_equal, plus, difference, times, is_in, contains, contains_all, contains_any, get_tag, has_tag}
-use Rattle.cedar_expr_model.specs.Whole.Value.{V, truth, long, text, entity}
-use Rattle.cedar_store_model.specs.Whole.Operators.{says, ordered}
-use Rattle.cedar_store_model.specs.Whole.Outcome.{err, wrong_type}
-use Rattle.cedar_store_model.specs.Whole.Store.{stand_in}
-use Rattle.cedar_store_model.specs.Whole.World.{by_found}
+use Rattle.cedar_expr_model.specs.Made.{Made, made_prim, made_set, made_record, made_extension, bare}
+use Rattle.cedar_expr_model.specs.Table.{Table, Called}
+use Rattle.cedar_expr_model.specs.Tree.{has_path, Var, BinaryOp, equal, less, less_or_equal, plus, difference, times, is_in, contains, contains_all, contains_any, get_tag, has_tag}
+use Rattle.cedar_expr_model.specs.Value.{V, truth, long, text, entity}
+use Rattle.cedar_store_model.specs.Operators.{says, ordered}
+use Rattle.cedar_store_model.specs.Outcome.{err, wrong_type}
+use Rattle.cedar_store_model.specs.Store.{stand_in}
+use Rattle.cedar_store_model.specs.World.{by_found}
 use Rattle.cedar_evaluator_model.specs.Scope.{Scope, Left, value_left, residual, stopped}
 use Rattle.cedar_evaluator_model.specs.Steps.{truth_left, left_of, combined_left, attribute_of, test_of, made_named, path_step, path_of}
 use Rattle.cedar_evaluator_model.specs.Evaluation.{variable_left, binary_left}

@@ -4,10 +4,10 @@ use Rattle.std.specs.Prelude.{All, Contains}
 use Rattle.std.proofs.lemmas.List.{length-map}
 use Rattle.std.proofs.lemmas.List.Elements.{All-contains}
 use Rattle.cedar_expr_model.specs.Name.{Name}
-use Rattle.cedar_expr_model.specs.Whole.Made as model
-use Rattle.cedar_expr_model.specs.Whole.Made.{Made}
-use Rattle.cedar_expr_model.specs.Whole.Table.{Signature, takes_count, are_of_types}
-use Rattle.cedar_expr_model.specs.Whole.Tree.{CoreType}
+use Rattle.cedar_expr_model.specs.Made as model
+use Rattle.cedar_expr_model.specs.Made.{Made}
+use Rattle.cedar_expr_model.specs.Table.{Signature, takes_count, are_of_types}
+use Rattle.cedar_expr_model.specs.Tree.{CoreType}
 use Rattle.cedar_expr_values.specs.Extensions.{extension_of}
 use Rattle.cedar_expr_values.specs.Values.{made}
 use Rattle.cedar_expr_values.specs.declared.value.Value.{Value}
@@ -18,7 +18,7 @@ use Rattle.cedar_expr_functions.specs.Tables.{IsNamedIn, stored_in}
 use Rattle.cedar_expr_functions.specs.declared.extension.ExtensionFunction.{ExtensionFunction}
 use Rattle.cedar_expr_functions.specs.declared.extensions.Extensions.{Extensions}
 use Rattle.cedar_expr_functions.proofs.Mistyped.{of_types}
-use Rattle.cedar_store_model.specs.Whole.Outcome.{wrong_type, wrong_count}
+use Rattle.cedar_store_model.specs.Outcome.{wrong_type, wrong_count}
 use Rattle.cedar_evaluator_model.specs.Scope.{MadeCalled, Left}
 use Rattle.cedar_evaluator_model.specs.Steps.{errs, answer_left}
 use Rattle.cedar_evaluator_operators.specs.Calls.{call_by}

@@ -5,12 +5,12 @@ use Rattle.std.specs.List.{list_any}
 use Rattle.std.specs.Ordering.{int_cmp, is_lt, is_le}
 use Rattle.std.specs.declared.cmp.Ordering.{Ordering}
 use Rattle.cedar_expr_model.specs.Name.{Name, name_eq}
-use Rattle.cedar_expr_model.specs.Whole.Order.{text_cmp, value_eq}
-use Rattle.cedar_expr_model.specs.Whole.Table.{Table, fails}
-use Rattle.cedar_expr_model.specs.Whole.Tree.{BinaryOp, equal, less, less_or_equal, plus, difference, times, is_in, get_tag, has_tag}
-use Rattle.cedar_expr_model.specs.Whole.Value.{V, prim, long, extension}
-use Rattle.cedar_store_model.specs.Whole.Operators.{says, ordered, calculated}
-use Rattle.cedar_store_model.specs.Whole.Outcome.{Res, val, err, overflow, wrong_type}
+use Rattle.cedar_expr_model.specs.Order.{text_cmp, value_eq}
+use Rattle.cedar_expr_model.specs.Table.{Table, fails}
+use Rattle.cedar_expr_model.specs.Tree.{BinaryOp, equal, less, less_or_equal, plus, difference, times, is_in, get_tag, has_tag}
+use Rattle.cedar_expr_model.specs.Value.{V, prim, long, extension}
+use Rattle.cedar_store_model.specs.Operators.{says, ordered, calculated}
+use Rattle.cedar_store_model.specs.Outcome.{Res, val, err, overflow, wrong_type}
 
 -- the operators of two whole numbers
 abbrev pub is_arithmetic : BinaryOp → Bool

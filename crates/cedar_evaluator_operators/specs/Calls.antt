@@ -3,10 +3,10 @@
 use Rattle.std.specs.Prelude.{List, map, length, if◌then◌else◌}
 use Rattle.std.specs.Option.{option_map_or}
 use Rattle.cedar_expr_model.specs.Name.{Name}
-use Rattle.cedar_expr_model.specs.Whole.Made.{Made, bare}
-use Rattle.cedar_expr_model.specs.Whole.Table.{Table, Called, Signature, signature_of, takes_count, are_of_types}
-use Rattle.cedar_expr_model.specs.Whole.Value.{V}
-use Rattle.cedar_store_model.specs.Whole.Outcome.{no_function, wrong_count, wrong_type}
+use Rattle.cedar_expr_model.specs.Made.{Made, bare}
+use Rattle.cedar_expr_model.specs.Table.{Table, Called, Signature, signature_of, takes_count, are_of_types}
+use Rattle.cedar_expr_model.specs.Value.{V}
+use Rattle.cedar_store_model.specs.Outcome.{no_function, wrong_count, wrong_type}
 use Rattle.cedar_evaluator_model.specs.Scope.{MadeCalled, Left}
 use Rattle.cedar_evaluator_model.specs.Steps.{errs, answer_left}
 

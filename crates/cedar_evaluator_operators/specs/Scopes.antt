@@ -2,8 +2,8 @@
 -- Rule: partial evaluation (docs/RULES.md).
 use Rattle.std.specs.Prelude.{List}
 use Rattle.cedar_expr_model.specs.Name.{Name}
-use Rattle.cedar_expr_model.specs.Whole.Table.{Table, Called}
-use Rattle.cedar_expr_model.specs.Whole.Value.{V}
+use Rattle.cedar_expr_model.specs.Table.{Table, Called}
+use Rattle.cedar_expr_model.specs.Value.{V}
 use Rattle.cedar_evaluator_model.specs.Scope.{Scope}
 use Rattle.cedar_evaluator_reads.specs.Scopes.{scope_seen}
 use Rattle.cedar_evaluator_reads.specs.declared.knowledge.Knowledge.{Knowledge}

@@ -1,8 +1,8 @@
 -- Which truth value a value is.
 -- Rule: partial evaluation (docs/RULES.md).
 use Rattle.std.specs.Prelude.{◌≡◌, Bool, false, Result, Ok, Err}
-use Rattle.cedar_expr_model.specs.Whole.Made.{Made, made_prim}
-use Rattle.cedar_expr_model.specs.Whole.Value.{truth}
+use Rattle.cedar_expr_model.specs.Made.{Made, made_prim}
+use Rattle.cedar_expr_model.specs.Value.{truth}
 use Rattle.cedar_evaluator_model.specs.Scope.{Stop, Left, stopped}
 use Rattle.cedar_evaluator_model.specs.Steps.{picks}
 use Rattle.cedar_evaluator_errors.specs.Outcomes.{is_memory, stop_or}

@@ -4,8 +4,8 @@ ghost use Rattle.std.specs.Prelude.{◌≡◌, ◌+ℤ◌, ◌-ℤ◌, ◌*ℤ�
 ghost use Rattle.cedar_expr_leaves.specs.Operators.{binary_op_of};
 ghost use Rattle.cedar_expr_values.specs.Extensions.{extension_of};
 ghost use Rattle.cedar_expr_values.specs.Values.{bare};
-ghost use Rattle.cedar_store_model.specs.Whole.Operators.{calculated, in_range};
-ghost use Rattle.cedar_store_model.specs.Whole.Outcome.{overflow};
+ghost use Rattle.cedar_store_model.specs.Operators.{calculated, in_range};
+ghost use Rattle.cedar_store_model.specs.Outcome.{overflow};
 ghost use Rattle.cedar_evaluator_model.specs.Steps.{errs, left_of};
 ghost use Rattle.cedar_evaluator_errors.specs.Outcomes.{Gives};
 ghost use Rattle.cedar_evaluator_operators.specs.Arithmetic.{is_arithmetic, arithmetic};

@@ -3,14 +3,14 @@
 ghost use Rattle.std.specs.Prelude.{◌≡◌, not, Option, option_map};
 ghost use Rattle.cedar_expr_leaves.specs.Operators.{binary_op_of};
 ghost use Rattle.cedar_expr_model.specs.Name.{Name as ModelName};
-ghost use Rattle.cedar_expr_model.specs.Whole.Canonical.{is_subset, is_disjoint};
-ghost use Rattle.cedar_expr_model.specs.Whole.Made.{written};
-ghost use Rattle.cedar_expr_model.specs.Whole.Tree.{binary};
+ghost use Rattle.cedar_expr_model.specs.Canonical.{is_subset, is_disjoint};
+ghost use Rattle.cedar_expr_model.specs.Made.{written};
+ghost use Rattle.cedar_expr_model.specs.Tree.{binary};
 ghost use Rattle.cedar_expr_names.specs.Views.{type_name_of};
 ghost use Rattle.cedar_expr_trees.specs.Trees.{tree_of};
 ghost use Rattle.cedar_expr_values.specs.Extensions.{extension_of};
 ghost use Rattle.cedar_expr_values.specs.Values.{bare, made};
-ghost use Rattle.cedar_store_model.specs.Whole.Operators.{among_members, of_sets};
+ghost use Rattle.cedar_store_model.specs.Operators.{among_members, of_sets};
 ghost use Rattle.cedar_store_worlds_model.specs.Rising.{Rises};
 ghost use Rattle.cedar_evaluator_model.specs.Scope.{residual};
 ghost use Rattle.cedar_evaluator_model.specs.Steps.{left_of, kind_of_value, kind_of_unknown, differ as model_differ, with_residual, combined_left};

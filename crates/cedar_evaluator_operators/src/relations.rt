@@ -3,11 +3,11 @@
 ghost use Rattle.std.specs.Prelude.{◌≡◌, true};
 ghost use Rattle.std.specs.Ordering.{is_lt, is_le};
 ghost use Rattle.cedar_expr_leaves.specs.Operators.{binary_op_of};
-ghost use Rattle.cedar_expr_model.specs.Whole.Value.{extension};
+ghost use Rattle.cedar_expr_model.specs.Value.{extension};
 ghost use Rattle.cedar_expr_values.specs.Extensions.{extension_of};
 ghost use Rattle.cedar_expr_values.specs.Values.{bare};
-ghost use Rattle.cedar_store_model.specs.Whole.Operators.{ordered};
-ghost use Rattle.cedar_store_model.specs.Whole.Outcome.{wrong_type};
+ghost use Rattle.cedar_store_model.specs.Operators.{ordered};
+ghost use Rattle.cedar_store_model.specs.Outcome.{wrong_type};
 ghost use Rattle.cedar_evaluator_model.specs.Steps.{left_of};
 ghost use Rattle.cedar_evaluator_errors.specs.Outcomes.{Gives};
 ghost use Rattle.cedar_evaluator_operators.specs.Arithmetic.{is_relation, related, order_of, table_ordering};

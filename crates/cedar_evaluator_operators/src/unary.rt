@@ -3,12 +3,12 @@
 ghost use Rattle.std.specs.Prelude.{◌≡◌};
 ghost use Rattle.cedar_expr_leaves.specs.Patterns.{pattern_of};
 ghost use Rattle.cedar_expr_leaves.specs.Operators.{unary_op_of};
-ghost use Rattle.cedar_expr_model.specs.Whole.Made.{made_prim};
-ghost use Rattle.cedar_expr_model.specs.Whole.Value.{long as model_long};
+ghost use Rattle.cedar_expr_model.specs.Made.{made_prim};
+ghost use Rattle.cedar_expr_model.specs.Value.{long as model_long};
 ghost use Rattle.cedar_expr_names.specs.Views.{type_name_of};
 ghost use Rattle.cedar_expr_values.specs.Extensions.{extension_of};
 ghost use Rattle.cedar_expr_values.specs.Values.{bare, made};
-ghost use Rattle.cedar_store_model.specs.Whole.Operators.{applied, like_pattern, of_type};
+ghost use Rattle.cedar_store_model.specs.Operators.{applied, like_pattern, of_type};
 ghost use Rattle.cedar_evaluator_model.specs.Steps.{left_of, truth_wanted};
 ghost use Rattle.cedar_evaluator_errors.specs.Outcomes.{Gives};
 ghost use Rattle.cedar_evaluator_operators.specs.Truths.{IsTruth};
@@ -76,7 +76,7 @@ pub fn unary_app(
 }
 
 ghost use Rattle.std.specs.Prelude.{neg_ℤ};
-ghost use Rattle.cedar_store_model.specs.Whole.Operators.{in_range};
+ghost use Rattle.cedar_store_model.specs.Operators.{in_range};
 
 // The negation of a whole number, which is this value.
 fn negated(n: i64, arg: &V, loc: Option<Loc>) -> Result<V, EvaluationError>

@@ -14,21 +14,21 @@ use Rattle.cedar_expr_names.specs.Views.{uid_of}
 use Rattle.cedar_expr_names.specs.declared.entity.EntityUID.{EntityUID}
 use Rattle.cedar_expr_model.specs.Name.{Text}
 use Rattle.cedar_expr_model.specs.Uid.{Uid, uid_eq}
-use Rattle.cedar_expr_model.specs.Whole.Uids.{is_uid}
-use Rattle.cedar_expr_model.specs.Whole.Made.{Made, MadeFields}
-use Rattle.cedar_expr_model.specs.Whole.Order.{text_cmp}
-use Rattle.cedar_expr_model.specs.Whole.Tree.{Tree}
-use Rattle.cedar_expr_model.specs.Whole.Builder.{tree_fields}
-use Rattle.cedar_expr_model.specs.Whole.Parts.{listed_fields}
-use Rattle.cedar_expr_model.specs.Whole.Value.{V}
+use Rattle.cedar_expr_model.specs.Uids.{is_uid}
+use Rattle.cedar_expr_model.specs.Made.{Made, MadeFields}
+use Rattle.cedar_expr_model.specs.Order.{text_cmp}
+use Rattle.cedar_expr_model.specs.Tree.{Tree}
+use Rattle.cedar_expr_model.specs.Builder.{tree_fields}
+use Rattle.cedar_expr_model.specs.Parts.{listed_fields}
+use Rattle.cedar_expr_model.specs.Value.{V}
 use Rattle.cedar_expr_values.specs.Extension.{Extension}
 use Rattle.cedar_expr_values.specs.Values.{made, made_fields, made_pair}
 use Rattle.cedar_expr_values.specs.declared.value.Value.{Value}
 use Rattle.cedar_expr_trees.specs.Trees.{tree_of, named, field_trees}
 use Rattle.cedar_expr_trees.specs.declared.expr.Expr.{Expr}
-use Rattle.cedar_store_model.specs.Whole.Store.{Extent, whole, partial, found_as, look_up}
-use Rattle.cedar_store_model.specs.Whole.World as model
-use Rattle.cedar_store_model.specs.Whole.World.{Found, held, missing, not_loaded}
+use Rattle.cedar_store_model.specs.Store.{Extent, whole, partial, found_as, look_up}
+use Rattle.cedar_store_model.specs.World as model
+use Rattle.cedar_store_model.specs.World.{Found, held, missing, not_loaded}
 use Rattle.cedar_store_entities.specs.Stores.{store_seen, store_made, extent_of, Dereferences}
 use Rattle.cedar_store_entities.specs.StoreParts.{entities_in, kept_in}
 use Rattle.cedar_store_entities.specs.Views.{Kept, entity_uid, entity_seen, entity_kept, bare_entity}

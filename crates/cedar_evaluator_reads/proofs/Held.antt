@@ -2,14 +2,14 @@
 use Rattle.std.proofs.Common.{◌≡◌, sym, ap, ◌∙◌, subst}
 use Rattle.cedar_expr_model.specs.Name.{Text}
 use Rattle.cedar_expr_model.specs.Uid.{Uid}
-use Rattle.cedar_expr_model.specs.Whole.Made.{Made, made_prim}
-use Rattle.cedar_expr_model.specs.Whole.Tree.{Tree, get_attr}
-use Rattle.cedar_expr_model.specs.Whole.Value.{entity}
+use Rattle.cedar_expr_model.specs.Made.{Made, made_prim}
+use Rattle.cedar_expr_model.specs.Tree.{Tree, get_attr}
+use Rattle.cedar_expr_model.specs.Value.{entity}
 use Rattle.cedar_expr_trees.specs.Trees.{tree_of}
 use Rattle.cedar_expr_trees.specs.declared.expr.Expr.{Expr}
-use Rattle.cedar_store_model.specs.Whole.Outcome.{missing_entity}
-use Rattle.cedar_store_model.specs.Whole.Store.{stand_in}
-use Rattle.cedar_store_model.specs.Whole.World.{Found, not_loaded, by_found}
+use Rattle.cedar_store_model.specs.Outcome.{missing_entity}
+use Rattle.cedar_store_model.specs.Store.{stand_in}
+use Rattle.cedar_store_model.specs.World.{Found, not_loaded, by_found}
 use Rattle.cedar_store_entities.specs.declared.entity.Entity.{Entity}
 use Rattle.cedar_store_entities.specs.declared.entities.Dereference.{Dereference}
 use Rattle.cedar_store_entities.specs.declared.entities.Dereference.TheVariants as found

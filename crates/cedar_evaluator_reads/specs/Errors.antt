@@ -7,16 +7,16 @@ use Rattle.std.specs.Str.{bytes_eq}
 use Rattle.cedar_expr_names.specs.Views.{uid_of}
 use Rattle.cedar_expr_model.specs.Name.{Text, Name}
 use Rattle.cedar_expr_model.specs.Uid.{Uid}
-use Rattle.cedar_expr_model.specs.Whole.Made.{Made}
-use Rattle.cedar_expr_model.specs.Whole.Names.{unqualified}
-use Rattle.cedar_expr_model.specs.Whole.Substitution.{core_type_of}
-use Rattle.cedar_expr_model.specs.Whole.Tree.{CoreType}
-use Rattle.cedar_expr_model.specs.Whole.Value.{V}
+use Rattle.cedar_expr_model.specs.Made.{Made}
+use Rattle.cedar_expr_model.specs.Names.{unqualified}
+use Rattle.cedar_expr_model.specs.Substitution.{core_type_of}
+use Rattle.cedar_expr_model.specs.Tree.{CoreType}
+use Rattle.cedar_expr_model.specs.Value.{V}
 use Rattle.cedar_expr_leaves.specs.declared.non_empty.NonEmpty.{NonEmpty}
 use Rattle.cedar_expr_values.specs.Types.{core_of}
 use Rattle.cedar_expr_values.specs.declared.types.Type.{«Type» as CoreKind}
-use Rattle.cedar_store_model.specs.Whole.Outcome.{Fault}
-use Rattle.cedar_store_model.specs.Whole.World.{Entity}
+use Rattle.cedar_store_model.specs.Outcome.{Fault}
+use Rattle.cedar_store_model.specs.World.{Entity}
 use Rattle.cedar_evaluator_model.specs.Scope.{Stop, stopped}
 use Rattle.cedar_evaluator_model.specs.Steps.{errs}
 use Rattle.cedar_evaluator_errors.specs.Outcomes.{is_memory, stop_or}

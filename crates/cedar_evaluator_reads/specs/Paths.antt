@@ -1,7 +1,7 @@
 -- A step along a path of attributes.
 -- Rule: partial evaluation (docs/RULES.md).
 use Rattle.std.specs.Prelude.{◌≡◌, false, Result, Ok, Err}
-use Rattle.cedar_expr_model.specs.Whole.Made.{Made}
+use Rattle.cedar_expr_model.specs.Made.{Made}
 use Rattle.cedar_expr_values.specs.Extensions.{extension_of}
 use Rattle.cedar_expr_values.specs.Values.{made}
 use Rattle.cedar_evaluator_model.specs.Scope.{Stop, Left, stopped}

@@ -10,15 +10,15 @@ use Rattle.std.specs.declared.alloc.Global.{Global}
 use Rattle.std.specs.declared.rc.RcStr.{RcStr}
 use Rattle.cedar_expr_model.specs.Name.{Text, Name}
 use Rattle.cedar_expr_model.specs.Uid.{Uid, uid_eq}
-use Rattle.cedar_expr_model.specs.Whole.Made.{Made}
-use Rattle.cedar_expr_model.specs.Whole.Table.{Table, fails}
+use Rattle.cedar_expr_model.specs.Made.{Made}
+use Rattle.cedar_expr_model.specs.Table.{Table, fails}
 use Rattle.cedar_expr_values.specs.Values.{made}
 use Rattle.cedar_expr_values.specs.Extensions.{extension_of}
 use Rattle.cedar_expr_values.specs.declared.value.Value.{Value}
 use Rattle.cedar_expr_values.specs.declared.extension.ExtValue.{ExtValue}
-use Rattle.cedar_store_model.specs.Whole.Policy.{binding_of}
-use Rattle.cedar_store_model.specs.Whole.Store.{Extent, whole, partial, if_uid}
-use Rattle.cedar_store_model.specs.Whole.World.{Found, held, missing, not_loaded}
+use Rattle.cedar_store_model.specs.Policy.{binding_of}
+use Rattle.cedar_store_model.specs.Store.{Extent, whole, partial, if_uid}
+use Rattle.cedar_store_model.specs.World.{Found, held, missing, not_loaded}
 use Rattle.cedar_store_entities.specs.Stores.{extent_of, store_made}
 use Rattle.cedar_store_entities.specs.Views.{Kept}
 use Rattle.cedar_store_entities.specs.declared.entities.Entities.{Entities}

@@ -8,17 +8,17 @@ use Rattle.std.specs.Borrow.{Bor}
 use Rattle.cedar_expr_names.specs.Views.{uid_of}
 use Rattle.cedar_expr_model.specs.Name.{Text}
 use Rattle.cedar_expr_model.specs.Uid.{Uid}
-use Rattle.cedar_expr_model.specs.Whole.Value.{entity}
-use Rattle.cedar_expr_model.specs.Whole.Made.{Made, made_prim, made_record}
-use Rattle.cedar_expr_model.specs.Whole.Tree.{Tree, get_attr, has_attr, record_literal}
-use Rattle.cedar_expr_model.specs.Whole.Builder.{tree_fields}
+use Rattle.cedar_expr_model.specs.Value.{entity}
+use Rattle.cedar_expr_model.specs.Made.{Made, made_prim, made_record}
+use Rattle.cedar_expr_model.specs.Tree.{Tree, get_attr, has_attr, record_literal}
+use Rattle.cedar_expr_model.specs.Builder.{tree_fields}
 use Rattle.cedar_expr_values.specs.Values.{made_fields, made_pair}
 use Rattle.cedar_expr_values.specs.Extensions.{extension_of}
 use Rattle.cedar_expr_trees.specs.Trees.{tree_of, named, field_trees}
 use Rattle.cedar_expr_trees.specs.declared.expr.Expr.{Expr}
-use Rattle.cedar_store_model.specs.Whole.Outcome.{wrong_type}
-use Rattle.cedar_store_model.specs.Whole.Store.{stand_in}
-use Rattle.cedar_store_model.specs.Whole.World.{Found, held, missing, not_loaded}
+use Rattle.cedar_store_model.specs.Outcome.{wrong_type}
+use Rattle.cedar_store_model.specs.Store.{stand_in}
+use Rattle.cedar_store_model.specs.World.{Found, held, missing, not_loaded}
 use Rattle.cedar_store_entities.specs.Views.{entity_seen}
 use Rattle.cedar_store_entities.specs.declared.entity.Entity.{Entity}
 use Rattle.cedar_store_entities.specs.declared.entities.Dereference.{Dereference}

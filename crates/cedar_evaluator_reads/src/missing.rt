@@ -5,7 +5,7 @@ ghost use Rattle.std.specs.Map.{keys_of};
 ghost use Rattle.std.specs.Rc.{rc_str_bytes};
 ghost use Rattle.cedar_expr_names.specs.Views.{uid_of};
 ghost use Rattle.cedar_store_entities.specs.Views.{entity_seen};
-ghost use Rattle.cedar_store_model.specs.Whole.Outcome.{missing_attribute_or_tag, missing_entity, missing_field};
+ghost use Rattle.cedar_store_model.specs.Outcome.{missing_attribute_or_tag, missing_entity, missing_field};
 ghost use Rattle.cedar_evaluator_model.specs.Steps.{errs};
 ghost use Rattle.cedar_evaluator_errors.specs.Outcomes.{Leaves};
 ghost use Rattle.cedar_evaluator_reads.specs.Errors.{KeepsPart, KeepsField, lacked_attribute, lacked_tag, lacked_field, first_five};

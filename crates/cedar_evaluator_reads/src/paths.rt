@@ -3,9 +3,9 @@
 ghost use Rattle.std.specs.Prelude.{◌≡◌, ◌∷◌, map, option_map, IfOk};
 ghost use Rattle.std.specs.Rc.{rc_str_bytes};
 ghost use Rattle.cedar_expr_names.specs.Views.{uid_of};
-ghost use Rattle.cedar_expr_model.specs.Whole.Builder.{path_test};
-ghost use Rattle.cedar_expr_model.specs.Whole.Made.{made_prim};
-ghost use Rattle.cedar_expr_model.specs.Whole.Value.{entity};
+ghost use Rattle.cedar_expr_model.specs.Builder.{path_test};
+ghost use Rattle.cedar_expr_model.specs.Made.{made_prim};
+ghost use Rattle.cedar_expr_model.specs.Value.{entity};
 ghost use Rattle.cedar_expr_trees.specs.Trees.{tree_of};
 ghost use Rattle.cedar_expr_values.specs.Extensions.{extension_of};
 ghost use Rattle.cedar_expr_values.specs.Values.{made};

@@ -3,10 +3,10 @@
 ghost use Rattle.std.specs.Prelude.{◌≡◌, IfOk, map, option_map};
 ghost use Rattle.cedar_expr_names.specs.Views.{uid_of};
 ghost use Rattle.cedar_expr_trees.specs.Trees.{tree_of, named, field_trees};
-ghost use Rattle.cedar_expr_model.specs.Whole.Builder.{tree_fields};
+ghost use Rattle.cedar_expr_model.specs.Builder.{tree_fields};
 ghost use Rattle.cedar_expr_values.specs.Extensions.{extension_of};
 ghost use Rattle.cedar_expr_values.specs.Values.{bare, made, made_fields, made_pair};
-ghost use Rattle.cedar_store_model.specs.Whole.Reads.{uid_of as value_uid};
+ghost use Rattle.cedar_store_model.specs.Reads.{uid_of as value_uid};
 ghost use Rattle.cedar_evaluator_model.specs.Evaluation.{tree_named};
 ghost use Rattle.cedar_evaluator_model.specs.Steps.{made_named, kind_of_value, kind_of_unknown};
 ghost use Rattle.cedar_expr_names.specs.Views.{type_name_of};

@@ -1,13 +1,13 @@
 //! Refusals of values that aren't of a type that is asked for.
 
 ghost use Rattle.std.specs.Prelude.{◌≡◌, [], ◌∷◌, IfOk, codes};
-ghost use Rattle.cedar_expr_model.specs.Whole.Names.{unqualified};
-ghost use Rattle.cedar_expr_model.specs.Whole.Tree.{entity_core, set_core, record_core};
+ghost use Rattle.cedar_expr_model.specs.Names.{unqualified};
+ghost use Rattle.cedar_expr_model.specs.Tree.{entity_core, set_core, record_core};
 ghost use Rattle.cedar_expr_names.specs.Views.{plain_name_of, type_name_of};
 ghost use Rattle.cedar_expr_values.specs.Extensions.{extension_of};
 ghost use Rattle.cedar_expr_values.specs.Types.{core_of};
 ghost use Rattle.cedar_expr_values.specs.Values.{bare};
-ghost use Rattle.cedar_store_model.specs.Whole.Outcome.{wrong_type};
+ghost use Rattle.cedar_store_model.specs.Outcome.{wrong_type};
 ghost use Rattle.cedar_evaluator_reads.specs.Errors.{StopsWith, AsksFor, any_entity};
 
 use crate::knowledge::V;

@@ -8,7 +8,7 @@ ghost use Rattle.cedar_expr_names.specs.Views.{uid_of};
 ghost use Rattle.cedar_expr_model.specs.Uid.{uid_eq};
 ghost use Rattle.cedar_expr_values.specs.Extensions.{extension_of};
 ghost use Rattle.cedar_expr_values.specs.Values.{bare, made};
-ghost use Rattle.cedar_store_model.specs.Whole.Reads.{is_in_some, uids_in, uid_of as value_uid};
+ghost use Rattle.cedar_store_model.specs.Reads.{is_in_some, uids_in, uid_of as value_uid};
 ghost use Rattle.cedar_evaluator_model.specs.Steps.{left_of, in_found, in_of};
 ghost use Rattle.cedar_evaluator_errors.specs.Outcomes.{Leaves, Gives};
 ghost use Rattle.cedar_evaluator_reads.specs.Scopes.{scope_seen};
@@ -116,7 +116,7 @@ fn no_entity_among(alloc: Global, values: Iter<'_, V>, other: &V) -> EvaluationE
     no_entity(alloc, other)
 }
 
-ghost use Rattle.cedar_store_model.specs.Whole.Outcome.{wrong_type};
+ghost use Rattle.cedar_store_model.specs.Outcome.{wrong_type};
 ghost use Rattle.cedar_evaluator_reads.specs.Errors.{StopsWith};
 
 // Whether the uid is one of these entities, or has one as a recorded ancestor.

@@ -1,10 +1,10 @@
 -- The record of some fields.
--- Rule: trees; restricted expressions (docs/RULES.md).
+-- Rule: expressions; restricted expressions (docs/RULES.md).
 use Rattle.std.specs.Prelude.{List}
 use Rattle.std.specs.declared.alloc.Global.{Global}
 use Rattle.std.specs.declared.rc.RcStr.{RcStr}
-use Rattle.cedar_expr_model.specs.Whole.Builder.{tree_fields}
-use Rattle.cedar_expr_model.specs.Whole.Tree.{Tree, TreeFields, record_literal}
+use Rattle.cedar_expr_model.specs.Builder.{tree_fields}
+use Rattle.cedar_expr_model.specs.Tree.{Tree, TreeFields, record_literal}
 use Rattle.cedar_expr_trees.specs.Trees.{named, field_trees}
 use Rattle.cedar_expr_trees.specs.declared.expr.Expr.{Expr}
 

@@ -1,2 +1,5 @@
 pub mod Fields
+pub mod Infallible
+pub mod Kinds
+pub mod Schemas
 pub mod Views

@@ -9,13 +9,13 @@ use Rattle.cedar_expr_names.specs.Views.{uid_of, type_name_of}
 use Rattle.cedar_expr_names.specs.declared.loc.Loc.{Loc}
 use Rattle.cedar_expr_model.specs.Name.{Text, Name}
 use Rattle.cedar_expr_model.specs.Uid.{Uid}
-use Rattle.cedar_expr_model.specs.Whole.Tree.{Tree, Var, principal, action, resource, context}
+use Rattle.cedar_expr_model.specs.Tree.{Tree, Var, principal, action, resource, context}
 use Rattle.cedar_expr_values.specs.Extensions.{extension_of}
 use Rattle.cedar_expr_values.specs.Values.{made_fields, made_pair}
 use Rattle.cedar_expr_trees.specs.Trees.{tree_of}
 use Rattle.std.specs.Prelude.{option_map}
 use Rattle.cedar_store_parts.specs.Parts.{id_text}
-use Rattle.cedar_store_model.specs.Whole.Answer as model
+use Rattle.cedar_store_model.specs.Answer as model
 use Rattle.cedar_evaluator_model.specs.Scope as scope
 use Rattle.cedar_evaluator_model.specs.Scope.{Entry}
 use Rattle.cedar_evaluator_model.specs.Response.{PartialRequest, ResponseError}

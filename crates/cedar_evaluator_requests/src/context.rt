@@ -1,8 +1,8 @@
 //! The contexts of requests.
 
 ghost use Rattle.std.specs.Prelude.{◌≡◌, true};
-ghost use Rattle.cedar_expr_model.specs.Whole.Restricted.{is_restricted};
-ghost use Rattle.cedar_expr_model.specs.Whole.Unknowns.{has_unknown};
+ghost use Rattle.cedar_expr_model.specs.Restricted.{is_restricted};
+ghost use Rattle.cedar_expr_model.specs.Unknowns.{has_unknown};
 ghost use Rattle.cedar_evaluator_requests.specs.Fields.{fields_tree};
 
 use cedar_expr_partial::PartialValue;
@@ -78,7 +78,7 @@ impl Clone for Context {
 
 impl Context {
     ghost use Rattle.std.specs.Prelude.{IfOk, length};
-    ghost use Rattle.cedar_expr_model.specs.Whole.Made.{no_made_fields};
+    ghost use Rattle.cedar_expr_model.specs.Made.{no_made_fields};
     ghost use Rattle.cedar_evaluator_model.specs.Scope.{closed};
     ghost use Rattle.cedar_evaluator_model.specs.Evaluation.{context_left};
     ghost use Rattle.cedar_evaluator_errors.specs.Outcomes.{left_seen};

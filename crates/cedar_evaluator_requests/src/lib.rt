@@ -4,10 +4,14 @@
 
 pub mod context;
 pub mod entry;
+pub mod infallible;
 pub mod request;
 pub mod response;
+pub mod schema;
 
 pub use context::{Context, RestrictedFields};
 pub use entry::EntityUIDEntry;
+pub use infallible::{Infallible, IsInfallible, UnwrapInfallible};
 pub use request::Request;
 pub use response::{AuthorizationError, Decision, Diagnostics, Response};
+pub use schema::{RequestError, RequestSchema, RequestSchemaAllPass};

@@ -1,11 +1,20 @@
 //! Requests.
 
-ghost use Rattle.std.specs.Prelude.{◌≡◌, option_map};
-ghost use Rattle.cedar_evaluator_requests.specs.Views.{entry_of, request_of, context_or_unknown, principal_place, action_place, resource_place, entry_place};
+ghost use Rattle.std.specs.Prelude.{◌≡◌, option_map, IfOk, IfErr};
+ghost use Rattle.cedar_expr_names.specs.Views.{uid_of};
+ghost use Rattle.cedar_store_records.specs.Views.{kind_of};
+ghost use Rattle.cedar_evaluator_model.specs.Scope.{uid};
+ghost use Rattle.cedar_evaluator_requests.specs.Kinds.{kind_asked};
+ghost use Rattle.cedar_evaluator_requests.specs.Schemas.{Passes, Refuses};
+ghost use Rattle.cedar_evaluator_requests.specs.Views.{entry_of, request_of, context_of, context_or_unknown, principal_place, action_place, resource_place, entry_place};
 
 use crate::context::Context;
 use crate::entry::EntityUIDEntry;
-use std::alloc::AllocError;
+use crate::schema::{RequestError, RequestSchema};
+use cedar_expr_functions::Extensions;
+use cedar_expr_names::{EntityUID, Loc};
+use cedar_store_records::RequestType;
+use std::alloc::{AllocError, Global};
 
 /// A request: who asks, what is to be done, with what, and what is known beside them. Each may be unknown.
 #[derive(Debug, Drop)]
@@ -17,6 +26,68 @@ pub struct Request {
 }
 
 impl Request {
+    /// The request of these uids, each at its place, and this context. The schema is asked of it, if there is one.
+    ///
+    /// # Errors
+    /// `Schema` with what the schema says against it, and `OutOfMemory`.
+    pub fn new<S: RequestSchema>(
+        alloc: Global,
+        principal: (EntityUID, Option<Loc>),
+        action: (EntityUID, Option<Loc>),
+        resource: (EntityUID, Option<Loc>),
+        context: Context,
+        schema: Option<&S>,
+        extensions: &Extensions<'_>,
+    ) -> Result<Request, RequestError<S::Error>>
+        ensures request { IfOk result (λ q. request_of q ≡ record { principal = uid (uid_of principal.0); action = uid (uid_of action.0); resource = uid (uid_of resource.0); context = context_of context }) }
+        ensures principal_place { IfOk result (λ q. principal_place q ≡ principal.1) }
+        ensures action_place { IfOk result (λ q. action_place q ≡ action.1) }
+        ensures resource_place { IfOk result (λ q. resource_place q ≡ resource.1) }
+        ensures passes { IfOk result (λ q. Passes S.passes_request schema.entry (request_of q)) }
+        ensures refuses { IfErr result (Refuses S.refuses_request schema.entry (record { principal = uid (uid_of principal.0); action = uid (uid_of action.0); resource = uid (uid_of resource.0); context = context_of context })) }
+    {
+        let principal = EntityUIDEntry::known(alloc, principal.0, principal.1)?;
+        let action = EntityUIDEntry::known(alloc, action.0, action.1)?;
+        let resource = EntityUIDEntry::known(alloc, resource.0, resource.1)?;
+        Request::new_with_unknowns(
+            principal,
+            action,
+            resource,
+            Some(context),
+            schema,
+            extensions,
+        )
+    }
+
+    /// The request of these entries and this context; without a context that is unknown. The schema is asked of it, if there is one.
+    ///
+    /// # Errors
+    /// `Schema` with what the schema says against it, and `OutOfMemory`.
+    pub fn new_with_unknowns<S: RequestSchema>(
+        principal: EntityUIDEntry,
+        action: EntityUIDEntry,
+        resource: EntityUIDEntry,
+        context: Option<Context>,
+        schema: Option<&S>,
+        extensions: &Extensions<'_>,
+    ) -> Result<Request, RequestError<S::Error>>
+        ensures request { IfOk result (λ q. request_of q ≡ record { principal = entry_of principal; action = entry_of action; resource = entry_of resource; context = context_or_unknown context }) }
+        ensures principal_place { IfOk result (λ q. principal_place q ≡ entry_place principal) }
+        ensures action_place { IfOk result (λ q. action_place q ≡ entry_place action) }
+        ensures resource_place { IfOk result (λ q. resource_place q ≡ entry_place resource) }
+        ensures passes { IfOk result (λ q. Passes S.passes_request schema.entry (request_of q)) }
+        ensures refuses { IfErr result (Refuses S.refuses_request schema.entry (record { principal = entry_of principal; action = entry_of action; resource = entry_of resource; context = context_or_unknown context })) }
+    {
+        let request = Request::new_unchecked(principal, action, resource, context);
+        match schema {
+            None => Ok(request),
+            Some(schema) => match schema.validate_request(&request, extensions) {
+                Ok(()) => Ok(request),
+                Err(error) => Err(RequestError::Schema(error)),
+            },
+        }
+    }
+
     /// The request of these entries and this context; without a context that is unknown. No schema is asked.
     pub fn new_unchecked(
         principal: EntityUIDEntry,
@@ -66,6 +137,29 @@ impl Request {
         ensures { context_or_unknown (option_map (λ c. c.now) result) ≡ (request_of self.now).context }
     {
         self.context.as_ref()
+    }
+
+    /// The types of principal and resource, and the action, if all three uids are known.
+    pub fn to_request_type(&self) -> Result<Option<RequestType>, AllocError>
+        ensures { IfOk result (λ k. option_map kind_of k ≡ kind_asked (request_of self.now)) }
+    {
+        let Some(principal) = self.principal.uid() else {
+            return Ok(None);
+        };
+        let Some(action) = self.action.uid() else {
+            return Ok(None);
+        };
+        let Some(resource) = self.resource.uid() else {
+            return Ok(None);
+        };
+        let principal = principal.entity_type().clone()?;
+        let action = action.clone()?;
+        let resource = resource.entity_type().clone()?;
+        Ok(Some(RequestType {
+            principal,
+            action,
+            resource,
+        }))
     }
 }
 

@@ -9,9 +9,9 @@ use Rattle.std.specs.Str.{bytes_eq}
 use Rattle.indexmap.specs.IndexMap.{insert_entry, insert_all}
 use Rattle.indexmap.specs.IndexSet.{insert_key}
 use Rattle.cedar_expr_model.specs.Name.{Text}
-use Rattle.cedar_expr_model.specs.Whole.ListLaws.{AreDistinct}
+use Rattle.cedar_expr_model.specs.ListLaws.{AreDistinct}
 use Rattle.cedar_expr_model.proofs.Lists.{found-Decides, contains_cases, contains_none}
-use Rattle.cedar_expr_model.proofs.Whole.Repeating.{distinct_apart}
+use Rattle.cedar_expr_model.proofs.Repeating.{distinct_apart}
 
 not_true : (b : Bool) → (b ≡ true → ⊥) → b ≡ false
 not_true true h = absurd (h refl)

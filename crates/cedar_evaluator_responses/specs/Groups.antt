@@ -5,7 +5,7 @@ use Rattle.std.specs.Str.{bytes_eq}
 use Rattle.std.specs.declared.alloc.Global.{Global}
 use Rattle.std.specs.declared.rc.Rc.{Rc}
 use Rattle.indexmap.specs.IndexMap.{insert_all}
-use Rattle.cedar_expr_model.specs.Whole.Tree.{Tree}
+use Rattle.cedar_expr_model.specs.Tree.{Tree}
 use Rattle.cedar_expr_trees.specs.Trees.{tree_of}
 use Rattle.cedar_expr_trees.specs.declared.expr.Expr.{Expr}
 use Rattle.cedar_store_parts.specs.Parts.{id_text, annotations_of}

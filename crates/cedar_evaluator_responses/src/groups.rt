@@ -1,7 +1,7 @@
 //! The groups of a partial response.
 
 ghost use Rattle.std.specs.Prelude.{◌≡◌, IfOk};
-ghost use Rattle.cedar_expr_model.specs.Whole.Lists.{is_nil};
+ghost use Rattle.cedar_expr_model.specs.Lists.{is_nil};
 ghost use Rattle.cedar_evaluator_responses.specs.Groups.{each_once};
 
 use cedar_store_parts::PolicyID;

@@ -52,7 +52,7 @@ impl Drop for PartialResponse {
 
 impl PartialResponse {
     ghost use Rattle.std.specs.Prelude.{◌≡◌, map, IfOk, option_map};
-    ghost use Rattle.cedar_store_model.specs.Whole.Answer.{decided};
+    ghost use Rattle.cedar_store_model.specs.Answer.{decided};
     ghost use Rattle.cedar_store_parts.specs.Parts.{id_text, effect_of};
     ghost use Rattle.cedar_store_policies.specs.Policies.{policy_of};
     ghost use Rattle.cedar_evaluator_model.specs.Members.{of_true, decision, definitely_satisfied, definitely_errored, may_be_determining, must_be_determining, nontrivial_residuals, nontrivial_residual_ids, nontrivial_forbids, all_residuals, get, concretize, met_limit as meets_limit};

@@ -1,16 +1,16 @@
 -- Values that are made alike are the same.
 use Rattle.std.proofs.Common.{◌≡◌, true, List, [], ◌∷◌, map, refl, ap}
 use Rattle.std.proofs.lemmas.Slice.Eq.{bytes_eq-Decides}
-use Rattle.cedar_expr_model.specs.Whole.Builder.{trees}
-use Rattle.cedar_expr_model.specs.Whole.Made.{Made, made_prim, made_set, made_record, made_extension, Mades, no_mades, made, MadeFields, no_made_fields, made_field, bare, bares, bare_fields, written, writtens, written_fields}
-use Rattle.cedar_expr_model.specs.Whole.Order.{value_eq}
-use Rattle.cedar_expr_model.specs.Whole.Shape.{tree_eq}
-use Rattle.cedar_expr_model.specs.Whole.Tree.{lit}
-use Rattle.cedar_expr_model.specs.Whole.Value.{Literal}
+use Rattle.cedar_expr_model.specs.Builder.{trees}
+use Rattle.cedar_expr_model.specs.Made.{Made, made_prim, made_set, made_record, made_extension, Mades, no_mades, made, MadeFields, no_made_fields, made_field, bare, bares, bare_fields, written, writtens, written_fields}
+use Rattle.cedar_expr_model.specs.Order.{value_eq}
+use Rattle.cedar_expr_model.specs.Shape.{tree_eq}
+use Rattle.cedar_expr_model.specs.Tree.{lit}
+use Rattle.cedar_expr_model.specs.Value.{Literal}
 use Rattle.cedar_expr_model.proofs.Equality.{name_eq-Decides}
 use Rattle.cedar_expr_model.proofs.Lists.{both_hold}
-use Rattle.cedar_expr_model.proofs.Whole.ValueOrder.{values_decide}
-use Rattle.cedar_expr_model.proofs.Whole.ShapeOrder.{trees_decide}
+use Rattle.cedar_expr_model.proofs.ValueOrder.{values_decide}
+use Rattle.cedar_expr_model.proofs.ShapeOrder.{trees_decide}
 use Rattle.cedar_evaluator_model.specs.Scope.{MadeCalled, makes, faults, leaves_unknown}
 use Rattle.cedar_evaluator_restricted.specs.Alike.{made_alike, answers_alike}
 

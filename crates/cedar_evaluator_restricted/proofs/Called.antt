@@ -2,11 +2,11 @@
 use Rattle.std.proofs.Common.{◌≡◌, ◌&&◌, Bool, true, false, cond, List, [], ◌∷◌, map, length, Option, Some, None, is_none, refl, sym, ap, ◌∙◌, subst}
 use Rattle.std.proofs.lemmas.List.{length-map}
 use Rattle.cedar_expr_model.specs.Name.{Name}
-use Rattle.cedar_expr_model.specs.Whole.Made as model
-use Rattle.cedar_expr_model.specs.Whole.Made.{Made}
-use Rattle.cedar_expr_model.specs.Whole.Parts.{Unknown}
-use Rattle.cedar_expr_model.specs.Whole.Table.{Signature, takes_count, are_of_types}
-use Rattle.cedar_expr_model.specs.Whole.Tree.{CoreType, Tree, unknown}
+use Rattle.cedar_expr_model.specs.Made as model
+use Rattle.cedar_expr_model.specs.Made.{Made}
+use Rattle.cedar_expr_model.specs.Parts.{Unknown}
+use Rattle.cedar_expr_model.specs.Table.{Signature, takes_count, are_of_types}
+use Rattle.cedar_expr_model.specs.Tree.{CoreType, Tree, unknown}
 use Rattle.cedar_expr_model.proofs.Lists.{both_hold}
 use Rattle.cedar_expr_values.specs.Extensions.{extension_of}
 use Rattle.cedar_expr_values.specs.Values.{made}
@@ -17,7 +17,7 @@ use Rattle.cedar_expr_functions.specs.Tables.{IsNamedIn}
 use Rattle.cedar_expr_functions.specs.declared.extension.ExtensionFunction.{ExtensionFunction}
 use Rattle.cedar_expr_functions.specs.declared.extensions.Extensions.{Extensions}
 use Rattle.cedar_expr_functions.proofs.Mistyped.{of_types}
-use Rattle.cedar_store_model.specs.Whole.Outcome.{wrong_type, wrong_count}
+use Rattle.cedar_store_model.specs.Outcome.{wrong_type, wrong_count}
 use Rattle.cedar_evaluator_model.specs.Scope.{MadeCalled, Scope, Left, leaves_unknown, residual}
 use Rattle.cedar_evaluator_model.specs.Steps.{errs, answer_left, call_left}
 use Rattle.cedar_evaluator_restricted.specs.Answers.{IsMadeBy, AnswersMade}

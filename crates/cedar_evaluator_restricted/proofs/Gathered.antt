@@ -5,16 +5,16 @@ use Rattle.std.specs.Option.{option_map_or}
 use Rattle.std.specs.Ordering.{match_ordering}
 use Rattle.std.specs.declared.cmp.Ordering.{Ordering}
 use Rattle.std.specs.declared.cmp.Ordering.TheVariants.{Less, Equal, Greater}
-use Rattle.cedar_expr_model.specs.Whole.Builder.{trees, tree_fields}
+use Rattle.cedar_expr_model.specs.Builder.{trees, tree_fields}
 use Rattle.std.specs.Map.{values_of}
 use Rattle.std.specs.declared.rc.RcStr.{RcStr}
-use Rattle.cedar_expr_model.specs.Whole.Made as model
-use Rattle.cedar_expr_model.specs.Whole.Made.{Made, Mades, bare}
-use Rattle.cedar_expr_model.specs.Whole.Restricted.{is_restricted}
-use Rattle.cedar_expr_model.specs.Whole.Order.{value_cmp}
-use Rattle.cedar_expr_model.specs.Whole.Parts.{listed, listed_fields}
-use Rattle.cedar_expr_model.specs.Whole.Tree.{Tree}
-use Rattle.cedar_expr_model.specs.Whole.ValueParts.{Part, known, left, all_known, part_tree, values_alone, with_residuals, split}
+use Rattle.cedar_expr_model.specs.Made as model
+use Rattle.cedar_expr_model.specs.Made.{Made, Mades, bare}
+use Rattle.cedar_expr_model.specs.Restricted.{is_restricted}
+use Rattle.cedar_expr_model.specs.Order.{value_cmp}
+use Rattle.cedar_expr_model.specs.Parts.{listed, listed_fields}
+use Rattle.cedar_expr_model.specs.Tree.{Tree}
+use Rattle.cedar_expr_model.specs.ValueParts.{Part, known, left, all_known, part_tree, values_alone, with_residuals, split}
 use Rattle.cedar_expr_values.specs.Extensions.{extension_of}
 use Rattle.cedar_expr_values.specs.Rising.{placed, in_rising}
 use Rattle.cedar_expr_values.specs.Values.{made_list, made_cmp, members_as_made}

@@ -1,6 +1,6 @@
 -- One level of an evaluation.
 use Rattle.std.proofs.Common.{◌≡◌, ◌-◌, ◌<◌, ℕ, zero, suc, true, refl, sym, ap, ◌∙◌, subst, arith}
-use Rattle.cedar_expr_model.specs.Whole.Tree.{Tree}
+use Rattle.cedar_expr_model.specs.Tree.{Tree}
 use Rattle.cedar_evaluator_model.specs.Scope.{Scope}
 use Rattle.cedar_evaluator_model.specs.Evaluation.{evaluated, node}
 use Rattle.cedar_evaluator_restricted.specs.Lefts.{is_stopped}

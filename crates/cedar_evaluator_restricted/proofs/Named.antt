@@ -7,12 +7,12 @@ use Rattle.std.specs.Rc.{rc_str_bytes}
 use Rattle.std.specs.declared.alloc.Global.{Global}
 use Rattle.std.specs.declared.rc.RcStr.{RcStr}
 use Rattle.cedar_expr_model.specs.Name.{Text}
-use Rattle.cedar_expr_model.specs.Whole.Made.{Made, made_record, made_field}
-use Rattle.cedar_expr_model.specs.Whole.Order.{text_cmp}
-use Rattle.cedar_expr_model.specs.Whole.Records.{in_order, names_rise}
+use Rattle.cedar_expr_model.specs.Made.{Made, made_record, made_field}
+use Rattle.cedar_expr_model.specs.Order.{text_cmp}
+use Rattle.cedar_expr_model.specs.Records.{in_order, names_rise}
 use Rattle.cedar_expr_model.proofs.Lists.{hold_both}
-use Rattle.cedar_expr_model.proofs.Whole.Ordering.{in_order_stays}
-use Rattle.cedar_expr_model.proofs.Whole.Rising.{is_less}
+use Rattle.cedar_expr_model.proofs.Ordering.{in_order_stays}
+use Rattle.cedar_expr_model.proofs.Rising.{is_less}
 use Rattle.cedar_expr_trees.specs.Trees.{tree_of, named, field_trees}
 use Rattle.cedar_expr_trees.specs.declared.expr.Expr.{Expr}
 use Rattle.cedar_expr_values.specs.Extension.{Extension}

@@ -3,9 +3,9 @@
 use Rattle.std.specs.Prelude.{◌&&◌, Bool, false}
 use Rattle.std.specs.Str.{bytes_eq}
 use Rattle.cedar_expr_model.specs.Name.{name_eq}
-use Rattle.cedar_expr_model.specs.Whole.Made.{Made, bare, written}
-use Rattle.cedar_expr_model.specs.Whole.Order.{value_eq}
-use Rattle.cedar_expr_model.specs.Whole.Shape.{tree_eq}
+use Rattle.cedar_expr_model.specs.Made.{Made, bare, written}
+use Rattle.cedar_expr_model.specs.Order.{value_eq}
+use Rattle.cedar_expr_model.specs.Shape.{tree_eq}
 use Rattle.cedar_evaluator_model.specs.Scope.{MadeCalled, makes, faults, leaves_unknown}
 
 -- The values are equal, and are written alike.

@@ -3,11 +3,11 @@
 use Rattle.std.specs.Prelude.{List, Bool, is_none}
 use Rattle.std.specs.declared.alloc.Global.{Global}
 use Rattle.std.specs.declared.rc.RcStr.{RcStr}
-use Rattle.cedar_expr_model.specs.Whole.Builder.{trees, tree_fields}
-use Rattle.cedar_expr_model.specs.Whole.Lists.{first_found}
-use Rattle.cedar_expr_model.specs.Whole.Parts.{subexpressions_among, subexpressions_in_fields}
-use Rattle.cedar_expr_model.specs.Whole.Restricted.{feature_here}
-use Rattle.cedar_expr_model.specs.Whole.Tree.{Tree}
+use Rattle.cedar_expr_model.specs.Builder.{trees, tree_fields}
+use Rattle.cedar_expr_model.specs.Lists.{first_found}
+use Rattle.cedar_expr_model.specs.Parts.{subexpressions_among, subexpressions_in_fields}
+use Rattle.cedar_expr_model.specs.Restricted.{feature_here}
+use Rattle.cedar_expr_model.specs.Tree.{Tree}
 use Rattle.cedar_expr_trees.specs.Trees.{named, field_trees}
 use Rattle.cedar_expr_trees.specs.declared.expr.Expr.{Expr}
 

@@ -3,16 +3,16 @@
 ghost use Rattle.std.specs.Prelude.{◌≡◌, List, map};
 ghost use Rattle.cedar_expr_names.specs.Views.{plain_name_of};
 ghost use Rattle.cedar_expr_model.specs.Name.{Name as ModelName};
-ghost use Rattle.cedar_expr_model.specs.Whole.Table.{Called};
-ghost use Rattle.cedar_expr_model.specs.Whole.Value.{V as ModelValue};
+ghost use Rattle.cedar_expr_model.specs.Table.{Called};
+ghost use Rattle.cedar_expr_model.specs.Value.{V as ModelValue};
 ghost use Rattle.cedar_expr_functions.specs.Functions.{function_signature};
 ghost use Rattle.cedar_expr_functions.specs.Tables.{table_of};
 ghost use Rattle.cedar_expr_values.specs.Extensions.{extension_of};
 ghost use Rattle.cedar_expr_values.specs.Values.{made};
 ghost use Rattle.cedar_evaluator_model.specs.Scope.{Scope};
 ghost use Rattle.cedar_evaluator_model.specs.Steps.{call_left, called_left};
-ghost use Rattle.cedar_gate_model.specs.Whole.Bundle.{Functions};
-ghost use Rattle.cedar_gate_model.specs.Whole.ReadingValue.{with_functions};
+ghost use Rattle.cedar_gate_model.specs.Bundle.{Functions};
+ghost use Rattle.cedar_gate_model.specs.ReadingValue.{with_functions};
 ghost use Rattle.cedar_evaluator_restricted.specs.Answers.{IsMadeBy, AnswersMade};
 ghost use Rattle.cedar_evaluator_restricted.specs.Lefts.{Leaves};
 

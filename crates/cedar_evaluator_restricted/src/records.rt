@@ -3,10 +3,10 @@
 ghost use Rattle.std.specs.Prelude.{◌≡◌, true, map, IfOk};
 ghost use Rattle.std.specs.List.{zip};
 ghost use Rattle.std.specs.Map.{keys_of};
-ghost use Rattle.cedar_expr_model.specs.Whole.Builder.{tree_fields};
-ghost use Rattle.cedar_expr_model.specs.Whole.Made.{made_record};
-ghost use Rattle.cedar_expr_model.specs.Whole.Records.{names_rise};
-ghost use Rattle.cedar_expr_model.specs.Whole.Tree.{record_literal};
+ghost use Rattle.cedar_expr_model.specs.Builder.{tree_fields};
+ghost use Rattle.cedar_expr_model.specs.Made.{made_record};
+ghost use Rattle.cedar_expr_model.specs.Records.{names_rise};
+ghost use Rattle.cedar_expr_model.specs.Tree.{record_literal};
 ghost use Rattle.cedar_expr_trees.specs.Trees.{tree_of, named};
 ghost use Rattle.cedar_expr_values.specs.Extensions.{extension_of};
 ghost use Rattle.cedar_expr_values.specs.Values.{made};

@@ -5,8 +5,8 @@ ghost use Rattle.cedar_expr_names.specs.Views.{plain_name_of};
 ghost use Rattle.cedar_expr_values.specs.Extensions.{extension_of};
 ghost use Rattle.cedar_expr_values.specs.Values.{made};
 ghost use Rattle.cedar_evaluator_model.specs.Steps.{called_left};
-ghost use Rattle.cedar_gate_model.specs.Whole.Bundle.{Functions};
-ghost use Rattle.cedar_gate_model.specs.Whole.ReadingValue.{with_functions};
+ghost use Rattle.cedar_gate_model.specs.Bundle.{Functions};
+ghost use Rattle.cedar_gate_model.specs.ReadingValue.{with_functions};
 ghost use Rattle.cedar_evaluator_restricted.specs.Lefts.{Leaves};
 
 use crate::fault::RestrictedFault;

@@ -2,17 +2,17 @@
 
 ghost use Rattle.std.specs.Prelude.{◌≡◌, true, map};
 ghost use Rattle.std.specs.Map.{values_of};
-ghost use Rattle.cedar_expr_model.specs.Whole.Builder.{trees, tree_fields};
-ghost use Rattle.cedar_expr_model.specs.Whole.Made.{made_prim};
-ghost use Rattle.cedar_expr_model.specs.Whole.Parts.{listed, listed_fields};
-ghost use Rattle.cedar_expr_model.specs.Whole.Restricted.{is_restricted};
-ghost use Rattle.cedar_expr_model.specs.Whole.Tree.{call, set_literal, record_literal};
+ghost use Rattle.cedar_expr_model.specs.Builder.{trees, tree_fields};
+ghost use Rattle.cedar_expr_model.specs.Made.{made_prim};
+ghost use Rattle.cedar_expr_model.specs.Parts.{listed, listed_fields};
+ghost use Rattle.cedar_expr_model.specs.Restricted.{is_restricted};
+ghost use Rattle.cedar_expr_model.specs.Tree.{call, set_literal, record_literal};
 ghost use Rattle.cedar_expr_leaves.specs.Literals.{literal_of};
 ghost use Rattle.cedar_expr_names.specs.Views.{plain_name_of};
 ghost use Rattle.cedar_expr_trees.specs.Trees.{tree_of, named, field_trees};
 ghost use Rattle.cedar_evaluator_model.specs.Scope.{value_left};
 ghost use Rattle.cedar_evaluator_model.specs.Evaluation.{evaluated, node, pieces_of};
-ghost use Rattle.cedar_gate_model.specs.Whole.ReadingValue.{with_functions, left_of_restricted};
+ghost use Rattle.cedar_gate_model.specs.ReadingValue.{with_functions, left_of_restricted};
 ghost use Rattle.cedar_evaluator_restricted.specs.Lefts.{Leaves, ArePieces};
 ghost use Rattle.cedar_evaluator_restricted.specs.Restricted.{are_restricted, have_restricted};
 

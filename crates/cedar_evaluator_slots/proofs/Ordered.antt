@@ -2,8 +2,8 @@
 use Rattle.std.proofs.Common.{◌≡◌, true, List, [], ◌∷◌, map, refl, sym, ap, ◌∙◌}
 use Rattle.std.specs.declared.alloc.Global.{Global}
 use Rattle.std.specs.declared.rc.RcStr.{RcStr}
-use Rattle.cedar_expr_model.specs.Whole.Records.{in_order, names_rise}
-use Rattle.cedar_expr_model.proofs.Whole.Ordering.{in_order_stays}
+use Rattle.cedar_expr_model.specs.Records.{in_order, names_rise}
+use Rattle.cedar_expr_model.proofs.Ordering.{in_order_stays}
 use Rattle.cedar_expr_values.specs.Fields.{by_text}
 use Rattle.cedar_expr_values.proofs.Recorded.{under}
 use Rattle.cedar_expr_trees.specs.Trees.{named}

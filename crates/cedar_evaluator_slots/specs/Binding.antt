@@ -3,9 +3,9 @@
 use Rattle.std.specs.Prelude.{Option}
 use Rattle.std.specs.Option.{option_map_or}
 use Rattle.cedar_expr_model.specs.Uid.{Uid}
-use Rattle.cedar_expr_model.specs.Whole.Builder.{Builder, tree_builder}
-use Rattle.cedar_expr_model.specs.Whole.Tree.{Tree, SlotId, lit, slot}
-use Rattle.cedar_expr_model.specs.Whole.Value.{entity}
+use Rattle.cedar_expr_model.specs.Builder.{Builder, tree_builder}
+use Rattle.cedar_expr_model.specs.Tree.{Tree, SlotId, lit, slot}
+use Rattle.cedar_expr_model.specs.Value.{entity}
 
 -- what it makes of a slot that is bound so is the uid, and of one that isn't the slot
 abbrev pub binding : (SlotId → Option Uid) → Builder Tree

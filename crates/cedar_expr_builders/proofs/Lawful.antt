@@ -1,11 +1,11 @@
 -- Lawful builders that refuse calls, and builders that refuse nothing.
 use Rattle.std.proofs.Common.{◌≡◌, List, [], ◌∷◌, Option, None, Result, Ok, Err, refl, ap}
 use Rattle.cedar_expr_model.specs.Name.{Text, Name}
-use Rattle.cedar_expr_model.specs.Whole.Tree.{Tree, lit, var, slot, unknown, choice, both, either, unary, binary, call, get_attr, has_attr, has_path, like, is_type, set_literal, record_literal, Trees, no_trees, tree, TreeFields, no_tree_fields, tree_field}
-use Rattle.cedar_expr_model.specs.Whole.Builder.{Builder, built, built_list, built_fields, tree_builder}
-use Rattle.cedar_expr_model.specs.Whole.BuilderForm.{IsLawful}
-use Rattle.cedar_expr_model.specs.Whole.Substitution.{Bindings, substituted, built_under}
-use Rattle.cedar_expr_model.proofs.Whole.Agreeing.{substitution_agrees}
+use Rattle.cedar_expr_model.specs.Tree.{Tree, lit, var, slot, unknown, choice, both, either, unary, binary, call, get_attr, has_attr, has_path, like, is_type, set_literal, record_literal, Trees, no_trees, tree, TreeFields, no_tree_fields, tree_field}
+use Rattle.cedar_expr_model.specs.Builder.{Builder, built, built_list, built_fields, tree_builder}
+use Rattle.cedar_expr_model.specs.BuilderForm.{IsLawful}
+use Rattle.cedar_expr_model.specs.Substitution.{Bindings, substituted, built_under}
+use Rattle.cedar_expr_model.proofs.Agreeing.{substitution_agrees}
 use Rattle.cedar_expr_builders.specs.Refusing.{and_then, all_made, fields_made, unless, refusing, built_or_refused}
 use Rattle.cedar_expr_builders.specs.Views.{refuses_nothing}
 

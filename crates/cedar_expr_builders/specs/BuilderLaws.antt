@@ -3,10 +3,10 @@
 use Rattle.std.specs.Prelude.{◌≡◌, List, Option}
 use Rattle.std.specs.declared.result.Result.TheVariants.{Ok}
 use Rattle.cedar_expr_model.specs.Name.{Name}
-use Rattle.cedar_expr_model.specs.Whole.Tree.{Tree}
-use Rattle.cedar_expr_model.specs.Whole.Builder.{Builder, built, tree_builder}
-use Rattle.cedar_expr_model.specs.Whole.BuilderForm.{IsLawful}
-use Rattle.cedar_expr_model.specs.Whole.Substitution.{Bindings, substituted, built_under}
+use Rattle.cedar_expr_model.specs.Tree.{Tree}
+use Rattle.cedar_expr_model.specs.Builder.{Builder, built, tree_builder}
+use Rattle.cedar_expr_model.specs.BuilderForm.{IsLawful}
+use Rattle.cedar_expr_model.specs.Substitution.{Bindings, substituted, built_under}
 use Rattle.cedar_expr_builders.specs.Refusing.{refusing, built_or_refused}
 use Rattle.cedar_expr_builders.specs.Views.{refuses_nothing}
 

@@ -4,7 +4,7 @@ use Rattle.std.specs.Option.{IfSome}
 use Rattle.std.proofs.lemmas.Slice.Eq.{bytes_eq-Decides}
 use Rattle.std.proofs.lemmas.Option.{none-some, same_Some}
 use Rattle.cedar_expr_model.specs.Name.{Text, Name}
-use Rattle.cedar_expr_model.specs.Whole.Table.{Called, fails, leaves}
+use Rattle.cedar_expr_model.specs.Table.{Called, fails, leaves}
 use Rattle.cedar_expr_model.proofs.Equality.{name_eq_same}
 use Rattle.cedar_expr_functions.specs.Answers.{called_eq, agree}
 

@@ -1,7 +1,7 @@
 //! Tables of functions, and the checks of expressions against them.
 
 ghost use Rattle.std.specs.Prelude.{◌≡◌, Err};
-ghost use Rattle.cedar_expr_model.specs.Whole.Table.{Signature};
+ghost use Rattle.cedar_expr_model.specs.Table.{Signature};
 ghost use Rattle.cedar_expr_functions.specs.Answers.{IsStored};
 ghost use Rattle.cedar_expr_functions.specs.declared.err.CallFault.TheVariants.{OutOfMemory};
 

@@ -2,9 +2,9 @@
 use Rattle.std.proofs.Common.{◌≡◌, List, Option, Some, None, Result, Ok, Err, IfOk, refl, sym, ap, ◌∙◌}
 use Rattle.std.specs.Prelude.{find, option_and_then}
 use Rattle.cedar_expr_model.specs.Name.{Name, name_eq}
-use Rattle.cedar_expr_model.specs.Whole.Evident.{evident_type, agreed}
-use Rattle.cedar_expr_model.specs.Whole.Table.{Table, Signature}
-use Rattle.cedar_expr_model.specs.Whole.Tree.{CoreType, Tree, lit, var, slot, unknown, choice, both, either, unary, binary, call, get_attr, has_attr, has_path, like, is_type, set_literal, record_literal}
+use Rattle.cedar_expr_model.specs.Evident.{evident_type, agreed}
+use Rattle.cedar_expr_model.specs.Table.{Table, Signature}
+use Rattle.cedar_expr_model.specs.Tree.{CoreType, Tree, lit, var, slot, unknown, choice, both, either, unary, binary, call, get_attr, has_attr, has_path, like, is_type, set_literal, record_literal}
 use Rattle.cedar_expr_checks.specs.Calls.{type_shown, result_of}
 
 pub same_shown : (x : Table) (t : Tree) → type_shown x.functions t ≡ evident_type x t

@@ -5,13 +5,13 @@ use Rattle.std.specs.Option.{option_or, option_map_or}
 use Rattle.std.specs.List.{list_all}
 use Rattle.std.specs.Result.{IsErrAnd}
 use Rattle.cedar_expr_model.specs.Name.{Name, name_eq}
-use Rattle.cedar_expr_model.specs.Whole.Builder.{trees}
-use Rattle.cedar_expr_model.specs.Whole.Evident.{is_valid_call, has_valid_calls}
-use Rattle.cedar_expr_model.specs.Whole.Lists.{first_found}
-use Rattle.cedar_expr_model.specs.Whole.Parts.{subexpressions, listed}
-use Rattle.cedar_expr_model.specs.Whole.Table.{Signature, Called, gives, Table, takes_count, signature_of}
-use Rattle.cedar_expr_model.specs.Whole.Value.{V, truth_value}
-use Rattle.cedar_expr_model.specs.Whole.Tree.{Tree, call}
+use Rattle.cedar_expr_model.specs.Builder.{trees}
+use Rattle.cedar_expr_model.specs.Evident.{is_valid_call, has_valid_calls}
+use Rattle.cedar_expr_model.specs.Lists.{first_found}
+use Rattle.cedar_expr_model.specs.Parts.{subexpressions, listed}
+use Rattle.cedar_expr_model.specs.Table.{Signature, Called, gives, Table, takes_count, signature_of}
+use Rattle.cedar_expr_model.specs.Value.{V, truth_value}
+use Rattle.cedar_expr_model.specs.Tree.{Tree, call}
 use Rattle.cedar_expr_checks.specs.Calls.{WrongCall, no_function, wrong_count, wrong_by_count, wrong_by_name, wrong_call, first_wrong_call, IsWrongCall}
 use Rattle.cedar_expr_checks.specs.declared.err.ExprValidationError.{ExprValidationError}
 use Rattle.cedar_expr_checks.specs.declared.err.ExprValidationError.TheVariants.{OutOfMemory, FuncDoesNotExist, WrongNumArguments}

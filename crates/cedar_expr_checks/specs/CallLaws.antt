@@ -1,9 +1,9 @@
 -- What the law of wrong calls says.
 -- Rule: extension functions (docs/RULES.md).
 use Rattle.std.specs.Prelude.{◌≡◌, is_none}
-use Rattle.cedar_expr_model.specs.Whole.Evident.{has_valid_calls}
-use Rattle.cedar_expr_model.specs.Whole.Table.{Table}
-use Rattle.cedar_expr_model.specs.Whole.Tree.{Tree}
+use Rattle.cedar_expr_model.specs.Evident.{has_valid_calls}
+use Rattle.cedar_expr_model.specs.Table.{Table}
+use Rattle.cedar_expr_model.specs.Tree.{Tree}
 use Rattle.cedar_expr_checks.specs.Calls.{first_wrong_call}
 
 -- there is no wrong call exactly where all calls are right

@@ -4,12 +4,12 @@ use Rattle.std.specs.Prelude.{◌≡◌, ℕ, true, List, [], length, find, Opti
 use Rattle.std.specs.Option.{option_map_or}
 use Rattle.cedar_expr_names.specs.Views.{plain_name_of}
 use Rattle.cedar_expr_model.specs.Name.{Name, name_eq}
-use Rattle.cedar_expr_model.specs.Whole.Lists.{first_found}
-use Rattle.cedar_expr_model.specs.Whole.Parts.{subexpressions, listed}
-use Rattle.cedar_expr_model.specs.Whole.Table.{Signature, Table, takes_count, gives}
-use Rattle.cedar_expr_model.specs.Whole.Tree.{CoreType, Tree, call}
-use Rattle.cedar_expr_model.specs.Whole.Value.{truth_value}
-use Rattle.cedar_expr_model.specs.Whole.Evident.{evident_type}
+use Rattle.cedar_expr_model.specs.Lists.{first_found}
+use Rattle.cedar_expr_model.specs.Parts.{subexpressions, listed}
+use Rattle.cedar_expr_model.specs.Table.{Signature, Table, takes_count, gives}
+use Rattle.cedar_expr_model.specs.Tree.{CoreType, Tree, call}
+use Rattle.cedar_expr_model.specs.Value.{truth_value}
+use Rattle.cedar_expr_model.specs.Evident.{evident_type}
 use Rattle.cedar_expr_checks.specs.declared.err.ExprValidationError.{ExprValidationError}
 use Rattle.cedar_expr_checks.specs.declared.err.ExprValidationError.TheVariants.{OutOfMemory, FuncDoesNotExist, WrongNumArguments}
 

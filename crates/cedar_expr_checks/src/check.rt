@@ -2,10 +2,10 @@
 
 ghost use Rattle.std.specs.Prelude.{◌≡◌, List, true, option_map, IfOk, IfErr, OnOk};
 ghost use Rattle.cedar_expr_model.specs.Name.{Name as ModelName};
-ghost use Rattle.cedar_expr_model.specs.Whole.Value.{V};
-ghost use Rattle.cedar_expr_model.specs.Whole.Tree.{Tree};
-ghost use Rattle.cedar_expr_model.specs.Whole.Table.{Called};
-ghost use Rattle.cedar_expr_model.specs.Whole.Evident.{evident_type, has_valid_calls};
+ghost use Rattle.cedar_expr_model.specs.Value.{V};
+ghost use Rattle.cedar_expr_model.specs.Tree.{Tree};
+ghost use Rattle.cedar_expr_model.specs.Table.{Called};
+ghost use Rattle.cedar_expr_model.specs.Evident.{evident_type, has_valid_calls};
 ghost use Rattle.cedar_expr_values.specs.Types.{core_of};
 ghost use Rattle.cedar_expr_trees.specs.Trees.{tree_of};
 ghost use Rattle.cedar_expr_functions.specs.Tables.{table_of};

@@ -3,7 +3,7 @@
 ghost use Rattle.std.specs.Prelude.{◌≡◌, option_map, option_and_then, find, IfOk};
 ghost use Rattle.cedar_expr_names.specs.Views.{plain_name_of};
 ghost use Rattle.cedar_expr_model.specs.Name.{name_eq};
-ghost use Rattle.cedar_expr_model.specs.Whole.Evident.{unary_core, binary_core, agreed};
+ghost use Rattle.cedar_expr_model.specs.Evident.{unary_core, binary_core, agreed};
 ghost use Rattle.cedar_expr_values.specs.Types.{core_of};
 ghost use Rattle.cedar_expr_leaves.specs.Operators.{unary_op_of, binary_op_of};
 ghost use Rattle.cedar_expr_trees.specs.Trees.{tree_of};

@@ -11,8 +11,8 @@ use Rattle.std.specs.Ordering.{eq_by_cmp, is_eq}
 use Rattle.std.specs.Rc.{rc_str_bytes}
 use Rattle.cedar_expr_model.specs.Name as model
 use Rattle.cedar_expr_model.specs.Name.{name_eq}
-use Rattle.cedar_expr_model.specs.Whole.Order.{core_eq}
-use Rattle.cedar_expr_model.specs.Whole.Repeats.{first_again, repeated}
+use Rattle.cedar_expr_model.specs.Order.{core_eq}
+use Rattle.cedar_expr_model.specs.Repeats.{first_again, repeated}
 use Rattle.cedar_expr_model.proofs.Equality.{name_eq-Decides}
 use Rattle.cedar_expr_names.specs.Views.{plain_name_of}
 use Rattle.cedar_expr_names.specs.contracts.name.NameOrd.TheImpl as name_order

@@ -13,7 +13,7 @@ use Rattle.std.specs.Ordering.{eq_by_cmp, is_eq, match_ordering}
 use Rattle.std.specs.Result.{IsErrAnd}
 use Rattle.std.specs.declared.cmp.Ordering.{Ordering}
 use Rattle.std.specs.declared.cmp.Ordering.TheVariants.{Less, Equal, Greater}
-use Rattle.cedar_expr_model.specs.Whole.Repeats.{first_again, repeated}
+use Rattle.cedar_expr_model.specs.Repeats.{first_again, repeated}
 use Rattle.cedar_expr_functions.specs.Collected.{IsMapOf, RefusesKeys, RefusesKey}
 use Rattle.cedar_expr_functions.specs.declared.err.CollectError.{CollectError}
 use Rattle.cedar_expr_functions.specs.declared.err.CollectError.TheVariants.{OutOfMemory, Repeated}

@@ -5,9 +5,9 @@ use Rattle.std.specs.List.{filter_map}
 use Rattle.std.specs.Option.{option_or}
 use Rattle.std.specs.Result.{IsErrAnd}
 use Rattle.cedar_expr_model.specs.Name.{name_eq}
-use Rattle.cedar_expr_model.specs.Whole.Order.{core_eq}
-use Rattle.cedar_expr_model.specs.Whole.Repeats.{repeated, repeated_function, repeated_constructor, table_fault}
-use Rattle.cedar_expr_model.specs.Whole.Table.{Signature, constructed}
+use Rattle.cedar_expr_model.specs.Order.{core_eq}
+use Rattle.cedar_expr_model.specs.Repeats.{repeated, repeated_function, repeated_constructor, table_fault}
+use Rattle.cedar_expr_model.specs.Table.{Signature, constructed}
 use Rattle.cedar_expr_functions.specs.Functions.{function_name, function_signature}
 use Rattle.cedar_expr_functions.specs.Named.{all_functions, all_signatures}
 use Rattle.cedar_expr_functions.specs.Refusals.{RefusesNames, RefusesConstructors, RefusesTable}

@@ -10,7 +10,7 @@ use Rattle.std.specs.Borrow.{Bor}
 use Rattle.std.specs.List.{filter_map, cons_option}
 use Rattle.std.specs.Map.{lookup, values_of}
 use Rattle.cedar_expr_model.specs.Name.{name_eq}
-use Rattle.cedar_expr_model.specs.Whole.Table.{Signature}
+use Rattle.cedar_expr_model.specs.Table.{Signature}
 use Rattle.cedar_expr_model.proofs.Equality.{name_eq-Decides}
 use Rattle.cedar_expr_names.specs.Views.{plain_name_of}
 use Rattle.cedar_expr_names.specs.contracts.name.NameOrd.TheImpl as name_order

@@ -1,10 +1,10 @@
 -- The first argument of a wrong type, argument by argument.
 use Rattle.std.proofs.Common.{◌≡◌, ◌&&◌, List, [], ◌∷◌, map, Bool, true, false, Option, Some, None, is_none, cond, refl, sym, ap, ◌∙◌, subst}
-use Rattle.cedar_expr_model.specs.Whole.Value.{V}
-use Rattle.cedar_expr_model.specs.Whole.Tree.{CoreType}
-use Rattle.cedar_expr_model.specs.Whole.Order.{core_eq}
-use Rattle.cedar_expr_model.specs.Whole.Substitution.{core_type_of}
-use Rattle.cedar_expr_model.specs.Whole.Table.{are_of_types}
+use Rattle.cedar_expr_model.specs.Value.{V}
+use Rattle.cedar_expr_model.specs.Tree.{CoreType}
+use Rattle.cedar_expr_model.specs.Order.{core_eq}
+use Rattle.cedar_expr_model.specs.Substitution.{core_type_of}
+use Rattle.cedar_expr_model.specs.Table.{are_of_types}
 use Rattle.cedar_expr_functions.specs.Signatures.{after_one, first_mistyped}
 
 -- none is left where there are no more arguments

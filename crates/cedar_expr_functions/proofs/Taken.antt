@@ -1,7 +1,7 @@
 -- The function takes arguments of which there are as many and none is of a wrong type.
 use Rattle.std.proofs.Common.{◌≡◌, ◌&&◌, List, length, map, Bool, true, Option, Some, None, option_map, is_none, sym, ap, ◌∙◌}
 use Rattle.std.proofs.lemmas.List.{length-map}
-use Rattle.cedar_expr_model.specs.Whole.Table.{Signature, takes_count}
+use Rattle.cedar_expr_model.specs.Table.{Signature, takes_count}
 use Rattle.cedar_expr_values.specs.Values.{bare}
 use Rattle.cedar_expr_values.specs.Extensions.{extension_of}
 use Rattle.cedar_expr_values.specs.Types.{core_of}

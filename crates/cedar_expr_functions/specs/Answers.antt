@@ -6,10 +6,10 @@ use Rattle.std.specs.Str.{bytes_eq}
 use Rattle.std.specs.Borrow.{Bor}
 use Rattle.std.specs.declared.alloc.Global.{Global}
 use Rattle.cedar_expr_model.specs.Name.{name_eq}
-use Rattle.cedar_expr_model.specs.Whole.Tree.{CoreType}
-use Rattle.cedar_expr_model.specs.Whole.Order.{core_eq, value_eq}
-use Rattle.cedar_expr_model.specs.Whole.Substitution.{core_type_of}
-use Rattle.cedar_expr_model.specs.Whole.Table.{Signature, Called, gives, fails, leaves}
+use Rattle.cedar_expr_model.specs.Tree.{CoreType}
+use Rattle.cedar_expr_model.specs.Order.{core_eq, value_eq}
+use Rattle.cedar_expr_model.specs.Substitution.{core_type_of}
+use Rattle.cedar_expr_model.specs.Table.{Signature, Called, gives, fails, leaves}
 use Rattle.cedar_expr_names.specs.Views.{plain_name_of}
 use Rattle.cedar_expr_values.specs.Values.{bare}
 use Rattle.cedar_expr_values.specs.Extensions.{extension_of}

@@ -4,8 +4,8 @@ use Rattle.std.specs.Prelude.{◌≡◌, List, Bool, true, Option, Some, Result,
 use Rattle.std.specs.Borrow.{Bor}
 use Rattle.std.specs.declared.alloc.Global.{Global}
 use Rattle.cedar_expr_model.specs.Name.{Name}
-use Rattle.cedar_expr_model.specs.Whole.Value.{V}
-use Rattle.cedar_expr_model.specs.Whole.Table.{Signature, Called}
+use Rattle.cedar_expr_model.specs.Value.{V}
+use Rattle.cedar_expr_model.specs.Table.{Signature, Called}
 use Rattle.cedar_expr_names.specs.Views.{plain_name_of}
 use Rattle.cedar_expr_values.specs.Types.{core_of}
 use Rattle.cedar_expr_values.specs.declared.value.Value.{Value}

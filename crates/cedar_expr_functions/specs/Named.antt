@@ -5,7 +5,7 @@ use Rattle.std.specs.List.{list_all, flat_map}
 use Rattle.std.specs.Borrow.{Bor}
 use Rattle.cedar_expr_model.specs.Name as model
 use Rattle.cedar_expr_model.specs.Name.{name_eq}
-use Rattle.cedar_expr_model.specs.Whole.Table.{Signature}
+use Rattle.cedar_expr_model.specs.Table.{Signature}
 use Rattle.cedar_expr_names.specs.Views.{plain_name_of}
 use Rattle.cedar_expr_names.specs.declared.name.Name.{Name}
 use Rattle.cedar_expr_functions.specs.Functions.{function_name, function_signature}

@@ -1,12 +1,12 @@
 -- What the refusals of this crate say.
 -- Rule: extension functions (docs/RULES.md).
 use Rattle.std.specs.Prelude.{◌≡◌, true, false, List, length, Option, Some, None}
-use Rattle.cedar_expr_model.specs.Whole.Value.{V}
-use Rattle.cedar_expr_model.specs.Whole.Table.{Signature, Table, signature_of, takes_count}
-use Rattle.cedar_expr_model.specs.Whole.Repeats.{repeated, repeated_function, repeated_constructor, table_fault}
+use Rattle.cedar_expr_model.specs.Value.{V}
+use Rattle.cedar_expr_model.specs.Table.{Signature, Table, signature_of, takes_count}
+use Rattle.cedar_expr_model.specs.Repeats.{repeated, repeated_function, repeated_constructor, table_fault}
 use Rattle.cedar_expr_model.specs.Name.{Name, name_eq}
-use Rattle.cedar_expr_model.specs.Whole.Tree.{CoreType}
-use Rattle.cedar_expr_model.specs.Whole.Order.{core_eq}
+use Rattle.cedar_expr_model.specs.Tree.{CoreType}
+use Rattle.cedar_expr_model.specs.Order.{core_eq}
 use Rattle.cedar_expr_names.specs.Views.{plain_name_of}
 use Rattle.cedar_expr_values.specs.Types.{core_of}
 use Rattle.cedar_expr_functions.specs.Signatures.{takes, first_mistyped}

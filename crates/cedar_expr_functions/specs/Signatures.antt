@@ -2,11 +2,11 @@
 -- Rule: extension functions (docs/RULES.md).
 use Rattle.std.specs.Prelude.{◌&&◌, List, [], ◌∷◌, length, Bool, true, false, Option, Some, None, if◌then◌else◌, map, option_and_then}
 use Rattle.cedar_expr_model.specs.Name.{Name}
-use Rattle.cedar_expr_model.specs.Whole.Value.{V}
-use Rattle.cedar_expr_model.specs.Whole.Tree.{CoreType, string_core, extension_core}
-use Rattle.cedar_expr_model.specs.Whole.Order.{core_eq}
-use Rattle.cedar_expr_model.specs.Whole.Substitution.{core_type_of}
-use Rattle.cedar_expr_model.specs.Whole.Table.{CallStyle, Signature, takes_count, are_of_types}
+use Rattle.cedar_expr_model.specs.Value.{V}
+use Rattle.cedar_expr_model.specs.Tree.{CoreType, string_core, extension_core}
+use Rattle.cedar_expr_model.specs.Order.{core_eq}
+use Rattle.cedar_expr_model.specs.Substitution.{core_type_of}
+use Rattle.cedar_expr_model.specs.Table.{CallStyle, Signature, takes_count, are_of_types}
 use Rattle.cedar_expr_values.specs.Types.{core_of}
 use Rattle.cedar_expr_values.specs.Values.{bare}
 use Rattle.cedar_expr_values.specs.declared.types.Type.{«Type» as CoreKind}

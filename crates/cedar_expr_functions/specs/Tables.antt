@@ -5,8 +5,8 @@ use Rattle.std.specs.List.{filter_map, list_all}
 use Rattle.std.specs.BTreeMap.{values}
 use Rattle.std.specs.Borrow.{Bor}
 use Rattle.cedar_expr_model.specs.Name.{Name}
-use Rattle.cedar_expr_model.specs.Whole.Value.{V}
-use Rattle.cedar_expr_model.specs.Whole.Table.{Signature, Called, Table}
+use Rattle.cedar_expr_model.specs.Value.{V}
+use Rattle.cedar_expr_model.specs.Table.{Signature, Called, Table}
 use Rattle.cedar_expr_names.specs.Views.{plain_name_of}
 use Rattle.cedar_expr_functions.specs.Signatures.{given_type}
 use Rattle.cedar_expr_functions.specs.Functions.{function_name, function_signature, IsAnsweredBy}

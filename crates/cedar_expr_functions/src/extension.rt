@@ -51,7 +51,7 @@ pub struct ExtensionFunction {
 
 impl ExtensionFunction {
     ghost use Rattle.std.specs.Prelude.{false, [], ◌∷◌, length, is_some, Some, None, IfErr, OnOk};
-    ghost use Rattle.cedar_expr_model.specs.Whole.Table.{takes_count, constructed, is_constructor};
+    ghost use Rattle.cedar_expr_model.specs.Table.{takes_count, constructed, is_constructor};
     ghost use Rattle.std.specs.List.{filter_map};
     ghost use Rattle.cedar_expr_functions.specs.Signatures.{takes, given_type};
     ghost use Rattle.cedar_expr_functions.specs.Extended.{types_left};

@@ -33,10 +33,10 @@ pub type ExtTable<'a> = Extensions<'a>;
 
 impl<'a> Extensions<'a> {
     ghost use Rattle.cedar_expr_model.specs.Name.{Name as ModelName, name_eq};
-    ghost use Rattle.cedar_expr_model.specs.Whole.Value.{V};
-    ghost use Rattle.cedar_expr_model.specs.Whole.Table.{Called, signature_of, all_typed};
+    ghost use Rattle.cedar_expr_model.specs.Value.{V};
+    ghost use Rattle.cedar_expr_model.specs.Table.{Called, signature_of, all_typed};
     ghost use Rattle.std.specs.Prelude.{List, [], Some, None, find, option_map, IfErr, IfSome, OnOk, IsPermutation};
-    ghost use Rattle.cedar_expr_model.specs.Whole.Repeats.{table_fault};
+    ghost use Rattle.cedar_expr_model.specs.Repeats.{table_fault};
     ghost use Rattle.cedar_expr_functions.specs.Named.{all_functions as model_functions, all_signatures, all_ordered};
     ghost use Rattle.std.specs.Slice.Iter.{iter_rest};
     ghost use Rattle.cedar_expr_names.specs.Views.{plain_name_loc};

@@ -4,9 +4,9 @@ ghost use Rattle.std.specs.Prelude.{◌≡◌, ◌++◌, true, None, map, IfOk, 
 ghost use Rattle.std.specs.List.{filter_map};
 ghost use Rattle.std.specs.BTreeMap.{values};
 ghost use Rattle.cedar_expr_model.specs.Name.{name_eq};
-ghost use Rattle.cedar_expr_model.specs.Whole.Order.{core_eq};
-ghost use Rattle.cedar_expr_model.specs.Whole.Repeats.{repeated};
-ghost use Rattle.cedar_expr_model.specs.Whole.Table.{constructed};
+ghost use Rattle.cedar_expr_model.specs.Order.{core_eq};
+ghost use Rattle.cedar_expr_model.specs.Repeats.{repeated};
+ghost use Rattle.cedar_expr_model.specs.Table.{constructed};
 ghost use Rattle.cedar_expr_names.specs.Views.{plain_name_of};
 ghost use Rattle.cedar_expr_values.specs.Types.{core_of};
 ghost use Rattle.cedar_expr_functions.specs.Functions.{function_name, function_signature};

@@ -4,7 +4,7 @@ ghost use Rattle.std.specs.Prelude.{◌≡◌, Some, None, IfOk, IfErr, OnOk, Is
 ghost use Rattle.std.specs.BTreeMap.{get, insert_entry, Updates};
 ghost use Rattle.std.specs.Map.{keys_of};
 ghost use Rattle.std.specs.Ordering.{eq_by_cmp};
-ghost use Rattle.cedar_expr_model.specs.Whole.Repeats.{repeated};
+ghost use Rattle.cedar_expr_model.specs.Repeats.{repeated};
 ghost use Rattle.cedar_expr_functions.specs.Collected.{IsMapOf, RefusesKeys, RefusesKey};
 ghost use Rattle.cedar_expr_functions.specs.declared.err.CollectError.TheVariants.{OutOfMemory};
 

@@ -6,7 +6,7 @@ use Rattle.std.specs.Option.{option_cmp}
 use Rattle.std.specs.Ordering.{ordering_then}
 use Rattle.std.specs.Rc.{rc_str_bytes}
 use Rattle.std.specs.Str.{bytes_eq}
-use Rattle.cedar_expr_model.specs.Whole.Order.{text_cmp, core_cmp}
+use Rattle.cedar_expr_model.specs.Order.{text_cmp, core_cmp}
 use Rattle.cedar_expr_model.proofs.Equality.{name_eq-Decides}
 use Rattle.cedar_expr_names.specs.Views.{name_of}
 use Rattle.cedar_expr_names.specs.declared.internal_name.InternalName.{InternalName}

@@ -2,8 +2,8 @@
 use Rattle.std.proofs.Common.{◌≡◌, refl, ap, ◌∙◌}
 use Rattle.std.specs.Ordering.{is_eq}
 use Rattle.std.proofs.lemmas.Cmp.{tied_itself}
-use Rattle.cedar_expr_model.specs.Whole.Order.{literal_cmp}
-use Rattle.cedar_expr_model.proofs.Whole.ValueOrder.{literal_linear}
+use Rattle.cedar_expr_model.specs.Order.{literal_cmp}
+use Rattle.cedar_expr_model.proofs.ValueOrder.{literal_linear}
 use Rattle.cedar_expr_names.proofs.Equality.{uids_order_is}
 use Rattle.cedar_expr_leaves.specs.Literals.{literal_of}
 use Rattle.cedar_expr_leaves.specs.contracts.literal.LiteralOrd.TheImpl as order

@@ -2,7 +2,7 @@
 use Rattle.std.proofs.Common.{◌≡◌, ℕ, suc, ◌+◌, ◌*◌, ◌≤◌, Bool, true, false, List, [], ◌∷◌, length, Option, Some, None, refl, ap, subst, arith}
 use Rattle.std.specs.List.{list_all}
 use Rattle.std.specs.Str.{chars}
-use Rattle.cedar_expr_model.specs.Whole.Pattern.{Pattern, character, wildcard, matches}
+use Rattle.cedar_expr_model.specs.Pattern.{Pattern, character, wildcard, matches}
 use Rattle.cedar_expr_leaves.specs.declared.pattern.PatternElem.{PatternElem}
 use Rattle.cedar_expr_leaves.specs.declared.pattern.PatternElem.TheVariants.{Char, Wildcard}
 use Rattle.cedar_expr_leaves.specs.declared.matching.Retry.{Retry}

@@ -1,7 +1,7 @@
 -- Where the walk along a text and a pattern stands, and that each of its turns keeps what is known there.
 use Rattle.std.proofs.Common.{◌≡◌, ℕ, Bool, true, false, ◌&&◌, ◌||◌, ◌==◌, List, [], ◌∷◌, refl, ap, ◌∙◌}
 use Rattle.std.proofs.lemmas.Bool.Decides.{Decides-eqb}
-use Rattle.cedar_expr_model.specs.Whole.Pattern.{Pattern, character, wildcard, matches, after_some}
+use Rattle.cedar_expr_model.specs.Pattern.{Pattern, character, wildcard, matches, after_some}
 use Rattle.cedar_expr_leaves.specs.Turns.{matches_later}
 
 -- Booleans

@@ -5,7 +5,7 @@ use Rattle.std.specs.Fmt.{signed_decimal}
 use Rattle.std.specs.Rc.{rc_str_bytes}
 use Rattle.cedar_expr_model.specs.Name.{Text}
 use Rattle.cedar_expr_model.specs.Uid.{quoted, uid_text}
-use Rattle.cedar_expr_model.specs.Whole.Value as model
+use Rattle.cedar_expr_model.specs.Value as model
 use Rattle.cedar_expr_leaves.specs.declared.literal.Literal.{Literal}
 use Rattle.cedar_expr_leaves.specs.declared.literal.Literal.TheVariants.{Bool as BoolV, Long, String, EntityUID}
 use Rattle.cedar_expr_names.specs.Views.{uid_of}

@@ -1,7 +1,7 @@
 -- What operators are, as the model's.
 -- Rule: expressions (docs/RULES.md).
-use Rattle.cedar_expr_model.specs.Whole.Tree as model
-use Rattle.cedar_expr_model.specs.Whole.Tree.{negation, minus, is_empty, equal, less, less_or_equal, plus, difference, times, is_in, contains, contains_all, contains_any, get_tag, has_tag}
+use Rattle.cedar_expr_model.specs.Tree as model
+use Rattle.cedar_expr_model.specs.Tree.{negation, minus, is_empty, equal, less, less_or_equal, plus, difference, times, is_in, contains, contains_all, contains_any, get_tag, has_tag}
 use Rattle.cedar_expr_leaves.specs.declared.ops.UnaryOp.{UnaryOp}
 use Rattle.cedar_expr_leaves.specs.declared.ops.UnaryOp.TheVariants.{Not, Neg, IsEmpty}
 use Rattle.cedar_expr_leaves.specs.declared.ops.BinaryOp.{BinaryOp}

@@ -1,8 +1,8 @@
 -- What patterns hold, as the model's.
 -- Rule: patterns (docs/RULES.md).
 use Rattle.std.specs.Prelude.{List, map}
-use Rattle.cedar_expr_model.specs.Whole.Pattern as model
-use Rattle.cedar_expr_model.specs.Whole.Pattern.{Element, character, wildcard}
+use Rattle.cedar_expr_model.specs.Pattern as model
+use Rattle.cedar_expr_model.specs.Pattern.{Element, character, wildcard}
 use Rattle.cedar_expr_leaves.specs.declared.pattern.PatternElem.{PatternElem}
 use Rattle.cedar_expr_leaves.specs.declared.pattern.PatternElem.TheVariants.{Char, Wildcard}
 use Rattle.cedar_expr_leaves.specs.declared.pattern.Pattern.{Pattern}

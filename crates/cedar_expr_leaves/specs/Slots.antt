@@ -2,8 +2,8 @@
 -- Rule: expressions; texts (docs/RULES.md).
 use Rattle.std.specs.Prelude.{Bool, true, false, codes}
 use Rattle.cedar_expr_model.specs.Name.{Text}
-use Rattle.cedar_expr_model.specs.Whole.Tree as model
-use Rattle.cedar_expr_model.specs.Whole.Tree.{principal_slot, resource_slot}
+use Rattle.cedar_expr_model.specs.Tree as model
+use Rattle.cedar_expr_model.specs.Tree.{principal_slot, resource_slot}
 use Rattle.cedar_expr_leaves.specs.declared.slot.SlotId.{SlotId}
 use Rattle.cedar_expr_leaves.specs.declared.slot.ValidSlotId.{ValidSlotId}
 use Rattle.cedar_expr_leaves.specs.declared.slot.ValidSlotId.TheVariants.{Principal, Resource}

@@ -2,7 +2,7 @@
 -- Rule: patterns (docs/RULES.md).
 use Rattle.std.specs.Prelude.{◌≡◌, ℕ, Bool, false, List, [], ◌∷◌, Option, Some, None}
 use Rattle.std.specs.Str.{chars}
-use Rattle.cedar_expr_model.specs.Whole.Pattern.{Pattern, character, wildcard, matches, after_some}
+use Rattle.cedar_expr_model.specs.Pattern.{Pattern, character, wildcard, matches, after_some}
 use Rattle.cedar_expr_leaves.specs.declared.pattern.PatternElem.{PatternElem}
 use Rattle.cedar_expr_leaves.specs.declared.matching.Retry.{Retry}
 use Rattle.cedar_expr_leaves.specs.declared.matching.Turn.{Turn}

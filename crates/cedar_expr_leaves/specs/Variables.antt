@@ -1,7 +1,7 @@
 -- What variables are, as the model's.
 -- Rule: expressions (docs/RULES.md).
-use Rattle.cedar_expr_model.specs.Whole.Tree as model
-use Rattle.cedar_expr_model.specs.Whole.Tree.{principal, action, resource, context}
+use Rattle.cedar_expr_model.specs.Tree as model
+use Rattle.cedar_expr_model.specs.Tree.{principal, action, resource, context}
 use Rattle.cedar_expr_leaves.specs.declared.var.Var.{Var}
 use Rattle.cedar_expr_leaves.specs.declared.var.Var.TheVariants.{Principal, Action, Resource, Context}
 

@@ -2,8 +2,8 @@
 
 ghost use Rattle.std.specs.Prelude.{◌≡◌};
 ghost use Rattle.std.specs.Ordering.{is_eq};
-ghost use Rattle.cedar_expr_model.specs.Whole.Order.{literal_cmp};
-ghost use Rattle.cedar_expr_model.specs.Whole.Shape.{var_cmp, slot_cmp, element_cmp, pattern_cmp};
+ghost use Rattle.cedar_expr_model.specs.Order.{literal_cmp};
+ghost use Rattle.cedar_expr_model.specs.Shape.{var_cmp, slot_cmp, element_cmp, pattern_cmp};
 ghost use Rattle.cedar_expr_leaves.specs.Literals.{literal_of};
 ghost use Rattle.cedar_expr_leaves.specs.Patterns.{element_of, pattern_of};
 ghost use Rattle.cedar_expr_leaves.specs.Slots.{slot_of};

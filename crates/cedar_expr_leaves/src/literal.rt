@@ -3,8 +3,8 @@
 ghost use Rattle.std.specs.Prelude.{◌≡◌, IfOk, Some, string_bytes};
 ghost use Rattle.std.specs.Ordering.{is_eq};
 ghost use Rattle.std.specs.Rc.{rc_str_bytes};
-ghost use Rattle.cedar_expr_model.specs.Whole.Value.{truth, long, text as text_literal, entity};
-ghost use Rattle.cedar_expr_model.specs.Whole.Order.{literal_cmp};
+ghost use Rattle.cedar_expr_model.specs.Value.{truth, long, text as text_literal, entity};
+ghost use Rattle.cedar_expr_model.specs.Order.{literal_cmp};
 ghost use Rattle.cedar_expr_names.specs.Views.{uid_of};
 ghost use Rattle.cedar_expr_leaves.specs.Literals.{literal_of, is_uid, literal_text};
 

@@ -2,7 +2,7 @@
 
 ghost use Rattle.std.specs.Prelude.{◌≡◌, ◌∷◌, [], MatchOption};
 ghost use Rattle.std.specs.Str.{chars};
-ghost use Rattle.cedar_expr_model.specs.Whole.Pattern.{matches_text};
+ghost use Rattle.cedar_expr_model.specs.Pattern.{matches_text};
 ghost use Rattle.cedar_expr_leaves.specs.Patterns.{elements_of};
 ghost use Rattle.cedar_expr_leaves.specs.Turns.{IsTurn, AdvancesTo};
 

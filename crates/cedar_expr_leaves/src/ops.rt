@@ -1,7 +1,7 @@
 //! The operators.
 
 ghost use Rattle.std.specs.Prelude.{Some};
-ghost use Rattle.cedar_expr_model.specs.Whole.Texts.{unary_text, binary_text};
+ghost use Rattle.cedar_expr_model.specs.Texts.{unary_text, binary_text};
 ghost use Rattle.cedar_expr_leaves.specs.Operators.{unary_op_of, binary_op_of};
 
 use std::fmt;

@@ -2,8 +2,8 @@
 
 ghost use Rattle.std.specs.Prelude.{◌≡◌, length, nat_eq, IfOk, Some};
 ghost use Rattle.std.specs.Slice.Iter.{iter_rest};
-ghost use Rattle.cedar_expr_model.specs.Whole.Pattern.{matches_text};
-ghost use Rattle.cedar_expr_model.specs.Whole.Texts.{element_text, pattern_text};
+ghost use Rattle.cedar_expr_model.specs.Pattern.{matches_text};
+ghost use Rattle.cedar_expr_model.specs.Texts.{element_text, pattern_text};
 ghost use Rattle.cedar_expr_leaves.specs.Patterns.{element_of, elements_of, pattern_of};
 
 use crate::matching::is_matched;

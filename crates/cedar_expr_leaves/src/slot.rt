@@ -2,7 +2,7 @@
 
 ghost use Rattle.std.specs.Prelude.{◌≡◌, Some};
 ghost use Rattle.cedar_expr_leaves.specs.Slots.{slot_of, slot_text, is_principal, is_resource};
-ghost use Rattle.cedar_expr_model.specs.Whole.Tree.{principal_slot, resource_slot};
+ghost use Rattle.cedar_expr_model.specs.Tree.{principal_slot, resource_slot};
 
 use cedar_expr_names::Loc;
 use std::fmt;

@@ -2,7 +2,7 @@
 
 ghost use Rattle.std.specs.Prelude.{Some};
 ghost use Rattle.cedar_expr_leaves.specs.Variables.{var_of};
-ghost use Rattle.cedar_expr_model.specs.Whole.Texts.{var_text};
+ghost use Rattle.cedar_expr_model.specs.Texts.{var_text};
 
 use std::fmt;
 use std::fmt::{Display, Formatter, Write};

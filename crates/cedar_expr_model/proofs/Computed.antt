@@ -1,20 +1,21 @@
--- The text of a uid, and what is a uid, computed.
-use Rattle.std.proofs.Common.{◌≡◌, true, false, [], ◌∷◌, refl}
-use Rattle.std.specs.Str.{chars, is_utf8}
-use lib.Utf8.{encode}
-use Rattle.std.specs.Fmt.{digits}
-use Rattle.cedar_expr_model.specs.Uid.{uid_text}
-use Rattle.cedar_expr_model.specs.Whole.Uids.{is_uid}
-use Rattle.cedar_expr_model.specs.Worked.{user, awkward_uid, awkward_text}
+-- Patterns on texts, computed through the characters that the bytes spell.
+use Rattle.std.proofs.Common.{◌≡◌, true, false, [], ◌∷◌, codes, refl}
+use Rattle.std.specs.Str.{chars}
+use Rattle.cedar_expr_model.specs.Pattern.{character, wildcard, matches_text}
+use Rattle.cedar_expr_model.specs.Worked.{f_to_r}
 
-pub awkward_is : uid_text awkward_uid ≡ awkward_text
-unfolding chars digits
-awkward_is = refl
+pub text_matches : matches_text f_to_r (codes "foo bar") ≡ true
+unfolding chars
+text_matches = refl
 
-pub awkward_is_text : is_uid awkward_uid ≡ true
-unfolding chars is_utf8 encode
-awkward_is_text = refl
+pub text_other_end : matches_text f_to_r (codes "foo bars") ≡ false
+unfolding chars
+text_other_end = refl
 
-pub no_text : is_uid (record { kind = user; id = 255 ∷ [] }) ≡ false
-unfolding chars is_utf8 encode
-no_text = refl
+pub one_character : matches_text (character 233 ∷ []) (195 ∷ 169 ∷ []) ≡ true
+unfolding chars
+one_character = refl
+
+pub no_two_characters : matches_text (character 195 ∷ wildcard ∷ []) (195 ∷ 169 ∷ []) ≡ false
+unfolding chars
+no_two_characters = refl

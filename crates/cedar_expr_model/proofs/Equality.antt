@@ -5,7 +5,6 @@ use Rattle.std.proofs.lemmas.Bool.Decides.{Decides-and, Decides-like, Decides-in
 use Rattle.std.proofs.lemmas.Slice.Eq.{bytes_eq-Decides}
 use Rattle.cedar_expr_model.specs.Name.{Text, Name, name_eq, texts_eq}
 use Rattle.cedar_expr_model.specs.Uid.{Uid, uid_eq}
-use Rattle.cedar_expr_model.specs.Value.{Literal, V, truth, long, entity, prim, truth_eq, literal_eq, value_eq}
 
 pub texts_eq-Decides : (xs ys : List Text) → Decides (texts_eq xs ys) (xs ≡ ys)
 texts_eq-Decides [] [] = (λ _. refl, λ _. refl)
@@ -25,31 +24,9 @@ same_uid u v p = λ i. record { kind = p.0 i; id = p.1 i }
 pub uid_eq-Decides : (u v : Uid) → Decides (uid_eq u v) (u ≡ v)
 uid_eq-Decides u v = Decides-like _ (same_uid u v) (λ e. (ap (λ (k : Uid). k.kind) e, ap (λ (k : Uid). k.id) e)) (Decides-and _ _ (name_eq-Decides u.kind v.kind) (bytes_eq-Decides u.id v.id))
 
-pub truth_eq-Decides : (a b : Bool) → Decides (truth_eq a b) (a ≡ b)
-truth_eq-Decides true b = (λ h. sym h, λ h. sym h)
-truth_eq-Decides false true = (λ h. cc, λ h. cc)
-truth_eq-Decides false false = (λ _. refl, λ _. refl)
-
-pub literal_eq-Decides : (a b : Literal) → Decides (literal_eq a b) (a ≡ b)
-literal_eq-Decides (truth a) (truth b) = Decides-like _ (λ e. ap truth e) (λ e. cc) (truth_eq-Decides a b)
-literal_eq-Decides (long a) (long b) = Decides-like _ (λ e. ap long e) (λ e. cc) (Decides-int_eq a b)
-literal_eq-Decides (entity a) (entity b) = Decides-like _ (λ e. ap entity e) (λ e. cc) (uid_eq-Decides a b)
-literal_eq-Decides (truth a) (long b) = (λ h. cc, λ h. cc)
-literal_eq-Decides (truth a) (entity b) = (λ h. cc, λ h. cc)
-literal_eq-Decides (long a) (truth b) = (λ h. cc, λ h. cc)
-literal_eq-Decides (long a) (entity b) = (λ h. cc, λ h. cc)
-literal_eq-Decides (entity a) (truth b) = (λ h. cc, λ h. cc)
-literal_eq-Decides (entity a) (long b) = (λ h. cc, λ h. cc)
-
-pub value_eq-Decides : (v w : V) → Decides (value_eq v w) (v ≡ w)
-value_eq-Decides (prim a) (prim b) = Decides-like _ (λ e. ap prim e) (λ e. cc) (literal_eq-Decides a b)
-
 -- a thing is equal to itself by the test
 pub uid_eq_same : (u : Uid) → uid_eq u u ≡ true
 uid_eq_same u = (uid_eq-Decides u u).1 refl
 
 pub name_eq_same : (n : Name) → name_eq n n ≡ true
 name_eq_same n = (name_eq-Decides n n).1 refl
-
-pub value_eq_same : (v : V) → value_eq v v ≡ true
-value_eq_same v = (value_eq-Decides v v).1 refl

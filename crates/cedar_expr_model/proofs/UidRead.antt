@@ -14,7 +14,7 @@ use Rattle.std.proofs.Common.{lit≤, lit<}
 use Rattle.std.proofs.lemmas.Bool.{ltb-true}
 use Rattle.cedar_expr_model.specs.Name.{Text, name_read, name_text, colons, is_well_formed}
 use Rattle.cedar_expr_model.specs.Uid.{Uid, uid_text, escaped}
-use Rattle.cedar_expr_model.specs.Whole.Uids.{is_text, is_uid}
+use Rattle.cedar_expr_model.specs.Uids.{is_text, is_uid}
 use Rattle.cedar_expr_model.proofs.Lists.{both_hold}
 use Rattle.cedar_expr_model.proofs.Reading.{writes_read}
 use Rattle.cedar_expr_model.proofs.Escapes.{Lacks, Form, quote, slash, plain, number, form, hexed_rest, scalar_small, digits_no_brace}

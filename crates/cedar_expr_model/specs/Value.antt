@@ -1,34 +1,44 @@
 -- Literals and values.
 -- Rule: values and equality (docs/RULES.md).
-use Rattle.std.specs.Prelude.{ℤ, Bool, true, false, not}
-use Rattle.std.specs.Ordering.{int_eq}
-use Rattle.cedar_expr_model.specs.Uid.{Uid, uid_eq}
+use Rattle.std.specs.Prelude.{ℤ, List, [], ◌∷◌, Bool, Option, Some, None, if◌then◌else◌}
+use Rattle.std.specs.Str.{bytes_eq}
+use Rattle.cedar_expr_model.specs.Name.{Text, Name}
+use Rattle.cedar_expr_model.specs.Uid.{Uid}
 
--- A literal: a truth value, a whole number of 64 bits with its sign, or a uid.
+-- A literal: a truth value, a whole number of 64 bits with its sign, a text, or a uid.
 pub data Literal : Type 0 where
   truth : Bool → Literal
   long : ℤ → Literal
+  text : Text → Literal
   entity : Uid → Literal
   deriving IsSet as Literal-set
 
--- A value, in canonical form: equal values are one.
-pub data V : Type 0 where
-  prim : Literal → V
+-- A value: a literal, a set, a record, or an extension value, which is told by its type and its key alone.
+mutual
+  pub data V : Type 0 where
+    prim : Literal → V
+    set_of : Vs → V
+    record_of : Fields → V
+    extension : Name → Text → V
 
-abbrev pub truth_eq : Bool → Bool → Bool
-truth_eq true b = b
-truth_eq false b = not b
+  pub data Vs : Type 0 where
+    no_values : Vs
+    value : V → Vs → Vs
 
-abbrev pub literal_eq : Literal → Literal → Bool
-literal_eq (truth a) (truth b) = truth_eq a b
-literal_eq (long a) (long b) = int_eq a b
-literal_eq (entity a) (entity b) = uid_eq a b
-literal_eq (truth a) (long b) = false
-literal_eq (truth a) (entity b) = false
-literal_eq (long a) (truth b) = false
-literal_eq (long a) (entity b) = false
-literal_eq (entity a) (truth b) = false
-literal_eq (entity a) (long b) = false
+  pub data Fields : Type 0 where
+    no_fields : Fields
+    field : Text → V → Fields → Fields
 
-abbrev pub value_eq : V → V → Bool
-value_eq (prim a) (prim b) = literal_eq a b
+-- the truth value as a value
+abbrev pub truth_value : Bool → V
+truth_value b = prim (truth b)
+
+-- the members of a list of values
+abbrev pub values_list : Vs → List V
+values_list no_values = []
+values_list (value v vs) = v ∷ values_list vs
+
+-- the value of the field of this name
+abbrev pub field_of : Text → Fields → Option V
+field_of a no_fields = None
+field_of a (field b v fs) = if bytes_eq a b then Some v else field_of a fs

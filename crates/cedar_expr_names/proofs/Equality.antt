@@ -5,9 +5,9 @@ use Rattle.std.specs.Str.{bytes_eq}
 use Rattle.std.specs.Rc.{rc_str_bytes}
 use Rattle.std.specs.Ordering.{nat_cmp, ordering_then}
 use Rattle.std.specs.Cmp.Lexicographic.{slice_cmp}
-use Rattle.cedar_expr_model.specs.Order.{name_cmp, uid_cmp}
-use Rattle.cedar_expr_model.specs.Whole.Order.{name_order, uid_order}
-use Rattle.cedar_expr_model.proofs.Whole.WellFormed.{names_by_text, uids_by_text}
+use Rattle.cedar_expr_model.specs.UidOrder.{name_cmp, uid_cmp}
+use Rattle.cedar_expr_model.specs.Order.{name_order, uid_order}
+use Rattle.cedar_expr_model.proofs.WellFormed.{names_by_text, uids_by_text}
 use Rattle.std.proofs.lemmas.Bool.Decides.{same_from_decides}
 use Rattle.std.proofs.lemmas.Slice.Eq.{bytes_eq-Decides}
 use Rattle.cedar_expr_model.specs.Name.{Name, name_text, name_eq, is_identifier, is_well_formed}

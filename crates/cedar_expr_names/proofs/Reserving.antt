@@ -3,7 +3,7 @@ use Rattle.std.proofs.Common.{◌≡◌, Bool, true, false, cond, ◌||◌, List
 use Rattle.std.specs.List.{list_any}
 use Rattle.std.specs.Str.{bytes_eq}
 use Rattle.cedar_expr_model.specs.Name.{Text, Name, reserved, is_reserved}
-use Rattle.cedar_expr_model.specs.Whole.Names.{is_unqualified, within, qualified}
+use Rattle.cedar_expr_model.specs.Names.{is_unqualified, within, qualified}
 
 left_fails : (a b : Bool) → (a || b) ≡ false → a ≡ false
 left_fails true b h = cc

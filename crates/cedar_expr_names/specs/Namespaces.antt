@@ -4,7 +4,7 @@ use Rattle.std.specs.Prelude.{◌≡◌, true, false, [], Option, Some, None, Re
 use Rattle.std.specs.Borrow.{Bor}
 use Rattle.cedar_expr_model.specs.Name as model
 use Rattle.cedar_expr_model.specs.Name.{Text, name_text}
-use Rattle.cedar_expr_model.specs.Whole.Names.{is_unqualified, namespace_of}
+use Rattle.cedar_expr_model.specs.Names.{is_unqualified, namespace_of}
 use Rattle.cedar_expr_names.specs.declared.internal_name.InternalName.{InternalName}
 use Rattle.cedar_expr_names.specs.declared.name.Name.{Name}
 use Rattle.cedar_expr_names.specs.Views.{name_of, plain_name_of}

@@ -1,7 +1,7 @@
 -- What a refusal of a text or a name says.
 use Rattle.std.specs.Prelude.{◌≡◌, true, false, Some, None}
 use Rattle.cedar_expr_model.specs.Name.{Text, Name, name_read, is_word, is_identifier, reserved, is_reserved}
-use Rattle.cedar_expr_model.specs.Whole.Names.{cedar_name}
+use Rattle.cedar_expr_model.specs.Names.{cedar_name}
 use Rattle.cedar_expr_names.specs.declared.err.NameError.{NameError}
 use Rattle.cedar_expr_names.specs.declared.err.NameError.TheVariants.{OutOfMemory, NotNormalized, Reserved}
 use Rattle.cedar_expr_names.specs.Views.{refused_name_of}

@@ -6,7 +6,7 @@ ghost use Rattle.std.specs.Rc.{rc_str_bytes};
 ghost use Rattle.cedar_expr_model.specs.Name.{name_read, name_text, name_eq, is_reserved};
 ghost use Rattle.cedar_expr_model.specs.Uid.{uid_eq, uid_text, quoted};
 ghost use Rattle.cedar_expr_names.specs.Views.{plain_name_of, plain_name_loc, type_name_of, type_loc, eid_text, uid_of, uid_loc};
-ghost use Rattle.cedar_expr_model.specs.Order.{name_cmp, uid_cmp};
+ghost use Rattle.cedar_expr_model.specs.UidOrder.{name_cmp, uid_cmp};
 ghost use Rattle.cedar_expr_names.specs.Refusals.{RefusesPlainText};
 
 use crate::{Loc, Name, NameError, Quoted};

@@ -33,10 +33,10 @@ impl InternalName {
     ghost use Rattle.std.specs.Prelude.{[], true, IfOk, IfErr, Some, None, string_bytes};
     ghost use Rattle.std.specs.Slice.Iter.{iter_rest};
     ghost use Rattle.cedar_expr_model.specs.Name.{name_read, name_text, name_eq, is_identifier, is_reserved};
-    ghost use Rattle.cedar_expr_model.specs.Whole.Names.{is_unqualified, unqualified, within, qualified, cedar_name};
+    ghost use Rattle.cedar_expr_model.specs.Names.{is_unqualified, unqualified, within, qualified, cedar_name};
     ghost use Rattle.cedar_expr_names.specs.Parts.{name_of, name_loc};
     ghost use Rattle.cedar_expr_names.specs.Namespaces.{namespace_text, space_of, plain_space_of};
-    ghost use Rattle.cedar_expr_model.specs.Order.{name_cmp};
+    ghost use Rattle.cedar_expr_model.specs.UidOrder.{name_cmp};
     ghost use Rattle.cedar_expr_names.specs.Refusals.{RefusesIdentifier, RefusesText};
 
     /// The name of a base under a path, at a place. Answers want of memory.

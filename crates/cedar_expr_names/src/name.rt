@@ -20,7 +20,7 @@ impl Name {
     ghost use Rattle.std.specs.Prelude.{true, IfOk, IfErr, Some, None};
     ghost use Rattle.std.specs.Str.{bytes_eq};
     ghost use Rattle.cedar_expr_model.specs.Name.{name_eq, name_read, name_text, is_identifier, reserved};
-    ghost use Rattle.cedar_expr_model.specs.Whole.Names.{is_unqualified, unqualified, qualified};
+    ghost use Rattle.cedar_expr_model.specs.Names.{is_unqualified, unqualified, qualified};
     ghost use Rattle.cedar_expr_names.specs.Views.{id_text, unreserved_id_text, name_loc, plain_name_of, refused_name_of, plain_name_loc};
     ghost use Rattle.cedar_expr_names.specs.Namespaces.{space_of, plain_space_of};
     ghost use Rattle.cedar_expr_names.specs.Refusals.{RefusesPlainText, RefusesUnreservedIdentifier, RefusesReserved};

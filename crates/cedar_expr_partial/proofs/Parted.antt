@@ -5,14 +5,14 @@ use Rattle.std.proofs.lemmas.List.{map-append}
 use Rattle.std.specs.Prelude.{is_some, option_map, option_and_then}
 use Rattle.std.specs.Option.{option_map_or}
 use Rattle.std.specs.List.{list_all, filter_map, cons_option}
-use Rattle.cedar_expr_model.specs.Whole.Tree.{Tree}
-use Rattle.cedar_expr_model.specs.Whole.Value.{record_of, field}
-use Rattle.cedar_expr_model.specs.Whole.Canonical.{is_canonical, set_made}
-use Rattle.cedar_expr_model.specs.Whole.Made as model
-use Rattle.cedar_expr_model.specs.Whole.Made.{Made, made_prim, made_set, made_record, made_extension, Mades, no_mades, MadeFields, no_made_fields, made_field, bare, written, writtens, written_fields}
-use Rattle.cedar_expr_model.specs.Whole.TreeLaws.{is_plain, are_plain, have_plain}
-use Rattle.cedar_expr_model.specs.Whole.ValueParts.{value_of_tree, values_of_trees, fields_of_trees, Part, known, left, known_value, part_tree, all_known, values_alone, with_residuals, split}
-use Rattle.cedar_expr_model.proofs.Whole.Valued.{written_is_value}
+use Rattle.cedar_expr_model.specs.Tree.{Tree}
+use Rattle.cedar_expr_model.specs.Value.{record_of, field}
+use Rattle.cedar_expr_model.specs.Canonical.{is_canonical, set_made}
+use Rattle.cedar_expr_model.specs.Made as model
+use Rattle.cedar_expr_model.specs.Made.{Made, made_prim, made_set, made_record, made_extension, Mades, no_mades, MadeFields, no_made_fields, made_field, bare, written, writtens, written_fields}
+use Rattle.cedar_expr_model.specs.TreeLaws.{is_plain, are_plain, have_plain}
+use Rattle.cedar_expr_model.specs.ValueParts.{value_of_tree, values_of_trees, fields_of_trees, Part, known, left, known_value, part_tree, all_known, values_alone, with_residuals, split}
+use Rattle.cedar_expr_model.proofs.Valued.{written_is_value}
 use Rattle.cedar_expr_values.specs.Extension.{Extension}
 use Rattle.cedar_expr_values.specs.Values.{made}
 use Rattle.cedar_expr_values.specs.declared.value.Value.{Value}

@@ -11,19 +11,19 @@ use Rattle.std.specs.Rc.{rc_str_bytes}
 use Rattle.std.specs.declared.alloc.Global.{Global}
 use Rattle.std.specs.declared.rc.RcStr.{RcStr}
 use Rattle.cedar_expr_model.specs.Name.{Text}
-use Rattle.cedar_expr_model.specs.Whole.Value.{V, record_of, field}
-use Rattle.cedar_expr_model.specs.Whole.Lists.{all_given, rises}
-use Rattle.cedar_expr_model.specs.Whole.Order.{text_cmp}
-use Rattle.cedar_expr_model.specs.Whole.Records.{fields, names_rise, record_made}
-use Rattle.cedar_expr_model.specs.Whole.Canonical.{set_made, is_canonical}
+use Rattle.cedar_expr_model.specs.Value.{V, record_of, field}
+use Rattle.cedar_expr_model.specs.Lists.{all_given, rises}
+use Rattle.cedar_expr_model.specs.Order.{text_cmp}
+use Rattle.cedar_expr_model.specs.Records.{fields, names_rise, record_made}
+use Rattle.cedar_expr_model.specs.Canonical.{set_made, is_canonical}
 use Rattle.cedar_expr_model.proofs.Lists.{both_hold, hold_both}
 use Rattle.cedar_expr_values.specs.Extension.{Extension}
 use Rattle.cedar_expr_values.specs.Values.{bare, bare_pair, all_canonical, values_of}
 use Rattle.cedar_expr_values.specs.declared.value.Value.{Value}
-use Rattle.cedar_expr_model.specs.Whole.Builder.{trees, tree_fields}
-use Rattle.cedar_expr_model.specs.Whole.Tree.{set_literal, record_literal}
-use Rattle.cedar_expr_model.specs.Whole.ValueParts.{value_of_tree, values_of_trees, fields_of_trees}
-use Rattle.cedar_expr_model.proofs.Whole.Ordering.{in_order_stays}
+use Rattle.cedar_expr_model.specs.Builder.{trees, tree_fields}
+use Rattle.cedar_expr_model.specs.Tree.{set_literal, record_literal}
+use Rattle.cedar_expr_model.specs.ValueParts.{value_of_tree, values_of_trees, fields_of_trees}
+use Rattle.cedar_expr_model.proofs.Ordering.{in_order_stays}
 use Rattle.cedar_expr_values.specs.Fields.{by_text}
 use Rattle.cedar_expr_values.proofs.Ascending.{names_ascend}
 use Rattle.cedar_expr_trees.specs.Trees.{tree_of, named, field_trees}

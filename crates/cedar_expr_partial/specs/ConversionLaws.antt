@@ -1,11 +1,11 @@
 -- What the laws of conversions and of split lists say.
 -- Rule: values and equality; parts of an expression (docs/RULES.md).
 use Rattle.std.specs.Prelude.{◌≡◌, ◌↔◌, List, map, true, Some, None, if◌then◌else◌}
-use Rattle.cedar_expr_model.specs.Whole.Tree.{Tree}
-use Rattle.cedar_expr_model.specs.Whole.Made.{Made, bare, written}
-use Rattle.cedar_expr_model.specs.Whole.TreeLaws.{is_plain}
-use Rattle.cedar_expr_model.specs.Whole.Canonical.{is_canonical}
-use Rattle.cedar_expr_model.specs.Whole.ValueParts.{value_of_tree, Part, part_tree, all_known, Split, values_alone, with_residuals, split}
+use Rattle.cedar_expr_model.specs.Tree.{Tree}
+use Rattle.cedar_expr_model.specs.Made.{Made, bare, written}
+use Rattle.cedar_expr_model.specs.TreeLaws.{is_plain}
+use Rattle.cedar_expr_model.specs.Canonical.{is_canonical}
+use Rattle.cedar_expr_model.specs.ValueParts.{value_of_tree, Part, part_tree, all_known, Split, values_alone, with_residuals, split}
 
 -- the value of what a canonical value is written as: that value, where no extension value stands in it, and else none
 abbrev pub ThereAndBack : Type 0

@@ -12,10 +12,10 @@ use Rattle.either.specs.declared.Either.{Either}
 use Rattle.either.specs.declared.Either.TheVariants.{Left, Right}
 use Rattle.cedar_expr_names.specs.declared.loc.Loc.{Loc}
 use Rattle.cedar_expr_model.specs.Name.{Text}
-use Rattle.cedar_expr_model.specs.Whole.Value.{V}
-use Rattle.cedar_expr_model.specs.Whole.Tree.{Tree}
-use Rattle.cedar_expr_model.specs.Whole.Made.{Made, written}
-use Rattle.cedar_expr_model.specs.Whole.ValueParts.{value_of_tree, Part, known, left, Split, values_alone, with_residuals}
+use Rattle.cedar_expr_model.specs.Value.{V}
+use Rattle.cedar_expr_model.specs.Tree.{Tree}
+use Rattle.cedar_expr_model.specs.Made.{Made, written}
+use Rattle.cedar_expr_model.specs.ValueParts.{value_of_tree, Part, known, left, Split, values_alone, with_residuals}
 use Rattle.cedar_expr_values.specs.Extension.{Extension}
 use Rattle.cedar_expr_values.specs.Values.{made, place_of as value_place}
 use Rattle.cedar_expr_values.specs.declared.value.Value.{Value}

@@ -3,11 +3,11 @@
 ghost use Rattle.std.specs.Prelude.{◌≡◌, true, IfOk, IfErr, None, Some};
 ghost use Rattle.std.specs.declared.option.Option.{Option};
 ghost use Rattle.cedar_expr_names.specs.declared.loc.Loc.{Loc};
-ghost use Rattle.cedar_expr_model.specs.Whole.Tree.{Tree};
-ghost use Rattle.cedar_expr_model.specs.Whole.Value.{V};
-ghost use Rattle.cedar_expr_model.specs.Whole.Made.{written};
-ghost use Rattle.cedar_expr_model.specs.Whole.Canonical.{is_canonical};
-ghost use Rattle.cedar_expr_model.specs.Whole.ValueParts.{value_of_tree, part_tree};
+ghost use Rattle.cedar_expr_model.specs.Tree.{Tree};
+ghost use Rattle.cedar_expr_model.specs.Value.{V};
+ghost use Rattle.cedar_expr_model.specs.Made.{written};
+ghost use Rattle.cedar_expr_model.specs.Canonical.{is_canonical};
+ghost use Rattle.cedar_expr_model.specs.ValueParts.{value_of_tree, part_tree};
 ghost use Rattle.cedar_expr_trees.specs.Trees.{tree_of, place_of};
 ghost use Rattle.cedar_expr_values.specs.Values.{made, made_kind, bare, bare_kind, place_of as value_place};
 ghost use Rattle.cedar_expr_partial.specs.Parts.{part_of, part_place, IsNoValue};

@@ -1,6 +1,6 @@
 //! Laws of conversions and of split lists. Each function's contract is the theorem; its body does nothing.
 
-ghost use Rattle.cedar_expr_model.specs.Whole.ListLaws.{SplitGivesValues};
+ghost use Rattle.cedar_expr_model.specs.ListLaws.{SplitGivesValues};
 ghost use Rattle.cedar_expr_partial.specs.ConversionLaws.{ThereAndBack, SplitIntoExpressions, SplitKeeps};
 
 /// The value of the expression that a canonical value is written as is that value, exactly where no extension value stands in

@@ -2,8 +2,8 @@
 
 ghost use Rattle.std.specs.Prelude.{◌≡◌, map, IfOk, None, is_some, option_map};
 ghost use Rattle.std.specs.List.{list_all, filter_map};
-ghost use Rattle.cedar_expr_model.specs.Whole.Tree.{unknown};
-ghost use Rattle.cedar_expr_model.specs.Whole.ValueParts.{left, known, known_value, part_tree, split};
+ghost use Rattle.cedar_expr_model.specs.Tree.{unknown};
+ghost use Rattle.cedar_expr_model.specs.ValueParts.{left, known, known_value, part_tree, split};
 ghost use Rattle.cedar_expr_trees.specs.Trees.{tree_of};
 ghost use Rattle.cedar_expr_trees.specs.Unknowns.{unknown_of};
 ghost use Rattle.cedar_expr_values.specs.Values.{made};
@@ -99,7 +99,7 @@ impl<X: ExtensionValue> From<Value<X>> for PartialValue<X> {
 
 impl<X: ExtensionValue> From<Literal> for PartialValue<X> {
     ghost use Rattle.cedar_expr_leaves.specs.Literals.{literal_of};
-    ghost use Rattle.cedar_expr_model.specs.Whole.Made.{made_prim};
+    ghost use Rattle.cedar_expr_model.specs.Made.{made_prim};
 
     ghost from_gives = { λ l p. (part_of X.seen p ≡ known (made_prim (literal_of l))) × (part_place p ≡ None) };
 

@@ -1,10 +1,10 @@
 //! Values read from expressions.
 
 ghost use Rattle.std.specs.Prelude.{◌≡◌, true, map, IfOk, IfErr, Err, Some};
-ghost use Rattle.cedar_expr_model.specs.Whole.Canonical.{is_canonical};
-ghost use Rattle.cedar_expr_model.specs.Whole.Lists.{all_given};
-ghost use Rattle.cedar_expr_model.specs.Whole.Records.{names_rise};
-ghost use Rattle.cedar_expr_model.specs.Whole.ValueParts.{value_of_tree};
+ghost use Rattle.cedar_expr_model.specs.Canonical.{is_canonical};
+ghost use Rattle.cedar_expr_model.specs.Lists.{all_given};
+ghost use Rattle.cedar_expr_model.specs.Records.{names_rise};
+ghost use Rattle.cedar_expr_model.specs.ValueParts.{value_of_tree};
 ghost use Rattle.cedar_expr_trees.specs.Trees.{tree_of, place_of};
 ghost use Rattle.cedar_expr_values.specs.Values.{bare, bare_kind, bare_pair, all_canonical, values_of, place_of as value_place};
 ghost use Rattle.cedar_expr_partial.specs.Parts.{value_shown, field_shown, IsNoValue};

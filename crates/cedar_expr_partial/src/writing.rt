@@ -2,10 +2,10 @@
 
 ghost use Rattle.std.specs.Prelude.{◌≡◌, true, map, IfOk, None};
 ghost use Rattle.cedar_expr_leaves.specs.Literals.{literal_of};
-ghost use Rattle.cedar_expr_model.specs.Whole.Tree.{lit, record_literal};
-ghost use Rattle.cedar_expr_model.specs.Whole.Builder.{trees, tree_fields};
-ghost use Rattle.cedar_expr_model.specs.Whole.Made.{written, writtens};
-ghost use Rattle.cedar_expr_model.specs.Whole.Records.{names_rise};
+ghost use Rattle.cedar_expr_model.specs.Tree.{lit, record_literal};
+ghost use Rattle.cedar_expr_model.specs.Builder.{trees, tree_fields};
+ghost use Rattle.cedar_expr_model.specs.Made.{written, writtens};
+ghost use Rattle.cedar_expr_model.specs.Records.{names_rise};
 ghost use Rattle.cedar_expr_trees.specs.Trees.{tree_of, place_of, named, field_trees};
 ghost use Rattle.cedar_expr_values.specs.Values.{made, made_kind, mades, place_of as value_place};
 ghost use Rattle.cedar_expr_partial.specs.Parts.{written_pair};

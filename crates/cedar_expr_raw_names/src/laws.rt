@@ -2,7 +2,7 @@
 
 ghost use Rattle.std.specs.Prelude.{◌≡◌};
 ghost use Rattle.cedar_expr_model.specs.Name.{name_eq};
-ghost use Rattle.cedar_expr_model.specs.Order.{name_cmp};
+ghost use Rattle.cedar_expr_model.specs.UidOrder.{name_cmp};
 ghost use Rattle.cedar_expr_raw_names.specs.Views.{raw_name_of};
 ghost use Rattle.cedar_expr_raw_names.specs.declared.raw_name.RawName.{RawName};
 

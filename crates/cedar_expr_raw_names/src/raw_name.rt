@@ -2,7 +2,7 @@
 
 ghost use Rattle.std.specs.Prelude.{◌≡◌, [], map, true, IfOk, IfErr, Some, None};
 ghost use Rattle.cedar_expr_model.specs.Name.{name_eq, name_read, name_text, is_identifier};
-ghost use Rattle.cedar_expr_model.specs.Whole.Names.{is_unqualified, unqualified, qualified, possibilities};
+ghost use Rattle.cedar_expr_model.specs.Names.{is_unqualified, unqualified, qualified, possibilities};
 ghost use Rattle.cedar_expr_names.specs.Views.{id_text, unreserved_id_text, name_of, name_loc};
 ghost use Rattle.cedar_expr_names.specs.Namespaces.{space_of, plain_space_of};
 ghost use Rattle.cedar_expr_names.specs.Refusals.{RefusesIdentifier, RefusesText};

@@ -4,8 +4,8 @@ use Rattle.std.specs.Prelude.{◌≡◌, List, Option, Some, None}
 use Rattle.std.specs.declared.result.Result.{Result}
 use Rattle.std.specs.declared.result.Result.TheVariants.{Err}
 use Rattle.cedar_expr_model.specs.Name.{Text, Name}
-use Rattle.cedar_expr_model.specs.Whole.Tree.{CoreType, Tree}
-use Rattle.cedar_expr_model.specs.Whole.Builder.{Builder, built}
+use Rattle.cedar_expr_model.specs.Tree.{CoreType, Tree}
+use Rattle.cedar_expr_model.specs.Builder.{Builder, built}
 use Rattle.cedar_expr_builders.specs.Refusing.{refusing}
 use Rattle.cedar_expr_builders.specs.declared.err.BuildFault.{BuildFault}
 use Rattle.cedar_expr_builders.specs.declared.err.BuildFault.TheVariants.{OutOfMemory, Refused}

@@ -3,9 +3,9 @@
 ghost use Rattle.std.specs.Prelude.{◌≡◌, true, map, IfOk, IfErr};
 ghost use Rattle.std.specs.declared.result.Result.TheVariants.{Ok};
 ghost use Rattle.cedar_expr_names.specs.Views.{plain_name_of};
-ghost use Rattle.cedar_expr_model.specs.Whole.Builder.{built_list, built_fields, trees, tree_fields};
-ghost use Rattle.cedar_expr_model.specs.Whole.Records.{names_rise};
-ghost use Rattle.cedar_expr_model.specs.Whole.Tree.{call, set_literal, record_literal};
+ghost use Rattle.cedar_expr_model.specs.Builder.{built_list, built_fields, trees, tree_fields};
+ghost use Rattle.cedar_expr_model.specs.Records.{names_rise};
+ghost use Rattle.cedar_expr_model.specs.Tree.{call, set_literal, record_literal};
 ghost use Rattle.cedar_expr_trees.specs.Trees.{tree_of, named, field_trees};
 ghost use Rattle.cedar_expr_builders.specs.Refusing.{all_made, fields_made};
 ghost use Rattle.cedar_expr_builders.specs.Views.{meant};

@@ -2,7 +2,7 @@
 
 ghost use Rattle.std.specs.Prelude.{◌≡◌, IfOk, IfErr};
 ghost use Rattle.std.specs.declared.result.Result.TheVariants.{Ok};
-ghost use Rattle.cedar_expr_model.specs.Whole.Tree.{Tree};
+ghost use Rattle.cedar_expr_model.specs.Tree.{Tree};
 ghost use Rattle.cedar_expr_trees.specs.Trees.{tree_of};
 ghost use Rattle.cedar_expr_builders.specs.Refusing.{built_or_refused, refusal, IsRefusal};
 

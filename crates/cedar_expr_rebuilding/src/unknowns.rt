@@ -3,7 +3,7 @@
 ghost use Rattle.std.specs.Prelude.{◌≡◌, Option, IfOk, IfErr};
 ghost use Rattle.std.specs.declared.result.Result.TheVariants.{Ok};
 ghost use Rattle.cedar_expr_model.specs.Name.{Text};
-ghost use Rattle.cedar_expr_model.specs.Whole.Tree.{CoreType, Tree, unknown};
+ghost use Rattle.cedar_expr_model.specs.Tree.{CoreType, Tree, unknown};
 ghost use Rattle.cedar_expr_trees.specs.Unknowns.{unknown_of};
 ghost use Rattle.cedar_expr_builders.specs.Refusing.{built_or_refused};
 ghost use Rattle.cedar_expr_rebuilding.specs.Outcome.{Refuses};

@@ -39,8 +39,8 @@ use Rattle.cedar_expr_values.specs.Types.{core_of}
 use Rattle.cedar_expr_values.specs.contracts.types.TypePartialEq.TheImpl as core_equality
 use Rattle.cedar_expr_values.specs.declared.types.Type.{«Type» as CoreKind}
 use Rattle.cedar_expr_values.proofs.CoreTypes.{types_eq_is}
-use Rattle.cedar_expr_model.specs.Whole.Order.{text_cmp, name_order, core_cmp}
-use Rattle.cedar_expr_model.specs.Whole.Shape.{var_cmp, slot_cmp, element_cmp, pattern_cmp, unary_cmp, binary_cmp}
+use Rattle.cedar_expr_model.specs.Order.{text_cmp, name_order, core_cmp}
+use Rattle.cedar_expr_model.specs.Shape.{var_cmp, slot_cmp, element_cmp, pattern_cmp, unary_cmp, binary_cmp}
 use Rattle.cedar_expr_trees.specs.Unknowns.{unknown_of}
 use Rattle.cedar_expr_trees.specs.contracts.expr.UnknownPartialEq.TheImpl as unknown_equality
 use Rattle.cedar_expr_trees.specs.declared.expr.Unknown.{Unknown}

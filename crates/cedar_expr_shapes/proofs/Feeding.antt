@@ -14,7 +14,7 @@ use Rattle.cedar_expr_leaves.specs.Patterns.{element_of}
 use Rattle.cedar_expr_leaves.specs.contracts.pattern.PatternElemHash.TheImpl as element_hash
 use Rattle.cedar_expr_leaves.specs.declared.pattern.PatternElem.{PatternElem}
 use Rattle.cedar_expr_leaves.specs.declared.pattern.PatternElem.TheVariants.{Char, Wildcard}
-use Rattle.cedar_expr_model.specs.Whole.Builder.{trees, tree_fields}
+use Rattle.cedar_expr_model.specs.Builder.{trees, tree_fields}
 use Rattle.cedar_expr_trees.specs.declared.expr.Expr.{Expr}
 use Rattle.cedar_expr_trees.specs.Trees.{tree_of, named, field_trees}
 use Rattle.cedar_expr_shapes.specs.Hashed.{element_input, tree_input, trees_input, tree_fields_input, count, field_count}

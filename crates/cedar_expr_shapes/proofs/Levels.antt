@@ -22,8 +22,8 @@ use Rattle.cedar_expr_leaves.specs.contracts.ops.UnaryOpPartialEq.TheImpl as una
 use Rattle.cedar_expr_leaves.specs.contracts.pattern.PatternPartialEq.TheImpl as pattern_equality
 use Rattle.cedar_expr_leaves.specs.contracts.slot.SlotIdPartialEq.TheImpl as slot_equality
 use Rattle.cedar_expr_leaves.specs.contracts.var.VarPartialEq.TheImpl as var_equality
-use Rattle.cedar_expr_model.specs.Whole.Builder.{trees, tree_fields}
-use Rattle.cedar_expr_model.specs.Whole.Tree.{Tree, lit, var, slot, unknown, choice, both, either, unary, binary, call, get_attr, has_attr, has_path, like, is_type, set_literal, record_literal}
+use Rattle.cedar_expr_model.specs.Builder.{trees, tree_fields}
+use Rattle.cedar_expr_model.specs.Tree.{Tree, lit, var, slot, unknown, choice, both, either, unary, binary, call, get_attr, has_attr, has_path, like, is_type, set_literal, record_literal}
 use Rattle.cedar_expr_trees.specs.Trees.{tree_of, kind_tree, named}
 use Rattle.cedar_expr_trees.specs.Unknowns.{unknown_of}
 use Rattle.cedar_expr_trees.specs.contracts.expr.ExprPartialEq.TheImpl as expr_equality

@@ -12,9 +12,9 @@ use Rattle.cedar_expr_names.specs.Views.{plain_name_of, type_name_of}
 use Rattle.cedar_expr_leaves.specs.Operators.{unary_op_of, binary_op_of}
 use Rattle.cedar_expr_leaves.specs.Patterns.{pattern_of}
 use Rattle.cedar_expr_leaves.proofs.Literals.{literals_eq_is}
-use Rattle.cedar_expr_model.specs.Whole.Builder.{trees, tree_fields}
-use Rattle.cedar_expr_model.specs.Whole.Order.{text_cmp, name_order}
-use Rattle.cedar_expr_model.specs.Whole.Shape.{tree_cmp, trees_cmp, tree_fields_cmp, tree_eq, pattern_cmp, unary_cmp, binary_cmp}
+use Rattle.cedar_expr_model.specs.Builder.{trees, tree_fields}
+use Rattle.cedar_expr_model.specs.Order.{text_cmp, name_order}
+use Rattle.cedar_expr_model.specs.Shape.{tree_cmp, trees_cmp, tree_fields_cmp, tree_eq, pattern_cmp, unary_cmp, binary_cmp}
 use Rattle.cedar_expr_trees.specs.Trees.{tree_of, kind_tree, named, field_trees}
 use Rattle.cedar_expr_trees.specs.declared.expr.Expr.{Expr, Expr-F, map-Expr, roll-Expr, ind-Expr}
 use Rattle.cedar_expr_trees.specs.declared.expr.ExprKind.{ExprKind, ExprKind-F, map-ExprKind, out-ExprKind, roll-ExprKind, out-roll-ExprKind}

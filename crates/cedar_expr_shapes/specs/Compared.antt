@@ -6,9 +6,9 @@ use Rattle.std.proofs.Common.{ap}
 use Rattle.std.specs.Cmp.Lexicographic.{pointwise}
 use Rattle.std.specs.Cmp.{IsEquivalence, IsTotalOrder, eq_by_cmp_equiv}
 use Rattle.std.specs.declared.cmp.Ordering.TheVariants.{Equal}
-use Rattle.cedar_expr_model.specs.Whole.Tree.{Tree}
-use Rattle.cedar_expr_model.specs.Whole.Shape.{tree_cmp, tree_eq}
-use Rattle.cedar_expr_model.proofs.Whole.ShapeOrder.{tree_linear, trees_decide}
+use Rattle.cedar_expr_model.specs.Tree.{Tree}
+use Rattle.cedar_expr_model.specs.Shape.{tree_cmp, tree_eq}
+use Rattle.cedar_expr_model.proofs.ShapeOrder.{tree_linear, trees_decide}
 use Rattle.cedar_expr_trees.specs.Positions.{positions}
 use Rattle.cedar_expr_trees.specs.Trees.{tree_of, data_of}
 use Rattle.cedar_expr_trees.specs.declared.expr.Expr.{Expr}

@@ -5,11 +5,11 @@ use Rattle.std.specs.Prelude.{◌++◌, ℕ, ◌+◌, [], pos}
 use Rattle.std.specs.Hash as fed
 use Rattle.std.specs.Hash.{HashWrites}
 use Rattle.cedar_expr_model.specs.Name.{Name, name_text}
-use Rattle.cedar_expr_model.specs.Whole.Value.{Literal, truth, long, text, entity}
-use Rattle.cedar_expr_model.specs.Whole.Pattern.{Element, character, wildcard}
-use Rattle.cedar_expr_model.specs.Whole.Order.{core_rank}
-use Rattle.cedar_expr_model.specs.Whole.Shape.{var_rank, slot_rank, unary_rank, binary_rank}
-use Rattle.cedar_expr_model.specs.Whole.Tree.{CoreType, entity_core, extension_core, Tree, lit, var, slot, unknown, choice, both, either, unary, binary, call, get_attr, has_attr, has_path, like, is_type, set_literal, record_literal, Trees, no_trees, tree, TreeFields, no_tree_fields, tree_field}
+use Rattle.cedar_expr_model.specs.Value.{Literal, truth, long, text, entity}
+use Rattle.cedar_expr_model.specs.Pattern.{Element, character, wildcard}
+use Rattle.cedar_expr_model.specs.Order.{core_rank}
+use Rattle.cedar_expr_model.specs.Shape.{var_rank, slot_rank, unary_rank, binary_rank}
+use Rattle.cedar_expr_model.specs.Tree.{CoreType, entity_core, extension_core, Tree, lit, var, slot, unknown, choice, both, either, unary, binary, call, get_attr, has_attr, has_path, like, is_type, set_literal, record_literal, Trees, no_trees, tree, TreeFields, no_tree_fields, tree_field}
 
 -- the place of a case among those of its type
 abbrev pub place_input : ℕ → HashWrites

@@ -4,9 +4,9 @@ ghost use Rattle.std.specs.Prelude.{◌≡◌, map};
 ghost use Rattle.std.specs.Rc.{rc_str_bytes};
 ghost use Rattle.cedar_expr_names.specs.Views.{plain_name_of, type_name_of};
 ghost use Rattle.cedar_expr_leaves.specs.Patterns.{pattern_of};
-ghost use Rattle.cedar_expr_model.specs.Whole.Builder.{trees, tree_fields};
-ghost use Rattle.cedar_expr_model.specs.Whole.Tree.{unary, call, get_attr, has_attr, has_path, like, is_type, set_literal, record_literal};
-ghost use Rattle.cedar_expr_model.specs.Whole.Shape.{tree_cmp, trees_cmp, tree_fields_cmp};
+ghost use Rattle.cedar_expr_model.specs.Builder.{trees, tree_fields};
+ghost use Rattle.cedar_expr_model.specs.Tree.{unary, call, get_attr, has_attr, has_path, like, is_type, set_literal, record_literal};
+ghost use Rattle.cedar_expr_model.specs.Shape.{tree_cmp, trees_cmp, tree_fields_cmp};
 ghost use Rattle.cedar_expr_leaves.specs.Operators.{unary_op_of};
 ghost use Rattle.cedar_expr_trees.specs.Trees.{tree_of, kind_tree, named, field_trees};
 

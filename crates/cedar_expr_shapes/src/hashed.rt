@@ -2,7 +2,7 @@
 
 ghost use Rattle.std.specs.Prelude.{◌≡◌, ◌++◌, map, fold};
 ghost use Rattle.std.specs.Hash as fed;
-ghost use Rattle.cedar_expr_model.specs.Whole.Builder.{trees, tree_fields};
+ghost use Rattle.cedar_expr_model.specs.Builder.{trees, tree_fields};
 ghost use Rattle.cedar_expr_trees.specs.Trees.{tree_of, named, field_trees};
 ghost use Rattle.cedar_expr_shapes.specs.Hashed.{tree_input, trees_input, count, tree_fields_input, field_count};
 

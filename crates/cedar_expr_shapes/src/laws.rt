@@ -2,7 +2,7 @@
 
 ghost use Rattle.std.specs.Prelude.{◌≡◌, true};
 ghost use Rattle.std.specs.Cmp.{IsEquivalence, IsTotalOrder};
-ghost use Rattle.cedar_expr_model.specs.Whole.Shape.{tree_cmp, tree_eq};
+ghost use Rattle.cedar_expr_model.specs.Shape.{tree_cmp, tree_eq};
 ghost use Rattle.cedar_expr_trees.specs.Trees.{tree_of};
 ghost use Rattle.cedar_expr_trees.specs.declared.expr.Expr.{Expr as CodeExpr};
 ghost use Rattle.cedar_expr_shapes.specs.Compared.{EqualByOrder, EqualByTrees, HashedAlike};

@@ -2,7 +2,7 @@
 
 ghost use Rattle.std.specs.Prelude.{◌≡◌};
 ghost use Rattle.std.specs.Ordering.{nat_cmp};
-ghost use Rattle.cedar_expr_model.specs.Whole.Shape.{tree_rank};
+ghost use Rattle.cedar_expr_model.specs.Shape.{tree_rank};
 ghost use Rattle.cedar_expr_trees.specs.Trees.{kind_tree};
 
 use cedar_expr_trees::ExprKind;

@@ -1,7 +1,7 @@
 //! Expressions told apart by their shape alone: by what they are but for places and data.
 
 ghost use Rattle.std.specs.Prelude.{◌≡◌, fold};
-ghost use Rattle.cedar_expr_model.specs.Whole.Shape.{tree_cmp, tree_eq};
+ghost use Rattle.cedar_expr_model.specs.Shape.{tree_cmp, tree_eq};
 ghost use Rattle.cedar_expr_trees.specs.Trees.{tree_of};
 ghost use Rattle.cedar_expr_shapes.specs.Hashed.{tree_input};
 
@@ -15,7 +15,7 @@ use std::hash::{Hash, Hasher};
 
 /// What has the shape of an expression. Places and data don't count.
 pub trait ExprShape {
-    ghost use Rattle.cedar_expr_model.specs.Whole.Tree.{Tree};
+    ghost use Rattle.cedar_expr_model.specs.Tree.{Tree};
 
     /// The bare tree.
     ghost shape: { Self → Tree };

@@ -2,15 +2,15 @@
 use Rattle.std.proofs.Common.{◌≡◌, List, [], ◌∷◌, map, Option, Some, None, refl, sym, ap, ◌∙◌}
 use Rattle.std.specs.Option.{option_or}
 use Rattle.cedar_expr_model.specs.Name.{Text}
-use Rattle.cedar_expr_model.specs.Whole.Value.{Literal}
-use Rattle.cedar_expr_model.specs.Whole.Tree.{CoreType, Tree, lit, call, set_literal, record_literal, tree, tree_field}
-use Rattle.cedar_expr_model.specs.Whole.Builder.{Builder, built, built_list, built_fields, tree_builder, trees, tree_fields}
-use Rattle.cedar_expr_model.specs.Whole.BuilderForm.{IsLawful}
-use Rattle.cedar_expr_model.specs.Whole.Made.{Made, made_prim, made_set, made_record, made_extension, Mades, no_mades, made, MadeFields, no_made_fields, made_field, written, writtens, written_fields}
-use Rattle.cedar_expr_model.specs.Whole.Substitution.{Bindings, substituted}
-use Rattle.cedar_expr_model.proofs.Whole.Agreeing.{substitution_agrees}
-use Rattle.cedar_expr_model.proofs.Whole.Substituting.{placed, bound_or}
-use Rattle.cedar_expr_model.proofs.Whole.Building.{builder_with}
+use Rattle.cedar_expr_model.specs.Value.{Literal}
+use Rattle.cedar_expr_model.specs.Tree.{CoreType, Tree, lit, call, set_literal, record_literal, tree, tree_field}
+use Rattle.cedar_expr_model.specs.Builder.{Builder, built, built_list, built_fields, tree_builder, trees, tree_fields}
+use Rattle.cedar_expr_model.specs.BuilderForm.{IsLawful}
+use Rattle.cedar_expr_model.specs.Made.{Made, made_prim, made_set, made_record, made_extension, Mades, no_mades, made, MadeFields, no_made_fields, made_field, written, writtens, written_fields}
+use Rattle.cedar_expr_model.specs.Substitution.{Bindings, substituted}
+use Rattle.cedar_expr_model.proofs.Agreeing.{substitution_agrees}
+use Rattle.cedar_expr_model.proofs.Substituting.{placed, bound_or}
+use Rattle.cedar_expr_model.proofs.Building.{builder_with}
 use Rattle.cedar_expr_substitution.specs.SubstitutionLaws.{first_of_both}
 
 -- a written value is made as it is, whatever is made of unknowns

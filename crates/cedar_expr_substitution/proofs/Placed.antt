@@ -2,12 +2,12 @@
 use Rattle.std.proofs.Common.{◌≡◌, ◌&&◌, ◌||◌, Bool, List, [], ◌∷◌, Option, Some, None, Result, Ok, Err, IfErr, refl, sym, ap, ◌∙◌}
 use Rattle.std.specs.Option.{option_map_or}
 use Rattle.cedar_expr_model.specs.Name.{Text, Name}
-use Rattle.cedar_expr_model.specs.Whole.Tree.{CoreType, Tree, lit, var, slot, unknown, choice, both, either, unary, binary, call, get_attr, has_attr, has_path, like, is_type, set_literal, record_literal, Trees, no_trees, tree, TreeFields, no_tree_fields, tree_field}
-use Rattle.cedar_expr_model.specs.Whole.Builder.{Builder, built, built_list, built_fields, tree_builder}
-use Rattle.cedar_expr_model.specs.Whole.BuilderForm.{IsLawful}
-use Rattle.cedar_expr_model.specs.Whole.Made.{Made, written}
-use Rattle.cedar_expr_model.specs.Whole.Substitution.{Bindings, substituted, built_under}
-use Rattle.cedar_expr_model.proofs.Whole.Agreeing.{substitution_agrees, trees_are_lawful}
+use Rattle.cedar_expr_model.specs.Tree.{CoreType, Tree, lit, var, slot, unknown, choice, both, either, unary, binary, call, get_attr, has_attr, has_path, like, is_type, set_literal, record_literal, Trees, no_trees, tree, TreeFields, no_tree_fields, tree_field}
+use Rattle.cedar_expr_model.specs.Builder.{Builder, built, built_list, built_fields, tree_builder}
+use Rattle.cedar_expr_model.specs.BuilderForm.{IsLawful}
+use Rattle.cedar_expr_model.specs.Made.{Made, written}
+use Rattle.cedar_expr_model.specs.Substitution.{Bindings, substituted, built_under}
+use Rattle.cedar_expr_model.proofs.Agreeing.{substitution_agrees, trees_are_lawful}
 use Rattle.cedar_expr_builders.specs.Refusing.{and_then, all_made, fields_made, unless, refusing, refusal, IsRefusal}
 use Rattle.cedar_expr_builders.specs.declared.err.BuildFault.{BuildFault}
 use Rattle.cedar_expr_builders.specs.declared.err.BuildFault.TheVariants.{OutOfMemory, Refused}

@@ -4,11 +4,11 @@ use Rattle.std.specs.Option.{option_or}
 use Rattle.std.specs.Result.{IsErrAnd}
 use Rattle.std.specs.Prelude.{if◌then◌else◌}
 use Rattle.cedar_expr_model.specs.Name.{Text}
-use Rattle.cedar_expr_model.specs.Whole.Tree.{CoreType}
-use Rattle.cedar_expr_model.specs.Whole.Order.{core_eq}
-use Rattle.cedar_expr_model.specs.Whole.Made.{Made, bare}
-use Rattle.cedar_expr_model.specs.Whole.Lists.{first_found}
-use Rattle.cedar_expr_model.specs.Whole.Substitution.{Mismatch, mismatch_at, core_type_of}
+use Rattle.cedar_expr_model.specs.Tree.{CoreType}
+use Rattle.cedar_expr_model.specs.Order.{core_eq}
+use Rattle.cedar_expr_model.specs.Made.{Made, bare}
+use Rattle.cedar_expr_model.specs.Lists.{first_found}
+use Rattle.cedar_expr_model.specs.Substitution.{Mismatch, mismatch_at, core_type_of}
 use Rattle.cedar_expr_substitution.specs.Bound.{IsMismatch}
 use Rattle.cedar_expr_substitution.specs.declared.err.SubstitutionError.{SubstitutionError}
 use Rattle.cedar_expr_substitution.specs.declared.err.SubstitutionError.TheVariants.{OutOfMemory, TypeError}

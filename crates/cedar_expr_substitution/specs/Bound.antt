@@ -8,10 +8,10 @@ use Rattle.std.specs.Str.{bytes_eq}
 use Rattle.std.specs.declared.alloc.Global.{Global}
 use Rattle.std.specs.declared.rc.RcStr.{RcStr}
 use Rattle.cedar_expr_model.specs.Name.{Text}
-use Rattle.cedar_expr_model.specs.Whole.Tree.{CoreType, Tree, unknown}
-use Rattle.cedar_expr_model.specs.Whole.Builder.{Builder, built, tree_builder}
-use Rattle.cedar_expr_model.specs.Whole.Made.{written}
-use Rattle.cedar_expr_model.specs.Whole.Substitution.{Bindings, Mismatch}
+use Rattle.cedar_expr_model.specs.Tree.{CoreType, Tree, unknown}
+use Rattle.cedar_expr_model.specs.Builder.{Builder, built, tree_builder}
+use Rattle.cedar_expr_model.specs.Made.{written}
+use Rattle.cedar_expr_model.specs.Substitution.{Bindings, Mismatch}
 use Rattle.cedar_expr_values.specs.Extension.{Extension}
 use Rattle.cedar_expr_values.specs.Values.{made}
 use Rattle.cedar_expr_values.specs.Types.{core_of}

@@ -2,8 +2,8 @@
 -- Rule: substitution (docs/RULES.md).
 use Rattle.std.specs.Prelude.{◌≡◌}
 use Rattle.std.specs.Option.{option_or}
-use Rattle.cedar_expr_model.specs.Whole.Tree.{Tree}
-use Rattle.cedar_expr_model.specs.Whole.Substitution.{Bindings, substituted}
+use Rattle.cedar_expr_model.specs.Tree.{Tree}
+use Rattle.cedar_expr_model.specs.Substitution.{Bindings, substituted}
 
 -- the bindings of both; of a name that both bind those of the first
 abbrev pub first_of_both : Bindings → Bindings → Bindings

@@ -1,6 +1,6 @@
 //! Unknowns that are bound to values.
 
-ghost use Rattle.cedar_expr_model.specs.Whole.Made.{written};
+ghost use Rattle.cedar_expr_model.specs.Made.{written};
 ghost use Rattle.cedar_expr_substitution.specs.Bound.{bindings_of, placed_by};
 
 use cedar_expr_builders::BuildFault;

@@ -2,8 +2,8 @@
 
 ghost use Rattle.std.specs.Prelude.{◌≡◌, None, IfOk, IfErr, OnOk};
 ghost use Rattle.std.specs.declared.result.Result.TheVariants.{Ok};
-ghost use Rattle.cedar_expr_model.specs.Whole.Tree.{Tree};
-ghost use Rattle.cedar_expr_model.specs.Whole.Substitution.{substituted, mismatch, mismatch_at, built_under};
+ghost use Rattle.cedar_expr_model.specs.Tree.{Tree};
+ghost use Rattle.cedar_expr_model.specs.Substitution.{substituted, mismatch, mismatch_at, built_under};
 ghost use Rattle.cedar_expr_trees.specs.Trees.{tree_of};
 ghost use Rattle.cedar_expr_trees.specs.Unknowns.{unknown_of};
 ghost use Rattle.cedar_expr_builders.specs.Refusing.{refusing, refusal, IsRefusal};

@@ -3,10 +3,10 @@
 ghost use Rattle.std.specs.Prelude.{◌≡◌, true, map, IfOk};
 ghost use Rattle.std.specs.Rc.{rc_str_bytes};
 ghost use Rattle.cedar_expr_names.specs.Views.{plain_name_of};
-ghost use Rattle.cedar_expr_model.specs.Whole.Tree.{unknown, call, set_literal, record_literal};
-ghost use Rattle.cedar_expr_model.specs.Whole.Builder.{built_list, built_fields, path_test, trees, tree_fields};
-ghost use Rattle.cedar_expr_model.specs.Whole.Substitution.{substituted};
-ghost use Rattle.cedar_expr_model.specs.Whole.Records.{names_rise};
+ghost use Rattle.cedar_expr_model.specs.Tree.{unknown, call, set_literal, record_literal};
+ghost use Rattle.cedar_expr_model.specs.Builder.{built_list, built_fields, path_test, trees, tree_fields};
+ghost use Rattle.cedar_expr_model.specs.Substitution.{substituted};
+ghost use Rattle.cedar_expr_model.specs.Records.{names_rise};
 ghost use Rattle.cedar_expr_trees.specs.Unknowns.{unknown_of};
 ghost use Rattle.cedar_expr_trees.specs.Trees.{tree_of, named, field_trees};
 ghost use Rattle.cedar_expr_substitution.specs.Bound.{bindings_of, substituting};

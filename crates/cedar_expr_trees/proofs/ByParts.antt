@@ -11,10 +11,10 @@ use Rattle.std.specs.declared.rc.Rc.{Rc}
 use Rattle.std.specs.declared.rc.RcStr.{RcStr}
 use Rattle.std.specs.declared.vec.Vec.{Vec}
 use Rattle.cedar_expr_names.specs.declared.name.Name.{Name}
-use Rattle.cedar_expr_model.specs.Whole.Builder.{trees, tree_fields}
-use Rattle.cedar_expr_model.specs.Whole.Tree.{Tree}
-use Rattle.cedar_expr_model.specs.Whole.Parts.{is_ref, is_ref_set, listed, may_project, is_projectable, subexpressions, subexpressions_among, subexpressions_in_fields, unknown_here}
-use Rattle.cedar_expr_model.specs.Whole.Unknowns.{has_unknown}
+use Rattle.cedar_expr_model.specs.Builder.{trees, tree_fields}
+use Rattle.cedar_expr_model.specs.Tree.{Tree}
+use Rattle.cedar_expr_model.specs.Parts.{is_ref, is_ref_set, listed, may_project, is_projectable, subexpressions, subexpressions_among, subexpressions_in_fields, unknown_here}
+use Rattle.cedar_expr_model.specs.Unknowns.{has_unknown}
 use Rattle.cedar_expr_trees.specs.declared.expr.Expr.{Expr}
 use Rattle.cedar_expr_trees.specs.declared.expr.ExprKind.{Set, Record, ExtensionFunctionApp}
 use Rattle.cedar_expr_trees.specs.Trees.{tree_of, kind_tree, named, field_trees}

@@ -16,10 +16,10 @@ use Rattle.std.specs.declared.rc.RcStr.{RcStr}
 use Rattle.std.specs.declared.cmp.Ordering.{Ordering}
 use Rattle.std.specs.declared.cmp.Ordering.TheVariants.{Less, Equal, Greater}
 use Rattle.cedar_expr_model.specs.Name.{Text}
-use Rattle.cedar_expr_model.specs.Whole.Order.{text_cmp}
-use Rattle.cedar_expr_model.specs.Whole.Records.{pair_placed, in_order}
-use Rattle.cedar_expr_model.specs.Whole.Repeats.{first_again, repeated_name}
-use Rattle.cedar_expr_model.proofs.Whole.Linear.{text_exact}
+use Rattle.cedar_expr_model.specs.Order.{text_cmp}
+use Rattle.cedar_expr_model.specs.Records.{pair_placed, in_order}
+use Rattle.cedar_expr_model.specs.Repeats.{first_again, repeated_name}
+use Rattle.cedar_expr_model.proofs.Linear.{text_exact}
 use Rattle.cedar_expr_values.specs.Fields.{by_text}
 use Rattle.cedar_expr_trees.specs.Trees.{named}
 use Rattle.cedar_expr_trees.specs.Refusals.{RefusesRecord, RefusesField, names_of}

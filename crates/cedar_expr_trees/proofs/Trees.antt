@@ -10,8 +10,8 @@ use Rattle.std.specs.declared.rc.RcStr.{RcStr}
 use Rattle.std.specs.declared.vec.Vec.{Vec}
 use Rattle.cedar_expr_names.specs.Views.{plain_name_of}
 use Rattle.cedar_expr_names.specs.declared.name.Name.{Name}
-use Rattle.cedar_expr_model.specs.Whole.Builder.{trees, tree_fields}
-use Rattle.cedar_expr_model.specs.Whole.Tree.{call, set_literal, record_literal, tree, TreeFields, tree_field}
+use Rattle.cedar_expr_model.specs.Builder.{trees, tree_fields}
+use Rattle.cedar_expr_model.specs.Tree.{call, set_literal, record_literal, tree, TreeFields, tree_field}
 use Rattle.cedar_expr_trees.specs.declared.expr.Expr.{Expr}
 use Rattle.cedar_expr_trees.specs.declared.expr.ExprKind.{Set, Record, ExtensionFunctionApp, Row_of-Expr, end_of-Expr, more_of-Expr, items-the_row-Expr, items_hidden-the_row-Expr-0, items_hidden-the_row-Expr-1}
 use Rattle.cedar_expr_trees.specs.declared.expr.ExprKind.TheBlock.{hidden-the_row-Expr-0, hidden-the_row-Expr-1, shape-the_row-Expr-1}

@@ -15,8 +15,8 @@ use Rattle.cedar_expr_names.specs.Views.{plain_name_of, type_name_of}
 use Rattle.cedar_expr_leaves.specs.Patterns.{pattern_of}
 use Rattle.cedar_expr_names.specs.declared.name.Name.{Name}
 use Rattle.cedar_expr_model.specs.Name.{Text}
-use Rattle.cedar_expr_model.specs.Whole.Parts.{subexpressions, subexpressions_among, subexpressions_in_fields, slot_here, slots, unknown_here, unknowns}
-use Rattle.cedar_expr_model.specs.Whole.Tree.{Tree, choice, both, either, unary, binary, call, get_attr, has_attr, has_path, like, is_type, set_literal, record_literal}
+use Rattle.cedar_expr_model.specs.Parts.{subexpressions, subexpressions_among, subexpressions_in_fields, slot_here, slots, unknown_here, unknowns}
+use Rattle.cedar_expr_model.specs.Tree.{Tree, choice, both, either, unary, binary, call, get_attr, has_attr, has_path, like, is_type, set_literal, record_literal}
 use Rattle.cedar_expr_trees.specs.declared.expr.Expr.{Expr}
 use Rattle.cedar_expr_trees.specs.declared.expr.ExprKind.{ExprKind, Row_of-Expr, end_of-Expr, more_of-Expr, Lit, Var, Slot, Unknown, If', And', Or', UnaryApp', BinaryApp', ExtensionFunctionApp', GetAttr', HasAttr', ExtHasAttr', Like', Is', Set', Record', Set, Record, ExtensionFunctionApp, items-the_row-Expr, items_hidden-the_row-Expr-0, items_hidden-the_row-Expr-1}
 use Rattle.cedar_expr_trees.specs.declared.expr.ExprKind.TheBlock.{hidden-the_row-Expr-0, hidden-the_row-Expr-1}

@@ -6,8 +6,8 @@ use Rattle.std.specs.Vec.Iter.{into_iter_items}
 use Rattle.cedar_expr_names.specs.declared.loc.Loc.{Loc}
 use Rattle.cedar_expr_leaves.specs.declared.slot.Slot as code
 use Rattle.cedar_expr_leaves.specs.Slots.{slot_of}
-use Rattle.cedar_expr_model.specs.Whole.Parts as model
-use Rattle.cedar_expr_model.specs.Whole.Tree.{SlotId}
+use Rattle.cedar_expr_model.specs.Parts as model
+use Rattle.cedar_expr_model.specs.Tree.{SlotId}
 use Rattle.cedar_expr_trees.specs.Unknowns.{unknown_of}
 use Rattle.cedar_expr_trees.specs.declared.expr.Expr.{Expr}
 use Rattle.cedar_expr_trees.specs.declared.expr.ExprKind.{ExprKind, Row_of-Expr, end_of-Expr, more_of-Expr, Lit, Var, Slot, Unknown, If', And', Or', UnaryApp', BinaryApp', ExtensionFunctionApp', GetAttr', HasAttr', ExtHasAttr', Like', Is', Set', Record'}

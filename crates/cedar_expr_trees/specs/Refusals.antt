@@ -5,7 +5,7 @@ use Rattle.std.specs.List.{list_any}
 use Rattle.std.specs.Rc.{rc_str_bytes}
 use Rattle.std.specs.Str.{bytes_eq}
 use Rattle.cedar_expr_model.specs.Name.{Text}
-use Rattle.cedar_expr_model.specs.Whole.Repeats.{repeated_name}
+use Rattle.cedar_expr_model.specs.Repeats.{repeated_name}
 use Rattle.cedar_expr_trees.specs.declared.err.DuplicateKeyError.{DuplicateKeyError}
 use Rattle.cedar_expr_trees.specs.declared.err.ExpressionConstructionError.{ExpressionConstructionError}
 use Rattle.cedar_expr_trees.specs.declared.err.ExpressionConstructionError.TheVariants.{OutOfMemory, DuplicateKey}

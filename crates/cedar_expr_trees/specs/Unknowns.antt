@@ -4,7 +4,7 @@ use Rattle.std.specs.Prelude.{◌++◌, codes, option_map}
 use Rattle.std.specs.Rc.{rc_str_bytes}
 use Rattle.cedar_expr_model.specs.Name.{Text}
 use Rattle.cedar_expr_model.specs.Uid.{quoted}
-use Rattle.cedar_expr_model.specs.Whole.Parts as model
+use Rattle.cedar_expr_model.specs.Parts as model
 use Rattle.cedar_expr_values.specs.Types.{core_of}
 use Rattle.cedar_expr_trees.specs.declared.expr.Unknown.{Unknown}
 

@@ -3,8 +3,8 @@
 ghost use Rattle.std.specs.Prelude.{◌≡◌, is_some};
 ghost use Rattle.std.specs.BTreeMap.{values};
 ghost use Rattle.std.specs.List.{list_all, list_any};
-ghost use Rattle.cedar_expr_model.specs.Whole.Parts.{is_ref, slot_here, is_ref_set, is_projectable};
-ghost use Rattle.cedar_expr_model.specs.Whole.Unknowns.{has_unknown};
+ghost use Rattle.cedar_expr_model.specs.Parts.{is_ref, slot_here, is_ref_set, is_projectable};
+ghost use Rattle.cedar_expr_model.specs.Unknowns.{has_unknown};
 ghost use Rattle.cedar_expr_trees.specs.Trees.{tree_of};
 
 use crate::expr::{Expr, ExprKind};

@@ -4,7 +4,7 @@ ghost use Rattle.std.specs.Prelude.{◌≡◌, ◌++◌, IfOk};
 ghost use Rattle.std.specs.Rc.{rc_str_bytes};
 ghost use Rattle.cedar_expr_names.specs.Views.{type_name_of};
 ghost use Rattle.cedar_expr_leaves.specs.Patterns.{pattern_of};
-ghost use Rattle.cedar_expr_model.specs.Whole.Tree.{choice, both, either, binary, get_attr, has_attr, like, is_type};
+ghost use Rattle.cedar_expr_model.specs.Tree.{choice, both, either, binary, get_attr, has_attr, like, is_type};
 ghost use Rattle.cedar_expr_leaves.specs.Operators.{binary_op_of};
 ghost use Rattle.cedar_expr_trees.specs.Positions.{below, positions};
 ghost use Rattle.cedar_expr_trees.specs.Trees.{tree_of, kind_tree};

@@ -20,7 +20,7 @@ pub struct ExprIterator<'a, T = ()> {
 }
 
 impl<'a, T> ExprIterator<'a, T> {
-    ghost use Rattle.cedar_expr_model.specs.Whole.Parts.{subexpressions};
+    ghost use Rattle.cedar_expr_model.specs.Parts.{subexpressions};
     ghost use Rattle.cedar_expr_trees.specs.Trees.{tree_of};
     ghost use Rattle.cedar_expr_trees.specs.Positions.{exprs_left};
 
@@ -174,7 +174,7 @@ impl<'a, T> Iterator for Unknowns<'a, T> {
 
 impl<T> Expr<T> {
     ghost use Rattle.std.specs.List.{filter_map};
-    ghost use Rattle.cedar_expr_model.specs.Whole.Parts.{subexpressions, slots, unknowns};
+    ghost use Rattle.cedar_expr_model.specs.Parts.{subexpressions, slots, unknowns};
     ghost use Rattle.cedar_expr_trees.specs.Trees.{tree_of};
     ghost use Rattle.cedar_expr_trees.specs.Positions.{exprs_left, slots_left, unknowns_left, slot_at};
 

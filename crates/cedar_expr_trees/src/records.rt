@@ -5,9 +5,9 @@ ghost use Rattle.std.specs.BTreeMap.{insert_entry};
 ghost use Rattle.std.specs.List.{list_any};
 ghost use Rattle.std.specs.Rc.{rc_str_bytes};
 ghost use Rattle.std.specs.Str.{bytes_eq};
-ghost use Rattle.cedar_expr_model.specs.Whole.Order.{text_cmp};
-ghost use Rattle.cedar_expr_model.specs.Whole.Records.{in_order, record_tree};
-ghost use Rattle.cedar_expr_model.specs.Whole.Repeats.{repeated_name};
+ghost use Rattle.cedar_expr_model.specs.Order.{text_cmp};
+ghost use Rattle.cedar_expr_model.specs.Records.{in_order, record_tree};
+ghost use Rattle.cedar_expr_model.specs.Repeats.{repeated_name};
 ghost use Rattle.cedar_expr_trees.specs.Trees.{tree_of, place_of, named, field_trees};
 ghost use Rattle.cedar_expr_trees.specs.Refusals.{RefusesRecord, RefusesField, names_of};
 

@@ -5,10 +5,10 @@ use Rattle.std.specs.Map.{keys_of}
 use Rattle.std.specs.Rc.{rc_str_bytes}
 use Rattle.std.specs.declared.alloc.Global.{Global}
 use Rattle.std.specs.declared.rc.RcStr.{RcStr}
-use Rattle.cedar_expr_model.specs.Whole.Order.{text_cmp}
-use Rattle.cedar_expr_model.specs.Whole.Records.{names_rise}
+use Rattle.cedar_expr_model.specs.Order.{text_cmp}
+use Rattle.cedar_expr_model.specs.Records.{names_rise}
 use Rattle.cedar_expr_model.proofs.Lists.{hold_both}
-use Rattle.cedar_expr_model.proofs.Whole.Rising.{is_less}
+use Rattle.cedar_expr_model.proofs.Rising.{is_less}
 use Rattle.cedar_expr_values.specs.Fields.{by_text}
 
 pub names_ascend : {A : Type 0} (es : List (RcStr Global × A)) → IsStrictlySortedBy (λ a b. text_cmp (rc_str_bytes a) (rc_str_bytes b)) (keys_of es) → names_rise (map by_text es) ≡ true

@@ -8,9 +8,9 @@ use Rattle.std.specs.declared.rc.RcStr.{RcStr}
 use Rattle.std.specs.declared.cmp.Ordering.{Ordering}
 use Rattle.std.specs.declared.cmp.Ordering.TheVariants.{Less, Equal, Greater}
 use denote.Hole.Carrier
-use Rattle.cedar_expr_model.specs.Whole.Order.{value_cmp, values_cmp, fields_cmp, text_cmp}
-use Rattle.cedar_expr_model.specs.Whole.Made as model
-use Rattle.cedar_expr_model.specs.Whole.Made.{Made, Mades}
+use Rattle.cedar_expr_model.specs.Order.{value_cmp, values_cmp, fields_cmp, text_cmp}
+use Rattle.cedar_expr_model.specs.Made as model
+use Rattle.cedar_expr_model.specs.Made.{Made, Mades}
 use Rattle.cedar_expr_leaves.proofs.Literals.{literals_cmp_is}
 use Rattle.cedar_expr_values.specs.Extension.{Extension, extension_cmp}
 use Rattle.cedar_expr_values.specs.Fields.{by_text}

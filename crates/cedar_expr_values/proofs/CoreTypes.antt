@@ -2,8 +2,8 @@
 use Rattle.std.proofs.Common.{◌≡◌, refl, ap, ◌∙◌}
 use Rattle.std.specs.Ordering.{is_eq}
 use Rattle.std.proofs.lemmas.Cmp.{tied_itself}
-use Rattle.cedar_expr_model.specs.Whole.Order.{core_cmp, core_eq}
-use Rattle.cedar_expr_model.proofs.Whole.ShapeParts.{core_linear}
+use Rattle.cedar_expr_model.specs.Order.{core_cmp, core_eq}
+use Rattle.cedar_expr_model.proofs.ShapeParts.{core_linear}
 use Rattle.cedar_expr_values.specs.Types.{core_of}
 use Rattle.cedar_expr_values.specs.contracts.types.TypeOrd.TheImpl as order
 use Rattle.cedar_expr_values.specs.contracts.types.TypePartialEq.TheImpl as equality

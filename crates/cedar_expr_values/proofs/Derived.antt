@@ -23,7 +23,7 @@ use Rattle.cedar_expr_values.specs.contracts.value.SetOrd.TheImpl.Laws as set_la
 use Rattle.cedar_expr_values.specs.declared.value.Value.{Value}
 use Rattle.cedar_expr_values.specs.declared.value.ValueKind.{ValueKind, Lit, Set as SetKind, Record', ExtensionValue, out-ValueKind}
 use Rattle.cedar_expr_values.specs.declared.value.Set.{Set, Set', out-Set}
-use Rattle.cedar_expr_model.specs.Whole.Order.{value_cmp, value_eq}
+use Rattle.cedar_expr_model.specs.Order.{value_cmp, value_eq}
 use Rattle.cedar_expr_values.specs.Extension.{Extension, extension_cmp}
 use Rattle.cedar_expr_values.specs.Values.{bare}
 use Rattle.cedar_expr_values.proofs.Layers.{layer_cmp}

@@ -2,8 +2,8 @@
 use Rattle.std.proofs.Common.{◌≡◌, ap, ◌∙◌}
 use Rattle.std.specs.Ordering.{is_eq, ordering_then}
 use Rattle.std.proofs.lemmas.Cmp.{tied_itself}
-use Rattle.cedar_expr_model.specs.Whole.Order.{text_cmp, name_order}
-use Rattle.cedar_expr_model.proofs.Whole.Linear.{name_total, text_total}
+use Rattle.cedar_expr_model.specs.Order.{text_cmp, name_order}
+use Rattle.cedar_expr_model.proofs.Linear.{name_total, text_total}
 use Rattle.cedar_expr_values.specs.Extension.{extension_cmp}
 use Rattle.cedar_expr_values.specs.Extensions.{extension_of, by_type_and_key}
 use Rattle.cedar_expr_values.specs.contracts.extension.ExtValueOrd.TheImpl as order

@@ -16,14 +16,14 @@ use Rattle.std.specs.declared.rc.RcStr.{RcStr}
 use Rattle.std.specs.declared.cmp.Ordering.{Ordering}
 use Rattle.std.specs.declared.cmp.Ordering.TheVariants.{Less, Equal, Greater}
 use Rattle.cedar_expr_model.specs.Uid.{Uid, uid_eq}
-use Rattle.cedar_expr_model.specs.Whole.Made as model
-use Rattle.cedar_expr_model.specs.Whole.Made.{Made}
+use Rattle.cedar_expr_model.specs.Made as model
+use Rattle.cedar_expr_model.specs.Made.{Made}
 use Rattle.cedar_expr_names.specs.Views.{eid_text, uid_of}
 use Rattle.cedar_expr_names.specs.declared.entity.EntityUID.{EntityUID}
 use Rattle.cedar_expr_leaves.specs.declared.literal.Literal.{Literal}
 use Rattle.cedar_expr_leaves.specs.Literals.{literal_of}
 use Rattle.cedar_expr_names.proofs.Equality.{uids_order_is}
-use Rattle.cedar_expr_model.proofs.Whole.Linear.{uid_exact}
+use Rattle.cedar_expr_model.proofs.Linear.{uid_exact}
 use Rattle.cedar_expr_values.specs.Extension.{Extension}
 use Rattle.cedar_expr_values.specs.Values.{made, bare, bare_kind, made_list, made_fields, made_pair}
 use Rattle.cedar_expr_values.specs.Uids.{has_uid, is_that_uid, holds_uid, member_holds_uid, field_holds_uid}

@@ -5,8 +5,8 @@ use Rattle.std.specs.Rc.{rc_str_bytes}
 use Rattle.std.specs.Cmp.Lexicographic.{slice_cmp}
 use Rattle.std.specs.declared.cmp.Ordering.{Ordering}
 use denote.Hole.Carrier
-use Rattle.cedar_expr_model.specs.Whole.Made as model
-use Rattle.cedar_expr_model.specs.Whole.Made.{Made, made_prim, made_set, Mades}
+use Rattle.cedar_expr_model.specs.Made as model
+use Rattle.cedar_expr_model.specs.Made.{Made, made_prim, made_set, Mades}
 use Rattle.cedar_expr_values.specs.Extension.{Extension}
 use Rattle.cedar_expr_values.specs.Values.{made, made_kind, mades, bare, bare_kind, bares, made_list, kind_step, set_step, value_step}
 use Rattle.cedar_expr_leaves.specs.Literals.{literal_of}

@@ -5,9 +5,9 @@ use Rattle.std.specs.Option.{option_eq}
 use Rattle.std.proofs.lemmas.Bool.Decides.{Decides-and, Decides-like, Decides-eqb}
 use Rattle.cedar_expr_names.specs.contracts.loc.LocPartialEq.TheImpl as equality
 use Rattle.cedar_expr_names.specs.declared.loc.Loc.{Loc}
-use Rattle.cedar_expr_model.specs.Whole.Value.{V}
-use Rattle.cedar_expr_model.specs.Whole.Order.{value_eq}
-use Rattle.cedar_expr_model.proofs.Whole.ValueOrder.{values_decide}
+use Rattle.cedar_expr_model.specs.Value.{V}
+use Rattle.cedar_expr_model.specs.Order.{value_eq}
+use Rattle.cedar_expr_model.proofs.ValueOrder.{values_decide}
 
 same_bounds : (l m : Loc) → l.start ≡ m.start → l.end ≡ m.end → l ≡ m
 same_bounds l m a b = ap₂ (λ s e. record { start = s; end = e }) a b

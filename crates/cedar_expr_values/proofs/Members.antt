@@ -5,14 +5,14 @@ use Rattle.std.specs.List.{AllByRecursion, list_all}
 use Rattle.std.specs.List.Sorted.{IsStrictlySortedBy}
 use Rattle.std.specs.declared.cmp.Ordering.{Ordering}
 use Rattle.std.specs.declared.cmp.Ordering.TheVariants.{Less, Equal, Greater}
-use Rattle.cedar_expr_model.specs.Whole.Value.{Vs, prim, set_of, value, values_list}
-use Rattle.cedar_expr_model.specs.Whole.Order.{value_cmp}
-use Rattle.cedar_expr_model.specs.Whole.Canonical.{are_rising, is_canonical, inserted, members_made, is_member, is_subset, is_disjoint}
-use Rattle.cedar_expr_model.specs.Whole.Made as model
-use Rattle.cedar_expr_model.specs.Whole.Made.{Made, made_prim, Mades}
-use Rattle.cedar_expr_model.proofs.Whole.ValueOrder.{value_exact}
-use Rattle.cedar_expr_model.proofs.Whole.Rising.{is_below, rising_parts, less_is, below_next}
-use Rattle.cedar_expr_model.proofs.Whole.Sets.{made_canonical}
+use Rattle.cedar_expr_model.specs.Value.{Vs, prim, set_of, value, values_list}
+use Rattle.cedar_expr_model.specs.Order.{value_cmp}
+use Rattle.cedar_expr_model.specs.Canonical.{are_rising, is_canonical, inserted, members_made, is_member, is_subset, is_disjoint}
+use Rattle.cedar_expr_model.specs.Made as model
+use Rattle.cedar_expr_model.specs.Made.{Made, made_prim, Mades}
+use Rattle.cedar_expr_model.proofs.ValueOrder.{value_exact}
+use Rattle.cedar_expr_model.proofs.Rising.{is_below, rising_parts, less_is, below_next}
+use Rattle.cedar_expr_model.proofs.Sets.{made_canonical}
 use Rattle.cedar_expr_leaves.specs.declared.literal.Literal.{Literal}
 use Rattle.cedar_expr_leaves.specs.Literals.{literal_of}
 use Rattle.cedar_expr_values.specs.Extension.{Extension}

@@ -13,13 +13,13 @@ use Rattle.std.specs.declared.cmp.Ordering.TheVariants.{Less, Equal, Greater}
 use Rattle.std.proofs.lemmas.Slice.Eq.{bytes_eq-Decides}
 use Rattle.std.proofs.lemmas.Cmp.{tied_itself}
 use Rattle.cedar_expr_model.specs.Name.{Text}
-use Rattle.cedar_expr_model.specs.Whole.Order.{text_cmp}
-use Rattle.cedar_expr_model.specs.Whole.Records.{in_order, names_rise}
-use Rattle.cedar_expr_model.specs.Whole.ListLaws.{last_of}
+use Rattle.cedar_expr_model.specs.Order.{text_cmp}
+use Rattle.cedar_expr_model.specs.Records.{in_order, names_rise}
+use Rattle.cedar_expr_model.specs.ListLaws.{last_of}
 use Rattle.cedar_expr_model.proofs.Lists.{both_hold, hold_both}
-use Rattle.cedar_expr_model.proofs.Whole.Linear.{text_total, text_exact}
-use Rattle.cedar_expr_model.proofs.Whole.Rising.{less_is, is_less}
-use Rattle.cedar_expr_model.proofs.Whole.Ordering.{in_order_rises, in_order_finds}
+use Rattle.cedar_expr_model.proofs.Linear.{text_total, text_exact}
+use Rattle.cedar_expr_model.proofs.Rising.{less_is, is_less}
+use Rattle.cedar_expr_model.proofs.Ordering.{in_order_rises, in_order_finds}
 use Rattle.cedar_expr_values.specs.Fields.{by_text}
 
 same_name : (c a b : Text) → bytes_eq c a ≡ true → bytes_eq c b ≡ true → a ≡ b

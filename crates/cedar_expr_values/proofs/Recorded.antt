@@ -12,15 +12,15 @@ use Rattle.std.specs.declared.rc.RcStr.{RcStr}
 use Rattle.std.specs.declared.cmp.Ordering.{Ordering}
 use Rattle.std.specs.declared.cmp.Ordering.TheVariants.{Less, Equal, Greater}
 use Rattle.cedar_expr_model.specs.Name.{Text}
-use Rattle.cedar_expr_model.specs.Whole.Value.{V, record_of, field}
-use Rattle.cedar_expr_model.specs.Whole.Order.{text_cmp}
-use Rattle.cedar_expr_model.specs.Whole.Canonical.{is_canonical, have_canonical, is_before}
-use Rattle.cedar_expr_model.specs.Whole.Records.{pair_placed, in_order, fields, record_made}
-use Rattle.cedar_expr_model.specs.Whole.Made as model
-use Rattle.cedar_expr_model.specs.Whole.Made.{Made, Mades, made_record}
+use Rattle.cedar_expr_model.specs.Value.{V, record_of, field}
+use Rattle.cedar_expr_model.specs.Order.{text_cmp}
+use Rattle.cedar_expr_model.specs.Canonical.{is_canonical, have_canonical, is_before}
+use Rattle.cedar_expr_model.specs.Records.{pair_placed, in_order, fields, record_made}
+use Rattle.cedar_expr_model.specs.Made as model
+use Rattle.cedar_expr_model.specs.Made.{Made, Mades, made_record}
 use Rattle.cedar_expr_model.proofs.Lists.{both_hold, hold_both}
-use Rattle.cedar_expr_model.proofs.Whole.Rising.{is_less}
-use Rattle.cedar_expr_model.proofs.Whole.Ordering.{record_canonical}
+use Rattle.cedar_expr_model.proofs.Rising.{is_less}
+use Rattle.cedar_expr_model.proofs.Ordering.{record_canonical}
 use Rattle.cedar_expr_values.specs.Extension.{Extension}
 use Rattle.cedar_expr_values.specs.Fields.{by_text}
 use Rattle.cedar_expr_values.specs.Values.{made, made_kind, bare, made_fields, made_pair, bare_pair, values_of, all_canonical, record_as_made, kind_step, set_step, value_step}

@@ -4,9 +4,9 @@ use Rattle.std.specs.Prelude.{List}
 use Rattle.std.specs.Ordering.{ordering_then}
 use Rattle.std.specs.declared.cmp.Ordering.{Ordering}
 use Rattle.cedar_expr_model.specs.Name.{Text, Name}
-use Rattle.cedar_expr_model.specs.Whole.Value.{Literal}
-use Rattle.cedar_expr_model.specs.Whole.Order.{text_cmp, name_order}
-use Rattle.cedar_expr_model.specs.Whole.Made.{Made, made_extension}
+use Rattle.cedar_expr_model.specs.Value.{Literal}
+use Rattle.cedar_expr_model.specs.Order.{text_cmp, name_order}
+use Rattle.cedar_expr_model.specs.Made.{Made, made_extension}
 
 -- An extension value: its type, its key, and the function and literals of a call that makes it.
 pub record Extension : Type 0 where

@@ -2,9 +2,9 @@
 -- Rule: values and equality (docs/RULES.md).
 use Rattle.std.specs.Prelude.{◌≡◌, ℕ, Bool, true, List}
 use Rattle.std.specs.declared.cmp.Ordering.{Ordering}
-use Rattle.cedar_expr_model.specs.Whole.Value.{V}
-use Rattle.cedar_expr_model.specs.Whole.Order.{value_cmp, value_eq}
-use Rattle.cedar_expr_model.specs.Whole.Canonical.{are_rising, is_member}
+use Rattle.cedar_expr_model.specs.Value.{V}
+use Rattle.cedar_expr_model.specs.Order.{value_cmp, value_eq}
+use Rattle.cedar_expr_model.specs.Canonical.{are_rising, is_member}
 use Rattle.cedar_expr_values.specs.Extension.{Extension}
 use Rattle.cedar_expr_values.specs.Values.{bare, bares}
 use Rattle.cedar_expr_values.specs.declared.value.Value.{Value}

@@ -2,7 +2,7 @@
 
 ghost use Rattle.std.specs.Prelude.{◌≡◌, IfOk, map};
 ghost use Rattle.std.specs.Ordering.{is_eq};
-ghost use Rattle.cedar_expr_model.specs.Whole.Tree.{extension_core};
+ghost use Rattle.cedar_expr_model.specs.Tree.{extension_core};
 ghost use Rattle.cedar_expr_names.specs.Views.{plain_name_of};
 ghost use Rattle.cedar_expr_leaves.specs.Literals.{literal_of};
 ghost use Rattle.cedar_expr_values.specs.Extension.{Extension, extension_cmp};

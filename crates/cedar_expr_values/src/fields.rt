@@ -2,7 +2,7 @@
 
 ghost use Rattle.std.specs.Prelude.{◌≡◌, map, IfOk};
 ghost use Rattle.std.specs.BTreeMap.{IsOrdered};
-ghost use Rattle.cedar_expr_model.specs.Whole.Records.{in_order};
+ghost use Rattle.cedar_expr_model.specs.Records.{in_order};
 ghost use Rattle.cedar_expr_values.specs.Fields.{by_text};
 
 use std::alloc::{AllocError, Global};

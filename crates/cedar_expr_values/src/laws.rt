@@ -2,7 +2,7 @@
 
 ghost use Rattle.std.specs.Prelude.{◌≡◌};
 ghost use Rattle.std.specs.Ordering.{is_eq};
-ghost use Rattle.cedar_expr_model.specs.Whole.Order.{core_cmp, core_eq};
+ghost use Rattle.cedar_expr_model.specs.Order.{core_cmp, core_eq};
 ghost use Rattle.cedar_expr_values.specs.Extension.{extension_cmp};
 ghost use Rattle.cedar_expr_values.specs.Extensions.{extension_of};
 ghost use Rattle.cedar_expr_values.specs.Types.{core_of};

@@ -1,11 +1,11 @@
 //! Core types: the types that values show by themselves.
 
 ghost use Rattle.std.specs.Prelude.{◌≡◌, IfOk, Some};
-ghost use Rattle.cedar_expr_model.specs.Whole.Value.{prim};
-ghost use Rattle.cedar_expr_model.specs.Whole.Tree.{CoreType, entity_core};
-ghost use Rattle.cedar_expr_model.specs.Whole.Substitution.{core_type_of};
-ghost use Rattle.cedar_expr_model.specs.Whole.Order.{core_cmp, core_eq};
-ghost use Rattle.cedar_expr_model.specs.Whole.Texts.{core_text};
+ghost use Rattle.cedar_expr_model.specs.Value.{prim};
+ghost use Rattle.cedar_expr_model.specs.Tree.{CoreType, entity_core};
+ghost use Rattle.cedar_expr_model.specs.Substitution.{core_type_of};
+ghost use Rattle.cedar_expr_model.specs.Order.{core_cmp, core_eq};
+ghost use Rattle.cedar_expr_model.specs.Texts.{core_text};
 ghost use Rattle.cedar_expr_names.specs.Views.{plain_name_of};
 ghost use Rattle.cedar_expr_leaves.specs.Literals.{literal_of};
 ghost use Rattle.cedar_expr_values.specs.Types.{core_of};

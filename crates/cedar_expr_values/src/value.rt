@@ -3,7 +3,7 @@
 mod uids;
 
 ghost use Rattle.std.specs.Prelude.{◌≡◌, map, IfOk};
-ghost use Rattle.cedar_expr_model.specs.Whole.Made.{made_prim};
+ghost use Rattle.cedar_expr_model.specs.Made.{made_prim};
 ghost use Rattle.cedar_expr_leaves.specs.Literals.{literal_of};
 ghost use Rattle.cedar_expr_values.specs.Values.{made};
 
@@ -61,9 +61,9 @@ pub struct Set<X> {
 impl<X: ExtensionValue> Set<X> {
     ghost use Rattle.std.specs.Prelude.{◌≡◌, true, [], length, map, nat_eq, IfOk};
     ghost use Rattle.std.specs.Slice.Iter.{iter_rest};
-    ghost use Rattle.cedar_expr_model.specs.Whole.Value.{prim, set_of, values_list};
-    ghost use Rattle.cedar_expr_model.specs.Whole.Canonical.{is_canonical, are_rising, members_made, is_member, is_subset, is_disjoint};
-    ghost use Rattle.cedar_expr_model.specs.Whole.Made.{no_mades};
+    ghost use Rattle.cedar_expr_model.specs.Value.{prim, set_of, values_list};
+    ghost use Rattle.cedar_expr_model.specs.Canonical.{is_canonical, are_rising, members_made, is_member, is_subset, is_disjoint};
+    ghost use Rattle.cedar_expr_model.specs.Made.{no_mades};
     ghost use Rattle.cedar_expr_leaves.specs.Literals.{literal_of};
     ghost use Rattle.cedar_expr_values.specs.Values.{made, made_list, mades, bare, bares, all_canonical, members_as_made, members_of};
 
@@ -172,10 +172,10 @@ impl<X: Drop> Clone for Set<X> {
 impl<X: ExtensionValue> ValueKind<X> {
     ghost use Rattle.std.specs.Prelude.{◌≡◌, true, map, IfOk};
     ghost use Rattle.std.specs.BTreeMap.{IsOrdered};
-    ghost use Rattle.cedar_expr_model.specs.Whole.Value.{prim};
-    ghost use Rattle.cedar_expr_model.specs.Whole.Canonical.{is_canonical, set_made};
-    ghost use Rattle.cedar_expr_model.specs.Whole.Records.{record_made};
-    ghost use Rattle.cedar_expr_model.specs.Whole.Made.{made_prim, made_set, made_record, no_mades, no_made_fields};
+    ghost use Rattle.cedar_expr_model.specs.Value.{prim};
+    ghost use Rattle.cedar_expr_model.specs.Canonical.{is_canonical, set_made};
+    ghost use Rattle.cedar_expr_model.specs.Records.{record_made};
+    ghost use Rattle.cedar_expr_model.specs.Made.{made_prim, made_set, made_record, no_mades, no_made_fields};
     ghost use Rattle.cedar_expr_leaves.specs.Literals.{literal_of};
     ghost use Rattle.cedar_expr_values.specs.Values.{made, made_kind, made_fields, made_pair, bare, bare_kind, bare_pair, all_canonical, values_of, members_as_made, record_as_made};
 
@@ -238,11 +238,11 @@ impl<X: ExtensionValue> ValueKind<X> {
 impl<X: ExtensionValue> Value<X> {
     ghost use Rattle.std.specs.Prelude.{◌≡◌, ◌↔◌, true, map, IfOk, IsTrue};
     ghost use Rattle.std.specs.BTreeMap.{IsOrdered};
-    ghost use Rattle.cedar_expr_model.specs.Whole.Value.{prim};
-    ghost use Rattle.cedar_expr_model.specs.Whole.Order.{value_cmp, value_eq};
-    ghost use Rattle.cedar_expr_model.specs.Whole.Canonical.{is_canonical, set_made};
-    ghost use Rattle.cedar_expr_model.specs.Whole.Records.{record_made};
-    ghost use Rattle.cedar_expr_model.specs.Whole.Made.{made_prim, made_set, made_record, no_mades, no_made_fields};
+    ghost use Rattle.cedar_expr_model.specs.Value.{prim};
+    ghost use Rattle.cedar_expr_model.specs.Order.{value_cmp, value_eq};
+    ghost use Rattle.cedar_expr_model.specs.Canonical.{is_canonical, set_made};
+    ghost use Rattle.cedar_expr_model.specs.Records.{record_made};
+    ghost use Rattle.cedar_expr_model.specs.Made.{made_prim, made_set, made_record, no_mades, no_made_fields};
     ghost use Rattle.cedar_expr_leaves.specs.Literals.{literal_of};
     ghost use Rattle.cedar_expr_values.specs.Values.{made, made_kind, made_fields, made_pair, bare, bare_pair, all_canonical, values_of, members_as_made, record_as_made, place_of, kind_of};
 
@@ -374,7 +374,7 @@ impl<X: ExtensionValue> Value<X> {
 
 impl<X: ExtensionValue> From<Literal> for ValueKind<X> {
     ghost use Rattle.std.specs.Prelude.{◌≡◌};
-    ghost use Rattle.cedar_expr_model.specs.Whole.Made.{made_prim};
+    ghost use Rattle.cedar_expr_model.specs.Made.{made_prim};
     ghost use Rattle.cedar_expr_leaves.specs.Literals.{literal_of};
     ghost use Rattle.cedar_expr_values.specs.Values.{made_kind};
 
@@ -387,7 +387,7 @@ impl<X: ExtensionValue> From<Literal> for ValueKind<X> {
 
 impl<X: ExtensionValue> From<Literal> for Value<X> {
     ghost use Rattle.std.specs.Prelude.{◌≡◌, None};
-    ghost use Rattle.cedar_expr_model.specs.Whole.Made.{made_prim};
+    ghost use Rattle.cedar_expr_model.specs.Made.{made_prim};
     ghost use Rattle.cedar_expr_leaves.specs.Literals.{literal_of};
     ghost use Rattle.cedar_expr_values.specs.Values.{made, place_of};
 
@@ -433,7 +433,7 @@ impl<X: Drop> Clone for Value<X> {
 }
 
 impl<X: ExtensionValue> StaticallyTyped for ValueKind<X> {
-    ghost use Rattle.cedar_expr_model.specs.Whole.Substitution.{core_type_of};
+    ghost use Rattle.cedar_expr_model.specs.Substitution.{core_type_of};
     ghost use Rattle.cedar_expr_values.specs.Values.{bare_kind};
 
     ghost core_type = { λ k. core_type_of (bare_kind X.seen k) };
@@ -451,7 +451,7 @@ impl<X: ExtensionValue> StaticallyTyped for ValueKind<X> {
 }
 
 impl<X: ExtensionValue> StaticallyTyped for Value<X> {
-    ghost use Rattle.cedar_expr_model.specs.Whole.Substitution.{core_type_of};
+    ghost use Rattle.cedar_expr_model.specs.Substitution.{core_type_of};
     ghost use Rattle.cedar_expr_values.specs.Values.{bare};
 
     ghost core_type = { λ v. core_type_of (bare X.seen v) };

@@ -3,15 +3,15 @@ use Rattle.std.proofs.Common.{◌≡◌, ℕ, true, false, Some, ◌&&◌, refl,
 use Rattle.std.specs.Prelude.{List, not, nat_le, is_none}
 use Rattle.std.specs.List.{list_all}
 use Rattle.std.specs.Str.{bytes_eq}
-use Rattle.cedar_expr_model.specs.Whole.Repeats.{repeated}
-use Rattle.cedar_expr_model.specs.Whole.Tree.{nesting}
-use Rattle.cedar_expr_model.specs.Whole.Unknowns.{has_unknown}
+use Rattle.cedar_expr_model.specs.Repeats.{repeated}
+use Rattle.cedar_expr_model.specs.Tree.{nesting}
+use Rattle.cedar_expr_model.specs.Unknowns.{has_unknown}
 use Rattle.cedar_gate_acceptance.specs.Handed.{HasPolicies}
 use Rattle.cedar_gate_acceptance.specs.Untyped.{is_clear_of_all, plain_causes}
 use Rattle.cedar_gate_acceptance.proofs.Refused.{plain_fault, of_named}
-use Rattle.cedar_gate_model.specs.Whole.Acceptance.{Submission, Cause, repeated_policy, unlinked_slot, slot_outside_scope, unknown_in_policy, nests_too_deep, is_linked, keeps_slots_in_scope, HasFault}
-use Rattle.cedar_store_model.specs.Whole.Answer.{ids}
-use Rattle.cedar_store_model.specs.Whole.Policy.{Policy, condition}
+use Rattle.cedar_gate_model.specs.Acceptance.{Submission, Cause, repeated_policy, unlinked_slot, slot_outside_scope, unknown_in_policy, nests_too_deep, is_linked, keeps_slots_in_scope, HasFault}
+use Rattle.cedar_store_model.specs.Answer.{ids}
+use Rattle.cedar_store_model.specs.Policy.{Policy, condition}
 
 module _ (ps : List Policy) (limit : ℕ) (s : Submission) (w : HasPolicies ps limit s) where
   abbrev Refuses : Cause → Type 0

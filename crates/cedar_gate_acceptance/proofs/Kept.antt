@@ -2,9 +2,9 @@
 use Rattle.std.proofs.Common.{◌≡◌, Bool, List, [], ◌∷◌, ◌&&◌, refl, ap, ◌∙◌}
 use Rattle.std.specs.List.{list_all}
 use Rattle.cedar_gate_acceptance.specs.Handed.{IsSeenBy}
-use Rattle.cedar_gate_model.specs.Whole.Acceptance.{Submission, schema_in}
-use Rattle.cedar_schema_model.specs.Whole.Schema.{Schema}
-use Rattle.cedar_store_model.specs.Whole.Policy.{Policy}
+use Rattle.cedar_gate_model.specs.Acceptance.{Submission, schema_in}
+use Rattle.cedar_schema_model.specs.Schema.{Schema}
+use Rattle.cedar_store_model.specs.Policy.{Policy}
 use Rattle.cedar_typechecker_seen_model.specs.Alike.{AnswersAlike}
 
 -- what is alike of each is alike of all

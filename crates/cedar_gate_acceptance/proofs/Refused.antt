@@ -2,11 +2,11 @@
 use Rattle.std.proofs.Common.{◌≡◌, Bool, true, false, Some, ◌&&◌, refl, ap, sym, ◌∙◌, subst}
 use Rattle.std.specs.Prelude.{List, [], ◌∷◌, Contains, not}
 use Rattle.cedar_expr_model.specs.Name.{Name}
-use Rattle.cedar_schema_model.specs.Whole.BagLaws.{HasSchemaFault, SchemaFaultsDecide, WellFormedDecides}
-use Rattle.cedar_schema_model.specs.Whole.Declarations.{Declarations}
-use Rattle.cedar_schema_model.specs.Whole.WellFormed.{SchemaFault, ill_forms, has_schema_fault, IsWellFormed, well_formed, unresolved_external}
-use Rattle.cedar_gate_model.specs.Whole.Acceptance.{Submission, Cause, schema, external, repeated_policy, unlinked_slot, slot_outside_scope, unknown_in_policy, nests_too_deep, unknown_entity_type, unknown_action, no_member, ill_typed, reaches_too_far, extension_types, IsCause, is_clear_of, asks_schema, has_schema, HasFault}
-use Rattle.cedar_gate_model.specs.Whole.GateLaws.{admits}
+use Rattle.cedar_schema_model.specs.BagLaws.{HasSchemaFault, SchemaFaultsDecide, WellFormedDecides}
+use Rattle.cedar_schema_model.specs.Declarations.{Declarations}
+use Rattle.cedar_schema_model.specs.WellFormed.{SchemaFault, ill_forms, has_schema_fault, IsWellFormed, well_formed, unresolved_external}
+use Rattle.cedar_gate_model.specs.Acceptance.{Submission, Cause, schema, external, repeated_policy, unlinked_slot, slot_outside_scope, unknown_in_policy, nests_too_deep, unknown_entity_type, unknown_action, no_member, ill_typed, reaches_too_far, extension_types, IsCause, is_clear_of, asks_schema, has_schema, HasFault}
+use Rattle.cedar_gate_model.specs.GateLaws.{admits}
 use Rattle.cedar_gate_acceptance.specs.Untyped.{is_clear_of_all, plain_causes, scope_causes, admits_untyped}
 
 -- a cause that asks no schema

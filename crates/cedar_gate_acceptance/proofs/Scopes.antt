@@ -6,10 +6,10 @@ use Rattle.cedar_gate_acceptance.specs.Handed.{IsSeenBy}
 use Rattle.cedar_gate_acceptance.specs.Untyped.{is_clear_of_all, scope_causes}
 use Rattle.cedar_gate_acceptance.proofs.Kept.{seen_alike}
 use Rattle.cedar_gate_acceptance.proofs.Refused.{schema_fault, of_named}
-use Rattle.cedar_gate_model.specs.Whole.Acceptance.{Submission, Cause, unknown_entity_type, unknown_action, no_member, has_schema, HasFault}
-use Rattle.cedar_schema_model.specs.Whole.Schema.{Schema}
-use Rattle.cedar_store_model.specs.Whole.Policy.{Policy}
-use Rattle.cedar_typechecker_model.specs.Whole.ScopeRules.{names_known_types, names_known_actions, names_known_members}
+use Rattle.cedar_gate_model.specs.Acceptance.{Submission, Cause, unknown_entity_type, unknown_action, no_member, has_schema, HasFault}
+use Rattle.cedar_schema_model.specs.Schema.{Schema}
+use Rattle.cedar_store_model.specs.Policy.{Policy}
+use Rattle.cedar_typechecker_model.specs.ScopeRules.{names_known_types, names_known_actions, names_known_members}
 use Rattle.cedar_typechecker_seen_model.specs.Laws.{KnownTypesAreAlike, KnownActionsAreAlike, KnownMembersAreAlike}
 
 module _ (t : Schema) (ps : List Policy) (s : Submission) (w : IsSeenBy t ps s) where

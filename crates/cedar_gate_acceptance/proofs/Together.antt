@@ -3,20 +3,20 @@ use Rattle.std.proofs.Common.{◌≡◌, ℕ, true, false, ◌&&◌, ap, sym, �
 use Rattle.std.specs.Prelude.{List, flat_map, option_to_list, filter_map}
 use Rattle.cedar_expr_functions.specs.Signatures.{given_type}
 use Rattle.cedar_expr_model.specs.Name.{Name}
-use Rattle.cedar_expr_model.specs.Whole.Table.{Signature}
+use Rattle.cedar_expr_model.specs.Table.{Signature}
 use Rattle.cedar_gate_acceptance.specs.Handed.{HasPolicies, IsSeenBy, IsHandedIn}
 use Rattle.cedar_gate_acceptance.specs.Untyped.{is_clear_of_all, plain_causes, scope_causes, admits_untyped}
 use Rattle.cedar_gate_acceptance.proofs.Refused.{has_declared}
 use Rattle.cedar_gate_declarations.proofs.Given.{all_given}
 use Rattle.cedar_gate_declarations.specs.Refused.{IsSubmittedWith}
-use Rattle.cedar_gate_model.specs.Whole.Acceptance.{Submission, extension_of, extension_types, has_schema}
+use Rattle.cedar_gate_model.specs.Acceptance.{Submission, extension_of, extension_types, has_schema}
 use Rattle.cedar_schema_kept_model.specs.Kept.{Kept}
 use Rattle.cedar_schema_kept_model.specs.KeptOf.{IsKeptOf}
-use Rattle.cedar_schema_model.specs.Whole.BagLaws.{WellFormedDecides}
-use Rattle.cedar_schema_model.specs.Whole.Declarations.{Declarations}
-use Rattle.cedar_schema_model.specs.Whole.Resolved.{schema_of}
-use Rattle.cedar_schema_model.specs.Whole.WellFormed.{IsWellFormed, has_schema_fault, unresolved_external}
-use Rattle.cedar_store_model.specs.Whole.Policy.{Policy}
+use Rattle.cedar_schema_model.specs.BagLaws.{WellFormedDecides}
+use Rattle.cedar_schema_model.specs.Declarations.{Declarations}
+use Rattle.cedar_schema_model.specs.Resolved.{schema_of}
+use Rattle.cedar_schema_model.specs.WellFormed.{IsWellFormed, has_schema_fault, unresolved_external}
+use Rattle.cedar_store_model.specs.Policy.{Policy}
 use Rattle.cedar_typechecker_seen_model.specs.Alike.{AnswersAlike}
 use Rattle.cedar_typechecker_seen_model.specs.Seen.{schema_seen}
 use Rattle.cedar_typechecker_seen_model.specs.SeenLaws.{DeclaredAnswerAlike}

@@ -2,11 +2,11 @@
 -- Rule: the acceptance rules (docs/RULES.md).
 use Rattle.std.specs.Prelude.{◌≡◌, ℕ, List}
 use Rattle.cedar_expr_model.specs.Name.{Name}
-use Rattle.cedar_expr_model.specs.Whole.Table.{Signature}
-use Rattle.cedar_gate_model.specs.Whole.Acceptance.{Submission, schema_in}
-use Rattle.cedar_schema_model.specs.Whole.Declarations.{Declarations}
-use Rattle.cedar_schema_model.specs.Whole.Schema.{Schema}
-use Rattle.cedar_store_model.specs.Whole.Policy.{Policy}
+use Rattle.cedar_expr_model.specs.Table.{Signature}
+use Rattle.cedar_gate_model.specs.Acceptance.{Submission, schema_in}
+use Rattle.cedar_schema_model.specs.Declarations.{Declarations}
+use Rattle.cedar_schema_model.specs.Schema.{Schema}
+use Rattle.cedar_store_model.specs.Policy.{Policy}
 use Rattle.cedar_typechecker_seen_model.specs.Alike.{AnswersAlike}
 
 -- The submission has these policies and this limit.

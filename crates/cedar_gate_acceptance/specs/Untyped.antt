@@ -2,8 +2,8 @@
 -- Rule: the acceptance rules (docs/RULES.md).
 use Rattle.std.specs.Prelude.{◌&&◌, Bool, List, [], ◌∷◌}
 use Rattle.std.specs.List.{list_all}
-use Rattle.cedar_schema_model.specs.Whole.WellFormed.{well_formed}
-use Rattle.cedar_gate_model.specs.Whole.Acceptance.{Submission, Cause, external, repeated_policy, unlinked_slot, slot_outside_scope, unknown_in_policy, nests_too_deep, unknown_entity_type, unknown_action, no_member, ill_typed, reaches_too_far, extension_types, is_clear_of}
+use Rattle.cedar_schema_model.specs.WellFormed.{well_formed}
+use Rattle.cedar_gate_model.specs.Acceptance.{Submission, Cause, external, repeated_policy, unlinked_slot, slot_outside_scope, unknown_in_policy, nests_too_deep, unknown_entity_type, unknown_action, no_member, ill_typed, reaches_too_far, extension_types, is_clear_of}
 
 -- those of policies that ask no schema, those of the scope rules, and those of typing
 abbrev pub plain_causes : List Cause

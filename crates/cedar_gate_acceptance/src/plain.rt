@@ -4,7 +4,7 @@ ghost use Rattle.std.specs.Prelude.{◌≡◌, true, IfErr, OnOk};
 ghost use Rattle.cedar_gate_acceptance.specs.Handed.{HasPolicies};
 ghost use Rattle.cedar_gate_acceptance.specs.Untyped.{is_clear_of_all, plain_causes};
 ghost use Rattle.cedar_gate_faults.specs.Causes.{IsRefusedFor};
-ghost use Rattle.cedar_gate_model.specs.Whole.Acceptance.{Submission};
+ghost use Rattle.cedar_gate_model.specs.Acceptance.{Submission};
 ghost use Rattle.cedar_gate_rules.specs.Limit.{levels_of};
 ghost use Rattle.cedar_gate_rules.specs.Policies.{policies_of};
 

@@ -5,8 +5,8 @@ use Rattle.std.specs.List.{list_all, filter, flat_map}
 use Rattle.std.proofs.lemmas.Grind.{flat_map-append}
 use Rattle.std.proofs.lemmas.List.{map-append}
 use Rattle.std.proofs.lemmas.List.Folds.{list_all-append}
-use Rattle.cedar_expr_model.specs.Whole.Lists.{is_nil}
-use Rattle.cedar_expr_model.specs.Whole.Table.{Table}
+use Rattle.cedar_expr_model.specs.Lists.{is_nil}
+use Rattle.cedar_expr_model.specs.Table.{Table}
 use Rattle.cedar_gate_acceptance.proofs.Kept.{all_alike}
 use Rattle.cedar_gate_acceptance.proofs.Refused.{schema_fault, of_named}
 use Rattle.cedar_gate_accepted.specs.Checked.{ChecksAll, IsTypedBy, IsJudgedBy, IsClearOfTyping, relevant_ids}
@@ -15,14 +15,14 @@ use Rattle.cedar_gate_accepted.proofs.Listed.{filter_both, filter_alike, nil_all
 use Rattle.cedar_gate_faults.specs.Causes.{IsRefusedFor}
 use Rattle.cedar_gate_faults.specs.declared.fault.GateFault.TheVariants.{IllTyped, Level}
 use Rattle.cedar_gate_faults.specs.declared.fault.PolicyViolation.{PolicyViolation}
-use Rattle.cedar_gate_model.specs.Whole.Acceptance.{Submission, ill_typed, reaches_too_far, schema_in, is_clear_of, has_schema, warnings_of}
+use Rattle.cedar_gate_model.specs.Acceptance.{Submission, ill_typed, reaches_too_far, schema_in, is_clear_of, has_schema, warnings_of}
 use Rattle.cedar_gate_typing.specs.Views.{reach_of}
-use Rattle.cedar_schema_model.specs.Whole.Schema.{Schema}
-use Rattle.cedar_schema_model.specs.Whole.Types.{strict}
-use Rattle.cedar_store_model.specs.Whole.Answer.{ids}
-use Rattle.cedar_store_model.specs.Whole.Policy.{Policy}
+use Rattle.cedar_schema_model.specs.Schema.{Schema}
+use Rattle.cedar_schema_model.specs.Types.{strict}
+use Rattle.cedar_store_model.specs.Answer.{ids}
+use Rattle.cedar_store_model.specs.Policy.{Policy}
 use Rattle.cedar_store_parts.specs.Parts.{id_text}
-use Rattle.cedar_typechecker_model.specs.Whole.Verdicts.{RequestType, passes, impossible, irrelevant_for, policy_violations}
+use Rattle.cedar_typechecker_model.specs.Verdicts.{RequestType, passes, impossible, irrelevant_for, policy_violations}
 use Rattle.cedar_typechecker_seen_model.specs.Laws.{PassingIsAlike, ImpossibleIsAlike, LevelsAreAlike}
 use Rattle.std.specs.declared.alloc.Global.{Global}
 use Rattle.std.specs.declared.vec.Vec.{Vec}

@@ -6,12 +6,12 @@ use Rattle.cedar_expr_functions.specs.declared.extensions.Extensions.{Extensions
 use Rattle.cedar_gate_acceptance.specs.Handed.{IsHandedIn}
 use Rattle.cedar_gate_accepted.specs.declared.gate.Gate.{Gate}
 use Rattle.cedar_gate_fragments.specs.Written.{declared_by}
-use Rattle.cedar_gate_model.specs.Whole.Acceptance.{Submission}
+use Rattle.cedar_gate_model.specs.Acceptance.{Submission}
 use Rattle.cedar_gate_rules.specs.Limit.{levels_of}
 use Rattle.cedar_gate_rules.specs.Policies.{policies_of}
 use Rattle.cedar_gate_rules.specs.declared.nest_limit.NestLimit.{NestLimit}
 use Rattle.cedar_schema_built.specs.declared.schema.ValidatorSchema.{ValidatorSchema}
-use Rattle.cedar_schema_model.specs.Whole.Declarations.{Declarations}
+use Rattle.cedar_schema_model.specs.Declarations.{Declarations}
 use Rattle.cedar_store_parts.specs.declared.policy_id.PolicyID.{PolicyID}
 use Rattle.cedar_store_policies.specs.declared.policy.Policy.{Policy}
 

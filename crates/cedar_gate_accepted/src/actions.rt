@@ -1,7 +1,7 @@
 //! Which uids are those of declared actions.
 
 ghost use Rattle.cedar_gate_accepted.specs.Views.{declared_in};
-ghost use Rattle.cedar_schema_model.specs.Whole.Resolved.{schema_of};
+ghost use Rattle.cedar_schema_model.specs.Resolved.{schema_of};
 
 use crate::gate::Gate;
 use cedar_expr_names::EntityUID;

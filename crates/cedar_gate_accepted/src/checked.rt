@@ -4,7 +4,7 @@ ghost use Rattle.std.specs.Prelude.{◌≡◌, ◌&&◌, ◌++◌, ◌∷◌, []
 ghost use Rattle.cedar_gate_accepted.specs.Checked.{ChecksAll};
 ghost use Rattle.cedar_gate_rules.specs.Policies.{policies_of};
 ghost use Rattle.cedar_gate_typing.specs.Views.{reach_of};
-ghost use Rattle.cedar_store_model.specs.Whole.Policy.{Policy as ModelPolicy};
+ghost use Rattle.cedar_store_model.specs.Policy.{Policy as ModelPolicy};
 ghost use Rattle.cedar_store_parts.specs.Parts.{id_text};
 ghost use Rattle.cedar_store_policies.specs.Policies.{policy_of};
 

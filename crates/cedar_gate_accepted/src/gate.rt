@@ -3,7 +3,7 @@
 ghost use Rattle.cedar_gate_accepted.specs.Alike.{IsKeptByTests};
 ghost use Rattle.cedar_gate_fragments.specs.Written.{declared_by};
 ghost use Rattle.cedar_schema_built.specs.Views.{schema_kept};
-ghost use Rattle.cedar_schema_model.specs.Whole.Resolved.{schema_of};
+ghost use Rattle.cedar_schema_model.specs.Resolved.{schema_of};
 ghost use Rattle.cedar_typechecker_seen_model.specs.Seen.{ClosedByTests};
 
 use crate::judged::judge;
@@ -12,7 +12,7 @@ use cedar_expr_functions::Extensions;
 use cedar_expr_raw_names::RawName;
 use cedar_gate_acceptance::admitted_schema;
 use cedar_gate_faults::GateFault;
-use cedar_gate_model::whole_gate_laws::acceptance_is_decided;
+use cedar_gate_model::laws::acceptance_is_decided;
 use cedar_gate_rules::NestLimit;
 use cedar_schema_built::ValidatorSchema;
 use cedar_schema_decl::json_schema::Fragment;
@@ -44,7 +44,7 @@ impl<'f, 't, 'e> Gate<'f, 't, 'e> {
     ghost use Rattle.cedar_gate_acceptance.specs.Handed.{IsHandedIn};
     ghost use Rattle.cedar_gate_accepted.specs.Views.{IsOf, declared_in, schema_built, policies_held, table_held, level_held, limit_held, warned_of};
     ghost use Rattle.cedar_gate_faults.specs.Causes.{IsRefusedFor};
-    ghost use Rattle.cedar_gate_model.specs.Whole.Acceptance.{Submission, IsAccepted, warnings_of, policies_for};
+    ghost use Rattle.cedar_gate_model.specs.Acceptance.{Submission, IsAccepted, warnings_of, policies_for};
     ghost use Rattle.cedar_gate_rules.specs.Limit.{levels_of};
     ghost use Rattle.cedar_gate_rules.specs.Policies.{policies_of};
     ghost use Rattle.cedar_gate_typing.specs.Checks.{kind_asked};

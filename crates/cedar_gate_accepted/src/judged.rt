@@ -4,7 +4,7 @@ ghost use Rattle.std.specs.Prelude.{◌≡◌, true, map, IfOk, IfErr, OnOk};
 ghost use Rattle.cedar_expr_functions.specs.Tables.{table_of};
 ghost use Rattle.cedar_gate_accepted.specs.Checked.{IsTypedBy, IsJudgedBy, IsClearOfTyping};
 ghost use Rattle.cedar_gate_faults.specs.Causes.{IsRefusedFor};
-ghost use Rattle.cedar_gate_model.specs.Whole.Acceptance.{Submission, has_schema, warnings_of};
+ghost use Rattle.cedar_gate_model.specs.Acceptance.{Submission, has_schema, warnings_of};
 ghost use Rattle.cedar_gate_rules.specs.Policies.{policies_of};
 ghost use Rattle.cedar_schema_built.specs.Views.{schema_kept};
 ghost use Rattle.cedar_store_parts.specs.Parts.{id_text};

@@ -7,9 +7,9 @@ use Rattle.std.specs.List.{list_any}
 use Rattle.std.specs.Str.{bytes_eq}
 use Rattle.std.proofs.lemmas.Slice.Eq.{bytes_eq-Decides}
 use Rattle.cedar_expr_model.specs.Name.{Text}
-use Rattle.cedar_expr_model.specs.Whole.Parts.{Unknown}
+use Rattle.cedar_expr_model.specs.Parts.{Unknown}
 use Rattle.cedar_expr_model.proofs.Lists.{contains_head, contains_tail, contains_cases, contains_none, found-Decides, hold_left, hold_right}
-use Rattle.cedar_gate_model.specs.Whole.Session.{variable_names}
+use Rattle.cedar_gate_model.specs.Session.{variable_names}
 use Rattle.cedar_gate_bindings.specs.Faults.{HaveFitNames}
 use Rattle.cedar_gate_bindings.specs.Names.{has_quote, is_variable_name}
 

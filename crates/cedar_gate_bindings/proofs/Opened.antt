@@ -3,13 +3,13 @@ use Rattle.std.proofs.Common.{◌≡◌, ◌⊎◌, ◌||◌, true, false, Bool,
 use Rattle.std.specs.Str.{bytes_eq}
 use Rattle.std.proofs.lemmas.Slice.Eq.{bytes_eq-Decides}
 use Rattle.cedar_expr_model.specs.Name.{Text}
-use Rattle.cedar_expr_model.specs.Whole.Made.{Made}
-use Rattle.cedar_expr_model.specs.Whole.Parts.{Unknown, unknowns}
-use Rattle.cedar_expr_model.specs.Whole.Tree.{record_literal}
+use Rattle.cedar_expr_model.specs.Made.{Made}
+use Rattle.cedar_expr_model.specs.Parts.{Unknown, unknowns}
+use Rattle.cedar_expr_model.specs.Tree.{record_literal}
 use Rattle.cedar_expr_model.proofs.Lists.{both_hold, hold_both, hold_left, hold_right}
 use Rattle.cedar_evaluator_model.specs.Response.{PartialRequest}
 use Rattle.cedar_evaluator_model.specs.Scope.{Context, closed, residual_fields, unknown_context}
-use Rattle.cedar_gate_model.specs.Whole.Session.{entry_named, is_open_entry, is_open_context}
+use Rattle.cedar_gate_model.specs.Session.{entry_named, is_open_entry, is_open_context}
 use Rattle.cedar_gate_bindings.specs.Names.{HasOpenBy, is_open_variable, has_open_in, has_open_by}
 use Rattle.cedar_gate_bindings.proofs.Absent.{any_there, any_seen}
 

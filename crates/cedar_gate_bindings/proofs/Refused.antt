@@ -1,10 +1,10 @@
 -- Faults of opening and of values, by their parts.
 use Rattle.std.proofs.Common.{◌≡◌, Option, Result, Ok, Err, OnOk, inl, inr, ⊎_elim, subst}
 use Rattle.cedar_expr_model.specs.Name.{Text}
-use Rattle.cedar_expr_model.specs.Whole.Made.{Made}
+use Rattle.cedar_expr_model.specs.Made.{Made}
 use Rattle.cedar_evaluator_model.specs.Response.{PartialRequest}
 use Rattle.cedar_evaluator_model.specs.Scope.{Entry, Context}
-use Rattle.cedar_gate_model.specs.Whole.Session.{context_unknowns, entry_named, quote_in_name, name_of_variable, IsOtherKind}
+use Rattle.cedar_gate_model.specs.Session.{context_unknowns, entry_named, quote_in_name, name_of_variable, IsOtherKind}
 use Rattle.cedar_gate_bindings.specs.Faults.{opens, IsOpenFault, HaveFitNames, IsNameFault, IsValueFault, IsEntryFault, IsUnknownFault, IsContextFault}
 use Rattle.cedar_gate_bindings.specs.Values.{IsAgainstOne, IsNoEntity, IsNoContext, takes}
 use Rattle.cedar_gate_bindings.specs.declared.faults.OpenFault.{OpenFault}

@@ -5,14 +5,14 @@ use Rattle.std.specs.Str.{bytes_eq}
 use Rattle.std.proofs.lemmas.Slice.Eq.{bytes_eq-Decides}
 use Rattle.cedar_expr_model.specs.Name.{Text, name_eq}
 use Rattle.cedar_expr_model.specs.Uid.{Uid}
-use Rattle.cedar_expr_model.specs.Whole.Made.{Made, bare, made_prim, made_set, made_record, made_extension}
-use Rattle.cedar_expr_model.specs.Whole.Parts.{Unknown}
-use Rattle.cedar_expr_model.specs.Whole.Substitution.{fits_annotation}
+use Rattle.cedar_expr_model.specs.Made.{Made, bare, made_prim, made_set, made_record, made_extension}
+use Rattle.cedar_expr_model.specs.Parts.{Unknown}
+use Rattle.cedar_expr_model.specs.Substitution.{fits_annotation}
 use Rattle.cedar_expr_model.proofs.Lists.{both_hold, hold_both}
-use Rattle.cedar_expr_model.specs.Whole.Value.{truth, long, text, entity}
-use Rattle.cedar_store_model.specs.Whole.Reads.{uid_of}
+use Rattle.cedar_expr_model.specs.Value.{truth, long, text, entity}
+use Rattle.cedar_store_model.specs.Reads.{uid_of}
 use Rattle.cedar_evaluator_model.specs.Scope.{Entry, uid, unknown_uid}
-use Rattle.cedar_gate_model.specs.Whole.Session.{IsNoRecord, IsOtherKind}
+use Rattle.cedar_gate_model.specs.Session.{IsNoRecord, IsOtherKind}
 use Rattle.cedar_gate_bindings.specs.Values.{is_against_one, IsAgainstOne, IsNoEntity, IsNoContext, is_record, is_other_kind}
 use Rattle.cedar_gate_bindings.proofs.Absent.{any_there, any_absent}
 

@@ -2,11 +2,11 @@
 -- Rule: refusals of a session (docs/RULES.md).
 use Rattle.std.specs.Prelude.{ℕ, List, Option, Contains}
 use Rattle.cedar_expr_model.specs.Name.{Text}
-use Rattle.cedar_expr_model.specs.Whole.Made.{Made}
-use Rattle.cedar_expr_model.specs.Whole.Parts.{Unknown}
+use Rattle.cedar_expr_model.specs.Made.{Made}
+use Rattle.cedar_expr_model.specs.Parts.{Unknown}
 use Rattle.cedar_evaluator_model.specs.Response.{PartialRequest}
 use Rattle.cedar_evaluator_model.specs.Scope.{Entry}
-use Rattle.cedar_gate_model.specs.Whole.Session as session
+use Rattle.cedar_gate_model.specs.Session as session
 use Rattle.cedar_gate_bindings.specs.Values.{IsAgainst, IsAgainstOne, IsNoEntity, IsNoContext, IsOfWrongForm}
 use Rattle.cedar_gate_bindings.specs.declared.faults.OpenFault.{OpenFault}
 use Rattle.cedar_gate_bindings.specs.declared.faults.OpenFault.TheVariants as opening

@@ -8,16 +8,16 @@ use Rattle.std.specs.Str.{bytes_eq}
 use Rattle.std.specs.declared.alloc.Global.{Global}
 use Rattle.std.specs.declared.rc.RcStr.{RcStr}
 use Rattle.cedar_expr_model.specs.Name.{Text}
-use Rattle.cedar_expr_model.specs.Whole.Made.{Made}
-use Rattle.cedar_expr_model.specs.Whole.Parts.{unknowns}
-use Rattle.cedar_expr_model.specs.Whole.Tree.{record_literal}
+use Rattle.cedar_expr_model.specs.Made.{Made}
+use Rattle.cedar_expr_model.specs.Parts.{unknowns}
+use Rattle.cedar_expr_model.specs.Tree.{record_literal}
 use Rattle.cedar_expr_values.specs.Extensions.{extension_of}
 use Rattle.cedar_expr_values.specs.Values.{made}
 use Rattle.cedar_expr_values.specs.declared.extension.ExtValue.{ExtValue}
 use Rattle.cedar_expr_values.specs.declared.value.Value.{Value}
 use Rattle.cedar_evaluator_model.specs.Response.{PartialRequest}
 use Rattle.cedar_evaluator_model.specs.Scope.{Context, closed, residual_fields, unknown_context}
-use Rattle.cedar_gate_model.specs.Whole.Session.{entry_named, is_open_entry, is_open_context, variable_names}
+use Rattle.cedar_gate_model.specs.Session.{entry_named, is_open_entry, is_open_context, variable_names}
 
 -- the value that a name is bound to
 abbrev pub bound_in : {S : Type 0} → HashMap (RcStr Global) (Value ExtValue) S → Text → Option Made

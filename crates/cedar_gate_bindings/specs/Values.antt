@@ -5,14 +5,14 @@ use Rattle.std.specs.Str.{bytes_eq}
 use Rattle.std.proofs.Common.{◌⊎◌}
 use Rattle.cedar_expr_model.specs.Name.{Text, name_eq}
 use Rattle.cedar_expr_model.specs.Uid.{Uid}
-use Rattle.cedar_expr_model.specs.Whole.Made.{Made, made_record, bare}
-use Rattle.cedar_expr_model.specs.Whole.Parts.{Unknown}
-use Rattle.cedar_expr_model.specs.Whole.Substitution.{fits_annotation}
-use Rattle.cedar_expr_model.specs.Whole.Value.{V}
-use Rattle.cedar_store_model.specs.Whole.Reads.{uid_of}
+use Rattle.cedar_expr_model.specs.Made.{Made, made_record, bare}
+use Rattle.cedar_expr_model.specs.Parts.{Unknown}
+use Rattle.cedar_expr_model.specs.Substitution.{fits_annotation}
+use Rattle.cedar_expr_model.specs.Value.{V}
+use Rattle.cedar_store_model.specs.Reads.{uid_of}
 use Rattle.cedar_evaluator_model.specs.Response.{PartialRequest}
 use Rattle.cedar_evaluator_model.specs.Scope.{Entry, unknown_uid}
-use Rattle.cedar_gate_model.specs.Whole.Session.{entry_named, context_unknowns, IsOtherKind, IsNoRecord}
+use Rattle.cedar_gate_model.specs.Session.{entry_named, context_unknowns, IsOtherKind, IsNoRecord}
 
 -- an unknown of this name whose annotation the value is against
 abbrev pub is_against_one : Text → V → Unknown → Bool

@@ -3,8 +3,8 @@
 ghost use Rattle.std.specs.Prelude.{◌≡◌, not, is_some, Bool, IfOk};
 ghost use Rattle.std.specs.List.{list_any};
 ghost use Rattle.std.specs.Str.{bytes_eq};
-ghost use Rattle.cedar_expr_model.specs.Whole.Parts.{Unknown as ModelUnknown, unknowns};
-ghost use Rattle.cedar_expr_model.specs.Whole.Substitution.{fits_annotation};
+ghost use Rattle.cedar_expr_model.specs.Parts.{Unknown as ModelUnknown, unknowns};
+ghost use Rattle.cedar_expr_model.specs.Substitution.{fits_annotation};
 ghost use Rattle.cedar_expr_trees.specs.Trees.{tree_of};
 ghost use Rattle.cedar_expr_trees.specs.Unknowns.{unknown_of};
 ghost use Rattle.cedar_expr_values.specs.Extensions.{extension_of};

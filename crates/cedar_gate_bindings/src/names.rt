@@ -1,11 +1,11 @@
 //! Which names are open.
 
 ghost use Rattle.std.specs.Prelude.{◌≡◌, option_map, IfOk, IfErr, OnOk, true, false};
-ghost use Rattle.cedar_expr_model.specs.Whole.Parts.{unknowns};
+ghost use Rattle.cedar_expr_model.specs.Parts.{unknowns};
 ghost use Rattle.cedar_expr_trees.specs.Trees.{tree_of};
 ghost use Rattle.cedar_evaluator_requests.specs.Views.{entry_of, context_or_unknown, request_of, restricted_tree};
-ghost use Rattle.cedar_gate_model.specs.Whole.Session as session;
-ghost use Rattle.cedar_gate_model.specs.Whole.Session.{context_unknowns};
+ghost use Rattle.cedar_gate_model.specs.Session as session;
+ghost use Rattle.cedar_gate_model.specs.Session.{context_unknowns};
 ghost use Rattle.cedar_gate_bindings.specs.Names.{bound_in, is_open_by, HasOpenBy, is_open_variable, has_open_in, has_open_by};
 ghost use Rattle.cedar_gate_bindings.specs.Faults.{IsOpenFault, opens, HaveFitNames, IsNameFault};
 

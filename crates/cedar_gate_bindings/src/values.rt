@@ -5,10 +5,10 @@ ghost use Rattle.cedar_expr_names.specs.Views.{uid_of};
 ghost use Rattle.cedar_expr_values.specs.Extensions.{extension_of};
 ghost use Rattle.cedar_expr_values.specs.Values.{bare, made};
 ghost use Rattle.cedar_evaluator_requests.specs.Views.{request_of};
-ghost use Rattle.cedar_store_model.specs.Whole.Reads as reads;
+ghost use Rattle.cedar_store_model.specs.Reads as reads;
 ghost use Rattle.std.specs.List.{list_any};
 ghost use Rattle.cedar_evaluator_requests.specs.Views.{entry_of, context_or_unknown};
-ghost use Rattle.cedar_gate_model.specs.Whole.Session.{context_unknowns, IsOtherKind};
+ghost use Rattle.cedar_gate_model.specs.Session.{context_unknowns, IsOtherKind};
 ghost use Rattle.cedar_gate_bindings.specs.Values.{takes, is_against_one, IsAgainstOne, IsNoEntity, IsNoContext, is_record, is_other_kind};
 ghost use Rattle.cedar_gate_bindings.specs.Faults.{IsValueFault, IsEntryFault, IsUnknownFault, IsContextFault};
 

@@ -7,13 +7,13 @@ use Rattle.serde_json.specs.Find.{as_array}
 use Rattle.cedar_expr_names.specs.declared.entity.EntityUID.{EntityUID}
 use Rattle.cedar_expr_model.specs.Name.{Text}
 use Rattle.cedar_expr_model.specs.Uid.{Uid, uid_eq}
-use Rattle.cedar_expr_model.specs.Whole.Lists.{when}
-use Rattle.cedar_expr_model.specs.Whole.Made.{Made}
-use Rattle.cedar_expr_model.specs.Whole.Table.{Table}
-use Rattle.cedar_expr_model.specs.Whole.Value.{V}
-use Rattle.cedar_expr_model.specs.Whole.ValueParts.{Part}
-use Rattle.cedar_store_model.specs.Whole.World as world
-use Rattle.cedar_store_model.specs.Whole.World.{held}
+use Rattle.cedar_expr_model.specs.Lists.{when}
+use Rattle.cedar_expr_model.specs.Made.{Made}
+use Rattle.cedar_expr_model.specs.Table.{Table}
+use Rattle.cedar_expr_model.specs.Value.{V}
+use Rattle.cedar_expr_model.specs.ValueParts.{Part}
+use Rattle.cedar_store_model.specs.World as world
+use Rattle.cedar_store_model.specs.World.{held}
 use Rattle.cedar_store_entities.specs.StoreParts.{entities_in, kept_in}
 use Rattle.cedar_store_entities.specs.Stores.{store_seen, store_made}
 use Rattle.cedar_store_entities.specs.Views.{Kept, entity_uid, entity_of, entity_seen, entity_kept, kept_pair, entity_pair, bare_part, bare_entity}
@@ -21,10 +21,10 @@ use Rattle.cedar_store_entities.specs.declared.entities.Entities.{Entities}
 use Rattle.cedar_store_entities.specs.declared.entity.Entity.{Entity}
 use Rattle.cedar_evaluator_model.specs.OfLaws.WellMade.{IsFoundMadeWell}
 use Rattle.cedar_gate_model.specs.Reading.{given, required, optional, has_only, each, list_of, members_of}
-use Rattle.cedar_gate_model.specs.Whole.Bundle.{Functions}
-use Rattle.cedar_gate_model.specs.Whole.ReadingName.{uid_read}
-use Rattle.cedar_gate_model.specs.Whole.ReadingRequest.{with_uids, entity_read}
-use Rattle.cedar_gate_model.specs.Whole.ReadingValue.{value_read}
+use Rattle.cedar_gate_model.specs.Bundle.{Functions}
+use Rattle.cedar_gate_model.specs.ReadingName.{uid_read}
+use Rattle.cedar_gate_model.specs.ReadingRequest.{with_uids, entity_read}
+use Rattle.cedar_gate_model.specs.ReadingValue.{value_read}
 use Rattle.cedar_gate_reading.specs.Maps.{under_text}
 use Rattle.cedar_gate_bundles.specs.Written.{known_made, entity_read_made, entity_pair_made, bare_entity_pair, AreWritten, IsStoreWritten}
 use Rattle.cedar_gate_bundles.proofs.Parted.{as_known, parts_are}

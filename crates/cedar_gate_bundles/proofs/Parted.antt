@@ -10,32 +10,32 @@ use Rattle.serde_json.specs.Find.{as_object, get}
 use Rattle.serde_json.specs.Read.{read}
 use Rattle.cedar_expr_model.specs.Name.{Text}
 use Rattle.cedar_expr_model.specs.Uid.{Uid, uid_eq}
-use Rattle.cedar_expr_model.specs.Whole.Lists.{when, rises}
-use Rattle.cedar_expr_model.specs.Whole.Made.{Made, bare}
-use Rattle.cedar_expr_model.specs.Whole.Order.{text_cmp}
-use Rattle.cedar_expr_model.specs.Whole.Records.{in_order, names_rise}
-use Rattle.cedar_expr_model.specs.Whole.Repeats.{repeated}
-use Rattle.cedar_expr_model.specs.Whole.Value.{V}
-use Rattle.cedar_expr_model.specs.Whole.ValueParts.{Part, known}
-use Rattle.cedar_expr_model.proofs.Whole.Ordering.{in_order_stays}
+use Rattle.cedar_expr_model.specs.Lists.{when, rises}
+use Rattle.cedar_expr_model.specs.Made.{Made, bare}
+use Rattle.cedar_expr_model.specs.Order.{text_cmp}
+use Rattle.cedar_expr_model.specs.Records.{in_order, names_rise}
+use Rattle.cedar_expr_model.specs.Repeats.{repeated}
+use Rattle.cedar_expr_model.specs.Value.{V}
+use Rattle.cedar_expr_model.specs.ValueParts.{Part, known}
+use Rattle.cedar_expr_model.proofs.Ordering.{in_order_stays}
 use Rattle.cedar_expr_values.specs.Extensions.{extension_of}
 use Rattle.cedar_expr_values.specs.Values.{made}
 use Rattle.cedar_expr_values.specs.declared.extension.ExtValue.{ExtValue}
 use Rattle.cedar_expr_values.specs.declared.value.Value.{Value}
-use Rattle.cedar_store_model.specs.Whole.Store.{Store, whole, store_of, are_distinct}
-use Rattle.cedar_store_model.specs.Whole.World as world
+use Rattle.cedar_store_model.specs.Store.{Store, whole, store_of, are_distinct}
+use Rattle.cedar_store_model.specs.World as world
 use Rattle.cedar_store_entities.specs.Recorded.{all_recorded}
 use Rattle.cedar_store_entities.specs.Views.{entity_uid, entity_seen, entity_pair, value_pair}
 use Rattle.cedar_store_entities.specs.declared.entity.Entity.{Entity}
 use Rattle.cedar_evaluator_model.specs.Reauthorize.{context_from}
 use Rattle.cedar_evaluator_model.specs.Scope.{Left}
 use Rattle.cedar_gate_model.specs.Reading.{given, if_there, required, optional, has_only, list_of, members_of, each_member}
-use Rattle.cedar_gate_model.specs.Whole.Bundle.{Functions}
-use Rattle.cedar_gate_model.specs.Whole.ReadingBundle.{bundle_read, input_read}
-use Rattle.cedar_gate_model.specs.Whole.ReadingForms.{if_passing}
-use Rattle.cedar_gate_model.specs.Whole.ReadingName.{uid_read}
-use Rattle.cedar_gate_model.specs.Whole.ReadingRequest.{parts_read, with_uid, with_uids, step_read, binding_read}
-use Rattle.cedar_gate_model.specs.Whole.ReadingValue.{value_read, if_value, context_read, fields_context_read}
+use Rattle.cedar_gate_model.specs.Bundle.{Functions}
+use Rattle.cedar_gate_model.specs.ReadingBundle.{bundle_read, input_read}
+use Rattle.cedar_gate_model.specs.ReadingForms.{if_passing}
+use Rattle.cedar_gate_model.specs.ReadingName.{uid_read}
+use Rattle.cedar_gate_model.specs.ReadingRequest.{parts_read, with_uid, with_uids, step_read, binding_read}
+use Rattle.cedar_gate_model.specs.ReadingValue.{value_read, if_value, context_read, fields_context_read}
 use Rattle.cedar_gate_reading.specs.Json.{json_read}
 use Rattle.cedar_gate_reading.specs.Maps.{under_text, texts_seen}
 use Rattle.cedar_gate_bundles.specs.Values.{IsStopped}

@@ -5,27 +5,27 @@ use Rattle.std.specs.Result.{IsErrAnd}
 use Rattle.serde_json.specs.Data.{Data, object, Members}
 use Rattle.cedar_expr_model.specs.Name.{Text}
 use Rattle.cedar_expr_model.specs.Uid.{Uid, uid_eq}
-use Rattle.cedar_expr_model.specs.Whole.Lists.{when}
-use Rattle.cedar_expr_model.specs.Whole.Made.{Made}
-use Rattle.cedar_expr_model.specs.Whole.Repeats.{repeated}
-use Rattle.cedar_expr_model.specs.Whole.Restricted.{is_restricted}
-use Rattle.cedar_expr_model.specs.Whole.Tree.{Tree, TreeFields, record_literal}
-use Rattle.cedar_expr_model.specs.Whole.Value.{V}
-use Rattle.cedar_store_model.specs.Whole.Store.{are_distinct}
-use Rattle.cedar_store_model.specs.Whole.World as world
+use Rattle.cedar_expr_model.specs.Lists.{when}
+use Rattle.cedar_expr_model.specs.Made.{Made}
+use Rattle.cedar_expr_model.specs.Repeats.{repeated}
+use Rattle.cedar_expr_model.specs.Restricted.{is_restricted}
+use Rattle.cedar_expr_model.specs.Tree.{Tree, TreeFields, record_literal}
+use Rattle.cedar_expr_model.specs.Value.{V}
+use Rattle.cedar_store_model.specs.Store.{are_distinct}
+use Rattle.cedar_store_model.specs.World as world
 use Rattle.cedar_store_entities.specs.Views.{entity_uid, entity_pair}
 use Rattle.cedar_store_entities.specs.declared.entity.Entity.{Entity}
 use Rattle.cedar_evaluator_model.specs.Reauthorize.{context_from}
 use Rattle.cedar_evaluator_model.specs.Response.{PartialRequest}
 use Rattle.cedar_gate_model.specs.Reading.{given, required, optional, has_only, list_of, members_of}
-use Rattle.cedar_gate_model.specs.Whole.Acceptance.{Submission}
-use Rattle.cedar_gate_model.specs.Whole.Bundle.{Functions}
-use Rattle.cedar_gate_model.specs.Whole.ReadingBundle.{is_bundle, submission_read, bundle_read}
-use Rattle.cedar_gate_model.specs.Whole.ReadingExpression.{fields_in}
-use Rattle.cedar_gate_model.specs.Whole.ReadingForms.{if_passing}
-use Rattle.cedar_gate_model.specs.Whole.ReadingName.{uid_read}
-use Rattle.cedar_gate_model.specs.Whole.ReadingRequest.{entity_read, store_read, request_read, steps_read}
-use Rattle.cedar_gate_model.specs.Whole.ReadingValue.{value_read, fields_context_read, left_of_restricted}
+use Rattle.cedar_gate_model.specs.Acceptance.{Submission}
+use Rattle.cedar_gate_model.specs.Bundle.{Functions}
+use Rattle.cedar_gate_model.specs.ReadingBundle.{is_bundle, submission_read, bundle_read}
+use Rattle.cedar_gate_model.specs.ReadingExpression.{fields_in}
+use Rattle.cedar_gate_model.specs.ReadingForms.{if_passing}
+use Rattle.cedar_gate_model.specs.ReadingName.{uid_read}
+use Rattle.cedar_gate_model.specs.ReadingRequest.{entity_read, store_read, request_read, steps_read}
+use Rattle.cedar_gate_model.specs.ReadingValue.{value_read, fields_context_read, left_of_restricted}
 use Rattle.cedar_gate_reading.specs.Maps.{under_text}
 use Rattle.cedar_gate_reading.specs.declared.fault.ReadFault.{ReadFault}
 use Rattle.cedar_gate_reading.specs.declared.fault.ReadFault.TheVariants.{Unreadable}

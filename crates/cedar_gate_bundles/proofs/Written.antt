@@ -7,28 +7,28 @@ use Rattle.serde_json.specs.Data.{Data, Items, no_items, item, Members, no_membe
 use Rattle.serde_json.specs.Find.{get, as_array, as_str, as_object}
 use Rattle.cedar_expr_model.specs.Name.{Text}
 use Rattle.cedar_expr_model.specs.Uid.{Uid}
-use Rattle.cedar_expr_model.specs.Whole.Made.{Made, made_record, no_made_fields}
-use Rattle.cedar_expr_model.specs.Whole.Restricted.{is_restricted, offence}
-use Rattle.cedar_expr_model.specs.Whole.Tree.{record_literal}
-use Rattle.cedar_expr_model.specs.Whole.ValueParts.{known}
-use Rattle.cedar_store_model.specs.Whole.World as world
-use Rattle.cedar_store_model.specs.Whole.World.{held}
+use Rattle.cedar_expr_model.specs.Made.{Made, made_record, no_made_fields}
+use Rattle.cedar_expr_model.specs.Restricted.{is_restricted, offence}
+use Rattle.cedar_expr_model.specs.Tree.{record_literal}
+use Rattle.cedar_expr_model.specs.ValueParts.{known}
+use Rattle.cedar_store_model.specs.World as world
+use Rattle.cedar_store_model.specs.World.{held}
 use Rattle.cedar_evaluator_model.specs.Reauthorize.{context_from}
 use Rattle.cedar_evaluator_model.specs.Response.{PartialRequest}
 use Rattle.cedar_evaluator_model.specs.Scope.{Context, closed, residual_fields, unknown_context, Left, value_left, residual, stopped}
 use Rattle.cedar_evaluator_model.specs.OfLaws.WellMade.{IsWellMade, IsPartMadeWell, IsFoundMadeWell, IsContextMadeWell}
 use Rattle.cedar_gate_model.specs.Reading.{given, required, optional, has_only, each, list_of, each_member, members_of}
-use Rattle.cedar_gate_model.specs.Whole.Bundle.{Functions}
-use Rattle.cedar_gate_model.specs.Whole.ReadingExpression.{expression_read, fields_read}
-use Rattle.cedar_gate_model.specs.Whole.ReadingForms.{if_passing, word_of}
-use Rattle.cedar_gate_model.specs.Whole.ReadingName.{uid_read}
-use Rattle.cedar_gate_model.specs.Whole.ReadingRequest.{entry_read, request_read}
-use Rattle.cedar_gate_model.specs.Whole.ReadingValue.{with_functions, left_of_restricted, if_value, value_read, fields_context_read, context_read}
-use Rattle.cedar_gate_model.specs.Whole.RunsAnswer.{MakeFairly}
-use Rattle.cedar_gate_model.proofs.Whole.Reading.Bundles.{there_has}
-use Rattle.cedar_gate_model.proofs.Whole.Reading.Steps.{given_some, map_some, passing_some, beside_all, given_gives, map_gives, if_gives}
-use Rattle.cedar_gate_model.proofs.Whole.Reading.Values.{none_is, first_some}
-use Rattle.cedar_gate_model.proofs.Whole.Runs.WellMade.{evaluated_well}
+use Rattle.cedar_gate_model.specs.Bundle.{Functions}
+use Rattle.cedar_gate_model.specs.ReadingExpression.{expression_read, fields_read}
+use Rattle.cedar_gate_model.specs.ReadingForms.{if_passing, word_of}
+use Rattle.cedar_gate_model.specs.ReadingName.{uid_read}
+use Rattle.cedar_gate_model.specs.ReadingRequest.{entry_read, request_read}
+use Rattle.cedar_gate_model.specs.ReadingValue.{with_functions, left_of_restricted, if_value, value_read, fields_context_read, context_read}
+use Rattle.cedar_gate_model.specs.RunsAnswer.{MakeFairly}
+use Rattle.cedar_gate_model.proofs.Reading.Bundles.{there_has}
+use Rattle.cedar_gate_model.proofs.Reading.Steps.{given_some, map_some, passing_some, beside_all, given_gives, map_gives, if_gives}
+use Rattle.cedar_gate_model.proofs.Reading.Values.{none_is, first_some}
+use Rattle.cedar_gate_model.proofs.Runs.WellMade.{evaluated_well}
 use Rattle.cedar_gate_reading.specs.Maps.{under_text}
 use Rattle.cedar_gate_bundles.specs.Written.{known_made, entity_read_made, AreWritten}
 

@@ -4,9 +4,9 @@ use Rattle.std.specs.Prelude.{map}
 use Rattle.cedar_store_entities.specs.Stores.{store_seen}
 use Rattle.cedar_store_policies.specs.Policies.{policy_of}
 use Rattle.cedar_gate_fragments.specs.Written.{declared_by}
-use Rattle.cedar_gate_model.specs.Whole.Acceptance as gate
-use Rattle.cedar_gate_model.specs.Whole.Bundle as model
-use Rattle.cedar_gate_model.specs.Whole.Bundle.{Functions}
+use Rattle.cedar_gate_model.specs.Acceptance as gate
+use Rattle.cedar_gate_model.specs.Bundle as model
+use Rattle.cedar_gate_model.specs.Bundle.{Functions}
 use Rattle.cedar_gate_bundles.specs.Requests.{request_of, step_of}
 use Rattle.cedar_gate_bundles.specs.declared.bundle.Bundle.{Bundle}
 use Rattle.cedar_gate_bundles.specs.declared.bundle.Submission.{Submission}

@@ -3,13 +3,13 @@
 use Rattle.std.specs.Prelude.{map, option_map}
 use Rattle.std.specs.Rc.{rc_str_bytes}
 use Rattle.cedar_expr_names.specs.Views.{type_name_of, uid_of}
-use Rattle.cedar_expr_model.specs.Whole.Builder.{tree_fields}
+use Rattle.cedar_expr_model.specs.Builder.{tree_fields}
 use Rattle.cedar_expr_trees.specs.Trees.{named, field_trees}
 use Rattle.cedar_expr_values.specs.Extensions.{extension_of}
 use Rattle.cedar_expr_values.specs.Values.{made, made_fields, made_pair}
 use Rattle.cedar_evaluator_model.specs.Response.{PartialRequest}
 use Rattle.cedar_evaluator_model.specs.Scope as scope
-use Rattle.cedar_gate_model.specs.Whole.Transcript as run
+use Rattle.cedar_gate_model.specs.Transcript as run
 use Rattle.cedar_gate_bundles.specs.declared.requests.RequestEntry.{RequestEntry}
 use Rattle.cedar_gate_bundles.specs.declared.requests.RequestEntry.TheVariants as entry
 use Rattle.cedar_gate_bundles.specs.declared.requests.RequestContext.{RequestContext}

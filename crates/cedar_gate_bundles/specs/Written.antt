@@ -5,23 +5,23 @@ use Rattle.std.specs.Map.{lookup}
 use Rattle.serde_json.specs.Data.{Data}
 use Rattle.cedar_expr_model.specs.Name.{Text}
 use Rattle.cedar_expr_model.specs.Uid.{Uid, uid_eq}
-use Rattle.cedar_expr_model.specs.Whole.Lists.{when}
-use Rattle.cedar_expr_model.specs.Whole.Made.{Made}
-use Rattle.cedar_expr_model.specs.Whole.Table.{Table}
-use Rattle.cedar_expr_model.specs.Whole.Value.{V}
-use Rattle.cedar_expr_model.specs.Whole.ValueParts.{Part, known}
-use Rattle.cedar_store_model.specs.Whole.World as world
-use Rattle.cedar_store_model.specs.Whole.World.{held}
+use Rattle.cedar_expr_model.specs.Lists.{when}
+use Rattle.cedar_expr_model.specs.Made.{Made}
+use Rattle.cedar_expr_model.specs.Table.{Table}
+use Rattle.cedar_expr_model.specs.Value.{V}
+use Rattle.cedar_expr_model.specs.ValueParts.{Part, known}
+use Rattle.cedar_store_model.specs.World as world
+use Rattle.cedar_store_model.specs.World.{held}
 use Rattle.cedar_store_entities.specs.Stores.{store_made}
 use Rattle.cedar_store_entities.specs.Views.{entity_uid, entity_seen, bare_entity}
 use Rattle.cedar_store_entities.specs.declared.entities.Entities.{Entities}
 use Rattle.cedar_store_entities.specs.declared.entity.Entity.{Entity}
 use Rattle.cedar_evaluator_model.specs.OfLaws.WellMade.{IsFoundMadeWell}
 use Rattle.cedar_gate_model.specs.Reading.{given, required, optional, has_only, list_of, members_of}
-use Rattle.cedar_gate_model.specs.Whole.Bundle.{Functions}
-use Rattle.cedar_gate_model.specs.Whole.ReadingName.{uid_read}
-use Rattle.cedar_gate_model.specs.Whole.ReadingRequest.{with_uids}
-use Rattle.cedar_gate_model.specs.Whole.ReadingValue.{value_read}
+use Rattle.cedar_gate_model.specs.Bundle.{Functions}
+use Rattle.cedar_gate_model.specs.ReadingName.{uid_read}
+use Rattle.cedar_gate_model.specs.ReadingRequest.{with_uids}
+use Rattle.cedar_gate_model.specs.ReadingValue.{value_read}
 use Rattle.cedar_gate_reading.specs.Maps.{under_text}
 
 -- an attribute or a tag, as it is made

@@ -2,10 +2,10 @@
 ghost use Rattle.std.specs.Prelude.{◌≡◌, Some, None, IfOk, IfErr, codes};
 ghost use Rattle.serde_json.specs.View.{view};
 ghost use Rattle.cedar_gate_model.specs.Reading.{has_at};
-ghost use Rattle.cedar_gate_model.specs.Whole.ReadingForms.{number_between, is_number};
-ghost use Rattle.cedar_gate_model.specs.Whole.ReadingBundle.{is_bundle, submission_read, bundle_read, input_read};
-ghost use Rattle.cedar_gate_model.specs.Whole.Bundle.{Functions};
-ghost use Rattle.cedar_gate_model.specs.Whole.RunsAnswer.{MakeFairly};
+ghost use Rattle.cedar_gate_model.specs.ReadingForms.{number_between, is_number};
+ghost use Rattle.cedar_gate_model.specs.ReadingBundle.{is_bundle, submission_read, bundle_read, input_read};
+ghost use Rattle.cedar_gate_model.specs.Bundle.{Functions};
+ghost use Rattle.cedar_gate_model.specs.RunsAnswer.{MakeFairly};
 ghost use Rattle.cedar_evaluator_model.specs.OfLaws.WellMade.{IsContextMadeWell};
 ghost use Rattle.cedar_gate_bundles.specs.Bundles.{submission_of, bundle_of};
 ghost use Rattle.cedar_gate_bundles.specs.Requests.{request_of};

@@ -2,12 +2,12 @@
 ghost use Rattle.std.specs.Prelude.{◌≡◌, Some, None, IfOk, IfErr, codes};
 ghost use Rattle.serde_json.specs.Data.{object};
 ghost use Rattle.serde_json.specs.View.{view, members_view};
-ghost use Rattle.cedar_expr_model.specs.Whole.Made.{no_made_fields};
+ghost use Rattle.cedar_expr_model.specs.Made.{no_made_fields};
 ghost use Rattle.cedar_evaluator_model.specs.Scope.{closed};
 ghost use Rattle.cedar_evaluator_model.specs.Reauthorize.{context_from};
 ghost use Rattle.cedar_gate_model.specs.Reading.{optional};
-ghost use Rattle.cedar_gate_model.specs.Whole.ReadingRequest.{entry_read, request_read};
-ghost use Rattle.cedar_gate_model.specs.Whole.ReadingValue.{context_read, fields_context_read};
+ghost use Rattle.cedar_gate_model.specs.ReadingRequest.{entry_read, request_read};
+ghost use Rattle.cedar_gate_model.specs.ReadingValue.{context_read, fields_context_read};
 ghost use Rattle.cedar_gate_bundles.specs.Requests.{entry_of, context_of, request_of};
 ghost use Rattle.cedar_gate_bundles.specs.Values.{left_of_part};
 ghost use Rattle.cedar_gate_reading.specs.declared.fault.ReadFault.TheVariants.{Unreadable};

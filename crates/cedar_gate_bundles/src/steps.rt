@@ -1,8 +1,8 @@
 //! The steps of a run.
 ghost use Rattle.std.specs.Prelude.{◌≡◌, Some, None, IfOk, IfErr};
 ghost use Rattle.serde_json.specs.View.{view};
-ghost use Rattle.cedar_gate_model.specs.Whole.Transcript as run;
-ghost use Rattle.cedar_gate_model.specs.Whole.ReadingRequest.{step_read, binding_read};
+ghost use Rattle.cedar_gate_model.specs.Transcript as run;
+ghost use Rattle.cedar_gate_model.specs.ReadingRequest.{step_read, binding_read};
 ghost use Rattle.cedar_gate_bundles.specs.Requests.{step_of};
 ghost use Rattle.cedar_gate_reading.specs.declared.fault.ReadFault.TheVariants.{Unreadable};
 

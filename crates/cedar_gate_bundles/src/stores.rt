@@ -2,13 +2,13 @@
 ghost use Rattle.std.specs.Prelude.{◌≡◌, Some, None, IfOk, IfErr, map};
 ghost use Rattle.serde_json.specs.View.{view};
 ghost use Rattle.cedar_expr_model.specs.Uid.{Uid};
-ghost use Rattle.cedar_expr_model.specs.Whole.Made.{Made};
-ghost use Rattle.cedar_store_model.specs.Whole.World as world;
+ghost use Rattle.cedar_expr_model.specs.Made.{Made};
+ghost use Rattle.cedar_store_model.specs.World as world;
 ghost use Rattle.cedar_store_entities.specs.Stores.{store_seen};
 ghost use Rattle.cedar_store_entities.specs.Views.{entity_pair};
 ghost use Rattle.cedar_gate_model.specs.Reading.{list_of};
-ghost use Rattle.cedar_gate_model.specs.Whole.ReadingRequest.{entity_read, store_read};
-ghost use Rattle.cedar_gate_model.specs.Whole.RunsAnswer.{MakeFairly};
+ghost use Rattle.cedar_gate_model.specs.ReadingRequest.{entity_read, store_read};
+ghost use Rattle.cedar_gate_model.specs.RunsAnswer.{MakeFairly};
 ghost use Rattle.cedar_gate_bundles.specs.Written.{entity_read_made, entity_pair_made, AreWritten, IsStoreWritten};
 ghost use Rattle.cedar_gate_reading.specs.declared.fault.ReadFault.TheVariants.{Unreadable};
 

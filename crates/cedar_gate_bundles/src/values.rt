@@ -1,13 +1,13 @@
 //! Values and contexts: restricted expressions, evaluated where they are read.
 ghost use Rattle.std.specs.Prelude.{◌≡◌, true, Some, None, IfOk, IfErr, is_none};
 ghost use Rattle.serde_json.specs.View.{view};
-ghost use Rattle.cedar_expr_model.specs.Whole.Made.{Made};
-ghost use Rattle.cedar_expr_model.specs.Whole.Restricted.{is_restricted, feature_here};
+ghost use Rattle.cedar_expr_model.specs.Made.{Made};
+ghost use Rattle.cedar_expr_model.specs.Restricted.{is_restricted, feature_here};
 ghost use Rattle.cedar_expr_trees.specs.Trees.{tree_of};
 ghost use Rattle.cedar_expr_values.specs.Extensions.{extension_of};
 ghost use Rattle.cedar_expr_values.specs.Values.{made};
-ghost use Rattle.cedar_gate_model.specs.Whole.Bundle.{Functions};
-ghost use Rattle.cedar_gate_model.specs.Whole.ReadingValue.{left_of_restricted, value_read};
+ghost use Rattle.cedar_gate_model.specs.Bundle.{Functions};
+ghost use Rattle.cedar_gate_model.specs.ReadingValue.{left_of_restricted, value_read};
 ghost use Rattle.cedar_gate_bundles.specs.Values.{left_of_part, IsStopped};
 ghost use Rattle.cedar_gate_reading.specs.declared.fault.ReadFault.TheVariants.{Unreadable};
 

@@ -1,6 +1,6 @@
 -- Each fault with its number.
 use Rattle.std.proofs.Common.{◌≡◌, ℕ, Some, Contains, sym, subst, refl, arith}
-use Rattle.cedar_schema_model.specs.Whole.Conforming.{ConformFault, numbered_faults}
+use Rattle.cedar_schema_model.specs.Conforming.{ConformFault, numbered_faults}
 use Rattle.cedar_gate_conforming.specs.Faults.{fault_number, fault_seen}
 use Rattle.cedar_gate_conforming.specs.declared.faults.ConformFault as code
 use Rattle.cedar_gate_conforming.specs.declared.faults.ConformFault.TheVariants.{OutOfMemory, Undeclared, NotListed, NoMember, LacksAttribute, UndeclaredAttribute, AttributeValue, Tag, Ancestor, Context, OpenPart}

@@ -1,7 +1,7 @@
 -- What is refused by what is kept is refused by the schema.
 use Rattle.std.proofs.Common.{◌≡◌, ◌∙◌, Bool, true, Option, Some, None}
 use Rattle.std.specs.Prelude.{IfSome}
-use Rattle.cedar_schema_model.specs.Whole.Conforming.{ConformFault}
+use Rattle.cedar_schema_model.specs.Conforming.{ConformFault}
 use Rattle.cedar_gate_conforming_model.specs.First.{first_fault}
 use Rattle.cedar_gate_conforming_model.specs.Laws.{FirstIsFault}
 use Rattle.cedar_gate_conforming_model.proofs.First.{first_alike}

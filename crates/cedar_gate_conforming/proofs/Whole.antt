@@ -4,11 +4,11 @@ use Rattle.std.proofs.Math.Dec.{eqb-suc-zero}
 use Rattle.std.specs.Prelude.{nat_eq}
 use Rattle.std.specs.List.{list_all}
 use Rattle.cedar_expr_model.specs.Name.{Text}
-use Rattle.cedar_expr_model.specs.Whole.Made.{Made}
-use Rattle.cedar_expr_model.specs.Whole.ValueParts.{Part}
+use Rattle.cedar_expr_model.specs.Made.{Made}
+use Rattle.cedar_expr_model.specs.ValueParts.{Part}
 use Rattle.cedar_gate_conforming_model.specs.Asked.{Parts, has_undeclared, has_wrong_value, has_wrong_tag}
-use Rattle.cedar_schema_model.specs.Whole.Types.{no_attributes}
-use Rattle.cedar_store_model.specs.Whole.Knowledge.{is_known}
+use Rattle.cedar_schema_model.specs.Types.{no_attributes}
+use Rattle.cedar_store_model.specs.Knowledge.{is_known}
 use Rattle.cedar_gate_conforming.specs.Views.{bare_parts}
 
 pub no_wrong_value : (ps : Parts) → has_wrong_value no_attributes ps ≡ false

@@ -3,13 +3,13 @@
 use Rattle.std.specs.Prelude.{List, map, Option, option_map, option_and_then, Bool, true, false}
 use Rattle.std.specs.Borrow.{Bor}
 use Rattle.cedar_expr_model.specs.Name.{Text}
-use Rattle.cedar_expr_model.specs.Whole.Made.{Made}
-use Rattle.cedar_expr_model.specs.Whole.Value.{V}
-use Rattle.cedar_expr_model.specs.Whole.ValueParts.{Part}
-use Rattle.cedar_store_model.specs.Whole.Store.{OpenRequest}
+use Rattle.cedar_expr_model.specs.Made.{Made}
+use Rattle.cedar_expr_model.specs.Value.{V}
+use Rattle.cedar_expr_model.specs.ValueParts.{Part}
+use Rattle.cedar_store_model.specs.Store.{OpenRequest}
 use Rattle.cedar_store_entities.specs.Views.{bare_part}
-use Rattle.cedar_schema_model.specs.Whole.Schema.{EntityKind, standard, enumerated, external}
-use Rattle.cedar_schema_model.specs.Whole.Types.{Ty}
+use Rattle.cedar_schema_model.specs.Schema.{EntityKind, standard, enumerated, external}
+use Rattle.cedar_schema_model.specs.Types.{Ty}
 use Rattle.cedar_schema_types.specs.Types.{type_of}
 use Rattle.cedar_schema_types.specs.declared.types.Type.{«Type» as CodeType}
 use Rattle.cedar_schema_kept_model.specs.Kept.{KeptAction, Kept, kept_action}

@@ -1,12 +1,12 @@
 //! The context of a request against its type.
 
 ghost use Rattle.std.specs.Prelude.{◌≡◌, not, map, IfOk, is_none};
-ghost use Rattle.cedar_expr_model.specs.Whole.Made.{bare_fields};
-ghost use Rattle.cedar_expr_model.specs.Whole.Value.{record_of};
+ghost use Rattle.cedar_expr_model.specs.Made.{bare_fields};
+ghost use Rattle.cedar_expr_model.specs.Value.{record_of};
 ghost use Rattle.cedar_expr_values.specs.Extensions.{extension_of};
 ghost use Rattle.cedar_expr_values.specs.Values.{made_fields, made_pair};
-ghost use Rattle.cedar_schema_model.specs.Whole.Conforming.{where_known};
-ghost use Rattle.cedar_schema_model.specs.Whole.HasType.{has_type};
+ghost use Rattle.cedar_schema_model.specs.Conforming.{where_known};
+ghost use Rattle.cedar_schema_model.specs.HasType.{has_type};
 ghost use Rattle.cedar_schema_types.specs.Types.{type_of};
 ghost use Rattle.cedar_gate_conforming.specs.Views.{context_seen};
 

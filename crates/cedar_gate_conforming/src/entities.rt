@@ -6,8 +6,8 @@ ghost use Rattle.cedar_gate_conforming_model.specs.Asked.{kept_fault_at, kept_en
 ghost use Rattle.cedar_gate_conforming_model.specs.First.{first_fault};
 ghost use Rattle.cedar_schema_built.specs.Views.{schema_kept};
 ghost use Rattle.cedar_schema_entries.specs.Views.{entity_type_seen};
-ghost use Rattle.cedar_schema_model.specs.Whole.Conforming.{of_kind, among_actions, has_entity_fault, EntityConforms};
-ghost use Rattle.cedar_schema_model.specs.Whole.Schema.{Schema};
+ghost use Rattle.cedar_schema_model.specs.Conforming.{of_kind, among_actions, has_entity_fault, EntityConforms};
+ghost use Rattle.cedar_schema_model.specs.Schema.{Schema};
 ghost use Rattle.cedar_store_entities.specs.Views.{entity_uid, entity_of};
 ghost use Rattle.cedar_gate_conforming.specs.Faults.{IsFirst, IsThere};
 
@@ -62,7 +62,7 @@ fn check_action(schema: &ValidatorSchema, entity: &Entity) -> Result<(), Conform
 }
 
 ghost use Rattle.cedar_gate_conforming_model.specs.Asked.{has_undeclared, has_wrong_tag};
-ghost use Rattle.cedar_schema_model.specs.Whole.Types.{no_attributes};
+ghost use Rattle.cedar_schema_model.specs.Types.{no_attributes};
 
 // Whether the entity has attributes.
 fn has_attributes(entity: &Entity) -> bool
@@ -80,7 +80,7 @@ fn has_tags(entity: &Entity) -> bool
 
 ghost use Rattle.std.specs.Option.{option_map_or};
 ghost use Rattle.cedar_schema_kept_model.specs.Kept.{kept_type};
-ghost use Rattle.cedar_schema_model.specs.Whole.Conforming.{nowhere};
+ghost use Rattle.cedar_schema_model.specs.Conforming.{nowhere};
 
 // Checks whether an entity that is no action's conforms to what the schema keeps of its type. Errors: the first of its faults.
 fn check_typed(schema: &ValidatorSchema, entity: &Entity) -> Result<(), ConformFault>

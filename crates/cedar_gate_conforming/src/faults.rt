@@ -43,7 +43,7 @@ pub enum ConformFault {
 
 impl ConformFault {
     ghost use Rattle.std.specs.Prelude.{◌≡◌, Some, Contains};
-    ghost use Rattle.cedar_schema_model.specs.Whole.Conforming.{ConformFault as ModelFault, numbered_faults};
+    ghost use Rattle.cedar_schema_model.specs.Conforming.{ConformFault as ModelFault, numbered_faults};
     ghost use Rattle.cedar_gate_conforming.specs.Faults.{fault_number, fault_seen};
 
     /// The number of the fault.

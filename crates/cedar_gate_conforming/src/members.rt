@@ -6,8 +6,8 @@ ghost use Rattle.cedar_gate_conforming_model.specs.Asked.{kept_place};
 ghost use Rattle.cedar_schema_built.specs.Views.{schema_kept};
 ghost use Rattle.cedar_schema_entries.specs.Kinds.{kind_with};
 ghost use Rattle.cedar_schema_entries.specs.Views.{entity_type_seen};
-ghost use Rattle.cedar_schema_model.specs.Whole.Conforming.{of_kind, is_no_member};
-ghost use Rattle.cedar_schema_model.specs.Whole.Types.{Attributes as ModelAttributes};
+ghost use Rattle.cedar_schema_model.specs.Conforming.{of_kind, is_no_member};
+ghost use Rattle.cedar_schema_model.specs.Types.{Attributes as ModelAttributes};
 ghost use Rattle.cedar_gate_conforming.specs.Views.{is_enumerated};
 
 use cedar_expr_names::{Eid, EntityUID};
@@ -60,7 +60,7 @@ pub(crate) fn is_no_kept_member(schema: &ValidatorSchema, uid: &EntityUID) -> bo
 
 ghost use Rattle.std.specs.Option.{option_map_or};
 ghost use Rattle.cedar_schema_kept_model.specs.Kept.{kept_type};
-ghost use Rattle.cedar_schema_model.specs.Whole.Conforming.{nowhere};
+ghost use Rattle.cedar_schema_model.specs.Conforming.{nowhere};
 
 // Whether the uid, which is no action's, is of a type that is enumerated by the schema, and its entity is no member.
 fn is_no_typed_member(schema: &ValidatorSchema, uid: &EntityUID) -> bool

@@ -10,8 +10,8 @@ ghost use Rattle.cedar_gate_conforming_model.specs.First.{first_fault};
 ghost use Rattle.cedar_schema_built.specs.Views.{schema_kept};
 ghost use Rattle.cedar_schema_entries.specs.Views.{action_seen};
 ghost use Rattle.cedar_schema_kept_model.specs.Kept.{kept_action};
-ghost use Rattle.cedar_schema_model.specs.Whole.Conforming.{where_known, is_not_listed, has_request_fault, RequestConforms};
-ghost use Rattle.cedar_schema_model.specs.Whole.Schema.{Schema};
+ghost use Rattle.cedar_schema_model.specs.Conforming.{where_known, is_not_listed, has_request_fault, RequestConforms};
+ghost use Rattle.cedar_schema_model.specs.Schema.{Schema};
 ghost use Rattle.cedar_gate_conforming.specs.Faults.{IsFirst, IsThere};
 ghost use Rattle.cedar_gate_conforming.specs.Views.{request_seen, action_asked};
 

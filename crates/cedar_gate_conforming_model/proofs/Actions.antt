@@ -2,13 +2,13 @@
 use Rattle.std.proofs.Common.{◌≡◌, ◌∙◌, List, [], ◌∷◌, map, true, refl, sym, ap, subst}
 use Rattle.std.specs.Prelude.{Contains}
 use Rattle.cedar_expr_model.specs.Uid.{Uid, uid_eq}
-use Rattle.cedar_expr_model.specs.Whole.Value.{V}
+use Rattle.cedar_expr_model.specs.Value.{V}
 use Rattle.cedar_expr_model.proofs.Equality.{uid_eq-Decides}
 use Rattle.cedar_expr_model.proofs.Lists.{map_has, map_from, found-Decides}
-use Rattle.cedar_store_model.specs.Whole.World.{Entity}
-use Rattle.cedar_schema_model.specs.Whole.BagLaws.{HasTwice}
-use Rattle.cedar_schema_model.specs.Whole.ActionEntities.{action_ancestors, as_entity}
-use Rattle.cedar_schema_model.specs.Whole.Schema.{declares_action}
+use Rattle.cedar_store_model.specs.World.{Entity}
+use Rattle.cedar_schema_model.specs.BagLaws.{HasTwice}
+use Rattle.cedar_schema_model.specs.ActionEntities.{action_ancestors, as_entity}
+use Rattle.cedar_schema_model.specs.Schema.{declares_action}
 use Rattle.cedar_schema_kept_model.specs.Kept.{KeptAction, Kept, kept_action_ancestors, kept_as_entity, kept_action_entities}
 use Rattle.cedar_schema_kept_model.specs.Laws.{IsSameEntity}
 use Rattle.cedar_gate_conforming_model.specs.Laws.{KeptActionsAreEntities}

@@ -7,10 +7,10 @@ use Rattle.cedar_expr_model.specs.Name.{Name, name_eq}
 use Rattle.cedar_expr_model.specs.Uid.{Uid, uid_eq}
 use Rattle.cedar_expr_model.proofs.Equality.{name_eq-Decides, uid_eq-Decides}
 use Rattle.cedar_expr_model.proofs.Lists.{both_hold, hold_both, map_has, map_from, filter_has, filter_only, any_has, any_from, found-Decides}
-use Rattle.cedar_schema_model.specs.Whole.ActionEntities.{action_ancestors}
-use Rattle.cedar_schema_model.specs.Whole.Schema.{EntityType, Action, Schema}
-use Rattle.cedar_schema_model.specs.Whole.Descent.{type_names, action_uids, HasParent, HasActionParent, Descends, descends, ActionDescends, action_descends, is_action_ancestor}
-use Rattle.cedar_schema_model.proofs.Whole.Decls.Descent.{chain_starts, descends-Decides, action_descends-Decides, is_action_ancestor-Decides}
+use Rattle.cedar_schema_model.specs.ActionEntities.{action_ancestors}
+use Rattle.cedar_schema_model.specs.Schema.{EntityType, Action, Schema}
+use Rattle.cedar_schema_model.specs.Descent.{type_names, action_uids, HasParent, HasActionParent, Descends, descends, ActionDescends, action_descends, is_action_ancestor}
+use Rattle.cedar_schema_model.proofs.Decls.Descent.{chain_starts, descends-Decides, action_descends-Decides, is_action_ancestor-Decides}
 use Rattle.cedar_schema_kept_model.specs.Kept.{KeptType, KeptAction, Kept, kept_type, kept_action, kept_action_ancestors}
 use Rattle.cedar_schema_kept_model.specs.KeptOf.{IsKeptOf}
 use Rattle.cedar_schema_kept_model.specs.Laws.{TypesAreDeclared, ActionsAreDeclared}

@@ -6,13 +6,13 @@ use Rattle.std.specs.Option.{option_map_or}
 use Rattle.std.specs.Str.{bytes_eq}
 use Rattle.cedar_expr_model.specs.Name.{Text, Name, name_eq}
 use Rattle.cedar_expr_model.specs.Uid.{Uid}
-use Rattle.cedar_expr_model.specs.Whole.Value.{V}
-use Rattle.cedar_store_model.specs.Whole.Store.{OpenRequest}
-use Rattle.cedar_store_model.specs.Whole.World.{Entity}
-use Rattle.cedar_schema_model.specs.Whole.Conforming.{ConformFault, undeclared, not_listed, no_member, lacks_attribute, undeclared_attribute, attribute_value, tag, ancestor, context_value, open_part, Place, among_actions, of_kind, nowhere, place_of, attributes_at, tags_at, is_no_member, may_descend, lacks_ancestor, entity_fault_at, has_entity_fault, where_known, is_not_listed, has_request_fault}
-use Rattle.cedar_schema_model.specs.Whole.HasType.{has_type}
-use Rattle.cedar_schema_model.specs.Whole.Schema.{EntityKind, standard, enumerated, external, EntityType, Action, Schema, type_named, action_with, declares_type, declares_action}
-use Rattle.cedar_schema_model.specs.Whole.Types.{record_type, is_closed}
+use Rattle.cedar_expr_model.specs.Value.{V}
+use Rattle.cedar_store_model.specs.Store.{OpenRequest}
+use Rattle.cedar_store_model.specs.World.{Entity}
+use Rattle.cedar_schema_model.specs.Conforming.{ConformFault, undeclared, not_listed, no_member, lacks_attribute, undeclared_attribute, attribute_value, tag, ancestor, context_value, open_part, Place, among_actions, of_kind, nowhere, place_of, attributes_at, tags_at, is_no_member, may_descend, lacks_ancestor, entity_fault_at, has_entity_fault, where_known, is_not_listed, has_request_fault}
+use Rattle.cedar_schema_model.specs.HasType.{has_type}
+use Rattle.cedar_schema_model.specs.Schema.{EntityKind, standard, enumerated, external, EntityType, Action, Schema, type_named, action_with, declares_type, declares_action}
+use Rattle.cedar_schema_model.specs.Types.{record_type, is_closed}
 use Rattle.cedar_schema_kept_model.specs.Kept.{KeptType, KeptAction, Kept, kept_type, kept_action}
 use Rattle.cedar_schema_kept_model.specs.KeptOf.{IsSameKind, IsSameType, IsSameAction, IsKeptOf}
 use Rattle.cedar_schema_kept_model.specs.Laws.{TypesAreDeclared, ActionsAreDeclared, TypesAreFound, ActionsAreFound}

@@ -3,8 +3,8 @@ use Rattle.std.proofs.Common.{◌≡◌, ◌∙◌, List, [], ◌∷◌, Bool, t
 use Rattle.std.specs.Prelude.{Contains}
 use Rattle.std.specs.List.{find}
 use Rattle.cedar_expr_model.proofs.Lists.{contains_cases, contains_none}
-use Rattle.cedar_schema_model.specs.Whole.Conforming.{ConformFault, undeclared, not_listed, no_member, lacks_attribute, undeclared_attribute, attribute_value, tag, ancestor, context_value, open_part, conform_faults}
-use Rattle.cedar_schema_model.proofs.Whole.Decls.Conforming.{each_fault}
+use Rattle.cedar_schema_model.specs.Conforming.{ConformFault, undeclared, not_listed, no_member, lacks_attribute, undeclared_attribute, attribute_value, tag, ancestor, context_value, open_part, conform_faults}
+use Rattle.cedar_schema_model.proofs.Decls.Conforming.{each_fault}
 use Rattle.cedar_gate_conforming_model.specs.First.{first_fault}
 use Rattle.cedar_gate_conforming_model.specs.Laws.{FirstIsFault, NoneIsFaultless}
 

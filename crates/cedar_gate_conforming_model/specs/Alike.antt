@@ -3,13 +3,13 @@
 use Rattle.std.specs.Prelude.{◌≡◌, List, map, true, is_some, Contains}
 use Rattle.std.specs.List.{list_any}
 use Rattle.cedar_expr_model.specs.Uid.{Uid, uid_eq}
-use Rattle.cedar_expr_model.specs.Whole.Value.{V}
-use Rattle.cedar_store_model.specs.Whole.Store.{OpenRequest}
-use Rattle.cedar_store_model.specs.Whole.World.{Entity}
-use Rattle.cedar_schema_model.specs.Whole.ActionEntities.{action_ancestors, as_entity}
-use Rattle.cedar_schema_model.specs.Whole.BagLaws.{HasTwice}
-use Rattle.cedar_schema_model.specs.Whole.Conforming.{ConformFault, has_entity_fault, has_request_fault}
-use Rattle.cedar_schema_model.specs.Whole.Schema.{Schema, declares_action}
+use Rattle.cedar_expr_model.specs.Value.{V}
+use Rattle.cedar_store_model.specs.Store.{OpenRequest}
+use Rattle.cedar_store_model.specs.World.{Entity}
+use Rattle.cedar_schema_model.specs.ActionEntities.{action_ancestors, as_entity}
+use Rattle.cedar_schema_model.specs.BagLaws.{HasTwice}
+use Rattle.cedar_schema_model.specs.Conforming.{ConformFault, has_entity_fault, has_request_fault}
+use Rattle.cedar_schema_model.specs.Schema.{Schema, declares_action}
 use Rattle.cedar_schema_kept_model.specs.Kept.{Kept, kept_action, kept_action_ancestors}
 use Rattle.cedar_schema_kept_model.specs.Laws.{IsSameEntity}
 use Rattle.cedar_gate_conforming_model.specs.Asked.{kept_entity_fault, kept_request_fault}

@@ -7,15 +7,15 @@ use Rattle.std.specs.Option.{option_map_or}
 use Rattle.std.specs.Str.{bytes_eq}
 use Rattle.cedar_expr_model.specs.Name.{Text}
 use Rattle.cedar_expr_model.specs.Uid.{Uid, uid_eq}
-use Rattle.cedar_expr_model.specs.Whole.Value.{V}
-use Rattle.cedar_expr_model.specs.Whole.ValueParts.{Part}
-use Rattle.cedar_store_model.specs.Whole.Knowledge.{holds_values}
-use Rattle.cedar_store_model.specs.Whole.Store.{OpenRequest}
-use Rattle.cedar_store_model.specs.Whole.World.{Entity}
-use Rattle.cedar_schema_model.specs.Whole.Conforming.{ConformFault, undeclared, not_listed, no_member, lacks_attribute, undeclared_attribute, attribute_value, tag, ancestor, context_value, open_part, Place, among_actions, of_kind, nowhere, attributes_at, tags_at, attribute_list, type_at, is_no_member, is_refused, where_known, is_not_listed}
-use Rattle.cedar_schema_model.specs.Whole.HasType.{has_type}
-use Rattle.cedar_schema_model.specs.Whole.Schema.{enumerated}
-use Rattle.cedar_schema_model.specs.Whole.Types.{Ty, Attributes, attribute_named}
+use Rattle.cedar_expr_model.specs.Value.{V}
+use Rattle.cedar_expr_model.specs.ValueParts.{Part}
+use Rattle.cedar_store_model.specs.Knowledge.{holds_values}
+use Rattle.cedar_store_model.specs.Store.{OpenRequest}
+use Rattle.cedar_store_model.specs.World.{Entity}
+use Rattle.cedar_schema_model.specs.Conforming.{ConformFault, undeclared, not_listed, no_member, lacks_attribute, undeclared_attribute, attribute_value, tag, ancestor, context_value, open_part, Place, among_actions, of_kind, nowhere, attributes_at, tags_at, attribute_list, type_at, is_no_member, is_refused, where_known, is_not_listed}
+use Rattle.cedar_schema_model.specs.HasType.{has_type}
+use Rattle.cedar_schema_model.specs.Schema.{enumerated}
+use Rattle.cedar_schema_model.specs.Types.{Ty, Attributes, attribute_named}
 use Rattle.cedar_schema_kept_model.specs.Kept.{KeptAction, Kept, kept_type, kept_action}
 use Rattle.cedar_typechecker_seen_model.specs.Asked.{type_is_below, action_is_below}
 

@@ -1,10 +1,10 @@
 -- What the laws of conformance by what is kept say.
 -- Rule: conforming entities; conforming requests; action entities (docs/RULES.md).
 use Rattle.std.specs.Prelude.{◌≡◌, Bool, true, false, Some, None}
-use Rattle.cedar_schema_model.specs.Whole.Conforming.{ConformFault}
-use Rattle.cedar_schema_model.specs.Whole.Declarations.{Declarations}
-use Rattle.cedar_schema_model.specs.Whole.Resolved.{schema_of}
-use Rattle.cedar_schema_model.specs.Whole.Schema.{Schema}
+use Rattle.cedar_schema_model.specs.Conforming.{ConformFault}
+use Rattle.cedar_schema_model.specs.Declarations.{Declarations}
+use Rattle.cedar_schema_model.specs.Resolved.{schema_of}
+use Rattle.cedar_schema_model.specs.Schema.{Schema}
 use Rattle.cedar_schema_kept_model.specs.Kept.{Kept, kept_action_entities}
 use Rattle.cedar_schema_kept_model.specs.KeptOf.{IsKeptOf}
 use Rattle.cedar_typechecker_seen_model.specs.Alike.{DescendsToDeclared}

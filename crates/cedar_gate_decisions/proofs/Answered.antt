@@ -2,11 +2,11 @@
 use Rattle.std.proofs.Common.{◌≡◌, ◌∙◌, ℕ, List, [], ◌∷◌, ◌++◌, refl, sym}
 use Rattle.std.specs.Prelude.{Option, Some, None, map, All}
 use Rattle.std.specs.List.{filter_map, cons_option}
-use Rattle.cedar_expr_model.specs.Whole.Value.{truth, long, text, entity}
-use Rattle.cedar_expr_model.specs.Whole.Tree.{Tree}
-use Rattle.cedar_expr_model.specs.Whole.Made.{Made, made_prim, made_set, made_record, made_extension}
-use Rattle.cedar_store_model.specs.Whole.Policy.{Policy, Effect, permit, forbid, binding_of}
-use Rattle.cedar_store_model.specs.Whole.Answer.{answer_of, decided, ids}
+use Rattle.cedar_expr_model.specs.Value.{truth, long, text, entity}
+use Rattle.cedar_expr_model.specs.Tree.{Tree}
+use Rattle.cedar_expr_model.specs.Made.{Made, made_prim, made_set, made_record, made_extension}
+use Rattle.cedar_store_model.specs.Policy.{Policy, Effect, permit, forbid, binding_of}
+use Rattle.cedar_store_model.specs.Answer.{answer_of, decided, ids}
 use Rattle.cedar_evaluator_model.specs.Evaluation.{evaluated}
 use Rattle.cedar_evaluator_model.specs.Known.{known_world}
 use Rattle.cedar_evaluator_model.specs.Laws.{IsBound, WithinLimit, as_concrete}
@@ -18,7 +18,7 @@ use Rattle.cedar_evaluator_model.specs.Scope.{Scope, Left, value_left, residual,
 use Rattle.cedar_evaluator_model.specs.Steps.{on_value, truth_wanted}
 use Rattle.cedar_evaluator_model.proofs.Limits.{none_met}
 use Rattle.cedar_evaluator_model.proofs.Responses.{answers, no_residuals}
-use Rattle.cedar_store_model.specs.Whole.Policy.{condition}
+use Rattle.cedar_store_model.specs.Policy.{condition}
 use Rattle.cedar_gate_decisions.specs.Answers.{if_erring, errors_left, answered}
 
 -- what is empty in front, or was made of nothing, is empty

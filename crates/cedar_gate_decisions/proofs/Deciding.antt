@@ -2,10 +2,10 @@
 use Rattle.std.proofs.Common.{◌≡◌, ◌&&◌, ◌||◌, Bool, true, false, ℕ, List, [], ◌∷◌, map, Option, Some, None, if◌then◌else◌, refl, sym, ap, ◌∙◌}
 use Rattle.std.specs.List.{list_any, filter_map, cons_option, zip}
 use Rattle.std.specs.Prelude.{is_some}
-use Rattle.cedar_expr_model.specs.Whole.Made.{made_prim, made_set, made_record, made_extension}
-use Rattle.cedar_expr_model.specs.Whole.Value.{truth, long, text, entity}
-use Rattle.cedar_store_model.specs.Whole.Answer.{Decision}
-use Rattle.cedar_store_model.specs.Whole.Policy as model
+use Rattle.cedar_expr_model.specs.Made.{made_prim, made_set, made_record, made_extension}
+use Rattle.cedar_expr_model.specs.Value.{truth, long, text, entity}
+use Rattle.cedar_store_model.specs.Answer.{Decision}
+use Rattle.cedar_store_model.specs.Policy as model
 use Rattle.cedar_evaluator_model.specs.Scope.{Scope, Left, value_left, residual, stopped, fault, limit}
 use Rattle.cedar_evaluator_model.specs.Members.{decided_by, decision, met_limit, decision_in_session, is_limit as is_limit_cause}
 use Rattle.cedar_evaluator_model.specs.Response.{ResponseError, verdict, of_effect, if_true, if_residual, if_stopped, group, response_of}

@@ -6,14 +6,14 @@ use Rattle.std.specs.Str.{bytes_eq}
 use Rattle.std.proofs.lemmas.List.{append-nil}
 use Rattle.std.proofs.lemmas.Slice.Eq.{bytes_eq-Decides}
 use Rattle.cedar_expr_model.specs.Name.{Text}
-use Rattle.cedar_expr_model.specs.Whole.ListLaws.{AreDistinct}
-use Rattle.cedar_expr_model.specs.Whole.Made.{made_prim, made_set, made_record, made_extension}
-use Rattle.cedar_expr_model.specs.Whole.Tree.{Tree}
-use Rattle.cedar_expr_model.specs.Whole.Value.{truth, long, text, entity}
+use Rattle.cedar_expr_model.specs.ListLaws.{AreDistinct}
+use Rattle.cedar_expr_model.specs.Made.{made_prim, made_set, made_record, made_extension}
+use Rattle.cedar_expr_model.specs.Tree.{Tree}
+use Rattle.cedar_expr_model.specs.Value.{truth, long, text, entity}
 use Rattle.cedar_expr_model.proofs.Lists.{contains_head, contains_tail, contains_cases, contains_none, found-Decides}
-use Rattle.cedar_store_model.specs.Whole.Answer.{ids, decided, allow, deny}
-use Rattle.cedar_store_model.specs.Whole.Policy as model
-use Rattle.cedar_store_model.specs.Whole.Policy.{permit, forbid}
+use Rattle.cedar_store_model.specs.Answer.{ids, decided, allow, deny}
+use Rattle.cedar_store_model.specs.Policy as model
+use Rattle.cedar_store_model.specs.Policy.{permit, forbid}
 use Rattle.cedar_evaluator_model.specs.Scope.{Scope, Left, value_left, residual, stopped}
 use Rattle.cedar_evaluator_model.specs.Members.{of_true, of_residual, if_none, must_be_determining, may_be_determining, in_order, bounds_in_session}
 use Rattle.cedar_evaluator_model.specs.Response.{Noted, noted, verdict, of_effect, if_true, if_residual, response_of}

@@ -5,41 +5,35 @@ use Rattle.std.specs.List.{list_any}
 use Rattle.std.specs.Str.{bytes_eq}
 use Rattle.std.proofs.lemmas.Slice.Eq.{bytes_eq-Decides}
 use Rattle.cedar_expr_model.specs.Uid.{Uid, uid_eq}
-use Rattle.cedar_expr_model.specs.Whole.ListLaws.{AreDistinct}
-use Rattle.cedar_expr_model.specs.Whole.Made.{Made}
-use Rattle.cedar_expr_model.specs.Whole.Value.{V}
-use Rattle.cedar_expr_model.proofs.Whole.Gathering.{each_in}
-use Rattle.cedar_store_model.specs.Whole.Knowledge.{IsSettled}
-use Rattle.cedar_store_model.specs.Whole.Policy.{condition}
-use Rattle.cedar_store_model.specs.Whole.Answer.{Decision, ids, answer_of}
-use Rattle.cedar_store_model.specs.Whole.World.{Found, held, missing, not_loaded}
-use Rattle.cedar_store_model.proofs.Whole.Distinct.{distinct-Decides}
-use Rattle.cedar_schema_model.specs.Whole.Schema.{declares_action}
+use Rattle.cedar_expr_model.specs.ListLaws.{AreDistinct}
+use Rattle.cedar_expr_model.specs.Made.{Made}
+use Rattle.cedar_expr_model.specs.Value.{V}
+use Rattle.cedar_expr_model.proofs.Gathering.{each_in}
+use Rattle.cedar_store_model.specs.Knowledge.{IsSettled}
+use Rattle.cedar_store_model.specs.Policy.{condition}
+use Rattle.cedar_store_model.specs.Answer.{Decision, ids, answer_of}
+use Rattle.cedar_store_model.specs.World.{Found, held, missing, not_loaded}
+use Rattle.cedar_store_model.proofs.Distinct.{distinct-Decides}
+use Rattle.cedar_schema_model.specs.Schema.{declares_action}
 use Rattle.cedar_evaluator_model.specs.Known.{known_found, known_world}
 use Rattle.cedar_evaluator_model.specs.Laws.{WithinLimit, as_concrete}
 use Rattle.cedar_evaluator_model.specs.Members.{decision_in_session}
 use Rattle.cedar_evaluator_model.specs.OfLaws.Whole.{NothingUnknown, HoldsValues}
 use Rattle.cedar_evaluator_model.specs.Response.{response_of}
 use Rattle.cedar_evaluator_model.specs.Scope.{Scope}
-use Rattle.cedar_gate_model.specs.Whole.Acceptance.{Submission, IsAccepted, repeated_policy}
-use Rattle.cedar_gate_model.specs.Whole.Runs.{MayDecide}
-use Rattle.cedar_gate_model.specs.Whole.RunsAnswer.{Course, session_of, IsProper, MakeFairly, IsOpened, IsKnownStore, ForcedDecisionsAreGiven, EvaluatedDecisionsHold}
-use Rattle.cedar_gate_model.specs.Whole.Session.{Setup, State, scope_now, world_now, whole_store, NothingIsWanted, AnswerRefusal, AnswerFault}
-use Rattle.cedar_gate_model.proofs.Whole.Gate.Accepting.{acceptance_reads}
-use Rattle.cedar_gate_model.proofs.Whole.Runs.Answering.{loaded_answers}
-use Rattle.cedar_gate_model.proofs.Whole.Runs.Completing.{Stands, parts_there, store_settled}
-use Rattle.cedar_gate_model.proofs.Whole.Runs.Deciding.{none_unknown, leaves_nothing}
-use Rattle.cedar_gate_model.proofs.Whole.Runs.Names.{stands_of}
-use Rattle.cedar_gate_model.proofs.Whole.Runs.Owing.{each_all}
+use Rattle.cedar_gate_model.specs.Acceptance.{Submission, IsAccepted, repeated_policy}
+use Rattle.cedar_gate_model.specs.Runs.{MayDecide}
+use Rattle.cedar_gate_model.specs.RunsAnswer.{Course, session_of, IsProper, MakeFairly, IsOpened, IsKnownStore, ForcedDecisionsAreGiven, EvaluatedDecisionsHold}
+use Rattle.cedar_gate_model.specs.Session.{Setup, State, scope_now, world_now, whole_store, NothingIsWanted, AnswerRefusal, AnswerFault}
+use Rattle.cedar_gate_model.proofs.Gate.Accepting.{acceptance_reads}
+use Rattle.cedar_gate_model.proofs.Runs.Answering.{loaded_answers}
+use Rattle.cedar_gate_model.proofs.Runs.Completing.{Stands, parts_there, store_settled}
+use Rattle.cedar_gate_model.proofs.Runs.Deciding.{none_unknown, leaves_nothing}
+use Rattle.cedar_gate_model.proofs.Runs.Names.{stands_of}
+use Rattle.cedar_gate_model.proofs.Runs.Owing.{each_all}
 use Rattle.cedar_gate_decisions.specs.Answers.{answered}
 use Rattle.cedar_gate_decisions.specs.Laws.{Conform, loaded_store}
 use Rattle.cedar_gate_decisions.proofs.Answered.{answered_is}
-
--- what evaluating in part gives, or that it gives nothing, may be given
-pub may_be_given : ForcedDecisionsAreGiven → EvaluatedDecisionsHold → (c : Course) (s : State) (store : Uid → Found Made) → IsProper c → MakeFairly c.functions → IsOpened (session_of c) s → IsKnownStore c s store
-    → (d : Option Decision) → d ≡ decision_in_session (response_of (scope_now (session_of c) s store) c.submission.limit c.submission.policies) → MayDecide (session_of c) c.submission.policies s d
-may_be_given forced evaluated c s store proper fair opened known None e = forced c s store proper known.known (sym e)
-may_be_given forced evaluated c s store proper fair opened known (Some d) e = evaluated c s store proper fair opened known d (sym e)
 
 pub accepted_distinct : (b : Submission) → IsAccepted b → AreDistinct (ids b.policies)
 accepted_distinct b accepted = (distinct-Decides bytes_eq bytes_eq-Decides (ids b.policies)).0 (accepted repeated_policy tt)

@@ -3,12 +3,12 @@ use Rattle.std.proofs.Common.{◌≡◌, Bool, true, false, List, [], ◌∷◌,
 use Rattle.std.proofs.lemmas.List.{map-append, append-nil}
 use Rattle.std.specs.List.{cons_option}
 use Rattle.cedar_expr_model.specs.Name.{Name}
-use Rattle.cedar_expr_model.specs.Whole.Made.{Made}
-use Rattle.cedar_expr_model.specs.Whole.Table.{Table, Called}
-use Rattle.cedar_expr_model.specs.Whole.Tree.{Tree}
-use Rattle.cedar_expr_model.specs.Whole.Value.{V}
-use Rattle.cedar_store_model.specs.Whole.Policy as model
-use Rattle.cedar_store_model.specs.Whole.Policy.{SlotBindings}
+use Rattle.cedar_expr_model.specs.Made.{Made}
+use Rattle.cedar_expr_model.specs.Table.{Table, Called}
+use Rattle.cedar_expr_model.specs.Tree.{Tree}
+use Rattle.cedar_expr_model.specs.Value.{V}
+use Rattle.cedar_store_model.specs.Policy as model
+use Rattle.cedar_store_model.specs.Policy.{SlotBindings}
 use Rattle.cedar_store_parts.specs.Parts.{id_text}
 use Rattle.cedar_store_parts.specs.declared.policy_id.PolicyID.{PolicyID}
 use Rattle.cedar_evaluator_model.specs.Scope.{MadeCalled, Stop, limit, Left, value_left, residual, stopped}

@@ -3,9 +3,9 @@
 use Rattle.std.specs.Prelude.{ℕ, List, Option, Some, None}
 use Rattle.std.specs.List.{filter_map}
 use Rattle.cedar_expr_model.specs.Name.{Text}
-use Rattle.cedar_store_model.specs.Whole.Policy as model
-use Rattle.cedar_store_model.specs.Whole.Policy.{condition}
-use Rattle.cedar_store_model.specs.Whole.Answer.{ids, decided}
+use Rattle.cedar_store_model.specs.Policy as model
+use Rattle.cedar_store_model.specs.Policy.{condition}
+use Rattle.cedar_store_model.specs.Answer.{ids, decided}
 use Rattle.cedar_evaluator_model.specs.Scope.{Scope, Left, residual, stopped}
 use Rattle.cedar_evaluator_model.specs.Steps.{on_value, truth_wanted}
 use Rattle.cedar_evaluator_model.specs.Evaluation.{evaluated}

@@ -3,7 +3,7 @@
 use Rattle.std.specs.Prelude.{◌&&◌, Bool, List, map, Option, Some, None, if◌then◌else◌}
 use Rattle.std.specs.List.{filter_map}
 use Rattle.cedar_expr_model.specs.Name.{Text}
-use Rattle.cedar_store_model.specs.Whole.Policy as model
+use Rattle.cedar_store_model.specs.Policy as model
 use Rattle.cedar_store_parts.specs.Parts.{id_text}
 use Rattle.cedar_store_parts.specs.declared.policy_id.Effect.{Effect}
 use Rattle.cedar_store_policies.specs.Policies.{policy_of}

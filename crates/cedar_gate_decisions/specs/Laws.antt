@@ -3,14 +3,14 @@
 use Rattle.std.specs.Prelude.{◌≡◌, ◌||◌, ℕ, List, All, Contains, Option, Some, if◌then◌else◌}
 use Rattle.std.specs.List.{list_any}
 use Rattle.cedar_expr_model.specs.Uid.{Uid, uid_eq}
-use Rattle.cedar_expr_model.specs.Whole.ListLaws.{AreDistinct}
-use Rattle.cedar_expr_model.specs.Whole.Made.{Made}
-use Rattle.cedar_expr_model.specs.Whole.Value.{V}
-use Rattle.cedar_store_model.specs.Whole.Policy.{Policy}
-use Rattle.cedar_store_model.specs.Whole.Answer.{Decision, ids, answer_of}
-use Rattle.cedar_store_model.specs.Whole.World.{Entity, Found, missing}
-use Rattle.cedar_schema_model.specs.Whole.Schema.{declares_action}
-use Rattle.cedar_schema_model.specs.Whole.Conforming.{EntityConforms}
+use Rattle.cedar_expr_model.specs.ListLaws.{AreDistinct}
+use Rattle.cedar_expr_model.specs.Made.{Made}
+use Rattle.cedar_expr_model.specs.Value.{V}
+use Rattle.cedar_store_model.specs.Policy.{Policy}
+use Rattle.cedar_store_model.specs.Answer.{Decision, ids, answer_of}
+use Rattle.cedar_store_model.specs.World.{Entity, Found, missing}
+use Rattle.cedar_schema_model.specs.Schema.{declares_action}
+use Rattle.cedar_schema_model.specs.Conforming.{EntityConforms}
 use Rattle.cedar_evaluator_model.specs.Known.{known_found, known_world}
 use Rattle.cedar_evaluator_model.specs.Laws.{WithinLimit, as_concrete}
 use Rattle.cedar_evaluator_model.specs.Members.{decision_in_session}
@@ -18,10 +18,10 @@ use Rattle.cedar_evaluator_model.specs.OfLaws.Calls.{Agrees}
 use Rattle.cedar_evaluator_model.specs.OfLaws.Whole.{NothingUnknown, AllLoaded}
 use Rattle.cedar_evaluator_model.specs.Response.{response_of}
 use Rattle.cedar_evaluator_model.specs.Scope.{Scope}
-use Rattle.cedar_gate_model.specs.Whole.Acceptance.{Submission, IsAccepted}
-use Rattle.cedar_gate_model.specs.Whole.Runs.{MayDecide}
-use Rattle.cedar_gate_model.specs.Whole.RunsAnswer.{Course, session_of, IsProper, MakeFairly, IsOpened, IsKnownStore}
-use Rattle.cedar_gate_model.specs.Whole.Session.{Setup, State, scope_now, world_now, whole_store, NothingIsWanted, AnswerRefusal, AnswerFault}
+use Rattle.cedar_gate_model.specs.Acceptance.{Submission, IsAccepted}
+use Rattle.cedar_gate_model.specs.Runs.{MayDecide}
+use Rattle.cedar_gate_model.specs.RunsAnswer.{Course, session_of, IsProper, MakeFairly, IsOpened, IsKnownStore}
+use Rattle.cedar_gate_model.specs.Session.{Setup, State, scope_now, world_now, whole_store, NothingIsWanted, AnswerRefusal, AnswerFault}
 use Rattle.cedar_gate_decisions.specs.Answers.{answered}
 
 -- The decision that evaluating in part gives, or that it gives none, may be given: where the submission is accepted, the functions are fair

@@ -1,10 +1,10 @@
 -- What is left of policies, by kinds, and the decision by them.
 -- Rule: partial responses; owed decisions (docs/RULES.md).
 use Rattle.std.specs.Prelude.{◌&&◌, ◌||◌, Bool, true, false, not, ℕ, List, map, Option, Some, None, if◌then◌else◌}
-use Rattle.cedar_expr_model.specs.Whole.Made.{made_prim}
-use Rattle.cedar_expr_model.specs.Whole.Value.{truth}
-use Rattle.cedar_store_model.specs.Whole.Answer.{Decision, allow, deny}
-use Rattle.cedar_store_model.specs.Whole.Policy as model
+use Rattle.cedar_expr_model.specs.Made.{made_prim}
+use Rattle.cedar_expr_model.specs.Value.{truth}
+use Rattle.cedar_store_model.specs.Answer.{Decision, allow, deny}
+use Rattle.cedar_store_model.specs.Policy as model
 use Rattle.cedar_evaluator_model.specs.Scope.{Scope, Left, value_left, residual, stopped, limit}
 use Rattle.cedar_evaluator_model.specs.Response.{verdict}
 use Rattle.cedar_store_parts.specs.declared.policy_id.Effect.{Effect}

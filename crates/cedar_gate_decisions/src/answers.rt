@@ -2,10 +2,10 @@
 
 ghost use Rattle.std.specs.Prelude.{◌≡◌, ◌++◌, ℕ, ◌&&◌, IfOk, OnOk, Err, All, [], map, not, if◌then◌else◌};
 ghost use Rattle.std.specs.List.{cons_option};
-ghost use Rattle.cedar_expr_model.specs.Whole.ListLaws.{AreDistinct};
-ghost use Rattle.cedar_store_model.specs.Whole.Policy.{no_bindings};
-ghost use Rattle.cedar_store_model.specs.Whole.Answer as model;
-ghost use Rattle.cedar_store_model.specs.Whole.Answer.{ids, allow, deny};
+ghost use Rattle.cedar_expr_model.specs.ListLaws.{AreDistinct};
+ghost use Rattle.cedar_store_model.specs.Policy.{no_bindings};
+ghost use Rattle.cedar_store_model.specs.Answer as model;
+ghost use Rattle.cedar_store_model.specs.Answer.{ids, allow, deny};
 ghost use Rattle.cedar_evaluator_model.specs.Known.{known_world};
 ghost use Rattle.cedar_evaluator_model.specs.Laws.{WithinLimit, as_concrete};
 ghost use Rattle.cedar_evaluator_model.specs.OfLaws.Calls.{Agrees};

@@ -2,8 +2,8 @@
 
 ghost use Rattle.std.specs.Prelude.{◌≡◌, ℕ, IfOk, map, option_map};
 ghost use Rattle.std.specs.List.{zip};
-ghost use Rattle.cedar_expr_model.specs.Whole.ListLaws.{AreDistinct};
-ghost use Rattle.cedar_store_model.specs.Whole.Answer.{ids};
+ghost use Rattle.cedar_expr_model.specs.ListLaws.{AreDistinct};
+ghost use Rattle.cedar_store_model.specs.Answer.{ids};
 ghost use Rattle.cedar_evaluator_model.specs.Scope.{Scope};
 ghost use Rattle.cedar_evaluator_model.specs.Members.{bounds_in_session};
 ghost use Rattle.cedar_evaluator_model.specs.Response.{response_of};

@@ -1,7 +1,7 @@
 //! What is left of policies, by evaluation.
 
 ghost use Rattle.std.specs.Prelude.{◌≡◌, IfOk, Err, map};
-ghost use Rattle.cedar_store_model.specs.Whole.Policy.{no_bindings};
+ghost use Rattle.cedar_store_model.specs.Policy.{no_bindings};
 ghost use Rattle.cedar_store_policies.specs.Policies.{policy_of};
 ghost use Rattle.cedar_evaluator_model.specs.Response.{verdict as verdict_of};
 ghost use Rattle.cedar_evaluator_model.specs.Scope.{Left};

@@ -2,7 +2,7 @@
 
 ghost use Rattle.cedar_gate_decisions.specs.Laws.{DecisionsMayBeGiven, AcceptedIdsAreDistinct, AcceptedAreWithin, AnsweredIsTheAnswer, SessionsAnswer};
 
-use cedar_gate_model::whole_runs::decisions_are_the_answers;
+use cedar_gate_model::run_laws::decisions_are_the_answers;
 
 /// What evaluating the policies over what is known decides may be given as the decision of a session.
 pub fn decisions_may_be_given()

@@ -2,11 +2,11 @@
 use Rattle.std.proofs.Common.{◌≡◌, Bool, true, false, Option, Some, None, Ok, refl, ap, sym, ◌∙◌, subst, arith}
 use Rattle.std.specs.Prelude.{List, [], ◌∷◌, Contains, not, option_map}
 use Rattle.cedar_expr_model.specs.Name.{Name}
-use Rattle.cedar_expr_model.specs.Whole.Lists.{is_nil}
+use Rattle.cedar_expr_model.specs.Lists.{is_nil}
 use Rattle.cedar_expr_raw_names.specs.declared.conditional_name.ConditionalName.{ConditionalName}
 use Rattle.cedar_gate_faults.specs.Causes.{fault_of_schema, IsRefusedFor}
 use Rattle.cedar_gate_declarations.specs.Refused.{IsSubmittedWith, IsCompleteWhere}
-use Rattle.cedar_gate_model.specs.Whole.Acceptance.{Submission, Cause, schema, external, extension_types, IsCause, is_clear_of, asks_schema, HasFault}
+use Rattle.cedar_gate_model.specs.Acceptance.{Submission, Cause, schema, external, extension_types, IsCause, is_clear_of, asks_schema, HasFault}
 use Rattle.cedar_schema_builder.specs.Faults.{fault_told, Tells, of_fragments}
 use Rattle.cedar_schema_builder.specs.declared.err.SchemaError.{SchemaError}
 use Rattle.cedar_schema_builder.specs.declared.err.SchemaError.TheVariants as error
@@ -28,9 +28,9 @@ use Rattle.cedar_schema_fragments.specs.declared.err.FragmentError.{FragmentErro
 use Rattle.cedar_schema_fragments.specs.declared.err.FragmentError.TheVariants as fragments
 use Rattle.cedar_schema_fragments.specs.declared.namespace_def.ValidatorSchemaFragment.{ValidatorSchemaFragment}
 use Rattle.cedar_schema_kept_model.specs.Kept.{Kept, Elsewhere, elsewhere}
-use Rattle.cedar_schema_model.specs.Whole.BagLaws.{HasSchemaFault, SchemaFaultsDecide}
-use Rattle.cedar_schema_model.specs.Whole.Declarations.{Declarations}
-use Rattle.cedar_schema_model.specs.Whole.WellFormed.{SchemaFault, reserved_name, ill_forms, has_schema_fault, unresolved_external}
+use Rattle.cedar_schema_model.specs.BagLaws.{HasSchemaFault, SchemaFaultsDecide}
+use Rattle.cedar_schema_model.specs.Declarations.{Declarations}
+use Rattle.cedar_schema_model.specs.WellFormed.{SchemaFault, reserved_name, ill_forms, has_schema_fault, unresolved_external}
 
 -- a cause that asks no schema
 pub plain_fault : (s : Submission) (c : Cause) → IsCause c → asks_schema c ≡ false → is_clear_of c s ≡ false → HasFault c s

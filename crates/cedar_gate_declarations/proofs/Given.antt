@@ -3,9 +3,9 @@ use Rattle.std.proofs.Common.{◌≡◌, List, [], ◌∷◌, ◌++◌, Option, 
 use Rattle.std.specs.Prelude.{flat_map, filter_map, option_to_list, option_and_then}
 use Rattle.cedar_expr_functions.specs.Signatures.{extension_name, given_type}
 use Rattle.cedar_expr_model.specs.Name.{Name}
-use Rattle.cedar_expr_model.specs.Whole.Table.{Signature}
-use Rattle.cedar_expr_model.specs.Whole.Tree.{CoreType, bool_core, long_core, string_core, set_core, record_core, entity_core, extension_core}
-use Rattle.cedar_gate_model.specs.Whole.Acceptance.{extension_of}
+use Rattle.cedar_expr_model.specs.Table.{Signature}
+use Rattle.cedar_expr_model.specs.Tree.{CoreType, bool_core, long_core, string_core, set_core, record_core, entity_core, extension_core}
+use Rattle.cedar_gate_model.specs.Acceptance.{extension_of}
 
 one_given : (r : Option CoreType) (rest : List Name) → flat_map extension_of (option_to_list r) ++ rest ≡ option_to_list (option_and_then extension_name r) ++ rest
 one_given None rest = refl

@@ -2,11 +2,11 @@
 -- Rule: the acceptance rules; external declarations (docs/RULES.md).
 use Rattle.std.specs.Prelude.{◌≡◌, List, not}
 use Rattle.cedar_expr_model.specs.Name.{Name}
-use Rattle.cedar_expr_model.specs.Whole.Lists.{is_nil}
-use Rattle.cedar_gate_model.specs.Whole.Acceptance.{Submission, extension_types}
+use Rattle.cedar_expr_model.specs.Lists.{is_nil}
+use Rattle.cedar_gate_model.specs.Acceptance.{Submission, extension_types}
 use Rattle.cedar_schema_kept_model.specs.Kept.{Kept, elsewhere}
-use Rattle.cedar_schema_model.specs.Whole.Declarations.{Declarations}
-use Rattle.cedar_schema_model.specs.Whole.WellFormed.{unresolved_external, has_schema_fault}
+use Rattle.cedar_schema_model.specs.Declarations.{Declarations}
+use Rattle.cedar_schema_model.specs.WellFormed.{unresolved_external, has_schema_fault}
 
 -- The submission is of these declarations, and its table gives these extension types.
 pub record IsSubmittedWith (x : List Name) (d : Declarations) (s : Submission) : Type 0 where

@@ -5,15 +5,15 @@ ghost use Rattle.cedar_expr_model.specs.Name.{Name};
 ghost use Rattle.cedar_gate_declarations.specs.Refused.{IsSubmittedWith, IsCompleteWhere};
 ghost use Rattle.cedar_gate_faults.specs.Causes.{IsRefusedFor};
 ghost use Rattle.cedar_gate_fragments.specs.Written.{declared_by};
-ghost use Rattle.cedar_gate_model.specs.Whole.Acceptance.{Submission};
+ghost use Rattle.cedar_gate_model.specs.Acceptance.{Submission};
 ghost use Rattle.cedar_schema_builder.specs.Extensions.{types_given};
 ghost use Rattle.cedar_schema_builder.specs.Faults.{Tells};
 ghost use Rattle.cedar_schema_built.specs.Views.{schema_kept};
 ghost use Rattle.cedar_schema_fragments.specs.WrittenDeclarations.{AreWritten};
 ghost use Rattle.cedar_schema_kept_model.specs.KeptOf.{IsKeptOf};
-ghost use Rattle.cedar_schema_model.specs.Whole.BagLaws.{HasSchemaFault};
-ghost use Rattle.cedar_schema_model.specs.Whole.Resolved.{schema_of};
-ghost use Rattle.cedar_schema_model.specs.Whole.WellFormed.{unresolved_external, has_schema_fault, IsWellFormed};
+ghost use Rattle.cedar_schema_model.specs.BagLaws.{HasSchemaFault};
+ghost use Rattle.cedar_schema_model.specs.Resolved.{schema_of};
+ghost use Rattle.cedar_schema_model.specs.WellFormed.{unresolved_external, has_schema_fault, IsWellFormed};
 
 use cedar_expr_functions::Extensions;
 use cedar_expr_raw_names::{ConditionalName, RawName};
@@ -25,7 +25,7 @@ use cedar_schema_copies::fragments_of;
 use cedar_schema_decl::json_schema::Fragment;
 use cedar_schema_fragments::ValidatorSchemaFragment;
 use cedar_schema_fragments::laws::fragments_are_written;
-use cedar_schema_model::whole_decl_laws::declarations_are_decided;
+use cedar_schema_model::decl_laws::declarations_are_decided;
 use std::alloc::Global;
 
 // The fragments under full names. Refuses a reserved name where none may stand.

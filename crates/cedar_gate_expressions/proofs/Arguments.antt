@@ -4,11 +4,11 @@ use Rattle.std.proofs.Math.ListN.{drop_of_length-le}
 use Rattle.std.proofs.lemmas.List.{map-append}
 use Rattle.serde_json.specs.View.{view}
 use Rattle.serde_json.specs.declared.value.Value.{Value}
-use Rattle.cedar_expr_model.specs.Whole.Tree.{Tree}
-use Rattle.cedar_expr_model.specs.Whole.Lists.{all_given}
+use Rattle.cedar_expr_model.specs.Tree.{Tree}
+use Rattle.cedar_expr_model.specs.Lists.{all_given}
 use Rattle.cedar_expr_trees.specs.declared.expr.Expr.{Expr}
 use Rattle.cedar_expr_trees.specs.Trees.{tree_of}
-use Rattle.cedar_gate_model.specs.Whole.ReadingExpression.{expression_read}
+use Rattle.cedar_gate_model.specs.ReadingExpression.{expression_read}
 use Rattle.cedar_gate_expressions.specs.Parts.{parts}
 use Rattle.cedar_gate_reading.proofs.Gathered.{then_rest, one_more}
 

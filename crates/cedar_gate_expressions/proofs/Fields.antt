@@ -4,10 +4,10 @@ use Rattle.std.specs.Rc.{rc_str_bytes}
 use Rattle.std.specs.declared.rc.RcStr.{RcStr}
 use Rattle.serde_json.proofs.Views.{Entry}
 use Rattle.serde_json.specs.View.{view, members_view}
-use Rattle.cedar_gate_model.specs.Whole.ReadingExpression.{expression_read, fields_in}
+use Rattle.cedar_gate_model.specs.ReadingExpression.{expression_read, fields_in}
 use Rattle.cedar_expr_model.specs.Name.{Text}
-use Rattle.cedar_expr_model.specs.Whole.Tree.{Tree, TreeFields, no_tree_fields, tree_field}
-use Rattle.cedar_expr_model.specs.Whole.Builder.{tree_fields}
+use Rattle.cedar_expr_model.specs.Tree.{Tree, TreeFields, no_tree_fields, tree_field}
+use Rattle.cedar_expr_model.specs.Builder.{tree_fields}
 use Rattle.cedar_expr_trees.specs.declared.expr.Expr.{Expr}
 use Rattle.cedar_expr_trees.specs.Trees.{tree_of, named, field_trees}
 

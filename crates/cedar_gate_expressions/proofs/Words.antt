@@ -3,7 +3,7 @@ use Rattle.std.proofs.Common.{◌≡◌, ℕ, List, codes, false, rules, refl}
 use Rattle.std.specs.Map.{lookup}
 use Rattle.std.specs.Str.{bytes_eq}
 use Rattle.std.proofs.lemmas.Slice.Eq.{bytes_eq-Decides}
-use Rattle.cedar_gate_model.specs.Whole.ReadingExpression.{forms}
+use Rattle.cedar_gate_model.specs.ReadingExpression.{forms}
 use Rattle.cedar_gate_expressions.specs.Forms.{operator_forms}
 
 apart : (a b : List ℕ) → (a ≡ b → ⊥) → bytes_eq a b ≡ false

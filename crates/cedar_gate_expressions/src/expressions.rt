@@ -1,12 +1,12 @@
 //! Expressions.
 ghost use Rattle.std.specs.Prelude.{◌≡◌, Some, None, IfOk, IfErr, map, drop};
 ghost use Rattle.serde_json.specs.View.{view, members_view};
-ghost use Rattle.cedar_expr_model.specs.Whole.Lists.{all_given};
-ghost use Rattle.cedar_expr_model.specs.Whole.Builder.{tree_fields};
+ghost use Rattle.cedar_expr_model.specs.Lists.{all_given};
+ghost use Rattle.cedar_expr_model.specs.Builder.{tree_fields};
 ghost use Rattle.cedar_expr_trees.specs.Trees.{tree_of, named, field_trees};
-ghost use Rattle.cedar_gate_model.specs.Whole.ReadingExpression.{expression_read, fields_in, of_two, of_three, call_form};
+ghost use Rattle.cedar_gate_model.specs.ReadingExpression.{expression_read, fields_in, of_two, of_three, call_form};
 ghost use Rattle.cedar_gate_expressions.specs.Forms.{form_of, joint_of};
-ghost use Rattle.cedar_expr_model.specs.Whole.Tree.{choice};
+ghost use Rattle.cedar_expr_model.specs.Tree.{choice};
 ghost use Rattle.cedar_gate_expressions.specs.declared.forms.Form.TheVariants.{OfTest, Record};
 ghost use Rattle.cedar_gate_expressions.specs.Parts.{parts};
 ghost use Rattle.cedar_gate_reading.specs.declared.fault.ReadFault.TheVariants.{Unreadable};

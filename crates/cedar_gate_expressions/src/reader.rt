@@ -1,6 +1,6 @@
 //! The reader of expressions, for lists and maps of them.
 ghost use Rattle.cedar_expr_trees.specs.Trees.{tree_of};
-ghost use Rattle.cedar_gate_model.specs.Whole.ReadingExpression.{expression_read};
+ghost use Rattle.cedar_gate_model.specs.ReadingExpression.{expression_read};
 
 use crate::expressions::read_expression;
 use cedar_expr_trees::Expr;
@@ -14,7 +14,7 @@ pub struct ExpressionReader;
 impl Reader for ExpressionReader {
     type Item = Expr;
 
-    ghost use Rattle.cedar_expr_model.specs.Whole.Tree.{Tree};
+    ghost use Rattle.cedar_expr_model.specs.Tree.{Tree};
 
     ghost Meaning = { Tree };
 

@@ -1,7 +1,7 @@
 -- Which fault of a submission is named, and its number.
 -- Rule: the acceptance rules; statuses and refusal numbers (docs/RULES.md).
 use Rattle.std.specs.Prelude.{◌≡◌, ℕ, Option, Some, None, option_map}
-use Rattle.cedar_gate_model.specs.Whole.Acceptance.{Submission, Cause, schema, external, repeated_policy, unlinked_slot, slot_outside_scope, unknown_in_policy, nests_too_deep, unknown_entity_type, unknown_action, no_member, ill_typed, reaches_too_far, HasFault}
+use Rattle.cedar_gate_model.specs.Acceptance.{Submission, Cause, schema, external, repeated_policy, unlinked_slot, slot_outside_scope, unknown_in_policy, nests_too_deep, unknown_entity_type, unknown_action, no_member, ill_typed, reaches_too_far, HasFault}
 use Rattle.cedar_schema_builder.specs.Faults.{fault_told}
 use Rattle.cedar_schema_builder.specs.declared.err.SchemaError.{SchemaError}
 use Rattle.cedar_schema_builder.specs.declared.err.SchemaError.TheVariants as error

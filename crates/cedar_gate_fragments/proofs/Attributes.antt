@@ -9,7 +9,7 @@ use Rattle.serde_json.specs.View.{view, members_view}
 use Rattle.cedar_expr_model.specs.Name.{Text, Name}
 use Rattle.cedar_expr_raw_names.specs.Views.{raw_name_of}
 use Rattle.cedar_expr_raw_names.specs.declared.raw_name.RawName.{RawName}
-use Rattle.cedar_schema_model.specs.Whole.Declarations.{TypeExpr, FieldExprs, no_field_exprs, field_expr}
+use Rattle.cedar_schema_model.specs.Declarations.{TypeExpr, FieldExprs, no_field_exprs, field_expr}
 use Rattle.cedar_schema_decl.specs.Forms.{TypeForm}
 use Rattle.cedar_schema_decl.specs.Laws.{as_expr, as_exprs}
 use Rattle.cedar_expr_values.specs.Fields.{by_text}
@@ -19,7 +19,7 @@ use Rattle.cedar_schema_decl.specs.declared.json_schema.TypeVariant.{TypeVariant
 use Rattle.cedar_schema_decl.specs.declared.json_schema.RecordType.{RecordType, RecordType-F, roll-RecordType, fold-roll-RecordType}
 use Rattle.cedar_schema_decl.specs.declared.json_schema.TypeOfAttribute.{TypeOfAttribute}
 use Rattle.cedar_gate_model.specs.Reading.{given}
-use Rattle.cedar_gate_model.specs.Whole.ReadingSchema.{type_read, marked_read, attributes_in}
+use Rattle.cedar_gate_model.specs.ReadingSchema.{type_read, marked_read, attributes_in}
 use Rattle.cedar_gate_fragments.specs.Types.{required_type, optional_type, attribute_read, attribute_seen}
 
 -- attributes of the code: one more, and those of a record that is made

@@ -4,12 +4,12 @@ use Rattle.std.specs.Option.{option_or}
 use Rattle.serde_json.specs.Data.{Data}
 use Rattle.serde_json.specs.Find.{get}
 use Rattle.cedar_expr_model.specs.Name.{Name}
-use Rattle.cedar_expr_model.specs.Whole.Lists.{when}
-use Rattle.cedar_schema_model.specs.Whole.Declarations.{KindExpr, enumerated_expr, external_expr}
+use Rattle.cedar_expr_model.specs.Lists.{when}
+use Rattle.cedar_schema_model.specs.Declarations.{KindExpr, enumerated_expr, external_expr}
 use Rattle.cedar_gate_model.specs.Reading.{given, has_only, list_of}
-use Rattle.cedar_gate_model.specs.Whole.ReadingForms.{read_as, alone}
-use Rattle.cedar_gate_model.specs.Whole.ReadingName.{any_name_read}
-use Rattle.cedar_gate_model.specs.Whole.ReadingSchema.{standard_read, enumerated_read, kind_read}
+use Rattle.cedar_gate_model.specs.ReadingForms.{read_as, alone}
+use Rattle.cedar_gate_model.specs.ReadingName.{any_name_read}
+use Rattle.cedar_gate_model.specs.ReadingSchema.{standard_read, enumerated_read, kind_read}
 use Rattle.cedar_gate_reading.proofs.Keys.{not_alone, is_alone, is_not}
 use Rattle.cedar_gate_fragments.specs.Written.{ids_read}
 

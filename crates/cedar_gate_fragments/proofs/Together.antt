@@ -10,14 +10,14 @@ use Rattle.serde_json.specs.View.{view, members_view}
 use Rattle.serde_json.proofs.Views.{Entry}
 use Rattle.cedar_expr_model.specs.Name.{Text, Name, name_read, is_identifier}
 use Rattle.cedar_expr_model.specs.Uid.{Uid}
-use Rattle.cedar_expr_model.specs.Whole.Lists.{when}
+use Rattle.cedar_expr_model.specs.Lists.{when}
 use Rattle.cedar_expr_names.specs.Views.{id_text, name_of}
 use Rattle.cedar_expr_names.specs.declared.id.Id.{Id}
 use Rattle.cedar_expr_names.specs.declared.internal_name.InternalName.{InternalName}
 use Rattle.cedar_expr_raw_names.specs.Views.{raw_name_of}
 use Rattle.cedar_expr_raw_names.specs.declared.raw_name.RawName.{RawName}
-use Rattle.cedar_schema_model.specs.Whole.Reference.{Namespace}
-use Rattle.cedar_schema_model.specs.Whole.Declarations.{TypeExpr, record_expr, no_field_exprs, KindExpr, Declarations, bag}
+use Rattle.cedar_schema_model.specs.Reference.{Namespace}
+use Rattle.cedar_schema_model.specs.Declarations.{TypeExpr, record_expr, no_field_exprs, KindExpr, Declarations, bag}
 use Rattle.cedar_schema_decl.specs.Definitions.{common_form}
 use Rattle.cedar_schema_decl.specs.Laws.{namespace_parts}
 use Rattle.cedar_schema_decl.specs.declared.json_schema.ActionEntityUID.{ActionEntityUID}
@@ -30,8 +30,8 @@ use Rattle.cedar_schema_fragments.specs.Actions.{parent_form}
 use Rattle.cedar_schema_fragments.specs.Written.{WrittenNamespace, kind_form, action_type_form, written_namespace, written_fragment}
 use Rattle.cedar_schema_fragments.specs.WrittenDeclarations.{common_declaration, entity_declaration, as_uid, action_declaration, declared_in as written_in, declarations_of}
 use Rattle.cedar_gate_model.specs.Reading.{given, if_there, each, has_only, optional, list_of, members_of, each_member}
-use Rattle.cedar_gate_model.specs.Whole.ReadingName.{any_name_read, declared_uid_read}
-use Rattle.cedar_gate_model.specs.Whole.ReadingSchema.{type_read, kind_read, common_read, entity_type_read, action_read, namespace_named, declared_in, namespace_read}
+use Rattle.cedar_gate_model.specs.ReadingName.{any_name_read, declared_uid_read}
+use Rattle.cedar_gate_model.specs.ReadingSchema.{type_read, kind_read, common_read, entity_type_read, action_read, namespace_named, declared_in, namespace_read}
 use Rattle.cedar_gate_reading.specs.Maps.{under_text, under_word}
 use Rattle.cedar_gate_reading.proofs.Keys.{none_when}
 use Rattle.cedar_gate_fragments.specs.Types.{type_seen}

@@ -8,8 +8,8 @@ use Rattle.serde_json.specs.Data.{Data, null, boolean, number, string, array, ob
 use Rattle.cedar_expr_model.specs.Name.{Text}
 use Rattle.cedar_expr_raw_names.specs.Views.{raw_name_of}
 use Rattle.cedar_expr_raw_names.specs.declared.raw_name.RawName.{RawName}
-use Rattle.cedar_schema_model.specs.Whole.Reference.{to_entity, to_common}
-use Rattle.cedar_schema_model.specs.Whole.Declarations.{TypeExpr, bool_expr, long_expr, string_expr, set_expr, record_expr, reference, extension_expr, FieldExprs}
+use Rattle.cedar_schema_model.specs.Reference.{to_entity, to_common}
+use Rattle.cedar_schema_model.specs.Declarations.{TypeExpr, bool_expr, long_expr, string_expr, set_expr, record_expr, reference, extension_expr, FieldExprs}
 use Rattle.cedar_schema_decl.specs.Laws.{as_expr, as_exprs}
 use Rattle.cedar_schema_decl.specs.Trees.{type_form, variant_form, record_fields, attribute_form}
 use Rattle.cedar_schema_decl.specs.declared.json_schema.Type.{«Type» as Written}
@@ -17,8 +17,8 @@ use Rattle.cedar_schema_decl.specs.declared.json_schema.TypeVariant.{TypeVariant
 use Rattle.cedar_schema_decl.specs.declared.json_schema.RecordType.{RecordType}
 use Rattle.cedar_schema_decl.specs.declared.json_schema.TypeOfAttribute.{TypeOfAttribute}
 use Rattle.cedar_gate_model.specs.Reading.{given}
-use Rattle.cedar_gate_model.specs.Whole.ReadingName.{any_name_read}
-use Rattle.cedar_gate_model.specs.Whole.ReadingSchema.{TypePart, type_forms, type_read, attributes_read, marked_read}
+use Rattle.cedar_gate_model.specs.ReadingName.{any_name_read}
+use Rattle.cedar_gate_model.specs.ReadingSchema.{TypePart, type_forms, type_read, attributes_read, marked_read}
 use Rattle.cedar_gate_fragments.specs.declared.types.Leaf.{Leaf}
 use Rattle.cedar_gate_fragments.specs.declared.types.Leaf.TheVariants.{Entity, Common, Extension}
 use Rattle.cedar_gate_fragments.specs.declared.types.Form.{Form}

@@ -10,13 +10,13 @@ use Rattle.serde_json.specs.Find.{as_str}
 use Rattle.cedar_expr_leaves.specs.declared.non_empty.NonEmpty.{NonEmpty}
 use Rattle.cedar_expr_model.specs.Name.{Text, Name}
 use Rattle.cedar_expr_model.specs.Uid.{Uid}
-use Rattle.cedar_expr_model.specs.Whole.Lists.{when, is_nil}
+use Rattle.cedar_expr_model.specs.Lists.{when, is_nil}
 use Rattle.cedar_expr_names.specs.Views.{name_of}
 use Rattle.cedar_expr_names.specs.declared.internal_name.InternalName.{InternalName}
 use Rattle.cedar_expr_raw_names.specs.Views.{raw_name_of}
 use Rattle.cedar_expr_raw_names.specs.declared.raw_name.RawName.{RawName}
-use Rattle.cedar_schema_model.specs.Whole.Reference.{Namespace}
-use Rattle.cedar_schema_model.specs.Whole.Declarations.{TypeExpr, record_expr, no_field_exprs, KindExpr, CommonDeclaration, EntityDeclaration, ActionDeclaration, Declarations}
+use Rattle.cedar_schema_model.specs.Reference.{Namespace}
+use Rattle.cedar_schema_model.specs.Declarations.{TypeExpr, record_expr, no_field_exprs, KindExpr, CommonDeclaration, EntityDeclaration, ActionDeclaration, Declarations}
 use Rattle.cedar_schema_decl.specs.Laws.{as_expr, namespace_parts}
 use Rattle.cedar_schema_decl.specs.declared.json_schema.ActionEntityUID.{ActionEntityUID}
 use Rattle.cedar_schema_decl.specs.declared.json_schema.ActionType.{ActionType}
@@ -27,9 +27,9 @@ use Rattle.cedar_schema_fragments.specs.Actions.{parent_form}
 use Rattle.cedar_schema_fragments.specs.Written.{kind_form, principals_written, resources_written, context_written, is_written_elsewhere, written_fragment}
 use Rattle.cedar_schema_fragments.specs.WrittenDeclarations.{parents_written, kind_written, as_uid, declarations_of}
 use Rattle.cedar_gate_model.specs.Reading.{given, optional, has_only, list_of, members_of}
-use Rattle.cedar_gate_model.specs.Whole.ReadingForms.{if_passing}
-use Rattle.cedar_gate_model.specs.Whole.ReadingName.{any_name_read, declared_uid_read}
-use Rattle.cedar_gate_model.specs.Whole.ReadingSchema.{type_read, kind_read}
+use Rattle.cedar_gate_model.specs.ReadingForms.{if_passing}
+use Rattle.cedar_gate_model.specs.ReadingName.{any_name_read, declared_uid_read}
+use Rattle.cedar_gate_model.specs.ReadingSchema.{type_read, kind_read}
 use Rattle.cedar_gate_reading.specs.Maps.{under_text, under_word, texts_seen, words_seen}
 use Rattle.cedar_gate_fragments.specs.Types.{type_seen}
 

@@ -2,10 +2,10 @@
 ghost use Rattle.std.specs.Prelude.{◌≡◌, Some, None, IfOk, IfErr, codes};
 ghost use Rattle.serde_json.specs.View.{view, items_view};
 ghost use Rattle.cedar_expr_model.specs.Uid.{Uid};
-ghost use Rattle.cedar_schema_model.specs.Whole.Declarations.{record_expr, no_field_exprs};
+ghost use Rattle.cedar_schema_model.specs.Declarations.{record_expr, no_field_exprs};
 ghost use Rattle.cedar_gate_model.specs.Reading.{optional};
-ghost use Rattle.cedar_gate_model.specs.Whole.ReadingName.{any_name_read, uid_in, declared_uid_read};
-ghost use Rattle.cedar_gate_model.specs.Whole.ReadingSchema.{type_read};
+ghost use Rattle.cedar_gate_model.specs.ReadingName.{any_name_read, uid_in, declared_uid_read};
+ghost use Rattle.cedar_gate_model.specs.ReadingSchema.{type_read};
 ghost use Rattle.cedar_gate_fragments.specs.Types.{type_seen};
 ghost use Rattle.cedar_gate_fragments.specs.Written.{parent_seen, ActionBody, action_seen, action_body_read};
 ghost use Rattle.cedar_gate_reading.specs.declared.fault.ReadFault.TheVariants.{Unreadable};

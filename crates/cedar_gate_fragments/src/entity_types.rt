@@ -2,9 +2,9 @@
 ghost use Rattle.std.specs.Prelude.{◌≡◌, true, List, Option, Some, None, IfOk, IfErr, codes, ◌∷◌, []};
 ghost use Rattle.serde_json.specs.View.{view};
 ghost use Rattle.cedar_expr_model.specs.Name.{Name};
-ghost use Rattle.cedar_schema_model.specs.Whole.Declarations.{KindExpr, no_field_exprs};
+ghost use Rattle.cedar_schema_model.specs.Declarations.{KindExpr, no_field_exprs};
 ghost use Rattle.cedar_gate_model.specs.Reading.{has_only, optional};
-ghost use Rattle.cedar_gate_model.specs.Whole.ReadingSchema.{attributes_read, standard_read, enumerated_read, kind_read};
+ghost use Rattle.cedar_gate_model.specs.ReadingSchema.{attributes_read, standard_read, enumerated_read, kind_read};
 ghost use Rattle.cedar_gate_fragments.specs.Types.{fields_seen};
 ghost use Rattle.cedar_gate_fragments.specs.Written.{kind_seen, ids_seen, ids_read};
 ghost use Rattle.cedar_gate_reading.specs.declared.fault.ReadFault.TheVariants.{Unreadable};

@@ -2,8 +2,8 @@
 ghost use Rattle.std.specs.Prelude.{◌≡◌, Some, None, IfOk, IfErr, OnOk, option_map};
 ghost use Rattle.serde_json.specs.View.{view, items_view, members_view};
 ghost use Rattle.cedar_gate_model.specs.Reading.{each, each_member};
-ghost use Rattle.cedar_gate_model.specs.Whole.ReadingSchema.{namespace_named, namespace_read, fragment_read, schema_read};
-ghost use Rattle.cedar_schema_model.specs.Whole.Declarations.{bag};
+ghost use Rattle.cedar_gate_model.specs.ReadingSchema.{namespace_named, namespace_read, fragment_read, schema_read};
+ghost use Rattle.cedar_schema_model.specs.Declarations.{bag};
 ghost use Rattle.cedar_gate_fragments.specs.Written.{space_seen, definition_read, definition_seen, declared_in_fragment, declared_by, joined};
 ghost use Rattle.cedar_gate_reading.specs.declared.fault.ReadFault.TheVariants.{Unreadable};
 

@@ -4,10 +4,10 @@ ghost use Rattle.std.specs.Map.{lookup};
 ghost use Rattle.std.specs.Str.{bytes_eq};
 ghost use Rattle.serde_json.specs.View.{view, members_view};
 ghost use Rattle.cedar_expr_raw_names.specs.Views.{raw_name_of};
-ghost use Rattle.cedar_schema_model.specs.Whole.Declarations.{TypeExpr};
+ghost use Rattle.cedar_schema_model.specs.Declarations.{TypeExpr};
 ghost use Rattle.cedar_schema_decl.specs.Laws.{as_exprs};
 ghost use Rattle.cedar_schema_decl.specs.Trees.{in_a_row, attribute_rows};
-ghost use Rattle.cedar_gate_model.specs.Whole.ReadingSchema.{type_read, type_in, attributes_read, attributes_in, type_forms};
+ghost use Rattle.cedar_gate_model.specs.ReadingSchema.{type_read, type_in, attributes_read, attributes_in, type_forms};
 ghost use Rattle.cedar_gate_fragments.specs.Types.{type_seen, fields_seen, attribute_seen, attribute_read, attribute_in, type_part, form_of, leaf_read, word_read, variant_seen};
 ghost use Rattle.cedar_gate_reading.specs.declared.fault.ReadFault.TheVariants.{Unreadable};
 

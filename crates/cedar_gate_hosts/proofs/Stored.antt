@@ -5,12 +5,12 @@ use Rattle.std.specs.Map.{lookup}
 use Rattle.cedar_expr_names.specs.Views.{uid_of}
 use Rattle.cedar_expr_names.specs.declared.entity.EntityUID.{EntityUID}
 use Rattle.cedar_expr_model.specs.Uid.{Uid, uid_eq}
-use Rattle.cedar_expr_model.specs.Whole.Uids.{is_uid}
-use Rattle.cedar_expr_model.specs.Whole.Made.{Made}
-use Rattle.cedar_expr_model.specs.Whole.Value.{V}
-use Rattle.cedar_store_model.specs.Whole.World as world
-use Rattle.cedar_store_model.specs.Whole.World.{Found, missing, not_loaded}
-use Rattle.cedar_store_model.specs.Whole.Store.{Extent, whole, partial, found_as, look_up}
+use Rattle.cedar_expr_model.specs.Uids.{is_uid}
+use Rattle.cedar_expr_model.specs.Made.{Made}
+use Rattle.cedar_expr_model.specs.Value.{V}
+use Rattle.cedar_store_model.specs.World as world
+use Rattle.cedar_store_model.specs.World.{Found, missing, not_loaded}
+use Rattle.cedar_store_model.specs.Store.{Extent, whole, partial, found_as, look_up}
 use Rattle.cedar_store_entities.specs.StoreParts.{entities_in, kept_in}
 use Rattle.cedar_store_entities.specs.Stores.{store_seen, store_made}
 use Rattle.cedar_store_entities.specs.Views.{Kept, bare_entity, entity_uid, entity_kept, kept_pair}

@@ -4,8 +4,8 @@ use Rattle.std.specs.Map.{lookup}
 use Rattle.cedar_expr_names.specs.Views.{uid_of}
 use Rattle.cedar_expr_names.specs.declared.entity.EntityUID.{EntityUID}
 use Rattle.cedar_expr_model.specs.Uid.{Uid, uid_eq}
-use Rattle.cedar_expr_model.specs.Whole.Made.{Made}
-use Rattle.cedar_store_model.specs.Whole.World as world
+use Rattle.cedar_expr_model.specs.Made.{Made}
+use Rattle.cedar_store_model.specs.World as world
 use Rattle.cedar_store_entities.specs.Views.{Kept, entity_uid, entity_seen}
 use Rattle.cedar_store_entities.specs.declared.entity.Entity.{Entity}
 use Rattle.cedar_gate_hosts.specs.declared.host.HostFault.{HostFault}

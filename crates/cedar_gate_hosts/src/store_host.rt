@@ -30,6 +30,13 @@ impl StoreHost {
             asked: Vec::new(alloc),
         }
     }
+
+    /// The lists of uids that were asked for and answered, in their order.
+    pub fn asked(&self) -> &[Vec<EntityUID>]
+        ensures { map (λ uids. map uid_of uids.items) result.now ≡ store_asked self.now }
+    {
+        self.asked.as_slice()
+    }
 }
 
 // What the store answers to a uid: a copy of its entity, where it has one.

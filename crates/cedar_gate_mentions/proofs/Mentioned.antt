@@ -7,10 +7,10 @@ use Rattle.std.specs.declared.collections.BTreeMap.{BTreeMap}
 use Rattle.std.specs.declared.rc.Rc.{Rc}
 use Rattle.std.specs.declared.rc.RcStr.{RcStr}
 use Rattle.cedar_expr_model.specs.Uid.{Uid}
-use Rattle.cedar_expr_model.specs.Whole.Made as model
-use Rattle.cedar_expr_model.specs.Whole.Made.{Made, Mades}
-use Rattle.cedar_expr_model.specs.Whole.Records.{fields}
-use Rattle.cedar_expr_model.specs.Whole.Value.{prim, set_of, record_of, extension, field}
+use Rattle.cedar_expr_model.specs.Made as model
+use Rattle.cedar_expr_model.specs.Made.{Made, Mades}
+use Rattle.cedar_expr_model.specs.Records.{fields}
+use Rattle.cedar_expr_model.specs.Value.{prim, set_of, record_of, extension, field}
 use Rattle.cedar_expr_leaves.specs.Literals.{literal_of}
 use Rattle.cedar_expr_leaves.specs.declared.literal.Literal.{Literal}
 use Rattle.cedar_expr_values.specs.Extension.{Extension}
@@ -22,7 +22,7 @@ use Rattle.cedar_expr_values.specs.declared.value.ValueKind.{ValueKind-F, fold-r
 use Rattle.cedar_expr_values.specs.declared.value.ValueKind.TheVariants.{Lit, Set as SetKind, Record, ExtensionValue, rolls-Lit, rolls-Set, rolls-ExtensionValue}
 use Rattle.cedar_expr_values.specs.declared.value.Set.{Set}
 use Rattle.cedar_expr_values.proofs.Recorded.{record_kind}
-use Rattle.cedar_gate_model.specs.Whole.Slice.{mentioned}
+use Rattle.cedar_gate_model.specs.Slice.{mentioned}
 use Rattle.cedar_gate_mentions.specs.Mentions.{mentioned_in}
 
 literal_is : (l : Literal) → bare_kind extension_of (Lit l) ≡ prim (literal_of l)

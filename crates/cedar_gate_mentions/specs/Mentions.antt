@@ -4,7 +4,7 @@ use Rattle.std.specs.Prelude.{List, map}
 use Rattle.std.specs.declared.alloc.Global.{Global}
 use Rattle.std.specs.declared.rc.RcStr.{RcStr}
 use Rattle.cedar_expr_model.specs.Uid.{Uid}
-use Rattle.cedar_expr_model.specs.Whole.Records.{fields}
+use Rattle.cedar_expr_model.specs.Records.{fields}
 use Rattle.cedar_expr_names.specs.Views.{uid_of}
 use Rattle.cedar_expr_names.specs.declared.entity.EntityUID.{EntityUID}
 use Rattle.cedar_expr_partial.specs.declared.partial_value.PartialValue.{PartialValue}
@@ -13,7 +13,7 @@ use Rattle.cedar_expr_values.specs.Values.{bare_pair}
 use Rattle.cedar_expr_values.specs.declared.extension.ExtValue.{ExtValue}
 use Rattle.cedar_expr_values.specs.declared.value.Value.{Value}
 use Rattle.cedar_store_entities.specs.Views.{bare_part, part_seen, part_pair}
-use Rattle.cedar_gate_model.specs.Whole.Slice.{mentioned_in_fields, mentioned_by_parts}
+use Rattle.cedar_gate_model.specs.Slice.{mentioned_in_fields, mentioned_by_parts}
 
 -- the uids of a list
 abbrev pub uids : List EntityUID → List Uid

@@ -3,7 +3,7 @@
 ghost use Rattle.std.specs.Prelude.{◌≡◌, ◌++◌, OnOk};
 ghost use Rattle.cedar_expr_values.specs.Extensions.{extension_of};
 ghost use Rattle.cedar_expr_values.specs.Values.{bare};
-ghost use Rattle.cedar_gate_model.specs.Whole.Slice.{mentioned};
+ghost use Rattle.cedar_gate_model.specs.Slice.{mentioned};
 ghost use Rattle.cedar_gate_mentions.specs.Mentions.{uids, mentioned_in};
 
 use cedar_expr_leaves::Literal;
@@ -45,7 +45,7 @@ pub fn add_mentioned_in(
 }
 
 ghost use Rattle.cedar_expr_leaves.specs.Literals.{literal_of};
-ghost use Rattle.cedar_expr_model.specs.Whole.Value.{prim};
+ghost use Rattle.cedar_expr_model.specs.Value.{prim};
 
 // Adds the uid that the literal is, if it is one.
 fn add_literal(literal: &Literal, to: &mut Vec<EntityUID>) -> Result<(), AllocError>

@@ -1,7 +1,5 @@
-pub mod Acceptance
-pub mod Policies
+pub mod Named
+pub mod Reading
+pub mod Gate
 pub mod Runs
-pub mod Lines
-pub mod Computed
-pub mod Order
-pub mod Whole
+pub mod Promised

@@ -1,21 +1,22 @@
 -- The lines that the program prints, and its status. Each line ends with a line feed.
 -- Rule: the lines; statuses and refusal numbers (docs/RULES.md).
-use Rattle.std.specs.Prelude.{◌≡◌, ◌+◌, ℕ, List, [], ◌∷◌, ◌++◌, Option, Some, None, true, false, codes}
+use Rattle.std.specs.Prelude.{◌≡◌, ◌+◌, ℕ, List, [], ◌∷◌, ◌++◌, Option, Some, None, codes}
 use Rattle.std.specs.List.{flat_map}
 use Rattle.std.specs.Fmt.{decimal}
-use Rattle.cedar_expr_model.specs.Name.{Text}
-use Rattle.cedar_expr_model.specs.Uid.{Uid, uid_text, quoted}
-use Rattle.cedar_store_model.specs.Answer.{Decision, allow, deny, Answer, answer_of, decision_of}
-use Rattle.cedar_schema_model.specs.Conforming.{conforms}
-use Rattle.cedar_gate_model.specs.Acceptance.{Submission, Cause, HasFault, IsAccepted, number_of, warnings_of}
-use Rattle.cedar_gate_model.specs.Transcript.{Entry, round, decided, decisions_for}
-use Rattle.cedar_gate_model.specs.Bundle.{Bundle, bundle_world}
+use Rattle.cedar_expr_model.specs.Name.{Text, name_text}
+use Rattle.cedar_expr_model.specs.Uid.{uid_text, quoted, uid_eq}
+use Rattle.cedar_store_model.specs.Outcome.{Fault, missing_entity, overflow, extension_failed}
+use Rattle.cedar_store_model.specs.Answer.{Decision, allow, deny, PolicyError, Answer}
+use Rattle.cedar_gate_model.specs.Acceptance.{Submission, Cause, HasFault, IsAccepted, number_of, warnings_of, schema_in}
+use Rattle.cedar_gate_model.specs.Session.{Setup, open_number, bind_number, supply_number, answer_number}
+use Rattle.cedar_gate_model.specs.Transcript.{Entry, round, bound, decided}
+use Rattle.cedar_gate_model.specs.Runs.{End, answered, opening_refused, supply_refused, binding_refused, answer_refused, DecidesInPart, Runs}
+use Rattle.cedar_gate_model.specs.Bundle.{Functions, Bundle}
+use Rattle.std.specs.Option.{option_map_or}
+use Rattle.std.specs.Map.{lookup}
 
 pub data Status : Type 0 where
-  answered : Status
-  refused : Status
-  unreadable : Status
-  stopped : Status
+  is_answered is_refused is_unreadable is_stopped : Status
 
 abbrev pub line : Text → Text
 line text = text ++ 10 ∷ []
@@ -24,52 +25,69 @@ abbrev pub decision_word : Decision → Text
 decision_word allow = codes "Allow"
 decision_word deny = codes "Deny"
 
-abbrev pub impossible_line : Text → Text
-impossible_line id = line (codes "impossible " ++ quoted id)
-
-abbrev pub reason_line : Text → Text
-reason_line id = line (codes "reason " ++ quoted id)
-
 abbrev pub warning_lines : Submission → Text
-warning_lines s = flat_map impossible_line (warnings_of s)
+warning_lines s = flat_map (λ id. line (codes "impossible " ++ quoted id)) (warnings_of s)
 
--- the line of a round, which has its number and what was asked for
-abbrev pub round_line : ℕ → List Uid → Text
-round_line k uids = line (codes "round " ++ (decimal k ++ flat_map (λ u. 32 ∷ uid_text u) uids))
+-- the words of an error; an accepted policy has no other
+abbrev pub fault_words : Fault → Text
+fault_words (missing_entity u) = codes " missing " ++ uid_text u
+fault_words overflow = codes " overflow"
+fault_words (extension_failed e) = codes " extension " ++ name_text e
+fault_words f = []
 
-abbrev pub decided_line : Option Decision → Text
-decided_line None = line (codes "decision None")
-decided_line (Some d) = line (codes "decision " ++ decision_word d)
+abbrev pub error_line : PolicyError → Text
+error_line e = line (codes "error " ++ (quoted e.id ++ fault_words e.fault))
 
--- the lines of a transcript whose next round has this number
+-- The lines of a transcript whose next round has this number. The line of a round has its number and what was asked for; a binding
+-- prints nothing.
 abbrev pub entry_lines : ℕ → List Entry → Text
 entry_lines k [] = []
-entry_lines k (round uids ∷ entries) = round_line k uids ++ entry_lines (k + 1) entries
-entry_lines k (decided d ∷ entries) = decided_line d ++ entry_lines k entries
+entry_lines k (round uids ∷ es) = line (codes "round " ++ (decimal k ++ flat_map (λ u. 32 ∷ uid_text u) uids)) ++ entry_lines (k + 1) es
+entry_lines k (bound n ∷ es) = entry_lines k es
+entry_lines k (decided d ∷ es) = line (codes "decision " ++ option_map_or decision_word d (codes "None")) ++ entry_lines k es
 
--- The answer's line and its reasons. An answered run has no errors yet.
+-- the answer's line, its reasons and its errors
 abbrev pub answer_lines : Answer → Text
-answer_lines a = line (codes "answer " ++ decision_word a.decision) ++ flat_map reason_line a.reasons
+answer_lines a = line (codes "answer " ++ decision_word a.decision) ++ (flat_map (λ id. line (codes "reason " ++ quoted id)) a.reasons ++ flat_map error_line a.errors)
+
+abbrev pub numbered : Text → ℕ → Text
+numbered word n = line (word ++ (32 ∷ decimal n))
+
+-- how a run's last lines read
+abbrev pub end_lines : End → Text
+end_lines (answered a) = answer_lines a
+end_lines (opening_refused f) = numbered (codes "open") (open_number f)
+end_lines (supply_refused f) = numbered (codes "supply") (supply_number f)
+end_lines (binding_refused f) = numbered (codes "bind") (bind_number f)
+end_lines (answer_refused f) = numbered (codes "answer") (answer_number f)
 
 abbrev pub unreadable_line : Text
 unreadable_line = line (codes "unreadable")
 
 abbrev pub refused_line : ℕ → Text
-refused_line n = line (codes "refused " ++ decimal n)
+refused_line n = numbered (codes "refused") n
 
--- the last line of a run whose request doesn't conform
-abbrev pub not_conforming_line : Text
-not_conforming_line = line (codes "answer 3")
+-- the status of a run by its end
+abbrev pub end_status : End → Status
+end_status (answered a) = is_answered
+end_status e = is_stopped
 
--- what is done before the answer
-abbrev pub run_lines : Bundle → Text
-run_lines b = warning_lines b.submission ++ entry_lines 1 (decisions_for b.steps (decision_of (bundle_world b) b.submission.policies))
+-- what a session of a bundle stands on
+abbrev pub setup_of : Functions → Bundle → Setup
+setup_of f b = record { schema = schema_in b.submission; level = b.submission.level; limit = b.submission.limit; functions = f; start = b.start; store = λ u. lookup (uid_eq u) b.store }
 
--- What may be printed for a bundle, and the status with it. Where several faults are there, any may be named.
-abbrev pub Prints : Option Bundle → Status → Text → Type 0
-Prints None status text = (status ≡ unreadable) × (text ≡ unreadable_line)
-Prints (Some b) refused text = (c : Cause) × HasFault c b.submission × (text ≡ refused_line (number_of c))
-Prints (Some b) answered text = IsAccepted b.submission × (conforms b.submission.declarations b.request ≡ true)
-    × (text ≡ run_lines b ++ answer_lines (answer_of (bundle_world b) b.submission.policies))
-Prints (Some b) stopped text = IsAccepted b.submission × (conforms b.submission.declarations b.request ≡ false) × (text ≡ run_lines b ++ not_conforming_line)
-Prints (Some b) unreadable text = ⊥
+-- the lines of a run, after acceptance
+abbrev pub run_lines : Bundle → List Entry → End → Text
+run_lines b es end = warning_lines b.submission ++ (entry_lines 1 es ++ end_lines end)
+
+-- What may be printed for an accepted bundle: the lines of a run of it.
+abbrev pub PrintsRun : Functions → Bundle → Status → Text → Type 0
+PrintsRun f b status text = (es : List Entry) × (end : End)
+    × Runs (DecidesInPart (setup_of f b) b.submission.policies) (setup_of f b) b.submission.policies b.steps es end × (status ≡ end_status end) × (text ≡ run_lines b es end)
+
+-- What may be printed for an input, and the status with it. Where several faults are there, any may be named.
+abbrev pub Prints : Functions → Option Bundle → Status → Text → Type 0
+Prints f None status text = (status ≡ is_unreadable) × (text ≡ unreadable_line)
+Prints f (Some b) is_refused text = (c : Cause) × HasFault c b.submission × (text ≡ refused_line (number_of c))
+Prints f (Some b) is_unreadable text = ⊥
+Prints f (Some b) status text = IsAccepted b.submission × PrintsRun f b status text

@@ -1,69 +1,67 @@
-//! Laws of the definitions. Each function's contract is the theorem; its body does nothing.
+//! Laws of acceptance, slices, transcripts, runs and lines. Each function's contract is the theorem; its body does nothing.
 
-ghost use Rattle.cedar_gate_model.specs.Order.{OrderHidesNoFault, OrderKeepsFaults};
-ghost use Rattle.cedar_gate_model.specs.Laws.{AcceptanceDecides, FaultsExclude, RefusalHasFault, FaultsAreThere, PoliciesDontErr, WarnedIsNoReason, RunsAreLegal, NothingIsAsked, SliceIsEmpty, AskedIsInSlice, NothingBelow, OneStatus, OneText, SomeText, SliceIsRoots, WarnedAreImpossible, RefusalsAreFaults, DecisionsAreFinal, AskedOnce};
+ghost use Rattle.cedar_gate_model.specs.GateLaws.{AcceptanceDecides, FaultsExclude, RefusalHasFault, AcceptanceReads, WarnedAreImpossible, GivenAreRelevant, ImpossibleIsIrrelevant, NearAreListed, SliceIsListed, SliceIsEmpty, SliceGrows, KnowledgeKeepsTheSlice, SliceIsLocal, AskedIsInSlice, AskedOnce, DecisionsAreFinal, OneDecision, RoundsAreFew, SliceIsAsked};
+ghost use Rattle.cedar_gate_model.specs.RunLaws.{NothingTwice, RunsAreAlike, OneStatus, OneAnswer, UnreadableAlone, OnlyUnreadable, RefusalsAreFaults};
 
-/// The test of a submission is true exactly where it is accepted.
-/// A fault excludes acceptance, and a submission that the test refuses has a fault. A fault of policies against the
-/// declarations is there only where these are well-formed.
+/// The test of a submission is true exactly where it is accepted, which is where the acceptance rules hold as they are read.
+/// A fault excludes acceptance, and a submission that the test refuses has a fault.
 pub fn acceptance_is_decided()
     ensures decides { AcceptanceDecides }
     ensures excludes { FaultsExclude }
     ensures named { RefusalHasFault }
-    ensures there { FaultsAreThere }
+    ensures reads { AcceptanceReads }
 {}
 
-/// No policy of an accepted submission errs, in any world whose request conforms.
-pub fn accepted_policies_never_err()
-    ensures { PoliciesDontErr }
+/// The warnings are the ids of the impossible policies, and the policies for a request's types those that aren't irrelevant for
+/// them; an impossible policy is irrelevant for all types.
+pub fn warnings_and_policies_are_exact()
+    ensures warned { WarnedAreImpossible }
+    ensures given { GivenAreRelevant }
+    ensures nowhere { ImpossibleIsIrrelevant }
 {}
 
-/// A policy that an accepted submission warns of is never a reason, in any world whose request conforms.
-pub fn warned_policies_are_no_reasons()
-    ensures { WarnedIsNoReason }
+/// The lists have exactly what is near, and what is in the slice.
+pub fn slices_are_listed()
+    ensures near { NearAreListed }
+    ensures slice { SliceIsListed }
 {}
 
-/// A transcript of one decision for each step that asks for one, and the answer, is legal. It asks for nothing.
-pub fn runs_are_legal()
-    ensures legal { RunsAreLegal }
-    ensures asks_nothing { NothingIsAsked }
-{}
-
-/// The warnings are the ids of the policies that are impossible.
-pub fn warned_policies_are_impossible()
-    ensures { WarnedAreImpossible }
-{}
-
-/// The slice at a level above 0 is the principal and the resource, less the declared actions: a store of uids alone leads no further.
-pub fn the_slice_is_the_roots()
-    ensures { SliceIsRoots }
-{}
-
-/// At level 0 nothing is in the slice, so a legal transcript asks for nothing;
-/// at any level what a legal transcript asks for is in the slice.
-pub fn what_is_asked_is_in_the_slice()
+/// At level 0 the slice is empty, at a larger level it has all of that at a smaller one, and more knowledge takes nothing out of it.
+/// It depends on roots alone and on what is held nearer than its level.
+pub fn slices_grow()
     ensures empty { SliceIsEmpty }
+    ensures levels { SliceGrows }
+    ensures knowledge { KnowledgeKeepsTheSlice }
+    ensures local { SliceIsLocal }
+{}
+
+/// What a legal transcript asks for is in the slice of the whole world, and no uid stands in two of its rounds. At most as many rounds
+/// as the level follow its last binding; where all is known and nothing is wanted any more, what was asked for is the slice.
+pub fn legal_transcripts_ask_the_slice()
     ensures within { AskedIsInSlice }
-    ensures nothing { NothingBelow }
-{}
-
-/// Each decision that a legal transcript gives is that of the answer, and no uid stands in two of its rounds.
-pub fn legal_transcripts_are_consistent()
-    ensures final_decisions { DecisionsAreFinal }
     ensures once { AskedOnce }
+    ensures never_twice { NothingTwice }
+    ensures few { RoundsAreFew }
+    ensures exact { SliceIsAsked }
 {}
 
-/// For each input something may be printed, with one status alone; and where that isn't a refusal, one text alone.
-/// A refusal is printed exactly for a bundle whose submission isn't accepted.
+/// Each decision that a legal transcript gives is that of the answer, so two are equal.
+pub fn given_decisions_are_final()
+    ensures final_decisions { DecisionsAreFinal }
+    ensures one { OneDecision }
+{}
+
+/// Two runs of the same steps have the same rounds and bindings, and end in the same way.
+pub fn runs_are_alike()
+    ensures { RunsAreAlike }
+{}
+
+/// An input has one status, and a bundle that is answered one answer. What doesn't read prints `unreadable` alone, and nothing else does; a refusal by the gate is printed
+/// exactly where a submission isn't accepted.
 pub fn printing_is_determined()
-    ensures some_text { SomeText }
     ensures one_status { OneStatus }
-    ensures one_text { OneText }
+    ensures one_answer { OneAnswer }
+    ensures unreadable { UnreadableAlone }
+    ensures no_other { OnlyUnreadable }
     ensures refusals { RefusalsAreFaults }
-{}
-
-/// A submission breaks the same rules, and has the same faults, in whichever order its declarations and its policies stand.
-pub fn order_hides_no_fault()
-    ensures rules { OrderHidesNoFault }
-    ensures faults { OrderKeepsFaults }
 {}

@@ -4,7 +4,7 @@ use Rattle.cedar_evaluator_requests.specs.Views.{context_or_unknown, request_of}
 use Rattle.cedar_evaluator_requests.specs.declared.context.Context.{Context}
 use Rattle.cedar_evaluator_requests.specs.declared.context.Context.TheVariants as known
 use Rattle.cedar_evaluator_requests.specs.declared.request.Request.{Request}
-use Rattle.cedar_gate_model.specs.Whole.RunsAsk.{IsMadeContext}
+use Rattle.cedar_gate_model.specs.RunsAsk.{IsMadeContext}
 
 made_context : (o : Option Context) → IsMadeContext (context_or_unknown o)
 made_context None = tt

@@ -3,13 +3,13 @@ use Rattle.std.proofs.Common.{◌≡◌, ℕ, zero, suc, true, false, List, map,
 use Rattle.std.specs.Prelude.{is_none, zip, Bool, option_map, unwrap_or}
 use Rattle.std.specs.Map.{keys_of, values_of}
 use Rattle.std.specs.Option.{option_map_or}
-use Rattle.cedar_expr_model.specs.Whole.Builder.{built_fields, tree_fields}
-use Rattle.cedar_expr_model.specs.Whole.Made.{Made}
-use Rattle.cedar_expr_model.specs.Whole.Parts.{listed_fields}
-use Rattle.cedar_expr_model.specs.Whole.Restricted.{is_restricted, offence}
-use Rattle.cedar_expr_model.specs.Whole.Substitution.{Bindings, substituted}
-use Rattle.cedar_expr_model.specs.Whole.Tree.{Tree, TreeFields, record_literal}
-use Rattle.cedar_expr_model.specs.Whole.ValueParts.{all_known, part_tree}
+use Rattle.cedar_expr_model.specs.Builder.{built_fields, tree_fields}
+use Rattle.cedar_expr_model.specs.Made.{Made}
+use Rattle.cedar_expr_model.specs.Parts.{listed_fields}
+use Rattle.cedar_expr_model.specs.Restricted.{is_restricted, offence}
+use Rattle.cedar_expr_model.specs.Substitution.{Bindings, substituted}
+use Rattle.cedar_expr_model.specs.Tree.{Tree, TreeFields, record_literal}
+use Rattle.cedar_expr_model.specs.ValueParts.{all_known, part_tree}
 use Rattle.cedar_evaluator_model.specs.Evaluation.{pieces_of, evaluated}
 use Rattle.cedar_evaluator_model.specs.Reauthorize.{context_from}
 use Rattle.cedar_evaluator_model.specs.Scope.{Context, unknown_context, Left, value_left, residual, stopped}
@@ -21,10 +21,10 @@ use Rattle.cedar_expr_trees.specs.Trees.{tree_of}
 use Rattle.cedar_expr_trees.specs.declared.expr.Expr.{Expr}
 use Rattle.cedar_evaluator_requests.specs.declared.context.Context as code
 use Rattle.cedar_evaluator_restricted.specs.Lefts.{is_stopped}
-use Rattle.cedar_gate_model.specs.Whole.Bundle.{Functions}
-use Rattle.cedar_gate_model.specs.Whole.ReadingValue.{with_functions, left_of_restricted}
-use Rattle.cedar_gate_model.proofs.Whole.Reading.Values.{Clean, evaluated_clean, none_is}
-use Rattle.cedar_gate_model.proofs.Whole.Runs.Contexts.{puts, substituted_restricted}
+use Rattle.cedar_gate_model.specs.Bundle.{Functions}
+use Rattle.cedar_gate_model.specs.ReadingValue.{with_functions, left_of_restricted}
+use Rattle.cedar_gate_model.proofs.Reading.Values.{Clean, evaluated_clean, none_is}
+use Rattle.cedar_gate_model.proofs.Runs.Contexts.{puts, substituted_restricted}
 use Rattle.cedar_gate_openings.specs.Requests.{fields_left, left_context, IsOfRecord, IsRecordTree}
 
 -- a context is made of what is left, or nothing is left

@@ -4,15 +4,15 @@ use Rattle.std.specs.Rc.{rc_str_bytes}
 use Rattle.std.specs.declared.alloc.Global.{Global}
 use Rattle.std.specs.declared.rc.RcStr.{RcStr}
 use Rattle.cedar_expr_model.specs.Uid.{Uid}
-use Rattle.cedar_expr_model.specs.Whole.Made.{bare_fields}
-use Rattle.cedar_expr_model.specs.Whole.Records.{fields}
-use Rattle.cedar_expr_model.specs.Whole.Value.{record_of, field}
+use Rattle.cedar_expr_model.specs.Made.{bare_fields}
+use Rattle.cedar_expr_model.specs.Records.{fields}
+use Rattle.cedar_expr_model.specs.Value.{record_of, field}
 use Rattle.cedar_expr_values.specs.Extensions.{extension_of}
 use Rattle.cedar_expr_values.specs.Values.{bare, bare_pair, made_fields, made_pair}
 use Rattle.cedar_expr_values.specs.declared.extension.ExtValue.{ExtValue}
 use Rattle.cedar_expr_values.specs.declared.value.Value.{Value}
 use Rattle.cedar_evaluator_model.specs.Scope.{closed}
-use Rattle.cedar_gate_model.specs.Whole.Slice.{mentioned_in_fields}
+use Rattle.cedar_gate_model.specs.Slice.{mentioned_in_fields}
 use Rattle.cedar_gate_mentions.specs.Mentions.{mentioned_in}
 use Rattle.cedar_gate_openings.specs.Roots.{mentioned_by_context}
 

@@ -3,22 +3,22 @@ use Rattle.std.proofs.Common.{◌≡◌, ◌↔◌, true, false, Bool, List, Opt
 use Rattle.std.specs.Prelude.{◌&&◌}
 use Rattle.cedar_expr_model.specs.Name.{Text}
 use Rattle.cedar_expr_model.specs.Uid.{Uid}
-use Rattle.cedar_expr_model.specs.Whole.Made.{Made}
-use Rattle.cedar_expr_model.specs.Whole.Substitution.{Bindings}
+use Rattle.cedar_expr_model.specs.Made.{Made}
+use Rattle.cedar_expr_model.specs.Substitution.{Bindings}
 use Rattle.cedar_evaluator_model.specs.Response.{PartialRequest}
 use Rattle.cedar_evaluator_model.specs.Scope.{Entry, uid, unknown_uid, Context, closed, residual_fields, unknown_context, Stop, Left, value_left, residual, stopped}
-use Rattle.cedar_expr_model.specs.Whole.Tree.{record_literal}
+use Rattle.cedar_expr_model.specs.Tree.{record_literal}
 use Rattle.cedar_evaluator_restricted.specs.Lefts.{is_stopped}
 use Rattle.cedar_evaluator_requests.specs.Views.{request_of}
 use Rattle.cedar_evaluator_requests.specs.declared.request.Request.{Request}
-use Rattle.cedar_gate_model.specs.Whole.Bundle.{Functions}
-use Rattle.cedar_gate_model.specs.Whole.RunsAsk.{IsMadeContext}
-use Rattle.cedar_gate_model.specs.Whole.Session.{Setup, State, value_of, known_now, entry_now, context_now, is_open_name, with_bound, ContextFails}
-use Rattle.cedar_gate_model.specs.Whole.Slice.{roots}
-use Rattle.cedar_gate_model.proofs.Whole.Gate.Mentions.{IsRoot, root_cases, root_from}
-use Rattle.cedar_gate_model.proofs.Whole.Gate.Slices.{known_kept}
-use Rattle.cedar_gate_model.proofs.Whole.Gate.Slices as slices
-use Rattle.cedar_gate_model.proofs.Whole.Runs.Contexts.{binding_grows, entry_kept, context_kept}
+use Rattle.cedar_gate_model.specs.Bundle.{Functions}
+use Rattle.cedar_gate_model.specs.RunsAsk.{IsMadeContext}
+use Rattle.cedar_gate_model.specs.Session.{Setup, State, value_of, known_now, entry_now, context_now, is_open_name, with_bound, ContextFails}
+use Rattle.cedar_gate_model.specs.Slice.{roots}
+use Rattle.cedar_gate_model.proofs.Gate.Mentions.{IsRoot, root_cases, root_from}
+use Rattle.cedar_gate_model.proofs.Gate.Slices.{known_kept}
+use Rattle.cedar_gate_model.proofs.Gate.Slices as slices
+use Rattle.cedar_gate_model.proofs.Runs.Contexts.{binding_grows, entry_kept, context_kept}
 use Rattle.cedar_gate_openings.specs.Laws.{RootsAreKnown, RootsAreListed, BindingIsMore}
 use Rattle.cedar_gate_openings.specs.Requests.{entry_with, context_by, fails_by, request_by, request_at, fields_left, AreValuesOf}
 use Rattle.cedar_gate_openings.specs.Roots.{known_roots}

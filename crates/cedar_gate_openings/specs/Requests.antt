@@ -3,18 +3,18 @@
 use Rattle.std.specs.Prelude.{◌≡◌, Bool, true, false, Option, Some, None, IsSome, option_and_then, unwrap_or, codes}
 use Rattle.std.specs.Option.{option_map_or}
 use Rattle.cedar_expr_model.specs.Name.{Text}
-use Rattle.cedar_expr_model.specs.Whole.Made.{Made}
-use Rattle.cedar_expr_model.specs.Whole.Restricted.{is_restricted}
-use Rattle.cedar_expr_model.specs.Whole.Substitution.{Bindings, substituted}
-use Rattle.cedar_expr_model.specs.Whole.Tree.{Tree, TreeFields, record_literal}
-use Rattle.cedar_expr_model.specs.Whole.Unknowns.{has_unknown}
+use Rattle.cedar_expr_model.specs.Made.{Made}
+use Rattle.cedar_expr_model.specs.Restricted.{is_restricted}
+use Rattle.cedar_expr_model.specs.Substitution.{Bindings, substituted}
+use Rattle.cedar_expr_model.specs.Tree.{Tree, TreeFields, record_literal}
+use Rattle.cedar_expr_model.specs.Unknowns.{has_unknown}
 use Rattle.cedar_evaluator_model.specs.Reauthorize.{context_from}
 use Rattle.cedar_evaluator_model.specs.Response.{PartialRequest}
 use Rattle.cedar_evaluator_model.specs.Scope.{Entry, uid, unknown_uid, Context, closed, residual_fields, unknown_context, Left, value_left, residual, stopped}
 use Rattle.cedar_evaluator_restricted.specs.Lefts.{is_stopped}
-use Rattle.cedar_gate_model.specs.Whole.Bundle.{Functions}
-use Rattle.cedar_gate_model.specs.Whole.ReadingValue.{left_of_restricted}
-use Rattle.cedar_gate_model.specs.Whole.Session.{State, value_of, uid_in, entry_now, context_now}
+use Rattle.cedar_gate_model.specs.Bundle.{Functions}
+use Rattle.cedar_gate_model.specs.ReadingValue.{left_of_restricted}
+use Rattle.cedar_gate_model.specs.Session.{State, value_of, uid_in, entry_now, context_now}
 
 -- an entry with the value that is bound to its name
 abbrev pub entry_with : Option Made → Entry → Entry

@@ -1,8 +1,8 @@
 //! Contexts with the bound values in the place of their unknowns.
 
 ghost use Rattle.std.specs.Prelude.{◌≡◌, true, IfOk, option_map, is_none};
-ghost use Rattle.cedar_expr_model.specs.Whole.Restricted.{is_restricted};
-ghost use Rattle.cedar_expr_model.specs.Whole.Unknowns.{has_unknown};
+ghost use Rattle.cedar_expr_model.specs.Restricted.{is_restricted};
+ghost use Rattle.cedar_expr_model.specs.Unknowns.{has_unknown};
 ghost use Rattle.cedar_expr_trees.specs.Trees.{tree_of};
 ghost use Rattle.cedar_expr_values.specs.Extensions.{extension_of};
 ghost use Rattle.cedar_expr_values.specs.Values.{made};
@@ -11,8 +11,8 @@ ghost use Rattle.cedar_evaluator_model.specs.Scope.{value_left, residual};
 ghost use Rattle.cedar_evaluator_requests.specs.Views.{context_of, restricted_tree};
 ghost use Rattle.cedar_evaluator_restricted.specs.Lefts.{left_seen, is_stopped};
 ghost use Rattle.cedar_gate_bindings.specs.Names.{bound_in};
-ghost use Rattle.cedar_expr_model.specs.Whole.Substitution.{substituted};
-ghost use Rattle.cedar_gate_model.specs.Whole.ReadingValue.{left_of_restricted};
+ghost use Rattle.cedar_expr_model.specs.Substitution.{substituted};
+ghost use Rattle.cedar_gate_model.specs.ReadingValue.{left_of_restricted};
 ghost use Rattle.cedar_gate_openings.specs.Requests.{fields_left, IsOfRecord, IsRecordTree};
 
 use cedar_evaluator_requests::{Context, RestrictedFields};

@@ -5,8 +5,8 @@ ghost use Rattle.cedar_expr_values.specs.Extensions.{extension_of};
 ghost use Rattle.cedar_expr_values.specs.Values.{made};
 ghost use Rattle.cedar_evaluator_requests.specs.Views.{entry_of, context_or_unknown, request_of};
 ghost use Rattle.cedar_gate_bindings.specs.Names.{bound_in};
-ghost use Rattle.cedar_gate_model.specs.Whole.RunsAsk.{IsMadeContext};
-ghost use Rattle.cedar_gate_model.specs.Whole.Session.{State, ContextFails};
+ghost use Rattle.cedar_gate_model.specs.RunsAsk.{IsMadeContext};
+ghost use Rattle.cedar_gate_model.specs.Session.{State, ContextFails};
 ghost use Rattle.cedar_gate_openings.specs.Requests.{entry_with, bound_context, context_by, fails_by, request_by, request_at, AreValuesOf};
 
 use crate::contexts::bound_context;

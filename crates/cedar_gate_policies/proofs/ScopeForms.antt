@@ -3,12 +3,12 @@ use Rattle.std.proofs.Common.{◌≡◌, [], ◌∷◌, codes, true, false, Opti
 use Rattle.std.specs.Option.{option_or}
 use Rattle.serde_json.specs.Data.{Data}
 use Rattle.serde_json.specs.Find.{get}
-use Rattle.cedar_expr_model.specs.Whole.Lists.{when}
-use Rattle.cedar_store_model.specs.Whole.Policy.{exactly, inside, of_kind, of_kind_inside, exactly_action, inside_actions}
+use Rattle.cedar_expr_model.specs.Lists.{when}
+use Rattle.cedar_store_model.specs.Policy.{exactly, inside, of_kind, of_kind_inside, exactly_action, inside_actions}
 use Rattle.cedar_gate_model.specs.Reading.{given, has_only, list_of}
-use Rattle.cedar_gate_model.specs.Whole.ReadingForms.{read_as, alone}
-use Rattle.cedar_gate_model.specs.Whole.ReadingName.{plain_name_read, uid_read}
-use Rattle.cedar_gate_model.specs.Whole.ReadingPolicy.{target_read, of_kind_inside_read, scope_read, action_scope_read}
+use Rattle.cedar_gate_model.specs.ReadingForms.{read_as, alone}
+use Rattle.cedar_gate_model.specs.ReadingName.{plain_name_read, uid_read}
+use Rattle.cedar_gate_model.specs.ReadingPolicy.{target_read, of_kind_inside_read, scope_read, action_scope_read}
 use Rattle.cedar_gate_reading.proofs.Keys.{get_lacks, none_when, none_given, not_alone, is_alone, is_not}
 
 or_none : {A : Type 0} (o : Option A) → option_or o None ≡ o

@@ -2,7 +2,7 @@
 -- Rule: what a bundle reads as; policies and templates (docs/RULES.md).
 use Rattle.std.specs.Prelude.{List, [], ◌∷◌, codes}
 use Rattle.cedar_expr_model.specs.Name.{Text}
-use Rattle.cedar_store_model.specs.Whole.Policy.{Effect, permit, forbid}
+use Rattle.cedar_store_model.specs.Policy.{Effect, permit, forbid}
 
 abbrev pub effect_words : List (Text × Effect)
 effect_words = (codes "permit", permit) ∷ (codes "forbid", forbid) ∷ []

@@ -1,13 +1,13 @@
 //! Policies.
 ghost use Rattle.std.specs.Prelude.{◌≡◌, [], ◌∷◌, codes, Some, None, IfOk, IfErr};
 ghost use Rattle.serde_json.specs.View.{view};
-ghost use Rattle.cedar_store_model.specs.Whole.Policy as model;
-ghost use Rattle.cedar_store_model.specs.Whole.Policy.{permit, forbid};
+ghost use Rattle.cedar_store_model.specs.Policy as model;
+ghost use Rattle.cedar_store_model.specs.Policy.{permit, forbid};
 ghost use Rattle.cedar_store_parts.specs.Parts.{effect_of, annotations_of};
 ghost use Rattle.cedar_store_policies.specs.Policies.{policy_of};
 ghost use Rattle.cedar_gate_model.specs.Reading.{has_only};
-ghost use Rattle.cedar_gate_model.specs.Whole.ReadingForms.{word_of};
-ghost use Rattle.cedar_gate_model.specs.Whole.ReadingPolicy.{policy_read};
+ghost use Rattle.cedar_gate_model.specs.ReadingForms.{word_of};
+ghost use Rattle.cedar_gate_model.specs.ReadingPolicy.{policy_read};
 ghost use Rattle.cedar_gate_policies.specs.Policies.{effect_words};
 ghost use Rattle.cedar_gate_reading.specs.declared.fault.ReadFault.TheVariants.{Unreadable};
 

@@ -2,12 +2,12 @@
 ghost use Rattle.std.specs.Prelude.{◌≡◌, Option, Some, None, IfOk, IfErr, codes, option_map};
 ghost use Rattle.serde_json.specs.View.{view};
 ghost use Rattle.cedar_expr_names.specs.Views.{type_name_of, uid_of};
-ghost use Rattle.cedar_store_model.specs.Whole.Policy.{any, any_action, no_bindings};
+ghost use Rattle.cedar_store_model.specs.Policy.{any, any_action, no_bindings};
 ghost use Rattle.cedar_store_parts.specs.Parts.{target_of, scope_of, action_scope_of, bindings_of};
 ghost use Rattle.cedar_gate_model.specs.Reading.{if_there, optional};
-ghost use Rattle.cedar_gate_model.specs.Whole.ReadingForms.{read_as};
-ghost use Rattle.cedar_gate_model.specs.Whole.ReadingName.{plain_name_read, uid_read};
-ghost use Rattle.cedar_gate_model.specs.Whole.ReadingPolicy.{target_read, scope_read, action_scope_read, bindings_read};
+ghost use Rattle.cedar_gate_model.specs.ReadingForms.{read_as};
+ghost use Rattle.cedar_gate_model.specs.ReadingName.{plain_name_read, uid_read};
+ghost use Rattle.cedar_gate_model.specs.ReadingPolicy.{target_read, scope_read, action_scope_read, bindings_read};
 ghost use Rattle.cedar_gate_reading.specs.declared.fault.ReadFault.TheVariants.{Unreadable};
 
 use cedar_expr_leaves::SlotId;

@@ -5,16 +5,16 @@ use Rattle.std.specs.Borrow.{Bor}
 use Rattle.std.specs.declared.alloc.Global.{Global}
 use Rattle.std.proofs.lemmas.Slice.Eq.{bytes_eq-Decides}
 use Rattle.cedar_expr_model.specs.Name.{Name, name_eq}
-use Rattle.cedar_expr_model.specs.Whole.Made as model
-use Rattle.cedar_expr_model.specs.Whole.Made.{Made, made_prim, made_extension}
-use Rattle.cedar_expr_model.specs.Whole.Order.{core_eq}
-use Rattle.cedar_expr_model.specs.Whole.Substitution.{core_type_of}
-use Rattle.cedar_expr_model.specs.Whole.Table.{Signature, Called, gives, fails, leaves}
-use Rattle.cedar_expr_model.specs.Whole.Tree.{CoreType, string_core, extension_core}
-use Rattle.cedar_expr_model.specs.Whole.Value.{V, text}
+use Rattle.cedar_expr_model.specs.Made as model
+use Rattle.cedar_expr_model.specs.Made.{Made, made_prim, made_extension}
+use Rattle.cedar_expr_model.specs.Order.{core_eq}
+use Rattle.cedar_expr_model.specs.Substitution.{core_type_of}
+use Rattle.cedar_expr_model.specs.Table.{Signature, Called, gives, fails, leaves}
+use Rattle.cedar_expr_model.specs.Tree.{CoreType, string_core, extension_core}
+use Rattle.cedar_expr_model.specs.Value.{V, text}
 use Rattle.cedar_expr_model.proofs.Equality.{name_eq_same}
-use Rattle.cedar_expr_model.proofs.Whole.CoreTypes.{core_eq-Decides}
-use Rattle.cedar_expr_model.proofs.Whole.ValueOrder.{values_decide}
+use Rattle.cedar_expr_model.proofs.CoreTypes.{core_eq-Decides}
+use Rattle.cedar_expr_model.proofs.ValueOrder.{values_decide}
 use Rattle.cedar_expr_values.specs.Values.{made}
 use Rattle.cedar_expr_values.specs.Extensions.{extension_of}
 use Rattle.cedar_expr_values.specs.declared.value.Value.{Value}

@@ -5,19 +5,19 @@ use Rattle.std.specs.Option.{option_map_or}
 use Rattle.std.specs.Fmt.{decimal}
 use Rattle.std.proofs.lemmas.List.Sorted.{Contains-permutation, IsPermutation-sym}
 use Rattle.cedar_expr_model.specs.Name.{Text, Name, name_eq}
-use Rattle.cedar_expr_model.specs.Whole.Made as model
-use Rattle.cedar_expr_model.specs.Whole.Made.{Made}
-use Rattle.cedar_expr_model.specs.Whole.OfLaws.Fair.{IsFair, IsAnswer, IsTaken}
-use Rattle.cedar_expr_model.specs.Whole.Substitution.{core_type_of}
-use Rattle.cedar_expr_model.specs.Whole.Table.{Signature, Table, Called, gives, fails, signature_of, all_typed}
-use Rattle.cedar_expr_model.specs.Whole.Tree.{CoreType}
-use Rattle.cedar_expr_model.specs.Whole.Value.{V, prim, text}
+use Rattle.cedar_expr_model.specs.Made as model
+use Rattle.cedar_expr_model.specs.Made.{Made}
+use Rattle.cedar_expr_model.specs.OfLaws.Fair.{IsFair, IsAnswer, IsTaken}
+use Rattle.cedar_expr_model.specs.Substitution.{core_type_of}
+use Rattle.cedar_expr_model.specs.Table.{Signature, Table, Called, gives, fails, signature_of, all_typed}
+use Rattle.cedar_expr_model.specs.Tree.{CoreType}
+use Rattle.cedar_expr_model.specs.Value.{V, prim, text}
 use Rattle.cedar_expr_model.proofs.Equality.{name_eq-Decides}
 use Rattle.cedar_expr_model.proofs.Lists.{contains_head, contains_tail, contains_cases, contains_none, hold_both}
 use Rattle.cedar_evaluator_model.specs.Scope.{MadeCalled, makes, faults}
 use Rattle.cedar_evaluator_model.specs.OfLaws.Calls.{bare_called}
 use Rattle.cedar_evaluator_model.specs.OfLaws.WellMade.{IsWellMade}
-use Rattle.cedar_gate_model.specs.Whole.RunsAnswer.{MakeFairly}
+use Rattle.cedar_gate_model.specs.RunsAnswer.{MakeFairly}
 use Rattle.cedar_gate_ranks.specs.Ranks.{rank_name, label_name, rank_read, rank_key, rank_made, label_made, number_read, number_kept, ranked, labelled, rank_calls, bare_number_read, bare_number_kept, rank_answers}
 use Rattle.cedar_gate_ranks.specs.Tables.{rank_signature, label_signature, HoldsRanks, rank_functions}
 use Rattle.cedar_gate_ranks.proofs.Answered.{calls_agree}

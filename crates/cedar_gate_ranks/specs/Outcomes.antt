@@ -10,7 +10,7 @@ use Rattle.cedar_expr_functions.specs.declared.extension.ExtensionOutputValue.{E
 use Rattle.cedar_expr_functions.specs.declared.extension.ExtensionOutputValue.TheVariants.{Known, Unknown}
 use Rattle.cedar_expr_functions.specs.declared.err.CallFault.{CallFault}
 use Rattle.cedar_expr_functions.specs.declared.err.CallFault.TheVariants.{OutOfMemory, WrongNumArguments, ArgumentType, Fault}
-use Rattle.cedar_expr_model.specs.Whole.Made.{Made}
+use Rattle.cedar_expr_model.specs.Made.{Made}
 use Rattle.cedar_evaluator_model.specs.Scope.{MadeCalled, makes, faults}
 
 -- The call gave this value as it is made, or has this fault, which says `not a rank` and no advice. There may be no memory.

@@ -6,10 +6,10 @@ use Rattle.std.specs.Str.{all_ascii_digits}
 use Rattle.std.specs.Str.Parse.{digits_value}
 use Rattle.std.specs.Fmt.{decimal}
 use Rattle.cedar_expr_model.specs.Name.{Text, Name, name_eq}
-use Rattle.cedar_expr_model.specs.Whole.Names.{unqualified}
-use Rattle.cedar_expr_model.specs.Whole.Made.{Made, made_prim, made_extension, bare}
-use Rattle.cedar_expr_model.specs.Whole.Table.{Called, gives, fails}
-use Rattle.cedar_expr_model.specs.Whole.Value.{V, prim, text, extension}
+use Rattle.cedar_expr_model.specs.Names.{unqualified}
+use Rattle.cedar_expr_model.specs.Made.{Made, made_prim, made_extension, bare}
+use Rattle.cedar_expr_model.specs.Table.{Called, gives, fails}
+use Rattle.cedar_expr_model.specs.Value.{V, prim, text, extension}
 use Rattle.cedar_evaluator_model.specs.Scope.{MadeCalled, makes, faults}
 
 -- the name of the type of ranks, of their extension and of the function that makes them

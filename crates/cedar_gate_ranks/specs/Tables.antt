@@ -2,10 +2,10 @@
 -- Rule: extension functions (docs/RULES.md).
 use Rattle.std.specs.Prelude.{◌≡◌, List, [], ◌∷◌, false, Some, IsPermutation}
 use Rattle.cedar_expr_model.specs.Name.{Name}
-use Rattle.cedar_expr_model.specs.Whole.Table.{Signature, Table, function_style, method_style}
-use Rattle.cedar_expr_model.specs.Whole.Tree.{string_core, extension_core}
-use Rattle.cedar_expr_model.specs.Whole.Value.{V}
-use Rattle.cedar_gate_model.specs.Whole.Bundle.{Functions}
+use Rattle.cedar_expr_model.specs.Table.{Signature, Table, function_style, method_style}
+use Rattle.cedar_expr_model.specs.Tree.{string_core, extension_core}
+use Rattle.cedar_expr_model.specs.Value.{V}
+use Rattle.cedar_gate_model.specs.Bundle.{Functions}
 use Rattle.cedar_gate_ranks.specs.Ranks.{rank_name, label_name, rank_answers, rank_calls}
 
 -- `rank` is a constructor, `label` a method

@@ -1,10 +1,10 @@
 //! The functions.
 
 ghost use Rattle.std.specs.Prelude.{◌≡◌, IfOk};
-ghost use Rattle.cedar_expr_model.specs.Whole.Names.{unqualified};
+ghost use Rattle.cedar_expr_model.specs.Names.{unqualified};
 ghost use Rattle.cedar_expr_names.specs.Views.{plain_name_of};
 ghost use Rattle.std.specs.Fmt.{decimal};
-ghost use Rattle.cedar_expr_model.specs.Whole.Value.{text};
+ghost use Rattle.cedar_expr_model.specs.Value.{text};
 ghost use Rattle.cedar_expr_leaves.specs.Literals.{literal_of};
 ghost use Rattle.cedar_expr_values.specs.Extensions.{extension_of};
 ghost use Rattle.cedar_expr_values.specs.Values.{made};

@@ -8,10 +8,10 @@ use Rattle.std.proofs.lemmas.Slice.Eq.{bytes_eq-Decides}
 use Rattle.serde_json.specs.Data.{Data, null, boolean, number, string, array, object, Members, no_members, member}
 use Rattle.serde_json.specs.Find.{get, get_member}
 use Rattle.cedar_expr_model.specs.Name.{Text}
-use Rattle.cedar_expr_model.specs.Whole.Lists.{when}
+use Rattle.cedar_expr_model.specs.Lists.{when}
 use Rattle.cedar_expr_model.proofs.Lists.{both_hold}
 use Rattle.cedar_gate_model.specs.Reading.{given, has_only, are_among}
-use Rattle.cedar_gate_model.specs.Whole.ReadingForms.{alone}
+use Rattle.cedar_gate_model.specs.ReadingForms.{alone}
 
 -- a key that is compared as another than this one, and than each of these
 abbrev pub IsOther : Text → Text → Type 0

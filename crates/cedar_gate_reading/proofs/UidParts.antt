@@ -4,7 +4,7 @@ use Rattle.serde_json.specs.Data.{Data}
 use Rattle.serde_json.specs.View.{items_view}
 use Rattle.serde_json.specs.declared.value.Value.{Value}
 use Rattle.cedar_expr_model.specs.Name.{Name}
-use Rattle.cedar_gate_model.specs.Whole.ReadingName.{uid_in}
+use Rattle.cedar_gate_model.specs.ReadingName.{uid_in}
 
 pub short_uid : (kind_read : Data → Option Name) (xs : List Value) → length xs < 2 → uid_in kind_read (items_view xs) ≡ None
 short_uid kind_read [] high = refl

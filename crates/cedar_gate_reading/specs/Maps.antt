@@ -5,7 +5,7 @@ use Rattle.std.specs.declared.alloc.Global.{Global}
 use Rattle.std.specs.declared.rc.RcStr.{RcStr}
 use Rattle.serde_json.specs.Data.{Data}
 use Rattle.cedar_expr_model.specs.Name.{Text, is_identifier}
-use Rattle.cedar_expr_model.specs.Whole.Lists.{when}
+use Rattle.cedar_expr_model.specs.Lists.{when}
 use Rattle.cedar_expr_names.specs.Views.{id_text}
 use Rattle.cedar_expr_names.specs.declared.id.Id.{Id}
 

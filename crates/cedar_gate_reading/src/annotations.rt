@@ -4,7 +4,7 @@ ghost use Rattle.std.specs.Map.{lookup};
 ghost use Rattle.std.specs.Str.{bytes_eq};
 ghost use Rattle.serde_json.specs.View.{view};
 ghost use Rattle.cedar_expr_values.specs.Types.{core_of};
-ghost use Rattle.cedar_gate_model.specs.Whole.ReadingName.{annotation_read, core_words};
+ghost use Rattle.cedar_gate_model.specs.ReadingName.{annotation_read, core_words};
 ghost use Rattle.cedar_gate_reading.specs.declared.fault.ReadFault.TheVariants.{Unreadable};
 
 use crate::fault::ReadFault;

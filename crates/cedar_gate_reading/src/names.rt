@@ -5,7 +5,7 @@ ghost use Rattle.serde_json.specs.Find.{as_str};
 ghost use Rattle.serde_json.specs.View.{view, items_view};
 ghost use Rattle.cedar_expr_names.specs.Views.{plain_name_of, type_name_of, uid_of};
 ghost use Rattle.cedar_expr_raw_names.specs.Views.{raw_name_of};
-ghost use Rattle.cedar_gate_model.specs.Whole.ReadingName.{any_name_read, plain_name_read, uid_from, uid_in, uid_read};
+ghost use Rattle.cedar_gate_model.specs.ReadingName.{any_name_read, plain_name_read, uid_from, uid_in, uid_read};
 ghost use Rattle.cedar_gate_reading.specs.declared.fault.ReadFault.TheVariants.{Unreadable};
 
 use crate::fault::ReadFault;

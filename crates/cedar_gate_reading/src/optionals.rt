@@ -2,7 +2,7 @@
 ghost use Rattle.std.specs.Prelude.{◌≡◌, [], Some, None, IfOk, IfErr, map, option_map};
 ghost use Rattle.serde_json.specs.View.{view};
 ghost use Rattle.cedar_gate_model.specs.Reading.{optional, list_of};
-ghost use Rattle.cedar_gate_model.specs.Whole.ReadingForms.{read_as};
+ghost use Rattle.cedar_gate_model.specs.ReadingForms.{read_as};
 ghost use Rattle.cedar_gate_reading.specs.declared.fault.ReadFault.TheVariants.{Unreadable};
 
 use crate::fault::ReadFault;

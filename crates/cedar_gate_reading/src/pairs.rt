@@ -1,7 +1,7 @@
 //! Objects, read into pairs of a name and what stands under it.
 ghost use Rattle.std.specs.Prelude.{◌≡◌, [], true, Some, None, IfOk, IfErr, map};
 ghost use Rattle.serde_json.specs.View.{view, members_view};
-ghost use Rattle.cedar_expr_model.specs.Whole.Records.{names_rise};
+ghost use Rattle.cedar_expr_model.specs.Records.{names_rise};
 ghost use Rattle.cedar_gate_model.specs.Reading.{members_of, each_member, optional};
 ghost use Rattle.cedar_gate_reading.specs.Maps.{under_text, texts_seen};
 ghost use Rattle.cedar_gate_reading.specs.declared.fault.ReadFault.TheVariants.{Unreadable};

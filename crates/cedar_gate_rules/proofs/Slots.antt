@@ -2,11 +2,11 @@
 use Rattle.std.proofs.Common.{◌≡◌, Bool, true, false, List, [], ◌∷◌, ◌&&◌, ◌==◌, refl}
 use Rattle.std.specs.Prelude.{not}
 use Rattle.std.specs.List.{list_all, list_any}
-use Rattle.cedar_expr_model.specs.Whole.Lists.{is_nil}
-use Rattle.cedar_expr_model.specs.Whole.Parts.{slots}
-use Rattle.cedar_expr_model.specs.Whole.Shape.{slot_rank}
-use Rattle.cedar_expr_model.specs.Whole.Tree.{Tree, SlotId, principal_slot, resource_slot}
-use Rattle.cedar_store_model.specs.Whole.Policy.{all_slots, tree_uses}
+use Rattle.cedar_expr_model.specs.Lists.{is_nil}
+use Rattle.cedar_expr_model.specs.Parts.{slots}
+use Rattle.cedar_expr_model.specs.Shape.{slot_rank}
+use Rattle.cedar_expr_model.specs.Tree.{Tree, SlotId, principal_slot, resource_slot}
+use Rattle.cedar_store_model.specs.Policy.{all_slots, tree_uses}
 
 never : (b : Bool) → (b && false) ≡ false
 never true = refl

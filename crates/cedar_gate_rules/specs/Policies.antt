@@ -1,6 +1,6 @@
 -- The code's policies as the model's, in their order.
 use Rattle.std.specs.Prelude.{List, map}
-use Rattle.cedar_store_model.specs.Whole.Policy as model
+use Rattle.cedar_store_model.specs.Policy as model
 use Rattle.cedar_store_policies.specs.Policies.{policy_of}
 use Rattle.cedar_store_policies.specs.declared.policy.Policy.{Policy}
 

@@ -2,8 +2,8 @@
 
 ghost use Rattle.std.specs.Prelude.{◌≡◌, IfOk, map, is_none};
 ghost use Rattle.std.specs.Str.{bytes_eq};
-ghost use Rattle.cedar_expr_model.specs.Whole.Repeats.{repeated};
-ghost use Rattle.cedar_store_model.specs.Whole.Answer.{ids};
+ghost use Rattle.cedar_expr_model.specs.Repeats.{repeated};
+ghost use Rattle.cedar_store_model.specs.Answer.{ids};
 ghost use Rattle.cedar_gate_rules.specs.Policies.{policies_of};
 
 use cedar_store_policies::Policy;

@@ -3,7 +3,7 @@
 ghost use Rattle.std.specs.Prelude.{◌≡◌, nat_le};
 ghost use Rattle.std.specs.BTreeMap.{values};
 ghost use Rattle.std.specs.List.{list_all};
-ghost use Rattle.cedar_expr_model.specs.Whole.Tree.{nesting};
+ghost use Rattle.cedar_expr_model.specs.Tree.{nesting};
 ghost use Rattle.cedar_expr_trees.specs.Trees.{tree_of};
 
 use cedar_expr_trees::{Expr, ExprKind};

@@ -3,10 +3,10 @@
 ghost use Rattle.std.specs.Prelude.{◌≡◌, ◌||◌, not, nat_le, is_some, IfOk};
 ghost use Rattle.std.specs.List.{list_all};
 ghost use Rattle.cedar_expr_leaves.specs.Slots.{slot_of};
-ghost use Rattle.cedar_expr_model.specs.Whole.Tree.{nesting};
-ghost use Rattle.cedar_expr_model.specs.Whole.Unknowns.{has_unknown};
-ghost use Rattle.cedar_gate_model.specs.Whole.Acceptance.{is_linked, keeps_slots_in_scope};
-ghost use Rattle.cedar_store_model.specs.Whole.Policy.{binding_of, condition, has_slot};
+ghost use Rattle.cedar_expr_model.specs.Tree.{nesting};
+ghost use Rattle.cedar_expr_model.specs.Unknowns.{has_unknown};
+ghost use Rattle.cedar_gate_model.specs.Acceptance.{is_linked, keeps_slots_in_scope};
+ghost use Rattle.cedar_store_model.specs.Policy.{binding_of, condition, has_slot};
 ghost use Rattle.cedar_store_policies.specs.Policies.{policy_of};
 ghost use Rattle.cedar_gate_rules.specs.Policies.{policies_of};
 

@@ -4,10 +4,10 @@ use Rattle.std.specs.Prelude.{option_map, Result, Ok, Err, IfErr}
 use Rattle.cedar_evaluator_model.specs.Members.{Concrete}
 use Rattle.cedar_evaluator_requests.specs.Views.{answer_of}
 use Rattle.cedar_evaluator_requests.specs.declared.response.Response.{Response}
-use Rattle.cedar_gate_model.specs.Whole.RunsAnswer.{Course, session_of}
-use Rattle.cedar_gate_model.specs.Whole.Runs.{answered, MayDecide, Follows}
-use Rattle.cedar_gate_model.specs.Whole.Session.{State, at_start}
-use Rattle.cedar_gate_model.specs.Whole.Transcript.{Step, Entry}
+use Rattle.cedar_gate_model.specs.RunsAnswer.{Course, session_of}
+use Rattle.cedar_gate_model.specs.Runs.{answered, DecidesInPart, Follows}
+use Rattle.cedar_gate_model.specs.Session.{State, at_start}
+use Rattle.cedar_gate_model.specs.Transcript.{Step, Entry}
 use Rattle.cedar_gate_runs.proofs.Stopped.{stopped_after, ended_after}
 use Rattle.cedar_gate_runs.specs.Courses.{BindWell, DidSteps, IsOf}
 use Rattle.cedar_gate_runs.specs.Ends.{IsAnswered}
@@ -52,8 +52,8 @@ module _ {E : Type 0} (Stands : Course → State → E → Type 0) (c : Course) 
   pub run_answers : (t : Transcript) (r : Response) (before : List Entry) → t.answer ≡ Some r → before ≡ [] → ComesTo (session_of c) c.submission.policies at_start (steps_of steps) before (entries_of t.entries.items) (answer_of r) → IsAnswered c t
   run_answers t r before is none h =
       let added : entries_of t.entries.items ≡ h.entries = h.added ∙ ap (λ zs. zs ++ h.entries) none in
-      let follows : Follows (MayDecide (session_of c) c.submission.policies) (session_of c) c.submission.policies at_start c.steps (entries_of t.entries.items) (answered h.answer) = subst (λ zs. Follows (MayDecide (session_of c) c.submission.policies) (session_of c) c.submission.policies at_start zs (entries_of t.entries.items) (answered h.answer)) o.steps
-      (subst (λ zs. Follows (MayDecide (session_of c) c.submission.policies) (session_of c) c.submission.policies at_start (steps_of steps) zs (answered h.answer)) (sym added) h.follows) in
+      let follows : Follows (DecidesInPart (session_of c) c.submission.policies) (session_of c) c.submission.policies at_start c.steps (entries_of t.entries.items) (answered h.answer) = subst (λ zs. Follows (DecidesInPart (session_of c) c.submission.policies) (session_of c) c.submission.policies at_start zs (entries_of t.entries.items) (answered h.answer)) o.steps
+      (subst (λ zs. Follows (DecidesInPart (session_of c) c.submission.policies) (session_of c) c.submission.policies at_start (steps_of steps) zs (answered h.answer)) (sym added) h.follows) in
       (h.answer, ap (option_map answer_of) is ∙ ap Some h.same, (o.opens, follows))
 
   pub run_stops : (before after : List Entry) (stop : Stop) → before ≡ [] → Halts (session_of c) c.submission.policies at_start (steps_of steps) before after stop → HasStopped (session_of c) c.submission.policies at_start c.steps after stop

@@ -2,14 +2,14 @@
 use Rattle.std.proofs.Common.{◌≡◌, ℕ, List, [], ◌∷◌, refl, inl}
 use Rattle.cedar_expr_model.specs.Name.{Text}
 use Rattle.cedar_expr_model.specs.Uid.{Uid}
-use Rattle.cedar_expr_model.specs.Whole.Made.{Made}
-use Rattle.cedar_store_model.specs.Whole.Policy.{Policy}
+use Rattle.cedar_expr_model.specs.Made.{Made}
+use Rattle.cedar_store_model.specs.Policy.{Policy}
 use Rattle.cedar_gate_hosts.specs.declared.host.HostFault.{HostFault}
 use Rattle.cedar_gate_hosts.specs.declared.host.HostFault.TheVariants as host
-use Rattle.cedar_gate_model.specs.Whole.Runs.{supplied_by}
-use Rattle.cedar_gate_model.specs.Whole.RunsAnswer.{Course, session_of}
-use Rattle.cedar_gate_model.specs.Whole.Session.{Setup, State, Supplied, IsWantedList, NothingIsWanted, at_start, OpenRefusal, OpenFault}
-use Rattle.cedar_gate_model.specs.Whole.Transcript.{Step, bind_name}
+use Rattle.cedar_gate_model.specs.Runs.{supplied_by}
+use Rattle.cedar_gate_model.specs.RunsAnswer.{Course, session_of}
+use Rattle.cedar_gate_model.specs.Session.{Setup, State, Supplied, IsWantedList, NothingIsWanted, at_start, OpenRefusal, OpenFault}
+use Rattle.cedar_gate_model.specs.Transcript.{Step, bind_name}
 use Rattle.cedar_gate_runs.specs.Ends.{IsStopped}
 use Rattle.cedar_gate_runs.specs.Refusals.{IsOpenRefusal, IsSupplyRefusal, IsBindRefusal, IsAnswerRefusal}
 use Rattle.cedar_gate_runs.specs.Running.{StopsSupply, StopsLoad}

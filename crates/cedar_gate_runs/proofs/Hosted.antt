@@ -4,18 +4,18 @@ use Rattle.std.specs.Prelude.{Contains, IfSome, option_map}
 use Rattle.cedar_expr_names.specs.Views.{uid_of}
 use Rattle.cedar_expr_names.specs.declared.entity.EntityUID.{EntityUID}
 use Rattle.cedar_expr_model.specs.Uid.{Uid}
-use Rattle.cedar_expr_model.specs.Whole.Made.{Made}
-use Rattle.cedar_expr_model.specs.Whole.Value.{V}
+use Rattle.cedar_expr_model.specs.Made.{Made}
+use Rattle.cedar_expr_model.specs.Value.{V}
 use Rattle.cedar_expr_model.proofs.Lists.{map_has, map_from}
 use Rattle.cedar_store_entities.specs.Views.{bare_entity, entity_seen, entity_uid}
 use Rattle.cedar_store_entities.specs.declared.entity.Entity.{Entity}
-use Rattle.cedar_store_model.specs.Whole.World as world
-use Rattle.cedar_store_model.specs.Whole.World.{held}
+use Rattle.cedar_store_model.specs.World as world
+use Rattle.cedar_store_model.specs.World.{held}
 use Rattle.cedar_evaluator_model.specs.OfLaws.WellMade.{IsFoundMadeWell}
 use Rattle.cedar_gate_hosts.specs.Hosts.{Answers, answered_of, answer_from}
-use Rattle.cedar_gate_model.specs.Whole.Runs.{supplied_by}
-use Rattle.cedar_gate_model.specs.Whole.RunsAnswer.{Course, session_of}
-use Rattle.cedar_gate_model.specs.Whole.Session.{Setup}
+use Rattle.cedar_gate_model.specs.Runs.{supplied_by}
+use Rattle.cedar_gate_model.specs.RunsAnswer.{Course, session_of}
+use Rattle.cedar_gate_model.specs.Session.{Setup}
 use Rattle.cedar_gate_runs.specs.Courses.{IsHost}
 use Rattle.cedar_gate_runs.specs.Supplies.{supplied_pair, supplied_of, supplied_uids, AreAnswers}
 

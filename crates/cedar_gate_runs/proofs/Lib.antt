@@ -6,3 +6,4 @@ pub mod Pushed
 pub mod Rounds
 pub mod Stepped
 pub mod Stopped
+pub mod Asked

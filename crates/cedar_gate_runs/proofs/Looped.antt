@@ -4,14 +4,14 @@ use Rattle.std.specs.Prelude.{Contains}
 use Rattle.std.proofs.lemmas.List.{append-nil}
 use Rattle.cedar_expr_model.specs.Name.{Text}
 use Rattle.cedar_expr_model.specs.Uid.{Uid}
-use Rattle.cedar_expr_model.specs.Whole.Made.{Made}
+use Rattle.cedar_expr_model.specs.Made.{Made}
 use Rattle.cedar_expr_model.proofs.Lists.{contains_head, contains_tail, contains_cases, contains_none}
 use Rattle.cedar_evaluator_model.specs.OfLaws.WellMade.{IsWellMade}
-use Rattle.cedar_gate_model.specs.Whole.Runs.{MayDecide, supplied_by, with_asked}
-use Rattle.cedar_gate_model.specs.Whole.RunLaws.{bindings_in}
-use Rattle.cedar_gate_model.specs.Whole.RunsAnswer.{Course, session_of}
-use Rattle.cedar_gate_model.specs.Whole.Session.{Setup, State, NothingIsWanted, IsWantedList, SupplyRefusal, SupplyFault}
-use Rattle.cedar_gate_model.specs.Whole.Transcript.{Step, load, bind_name, decide, Entry, round}
+use Rattle.cedar_gate_model.specs.Runs.{DecidesInPart, supplied_by, with_asked}
+use Rattle.cedar_gate_model.specs.RunLaws.{bindings_in}
+use Rattle.cedar_gate_model.specs.RunsAnswer.{Course, session_of}
+use Rattle.cedar_gate_model.specs.Session.{Setup, State, NothingIsWanted, IsWantedList, SupplyRefusal, SupplyFault}
+use Rattle.cedar_gate_model.specs.Transcript.{Step, load, bind_name, decide, Entry, round}
 use Rattle.cedar_gate_runs_model.specs.Did.{Loaded}
 use Rattle.cedar_gate_runs_model.proofs.Doing.{nothing, loaded_more}
 use Rattle.cedar_gate_runs.proofs.Rounds.{AreSettled, settled_first, settled_more, below}
@@ -42,7 +42,7 @@ one_binds_well c before s after h = λ b k. h b (binding_within before s after b
 
 module _ {E : Type 0} (Stands : State → E → Type 0) where
   pub went_none : (c : Course) (s : State) (es : List Entry) (e : E) → Stands s e → Went Stands (DidSteps c s []) es es e
-  went_none c s es e h = record { entries = []; state = s; leads = nothing (MayDecide (session_of c) c.submission.policies) (session_of c) s; added = sym (append-nil es); at = h }
+  went_none c s es e h = record { entries = []; state = s; leads = nothing (DecidesInPart (session_of c) c.submission.policies) (session_of c) s; added = sym (append-nil es); at = h }
 
   -- a step stopped after others
   pub halts_on : (c : Course) (s : State) (steps done rest : List Step) (before mid after : List Entry) (d : E) (stop : Stop) → done ++ rest ≡ steps → after ≡ mid

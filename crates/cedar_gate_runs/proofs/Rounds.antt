@@ -1,9 +1,9 @@
 -- Rounds come to an end: the one that has the level's number is none.
 use Rattle.std.proofs.Common.{◌≡◌, ◌<◌, ◌+◌, ℕ, suc, List, subst, arith}
 use Rattle.cedar_expr_model.specs.Uid.{Uid}
-use Rattle.cedar_gate_model.specs.Whole.Runs.{IsRoundNow, with_asked}
-use Rattle.cedar_gate_model.specs.Whole.Session.{Setup, State, world_now}
-use Rattle.cedar_gate_model.proofs.Whole.Runs.Loading.{Settled, round_is_below, settles_more}
+use Rattle.cedar_gate_model.specs.Runs.{IsRoundNow, with_asked}
+use Rattle.cedar_gate_model.specs.Session.{Setup, State, world_now}
+use Rattle.cedar_gate_model.proofs.Runs.Loading.{Settled, round_is_below, settles_more}
 
 -- All that is nearer than this is loaded.
 abbrev pub AreSettled : Setup → State → ℕ → Type 0

@@ -3,17 +3,17 @@
 use Rattle.std.specs.Prelude.{◌≡◌, List, Contains, Some, option_map}
 use Rattle.cedar_expr_model.specs.Name.{Text}
 use Rattle.cedar_expr_model.specs.Uid.{Uid}
-use Rattle.cedar_expr_model.specs.Whole.Made.{Made}
+use Rattle.cedar_expr_model.specs.Made.{Made}
 use Rattle.cedar_store_entities.specs.Views.{bare_entity}
-use Rattle.cedar_store_model.specs.Whole.World as world
-use Rattle.cedar_store_model.specs.Whole.World.{held}
+use Rattle.cedar_store_model.specs.World as world
+use Rattle.cedar_store_model.specs.World.{held}
 use Rattle.cedar_evaluator_model.specs.OfLaws.WellMade.{IsWellMade, IsFoundMadeWell}
 use Rattle.cedar_gate_hosts.specs.Hosts.{Answers}
-use Rattle.cedar_gate_model.specs.Whole.RunLaws.{bindings_in}
-use Rattle.cedar_gate_model.specs.Whole.Runs.{MayDecide}
-use Rattle.cedar_gate_model.specs.Whole.RunsAnswer.{Course, session_of}
-use Rattle.cedar_gate_model.specs.Whole.Session.{State, at_start, OpenRefusal, OpenFault}
-use Rattle.cedar_gate_model.specs.Whole.Transcript.{Step, Entry}
+use Rattle.cedar_gate_model.specs.RunLaws.{bindings_in}
+use Rattle.cedar_gate_model.specs.Runs.{DecidesInPart}
+use Rattle.cedar_gate_model.specs.RunsAnswer.{Course, session_of}
+use Rattle.cedar_gate_model.specs.Session.{State, at_start, OpenRefusal, OpenFault}
+use Rattle.cedar_gate_model.specs.Transcript.{Step, Entry}
 use Rattle.cedar_gate_runs_model.specs.Did.{Did}
 use Rattle.cedar_gate_runs.specs.Steps.{steps_of}
 use Rattle.cedar_gate_runs.specs.declared.steps.Step as code
@@ -30,7 +30,7 @@ BindWell c steps = (b : Text × Made) → Contains (bindings_in steps) b → IsW
 
 -- steps of a course made these entries, and led from the one state to the other
 abbrev pub DidSteps : Course → State → List Step → List Entry → State → Type 0
-DidSteps c = Did (MayDecide (session_of c) c.submission.policies) (session_of c)
+DidSteps c = Did (DecidesInPart (session_of c) c.submission.policies) (session_of c)
 
 -- The course opens; the session stands at its start, and these are its steps.
 pub record IsOf {E : Type 0} (Stands : Course → State → E → Type 0) (c : Course) (e : E) (given : List code.Step) : Type 0 where

@@ -1,12 +1,12 @@
 -- What runs of the code come to.
 -- Rule: runs; statuses and refusal numbers (docs/RULES.md).
 use Rattle.std.specs.Prelude.{◌≡◌, Some, option_map}
-use Rattle.cedar_store_model.specs.Whole.Answer.{Answer}
+use Rattle.cedar_store_model.specs.Answer.{Answer}
 use Rattle.cedar_evaluator_model.specs.Laws.{as_concrete}
 use Rattle.cedar_evaluator_requests.specs.Views.{answer_of}
-use Rattle.cedar_gate_model.specs.Whole.Runs.{answered, opening_refused, supply_refused, binding_refused, answer_refused}
-use Rattle.cedar_gate_model.specs.Whole.RunsAnswer.{Course, session_of, IsRun}
-use Rattle.cedar_gate_model.specs.Whole.Session.{at_start, OpenRefusal, open_number, SupplyRefusal, supply_number, BindRefusal, bind_number, AnswerRefusal, answer_number}
+use Rattle.cedar_gate_model.specs.Runs.{answered, opening_refused, supply_refused, binding_refused, answer_refused}
+use Rattle.cedar_gate_model.specs.RunsAnswer.{Course, session_of, IsRun}
+use Rattle.cedar_gate_model.specs.Session.{at_start, OpenRefusal, open_number, SupplyRefusal, supply_number, BindRefusal, bind_number, AnswerRefusal, answer_number}
 use Rattle.cedar_gate_runs.specs.Stopping.{WasDone}
 use Rattle.cedar_gate_transcripts.specs.Transcripts.{entries_of}
 use Rattle.cedar_gate_transcripts.specs.declared.transcript.Transcript.{Transcript}

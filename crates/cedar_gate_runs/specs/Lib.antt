@@ -6,3 +6,5 @@ pub mod Stopping
 pub mod Running
 pub mod Courses
 pub mod Ends
+pub mod Asking
+pub mod Promised

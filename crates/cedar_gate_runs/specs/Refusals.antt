@@ -2,9 +2,9 @@
 -- Rule: refusals of a session (docs/RULES.md).
 use Rattle.std.specs.Prelude.{◌≡◌}
 use Rattle.cedar_expr_model.specs.Name.{Text}
-use Rattle.cedar_expr_model.specs.Whole.Made.{Made}
+use Rattle.cedar_expr_model.specs.Made.{Made}
 use Rattle.cedar_evaluator_model.specs.Response.{PartialRequest}
-use Rattle.cedar_gate_model.specs.Whole.Session.{Setup, State, Supplied, OpenRefusal, open_number, OpenFault, SupplyRefusal, supply_number, SupplyFault, BindRefusal, bind_number, BindFault, AnswerRefusal, answer_number, AnswerFault}
+use Rattle.cedar_gate_model.specs.Session.{Setup, State, Supplied, OpenRefusal, open_number, OpenFault, SupplyRefusal, supply_number, SupplyFault, BindRefusal, bind_number, BindFault, AnswerRefusal, answer_number, AnswerFault}
 use Rattle.cedar_gate_runs.specs.declared.sessions.Refusal.{Refusal}
 use Rattle.cedar_gate_runs.specs.declared.sessions.Refusal.TheVariants.{OutOfMemory, Numbered}
 

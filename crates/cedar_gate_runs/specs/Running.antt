@@ -2,9 +2,9 @@
 -- Rule: runs (docs/RULES.md).
 use Rattle.std.specs.Prelude.{◌≡◌, List, [], ◌∷◌, ◌++◌, Bool, true, false}
 use Rattle.cedar_expr_model.specs.Uid.{Uid}
-use Rattle.cedar_gate_model.specs.Whole.Runs.{IsRoundNow, RefusesSupply, with_asked}
-use Rattle.cedar_gate_model.specs.Whole.Session.{Setup, State, NothingIsWanted, Supplied, SupplyFault, SupplyRefusal, supply_number}
-use Rattle.cedar_gate_model.specs.Whole.Transcript.{Entry, round}
+use Rattle.cedar_gate_model.specs.Runs.{IsRoundNow, RefusesSupply, with_asked}
+use Rattle.cedar_gate_model.specs.Session.{Setup, State, NothingIsWanted, Supplied, SupplyFault, SupplyRefusal, supply_number}
+use Rattle.cedar_gate_model.specs.Transcript.{Entry, round}
 use Rattle.cedar_gate_runs_model.specs.Did.{Loaded}
 use Rattle.cedar_gate_runs.specs.declared.stops.Stop.{Stop}
 use Rattle.cedar_gate_runs.specs.declared.stops.Stop.TheVariants.{Memory, Host, Supplying, Binding, Answering}

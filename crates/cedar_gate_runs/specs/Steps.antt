@@ -4,7 +4,7 @@ use Rattle.std.specs.Prelude.{List, map}
 use Rattle.std.specs.Rc.{rc_str_bytes}
 use Rattle.cedar_expr_values.specs.Extensions.{extension_of}
 use Rattle.cedar_expr_values.specs.Values.{made}
-use Rattle.cedar_gate_model.specs.Whole.Transcript as model
+use Rattle.cedar_gate_model.specs.Transcript as model
 use Rattle.cedar_gate_runs.specs.declared.steps.Step.{Step}
 use Rattle.cedar_gate_runs.specs.declared.steps.Step.TheVariants.{Load, Bind, Decide}
 

@@ -1,14 +1,14 @@
 -- Why runs stop, and what was done by then.
 -- Rule: runs (docs/RULES.md).
 use Rattle.std.specs.Prelude.{◌≡◌, ◌⊎◌, List, [], ◌++◌}
-use Rattle.cedar_store_model.specs.Whole.Answer.{Answer}
-use Rattle.cedar_store_model.specs.Whole.Policy.{Policy}
+use Rattle.cedar_store_model.specs.Answer.{Answer}
+use Rattle.cedar_store_model.specs.Policy.{Policy}
 use Rattle.cedar_evaluator_model.specs.Laws.{as_concrete}
 use Rattle.cedar_evaluator_model.specs.Members.{Concrete}
-use Rattle.cedar_gate_model.specs.Whole.Runs.{answered, MayDecide, Finishes, Follows, supply_refused, binding_refused, answer_refused}
-use Rattle.cedar_gate_model.specs.Whole.RunsAnswer.{Course, session_of}
-use Rattle.cedar_gate_model.specs.Whole.Session.{Setup, State, SupplyRefusal, supply_number, BindRefusal, bind_number, AnswerRefusal, answer_number}
-use Rattle.cedar_gate_model.specs.Whole.Transcript.{Step, Entry}
+use Rattle.cedar_gate_model.specs.Runs.{answered, DecidesInPart, Finishes, Follows, supply_refused, binding_refused, answer_refused}
+use Rattle.cedar_gate_model.specs.RunsAnswer.{Course, session_of}
+use Rattle.cedar_gate_model.specs.Session.{Setup, State, SupplyRefusal, supply_number, BindRefusal, bind_number, AnswerRefusal, answer_number}
+use Rattle.cedar_gate_model.specs.Transcript.{Step, Entry}
 use Rattle.cedar_gate_runs_model.specs.Did.{Did, Loaded}
 use Rattle.cedar_gate_runs.specs.declared.stops.Stop.{Stop}
 use Rattle.cedar_gate_runs.specs.declared.stops.Stop.TheVariants.{Memory, Host, Supplying, Binding, Answering}
@@ -19,7 +19,7 @@ pub record DidSome (x : Setup) (ps : List Policy) (s : State) (steps : List Step
   pub rest : List Step
   pub state : State
   pub each : done ++ rest ≡ steps
-  pub did : Did (MayDecide x ps) x s done es state
+  pub did : Did (DecidesInPart x ps) x s done es state
 
 -- All steps and rounds after them made these entries.
 pub record DidAll (x : Setup) (ps : List Policy) (s : State) (steps : List Step) (es : List Entry) : Type 0 where
@@ -28,7 +28,7 @@ pub record DidAll (x : Setup) (ps : List Policy) (s : State) (steps : List Step)
   pub middle : State
   pub state : State
   pub entries : first ++ rounds ≡ es
-  pub did : Did (MayDecide x ps) x s steps first middle
+  pub did : Did (DecidesInPart x ps) x s steps first middle
   pub loaded : Loaded x middle rounds state
 
 -- what was done by now
@@ -39,9 +39,9 @@ WasDone x ps s steps es = DidSome x ps s steps es ⊎ DidAll x ps s steps es
 abbrev pub IsRefused : Setup → List Policy → State → List Step → List Entry → Stop → Type 0
 IsRefused x ps s steps es Memory = Unit {0}
 IsRefused x ps s steps es Host = Unit {0}
-IsRefused x ps s steps es (Supplying n) = (f : SupplyRefusal) × (n ≡ supply_number f) × Follows (MayDecide x ps) x ps s steps es (supply_refused f)
-IsRefused x ps s steps es (Binding n) = (f : BindRefusal) × (n ≡ bind_number f) × Follows (MayDecide x ps) x ps s steps es (binding_refused f)
-IsRefused x ps s steps es (Answering n) = (f : AnswerRefusal) × (n ≡ answer_number f) × Follows (MayDecide x ps) x ps s steps es (answer_refused f)
+IsRefused x ps s steps es (Supplying n) = (f : SupplyRefusal) × (n ≡ supply_number f) × Follows (DecidesInPart x ps) x ps s steps es (supply_refused f)
+IsRefused x ps s steps es (Binding n) = (f : BindRefusal) × (n ≡ bind_number f) × Follows (DecidesInPart x ps) x ps s steps es (binding_refused f)
+IsRefused x ps s steps es (Answering n) = (f : AnswerRefusal) × (n ≡ answer_number f) × Follows (DecidesInPart x ps) x ps s steps es (answer_refused f)
 
 -- A run of these steps stopped with these entries.
 pub record HasStopped (x : Setup) (ps : List Policy) (s : State) (steps : List Step) (es : List Entry) (stop : Stop) : Type 0 where
@@ -60,7 +60,7 @@ pub record ComesTo (x : Setup) (ps : List Policy) (s : State) (steps : List Step
   pub answer : Answer
   pub added : after ≡ before ++ entries
   pub same : told ≡ as_concrete answer
-  pub follows : Follows (MayDecide x ps) x ps s steps entries (answered answer)
+  pub follows : Follows (DecidesInPart x ps) x ps s steps entries (answered answer)
 
 -- Nothing is wanted, and the answer of this state, which is told so, isn't refused.
 pub record Finished (c : Course) (s : State) (told : Concrete) : Type 0 where

@@ -4,14 +4,14 @@ use Rattle.std.specs.Prelude.{◌≡◌, List, Contains, map, Option, IfSome, op
 use Rattle.cedar_expr_names.specs.Views.{uid_of}
 use Rattle.cedar_expr_names.specs.declared.entity.EntityUID.{EntityUID}
 use Rattle.cedar_expr_model.specs.Uid.{Uid}
-use Rattle.cedar_expr_model.specs.Whole.Value.{V}
+use Rattle.cedar_expr_model.specs.Value.{V}
 use Rattle.cedar_store_entities.specs.Views.{entity_pair, entity_seen}
 use Rattle.cedar_store_entities.specs.declared.entity.Entity.{Entity}
-use Rattle.cedar_store_model.specs.Whole.World as world
-use Rattle.cedar_store_model.specs.Whole.World.{held}
+use Rattle.cedar_store_model.specs.World as world
+use Rattle.cedar_store_model.specs.World.{held}
 use Rattle.cedar_evaluator_model.specs.OfLaws.WellMade.{IsFoundMadeWell}
-use Rattle.cedar_gate_model.specs.Whole.Runs.{supplied_by}
-use Rattle.cedar_gate_model.specs.Whole.Session.{Setup, Supplied}
+use Rattle.cedar_gate_model.specs.Runs.{supplied_by}
+use Rattle.cedar_gate_model.specs.Session.{Setup, Supplied}
 
 -- what was supplied, and for which uids
 abbrev pub supplied_pair : EntityUID × Option Entity → Uid × Option (Uid × world.Entity V)

@@ -1,11 +1,13 @@
 //! Loading: rounds of what is wanted.
 
-ghost use Rattle.std.specs.Prelude.{◌≡◌, ◌<◌, IfOk, IfErr, OnOk, OnErr, map};
+ghost use Rattle.std.specs.Prelude.{◌≡◌, ◌<◌, ◌++◌, ◌∷◌, [], List, IfOk, IfErr, OnOk, OnErr, map};
 ghost use Rattle.cedar_expr_names.specs.Views.{uid_of};
-ghost use Rattle.cedar_gate_model.specs.Whole.Runs.{supplied_by, with_asked};
-ghost use Rattle.cedar_gate_model.specs.Whole.RunsAnswer.{Course, session_of};
-ghost use Rattle.cedar_gate_model.specs.Whole.Session.{State, IsWantedList, SupplyRefusal, SupplyFault};
+ghost use Rattle.cedar_expr_model.specs.Uid.{Uid};
+ghost use Rattle.cedar_gate_model.specs.Runs.{supplied_by, with_asked};
+ghost use Rattle.cedar_gate_model.specs.RunsAnswer.{Course, session_of};
+ghost use Rattle.cedar_gate_model.specs.Session.{State, IsWantedList, SupplyRefusal, SupplyFault};
 ghost use Rattle.cedar_gate_transcripts.specs.Transcripts.{entries_of};
+ghost use Rattle.cedar_gate_runs.specs.Asking.{rounds_of, AskedRounds, AskedBeyond};
 ghost use Rattle.cedar_gate_runs.specs.Courses.{IsHost};
 ghost use Rattle.cedar_gate_runs.specs.Running.{Went, DidLoad, DidLoadAll, StopsSupply, StopsLoad, HaltsLoading};
 
@@ -26,6 +28,8 @@ fn take_in<E: SessionCalls, H: Host>(
     requires { H.faults host.old < u64.MAX }
     ensures host { (c : Course) → IsHost H.honest H.store c host.old → IsHost H.honest H.store c host.new }
     ensures faults { OnOk result (H.faults host.new ≡ H.faults host.old) }
+    ensures asked { OnOk result (H.asked host.new ≡ H.asked host.old ++ map uid_of wanted.now ∷ []) }
+    ensures beyond { IfErr result (AskedBeyond (H.asked host.old) (H.asked host.new)) }
     ensures at { OnOk result ((c : Course) (s : State) → E.stands c s session.old → IsHost H.honest H.store c host.old → map uid_of wanted.now ≡ E.wants session.old → E.stands c (with_asked s (map uid_of wanted.now)) session.new) }
     ensures taken { OnOk result ((c : Course) (s : State) → E.stands c s session.old → IsHost H.honest H.store c host.old → (f : SupplyRefusal) → SupplyFault (session_of c) s (supplied_by (session_of c) (map uid_of wanted.now)) f → ⊥) }
     ensures refused { IfErr result (λ stop. (c : Course) (s : State) → E.stands c s session.old → IsHost H.honest H.store c host.old → StopsSupply (session_of c) s (supplied_by (session_of c) (map uid_of wanted.now)) stop) }
@@ -45,7 +49,7 @@ fn copy_wanted<E: SessionCalls>(alloc: Global, session: &E) -> Result<Vec<Entity
     copied(alloc, session.wanted())
 }
 
-/// A round, where something is wanted. Answers whether there was one.
+/// A round, where something is wanted. Answers whether there was one. The room for its entry is made before the host is asked.
 pub(crate) fn load<E: SessionCalls, H: Host>(
     alloc: Global,
     session: &mut E,
@@ -55,6 +59,8 @@ pub(crate) fn load<E: SessionCalls, H: Host>(
     requires { H.faults host.old < u64.MAX }
     ensures host { (c : Course) → IsHost H.honest H.store c host.old → IsHost H.honest H.store c host.new }
     ensures faults { OnOk result (H.faults host.new ≡ H.faults host.old) }
+    ensures asked { OnOk result ((first : List (List Uid)) → AskedRounds first (H.asked host.old) (entries_of entries.old.items) → AskedRounds first (H.asked host.new) (entries_of entries.new.items)) }
+    ensures beyond { IfErr result (AskedBeyond (H.asked host.old) (H.asked host.new)) }
     ensures did { IfOk result (λ b. (c : Course) (s : State) → E.stands c s session.old → IsHost H.honest H.store c host.old → Went (E.stands c) (DidLoad (session_of c) s b) (entries_of entries.old.items) (entries_of entries.new.items) session.new) }
     ensures stopped { IfErr result (λ stop. (c : Course) (s : State) → E.stands c s session.old → IsHost H.honest H.store c host.old → StopsLoad (session_of c) s stop) }
     ensures unchanged { OnErr result (entries_of entries.new.items ≡ entries_of entries.old.items) }
@@ -63,6 +69,7 @@ pub(crate) fn load<E: SessionCalls, H: Host>(
     if wanted.is_empty() {
         return Ok(false);
     }
+    entries.reserve(1)?;
     take_in(alloc, session, host, wanted.as_slice())?;
     entries.push(Entry::Round(wanted))?;
     Ok(true)
@@ -78,6 +85,8 @@ pub(crate) fn load_all<E: SessionCalls, H: Host>(
     requires { H.faults host.old < u64.MAX }
     ensures host { (c : Course) → IsHost H.honest H.store c host.old → IsHost H.honest H.store c host.new }
     ensures faults { OnOk result (H.faults host.new ≡ H.faults host.old) }
+    ensures asked { OnOk result ((first : List (List Uid)) → AskedRounds first (H.asked host.old) (entries_of entries.old.items) → AskedRounds first (H.asked host.new) (entries_of entries.new.items)) }
+    ensures beyond { IfErr result (λ stop. (first : List (List Uid)) → AskedRounds first (H.asked host.old) (entries_of entries.old.items) → AskedBeyond (first ++ rounds_of (entries_of entries.new.items)) (H.asked host.new) stop) }
     ensures did { OnOk result ((c : Course) (s : State) → E.stands c s session.old → IsHost H.honest H.store c host.old → Went (E.stands c) (DidLoadAll (session_of c) s) (entries_of entries.old.items) (entries_of entries.new.items) session.new) }
     ensures stopped { IfErr result (λ stop. (c : Course) (s : State) → E.stands c s session.old → IsHost H.honest H.store c host.old → HaltsLoading (session_of c) s (entries_of entries.old.items) (entries_of entries.new.items) stop) }
 {

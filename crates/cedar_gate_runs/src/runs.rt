@@ -1,12 +1,15 @@
 //! Runs: steps over a session and a host, up to the answer.
 
-ghost use Rattle.std.specs.Prelude.{◌<◌, [], IfOk, IfErr};
+ghost use Rattle.std.specs.Prelude.{◌≡◌, ◌<◌, ◌++◌, [], List, IfOk, IfErr, OnOk};
 ghost use Rattle.cedar_evaluator_requests.specs.Views.{answer_of};
-ghost use Rattle.cedar_gate_model.specs.Whole.RunsAnswer.{Course, session_of};
-ghost use Rattle.cedar_gate_model.specs.Whole.Session.{State, at_start, NothingIsWanted, OpenRefusal, OpenFault};
+ghost use Rattle.cedar_expr_model.specs.Uid.{Uid};
+ghost use Rattle.cedar_gate_model.specs.RunsAnswer.{Course, session_of, IsProper, MakeFairly};
+ghost use Rattle.cedar_gate_model.specs.Session.{State, at_start, NothingIsWanted, OpenRefusal, OpenFault};
 ghost use Rattle.cedar_gate_transcripts.specs.Transcripts.{entries_of};
+ghost use Rattle.cedar_gate_runs.specs.Asking.{rounds_of, AskedRounds, IsBeyond, AskedBeyond, AskedBy};
 ghost use Rattle.cedar_gate_runs.specs.Courses.{IsHost, BindWell, IsOf};
 ghost use Rattle.cedar_gate_runs.specs.Ends.{IsAnswered, IsStopped};
+ghost use Rattle.cedar_gate_runs.specs.Promised.{KeepsAnswered, KeepsStopped};
 ghost use Rattle.cedar_gate_runs.specs.Refusals.{IsOpenRefusal};
 ghost use Rattle.cedar_gate_runs.specs.Steps.{steps_of};
 ghost use Rattle.cedar_gate_runs.specs.Stopping.{Finished, IsRefused, HasStopped, Halts, ComesTo};
@@ -18,6 +21,7 @@ use crate::steps::Step;
 use crate::stops::Stop;
 use cedar_evaluator_requests::Response;
 use cedar_gate_hosts::Host;
+use cedar_gate_model::headline::runs_keep_the_headline;
 use cedar_gate_transcripts::{Entry, RunFault, Transcript};
 use std::alloc::Global;
 
@@ -25,6 +29,7 @@ use std::alloc::Global;
 fn finish<E: SessionCalls>(alloc: Global, session: &E) -> Result<Response, Stop>
     ensures answered { IfOk result (λ r. (c : Course) (s : State) → E.stands c s session.now → NothingIsWanted (session_of c) s → Finished c s (answer_of r)) }
     ensures stopped { IfErr result (λ stop. (c : Course) (s : State) → E.stands c s session.now → NothingIsWanted (session_of c) s → IsRefused (session_of c) c.submission.policies s [] [] stop) }
+    ensures alone { IfErr result (λ stop. IsBeyond stop []) }
 {
     match session.answer(alloc) {
         Ok(response) => Ok(response),
@@ -43,6 +48,8 @@ fn follow<E: SessionCalls, H: Host>(
     requires { H.faults host.old < u64.MAX }
     ensures answered { IfOk result (λ r. (c : Course) (s : State) → E.stands c s session.old → IsHost H.honest H.store c host.old → BindWell c (steps_of steps.items) → ComesTo (session_of c) c.submission.policies s (steps_of steps.items) (entries_of entries.old.items) (entries_of entries.new.items) (answer_of r)) }
     ensures stopped { IfErr result (λ stop. (c : Course) (s : State) → E.stands c s session.old → IsHost H.honest H.store c host.old → BindWell c (steps_of steps.items) → Halts (session_of c) c.submission.policies s (steps_of steps.items) (entries_of entries.old.items) (entries_of entries.new.items) stop) }
+    ensures asked { OnOk result ((first : List (List Uid)) → AskedRounds first (H.asked host.old) (entries_of entries.old.items) → AskedRounds first (H.asked host.new) (entries_of entries.new.items)) }
+    ensures beyond { IfErr result (λ stop. (first : List (List Uid)) → AskedRounds first (H.asked host.old) (entries_of entries.old.items) → AskedBeyond (first ++ rounds_of (entries_of entries.new.items)) (H.asked host.new) stop) }
 {
     take_steps(alloc, session, steps, host, entries)?;
     load_all(alloc, session, host, entries)?;
@@ -51,7 +58,8 @@ fn follow<E: SessionCalls, H: Host>(
 
 // A run that stopped with these entries.
 fn stopped(stop: Stop, entries: Vec<Entry>) -> RunFault
-    ensures { (c : Course) → ((f : OpenRefusal) → OpenFault c.start f → ⊥) → HasStopped (session_of c) c.submission.policies at_start c.steps (entries_of entries.items) stop → IsStopped c result }
+    ensures asked { (first asked : List (List Uid)) → AskedBeyond (first ++ rounds_of (entries_of entries.items)) asked stop → AskedBy first asked result }
+    ensures stopped { (c : Course) → ((f : OpenRefusal) → OpenFault c.start f → ⊥) → HasStopped (session_of c) c.submission.policies at_start c.steps (entries_of entries.items) stop → IsStopped c result }
 {
     let transcript = Transcript {
         entries,
@@ -80,7 +88,9 @@ pub fn not_opened(alloc: Global, refusal: Refusal) -> RunFault
     }
 }
 
-/// Runs a session that was opened: does the steps in their order, loads until nothing is wanted, and answers.
+/// Runs a session that was opened: does the steps in their order, loads until nothing is wanted, and answers. The host is asked for the
+/// rounds of the transcript; beyond them for one list at most, whose answer was refused. What is done of a proper course keeps the
+/// promises of the headline, where the functions make their values as they are written.
 ///
 /// # Errors
 ///
@@ -95,7 +105,12 @@ pub fn run<E: SessionCalls + Drop, H: Host>(
     requires { H.faults host.old < u64.MAX }
     ensures answered { IfOk result (λ t. (c : Course) → IsOf E.stands c session steps.items → IsHost H.honest H.store c host.old → IsAnswered c t) }
     ensures stopped { IfErr result (λ f. (c : Course) → IsOf E.stands c session steps.items → IsHost H.honest H.store c host.old → IsStopped c f) }
+    ensures asked { IfOk result (λ t. AskedRounds (H.asked host.old) (H.asked host.new) (entries_of t.entries.items)) }
+    ensures beyond { IfErr result (AskedBy (H.asked host.old) (H.asked host.new)) }
+    ensures headline { IfOk result (λ t. (c : Course) → IsOf E.stands c session steps.items → IsHost H.honest H.store c host.old → IsProper c → MakeFairly c.functions → KeepsAnswered c t) }
+    ensures promises { IfErr result (λ f. (c : Course) → IsOf E.stands c session steps.items → IsHost H.honest H.store c host.old → IsProper c → MakeFairly c.functions → KeepsStopped c f) }
 {
+    runs_keep_the_headline();
     let mut entries = Vec::new(alloc);
     match follow(alloc, &mut session, steps, host, &mut entries) {
         Ok(response) => Ok(Transcript {

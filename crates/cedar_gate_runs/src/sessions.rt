@@ -6,13 +6,13 @@ ghost use Rattle.cedar_expr_names.specs.Views.{uid_of};
 ghost use Rattle.cedar_expr_model.specs.Uid.{Uid};
 ghost use Rattle.cedar_expr_values.specs.Extensions.{extension_of};
 ghost use Rattle.cedar_expr_values.specs.Values.{made};
-ghost use Rattle.cedar_store_model.specs.Whole.Answer.{answer_of as answer_meant};
+ghost use Rattle.cedar_store_model.specs.Answer.{answer_of as answer_meant};
 ghost use Rattle.cedar_evaluator_model.specs.Laws.{as_concrete};
 ghost use Rattle.cedar_evaluator_model.specs.OfLaws.WellMade.{IsWellMade};
 ghost use Rattle.cedar_evaluator_requests.specs.Views.{decision_of, answer_of};
-ghost use Rattle.cedar_gate_model.specs.Whole.Runs.{MayDecide, with_asked};
-ghost use Rattle.cedar_gate_model.specs.Whole.RunsAnswer.{Course, session_of};
-ghost use Rattle.cedar_gate_model.specs.Whole.Session.{State, with_bound, world_now, IsWantedList, SupplyRefusal, SupplyFault, BindRefusal, BindFault, AnswerRefusal, AnswerFault};
+ghost use Rattle.cedar_gate_model.specs.Runs.{DecidesInPart, with_asked};
+ghost use Rattle.cedar_gate_model.specs.RunsAnswer.{Course, session_of};
+ghost use Rattle.cedar_gate_model.specs.Session.{State, with_bound, world_now, IsWantedList, SupplyRefusal, SupplyFault, BindRefusal, BindFault, AnswerRefusal, AnswerFault};
 ghost use Rattle.cedar_gate_runs.specs.Supplies.{supplied_of, AreAnswers};
 ghost use Rattle.cedar_gate_runs.specs.Refusals.{IsSupplyRefusal, IsBindRefusal, IsAnswerRefusal};
 
@@ -74,7 +74,7 @@ pub trait SessionCalls {
 
     /// The decision that is known by now, if one is. Answers want of memory.
     fn decision(&self, alloc: Global) -> Result<Option<Decision>, AllocError>
-        ensures { IfOk result (λ d. (c : Course) (s : State) → stands c s self.now → MayDecide (session_of c) c.submission.policies s (option_map decision_of d)) };
+        ensures { IfOk result (λ d. (c : Course) (s : State) → stands c s self.now → DecidesInPart (session_of c) c.submission.policies s (option_map decision_of d)) };
 
     /// The answer over the whole store.
     ///

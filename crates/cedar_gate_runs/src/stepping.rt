@@ -1,14 +1,16 @@
 //! What steps do.
 
-ghost use Rattle.std.specs.Prelude.{◌≡◌, ◌<◌, [], ◌∷◌, List, IfOk, IfErr, OnOk, OnErr};
+ghost use Rattle.std.specs.Prelude.{◌≡◌, ◌<◌, ◌++◌, [], ◌∷◌, List, IfOk, IfErr, OnOk, OnErr};
 ghost use Rattle.std.specs.Rc.{rc_str_bytes};
 ghost use Rattle.cedar_expr_values.specs.Extensions.{extension_of};
 ghost use Rattle.cedar_expr_values.specs.Values.{made};
 ghost use Rattle.cedar_evaluator_model.specs.OfLaws.WellMade.{IsWellMade};
-ghost use Rattle.cedar_gate_model.specs.Whole.RunsAnswer.{Course, session_of};
-ghost use Rattle.cedar_gate_model.specs.Whole.Session.{State, with_bound, BindRefusal, BindFault};
-ghost use Rattle.cedar_gate_model.specs.Whole.Transcript as model;
+ghost use Rattle.cedar_expr_model.specs.Uid.{Uid};
+ghost use Rattle.cedar_gate_model.specs.RunsAnswer.{Course, session_of};
+ghost use Rattle.cedar_gate_model.specs.Session.{State, with_bound, BindRefusal, BindFault};
+ghost use Rattle.cedar_gate_model.specs.Transcript as model;
 ghost use Rattle.cedar_gate_transcripts.specs.Transcripts.{entries_of};
+ghost use Rattle.cedar_gate_runs.specs.Asking.{rounds_of, AskedRounds, IsBeyond, AskedBeyond};
 ghost use Rattle.cedar_gate_runs.specs.Courses.{IsHost, BindWell, DidSteps};
 ghost use Rattle.cedar_gate_runs.specs.Running.{Went};
 ghost use Rattle.cedar_gate_runs.specs.Steps.{step_of, steps_of};
@@ -35,6 +37,7 @@ fn bind_in<E: SessionCalls>(
     ensures at { OnOk result ((c : Course) (s : State) → E.stands c s session.old → IsWellMade c.functions.table (made extension_of value) → E.stands c (with_bound s (rc_str_bytes name) (made extension_of value)) session.new) }
     ensures taken { OnOk result ((c : Course) (s : State) → E.stands c s session.old → (f : BindRefusal) → BindFault (session_of c) s (rc_str_bytes name) (made extension_of value) f → ⊥) }
     ensures stopped { IfErr result (λ stop. (c : Course) (s : State) (rest : List model.Step) → E.stands c s session.old → IsRefused (session_of c) c.submission.policies s (model.bind_name (rc_str_bytes name) (made extension_of value) ∷ rest) [] stop) }
+    ensures alone { IfErr result (λ stop. IsBeyond stop []) }
 {
     match session.bind(alloc, name, value) {
         Ok(()) => Ok(()),
@@ -53,8 +56,11 @@ fn bind_name<E: SessionCalls>(
     ensures did { OnOk result ((c : Course) (s : State) → E.stands c s session.old → IsWellMade c.functions.table (made extension_of value) → Went (E.stands c) (DidSteps c s (model.bind_name (rc_str_bytes name) (made extension_of value) ∷ [])) (entries_of entries.old.items) (entries_of entries.new.items) session.new) }
     ensures stopped { IfErr result (λ stop. (c : Course) (s : State) (rest : List model.Step) → E.stands c s session.old → IsRefused (session_of c) c.submission.policies s (model.bind_name (rc_str_bytes name) (made extension_of value) ∷ rest) [] stop) }
     ensures unchanged { OnErr result (entries_of entries.new.items ≡ entries_of entries.old.items) }
+    ensures rounds { OnOk result (rounds_of (entries_of entries.new.items) ≡ rounds_of (entries_of entries.old.items)) }
+    ensures alone { IfErr result (λ stop. IsBeyond stop []) }
 {
     let copy = name.clone()?;
+    entries.reserve(1)?;
     bind_in(alloc, session, name, value)?;
     entries.push(Entry::Bound(copy))?;
     Ok(())
@@ -65,7 +71,9 @@ fn decide<E: SessionCalls>(alloc: Global, session: &E, entries: &mut Vec<Entry>)
     ensures did { OnOk result ((c : Course) (s : State) → E.stands c s session.now → Went (E.stands c) (DidSteps c s (model.decide ∷ [])) (entries_of entries.old.items) (entries_of entries.new.items) session.now) }
     ensures stopped { IfErr result (λ stop. stop ≡ Memory) }
     ensures unchanged { OnErr result (entries_of entries.new.items ≡ entries_of entries.old.items) }
+    ensures rounds { OnOk result (rounds_of (entries_of entries.new.items) ≡ rounds_of (entries_of entries.old.items)) }
 {
+    entries.reserve(1)?;
     let decision = session.decision(alloc)?;
     entries.push(Entry::Decided(decision))?;
     Ok(())
@@ -82,6 +90,8 @@ fn take_step<E: SessionCalls, H: Host>(
     requires { H.faults host.old < u64.MAX }
     ensures host { (c : Course) → IsHost H.honest H.store c host.old → IsHost H.honest H.store c host.new }
     ensures faults { OnOk result (H.faults host.new ≡ H.faults host.old) }
+    ensures asked { OnOk result ((first : List (List Uid)) → AskedRounds first (H.asked host.old) (entries_of entries.old.items) → AskedRounds first (H.asked host.new) (entries_of entries.new.items)) }
+    ensures beyond { IfErr result (AskedBeyond (H.asked host.old) (H.asked host.new)) }
     ensures did { OnOk result ((c : Course) (s : State) → E.stands c s session.old → IsHost H.honest H.store c host.old → BindWell c (step_of step ∷ []) → Went (E.stands c) (DidSteps c s (step_of step ∷ [])) (entries_of entries.old.items) (entries_of entries.new.items) session.new) }
     ensures stopped { IfErr result (λ stop. (c : Course) (s : State) (rest : List model.Step) → E.stands c s session.old → IsHost H.honest H.store c host.old → IsRefused (session_of c) c.submission.policies s (step_of step ∷ rest) [] stop) }
     ensures unchanged { OnErr result (entries_of entries.new.items ≡ entries_of entries.old.items) }
@@ -107,6 +117,8 @@ pub(crate) fn take_steps<E: SessionCalls, H: Host>(
     requires { H.faults host.old < u64.MAX }
     ensures host { (c : Course) → IsHost H.honest H.store c host.old → IsHost H.honest H.store c host.new }
     ensures faults { OnOk result (H.faults host.new ≡ H.faults host.old) }
+    ensures asked { OnOk result ((first : List (List Uid)) → AskedRounds first (H.asked host.old) (entries_of entries.old.items) → AskedRounds first (H.asked host.new) (entries_of entries.new.items)) }
+    ensures beyond { IfErr result (λ stop. (first : List (List Uid)) → AskedRounds first (H.asked host.old) (entries_of entries.old.items) → AskedBeyond (first ++ rounds_of (entries_of entries.new.items)) (H.asked host.new) stop) }
     ensures did { OnOk result ((c : Course) (s : State) → E.stands c s session.old → IsHost H.honest H.store c host.old → BindWell c (steps_of steps.items) → Went (E.stands c) (DidSteps c s (steps_of steps.items)) (entries_of entries.old.items) (entries_of entries.new.items) session.new) }
     ensures stopped { IfErr result (λ stop. (c : Course) (s : State) → E.stands c s session.old → IsHost H.honest H.store c host.old → BindWell c (steps_of steps.items) → Halts (session_of c) c.submission.policies s (steps_of steps.items) (entries_of entries.old.items) (entries_of entries.new.items) stop) }
 {

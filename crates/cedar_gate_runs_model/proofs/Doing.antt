@@ -2,11 +2,11 @@
 use Rattle.std.proofs.Common.{◌≡◌, ◌⊎◌, inl, inr, List, [], ◌∷◌, ◌++◌, Option, refl, sym, ap, ◌∙◌, subst}
 use Rattle.std.proofs.lemmas.List.{append-nil}
 use Rattle.cedar_expr_model.specs.Uid.{Uid}
-use Rattle.cedar_store_model.specs.Whole.Answer.{Decision}
-use Rattle.cedar_store_model.specs.Whole.Policy.{Policy}
-use Rattle.cedar_gate_model.specs.Whole.Runs.{End, Finishes, Follows, IsRoundNow, with_asked}
-use Rattle.cedar_gate_model.specs.Whole.Session.{Setup, State, with_bound}
-use Rattle.cedar_gate_model.specs.Whole.Transcript.{Step, load, bind_name, decide, Entry, round, bound, decided}
+use Rattle.cedar_store_model.specs.Answer.{Decision}
+use Rattle.cedar_store_model.specs.Policy.{Policy}
+use Rattle.cedar_gate_model.specs.Runs.{End, Finishes, Follows, IsRoundNow, with_asked}
+use Rattle.cedar_gate_model.specs.Session.{Setup, State, with_bound}
+use Rattle.cedar_gate_model.specs.Transcript.{Step, load, bind_name, decide, Entry, round, bound, decided}
 use Rattle.cedar_gate_runs_model.specs.Did.{Did, Loaded}
 use Rattle.cedar_gate_runs_model.specs.Laws.{LoadedNothing, LoadedMore, LoadedFinishes}
 

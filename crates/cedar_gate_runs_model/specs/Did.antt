@@ -3,11 +3,11 @@
 use Rattle.std.specs.Prelude.{◌≡◌, List, [], ◌∷◌, Option}
 use Rattle.std.proofs.Common.{◌⊎◌}
 use Rattle.cedar_expr_model.specs.Name.{Text}
-use Rattle.cedar_expr_model.specs.Whole.Made.{Made}
-use Rattle.cedar_store_model.specs.Whole.Answer.{Decision}
-use Rattle.cedar_gate_model.specs.Whole.Runs.{IsRoundNow, with_asked, DecidesNow}
-use Rattle.cedar_gate_model.specs.Whole.Session.{Setup, State, NothingIsWanted, with_bound, BindFault, BindRefusal}
-use Rattle.cedar_gate_model.specs.Whole.Transcript.{Step, load, bind_name, decide, Entry, round, bound, decided}
+use Rattle.cedar_expr_model.specs.Made.{Made}
+use Rattle.cedar_store_model.specs.Answer.{Decision}
+use Rattle.cedar_gate_model.specs.Runs.{IsRoundNow, with_asked, DecidesNow}
+use Rattle.cedar_gate_model.specs.Session.{Setup, State, NothingIsWanted, with_bound, BindFault, BindRefusal}
+use Rattle.cedar_gate_model.specs.Transcript.{Step, load, bind_name, decide, Entry, round, bound, decided}
 
 -- a round, and what comes after it
 abbrev pub DidRound : Setup → State → (State → List Entry → Type 0) → List Entry → Type 0

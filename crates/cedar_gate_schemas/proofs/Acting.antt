@@ -7,21 +7,21 @@ use Rattle.std.specs.declared.alloc.AllocError.{AllocError}
 use Rattle.std.specs.declared.alloc.Global.{Global}
 use Rattle.std.specs.declared.vec.Vec.{Vec}
 use Rattle.cedar_expr_model.specs.Uid.{Uid, uid_eq}
-use Rattle.cedar_expr_model.specs.Whole.ListLaws.{AreDistinct}
-use Rattle.cedar_expr_model.specs.Whole.Value.{V}
+use Rattle.cedar_expr_model.specs.ListLaws.{AreDistinct}
+use Rattle.cedar_expr_model.specs.Value.{V}
 use Rattle.cedar_expr_model.proofs.Equality.{uid_eq-Decides}
 use Rattle.cedar_expr_model.proofs.Lists.{map_from, found-Decides}
-use Rattle.cedar_expr_model.proofs.Whole.Repeating.{repeats_decide}
+use Rattle.cedar_expr_model.proofs.Repeating.{repeats_decide}
 use Rattle.cedar_store_entities.specs.Views.{entity_pair}
 use Rattle.cedar_store_entities.specs.declared.entity.Entity as code
-use Rattle.cedar_store_model.specs.Whole.Store.{Entities, are_distinct}
-use Rattle.cedar_store_model.specs.Whole.World.{Entity}
-use Rattle.cedar_store_model.proofs.Whole.Stores.{found_stands, stands_found}
-use Rattle.cedar_schema_model.specs.Whole.ActionEntities.{as_entity}
-use Rattle.cedar_schema_model.specs.Whole.BagLaws.{HasTwice}
-use Rattle.cedar_schema_model.specs.Whole.Declarations.{Declarations}
-use Rattle.cedar_schema_model.specs.Whole.Resolved.{schema_of}
-use Rattle.cedar_schema_model.specs.Whole.Schema.{Schema, declares_action}
+use Rattle.cedar_store_model.specs.Store.{Entities, are_distinct}
+use Rattle.cedar_store_model.specs.World.{Entity}
+use Rattle.cedar_store_model.proofs.Stores.{found_stands, stands_found}
+use Rattle.cedar_schema_model.specs.ActionEntities.{as_entity}
+use Rattle.cedar_schema_model.specs.BagLaws.{HasTwice}
+use Rattle.cedar_schema_model.specs.Declarations.{Declarations}
+use Rattle.cedar_schema_model.specs.Resolved.{schema_of}
+use Rattle.cedar_schema_model.specs.Schema.{Schema, declares_action}
 use Rattle.cedar_schema_kept_model.specs.Kept.{Kept}
 use Rattle.cedar_gate_accepted.specs.Alike.{IsKeptByTests}
 use Rattle.cedar_gate_conforming_model.specs.Alike.{ConformsAlike, AreActionEntities}

@@ -4,13 +4,13 @@ use Rattle.std.specs.Prelude.{not, find, if◌then◌else◌}
 use Rattle.std.specs.List.{list_all}
 use Rattle.std.specs.declared.alloc.AllocError.{AllocError}
 use Rattle.cedar_expr_model.specs.Uid.{Uid}
-use Rattle.cedar_expr_model.specs.Whole.Value.{V}
-use Rattle.cedar_store_model.specs.Whole.Store.{OpenRequest}
-use Rattle.cedar_store_model.specs.Whole.World.{Entity}
-use Rattle.cedar_schema_model.specs.Whole.Conforming.{ConformFault, conform_faults, has_entity_fault, has_request_fault, EntityConforms, RequestConforms, entity_conforms, request_conforms}
-use Rattle.cedar_schema_model.specs.Whole.Declarations.{Declarations}
-use Rattle.cedar_schema_model.specs.Whole.Resolved.{schema_of}
-use Rattle.cedar_schema_model.specs.Whole.Schema.{Schema}
+use Rattle.cedar_expr_model.specs.Value.{V}
+use Rattle.cedar_store_model.specs.Store.{OpenRequest}
+use Rattle.cedar_store_model.specs.World.{Entity}
+use Rattle.cedar_schema_model.specs.Conforming.{ConformFault, conform_faults, has_entity_fault, has_request_fault, EntityConforms, RequestConforms, entity_conforms, request_conforms}
+use Rattle.cedar_schema_model.specs.Declarations.{Declarations}
+use Rattle.cedar_schema_model.specs.Resolved.{schema_of}
+use Rattle.cedar_schema_model.specs.Schema.{Schema}
 use Rattle.cedar_schema_kept_model.specs.Kept.{Kept}
 use Rattle.cedar_gate_accepted.specs.Alike.{IsKeptByTests}
 use Rattle.cedar_gate_accepted.proofs.Tested.{tested_alike}

@@ -3,7 +3,7 @@
 ghost use Rattle.std.specs.Prelude.{◌≡◌, IfOk};
 ghost use Rattle.cedar_gate_accepted.specs.Views.{declared_in};
 ghost use Rattle.cedar_gate_schemas.specs.Checks.{IsVerdict};
-ghost use Rattle.cedar_schema_model.specs.Whole.Resolved.{schema_of};
+ghost use Rattle.cedar_schema_model.specs.Resolved.{schema_of};
 
 use cedar_evaluator_requests::Request;
 use cedar_expr_names::EntityUID;

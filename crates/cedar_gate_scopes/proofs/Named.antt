@@ -6,15 +6,15 @@ use Rattle.std.specs.Option.{option_map_or}
 use Rattle.std.proofs.lemmas.List.Folds.{list_all-append, list_all-map}
 use Rattle.cedar_expr_model.specs.Name.{Name}
 use Rattle.cedar_expr_model.specs.Uid.{Uid}
-use Rattle.cedar_expr_model.specs.Whole.Value.{Literal, truth, long, text, entity}
-use Rattle.cedar_expr_model.specs.Whole.Tree.{Tree, lit, is_type, var, slot, unknown, choice, both, either, unary, binary, call, get_attr, has_attr, has_path, like, set_literal, record_literal}
-use Rattle.cedar_expr_model.specs.Whole.Parts.{subexpressions, uid_here}
+use Rattle.cedar_expr_model.specs.Value.{Literal, truth, long, text, entity}
+use Rattle.cedar_expr_model.specs.Tree.{Tree, lit, is_type, var, slot, unknown, choice, both, either, unary, binary, call, get_attr, has_attr, has_path, like, set_literal, record_literal}
+use Rattle.cedar_expr_model.specs.Parts.{subexpressions, uid_here}
 use Rattle.cedar_gate_scopes.specs.Rules.{keeps_with, keeps_uid, keeps_here, names_known}
 use Rattle.cedar_gate_scopes.specs.declared.rules.ScopeRule.{ScopeRule}
 use Rattle.cedar_gate_scopes.specs.declared.rules.ScopeRule.TheVariants.{KnownTypes, KnownActions, KnownMembers}
-use Rattle.cedar_schema_model.specs.Whole.Schema.{Schema}
-use Rattle.cedar_typechecker_model.specs.Whole.ScopeRules.{kind_here, policy_uids, policy_kinds, is_known_type, is_no_unknown_action, is_no_unknown_member}
-use Rattle.cedar_store_model.specs.Whole.Policy.{Policy, condition}
+use Rattle.cedar_schema_model.specs.Schema.{Schema}
+use Rattle.cedar_typechecker_model.specs.ScopeRules.{kind_here, policy_uids, policy_kinds, is_known_type, is_no_unknown_action, is_no_unknown_member}
+use Rattle.cedar_store_model.specs.Policy.{Policy, condition}
 
 bound_keeps : (f : Uid → Bool) (o : Option Uid) → list_all f (option_to_list o) ≡ option_map_or f o true
 bound_keeps f None = refl

@@ -3,11 +3,11 @@
 use Rattle.std.specs.Prelude.{Bool, true}
 use Rattle.cedar_expr_model.specs.Name.{Name}
 use Rattle.cedar_expr_model.specs.Uid.{Uid}
-use Rattle.cedar_expr_model.specs.Whole.Value.{Literal, entity}
-use Rattle.cedar_expr_model.specs.Whole.Tree.{Tree, lit, is_type}
-use Rattle.cedar_store_model.specs.Whole.Policy.{Policy}
-use Rattle.cedar_schema_model.specs.Whole.Schema.{Schema}
-use Rattle.cedar_typechecker_model.specs.Whole.ScopeRules.{is_known_type, is_no_unknown_action, is_no_unknown_member, names_known_types, names_known_actions, names_known_members}
+use Rattle.cedar_expr_model.specs.Value.{Literal, entity}
+use Rattle.cedar_expr_model.specs.Tree.{Tree, lit, is_type}
+use Rattle.cedar_store_model.specs.Policy.{Policy}
+use Rattle.cedar_schema_model.specs.Schema.{Schema}
+use Rattle.cedar_typechecker_model.specs.ScopeRules.{is_known_type, is_no_unknown_action, is_no_unknown_member, names_known_types, names_known_actions, names_known_members}
 use Rattle.cedar_gate_scopes.specs.declared.rules.ScopeRule.{ScopeRule}
 use Rattle.cedar_gate_scopes.specs.declared.rules.ScopeRule.TheVariants.{KnownTypes, KnownActions, KnownMembers}
 

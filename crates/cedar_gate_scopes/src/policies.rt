@@ -4,14 +4,14 @@ ghost use Rattle.std.specs.Prelude.{◌≡◌, IfOk, true};
 ghost use Rattle.std.specs.List.{list_all};
 ghost use Rattle.std.specs.Option.{option_map_or};
 ghost use Rattle.cedar_expr_leaves.specs.Slots.{slot_of};
-ghost use Rattle.cedar_expr_model.specs.Whole.Parts.{subexpressions};
+ghost use Rattle.cedar_expr_model.specs.Parts.{subexpressions};
 ghost use Rattle.cedar_expr_trees.specs.Trees.{tree_of};
 ghost use Rattle.cedar_gate_rules.specs.Policies.{policies_of};
 ghost use Rattle.cedar_gate_scopes.specs.Rules.{keeps_uid, keeps_here, names_known};
-ghost use Rattle.cedar_store_model.specs.Whole.Policy.{binding_of};
+ghost use Rattle.cedar_store_model.specs.Policy.{binding_of};
 ghost use Rattle.cedar_store_parts.specs.Parts.{bindings_of};
 ghost use Rattle.cedar_store_policies.specs.Policies.{policy_of};
-ghost use Rattle.cedar_typechecker_model.specs.Whole.ScopeRules.{names_known_types, names_known_actions, names_known_members};
+ghost use Rattle.cedar_typechecker_model.specs.ScopeRules.{names_known_types, names_known_actions, names_known_members};
 
 use crate::rules::{ScopeRule, keeps_here, keeps_uid};
 use cedar_expr_leaves::SlotId;

@@ -5,7 +5,7 @@ ghost use Rattle.cedar_expr_leaves.specs.Literals.{literal_of};
 ghost use Rattle.cedar_expr_names.specs.Views.{type_name_of, uid_of};
 ghost use Rattle.cedar_expr_trees.specs.Trees.{tree_of};
 ghost use Rattle.cedar_gate_scopes.specs.Rules.{keeps_type, keeps_uid, keeps_literal, keeps_here};
-ghost use Rattle.cedar_typechecker_model.specs.Whole.ScopeRules.{is_known_type, is_no_unknown_action};
+ghost use Rattle.cedar_typechecker_model.specs.ScopeRules.{is_known_type, is_no_unknown_action};
 
 use cedar_expr_leaves::Literal;
 use cedar_expr_names::{EntityType, EntityUID};

@@ -2,19 +2,19 @@
 use Rattle.std.proofs.Common.{◌≡◌, ℕ, List, Some, codes}
 use Rattle.serde_json.specs.Data.{Data}
 use Rattle.serde_json.specs.Find.{get}
-use Rattle.cedar_expr_model.specs.Whole.Made.{no_made_fields}
+use Rattle.cedar_expr_model.specs.Made.{no_made_fields}
 use Rattle.cedar_evaluator_model.specs.Response.{PartialRequest}
 use Rattle.cedar_evaluator_model.specs.Scope.{Context, closed, residual_fields, unknown_context}
 use Rattle.cedar_gate_model.specs.Reading.{required, optional, has_only}
-use Rattle.cedar_gate_model.specs.Whole.Bundle.{Functions, Bundle}
-use Rattle.cedar_gate_model.specs.Whole.ReadingBundle.{submission_read, is_bundle, bundle_read, input_read}
-use Rattle.cedar_gate_model.specs.Whole.ReadingRequest.{entry_read, request_read, store_read, steps_read}
-use Rattle.cedar_gate_model.specs.Whole.ReadingValue.{context_read}
-use Rattle.cedar_gate_model.specs.Whole.RunsAsk.{IsMadeContext}
-use Rattle.cedar_gate_model.proofs.Whole.Reading.Bundles.{there_has}
-use Rattle.cedar_gate_model.proofs.Whole.Reading.Steps.{given_some, given_gives, map_gives, if_gives}
-use Rattle.cedar_gate_model.proofs.Whole.Reading.Values.{open_contexts_have_unknowns}
-use Rattle.cedar_gate_model.proofs.Whole.Named.{request_keys}
+use Rattle.cedar_gate_model.specs.Bundle.{Functions, Bundle}
+use Rattle.cedar_gate_model.specs.ReadingBundle.{submission_read, is_bundle, bundle_read, input_read}
+use Rattle.cedar_gate_model.specs.ReadingRequest.{entry_read, request_read, store_read, steps_read}
+use Rattle.cedar_gate_model.specs.ReadingValue.{context_read}
+use Rattle.cedar_gate_model.specs.RunsAsk.{IsMadeContext}
+use Rattle.cedar_gate_model.proofs.Reading.Bundles.{there_has}
+use Rattle.cedar_gate_model.proofs.Reading.Steps.{given_some, given_gives, map_gives, if_gives}
+use Rattle.cedar_gate_model.proofs.Reading.Values.{open_contexts_have_unknowns}
+use Rattle.cedar_gate_model.proofs.Named.{request_keys}
 use Rattle.cedar_gate_service.proofs.Printed.{input_bundle}
 
 made_context : (x : Functions) (d : Data) (c : Context) → context_read x d ≡ Some c → IsMadeContext c

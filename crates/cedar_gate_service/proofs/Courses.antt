@@ -8,9 +8,9 @@ use Rattle.cedar_evaluator_requests.specs.declared.request.Request.{Request}
 use Rattle.cedar_expr_functions.specs.Tables.{functions_of, ordered_of}
 use Rattle.cedar_expr_functions.specs.declared.extensions.Extensions.{Extensions}
 use Rattle.cedar_expr_model.specs.Uid.{uid_eq}
-use Rattle.cedar_schema_model.specs.Whole.Declarations.{Declarations}
-use Rattle.cedar_schema_model.specs.Whole.Resolved.{schema_of}
-use Rattle.cedar_schema_model.specs.Whole.Schema as model
+use Rattle.cedar_schema_model.specs.Declarations.{Declarations}
+use Rattle.cedar_schema_model.specs.Resolved.{schema_of}
+use Rattle.cedar_schema_model.specs.Schema as model
 use Rattle.cedar_store_entities.specs.StoreParts.{kept_in}
 use Rattle.cedar_store_entities.specs.Views.{Kept, bare_entity}
 use Rattle.cedar_store_parts.specs.Parts.{id_text}
@@ -29,13 +29,13 @@ use Rattle.cedar_gate_sessions.specs.Courses.{Stands}
 use Rattle.cedar_gate_sessions.specs.declared.courses.CourseSession.{CourseSession}
 use Rattle.cedar_gate_fragments.specs.Written.{declared_by}
 use Rattle.cedar_gate_hosts.proofs.Stored.{bare_kept, found_bare}
-use Rattle.cedar_gate_model.proofs.Whole.Runs.Read.{bundles_are_proper}
-use Rattle.cedar_gate_model.specs.Whole.Acceptance.{Submission, IsAccepted, warnings_of}
-use Rattle.cedar_gate_model.specs.Whole.Bundle.{Functions}
-use Rattle.cedar_gate_model.specs.Whole.Lines.{Prints}
-use Rattle.cedar_gate_model.specs.Whole.ReadingBundle.{input_read}
-use Rattle.cedar_gate_model.specs.Whole.RunsAnswer.{Course, session_of, IsProper, MakeFairly, course_of}
-use Rattle.cedar_gate_model.specs.Whole.Session.{at_start}
+use Rattle.cedar_gate_model.proofs.Runs.Read.{bundles_are_proper}
+use Rattle.cedar_gate_model.specs.Acceptance.{Submission, IsAccepted, warnings_of}
+use Rattle.cedar_gate_model.specs.Bundle.{Functions}
+use Rattle.cedar_gate_model.specs.Lines.{Prints}
+use Rattle.cedar_gate_model.specs.ReadingBundle.{input_read}
+use Rattle.cedar_gate_model.specs.RunsAnswer.{Course, session_of, IsProper, MakeFairly, course_of}
+use Rattle.cedar_gate_model.specs.Session.{at_start}
 use Rattle.cedar_gate_rules.specs.Limit.{levels_of}
 use Rattle.cedar_gate_rules.specs.Policies.{policies_of}
 use Rattle.cedar_gate_rules.specs.declared.nest_limit.NestLimit.{NestLimit}

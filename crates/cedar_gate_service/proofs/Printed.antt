@@ -7,24 +7,25 @@ use Rattle.serde_json.specs.Data.{Data}
 use Rattle.serde_json.specs.Read.{read}
 use Rattle.cedar_expr_model.specs.Name.{Text}
 use Rattle.cedar_schema_builder.specs.Faults.{fault_told}
-use Rattle.cedar_schema_model.specs.Whole.WellFormed.{SchemaFault}
-use Rattle.cedar_gate_model.proofs.Whole.Reading.Bundles.{numbers_in_range}
-use Rattle.cedar_gate_model.proofs.Whole.Reading.Steps.{given_some, if_some_of}
+use Rattle.cedar_schema_model.specs.WellFormed.{SchemaFault}
+use Rattle.cedar_gate_model.proofs.Reading.Bundles.{numbers_in_range}
+use Rattle.cedar_gate_model.proofs.Reading.Steps.{given_some, if_some_of}
 use Rattle.cedar_gate_model.specs.Reading.{given}
-use Rattle.cedar_gate_model.specs.Whole.Acceptance.{Submission, Cause, schema, external, repeated_policy, unlinked_slot, slot_outside_scope, unknown_in_policy, nests_too_deep, unknown_entity_type, unknown_action, no_member, ill_typed, reaches_too_far, number_of, HasFault, IsAccepted}
-use Rattle.cedar_gate_model.specs.Whole.Bundle.{Functions, Bundle}
-use Rattle.cedar_gate_model.specs.Whole.Lines.{Status, Prints, refused_line, unreadable_line, warning_lines, run_lines, end_status}
-use Rattle.cedar_gate_model.specs.Whole.ReadingBundle.{input_read, bundle_read}
-use Rattle.cedar_gate_model.specs.Whole.Runs.{End, answered, opening_refused, supply_refused, binding_refused, answer_refused}
-use Rattle.cedar_gate_model.specs.Whole.RunsAnswer.{Course, IsRun, course_of}
-use Rattle.cedar_gate_model.specs.Whole.Transcript.{Entry}
+use Rattle.cedar_gate_model.specs.Acceptance.{Submission, Cause, schema, external, repeated_policy, unlinked_slot, slot_outside_scope, unknown_in_policy, nests_too_deep, unknown_entity_type, unknown_action, no_member, ill_typed, reaches_too_far, number_of, HasFault, IsAccepted}
+use Rattle.cedar_gate_model.specs.Bundle.{Functions, Bundle}
+use Rattle.cedar_gate_model.specs.Lines.{Status, Prints, refused_line, unreadable_line, warning_lines, run_lines, end_status}
+use Rattle.cedar_gate_model.specs.ReadingBundle.{input_read, bundle_read}
+use Rattle.cedar_gate_model.specs.Runs.{End, answered, opening_refused, supply_refused, binding_refused, answer_refused}
+use Rattle.cedar_gate_model.specs.RunsAnswer.{Course, IsRun, course_of}
+use Rattle.cedar_gate_model.specs.Transcript.{Entry}
 use Rattle.cedar_gate_faults.specs.Causes.{cause_named, gate_fault_number, IsRefusedFor}
 use Rattle.cedar_gate_faults.specs.declared.fault.GateFault.{GateFault}
 use Rattle.cedar_gate_faults.specs.declared.fault.GateFault.TheVariants as fault
-use Rattle.cedar_gate_serving.specs.Printed.{AddsAccepted}
+use Rattle.cedar_gate_serving.specs.Printed.{AddsAccepted, IsOfRun}
 use Rattle.cedar_gate_transcripts.specs.Statuses.{status_of}
 use Rattle.cedar_gate_transcripts.specs.declared.status.Status.{Status as CodeStatus}
-use Rattle.cedar_gate_transcripts.specs.declared.status.Status.TheVariants.{Refused, Unreadable}
+use Rattle.cedar_gate_transcripts.specs.declared.status.Status.TheVariants.{Answered, Refused, Unreadable, Stopped}
+use Rattle.cedar_gate_service.specs.Serving.{Judged}
 use Rattle.cedar_gate_service.specs.declared.printing.Printed.{Printed}
 
 -- a cause that is named has the number of the fault
@@ -113,3 +114,32 @@ pub no_bundle_prints : (x : Functions) (bytes : List ℕ) (P : Type 0) (r : Resu
 no_bundle_prints x bytes P (Ok p) e h = λ _.
     subst (λ (o : Option Bundle). Prints x o (status_of p.status) (string_bytes p.text)) (sym e) (ap (λ (t : CodeStatus). status_of t) h.0, h.1)
 no_bundle_prints x bytes P (Err a) e h = tt
+
+-- what is judged of a bundle whose submission is refused or accepted, and of an input that is no bundle
+pub fault_judged : (b : Bundle) (f : GateFault) (r : Result Printed AllocError) → IsRefusedFor b.submission f
+    → IfOk r (λ p. (is_none (cause_named f) ≡ false) × (p.status ≡ Refused) × (string_bytes p.text ≡ refused_line (gate_fault_number f)))
+    → IfOk r (λ p. Judged (Some b) (status_of p.status) (string_bytes p.text))
+fault_judged b f (Ok p) there h =
+    subst (λ (t : CodeStatus). Judged (Some b) (status_of t) (string_bytes p.text)) (sym h.1) (refusal_prints b.submission f (string_bytes p.text) there h.0 h.2)
+fault_judged b f (Err e) there h = tt
+
+status_judged : (b : Bundle) (status : CodeStatus) (text : Text) → IsAccepted b.submission → IsOfRun status → Judged (Some b) (status_of status) text
+status_judged b Answered text accepted h = accepted
+status_judged b Stopped text accepted h = accepted
+status_judged b Refused text accepted h = absurd h
+status_judged b Unreadable text accepted h = absurd h
+
+pub run_judged : (b : Bundle) (r : Result Printed AllocError) → IsAccepted b.submission → IfOk r (λ p. IsOfRun p.status) → IfOk r (λ p. Judged (Some b) (status_of p.status) (string_bytes p.text))
+run_judged b (Ok p) accepted h = status_judged b p.status (string_bytes p.text) accepted h
+run_judged b (Err e) accepted h = tt
+
+pub bundle_judged : (x : Functions) (bytes : List ℕ) (b : Bundle) (r : Result Printed AllocError) → input_read x bytes ≡ Some b
+    → IfOk r (λ p. Judged (Some b) (status_of p.status) (string_bytes p.text)) → IfOk r (λ p. Judged (input_read x bytes) (status_of p.status) (string_bytes p.text))
+bundle_judged x bytes b (Ok p) e h = subst (λ (o : Option Bundle). Judged o (status_of p.status) (string_bytes p.text)) (sym e) h
+bundle_judged x bytes b (Err a) e h = tt
+
+pub no_bundle_judged : (x : Functions) (bytes : List ℕ) (r : Result Printed AllocError) → input_read x bytes ≡ None
+    → IfOk r (λ p. (p.status ≡ Unreadable) × (string_bytes p.text ≡ unreadable_line)) → IfOk r (λ p. Judged (input_read x bytes) (status_of p.status) (string_bytes p.text))
+no_bundle_judged x bytes (Ok p) e h =
+    subst (λ (o : Option Bundle). Judged o (status_of p.status) (string_bytes p.text)) (sym e) (ap (λ (t : CodeStatus). status_of t) h.0, h.1)
+no_bundle_judged x bytes (Err a) e h = tt

@@ -1,11 +1,11 @@
 -- What is served under one promise is served under each that follows.
 use Rattle.std.proofs.Common.{List, ℕ, Option, Result, Ok, Err}
 use Rattle.cedar_expr_model.specs.Name.{Text}
-use Rattle.cedar_gate_headline.specs.Headline.{Promises, PrintedIsPromised}
-use Rattle.cedar_gate_model.specs.Whole.Bundle.{Functions}
-use Rattle.cedar_gate_model.specs.Whole.Lines.{Status, Prints}
-use Rattle.cedar_gate_model.specs.Whole.ReadingBundle.{input_read}
-use Rattle.cedar_gate_model.specs.Whole.RunsAnswer.{MakeFairly}
+use Rattle.cedar_gate_model.specs.Headline.{Promises, PrintedIsPromised}
+use Rattle.cedar_gate_model.specs.Bundle.{Functions}
+use Rattle.cedar_gate_model.specs.Lines.{Status, Prints}
+use Rattle.cedar_gate_model.specs.ReadingBundle.{input_read}
+use Rattle.cedar_gate_model.specs.RunsAnswer.{MakeFairly}
 use Rattle.cedar_gate_transcripts.specs.Statuses.{status_of}
 use Rattle.cedar_gate_transcripts.specs.declared.status.Status as code
 use Rattle.cedar_gate_service.specs.Serving.{ServeGives}

@@ -14,9 +14,9 @@ use Rattle.cedar_gate_bundles.specs.Written.{IsStoreWritten}
 use Rattle.cedar_gate_bundles.specs.declared.bundle.Bundle.{Bundle}
 use Rattle.cedar_gate_bundles.specs.declared.requests.RequestRead.{RequestRead}
 use Rattle.cedar_gate_bundles.specs.declared.steps.Step.{Step}
-use Rattle.cedar_gate_model.specs.Whole.Acceptance.{IsAccepted, warnings_of}
-use Rattle.cedar_gate_model.specs.Whole.Bundle.{Functions}
-use Rattle.cedar_gate_model.specs.Whole.RunsAnswer.{Course, IsProper, MakeFairly, course_of}
+use Rattle.cedar_gate_model.specs.Acceptance.{IsAccepted, warnings_of}
+use Rattle.cedar_gate_model.specs.Bundle.{Functions}
+use Rattle.cedar_gate_model.specs.RunsAnswer.{Course, IsProper, MakeFairly, course_of}
 use Rattle.cedar_gate_serving.specs.Printed.{IsStore}
 use Rattle.cedar_store_entities.specs.declared.entities.Entities.{Entities}
 use Rattle.cedar_store_parts.specs.Parts.{id_text}

@@ -1,9 +1,11 @@
 -- What the service comes to.
 -- Rule: the lines; statuses and refusal numbers (docs/RULES.md).
-use Rattle.std.specs.Prelude.{◌<◌, ℕ, List, Option, length, take, Result, Ok, Err}
+use Rattle.std.specs.Prelude.{◌≡◌, ◌<◌, ℕ, List, Option, Some, None, length, take, Result, Ok, Err}
 use Rattle.std.specs.Io.KnownBytes.{Appends}
 use Rattle.cedar_expr_model.specs.Name.{Text}
-use Rattle.cedar_gate_model.specs.Whole.Lines as lines
+use Rattle.cedar_gate_model.specs.Acceptance.{Cause, HasFault, IsAccepted, number_of}
+use Rattle.cedar_gate_model.specs.Bundle.{Bundle}
+use Rattle.cedar_gate_model.specs.Lines as lines
 use Rattle.cedar_gate_transcripts.specs.Statuses.{status_of}
 use Rattle.cedar_gate_transcripts.specs.declared.status.Status.{Status}
 use Rattle.cedar_gate_service.specs.declared.faults.ServeFault.{ServeFault}
@@ -21,6 +23,15 @@ ServeGives May old new (Ok status) = (text : Text) × May (status_of status) tex
 ServeGives May old new (Err Write) = (status : lines.Status) × (text : Text) × May status text × (n : ℕ) × (n < length text) × Appends old new (take n text)
 ServeGives May old new (Err Memory) = Unit {0}
 ServeGives May old new (Err Read) = Unit {0}
+
+-- Whatever the functions answer: an input that is no bundle is unreadable, a refusal names a fault that is there, and only what is
+-- accepted is run.
+abbrev pub Judged : Option Bundle → lines.Status → Text → Type 0
+Judged None status text = (status ≡ lines.is_unreadable) × (text ≡ lines.unreadable_line)
+Judged (Some b) lines.is_refused text = (c : Cause) × HasFault c b.submission × (text ≡ lines.refused_line (number_of c))
+Judged (Some b) lines.is_unreadable text = ⊥
+Judged (Some b) lines.is_answered text = IsAccepted b.submission
+Judged (Some b) lines.is_stopped text = IsAccepted b.submission
 
 -- a fault other than that of the writer
 abbrev pub LeavesAlone : ServeFault → Type 0 → Type 0

@@ -6,11 +6,12 @@ ghost use Rattle.cedar_gate_transcripts.specs.Statuses.{status_of};
 ghost use Rattle.cedar_gate_faults.specs.Causes.{cause_named, gate_fault_number};
 ghost use Rattle.cedar_gate_bundles.specs.Bundles.{bundle_of};
 ghost use Rattle.cedar_gate_bundles.specs.Requests.{request_of};
-ghost use Rattle.cedar_gate_model.specs.Whole.RunsAsk.{IsMadeContext};
-ghost use Rattle.cedar_gate_model.specs.Whole.Lines.{Prints, refused_line, unreadable_line};
-ghost use Rattle.cedar_gate_model.specs.Whole.ReadingBundle.{input_read};
+ghost use Rattle.cedar_gate_model.specs.RunsAsk.{IsMadeContext};
+ghost use Rattle.cedar_gate_model.specs.Lines.{Prints, refused_line, unreadable_line};
+ghost use Rattle.cedar_gate_model.specs.ReadingBundle.{input_read};
 ghost use Rattle.cedar_schema_builder.specs.Faults.{fault_told};
 ghost use Rattle.cedar_gate_service.specs.Runs.{AnswersFairly, IsReadWell};
+ghost use Rattle.cedar_gate_service.specs.Serving.{Judged};
 
 use crate::runs::print_run_at;
 use cedar_evaluator_restricted::FunctionCalls;
@@ -42,7 +43,8 @@ pub(crate) fn print_input<T: FunctionCalls>(
 ) -> Result<Printed, AllocError>
     requires functions { (T.functions functions.now).table.functions ≡ functions_of table.now }
     requires ordered { (T.functions functions.now).table.ordered ≡ ordered_of table.now }
-    ensures { IfOk result (λ p. AnswersFairly (T.functions functions.now) table.now → Prints (T.functions functions.now) (input_read (T.functions functions.now) bytes.now) (status_of p.status) (string_bytes p.text)) }
+    ensures prints { IfOk result (λ p. AnswersFairly (T.functions functions.now) table.now → Prints (T.functions functions.now) (input_read (T.functions functions.now) bytes.now) (status_of p.status) (string_bytes p.text)) }
+    ensures judged { IfOk result (λ p. Judged (input_read (T.functions functions.now) bytes.now) (status_of p.status) (string_bytes p.text)) }
 {
     match read_input(alloc, functions, bytes) {
         Ok(bundle) => print_submitted(alloc, bundle, functions, table),
@@ -73,7 +75,8 @@ fn print_submitted<T: FunctionCalls>(
     requires made { IsMadeContext (request_of bundle.request).context }
     requires functions { (T.functions functions.now).table.functions ≡ functions_of table.now }
     requires ordered { (T.functions functions.now).table.ordered ≡ ordered_of table.now }
-    ensures { IfOk result (λ p. AnswersFairly (T.functions functions.now) table.now → IsReadWell (T.functions functions.now) bundle → Prints (T.functions functions.now) (Some (bundle_of (T.functions functions.now) bundle)) (status_of p.status) (string_bytes p.text)) }
+    ensures prints { IfOk result (λ p. AnswersFairly (T.functions functions.now) table.now → IsReadWell (T.functions functions.now) bundle → Prints (T.functions functions.now) (Some (bundle_of (T.functions functions.now) bundle)) (status_of p.status) (string_bytes p.text)) }
+    ensures judged { IfOk result (λ p. Judged (Some (bundle_of (T.functions functions.now) bundle)) (status_of p.status) (string_bytes p.text)) }
 {
     let Bundle {
         submission,

@@ -2,10 +2,10 @@
 
 ghost use Rattle.std.specs.Prelude.{[], IfOk, string_bytes};
 ghost use Rattle.cedar_gate_bundles.specs.Requests.{request_of as request_read};
-ghost use Rattle.cedar_gate_model.specs.Whole.RunsAnswer.{Course};
-ghost use Rattle.cedar_gate_model.specs.Whole.RunsAsk.{IsMadeContext};
+ghost use Rattle.cedar_gate_model.specs.RunsAnswer.{Course};
+ghost use Rattle.cedar_gate_model.specs.RunsAsk.{IsMadeContext};
 ghost use Rattle.cedar_gate_service.specs.Runs.{IsCourseAt, IsStartOf, AreRunBy};
-ghost use Rattle.cedar_gate_serving.specs.Printed.{AddsAccepted};
+ghost use Rattle.cedar_gate_serving.specs.Printed.{AddsAccepted, IsOfRun};
 ghost use Rattle.cedar_gate_transcripts.specs.Statuses.{status_of};
 
 use crate::printing::Printed;
@@ -28,7 +28,8 @@ pub(crate) fn print_run_at<T: FunctionCalls>(
     store: Entities,
 ) -> Result<Printed, AllocError>
     requires { IsMadeContext (request_read request).context }
-    ensures { IfOk result (λ p. (c : Course) → IsCourseAt (T.functions functions.now) gate.now c → IsStartOf request c → AreRunBy steps.items store c → AddsAccepted c (status_of p.status) [] (string_bytes p.text)) }
+    ensures prints { IfOk result (λ p. (c : Course) → IsCourseAt (T.functions functions.now) gate.now c → IsStartOf request c → AreRunBy steps.items store c → AddsAccepted c (status_of p.status) [] (string_bytes p.text)) }
+    ensures status { IfOk result (λ p. IsOfRun p.status) }
 {
     let steps = steps_of(alloc, steps)?;
     let schema = GateSchema { gate };

@@ -2,17 +2,17 @@
 
 ghost use Rattle.std.specs.Prelude.{◌≡◌, List, ℕ, Some, IfErr};
 ghost use Rattle.cedar_expr_functions.specs.Tables.{functions_of, ordered_of};
-ghost use Rattle.cedar_gate_headline.specs.Headline.{Promises};
-ghost use Rattle.cedar_gate_model.specs.Whole.Lines.{Prints};
-ghost use Rattle.cedar_gate_model.specs.Whole.ReadingBundle.{input_read};
-ghost use Rattle.cedar_gate_service.specs.Serving.{ServeGives, LeavesAlone};
+ghost use Rattle.cedar_gate_model.specs.Headline.{Promises};
+ghost use Rattle.cedar_gate_model.specs.Lines.{Prints};
+ghost use Rattle.cedar_gate_model.specs.ReadingBundle.{input_read};
+ghost use Rattle.cedar_gate_service.specs.Serving.{ServeGives, Judged, LeavesAlone};
 ghost use Rattle.cedar_gate_service.specs.Runs.{AnswersFairly};
 
 use crate::faults::{ServeFault, read_all};
 use crate::printing::print_input;
 use cedar_evaluator_restricted::FunctionCalls;
 use cedar_expr_functions::Extensions;
-use cedar_gate_headline::what_is_printed_is_promised;
+use cedar_gate_model::headline::what_is_printed_is_promised;
 use cedar_gate_transcripts::Status;
 use cedar_gate_transcripts::output::write_out;
 use std::alloc::Global;
@@ -31,6 +31,8 @@ fn serve_printed<R: Read + Drop, W: Write + Drop, T: FunctionCalls>(
     ensures printed { (bytes : List ℕ) → R.remaining reader ≡ Some bytes
         → AnswersFairly (T.functions functions.now) table.now
         → ServeGives (Prints (T.functions functions.now) (input_read (T.functions functions.now) bytes)) (W.contents writer.old) (W.contents writer.new) result }
+    ensures judged { (bytes : List ℕ) → R.remaining reader ≡ Some bytes
+        → ServeGives (Judged (input_read (T.functions functions.now) bytes)) (W.contents writer.old) (W.contents writer.new) result }
     ensures unchanged { IfErr result (λ e. LeavesAlone e (writer.new ≡ writer.old)) }
 {
     let input = read_all(alloc, &mut reader)?;
@@ -45,7 +47,8 @@ fn serve_printed<R: Read + Drop, W: Write + Drop, T: FunctionCalls>(
 
 /// Reads a bundle and writes the lines that are printed for it: all input is read, then all output is made, and then it is written.
 /// The functions are those of the table. What the gate refuses is refused under the number of a fault; what it accepts is answered by
-/// rounds over the store of the bundle, or stops with a refusal of the session. The lines of a run keep the promises of the headline.
+/// rounds over the store of the bundle, or stops with a refusal of the session. The lines of a run keep the promises of the headline,
+/// where the functions answer fairly; what is unreadable, refused or accepted doesn't depend on that.
 ///
 /// # Errors
 ///
@@ -66,6 +69,8 @@ pub fn serve<R: Read + Drop, W: Write + Drop, T: FunctionCalls>(
     ensures headline { (bytes : List ℕ) → R.remaining reader ≡ Some bytes
         → AnswersFairly (T.functions functions.now) table.now
         → ServeGives (Promises (T.functions functions.now) (input_read (T.functions functions.now) bytes)) (W.contents writer.old) (W.contents writer.new) result }
+    ensures judged { (bytes : List ℕ) → R.remaining reader ≡ Some bytes
+        → ServeGives (Judged (input_read (T.functions functions.now) bytes)) (W.contents writer.old) (W.contents writer.new) result }
     ensures unchanged { IfErr result (λ e. LeavesAlone e (writer.new ≡ writer.old)) }
 {
     what_is_printed_is_promised();

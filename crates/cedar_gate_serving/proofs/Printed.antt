@@ -12,12 +12,12 @@ use Rattle.cedar_store_entities.specs.declared.entities.Entities.{Entities}
 use Rattle.cedar_gate_hosts.specs.Hosts.{Answers, stored}
 use Rattle.cedar_gate_hosts.specs.Stores.{store_of}
 use Rattle.cedar_gate_hosts.specs.declared.store_host.StoreHost.{StoreHost}
-use Rattle.cedar_gate_model.specs.Whole.Acceptance.{warnings_of}
-use Rattle.cedar_gate_model.specs.Whole.Lines.{Status, warning_lines, entry_lines, end_lines, end_status, numbered, is_answered, is_stopped}
-use Rattle.cedar_gate_model.specs.Whole.Runs.{End, answered, opening_refused, supply_refused, binding_refused, answer_refused}
-use Rattle.cedar_gate_model.specs.Whole.RunsAnswer.{Course, IsRun}
-use Rattle.cedar_gate_model.specs.Whole.Session.{State}
-use Rattle.cedar_gate_model.specs.Whole.Transcript.{Entry}
+use Rattle.cedar_gate_model.specs.Acceptance.{warnings_of}
+use Rattle.cedar_gate_model.specs.Lines.{Status, warning_lines, entry_lines, end_lines, end_status, numbered, is_answered, is_stopped}
+use Rattle.cedar_gate_model.specs.Runs.{End, answered, opening_refused, supply_refused, binding_refused, answer_refused}
+use Rattle.cedar_gate_model.specs.RunsAnswer.{Course, IsRun}
+use Rattle.cedar_gate_model.specs.Session.{State}
+use Rattle.cedar_gate_model.specs.Transcript.{Entry}
 use Rattle.cedar_gate_runs.specs.Courses.{IsHost, IsOf}
 use Rattle.cedar_gate_runs.specs.Ends.{IsAnswered, IsStopped}
 use Rattle.cedar_gate_runs.specs.Refusals.{IsOpenRefusal}

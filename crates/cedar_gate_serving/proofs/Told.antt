@@ -2,12 +2,12 @@
 use Rattle.std.proofs.Common.{◌≡◌, List, [], ◌∷◌, ◌++◌, map, refl, ap, codes}
 use Rattle.std.specs.List.{flat_map}
 use Rattle.cedar_expr_model.specs.Uid.{quoted}
-use Rattle.cedar_store_model.specs.Whole.Answer.{Answer, PolicyError}
+use Rattle.cedar_store_model.specs.Answer.{Answer, PolicyError}
 use Rattle.cedar_evaluator_model.specs.Laws.{as_concrete}
 use Rattle.cedar_evaluator_model.specs.Response.{stops, ResponseError}
 use Rattle.cedar_evaluator_model.specs.Scope.{fault}
-use Rattle.cedar_gate_model.specs.Whole.Lines as model
-use Rattle.cedar_gate_model.specs.Whole.Lines.{answer_lines}
+use Rattle.cedar_gate_model.specs.Lines as model
+use Rattle.cedar_gate_model.specs.Lines.{answer_lines}
 use Rattle.cedar_gate_transcripts.specs.Printing.{concrete_lines, error_line}
 
 abbrev told_error : PolicyError → ResponseError

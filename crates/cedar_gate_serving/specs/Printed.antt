@@ -3,24 +3,26 @@
 use Rattle.std.specs.Prelude.{◌≡◌, ◌++◌, List, Some, option_map, Result, Ok, Err}
 use Rattle.cedar_expr_model.specs.Name.{Text}
 use Rattle.cedar_expr_model.specs.Uid.{Uid}
-use Rattle.cedar_expr_model.specs.Whole.Made.{Made}
+use Rattle.cedar_expr_model.specs.Made.{Made}
 use Rattle.cedar_store_entities.specs.Stores.{store_made}
 use Rattle.cedar_store_entities.specs.Views.{bare_entity}
 use Rattle.cedar_store_entities.specs.declared.entities.Entities.{Entities}
-use Rattle.cedar_store_model.specs.Whole.World as world
-use Rattle.cedar_store_model.specs.Whole.World.{held}
+use Rattle.cedar_store_model.specs.World as world
+use Rattle.cedar_store_model.specs.World.{held}
 use Rattle.cedar_evaluator_model.specs.OfLaws.WellMade.{IsFoundMadeWell}
 use Rattle.cedar_gate_hosts.specs.Hosts.{stored}
-use Rattle.cedar_gate_model.specs.Whole.Lines.{Status, entry_lines, end_lines, end_status, warning_lines}
-use Rattle.cedar_gate_model.specs.Whole.Runs.{End}
-use Rattle.cedar_gate_model.specs.Whole.RunsAnswer.{Course, IsRun}
-use Rattle.cedar_gate_model.specs.Whole.Session.{State, at_start, OpenRefusal, OpenFault}
-use Rattle.cedar_gate_model.specs.Whole.Transcript.{Entry}
+use Rattle.cedar_gate_model.specs.Lines.{Status, entry_lines, end_lines, end_status, warning_lines}
+use Rattle.cedar_gate_model.specs.Runs.{End}
+use Rattle.cedar_gate_model.specs.RunsAnswer.{Course, IsRun}
+use Rattle.cedar_gate_model.specs.Session.{State, at_start, OpenRefusal, OpenFault}
+use Rattle.cedar_gate_model.specs.Transcript.{Entry}
 use Rattle.cedar_gate_runs.specs.Courses.{BindWell}
 use Rattle.cedar_gate_runs.specs.Refusals.{IsOpenRefusal}
 use Rattle.cedar_gate_runs.specs.Steps.{steps_of}
 use Rattle.cedar_gate_runs.specs.declared.sessions.Refusal.{Refusal}
 use Rattle.cedar_gate_runs.specs.declared.steps.Step.{Step}
+use Rattle.cedar_gate_transcripts.specs.declared.status.Status as code
+use Rattle.cedar_gate_transcripts.specs.declared.status.Status.TheVariants.{Answered, Refused, Unreadable, Stopped}
 
 -- The store of the course has exactly these entities, and their values are as they are written.
 pub record IsStore (c : Course) (es : Entities) : Type 0 where
@@ -53,3 +55,10 @@ pub record AddsAccepted (c : Course) (status : Status) (before after : Text) : T
   pub text : Text
   pub prints : PrintsRunOf c status text
   pub added : after ≡ before ++ (warning_lines c.submission ++ text)
+
+-- the statuses of runs: answered, or stopped
+abbrev pub IsOfRun : code.Status → Type 0
+IsOfRun Answered = Unit {0}
+IsOfRun Stopped = Unit {0}
+IsOfRun Refused = ⊥
+IsOfRun Unreadable = ⊥

@@ -3,7 +3,7 @@
 ghost use Rattle.std.specs.Prelude.{◌≡◌, IfOk, map};
 ghost use Rattle.cedar_evaluator_requests.specs.Views as requests;
 ghost use Rattle.cedar_gate_bundles.specs.Requests as read;
-ghost use Rattle.cedar_gate_model.specs.Whole.RunsAsk.{IsMadeContext};
+ghost use Rattle.cedar_gate_model.specs.RunsAsk.{IsMadeContext};
 ghost use Rattle.cedar_gate_runs.specs.Steps as runs;
 
 use cedar_evaluator_requests::{Context, EntityUIDEntry, Request, RestrictedFields};

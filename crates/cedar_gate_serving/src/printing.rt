@@ -2,11 +2,11 @@
 
 ghost use Rattle.std.specs.Prelude.{◌≡◌, IfOk, map, string_bytes};
 ghost use Rattle.cedar_store_parts.specs.Parts.{id_text};
-ghost use Rattle.cedar_gate_model.specs.Whole.Acceptance.{warnings_of};
-ghost use Rattle.cedar_gate_model.specs.Whole.RunsAnswer.{Course};
+ghost use Rattle.cedar_gate_model.specs.Acceptance.{warnings_of};
+ghost use Rattle.cedar_gate_model.specs.RunsAnswer.{Course};
 ghost use Rattle.cedar_gate_runs.specs.Courses.{IsOf};
 ghost use Rattle.cedar_gate_runs.specs.Ends.{IsAnswered, IsStopped};
-ghost use Rattle.cedar_gate_serving.specs.Printed.{Opens, IsStore, IsServed, AddsRun, AddsAccepted};
+ghost use Rattle.cedar_gate_serving.specs.Printed.{Opens, IsStore, IsServed, AddsRun, AddsAccepted, IsOfRun};
 ghost use Rattle.cedar_gate_transcripts.specs.Statuses.{status_of};
 
 use cedar_gate_runs::runs::not_opened;
@@ -27,7 +27,8 @@ pub fn print_accepted<E: SessionCalls + Drop>(
     steps: Vec<Step>,
     store: Entities,
 ) -> Result<Status, AllocError>
-    ensures { IfOk result (λ status. (c : Course) → Opens E.stands c session → IsServed c steps.items store → map id_text warnings.now ≡ warnings_of c.submission → AddsAccepted c (status_of status) (string_bytes out.old) (string_bytes out.new)) }
+    ensures prints { IfOk result (λ status. (c : Course) → Opens E.stands c session → IsServed c steps.items store → map id_text warnings.now ≡ warnings_of c.submission → AddsAccepted c (status_of status) (string_bytes out.old) (string_bytes out.new)) }
+    ensures status { IfOk result IsOfRun }
 {
     push_warnings(out, warnings)?;
     print_run(alloc, out, session, steps, store)
@@ -42,7 +43,8 @@ pub fn print_run<E: SessionCalls + Drop>(
     steps: Vec<Step>,
     store: Entities,
 ) -> Result<Status, AllocError>
-    ensures { IfOk result (λ status. (c : Course) → Opens E.stands c session → IsServed c steps.items store → AddsRun c (status_of status) (string_bytes out.old) (string_bytes out.new)) }
+    ensures prints { IfOk result (λ status. (c : Course) → Opens E.stands c session → IsServed c steps.items store → AddsRun c (status_of status) (string_bytes out.old) (string_bytes out.new)) }
+    ensures status { IfOk result IsOfRun }
 {
     match session {
         Ok(session) => print_opened(alloc, out, session, steps, store),
@@ -58,7 +60,8 @@ fn print_opened<E: SessionCalls + Drop>(
     steps: Vec<Step>,
     store: Entities,
 ) -> Result<Status, AllocError>
-    ensures { IfOk result (λ status. (c : Course) → IsOf E.stands c session steps.items → IsStore c store → AddsRun c (status_of status) (string_bytes out.old) (string_bytes out.new)) }
+    ensures prints { IfOk result (λ status. (c : Course) → IsOf E.stands c session steps.items → IsStore c store → AddsRun c (status_of status) (string_bytes out.old) (string_bytes out.new)) }
+    ensures status { IfOk result IsOfRun }
 {
     let mut host = StoreHost::new(alloc, store);
     match run(alloc, session, steps, &mut host) {
@@ -69,7 +72,8 @@ fn print_opened<E: SessionCalls + Drop>(
 
 // The lines of a run that came to its answer.
 fn print_transcript(out: &mut String, transcript: &Transcript) -> Result<Status, AllocError>
-    ensures { IfOk result (λ status. (c : Course) → IsAnswered c transcript.now → AddsRun c (status_of status) (string_bytes out.old) (string_bytes out.new)) }
+    ensures prints { IfOk result (λ status. (c : Course) → IsAnswered c transcript.now → AddsRun c (status_of status) (string_bytes out.old) (string_bytes out.new)) }
+    ensures status { IfOk result IsOfRun }
 {
     match &transcript.answer {
         Some(response) => {
@@ -82,7 +86,8 @@ fn print_transcript(out: &mut String, transcript: &Transcript) -> Result<Status,
 
 // The lines of a run that was refused.
 fn print_stopped(out: &mut String, fault: &RunFault) -> Result<Status, AllocError>
-    ensures { IfOk result (λ status. (c : Course) → IsStopped c fault.now → AddsRun c (status_of status) (string_bytes out.old) (string_bytes out.new)) }
+    ensures prints { IfOk result (λ status. (c : Course) → IsStopped c fault.now → AddsRun c (status_of status) (string_bytes out.old) (string_bytes out.new)) }
+    ensures status { IfOk result IsOfRun }
 {
     push_stopped(out, fault)?;
     Ok(Status::Stopped)

@@ -4,14 +4,14 @@ use Rattle.std.specs.Prelude.{Contains}
 use Rattle.std.proofs.lemmas.Bool.{eqb-true}
 use Rattle.cedar_expr_model.specs.Name.{Text}
 use Rattle.cedar_expr_model.specs.Uid.{Uid}
-use Rattle.cedar_expr_model.specs.Whole.Made.{Made}
+use Rattle.cedar_expr_model.specs.Made.{Made}
 use Rattle.cedar_expr_model.proofs.Lists.{contains_head, contains_none}
-use Rattle.cedar_schema_model.specs.Whole.Conforming.{RequestConforms, request_conforms}
-use Rattle.cedar_schema_model.proofs.Whole.Decls.Conforming.{request_conforms-Decides}
+use Rattle.cedar_schema_model.specs.Conforming.{RequestConforms, request_conforms}
+use Rattle.cedar_schema_model.proofs.Decls.Conforming.{request_conforms-Decides}
 use Rattle.cedar_evaluator_model.specs.Response.{PartialRequest}
 use Rattle.cedar_gate_bindings.specs.Names.{HasOpenBy}
-use Rattle.cedar_gate_model.specs.Whole.Moment.{request_of}
-use Rattle.cedar_gate_model.specs.Whole.Session.{Setup, State, value_of, world_now, HasOpenName, is_open_name, is_open_entry, is_open_context, entry_named, IsWantedNow, IsWantedList, NothingIsWanted, AnswerRefusal, AnswerFault, not_bound, still_wanted, not_conforming}
+use Rattle.cedar_gate_model.specs.Moment.{request_of}
+use Rattle.cedar_gate_model.specs.Session.{Setup, State, value_of, world_now, HasOpenName, is_open_name, is_open_entry, is_open_context, entry_named, IsWantedNow, IsWantedList, NothingIsWanted, AnswerRefusal, AnswerFault, not_bound, still_wanted, not_conforming}
 use Rattle.cedar_gate_openings.specs.Requests.{request_at}
 use Rattle.cedar_gate_sessions.specs.Requests.{known_request}
 

@@ -2,35 +2,37 @@
 use Rattle.std.proofs.Common.{◌≡◌, ◌∙◌, List, ap}
 use Rattle.std.specs.Prelude.{Option, Result, Ok, Err, IfOk}
 use Rattle.cedar_expr_model.specs.Uid.{Uid}
-use Rattle.cedar_expr_model.specs.Whole.Made.{Made}
-use Rattle.cedar_store_model.specs.Whole.Answer.{Decision, answer_of}
-use Rattle.cedar_store_model.specs.Whole.Policy.{Policy}
-use Rattle.cedar_store_model.specs.Whole.World.{Found}
+use Rattle.cedar_expr_model.specs.Made.{Made}
+use Rattle.cedar_store_model.specs.Answer.{Decision, answer_of}
+use Rattle.cedar_store_model.specs.Policy.{Policy}
+use Rattle.cedar_store_model.specs.World.{Found}
 use Rattle.cedar_evaluator_model.specs.Known.{known_found}
 use Rattle.cedar_evaluator_model.specs.Laws.{as_concrete}
 use Rattle.cedar_evaluator_model.specs.Members.{Concrete, decision_in_session}
 use Rattle.cedar_evaluator_model.specs.Response.{response_of}
 use Rattle.cedar_gate_decisions.specs.Answers.{answered}
-use Rattle.cedar_gate_decisions.specs.Laws.{DecisionsMayBeGiven, SessionsAnswer, Conform, loaded_store}
-use Rattle.cedar_gate_model.specs.Whole.Runs.{MayDecide}
-use Rattle.cedar_gate_model.specs.Whole.RunsAnswer.{Course, session_of, IsProper, MakeFairly, IsOpened, IsKnownStore}
-use Rattle.cedar_gate_model.specs.Whole.Session.{Setup, State, scope_now, world_now, NothingIsWanted, AnswerRefusal, AnswerFault}
+use Rattle.cedar_gate_decisions.specs.Laws.{SessionsAnswer, Conform, loaded_store}
+use Rattle.cedar_gate_model.specs.Runs.{DecidesInPart}
+use Rattle.cedar_gate_model.specs.RunsAnswer.{Course, session_of, IsProper, IsOpened, IsKnownStore}
+use Rattle.cedar_gate_model.specs.Session.{Setup, State, scope_now, world_now, NothingIsWanted, AnswerRefusal, AnswerFault}
 use Rattle.cedar_gate_sessions.proofs.Steady.{IsAlike, same_response, same_answered}
 
-module _ (c : Course) (s : State) (proper : IsProper c) (opened : IsOpened (session_of c) s) (store steadied : Uid → Found Made) (alike : (u : Uid) → IsAlike (store u) (steadied u)) (ps : List Policy) (is : ps ≡ c.submission.policies) where
+module _ (c : Course) (s : State) (store steadied : Uid → Found Made) (alike : (u : Uid) → IsAlike (store u) (steadied u)) (ps : List Policy) (is : ps ≡ c.submission.policies) where
   abbrev x : Setup
   x = session_of c
 
-  -- what evaluating over the store decides may be given, where the steady one is what is known
-  pub decision_told : DecisionsMayBeGiven → MakeFairly c.functions → IsKnownStore c s steadied → (d : Option Decision) → d ≡ decision_in_session (response_of (scope_now x s store) x.limit ps) → MayDecide x c.submission.policies s d
-  decision_told law fair known d e =
-      law c s steadied proper fair opened known d
-      (e ∙ ap decision_in_session (same_response (scope_now x s store) steadied alike x.limit ps) ∙ ap (λ qs. decision_in_session (response_of (scope_now x s steadied) x.limit qs)) is)
+  -- what evaluating over the store decides it decides over the steady one
+  decision_steady : (d : Option Decision) → d ≡ decision_in_session (response_of (scope_now x s store) x.limit ps) → d ≡ decision_in_session (response_of (scope_now x s steadied) x.limit c.submission.policies)
+  decision_steady d e = e ∙ ap decision_in_session (same_response (scope_now x s store) steadied alike x.limit ps) ∙ ap (λ qs. decision_in_session (response_of (scope_now x s steadied) x.limit qs)) is
+
+  -- so it decides in part, and may be given, where the steady store is what is known
+  pub decision_in_part : IsKnownStore c s steadied → (d : Option Decision) → d ≡ decision_in_session (response_of (scope_now x s store) x.limit ps) → DecidesInPart x c.submission.policies s d
+  decision_in_part known d e = (steadied, known, decision_steady d e)
 
   -- what it leaves is the answer, where the steady one is what was loaded
-  pub answer_told : SessionsAnswer → Conform x s → NothingIsWanted x s → ((f : AnswerRefusal) → AnswerFault x s f → ⊥) → ((u : Uid) → known_found (steadied u) ≡ loaded_store x s u)
+  pub answer_told : IsProper c → IsOpened (session_of c) s → SessionsAnswer → Conform x s → NothingIsWanted x s → ((f : AnswerRefusal) → AnswerFault x s f → ⊥) → ((u : Uid) → known_found (steadied u) ≡ loaded_store x s u)
       → (r : Concrete) → r ≡ answered (scope_now x s store) x.limit ps → r ≡ as_concrete (answer_of (world_now x s) c.submission.policies)
-  answer_told law conform nothing fine known r e =
+  answer_told proper opened law conform nothing fine known r e =
       e ∙ same_answered (scope_now x s store) steadied alike x.limit ps ∙ ap (λ qs. answered (scope_now x s steadied) x.limit qs) is ∙ law c s steadied proper opened conform nothing fine known
 
 -- what is there is so for each

@@ -5,9 +5,9 @@ use Rattle.std.specs.Str.{bytes_eq}
 use Rattle.std.proofs.lemmas.Slice.Eq.{bytes_eq-Decides}
 use Rattle.cedar_expr_model.specs.Name.{Text}
 use Rattle.cedar_expr_model.specs.Uid.{Uid}
-use Rattle.cedar_expr_model.specs.Whole.Made.{Made}
-use Rattle.cedar_expr_model.specs.Whole.Substitution.{Bindings}
-use Rattle.cedar_schema_model.specs.Whole.Schema as model
+use Rattle.cedar_expr_model.specs.Made.{Made}
+use Rattle.cedar_expr_model.specs.Substitution.{Bindings}
+use Rattle.cedar_schema_model.specs.Schema as model
 use Rattle.cedar_evaluator_model.specs.OfLaws.WellMade.{IsWellMade}
 use Rattle.cedar_evaluator_model.specs.Response.{PartialRequest}
 use Rattle.cedar_evaluator_requests.specs.Views.{request_of}
@@ -17,9 +17,9 @@ use Rattle.cedar_gate_bindings.specs.Values.{takes}
 use Rattle.cedar_gate_bindings.specs.declared.faults.BindFault.{BindFault}
 use Rattle.cedar_gate_bindings.specs.declared.faults.BindFault.TheVariants as binding
 use Rattle.cedar_gate_distances.specs.Kept.{IsKept}
-use Rattle.cedar_gate_model.specs.Whole.Bundle.{Functions}
-use Rattle.cedar_gate_model.specs.Whole.Session as session
-use Rattle.cedar_gate_model.specs.Whole.Session.{Setup, State, value_of, with_bound, is_open_name, is_open_entry, is_open_context, entry_named, ContextFails, BindRefusal, not_open, against_annotation, no_entity_or_record, context_fails}
+use Rattle.cedar_gate_model.specs.Bundle.{Functions}
+use Rattle.cedar_gate_model.specs.Session as session
+use Rattle.cedar_gate_model.specs.Session.{Setup, State, value_of, with_bound, is_open_name, is_open_entry, is_open_context, entry_named, ContextFails, BindRefusal, not_open, against_annotation, no_entity_or_record, context_fails}
 use Rattle.cedar_gate_openings.specs.Laws.{RootsAreKnown, BindingIsMore}
 use Rattle.cedar_gate_openings.specs.Requests.{request_at, AreValuesOf}
 use Rattle.cedar_gate_openings.specs.Roots.{known_roots}

@@ -6,11 +6,11 @@ use Rattle.cedar_expr_functions.specs.Tables.{table_of}
 use Rattle.cedar_expr_functions.specs.declared.extensions.Extensions.{Extensions}
 use Rattle.cedar_expr_model.specs.Name.{Text}
 use Rattle.cedar_expr_model.specs.Uid.{Uid, uid_eq}
-use Rattle.cedar_expr_model.specs.Whole.Made.{Made}
-use Rattle.cedar_expr_model.specs.Whole.Table.{Table}
-use Rattle.cedar_expr_model.specs.Whole.Uids.{is_uid}
-use Rattle.cedar_expr_model.specs.Whole.Value.{V}
-use Rattle.cedar_expr_model.specs.Whole.ValueParts.{Part, known, left}
+use Rattle.cedar_expr_model.specs.Made.{Made}
+use Rattle.cedar_expr_model.specs.Table.{Table}
+use Rattle.cedar_expr_model.specs.Uids.{is_uid}
+use Rattle.cedar_expr_model.specs.Value.{V}
+use Rattle.cedar_expr_model.specs.ValueParts.{Part, known, left}
 use Rattle.cedar_expr_model.proofs.Equality.{uid_eq-Decides}
 use Rattle.cedar_expr_names.specs.Views.{uid_of}
 use Rattle.cedar_expr_names.specs.declared.entity.EntityUID.{EntityUID}
@@ -18,11 +18,11 @@ use Rattle.cedar_store_entities.specs.Stores.{store_seen, store_made}
 use Rattle.cedar_store_entities.specs.Views.{Kept, entity_uid, entity_kept, entity_pair, kept_pair, bare_part, bare_entity}
 use Rattle.cedar_store_entities.specs.declared.entities.Entities.{Entities}
 use Rattle.cedar_store_entities.specs.declared.entity.Entity.{Entity}
-use Rattle.cedar_store_model.specs.Whole.Policy.{no_bindings}
-use Rattle.cedar_store_model.specs.Whole.Store.{Extent, if_uid, whole, partial}
-use Rattle.cedar_store_model.specs.Whole.World as world
-use Rattle.cedar_store_model.specs.Whole.World.{Found, held, missing}
-use Rattle.cedar_schema_model.specs.Whole.Schema as model
+use Rattle.cedar_store_model.specs.Policy.{no_bindings}
+use Rattle.cedar_store_model.specs.Store.{Extent, if_uid, whole, partial}
+use Rattle.cedar_store_model.specs.World as world
+use Rattle.cedar_store_model.specs.World.{Found, held, missing}
+use Rattle.cedar_schema_model.specs.Schema as model
 use Rattle.cedar_evaluator_model.specs.Known.{known_found, known_entity, known_parts, known_part}
 use Rattle.cedar_evaluator_model.specs.OfLaws.WellMade.{IsFoundMadeWell}
 use Rattle.cedar_evaluator_core.specs.Evaluators.{asked_of, table_in, entities_in, scope_in, limit_of, Serves}
@@ -35,9 +35,9 @@ use Rattle.cedar_evaluator_reads.specs.Scopes.{found_kept, values_in, store_of}
 use Rattle.cedar_evaluator_requests.specs.Views.{request_of}
 use Rattle.cedar_evaluator_rising.specs.Rising.{ScopeRises}
 use Rattle.cedar_gate_decisions.specs.Laws.{loaded_store}
-use Rattle.cedar_gate_model.specs.Whole.Bundle.{Functions}
-use Rattle.cedar_gate_model.specs.Whole.RunsAnswer.{Course, session_of, IsKnownStore}
-use Rattle.cedar_gate_model.specs.Whole.Session.{Setup, State, scope_now, known_now}
+use Rattle.cedar_gate_model.specs.Bundle.{Functions}
+use Rattle.cedar_gate_model.specs.RunsAnswer.{Course, session_of, IsKnownStore}
+use Rattle.cedar_gate_model.specs.Session.{Setup, State, scope_now, known_now}
 use Rattle.cedar_gate_sessions.specs.Loaded.{loaded_at}
 use Rattle.cedar_gate_sessions.specs.Sessions.{IsAt, AreLoaded, stored_in, store_in}
 use Rattle.cedar_gate_sessions.specs.declared.session.Session.{Session}

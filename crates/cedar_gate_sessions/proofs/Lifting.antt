@@ -3,12 +3,12 @@ use Rattle.std.proofs.Common.{◌≡◌, true, Option, Some, None}
 use Rattle.std.specs.Prelude.{IfSome}
 use Rattle.std.specs.Map.{lookup}
 use Rattle.std.specs.Str.{bytes_eq}
-use Rattle.cedar_expr_model.specs.Whole.Canonical.{are_rising}
-use Rattle.cedar_expr_model.specs.Whole.Made.{Made, made_prim, made_set, made_record, made_extension, Mades, no_mades, made, MadeFields, no_made_fields, made_field, bare, bares, bare_fields}
-use Rattle.cedar_expr_model.specs.Whole.OfLaws.Represented.{AreMade, HaveMade}
-use Rattle.cedar_expr_model.specs.Whole.Table.{Table}
-use Rattle.cedar_expr_model.specs.Whole.ValueParts.{Part, known, left}
-use Rattle.cedar_store_model.specs.Whole.World.{Found, held, missing, not_loaded}
+use Rattle.cedar_expr_model.specs.Canonical.{are_rising}
+use Rattle.cedar_expr_model.specs.Made.{Made, made_prim, made_set, made_record, made_extension, Mades, no_mades, made, MadeFields, no_made_fields, made_field, bare, bares, bare_fields}
+use Rattle.cedar_expr_model.specs.OfLaws.Represented.{AreMade, HaveMade}
+use Rattle.cedar_expr_model.specs.Table.{Table}
+use Rattle.cedar_expr_model.specs.ValueParts.{Part, known, left}
+use Rattle.cedar_store_model.specs.World.{Found, held, missing, not_loaded}
 use Rattle.cedar_store_worlds_model.specs.Rising.{Rises, MembersRise, FieldsRise}
 use Rattle.cedar_evaluator_model.specs.OfLaws.WellMade.{IsWellMade, IsMadeWell, IsPartMadeWell, IsFoundMadeWell, IsContextMadeWell}
 use Rattle.cedar_evaluator_model.specs.Scope.{Context, closed, residual_fields, unknown_context}

@@ -4,19 +4,19 @@ use Rattle.std.specs.Prelude.{IsSome, ◌↔◌}
 use Rattle.std.specs.Option.{option_map_or}
 use Rattle.std.specs.declared.alloc.Global.{Global}
 use Rattle.std.specs.declared.vec.Vec.{Vec}
-use Rattle.cedar_expr_model.specs.Order.{are_rising}
+use Rattle.cedar_expr_model.specs.UidOrder.{are_rising}
 use Rattle.cedar_expr_model.specs.Uid.{Uid}
-use Rattle.cedar_expr_model.specs.Whole.Uids.{is_uid}
+use Rattle.cedar_expr_model.specs.Uids.{is_uid}
 use Rattle.cedar_expr_names.specs.declared.entity.EntityUID.{EntityUID}
-use Rattle.cedar_store_model.specs.Whole.Store.{unloaded, if_uid, found_as, whole}
-use Rattle.cedar_store_model.specs.Whole.World.{held, missing, not_loaded}
-use Rattle.cedar_schema_model.specs.Whole.ActionEntities.{as_entity}
-use Rattle.cedar_schema_model.specs.Whole.Schema.{Schema, declares_action}
+use Rattle.cedar_store_model.specs.Store.{unloaded, if_uid, found_as, whole}
+use Rattle.cedar_store_model.specs.World.{held, missing, not_loaded}
+use Rattle.cedar_schema_model.specs.ActionEntities.{as_entity}
+use Rattle.cedar_schema_model.specs.Schema.{Schema, declares_action}
 use Rattle.cedar_gate_distances.specs.Kept.{IsKept}
 use Rattle.cedar_gate_distances.specs.Rows.{row_of, uids}
-use Rattle.cedar_gate_model.specs.Whole.Moment.{told}
-use Rattle.cedar_gate_model.specs.Whole.Session.{Setup, State, at_start, known_now}
-use Rattle.cedar_gate_model.specs.Whole.Slice.{roots, mentioned_by_found}
+use Rattle.cedar_gate_model.specs.Moment.{told}
+use Rattle.cedar_gate_model.specs.Session.{Setup, State, at_start, known_now}
+use Rattle.cedar_gate_model.specs.Slice.{roots, mentioned_by_found}
 use Rattle.cedar_gate_wanted.specs.Laws.{IsLoadedAt}
 use Rattle.cedar_gate_wanted.specs.Wanting.{IsWanting, IsSameLoading, is_open, near_in, rows_in, mentions_of, wanted_in}
 use Rattle.cedar_gate_wanted.specs.declared.loading.Loading.{Loading}

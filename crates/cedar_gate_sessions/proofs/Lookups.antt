@@ -2,7 +2,7 @@
 use Rattle.std.proofs.Common.{◌≡◌, Bool, true, false, cond, List, [], ◌∷◌, ◌++◌, map, Contains, Some, option_map, refl, ⊎_elim}
 use Rattle.std.specs.Option.{option_or}
 use Rattle.std.specs.Map.{lookup}
-use Rattle.cedar_expr_model.specs.Whole.ListLaws.{AreDistinct}
+use Rattle.cedar_expr_model.specs.ListLaws.{AreDistinct}
 use Rattle.std.proofs.lemmas.List.Elements.{Contains-append_cases}
 use Rattle.cedar_expr_model.proofs.Lists.{contains_head, contains_tail}
 

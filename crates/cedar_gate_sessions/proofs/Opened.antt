@@ -2,16 +2,16 @@
 use Rattle.std.specs.Prelude.{◌≡◌, [], Contains, Some}
 use Rattle.cedar_expr_model.specs.Name.{Text}
 use Rattle.cedar_expr_model.specs.Uid.{Uid}
-use Rattle.cedar_expr_model.specs.Whole.Made.{Made}
-use Rattle.cedar_expr_model.specs.Whole.Value.{V}
-use Rattle.cedar_store_model.specs.Whole.World.{Entity}
-use Rattle.cedar_schema_model.specs.Whole.Conforming.{EntityConforms}
+use Rattle.cedar_expr_model.specs.Made.{Made}
+use Rattle.cedar_expr_model.specs.Value.{V}
+use Rattle.cedar_store_model.specs.World.{Entity}
+use Rattle.cedar_schema_model.specs.Conforming.{EntityConforms}
 use Rattle.cedar_evaluator_model.specs.OfLaws.WellMade.{IsWellMade}
 use Rattle.cedar_evaluator_model.specs.Scope.{Context, closed, residual_fields, unknown_context}
-use Rattle.cedar_gate_model.specs.Whole.Session.{Setup, State, at_start, ContextFails, with_bound, OpenRefusal, OpenFault, BindRefusal, BindFault, not_open, against_annotation, no_entity_or_record, context_fails}
-use Rattle.cedar_gate_model.specs.Whole.RunsAnswer.{IsOpened}
-use Rattle.cedar_gate_model.proofs.Whole.Runs.Completing.{Stands}
-use Rattle.cedar_gate_model.proofs.Whole.Runs.Names.{stands_of}
+use Rattle.cedar_gate_model.specs.Session.{Setup, State, at_start, ContextFails, with_bound, OpenRefusal, OpenFault, BindRefusal, BindFault, not_open, against_annotation, no_entity_or_record, context_fails}
+use Rattle.cedar_gate_model.specs.RunsAnswer.{IsOpened}
+use Rattle.cedar_gate_model.proofs.Runs.Completing.{Stands}
+use Rattle.cedar_gate_model.proofs.Runs.Names.{stands_of}
 
 module _ (x : Setup) where
   pub opened_at_start : ((f : OpenRefusal) → OpenFault x.start f → ⊥) → IsOpened x at_start

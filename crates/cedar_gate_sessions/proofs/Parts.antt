@@ -4,18 +4,18 @@ use Rattle.std.specs.Map.{lookup, keys_of}
 use Rattle.std.specs.declared.alloc.Global.{Global}
 use Rattle.std.specs.declared.vec.Vec.{Vec}
 use Rattle.cedar_expr_model.specs.Uid.{Uid, uid_eq}
-use Rattle.cedar_expr_model.specs.Whole.Uids.{is_uid}
-use Rattle.cedar_expr_model.specs.Whole.Value.{V}
+use Rattle.cedar_expr_model.specs.Uids.{is_uid}
+use Rattle.cedar_expr_model.specs.Value.{V}
 use Rattle.cedar_expr_model.proofs.Lists.{contains_head, contains_tail, map_from, map_has}
 use Rattle.cedar_expr_names.specs.Views.{uid_of}
 use Rattle.cedar_expr_names.specs.declared.entity.EntityUID.{EntityUID}
 use Rattle.cedar_store_entities.specs.Views.{Kept, entity_uid, entity_of, entity_kept, entity_pair, kept_pair}
 use Rattle.cedar_store_entities.specs.declared.entity.Entity.{Entity}
-use Rattle.cedar_store_model.specs.Whole.World as world
-use Rattle.cedar_schema_model.specs.Whole.Schema.{declares_action}
+use Rattle.cedar_store_model.specs.World as world
+use Rattle.cedar_schema_model.specs.Schema.{declares_action}
 use Rattle.cedar_gate_distances.specs.Rows.{uids}
-use Rattle.cedar_gate_model.specs.Whole.Runs.{supplied_by}
-use Rattle.cedar_gate_model.specs.Whole.Session.{Setup}
+use Rattle.cedar_gate_model.specs.Runs.{supplied_by}
+use Rattle.cedar_gate_model.specs.Session.{Setup}
 use Rattle.cedar_gate_wanted.specs.Laws.{AreAnswers}
 use Rattle.cedar_gate_wanted.specs.Supplying.{rows_of, keys_in}
 use Rattle.cedar_gate_sessions.specs.Entities.{supplied_pair, supplied_of, supplied_uids, supplied_entities, mentioned_by_this, row_pair, mentions_pair}

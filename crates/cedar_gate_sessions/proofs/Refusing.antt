@@ -2,7 +2,7 @@
 use Rattle.cedar_expr_model.specs.Uid.{Uid}
 use Rattle.std.specs.Prelude.{List}
 use Rattle.std.specs.Map.{keys_of}
-use Rattle.cedar_gate_model.specs.Whole.Session.{Setup, State, Supplied, IsWantedList}
+use Rattle.cedar_gate_model.specs.Session.{Setup, State, Supplied, IsWantedList}
 use Rattle.cedar_gate_wanted.specs.Supplying.{IsUnfit}
 use Rattle.cedar_gate_wanted.specs.declared.supplied.Unfit.{Unfit}
 use Rattle.cedar_gate_wanted.specs.declared.supplied.Unfit.TheVariants.{OutOfMemory, NotWanted, Lacking, Repeated}

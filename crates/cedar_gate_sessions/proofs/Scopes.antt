@@ -3,24 +3,24 @@ use Rattle.std.proofs.Common.{◌≡◌, Bool, true, false, cond, List, Option, 
 use Rattle.std.specs.Prelude.{Contains, IfSome, unwrap_or, option_and_then}
 use Rattle.cedar_expr_model.specs.Name.{Text, Name}
 use Rattle.cedar_expr_model.specs.Uid.{Uid}
-use Rattle.cedar_expr_model.specs.Whole.Made.{Made, made_prim, made_set, made_record, made_extension}
-use Rattle.cedar_expr_model.specs.Whole.Substitution.{substituted}
-use Rattle.cedar_expr_model.specs.Whole.Table.{Table}
-use Rattle.cedar_expr_model.specs.Whole.Tree.{record_literal, SlotId, principal_slot, resource_slot}
-use Rattle.cedar_expr_model.specs.Whole.Value.{V}
-use Rattle.cedar_store_model.specs.Whole.Policy.{binding_of, no_bindings}
-use Rattle.cedar_store_model.specs.Whole.World.{Entity, Found, missing, not_loaded}
-use Rattle.cedar_schema_model.specs.Whole.Conforming.{EntityConforms}
+use Rattle.cedar_expr_model.specs.Made.{Made, made_prim, made_set, made_record, made_extension}
+use Rattle.cedar_expr_model.specs.Substitution.{substituted}
+use Rattle.cedar_expr_model.specs.Table.{Table}
+use Rattle.cedar_expr_model.specs.Tree.{record_literal, SlotId, principal_slot, resource_slot}
+use Rattle.cedar_expr_model.specs.Value.{V}
+use Rattle.cedar_store_model.specs.Policy.{binding_of, no_bindings}
+use Rattle.cedar_store_model.specs.World.{Entity, Found, missing, not_loaded}
+use Rattle.cedar_schema_model.specs.Conforming.{EntityConforms}
 use Rattle.cedar_evaluator_model.specs.OfLaws.WellMade.{IsFoundMadeWell, IsContextMadeWell}
 use Rattle.cedar_evaluator_model.specs.Reauthorize.{context_from}
 use Rattle.cedar_evaluator_model.specs.Response.{PartialRequest}
 use Rattle.cedar_evaluator_model.specs.Scope.{Scope, Context, closed, residual_fields, unknown_context, MadeCalled, Left, value_left, residual, stopped}
 use Rattle.cedar_evaluator_rising.specs.Rising.{MadeRises, FoundRises, ContextRises, CallsRise, ScopeRises, LeftRises}
 use Rattle.cedar_evaluator_rising.proofs.Rising.{values_rise}
-use Rattle.cedar_gate_model.specs.Whole.ReadingValue.{with_functions}
-use Rattle.cedar_gate_model.specs.Whole.RunsAnswer.{IsOpened}
-use Rattle.cedar_gate_model.specs.Whole.Session.{Setup, State, value_of, context_now, scope_now, entry_now}
-use Rattle.cedar_gate_model.proofs.Whole.Runs.Completing.{taken_value}
+use Rattle.cedar_gate_model.specs.ReadingValue.{with_functions}
+use Rattle.cedar_gate_model.specs.RunsAnswer.{IsOpened}
+use Rattle.cedar_gate_model.specs.Session.{Setup, State, value_of, context_now, scope_now, entry_now}
+use Rattle.cedar_gate_model.proofs.Runs.Completing.{taken_value}
 use Rattle.cedar_gate_sessions.proofs.Lifting.{found_rises, context_rises, value_rises}
 use Rattle.cedar_gate_sessions.proofs.Opened.{stands_in}
 

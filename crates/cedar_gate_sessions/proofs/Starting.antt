@@ -8,11 +8,11 @@ use Rattle.std.specs.declared.alloc.Global.{Global}
 use Rattle.std.specs.declared.rc.RcStr.{RcStr}
 use Rattle.cedar_expr_model.specs.Name.{Text}
 use Rattle.cedar_expr_model.specs.Uid.{Uid, uid_eq}
-use Rattle.cedar_expr_model.specs.Whole.Made.{Made}
-use Rattle.cedar_expr_model.specs.Whole.Table.{Table}
-use Rattle.cedar_expr_model.specs.Whole.Uids.{is_uid}
-use Rattle.cedar_expr_model.specs.Whole.Value.{V}
-use Rattle.cedar_expr_model.specs.Whole.ValueParts.{Part}
+use Rattle.cedar_expr_model.specs.Made.{Made}
+use Rattle.cedar_expr_model.specs.Table.{Table}
+use Rattle.cedar_expr_model.specs.Uids.{is_uid}
+use Rattle.cedar_expr_model.specs.Value.{V}
+use Rattle.cedar_expr_model.specs.ValueParts.{Part}
 use Rattle.cedar_expr_model.proofs.Lists.{contains_none}
 use Rattle.cedar_expr_values.specs.Extensions.{extension_of}
 use Rattle.cedar_expr_values.specs.Values.{made}
@@ -20,19 +20,19 @@ use Rattle.cedar_expr_values.specs.declared.extension.ExtValue.{ExtValue}
 use Rattle.cedar_expr_values.specs.declared.value.Value.{Value}
 use Rattle.cedar_store_entities.specs.Views.{Kept, entity_uid, entity_kept, entity_pair, kept_pair, bare_part, bare_entity}
 use Rattle.cedar_store_entities.specs.declared.entity.Entity.{Entity}
-use Rattle.cedar_store_model.specs.Whole.Store.{partial}
-use Rattle.cedar_store_model.specs.Whole.World as world
-use Rattle.cedar_store_model.specs.Whole.World.{held, missing}
-use Rattle.cedar_schema_model.specs.Whole.Schema as model
+use Rattle.cedar_store_model.specs.Store.{partial}
+use Rattle.cedar_store_model.specs.World as world
+use Rattle.cedar_store_model.specs.World.{held, missing}
+use Rattle.cedar_schema_model.specs.Schema as model
 use Rattle.cedar_evaluator_model.specs.OfLaws.WellMade.{IsPartMadeWell, IsFoundMadeWell}
 use Rattle.cedar_evaluator_reads.specs.Scopes.{found_kept}
 use Rattle.cedar_evaluator_requests.specs.Views.{request_of}
 use Rattle.cedar_gate_bindings.specs.Faults.{opens}
 use Rattle.cedar_gate_bindings.specs.Names.{bound_in}
 use Rattle.cedar_gate_distances.specs.Kept.{IsKept}
-use Rattle.cedar_gate_model.specs.Whole.Bundle.{Functions}
-use Rattle.cedar_gate_model.specs.Whole.RunsAsk.{IsMadeContext}
-use Rattle.cedar_gate_model.specs.Whole.Session.{Setup, State, at_start}
+use Rattle.cedar_gate_model.specs.Bundle.{Functions}
+use Rattle.cedar_gate_model.specs.RunsAsk.{IsMadeContext}
+use Rattle.cedar_gate_model.specs.Session.{Setup, State, at_start}
 use Rattle.cedar_gate_openings.specs.Laws.{RootsAreKnown}
 use Rattle.cedar_gate_openings.specs.Requests.{request_at, AreValuesOf}
 use Rattle.cedar_gate_openings.specs.Roots.{known_roots}

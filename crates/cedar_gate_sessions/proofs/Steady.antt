@@ -6,24 +6,24 @@ use Rattle.std.specs.Option.{option_map_or}
 use Rattle.std.specs.Str.{bytes_eq}
 use Rattle.cedar_expr_model.specs.Name.{Text}
 use Rattle.cedar_expr_model.specs.Uid.{Uid, uid_eq}
-use Rattle.cedar_expr_model.specs.Whole.Made.{Made, made_prim, made_record, bare}
-use Rattle.cedar_expr_model.specs.Whole.Builder.{path_test}
-use Rattle.cedar_expr_model.specs.Whole.Tree.{Var, principal, action, resource, context, BinaryOp, is_in, get_tag, has_tag, Tree, lit, var, unknown, binary, get_attr, has_attr, has_path}
-use Rattle.cedar_expr_model.specs.Whole.Value.{text, entity}
-use Rattle.cedar_expr_model.specs.Whole.ValueParts.{Part, known, left}
-use Rattle.cedar_store_model.specs.Whole.Answer.{decided}
-use Rattle.cedar_store_model.specs.Whole.Operators.{says}
-use Rattle.cedar_store_model.specs.Whole.Outcome.{err, missing_entity, wrong_type}
-use Rattle.cedar_store_model.specs.Whole.Policy as model
-use Rattle.cedar_store_model.specs.Whole.Policy.{permit, forbid, binding_of, condition}
-use Rattle.cedar_store_model.specs.Whole.Reads.{uids_in}
-use Rattle.cedar_store_model.specs.Whole.Store.{stand_in}
-use Rattle.cedar_store_model.specs.Whole.World.{Entity, Found, held, missing, not_loaded, by_found}
+use Rattle.cedar_expr_model.specs.Made.{Made, made_prim, made_record, bare}
+use Rattle.cedar_expr_model.specs.Builder.{path_test}
+use Rattle.cedar_expr_model.specs.Tree.{Var, principal, action, resource, context, BinaryOp, is_in, get_tag, has_tag, Tree, lit, var, unknown, binary, get_attr, has_attr, has_path}
+use Rattle.cedar_expr_model.specs.Value.{text, entity}
+use Rattle.cedar_expr_model.specs.ValueParts.{Part, known, left}
+use Rattle.cedar_store_model.specs.Answer.{decided}
+use Rattle.cedar_store_model.specs.Operators.{says}
+use Rattle.cedar_store_model.specs.Outcome.{err, missing_entity, wrong_type}
+use Rattle.cedar_store_model.specs.Policy as model
+use Rattle.cedar_store_model.specs.Policy.{permit, forbid, binding_of, condition}
+use Rattle.cedar_store_model.specs.Reads.{uids_in}
+use Rattle.cedar_store_model.specs.Store.{stand_in}
+use Rattle.cedar_store_model.specs.World.{Entity, Found, held, missing, not_loaded, by_found}
 use Rattle.cedar_evaluator_model.specs.Evaluation.{variable_left, get_of_residual, has_of_residual, binary_left, node, evaluated}
 use Rattle.cedar_evaluator_model.specs.Response.{with_bindings, slots_bound, verdict, response_of, request_of, group, if_true, if_false, if_residual, if_stopped}
 use Rattle.cedar_evaluator_model.specs.Scope.{Scope, Left, residual}
 use Rattle.cedar_evaluator_model.specs.Steps.{errs, truth_left, on_value, left_of, truth_wanted, path_step, part_left, tag_left, part_or_missing, part_there, made_named, attribute_of, test_of, path_of, get_tag_found, has_tag_found, tag_of, in_found, in_of, combined_left, kind_of_value, kind_of_unknown, with_residual}
-use Rattle.cedar_expr_model.specs.Whole.Made.{written}
+use Rattle.cedar_expr_model.specs.Made.{written}
 use Rattle.cedar_gate_decisions.specs.Answers.{asked, if_erring, reasons_left, answered}
 
 -- entities that evaluations don't tell apart

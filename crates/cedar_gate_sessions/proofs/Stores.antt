@@ -4,20 +4,20 @@ use Rattle.std.specs.Prelude.{◌↔◌, Contains}
 use Rattle.std.specs.List.{list_any}
 use Rattle.cedar_expr_model.specs.Name.{Text}
 use Rattle.cedar_expr_model.specs.Uid.{Uid, uid_eq}
-use Rattle.cedar_expr_model.specs.Whole.Made.{Made}
-use Rattle.cedar_expr_model.specs.Whole.Uids.{is_uid}
-use Rattle.cedar_expr_model.specs.Whole.Value.{V}
-use Rattle.cedar_expr_model.specs.Whole.ValueParts.{Part}
+use Rattle.cedar_expr_model.specs.Made.{Made}
+use Rattle.cedar_expr_model.specs.Uids.{is_uid}
+use Rattle.cedar_expr_model.specs.Value.{V}
+use Rattle.cedar_expr_model.specs.ValueParts.{Part}
 use Rattle.cedar_expr_model.proofs.Equality.{uid_eq-Decides}
 use Rattle.cedar_expr_model.proofs.Lists.{found-Decides}
-use Rattle.cedar_store_model.specs.Whole.Store.{Extent, if_uid, found_as, whole, partial}
-use Rattle.cedar_store_model.specs.Whole.World.{Entity, Found, held, missing, not_loaded, by_found}
-use Rattle.cedar_schema_model.specs.Whole.ActionEntities.{action_ancestors}
-use Rattle.cedar_schema_model.specs.Whole.Schema.{Schema, declares_action}
+use Rattle.cedar_store_model.specs.Store.{Extent, if_uid, found_as, whole, partial}
+use Rattle.cedar_store_model.specs.World.{Entity, Found, held, missing, not_loaded, by_found}
+use Rattle.cedar_schema_model.specs.ActionEntities.{action_ancestors}
+use Rattle.cedar_schema_model.specs.Schema.{Schema, declares_action}
 use Rattle.cedar_evaluator_model.specs.Known.{known_found, known_entity, known_parts}
-use Rattle.cedar_gate_model.specs.Whole.Moment.{told}
-use Rattle.cedar_gate_model.specs.Whole.Session.{Setup, State, known_now, whole_store}
-use Rattle.cedar_gate_model.specs.Whole.Slice.{mentioned_by_found}
+use Rattle.cedar_gate_model.specs.Moment.{told}
+use Rattle.cedar_gate_model.specs.Session.{Setup, State, known_now, whole_store}
+use Rattle.cedar_gate_model.specs.Slice.{mentioned_by_found}
 use Rattle.cedar_gate_sessions.specs.Loaded.{AreActions, loaded_at, mentioned_there}
 use Rattle.cedar_gate_sessions.proofs.Steady.{AreAlike, IsAlike, alike_self}
 

@@ -7,21 +7,21 @@ use Rattle.std.specs.Map.{lookup, keys_of}
 use Rattle.std.specs.Option.{option_or}
 use Rattle.std.specs.Prelude.{option_to_list, is_none, is_some}
 use Rattle.cedar_expr_model.specs.Uid.{Uid, uid_eq}
-use Rattle.cedar_expr_model.specs.Whole.ListLaws.{AreDistinct}
-use Rattle.cedar_expr_model.specs.Whole.Repeats.{repeated}
-use Rattle.cedar_expr_model.specs.Whole.Value.{V}
+use Rattle.cedar_expr_model.specs.ListLaws.{AreDistinct}
+use Rattle.cedar_expr_model.specs.Repeats.{repeated}
+use Rattle.cedar_expr_model.specs.Value.{V}
 use Rattle.cedar_expr_model.proofs.Equality.{uid_eq-Decides}
 use Rattle.cedar_expr_model.proofs.Lists.{contains_head, contains_tail, contains_cases, contains_none, map_from, map_has, found-Decides, both_hold, all_each}
-use Rattle.cedar_expr_model.proofs.Whole.Repeating.{repeats_decide}
-use Rattle.cedar_store_model.specs.Whole.Store.{Entities, are_distinct}
-use Rattle.cedar_store_model.specs.Whole.World.{Entity}
-use Rattle.cedar_store_model.proofs.Whole.Stores.{stands_found}
-use Rattle.cedar_schema_model.specs.Whole.Conforming.{EntityConforms, entity_conforms}
-use Rattle.cedar_schema_model.specs.Whole.Schema.{Schema, declares_action}
-use Rattle.cedar_schema_model.proofs.Whole.Decls.Conforming.{entity_conforms-Decides}
-use Rattle.cedar_gate_model.specs.Whole.Session.{Setup, State, Supplied, IsWantedNow, IsWantedList, IsWrong, SupplyRefusal, SupplyFault, not_wanted, lacking, wrong_entity}
-use Rattle.cedar_gate_model.specs.Whole.Session as session
-use Rattle.cedar_gate_model.specs.Whole.Runs.{with_asked, supplied_by}
+use Rattle.cedar_expr_model.proofs.Repeating.{repeats_decide}
+use Rattle.cedar_store_model.specs.Store.{Entities, are_distinct}
+use Rattle.cedar_store_model.specs.World.{Entity}
+use Rattle.cedar_store_model.proofs.Stores.{stands_found}
+use Rattle.cedar_schema_model.specs.Conforming.{EntityConforms, entity_conforms}
+use Rattle.cedar_schema_model.specs.Schema.{Schema, declares_action}
+use Rattle.cedar_schema_model.proofs.Decls.Conforming.{entity_conforms-Decides}
+use Rattle.cedar_gate_model.specs.Session.{Setup, State, Supplied, IsWantedNow, IsWantedList, IsWrong, SupplyRefusal, SupplyFault, not_wanted, lacking, wrong_entity}
+use Rattle.cedar_gate_model.specs.Session as session
+use Rattle.cedar_gate_model.specs.Runs.{with_asked, supplied_by}
 use Rattle.cedar_gate_wanted.specs.Supplying.{AreKeys}
 use Rattle.cedar_gate_sessions.specs.Loaded.{loaded_at, is_right}
 use Rattle.cedar_gate_sessions.proofs.Lookups.{distinct_both}

@@ -2,10 +2,10 @@
 use Rattle.std.proofs.Common.{◌≡◌, ◌∙◌, ◌∷◌, [], List, map, Some, None, refl, sym, ap}
 use Rattle.cedar_store_entities.specs.Views.{Kept, entity_pair, kept_pair, bare_entity}
 use Rattle.cedar_store_entities.specs.declared.entity.Entity.{Entity}
-use Rattle.cedar_store_model.specs.Whole.Store.{Store, store_of, are_distinct, whole}
-use Rattle.cedar_store_model.specs.Whole.World as world
+use Rattle.cedar_store_model.specs.Store.{Store, store_of, are_distinct, whole}
+use Rattle.cedar_store_model.specs.World as world
 use Rattle.cedar_expr_model.specs.Uid.{Uid}
-use Rattle.cedar_expr_model.specs.Whole.Value.{V}
+use Rattle.cedar_expr_model.specs.Value.{V}
 use Rattle.std.specs.Prelude.{Bool, true, false, if◌then◌else◌}
 
 -- the entities among what is kept

@@ -2,10 +2,10 @@
 -- Rule: runs; sessions (docs/RULES.md).
 use Rattle.std.specs.Prelude.{◌≡◌, List}
 use Rattle.cedar_expr_model.specs.Uid.{Uid}
-use Rattle.cedar_schema_model.specs.Whole.Schema as model
-use Rattle.cedar_gate_model.specs.Whole.Bundle.{Functions}
-use Rattle.cedar_gate_model.specs.Whole.RunsAnswer.{Course, session_of, IsProper, MakeFairly}
-use Rattle.cedar_gate_model.specs.Whole.Session.{State}
+use Rattle.cedar_schema_model.specs.Schema as model
+use Rattle.cedar_gate_model.specs.Bundle.{Functions}
+use Rattle.cedar_gate_model.specs.RunsAnswer.{Course, session_of, IsProper, MakeFairly}
+use Rattle.cedar_gate_model.specs.Session.{State}
 use Rattle.cedar_gate_sessions.specs.Sessions.{IsAt, wanted_of, policies_in}
 use Rattle.cedar_gate_sessions.specs.declared.courses.CourseSession.{CourseSession}
 

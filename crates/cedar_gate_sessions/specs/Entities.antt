@@ -5,14 +5,14 @@ use Rattle.std.specs.List.{flat_map}
 use Rattle.std.specs.declared.alloc.Global.{Global}
 use Rattle.std.specs.declared.vec.Vec.{Vec}
 use Rattle.cedar_expr_model.specs.Uid.{Uid}
-use Rattle.cedar_expr_model.specs.Whole.Value.{V}
+use Rattle.cedar_expr_model.specs.Value.{V}
 use Rattle.cedar_expr_names.specs.Views.{uid_of}
 use Rattle.cedar_expr_names.specs.declared.entity.EntityUID.{EntityUID}
 use Rattle.cedar_store_entities.specs.Views.{entity_of, entity_pair}
 use Rattle.cedar_store_entities.specs.declared.entity.Entity.{Entity}
-use Rattle.cedar_store_model.specs.Whole.World as world
+use Rattle.cedar_store_model.specs.World as world
 use Rattle.cedar_gate_distances.specs.Rows.{uids}
-use Rattle.cedar_gate_model.specs.Whole.Session.{Supplied}
+use Rattle.cedar_gate_model.specs.Session.{Supplied}
 use Rattle.cedar_gate_sessions.specs.Loaded.{mentioned_there}
 
 -- what was supplied, and for which uids

@@ -4,13 +4,13 @@ use Rattle.std.specs.Prelude.{◌≡◌, ℕ, List, Option, Some, None, IfSome}
 use Rattle.std.specs.Option.{option_map_or}
 use Rattle.cedar_expr_model.specs.Name.{Text}
 use Rattle.cedar_expr_model.specs.Uid.{Uid}
-use Rattle.cedar_expr_model.specs.Whole.Made.{Made}
+use Rattle.cedar_expr_model.specs.Made.{Made}
 use Rattle.cedar_evaluator_model.specs.Scope.{Context}
 use Rattle.cedar_gate_bindings.specs.declared.faults.BindFault.{BindFault}
 use Rattle.cedar_gate_bindings.specs.declared.faults.BindFault.TheVariants as binding
-use Rattle.cedar_gate_model.specs.Whole.Bundle.{Functions}
-use Rattle.cedar_gate_model.specs.Whole.Session as session
-use Rattle.cedar_gate_model.specs.Whole.Session.{Setup, State, Supplied, SupplyRefusal, BindRefusal, AnswerRefusal, supply_number, answer_number}
+use Rattle.cedar_gate_model.specs.Bundle.{Functions}
+use Rattle.cedar_gate_model.specs.Session as session
+use Rattle.cedar_gate_model.specs.Session.{Setup, State, Supplied, SupplyRefusal, BindRefusal, AnswerRefusal, supply_number, answer_number}
 use Rattle.cedar_gate_wanted.specs.Supplying.{IsUnfit}
 use Rattle.cedar_gate_wanted.specs.declared.supplied.Unfit.{Unfit}
 use Rattle.cedar_gate_wanted.specs.declared.supplied.Unfit.TheVariants as unfit

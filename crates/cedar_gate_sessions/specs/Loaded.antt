@@ -4,14 +4,14 @@ use Rattle.std.specs.Prelude.{◌≡◌, ◌&&◌, ◌↔◌, Bool, true, Option
 use Rattle.std.specs.List.{list_any}
 use Rattle.std.specs.Map.{lookup}
 use Rattle.cedar_expr_model.specs.Uid.{Uid, uid_eq}
-use Rattle.cedar_expr_model.specs.Whole.Value.{V}
-use Rattle.cedar_store_model.specs.Whole.Store.{Entities, are_distinct}
-use Rattle.cedar_store_model.specs.Whole.World.{Entity, held}
-use Rattle.cedar_schema_model.specs.Whole.ActionEntities.{as_entity}
-use Rattle.cedar_schema_model.specs.Whole.Conforming.{entity_conforms}
-use Rattle.cedar_schema_model.specs.Whole.Schema.{Schema, declares_action}
-use Rattle.cedar_gate_model.specs.Whole.Session.{Setup, State}
-use Rattle.cedar_gate_model.specs.Whole.Slice.{mentioned_by_found}
+use Rattle.cedar_expr_model.specs.Value.{V}
+use Rattle.cedar_store_model.specs.Store.{Entities, are_distinct}
+use Rattle.cedar_store_model.specs.World.{Entity, held}
+use Rattle.cedar_schema_model.specs.ActionEntities.{as_entity}
+use Rattle.cedar_schema_model.specs.Conforming.{entity_conforms}
+use Rattle.cedar_schema_model.specs.Schema.{Schema, declares_action}
+use Rattle.cedar_gate_model.specs.Session.{Setup, State}
+use Rattle.cedar_gate_model.specs.Slice.{mentioned_by_found}
 
 -- Two entities have the same attributes and tags, and the same ancestors in any order.
 pub record IsSame (d e : Entity V) : Type 0 where

@@ -1,6 +1,6 @@
 -- What is known of a request.
 -- Rule: conforming requests (docs/RULES.md).
-use Rattle.cedar_store_model.specs.Whole.Store.{OpenRequest}
+use Rattle.cedar_store_model.specs.Store.{OpenRequest}
 use Rattle.cedar_evaluator_model.specs.Known.{known_entry, known_context}
 use Rattle.cedar_evaluator_model.specs.Response.{PartialRequest}
 

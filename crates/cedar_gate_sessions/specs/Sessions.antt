@@ -5,18 +5,18 @@ use Rattle.std.specs.Map.{lookup}
 use Rattle.cedar_expr_functions.specs.Tables.{table_of}
 use Rattle.cedar_expr_model.specs.Name.{Text}
 use Rattle.cedar_expr_model.specs.Uid.{Uid, uid_eq}
-use Rattle.cedar_expr_model.specs.Whole.Made.{Made}
-use Rattle.cedar_expr_model.specs.Whole.Value.{V}
+use Rattle.cedar_expr_model.specs.Made.{Made}
+use Rattle.cedar_expr_model.specs.Value.{V}
 use Rattle.cedar_expr_names.specs.declared.entity.EntityUID.{EntityUID}
 use Rattle.cedar_store_entities.specs.Views.{entity_pair, entity_seen, kept_pair}
 use Rattle.cedar_store_entities.specs.declared.entity.Entity.{Entity}
-use Rattle.cedar_store_model.specs.Whole.Policy.{Policy}
-use Rattle.cedar_store_model.specs.Whole.Store.{are_distinct, if_uid, partial}
-use Rattle.cedar_store_model.specs.Whole.World as world
-use Rattle.cedar_store_model.specs.Whole.World.{Found, held}
+use Rattle.cedar_store_model.specs.Policy.{Policy}
+use Rattle.cedar_store_model.specs.Store.{are_distinct, if_uid, partial}
+use Rattle.cedar_store_model.specs.World as world
+use Rattle.cedar_store_model.specs.World.{Found, held}
 use Rattle.cedar_store_policies.specs.Policies.{policy_of}
-use Rattle.cedar_schema_model.specs.Whole.Conforming.{EntityConforms}
-use Rattle.cedar_schema_model.specs.Whole.Schema as model
+use Rattle.cedar_schema_model.specs.Conforming.{EntityConforms}
+use Rattle.cedar_schema_model.specs.Schema as model
 use Rattle.cedar_evaluator_model.specs.OfLaws.WellMade.{IsFoundMadeWell, IsContextMadeWell}
 use Rattle.cedar_evaluator_operators.specs.Answers.{AnswersMade}
 use Rattle.cedar_evaluator_reads.specs.Scopes.{found_kept}
@@ -24,11 +24,11 @@ use Rattle.cedar_evaluator_requests.specs.Views.{request_of}
 use Rattle.cedar_evaluator_requests.specs.declared.request.Request.{Request}
 use Rattle.cedar_evaluator_rising.specs.Rising.{CallsRise}
 use Rattle.cedar_gate_bindings.specs.Names.{bound_in}
-use Rattle.cedar_gate_model.specs.Whole.Bundle.{Functions}
-use Rattle.cedar_gate_model.specs.Whole.Runs.{supplied_by}
-use Rattle.cedar_gate_model.specs.Whole.RunsAnswer.{IsOpened}
-use Rattle.cedar_gate_model.specs.Whole.RunsAsk.{IsMadeContext}
-use Rattle.cedar_gate_model.specs.Whole.Session.{Setup, State, value_of}
+use Rattle.cedar_gate_model.specs.Bundle.{Functions}
+use Rattle.cedar_gate_model.specs.Runs.{supplied_by}
+use Rattle.cedar_gate_model.specs.RunsAnswer.{IsOpened}
+use Rattle.cedar_gate_model.specs.RunsAsk.{IsMadeContext}
+use Rattle.cedar_gate_model.specs.Session.{Setup, State, value_of}
 use Rattle.cedar_gate_wanted.specs.Laws.{IsLoadedAt}
 use Rattle.cedar_gate_wanted.specs.Wanting.{IsWanting, level_of, wanted_in}
 use Rattle.cedar_gate_openings.specs.Requests.{request_at}

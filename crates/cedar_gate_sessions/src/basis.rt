@@ -1,7 +1,7 @@
 //! What sessions stand on.
 
 ghost use Rattle.std.specs.Prelude.{◌≡◌, IfOk, map};
-ghost use Rattle.cedar_schema_model.specs.Whole.Conforming.{entity_conforms, request_conforms};
+ghost use Rattle.cedar_schema_model.specs.Conforming.{entity_conforms, request_conforms};
 ghost use Rattle.cedar_store_entities.specs.Views.{entity_uid, entity_of, entity_pair};
 ghost use Rattle.cedar_evaluator_requests.specs.Views.{request_of};
 ghost use Rattle.cedar_gate_sessions.specs.Loaded.{HasActions};

@@ -10,7 +10,7 @@ ghost use Rattle.cedar_expr_values.specs.Values.{made};
 ghost use Rattle.cedar_evaluator_requests.specs.Views.{request_of};
 ghost use Rattle.cedar_gate_bindings.specs.Names.{bound_in};
 ghost use Rattle.cedar_gate_distances.specs.Kept.{IsKept};
-ghost use Rattle.cedar_gate_model.specs.Whole.Session.{State, ContextFails};
+ghost use Rattle.cedar_gate_model.specs.Session.{State, ContextFails};
 ghost use Rattle.cedar_gate_openings.specs.Requests.{request_at, AreValuesOf};
 ghost use Rattle.cedar_gate_openings.specs.Roots.{known_roots};
 ghost use Rattle.cedar_gate_wanted.specs.Wanting.{IsWanting, IsSameLoading, near_in, mentions_of, level_of};

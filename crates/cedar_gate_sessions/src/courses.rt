@@ -3,8 +3,8 @@
 ghost use Rattle.std.specs.Prelude.{◌≡◌, IfOk, IfErr, map};
 ghost use Rattle.cedar_evaluator_requests.specs.Views.{request_of};
 ghost use Rattle.cedar_gate_sessions.specs.Courses.{Stands, wanted_in};
-ghost use Rattle.cedar_gate_model.specs.Whole.RunsAnswer.{Course, session_of, IsProper, MakeFairly};
-ghost use Rattle.cedar_gate_model.specs.Whole.Session.{at_start};
+ghost use Rattle.cedar_gate_model.specs.RunsAnswer.{Course, session_of, IsProper, MakeFairly};
+ghost use Rattle.cedar_gate_model.specs.Session.{at_start};
 ghost use Rattle.cedar_gate_runs.specs.Refusals.{IsOpenRefusal};
 ghost use Rattle.cedar_gate_sessions.specs.Sessions.{IsSetup};
 ghost use Rattle.cedar_store_policies.specs.Policies.{policy_of};

@@ -3,7 +3,7 @@
 ghost use Rattle.std.specs.Prelude.{◌≡◌, ◌++◌, ◌∷◌, [], IfOk, OnOk, map};
 ghost use Rattle.cedar_store_entities.specs.Views.{entity_pair, kept_pair};
 ghost use Rattle.cedar_store_entities.specs.Stores.{store_seen, store_made};
-ghost use Rattle.cedar_store_model.specs.Whole.Store.{whole};
+ghost use Rattle.cedar_store_model.specs.Store.{whole};
 
 use cedar_store_entities::{Entities, EntitiesError, Entity};
 use std::alloc::{AllocError, Global};

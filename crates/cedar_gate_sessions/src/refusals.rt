@@ -1,10 +1,10 @@
 //! Refusals of a session by their numbers.
 
 ghost use Rattle.cedar_expr_model.specs.Name.{Text};
-ghost use Rattle.cedar_expr_model.specs.Whole.Made.{Made};
+ghost use Rattle.cedar_expr_model.specs.Made.{Made};
 ghost use Rattle.cedar_evaluator_model.specs.Response.{PartialRequest};
 ghost use Rattle.cedar_gate_bindings.specs.Faults.{IsOpenFault};
-ghost use Rattle.cedar_gate_model.specs.Whole.Session.{Setup, State, Supplied};
+ghost use Rattle.cedar_gate_model.specs.Session.{Setup, State, Supplied};
 ghost use Rattle.cedar_gate_runs.specs.Refusals.{IsOpenRefusal, IsSupplyRefusal, IsBindRefusal, IsAnswerRefusal};
 ghost use Rattle.cedar_gate_sessions.specs.Faults.{IsSupplyFault, IsBindFault, IsAnswerFault};
 

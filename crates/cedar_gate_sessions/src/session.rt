@@ -4,22 +4,22 @@ ghost use Rattle.std.specs.Prelude.{◌≡◌, IfOk, IfErr, OnOk, OnErr, map, op
 ghost use Rattle.std.specs.Rc.{rc_str_bytes};
 ghost use Rattle.cedar_expr_values.specs.Extensions.{extension_of};
 ghost use Rattle.cedar_expr_values.specs.Values.{made};
-ghost use Rattle.cedar_store_model.specs.Whole.Answer.{answer_of as answer_meant};
+ghost use Rattle.cedar_store_model.specs.Answer.{answer_of as answer_meant};
 ghost use Rattle.cedar_store_policies.specs.Policies.{policy_of};
 ghost use Rattle.cedar_evaluator_model.specs.Laws.{as_concrete};
-ghost use Rattle.cedar_evaluator_model.specs.Members.{bounds_in_session};
+ghost use Rattle.cedar_evaluator_model.specs.Members.{bounds_in_session, decision_in_session};
 ghost use Rattle.cedar_evaluator_model.specs.OfLaws.WellMade.{IsWellMade};
 ghost use Rattle.cedar_evaluator_model.specs.Response.{response_of};
 ghost use Rattle.cedar_evaluator_requests.specs.Views.{request_of, decision_of, answer_of};
-ghost use Rattle.cedar_expr_model.specs.Whole.ListLaws.{AreDistinct};
-ghost use Rattle.cedar_store_model.specs.Whole.Answer.{ids};
+ghost use Rattle.cedar_expr_model.specs.ListLaws.{AreDistinct};
+ghost use Rattle.cedar_store_model.specs.Answer.{ids};
 ghost use Rattle.cedar_gate_bindings.specs.Faults.{opens, IsOpenFault};
 ghost use Rattle.cedar_gate_decisions.specs.Bounds.{bounds_of};
 ghost use Rattle.cedar_gate_decisions.specs.Verdicts.{verdicts_of};
 ghost use Rattle.cedar_gate_distances.specs.Rows.{uids};
-ghost use Rattle.cedar_gate_model.specs.Whole.Runs.{MayDecide, with_asked};
-ghost use Rattle.cedar_gate_model.specs.Whole.RunsAnswer.{Course, session_of, IsProper, MakeFairly};
-ghost use Rattle.cedar_gate_model.specs.Whole.Session.{Setup, State, at_start, with_bound, scope_now, world_now, IsWantedList, NothingIsWanted, SupplyRefusal, BindRefusal, AnswerRefusal, SupplyFault as SupplyIsRefused, BindFault as BindIsRefused, AnswerFault as AnswerIsRefused};
+ghost use Rattle.cedar_gate_model.specs.Runs.{DecidesInPart, with_asked};
+ghost use Rattle.cedar_gate_model.specs.RunsAnswer.{Course, session_of, IsProper};
+ghost use Rattle.cedar_gate_model.specs.Session.{Setup, State, at_start, with_bound, scope_now, world_now, IsWantedList, NothingIsWanted, SupplyRefusal, BindRefusal, AnswerRefusal, SupplyFault as SupplyIsRefused, BindFault as BindIsRefused, AnswerFault as AnswerIsRefused};
 ghost use Rattle.cedar_gate_sessions.specs.Entities.{supplied_of};
 ghost use Rattle.cedar_gate_sessions.specs.Faults.{IsSupplyFault, IsBindFault, IsAnswerFault};
 ghost use Rattle.cedar_gate_sessions.specs.Sessions.{IsSetup, IsAt, AreFromStore, wanted_of, policies_in, store_in};
@@ -190,12 +190,12 @@ impl<'g, 'e, S: Schema, T: FunctionCalls> Session<'g, 'e, S, T> {
         Ok(verdicts)
     }
 
-    /// The decision that is known by now, if one is. Answers want of memory.
+    /// The decision of evaluating the policies in part over what is known by now, if that decides. Answers want of memory.
     pub fn decision(&self, alloc: Global) -> Result<Option<Decision>, AllocError>
-        ensures { IfOk result (λ d. (c : Course) (s : State) → IsProper c → MakeFairly c.functions → IsAt S.schema T.functions (session_of c) s self.entry.now → policies_in self.entry.now ≡ c.submission.policies → MayDecide (session_of c) c.submission.policies s (option_map decision_of d)) }
+        ensures exact { IfOk result (λ d. (x : Setup) (s : State) → IsAt S.schema T.functions x s self.entry.now → option_map decision_of d ≡ decision_in_session (response_of (scope_now x s (store_in self.entry.now)) x.limit (policies_in self.entry.now))) }
+        ensures in_part { IfOk result (λ d. (c : Course) (s : State) → IsAt S.schema T.functions (session_of c) s self.entry.now → policies_in self.entry.now ≡ c.submission.policies → DecidesInPart (session_of c) c.submission.policies s (option_map decision_of d)) }
     {
         uids_are_uids();
-        decisions_may_be_given();
         let verdicts = self.verdicts(alloc)?;
         Ok(decided(self.basis.policies, verdicts.as_slice()))
     }

@@ -6,11 +6,11 @@ use Rattle.std.specs.Option.{option_map_or}
 use Rattle.std.specs.Fmt.{decimal}
 use Rattle.cedar_expr_model.specs.Name.{Text}
 use Rattle.cedar_expr_model.specs.Uid.{Uid, uid_text, quoted}
-use Rattle.cedar_store_model.specs.Whole.Answer.{Decision}
+use Rattle.cedar_store_model.specs.Answer.{Decision}
 use Rattle.cedar_evaluator_model.specs.Scope.{fault, limit}
 use Rattle.cedar_evaluator_model.specs.Response.{Cause, stops, no_value, ResponseError}
 use Rattle.cedar_evaluator_model.specs.Members.{Concrete}
-use Rattle.cedar_gate_model.specs.Whole.Lines.{line, decision_word, fault_words}
+use Rattle.cedar_gate_model.specs.Lines.{line, decision_word, fault_words}
 
 -- the uids of a round, each after a space
 abbrev pub uids_text : List Uid → Text

@@ -1,7 +1,7 @@
 -- Statuses and their numbers.
 -- Rule: statuses and refusal numbers (docs/RULES.md).
 use Rattle.std.specs.Prelude.{ℕ}
-use Rattle.cedar_gate_model.specs.Whole.Lines as model
+use Rattle.cedar_gate_model.specs.Lines as model
 use Rattle.cedar_gate_transcripts.specs.declared.status.Status.{Status}
 use Rattle.cedar_gate_transcripts.specs.declared.status.Status.TheVariants.{Answered, Refused, Unreadable, Stopped}
 

@@ -2,7 +2,7 @@
 -- Rule: statuses and refusal numbers; the lines (docs/RULES.md).
 use Rattle.std.specs.Prelude.{ℕ, Option, Some, None, codes}
 use Rattle.cedar_expr_model.specs.Name.{Text}
-use Rattle.cedar_gate_model.specs.Whole.Lines.{numbered}
+use Rattle.cedar_gate_model.specs.Lines.{numbered}
 use Rattle.cedar_gate_transcripts.specs.declared.transcript.Transcript.{Transcript}
 use Rattle.cedar_gate_transcripts.specs.declared.stops.RunFault.{RunFault}
 use Rattle.cedar_gate_transcripts.specs.declared.stops.RunFault.TheVariants.{Memory, Host, Opening, Supplying, Binding, Answering}

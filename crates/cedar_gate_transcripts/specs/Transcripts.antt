@@ -3,7 +3,7 @@
 use Rattle.std.specs.Prelude.{List, map, option_map}
 use Rattle.std.specs.Rc.{rc_str_bytes}
 use Rattle.cedar_expr_names.specs.Views.{uid_of}
-use Rattle.cedar_gate_model.specs.Whole.Transcript as model
+use Rattle.cedar_gate_model.specs.Transcript as model
 use Rattle.cedar_evaluator_requests.specs.Views.{decision_of}
 use Rattle.cedar_gate_transcripts.specs.declared.transcript.Entry.{Entry}
 use Rattle.cedar_gate_transcripts.specs.declared.transcript.Entry.TheVariants.{Round, Bound, Decided}

@@ -6,7 +6,7 @@ ghost use Rattle.cedar_expr_names.specs.Views.{uid_of};
 ghost use Rattle.cedar_store_parts.specs.Parts.{id_text};
 ghost use Rattle.cedar_evaluator_errors.specs.Outcomes.{cause_of};
 ghost use Rattle.cedar_evaluator_requests.specs.Views.{decision_of, error_of, answer_of};
-ghost use Rattle.cedar_gate_model.specs.Whole.Lines as lines;
+ghost use Rattle.cedar_gate_model.specs.Lines as lines;
 ghost use Rattle.cedar_gate_transcripts.specs.Stops.{refusal_line, run_fault_transcript};
 ghost use Rattle.cedar_gate_transcripts.specs.Transcripts.{entries_of};
 ghost use Rattle.cedar_gate_transcripts.specs.Printing.{uids_text, round_line, decided_line, cause_words, error_line, concrete_lines, named_line};

@@ -4,15 +4,15 @@ use Rattle.std.specs.Prelude.{not, IfOk}
 use Rattle.std.specs.List.{list_all, filter}
 use Rattle.std.proofs.lemmas.Grind.{flat_map-append}
 use Rattle.std.proofs.lemmas.List.Folds.{list_all-append}
-use Rattle.cedar_expr_model.specs.Whole.Table.{Table}
+use Rattle.cedar_expr_model.specs.Table.{Table}
 use Rattle.cedar_gate_typing.specs.Checks.{ChecksOver, is_excused}
 use Rattle.cedar_gate_typing.specs.Views.{reach_of}
 use Rattle.cedar_gate_typing.specs.declared.check.PolicyCheck.{PolicyCheck}
-use Rattle.cedar_schema_model.specs.Whole.Environment.{Environment}
-use Rattle.cedar_schema_model.specs.Whole.Schema.{Schema}
-use Rattle.cedar_schema_model.specs.Whole.Types.{strict}
-use Rattle.cedar_store_model.specs.Whole.Policy.{Policy}
-use Rattle.cedar_typechecker_model.specs.Whole.Verdicts.{is_bool, condition_type, violations_in}
+use Rattle.cedar_schema_model.specs.Environment.{Environment}
+use Rattle.cedar_schema_model.specs.Schema.{Schema}
+use Rattle.cedar_schema_model.specs.Types.{strict}
+use Rattle.cedar_store_model.specs.Policy.{Policy}
+use Rattle.cedar_typechecker_model.specs.Verdicts.{is_bool, condition_type, violations_in}
 
 one_filtered : {X : Type 0} (f g : X → Bool) (x : X) (xs : List X) (done : Bool) (b : Bool) → g x ≡ b → done ≡ list_all f (filter g xs) → ((not (g x) || f x) && done) ≡ list_all f (filter g (x ∷ xs))
 one_filtered f g x xs done true h e = rw h (ap (λ c. f x && c) e)

@@ -1,4 +1,2 @@
 pub mod Excused
 pub mod Loops
-pub mod Marked
-pub mod Typing

@@ -1,39 +1,17 @@
--- What the verdict of a type is, and what is asked of environments one by one.
+-- What is asked of environments one by one.
 -- Rule: the acceptance rules; impossible policies (docs/RULES.md).
-use Rattle.std.specs.Prelude.{◌≡◌, ◌&&◌, ◌||◌, ℕ, Bool, not, List, map, Option, Some}
+use Rattle.std.specs.Prelude.{◌≡◌, ◌&&◌, ◌||◌, ℕ, Bool, not, List, map}
 use Rattle.std.specs.List.{list_all, flat_map}
-use Rattle.cedar_expr_model.specs.Whole.Table.{Table}
-use Rattle.cedar_expr_model.specs.Whole.Tree.{Tree}
+use Rattle.cedar_expr_model.specs.Table.{Table}
 use Rattle.cedar_expr_names.specs.Views.{type_name_of, uid_of}
-use Rattle.cedar_expr_trees.specs.Trees.{tree_of}
-use Rattle.cedar_expr_trees.specs.declared.expr.Expr.{Expr}
 use Rattle.cedar_gate_typing.specs.Views.{reach_of}
 use Rattle.cedar_gate_typing.specs.declared.check.PolicyCheck.{PolicyCheck}
-use Rattle.cedar_gate_typing.specs.declared.verdict.Verdict.{Verdict}
-use Rattle.cedar_schema_model.specs.Whole.Environment.{Environment}
-use Rattle.cedar_schema_model.specs.Whole.Schema.{Schema}
-use Rattle.cedar_schema_model.specs.Whole.Types.{Ty, strict}
-use Rattle.cedar_schema_types.specs.Types.{type_of}
-use Rattle.cedar_schema_types.specs.declared.types.Type.{«Type» as CodeType}
-use Rattle.cedar_store_model.specs.Whole.Policy.{Policy}
+use Rattle.cedar_schema_model.specs.Environment.{Environment}
+use Rattle.cedar_schema_model.specs.Schema.{Schema}
+use Rattle.cedar_schema_model.specs.Types.{strict}
+use Rattle.cedar_store_model.specs.Policy.{Policy}
 use Rattle.cedar_store_records.specs.declared.request_type.RequestType.{RequestType as CodeKind}
-use Rattle.cedar_typechecker_model.specs.Whole.Facts.{Facts, no_facts}
-use Rattle.cedar_typechecker_model.specs.Whole.Rules.{Setting}
-use Rattle.cedar_typechecker_model.specs.Whole.Verdicts.{RequestType, is_bool, is_false, fits, is_of_request, condition_type, violations_in}
-use Rattle.cedar_typechecker_nodes.specs.Marked.{kind_marks}
-use Rattle.cedar_typechecker_typed_model.specs.Typed.{typed}
-
--- The expression is the tree with the types of its parts, of which it has one itself.
-pub record IsTypedAs (s : Setting) (t : Tree) (e : Expr (Option CodeType)) : Type 0 where
-  pub type : CodeType
-  pub facts : Facts
-  pub held : e.«data» ≡ Some type
-  pub is : typed s no_facts t ≡ Some (record { type = type_of type; facts = facts; at = tree_of e; below = kind_marks e.expr_kind })
-
--- The verdict says of the type what the tests say.
-pub record IsVerdictOf (t : Option Ty) (v : Verdict) : Type 0 where
-  pub bools : v.is_bool ≡ is_bool t
-  pub falses : v.is_false ≡ is_false t
+use Rattle.cedar_typechecker_model.specs.Verdicts.{RequestType, is_bool, is_false, fits, is_of_request, condition_type, violations_in}
 
 -- the types of a request
 abbrev pub kind_asked : CodeKind → RequestType

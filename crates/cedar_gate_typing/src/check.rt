@@ -3,15 +3,15 @@
 ghost use Rattle.std.specs.Prelude.{◌≡◌, ◌&&◌, ◌||◌, ◌++◌, ◌∷◌, [], List, not, map, IfOk, OnOk};
 ghost use Rattle.cedar_gate_typing.specs.Checks.{ChecksOver};
 ghost use Rattle.cedar_gate_typing.specs.Views.{reach_of};
-ghost use Rattle.cedar_schema_model.specs.Whole.Environment.{Environment};
+ghost use Rattle.cedar_schema_model.specs.Environment.{Environment};
 ghost use Rattle.cedar_store_policies.specs.Policies.{policy_of};
 ghost use Rattle.cedar_typechecker_environments.specs.Settings.{environment_of};
-ghost use Rattle.cedar_typechecker_model.specs.Whole.Verdicts.{passes, impossible, policy_violations};
+ghost use Rattle.cedar_typechecker_model.specs.Verdicts.{passes, impossible, policy_violations};
 
 use crate::environment::{check_in, fits};
-use crate::verdict::Verdict;
 use cedar_gate_faults::PolicyViolation;
 use cedar_store_policies::Policy;
+use cedar_typechecker_conditions::Verdict;
 use cedar_typechecker_environments::{RequestEnv, TypingSchema};
 use cedar_typechecker_scopes::{SchemaEnvironments, policy_environments};
 use std::alloc::{AllocError, Global};

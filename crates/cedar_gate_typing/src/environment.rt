@@ -1,23 +1,22 @@
 //! What typing and levels say of a policy in one environment.
 
-ghost use Rattle.std.specs.Prelude.{◌≡◌, ◌++◌, true, map, is_some, None, option_map, IfOk, OnOk, MatchOption};
+ghost use Rattle.std.specs.Prelude.{◌≡◌, ◌++◌, map, None, option_map, IfOk, OnOk, MatchOption};
 ghost use Rattle.cedar_expr_leaves.specs.Slots.{slot_of};
 ghost use Rattle.cedar_expr_names.specs.Views.{type_name_of};
-ghost use Rattle.cedar_expr_trees.specs.Trees.{tree_of, data_of};
-ghost use Rattle.cedar_gate_typing.specs.Checks.{IsTypedAs, IsVerdictOf};
+ghost use Rattle.cedar_expr_trees.specs.Trees.{tree_of};
 ghost use Rattle.cedar_gate_typing.specs.Views.{reach_of};
-ghost use Rattle.cedar_schema_model.specs.Whole.Types.{strict};
-ghost use Rattle.cedar_store_model.specs.Whole.Policy.{binding_of, condition};
+ghost use Rattle.cedar_schema_model.specs.Types.{strict};
+ghost use Rattle.cedar_store_model.specs.Policy.{binding_of, condition};
 ghost use Rattle.cedar_store_parts.specs.Parts.{bindings_of};
 ghost use Rattle.cedar_store_policies.specs.Policies.{policy_of};
+ghost use Rattle.cedar_typechecker_conditions.specs.Checks.{IsTypedAs, IsVerdictOf};
 ghost use Rattle.cedar_typechecker_environments.specs.Settings.{environment_of, setting_of};
 ghost use Rattle.cedar_typechecker_levels.specs.Marked.{marks_of};
-ghost use Rattle.cedar_typechecker_model.specs.Whole.Facts.{no_facts};
-ghost use Rattle.cedar_typechecker_model.specs.Whole.Verdicts.{condition_type, fits, fits_slot, violations_in};
+ghost use Rattle.cedar_typechecker_model.specs.Facts.{no_facts};
+ghost use Rattle.cedar_typechecker_model.specs.Verdicts.{condition_type, fits, fits_slot, violations_in};
 ghost use Rattle.cedar_typechecker_typed_model.specs.Counts.{violations_at};
 ghost use Rattle.cedar_typechecker_typed_model.specs.Typed.{typed};
 
-use crate::verdict::{Verdict, no_bool, verdict_of};
 use crate::violation::add_violations;
 use cedar_expr_leaves::SlotId;
 use cedar_expr_names::EntityType;
@@ -27,39 +26,22 @@ use cedar_schema_joins::ValidationMode;
 use cedar_schema_types::Type;
 use cedar_store_parts::{PolicyID, SlotEnv};
 use cedar_store_policies::Policy;
-use cedar_typechecker_answers::TypecheckAnswer;
+use cedar_typechecker_conditions::{Verdict, no_bool, typed_condition, verdict_of};
 use cedar_typechecker_environments::{RequestEnv, TypingSchema, World};
-use cedar_typechecker_facts::CapabilitySet;
 use cedar_typechecker_levels::{EntityDerefLevel, level_violations};
 use cedar_typechecker_typed_model::laws::{counted_on_marks, typed_as_judged};
-use cedar_typechecker_typing::typecheck;
 use std::alloc::{AllocError, Global};
 
-// The expression, if it has a type.
-fn with_type(expr: Expr<Option<Type>>) -> Option<Expr<Option<Type>>>
-    ensures { MatchOption result (data_of expr ≡ None) (λ e. (e ≡ expr) × (is_some (data_of expr) ≡ true)) }
-{
-    if expr.data().is_some() {
-        Some(expr)
-    } else {
-        None
-    }
-}
-
 // The policy's condition with the types of its parts, if it has one itself.
-fn typed_condition<S: TypingSchema>(
+fn condition_typed<S: TypingSchema>(
     alloc: Global,
     world: &World<'_, S>,
     policy: &Policy,
 ) -> Result<Option<Expr<Option<Type>>>, AllocError>
     ensures { IfOk result (λ o. MatchOption o (typed (setting_of S.schema S.table world.now) no_facts (condition (policy_of policy.now)) ≡ None) (IsTypedAs (setting_of S.schema S.table world.now) (condition (policy_of policy.now)))) }
 {
-    let none = CapabilitySet::new(alloc);
     let mut faults = Vec::new(alloc);
-    match typecheck(alloc, world, &none, &mut faults, policy.condition())? {
-        TypecheckAnswer::Fail { .. } => Ok(None),
-        TypecheckAnswer::Success { expr_type, .. } => Ok(with_type(expr_type)),
-    }
+    typed_condition(alloc, world, &mut faults, policy.condition())
 }
 
 // Puts the violations of a policy's typed condition at the level behind those that were found.
@@ -95,7 +77,7 @@ pub(crate) fn check_in<S: TypingSchema>(
     counted_on_marks();
     let mode = ValidationMode::Strict;
     let world = World { schema, mode, env };
-    match typed_condition(alloc, &world, policy)? {
+    match condition_typed(alloc, &world, policy)? {
         None => Ok(no_bool()),
         Some(typed) => {
             add_reached(alloc, &world, level, policy.id(), &typed, found)?;
@@ -116,7 +98,7 @@ pub(crate) fn verdict_in<S: TypingSchema>(
     typed_as_judged();
     let mode = ValidationMode::Strict;
     let world = World { schema, mode, env };
-    match typed_condition(alloc, &world, policy)? {
+    match condition_typed(alloc, &world, policy)? {
         None => Ok(no_bool()),
         Some(typed) => Ok(verdict_of(typed.data())),
     }

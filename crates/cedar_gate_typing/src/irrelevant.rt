@@ -5,7 +5,7 @@ ghost use Rattle.std.specs.List.{list_all};
 ghost use Rattle.cedar_gate_typing.specs.Checks.{kind_asked, is_excused_for};
 ghost use Rattle.cedar_store_policies.specs.Policies.{policy_of};
 ghost use Rattle.cedar_typechecker_environments.specs.Settings.{environment_of};
-ghost use Rattle.cedar_typechecker_model.specs.Whole.Verdicts.{fits, is_of_request, irrelevant_for};
+ghost use Rattle.cedar_typechecker_model.specs.Verdicts.{fits, is_of_request, irrelevant_for};
 
 use crate::environment::{fits, verdict_in};
 use cedar_store_policies::Policy;

@@ -6,7 +6,6 @@
 mod check;
 mod environment;
 mod irrelevant;
-mod verdict;
 mod violation;
 
 pub use check::{PolicyCheck, check_policy};

@@ -9,7 +9,7 @@ use Rattle.cedar_gate_distances.specs.Kept.{IsUndo, IsWrite, IsWritten}
 use Rattle.cedar_gate_distances.specs.Rows.{writes}
 use Rattle.cedar_gate_distances.proofs.Fresh.{fresh_in_log}
 use Rattle.cedar_gate_wanted.specs.Supplying.{keys_in}
-use Rattle.cedar_schema_model.specs.Whole.Schema.{Schema, declares_action}
+use Rattle.cedar_schema_model.specs.Schema.{Schema, declares_action}
 
 not_true : (b : Bool) → not b ≡ true → b ≡ false
 not_true true e = cc

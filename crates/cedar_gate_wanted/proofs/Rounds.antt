@@ -11,14 +11,14 @@ use Rattle.cedar_expr_model.specs.Uid.{Uid, uid_eq}
 use Rattle.cedar_expr_model.proofs.Equality.{uid_eq-Decides}
 use Rattle.cedar_expr_model.proofs.Lists.{found-Decides, hold_left, hold_right}
 use Rattle.cedar_expr_names.specs.declared.entity.EntityUID.{EntityUID}
-use Rattle.cedar_store_model.specs.Whole.World.{Found}
-use Rattle.cedar_store_model.specs.Whole.Store.{unloaded}
-use Rattle.cedar_expr_model.specs.Whole.Value.{V}
-use Rattle.cedar_schema_model.specs.Whole.Schema.{declares_action}
-use Rattle.cedar_gate_model.specs.Whole.Moment.{told}
-use Rattle.cedar_gate_model.specs.Whole.Runs.{with_asked}
-use Rattle.cedar_gate_model.specs.Whole.Session.{Setup, State, known_now, whole_store}
-use Rattle.cedar_gate_model.specs.Whole.Slice.{roots, mentioned_by_found}
+use Rattle.cedar_store_model.specs.World.{Found}
+use Rattle.cedar_store_model.specs.Store.{unloaded}
+use Rattle.cedar_expr_model.specs.Value.{V}
+use Rattle.cedar_schema_model.specs.Schema.{declares_action}
+use Rattle.cedar_gate_model.specs.Moment.{told}
+use Rattle.cedar_gate_model.specs.Runs.{with_asked}
+use Rattle.cedar_gate_model.specs.Session.{Setup, State, known_now, whole_store}
+use Rattle.cedar_gate_model.specs.Slice.{roots, mentioned_by_found}
 use Rattle.cedar_gate_distances.specs.Near.{IsNear, IsBelow}
 use Rattle.cedar_gate_distances.specs.Kept.{IsKept}
 use Rattle.cedar_gate_distances.specs.Rows.{uids, row_of, found_at, mentions_in}

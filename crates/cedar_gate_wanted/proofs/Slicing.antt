@@ -5,10 +5,10 @@ use Rattle.std.specs.Prelude.{◌↔◌, IsSome, is_some}
 use Rattle.cedar_expr_model.specs.Uid.{Uid, uid_eq}
 use Rattle.cedar_expr_model.proofs.Equality.{uid_eq-Decides}
 use Rattle.cedar_expr_model.proofs.Lists.{found-Decides}
-use Rattle.cedar_store_model.specs.Whole.World.{World}
-use Rattle.cedar_schema_model.specs.Whole.Schema.{Schema, declares_action}
-use Rattle.cedar_gate_model.specs.Whole.Slice as slice
-use Rattle.cedar_gate_model.specs.Whole.Session.{Setup, State, known_now, IsWantedList}
+use Rattle.cedar_store_model.specs.World.{World}
+use Rattle.cedar_schema_model.specs.Schema.{Schema, declares_action}
+use Rattle.cedar_gate_model.specs.Slice as slice
+use Rattle.cedar_gate_model.specs.Session.{Setup, State, known_now, IsWantedList}
 use Rattle.cedar_gate_distances.specs.Near as kept
 use Rattle.cedar_gate_distances.specs.Kept.{IsKept}
 use Rattle.cedar_gate_wanted.specs.Laws.{IsLoadedAt, WantedIsNext}

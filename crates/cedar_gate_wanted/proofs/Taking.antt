@@ -12,7 +12,7 @@ use Rattle.cedar_gate_distances.specs.Rows.{writes, uids, row_of}
 use Rattle.cedar_gate_wanted.specs.Supplying.{keys_in, rows_of, IsFilled, AreKeys}
 use Rattle.cedar_gate_wanted.specs.Wanting.{is_open, Exact}
 use Rattle.cedar_gate_wanted.proofs.Opening.{open_parts, open_made, stays, written_anew, had_or_not}
-use Rattle.cedar_schema_model.specs.Whole.Schema.{Schema, declares_action}
+use Rattle.cedar_schema_model.specs.Schema.{Schema, declares_action}
 
 abbrev Row : Type 0
 Row = Vec EntityUID Global

@@ -6,7 +6,7 @@ use Rattle.std.proofs.lemmas.List.Folds.{list_all-map, list_all_more, list_all_a
 use Rattle.std.specs.List.{list_all, list_any}
 use Rattle.std.specs.Prelude.{◌↔◌, IsSome, is_some}
 use Rattle.cedar_expr_model.specs.Uid.{Uid, uid_eq}
-use Rattle.cedar_expr_model.specs.Whole.Repeats.{repeated, first_again}
+use Rattle.cedar_expr_model.specs.Repeats.{repeated, first_again}
 use Rattle.cedar_expr_model.proofs.Equality.{uid_eq-Decides}
 use Rattle.cedar_expr_model.proofs.Lists.{hold_both, found-Decides, contains_none, contains_head, contains_tail}
 use Rattle.cedar_expr_names.specs.Views.{uid_of}

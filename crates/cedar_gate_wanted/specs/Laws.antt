@@ -6,10 +6,10 @@ use Rattle.cedar_expr_model.specs.Uid.{Uid, uid_eq}
 use Rattle.cedar_gate_distances.specs.Kept.{IsKept}
 use Rattle.cedar_expr_names.specs.declared.entity.EntityUID.{EntityUID}
 use Rattle.cedar_gate_distances.specs.Rows.{uids}
-use Rattle.cedar_gate_model.specs.Whole.Moment.{told}
-use Rattle.cedar_gate_model.specs.Whole.Runs.{with_asked}
-use Rattle.cedar_gate_model.specs.Whole.Session.{Setup, State, known_now, whole_store, IsWantedList}
-use Rattle.cedar_gate_model.specs.Whole.Slice.{roots, mentioned_by_found}
+use Rattle.cedar_gate_model.specs.Moment.{told}
+use Rattle.cedar_gate_model.specs.Runs.{with_asked}
+use Rattle.cedar_gate_model.specs.Session.{Setup, State, known_now, whole_store, IsWantedList}
+use Rattle.cedar_gate_model.specs.Slice.{roots, mentioned_by_found}
 use Rattle.cedar_gate_wanted.specs.Supplying.{rows_of, keys_in, IsFilled, AreKeys}
 use Rattle.cedar_gate_wanted.specs.Wanting.{IsWanting, near_in, rows_in, mentions_of, wanted_in}
 use Rattle.cedar_gate_wanted.specs.declared.loading.Loading.{Loading}

@@ -1,13 +1,13 @@
 -- What is loaded, as far as it leads to further uids, and what is wanted by it.
 -- Rule: the slice; sessions (docs/RULES.md).
 use Rattle.std.specs.Prelude.{◌≡◌, ◌⊎◌, ◌↔◌, ◌&&◌, ℕ, List, map, not, true, false, Bool, Contains, Option, Some, IsSome, is_some, option_map}
-use Rattle.cedar_expr_model.specs.Order.{are_rising}
+use Rattle.cedar_expr_model.specs.UidOrder.{are_rising}
 use Rattle.cedar_expr_model.specs.Uid.{Uid}
 use Rattle.cedar_expr_names.specs.Views.{uid_of}
 use Rattle.cedar_expr_names.specs.declared.entity.EntityUID.{EntityUID}
 use Rattle.cedar_gate_distances.specs.Rows.{found_at, mentions_in, uids}
 use Rattle.cedar_gate_wanted.specs.declared.loading.Loading.{Loading}
-use Rattle.cedar_schema_model.specs.Whole.Schema.{Schema, declares_action}
+use Rattle.cedar_schema_model.specs.Schema.{Schema, declares_action}
 use Rattle.std.specs.BTreeMap.{BTreeMap}
 use Rattle.std.specs.declared.alloc.Global.{Global}
 use Rattle.std.specs.declared.vec.Vec.{Vec}

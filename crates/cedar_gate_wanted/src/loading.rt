@@ -5,7 +5,7 @@ ghost use Rattle.cedar_expr_model.specs.Uid.{Uid};
 ghost use Rattle.cedar_expr_names.specs.Views.{uid_of};
 ghost use Rattle.cedar_gate_distances.specs.Kept.{IsKept};
 ghost use Rattle.cedar_gate_distances.specs.Rows.{found_at, mentions_in, uids};
-ghost use Rattle.cedar_schema_model.specs.Whole.Schema.{Schema};
+ghost use Rattle.cedar_schema_model.specs.Schema.{Schema};
 ghost use Rattle.cedar_gate_wanted.specs.Supplying.{rows_of, keys_in, IsFilled, AreKeys, IsUnfit};
 
 use crate::next::{DeclaredActions, next_wanted};
@@ -128,7 +128,7 @@ impl Loading {
 }
 
 ghost use Rattle.std.specs.Prelude.{true, IsSome};
-ghost use Rattle.cedar_expr_model.specs.Order.{are_rising};
+ghost use Rattle.cedar_expr_model.specs.UidOrder.{are_rising};
 ghost use Rattle.cedar_gate_wanted.specs.Wanting.{Exact};
 
 // Takes in these rows of wanted uids, and gives what is wanted after it. Errors: the distances are as before, and the rows but at these

@@ -1,11 +1,11 @@
 //! Uids that came into reach.
 
 ghost use Rattle.std.specs.Prelude.{◌≡◌, ◌⊎◌, ◌↔◌, true, Contains, IfOk, map};
-ghost use Rattle.cedar_expr_model.specs.Order.{are_rising};
+ghost use Rattle.cedar_expr_model.specs.UidOrder.{are_rising};
 ghost use Rattle.cedar_expr_model.specs.Uid.{Uid};
 ghost use Rattle.cedar_expr_names.specs.Views.{uid_of};
 ghost use Rattle.cedar_gate_distances.specs.Rows.{found_at, uids};
-ghost use Rattle.cedar_schema_model.specs.Whole.Schema.{Schema, declares_action};
+ghost use Rattle.cedar_schema_model.specs.Schema.{Schema, declares_action};
 ghost use Rattle.cedar_gate_wanted.specs.Wanting.{is_open};
 ghost use Rattle.cedar_gate_wanted.specs.Supplying.{keys_in};
 

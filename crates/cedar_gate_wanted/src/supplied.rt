@@ -3,10 +3,10 @@
 ghost use Rattle.std.specs.Prelude.{◌≡◌, ◌⊎◌, ◌↔◌, Contains, OnOk, IfOk, IfErr, is_some, IsSome, MatchOption, true, None, Some};
 ghost use Rattle.std.specs.List.{list_all};
 ghost use Rattle.cedar_expr_model.specs.Uid.{Uid, uid_eq};
-ghost use Rattle.cedar_expr_model.specs.Whole.Repeats.{repeated};
+ghost use Rattle.cedar_expr_model.specs.Repeats.{repeated};
 ghost use Rattle.cedar_expr_names.specs.Views.{uid_of};
 ghost use Rattle.cedar_gate_distances.specs.Rows.{found_at, uids};
-ghost use Rattle.cedar_schema_model.specs.Whole.Schema.{Schema};
+ghost use Rattle.cedar_schema_model.specs.Schema.{Schema};
 ghost use Rattle.cedar_gate_wanted.specs.Wanting.{is_open};
 ghost use Rattle.cedar_gate_wanted.specs.Supplying.{keys_in, AreKeys, IsUnfit};
 

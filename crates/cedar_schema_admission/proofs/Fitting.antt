@@ -12,11 +12,11 @@ use Rattle.std.specs.declared.collections.BTreeMap.{BTreeMap}
 use Rattle.std.specs.declared.rc.Rc.{Rc}
 use Rattle.std.specs.declared.rc.RcStr.{RcStr}
 use Rattle.cedar_expr_model.specs.Name.{Text}
-use Rattle.cedar_expr_model.specs.Whole.Order.{text_cmp}
-use Rattle.cedar_expr_model.specs.Whole.Records.{fields}
-use Rattle.cedar_expr_model.specs.Whole.Made as model
-use Rattle.cedar_expr_model.specs.Whole.Made.{Made, Mades}
-use Rattle.cedar_expr_model.specs.Whole.Value.{V, prim, set_of, record_of, extension, Vs, field, field_of}
+use Rattle.cedar_expr_model.specs.Order.{text_cmp}
+use Rattle.cedar_expr_model.specs.Records.{fields}
+use Rattle.cedar_expr_model.specs.Made as model
+use Rattle.cedar_expr_model.specs.Made.{Made, Mades}
+use Rattle.cedar_expr_model.specs.Value.{V, prim, set_of, record_of, extension, Vs, field, field_of}
 use Rattle.cedar_expr_leaves.specs.Literals.{literal_of}
 use Rattle.cedar_expr_leaves.specs.declared.literal.Literal.{Literal}
 use Rattle.cedar_expr_values.specs.Extension.{Extension}
@@ -26,8 +26,8 @@ use Rattle.cedar_expr_values.specs.declared.value.ValueKind.{ValueKind-F, fold-r
 use Rattle.cedar_expr_values.specs.declared.value.ValueKind.TheVariants.{Lit, Set as SetKind, Record, ExtensionValue, rolls-Lit, rolls-Set, rolls-ExtensionValue}
 use Rattle.cedar_expr_values.specs.declared.value.Set.{Set}
 use Rattle.cedar_expr_values.proofs.Recorded.{record_kind}
-use Rattle.cedar_schema_model.specs.Whole.Types.{Ty, Openness, Attributes, Declared, attribute_named}
-use Rattle.cedar_schema_model.specs.Whole.HasType.{has_type, have_type, field_fits, fields_fit, has_required}
+use Rattle.cedar_schema_model.specs.Types.{Ty, Openness, Attributes, Declared, attribute_named}
+use Rattle.cedar_schema_model.specs.HasType.{has_type, have_type, field_fits, fields_fit, has_required}
 use Rattle.cedar_schema_types.specs.Types.{type_of, attribute_of}
 use Rattle.cedar_schema_types.specs.AttributeLists.{attributes_from, declared_pairs}
 use Rattle.cedar_schema_types.specs.declared.types.AttributeType.{AttributeType}

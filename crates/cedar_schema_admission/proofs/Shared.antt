@@ -2,12 +2,12 @@
 use Rattle.std.proofs.Common.{◌≡◌, ◌&&◌, ◌||◌, Bool, true, false, List, [], ◌∷◌, map, Option, Some, None, option_map, is_some, option_and_then, refl, sym, ap, ◌∙◌}
 use Rattle.std.specs.List.{list_all, list_any}
 use Rattle.cedar_expr_model.specs.Name.{Text, Name}
-use Rattle.cedar_expr_model.specs.Whole.Lists.{all_given}
-use Rattle.cedar_schema_model.specs.Whole.Types.{Ty, Declared, Mode, permissive}
-use Rattle.cedar_schema_model.specs.Whole.Schema.{Schema}
-use Rattle.cedar_schema_model.specs.Whole.Join.{join}
-use Rattle.cedar_schema_model.specs.Whole.Lookup.{declared_of}
-use Rattle.cedar_schema_model.proofs.Whole.Named.{all_declared, join_all}
+use Rattle.cedar_expr_model.specs.Lists.{all_given}
+use Rattle.cedar_schema_model.specs.Types.{Ty, Declared, Mode, permissive}
+use Rattle.cedar_schema_model.specs.Schema.{Schema}
+use Rattle.cedar_schema_model.specs.Join.{join}
+use Rattle.cedar_schema_model.specs.Lookup.{declared_of}
+use Rattle.cedar_schema_model.proofs.Named.{all_declared, join_all}
 
 nothing_joins : (m : Mode) (us : List Ty) → join_all m None us ≡ None
 nothing_joins m [] = refl

@@ -3,12 +3,12 @@
 ghost use Rattle.std.specs.Prelude.{◌≡◌, option_map, option_and_then, is_some, IfOk};
 ghost use Rattle.std.specs.List.{list_any};
 ghost use Rattle.cedar_expr_names.specs.Views.{type_name_of};
-ghost use Rattle.cedar_expr_model.specs.Whole.Lists.{all_given};
-ghost use Rattle.cedar_schema_model.specs.Whole.Schema.{Schema, type_named};
-ghost use Rattle.cedar_schema_model.specs.Whole.Conforming.{of_kind, attributes_at};
-ghost use Rattle.cedar_schema_model.specs.Whole.Types.{permissive};
-ghost use Rattle.cedar_schema_model.specs.Whole.Join.{join};
-ghost use Rattle.cedar_schema_model.specs.Whole.Lookup.{declared_of, declared_by_all, lookup_attribute, may_have_attribute};
+ghost use Rattle.cedar_expr_model.specs.Lists.{all_given};
+ghost use Rattle.cedar_schema_model.specs.Schema.{Schema, type_named};
+ghost use Rattle.cedar_schema_model.specs.Conforming.{of_kind, attributes_at};
+ghost use Rattle.cedar_schema_model.specs.Types.{permissive};
+ghost use Rattle.cedar_schema_model.specs.Join.{join};
+ghost use Rattle.cedar_schema_model.specs.Lookup.{declared_of, declared_by_all, lookup_attribute, may_have_attribute};
 ghost use Rattle.cedar_schema_types.specs.Unions.{members_of};
 ghost use Rattle.cedar_schema_types.specs.Types.{type_of, attributes_of, attribute_of};
 

@@ -1,12 +1,12 @@
 //! The values of a type.
 
 ghost use Rattle.std.specs.Prelude.{◌≡◌, ◌&&◌, not, is_some, map, option_map};
-ghost use Rattle.cedar_expr_model.specs.Whole.Records.{fields};
-ghost use Rattle.cedar_expr_model.specs.Whole.Value.{prim, set_of, record_of, extension, field_of};
+ghost use Rattle.cedar_expr_model.specs.Records.{fields};
+ghost use Rattle.cedar_expr_model.specs.Value.{prim, set_of, record_of, extension, field_of};
 ghost use Rattle.cedar_expr_leaves.specs.Literals.{literal_of};
 ghost use Rattle.cedar_expr_values.specs.Values.{bare, bares, bare_pair};
-ghost use Rattle.cedar_schema_model.specs.Whole.HasType.{has_type, have_type, literal_has_type, has_required, field_fits, fields_fit};
-ghost use Rattle.cedar_schema_model.specs.Whole.Types.{bool_type, long_type, string_type};
+ghost use Rattle.cedar_schema_model.specs.HasType.{has_type, have_type, literal_has_type, has_required, field_fits, fields_fit};
+ghost use Rattle.cedar_schema_model.specs.Types.{bool_type, long_type, string_type};
 ghost use Rattle.cedar_schema_types.specs.Kinds.{bool_type_of, openness_of};
 ghost use Rattle.cedar_schema_types.specs.Unions.{entities_of};
 ghost use Rattle.cedar_schema_types.specs.Types.{type_of, attributes_of, attribute_of};

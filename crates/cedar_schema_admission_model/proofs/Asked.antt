@@ -3,14 +3,14 @@ use Rattle.std.proofs.Common.{◌≡◌, Bool, true, false, List, Option, Some, 
 use Rattle.std.specs.Prelude.{◌⊎◌, ◌↔◌}
 use Rattle.std.specs.Option.{option_map_or}
 use Rattle.cedar_expr_model.specs.Name.{Name}
-use Rattle.cedar_expr_model.specs.Whole.Value.{prim}
-use Rattle.cedar_expr_model.specs.Whole.Table.{Signature}
-use Rattle.cedar_expr_model.specs.Whole.Tree.{CoreType, extension_core, Tree, lit, call, set_literal, record_literal, Trees, no_trees, tree, TreeFields, no_tree_fields, tree_field}
+use Rattle.cedar_expr_model.specs.Value.{prim}
+use Rattle.cedar_expr_model.specs.Table.{Signature}
+use Rattle.cedar_expr_model.specs.Tree.{CoreType, extension_core, Tree, lit, call, set_literal, record_literal, Trees, no_trees, tree, TreeFields, no_tree_fields, tree_field}
 use Rattle.cedar_expr_model.proofs.Equality.{name_eq-Decides}
-use Rattle.cedar_schema_model.specs.Whole.Types.{Openness, is_open, is_closed, Ty, any_set, set_type, record_type, extension_type, Attributes, Declared, attribute_named}
-use Rattle.cedar_schema_model.specs.Whole.HasType.{FieldFits}
-use Rattle.cedar_schema_model.proofs.Whole.Types.Lookups.{no_lie}
-use Rattle.cedar_schema_model.proofs.Whole.Types.Values.{value_decided}
+use Rattle.cedar_schema_model.specs.Types.{Openness, is_open, is_closed, Ty, any_set, set_type, record_type, extension_type, Attributes, Declared, attribute_named}
+use Rattle.cedar_schema_model.specs.HasType.{FieldFits}
+use Rattle.cedar_schema_model.proofs.Types.Lookups.{no_lie}
+use Rattle.cedar_schema_model.proofs.Types.Values.{value_decided}
 use Rattle.cedar_schema_admission_model.specs.Restricted.{signature_among, has_required_fields, Gives, RestrictedHasType, RestrictedHaveType, RestrictedFieldsFit, Asked, of_type, not_of_type, no_function, asked_truth, asked_next, is_result, call_asked, field_asked, asked_for, all_asked_for, fields_asked_for}
 
 -- what an answer is

@@ -4,13 +4,13 @@ use Rattle.std.specs.Prelude.{if◌then◌else◌}
 use Rattle.std.specs.Option.{option_map_or}
 use Rattle.std.specs.Str.{bytes_eq}
 use Rattle.cedar_expr_model.specs.Name.{Text, Name}
-use Rattle.cedar_expr_model.specs.Whole.Made.{Made, made_prim, made_set, made_record, made_extension, Mades, no_mades, made, MadeFields, no_made_fields, made_field, bare, bares, bare_fields, written, writtens, written_fields}
-use Rattle.cedar_expr_model.specs.Whole.OfLaws.Fair.{IsFair, IsAnswer}
-use Rattle.cedar_expr_model.specs.Whole.OfLaws.Represented.{Makes, IsMade, AreMade, HaveMade, IsRepresented}
-use Rattle.cedar_expr_model.specs.Whole.Table.{Signature, Table}
-use Rattle.cedar_expr_model.specs.Whole.Value.{Literal, V, prim, extension, field_of}
-use Rattle.cedar_schema_model.specs.Whole.Types.{Openness, is_open, is_closed, Ty, any_set, set_type, record_type, extension_type, Attributes, no_attributes, attribute, Declared, attribute_named}
-use Rattle.cedar_schema_model.specs.Whole.HasType.{has_type, have_type, has_required, field_fits, fields_fit}
+use Rattle.cedar_expr_model.specs.Made.{Made, made_prim, made_set, made_record, made_extension, Mades, no_mades, made, MadeFields, no_made_fields, made_field, bare, bares, bare_fields, written, writtens, written_fields}
+use Rattle.cedar_expr_model.specs.OfLaws.Fair.{IsFair, IsAnswer}
+use Rattle.cedar_expr_model.specs.OfLaws.Represented.{Makes, IsMade, AreMade, HaveMade, IsRepresented}
+use Rattle.cedar_expr_model.specs.Table.{Signature, Table}
+use Rattle.cedar_expr_model.specs.Value.{Literal, V, prim, extension, field_of}
+use Rattle.cedar_schema_model.specs.Types.{Openness, is_open, is_closed, Ty, any_set, set_type, record_type, extension_type, Attributes, no_attributes, attribute, Declared, attribute_named}
+use Rattle.cedar_schema_model.specs.HasType.{has_type, have_type, has_required, field_fits, fields_fit}
 use Rattle.cedar_schema_admission_model.specs.Restricted.{has_tree_field, has_required_fields, Asked, no_function, asked_truth, asked_next, is_result, call_asked, field_asked, asked_for, all_asked_for, fields_asked_for}
 
 both_asked : (b c : Bool) → asked_next (asked_truth b) (asked_truth c) ≡ asked_truth (b && c)

@@ -2,13 +2,13 @@
 -- Rule: values of a type; restricted expressions (docs/RULES.md).
 use Rattle.std.specs.Prelude.{◌≡◌, ◌↔◌, List, None}
 use Rattle.cedar_expr_model.specs.Name.{Name}
-use Rattle.cedar_expr_model.specs.Whole.Made.{Made, bare, written}
-use Rattle.cedar_expr_model.specs.Whole.OfLaws.Fair.{IsFair}
-use Rattle.cedar_expr_model.specs.Whole.OfLaws.Represented.{IsRepresented}
-use Rattle.cedar_expr_model.specs.Whole.Table.{Signature, Table}
-use Rattle.cedar_expr_model.specs.Whole.Tree.{Tree}
-use Rattle.cedar_schema_model.specs.Whole.Types.{Ty}
-use Rattle.cedar_schema_model.specs.Whole.HasType.{has_type}
+use Rattle.cedar_expr_model.specs.Made.{Made, bare, written}
+use Rattle.cedar_expr_model.specs.OfLaws.Fair.{IsFair}
+use Rattle.cedar_expr_model.specs.OfLaws.Represented.{IsRepresented}
+use Rattle.cedar_expr_model.specs.Table.{Signature, Table}
+use Rattle.cedar_expr_model.specs.Tree.{Tree}
+use Rattle.cedar_schema_model.specs.Types.{Ty}
+use Rattle.cedar_schema_model.specs.HasType.{has_type}
 use Rattle.cedar_schema_admission_model.specs.Restricted.{signature_among, RestrictedHasType, of_type, no_function, asked_truth, asked_for}
 
 -- the test answers `of_type` exactly where the expression is of the type

@@ -4,10 +4,10 @@ use Rattle.std.specs.Prelude.{◌≡◌, ◌&&◌, ◌||◌, List, find, Bool, t
 use Rattle.std.specs.Option.{option_map_or}
 use Rattle.std.specs.Str.{bytes_eq}
 use Rattle.cedar_expr_model.specs.Name.{Text, Name, name_eq}
-use Rattle.cedar_expr_model.specs.Whole.Table.{Signature}
-use Rattle.cedar_expr_model.specs.Whole.Tree.{CoreType, extension_core, Tree, lit, call, set_literal, record_literal, Trees, no_trees, tree, TreeFields, no_tree_fields, tree_field}
-use Rattle.cedar_schema_model.specs.Whole.Types.{Openness, is_open, is_closed, Ty, any_set, set_type, record_type, extension_type, Attributes, no_attributes, attribute, Declared, attribute_named}
-use Rattle.cedar_schema_model.specs.Whole.HasType.{LiteralHasType, literal_has_type, FieldFits}
+use Rattle.cedar_expr_model.specs.Table.{Signature}
+use Rattle.cedar_expr_model.specs.Tree.{CoreType, extension_core, Tree, lit, call, set_literal, record_literal, Trees, no_trees, tree, TreeFields, no_tree_fields, tree_field}
+use Rattle.cedar_schema_model.specs.Types.{Openness, is_open, is_closed, Ty, any_set, set_type, record_type, extension_type, Attributes, no_attributes, attribute, Declared, attribute_named}
+use Rattle.cedar_schema_model.specs.HasType.{LiteralHasType, literal_has_type, FieldFits}
 
 -- the first of these functions that has the name
 abbrev pub signature_among : List Signature → Name → Option Signature

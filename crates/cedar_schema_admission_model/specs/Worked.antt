@@ -2,10 +2,10 @@
 -- Rule: values of a type; restricted expressions (docs/RULES.md).
 use Rattle.std.specs.Prelude.{pos, List, [], ◌∷◌, codes, Bool, true, false, Some, None}
 use Rattle.cedar_expr_model.specs.Name.{Text, Name}
-use Rattle.cedar_expr_model.specs.Whole.Table.{Signature, function_style}
-use Rattle.cedar_expr_model.specs.Whole.Tree.{string_core, extension_core, long_core, Tree, lit, unknown, call, set_literal, record_literal, no_trees, tree, no_tree_fields, tree_field}
-use Rattle.cedar_expr_model.specs.Whole.Value.{long, text}
-use Rattle.cedar_schema_model.specs.Whole.TypeWorked.{plain_name, decimal}
+use Rattle.cedar_expr_model.specs.Table.{Signature, function_style}
+use Rattle.cedar_expr_model.specs.Tree.{string_core, extension_core, long_core, Tree, lit, unknown, call, set_literal, record_literal, no_trees, tree, no_tree_fields, tree_field}
+use Rattle.cedar_expr_model.specs.Value.{long, text}
+use Rattle.cedar_schema_model.specs.TypeWorked.{plain_name, decimal}
 
 -- `decimal` makes decimals of texts, and `size` a number
 abbrev pub functions : List Signature

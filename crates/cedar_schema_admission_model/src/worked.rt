@@ -1,8 +1,8 @@
 //! Worked examples of restricted expressions and types, computed. Each function's contract is what comes out; its body does nothing.
 
 ghost use Rattle.std.specs.Prelude.{◌≡◌, true, false, codes};
-ghost use Rattle.cedar_schema_model.specs.Whole.Types.{never, long_type, any_set, set_type, extension_type};
-ghost use Rattle.cedar_schema_model.specs.Whole.TypeWorked.{decimal, ip, with_a, closed, opened};
+ghost use Rattle.cedar_schema_model.specs.Types.{never, long_type, any_set, set_type, extension_type};
+ghost use Rattle.cedar_schema_model.specs.TypeWorked.{decimal, ip, with_a, closed, opened};
 ghost use Rattle.cedar_schema_admission_model.specs.Restricted.{of_type, not_of_type, no_function, asked_for};
 ghost use Rattle.cedar_schema_admission_model.specs.Worked.{functions, a_decimal, a_size, stray, stray_name, one_tree, an_unknown, pair_of, empty_set, just, empty_record};
 

@@ -6,9 +6,9 @@ use Rattle.cedar_expr_model.specs.Uid.{Uid}
 use Rattle.cedar_expr_model.proofs.Lists.{map_has, map_from}
 use Rattle.cedar_schema_kept_model.specs.Kept.{KeptType, KeptAction}
 use Rattle.cedar_schema_kept_model.specs.KeptOf.{IsSameType, IsSameAction}
-use Rattle.cedar_schema_model.specs.Whole.BagLaws.{HasTwice}
-use Rattle.cedar_schema_model.specs.Whole.Descent.{Chain, HasActionParent, Descends, ActionDescends}
-use Rattle.cedar_schema_model.specs.Whole.Schema.{Action}
+use Rattle.cedar_schema_model.specs.BagLaws.{HasTwice}
+use Rattle.cedar_schema_model.specs.Descent.{Chain, HasActionParent, Descends, ActionDescends}
+use Rattle.cedar_schema_model.specs.Schema.{Action}
 use Rattle.cedar_schema_nodes.specs.Descent.{AreDescendants}
 use Rattle.cedar_schema_nodes.specs.Laws.{TypesDescendSo, ActionsDescendSo}
 use Rattle.cedar_schema_nodes.proofs.Places.{at_in}

@@ -5,7 +5,7 @@ use Rattle.std.specs.Prelude.{◌↔◌, Contains}
 use Rattle.cedar_expr_model.specs.Name.{Name}
 use Rattle.cedar_expr_model.specs.Uid.{Uid}
 use Rattle.cedar_schema_fragments.specs.WrittenDeclarations.{parents_written, as_uid}
-use Rattle.cedar_schema_model.specs.Whole.Descent.{Reaches, type_names, action_uids, Descends, ActionDescends}
+use Rattle.cedar_schema_model.specs.Descent.{Reaches, type_names, action_uids, Descends, ActionDescends}
 use Rattle.cedar_schema_nodes.specs.Descent.{HasParentIn, nodes_in, AreDescendants}
 use Rattle.cedar_schema_nodes.specs.Laws.{types_with_parents, actions_with_parents, TypesDescendSo, ActionsDescendSo}
 use Rattle.cedar_schema_nodes.specs.Numbers.{IsAt}

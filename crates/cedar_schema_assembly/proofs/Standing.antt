@@ -8,9 +8,9 @@ use Rattle.cedar_schema_building_model.specs.Contexts.{is_record_type}
 use Rattle.cedar_schema_decl.specs.Forms.{record_form, no_field_forms, enumerated_form}
 use Rattle.cedar_schema_kept_model.specs.Kept.{KeptType, Applied, KeptAction}
 use Rattle.cedar_schema_kept_model.specs.KeptOf.{IsSameKind}
-use Rattle.cedar_schema_model.specs.Whole.Resolved.{attributes_of_record}
-use Rattle.cedar_schema_model.specs.Whole.Schema.{enumerated}
-use Rattle.cedar_schema_model.specs.Whole.Types.{Ty, record_type, no_attributes, is_closed}
+use Rattle.cedar_schema_model.specs.Resolved.{attributes_of_record}
+use Rattle.cedar_schema_model.specs.Schema.{enumerated}
+use Rattle.cedar_schema_model.specs.Types.{Ty, record_type, no_attributes, is_closed}
 use Rattle.cedar_schema_resolver.specs.Meanings.{Setting, told}
 use Rattle.cedar_schema_resolver.specs.Refusals.{AreKnown}
 use Rattle.cedar_schema_told_model.specs.Told.{kind_told, types_in}

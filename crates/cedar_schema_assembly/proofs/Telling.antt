@@ -6,7 +6,7 @@ use Rattle.cedar_expr_model.specs.Uid.{Uid}
 use Rattle.cedar_expr_model.proofs.Lists.{contains_head, contains_tail, contains_cases, contains_none, map_has}
 use Rattle.cedar_expr_names.specs.Views.{plain_name_of, refused_name_of}
 use Rattle.cedar_schema_decl.specs.Forms.{TypeForm}
-use Rattle.cedar_schema_model.specs.Whole.Descent.{ActionDescends}
+use Rattle.cedar_schema_model.specs.Descent.{ActionDescends}
 use Rattle.cedar_schema_resolver.specs.Meanings.{Setting}
 use Rattle.cedar_schema_resolver.specs.Refusals.{IsUnknownIn, IsReservedIn, TellsUntold}
 use Rattle.cedar_schema_resolver.specs.declared.err.ResolveError.{ResolveError}

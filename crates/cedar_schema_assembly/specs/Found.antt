@@ -6,7 +6,7 @@ use Rattle.cedar_expr_model.specs.Uid.{Uid}
 use Rattle.cedar_schema_building_model.specs.Contexts.{is_record_type}
 use Rattle.cedar_schema_decl.specs.Forms.{TypeForm}
 use Rattle.cedar_schema_kept_model.specs.Kept.{KeptType, KeptAction}
-use Rattle.cedar_schema_model.specs.Whole.Descent.{ActionDescends}
+use Rattle.cedar_schema_model.specs.Descent.{ActionDescends}
 use Rattle.cedar_schema_resolver.specs.Meanings.{Setting, told}
 use Rattle.cedar_schema_resolver.specs.Refusals.{AreKnown}
 use Rattle.cedar_schema_told_model.specs.Pieces.{AreTypesOf, AreActionsOf}

@@ -2,7 +2,7 @@
 -- Rule: descent; schemas (docs/RULES.md).
 use Rattle.std.specs.Prelude.{List, map, Option, Some, None, Contains}
 use Rattle.std.specs.BTreeSet.{BTreeSet}
-use Rattle.cedar_schema_model.specs.Whole.BagLaws.{HasTwice}
+use Rattle.cedar_schema_model.specs.BagLaws.{HasTwice}
 use Rattle.cedar_schema_nodes.specs.Numbers.{StandsTwice}
 
 -- The set has these and no other.

@@ -8,7 +8,7 @@ ghost use Rattle.cedar_schema_decl.specs.Forms.{standard_form};
 ghost use Rattle.cedar_schema_decl.specs.Trees.{type_form, record_fields};
 ghost use Rattle.cedar_schema_entries.specs.Views.{entity_type_seen};
 ghost use Rattle.cedar_schema_fragments.specs.WrittenDeclarations.{parents_written};
-ghost use Rattle.cedar_schema_model.specs.Whole.Schema.{standard};
+ghost use Rattle.cedar_schema_model.specs.Schema.{standard};
 ghost use Rattle.cedar_schema_nodes.specs.Descent.{AreDescendants};
 ghost use Rattle.cedar_schema_nodes.specs.Numbers.{seen_nodes};
 ghost use Rattle.cedar_schema_resolver.specs.Meanings.{extensions_seen, setting_of, told, told_fields};

@@ -7,14 +7,14 @@ use Rattle.std.specs.Option.{option_or}
 use Rattle.std.specs.Str.{bytes_eq}
 use Rattle.std.proofs.lemmas.Slice.Eq.{bytes_eq-Decides}
 use Rattle.cedar_expr_model.specs.Name.{Text, Name}
-use Rattle.cedar_expr_model.specs.Whole.Lists.{all_given, is_nil}
-use Rattle.cedar_expr_model.specs.Whole.ListLaws.{last_of}
-use Rattle.cedar_expr_model.specs.Whole.Records.{in_order}
-use Rattle.cedar_expr_model.proofs.Whole.Ordering.{in_order_finds}
-use Rattle.cedar_schema_model.specs.Whole.Types.{Ty, entity_types, record_type, Openness, Attributes, no_attributes, attribute, Declared, attribute_named}
-use Rattle.cedar_schema_model.specs.Whole.Schema.{Schema, EntityType, type_named}
-use Rattle.cedar_schema_model.specs.Whole.Conforming.{of_kind, attributes_at}
-use Rattle.cedar_schema_model.specs.Whole.Lookup.{declared_of, declared_by_all, lookup_attribute}
+use Rattle.cedar_expr_model.specs.Lists.{all_given, is_nil}
+use Rattle.cedar_expr_model.specs.ListLaws.{last_of}
+use Rattle.cedar_expr_model.specs.Records.{in_order}
+use Rattle.cedar_expr_model.proofs.Ordering.{in_order_finds}
+use Rattle.cedar_schema_model.specs.Types.{Ty, entity_types, record_type, Openness, Attributes, no_attributes, attribute, Declared, attribute_named}
+use Rattle.cedar_schema_model.specs.Schema.{Schema, EntityType, type_named}
+use Rattle.cedar_schema_model.specs.Conforming.{of_kind, attributes_at}
+use Rattle.cedar_schema_model.specs.Lookup.{declared_of, declared_by_all, lookup_attribute}
 use Rattle.cedar_schema_types.specs.AttributeLists.{attributes_from, names_in}
 use Rattle.cedar_expr_names.specs.Views.{type_name_of}
 use Rattle.cedar_expr_names.specs.declared.entity.EntityType.{EntityType as CodeType}

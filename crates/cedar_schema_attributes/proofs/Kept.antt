@@ -2,8 +2,8 @@
 use Rattle.std.proofs.Common.{◌≡◌, List, [], ◌∷◌, map, Bool, true, false, cond, Some, option_map, refl}
 use Rattle.std.specs.List.{find}
 use Rattle.cedar_expr_model.specs.Name.{Name, name_eq}
-use Rattle.cedar_schema_model.specs.Whole.Schema.{EntityType, type_named}
-use Rattle.cedar_schema_model.specs.Whole.Conforming.{of_kind, attributes_at}
+use Rattle.cedar_schema_model.specs.Schema.{EntityType, type_named}
+use Rattle.cedar_schema_model.specs.Conforming.{of_kind, attributes_at}
 use Rattle.cedar_schema_kept_model.specs.Kept.{KeptType, Kept, kept_type}
 use Rattle.cedar_schema_attributes.specs.Known.{attributes_kept}
 

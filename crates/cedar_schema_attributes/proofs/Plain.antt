@@ -1,27 +1,35 @@
 -- The types that declarations make are well-formed, and the type of all sets stands in none, where the names of their entity types are
 -- well-formed.
-use Rattle.std.proofs.Common.{◌≡◌, ◌&&◌, ℕ, zero, suc, length, Bool, true, Option, Some, None, option_map, refl, sym, ap, ◌∙◌}
+use Rattle.std.proofs.Common.{◌≡◌, ◌&&◌, ℕ, zero, suc, length, List, [], ◌∷◌, Bool, true, false, cond, map, Option, Some, None, option_map, refl, sym, ap, ◌∙◌}
 use Rattle.std.specs.Prelude.{Contains, find, option_and_then}
 use Rattle.std.specs.Ordering.{is_lt, match_ordering, ordering_reverse}
 use Rattle.std.specs.declared.cmp.Ordering.{Ordering}
 use Rattle.std.specs.declared.cmp.Ordering.TheVariants.{Less, Equal, Greater}
 use Rattle.std.proofs.lemmas.Cmp.{nat_list_cmp_total}
 use Rattle.cedar_expr_model.specs.Name.{Text, Name, name_eq, is_well_formed}
-use Rattle.cedar_expr_model.specs.Whole.Order.{text_cmp}
+use Rattle.cedar_expr_model.specs.Order.{text_cmp}
 use Rattle.cedar_expr_model.proofs.Equality.{name_eq-Decides}
 use Rattle.cedar_expr_model.proofs.Lists.{both_hold, hold_both, found-Decides}
-use Rattle.cedar_schema_model.specs.Whole.Types.{Ty, Attributes, no_attributes, attribute, Declared, attribute_named}
-use Rattle.cedar_schema_model.specs.Whole.Schema.{EntityType}
-use Rattle.cedar_schema_model.specs.Whole.Reference.{Namespace, Reference, Meant, meant_common, meant_entity}
-use Rattle.cedar_schema_model.specs.Whole.Declarations.{TypeExpr, bool_expr, long_expr, string_expr, set_expr, record_expr, reference, extension_expr, FieldExprs, no_field_exprs, field_expr, KindExpr, standard_expr, enumerated_expr, external_expr, CommonDeclaration, EntityDeclaration, Declarations, common_name, entity_name, entity_names, meant}
-use Rattle.cedar_schema_model.specs.Whole.Resolved.{with_attribute, type_meant, resolved_by, resolved_fields_by, common_within, common_of, resolved_kind, resolved_entity, schema_of}
-use Rattle.cedar_schema_model.specs.Whole.Conforming.{of_kind, attributes_at}
-use Rattle.cedar_schema_model.specs.Whole.OfLaws.Formed.{is_well_formed_type, are_well_formed_attributes, is_before_attributes}
-use Rattle.cedar_schema_model.specs.Whole.TypeLaws.{has_no_any_set, have_no_any_set, Formed, Free, HasPlainAttributes}
-use Rattle.cedar_schema_model.proofs.Whole.Named.{defined_by}
-use Rattle.cedar_schema_model.proofs.Whole.Decls.Faults.{meant_is_declared}
-use Rattle.cedar_schema_model.proofs.Whole.FirstPath.Lists.{find_map}
-use Rattle.cedar_schema_model.proofs.Whole.Types.Lookups.{no_none, named_cases, formed_at}
+use Rattle.cedar_schema_model.specs.Types.{Ty, Attributes, no_attributes, attribute, Declared, attribute_named}
+use Rattle.cedar_schema_model.specs.Schema.{EntityType}
+use Rattle.cedar_schema_model.specs.Reference.{Namespace, Reference, Meant, meant_common, meant_entity}
+use Rattle.cedar_schema_model.specs.Declarations.{TypeExpr, bool_expr, long_expr, string_expr, set_expr, record_expr, reference, extension_expr, FieldExprs, no_field_exprs, field_expr, KindExpr, standard_expr, enumerated_expr, external_expr, CommonDeclaration, EntityDeclaration, Declarations, common_name, entity_name, entity_names, meant}
+use Rattle.cedar_schema_model.specs.Resolved.{with_attribute, type_meant, resolved_by, resolved_fields_by, common_within, common_of, resolved_kind, resolved_entity, schema_of}
+use Rattle.cedar_schema_model.specs.Conforming.{of_kind, attributes_at}
+use Rattle.cedar_schema_model.specs.OfLaws.Formed.{is_well_formed_type, are_well_formed_attributes, is_before_attributes}
+use Rattle.cedar_schema_model.specs.TypeLaws.{has_no_any_set, have_no_any_set, Formed, Free, HasPlainAttributes}
+use Rattle.cedar_schema_model.proofs.Named.{defined_by}
+use Rattle.cedar_schema_model.proofs.Decls.Faults.{meant_is_declared}
+use Rattle.cedar_schema_model.proofs.Types.Lookups.{no_none, named_cases, formed_at}
+
+-- the first of a map is the map of the first
+find_step : {X Y : Type 0} (f : X → Y) (b : Bool) (x : X) (o : Option X) (p : Option Y) → p ≡ option_map f o → cond b (Some (f x)) p ≡ option_map f (cond b (Some x) o)
+find_step f true x o p h = refl
+find_step f false x o p h = h
+
+find_map : {X Y : Type 0} (p : Y → Bool) (f : X → Y) (xs : List X) → find p (map f xs) ≡ option_map f (find (λ x. p (f x)) xs)
+find_map p f [] = refl
+find_map p f (x ∷ xs) = find_step f (p (f x)) x (find (λ y. p (f y)) xs) (find p (map f xs)) (find_map p f xs)
 
 -- a name that is above another has that one below it
 flipped : (a b : Text) → text_cmp a b ≡ Greater → text_cmp b a ≡ Less

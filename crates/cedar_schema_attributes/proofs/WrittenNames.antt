@@ -5,7 +5,7 @@ use Rattle.cedar_expr_model.specs.Name.{Name, is_well_formed}
 use Rattle.cedar_expr_model.proofs.Lists.{map_has, map_from, flat_from}
 use Rattle.cedar_expr_names.proofs.Equality.{well_formed}
 use Rattle.cedar_expr_raw_names.specs.declared.conditional_name.ConditionalName.{ConditionalName}
-use Rattle.cedar_schema_model.specs.Whole.Declarations.{Declarations, entity_name, entity_names}
+use Rattle.cedar_schema_model.specs.Declarations.{Declarations, entity_name, entity_names}
 use Rattle.cedar_schema_decl.specs.Conditional.{Conditional, conditional_of}
 use Rattle.cedar_schema_decl.specs.Forms.{EntityForm}
 use Rattle.cedar_schema_fragments.proofs.Wholes.{whole, wholes_are}

@@ -3,10 +3,10 @@
 use Rattle.std.specs.Prelude.{◌≡◌, List, [], ◌∷◌, map, Option, None, option_map}
 use Rattle.std.specs.List.{filter_map}
 use Rattle.cedar_expr_model.specs.Name.{Text, Name}
-use Rattle.cedar_schema_model.specs.Whole.Types.{Ty, Attributes, Declared, attribute_named}
-use Rattle.cedar_schema_model.specs.Whole.Schema.{Schema, type_named}
-use Rattle.cedar_schema_model.specs.Whole.Conforming.{of_kind, attributes_at}
-use Rattle.cedar_schema_model.specs.Whole.Lookup.{lookup_attribute}
+use Rattle.cedar_schema_model.specs.Types.{Ty, Attributes, Declared, attribute_named}
+use Rattle.cedar_schema_model.specs.Schema.{Schema, type_named}
+use Rattle.cedar_schema_model.specs.Conforming.{of_kind, attributes_at}
+use Rattle.cedar_schema_model.specs.Lookup.{lookup_attribute}
 use Rattle.cedar_schema_kept_model.specs.Kept.{Kept}
 
 -- These are all attributes that are declared for the values of the type, each as it is declared.

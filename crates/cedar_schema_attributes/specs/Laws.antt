@@ -3,12 +3,12 @@
 use Rattle.std.specs.Prelude.{◌≡◌, List, true, Contains}
 use Rattle.cedar_expr_model.specs.Name.{Text, Name, is_well_formed}
 use Rattle.cedar_expr_raw_names.specs.declared.conditional_name.ConditionalName.{ConditionalName}
-use Rattle.cedar_schema_model.specs.Whole.Types.{Ty}
-use Rattle.cedar_schema_model.specs.Whole.Schema.{Schema}
-use Rattle.cedar_schema_model.specs.Whole.Declarations.{Declarations, entity_names}
-use Rattle.cedar_schema_model.specs.Whole.Resolved.{schema_of}
-use Rattle.cedar_schema_model.specs.Whole.Lookup.{lookup_attribute, may_have_attribute}
-use Rattle.cedar_schema_model.specs.Whole.TypeLaws.{HasPlainAttributes}
+use Rattle.cedar_schema_model.specs.Types.{Ty}
+use Rattle.cedar_schema_model.specs.Schema.{Schema}
+use Rattle.cedar_schema_model.specs.Declarations.{Declarations, entity_names}
+use Rattle.cedar_schema_model.specs.Resolved.{schema_of}
+use Rattle.cedar_schema_model.specs.Lookup.{lookup_attribute, may_have_attribute}
+use Rattle.cedar_schema_model.specs.TypeLaws.{HasPlainAttributes}
 use Rattle.cedar_schema_kept_model.specs.Kept.{Kept}
 use Rattle.cedar_schema_kept_model.specs.KeptOf.{IsKeptOf}
 use Rattle.cedar_schema_fragments.specs.WrittenDeclarations.{AreWritten}

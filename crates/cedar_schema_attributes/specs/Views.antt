@@ -1,6 +1,6 @@
 -- What a built schema declares of attributes.
 -- Rule: attributes of a type; schemas (docs/RULES.md).
-use Rattle.cedar_schema_model.specs.Whole.Schema.{Schema}
+use Rattle.cedar_schema_model.specs.Schema.{Schema}
 use Rattle.cedar_schema_built.specs.Views.{schema_kept}
 use Rattle.cedar_schema_attributes.specs.Known.{attributes_kept}
 use Rattle.cedar_schema_attributes.specs.declared.schema_attributes.SchemaAttributes.{SchemaAttributes}

@@ -1,8 +1,8 @@
 //! All attributes that a schema declares for the values of a type.
 
 ghost use Rattle.std.specs.Prelude.{◌≡◌, option_map, IfOk};
-ghost use Rattle.cedar_schema_model.specs.Whole.Types.{entity_types};
-ghost use Rattle.cedar_schema_model.specs.Whole.Lookup.{lookup_attribute};
+ghost use Rattle.cedar_schema_model.specs.Types.{entity_types};
+ghost use Rattle.cedar_schema_model.specs.Lookup.{lookup_attribute};
 ghost use Rattle.cedar_schema_types.specs.Unions.{members_of, entities_of};
 ghost use Rattle.cedar_schema_types.specs.Types.{type_of, attributes_of};
 ghost use Rattle.cedar_schema_types.specs.AttributeLists.{declared_pairs, names_in};

@@ -1,7 +1,7 @@
 //! All attributes that a schema declares, asked of a type and of a kind of entities.
 
 ghost use Rattle.std.specs.Prelude.{IfOk};
-ghost use Rattle.cedar_schema_model.specs.Whole.Types.{Ty};
+ghost use Rattle.cedar_schema_model.specs.Types.{Ty};
 ghost use Rattle.cedar_schema_types.specs.Unions.{entities_of};
 ghost use Rattle.cedar_schema_types.specs.Types.{type_of, attributes_of};
 ghost use Rattle.cedar_schema_attributes.specs.Known.{AreDeclared};

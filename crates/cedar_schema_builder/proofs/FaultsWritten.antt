@@ -10,7 +10,7 @@ use Rattle.cedar_expr_model.specs.Uid.{Uid}
 use Rattle.cedar_expr_model.proofs.Lists.{flat_from}
 use Rattle.cedar_expr_names.specs.Views.{name_of, plain_name_of, refused_name_of, uid_of}
 use Rattle.cedar_expr_names.specs.declared.name.Name.{Name as PlainName}
-use Rattle.cedar_schema_model.specs.Whole.Declarations.{Declarations, common_name, entity_name, action_uid, common_names, entity_names, action_uids, extensions}
+use Rattle.cedar_schema_model.specs.Declarations.{Declarations, common_name, entity_name, action_uid, common_names, entity_names, action_uids, extensions}
 use Rattle.cedar_schema_decl.specs.Conditional.{conditional_of}
 use Rattle.cedar_schema_decl.specs.Forms.{TypeForm, EntityForm, ActionForm}
 use Rattle.cedar_schema_fragments.proofs.Wholes.{whole, wholes_are}

@@ -7,8 +7,8 @@ use Rattle.cedar_expr_model.specs.Name.{Text, Name}
 use Rattle.cedar_expr_model.specs.Uid.{Uid}
 use Rattle.cedar_expr_model.proofs.Lists.{flat_has}
 use Rattle.cedar_expr_names.specs.Views.{plain_name_of, refused_name_of, uid_of}
-use Rattle.cedar_schema_model.specs.Whole.Reference.{meant_entity}
-use Rattle.cedar_schema_model.specs.Whole.Types.{Ty}
+use Rattle.cedar_schema_model.specs.Reference.{meant_entity}
+use Rattle.cedar_schema_model.specs.Types.{Ty}
 use Rattle.cedar_schema_decl.specs.Defined.{Defined}
 use Rattle.cedar_schema_decl.specs.Forms.{TypeForm, EntityForm, ActionForm}
 use Rattle.cedar_schema_resolver.specs.Meanings.{Setting, setting}

@@ -10,9 +10,9 @@ use Rattle.cedar_expr_model.proofs.Lists.{map_has, map_from, flat_from}
 use Rattle.cedar_expr_names.specs.Views.{name_of, refused_name_of, type_name_of, uid_of}
 use Rattle.cedar_expr_names.specs.declared.entity.EntityType.{EntityType}
 use Rattle.cedar_expr_names.specs.declared.internal_name.InternalName.{InternalName}
-use Rattle.cedar_schema_model.specs.Whole.BagLaws.{HasTwice}
-use Rattle.cedar_schema_model.specs.Whole.Descent.{Reaches, HasActionParent, ActionDescends}
-use Rattle.cedar_schema_model.proofs.Whole.Decls.Reordered.{reaches_along}
+use Rattle.cedar_schema_model.specs.BagLaws.{HasTwice}
+use Rattle.cedar_schema_model.specs.Descent.{Reaches, HasActionParent, ActionDescends}
+use Rattle.cedar_schema_model.proofs.Decls.Reordered.{reaches_along}
 use Rattle.cedar_schema_kept_model.specs.Kept.{KeptType, KeptAction}
 use Rattle.cedar_schema_decl.specs.Conditional.{conditional_of}
 use Rattle.cedar_schema_decl.specs.Defined.{Defined}

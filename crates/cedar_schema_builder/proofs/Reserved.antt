@@ -12,7 +12,7 @@ use Rattle.cedar_expr_names.specs.Views.{name_of, uid_of}
 use Rattle.cedar_expr_names.specs.declared.internal_name.InternalName.{InternalName}
 use Rattle.cedar_expr_names.specs.declared.entity.EntityUID.{EntityUID}
 use Rattle.cedar_expr_raw_names.specs.declared.conditional_name.ConditionalName.{ConditionalName}
-use Rattle.cedar_schema_model.specs.Whole.Reference.{to_entity, Meant, meant_common, meant_entity, meant_at}
+use Rattle.cedar_schema_model.specs.Reference.{to_entity, Meant, meant_common, meant_entity, meant_at}
 use Rattle.cedar_schema_decl.specs.Conditional.{Conditional, conditional_of, may_mean}
 use Rattle.cedar_schema_decl.specs.Defined.{Defined, is_defined, is_defined_action, meant_by, meant_name, resolved, resolving}
 use Rattle.cedar_schema_decl.specs.Definitions.{common_form, entity_form}

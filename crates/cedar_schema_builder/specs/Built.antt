@@ -3,10 +3,10 @@
 use Rattle.std.specs.Prelude.{List, map}
 use Rattle.cedar_expr_model.specs.Name.{Name}
 use Rattle.cedar_expr_raw_names.specs.declared.conditional_name.ConditionalName.{ConditionalName}
-use Rattle.cedar_schema_model.specs.Whole.BagLaws.{HasSchemaFault}
-use Rattle.cedar_schema_model.specs.Whole.Declarations.{Declarations}
-use Rattle.cedar_schema_model.specs.Whole.Resolved.{schema_of}
-use Rattle.cedar_schema_model.specs.Whole.WellFormed.{SchemaFault, IsWellFormed}
+use Rattle.cedar_schema_model.specs.BagLaws.{HasSchemaFault}
+use Rattle.cedar_schema_model.specs.Declarations.{Declarations}
+use Rattle.cedar_schema_model.specs.Resolved.{schema_of}
+use Rattle.cedar_schema_model.specs.WellFormed.{SchemaFault, IsWellFormed}
 use Rattle.cedar_schema_kept_model.specs.Kept.{KeptType, KeptAction}
 use Rattle.cedar_schema_entries.specs.Views.{entity_type_seen, action_seen}
 use Rattle.cedar_schema_decl.specs.Defined.{Defined}

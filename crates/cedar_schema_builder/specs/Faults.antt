@@ -2,7 +2,7 @@
 -- Rule: well-formed declarations (docs/RULES.md).
 use Rattle.std.specs.Prelude.{◌≡◌, ℕ, Option, Some, None}
 use Rattle.std.specs.Option.{option_map_or}
-use Rattle.cedar_schema_model.specs.Whole.WellFormed.{SchemaFault, schema_number, duplicate_entity_type, duplicate_common_type, duplicate_action, undeclared_type, undeclared_action, cycle_of_common_types, cycle_of_actions, action_as_entity_type, context_not_record, reserved_name, shadowing, unknown_extension_type}
+use Rattle.cedar_schema_model.specs.WellFormed.{SchemaFault, schema_number, duplicate_entity_type, duplicate_common_type, duplicate_action, undeclared_type, undeclared_action, cycle_of_common_types, cycle_of_actions, action_as_entity_type, context_not_record, reserved_name, shadowing, unknown_extension_type}
 use Rattle.cedar_schema_decl.specs.declared.err.ShadowingError.{ShadowingError}
 use Rattle.cedar_schema_decl.specs.declared.err.ShadowingError.TheVariants as shade
 use Rattle.cedar_schema_fragments.specs.declared.err.FragmentError.{FragmentError}

@@ -4,8 +4,8 @@ use Rattle.std.specs.Prelude.{◌≡◌, ◌⊎◌, List, true, None, Contains, 
 use Rattle.std.specs.declared.result.Result.TheVariants.{Ok}
 use Rattle.cedar_expr_model.specs.Name.{Name, is_reserved}
 use Rattle.cedar_expr_names.specs.Views.{name_of, plain_name_of, refused_name_of, uid_of}
-use Rattle.cedar_schema_model.specs.Whole.Descent.{Reaches}
-use Rattle.cedar_schema_model.specs.Whole.Reference.{meant_entity}
+use Rattle.cedar_schema_model.specs.Descent.{Reaches}
+use Rattle.cedar_schema_model.specs.Reference.{meant_entity}
 use Rattle.cedar_schema_decl.specs.Defined.{Defined, is_defined}
 use Rattle.cedar_schema_decl.specs.Shadowing.{first_shadowing}
 use Rattle.cedar_schema_gathered.specs.AllResolved.{all_resolved}

@@ -4,12 +4,12 @@ use Rattle.std.specs.Prelude.{◌≡◌, List, true, false, not, Contains}
 use Rattle.std.specs.Rc.{rc_str_bytes}
 use Rattle.cedar_expr_model.specs.Name.{Name}
 use Rattle.cedar_expr_model.specs.Uid.{Uid}
-use Rattle.cedar_expr_model.specs.Whole.Names.{unqualified, is_unqualified}
+use Rattle.cedar_expr_model.specs.Names.{unqualified, is_unqualified}
 use Rattle.cedar_expr_names.specs.Views.{name_of, plain_name_of, refused_name_of, uid_of}
-use Rattle.cedar_schema_model.specs.Whole.BagLaws.{Uses, HasParentAction, HasSchemaFault}
-use Rattle.cedar_schema_model.specs.Whole.Declarations.{ActionDeclaration, Declarations, action_uid, common_names, entity_names, action_uids, extensions}
-use Rattle.cedar_schema_model.specs.Whole.Descent.{Reaches}
-use Rattle.cedar_schema_model.specs.Whole.WellFormed.{becomes_record, unqualified_uid, declared_types}
+use Rattle.cedar_schema_model.specs.BagLaws.{Uses, HasParentAction, HasSchemaFault}
+use Rattle.cedar_schema_model.specs.Declarations.{ActionDeclaration, Declarations, action_uid, common_names, entity_names, action_uids, extensions}
+use Rattle.cedar_schema_model.specs.Descent.{Reaches}
+use Rattle.cedar_schema_model.specs.WellFormed.{becomes_record, unqualified_uid, declared_types}
 use Rattle.cedar_schema_decl.specs.Conditional.{conditional_of}
 use Rattle.cedar_schema_gathered.specs.Named.{IsUndeclared, IsUndeclaredParent, IsReservedThere, IsActionType}
 use Rattle.cedar_schema_nodes.specs.Numbers.{StandsTwice}

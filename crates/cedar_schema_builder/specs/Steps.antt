@@ -3,10 +3,10 @@
 use Rattle.std.specs.Prelude.{◌≡◌, List, None}
 use Rattle.cedar_expr_model.specs.Name.{Name}
 use Rattle.cedar_expr_raw_names.specs.declared.conditional_name.ConditionalName.{ConditionalName}
-use Rattle.cedar_schema_model.specs.Whole.BagLaws.{HasSchemaFault}
-use Rattle.cedar_schema_model.specs.Whole.Declarations.{Declarations}
-use Rattle.cedar_schema_model.specs.Whole.Types.{Ty}
-use Rattle.cedar_schema_model.specs.Whole.WellFormed.{action_as_entity_type, reserved_name}
+use Rattle.cedar_schema_model.specs.BagLaws.{HasSchemaFault}
+use Rattle.cedar_schema_model.specs.Declarations.{Declarations}
+use Rattle.cedar_schema_model.specs.Types.{Ty}
+use Rattle.cedar_schema_model.specs.WellFormed.{action_as_entity_type, reserved_name}
 use Rattle.cedar_schema_kept_model.specs.Kept.{KeptType, KeptAction}
 use Rattle.cedar_schema_decl.specs.Defined.{Defined}
 use Rattle.cedar_schema_decl.specs.Shadowing.{first_shadowing}

@@ -7,18 +7,18 @@ use Rattle.cedar_expr_model.specs.Name.{Text, Name}
 use Rattle.cedar_expr_model.specs.Uid.{Uid}
 use Rattle.cedar_expr_model.proofs.Lists.{map_has, map_from, flat_from}
 use Rattle.cedar_expr_names.specs.Views.{name_of, plain_name_of, refused_name_of}
-use Rattle.cedar_schema_model.specs.Whole.BagLaws.{HasTwice, HasParentAction, HasSchemaFault}
-use Rattle.cedar_schema_model.specs.Whole.Schema.{Action}
-use Rattle.cedar_schema_model.specs.Whole.Reference.{Namespace}
-use Rattle.cedar_schema_model.specs.Whole.Declarations.{TypeExpr, EntityDeclaration, ActionDeclaration, Declarations, entity_name, action_uid, common_names, entity_names, action_uids, parent_meant, extensions_in, references, extensions}
-use Rattle.cedar_schema_model.specs.Whole.Declarations as written
-use Rattle.cedar_schema_model.specs.Whole.Descent.{HasActionParent, ActionDescends}
-use Rattle.cedar_schema_model.specs.Whole.Resolved.{entity_meant}
-use Rattle.cedar_schema_model.specs.Whole.WellFormed.{SchemaFault, duplicate_common_type, cycle_of_common_types, reserved_name, shadowing, unknown_extension_type, context_not_record, becomes_record, written_names}
-use Rattle.cedar_schema_model.proofs.Whole.Decls.Faults.{schema_fault-Decides}
-use Rattle.cedar_schema_model.proofs.Whole.Decls.Named.{entity_declared, parent_declared}
-use Rattle.cedar_schema_model.proofs.Whole.Decls.Reordered.{reaches_along}
-use Rattle.cedar_schema_model.proofs.Whole.Decls.Schema as schema
+use Rattle.cedar_schema_model.specs.BagLaws.{HasTwice, HasParentAction, HasSchemaFault}
+use Rattle.cedar_schema_model.specs.Schema.{Action}
+use Rattle.cedar_schema_model.specs.Reference.{Namespace}
+use Rattle.cedar_schema_model.specs.Declarations.{TypeExpr, EntityDeclaration, ActionDeclaration, Declarations, entity_name, action_uid, common_names, entity_names, action_uids, parent_meant, extensions_in, references, extensions}
+use Rattle.cedar_schema_model.specs.Declarations as written
+use Rattle.cedar_schema_model.specs.Descent.{HasActionParent, ActionDescends}
+use Rattle.cedar_schema_model.specs.Resolved.{entity_meant}
+use Rattle.cedar_schema_model.specs.WellFormed.{SchemaFault, duplicate_common_type, cycle_of_common_types, reserved_name, shadowing, unknown_extension_type, context_not_record, becomes_record, written_names}
+use Rattle.cedar_schema_model.proofs.Decls.Faults.{schema_fault-Decides}
+use Rattle.cedar_schema_model.proofs.Decls.Named.{entity_declared, parent_declared}
+use Rattle.cedar_schema_model.proofs.Decls.Reordered.{reaches_along}
+use Rattle.cedar_schema_model.proofs.Decls.Schema as schema
 use Rattle.cedar_schema_building_model.specs.Contexts.{is_record_type, ContextsBecomeRecords}
 use Rattle.cedar_schema_decl.specs.Forms.{TypeForm, EntityForm, ActionForm}
 use Rattle.cedar_schema_decl.specs.Laws.{NamesMeanReferences, RefusedWhereUndeclared}

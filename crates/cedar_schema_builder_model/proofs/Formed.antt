@@ -7,16 +7,16 @@ use Rattle.std.proofs.lemmas.List.Elements.{Contains-append_cases}
 use Rattle.cedar_expr_model.specs.Name.{Name}
 use Rattle.cedar_expr_model.specs.Uid.{Uid}
 use Rattle.cedar_expr_model.proofs.Lists.{all_each, flat_from}
-use Rattle.cedar_schema_model.specs.Whole.BagLaws.{HasTwice, Uses, HasParentAction, HasSchemaFault}
-use Rattle.cedar_schema_model.specs.Whole.Reference.{Namespace}
-use Rattle.cedar_schema_model.specs.Whole.Declarations.{TypeExpr, CommonDeclaration, EntityDeclaration, ActionDeclaration, Declarations, extensions_in, extensions, meant}
-use Rattle.cedar_schema_model.specs.Whole.Declarations as written
-use Rattle.cedar_schema_model.specs.Whole.Descent.{Reaches, HasActionParent, ActionDescends}
-use Rattle.cedar_schema_model.specs.Whole.Resolved.{schema_of}
-use Rattle.cedar_schema_model.specs.Whole.WellFormed.{SchemaFault, duplicate_entity_type, duplicate_common_type, duplicate_action, undeclared_type, undeclared_action, cycle_of_common_types, cycle_of_actions, action_as_entity_type, context_not_record, reserved_name, shadowing, unknown_extension_type, unresolved_external, ill_forms, becomes_record, IsWellFormed}
-use Rattle.cedar_schema_model.proofs.Whole.Decls.Faults.{schema_fault-Decides, where_no_schema_fault}
-use Rattle.cedar_schema_model.proofs.Whole.Decls.Reordered.{reaches_along}
-use Rattle.cedar_schema_model.proofs.Whole.Decls.Schema.{action_parents_meant}
+use Rattle.cedar_schema_model.specs.BagLaws.{HasTwice, Uses, HasParentAction, HasSchemaFault}
+use Rattle.cedar_schema_model.specs.Reference.{Namespace}
+use Rattle.cedar_schema_model.specs.Declarations.{TypeExpr, CommonDeclaration, EntityDeclaration, ActionDeclaration, Declarations, extensions_in, extensions, meant}
+use Rattle.cedar_schema_model.specs.Declarations as written
+use Rattle.cedar_schema_model.specs.Descent.{Reaches, HasActionParent, ActionDescends}
+use Rattle.cedar_schema_model.specs.Resolved.{schema_of}
+use Rattle.cedar_schema_model.specs.WellFormed.{SchemaFault, duplicate_entity_type, duplicate_common_type, duplicate_action, undeclared_type, undeclared_action, cycle_of_common_types, cycle_of_actions, action_as_entity_type, context_not_record, reserved_name, shadowing, unknown_extension_type, unresolved_external, ill_forms, becomes_record, IsWellFormed}
+use Rattle.cedar_schema_model.proofs.Decls.Faults.{schema_fault-Decides, where_no_schema_fault}
+use Rattle.cedar_schema_model.proofs.Decls.Reordered.{reaches_along}
+use Rattle.cedar_schema_model.proofs.Decls.Schema.{action_parents_meant}
 use Rattle.cedar_schema_building_model.specs.Contexts.{ContextsBecomeRecords}
 use Rattle.cedar_schema_decl.specs.Forms.{TypeForm}
 use Rattle.cedar_schema_decl.specs.Laws.{NamesMeanReferences, RefusedWhereUndeclared}

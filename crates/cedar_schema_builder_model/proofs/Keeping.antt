@@ -6,14 +6,14 @@ use Rattle.std.proofs.lemmas.List.Sorted.{IsPermutation-sym, IsPermutation-map, 
 use Rattle.cedar_expr_model.specs.Name.{Name, name_eq}
 use Rattle.cedar_expr_model.specs.Uid.{Uid, uid_eq}
 use Rattle.cedar_expr_model.proofs.Equality.{name_eq-Decides, uid_eq-Decides}
-use Rattle.cedar_schema_model.specs.Whole.BagLaws.{IsReordered}
-use Rattle.cedar_schema_model.specs.Whole.Declarations.{Declarations}
-use Rattle.cedar_schema_model.specs.Whole.Descent.{type_names, action_uids, HasParent, Descends, HasActionParent, ActionDescends}
-use Rattle.cedar_schema_model.specs.Whole.Resolved.{schema_of}
-use Rattle.cedar_schema_model.specs.Whole.Schema.{EntityType, Action, Schema}
-use Rattle.cedar_schema_model.specs.Whole.WellFormed.{IsWellFormed}
-use Rattle.cedar_schema_model.proofs.Whole.Decls.Reordered.{reaches_along, twice_moved}
-use Rattle.cedar_schema_model.proofs.Whole.Decls.SameSchema.{types_moved, actions_moved}
+use Rattle.cedar_schema_model.specs.BagLaws.{IsReordered}
+use Rattle.cedar_schema_model.specs.Declarations.{Declarations}
+use Rattle.cedar_schema_model.specs.Descent.{type_names, action_uids, HasParent, Descends, HasActionParent, ActionDescends}
+use Rattle.cedar_schema_model.specs.Resolved.{schema_of}
+use Rattle.cedar_schema_model.specs.Schema.{EntityType, Action, Schema}
+use Rattle.cedar_schema_model.specs.WellFormed.{IsWellFormed}
+use Rattle.cedar_schema_model.proofs.Decls.Reordered.{reaches_along, twice_moved}
+use Rattle.cedar_schema_model.proofs.Decls.SameSchema.{types_moved, actions_moved}
 use Rattle.cedar_schema_kept_model.specs.Kept.{Kept}
 use Rattle.cedar_schema_kept_model.specs.KeptOf.{IsKeptOf}
 use Rattle.cedar_schema_resolver.specs.Meanings.{Setting}

@@ -6,7 +6,7 @@ use Rattle.cedar_expr_names.specs.Views.{name_of, type_name_of}
 use Rattle.cedar_expr_names.specs.declared.entity.EntityType.{EntityType}
 use Rattle.cedar_expr_names.specs.declared.internal_name.InternalName.{InternalName}
 use Rattle.cedar_expr_raw_names.specs.declared.conditional_name.ConditionalName.{ConditionalName}
-use Rattle.cedar_schema_model.specs.Whole.Declarations.{CommonDeclaration, Declarations}
+use Rattle.cedar_schema_model.specs.Declarations.{CommonDeclaration, Declarations}
 use Rattle.cedar_schema_decl.specs.Conditional.{conditional_in, conditional_of}
 use Rattle.cedar_schema_decl.specs.Defined.{Defined, resolving}
 use Rattle.cedar_schema_decl.specs.Forms.{TypeForm}

@@ -2,12 +2,12 @@
 use Rattle.std.proofs.Common.{◌≡◌, ◌↔◌, List, refl, sym, ◌∙◌, subst}
 use Rattle.std.specs.Prelude.{Contains}
 use Rattle.cedar_expr_model.specs.Name.{Text, Name}
-use Rattle.cedar_schema_model.specs.Whole.BagLaws.{IsReordered}
-use Rattle.cedar_schema_model.specs.Whole.Declarations.{Declarations}
-use Rattle.cedar_schema_model.specs.Whole.Descent.{type_names, action_uids, Descends, ActionDescends}
-use Rattle.cedar_schema_model.specs.Whole.Resolved.{schema_of}
-use Rattle.cedar_schema_model.specs.Whole.Schema.{EntityKind, standard, enumerated, external, Schema}
-use Rattle.cedar_schema_model.specs.Whole.WellFormed.{IsWellFormed}
+use Rattle.cedar_schema_model.specs.BagLaws.{IsReordered}
+use Rattle.cedar_schema_model.specs.Declarations.{Declarations}
+use Rattle.cedar_schema_model.specs.Descent.{type_names, action_uids, Descends, ActionDescends}
+use Rattle.cedar_schema_model.specs.Resolved.{schema_of}
+use Rattle.cedar_schema_model.specs.Schema.{EntityKind, standard, enumerated, external, Schema}
+use Rattle.cedar_schema_model.specs.WellFormed.{IsWellFormed}
 use Rattle.cedar_schema_kept_model.specs.Kept.{KeptType, KeptAction, Kept}
 use Rattle.cedar_schema_kept_model.specs.KeptOf.{IsSameKind, IsKeptOf}
 use Rattle.cedar_schema_builder_model.specs.Alike.{AreSameTypes, AreSameActions, IsWithin, AreAlike}

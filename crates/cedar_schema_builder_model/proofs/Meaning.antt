@@ -4,10 +4,10 @@ use Rattle.std.specs.List.{flat_map}
 use Rattle.std.specs.Option.{option_map_or}
 use Rattle.cedar_expr_model.specs.Name.{Text, Name}
 use Rattle.cedar_expr_model.specs.Uid.{Uid}
-use Rattle.cedar_expr_model.specs.Whole.Names.{possibilities}
-use Rattle.cedar_schema_model.specs.Whole.Reference.{to_entity, Meant, meant_entity, meant_at, places}
-use Rattle.cedar_schema_model.specs.Whole.Declarations.{Declarations, is_declared_action, parent_meant}
-use Rattle.cedar_schema_model.specs.Whole.Resolved.{entity_of, entity_meant}
+use Rattle.cedar_expr_model.specs.Names.{possibilities}
+use Rattle.cedar_schema_model.specs.Reference.{to_entity, Meant, meant_entity, meant_at, places}
+use Rattle.cedar_schema_model.specs.Declarations.{Declarations, is_declared_action, parent_meant}
+use Rattle.cedar_schema_model.specs.Resolved.{entity_of, entity_meant}
 use Rattle.cedar_schema_decl.specs.Conditional.{Conditional, conditional_in}
 use Rattle.cedar_schema_decl.specs.Defined.{Defined, is_defined, is_defined_action, meant_by, meant_name, resolved}
 use Rattle.cedar_schema_decl.specs.Laws.{HasDeclared, namespace_parts, NamesMeanReferences}

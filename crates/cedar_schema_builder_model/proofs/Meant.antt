@@ -6,10 +6,10 @@ use Rattle.std.proofs.lemmas.List.Elements.{Contains-append_left, Contains-appen
 use Rattle.cedar_expr_model.specs.Name.{Text, Name}
 use Rattle.cedar_expr_model.specs.Uid.{Uid}
 use Rattle.cedar_expr_model.proofs.Lists.{map_from, flat_has, flat_from}
-use Rattle.cedar_schema_model.specs.Whole.Reference.{Namespace, to_entity, Reference}
-use Rattle.cedar_schema_model.specs.Whole.Declarations.{TypeExpr, CommonDeclaration, EntityDeclaration, ActionDeclaration, Declarations, common_name, entity_name, action_uid, common_names, entity_names, action_uids, meant, parent_meant, references_in, extensions_in, to_entities, references_of_common, references_of_entity, references_of_action, references, extensions}
-use Rattle.cedar_schema_model.specs.Whole.Declarations as written
-use Rattle.cedar_schema_model.specs.Whole.Resolved.{entity_of}
+use Rattle.cedar_schema_model.specs.Reference.{Namespace, to_entity, Reference}
+use Rattle.cedar_schema_model.specs.Declarations.{TypeExpr, CommonDeclaration, EntityDeclaration, ActionDeclaration, Declarations, common_name, entity_name, action_uid, common_names, entity_names, action_uids, meant, parent_meant, references_in, extensions_in, to_entities, references_of_common, references_of_entity, references_of_action, references, extensions}
+use Rattle.cedar_schema_model.specs.Declarations as written
+use Rattle.cedar_schema_model.specs.Resolved.{entity_of}
 use Rattle.cedar_schema_decl.specs.Defined.{Defined}
 use Rattle.cedar_schema_decl.specs.Forms.{TypeForm, EntityForm, ActionForm}
 use Rattle.cedar_schema_decl.specs.Laws.{NamesMeanReferences, RefusedWhereUndeclared}

@@ -3,10 +3,10 @@ use Rattle.std.proofs.Common.{subst}
 use Rattle.std.specs.Prelude.{Contains}
 use Rattle.cedar_expr_model.specs.Name.{Name}
 use Rattle.cedar_expr_names.specs.Views.{name_of}
-use Rattle.cedar_schema_model.specs.Whole.BagLaws.{Uses, HasParentAction}
-use Rattle.cedar_schema_model.specs.Whole.Declarations.{Declarations}
-use Rattle.cedar_schema_model.specs.Whole.Descent.{HasActionParent}
-use Rattle.cedar_schema_model.proofs.Whole.Decls.Reordered.{reaches_along}
+use Rattle.cedar_schema_model.specs.BagLaws.{Uses, HasParentAction}
+use Rattle.cedar_schema_model.specs.Declarations.{Declarations}
+use Rattle.cedar_schema_model.specs.Descent.{HasActionParent}
+use Rattle.cedar_schema_model.proofs.Decls.Reordered.{reaches_along}
 use Rattle.cedar_schema_decl.specs.Forms.{TypeForm}
 use Rattle.cedar_schema_nodes.specs.Numbers.{StandsTwice}
 use Rattle.cedar_schema_decl.specs.Laws.{NamesMeanReferences, RefusedWhereUndeclared}

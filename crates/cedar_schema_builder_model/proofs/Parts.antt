@@ -2,7 +2,7 @@
 use Rattle.std.proofs.Common.{◌≡◌, List, [], ◌∷◌, map, Option, Some, None, option_map, Ok, refl, ap, subst}
 use Rattle.std.specs.Option.{option_to_list}
 use Rattle.cedar_expr_model.specs.Name.{Text, Name}
-use Rattle.cedar_schema_model.specs.Whole.Reference.{to_entity}
+use Rattle.cedar_schema_model.specs.Reference.{to_entity}
 use Rattle.cedar_schema_decl.specs.Conditional.{Conditional, conditional_in}
 use Rattle.cedar_schema_decl.specs.Defined.{Defined, resolving}
 use Rattle.cedar_schema_decl.specs.Forms.{TypeForm, record_form, FieldForms, EntityForm, standard_form, enumerated_form, external_form, ActionForm}

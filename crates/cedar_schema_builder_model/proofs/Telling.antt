@@ -3,11 +3,11 @@ use Rattle.std.proofs.Common.{◌≡◌, List, map, Option, Some, None, option_m
 use Rattle.std.specs.List.{filter_map}
 use Rattle.cedar_expr_model.specs.Name.{Text, Name}
 use Rattle.cedar_expr_model.specs.Uid.{Uid}
-use Rattle.cedar_schema_model.specs.Whole.Schema.{standard}
-use Rattle.cedar_schema_model.specs.Whole.Reference.{to_entity}
-use Rattle.cedar_schema_model.specs.Whole.Declarations.{EntityDeclaration, ActionDeclaration, Declarations}
-use Rattle.cedar_schema_model.specs.Whole.Resolved.{common_of, resolved, resolved_fields_by, entity_meant, resolved_kind, resolved_entity, attributes_of_record, resolved_action, schema_of}
-use Rattle.cedar_schema_model.specs.Whole.Declarations.{parent_meant}
+use Rattle.cedar_schema_model.specs.Schema.{standard}
+use Rattle.cedar_schema_model.specs.Reference.{to_entity}
+use Rattle.cedar_schema_model.specs.Declarations.{EntityDeclaration, ActionDeclaration, Declarations}
+use Rattle.cedar_schema_model.specs.Resolved.{common_of, resolved, resolved_fields_by, entity_meant, resolved_kind, resolved_entity, attributes_of_record, resolved_action, schema_of}
+use Rattle.cedar_schema_model.specs.Declarations.{parent_meant}
 use Rattle.cedar_schema_decl.specs.Conditional.{Conditional, conditional_in}
 use Rattle.cedar_schema_decl.specs.Defined.{Defined, resolving}
 use Rattle.cedar_schema_decl.specs.Forms.{TypeForm, record_form, EntityForm, standard_form, enumerated_form, external_form, ActionForm}

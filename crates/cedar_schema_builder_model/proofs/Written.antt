@@ -6,10 +6,10 @@ use Rattle.std.specs.List.{list_any}
 use Rattle.cedar_expr_model.specs.Name.{Text, Name}
 use Rattle.cedar_expr_model.specs.Uid.{Uid}
 use Rattle.cedar_expr_model.proofs.Lists.{any_has}
-use Rattle.cedar_schema_model.specs.Whole.Reference.{Namespace, to_entity, Reference}
-use Rattle.cedar_schema_model.specs.Whole.Declarations.{TypeExpr, EntityDeclaration, ActionDeclaration, Declarations, entity_name, action_uid, meant, parent_meant, references_in, extensions_in, extensions_in_fields}
-use Rattle.cedar_schema_model.specs.Whole.Declarations as written
-use Rattle.cedar_schema_model.specs.Whole.Resolved.{resolved, entity_meant}
+use Rattle.cedar_schema_model.specs.Reference.{Namespace, to_entity, Reference}
+use Rattle.cedar_schema_model.specs.Declarations.{TypeExpr, EntityDeclaration, ActionDeclaration, Declarations, entity_name, action_uid, meant, parent_meant, references_in, extensions_in, extensions_in_fields}
+use Rattle.cedar_schema_model.specs.Declarations as written
+use Rattle.cedar_schema_model.specs.Resolved.{resolved, entity_meant}
 use Rattle.cedar_schema_decl.specs.Conditional.{Conditional, conditional_in}
 use Rattle.cedar_schema_decl.specs.Defined.{Defined, resolving}
 use Rattle.cedar_schema_decl.specs.Forms.{TypeForm, bool_form, long_form, string_form, set_form, record_form, reference_form, extension_form, FieldForms, no_field_forms, field_form, EntityForm, standard_form, enumerated_form, external_form, ActionForm}

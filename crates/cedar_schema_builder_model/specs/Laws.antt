@@ -9,12 +9,12 @@ use Rattle.cedar_expr_names.specs.Views.{name_of, type_name_of}
 use Rattle.cedar_expr_names.specs.declared.entity.EntityType.{EntityType}
 use Rattle.cedar_expr_names.specs.declared.internal_name.InternalName.{InternalName}
 use Rattle.cedar_expr_raw_names.specs.declared.conditional_name.ConditionalName.{ConditionalName}
-use Rattle.cedar_schema_model.specs.Whole.Reference.{action_word}
-use Rattle.cedar_schema_model.specs.Whole.Declarations.{Declarations}
-use Rattle.cedar_schema_model.specs.Whole.Descent.{ActionDescends}
-use Rattle.cedar_schema_model.specs.Whole.Resolved.{schema_of}
-use Rattle.cedar_schema_model.specs.Whole.BagLaws.{HasTwice, HasSchemaFault, IsReordered}
-use Rattle.cedar_schema_model.specs.Whole.WellFormed.{SchemaFault, duplicate_entity_type, duplicate_action, cycle_of_actions, action_as_entity_type, context_not_record, reserved_name, shadowing, IsWellFormed}
+use Rattle.cedar_schema_model.specs.Reference.{action_word}
+use Rattle.cedar_schema_model.specs.Declarations.{Declarations}
+use Rattle.cedar_schema_model.specs.Descent.{ActionDescends}
+use Rattle.cedar_schema_model.specs.Resolved.{schema_of}
+use Rattle.cedar_schema_model.specs.BagLaws.{HasTwice, HasSchemaFault, IsReordered}
+use Rattle.cedar_schema_model.specs.WellFormed.{SchemaFault, duplicate_entity_type, duplicate_action, cycle_of_actions, action_as_entity_type, context_not_record, reserved_name, shadowing, IsWellFormed}
 use Rattle.cedar_schema_building_model.specs.Contexts.{is_record_type}
 use Rattle.cedar_schema_kept_model.specs.Kept.{Kept}
 use Rattle.cedar_schema_kept_model.specs.KeptOf.{IsKeptOf}

@@ -4,10 +4,10 @@ use Rattle.std.specs.Prelude.{◌≡◌, List, ◌++◌, true, false, Contains}
 use Rattle.cedar_expr_model.specs.Name.{Text, Name, is_reserved}
 use Rattle.cedar_expr_model.specs.Uid.{Uid}
 use Rattle.cedar_expr_names.specs.Views.{name_of, plain_name_of, refused_name_of}
-use Rattle.cedar_schema_model.specs.Whole.BagLaws.{Uses, HasParentAction}
-use Rattle.cedar_schema_model.specs.Whole.Declarations.{ActionDeclaration, Declarations, action_uid, common_names, entity_names, action_uids, extensions}
-use Rattle.cedar_schema_model.specs.Whole.Descent.{Reaches, ActionDescends}
-use Rattle.cedar_schema_model.specs.Whole.WellFormed.{becomes_record, written_names}
+use Rattle.cedar_schema_model.specs.BagLaws.{Uses, HasParentAction}
+use Rattle.cedar_schema_model.specs.Declarations.{ActionDeclaration, Declarations, action_uid, common_names, entity_names, action_uids, extensions}
+use Rattle.cedar_schema_model.specs.Descent.{Reaches, ActionDescends}
+use Rattle.cedar_schema_model.specs.WellFormed.{becomes_record, written_names}
 use Rattle.cedar_schema_building_model.specs.Contexts.{is_record_type}
 use Rattle.cedar_schema_decl.specs.Forms.{TypeForm, ActionForm}
 use Rattle.cedar_schema_nodes.specs.Numbers.{StandsTwice}

@@ -5,7 +5,7 @@ use Rattle.std.specs.List.{flat_map}
 use Rattle.std.specs.declared.result.Result.TheVariants.{Ok}
 use Rattle.cedar_expr_model.specs.Name.{Text, Name}
 use Rattle.cedar_expr_model.specs.Uid.{Uid}
-use Rattle.cedar_schema_model.specs.Whole.Declarations.{EntityDeclaration, ActionDeclaration, Declarations}
+use Rattle.cedar_schema_model.specs.Declarations.{EntityDeclaration, ActionDeclaration, Declarations}
 use Rattle.cedar_schema_decl.specs.Defined.{Defined, resolving}
 use Rattle.cedar_schema_decl.specs.Forms.{TypeForm, EntityForm, ActionForm}
 use Rattle.cedar_schema_decl.specs.Requalified.{requalified_entity, under_name}

@@ -6,15 +6,15 @@ use Rattle.std.specs.List.{list_all}
 use Rattle.cedar_expr_model.specs.Name.{Name, name_eq}
 use Rattle.cedar_expr_model.proofs.Equality.{name_eq-Decides}
 use Rattle.cedar_expr_model.proofs.Lists.{found-Decides, all_from, map_has}
-use Rattle.cedar_schema_model.specs.Whole.Types.{Ty, never}
-use Rattle.cedar_schema_model.specs.Whole.Reference.{Namespace, Reference, Meant, meant_common, meant_entity}
-use Rattle.cedar_schema_model.specs.Whole.Declarations.{TypeExpr, bool_expr, long_expr, string_expr, set_expr, record_expr, reference, extension_expr, CommonDeclaration, ActionDeclaration, Declarations, common_name, common_names, is_declared, meant}
-use Rattle.cedar_schema_model.specs.Whole.WellFormed.{refers_to_record, is_record_within, becomes_record}
-use Rattle.cedar_schema_model.specs.Whole.Resolved.{type_meant, resolved_by, common_within, resolved}
-use Rattle.cedar_schema_model.specs.Whole.BagLaws.{HasTwice}
-use Rattle.cedar_schema_model.proofs.Whole.Named.{defined_by}
-use Rattle.cedar_schema_model.proofs.Whole.Decls.Resolved.{some_common}
-use Rattle.cedar_schema_model.proofs.Whole.Decls.Faults.{meant_is_declared}
+use Rattle.cedar_schema_model.specs.Types.{Ty, never}
+use Rattle.cedar_schema_model.specs.Reference.{Namespace, Reference, Meant, meant_common, meant_entity}
+use Rattle.cedar_schema_model.specs.Declarations.{TypeExpr, bool_expr, long_expr, string_expr, set_expr, record_expr, reference, extension_expr, CommonDeclaration, ActionDeclaration, Declarations, common_name, common_names, is_declared, meant}
+use Rattle.cedar_schema_model.specs.WellFormed.{refers_to_record, is_record_within, becomes_record}
+use Rattle.cedar_schema_model.specs.Resolved.{type_meant, resolved_by, common_within, resolved}
+use Rattle.cedar_schema_model.specs.BagLaws.{HasTwice}
+use Rattle.cedar_schema_model.proofs.Named.{defined_by}
+use Rattle.cedar_schema_model.proofs.Decls.Resolved.{some_common}
+use Rattle.cedar_schema_model.proofs.Decls.Faults.{meant_is_declared}
 use Rattle.cedar_schema_building_model.specs.Contexts.{is_record_type}
 
 -- a declaration of another name is passed over

@@ -6,16 +6,16 @@ use Rattle.std.proofs.lemmas.List.Filters.{length-filter_both}
 use Rattle.cedar_expr_model.specs.Name.{Name, name_eq}
 use Rattle.cedar_expr_model.proofs.Equality.{name_eq-Decides}
 use Rattle.cedar_expr_model.proofs.Lists.{found-Decides, filter_has, map_has}
-use Rattle.cedar_schema_model.specs.Whole.Types.{Ty, never}
-use Rattle.cedar_schema_model.specs.Whole.BagLaws.{Uses}
-use Rattle.cedar_schema_model.specs.Whole.Declarations.{CommonDeclaration, Declarations, common_name, common_names}
-use Rattle.cedar_schema_model.specs.Whole.Descent.{Chain, Reaches}
-use Rattle.cedar_schema_model.specs.Whole.Reference.{meant_common}
-use Rattle.cedar_schema_model.specs.Whole.Resolved.{common_within, common_of}
-use Rattle.cedar_schema_model.proofs.Whole.Named.{defined_by}
-use Rattle.cedar_schema_model.proofs.Whole.Decls.Descent.{reaches_on}
-use Rattle.cedar_schema_model.proofs.Whole.Decls.Faults.{meant_is_declared}
-use Rattle.cedar_schema_model.proofs.Whole.Decls.Resolved.{IsAcyclic, StaysIn, same_resolved, common_found, some_common}
+use Rattle.cedar_schema_model.specs.Types.{Ty, never}
+use Rattle.cedar_schema_model.specs.BagLaws.{Uses}
+use Rattle.cedar_schema_model.specs.Declarations.{CommonDeclaration, Declarations, common_name, common_names}
+use Rattle.cedar_schema_model.specs.Descent.{Chain, Reaches}
+use Rattle.cedar_schema_model.specs.Reference.{meant_common}
+use Rattle.cedar_schema_model.specs.Resolved.{common_within, common_of}
+use Rattle.cedar_schema_model.proofs.Named.{defined_by}
+use Rattle.cedar_schema_model.proofs.Decls.Descent.{reaches_on}
+use Rattle.cedar_schema_model.proofs.Decls.Faults.{meant_is_declared}
+use Rattle.cedar_schema_model.proofs.Decls.Resolved.{IsAcyclic, StaysIn, same_resolved, common_found, some_common}
 use Rattle.cedar_schema_building_model.specs.Solutions.{IsSolution}
 
 -- the declaration of a name among these

@@ -1,11 +1,11 @@
 -- Contexts as types.
 -- Rule: well-formed declarations (docs/RULES.md).
 use Rattle.std.specs.Prelude.{◌≡◌, Bool, true, false}
-use Rattle.cedar_schema_model.specs.Whole.Types.{Ty, record_type}
-use Rattle.cedar_schema_model.specs.Whole.BagLaws.{HasTwice}
-use Rattle.cedar_schema_model.specs.Whole.Declarations.{ActionDeclaration, Declarations, common_names}
-use Rattle.cedar_schema_model.specs.Whole.Resolved.{resolved}
-use Rattle.cedar_schema_model.specs.Whole.WellFormed.{becomes_record}
+use Rattle.cedar_schema_model.specs.Types.{Ty, record_type}
+use Rattle.cedar_schema_model.specs.BagLaws.{HasTwice}
+use Rattle.cedar_schema_model.specs.Declarations.{ActionDeclaration, Declarations, common_names}
+use Rattle.cedar_schema_model.specs.Resolved.{resolved}
+use Rattle.cedar_schema_model.specs.WellFormed.{becomes_record}
 
 -- a type of records
 abbrev pub is_record_type : Ty → Bool

@@ -2,11 +2,11 @@
 -- Rule: schemas (docs/RULES.md).
 use Rattle.std.specs.Prelude.{◌≡◌, Contains}
 use Rattle.cedar_expr_model.specs.Name.{Name}
-use Rattle.cedar_schema_model.specs.Whole.Types.{Ty, never}
-use Rattle.cedar_schema_model.specs.Whole.BagLaws.{Uses}
-use Rattle.cedar_schema_model.specs.Whole.Declarations.{CommonDeclaration, Declarations, common_name, common_names}
-use Rattle.cedar_schema_model.specs.Whole.Descent.{Reaches}
-use Rattle.cedar_schema_model.specs.Whole.Resolved.{resolved_by, common_of}
+use Rattle.cedar_schema_model.specs.Types.{Ty, never}
+use Rattle.cedar_schema_model.specs.BagLaws.{Uses}
+use Rattle.cedar_schema_model.specs.Declarations.{CommonDeclaration, Declarations, common_name, common_names}
+use Rattle.cedar_schema_model.specs.Descent.{Reaches}
+use Rattle.cedar_schema_model.specs.Resolved.{resolved_by, common_of}
 
 -- These types solve the declarations: each declared one is what its definition says with these types in place of the common ones,
 -- and any other name stands for no value.

@@ -9,16 +9,16 @@ use Rattle.std.specs.List.Sorted.{IsPermutation}
 use Rattle.std.proofs.lemmas.List.Sorted.{IsPermutation-map, Contains-permutation}
 use Rattle.std.proofs.lemmas.List.{same_from_push}
 use Rattle.cedar_expr_model.specs.Name.{Text, Name, is_well_formed}
-use Rattle.cedar_expr_model.specs.Order.{name_cmp}
-use Rattle.cedar_expr_model.specs.Whole.Lists.{is_nil, rises}
+use Rattle.cedar_expr_model.specs.UidOrder.{name_cmp}
+use Rattle.cedar_expr_model.specs.Lists.{is_nil, rises}
 use Rattle.cedar_expr_model.proofs.Lists.{contains_cases, contains_none, contains_head, map_has, map_from, flat_has, flat_from}
 use Rattle.cedar_expr_names.proofs.Equality.{well_formed}
 use Rattle.cedar_expr_names.specs.declared.internal_name.InternalName.{InternalName}
 use Rattle.cedar_expr_names.specs.declared.loc.Loc.{Loc}
-use Rattle.cedar_schema_model.specs.Whole.BagLaws.{IsReordered}
-use Rattle.cedar_schema_model.specs.Whole.Declarations.{CommonDeclaration, EntityDeclaration, ActionDeclaration, Declarations, common_name, common_names}
-use Rattle.cedar_schema_model.specs.Whole.Reference.{Namespace}
-use Rattle.cedar_schema_model.proofs.Whole.Decls.Reordered.{reordered_back}
+use Rattle.cedar_schema_model.specs.BagLaws.{IsReordered}
+use Rattle.cedar_schema_model.specs.Declarations.{CommonDeclaration, EntityDeclaration, ActionDeclaration, Declarations, common_name, common_names}
+use Rattle.cedar_schema_model.specs.Reference.{Namespace}
+use Rattle.cedar_schema_model.proofs.Decls.Reordered.{reordered_back}
 use Rattle.cedar_schema_decl.specs.Laws.{namespace_parts}
 use Rattle.cedar_schema_fragments.proofs.Wholes.{whole, wholes_are}
 use Rattle.cedar_schema_fragments.specs.Qualified.{common_qualified, entity_qualified, action_qualified}

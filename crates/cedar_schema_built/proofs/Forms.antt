@@ -10,12 +10,12 @@ use Rattle.std.proofs.lemmas.Grind.{flat_map-append}
 use Rattle.std.proofs.lemmas.List.{map-append}
 use Rattle.std.proofs.lemmas.List.Folds.{flat_map-map}
 use Rattle.cedar_expr_model.specs.Name.{Text, Name}
-use Rattle.cedar_expr_model.specs.Whole.Lists.{is_nil}
+use Rattle.cedar_expr_model.specs.Lists.{is_nil}
 use Rattle.cedar_expr_names.specs.Views.{name_of}
 use Rattle.cedar_expr_names.specs.declared.internal_name.InternalName.{InternalName}
 use Rattle.cedar_expr_names.specs.declared.loc.Loc.{Loc}
 use Rattle.cedar_expr_raw_names.specs.declared.conditional_name.ConditionalName.{ConditionalName}
-use Rattle.cedar_schema_model.specs.Whole.Declarations.{common_name, common_names}
+use Rattle.cedar_schema_model.specs.Declarations.{common_name, common_names}
 use Rattle.cedar_schema_decl.specs.Conditional.{Conditional, conditional_of}
 use Rattle.cedar_schema_decl.specs.Definitions.{common_form, entity_form}
 use Rattle.cedar_schema_decl.specs.Forms.{TypeForm, EntityForm}

@@ -8,13 +8,13 @@ use Rattle.std.specs.declared.alloc.Global.{Global}
 use Rattle.std.specs.declared.vec.Vec.{Vec}
 use Rattle.cedar_expr_model.specs.Name.{name_eq}
 use Rattle.cedar_expr_model.specs.Uid.{Uid, uid_eq}
-use Rattle.cedar_expr_model.specs.Order.{name_cmp, uid_cmp}
-use Rattle.cedar_expr_model.specs.Whole.Lists.{rises}
+use Rattle.cedar_expr_model.specs.UidOrder.{name_cmp, uid_cmp}
+use Rattle.cedar_expr_model.specs.Lists.{rises}
 use Rattle.cedar_expr_model.proofs.Equality.{uid_eq-Decides}
 use Rattle.cedar_expr_model.proofs.Lists.{both_hold, contains_tail}
 use Rattle.cedar_expr_names.specs.Views.{uid_of}
 use Rattle.cedar_expr_names.specs.declared.entity.EntityUID.{EntityUID}
-use Rattle.cedar_schema_model.specs.Whole.BagLaws.{HasTwice}
+use Rattle.cedar_schema_model.specs.BagLaws.{HasTwice}
 use Rattle.cedar_schema_kept_model.specs.Kept.{KeptType, KeptAction}
 use Rattle.cedar_schema_entries.specs.InOrder.{type_in_order, action_in_order}
 use Rattle.cedar_schema_entries.specs.Views.{action_seen}

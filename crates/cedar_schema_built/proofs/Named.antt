@@ -10,7 +10,7 @@ use Rattle.std.specs.Rc.{rc_str_bytes}
 use Rattle.std.specs.Ordering.{is_eq}
 use Rattle.cedar_expr_model.specs.Name.{name_eq}
 use Rattle.cedar_expr_model.specs.Uid.{uid_eq}
-use Rattle.cedar_expr_model.specs.Order.{name_cmp, uid_cmp}
+use Rattle.cedar_expr_model.specs.UidOrder.{name_cmp, uid_cmp}
 use Rattle.cedar_expr_model.proofs.Equality.{name_eq-Decides, uid_eq-Decides}
 use Rattle.cedar_expr_names.specs.Views.{type_name_of, uid_of}
 use Rattle.cedar_expr_names.specs.declared.entity.EntityType.{EntityType}

@@ -5,9 +5,9 @@ use Rattle.std.specs.Cmp.{IsTotalOrder}
 use Rattle.std.specs.Ordering.{is_lt, match_ordering, ordering_reverse}
 use Rattle.std.specs.declared.cmp.Ordering.{Ordering}
 use Rattle.std.specs.declared.cmp.Ordering.TheVariants.{Less, Equal, Greater}
-use Rattle.cedar_expr_model.specs.Whole.Lists.{rises}
+use Rattle.cedar_expr_model.specs.Lists.{rises}
 use Rattle.cedar_expr_model.proofs.Lists.{hold_both, contains_cases, contains_head, contains_tail, contains_none}
-use Rattle.cedar_expr_model.proofs.Whole.Rising.{is_less}
+use Rattle.cedar_expr_model.proofs.Rising.{is_less}
 use Rattle.cedar_schema_built.specs.Put.{put, all_put}
 use Rattle.cedar_schema_built.proofs.Rising.{rest_rises, below_each, rises_more}
 

@@ -10,11 +10,11 @@ use Rattle.std.proofs.lemmas.Cmp.{nat_list_cmp_total, on_total, then_total, tied
 use Rattle.std.proofs.lemmas.List.Elements.{Contains-append_cases}
 use Rattle.cedar_expr_model.specs.Name.{name_text}
 use Rattle.cedar_expr_model.specs.Uid.{Uid}
-use Rattle.cedar_expr_model.specs.Order.{name_cmp, uid_cmp}
-use Rattle.cedar_expr_model.specs.Whole.Lists.{rises}
+use Rattle.cedar_expr_model.specs.UidOrder.{name_cmp, uid_cmp}
+use Rattle.cedar_expr_model.specs.Lists.{rises}
 use Rattle.cedar_expr_model.proofs.Lists.{both_hold, hold_both, contains_head, contains_tail, contains_cases, contains_none, flat_from}
-use Rattle.cedar_expr_model.proofs.Whole.Rising.{is_less, less_is}
-use Rattle.cedar_schema_model.specs.Whole.BagLaws.{HasTwice}
+use Rattle.cedar_expr_model.proofs.Rising.{is_less, less_is}
+use Rattle.cedar_schema_model.specs.BagLaws.{HasTwice}
 
 pub name_total : IsTotalOrder name_cmp
 name_total = on_total name_text nat_list_cmp_total

@@ -9,12 +9,12 @@ use Rattle.std.proofs.lemmas.Map.Text.{is_eq-slice_cmp}
 use Rattle.std.proofs.lemmas.Slice.Eq.{bytes_eq-Decides}
 use Rattle.cedar_expr_model.specs.Name.{Name, name_text, is_well_formed}
 use Rattle.cedar_expr_model.specs.Uid.{Uid}
-use Rattle.cedar_expr_model.specs.Order.{name_cmp, uid_cmp}
+use Rattle.cedar_expr_model.specs.UidOrder.{name_cmp, uid_cmp}
 use Rattle.cedar_expr_model.proofs.Equality.{name_eq-Decides}
 use Rattle.cedar_expr_model.proofs.Lists.{contains_cases, contains_none, contains_head, contains_tail, map_has, map_from, both_hold}
 use Rattle.cedar_expr_names.proofs.Equality.{name_eq_is, well_formed}
-use Rattle.cedar_schema_model.specs.Whole.BagLaws.{HasTwice}
-use Rattle.cedar_schema_model.specs.Whole.Schema.{EntityType, Action, Schema}
+use Rattle.cedar_schema_model.specs.BagLaws.{HasTwice}
+use Rattle.cedar_schema_model.specs.Schema.{EntityType, Action, Schema}
 use Rattle.cedar_schema_kept_model.specs.Kept.{KeptType, KeptAction}
 use Rattle.cedar_schema_kept_model.specs.KeptOf.{IsSameType, IsSameAction, IsKeptOf}
 use Rattle.cedar_schema_entries.specs.Views.{entity_type_seen, action_seen}

@@ -3,8 +3,8 @@
 use Rattle.std.specs.Prelude.{Bool, not, List, []}
 use Rattle.std.specs.List.{list_all}
 use Rattle.cedar_expr_model.specs.Uid.{Uid}
-use Rattle.cedar_expr_model.specs.Whole.Value.{V}
-use Rattle.cedar_store_model.specs.Whole.World.{Entity}
+use Rattle.cedar_expr_model.specs.Value.{V}
+use Rattle.cedar_store_model.specs.World.{Entity}
 use Rattle.cedar_store_entities.specs.Recorded.{Kin, all_recorded}
 
 -- an entity with these recorded ancestors alone

@@ -4,8 +4,8 @@ use Rattle.std.specs.Prelude.{◌≡◌, map, true}
 use Rattle.std.specs.List.{list_all}
 use Rattle.std.specs.Ordering.{ordering_then}
 use Rattle.std.specs.declared.cmp.Ordering.{Ordering}
-use Rattle.cedar_expr_model.specs.Order.{name_cmp, uid_cmp}
-use Rattle.cedar_expr_model.specs.Whole.Lists.{rises}
+use Rattle.cedar_expr_model.specs.UidOrder.{name_cmp, uid_cmp}
+use Rattle.cedar_expr_model.specs.Lists.{rises}
 use Rattle.cedar_schema_kept_model.specs.Kept.{Kept, RequestKind}
 use Rattle.cedar_schema_entries.specs.InOrder.{type_in_order, action_in_order}
 

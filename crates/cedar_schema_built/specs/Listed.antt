@@ -2,13 +2,13 @@
 -- Rule: schemas; declarations (docs/RULES.md).
 use Rattle.std.specs.Prelude.{◌≡◌, ◌↔◌, List, [], ◌++◌, map, false, Some, Contains}
 use Rattle.cedar_expr_model.specs.Name.{Name}
-use Rattle.cedar_expr_model.specs.Order.{name_cmp}
-use Rattle.cedar_expr_model.specs.Whole.Lists.{is_nil}
+use Rattle.cedar_expr_model.specs.UidOrder.{name_cmp}
+use Rattle.cedar_expr_model.specs.Lists.{is_nil}
 use Rattle.cedar_expr_names.specs.declared.internal_name.InternalName.{InternalName}
 use Rattle.cedar_expr_raw_names.specs.declared.conditional_name.ConditionalName.{ConditionalName}
-use Rattle.cedar_schema_model.specs.Whole.BagLaws.{IsReordered}
-use Rattle.cedar_schema_model.specs.Whole.Declarations.{Declarations, common_names}
-use Rattle.cedar_schema_model.specs.Whole.Reference.{Namespace}
+use Rattle.cedar_schema_model.specs.BagLaws.{IsReordered}
+use Rattle.cedar_schema_model.specs.Declarations.{Declarations, common_names}
+use Rattle.cedar_schema_model.specs.Reference.{Namespace}
 use Rattle.cedar_schema_decl.specs.Laws.{namespace_parts}
 use Rattle.cedar_schema_fragments.specs.WrittenDeclarations.{AreWritten}
 use Rattle.cedar_schema_fragments.specs.declared.namespace_def.ValidatorSchemaFragment.{ValidatorSchemaFragment}

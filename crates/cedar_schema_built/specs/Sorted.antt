@@ -1,8 +1,8 @@
 -- What is kept of a schema where its entity types and actions are put in order.
 -- Rule: schemas; descent (docs/RULES.md).
 use Rattle.std.specs.Prelude.{List, [], map}
-use Rattle.cedar_expr_model.specs.Order.{name_cmp, uid_cmp}
-use Rattle.cedar_schema_model.specs.Whole.Schema.{Schema}
+use Rattle.cedar_expr_model.specs.UidOrder.{name_cmp, uid_cmp}
+use Rattle.cedar_schema_model.specs.Schema.{Schema}
 use Rattle.cedar_schema_kept_model.specs.KeptOf.{IsKeptOf}
 use Rattle.cedar_schema_entries.specs.Views.{entity_type_seen, action_seen}
 use Rattle.cedar_schema_entries.specs.declared.entity_type.ValidatorEntityType.{ValidatorEntityType}

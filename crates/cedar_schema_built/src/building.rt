@@ -1,7 +1,7 @@
 //! A schema built of fragments.
 
 ghost use Rattle.std.specs.Prelude.{IfOk, IfErr};
-ghost use Rattle.cedar_schema_model.specs.Whole.Declarations.{Declarations};
+ghost use Rattle.cedar_schema_model.specs.Declarations.{Declarations};
 ghost use Rattle.cedar_schema_fragments.specs.WrittenDeclarations.{AreWritten};
 ghost use Rattle.cedar_schema_builder.specs.Built.{IsFaultOf, NamesFaultOf};
 ghost use Rattle.cedar_schema_builder.specs.Extensions.{types_given};

@@ -47,7 +47,7 @@ impl<'a> Ancestors<'a> {
 impl<'a> ActionGroups<'a> {
     ghost use Rattle.std.specs.Prelude.{◌≡◌, map, not};
     ghost use Rattle.std.specs.List.{filter};
-    ghost use Rattle.cedar_expr_model.specs.Whole.Lists.{is_nil};
+    ghost use Rattle.cedar_expr_model.specs.Lists.{is_nil};
     ghost use Rattle.cedar_schema_entries.specs.Views.{action_seen};
     ghost use Rattle.cedar_schema_built.specs.Iterators.{groups_left};
 

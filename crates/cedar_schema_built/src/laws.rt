@@ -3,7 +3,7 @@
 
 ghost use Rattle.std.specs.Prelude.{◌≡◌, true};
 ghost use Rattle.std.specs.List.{list_all};
-ghost use Rattle.cedar_expr_model.specs.Whole.Lists.{rises};
+ghost use Rattle.cedar_expr_model.specs.Lists.{rises};
 ghost use Rattle.cedar_schema_kept_model.specs.Kept.{kept_environments};
 ghost use Rattle.cedar_schema_entries.specs.InOrder.{type_in_order, action_in_order};
 ghost use Rattle.cedar_schema_built.specs.BuiltOf.{FirstElsewhereIsFault, CompleteIsFaultless};

@@ -1,7 +1,7 @@
 //! The common types and the namespaces of a schema, by name.
 
 ghost use Rattle.std.specs.Prelude.{◌≡◌, [], map, IfOk};
-ghost use Rattle.cedar_expr_model.specs.Order.{name_cmp};
+ghost use Rattle.cedar_expr_model.specs.UidOrder.{name_cmp};
 ghost use Rattle.cedar_schema_located.specs.OfFragments.{commons_of_fragments, spaces_of_fragments};
 ghost use Rattle.cedar_schema_located.specs.Views.{common_listed, space_listed};
 ghost use Rattle.cedar_schema_built.specs.Listed.{commons_in, spaces_in, names_listed, AreListed};

@@ -2,7 +2,7 @@
 
 ghost use Rattle.std.specs.Prelude.{◌≡◌, [], map, IfOk};
 ghost use Rattle.std.specs.BTreeMap.{get};
-ghost use Rattle.cedar_expr_model.specs.Order.{name_cmp, uid_cmp};
+ghost use Rattle.cedar_expr_model.specs.UidOrder.{name_cmp, uid_cmp};
 ghost use Rattle.cedar_schema_entries.specs.Views.{entity_type_seen, action_seen};
 ghost use Rattle.cedar_schema_built.specs.Ancestors.{types_by, TypesAreAbove};
 ghost use Rattle.cedar_schema_built.specs.Put.{all_put};

@@ -36,7 +36,7 @@ pub struct UnresolvedExternalError<'a> {
 
 impl<'a> UnresolvedExternalError<'a> {
     ghost use Rattle.std.specs.Prelude.{◌≡◌};
-    ghost use Rattle.cedar_schema_model.specs.Whole.WellFormed.{schema_number, unresolved_external};
+    ghost use Rattle.cedar_schema_model.specs.WellFormed.{schema_number, unresolved_external};
 
     /// The number of the refusal, which goes on from those of `SchemaError`.
     pub fn number(&self) -> u32
@@ -97,7 +97,7 @@ impl<'a> Iterator for UnresolvedDeclarations<'a> {
 }
 
 ghost use Rattle.std.specs.Prelude.{◌≡◌, [], ◌∷◌, List, IfOk, IfErr};
-ghost use Rattle.cedar_expr_model.specs.Whole.Lists.{is_nil};
+ghost use Rattle.cedar_expr_model.specs.Lists.{is_nil};
 ghost use Rattle.cedar_schema_kept_model.specs.Kept.{Elsewhere, elsewhere, IsFirst};
 ghost use Rattle.cedar_schema_built.specs.Views.{schema_kept, unresolved_seen};
 

@@ -12,8 +12,8 @@ use Rattle.std.proofs.lemmas.List.Sorted.{Contains-permutation, IsPermutation-ma
 use Rattle.std.proofs.lemmas.Map.Keys.{IsDistinct-push, IsDistinct-IsPermutation}
 use Rattle.std.proofs.lemmas.Map.Made.{length-le_from_is_member}
 use Rattle.cedar_expr_model.proofs.Lists.{contains_none}
-use Rattle.cedar_schema_model.specs.Whole.Descent.{Chain, Reaches}
-use Rattle.cedar_schema_model.proofs.Whole.Decls.Descent.{reaches_on}
+use Rattle.cedar_schema_model.specs.Descent.{Chain, Reaches}
+use Rattle.cedar_schema_model.proofs.Decls.Descent.{reaches_on}
 use Rattle.cedar_schema_closure.specs.Graphs.{Graph, targets, HasEdge, IsWithin, IsClosure, IsOrder}
 use Rattle.cedar_schema_closure.specs.Ranks.{LeadsToItself, LeadToOthers, ranks_from, AreByRank}
 use Rattle.cedar_schema_closure.specs.declared.order.Rank.{Rank}

@@ -8,8 +8,8 @@ use Rattle.std.specs.declared.alloc.Global.{Global}
 use Rattle.std.specs.declared.vec.Vec.{Vec}
 use Rattle.std.proofs.lemmas.Map.Steps.{length-le_from_distinct_below}
 use Rattle.cedar_expr_model.proofs.Lists.{contains_cases, contains_none}
-use Rattle.cedar_schema_model.specs.Whole.Descent.{Chain, Reaches}
-use Rattle.cedar_schema_model.proofs.Whole.Decls.Descent.{reaches_on}
+use Rattle.cedar_schema_model.specs.Descent.{Chain, Reaches}
+use Rattle.cedar_schema_model.proofs.Decls.Descent.{reaches_on}
 use Rattle.cedar_schema_closure.specs.Graphs.{Graph, targets, HasEdge, IsWithin, AreReached}
 use Rattle.cedar_schema_closure.specs.Found.{with_nodes, AreBelow}
 use Rattle.cedar_schema_closure.proofs.Finding.{is_found, nodes_kept, nodes_have, nodes_only, nodes_once, nodes_same}

@@ -4,7 +4,7 @@ use Rattle.std.specs.Prelude.{◌≡◌, ℕ, zero, suc, ◌<◌, List, [], ◌�
 use Rattle.std.specs.List.{IsDistinct}
 use Rattle.std.specs.declared.alloc.Global.{Global}
 use Rattle.std.specs.declared.vec.Vec.{Vec}
-use Rattle.cedar_schema_model.specs.Whole.Descent.{Reaches}
+use Rattle.cedar_schema_model.specs.Descent.{Reaches}
 use Rattle.cedar_schema_closure.specs.declared.err.CycleError.{CycleError}
 use Rattle.cedar_schema_closure.specs.declared.err.CycleError.TheVariants.{OutOfMemory, Cycle}
 

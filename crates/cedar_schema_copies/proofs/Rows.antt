@@ -7,10 +7,10 @@ use Rattle.std.specs.declared.rc.RcStr.{RcStr}
 use Rattle.std.specs.List.Sorted.{IsStrictlySortedBy}
 use Rattle.std.specs.Map.{keys_of}
 use Rattle.cedar_expr_model.specs.Name.{Text, Name}
-use Rattle.cedar_expr_model.specs.Whole.Lists.{rises}
-use Rattle.cedar_expr_model.specs.Whole.Order.{text_cmp}
-use Rattle.cedar_expr_model.specs.Whole.Records.{in_order, names_rise}
-use Rattle.cedar_expr_model.proofs.Whole.Ordering.{in_order_stays}
+use Rattle.cedar_expr_model.specs.Lists.{rises}
+use Rattle.cedar_expr_model.specs.Order.{text_cmp}
+use Rattle.cedar_expr_model.specs.Records.{in_order, names_rise}
+use Rattle.cedar_expr_model.proofs.Ordering.{in_order_stays}
 use Rattle.cedar_expr_raw_names.specs.Views.{raw_name_of}
 use Rattle.cedar_expr_raw_names.specs.declared.raw_name.RawName.{RawName}
 use Rattle.cedar_expr_values.specs.Fields.{by_text}

@@ -1,7 +1,7 @@
 //! Copies of types as they are written.
 
 ghost use Rattle.std.specs.Prelude.{◌≡◌, map, IfOk, true};
-ghost use Rattle.cedar_expr_model.specs.Whole.Records.{names_rise};
+ghost use Rattle.cedar_expr_model.specs.Records.{names_rise};
 ghost use Rattle.cedar_expr_raw_names.specs.Views.{raw_name_of};
 ghost use Rattle.cedar_expr_values.specs.Fields.{by_text};
 ghost use Rattle.cedar_schema_decl.specs.Trees.{type_form, variant_form, record_rows, attribute_form, attribute_rows};

@@ -8,9 +8,9 @@ use Rattle.std.specs.Rc.{rc_str_bytes}
 use Rattle.std.specs.declared.alloc.Global.{Global}
 use Rattle.std.specs.declared.rc.RcStr.{RcStr}
 use Rattle.cedar_expr_model.specs.Name.{Text}
-use Rattle.cedar_expr_model.specs.Whole.Lists.{rises}
-use Rattle.cedar_expr_model.specs.Whole.Order.{text_cmp}
-use Rattle.cedar_expr_model.specs.Whole.Records.{names_rise}
+use Rattle.cedar_expr_model.specs.Lists.{rises}
+use Rattle.cedar_expr_model.specs.Order.{text_cmp}
+use Rattle.cedar_expr_model.specs.Records.{names_rise}
 use Rattle.cedar_schema_types.specs.Types.{attributes_of, attribute_of, entries_of}
 use Rattle.cedar_schema_types.specs.AttributeLists.{attributes_from, declared_pairs}
 use Rattle.cedar_schema_types.specs.declared.types.Attributes.{Attributes}

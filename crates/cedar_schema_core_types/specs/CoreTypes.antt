@@ -4,8 +4,8 @@ use Rattle.std.specs.Prelude.{List, [], ◌∷◌, Bool, not}
 use Rattle.std.specs.declared.result.Result.{Result}
 use Rattle.std.specs.declared.result.Result.TheVariants.{Ok, Err}
 use Rattle.cedar_expr_model.specs.Name.{Text, Name}
-use Rattle.cedar_schema_model.specs.Whole.Subtype.{is_closed_record}
-use Rattle.cedar_schema_model.specs.Whole.Types.{Ty, never, bool_type, long_type, string_type, any_entity, entity_types, any_set, set_type, record_type, extension_type, Attributes, no_attributes, attribute, Declared}
+use Rattle.cedar_schema_model.specs.Subtype.{is_closed_record}
+use Rattle.cedar_schema_model.specs.Types.{Ty, never, bool_type, long_type, string_type, any_entity, entity_types, any_set, set_type, record_type, extension_type, Attributes, no_attributes, attribute, Declared}
 
 -- A type by which values can be read. A record is open if it may have fields that its type doesn't list.
 mutual

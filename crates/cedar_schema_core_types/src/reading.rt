@@ -2,7 +2,7 @@
 
 ghost use Rattle.std.specs.Prelude.{◌≡◌, true, IfOk, IfErr};
 ghost use Rattle.std.specs.declared.result.Result.TheVariants.{Ok};
-ghost use Rattle.cedar_expr_model.specs.Whole.Records.{names_rise};
+ghost use Rattle.cedar_expr_model.specs.Records.{names_rise};
 ghost use Rattle.cedar_schema_types.specs.Unions.{members_of, entities_of};
 ghost use Rattle.cedar_schema_types.specs.Types.{type_of, attributes_of, attribute_of};
 ghost use Rattle.cedar_schema_core_types.specs.CoreTypes.{core_read, core_union_read, core_attributes_read, core_declared_read, core_attributes_from};

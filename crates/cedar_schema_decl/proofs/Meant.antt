@@ -5,7 +5,7 @@ use Rattle.std.specs.Option.{option_map_or}
 use Rattle.cedar_expr_model.specs.Name.{Name}
 use Rattle.cedar_expr_names.specs.Views.{name_of}
 use Rattle.cedar_expr_names.specs.declared.internal_name.InternalName.{InternalName}
-use Rattle.cedar_schema_model.specs.Whole.Reference.{ReferenceKind, to_entity, to_common, to_either, Meant, meant_common, meant_entity, meant_at}
+use Rattle.cedar_schema_model.specs.Reference.{ReferenceKind, to_entity, to_common, to_either, Meant, meant_common, meant_entity, meant_at}
 use Rattle.cedar_schema_decl.specs.Conditional.{Conditional, may_mean}
 use Rattle.cedar_schema_decl.specs.Defined.{Defined, is_defined, tells, meant_by, meant_name, resolved}
 

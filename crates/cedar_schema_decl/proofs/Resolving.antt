@@ -3,9 +3,9 @@ use Rattle.std.proofs.Common.{◌≡◌, Bool, true, false, cond, ◌||◌, List
 use Rattle.std.specs.List.{flat_map}
 use Rattle.std.specs.Option.{option_or}
 use Rattle.cedar_expr_model.specs.Name.{Text, Name}
-use Rattle.cedar_expr_model.specs.Whole.Names.{possibilities}
-use Rattle.cedar_schema_model.specs.Whole.Reference.{ReferenceKind, to_entity, to_common, to_either, Meant, meant_common, meant_entity, meant_at, places}
-use Rattle.cedar_schema_model.specs.Whole.Declarations.{Declarations, is_declared, meant}
+use Rattle.cedar_expr_model.specs.Names.{possibilities}
+use Rattle.cedar_schema_model.specs.Reference.{ReferenceKind, to_entity, to_common, to_either, Meant, meant_common, meant_entity, meant_at, places}
+use Rattle.cedar_schema_model.specs.Declarations.{Declarations, is_declared, meant}
 use Rattle.cedar_schema_decl.specs.Conditional.{conditional_in}
 use Rattle.cedar_schema_decl.specs.Defined.{Defined, is_defined, meant_by, meant_name}
 use Rattle.cedar_schema_decl.specs.Laws.{HasDeclared, namespace_parts}

@@ -10,13 +10,13 @@ use Rattle.std.specs.Cmp.Lexicographic.{slice_cmp}
 use Rattle.std.specs.declared.cmp.Ordering.{Ordering}
 use Rattle.std.specs.declared.cmp.Ordering.TheVariants.{Less, Equal, Greater}
 use Rattle.cedar_expr_model.specs.Name.{Name, name_eq, name_text, is_well_formed}
-use Rattle.cedar_expr_model.specs.Order.{name_cmp, uid_cmp}
+use Rattle.cedar_expr_model.specs.UidOrder.{name_cmp, uid_cmp}
 use Rattle.cedar_expr_model.specs.Uid.{Uid, uid_eq}
 use Rattle.cedar_expr_names.specs.Views.{name_of, eid_text, uid_of}
 use Rattle.cedar_expr_names.specs.declared.internal_name.InternalName.{InternalName}
 use Rattle.cedar_expr_names.specs.declared.entity.EntityUID.{EntityUID}
 use Rattle.cedar_expr_names.proofs.Equality.{name_eq_is, well_formed, names_cmp_is, uids_cmp_is}
-use Rattle.cedar_schema_model.specs.Whole.Join.{name_inserted}
+use Rattle.cedar_schema_model.specs.Join.{name_inserted}
 use Rattle.cedar_schema_decl.specs.Defined.{uid_inserted}
 
 -- a test that is the model's finds what the model's finds

@@ -5,10 +5,10 @@ use Rattle.std.specs.Prelude.{is_none}
 use Rattle.std.specs.List.{list_any}
 use Rattle.std.specs.Option.{option_map_or}
 use Rattle.cedar_expr_model.specs.Name.{Text, Name}
-use Rattle.cedar_schema_model.specs.Whole.Types.{Ty, set_type, record_type, is_closed, Attributes}
-use Rattle.cedar_schema_model.specs.Whole.Reference.{Namespace, ReferenceKind, Reference, Meant, meant_at}
-use Rattle.cedar_schema_model.specs.Whole.Declarations.{Declarations, meant, references_in, references_in_fields}
-use Rattle.cedar_schema_model.specs.Whole.Resolved.{with_attribute, type_meant, resolved_by, resolved_fields_by}
+use Rattle.cedar_schema_model.specs.Types.{Ty, set_type, record_type, is_closed, Attributes}
+use Rattle.cedar_schema_model.specs.Reference.{Namespace, ReferenceKind, Reference, Meant, meant_at}
+use Rattle.cedar_schema_model.specs.Declarations.{Declarations, meant, references_in, references_in_fields}
+use Rattle.cedar_schema_model.specs.Resolved.{with_attribute, type_meant, resolved_by, resolved_fields_by}
 use Rattle.cedar_schema_decl.specs.Forms.{TypeForm, bool_form, long_form, string_form, set_form, record_form, reference_form, extension_form, FieldForms, no_field_forms, field_form}
 use Rattle.cedar_schema_decl.specs.Conditional.{Conditional, conditional_in, may_mean}
 use Rattle.cedar_schema_decl.specs.Defined.{Defined, is_defined, meant_by, meant_name, resolved, resolving}

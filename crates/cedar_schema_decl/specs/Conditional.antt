@@ -5,8 +5,8 @@ use Rattle.std.specs.List.{flat_map}
 use Rattle.std.specs.declared.result.Result.{Result}
 use Rattle.std.specs.declared.result.Result.TheVariants.{Ok}
 use Rattle.cedar_expr_model.specs.Name.{Name}
-use Rattle.cedar_expr_model.specs.Whole.Names.{possibilities}
-use Rattle.cedar_schema_model.specs.Whole.Reference.{ReferenceKind, to_entity, to_common, to_either, Meant, meant_at}
+use Rattle.cedar_expr_model.specs.Names.{possibilities}
+use Rattle.cedar_schema_model.specs.Reference.{ReferenceKind, to_entity, to_common, to_either, Meant, meant_at}
 use Rattle.cedar_expr_raw_names.specs.Views.{possible_names, written_name, referred}
 use Rattle.cedar_expr_raw_names.specs.declared.conditional_name.ConditionalName.{ConditionalName}
 use Rattle.cedar_expr_raw_names.specs.declared.conditional_name.ReferenceType.{ReferenceType}

@@ -7,11 +7,11 @@ use Rattle.std.specs.Ordering.{match_ordering}
 use Rattle.std.specs.declared.result.Result.{Result}
 use Rattle.std.specs.declared.result.Result.TheVariants.{Ok, Err}
 use Rattle.cedar_expr_model.specs.Name.{Name, name_eq}
-use Rattle.cedar_expr_model.specs.Order.{uid_cmp}
+use Rattle.cedar_expr_model.specs.UidOrder.{uid_cmp}
 use Rattle.cedar_expr_model.specs.Uid.{Uid, uid_eq}
 use Rattle.cedar_expr_names.specs.Views.{name_of, uid_of}
-use Rattle.cedar_schema_model.specs.Whole.Join.{name_inserted}
-use Rattle.cedar_schema_model.specs.Whole.Reference.{ReferenceKind, Meant, meant_common, meant_entity, meant_at}
+use Rattle.cedar_schema_model.specs.Join.{name_inserted}
+use Rattle.cedar_schema_model.specs.Reference.{ReferenceKind, Meant, meant_common, meant_entity, meant_at}
 use Rattle.cedar_schema_decl.specs.Conditional.{Conditional, may_mean}
 use Rattle.cedar_schema_decl.specs.declared.all_defs.AllDefs.{AllDefs}
 

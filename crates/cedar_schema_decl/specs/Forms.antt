@@ -2,7 +2,7 @@
 -- Rule: declarations (docs/RULES.md).
 use Rattle.std.specs.Prelude.{List, Bool, Option}
 use Rattle.cedar_expr_model.specs.Name.{Text, Name}
-use Rattle.cedar_schema_model.specs.Whole.Reference.{ReferenceKind}
+use Rattle.cedar_schema_model.specs.Reference.{ReferenceKind}
 
 -- A type. A reference tells what is due where it stands.
 mutual

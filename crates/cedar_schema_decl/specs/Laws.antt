@@ -5,10 +5,10 @@ use Rattle.std.specs.List.{list_any}
 use Rattle.std.specs.declared.result.Result.{Result}
 use Rattle.std.specs.declared.result.Result.TheVariants.{Ok, Err}
 use Rattle.cedar_expr_model.specs.Name.{Name}
-use Rattle.cedar_schema_model.specs.Whole.Types.{Ty, bool_type, any_bool, long_type, string_type, set_type, record_type, extension_type, is_closed, Attributes, no_attributes}
-use Rattle.cedar_schema_model.specs.Whole.Reference.{Namespace, ReferenceKind, Meant, meant_at}
-use Rattle.cedar_schema_model.specs.Whole.Declarations.{TypeExpr, bool_expr, long_expr, string_expr, set_expr, record_expr, reference, extension_expr, FieldExprs, no_field_exprs, field_expr, Declarations, is_declared, meant, references_in}
-use Rattle.cedar_schema_model.specs.Whole.Resolved.{with_attribute, type_meant, resolved_by}
+use Rattle.cedar_schema_model.specs.Types.{Ty, bool_type, any_bool, long_type, string_type, set_type, record_type, extension_type, is_closed, Attributes, no_attributes}
+use Rattle.cedar_schema_model.specs.Reference.{Namespace, ReferenceKind, Meant, meant_at}
+use Rattle.cedar_schema_model.specs.Declarations.{TypeExpr, bool_expr, long_expr, string_expr, set_expr, record_expr, reference, extension_expr, FieldExprs, no_field_exprs, field_expr, Declarations, is_declared, meant, references_in}
+use Rattle.cedar_schema_model.specs.Resolved.{with_attribute, type_meant, resolved_by}
 use Rattle.cedar_schema_decl.specs.Forms.{TypeForm, bool_form, long_form, string_form, set_form, record_form, reference_form, extension_form, FieldForms, no_field_forms, field_form}
 use Rattle.cedar_schema_decl.specs.Conditional.{Conditional, conditional_in}
 use Rattle.cedar_schema_decl.specs.Defined.{Defined, is_defined, meant_by, resolving}

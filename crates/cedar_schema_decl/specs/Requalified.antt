@@ -4,7 +4,7 @@ use Rattle.std.specs.Prelude.{List, [], ◌∷◌, Bool, Option, Some, None}
 use Rattle.std.specs.declared.result.Result.{Result}
 use Rattle.std.specs.declared.result.Result.TheVariants.{Ok, Err}
 use Rattle.cedar_expr_model.specs.Name.{Name}
-use Rattle.cedar_schema_model.specs.Whole.Reference.{ReferenceKind, to_entity}
+use Rattle.cedar_schema_model.specs.Reference.{ReferenceKind, to_entity}
 use Rattle.cedar_schema_decl.specs.Conditional.{Conditional, qualifying}
 use Rattle.cedar_schema_decl.specs.Forms.{TypeForm, bool_form, long_form, string_form, set_form, record_form, reference_form, extension_form, FieldForms, no_field_forms, field_form, EntityForm, standard_form, enumerated_form, external_form}
 

@@ -5,9 +5,9 @@ use Rattle.std.specs.List.{list_any}
 use Rattle.std.specs.Option.{option_or}
 use Rattle.cedar_expr_model.specs.Name.{Name, name_eq}
 use Rattle.cedar_expr_model.specs.Uid.{Uid}
-use Rattle.cedar_expr_model.specs.Whole.Names.{is_unqualified, unqualified}
+use Rattle.cedar_expr_model.specs.Names.{is_unqualified, unqualified}
 use Rattle.cedar_expr_names.specs.Views.{name_of, uid_of}
-use Rattle.cedar_schema_model.specs.Whole.WellFormed.{unqualified_uid}
+use Rattle.cedar_schema_model.specs.WellFormed.{unqualified_uid}
 use Rattle.cedar_schema_decl.specs.Defined.{Defined, is_defined_action}
 use Rattle.cedar_schema_decl.specs.declared.err.ShadowingError.{ShadowingError}
 use Rattle.cedar_schema_decl.specs.declared.err.ShadowingError.TheVariants.{OutOfMemory, TypeShadowing, ActionShadowing}

@@ -6,7 +6,7 @@ use Rattle.std.specs.declared.rc.RcStr.{RcStr}
 use Rattle.cedar_expr_model.specs.Name.{Text}
 use Rattle.cedar_expr_names.specs.Views.{name_of}
 use Rattle.cedar_expr_values.specs.Fields.{by_text}
-use Rattle.cedar_schema_model.specs.Whole.Reference.{to_entity, to_common, to_either}
+use Rattle.cedar_schema_model.specs.Reference.{to_entity, to_common, to_either}
 use Rattle.cedar_schema_decl.specs.Forms.{TypeForm, bool_form, long_form, string_form, set_form, record_form, reference_form, extension_form, FieldForms, no_field_forms, field_form}
 use Rattle.cedar_schema_decl.specs.declared.json_schema.Type.{«Type» as Written, Type-F, fold-Type}
 use Rattle.cedar_schema_decl.specs.declared.json_schema.TypeVariant.{TypeVariant, TypeVariant-F, fold-TypeVariant}

@@ -3,9 +3,9 @@
 ghost use Rattle.std.specs.Prelude.{◌≡◌, true, map, IfOk, IfErr};
 ghost use Rattle.std.specs.declared.result.Result.{Result};
 ghost use Rattle.std.specs.declared.result.Result.TheVariants.{Ok};
-ghost use Rattle.cedar_expr_model.specs.Whole.Records.{names_rise};
+ghost use Rattle.cedar_expr_model.specs.Records.{names_rise};
 ghost use Rattle.cedar_expr_values.specs.Fields.{by_text};
-ghost use Rattle.cedar_schema_model.specs.Whole.Reference.{ReferenceKind};
+ghost use Rattle.cedar_schema_model.specs.Reference.{ReferenceKind};
 ghost use Rattle.cedar_schema_decl.specs.Conditional.{Conditional, kind_of};
 ghost use Rattle.cedar_schema_decl.specs.Refusals.{Refuses};
 ghost use Rattle.cedar_schema_decl.specs.Requalified.{requalified, requalified_fields, requalified_attribute, under_name, each};

@@ -1,8 +1,8 @@
 -- The attributes that are kept are those of the kind.
 use Rattle.std.proofs.Common.{◌≡◌, true, refl, sym, ap, ◌∙◌}
-use Rattle.cedar_schema_model.specs.Whole.Types as model
-use Rattle.cedar_schema_model.specs.Whole.Types.{no_attributes, attribute}
-use Rattle.cedar_schema_model.specs.Whole.Conforming.{of_kind, attributes_at}
+use Rattle.cedar_schema_model.specs.Types as model
+use Rattle.cedar_schema_model.specs.Types.{no_attributes, attribute}
+use Rattle.cedar_schema_model.specs.Conforming.{of_kind, attributes_at}
 use Rattle.cedar_schema_entries.specs.Kinds.{kind_with, are_none, are_of_kind}
 use Rattle.cedar_schema_entries.specs.declared.entity_kinds.ValidatorEntityTypeKind.{ValidatorEntityTypeKind}
 use Rattle.cedar_schema_entries.specs.declared.entity_kinds.ValidatorEntityTypeKind.TheVariants.{Standard, Enum, External}

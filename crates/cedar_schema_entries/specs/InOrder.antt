@@ -1,10 +1,10 @@
 -- What is kept of an entity type and of an action stands in order, each once.
 -- Rule: schemas (docs/RULES.md).
 use Rattle.std.specs.Prelude.{◌&&◌, Bool, true}
-use Rattle.cedar_expr_model.specs.Order.{name_cmp, uid_cmp}
-use Rattle.cedar_expr_model.specs.Whole.Lists.{rises}
-use Rattle.cedar_expr_model.specs.Whole.Order.{text_cmp}
-use Rattle.cedar_schema_model.specs.Whole.Schema.{EntityKind, standard, enumerated, external}
+use Rattle.cedar_expr_model.specs.UidOrder.{name_cmp, uid_cmp}
+use Rattle.cedar_expr_model.specs.Lists.{rises}
+use Rattle.cedar_expr_model.specs.Order.{text_cmp}
+use Rattle.cedar_schema_model.specs.Schema.{EntityKind, standard, enumerated, external}
 use Rattle.cedar_schema_kept_model.specs.Kept.{KeptType, KeptAction}
 
 -- the members of an enumeration, in the order of their texts

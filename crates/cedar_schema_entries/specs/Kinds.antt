@@ -2,9 +2,9 @@
 -- Rule: schemas (docs/RULES.md).
 use Rattle.std.specs.Prelude.{Bool, true, false, Option, map, option_map}
 use Rattle.std.specs.Rc.{rc_str_bytes}
-use Rattle.cedar_schema_model.specs.Whole.Types as model
-use Rattle.cedar_schema_model.specs.Whole.Schema.{EntityKind, standard, enumerated, external}
-use Rattle.cedar_schema_model.specs.Whole.Types.{no_attributes, attribute}
+use Rattle.cedar_schema_model.specs.Types as model
+use Rattle.cedar_schema_model.specs.Schema.{EntityKind, standard, enumerated, external}
+use Rattle.cedar_schema_model.specs.Types.{no_attributes, attribute}
 use Rattle.cedar_schema_types.specs.Types.{type_of}
 use Rattle.cedar_schema_entries.specs.declared.entity_kinds.StandardValidatorEntityType.{StandardValidatorEntityType}
 use Rattle.cedar_schema_entries.specs.declared.entity_kinds.ValidatorEntityTypeKind.{ValidatorEntityTypeKind}

@@ -4,9 +4,9 @@ ghost use Rattle.std.specs.Prelude.{◌≡◌, [], map, true, false, not, IfOk};
 ghost use Rattle.std.specs.List.{list_any};
 ghost use Rattle.cedar_expr_model.specs.Name.{name_eq};
 ghost use Rattle.cedar_expr_model.specs.Uid.{uid_eq};
-ghost use Rattle.cedar_expr_model.specs.Whole.Lists.{is_nil};
+ghost use Rattle.cedar_expr_model.specs.Lists.{is_nil};
 ghost use Rattle.cedar_expr_names.specs.Views.{type_name_of, uid_of};
-ghost use Rattle.cedar_schema_model.specs.Whole.Types.{record_type, no_attributes, is_closed};
+ghost use Rattle.cedar_schema_model.specs.Types.{record_type, no_attributes, is_closed};
 ghost use Rattle.cedar_schema_types.specs.Types.{type_of};
 ghost use Rattle.cedar_schema_entries.specs.Views.{applied_seen, action_seen, action_place};
 

@@ -42,9 +42,9 @@ impl ValidatorEntityType {
     ghost use Rattle.std.specs.Rc.{rc_str_bytes};
     ghost use Rattle.cedar_expr_model.specs.Name.{name_eq};
     ghost use Rattle.cedar_expr_names.specs.Views.{type_name_of};
-    ghost use Rattle.cedar_schema_model.specs.Whole.Schema.{standard, enumerated, external};
-    ghost use Rattle.cedar_schema_model.specs.Whole.Types.{attribute_named, is_closed};
-    ghost use Rattle.cedar_schema_model.specs.Whole.Conforming.{of_kind, attributes_at, tags_at};
+    ghost use Rattle.cedar_schema_model.specs.Schema.{standard, enumerated, external};
+    ghost use Rattle.cedar_schema_model.specs.Types.{attribute_named, is_closed};
+    ghost use Rattle.cedar_schema_model.specs.Conforming.{of_kind, attributes_at, tags_at};
     ghost use Rattle.cedar_schema_types.specs.Kinds.{openness_of};
     ghost use Rattle.cedar_schema_types.specs.Types.{type_of, attribute_of};
     ghost use Rattle.cedar_schema_kept_model.specs.Kept.{is_elsewhere};

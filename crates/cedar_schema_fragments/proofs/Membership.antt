@@ -7,14 +7,14 @@ use Rattle.std.specs.Cmp.Lexicographic.{slice_cmp}
 use Rattle.std.specs.declared.cmp.Ordering.{Ordering}
 use Rattle.std.specs.declared.cmp.Ordering.TheVariants.{Less, Equal, Greater}
 use Rattle.cedar_expr_model.specs.Name.{Name, name_eq, name_text, is_well_formed}
-use Rattle.cedar_expr_model.specs.Order.{name_cmp, uid_cmp}
+use Rattle.cedar_expr_model.specs.UidOrder.{name_cmp, uid_cmp}
 use Rattle.cedar_expr_model.specs.Uid.{Uid, uid_eq}
 use Rattle.cedar_expr_model.proofs.Equality.{name_eq-Decides}
 use Rattle.std.proofs.lemmas.Slice.Eq.{bytes_eq-Decides}
 use Rattle.cedar_expr_names.specs.Views.{name_of, uid_of}
 use Rattle.cedar_expr_names.proofs.Equality.{name_eq_is, well_formed}
-use Rattle.cedar_schema_model.specs.Whole.Join.{name_inserted}
-use Rattle.cedar_schema_model.specs.Whole.Reference.{Meant, meant_common, meant_entity}
+use Rattle.cedar_schema_model.specs.Join.{name_inserted}
+use Rattle.cedar_schema_model.specs.Reference.{Meant, meant_common, meant_entity}
 use Rattle.cedar_schema_decl.specs.Defined.{Defined, nothing_defined, is_defined, uid_inserted, with_common, with_entity, with_action}
 use Rattle.cedar_schema_fragments.specs.Marked.{all_with, common_names, entity_names, action_uids, with_namespace, with_fragment, namespace_declares, HasAll}
 use Rattle.cedar_schema_fragments.specs.declared.namespace_def.ValidatorNamespaceDef.{ValidatorNamespaceDef}

@@ -5,10 +5,10 @@ use Rattle.std.specs.Prelude.{Contains, find, if◌then◌else◌}
 use Rattle.std.specs.Option.{option_map_or}
 use Rattle.cedar_expr_model.specs.Name.{Text, Name, is_reserved}
 use Rattle.cedar_expr_model.proofs.Lists.{contains_head, contains_tail, map_has, map_from, flat_has}
-use Rattle.cedar_schema_model.specs.Whole.Declarations.{ActionDeclaration, Declarations, common_names, entity_names, action_uid, action_uids}
-use Rattle.cedar_schema_model.specs.Whole.WellFormed.{reserved_name, IsWellFormed, written_names}
-use Rattle.cedar_schema_model.proofs.Whole.Decls.Faults.{no_schema_fault}
-use Rattle.cedar_schema_model.specs.Whole.BagLaws.{HasSchemaFault}
+use Rattle.cedar_schema_model.specs.Declarations.{ActionDeclaration, Declarations, common_names, entity_names, action_uid, action_uids}
+use Rattle.cedar_schema_model.specs.WellFormed.{reserved_name, IsWellFormed, written_names}
+use Rattle.cedar_schema_model.proofs.Decls.Faults.{no_schema_fault}
+use Rattle.cedar_schema_model.specs.BagLaws.{HasSchemaFault}
 use Rattle.cedar_schema_decl.specs.Conditional.{Conditional}
 use Rattle.cedar_schema_decl.specs.Forms.{ActionForm}
 use Rattle.cedar_schema_decl.specs.Requalified.{and_then, each}

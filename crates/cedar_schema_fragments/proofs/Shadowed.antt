@@ -6,11 +6,11 @@ use Rattle.std.specs.List.{list_any}
 use Rattle.std.specs.Option.{option_or}
 use Rattle.cedar_expr_model.specs.Name.{Name, name_eq}
 use Rattle.cedar_expr_model.specs.Uid.{Uid, uid_eq}
-use Rattle.cedar_expr_model.specs.Whole.Names.{is_unqualified, unqualified}
+use Rattle.cedar_expr_model.specs.Names.{is_unqualified, unqualified}
 use Rattle.cedar_expr_model.proofs.Equality.{name_eq-Decides, uid_eq-Decides}
-use Rattle.cedar_schema_model.specs.Whole.Reference.{meant_common, meant_entity}
-use Rattle.cedar_schema_model.specs.Whole.Declarations.{Declarations, common_names, entity_names, action_uids}
-use Rattle.cedar_schema_model.specs.Whole.WellFormed.{unqualified_uid, declared_types, shadows}
+use Rattle.cedar_schema_model.specs.Reference.{meant_common, meant_entity}
+use Rattle.cedar_schema_model.specs.Declarations.{Declarations, common_names, entity_names, action_uids}
+use Rattle.cedar_schema_model.specs.WellFormed.{unqualified_uid, declared_types, shadows}
 use Rattle.cedar_schema_decl.specs.Defined.{Defined}
 use Rattle.cedar_schema_decl.specs.Laws.{HasDeclared}
 use Rattle.cedar_schema_decl.specs.Shadowing.{type_shadows, action_shadows, shadowing_type, shadowing_action, first_shadowing}

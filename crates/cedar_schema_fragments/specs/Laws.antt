@@ -5,9 +5,9 @@ use Rattle.std.specs.declared.result.Result.TheVariants.{Ok, Err}
 use Rattle.cedar_expr_model.specs.Name.{Text, Name, is_reserved}
 use Rattle.cedar_expr_model.specs.Uid.{Uid}
 use Rattle.cedar_expr_raw_names.specs.declared.conditional_name.ConditionalName.{ConditionalName}
-use Rattle.cedar_schema_model.specs.Whole.Declarations.{Declarations, bag, is_declared_action}
-use Rattle.cedar_schema_model.specs.Whole.WellFormed.{reserved_name, IsWellFormed, written_names, shadows}
-use Rattle.cedar_schema_model.specs.Whole.BagLaws.{HasSchemaFault}
+use Rattle.cedar_schema_model.specs.Declarations.{Declarations, bag, is_declared_action}
+use Rattle.cedar_schema_model.specs.WellFormed.{reserved_name, IsWellFormed, written_names, shadows}
+use Rattle.cedar_schema_model.specs.BagLaws.{HasSchemaFault}
 use Rattle.cedar_schema_decl.specs.Conditional.{Conditional, conditional_of}
 use Rattle.cedar_schema_decl.specs.Defined.{Defined, is_defined_action}
 use Rattle.cedar_schema_decl.specs.Laws.{HasDeclared}

@@ -5,7 +5,7 @@ use Rattle.std.specs.List.{list_any}
 use Rattle.cedar_expr_model.specs.Name.{Name, name_eq}
 use Rattle.cedar_expr_model.specs.Uid.{Uid, uid_eq}
 use Rattle.cedar_expr_names.specs.Views.{name_of, uid_of}
-use Rattle.cedar_schema_model.specs.Whole.Reference.{Meant, meant_common, meant_entity}
+use Rattle.cedar_schema_model.specs.Reference.{Meant, meant_common, meant_entity}
 use Rattle.cedar_schema_decl.specs.Defined.{Defined, is_defined, is_defined_action, with_common, with_entity, with_action}
 use Rattle.cedar_schema_decl.specs.declared.definitions.CommonTypeDefs.{CommonTypeDefs}
 use Rattle.cedar_schema_decl.specs.declared.definitions.EntityTypesDef.{EntityTypesDef}

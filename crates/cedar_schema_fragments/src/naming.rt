@@ -9,7 +9,7 @@ ghost use Rattle.cedar_expr_model.specs.Uid.{Uid};
 ghost use Rattle.cedar_expr_names.specs.Namespaces.{space_of};
 ghost use Rattle.cedar_expr_names.specs.Views.{id_text, name_of, name_loc, type_name_of};
 ghost use Rattle.cedar_expr_raw_names.specs.Views.{raw_name_of};
-ghost use Rattle.cedar_schema_model.specs.Whole.Reference.{action_word, to_entity};
+ghost use Rattle.cedar_schema_model.specs.Reference.{action_word, to_entity};
 ghost use Rattle.cedar_schema_decl.specs.Conditional.{Conditional, conditional_of, conditional_in};
 ghost use Rattle.cedar_schema_decl.specs.Definitions.{common_form, commons_form, entity_form, entities_form};
 ghost use Rattle.cedar_schema_decl.specs.Forms.{ActionForm, EntityForm, TypeForm, record_form, no_field_forms};

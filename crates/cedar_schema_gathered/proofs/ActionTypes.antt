@@ -8,11 +8,11 @@ use Rattle.std.specs.List.{flat_map, list_any}
 use Rattle.std.specs.Str.{bytes_eq}
 use Rattle.cedar_expr_model.specs.Name.{Text, Name}
 use Rattle.cedar_expr_raw_names.specs.declared.conditional_name.ConditionalName.{ConditionalName}
-use Rattle.cedar_schema_model.proofs.Whole.Decls.Faults.{schema_fault-Decides}
-use Rattle.cedar_schema_model.specs.Whole.BagLaws.{HasSchemaFault}
-use Rattle.cedar_schema_model.specs.Whole.Declarations.{Declarations, EntityDeclaration}
-use Rattle.cedar_schema_model.specs.Whole.Reference.{action_word}
-use Rattle.cedar_schema_model.specs.Whole.WellFormed.{action_as_entity_type}
+use Rattle.cedar_schema_model.proofs.Decls.Faults.{schema_fault-Decides}
+use Rattle.cedar_schema_model.specs.BagLaws.{HasSchemaFault}
+use Rattle.cedar_schema_model.specs.Declarations.{Declarations, EntityDeclaration}
+use Rattle.cedar_schema_model.specs.Reference.{action_word}
+use Rattle.cedar_schema_model.specs.WellFormed.{action_as_entity_type}
 use Rattle.cedar_schema_decl.specs.Conditional.{Conditional}
 use Rattle.cedar_schema_decl.specs.Forms.{EntityForm}
 use Rattle.cedar_schema_fragments.proofs.Anys.{any_alike, any_map, any_map2, any_flat_map}

@@ -10,11 +10,11 @@ use Rattle.cedar_expr_model.specs.Uid.{Uid}
 use Rattle.cedar_expr_model.proofs.Equality.{name_eq-Decides}
 use Rattle.cedar_expr_model.proofs.Lists.{found-Decides}
 use Rattle.cedar_expr_raw_names.specs.declared.conditional_name.ConditionalName.{ConditionalName}
-use Rattle.cedar_schema_model.proofs.Whole.Decls.Faults.{schema_fault-Decides}
-use Rattle.cedar_schema_model.specs.Whole.BagLaws.{HasSchemaFault}
-use Rattle.cedar_schema_model.specs.Whole.Declarations.{Declarations, CommonDeclaration, EntityDeclaration, ActionDeclaration, common_name, entity_name, action_uid, common_names, entity_names, action_uids, references_in, references_in_fields, extensions_in, extensions_in_fields, types_in, to_entities, references_of_common, references_of_entity, references_of_action, references, extensions}
-use Rattle.cedar_schema_model.specs.Whole.Reference.{Namespace, to_entity, Reference}
-use Rattle.cedar_schema_model.specs.Whole.WellFormed.{reserved_name, written_names}
+use Rattle.cedar_schema_model.proofs.Decls.Faults.{schema_fault-Decides}
+use Rattle.cedar_schema_model.specs.BagLaws.{HasSchemaFault}
+use Rattle.cedar_schema_model.specs.Declarations.{Declarations, CommonDeclaration, EntityDeclaration, ActionDeclaration, common_name, entity_name, action_uid, common_names, entity_names, action_uids, references_in, references_in_fields, extensions_in, extensions_in_fields, types_in, to_entities, references_of_common, references_of_entity, references_of_action, references, extensions}
+use Rattle.cedar_schema_model.specs.Reference.{Namespace, to_entity, Reference}
+use Rattle.cedar_schema_model.specs.WellFormed.{reserved_name, written_names}
 use Rattle.cedar_schema_decl.specs.Conditional.{Conditional, conditional_in}
 use Rattle.cedar_schema_decl.specs.Forms.{TypeForm, bool_form, long_form, string_form, set_form, record_form, reference_form, extension_form, FieldForms, no_field_forms, field_form, EntityForm, standard_form, enumerated_form, external_form, ActionForm}
 use Rattle.cedar_schema_decl.specs.Laws.{namespace_parts, as_expr, as_exprs}

@@ -7,10 +7,10 @@ use Rattle.std.specs.Option.{option_map_or, option_to_list}
 use Rattle.cedar_expr_model.specs.Name.{Text, Name, name_eq, is_reserved}
 use Rattle.cedar_expr_model.proofs.Equality.{name_eq-Decides}
 use Rattle.cedar_expr_model.proofs.Lists.{contains_head, contains_tail, found-Decides, map_has}
-use Rattle.cedar_schema_model.proofs.Whole.Decls.Faults.{meant_is_declared}
-use Rattle.cedar_schema_model.specs.Whole.Declarations.{Declarations, common_names, entity_names, is_declared, meant, references_in, references_in_fields, types_in, to_entities, references_of_common, references_of_entity, references}
-use Rattle.cedar_schema_model.specs.Whole.Reference.{Namespace, ReferenceKind, to_entity, Reference, Meant, meant_common, meant_entity}
-use Rattle.cedar_schema_model.specs.Whole.WellFormed.{written_names}
+use Rattle.cedar_schema_model.proofs.Decls.Faults.{meant_is_declared}
+use Rattle.cedar_schema_model.specs.Declarations.{Declarations, common_names, entity_names, is_declared, meant, references_in, references_in_fields, types_in, to_entities, references_of_common, references_of_entity, references}
+use Rattle.cedar_schema_model.specs.Reference.{Namespace, ReferenceKind, to_entity, Reference, Meant, meant_common, meant_entity}
+use Rattle.cedar_schema_model.specs.WellFormed.{written_names}
 use Rattle.cedar_schema_decl.specs.Conditional.{Conditional, conditional_in}
 use Rattle.cedar_schema_decl.specs.Defined.{Defined, meant_by, meant_name, resolved, resolving}
 use Rattle.cedar_schema_decl.specs.Forms.{TypeForm, bool_form, long_form, string_form, set_form, record_form, reference_form, extension_form, FieldForms, no_field_forms, field_form, EntityForm, standard_form, enumerated_form, external_form}

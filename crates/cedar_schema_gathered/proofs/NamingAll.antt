@@ -6,11 +6,11 @@ use Rattle.std.specs.Prelude.{Contains, is_none}
 use Rattle.std.specs.List.{flat_map}
 use Rattle.std.specs.Option.{option_map_or}
 use Rattle.cedar_expr_model.specs.Name.{Text, Name, is_reserved}
-use Rattle.cedar_expr_model.specs.Whole.Names.{possibilities}
+use Rattle.cedar_expr_model.specs.Names.{possibilities}
 use Rattle.cedar_expr_model.proofs.Lists.{contains_head, contains_tail, map_has, map_from, flat_has, flat_from}
 use Rattle.cedar_expr_raw_names.specs.declared.conditional_name.ConditionalName.{ConditionalName}
-use Rattle.cedar_schema_model.specs.Whole.Declarations.{EntityDeclaration, Declarations, entity_name, parent_meant, to_entities, references_of_common, references_of_entity, references_of_action, references}
-use Rattle.cedar_schema_model.specs.Whole.Reference.{to_entity, Reference, action_word}
+use Rattle.cedar_schema_model.specs.Declarations.{EntityDeclaration, Declarations, entity_name, parent_meant, to_entities, references_of_common, references_of_entity, references_of_action, references}
+use Rattle.cedar_schema_model.specs.Reference.{to_entity, Reference, action_word}
 use Rattle.cedar_schema_decl.specs.Conditional.{Conditional, conditional_in, conditional_of}
 use Rattle.cedar_schema_decl.specs.Defined.{Defined, is_defined_action, resolving}
 use Rattle.cedar_schema_decl.specs.Forms.{TypeForm, EntityForm, ActionForm}

@@ -1,7 +1,7 @@
 -- The declarations of one kind that namespaces write, in which a test holds of one.
 use Rattle.std.proofs.Common.{◌≡◌, Bool, List, map, refl, ap, ◌∙◌}
 use Rattle.std.specs.List.{flat_map, list_any}
-use Rattle.cedar_schema_model.specs.Whole.Declarations.{CommonDeclaration, EntityDeclaration, ActionDeclaration, Declarations}
+use Rattle.cedar_schema_model.specs.Declarations.{CommonDeclaration, EntityDeclaration, ActionDeclaration, Declarations}
 use Rattle.cedar_schema_fragments.proofs.Anys.{any_alike, any_map, any_flat_map}
 use Rattle.cedar_schema_fragments.specs.Written.{WrittenNamespace}
 use Rattle.cedar_schema_fragments.specs.WrittenDeclarations.{common_declaration, entity_declaration, action_declaration, declared_in, declarations_of}

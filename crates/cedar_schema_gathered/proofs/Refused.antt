@@ -5,8 +5,8 @@ use Rattle.std.specs.Prelude.{is_none}
 use Rattle.std.specs.List.{flat_map, list_any}
 use Rattle.std.specs.Option.{option_map_or, option_to_list}
 use Rattle.cedar_expr_model.specs.Name.{Text, Name}
-use Rattle.cedar_schema_model.specs.Whole.Reference.{ReferenceKind, to_entity, Reference, Meant}
-use Rattle.cedar_schema_model.specs.Whole.Declarations.{Declarations, meant, references_in, references_in_fields, types_in, to_entities, references_of_common, references_of_entity}
+use Rattle.cedar_schema_model.specs.Reference.{ReferenceKind, to_entity, Reference, Meant}
+use Rattle.cedar_schema_model.specs.Declarations.{Declarations, meant, references_in, references_in_fields, types_in, to_entities, references_of_common, references_of_entity}
 use Rattle.cedar_schema_decl.specs.Conditional.{Conditional, conditional_in}
 use Rattle.cedar_schema_decl.specs.Defined.{Defined, meant_by, meant_name, resolved, resolving}
 use Rattle.cedar_schema_decl.specs.Forms.{TypeForm, record_form, FieldForms, EntityForm, standard_form, enumerated_form, external_form}

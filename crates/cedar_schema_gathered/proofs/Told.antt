@@ -10,12 +10,12 @@ use Rattle.cedar_expr_model.specs.Name.{Text, Name, name_eq, is_reserved}
 use Rattle.cedar_expr_model.specs.Uid.{Uid}
 use Rattle.cedar_expr_model.proofs.Equality.{name_eq-Decides}
 use Rattle.cedar_expr_model.proofs.Lists.{found-Decides}
-use Rattle.cedar_expr_model.specs.Whole.Names.{possibilities}
-use Rattle.cedar_schema_model.proofs.Whole.Decls.Faults.{schema_fault-Decides, meant_is_declared}
-use Rattle.cedar_schema_model.specs.Whole.BagLaws.{HasSchemaFault}
-use Rattle.cedar_schema_model.specs.Whole.Declarations.{Declarations, ActionDeclaration, common_names, entity_names, is_declared, is_declared_action, meant, parent_meant, references_in, to_entities, references_of_common, references_of_entity, references_of_action, references}
-use Rattle.cedar_schema_model.specs.Whole.Reference.{to_entity, Reference, Meant, meant_common, meant_entity, places}
-use Rattle.cedar_schema_model.specs.Whole.WellFormed.{undeclared_type, undeclared_action, has_schema_fault, written_names}
+use Rattle.cedar_expr_model.specs.Names.{possibilities}
+use Rattle.cedar_schema_model.proofs.Decls.Faults.{schema_fault-Decides, meant_is_declared}
+use Rattle.cedar_schema_model.specs.BagLaws.{HasSchemaFault}
+use Rattle.cedar_schema_model.specs.Declarations.{Declarations, ActionDeclaration, common_names, entity_names, is_declared, is_declared_action, meant, parent_meant, references_in, to_entities, references_of_common, references_of_entity, references_of_action, references}
+use Rattle.cedar_schema_model.specs.Reference.{to_entity, Reference, Meant, meant_common, meant_entity, places}
+use Rattle.cedar_schema_model.specs.WellFormed.{undeclared_type, undeclared_action, has_schema_fault, written_names}
 use Rattle.cedar_schema_decl.specs.Conditional.{conditional_in, conditional_of}
 use Rattle.cedar_schema_decl.specs.Defined.{Defined, is_defined_action, meant_by, meant_name}
 use Rattle.cedar_schema_decl.specs.Forms.{TypeForm, ActionForm}

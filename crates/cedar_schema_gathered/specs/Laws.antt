@@ -5,9 +5,9 @@ use Rattle.std.specs.Bool.{Decides}
 use Rattle.std.specs.declared.result.Result.TheVariants.{Ok, Err}
 use Rattle.cedar_expr_model.specs.Name.{Text, Name, is_reserved}
 use Rattle.cedar_expr_raw_names.specs.declared.conditional_name.ConditionalName.{ConditionalName}
-use Rattle.cedar_schema_model.specs.Whole.BagLaws.{HasSchemaFault}
-use Rattle.cedar_schema_model.specs.Whole.Declarations.{Declarations}
-use Rattle.cedar_schema_model.specs.Whole.WellFormed.{SchemaFault, undeclared_type, undeclared_action, action_as_entity_type, reserved_name, written_names}
+use Rattle.cedar_schema_model.specs.BagLaws.{HasSchemaFault}
+use Rattle.cedar_schema_model.specs.Declarations.{Declarations}
+use Rattle.cedar_schema_model.specs.WellFormed.{SchemaFault, undeclared_type, undeclared_action, action_as_entity_type, reserved_name, written_names}
 use Rattle.cedar_schema_decl.specs.Defined.{Defined}
 use Rattle.cedar_schema_fragments.specs.Marked.{HasAll}
 use Rattle.cedar_schema_fragments.specs.Namespaces.{NamespaceForm}

@@ -5,9 +5,9 @@ use Rattle.std.specs.declared.result.Result.TheVariants.{Err}
 use Rattle.cedar_expr_model.specs.Name.{Text, Name, is_reserved}
 use Rattle.cedar_expr_model.specs.Uid.{Uid}
 use Rattle.cedar_expr_raw_names.specs.declared.conditional_name.ConditionalName.{ConditionalName}
-use Rattle.cedar_schema_model.specs.Whole.Declarations.{EntityDeclaration, ActionDeclaration, Declarations, entity_name, meant, parent_meant, references}
-use Rattle.cedar_schema_model.specs.Whole.Reference.{Namespace, ReferenceKind, to_entity, Reference, action_word}
-use Rattle.cedar_schema_model.specs.Whole.WellFormed.{written_names}
+use Rattle.cedar_schema_model.specs.Declarations.{EntityDeclaration, ActionDeclaration, Declarations, entity_name, meant, parent_meant, references}
+use Rattle.cedar_schema_model.specs.Reference.{Namespace, ReferenceKind, to_entity, Reference, action_word}
+use Rattle.cedar_schema_model.specs.WellFormed.{written_names}
 use Rattle.cedar_schema_decl.specs.Conditional.{Conditional, conditional_in}
 use Rattle.cedar_schema_decl.specs.Defined.{Defined}
 use Rattle.cedar_schema_decl.specs.Laws.{namespace_parts}

@@ -4,8 +4,8 @@ use Rattle.std.specs.Borrow.{Bor}
 use Rattle.std.specs.Rc.{rc_str_bytes}
 use Rattle.std.specs.declared.alloc.Global.{Global}
 use Rattle.std.specs.declared.rc.RcStr.{RcStr}
-use Rattle.cedar_schema_model.specs.Whole.Types.{Attributes, attribute_named, Mode}
-use Rattle.cedar_schema_model.specs.Whole.Subtype.{is_subtype, have_below, is_declared_below}
+use Rattle.cedar_schema_model.specs.Types.{Attributes, attribute_named, Mode}
+use Rattle.cedar_schema_model.specs.Subtype.{is_subtype, have_below, is_declared_below}
 use Rattle.cedar_schema_types.specs.Types.{type_of, attribute_of}
 use Rattle.cedar_schema_types.specs.AttributeLists.{attributes_from, declared_pairs}
 use Rattle.cedar_schema_types.specs.declared.types.AttributeType.{AttributeType}

@@ -10,13 +10,13 @@ use Rattle.std.specs.declared.alloc.Global.{Global}
 use Rattle.std.specs.declared.rc.RcStr.{RcStr}
 use Rattle.std.specs.declared.cmp.Ordering.TheVariants.{Less}
 use Rattle.cedar_expr_model.specs.Name.{Text}
-use Rattle.cedar_expr_model.specs.Whole.Order.{text_cmp}
-use Rattle.cedar_expr_model.specs.Whole.Records.{names_rise}
+use Rattle.cedar_expr_model.specs.Order.{text_cmp}
+use Rattle.cedar_expr_model.specs.Records.{names_rise}
 use Rattle.cedar_expr_model.proofs.Lists.{both_hold, hold_both}
-use Rattle.cedar_expr_model.proofs.Whole.Linear.{text_total}
-use Rattle.cedar_expr_model.proofs.Whole.Rising.{less_is, is_less}
-use Rattle.cedar_schema_model.specs.Whole.Types.{Attributes, Declared, attribute_named, Mode}
-use Rattle.cedar_schema_model.specs.Whole.Join.{join, joined_with, kept_attribute, attributes_join}
+use Rattle.cedar_expr_model.proofs.Linear.{text_total}
+use Rattle.cedar_expr_model.proofs.Rising.{less_is, is_less}
+use Rattle.cedar_schema_model.specs.Types.{Attributes, Declared, attribute_named, Mode}
+use Rattle.cedar_schema_model.specs.Join.{join, joined_with, kept_attribute, attributes_join}
 use Rattle.cedar_schema_types.specs.Types.{type_of, attribute_of}
 use Rattle.cedar_schema_types.specs.AttributeLists.{attributes_from, declared_pair, declared_pairs}
 use Rattle.cedar_schema_types.specs.declared.types.AttributeType.{AttributeType}

@@ -1,9 +1,9 @@
 -- Joins of several types, one after the other.
 use Rattle.std.proofs.Common.{◌≡◌, ℕ, ◌+◌, ◌<◌, List, [], ◌∷◌, map, drop, length, get_or, Option, Some, None, option_map, refl, sym, ap, ◌∙◌}
 use Rattle.std.proofs.lemmas.List.{drop_more}
-use Rattle.cedar_schema_model.specs.Whole.Types.{Ty, Mode}
-use Rattle.cedar_schema_model.specs.Whole.Join.{join}
-use Rattle.cedar_schema_model.proofs.Whole.Named.{join_all}
+use Rattle.cedar_schema_model.specs.Types.{Ty, Mode}
+use Rattle.cedar_schema_model.specs.Join.{join}
+use Rattle.cedar_schema_model.proofs.Named.{join_all}
 use Rattle.cedar_schema_types.specs.Types.{type_of}
 use Rattle.cedar_schema_types.specs.declared.types.Type.{«Type» as CodeType}
 

@@ -1,6 +1,6 @@
 -- What the code's modes are in the model.
 -- Rule: subtypes; joins (docs/RULES.md).
-use Rattle.cedar_schema_model.specs.Whole.Types as model
+use Rattle.cedar_schema_model.specs.Types as model
 use Rattle.cedar_store_records.specs.declared.validation_mode.ValidationMode.{ValidationMode}
 use Rattle.cedar_store_records.specs.declared.validation_mode.ValidationMode.TheVariants.{Strict, Permissive}
 

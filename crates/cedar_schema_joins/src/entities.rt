@@ -1,9 +1,9 @@
 //! Types of entities compared and joined.
 
 ghost use Rattle.std.specs.Prelude.{◌≡◌, option_map, IfOk, if◌then◌else◌, Some, None};
-ghost use Rattle.cedar_schema_model.specs.Whole.Types.{any_entity};
-ghost use Rattle.cedar_schema_model.specs.Whole.Subtype.{is_subtype, is_permissive, is_union_below};
-ghost use Rattle.cedar_schema_model.specs.Whole.Join.{join, union_join};
+ghost use Rattle.cedar_schema_model.specs.Types.{any_entity};
+ghost use Rattle.cedar_schema_model.specs.Subtype.{is_subtype, is_permissive, is_union_below};
+ghost use Rattle.cedar_schema_model.specs.Join.{join, union_join};
 ghost use Rattle.cedar_schema_types.specs.Unions.{members_of, entities_of};
 ghost use Rattle.cedar_schema_joins.specs.Modes.{mode_of};
 

@@ -2,9 +2,9 @@
 
 ghost use Rattle.std.specs.Prelude.{◌≡◌, true, map, option_map, IfOk};
 ghost use Rattle.cedar_expr_names.specs.Views.{plain_name_of};
-ghost use Rattle.cedar_expr_model.specs.Whole.Records.{names_rise};
-ghost use Rattle.cedar_schema_model.specs.Whole.Types.{bool_type, long_type, string_type, any_set, set_type, record_type, extension_type};
-ghost use Rattle.cedar_schema_model.specs.Whole.Join.{join, reduce_to_join, are_disjoint, attributes_join, record_join, joined_with, declared_in_common, agree};
+ghost use Rattle.cedar_expr_model.specs.Records.{names_rise};
+ghost use Rattle.cedar_schema_model.specs.Types.{bool_type, long_type, string_type, any_set, set_type, record_type, extension_type};
+ghost use Rattle.cedar_schema_model.specs.Join.{join, reduce_to_join, are_disjoint, attributes_join, record_join, joined_with, declared_in_common, agree};
 ghost use Rattle.cedar_schema_types.specs.Kinds.{bool_type_of, openness_of};
 ghost use Rattle.cedar_schema_joins.specs.Modes.{mode_of};
 ghost use Rattle.cedar_schema_types.specs.Unions.{entities_of};

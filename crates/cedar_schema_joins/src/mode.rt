@@ -1,7 +1,7 @@
 //! The two ways of typing, as the model has them.
 
 ghost use Rattle.std.specs.Prelude.{◌≡◌};
-ghost use Rattle.cedar_schema_model.specs.Whole.Subtype.{is_permissive};
+ghost use Rattle.cedar_schema_model.specs.Subtype.{is_permissive};
 ghost use Rattle.cedar_schema_joins.specs.Modes.{mode_of};
 
 use cedar_store_records::ValidationMode;

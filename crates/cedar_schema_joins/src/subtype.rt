@@ -2,8 +2,8 @@
 
 ghost use Rattle.std.specs.Prelude.{◌≡◌, option_map};
 ghost use Rattle.cedar_expr_names.specs.Views.{plain_name_of};
-ghost use Rattle.cedar_schema_model.specs.Whole.Types.{never, bool_type, long_type, string_type, any_set, set_type, record_type, extension_type};
-ghost use Rattle.cedar_schema_model.specs.Whole.Subtype.{is_subtype, is_frame_below, have_below, is_declared_below, carries};
+ghost use Rattle.cedar_schema_model.specs.Types.{never, bool_type, long_type, string_type, any_set, set_type, record_type, extension_type};
+ghost use Rattle.cedar_schema_model.specs.Subtype.{is_subtype, is_frame_below, have_below, is_declared_below, carries};
 ghost use Rattle.cedar_schema_types.specs.Kinds.{bool_type_of, openness_of};
 ghost use Rattle.cedar_schema_joins.specs.Modes.{mode_of};
 ghost use Rattle.cedar_schema_types.specs.Unions.{entities_of};

@@ -6,7 +6,7 @@ use Rattle.cedar_expr_model.specs.Name.{Name, name_eq}
 use Rattle.cedar_expr_model.specs.Uid.{Uid}
 use Rattle.cedar_expr_model.proofs.Equality.{name_eq-Decides}
 use Rattle.cedar_expr_model.proofs.Lists.{both_hold, hold_both, map_has, map_from, filter_has, filter_only, flat_has, flat_from, found-Decides}
-use Rattle.cedar_schema_model.specs.Whole.Schema.{Action, Schema}
+use Rattle.cedar_schema_model.specs.Schema.{Action, Schema}
 use Rattle.cedar_schema_kept_model.specs.Kept.{KeptAction, Kept, applies_to, kept_actions_for, kept_principals, kept_resources}
 use Rattle.cedar_schema_kept_model.specs.KeptOf.{IsSameAction, IsKeptOf}
 use Rattle.cedar_schema_kept_model.specs.Laws.{ActionsForAreKept, PrincipalsAreKept, ResourcesAreKept}

@@ -3,13 +3,13 @@ use Rattle.std.proofs.Common.{◌≡◌, true, map, refl, sym, ap, ◌∙◌, su
 use Rattle.std.specs.Prelude.{Contains}
 use Rattle.std.specs.List.{filter}
 use Rattle.cedar_expr_model.specs.Uid.{Uid}
-use Rattle.cedar_expr_model.specs.Whole.Value.{V}
+use Rattle.cedar_expr_model.specs.Value.{V}
 use Rattle.cedar_expr_model.proofs.Lists.{map_has, map_from, filter_has, filter_only}
-use Rattle.cedar_store_model.specs.Whole.World.{Entity}
-use Rattle.cedar_schema_model.specs.Whole.Schema.{Action, Schema}
-use Rattle.cedar_schema_model.specs.Whole.Descent.{action_uids, action_descends}
-use Rattle.cedar_schema_model.specs.Whole.ActionEntities.{action_ancestors, as_entity, action_entities}
-use Rattle.cedar_schema_model.proofs.Whole.Decls.Descent.{action_descends-Decides}
+use Rattle.cedar_store_model.specs.World.{Entity}
+use Rattle.cedar_schema_model.specs.Schema.{Action, Schema}
+use Rattle.cedar_schema_model.specs.Descent.{action_uids, action_descends}
+use Rattle.cedar_schema_model.specs.ActionEntities.{action_ancestors, as_entity, action_entities}
+use Rattle.cedar_schema_model.proofs.Decls.Descent.{action_descends-Decides}
 use Rattle.cedar_schema_kept_model.specs.Kept.{KeptAction, Kept, kept_action_ancestors, kept_as_entity, kept_action_entities}
 use Rattle.cedar_schema_kept_model.specs.KeptOf.{IsSameAction, IsKeptOf}
 use Rattle.cedar_schema_kept_model.specs.Laws.{IsSameEntity, ActionEntitiesAreKept, AllActionEntitiesAreKept}

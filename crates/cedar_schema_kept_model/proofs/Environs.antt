@@ -5,8 +5,8 @@ use Rattle.std.specs.List.{flat_map}
 use Rattle.cedar_expr_model.specs.Name.{Name}
 use Rattle.cedar_expr_model.specs.Uid.{Uid}
 use Rattle.cedar_expr_model.proofs.Lists.{map_has, map_from, flat_has, flat_from}
-use Rattle.cedar_schema_model.specs.Whole.Schema.{Action, Schema}
-use Rattle.cedar_schema_model.specs.Whole.Environment.{Environment, environment_at, environments}
+use Rattle.cedar_schema_model.specs.Schema.{Action, Schema}
+use Rattle.cedar_schema_model.specs.Environment.{Environment, environment_at, environments}
 use Rattle.cedar_schema_kept_model.specs.Kept.{KeptAction, Kept, RequestKind, kinds_with, kinds_of, kept_environments}
 use Rattle.cedar_schema_kept_model.specs.KeptOf.{IsSameAction, IsKeptOf}
 use Rattle.cedar_schema_kept_model.specs.Laws.{kind_of, EnvironmentsAreKept}

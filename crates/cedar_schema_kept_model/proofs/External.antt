@@ -6,7 +6,7 @@ use Rattle.std.proofs.lemmas.List.Elements.{Contains-append_left, Contains-appen
 use Rattle.cedar_expr_model.specs.Name.{Name}
 use Rattle.cedar_expr_model.specs.Uid.{Uid}
 use Rattle.cedar_expr_model.proofs.Lists.{map_has, map_from, filter_has, filter_only}
-use Rattle.cedar_schema_model.specs.Whole.Schema.{EntityKind, standard, enumerated, external, EntityType, Action, Schema}
+use Rattle.cedar_schema_model.specs.Schema.{EntityKind, standard, enumerated, external, EntityType, Action, Schema}
 use Rattle.cedar_schema_kept_model.specs.Kept.{KeptType, KeptAction, Kept, is_elsewhere, Elsewhere, type_elsewhere, action_elsewhere, types_elsewhere, actions_elsewhere, elsewhere}
 use Rattle.cedar_schema_kept_model.specs.KeptOf.{IsSameKind, IsSameType, IsSameAction, IsKeptOf}
 use Rattle.cedar_schema_kept_model.specs.Laws.{HasElsewhere, ElsewhereIsKept}

@@ -2,11 +2,11 @@
 use Rattle.std.proofs.Common.{◌≡◌, List, true, refl, ap, ◌∙◌, inl, inr, ⊎_elim}
 use Rattle.cedar_expr_model.specs.Name.{Name}
 use Rattle.cedar_expr_model.proofs.Lists.{map_has, map_from}
-use Rattle.cedar_schema_model.specs.Whole.BagLaws.{HasSchemaFault}
-use Rattle.cedar_schema_model.specs.Whole.Declarations.{KindExpr, standard_expr, enumerated_expr, external_expr, EntityDeclaration, Declarations, entity_name, action_uid}
-use Rattle.cedar_schema_model.specs.Whole.Resolved.{resolved_kind, resolved_entity, resolved_action, schema_of}
-use Rattle.cedar_schema_model.specs.Whole.Schema.{external, EntityType, Action}
-use Rattle.cedar_schema_model.specs.Whole.WellFormed.{unresolved_external, is_external_kind}
+use Rattle.cedar_schema_model.specs.BagLaws.{HasSchemaFault}
+use Rattle.cedar_schema_model.specs.Declarations.{KindExpr, standard_expr, enumerated_expr, external_expr, EntityDeclaration, Declarations, entity_name, action_uid}
+use Rattle.cedar_schema_model.specs.Resolved.{resolved_kind, resolved_entity, resolved_action, schema_of}
+use Rattle.cedar_schema_model.specs.Schema.{external, EntityType, Action}
+use Rattle.cedar_schema_model.specs.WellFormed.{unresolved_external, is_external_kind}
 use Rattle.cedar_schema_kept_model.specs.Kept.{Elsewhere, type_elsewhere, action_elsewhere}
 use Rattle.cedar_schema_kept_model.specs.Laws.{HasElsewhere, ExternalIsFault}
 

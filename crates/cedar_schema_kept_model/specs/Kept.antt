@@ -5,11 +5,11 @@ use Rattle.std.specs.Prelude.{◌≡◌, ◌++◌, ◌&&◌, List, [], ◌∷◌
 use Rattle.std.specs.List.{list_any, filter, flat_map}
 use Rattle.cedar_expr_model.specs.Name.{Name, name_eq}
 use Rattle.cedar_expr_model.specs.Uid.{Uid, uid_eq}
-use Rattle.cedar_expr_model.specs.Whole.Lists.{is_nil}
-use Rattle.cedar_expr_model.specs.Whole.Value.{V}
-use Rattle.cedar_store_model.specs.Whole.World.{Entity}
-use Rattle.cedar_schema_model.specs.Whole.Types.{Ty}
-use Rattle.cedar_schema_model.specs.Whole.Schema.{EntityKind, standard, enumerated, external}
+use Rattle.cedar_expr_model.specs.Lists.{is_nil}
+use Rattle.cedar_expr_model.specs.Value.{V}
+use Rattle.cedar_store_model.specs.World.{Entity}
+use Rattle.cedar_schema_model.specs.Types.{Ty}
+use Rattle.cedar_schema_model.specs.Schema.{EntityKind, standard, enumerated, external}
 
 -- An entity type: its kind, and the entity types that descend from it.
 pub record KeptType : Type 0 where

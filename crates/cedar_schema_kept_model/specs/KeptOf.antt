@@ -3,10 +3,10 @@
 use Rattle.std.specs.Prelude.{◌≡◌, ◌↔◌, List, map, Contains}
 use Rattle.cedar_expr_model.specs.Name.{Text, Name}
 use Rattle.cedar_expr_model.specs.Uid.{Uid}
-use Rattle.cedar_schema_model.specs.Whole.BagLaws.{HasTwice}
-use Rattle.cedar_schema_model.specs.Whole.Types.{record_type, is_closed}
-use Rattle.cedar_schema_model.specs.Whole.Schema.{EntityKind, standard, enumerated, external, EntityType, Action, Schema}
-use Rattle.cedar_schema_model.specs.Whole.Descent.{type_names, action_uids, Descends, ActionDescends}
+use Rattle.cedar_schema_model.specs.BagLaws.{HasTwice}
+use Rattle.cedar_schema_model.specs.Types.{record_type, is_closed}
+use Rattle.cedar_schema_model.specs.Schema.{EntityKind, standard, enumerated, external, EntityType, Action, Schema}
+use Rattle.cedar_schema_model.specs.Descent.{type_names, action_uids, Descends, ActionDescends}
 use Rattle.cedar_schema_kept_model.specs.Kept.{KeptType, KeptAction, Kept}
 
 -- Two kinds of entity types are equal; the members of an enumeration may stand in another order, and repeated.

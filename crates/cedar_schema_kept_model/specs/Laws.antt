@@ -3,16 +3,16 @@
 use Rattle.std.specs.Prelude.{◌≡◌, ◌↔◌, List, Some, Contains, is_some, true}
 use Rattle.cedar_expr_model.specs.Name.{Name}
 use Rattle.cedar_expr_model.specs.Uid.{Uid}
-use Rattle.cedar_expr_model.specs.Whole.Value.{V}
-use Rattle.cedar_store_model.specs.Whole.World.{Entity}
-use Rattle.cedar_schema_model.specs.Whole.BagLaws.{HasSchemaFault}
-use Rattle.cedar_schema_model.specs.Whole.Declarations.{Declarations}
-use Rattle.cedar_schema_model.specs.Whole.Resolved.{schema_of}
-use Rattle.cedar_schema_model.specs.Whole.WellFormed.{unresolved_external}
-use Rattle.cedar_schema_model.specs.Whole.Schema.{external, EntityType, Action, Schema, type_named, action_with, declares_type, declares_action}
-use Rattle.cedar_schema_model.specs.Whole.Descent.{type_names, action_uids, Descends, ActionDescends}
-use Rattle.cedar_schema_model.specs.Whole.Environment.{Environment, environments}
-use Rattle.cedar_schema_model.specs.Whole.ActionEntities.{action_entities}
+use Rattle.cedar_expr_model.specs.Value.{V}
+use Rattle.cedar_store_model.specs.World.{Entity}
+use Rattle.cedar_schema_model.specs.BagLaws.{HasSchemaFault}
+use Rattle.cedar_schema_model.specs.Declarations.{Declarations}
+use Rattle.cedar_schema_model.specs.Resolved.{schema_of}
+use Rattle.cedar_schema_model.specs.WellFormed.{unresolved_external}
+use Rattle.cedar_schema_model.specs.Schema.{external, EntityType, Action, Schema, type_named, action_with, declares_type, declares_action}
+use Rattle.cedar_schema_model.specs.Descent.{type_names, action_uids, Descends, ActionDescends}
+use Rattle.cedar_schema_model.specs.Environment.{Environment, environments}
+use Rattle.cedar_schema_model.specs.ActionEntities.{action_entities}
 use Rattle.cedar_schema_kept_model.specs.Kept.{KeptType, KeptAction, Kept, kept_type, kept_action, kept_ancestors, kept_groups, kept_actions_for, kept_principals, kept_resources, RequestKind, kept_environments, kept_action_entities, Elsewhere, type_elsewhere, action_elsewhere, elsewhere}
 use Rattle.cedar_schema_kept_model.specs.KeptOf.{IsSameType, IsSameAction, IsKeptOf}
 

@@ -6,10 +6,10 @@ use Rattle.std.specs.Ordering.{is_lt}
 use Rattle.std.specs.Rc.{rc_str_bytes}
 use Rattle.std.specs.declared.alloc.Global.{Global}
 use Rattle.std.specs.declared.rc.RcStr.{RcStr}
-use Rattle.cedar_expr_model.specs.Whole.Order.{text_cmp}
-use Rattle.cedar_expr_model.specs.Whole.Records.{names_rise}
+use Rattle.cedar_expr_model.specs.Order.{text_cmp}
+use Rattle.cedar_expr_model.specs.Records.{names_rise}
 use Rattle.cedar_expr_model.proofs.Lists.{hold_both}
-use Rattle.cedar_schema_model.specs.Whole.OfLaws.Formed.{is_well_formed_type, are_well_formed_attributes}
+use Rattle.cedar_schema_model.specs.OfLaws.Formed.{is_well_formed_type, are_well_formed_attributes}
 use Rattle.cedar_schema_types.specs.Types.{type_of, attributes_of, entries_of}
 use Rattle.cedar_schema_types.specs.AttributeLists.{attributes_from, declared_pairs}
 use Rattle.cedar_schema_types.specs.declared.types.Attributes.{Attributes}

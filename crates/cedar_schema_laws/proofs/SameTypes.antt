@@ -7,7 +7,7 @@ use Rattle.std.specs.Str.{bytes_eq}
 use Rattle.std.proofs.lemmas.Slice.Eq.{bytes_eq-Decides}
 use Rattle.cedar_expr_model.specs.Name.{Name, name_eq}
 use Rattle.cedar_expr_model.proofs.Equality.{name_eq-Decides}
-use Rattle.cedar_schema_model.specs.Whole.Types.{BoolType, any_bool, only_true, only_false, Openness, is_open, is_closed, Ty, never, long_type, string_type, any_entity, any_set, bool_type, entity_types, set_type, record_type, extension_type, Attributes, no_attributes, attribute}
+use Rattle.cedar_schema_model.specs.Types.{BoolType, any_bool, only_true, only_false, Openness, is_open, is_closed, Ty, never, long_type, string_type, any_entity, any_set, bool_type, entity_types, set_type, record_type, extension_type, Attributes, no_attributes, attribute}
 
 abbrev pub same_bool : BoolType → BoolType → Bool
 same_bool any_bool any_bool = true

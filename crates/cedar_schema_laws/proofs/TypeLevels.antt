@@ -11,8 +11,8 @@ use Rattle.std.specs.declared.alloc.Global.{Global}
 use Rattle.std.specs.declared.rc.RcStr.{RcStr}
 use Rattle.cedar_expr_names.specs.Views.{plain_name_of}
 use Rattle.cedar_expr_names.specs.contracts.name.NamePartialEq.TheImpl as name_equality
-use Rattle.cedar_schema_model.specs.Whole.Types as model
-use Rattle.cedar_schema_model.specs.Whole.Types.{Ty, never, bool_type, long_type, string_type, any_set, set_type, record_type, extension_type}
+use Rattle.cedar_schema_model.specs.Types as model
+use Rattle.cedar_schema_model.specs.Types.{Ty, never, bool_type, long_type, string_type, any_set, set_type, record_type, extension_type}
 use Rattle.cedar_schema_types.specs.Kinds.{bool_type_of, openness_of}
 use Rattle.cedar_schema_types.specs.Types.{type_of, attributes_of, entries_of}
 use Rattle.cedar_schema_types.specs.Unions.{entities_of}

@@ -5,12 +5,12 @@ use Rattle.std.specs.List.{list_all}
 use Rattle.cedar_expr_values.specs.Extension.{Extension}
 use Rattle.cedar_expr_values.specs.Values.{bare}
 use Rattle.cedar_expr_values.specs.declared.value.Value.{Value}
-use Rattle.cedar_schema_model.specs.Whole.Types.{Ty}
-use Rattle.cedar_schema_model.specs.Whole.Subtype.{is_subtype}
-use Rattle.cedar_schema_model.specs.Whole.Join.{join, reduce_to_join, are_disjoint}
-use Rattle.cedar_schema_model.specs.Whole.HasType.{has_type}
-use Rattle.cedar_schema_model.specs.Whole.OfLaws.Formed.{is_well_formed_type}
-use Rattle.cedar_schema_model.specs.Whole.TypeLaws.{has_no_any_set}
+use Rattle.cedar_schema_model.specs.Types.{Ty}
+use Rattle.cedar_schema_model.specs.Subtype.{is_subtype}
+use Rattle.cedar_schema_model.specs.Join.{join, reduce_to_join, are_disjoint}
+use Rattle.cedar_schema_model.specs.HasType.{has_type}
+use Rattle.cedar_schema_model.specs.OfLaws.Formed.{is_well_formed_type}
+use Rattle.cedar_schema_model.specs.TypeLaws.{has_no_any_set}
 use Rattle.cedar_schema_types.specs.Types.{type_of}
 use Rattle.cedar_schema_types.specs.declared.types.Type.{«Type» as CodeType}
 use Rattle.cedar_schema_joins.specs.Modes.{mode_of}

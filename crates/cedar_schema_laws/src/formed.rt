@@ -1,7 +1,7 @@
 //! Types are well-formed. Each body goes through the type and does nothing else.
 
 ghost use Rattle.std.specs.Prelude.{◌≡◌, true};
-ghost use Rattle.cedar_schema_model.specs.Whole.OfLaws.Formed.{is_well_formed_type, are_well_formed_attributes};
+ghost use Rattle.cedar_schema_model.specs.OfLaws.Formed.{is_well_formed_type, are_well_formed_attributes};
 ghost use Rattle.cedar_schema_types.specs.Unions.{entities_of};
 ghost use Rattle.cedar_schema_types.specs.Types.{type_of, attributes_of};
 

@@ -5,8 +5,8 @@ ghost use Rattle.std.specs.Prelude.{◌≡◌, ◌↔◌, [], Bool, true, Option
 ghost use Rattle.std.specs.Bool.{Decides};
 ghost use Rattle.std.specs.Ordering.{is_eq};
 ghost use Rattle.std.specs.declared.cmp.Ordering.TheVariants.{Equal};
-ghost use Rattle.cedar_schema_model.specs.Whole.Types.{Mode, never};
-ghost use Rattle.cedar_schema_model.specs.Whole.Join.{reduce_to_join};
+ghost use Rattle.cedar_schema_model.specs.Types.{Mode, never};
+ghost use Rattle.cedar_schema_model.specs.Join.{reduce_to_join};
 ghost use Rattle.cedar_expr_names.specs.declared.loc.Loc.{Loc};
 ghost use Rattle.cedar_schema_types.specs.Kinds.{bool_type_of, openness_of};
 ghost use Rattle.cedar_schema_types.specs.Types.{type_of, attributes_of, attribute_of};

@@ -2,7 +2,7 @@
 -- Rule: declarations (docs/RULES.md).
 use Rattle.std.specs.Prelude.{◌&&◌, List, [], ◌∷◌, map, Bool, not, Option, Some, None, if◌then◌else◌}
 use Rattle.std.specs.List.{flat_map}
-use Rattle.cedar_expr_model.specs.Whole.Lists.{is_nil}
+use Rattle.cedar_expr_model.specs.Lists.{is_nil}
 use Rattle.cedar_expr_names.specs.Views.{name_of, name_loc}
 use Rattle.cedar_expr_names.specs.declared.internal_name.InternalName.{InternalName}
 use Rattle.cedar_expr_names.specs.declared.loc.Loc.{Loc}

@@ -4,7 +4,7 @@ use Rattle.std.specs.Prelude.{Option}
 use Rattle.cedar_expr_model.specs.Name.{Name}
 use Rattle.cedar_expr_names.specs.Views.{name_of, name_loc}
 use Rattle.cedar_expr_names.specs.declared.loc.Loc.{Loc}
-use Rattle.cedar_schema_model.specs.Whole.Types.{Ty}
+use Rattle.cedar_schema_model.specs.Types.{Ty}
 use Rattle.cedar_schema_types.specs.Types.{type_of}
 use Rattle.cedar_schema_located.specs.declared.located_type.LocatedType.{LocatedType}
 use Rattle.cedar_schema_located.specs.declared.common_type.LocatedCommonType.{LocatedCommonType}

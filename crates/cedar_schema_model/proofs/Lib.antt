@@ -1,4 +1,3 @@
-pub mod Conforming
-pub mod WellFormed
-pub mod Order
-pub mod Whole
+pub mod Named
+pub mod Types
+pub mod Decls

@@ -1,35 +1,44 @@
--- Types. There are three for truth values: the one of `true` alone, the one of `false` alone, and that of both.
--- Rule: typing (docs/RULES.md).
-use Rattle.std.specs.Prelude.{Option, Some, None, if◌then◌else◌}
-use Rattle.cedar_expr_model.specs.Name.{Name, name_eq}
+-- Types.
+-- Rule: types (docs/RULES.md).
+use Rattle.std.specs.Prelude.{List, [], ◌∷◌, Bool, Option, Some, None, if◌then◌else◌}
+use Rattle.std.specs.Str.{bytes_eq}
+use Rattle.cedar_expr_model.specs.Name.{Text, Name}
 
 pub data BoolType : Type 0 where
-  only_true : BoolType
-  only_false : BoolType
-  any_bool : BoolType
+  any_bool only_true only_false : BoolType
 
-pub data Ty : Type 0 where
-  bool_type : BoolType → Ty
-  long_type : Ty
-  entity_type : Name → Ty
+-- whether a record may have fields that its type doesn't list
+pub data Openness : Type 0 where
+  is_open is_closed : Openness
 
--- the Strict join: the least type above both, where there is one
-abbrev pub bool_join : BoolType → BoolType → BoolType
-bool_join only_true only_true = only_true
-bool_join only_false only_false = only_false
-bool_join only_true only_false = any_bool
-bool_join only_true any_bool = any_bool
-bool_join only_false only_true = any_bool
-bool_join only_false any_bool = any_bool
-bool_join any_bool b = any_bool
+-- A type. The type of some entities lists their entity types, rising, at least one. `any_set` is the type of all sets.
+mutual
+  pub data Ty : Type 0 where
+    never long_type string_type any_entity any_set : Ty
+    bool_type : BoolType → Ty
+    entity_types : List Name → Ty
+    set_type : Ty → Ty
+    record_type : Attributes → Openness → Ty
+    extension_type : Name → Ty
 
-abbrev pub strict_join : Ty → Ty → Option Ty
-strict_join (bool_type a) (bool_type b) = Some (bool_type (bool_join a b))
-strict_join (bool_type a) long_type = None
-strict_join (bool_type a) (entity_type n) = None
-strict_join long_type long_type = Some long_type
-strict_join long_type (bool_type b) = None
-strict_join long_type (entity_type n) = None
-strict_join (entity_type m) (entity_type n) = if name_eq m n then Some (entity_type m) else None
-strict_join (entity_type m) (bool_type b) = None
-strict_join (entity_type m) long_type = None
+  -- attributes by rising name, each with its type and whether it is required
+  pub data Attributes : Type 0 where
+    no_attributes : Attributes
+    attribute : Text → Ty → Bool → Attributes → Attributes
+
+-- the entities of one type
+abbrev pub entity_type : Name → Ty
+entity_type n = entity_types (n ∷ [])
+
+-- what is declared of an attribute: its type, and whether it is required
+pub record Declared : Type 0 where
+  pub type : Ty
+  pub is_required : Bool
+
+abbrev pub attribute_named : Text → Attributes → Option Declared
+attribute_named a no_attributes = None
+attribute_named a (attribute b t r as_) = if bytes_eq a b then Some (record { type = t; is_required = r }) else attribute_named a as_
+
+-- the two ways of typing
+pub data Mode : Type 0 where
+  strict permissive : Mode

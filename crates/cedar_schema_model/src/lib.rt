@@ -3,12 +3,8 @@
 //! Used by all crates of schemas, the typechecker's model and the gate.
 #![tactic(auto)]
 
-pub mod laws;
-pub mod whole_bag_worked;
-pub mod whole_decl_laws;
-pub mod whole_decl_worked;
-pub mod whole_first_path;
-pub mod whole_first_worked;
-pub mod whole_type_laws;
-pub mod whole_type_worked;
-pub mod worked;
+pub mod bag_worked;
+pub mod decl_laws;
+pub mod decl_worked;
+pub mod type_laws;
+pub mod type_worked;

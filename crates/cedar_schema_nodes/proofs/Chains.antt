@@ -4,8 +4,8 @@ use Rattle.std.specs.Prelude.{Contains}
 use Rattle.cedar_expr_model.specs.Name.{Name}
 use Rattle.cedar_expr_model.specs.Uid.{Uid}
 use Rattle.cedar_expr_model.proofs.Lists.{map_has, map_from}
-use Rattle.cedar_schema_model.specs.Whole.Schema.{EntityType, Action, Schema}
-use Rattle.cedar_schema_model.specs.Whole.Descent.{Chain, HasParent, HasActionParent}
+use Rattle.cedar_schema_model.specs.Schema.{EntityType, Action, Schema}
+use Rattle.cedar_schema_model.specs.Descent.{Chain, HasParent, HasActionParent}
 use Rattle.cedar_schema_nodes.specs.Descent.{HasParentIn}
 use Rattle.cedar_schema_nodes.specs.Laws.{types_with_parents, actions_with_parents, TypesDescendSo, ActionsDescendSo}
 

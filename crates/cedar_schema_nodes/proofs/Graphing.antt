@@ -9,8 +9,8 @@ use Rattle.std.specs.List.{filter_map}
 use Rattle.std.specs.declared.alloc.Global.{Global}
 use Rattle.std.specs.declared.vec.Vec.{Vec}
 use Rattle.cedar_expr_model.proofs.Lists.{contains_none, map_has, map_from}
-use Rattle.cedar_schema_model.specs.Whole.Descent.{Chain, Reaches}
-use Rattle.cedar_schema_model.proofs.Whole.Decls.Schema.{kept_from, kept_has}
+use Rattle.cedar_schema_model.specs.Descent.{Chain, Reaches}
+use Rattle.cedar_schema_model.proofs.Decls.Schema.{kept_from, kept_has}
 use Rattle.cedar_schema_closure.specs.Found.{AreBelow}
 use Rattle.cedar_schema_closure.specs.Graphs.{Graph, targets, HasEdge, IsWithin, IsClosure, IsTurned}
 use Rattle.cedar_schema_nodes.specs.Numbers.{seen_nodes, names_in, IsAt, AreNumbers, AreOnce, rows_of, AreNamesAt, AreSetsAt}

@@ -10,7 +10,7 @@ use Rattle.std.proofs.lemmas.List.Elements.{Contains-push_cases}
 use Rattle.cedar_expr_model.proofs.Lists.{contains_none}
 use Rattle.cedar_schema_nodes.specs.Numbers.{IsAt, AreNumbers, AreOnce, StoodBefore}
 use Rattle.cedar_schema_nodes.proofs.Places.{at_in, at_kept, at_last, once_more}
-use Rattle.cedar_schema_model.specs.Whole.BagLaws.{HasTwice}
+use Rattle.cedar_schema_model.specs.BagLaws.{HasTwice}
 
 some_is : (i j : ℕ) → Some i ≡ Some j → i ≡ j
 some_is i j e = cc

@@ -4,7 +4,7 @@ use Rattle.std.specs.Prelude.{Contains}
 use Rattle.std.proofs.lemmas.List.{get_or_append_left, get_or_push}
 use Rattle.std.proofs.lemmas.List.Elements.{Contains-append_left, Contains-append_right, Contains-push_cases}
 use Rattle.cedar_expr_model.proofs.Lists.{contains_head, contains_tail, contains_cases, contains_none}
-use Rattle.cedar_schema_model.specs.Whole.BagLaws.{HasTwice}
+use Rattle.cedar_schema_model.specs.BagLaws.{HasTwice}
 use Rattle.cedar_schema_nodes.specs.Numbers.{IsAt, StandsTwice, StoodBefore}
 
 module _ {S : Type 0} where

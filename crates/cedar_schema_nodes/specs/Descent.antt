@@ -1,7 +1,7 @@
 -- Descent by direct parents.
 -- Rule: descent (docs/RULES.md).
 use Rattle.std.specs.Prelude.{◌≡◌, ℕ, List, [], map, length, get_or, Contains}
-use Rattle.cedar_schema_model.specs.Whole.Descent.{Reaches}
+use Rattle.cedar_schema_model.specs.Descent.{Reaches}
 use Rattle.cedar_schema_closure.specs.Graphs.{Graph, HasEdge, IsWithin}
 use Rattle.cedar_schema_nodes.specs.Numbers.{IsAt}
 

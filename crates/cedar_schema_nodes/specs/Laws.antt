@@ -3,8 +3,8 @@
 use Rattle.std.specs.Prelude.{◌↔◌, List, map}
 use Rattle.cedar_expr_model.specs.Name.{Name}
 use Rattle.cedar_expr_model.specs.Uid.{Uid}
-use Rattle.cedar_schema_model.specs.Whole.Schema.{EntityType, Action, Schema}
-use Rattle.cedar_schema_model.specs.Whole.Descent.{Reaches, Descends, ActionDescends}
+use Rattle.cedar_schema_model.specs.Schema.{EntityType, Action, Schema}
+use Rattle.cedar_schema_model.specs.Descent.{Reaches, Descends, ActionDescends}
 use Rattle.cedar_schema_nodes.specs.Descent.{HasParentIn}
 
 -- the entity types, and the actions, with their parents

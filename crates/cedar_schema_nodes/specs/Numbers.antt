@@ -4,7 +4,7 @@ use Rattle.std.specs.Prelude.{◌≡◌, ◌⊎◌, ℕ, ◌<◌, List, [], ◌�
 use Rattle.std.specs.List.{filter_map}
 use Rattle.std.specs.declared.alloc.Global.{Global}
 use Rattle.std.specs.declared.vec.Vec.{Vec}
-use Rattle.cedar_schema_model.specs.Whole.BagLaws.{HasTwice}
+use Rattle.cedar_schema_model.specs.BagLaws.{HasTwice}
 use Rattle.cedar_schema_closure.specs.Graphs.{Graph, targets}
 use Rattle.cedar_schema_nodes.specs.declared.err.RepeatedError.{RepeatedError}
 use Rattle.cedar_schema_nodes.specs.declared.err.RepeatedError.TheVariants.{OutOfMemory, Repeated}

@@ -10,7 +10,7 @@ use Rattle.std.specs.Cmp.Lexicographic.{slice_cmp}
 use Rattle.std.specs.declared.cmp.Ordering.{Ordering}
 use Rattle.std.specs.declared.cmp.Ordering.TheVariants.{Less, Equal, Greater}
 use Rattle.cedar_expr_model.specs.Name.{name_eq, name_text}
-use Rattle.cedar_expr_model.specs.Order.{name_cmp}
+use Rattle.cedar_expr_model.specs.UidOrder.{name_cmp}
 use Rattle.cedar_expr_model.specs.Uid.{uid_eq}
 use Rattle.cedar_expr_model.proofs.Equality.{name_eq-Decides, uid_eq-Decides}
 use Rattle.cedar_expr_names.specs.Views.{name_of, eid_text, uid_of}

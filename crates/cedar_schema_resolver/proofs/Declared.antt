@@ -8,16 +8,16 @@ use Rattle.cedar_expr_model.specs.Name.{Name, name_eq}
 use Rattle.cedar_expr_model.proofs.Equality.{name_eq-Decides}
 use Rattle.cedar_expr_model.proofs.Lists.{contains_head, contains_tail, contains_cases, contains_none, found-Decides, flat_has}
 use Rattle.cedar_expr_names.specs.Views.{name_of, plain_name_of, refused_name_of}
-use Rattle.cedar_schema_model.specs.Whole.BagLaws.{Uses, HasTwice, HasSchemaFault}
-use Rattle.cedar_schema_model.specs.Whole.Declarations.{CommonDeclaration, Declarations, common_name, common_names, entity_names, action_uids, meant, references, references_in, extensions, extensions_in}
-use Rattle.cedar_schema_model.specs.Whole.Descent.{Chain}
-use Rattle.cedar_schema_model.specs.Whole.Reference.{Reference, meant_common, meant_entity}
-use Rattle.cedar_schema_model.specs.Whole.Resolved.{common_of, resolved, resolved_by}
-use Rattle.cedar_schema_model.specs.Whole.WellFormed.{SchemaFault, duplicate_common_type, cycle_of_common_types, reserved_name, unknown_extension_type, written_names}
-use Rattle.cedar_schema_model.proofs.Whole.Named.{defined_by}
-use Rattle.cedar_schema_model.proofs.Whole.Decls.Faults.{meant_is_declared}
-use Rattle.cedar_schema_model.proofs.Whole.Decls.Resolved.{IsAcyclic, common_found, some_common}
-use Rattle.cedar_schema_model.proofs.Whole.Decls.Schema.{kept_from, kept_has}
+use Rattle.cedar_schema_model.specs.BagLaws.{Uses, HasTwice, HasSchemaFault}
+use Rattle.cedar_schema_model.specs.Declarations.{CommonDeclaration, Declarations, common_name, common_names, entity_names, action_uids, meant, references, references_in, extensions, extensions_in}
+use Rattle.cedar_schema_model.specs.Descent.{Chain}
+use Rattle.cedar_schema_model.specs.Reference.{Reference, meant_common, meant_entity}
+use Rattle.cedar_schema_model.specs.Resolved.{common_of, resolved, resolved_by}
+use Rattle.cedar_schema_model.specs.WellFormed.{SchemaFault, duplicate_common_type, cycle_of_common_types, reserved_name, unknown_extension_type, written_names}
+use Rattle.cedar_schema_model.proofs.Named.{defined_by}
+use Rattle.cedar_schema_model.proofs.Decls.Faults.{meant_is_declared}
+use Rattle.cedar_schema_model.proofs.Decls.Resolved.{IsAcyclic, common_found, some_common}
+use Rattle.cedar_schema_model.proofs.Decls.Schema.{kept_from, kept_has}
 use Rattle.cedar_schema_decl.specs.Defined.{Defined}
 use Rattle.cedar_schema_decl.specs.Forms.{TypeForm}
 use Rattle.cedar_schema_decl.specs.Laws.{HasDeclared, namespace_parts, as_expr, type_told, resolved_in, ResolvedTypesAreDeclared}

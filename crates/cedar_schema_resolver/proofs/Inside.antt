@@ -4,10 +4,10 @@ use Rattle.std.proofs.lemmas.List.Elements.{filter_map-append}
 use Rattle.std.specs.List.{filter_map, cons_option}
 use Rattle.std.specs.Option.{option_to_list}
 use Rattle.cedar_expr_model.specs.Name.{Name}
-use Rattle.cedar_schema_model.specs.Whole.Reference.{Namespace, ReferenceKind, Reference, Meant, meant_common, meant_entity, meant_at}
-use Rattle.cedar_schema_model.specs.Whole.Resolved.{type_meant, resolved_by}
-use Rattle.cedar_schema_model.specs.Whole.Types.{Ty, entity_type, set_type}
-use Rattle.cedar_schema_model.specs.Whole.Declarations.{Declarations, reference, meant, references_in, references_in_fields, extensions_in, extensions_in_fields}
+use Rattle.cedar_schema_model.specs.Reference.{Namespace, ReferenceKind, Reference, Meant, meant_common, meant_entity, meant_at}
+use Rattle.cedar_schema_model.specs.Resolved.{type_meant, resolved_by}
+use Rattle.cedar_schema_model.specs.Types.{Ty, entity_type, set_type}
+use Rattle.cedar_schema_model.specs.Declarations.{Declarations, reference, meant, references_in, references_in_fields, extensions_in, extensions_in_fields}
 use Rattle.cedar_schema_decl.specs.Conditional.{Conditional, conditional_in, qualifying}
 use Rattle.cedar_schema_decl.specs.Defined.{Defined, is_defined, resolving}
 use Rattle.cedar_schema_decl.specs.Forms.{TypeForm, bool_form, long_form, string_form, set_form, record_form, reference_form, extension_form, FieldForms, no_field_forms, field_form}

@@ -7,7 +7,7 @@ use Rattle.std.specs.Prelude.{Contains}
 use Rattle.cedar_expr_model.specs.Name.{Name, name_eq}
 use Rattle.cedar_expr_model.proofs.Equality.{name_eq-Decides}
 use Rattle.cedar_expr_model.proofs.Lists.{contains_none, map_has}
-use Rattle.cedar_schema_model.specs.Whole.Types.{Ty}
+use Rattle.cedar_schema_model.specs.Types.{Ty}
 use Rattle.cedar_schema_decl.specs.Defined.{Defined}
 use Rattle.cedar_schema_decl.specs.Forms.{TypeForm}
 use Rattle.cedar_schema_nodes.specs.Numbers.{IsAt}

@@ -9,10 +9,10 @@ use Rattle.cedar_expr_model.specs.Name.{Name, name_eq, is_reserved}
 use Rattle.cedar_expr_model.proofs.Equality.{name_eq-Decides}
 use Rattle.cedar_expr_model.proofs.Lists.{contains_head, contains_cases, contains_none, found-Decides}
 use Rattle.cedar_expr_names.specs.Views.{name_of, plain_name_of, refused_name_of}
-use Rattle.cedar_schema_model.specs.Whole.Types.{Ty, entity_type, extension_type, set_type, record_type, is_closed, Attributes}
-use Rattle.cedar_schema_model.specs.Whole.Reference.{Meant, meant_common, meant_entity, meant_at}
-use Rattle.cedar_schema_model.specs.Whole.Declarations.{extensions_in, extensions_in_fields}
-use Rattle.cedar_schema_model.specs.Whole.Resolved.{with_attribute, type_meant}
+use Rattle.cedar_schema_model.specs.Types.{Ty, entity_type, extension_type, set_type, record_type, is_closed, Attributes}
+use Rattle.cedar_schema_model.specs.Reference.{Meant, meant_common, meant_entity, meant_at}
+use Rattle.cedar_schema_model.specs.Declarations.{extensions_in, extensions_in_fields}
+use Rattle.cedar_schema_model.specs.Resolved.{with_attribute, type_meant}
 use Rattle.cedar_schema_decl.specs.Defined.{is_defined}
 use Rattle.cedar_schema_decl.specs.Forms.{TypeForm, bool_form, long_form, string_form, set_form, record_form, reference_form, extension_form, FieldForms, no_field_forms, field_form}
 use Rattle.cedar_schema_decl.specs.Laws.{as_expr, as_exprs}

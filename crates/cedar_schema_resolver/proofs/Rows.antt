@@ -7,11 +7,11 @@ use Rattle.std.specs.declared.rc.RcStr.{RcStr}
 use Rattle.std.specs.declared.cmp.Ordering.{Ordering}
 use Rattle.std.specs.declared.cmp.Ordering.TheVariants.{Less, Equal, Greater}
 use Rattle.cedar_expr_model.specs.Name.{Text, Name}
-use Rattle.cedar_expr_model.specs.Whole.Order.{text_cmp}
-use Rattle.cedar_expr_model.specs.Whole.Records.{pair_placed, in_order}
+use Rattle.cedar_expr_model.specs.Order.{text_cmp}
+use Rattle.cedar_expr_model.specs.Records.{pair_placed, in_order}
 use Rattle.cedar_expr_values.specs.Fields.{by_text}
-use Rattle.cedar_schema_model.specs.Whole.Types.{Ty, Declared, attribute}
-use Rattle.cedar_schema_model.specs.Whole.Resolved.{with_attribute}
+use Rattle.cedar_schema_model.specs.Types.{Ty, Declared, attribute}
+use Rattle.cedar_schema_model.specs.Resolved.{with_attribute}
 use Rattle.cedar_schema_decl.specs.Forms.{TypeForm}
 use Rattle.cedar_schema_decl.specs.Requalified.{and_then, under_name, each}
 use Rattle.cedar_schema_decl.specs.Trees.{Rows, in_a_row, variant_step, record_step, type_step, attribute_step, attribute_form, attribute_rows, record_rows}

@@ -10,10 +10,10 @@ use Rattle.std.specs.Option.{option_to_list}
 use Rattle.cedar_expr_model.specs.Name.{Name, name_eq}
 use Rattle.cedar_expr_model.proofs.Equality.{name_eq-Decides}
 use Rattle.cedar_expr_model.proofs.Lists.{contains_head, contains_none, map_has}
-use Rattle.cedar_schema_model.specs.Whole.Types.{Ty, never, set_type, record_type, is_closed}
-use Rattle.cedar_schema_model.specs.Whole.Descent.{Reaches}
-use Rattle.cedar_schema_model.specs.Whole.Reference.{Meant, meant_common, meant_entity, meant_at}
-use Rattle.cedar_schema_model.specs.Whole.Resolved.{with_attribute, type_meant}
+use Rattle.cedar_schema_model.specs.Types.{Ty, never, set_type, record_type, is_closed}
+use Rattle.cedar_schema_model.specs.Descent.{Reaches}
+use Rattle.cedar_schema_model.specs.Reference.{Meant, meant_common, meant_entity, meant_at}
+use Rattle.cedar_schema_model.specs.Resolved.{with_attribute, type_meant}
 use Rattle.cedar_schema_closure.specs.Graphs.{HasEdge, IsOrder}
 use Rattle.cedar_schema_decl.specs.Defined.{Defined, is_defined}
 use Rattle.cedar_schema_decl.specs.Forms.{TypeForm, bool_form, long_form, string_form, set_form, record_form, reference_form, extension_form, FieldForms, no_field_forms, field_form}

@@ -18,7 +18,7 @@ use Rattle.cedar_expr_names.specs.Views.{name_of, plain_name_of}
 use Rattle.cedar_expr_names.specs.declared.internal_name.InternalName.{InternalName}
 use Rattle.cedar_expr_names.specs.declared.name.Name.{Name as CodeName}
 use Rattle.cedar_expr_names.proofs.Equality.{names_eq_is}
-use Rattle.cedar_schema_model.specs.Whole.Types.{Ty, never}
+use Rattle.cedar_schema_model.specs.Types.{Ty, never}
 use Rattle.cedar_schema_types.specs.Types.{type_of}
 use Rattle.cedar_schema_types.specs.declared.types.Type.{«Type» as CodeType}
 use Rattle.cedar_schema_resolver.specs.Commons.{commons_with, kept_with}

@@ -6,8 +6,8 @@ use Rattle.std.specs.List.{list_any}
 use Rattle.std.specs.Option.{option_to_list}
 use Rattle.cedar_expr_model.specs.Name.{Text, Name, name_eq}
 use Rattle.cedar_expr_model.proofs.Lists.{contains_head, contains_tail, contains_cases, contains_none, map_has, map_from}
-use Rattle.cedar_schema_model.specs.Whole.Reference.{to_entity, to_common, to_either, Meant, meant_common, meant_entity, meant_at}
-use Rattle.cedar_schema_model.specs.Whole.Descent.{Chain, Reaches}
+use Rattle.cedar_schema_model.specs.Reference.{to_entity, to_common, to_either, Meant, meant_common, meant_entity, meant_at}
+use Rattle.cedar_schema_model.specs.Descent.{Chain, Reaches}
 use Rattle.cedar_schema_decl.specs.Defined.{Defined, is_defined}
 use Rattle.cedar_schema_decl.specs.Forms.{TypeForm}
 use Rattle.cedar_schema_decl.specs.Trees.{Rows, in_a_row}

@@ -5,7 +5,7 @@ use Rattle.std.specs.Option.{option_map_or}
 use Rattle.std.specs.Map.{lookup}
 use Rattle.cedar_expr_model.specs.Name.{Name, name_eq}
 use Rattle.cedar_expr_names.specs.Views.{name_of}
-use Rattle.cedar_schema_model.specs.Whole.Types.{Ty, never}
+use Rattle.cedar_schema_model.specs.Types.{Ty, never}
 use Rattle.cedar_schema_types.specs.Types.{type_of}
 use Rattle.cedar_schema_resolver.specs.declared.common_types.CommonTypes.{CommonTypes}
 

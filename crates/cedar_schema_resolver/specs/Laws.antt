@@ -4,10 +4,10 @@ use Rattle.std.specs.Prelude.{◌≡◌, ◌↔◌, ◌⊎◌, List, [], ◌∷�
 use Rattle.std.specs.declared.result.Result.TheVariants.{Ok}
 use Rattle.cedar_expr_model.specs.Name.{Name, is_reserved}
 use Rattle.cedar_expr_names.specs.Views.{plain_name_of, refused_name_of}
-use Rattle.cedar_schema_model.specs.Whole.BagLaws.{Uses, HasSchemaFault}
-use Rattle.cedar_schema_model.specs.Whole.Declarations.{TypeExpr, CommonDeclaration, Declarations, common_name, entity_names, extensions_in}
-use Rattle.cedar_schema_model.specs.Whole.Resolved.{common_of, resolved}
-use Rattle.cedar_schema_model.specs.Whole.WellFormed.{SchemaFault, duplicate_common_type, cycle_of_common_types, reserved_name, unknown_extension_type}
+use Rattle.cedar_schema_model.specs.BagLaws.{Uses, HasSchemaFault}
+use Rattle.cedar_schema_model.specs.Declarations.{TypeExpr, CommonDeclaration, Declarations, common_name, entity_names, extensions_in}
+use Rattle.cedar_schema_model.specs.Resolved.{common_of, resolved}
+use Rattle.cedar_schema_model.specs.WellFormed.{SchemaFault, duplicate_common_type, cycle_of_common_types, reserved_name, unknown_extension_type}
 use Rattle.cedar_schema_decl.specs.Defined.{Defined}
 use Rattle.cedar_schema_decl.specs.Forms.{TypeForm}
 use Rattle.cedar_schema_decl.specs.Laws.{HasDeclared, namespace_parts, as_expr, resolved_in}

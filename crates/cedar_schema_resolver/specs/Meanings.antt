@@ -6,8 +6,8 @@ use Rattle.std.specs.BTreeSet.{BTreeSet}
 use Rattle.cedar_expr_model.specs.Name.{Name}
 use Rattle.cedar_expr_names.specs.declared.name.Name.{Name as CodeName}
 use Rattle.cedar_expr_names.specs.Views.{plain_name_of}
-use Rattle.cedar_schema_model.specs.Whole.Types.{Ty, Attributes}
-use Rattle.cedar_schema_model.specs.Whole.Reference.{Meant, meant_at}
+use Rattle.cedar_schema_model.specs.Types.{Ty, Attributes}
+use Rattle.cedar_schema_model.specs.Reference.{Meant, meant_at}
 use Rattle.cedar_schema_decl.specs.Defined.{Defined, defined_of, is_defined}
 use Rattle.cedar_schema_decl.specs.Forms.{TypeForm, set_form, record_form, reference_form, FieldForms, no_field_forms, field_form}
 use Rattle.cedar_schema_decl.specs.Laws.{type_told, fields_told}

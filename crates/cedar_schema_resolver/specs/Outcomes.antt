@@ -6,9 +6,9 @@ use Rattle.std.specs.declared.result.Result.{Result}
 use Rattle.std.specs.declared.result.Result.TheVariants.{Ok, Err}
 use Rattle.cedar_expr_model.specs.Name.{Name, name_eq, is_reserved}
 use Rattle.cedar_expr_names.specs.Views.{name_of, plain_name_of, refused_name_of}
-use Rattle.cedar_schema_model.specs.Whole.Types.{Ty, never, bool_type, any_bool, long_type, string_type, set_type, record_type, entity_type, extension_type, is_closed, Attributes, no_attributes, Declared}
-use Rattle.cedar_schema_model.specs.Whole.Resolved.{with_attribute}
-use Rattle.cedar_schema_model.specs.Whole.Reference.{Meant, meant_common, meant_entity, meant_at}
+use Rattle.cedar_schema_model.specs.Types.{Ty, never, bool_type, any_bool, long_type, string_type, set_type, record_type, entity_type, extension_type, is_closed, Attributes, no_attributes, Declared}
+use Rattle.cedar_schema_model.specs.Resolved.{with_attribute}
+use Rattle.cedar_schema_model.specs.Reference.{Meant, meant_common, meant_entity, meant_at}
 use Rattle.cedar_schema_decl.specs.Defined.{is_defined}
 use Rattle.cedar_schema_decl.specs.Forms.{TypeForm, bool_form, long_form, string_form, set_form, record_form, reference_form, extension_form, FieldForms, no_field_forms, field_form}
 use Rattle.cedar_schema_decl.specs.Requalified.{and_then}

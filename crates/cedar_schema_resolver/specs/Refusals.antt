@@ -3,8 +3,8 @@
 use Rattle.std.specs.Prelude.{◌≡◌, ◌⊎◌, List, true, Contains}
 use Rattle.cedar_expr_model.specs.Name.{Name, is_reserved}
 use Rattle.cedar_expr_names.specs.Views.{plain_name_of, refused_name_of}
-use Rattle.cedar_schema_model.specs.Whole.Reference.{meant_entity}
-use Rattle.cedar_schema_model.specs.Whole.Declarations.{extensions_in}
+use Rattle.cedar_schema_model.specs.Reference.{meant_entity}
+use Rattle.cedar_schema_model.specs.Declarations.{extensions_in}
 use Rattle.cedar_schema_decl.specs.Defined.{Defined}
 use Rattle.cedar_schema_decl.specs.Forms.{TypeForm}
 use Rattle.cedar_schema_decl.specs.Laws.{as_expr}

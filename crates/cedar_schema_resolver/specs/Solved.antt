@@ -3,9 +3,9 @@
 use Rattle.std.specs.Prelude.{◌≡◌, ℕ, true, List, Option, None, map, is_some, Contains}
 use Rattle.cedar_expr_model.specs.Name.{Name}
 use Rattle.cedar_expr_names.specs.Views.{name_of, plain_name_of, refused_name_of}
-use Rattle.cedar_schema_model.specs.Whole.Types.{Ty, never}
-use Rattle.cedar_schema_model.specs.Whole.BagLaws.{HasTwice}
-use Rattle.cedar_schema_model.specs.Whole.Descent.{Reaches}
+use Rattle.cedar_schema_model.specs.Types.{Ty, never}
+use Rattle.cedar_schema_model.specs.BagLaws.{HasTwice}
+use Rattle.cedar_schema_model.specs.Descent.{Reaches}
 use Rattle.cedar_schema_closure.specs.Graphs.{Graph, IsOrder}
 use Rattle.cedar_schema_decl.specs.Defined.{Defined}
 use Rattle.cedar_schema_decl.specs.Forms.{TypeForm}

@@ -5,7 +5,7 @@ use Rattle.std.specs.List.{list_any}
 use Rattle.cedar_expr_model.specs.Name.{Name, name_eq}
 use Rattle.cedar_expr_names.specs.Views.{name_of}
 use Rattle.cedar_expr_names.specs.declared.internal_name.InternalName.{InternalName}
-use Rattle.cedar_schema_model.specs.Whole.Reference.{Meant, meant_common, meant_entity}
+use Rattle.cedar_schema_model.specs.Reference.{Meant, meant_common, meant_entity}
 use Rattle.cedar_schema_decl.specs.Defined.{Defined}
 use Rattle.cedar_schema_decl.specs.Definitions.{common_form}
 use Rattle.cedar_schema_decl.specs.Forms.{TypeForm}

@@ -4,7 +4,7 @@ ghost use Rattle.std.specs.Prelude.{◌≡◌, option_map, OnOk, OnErr};
 ghost use Rattle.std.specs.BTreeMap.{insert_entry};
 ghost use Rattle.std.specs.Option.{option_map_or};
 ghost use Rattle.cedar_expr_names.specs.Views.{name_of};
-ghost use Rattle.cedar_schema_model.specs.Whole.Types.{never};
+ghost use Rattle.cedar_schema_model.specs.Types.{never};
 ghost use Rattle.cedar_schema_types.specs.Types.{type_of};
 ghost use Rattle.cedar_schema_resolver.specs.Commons.{common_seen, no_commons, commons_with, common_kept, none_kept, kept_with};
 

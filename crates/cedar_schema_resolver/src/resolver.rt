@@ -5,7 +5,7 @@ ghost use Rattle.std.specs.Rc.{rc_str_bytes};
 ghost use Rattle.std.specs.declared.result.Result.TheVariants.{Ok};
 ghost use Rattle.cedar_expr_names.specs.Views.{name_of, plain_name_of};
 ghost use Rattle.cedar_expr_values.specs.Fields.{by_text};
-ghost use Rattle.cedar_schema_model.specs.Whole.Reference.{to_common, to_entity, to_either};
+ghost use Rattle.cedar_schema_model.specs.Reference.{to_common, to_entity, to_either};
 ghost use Rattle.cedar_schema_decl.specs.Forms.{record_form, reference_form, extension_form};
 ghost use Rattle.cedar_schema_decl.specs.Requalified.{under_name, each};
 ghost use Rattle.cedar_schema_decl.specs.Trees.{type_form, variant_form, record_rows, record_fields, attribute_form};

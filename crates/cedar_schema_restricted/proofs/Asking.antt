@@ -11,14 +11,14 @@ use Rattle.std.specs.Str.{bytes_eq}
 use Rattle.std.specs.declared.alloc.Global.{Global}
 use Rattle.std.specs.declared.rc.RcStr.{RcStr}
 use Rattle.cedar_expr_model.specs.Name.{Text}
-use Rattle.cedar_expr_model.specs.Whole.Builder.{trees, tree_fields}
-use Rattle.cedar_expr_model.specs.Whole.Order.{text_cmp}
-use Rattle.cedar_expr_model.specs.Whole.Table.{Signature}
+use Rattle.cedar_expr_model.specs.Builder.{trees, tree_fields}
+use Rattle.cedar_expr_model.specs.Order.{text_cmp}
+use Rattle.cedar_expr_model.specs.Table.{Signature}
 use Rattle.cedar_expr_trees.specs.Trees.{tree_of, named, field_trees}
 use Rattle.cedar_expr_trees.specs.declared.expr.Expr.{Expr}
 use Rattle.cedar_expr_functions.specs.declared.err.ExtensionFunctionLookupError.{ExtensionFunctionLookupError}
 use Rattle.cedar_expr_functions.specs.declared.err.ExtensionFunctionLookupError.TheVariants.{OutOfMemory, FuncDoesNotExist}
-use Rattle.cedar_schema_model.specs.Whole.Types.{Ty, Openness, Attributes, attribute_named}
+use Rattle.cedar_schema_model.specs.Types.{Ty, Openness, Attributes, attribute_named}
 use Rattle.cedar_schema_types.specs.Types.{attribute_of}
 use Rattle.cedar_schema_types.specs.AttributeLists.{attributes_from, declared_pairs}
 use Rattle.cedar_schema_types.specs.declared.types.AttributeType.{AttributeType}

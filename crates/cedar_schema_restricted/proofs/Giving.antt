@@ -2,9 +2,9 @@
 use Rattle.std.proofs.Common.{◌≡◌, Bool, List, Option, Some, None, sym, ap, ◌∙◌}
 use Rattle.std.specs.Option.{option_map_or}
 use Rattle.cedar_expr_model.specs.Name.{Name}
-use Rattle.cedar_expr_model.specs.Whole.Table.{Signature, Table, signature_of, Called, fails}
-use Rattle.cedar_expr_model.specs.Whole.Tree.{CoreType}
-use Rattle.cedar_expr_model.specs.Whole.Value.{V}
+use Rattle.cedar_expr_model.specs.Table.{Signature, Table, signature_of, Called, fails}
+use Rattle.cedar_expr_model.specs.Tree.{CoreType}
+use Rattle.cedar_expr_model.specs.Value.{V}
 use Rattle.cedar_expr_names.specs.declared.loc.Loc.{Loc}
 use Rattle.cedar_expr_functions.specs.Refusals.{RefusesLookup}
 use Rattle.cedar_expr_functions.specs.declared.err.ExtensionFunctionLookupError.{ExtensionFunctionLookupError}

@@ -2,9 +2,9 @@
 -- Rule: values of a type; restricted expressions (docs/RULES.md).
 use Rattle.std.specs.Prelude.{◌≡◌, List, Bool, Result, Ok, Err}
 use Rattle.cedar_expr_model.specs.Name.{Name}
-use Rattle.cedar_expr_model.specs.Whole.Table.{Signature}
-use Rattle.cedar_expr_model.specs.Whole.Tree.{Trees, call}
-use Rattle.cedar_schema_model.specs.Whole.Types.{Ty}
+use Rattle.cedar_expr_model.specs.Table.{Signature}
+use Rattle.cedar_expr_model.specs.Tree.{Trees, call}
+use Rattle.cedar_schema_model.specs.Types.{Ty}
 use Rattle.cedar_expr_names.specs.Views.{plain_name_of}
 use Rattle.cedar_expr_functions.specs.declared.err.ExtensionFunctionLookupError.{ExtensionFunctionLookupError}
 use Rattle.cedar_expr_functions.specs.declared.err.ExtensionFunctionLookupError.TheVariants.{OutOfMemory, FuncDoesNotExist}

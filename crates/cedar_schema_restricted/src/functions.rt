@@ -2,7 +2,7 @@
 
 ghost use Rattle.std.specs.Prelude.{◌≡◌, List, Some};
 ghost use Rattle.cedar_expr_names.specs.Views.{plain_name_of};
-ghost use Rattle.cedar_expr_model.specs.Whole.Table.{Signature};
+ghost use Rattle.cedar_expr_model.specs.Table.{Signature};
 ghost use Rattle.cedar_expr_values.specs.Types.{core_of};
 ghost use Rattle.cedar_expr_functions.specs.Tables.{functions_of};
 ghost use Rattle.cedar_schema_admission_model.specs.Restricted.{is_result, call_asked};

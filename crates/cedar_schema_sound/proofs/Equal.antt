@@ -2,10 +2,10 @@
 use Rattle.std.proofs.Common.{◌≡◌, true, sym, ap, ◌∙◌, subst}
 use Rattle.std.specs.Prelude.{Contains}
 use Rattle.std.proofs.lemmas.Cmp.{nat_list_cmp_total, on_total}
-use Rattle.cedar_expr_model.specs.Order.{name_cmp, uid_cmp}
-use Rattle.cedar_expr_model.specs.Whole.Lists.{rises}
+use Rattle.cedar_expr_model.specs.UidOrder.{name_cmp, uid_cmp}
+use Rattle.cedar_expr_model.specs.Lists.{rises}
 use Rattle.cedar_expr_model.proofs.Lists.{all_each, both_hold}
-use Rattle.cedar_schema_model.specs.Whole.Schema.{EntityKind, standard, enumerated, external}
+use Rattle.cedar_schema_model.specs.Schema.{EntityKind, standard, enumerated, external}
 use Rattle.cedar_schema_kept_model.specs.Kept.{KeptType, KeptAction, Kept}
 use Rattle.cedar_schema_kept_model.specs.KeptOf.{IsSameKind}
 use Rattle.cedar_schema_builder_model.specs.Alike.{AreSameTypes, AreSameActions, IsWithin, AreAlike}

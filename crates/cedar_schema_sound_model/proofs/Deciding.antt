@@ -9,13 +9,13 @@ use Rattle.std.proofs.lemmas.Bool.Decides.{Decides-and, Decides-not, Decides-lik
 use Rattle.std.proofs.lemmas.Slice.Eq.{bytes_eq-Decides}
 use Rattle.cedar_expr_model.specs.Name.{Name, name_eq, is_reserved}
 use Rattle.cedar_expr_model.specs.Uid.{Uid, uid_eq}
-use Rattle.cedar_expr_model.specs.Whole.Lists.{first_found}
+use Rattle.cedar_expr_model.specs.Lists.{first_found}
 use Rattle.cedar_expr_model.proofs.Equality.{name_eq-Decides, uid_eq-Decides}
 use Rattle.cedar_expr_model.proofs.Lists.{contains_head, contains_tail, contains_cases, contains_none, found-Decides, all-Decides}
-use Rattle.cedar_schema_model.specs.Whole.Types.{Ty, never, bool_type, long_type, string_type, any_entity, entity_types, any_set, set_type, record_type, extension_type, is_open, is_closed, Attributes, no_attributes, attribute}
-use Rattle.cedar_schema_model.specs.Whole.Schema.{EntityKind, standard, enumerated, external}
-use Rattle.cedar_schema_model.specs.Whole.Reference.{action_word}
-use Rattle.cedar_schema_model.proofs.Whole.Decls.Conforming.{not_false}
+use Rattle.cedar_schema_model.specs.Types.{Ty, never, bool_type, long_type, string_type, any_entity, entity_types, any_set, set_type, record_type, extension_type, is_open, is_closed, Attributes, no_attributes, attribute}
+use Rattle.cedar_schema_model.specs.Schema.{EntityKind, standard, enumerated, external}
+use Rattle.cedar_schema_model.specs.Reference.{action_word}
+use Rattle.cedar_schema_model.proofs.Decls.Conforming.{not_false}
 use Rattle.cedar_schema_kept_model.specs.Kept.{KeptType, KeptAction, Kept, kept_type, kept_action}
 use Rattle.cedar_schema_sound_model.specs.Sound.{names_kept, uids_kept, IsKnownType, AreKnownAttributes, IsKnownTag, IsKnownKind, IsClosedRecord, IsSound}
 use Rattle.cedar_schema_sound_model.specs.Unsound.{Unsound, unless, undeclared_type, undeclared_action, unknown_extension, type_as_action, type_left_out, action_left_out, action_below_itself, action_of_other_type, type_fault, known_fault, attributes_fault, tag_fault, kind_fault, type_among, type_below_fault, entity_type_fault, context_fault, action_among, action_below_fault, descendants_fault, applied_fault, action_fault, first_fault, names_are_free, is_sound}

@@ -9,24 +9,24 @@ use Rattle.std.specs.declared.cmp.Ordering.TheVariants.{Less, Equal, Greater}
 use Rattle.std.proofs.lemmas.List.Elements.{Contains-append_left, Contains-append_right}
 use Rattle.cedar_expr_model.specs.Name.{Text, Name, name_eq, is_reserved}
 use Rattle.cedar_expr_model.specs.Uid.{Uid, uid_eq}
-use Rattle.cedar_expr_model.specs.Whole.Order.{text_cmp}
+use Rattle.cedar_expr_model.specs.Order.{text_cmp}
 use Rattle.cedar_expr_model.proofs.Equality.{name_eq-Decides, uid_eq-Decides}
 use Rattle.cedar_expr_model.proofs.Lists.{both_hold, contains_head, contains_tail, contains_cases, contains_none, found-Decides, map_has, map_from, flat_has}
-use Rattle.cedar_schema_model.specs.Whole.Types.{Ty, never, bool_type, long_type, string_type, any_entity, entity_types, any_set, set_type, record_type, extension_type, Attributes, no_attributes, attribute}
-use Rattle.cedar_schema_model.specs.Whole.Schema.{EntityKind, standard, enumerated, external, EntityType, Action}
-use Rattle.cedar_schema_model.specs.Whole.Descent.{type_names, HasParent, HasActionParent, Descends, ActionDescends}
-use Rattle.cedar_schema_model.specs.Whole.Descent as descent
-use Rattle.cedar_schema_model.specs.Whole.Reference.{Namespace, Reference, Meant, meant_common, meant_entity}
-use Rattle.cedar_schema_model.specs.Whole.Declarations.{TypeExpr, bool_expr, long_expr, string_expr, set_expr, record_expr, reference, extension_expr, FieldExprs, no_field_exprs, field_expr, KindExpr, standard_expr, enumerated_expr, external_expr, CommonDeclaration, EntityDeclaration, ActionDeclaration, Declarations, common_name, entity_name, action_uid, common_names, entity_names, action_uids, is_declared, meant, types_in, extensions_in, extensions_in_fields, extensions}
-use Rattle.cedar_schema_model.specs.Whole.WellFormed.{IsWellFormed, action_as_entity_type, reserved_name, unknown_extension_type, written_names}
-use Rattle.cedar_schema_model.specs.Whole.Resolved.{with_attribute, type_meant, resolved_by, resolved_fields_by, common_within, common_of, resolved, resolved_kind, resolved_entity, attributes_of_record, resolved_action, schema_of}
-use Rattle.cedar_schema_model.proofs.Whole.Named.{defined_by}
-use Rattle.cedar_schema_model.proofs.Whole.Decls.Descent.{reaches_on}
-use Rattle.cedar_schema_model.proofs.Whole.Decls.Direct.{not_not}
-use Rattle.cedar_schema_model.proofs.Whole.Decls.Faults.{meant_is_declared, no_schema_fault}
-use Rattle.cedar_schema_model.proofs.Whole.Decls.Named.{principals_named, resources_named}
-use Rattle.cedar_schema_model.proofs.Whole.Decls.Resolved.{common_found}
-use Rattle.cedar_schema_model.proofs.Whole.Decls.Schema.{same_types, not_its_ancestor}
+use Rattle.cedar_schema_model.specs.Types.{Ty, never, bool_type, long_type, string_type, any_entity, entity_types, any_set, set_type, record_type, extension_type, Attributes, no_attributes, attribute}
+use Rattle.cedar_schema_model.specs.Schema.{EntityKind, standard, enumerated, external, EntityType, Action}
+use Rattle.cedar_schema_model.specs.Descent.{type_names, HasParent, HasActionParent, Descends, ActionDescends}
+use Rattle.cedar_schema_model.specs.Descent as descent
+use Rattle.cedar_schema_model.specs.Reference.{Namespace, Reference, Meant, meant_common, meant_entity}
+use Rattle.cedar_schema_model.specs.Declarations.{TypeExpr, bool_expr, long_expr, string_expr, set_expr, record_expr, reference, extension_expr, FieldExprs, no_field_exprs, field_expr, KindExpr, standard_expr, enumerated_expr, external_expr, CommonDeclaration, EntityDeclaration, ActionDeclaration, Declarations, common_name, entity_name, action_uid, common_names, entity_names, action_uids, is_declared, meant, types_in, extensions_in, extensions_in_fields, extensions}
+use Rattle.cedar_schema_model.specs.WellFormed.{IsWellFormed, action_as_entity_type, reserved_name, unknown_extension_type, written_names}
+use Rattle.cedar_schema_model.specs.Resolved.{with_attribute, type_meant, resolved_by, resolved_fields_by, common_within, common_of, resolved, resolved_kind, resolved_entity, attributes_of_record, resolved_action, schema_of}
+use Rattle.cedar_schema_model.proofs.Named.{defined_by}
+use Rattle.cedar_schema_model.proofs.Decls.Descent.{reaches_on}
+use Rattle.cedar_schema_model.proofs.Decls.Direct.{not_not}
+use Rattle.cedar_schema_model.proofs.Decls.Faults.{meant_is_declared, no_schema_fault}
+use Rattle.cedar_schema_model.proofs.Decls.Named.{principals_named, resources_named}
+use Rattle.cedar_schema_model.proofs.Decls.Resolved.{common_found}
+use Rattle.cedar_schema_model.proofs.Decls.Schema.{same_types, not_its_ancestor}
 use Rattle.cedar_schema_kept_model.specs.Kept.{KeptType, KeptAction, Kept}
 use Rattle.cedar_schema_kept_model.specs.KeptOf.{IsSameKind, IsKeptOf}
 use Rattle.cedar_schema_sound_model.specs.Unsound.{Unsound, first_fault, names_are_free}

@@ -3,9 +3,9 @@
 use Rattle.std.specs.Prelude.{◌≡◌, List, None}
 use Rattle.std.specs.Bool.{Decides}
 use Rattle.cedar_expr_model.specs.Name.{Name}
-use Rattle.cedar_schema_model.specs.Whole.Declarations.{Declarations}
-use Rattle.cedar_schema_model.specs.Whole.Resolved.{schema_of}
-use Rattle.cedar_schema_model.specs.Whole.WellFormed.{IsWellFormed}
+use Rattle.cedar_schema_model.specs.Declarations.{Declarations}
+use Rattle.cedar_schema_model.specs.Resolved.{schema_of}
+use Rattle.cedar_schema_model.specs.WellFormed.{IsWellFormed}
 use Rattle.cedar_schema_kept_model.specs.Kept.{Kept}
 use Rattle.cedar_schema_kept_model.specs.KeptOf.{IsKeptOf}
 use Rattle.cedar_schema_sound_model.specs.Sound.{IsSound}

@@ -3,9 +3,9 @@
 use Rattle.std.specs.Prelude.{◌≡◌, List, map, false, Option, Some, None, Contains}
 use Rattle.cedar_expr_model.specs.Name.{Name, is_reserved}
 use Rattle.cedar_expr_model.specs.Uid.{Uid}
-use Rattle.cedar_schema_model.specs.Whole.Types.{Ty, entity_types, set_type, record_type, extension_type, is_closed, Attributes, no_attributes, attribute}
-use Rattle.cedar_schema_model.specs.Whole.Schema.{EntityKind, standard, enumerated, external}
-use Rattle.cedar_schema_model.specs.Whole.Reference.{action_word}
+use Rattle.cedar_schema_model.specs.Types.{Ty, entity_types, set_type, record_type, extension_type, is_closed, Attributes, no_attributes, attribute}
+use Rattle.cedar_schema_model.specs.Schema.{EntityKind, standard, enumerated, external}
+use Rattle.cedar_schema_model.specs.Reference.{action_word}
 use Rattle.cedar_schema_kept_model.specs.Kept.{KeptType, KeptAction, Kept, kept_type, kept_action}
 
 -- the names of the entity types, and the uids of the actions

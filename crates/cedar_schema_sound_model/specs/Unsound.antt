@@ -6,10 +6,10 @@ use Rattle.std.specs.List.{list_any, list_all}
 use Rattle.std.specs.Str.{bytes_eq}
 use Rattle.cedar_expr_model.specs.Name.{Name, name_eq, is_reserved}
 use Rattle.cedar_expr_model.specs.Uid.{Uid, uid_eq}
-use Rattle.cedar_expr_model.specs.Whole.Lists.{first_found}
-use Rattle.cedar_schema_model.specs.Whole.Types.{Ty, entity_types, set_type, record_type, extension_type, is_closed, Attributes, no_attributes, attribute}
-use Rattle.cedar_schema_model.specs.Whole.Schema.{EntityKind, standard, enumerated, external}
-use Rattle.cedar_schema_model.specs.Whole.Reference.{action_word}
+use Rattle.cedar_expr_model.specs.Lists.{first_found}
+use Rattle.cedar_schema_model.specs.Types.{Ty, entity_types, set_type, record_type, extension_type, is_closed, Attributes, no_attributes, attribute}
+use Rattle.cedar_schema_model.specs.Schema.{EntityKind, standard, enumerated, external}
+use Rattle.cedar_schema_model.specs.Reference.{action_word}
 use Rattle.cedar_schema_kept_model.specs.Kept.{KeptType, KeptAction, Kept, kept_type, kept_action}
 
 -- What may be wrong: an entity type, an extension type or an action that is referred to and isn't there; an entity type with the last

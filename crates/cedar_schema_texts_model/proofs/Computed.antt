@@ -1,7 +1,7 @@
 -- A text in quotes, computed.
 use Rattle.std.proofs.Common.{◌≡◌, refl, codes}
 use Rattle.std.specs.Str.{chars}
-use Rattle.cedar_schema_model.specs.Whole.Types.{record_type, is_closed}
+use Rattle.cedar_schema_model.specs.Types.{record_type, is_closed}
 use Rattle.cedar_schema_texts_model.specs.Texts.{type_text}
 use Rattle.cedar_schema_texts_model.specs.Worked.{two_attributes}
 

@@ -1,8 +1,8 @@
 //! Worked examples of texts of types, computed. Each function's contract is what comes out; its body does nothing.
 
 ghost use Rattle.std.specs.Prelude.{◌≡◌, [], ◌∷◌, codes};
-ghost use Rattle.cedar_schema_model.specs.Whole.Types.{never, only_true, bool_type, long_type, any_entity, entity_types, any_set, set_type, record_type, no_attributes, is_open, is_closed, extension_type};
-ghost use Rattle.cedar_schema_model.specs.Whole.TypeWorked.{bool, docs, doc, user, decimal};
+ghost use Rattle.cedar_schema_model.specs.Types.{never, only_true, bool_type, long_type, any_entity, entity_types, any_set, set_type, record_type, no_attributes, is_open, is_closed, extension_type};
+ghost use Rattle.cedar_schema_model.specs.TypeWorked.{bool, docs, doc, user, decimal};
 ghost use Rattle.cedar_schema_texts_model.specs.Texts.{type_text};
 ghost use Rattle.cedar_schema_texts_model.specs.Worked.{two_attributes};
 

@@ -3,9 +3,9 @@
 use Rattle.std.specs.Prelude.{◌↔◌, List, Contains}
 use Rattle.cedar_expr_model.specs.Name.{Name}
 use Rattle.cedar_expr_model.specs.Uid.{Uid}
-use Rattle.cedar_schema_model.specs.Whole.BagLaws.{HasTwice}
-use Rattle.cedar_schema_model.specs.Whole.Schema.{EntityType, Action, Schema}
-use Rattle.cedar_schema_model.specs.Whole.Descent.{type_names, action_uids, Descends, ActionDescends}
+use Rattle.cedar_schema_model.specs.BagLaws.{HasTwice}
+use Rattle.cedar_schema_model.specs.Schema.{EntityType, Action, Schema}
+use Rattle.cedar_schema_model.specs.Descent.{type_names, action_uids, Descends, ActionDescends}
 use Rattle.cedar_schema_kept_model.specs.Kept.{KeptType, KeptAction, Kept}
 use Rattle.cedar_schema_kept_model.specs.KeptOf.{IsSameType, IsSameAction, IsKeptOf}
 

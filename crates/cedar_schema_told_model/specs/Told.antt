@@ -3,8 +3,8 @@
 use Rattle.std.specs.Prelude.{List, [], ◌∷◌, map, option_map, option_to_list}
 use Rattle.cedar_expr_model.specs.Name.{Text, Name}
 use Rattle.cedar_expr_model.specs.Uid.{Uid}
-use Rattle.cedar_schema_model.specs.Whole.Resolved.{attributes_of_record}
-use Rattle.cedar_schema_model.specs.Whole.Schema.{EntityKind, standard, enumerated, external, EntityType, Action, Schema}
+use Rattle.cedar_schema_model.specs.Resolved.{attributes_of_record}
+use Rattle.cedar_schema_model.specs.Schema.{EntityKind, standard, enumerated, external, EntityType, Action, Schema}
 use Rattle.cedar_schema_decl.specs.Forms.{TypeForm, record_form, EntityForm, standard_form, enumerated_form, external_form, ActionForm}
 use Rattle.cedar_schema_fragments.specs.WrittenDeclarations.{parents_written, as_uid}
 use Rattle.cedar_schema_resolver.specs.Meanings.{Setting, told, told_fields}

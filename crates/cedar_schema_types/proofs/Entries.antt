@@ -7,7 +7,7 @@ use Rattle.std.specs.declared.alloc.Global.{Global}
 use Rattle.std.specs.declared.collections.BTreeMap.{BTreeMap}
 use Rattle.std.specs.declared.rc.Rc.{Rc}
 use Rattle.std.specs.declared.rc.RcStr.{RcStr}
-use Rattle.cedar_schema_model.specs.Whole.Types.{attribute}
+use Rattle.cedar_schema_model.specs.Types.{attribute}
 use Rattle.cedar_schema_types.specs.Types.{type_of, attributes_of, row_attributes, texts_of, entries_of}
 use Rattle.cedar_schema_types.specs.AttributeLists.{attributes_from, declared_pairs, names_in}
 use Rattle.cedar_schema_types.specs.declared.types.Attributes.{Attributes, Attributes', out-Attributes, roll-Attributes, is-Attributes', rolls-Attributes', Row_of-AttributeType, end_of-AttributeType, more_of-AttributeType, items-the_row-AttributeType, items_hidden-the_row-AttributeType-0}

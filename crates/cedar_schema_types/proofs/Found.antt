@@ -11,8 +11,8 @@ use Rattle.std.specs.Str.{bytes_eq}
 use Rattle.std.specs.declared.alloc.Global.{Global}
 use Rattle.std.specs.declared.rc.RcStr.{RcStr}
 use Rattle.cedar_expr_model.specs.Name.{Text}
-use Rattle.cedar_expr_model.specs.Whole.Order.{text_cmp}
-use Rattle.cedar_schema_model.specs.Whole.Types.{Declared, attribute_named}
+use Rattle.cedar_expr_model.specs.Order.{text_cmp}
+use Rattle.cedar_schema_model.specs.Types.{Declared, attribute_named}
 use Rattle.cedar_schema_types.specs.Types.{attributes_of, attribute_of, entries_of}
 use Rattle.cedar_schema_types.specs.AttributeLists.{attributes_from, declared_pairs}
 use Rattle.cedar_schema_types.specs.declared.types.Attributes.{Attributes}

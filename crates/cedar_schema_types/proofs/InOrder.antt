@@ -5,9 +5,9 @@ use Rattle.std.specs.Map.{keys_of}
 use Rattle.std.specs.Rc.{rc_str_bytes}
 use Rattle.std.specs.declared.alloc.Global.{Global}
 use Rattle.std.specs.declared.rc.RcStr.{RcStr}
-use Rattle.cedar_expr_model.specs.Whole.Lists.{rises}
-use Rattle.cedar_expr_model.specs.Whole.Order.{text_cmp}
-use Rattle.cedar_expr_model.specs.Whole.Records.{in_order, names_rise}
+use Rattle.cedar_expr_model.specs.Lists.{rises}
+use Rattle.cedar_expr_model.specs.Order.{text_cmp}
+use Rattle.cedar_expr_model.specs.Records.{in_order, names_rise}
 use Rattle.cedar_expr_values.specs.Fields.{by_text}
 use Rattle.cedar_expr_values.proofs.Ascending.{names_ascend}
 use Rattle.cedar_expr_values.proofs.Recorded.{under, in_order_under}

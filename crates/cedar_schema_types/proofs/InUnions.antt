@@ -3,14 +3,14 @@ use Rattle.std.proofs.Common.{◌≡◌, true, false, not, List, [], ◌∷◌, 
 use Rattle.std.specs.List.{list_all}
 use Rattle.std.specs.List.Sorted.{IsStrictlySortedBy}
 use Rattle.cedar_expr_model.specs.Name.{is_well_formed}
-use Rattle.cedar_expr_model.specs.Order.{name_cmp}
-use Rattle.cedar_expr_model.specs.Whole.Lists.{is_nil, rises}
+use Rattle.cedar_expr_model.specs.UidOrder.{name_cmp}
+use Rattle.cedar_expr_model.specs.Lists.{is_nil, rises}
 use Rattle.cedar_expr_model.proofs.Lists.{hold_both}
-use Rattle.cedar_expr_model.proofs.Whole.Rising.{is_less}
+use Rattle.cedar_expr_model.proofs.Rising.{is_less}
 use Rattle.cedar_expr_names.specs.Views.{type_name_of}
 use Rattle.cedar_expr_names.specs.declared.entity.EntityType.{EntityType}
 use Rattle.cedar_expr_names.proofs.Equality.{names_cmp_is, well_formed}
-use Rattle.cedar_schema_model.specs.Whole.OfLaws.Formed.{is_union}
+use Rattle.cedar_schema_model.specs.OfLaws.Formed.{is_union}
 use Rattle.cedar_schema_types.specs.Unions.{members_of}
 use Rattle.cedar_schema_types.specs.declared.entity_lub.EntityLUB.{EntityLUB}
 use Rattle.cedar_schema_types.proofs.Unions.{types_by, mapped_is_some}

@@ -11,13 +11,13 @@ use Rattle.std.specs.Rc.{rc_str_bytes}
 use Rattle.std.specs.declared.cmp.Ordering.{Ordering}
 use Rattle.std.specs.declared.cmp.Ordering.TheVariants.{Less, Equal, Greater}
 use Rattle.cedar_expr_model.specs.Name.{Name, name_eq}
-use Rattle.cedar_expr_model.specs.Order.{name_cmp}
-use Rattle.cedar_expr_model.specs.Whole.Lists.{is_nil}
+use Rattle.cedar_expr_model.specs.UidOrder.{name_cmp}
+use Rattle.cedar_expr_model.specs.Lists.{is_nil}
 use Rattle.cedar_expr_names.specs.Views.{type_name_of, type_loc}
 use Rattle.cedar_expr_names.specs.declared.entity.EntityType.{EntityType}
 use Rattle.cedar_expr_names.proofs.Equality.{names_eq_is, names_cmp_is}
-use Rattle.cedar_schema_model.specs.Whole.Subtype.{are_among}
-use Rattle.cedar_schema_model.specs.Whole.Join.{name_inserted, names_of_both}
+use Rattle.cedar_schema_model.specs.Subtype.{are_among}
+use Rattle.cedar_schema_model.specs.Join.{name_inserted, names_of_both}
 use Rattle.cedar_schema_types.specs.Unions.{only_member}
 
 -- what `cmp` computes of two entity types

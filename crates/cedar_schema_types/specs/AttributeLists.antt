@@ -5,7 +5,7 @@ use Rattle.std.specs.Rc.{rc_str_bytes}
 use Rattle.std.specs.declared.alloc.Global.{Global}
 use Rattle.std.specs.declared.rc.RcStr.{RcStr}
 use Rattle.cedar_expr_model.specs.Name.{Text}
-use Rattle.cedar_schema_model.specs.Whole.Types.{Attributes, no_attributes, attribute, Declared}
+use Rattle.cedar_schema_model.specs.Types.{Attributes, no_attributes, attribute, Declared}
 use Rattle.cedar_schema_types.specs.Types.{type_of, attribute_of}
 use Rattle.cedar_schema_types.specs.declared.types.AttributeType.{AttributeType}
 use Rattle.cedar_schema_types.specs.declared.types.Type.{«Type» as CodeType}

@@ -1,6 +1,6 @@
 -- What the code's Boolean types and marks of open records are in the model.
 -- Rule: types (docs/RULES.md).
-use Rattle.cedar_schema_model.specs.Whole.Types as model
+use Rattle.cedar_schema_model.specs.Types as model
 use Rattle.cedar_schema_types.specs.declared.kinds.BoolType.{BoolType}
 use Rattle.cedar_schema_types.specs.declared.kinds.BoolType.TheVariants.{AnyBool, True, False}
 use Rattle.cedar_schema_types.specs.declared.kinds.OpenTag.{OpenTag}

@@ -7,8 +7,8 @@ use Rattle.std.specs.declared.rc.RcStr.{RcStr}
 use Rattle.cedar_expr_model.specs.Name.{Text}
 use Rattle.cedar_expr_names.specs.Views.{plain_name_of}
 use Rattle.cedar_expr_names.specs.declared.loc.Loc.{Loc}
-use Rattle.cedar_schema_model.specs.Whole.Types as model
-use Rattle.cedar_schema_model.specs.Whole.Types.{Ty, never, bool_type, long_type, string_type, any_set, set_type, record_type, extension_type, no_attributes, attribute, Declared}
+use Rattle.cedar_schema_model.specs.Types as model
+use Rattle.cedar_schema_model.specs.Types.{Ty, never, bool_type, long_type, string_type, any_set, set_type, record_type, extension_type, no_attributes, attribute, Declared}
 use Rattle.cedar_schema_types.specs.Kinds.{bool_type_of, openness_of}
 use Rattle.cedar_schema_types.specs.Unions.{entities_of}
 use Rattle.cedar_schema_types.specs.declared.types.Type.{«Type» as CodeType, Never, Bool, Long, String, Entity, Set', Record, ExtensionType, None', Some'}

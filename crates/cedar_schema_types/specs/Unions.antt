@@ -3,7 +3,7 @@
 use Rattle.std.specs.Prelude.{List, [], ◌∷◌, Option, Some, None, map}
 use Rattle.cedar_expr_model.specs.Name.{Name}
 use Rattle.cedar_expr_names.specs.Views.{type_name_of}
-use Rattle.cedar_schema_model.specs.Whole.Types.{Ty, any_entity, entity_types}
+use Rattle.cedar_schema_model.specs.Types.{Ty, any_entity, entity_types}
 use Rattle.cedar_schema_types.specs.declared.entity_lub.EntityLUB.{EntityLUB}
 use Rattle.cedar_schema_types.specs.declared.entity_kind.EntityKind.{EntityKind}
 use Rattle.cedar_schema_types.specs.declared.entity_kind.EntityKind.TheVariants.{AnyEntity, Entity}

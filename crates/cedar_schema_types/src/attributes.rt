@@ -2,9 +2,9 @@
 
 ghost use Rattle.std.specs.Prelude.{◌≡◌, true, map, option_map, IfOk};
 ghost use Rattle.std.specs.Rc.{rc_str_bytes};
-ghost use Rattle.cedar_expr_model.specs.Whole.Records.{in_order, names_rise};
-ghost use Rattle.cedar_schema_model.specs.Whole.Types.{attribute_named};
-ghost use Rattle.cedar_schema_model.specs.Whole.Subtype.{are_named};
+ghost use Rattle.cedar_expr_model.specs.Records.{in_order, names_rise};
+ghost use Rattle.cedar_schema_model.specs.Types.{attribute_named};
+ghost use Rattle.cedar_schema_model.specs.Subtype.{are_named};
 ghost use Rattle.cedar_schema_types.specs.Types.{attributes_of, attribute_of};
 ghost use Rattle.cedar_schema_types.specs.AttributeLists.{attributes_from, declared_pair, declared_pairs, required_pairs, names_in};
 

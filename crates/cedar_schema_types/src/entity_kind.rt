@@ -2,9 +2,9 @@
 
 ghost use Rattle.std.specs.Prelude.{◌≡◌};
 ghost use Rattle.cedar_expr_names.specs.Views.{uid_of};
-ghost use Rattle.cedar_expr_model.specs.Whole.Value.{entity};
-ghost use Rattle.cedar_schema_model.specs.Whole.Join.{are_disjoint};
-ghost use Rattle.cedar_schema_model.specs.Whole.HasType.{literal_has_type};
+ghost use Rattle.cedar_expr_model.specs.Value.{entity};
+ghost use Rattle.cedar_schema_model.specs.Join.{are_disjoint};
+ghost use Rattle.cedar_schema_model.specs.HasType.{literal_has_type};
 ghost use Rattle.cedar_schema_types.specs.Unions.{entities_of};
 
 use crate::entity_lub::EntityLUB;

@@ -1,7 +1,7 @@
 //! Unions of entity types.
 
 ghost use Rattle.std.specs.Prelude.{◌≡◌, false};
-ghost use Rattle.cedar_expr_model.specs.Whole.Lists.{is_nil};
+ghost use Rattle.cedar_expr_model.specs.Lists.{is_nil};
 
 use cedar_expr_names::{EntityType, EntityUID};
 use std::alloc::{AllocError, Global};
@@ -21,10 +21,10 @@ impl EntityLUB {
     ghost use Rattle.std.specs.List.{list_any};
     ghost use Rattle.cedar_expr_names.specs.Views.{type_name_of};
     ghost use Rattle.cedar_expr_model.specs.Name.{name_eq};
-    ghost use Rattle.cedar_schema_model.specs.Whole.Types.{entity_types};
-    ghost use Rattle.cedar_schema_model.specs.Whole.OfLaws.Formed.{is_union};
-    ghost use Rattle.cedar_schema_model.specs.Whole.Subtype.{are_among};
-    ghost use Rattle.cedar_schema_model.specs.Whole.Join.{names_of_both, are_disjoint};
+    ghost use Rattle.cedar_schema_model.specs.Types.{entity_types};
+    ghost use Rattle.cedar_schema_model.specs.OfLaws.Formed.{is_union};
+    ghost use Rattle.cedar_schema_model.specs.Subtype.{are_among};
+    ghost use Rattle.cedar_schema_model.specs.Join.{names_of_both, are_disjoint};
     ghost use Rattle.cedar_schema_types.specs.Unions.{members_of, only_member};
 
     /// The union of one entity type alone. Answers want of memory.

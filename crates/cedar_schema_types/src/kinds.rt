@@ -1,10 +1,10 @@
 //! Boolean types, and whether a record is open.
 
 ghost use Rattle.std.specs.Prelude.{◌≡◌, if◌then◌else◌};
-ghost use Rattle.cedar_schema_model.specs.Whole.Types.{only_true, only_false};
-ghost use Rattle.cedar_schema_model.specs.Whole.Subtype.{is_bool_below, is_closed_record};
-ghost use Rattle.cedar_schema_model.specs.Whole.Join.{bool_join};
-ghost use Rattle.cedar_schema_model.specs.Whole.HasType.{is_of_bool};
+ghost use Rattle.cedar_schema_model.specs.Types.{only_true, only_false};
+ghost use Rattle.cedar_schema_model.specs.Subtype.{is_bool_below, is_closed_record};
+ghost use Rattle.cedar_schema_model.specs.Join.{bool_join};
+ghost use Rattle.cedar_schema_model.specs.HasType.{is_of_bool};
 ghost use Rattle.cedar_schema_types.specs.Kinds.{bool_type_of, openness_of};
 
 /// A type of truth values.

@@ -2,8 +2,8 @@
 
 ghost use Rattle.std.specs.Prelude.{◌≡◌, true, false, IfOk, None, if◌then◌else◌};
 ghost use Rattle.cedar_expr_names.specs.Views.{plain_name_of, type_name_of};
-ghost use Rattle.cedar_schema_model.specs.Whole.Types.{bool_type, only_true, only_false, any_bool, long_type, string_type, entity_type, any_entity, set_type, any_set, record_type, extension_type};
-ghost use Rattle.cedar_expr_model.specs.Whole.Records.{in_order};
+ghost use Rattle.cedar_schema_model.specs.Types.{bool_type, only_true, only_false, any_bool, long_type, string_type, entity_type, any_entity, set_type, any_set, record_type, extension_type};
+ghost use Rattle.cedar_expr_model.specs.Records.{in_order};
 ghost use Rattle.cedar_schema_types.specs.Kinds.{openness_of};
 ghost use Rattle.cedar_schema_types.specs.Types.{type_of, attributes_of, attribute_of, attribute_place};
 ghost use Rattle.cedar_schema_types.specs.AttributeLists.{attributes_from, declared_pairs, required_pairs};

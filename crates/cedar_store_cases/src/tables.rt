@@ -2,9 +2,9 @@
 
 ghost use Rattle.std.specs.Prelude.{◌≡◌, true, Some, None, option_map, IfSome};
 ghost use Rattle.cedar_expr_model.specs.Name.{name_read};
-ghost use Rattle.cedar_expr_model.specs.Whole.Tree.{bool_core};
-ghost use Rattle.cedar_expr_model.specs.Whole.Value.{prim, truth};
-ghost use Rattle.cedar_expr_model.specs.Whole.Table.{gives, fails, leaves};
+ghost use Rattle.cedar_expr_model.specs.Tree.{bool_core};
+ghost use Rattle.cedar_expr_model.specs.Value.{prim, truth};
+ghost use Rattle.cedar_expr_model.specs.Table.{gives, fails, leaves};
 ghost use Rattle.cedar_expr_functions.specs.Answers.{answer, is_of_result};
 
 use cedar_expr_functions::{

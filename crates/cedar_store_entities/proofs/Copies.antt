@@ -8,8 +8,8 @@ use Rattle.cedar_expr_names.specs.Views.{uid_of, uid_loc}
 use Rattle.cedar_expr_names.specs.declared.entity.EntityUID.{EntityUID}
 use Rattle.cedar_expr_model.specs.Name.{Text}
 use Rattle.cedar_expr_model.specs.Uid.{Uid}
-use Rattle.cedar_expr_model.specs.Whole.Made.{Made}
-use Rattle.cedar_expr_model.specs.Whole.ValueParts.{Part}
+use Rattle.cedar_expr_model.specs.Made.{Made}
+use Rattle.cedar_expr_model.specs.ValueParts.{Part}
 use Rattle.cedar_expr_partial.specs.Parts.{part_of, part_place}
 use Rattle.cedar_expr_partial.specs.declared.partial_value.PartialValue.{PartialValue}
 use Rattle.cedar_expr_values.specs.Extension.{Extension}

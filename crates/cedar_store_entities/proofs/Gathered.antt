@@ -7,13 +7,13 @@ use Rattle.std.specs.Result.{IsErrAnd}
 use Rattle.cedar_expr_names.specs.Views.{uid_of}
 use Rattle.cedar_expr_names.specs.declared.entity.EntityUID.{EntityUID}
 use Rattle.cedar_expr_model.specs.Uid.{Uid, uid_eq}
-use Rattle.cedar_expr_model.specs.Whole.Repeats.{repeated}
-use Rattle.cedar_expr_model.specs.Whole.ListLaws.{AreDistinct}
+use Rattle.cedar_expr_model.specs.Repeats.{repeated}
+use Rattle.cedar_expr_model.specs.ListLaws.{AreDistinct}
 use Rattle.cedar_expr_model.proofs.Lists.{found-Decides}
 use Rattle.cedar_expr_model.proofs.Equality.{uid_eq-Decides}
-use Rattle.cedar_expr_model.proofs.Whole.Repeating.{repeat_is_first, distinct_last}
-use Rattle.cedar_store_model.specs.Whole.Store.{Entities, are_distinct, Store, whole, store_of}
-use Rattle.cedar_store_model.proofs.Whole.Distinct.{distinct-Decides}
+use Rattle.cedar_expr_model.proofs.Repeating.{repeat_is_first, distinct_last}
+use Rattle.cedar_store_model.specs.Store.{Entities, are_distinct, Store, whole, store_of}
+use Rattle.cedar_store_model.proofs.Distinct.{distinct-Decides}
 use Rattle.cedar_store_entities.specs.Refusals.{RefusesUid, RefusesUids}
 use Rattle.cedar_store_entities.specs.StoreParts.{keys_in, uids_in, entities_in, are_apart}
 use Rattle.cedar_store_entities.specs.Views.{entity_uid, entity_pair}

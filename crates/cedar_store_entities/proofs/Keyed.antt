@@ -10,11 +10,11 @@ use Rattle.cedar_expr_names.specs.Views.{uid_of}
 use Rattle.cedar_expr_names.specs.declared.entity.EntityUID.{EntityUID}
 use Rattle.cedar_expr_names.proofs.Equality.{uids_eq_is}
 use Rattle.cedar_expr_model.specs.Uid.{Uid, uid_eq}
-use Rattle.cedar_expr_model.specs.Whole.Value.{V}
+use Rattle.cedar_expr_model.specs.Value.{V}
 use Rattle.cedar_expr_model.proofs.Equality.{uid_eq-Decides}
-use Rattle.cedar_store_model.specs.Whole.World as model
-use Rattle.cedar_store_model.specs.Whole.World.{Found, held, missing, not_loaded}
-use Rattle.cedar_store_model.specs.Whole.Store.{Extent, whole, partial, Store, found_as, if_uid, look_up}
+use Rattle.cedar_store_model.specs.World as model
+use Rattle.cedar_store_model.specs.World.{Found, held, missing, not_loaded}
+use Rattle.cedar_store_model.specs.Store.{Extent, whole, partial, Store, found_as, if_uid, look_up}
 use Rattle.cedar_store_entities.specs.Views.{entity_uid, entity_of, entity_pair, entity_kept, kept_pair}
 use Rattle.cedar_store_entities.specs.StoreParts.{keys_in, uids_in, entities_in, kept_in}
 use Rattle.cedar_store_entities.specs.declared.entity.Entity.{Entity}

@@ -5,16 +5,16 @@ use Rattle.std.specs.Map.{lookup}
 use Rattle.std.specs.Str.{bytes_eq}
 use Rattle.cedar_expr_model.specs.Name.{Text}
 use Rattle.cedar_expr_model.specs.Uid.{Uid, uid_eq}
-use Rattle.cedar_expr_model.specs.Whole.Table.{Table}
-use Rattle.cedar_expr_model.specs.Whole.Uids.{is_uid}
-use Rattle.cedar_expr_model.specs.Whole.Value.{V}
-use Rattle.cedar_expr_model.specs.Whole.ValueParts.{Part, known, left}
-use Rattle.cedar_store_model.specs.Whole.World.{Entity, Found, missing}
-use Rattle.cedar_store_model.specs.Whole.OfLaws.Extends.{Keeps, KeepsPart, KeepsEntity, KeepsFound, Extends}
-use Rattle.cedar_store_model.specs.Whole.Store as model
-use Rattle.cedar_store_model.specs.Whole.Store.{Extent, whole, partial, found_as, are_distinct, OpenRequest, world_of}
-use Rattle.cedar_store_model.specs.Whole.StoreLaws.{KeepsRequest}
-use Rattle.cedar_store_model.proofs.Whole.Stores.{found_stands, stands_found, whole_extends_partial}
+use Rattle.cedar_expr_model.specs.Table.{Table}
+use Rattle.cedar_expr_model.specs.Uids.{is_uid}
+use Rattle.cedar_expr_model.specs.Value.{V}
+use Rattle.cedar_expr_model.specs.ValueParts.{Part, known, left}
+use Rattle.cedar_store_model.specs.World.{Entity, Found, missing}
+use Rattle.cedar_store_model.specs.OfLaws.Extends.{Keeps, KeepsPart, KeepsEntity, KeepsFound, Extends}
+use Rattle.cedar_store_model.specs.Store as model
+use Rattle.cedar_store_model.specs.Store.{Extent, whole, partial, found_as, are_distinct, OpenRequest, world_of}
+use Rattle.cedar_store_model.specs.StoreLaws.{KeepsRequest}
+use Rattle.cedar_store_model.proofs.Stores.{found_stands, stands_found, whole_extends_partial}
 use Rattle.cedar_store_entities.specs.StoreLaws.{StoresAreMaps, PartialIsLess, AreFinishedIn, PartsAreFinished, UnfinishedIsLess}
 use Rattle.cedar_store_entities.specs.Stores.{store_seen}
 

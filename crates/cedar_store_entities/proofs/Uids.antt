@@ -5,7 +5,7 @@ use Rattle.std.specs.List.{list_all}
 use Rattle.std.specs.Char.{is_ascii}
 use Rattle.std.specs.Rc.{rc_str_bytes}
 use Rattle.std.specs.Str.{bytes_eq, is_utf8}
-use Rattle.cedar_expr_model.specs.Whole.Uids.{is_text, is_uid}
+use Rattle.cedar_expr_model.specs.Uids.{is_text, is_uid}
 use Rattle.cedar_expr_model.proofs.Lists.{hold_both}
 use Rattle.cedar_expr_names.specs.Views.{eid_text, uid_of}
 use Rattle.cedar_expr_names.specs.declared.entity.EntityUID.{EntityUID}

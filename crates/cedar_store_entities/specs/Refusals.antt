@@ -4,7 +4,7 @@ use Rattle.std.specs.Prelude.{◌≡◌, ℕ, List, true, Some}
 use Rattle.std.specs.List.{list_any}
 use Rattle.cedar_expr_names.specs.Views.{uid_of}
 use Rattle.cedar_expr_model.specs.Uid.{Uid, uid_eq}
-use Rattle.cedar_expr_model.specs.Whole.Repeats.{repeated}
+use Rattle.cedar_expr_model.specs.Repeats.{repeated}
 use Rattle.cedar_store_entities.specs.declared.err.EntitiesError.{EntitiesError}
 use Rattle.cedar_store_entities.specs.declared.err.EntitiesError.TheVariants.{OutOfMemory, Duplicate}
 

@@ -3,16 +3,16 @@
 use Rattle.std.specs.Prelude.{◌≡◌, true, Option, Contains}
 use Rattle.cedar_expr_model.specs.Name.{Text}
 use Rattle.cedar_expr_model.specs.Uid.{Uid}
-use Rattle.cedar_expr_model.specs.Whole.Table.{Table}
-use Rattle.cedar_expr_model.specs.Whole.Uids.{is_uid}
-use Rattle.cedar_expr_model.specs.Whole.Value.{V}
+use Rattle.cedar_expr_model.specs.Table.{Table}
+use Rattle.cedar_expr_model.specs.Uids.{is_uid}
+use Rattle.cedar_expr_model.specs.Value.{V}
 use Rattle.cedar_expr_names.specs.Views.{uid_of}
 use Rattle.cedar_expr_names.specs.declared.entity.EntityUID.{EntityUID}
-use Rattle.cedar_store_model.specs.Whole.OfLaws.Extends.{Keeps, KeepsEntity, Extends}
-use Rattle.cedar_store_model.specs.Whole.World.{Entity}
-use Rattle.cedar_store_model.specs.Whole.Store as model
-use Rattle.cedar_store_model.specs.Whole.Store.{whole, partial, are_distinct, OpenRequest, world_of}
-use Rattle.cedar_store_model.specs.Whole.StoreLaws.{KeepsRequest, ArePartOf}
+use Rattle.cedar_store_model.specs.OfLaws.Extends.{Keeps, KeepsEntity, Extends}
+use Rattle.cedar_store_model.specs.World.{Entity}
+use Rattle.cedar_store_model.specs.Store as model
+use Rattle.cedar_store_model.specs.Store.{whole, partial, are_distinct, OpenRequest, world_of}
+use Rattle.cedar_store_model.specs.StoreLaws.{KeepsRequest, ArePartOf}
 use Rattle.cedar_store_entities.specs.Stores.{store_seen}
 use Rattle.cedar_store_entities.specs.declared.entities.Entities.{Entities}
 

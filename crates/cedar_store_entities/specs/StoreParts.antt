@@ -4,7 +4,7 @@ use Rattle.std.specs.Prelude.{List, map, Bool}
 use Rattle.cedar_expr_names.specs.Views.{uid_of}
 use Rattle.cedar_expr_names.specs.declared.entity.EntityUID.{EntityUID}
 use Rattle.cedar_expr_model.specs.Uid.{Uid}
-use Rattle.cedar_store_model.specs.Whole.Store.{Entities, are_distinct}
+use Rattle.cedar_store_model.specs.Store.{Entities, are_distinct}
 use Rattle.cedar_store_entities.specs.Views.{entity_uid, entity_pair, Kept, kept_pair}
 use Rattle.cedar_store_entities.specs.declared.entity.Entity.{Entity}
 

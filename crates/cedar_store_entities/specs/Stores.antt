@@ -4,8 +4,8 @@ use Rattle.std.specs.Prelude.{◌≡◌, List, Some}
 use Rattle.std.specs.Map.{lookup}
 use Rattle.cedar_expr_model.specs.Uid.{Uid, uid_eq}
 use Rattle.cedar_expr_trees.specs.Trees.{tree_of}
-use Rattle.cedar_store_model.specs.Whole.World.{held, missing, not_loaded}
-use Rattle.cedar_store_model.specs.Whole.Store.{Extent, whole, partial, Store, look_up, stand_in}
+use Rattle.cedar_store_model.specs.World.{held, missing, not_loaded}
+use Rattle.cedar_store_model.specs.Store.{Extent, whole, partial, Store, look_up, stand_in}
 use Rattle.cedar_store_entities.specs.Views.{Kept, entity_uid, entity_of, entity_kept}
 use Rattle.cedar_store_entities.specs.StoreParts.{entities_in, kept_in}
 use Rattle.cedar_store_entities.specs.declared.entity.Entity.{Entity}

@@ -9,16 +9,16 @@ use Rattle.cedar_expr_names.specs.declared.entity.EntityUID.{EntityUID}
 use Rattle.cedar_expr_names.specs.declared.loc.Loc.{Loc}
 use Rattle.cedar_expr_model.specs.Name.{Text}
 use Rattle.cedar_expr_model.specs.Uid.{Uid}
-use Rattle.cedar_expr_model.specs.Whole.Made.{Made, bare}
-use Rattle.cedar_expr_model.specs.Whole.Value.{V}
-use Rattle.cedar_expr_model.specs.Whole.ValueParts.{Part, known, left}
+use Rattle.cedar_expr_model.specs.Made.{Made, bare}
+use Rattle.cedar_expr_model.specs.Value.{V}
+use Rattle.cedar_expr_model.specs.ValueParts.{Part, known, left}
 use Rattle.cedar_expr_values.specs.Extensions.{extension_of}
 use Rattle.cedar_expr_values.specs.Values.{made, place_of}
 use Rattle.cedar_expr_values.specs.declared.extension.ExtValue.{ExtValue}
 use Rattle.cedar_expr_values.specs.declared.value.Value.{Value}
 use Rattle.cedar_expr_partial.specs.Parts.{part_of, part_place}
 use Rattle.cedar_expr_partial.specs.declared.partial_value.PartialValue.{PartialValue}
-use Rattle.cedar_store_model.specs.Whole.World as model
+use Rattle.cedar_store_model.specs.World as model
 use Rattle.cedar_store_entities.specs.Recorded.{Kin, uids_of_kin}
 use Rattle.cedar_store_entities.specs.declared.entity.Entity.{Entity}
 

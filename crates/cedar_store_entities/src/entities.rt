@@ -47,7 +47,7 @@ impl Entities {
     ghost use Rattle.std.specs.List.{list_any};
     ghost use Rattle.cedar_expr_names.specs.Views.{uid_of};
     ghost use Rattle.cedar_expr_model.specs.Uid.{uid_eq};
-    ghost use Rattle.cedar_store_model.specs.Whole.Store.{whole, partial, store_of};
+    ghost use Rattle.cedar_store_model.specs.Store.{whole, partial, store_of};
     ghost use Rattle.cedar_store_entities.specs.Views.{entity_uid, entity_pair, kept_pair};
     ghost use Rattle.cedar_store_entities.specs.StoreParts.{entities_in, kept_in};
     ghost use Rattle.cedar_store_entities.specs.Stores.{store_seen, store_made, Dereferences};
@@ -132,7 +132,7 @@ impl Entities {
 ghost use Rattle.std.specs.Prelude.{IfOk};
 ghost use Rattle.cedar_expr_names.specs.Views.{uid_of};
 ghost use Rattle.cedar_expr_trees.specs.Trees.{tree_of};
-ghost use Rattle.cedar_store_model.specs.Whole.Store.{stand_in as unknown_for};
+ghost use Rattle.cedar_store_model.specs.Store.{stand_in as unknown_for};
 
 // What stands for an entity that isn't known.
 fn stand_in(alloc: Global, uid: &EntityUID) -> Result<Expr, AllocError>

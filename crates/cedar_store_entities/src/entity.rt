@@ -7,7 +7,7 @@ ghost use Rattle.std.specs.Rc.{rc_str_bytes};
 ghost use Rattle.std.specs.Str.{bytes_eq};
 ghost use Rattle.cedar_expr_names.specs.Views.{uid_of};
 ghost use Rattle.cedar_expr_model.specs.Uid.{uid_eq};
-ghost use Rattle.cedar_expr_model.specs.Whole.Records.{in_order};
+ghost use Rattle.cedar_expr_model.specs.Records.{in_order};
 ghost use Rattle.cedar_expr_partial.specs.Parts.{part_place};
 ghost use Rattle.cedar_store_entities.specs.Views.{part_seen, part_pair, value_pair, placed_part, placed_value, names_in, entity_uid, entity_seen, entity_kept, kin_seen, attribute_places, tag_places};
 ghost use Rattle.cedar_store_entities.specs.Recorded.{recorded, all_recorded, with_parent, with_indirect, with_parents, with_indirects, is_parent, is_indirect};

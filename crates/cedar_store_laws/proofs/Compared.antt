@@ -1,8 +1,8 @@
 -- Faults of the evaluator are equal exactly where they tell the same.
 use Rattle.std.proofs.Common.{◌≡◌, Some, refl, ap, Decides}
 use Rattle.std.proofs.lemmas.Bool.Decides.{Decides-like}
-use Rattle.cedar_expr_model.specs.Whole.Value.{V}
-use Rattle.cedar_store_model.specs.Whole.Outcome.{err, missing_entity, extension_failed}
+use Rattle.cedar_expr_model.specs.Value.{V}
+use Rattle.cedar_store_model.specs.Outcome.{err, missing_entity, extension_failed}
 use Rattle.cedar_store_parts.proofs.Compared.{names_decide, uids_decide}
 use Rattle.cedar_store_meaning.specs.Outcomes.{told}
 use Rattle.cedar_store_meaning.specs.declared.fault.MeaningFault.{MeaningFault}

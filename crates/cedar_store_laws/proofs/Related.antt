@@ -4,16 +4,16 @@ use Rattle.std.specs.Prelude.{Option, Some, None, IfOk, IfSome}
 use Rattle.std.specs.Bool.{Decides}
 use Rattle.std.specs.declared.alloc.AllocError.{AllocError}
 use Rattle.cedar_expr_model.specs.Name.{Name}
-use Rattle.cedar_expr_model.specs.Whole.Value.{V}
-use Rattle.cedar_expr_model.specs.Whole.Table.{Signature, Called}
+use Rattle.cedar_expr_model.specs.Value.{V}
+use Rattle.cedar_expr_model.specs.Table.{Signature, Called}
 use Rattle.cedar_expr_values.specs.Extensions.{extension_of}
 use Rattle.cedar_expr_values.specs.Values.{bare}
-use Rattle.cedar_store_model.specs.Whole.Answer.{PolicyMeans, policy_outcome, IsSatisfied, satisfied}
-use Rattle.cedar_store_model.specs.Whole.Meaning.{Means, outcome_of}
-use Rattle.cedar_store_model.specs.Whole.Outcome.{Res, val}
-use Rattle.cedar_store_model.specs.Whole.World as model
-use Rattle.cedar_store_model.proofs.Whole.Conditions.{policy_meaning_is_a_function, satisfied-Decides}
-use Rattle.cedar_store_model.proofs.Whole.Meaning.{meaning_is_a_function}
+use Rattle.cedar_store_model.specs.Answer.{PolicyMeans, policy_outcome, IsSatisfied, satisfied}
+use Rattle.cedar_store_model.specs.Meaning.{Means, outcome_of}
+use Rattle.cedar_store_model.specs.Outcome.{Res, val}
+use Rattle.cedar_store_model.specs.World as model
+use Rattle.cedar_store_model.proofs.Conditions.{policy_meaning_is_a_function, satisfied-Decides}
+use Rattle.cedar_store_model.proofs.Meaning.{meaning_is_a_function}
 use Rattle.cedar_store_meaning.specs.Outcomes.{told, IsSeen}
 use Rattle.cedar_store_meaning.specs.Policies.{IsTest}
 use Rattle.cedar_store_meaning.specs.Worlds.{world_seen}

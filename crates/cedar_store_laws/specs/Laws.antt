@@ -4,18 +4,18 @@ use Rattle.std.specs.Prelude.{◌≡◌, ◌↔◌, List, Bool, Option, Some, No
 use Rattle.std.specs.Bool.{Decides}
 use Rattle.std.specs.declared.alloc.AllocError.{AllocError}
 use Rattle.cedar_expr_model.specs.Name.{Name}
-use Rattle.cedar_expr_model.specs.Whole.Value.{V}
-use Rattle.cedar_expr_model.specs.Whole.Table.{Signature, Called}
-use Rattle.cedar_expr_model.specs.Whole.Tree.{Tree}
+use Rattle.cedar_expr_model.specs.Value.{V}
+use Rattle.cedar_expr_model.specs.Table.{Signature, Called}
+use Rattle.cedar_expr_model.specs.Tree.{Tree}
 use Rattle.cedar_expr_values.specs.Extensions.{extension_of}
 use Rattle.cedar_expr_values.specs.Values.{bare}
 use Rattle.cedar_expr_values.specs.declared.value.Value.{Value}
 use Rattle.cedar_expr_values.specs.declared.extension.ExtValue.{ExtValue}
-use Rattle.cedar_store_model.specs.Whole.Answer.{PolicyMeans, IsSatisfied}
-use Rattle.cedar_store_model.specs.Whole.Meaning.{Means}
-use Rattle.cedar_store_model.specs.Whole.Outcome.{Res, val}
-use Rattle.cedar_store_model.specs.Whole.Policy.{Policy}
-use Rattle.cedar_store_model.specs.Whole.World as model
+use Rattle.cedar_store_model.specs.Answer.{PolicyMeans, IsSatisfied}
+use Rattle.cedar_store_model.specs.Meaning.{Means}
+use Rattle.cedar_store_model.specs.Outcome.{Res, val}
+use Rattle.cedar_store_model.specs.Policy.{Policy}
+use Rattle.cedar_store_model.specs.World as model
 use Rattle.cedar_store_worlds_model.specs.Rising.{WorldRises}
 use Rattle.cedar_store_meaning.specs.Meanings.{MeaningIn}
 use Rattle.cedar_store_meaning.specs.Outcomes.{told}

@@ -5,7 +5,7 @@ ghost use Rattle.std.specs.Prelude.{◌≡◌, true, false};
 ghost use Rattle.std.specs.Bool.{Decides};
 ghost use Rattle.std.specs.Ordering.{is_eq};
 ghost use Rattle.std.specs.declared.cmp.Ordering.TheVariants.{Less};
-ghost use Rattle.cedar_expr_model.specs.Whole.Value.{V};
+ghost use Rattle.cedar_expr_model.specs.Value.{V};
 ghost use Rattle.cedar_expr_leaves.specs.declared.slot.Slot.{Slot as Placed};
 ghost use Rattle.cedar_store_parts.specs.Parts.{effect_of, part_slot};
 ghost use Rattle.cedar_store_parts.specs.declared.policy_id.Effect.{Effect as Does};

@@ -6,23 +6,23 @@ use Rattle.std.specs.declared.alloc.Global.{Global}
 use Rattle.std.specs.declared.rc.RcStr.{RcStr}
 use Rattle.std.specs.declared.vec.Vec.{Vec}
 use Rattle.cedar_expr_model.specs.Name.{Text, Name}
-use Rattle.cedar_expr_model.specs.Whole.Canonical.{set_made}
-use Rattle.cedar_expr_model.specs.Whole.Pattern.{Pattern}
-use Rattle.cedar_expr_model.specs.Whole.Records.{fields}
-use Rattle.cedar_expr_model.specs.Whole.Value.{V, Literal, prim, record_of, truth_value}
-use Rattle.cedar_expr_model.specs.Whole.Table.{Signature, Called}
-use Rattle.cedar_expr_model.specs.Whole.Tree.{Var, SlotId, CoreType, UnaryOp, BinaryOp, Tree, lit, var, slot, unknown, choice, both, either, unary, binary, call, get_attr, has_attr, has_path, like, is_type, set_literal, record_literal, Trees, TreeFields}
+use Rattle.cedar_expr_model.specs.Canonical.{set_made}
+use Rattle.cedar_expr_model.specs.Pattern.{Pattern}
+use Rattle.cedar_expr_model.specs.Records.{fields}
+use Rattle.cedar_expr_model.specs.Value.{V, Literal, prim, record_of, truth_value}
+use Rattle.cedar_expr_model.specs.Table.{Signature, Called}
+use Rattle.cedar_expr_model.specs.Tree.{Var, SlotId, CoreType, UnaryOp, BinaryOp, Tree, lit, var, slot, unknown, choice, both, either, unary, binary, call, get_attr, has_attr, has_path, like, is_type, set_literal, record_literal, Trees, TreeFields}
 use Rattle.cedar_expr_functions.specs.Signatures.{bare_values}
 use Rattle.cedar_expr_values.specs.Extensions.{extension_of}
 use Rattle.cedar_expr_values.specs.Values.{bare, bare_pair}
 use Rattle.cedar_expr_values.specs.declared.value.Value.{Value}
 use Rattle.cedar_expr_values.specs.declared.extension.ExtValue.{ExtValue}
-use Rattle.cedar_store_model.specs.Whole.Outcome.{Res, val, err, bind}
-use Rattle.cedar_store_model.specs.Whole.World as model
-use Rattle.cedar_store_model.specs.Whole.Operators.{says, applied, like_pattern, of_type, called}
-use Rattle.cedar_store_model.specs.Whole.Policy.{binding_of}
-use Rattle.cedar_store_model.specs.Whole.Reads.{attribute_read, attribute_tested}
-use Rattle.cedar_store_model.specs.Whole.Meaning.{variable, slot_value, truth_asked, picked, combined, path_tested, outcome_of, outcomes_of, field_outcomes_of}
+use Rattle.cedar_store_model.specs.Outcome.{Res, val, err, bind}
+use Rattle.cedar_store_model.specs.World as model
+use Rattle.cedar_store_model.specs.Operators.{says, applied, like_pattern, of_type, called}
+use Rattle.cedar_store_model.specs.Policy.{binding_of}
+use Rattle.cedar_store_model.specs.Reads.{attribute_read, attribute_tested}
+use Rattle.cedar_store_model.specs.Meaning.{variable, slot_value, truth_asked, picked, combined, path_tested, outcome_of, outcomes_of, field_outcomes_of}
 use Rattle.cedar_store_parts.specs.Parts.{bindings_of}
 use Rattle.cedar_store_entities.specs.Stores.{store_seen}
 use Rattle.cedar_store_worlds_model.specs.Rising.{Rises, WorldRises}

@@ -4,16 +4,16 @@ use Rattle.std.proofs.Common.{ap, sym, ◌∙◌}
 use Rattle.std.proofs.lemmas.Bool.{true≢false}
 use Rattle.std.proofs.lemmas.Slice.Eq.{bytes_eq-Decides}
 use Rattle.cedar_expr_model.specs.Name.{Text, Name}
-use Rattle.cedar_expr_model.specs.Whole.Value.{V}
-use Rattle.cedar_expr_model.specs.Whole.Tree.{CoreType}
-use Rattle.cedar_expr_model.specs.Whole.Table.{Table, Signature, Called, gives, fails, leaves, takes_count, are_of_types}
+use Rattle.cedar_expr_model.specs.Value.{V}
+use Rattle.cedar_expr_model.specs.Tree.{CoreType}
+use Rattle.cedar_expr_model.specs.Table.{Table, Signature, Called, gives, fails, leaves, takes_count, are_of_types}
 use Rattle.cedar_expr_model.proofs.Equality.{name_eq-Decides}
-use Rattle.cedar_expr_model.proofs.Whole.ValueOrder.{values_decide}
+use Rattle.cedar_expr_model.proofs.ValueOrder.{values_decide}
 use Rattle.cedar_expr_functions.specs.Answers.{agree}
 use Rattle.cedar_expr_functions.specs.Signatures.{takes, first_mistyped}
 use Rattle.cedar_expr_functions.proofs.Mistyped.{of_types}
-use Rattle.cedar_store_model.specs.Whole.Outcome.{Res, val, err, wrong_type, wrong_count, extension_failed}
-use Rattle.cedar_store_model.specs.Whole.Operators.{answered, called_with}
+use Rattle.cedar_store_model.specs.Outcome.{Res, val, err, wrong_type, wrong_count, extension_failed}
+use Rattle.cedar_store_model.specs.Operators.{answered, called_with}
 
 -- what agrees is the same
 same_answer : (c d : Called) → agree (Some c) (Some d) ≡ true → c ≡ d

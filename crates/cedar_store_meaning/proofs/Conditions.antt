@@ -4,17 +4,17 @@ use Rattle.std.specs.Prelude.{Some}
 use Rattle.std.specs.Result.{IsErrAnd}
 use Rattle.std.specs.Borrow.{Bor}
 use Rattle.cedar_expr_model.specs.Name.{Name}
-use Rattle.cedar_expr_model.specs.Whole.Value.{V}
-use Rattle.cedar_expr_model.specs.Whole.Table.{Signature, Called}
-use Rattle.cedar_expr_model.specs.Whole.Tree.{Tree}
+use Rattle.cedar_expr_model.specs.Value.{V}
+use Rattle.cedar_expr_model.specs.Table.{Signature, Called}
+use Rattle.cedar_expr_model.specs.Tree.{Tree}
 use Rattle.cedar_expr_values.specs.Extensions.{extension_of}
 use Rattle.cedar_expr_values.specs.Values.{bare}
 use Rattle.cedar_expr_values.specs.declared.value.Value.{Value}
 use Rattle.cedar_expr_values.specs.declared.extension.ExtValue.{ExtValue}
-use Rattle.cedar_store_model.specs.Whole.Answer.{with_slots}
-use Rattle.cedar_store_model.specs.Whole.Meaning.{outcome_of, truth_asked}
-use Rattle.cedar_store_model.specs.Whole.Policy.{Policy, condition}
-use Rattle.cedar_store_model.specs.Whole.World as model
+use Rattle.cedar_store_model.specs.Answer.{with_slots}
+use Rattle.cedar_store_model.specs.Meaning.{outcome_of, truth_asked}
+use Rattle.cedar_store_model.specs.Policy.{Policy, condition}
+use Rattle.cedar_store_model.specs.World as model
 use Rattle.cedar_store_parts.specs.Parts.{bindings_of}
 use Rattle.cedar_store_parts.specs.declared.slot_env.SlotEnv.{SlotEnv}
 use Rattle.cedar_store_worlds_model.specs.Rising.{WorldRises}

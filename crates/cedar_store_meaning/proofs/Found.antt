@@ -14,20 +14,20 @@ use Rattle.std.specs.declared.alloc.Global.{Global}
 use Rattle.std.specs.declared.rc.RcStr.{RcStr}
 use Rattle.cedar_expr_model.specs.Name.{Text}
 use Rattle.cedar_expr_model.specs.Uid.{Uid, uid_eq}
-use Rattle.cedar_expr_model.specs.Whole.Lists.{all_given}
-use Rattle.cedar_expr_model.specs.Whole.Made as model
-use Rattle.cedar_expr_model.specs.Whole.Made.{Made, Mades, made_set, bare_fields}
-use Rattle.cedar_expr_model.specs.Whole.Order.{text_cmp}
-use Rattle.cedar_expr_model.specs.Whole.Value.{V, Vs, values_list, field_of}
+use Rattle.cedar_expr_model.specs.Lists.{all_given}
+use Rattle.cedar_expr_model.specs.Made as model
+use Rattle.cedar_expr_model.specs.Made.{Made, Mades, made_set, bare_fields}
+use Rattle.cedar_expr_model.specs.Order.{text_cmp}
+use Rattle.cedar_expr_model.specs.Value.{V, Vs, values_list, field_of}
 use Rattle.cedar_expr_values.specs.Extension.{Extension}
 use Rattle.cedar_expr_values.specs.Values.{bare, made, made_kind, mades, made_list, made_fields, made_pair, kind_step, set_step, value_step}
 use Rattle.cedar_expr_values.specs.declared.value.ValueKind.{ValueKind, ValueKind-F, fold-roll-ValueKind}
 use Rattle.cedar_expr_values.specs.declared.value.ValueKind.TheVariants.{Set as SetKind, rolls-Set}
 use Rattle.cedar_expr_values.specs.declared.value.Set.{Set}
 use Rattle.cedar_expr_values.specs.declared.value.Value.{Value}
-use Rattle.cedar_store_model.specs.Whole.Outcome.{Res, err, wrong_type}
-use Rattle.cedar_store_model.specs.Whole.Operators.{says}
-use Rattle.cedar_store_model.specs.Whole.Reads.{uid_of, uids_in, is_in_some}
+use Rattle.cedar_store_model.specs.Outcome.{Res, err, wrong_type}
+use Rattle.cedar_store_model.specs.Operators.{says}
+use Rattle.cedar_store_model.specs.Reads.{uid_of, uids_in, is_in_some}
 
 -- a look-up among changed values
 pub lookup_changed : {A B : Type 0} (f : A → B) (a : Text) (ps : List (Text × A)) → lookup (bytes_eq a) (map (λ p. (p.0, f p.1)) ps) ≡ option_map f (lookup (bytes_eq a) ps)

@@ -10,12 +10,12 @@ use Rattle.std.specs.declared.rc.RcStr.{RcStr}
 use Rattle.std.specs.declared.vec.Vec.{Vec}
 use Rattle.std.proofs.lemmas.List.{map-append}
 use Rattle.cedar_expr_model.specs.Name.{Text, Name}
-use Rattle.cedar_expr_model.specs.Whole.Builder.{trees, tree_fields}
-use Rattle.cedar_expr_model.specs.Whole.Lists.{rises}
-use Rattle.cedar_expr_model.specs.Whole.Order.{text_cmp}
-use Rattle.cedar_expr_model.specs.Whole.Records.{names_rise}
-use Rattle.cedar_expr_model.specs.Whole.Value.{V, Fields, field}
-use Rattle.cedar_expr_model.specs.Whole.Table.{Signature, Called}
+use Rattle.cedar_expr_model.specs.Builder.{trees, tree_fields}
+use Rattle.cedar_expr_model.specs.Lists.{rises}
+use Rattle.cedar_expr_model.specs.Order.{text_cmp}
+use Rattle.cedar_expr_model.specs.Records.{names_rise}
+use Rattle.cedar_expr_model.specs.Value.{V, Fields, field}
+use Rattle.cedar_expr_model.specs.Table.{Signature, Called}
 use Rattle.cedar_expr_functions.specs.Signatures.{bare_values}
 use Rattle.cedar_expr_trees.specs.Trees.{tree_of, named, field_trees}
 use Rattle.cedar_expr_trees.specs.declared.expr.Expr.{Expr}
@@ -25,9 +25,9 @@ use Rattle.cedar_expr_values.specs.Fields.{by_text}
 use Rattle.cedar_expr_values.specs.Values.{bare, bare_pair}
 use Rattle.cedar_expr_values.specs.declared.value.Value.{Value}
 use Rattle.cedar_expr_values.specs.declared.extension.ExtValue.{ExtValue}
-use Rattle.cedar_store_model.specs.Whole.Outcome.{Res, val, err, bind}
-use Rattle.cedar_store_model.specs.Whole.World as model
-use Rattle.cedar_store_model.specs.Whole.Meaning.{outcome_of, outcomes_of, field_outcomes_of}
+use Rattle.cedar_store_model.specs.Outcome.{Res, val, err, bind}
+use Rattle.cedar_store_model.specs.World as model
+use Rattle.cedar_store_model.specs.Meaning.{outcome_of, outcomes_of, field_outcomes_of}
 use Rattle.cedar_store_worlds_model.specs.Rising.{WorldRises}
 use Rattle.cedar_store_meaning.specs.Outcomes.{IsSeen}
 use Rattle.cedar_store_meaning.specs.Worlds.{world_seen}

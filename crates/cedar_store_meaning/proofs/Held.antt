@@ -6,9 +6,9 @@ use Rattle.std.specs.Map.{lookup}
 use Rattle.std.specs.Str.{bytes_eq}
 use Rattle.cedar_expr_model.specs.Name.{Text}
 use Rattle.cedar_expr_model.specs.Uid.{Uid}
-use Rattle.cedar_expr_model.specs.Whole.Made.{Made, Mades, bare, bare_fields}
-use Rattle.cedar_expr_model.specs.Whole.Value.{V, prim, record_of}
-use Rattle.cedar_expr_model.specs.Whole.ValueParts.{Part}
+use Rattle.cedar_expr_model.specs.Made.{Made, Mades, bare, bare_fields}
+use Rattle.cedar_expr_model.specs.Value.{V, prim, record_of}
+use Rattle.cedar_expr_model.specs.ValueParts.{Part}
 use Rattle.std.specs.declared.alloc.Global.{Global}
 use Rattle.std.specs.declared.collections.BTreeMap.{BTreeMap}
 use Rattle.std.specs.declared.rc.Rc.{Rc}
@@ -23,10 +23,10 @@ use Rattle.cedar_expr_values.specs.declared.value.ValueKind.TheVariants.{Lit, Re
 use Rattle.cedar_expr_values.proofs.Recorded.{record_kind}
 use Rattle.cedar_expr_values.specs.declared.extension.ExtValue.{ExtValue}
 use Rattle.cedar_expr_partial.specs.declared.partial_value.PartialValue.{PartialValue}
-use Rattle.cedar_store_model.specs.Whole.World as model
-use Rattle.cedar_store_model.specs.Whole.World.{Found, held}
-use Rattle.cedar_store_model.specs.Whole.Operators.{says}
-use Rattle.cedar_store_model.specs.Whole.Reads.{part_value, part_read, part_tested}
+use Rattle.cedar_store_model.specs.World as model
+use Rattle.cedar_store_model.specs.World.{Found, held}
+use Rattle.cedar_store_model.specs.Operators.{says}
+use Rattle.cedar_store_model.specs.Reads.{part_value, part_read, part_tested}
 use Rattle.cedar_store_entities.specs.Views.{part_seen, bare_part}
 use Rattle.cedar_store_meaning.specs.StoreParts.{found_part}
 use Rattle.cedar_store_meaning.proofs.Found.{lookup_changed}

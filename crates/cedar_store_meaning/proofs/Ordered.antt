@@ -4,11 +4,11 @@ use Rattle.std.specs.List.{list_any}
 use Rattle.std.specs.Option.{option_map_or}
 use Rattle.std.specs.declared.cmp.Ordering.{Ordering}
 use Rattle.cedar_expr_model.specs.Name.{Name, name_eq}
-use Rattle.cedar_expr_model.specs.Whole.Value.{V, prim, truth, long, text, entity, set_of, record_of, extension}
-use Rattle.cedar_expr_model.specs.Whole.Order.{text_cmp}
-use Rattle.cedar_expr_model.specs.Whole.Table.{Table}
-use Rattle.cedar_store_model.specs.Whole.Outcome.{Res, err, wrong_type}
-use Rattle.cedar_store_model.specs.Whole.Operators.{says, ordered}
+use Rattle.cedar_expr_model.specs.Value.{V, prim, truth, long, text, entity, set_of, record_of, extension}
+use Rattle.cedar_expr_model.specs.Order.{text_cmp}
+use Rattle.cedar_expr_model.specs.Table.{Table}
+use Rattle.cedar_store_model.specs.Outcome.{Res, err, wrong_type}
+use Rattle.cedar_store_model.specs.Operators.{says, ordered}
 use Rattle.cedar_store_meaning.specs.Ordered.{order_of}
 
 chosen : (b : Bool) (o : Ordering) (test : Ordering → Bool) → (if b then says (test o) else err wrong_type) ≡ option_map_or (λ r. says (test r)) (if b then Some o else None) (err wrong_type)

@@ -6,16 +6,16 @@ use Rattle.std.specs.Rc.{rc_str_bytes}
 use Rattle.std.specs.declared.alloc.Global.{Global}
 use Rattle.std.specs.declared.rc.RcStr.{RcStr}
 use Rattle.cedar_expr_model.specs.Name.{Text}
-use Rattle.cedar_expr_model.specs.Whole.Value.{V, truth_value}
+use Rattle.cedar_expr_model.specs.Value.{V, truth_value}
 use Rattle.cedar_expr_values.specs.Extensions.{extension_of}
 use Rattle.cedar_expr_values.specs.Values.{bare}
 use Rattle.cedar_expr_values.specs.declared.value.Value.{Value}
 use Rattle.cedar_expr_values.specs.declared.extension.ExtValue.{ExtValue}
-use Rattle.cedar_store_model.specs.Whole.Outcome.{Res, val, bind}
-use Rattle.cedar_store_model.specs.Whole.Operators.{says}
-use Rattle.cedar_store_model.specs.Whole.Reads.{attribute_read, attribute_tested}
-use Rattle.cedar_store_model.specs.Whole.Meaning.{truth_asked, picked, path_tested}
-use Rattle.cedar_store_model.specs.Whole.World.{World}
+use Rattle.cedar_store_model.specs.Outcome.{Res, val, bind}
+use Rattle.cedar_store_model.specs.Operators.{says}
+use Rattle.cedar_store_model.specs.Reads.{attribute_read, attribute_tested}
+use Rattle.cedar_store_model.specs.Meaning.{truth_asked, picked, path_tested}
+use Rattle.cedar_store_model.specs.World.{World}
 use Rattle.cedar_store_meaning.specs.Outcomes.{told, IsSeen, IsMeaning}
 use Rattle.cedar_store_meaning.specs.PathSteps.{stepped, found_or_false, Follows, Steps}
 use Rattle.cedar_store_meaning.specs.declared.fault.MeaningFault.{MeaningFault}

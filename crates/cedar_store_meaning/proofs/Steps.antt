@@ -4,10 +4,10 @@ use Rattle.std.specs.Prelude.{Option, Some, None, IfSome}
 use Rattle.std.specs.Result.{IsErrAnd}
 use Rattle.std.proofs.lemmas.List.{append-nil}
 use Rattle.cedar_expr_model.specs.Name.{Text}
-use Rattle.cedar_expr_model.specs.Whole.Value.{V, prim, truth, long, text, entity, set_of, record_of, extension, Fields, no_fields, field, truth_value}
-use Rattle.cedar_expr_model.specs.Whole.Records.{fields}
-use Rattle.cedar_store_model.specs.Whole.Outcome.{Res, val, err, bind, wrong_type}
-use Rattle.cedar_store_model.specs.Whole.Meaning.{truth_asked, picked}
+use Rattle.cedar_expr_model.specs.Value.{V, prim, truth, long, text, entity, set_of, record_of, extension, Fields, no_fields, field, truth_value}
+use Rattle.cedar_expr_model.specs.Records.{fields}
+use Rattle.cedar_store_model.specs.Outcome.{Res, val, err, bind, wrong_type}
+use Rattle.cedar_store_model.specs.Meaning.{truth_asked, picked}
 use Rattle.cedar_store_meaning.specs.Outcomes.{told, IsSeen}
 use Rattle.cedar_store_meaning.specs.declared.fault.MeaningFault.{MeaningFault}
 use Rattle.cedar_store_meaning.specs.declared.fault.MeaningFault.TheVariants.{OutOfMemory, NotKnown, MissingEntity, MissingAttributeOrTag, MissingField, WrongType, Overflow, NoFunction, WrongCount, UnlinkedSlot, ExtensionFailed}

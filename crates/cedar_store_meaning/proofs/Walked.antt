@@ -8,11 +8,11 @@ use Rattle.std.specs.declared.alloc.Global.{Global}
 use Rattle.std.specs.declared.rc.RcStr.{RcStr}
 use Rattle.std.proofs.lemmas.List.{map-append}
 use Rattle.cedar_expr_model.specs.Name.{Text, Name}
-use Rattle.cedar_expr_model.specs.Whole.Builder.{trees, tree_fields}
-use Rattle.cedar_expr_model.specs.Whole.Records.{fields}
-use Rattle.cedar_expr_model.specs.Whole.Value.{V, Fields}
-use Rattle.cedar_expr_model.specs.Whole.Table.{Signature, Called}
-use Rattle.cedar_expr_model.specs.Whole.Tree.{Var, principal, action, resource, context, Tree, BinaryOp, equal, less, less_or_equal, plus, difference, times, is_in, contains, contains_all, contains_any, get_tag, has_tag}
+use Rattle.cedar_expr_model.specs.Builder.{trees, tree_fields}
+use Rattle.cedar_expr_model.specs.Records.{fields}
+use Rattle.cedar_expr_model.specs.Value.{V, Fields}
+use Rattle.cedar_expr_model.specs.Table.{Signature, Called}
+use Rattle.cedar_expr_model.specs.Tree.{Var, principal, action, resource, context, Tree, BinaryOp, equal, less, less_or_equal, plus, difference, times, is_in, contains, contains_all, contains_any, get_tag, has_tag}
 use Rattle.cedar_expr_functions.specs.Signatures.{bare_values}
 use Rattle.cedar_expr_trees.specs.Trees.{tree_of, named, field_trees}
 use Rattle.cedar_expr_trees.specs.declared.expr.Expr.{Expr}
@@ -20,10 +20,10 @@ use Rattle.cedar_expr_values.specs.Extensions.{extension_of}
 use Rattle.cedar_expr_values.specs.Values.{bare, bare_pair}
 use Rattle.cedar_expr_values.specs.declared.value.Value.{Value}
 use Rattle.cedar_expr_values.specs.declared.extension.ExtValue.{ExtValue}
-use Rattle.cedar_store_model.specs.Whole.Outcome.{Res, val, err, bind}
-use Rattle.cedar_store_model.specs.Whole.World as model
-use Rattle.cedar_store_model.specs.Whole.Reads.{attribute_read, attribute_tested}
-use Rattle.cedar_store_model.specs.Whole.Meaning.{variable, combined, path_tested, outcome_of, outcomes_of, field_outcomes_of}
+use Rattle.cedar_store_model.specs.Outcome.{Res, val, err, bind}
+use Rattle.cedar_store_model.specs.World as model
+use Rattle.cedar_store_model.specs.Reads.{attribute_read, attribute_tested}
+use Rattle.cedar_store_model.specs.Meaning.{variable, combined, path_tested, outcome_of, outcomes_of, field_outcomes_of}
 use Rattle.cedar_store_worlds_model.specs.Rising.{WorldRises}
 use Rattle.cedar_store_worlds_model.specs.Alone.{store_alone}
 use Rattle.cedar_store_worlds_model.proofs.Alone.{reads_as_alone}

@@ -5,18 +5,18 @@ use Rattle.std.specs.declared.alloc.Global.{Global}
 use Rattle.std.specs.declared.rc.RcStr.{RcStr}
 use Rattle.std.specs.declared.vec.Vec.{Vec}
 use Rattle.cedar_expr_model.specs.Name.{Name}
-use Rattle.cedar_expr_model.specs.Whole.Value.{V, Fields}
-use Rattle.cedar_expr_model.specs.Whole.Records.{fields}
-use Rattle.cedar_expr_model.specs.Whole.Table.{Signature, Called}
-use Rattle.cedar_expr_model.specs.Whole.Tree.{Tree, Trees, TreeFields}
+use Rattle.cedar_expr_model.specs.Value.{V, Fields}
+use Rattle.cedar_expr_model.specs.Records.{fields}
+use Rattle.cedar_expr_model.specs.Table.{Signature, Called}
+use Rattle.cedar_expr_model.specs.Tree.{Tree, Trees, TreeFields}
 use Rattle.cedar_expr_values.specs.Extensions.{extension_of}
 use Rattle.cedar_expr_values.specs.Values.{bare, bare_pair}
 use Rattle.cedar_expr_values.specs.declared.value.Value.{Value}
 use Rattle.cedar_expr_values.specs.declared.extension.ExtValue.{ExtValue}
 use Rattle.cedar_expr_functions.specs.Signatures.{bare_values}
-use Rattle.cedar_store_model.specs.Whole.Outcome.{Res}
-use Rattle.cedar_store_model.specs.Whole.World as model
-use Rattle.cedar_store_model.specs.Whole.Meaning.{outcome_of, outcomes_of, field_outcomes_of}
+use Rattle.cedar_store_model.specs.Outcome.{Res}
+use Rattle.cedar_store_model.specs.World as model
+use Rattle.cedar_store_model.specs.Meaning.{outcome_of, outcomes_of, field_outcomes_of}
 use Rattle.cedar_store_worlds_model.specs.Rising.{WorldRises}
 use Rattle.cedar_store_meaning.specs.Outcomes.{IsSeen}
 use Rattle.cedar_store_meaning.specs.Worlds.{world_seen}

@@ -5,8 +5,8 @@ use Rattle.std.specs.List.{list_any}
 use Rattle.std.specs.Ordering.{int_cmp}
 use Rattle.std.specs.declared.cmp.Ordering.{Ordering}
 use Rattle.cedar_expr_model.specs.Name.{Name, name_eq}
-use Rattle.cedar_expr_model.specs.Whole.Value.{V, prim, long, extension}
-use Rattle.cedar_expr_model.specs.Whole.Order.{text_cmp}
+use Rattle.cedar_expr_model.specs.Value.{V, prim, long, extension}
+use Rattle.cedar_expr_model.specs.Order.{text_cmp}
 
 -- of two whole numbers, or of two values of one of these extension types
 abbrev pub order_of : List Name → V → V → Option Ordering

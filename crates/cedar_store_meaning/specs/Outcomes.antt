@@ -8,12 +8,12 @@ use Rattle.std.specs.declared.alloc.Global.{Global}
 use Rattle.std.specs.declared.rc.RcStr.{RcStr}
 use Rattle.cedar_expr_names.specs.Views.{uid_of, plain_name_of}
 use Rattle.cedar_expr_model.specs.Name.{Text}
-use Rattle.cedar_expr_model.specs.Whole.Value.{V}
+use Rattle.cedar_expr_model.specs.Value.{V}
 use Rattle.cedar_expr_values.specs.Values.{bare}
 use Rattle.cedar_expr_values.specs.Extensions.{extension_of}
 use Rattle.cedar_expr_values.specs.declared.value.Value.{Value}
 use Rattle.cedar_expr_values.specs.declared.extension.ExtValue.{ExtValue}
-use Rattle.cedar_store_model.specs.Whole.Outcome.{Fault, Res, val, err, missing_entity, missing_attribute_or_tag, missing_field, wrong_type, overflow, no_function, wrong_count, unlinked_slot, extension_failed}
+use Rattle.cedar_store_model.specs.Outcome.{Fault, Res, val, err, missing_entity, missing_attribute_or_tag, missing_field, wrong_type, overflow, no_function, wrong_count, unlinked_slot, extension_failed}
 use Rattle.cedar_store_meaning.specs.declared.fault.MeaningFault.{MeaningFault}
 use Rattle.cedar_store_meaning.specs.declared.fault.MeaningFault.TheVariants.{OutOfMemory, NotKnown, MissingEntity, MissingAttributeOrTag, MissingField, WrongType, Overflow, NoFunction, WrongCount, UnlinkedSlot, ExtensionFailed}
 

@@ -3,16 +3,16 @@
 use Rattle.std.specs.Prelude.{◌≡◌, false, Option, Some, Result, Ok, Err, IfSome}
 use Rattle.std.specs.Option.{option_map_or}
 use Rattle.cedar_expr_model.specs.Name.{Text}
-use Rattle.cedar_expr_model.specs.Whole.Value.{V}
+use Rattle.cedar_expr_model.specs.Value.{V}
 use Rattle.cedar_expr_values.specs.Extensions.{extension_of}
 use Rattle.cedar_expr_values.specs.Values.{bare}
 use Rattle.cedar_expr_values.specs.declared.value.Value.{Value}
 use Rattle.cedar_expr_values.specs.declared.extension.ExtValue.{ExtValue}
-use Rattle.cedar_store_model.specs.Whole.Outcome.{Res, bind}
-use Rattle.cedar_store_model.specs.Whole.Operators.{says}
-use Rattle.cedar_store_model.specs.Whole.Reads.{attribute_read, attribute_tested}
-use Rattle.cedar_store_model.specs.Whole.Meaning.{picked}
-use Rattle.cedar_store_model.specs.Whole.World.{World}
+use Rattle.cedar_store_model.specs.Outcome.{Res, bind}
+use Rattle.cedar_store_model.specs.Operators.{says}
+use Rattle.cedar_store_model.specs.Reads.{attribute_read, attribute_tested}
+use Rattle.cedar_store_model.specs.Meaning.{picked}
+use Rattle.cedar_store_model.specs.World.{World}
 use Rattle.cedar_store_meaning.specs.Outcomes.{told}
 use Rattle.cedar_store_meaning.specs.declared.fault.MeaningFault.{MeaningFault}
 

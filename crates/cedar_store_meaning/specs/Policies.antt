@@ -3,14 +3,14 @@
 use Rattle.std.specs.Prelude.{◌≡◌, List, Bool, Result, Ok, Err}
 use Rattle.std.specs.declared.alloc.AllocError.{AllocError}
 use Rattle.cedar_expr_model.specs.Name.{Name}
-use Rattle.cedar_expr_model.specs.Whole.Value.{V}
-use Rattle.cedar_expr_model.specs.Whole.Table.{Signature, Called}
+use Rattle.cedar_expr_model.specs.Value.{V}
+use Rattle.cedar_expr_model.specs.Table.{Signature, Called}
 use Rattle.cedar_expr_values.specs.Extensions.{extension_of}
 use Rattle.cedar_expr_values.specs.Values.{bare}
 use Rattle.cedar_expr_values.specs.declared.value.Value.{Value}
 use Rattle.cedar_expr_values.specs.declared.extension.ExtValue.{ExtValue}
-use Rattle.cedar_store_model.specs.Whole.Answer.{policy_outcome, satisfied}
-use Rattle.cedar_store_model.specs.Whole.Policy.{Policy}
+use Rattle.cedar_store_model.specs.Answer.{policy_outcome, satisfied}
+use Rattle.cedar_store_model.specs.Policy.{Policy}
 use Rattle.cedar_store_worlds_model.specs.Rising.{WorldRises}
 use Rattle.cedar_store_meaning.specs.Worlds.{world_seen}
 use Rattle.cedar_store_meaning.specs.Meanings.{InEach}

@@ -5,9 +5,9 @@ use Rattle.std.specs.Borrow.{Bor}
 use Rattle.std.specs.declared.alloc.Global.{Global}
 use Rattle.std.specs.declared.rc.RcStr.{RcStr}
 use Rattle.cedar_expr_model.specs.Uid.{Uid}
-use Rattle.cedar_expr_model.specs.Whole.Made.{bare_fields}
-use Rattle.cedar_expr_model.specs.Whole.Value.{V, Fields}
-use Rattle.cedar_expr_model.specs.Whole.ValueParts.{Part}
+use Rattle.cedar_expr_model.specs.Made.{bare_fields}
+use Rattle.cedar_expr_model.specs.Value.{V, Fields}
+use Rattle.cedar_expr_model.specs.ValueParts.{Part}
 use Rattle.cedar_expr_values.specs.Extensions.{extension_of}
 use Rattle.cedar_expr_values.specs.Values.{made_fields, made_pair}
 use Rattle.cedar_expr_values.specs.declared.value.Value.{Value}

@@ -3,13 +3,13 @@
 use Rattle.std.specs.Prelude.{List, Some}
 use Rattle.cedar_expr_names.specs.Views.{uid_of}
 use Rattle.cedar_expr_model.specs.Name.{Name}
-use Rattle.cedar_expr_model.specs.Whole.Value.{V}
-use Rattle.cedar_expr_model.specs.Whole.Table.{Table, Signature, Called, fails}
+use Rattle.cedar_expr_model.specs.Value.{V}
+use Rattle.cedar_expr_model.specs.Table.{Table, Signature, Called, fails}
 use Rattle.cedar_expr_values.specs.Extensions.{extension_of}
 use Rattle.cedar_expr_values.specs.Values.{bare}
-use Rattle.cedar_store_model.specs.Whole.Policy.{binding_of}
-use Rattle.cedar_store_model.specs.Whole.Store.{OpenRequest, world_of}
-use Rattle.cedar_store_model.specs.Whole.World as model
+use Rattle.cedar_store_model.specs.Policy.{binding_of}
+use Rattle.cedar_store_model.specs.Store.{OpenRequest, world_of}
+use Rattle.cedar_store_model.specs.World as model
 use Rattle.cedar_store_parts.specs.Parts.{bindings_of}
 use Rattle.cedar_store_entities.specs.Stores.{store_seen}
 use Rattle.cedar_store_meaning.specs.Outcomes.{unknowns_of}

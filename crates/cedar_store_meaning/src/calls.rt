@@ -2,16 +2,16 @@
 
 ghost use Rattle.std.specs.Prelude.{◌≡◌, List, Some, option_map};
 ghost use Rattle.cedar_expr_model.specs.Name.{Name as ModelName};
-ghost use Rattle.cedar_expr_model.specs.Whole.Value.{V as ModelValue};
-ghost use Rattle.cedar_expr_model.specs.Whole.Table.{Called, Table};
+ghost use Rattle.cedar_expr_model.specs.Value.{V as ModelValue};
+ghost use Rattle.cedar_expr_model.specs.Table.{Called, Table};
 ghost use Rattle.cedar_expr_names.specs.Views.{plain_name_of};
 ghost use Rattle.cedar_expr_functions.specs.Signatures.{bare_values};
 ghost use Rattle.cedar_expr_functions.specs.Functions.{function_signature, IsAnsweredBy};
 ghost use Rattle.cedar_expr_functions.specs.Tables.{table_of, AnswersAs};
 ghost use Rattle.cedar_expr_values.specs.Extensions.{extension_of};
 ghost use Rattle.cedar_expr_values.specs.Values.{bare};
-ghost use Rattle.cedar_store_model.specs.Whole.Outcome.{val};
-ghost use Rattle.cedar_store_model.specs.Whole.Operators.{called, called_with};
+ghost use Rattle.cedar_store_model.specs.Outcome.{val};
+ghost use Rattle.cedar_store_model.specs.Operators.{called, called_with};
 ghost use Rattle.cedar_store_meaning.specs.Outcomes.{IsMeaning, unknowns_of};
 
 use crate::fault::MeaningFault;

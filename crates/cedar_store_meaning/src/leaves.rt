@@ -2,12 +2,12 @@
 
 ghost use Rattle.cedar_expr_leaves.specs.Slots.{slot_of};
 ghost use Rattle.cedar_expr_leaves.specs.Variables.{var_of};
-ghost use Rattle.cedar_expr_model.specs.Whole.Value.{prim, entity};
+ghost use Rattle.cedar_expr_model.specs.Value.{prim, entity};
 ghost use Rattle.cedar_expr_leaves.specs.Literals.{literal_of};
 ghost use Rattle.cedar_expr_names.specs.Views.{uid_of};
-ghost use Rattle.cedar_store_model.specs.Whole.Outcome.{val};
-ghost use Rattle.cedar_store_model.specs.Whole.Meaning.{variable as model_variable, slot_value};
-ghost use Rattle.cedar_store_model.specs.Whole.Policy.{binding_of};
+ghost use Rattle.cedar_store_model.specs.Outcome.{val};
+ghost use Rattle.cedar_store_model.specs.Meaning.{variable as model_variable, slot_value};
+ghost use Rattle.cedar_store_model.specs.Policy.{binding_of};
 ghost use Rattle.cedar_store_parts.specs.Parts.{bindings_of};
 ghost use Rattle.cedar_store_meaning.specs.Outcomes.{IsMeaning, IsOutcome};
 ghost use Rattle.cedar_store_meaning.specs.Worlds.{unanswered};

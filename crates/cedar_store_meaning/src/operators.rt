@@ -3,14 +3,14 @@
 ghost use Rattle.std.specs.Prelude.{◌≡◌, Some};
 ghost use Rattle.std.specs.Option.{option_map_or};
 ghost use Rattle.cedar_expr_leaves.specs.Patterns.{pattern_of};
-ghost use Rattle.cedar_expr_model.specs.Whole.Value.{prim, truth_value, long as model_long};
+ghost use Rattle.cedar_expr_model.specs.Value.{prim, truth_value, long as model_long};
 ghost use Rattle.cedar_expr_names.specs.Views.{type_name_of};
 ghost use Rattle.cedar_expr_leaves.specs.Operators.{unary_op_of};
 ghost use Rattle.cedar_expr_values.specs.Extensions.{extension_of};
 ghost use Rattle.cedar_expr_values.specs.Values.{bare};
-ghost use Rattle.cedar_store_model.specs.Whole.Outcome.{val, err, overflow};
-ghost use Rattle.cedar_store_model.specs.Whole.Meaning.{truth_asked};
-ghost use Rattle.cedar_store_model.specs.Whole.Operators.{applied as model_applied, like_pattern, of_type};
+ghost use Rattle.cedar_store_model.specs.Outcome.{val, err, overflow};
+ghost use Rattle.cedar_store_model.specs.Meaning.{truth_asked};
+ghost use Rattle.cedar_store_model.specs.Operators.{applied as model_applied, like_pattern, of_type};
 ghost use Rattle.cedar_store_meaning.specs.Outcomes.{IsOutcome, IsSeen};
 
 use crate::fault::MeaningFault;

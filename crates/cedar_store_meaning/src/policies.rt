@@ -3,8 +3,8 @@
 ghost use Rattle.std.specs.Prelude.{◌≡◌, Some};
 ghost use Rattle.cedar_expr_values.specs.Extensions.{extension_of};
 ghost use Rattle.cedar_expr_values.specs.Values.{bare};
-ghost use Rattle.cedar_store_model.specs.Whole.Answer.{is_true as model_is_true};
-ghost use Rattle.cedar_store_model.specs.Whole.Outcome.{val};
+ghost use Rattle.cedar_store_model.specs.Answer.{is_true as model_is_true};
+ghost use Rattle.cedar_store_model.specs.Outcome.{val};
 ghost use Rattle.cedar_store_policies.specs.Policies.{policy_of};
 ghost use Rattle.cedar_store_meaning.specs.Policies.{PolicyMeaningIn, SatisfiedIn};
 

@@ -3,14 +3,14 @@
 ghost use Rattle.std.specs.Prelude.{List};
 ghost use Rattle.std.specs.Ordering.{is_lt, is_le};
 ghost use Rattle.cedar_expr_model.specs.Name.{Name as ModelName};
-ghost use Rattle.cedar_expr_model.specs.Whole.Value.{V as ModelValue};
-ghost use Rattle.cedar_expr_model.specs.Whole.Table.{Called, Signature, fails};
+ghost use Rattle.cedar_expr_model.specs.Value.{V as ModelValue};
+ghost use Rattle.cedar_expr_model.specs.Table.{Called, Signature, fails};
 ghost use Rattle.cedar_expr_names.specs.Views.{plain_name_of};
 ghost use Rattle.cedar_expr_functions.specs.Signatures.{bare_values};
 ghost use Rattle.cedar_expr_functions.specs.Tables.{functions_of, ordered_of, AnswersAs};
 ghost use Rattle.cedar_expr_values.specs.Extensions.{extension_of};
 ghost use Rattle.cedar_expr_values.specs.Values.{bare};
-ghost use Rattle.cedar_store_model.specs.Whole.Operators.{called, ordered as model_ordered};
+ghost use Rattle.cedar_store_model.specs.Operators.{called, ordered as model_ordered};
 ghost use Rattle.cedar_store_meaning.specs.Outcomes.{IsMeaning, IsOutcome, unknowns_of};
 ghost use Rattle.cedar_store_meaning.specs.Worlds.{table_with};
 

@@ -2,9 +2,9 @@
 
 ghost use Rattle.std.specs.Prelude.{◌≡◌, true, map, IfOk};
 ghost use Rattle.cedar_expr_names.specs.Views.{plain_name_of};
-ghost use Rattle.cedar_expr_model.specs.Whole.Builder.{trees, tree_fields};
-ghost use Rattle.cedar_expr_model.specs.Whole.Records.{names_rise};
-ghost use Rattle.cedar_expr_model.specs.Whole.Tree.{call as call_tree, set_literal, record_literal};
+ghost use Rattle.cedar_expr_model.specs.Builder.{trees, tree_fields};
+ghost use Rattle.cedar_expr_model.specs.Records.{names_rise};
+ghost use Rattle.cedar_expr_model.specs.Tree.{call as call_tree, set_literal, record_literal};
 ghost use Rattle.cedar_expr_trees.specs.Trees.{tree_of, named, field_trees};
 ghost use Rattle.cedar_expr_values.specs.Extensions.{extension_of};
 ghost use Rattle.cedar_expr_values.specs.Values.{bare_pair};

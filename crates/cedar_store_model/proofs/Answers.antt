@@ -1,15 +1,12 @@
 -- What the decision says of the policies.
-use Rattle.std.proofs.Common.{◌≡◌, ◌↔◌, List, [], ◌∷◌, true, not, ◌&&◌, refl, sym, ap, ◌∙◌, subst}
+use Rattle.std.proofs.Common.{◌≡◌, ◌↔◌, List, [], ◌∷◌, true, not, ◌&&◌, refl, ap, subst}
 use Rattle.std.specs.Prelude.{Contains}
 use Rattle.cedar_expr_model.proofs.Lists.{both_hold, hold_both, contains_head, contains_none, filter_has, filter_only}
 use Rattle.cedar_store_model.specs.World.{World}
 use Rattle.cedar_store_model.specs.Policy.{Policy, Effect, permit, forbid}
-use Rattle.cedar_store_model.specs.Answer.{allow, permits, satisfied, decision_of}
-use Rattle.cedar_store_model.specs.Laws.{HasPermit, HasNoForbid}
-use Rattle.cedar_store_model.proofs.ByPolicies.{satisfied_permits, satisfied_forbids, decided}
-use Rattle.cedar_store_model.proofs.ByPolicies as policies
-use Rattle.cedar_store_model.proofs.Meaning.{satisfied-Decides}
-use Rattle.cedar_store_model.proofs.Whole.FirstPathAnswers.{decision_by_policies}
+use Rattle.cedar_store_model.specs.Answer.{allow, permits, satisfied, satisfied_permits, satisfied_forbids, decided, decision_of}
+use Rattle.cedar_store_model.specs.AnswerLaws.{HasPermit, HasNoForbid}
+use Rattle.cedar_store_model.proofs.Conditions.{satisfied-Decides}
 
 -- by its first item a list isn't empty
 allowed_parts : (ps fs : List Policy) → decided ps fs ≡ allow → ((p : Policy) × Contains ps p) × (fs ≡ [])
@@ -22,7 +19,7 @@ pub is_permit : (e : Effect) → permits e ≡ true → e ≡ permit
 is_permit permit h = refl
 is_permit forbid h = cc
 
-allow_gives : (w : World) (ps : List Policy) → policies.decision_of w ps ≡ allow → HasPermit w ps × HasNoForbid w ps
+allow_gives : (w : World) (ps : List Policy) → decision_of w ps ≡ allow → HasPermit w ps × HasNoForbid w ps
 allow_gives w ps h =
     let r = allowed_parts (satisfied_permits w ps) (satisfied_forbids w ps) h in
     let p = r.0.0 in
@@ -43,7 +40,7 @@ pub is_forbid : (e : Effect) → not (permits e) ≡ true → e ≡ forbid
 is_forbid permit h = cc
 is_forbid forbid h = refl
 
-gives_allow : (w : World) (ps : List Policy) → HasPermit w ps × HasNoForbid w ps → policies.decision_of w ps ≡ allow
+gives_allow : (w : World) (ps : List Policy) → HasPermit w ps × HasNoForbid w ps → decision_of w ps ≡ allow
 gives_allow w ps h =
     let p = h.0.0 in
     let t : (permits p.effect && satisfied w p) ≡ true = hold_both (permits p.effect) (satisfied w p) (ap permits h.0.2) ((satisfied-Decides w p).1 h.0.3) in
@@ -53,7 +50,4 @@ gives_allow w ps h =
     h.1 f k.0 (is_forbid f.effect b.0) ((satisfied-Decides w f).0 b.1))
 
 pub allow_is_earned : (w : World) (ps : List Policy) → (decision_of w ps ≡ allow) ↔ (HasPermit w ps × HasNoForbid w ps)
-allow_is_earned w ps = (
-  λ h. allow_gives w ps (sym (decision_by_policies w ps) ∙ h),
-  λ h. decision_by_policies w ps ∙ gives_allow w ps h,
-)
+allow_is_earned w ps = (allow_gives w ps, gives_allow w ps)

@@ -1,20 +1,17 @@
 -- What the reasons and the errors of an answer are.
-use Rattle.std.proofs.Common.{◌≡◌, ◌↔◌, List, [], ◌∷◌, not, ◌&&◌, refl, sym, ap, subst}
-use Rattle.std.specs.Prelude.{Contains}
+use Rattle.std.proofs.Common.{◌≡◌, ◌↔◌, List, [], ◌∷◌, not, ◌&&◌, refl, sym, ap, ◌∙◌, subst}
+use Rattle.std.specs.Prelude.{Contains, Option, Some, None}
 use Rattle.cedar_expr_model.specs.Name.{Text}
 use Rattle.cedar_expr_model.specs.Value.{V}
 use Rattle.cedar_expr_model.proofs.Lists.{both_hold, hold_both, contains_head, contains_none, contains_cases, filter_has, filter_only, map_has, map_from, flat_has, flat_from}
-use Rattle.cedar_store_model.specs.Outcome.{Res, val, err, wrong_type}
+use Rattle.cedar_store_model.specs.Outcome.{Res, val, err}
 use Rattle.cedar_store_model.specs.World.{World}
-use Rattle.cedar_store_model.specs.Meaning.{Means, outcome_of}
-use Rattle.cedar_store_model.specs.Policy.{Policy, Effect, permit, forbid, condition, IsSatisfied}
-use Rattle.cedar_store_model.specs.Answer.{Decision, allow, deny, PolicyError, permits, satisfied, error_of, decision_of, reasons_of, errors_of}
-use Rattle.cedar_store_model.specs.Laws.{deciding}
-use Rattle.cedar_store_model.proofs.ByPolicies.{satisfied_permits, satisfied_forbids, decided, determining}
-use Rattle.cedar_store_model.proofs.ByPolicies as policies
-use Rattle.cedar_store_model.proofs.Meaning.{outcome_means, means_outcome, satisfied-Decides}
+use Rattle.cedar_store_model.specs.Meaning.{Means}
+use Rattle.cedar_store_model.specs.Policy.{Policy, Effect, permit, forbid, condition}
+use Rattle.cedar_store_model.specs.Answer.{Decision, IsSatisfied, with_slots, policy_outcome, allow, deny, PolicyError, permits, satisfied, satisfied_permits, satisfied_forbids, decided, determining, error_of, decision_of, reasons_of, errors_of}
+use Rattle.cedar_store_model.specs.AnswerLaws.{deciding, SameMembers}
+use Rattle.cedar_store_model.proofs.Conditions.{satisfied-Decides, error_outcome, outcome_error}
 use Rattle.cedar_store_model.proofs.Answers.{is_permit, is_forbid, allow_is_earned}
-use Rattle.cedar_store_model.proofs.Whole.FirstPathAnswers.{decision_by_policies, reasons_by_policies, errors_by_policies}
 
 -- one of these policies, of this effect, is satisfied
 abbrev pub IsSatisfiedAs : World → List Policy → Effect → Policy → Type 0
@@ -45,45 +42,40 @@ determined w all (q ∷ ps) [] f g p = f p
 determined w all ps (x ∷ fs) f g p = g p
 
 pub determining_are : (w : World) (ps : List Policy) (p : Policy) → Contains (determining (satisfied_permits w ps) (satisfied_forbids w ps)) p ↔ IsSatisfiedAs w ps (deciding (decision_of w ps)) p
-determining_are w ps p =
-    let k = determined w ps (satisfied_permits w ps) (satisfied_forbids w ps) (λ q. (permits_from w ps q, from_permits w ps q)) (λ q. (forbids_from w ps q, from_forbids w ps q)) p in
-    let e = decision_by_policies w ps in
-    (λ h. subst (λ d. IsSatisfiedAs w ps (deciding d) p) (sym e) (k.0 h), λ h. k.1 (subst (λ d. IsSatisfiedAs w ps (deciding d) p) e h))
+determining_are w ps p = determined w ps (satisfied_permits w ps) (satisfied_forbids w ps) (λ q. (permits_from w ps q, from_permits w ps q)) (λ q. (forbids_from w ps q, from_forbids w ps q)) p
 
 pub reasons_are_those : (w : World) (ps : List Policy) (id : Text) → Contains (reasons_of w ps) id ↔ ((p : Policy) × Contains ps p × (p.effect ≡ deciding (decision_of w ps)) × IsSatisfied w p × (p.id ≡ id))
 reasons_are_those w ps id = (
-  λ h. let r = map_from (λ (p : Policy). p.id) (determining (satisfied_permits w ps) (satisfied_forbids w ps)) id (subst (λ (l : List Text). Contains l id) (reasons_by_policies w ps) h) in
+  λ h. let r = map_from (λ (p : Policy). p.id) (determining (satisfied_permits w ps) (satisfied_forbids w ps)) id h in
       let k = (determining_are w ps r.0).0 r.1 in
       (r.0, k.0, k.1, k.2, r.2),
-  λ h. let r = map_has (λ (p : Policy). p.id) (determining (satisfied_permits w ps) (satisfied_forbids w ps)) h.0 ((determining_are w ps h.0).1 (h.1, h.2, h.3)) in
-      subst (Contains (reasons_of w ps)) h.4 (subst (λ (l : List Text). Contains l (h.0).id) (sym (reasons_by_policies w ps)) r),
+  λ h. subst (Contains (reasons_of w ps)) h.4 (map_has (λ (p : Policy). p.id) (determining (satisfied_permits w ps) (satisfied_forbids w ps)) h.0 ((determining_are w ps h.0).1 (h.1, h.2, h.3))),
 )
 
-error_there : (id : Text) (r : Res V) (e : PolicyError) → Contains (error_of id r) e → (id ≡ e.id) × (r ≡ err e.fault)
-error_there id (val v) e h = absurd (contains_none e h)
-error_there id (err wrong_type) e h =
-    let one : PolicyError = record { id = id; fault = wrong_type } in
-    contains_cases ((id ≡ e.id) × (err wrong_type ≡ err e.fault)) one [] e h
-    (λ q. (ap (λ (x : PolicyError). x.id) q, ap (λ (x : PolicyError). err x.fault) q)) (λ k. absurd (contains_none e k))
+error_there : (id : Text) (o : Option (Res V)) (e : PolicyError) → Contains (error_of id o) e → (id ≡ e.id) × (o ≡ Some (err e.fault))
+error_there id (Some (err f)) e h =
+    let one : PolicyError = record { id = id; fault = f } in
+    contains_cases ((id ≡ e.id) × (Some (err f) ≡ Some (err e.fault))) one [] e h
+    (λ q. (ap (λ (x : PolicyError). x.id) q, ap (λ (x : PolicyError). Some (err x.fault)) q)) (λ k. absurd (contains_none e k))
+error_there id (Some (val v)) e h = absurd (contains_none e h)
+error_there id None e h = absurd (contains_none e h)
 
-there_error : (id : Text) (r : Res V) (e : PolicyError) → id ≡ e.id → r ≡ err e.fault → Contains (error_of id r) e
-there_error id (val v) e p q = cc
-there_error id (err wrong_type) e p q =
-    let one : PolicyError = record { id = id; fault = wrong_type } in
-    let k : wrong_type ≡ e.fault = cc in
+there_error : (id : Text) (o : Option (Res V)) (e : PolicyError) → id ≡ e.id → o ≡ Some (err e.fault) → Contains (error_of id o) e
+there_error id (Some (err f)) e p q =
+    let one : PolicyError = record { id = id; fault = f } in
+    let k : f ≡ e.fault = cc in
     let same : one ≡ e = λ i. record { id = p i; fault = k i } in
     subst (λ (x : PolicyError). Contains (one ∷ []) x) same (contains_head one [])
+there_error id (Some (val v)) e p q = cc
+there_error id None e p q = cc
 
-errors_told : (w : World) (ps : List Policy) (e : PolicyError) → Contains (policies.errors_of w ps) e ↔ ((p : Policy) × Contains ps p × (p.id ≡ e.id) × Means w (condition p) (err e.fault))
-errors_told w ps e = (
-  λ h. let r = flat_from (λ (p : Policy). error_of p.id (outcome_of w (condition p))) ps e h in
-      let k = error_there (r.0).id (outcome_of w (condition r.0)) e r.2 in
-      (r.0, r.1, k.0, outcome_means w (condition r.0) (err e.fault) k.1),
-  λ h. flat_has (λ (p : Policy). error_of p.id (outcome_of w (condition p))) ps h.0 e h.1 (there_error (h.0).id (outcome_of w (condition h.0)) e h.2 (means_outcome w (condition h.0) (err e.fault) h.3)),
+pub errors_are_those : (w : World) (ps : List Policy) (e : PolicyError) → Contains (errors_of w ps) e ↔ ((p : Policy) × Contains ps p × (p.id ≡ e.id) × Means (with_slots w p.bindings) (condition p) (err e.fault))
+errors_are_those w ps e = (
+  λ h. let r = flat_from (λ (p : Policy). error_of p.id (policy_outcome w p)) ps e h in
+      let k = error_there (r.0).id (policy_outcome w r.0) e r.2 in
+      (r.0, r.1, k.0, outcome_error w r.0 e.fault k.1),
+  λ h. flat_has (λ (p : Policy). error_of p.id (policy_outcome w p)) ps h.0 e h.1 (there_error (h.0).id (policy_outcome w h.0) e h.2 (error_outcome w h.0 e.fault h.3)),
 )
-
-pub errors_are_those : (w : World) (ps : List Policy) (e : PolicyError) → Contains (errors_of w ps) e ↔ ((p : Policy) × Contains ps p × (p.id ≡ e.id) × Means w (condition p) (err e.fault))
-errors_are_those w ps e = subst (λ (l : List PolicyError). Contains l e ↔ ((p : Policy) × Contains ps p × (p.id ≡ e.id) × Means w (condition p) (err e.fault))) (sym (errors_by_policies w ps)) (errors_told w ps e)
 
 -- one list allows what the other does
 allows_too : (w : World) (ps qs : List Policy) → ((p : Policy) → Contains ps p ↔ Contains qs p) → decision_of w ps ≡ allow → decision_of w qs ≡ allow
@@ -97,5 +89,25 @@ same_decision allow b f g = sym (f refl)
 same_decision deny allow f g = g refl
 same_decision deny deny f g = refl
 
-pub order_is_free : (w : World) (ps qs : List Policy) → ((p : Policy) → Contains ps p ↔ Contains qs p) → decision_of w ps ≡ decision_of w qs
-order_is_free w ps qs same = same_decision (decision_of w ps) (decision_of w qs) (allows_too w ps qs same) (allows_too w qs ps (λ p. ((same p).1, (same p).0)))
+same_decisions : (w : World) (ps qs : List Policy) → SameMembers ps qs → decision_of w ps ≡ decision_of w qs
+same_decisions w ps qs same = same_decision (decision_of w ps) (decision_of w qs) (allows_too w ps qs same) (allows_too w qs ps (λ p. ((same p).1, (same p).0)))
+
+reasons_too : (w : World) (ps qs : List Policy) → SameMembers ps qs → (id : Text) → Contains (reasons_of w ps) id → Contains (reasons_of w qs) id
+reasons_too w ps qs same id h =
+    let r = (reasons_are_those w ps id).0 h in
+    (reasons_are_those w qs id).1 (r.0, (same r.0).0 r.1, r.2 ∙ ap deciding (same_decisions w ps qs same), r.3, r.4)
+
+errors_too : (w : World) (ps qs : List Policy) → SameMembers ps qs → (e : PolicyError) → Contains (errors_of w ps) e → Contains (errors_of w qs) e
+errors_too w ps qs same e h =
+    let r = (errors_are_those w ps e).0 h in
+    (errors_are_those w qs e).1 (r.0, (same r.0).0 r.1, r.2, r.3)
+
+swapped : {A : Type 0} (xs ys : List A) → SameMembers xs ys → SameMembers ys xs
+swapped xs ys same x = ((same x).1, (same x).0)
+
+pub order_is_free : (w : World) (ps qs : List Policy) → SameMembers ps qs → (decision_of w ps ≡ decision_of w qs) × SameMembers (reasons_of w ps) (reasons_of w qs) × SameMembers (errors_of w ps) (errors_of w qs)
+order_is_free w ps qs same = (
+  same_decisions w ps qs same,
+  λ id. (reasons_too w ps qs same id, reasons_too w qs ps (swapped ps qs same) id),
+  λ e. (errors_too w ps qs same e, errors_too w qs ps (swapped ps qs same) e),
+)

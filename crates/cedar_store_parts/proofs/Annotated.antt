@@ -10,7 +10,7 @@ use Rattle.std.specs.Str.{bytes_eq}
 use Rattle.std.specs.declared.cmp.Ordering.{Ordering}
 use Rattle.std.specs.declared.cmp.Ordering.TheVariants.{Less, Equal, Greater}
 use Rattle.cedar_expr_model.specs.Name.{Text}
-use Rattle.cedar_expr_model.specs.Whole.Order.{text_cmp}
+use Rattle.cedar_expr_model.specs.Order.{text_cmp}
 use Rattle.cedar_expr_names.specs.Views.{any_id_text}
 use Rattle.cedar_expr_names.specs.declared.any_id.AnyId.{AnyId}
 use Rattle.cedar_store_parts.specs.declared.annotation.Annotation.{Annotation}

@@ -15,7 +15,7 @@ use Rattle.cedar_expr_names.specs.declared.any_id.AnyId.{AnyId}
 use Rattle.cedar_expr_names.specs.declared.name.Name.{Name}
 use Rattle.cedar_expr_names.specs.declared.entity.EntityType.{EntityType}
 use Rattle.cedar_expr_names.specs.declared.entity.EntityUID.{EntityUID}
-use Rattle.cedar_store_model.specs.Whole.Policy.{named, any, exactly, inside, of_kind, of_kind_inside, any_action, exactly_action, inside_actions}
+use Rattle.cedar_store_model.specs.Policy.{named, any, exactly, inside, of_kind, of_kind_inside, any_action, exactly_action, inside_actions}
 use Rattle.cedar_store_parts.specs.Parts.{annotation_text, annotation_pair, target_of, scope_of, action_scope_of, bindings_of}
 use Rattle.cedar_store_parts.specs.declared.annotation.Annotation.{Annotation}
 use Rattle.cedar_store_parts.specs.declared.constraint.EntityReference.{EntityReference}

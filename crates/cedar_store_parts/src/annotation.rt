@@ -6,7 +6,7 @@ ghost use Rattle.std.specs.Map.{lookup};
 ghost use Rattle.std.specs.Rc.{rc_str_bytes};
 ghost use Rattle.std.specs.Str.{bytes_eq};
 ghost use Rattle.cedar_expr_names.specs.Views.{any_id_text};
-ghost use Rattle.cedar_expr_model.specs.Whole.Order.{text_cmp};
+ghost use Rattle.cedar_expr_model.specs.Order.{text_cmp};
 ghost use Rattle.cedar_store_parts.specs.Parts.{annotation_text, annotation_pair, annotations_of, annotation_seen, seen_pair, annotations_seen};
 
 use cedar_expr_names::{AnyId, Loc};

@@ -2,12 +2,12 @@
 
 ghost use Rattle.std.specs.Prelude.{◌≡◌, ◌++◌, [], IfOk, map, option_map};
 ghost use Rattle.cedar_expr_names.specs.Views.{uid_of, uid_loc, type_name_of};
-ghost use Rattle.cedar_expr_model.specs.Whole.Value.{entity};
-ghost use Rattle.cedar_expr_model.specs.Whole.Tree.{lit, var, binary, equal, is_in, is_type};
+ghost use Rattle.cedar_expr_model.specs.Value.{entity};
+ghost use Rattle.cedar_expr_model.specs.Tree.{lit, var, binary, equal, is_in, is_type};
 ghost use Rattle.cedar_expr_leaves.specs.Slots.{slot_of};
 ghost use Rattle.cedar_expr_leaves.specs.Variables.{var_of};
 ghost use Rattle.cedar_expr_trees.specs.Trees.{tree_of, place_of};
-ghost use Rattle.cedar_store_model.specs.Whole.Policy.{any, any_action, target_tree, scope_tree, action_tree};
+ghost use Rattle.cedar_store_model.specs.Policy.{any, any_action, target_tree, scope_tree, action_tree};
 ghost use Rattle.cedar_store_parts.specs.Parts.{part_var, part_slot, target_of, target_place, target_places, named_places, scope_of, scope_places, scope_named_places, action_scope_of, action_places, filled_target, filled, places_left, places_bound};
 
 use cedar_expr_leaves::{Literal, SlotId, Var};

@@ -3,7 +3,7 @@
 ghost use Rattle.std.specs.Prelude.{◌≡◌};
 ghost use Rattle.std.specs.Bool.{Decides};
 ghost use Rattle.std.specs.Str.{bytes_eq};
-ghost use Rattle.cedar_expr_model.specs.Whole.Order.{text_cmp};
+ghost use Rattle.cedar_expr_model.specs.Order.{text_cmp};
 ghost use Rattle.cedar_store_parts.specs.Parts.{id_text, annotation_text, annotations_of, target_of, scope_of, action_scope_of, bindings_of};
 ghost use Rattle.cedar_store_parts.specs.declared.policy_id.PolicyID.{PolicyID as Id};
 ghost use Rattle.cedar_store_parts.specs.declared.annotation.Annotation.{Annotation as Note};

@@ -3,7 +3,7 @@
 ghost use Rattle.std.specs.Prelude.{◌≡◌, None, option_map, IfOk};
 ghost use Rattle.cedar_expr_names.specs.Views.{uid_of, uid_loc};
 ghost use Rattle.cedar_expr_leaves.specs.Slots.{slot_of};
-ghost use Rattle.cedar_store_model.specs.Whole.Policy.{no_bindings, binding_of};
+ghost use Rattle.cedar_store_model.specs.Policy.{no_bindings, binding_of};
 ghost use Rattle.cedar_store_parts.specs.Parts.{bindings_of, binding_places, place_bound, with_binding, with_place};
 
 use cedar_expr_leaves::SlotId;

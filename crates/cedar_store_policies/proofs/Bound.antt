@@ -6,10 +6,10 @@ use Rattle.cedar_expr_leaves.specs.Slots.{slot_of}
 use Rattle.cedar_expr_leaves.specs.declared.slot.Slot.{Slot}
 use Rattle.cedar_expr_model.specs.Name.{Text}
 use Rattle.cedar_expr_model.specs.Uid.{Uid}
-use Rattle.cedar_expr_model.specs.Whole.Shape.{slot_rank}
-use Rattle.cedar_expr_model.specs.Whole.Tree.{SlotId, principal_slot, resource_slot}
-use Rattle.cedar_store_model.specs.Whole.Policy.{Policy, SlotBindings, binding_of, has_slot, all_slots}
-use Rattle.cedar_store_model.specs.Whole.PolicySet.{PolicySet, is_taken, template_of, linked, with_policy, link}
+use Rattle.cedar_expr_model.specs.Shape.{slot_rank}
+use Rattle.cedar_expr_model.specs.Tree.{SlotId, principal_slot, resource_slot}
+use Rattle.cedar_store_model.specs.Policy.{Policy, SlotBindings, binding_of, has_slot, all_slots}
+use Rattle.cedar_store_model.specs.PolicySet.{PolicySet, is_taken, template_of, linked, with_policy, link}
 use Rattle.cedar_store_policies.specs.TemplateParts.{slot_ids}
 use Rattle.cedar_store_policies.specs.SetRefusals.{FitsBindings, RefusesBindings, RefusesLink}
 use Rattle.cedar_store_refusals.specs.declared.err.LinkingError.{LinkingError}

@@ -2,11 +2,11 @@
 use Rattle.std.proofs.Common.{◌≡◌, List, [], ◌∷◌, ◌++◌, map, refl, sym, ap, ◌∙◌, append_assoc}
 use Rattle.std.proofs.lemmas.List.Elements.{filter_map-append}
 use Rattle.cedar_expr_model.specs.Uid.{Uid}
-use Rattle.cedar_expr_model.specs.Whole.Builder.{conjunction, trees}
-use Rattle.cedar_expr_model.specs.Whole.Parts.{subexpressions, slot_here, slots}
-use Rattle.cedar_expr_model.specs.Whole.Tree.{Tree, lit, set_literal, SlotId, principal, resource, principal_slot, resource_slot}
-use Rattle.cedar_expr_model.specs.Whole.Value.{truth, entity}
-use Rattle.cedar_store_model.specs.Whole.Policy.{Policy, ActionScope, any_action, exactly_action, inside_actions, scope_tree, action_tree, body_tree, condition}
+use Rattle.cedar_expr_model.specs.Builder.{conjunction, trees}
+use Rattle.cedar_expr_model.specs.Parts.{subexpressions, slot_here, slots}
+use Rattle.cedar_expr_model.specs.Tree.{Tree, lit, set_literal, SlotId, principal, resource, principal_slot, resource_slot}
+use Rattle.cedar_expr_model.specs.Value.{truth, entity}
+use Rattle.cedar_store_model.specs.Policy.{Policy, ActionScope, any_action, exactly_action, inside_actions, scope_tree, action_tree, body_tree, condition}
 
 conjoined : (a b : Tree) → slots (conjunction a b) ≡ slots a ++ slots b
 conjoined (lit (truth x)) (lit (truth y)) = refl

@@ -2,8 +2,8 @@
 use Rattle.std.proofs.Common.{◌≡◌, List, [], ◌∷◌, Option, None, option_map, true, refl, sym, ap, ◌∙◌}
 use Rattle.cedar_expr_leaves.specs.Slots.{slot_of}
 use Rattle.cedar_expr_leaves.specs.declared.slot.Slot.{Slot}
-use Rattle.cedar_expr_model.specs.Whole.Lists.{is_nil}
-use Rattle.cedar_expr_model.specs.Whole.Tree.{SlotId}
+use Rattle.cedar_expr_model.specs.Lists.{is_nil}
+use Rattle.cedar_expr_model.specs.Tree.{SlotId}
 use Rattle.cedar_store_policies.specs.Lists.{first_of}
 
 none_first : {A : Type 0} (xs : List A) → None ≡ first_of xs → is_nil xs ≡ true

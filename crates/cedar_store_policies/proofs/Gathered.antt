@@ -4,13 +4,13 @@ use Rattle.std.proofs.lemmas.List.{map-append}
 use Rattle.std.proofs.lemmas.Slice.Eq.{bytes_eq-Decides}
 use Rattle.std.specs.Result.{IsErrAnd}
 use Rattle.std.specs.Str.{bytes_eq}
-use Rattle.cedar_expr_model.specs.Whole.Repeats.{repeated}
+use Rattle.cedar_expr_model.specs.Repeats.{repeated}
 use Rattle.cedar_expr_model.proofs.Lists.{found-Decides}
-use Rattle.cedar_expr_model.proofs.Whole.Repeating.{repeat_is_first}
-use Rattle.cedar_store_model.specs.Whole.OfLaws.Distinct.{has_distinct_ids}
-use Rattle.cedar_store_model.specs.Whole.Policy as model
-use Rattle.cedar_store_model.specs.Whole.PolicySet.{PolicySet, is_taken, with_policy, add_policy}
-use Rattle.cedar_store_model.proofs.Whole.Distinct.{distinct-Decides}
+use Rattle.cedar_expr_model.proofs.Repeating.{repeat_is_first}
+use Rattle.cedar_store_model.specs.OfLaws.Distinct.{has_distinct_ids}
+use Rattle.cedar_store_model.specs.Policy as model
+use Rattle.cedar_store_model.specs.PolicySet.{PolicySet, is_taken, with_policy, add_policy}
+use Rattle.cedar_store_model.proofs.Distinct.{distinct-Decides}
 use Rattle.cedar_store_policies.specs.Policies.{policy_of}
 use Rattle.cedar_store_policies.specs.SetParts.{ids_of}
 use Rattle.cedar_store_policies.specs.SetRefusals.{RefusesId, RefusesIds}

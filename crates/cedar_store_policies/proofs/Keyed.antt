@@ -11,10 +11,10 @@ use Rattle.std.specs.Str.{bytes_eq}
 use Rattle.std.specs.declared.alloc.Global.{Global}
 use Rattle.std.specs.declared.rc.Rc.{Rc}
 use Rattle.cedar_expr_model.specs.Name.{Text}
-use Rattle.cedar_store_model.specs.Whole.OfLaws.Distinct.{has_distinct_ids}
-use Rattle.cedar_store_model.specs.Whole.Policy as model
-use Rattle.cedar_store_model.specs.Whole.PolicySet.{is_taken, template_of as find_template, with_policy, add_policy, add_template}
-use Rattle.cedar_store_model.proofs.Whole.Sets.{ids_stay_distinct}
+use Rattle.cedar_store_model.specs.OfLaws.Distinct.{has_distinct_ids}
+use Rattle.cedar_store_model.specs.Policy as model
+use Rattle.cedar_store_model.specs.PolicySet.{is_taken, template_of as find_template, with_policy, add_policy, add_template}
+use Rattle.cedar_store_model.proofs.Sets.{ids_stay_distinct}
 use Rattle.cedar_store_parts.specs.Parts.{id_text}
 use Rattle.cedar_store_policies.specs.Templates.{template_of}
 use Rattle.cedar_store_policies.specs.Policies.{policy_of}

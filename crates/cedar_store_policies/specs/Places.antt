@@ -3,7 +3,7 @@
 use Rattle.std.specs.Prelude.{List, [], ◌++◌, map, Option, unwrap_or}
 use Rattle.std.specs.List.{filter_map}
 use Rattle.cedar_expr_model.specs.Name.{Text}
-use Rattle.cedar_expr_model.specs.Whole.Tree.{SlotId, principal_slot, resource_slot}
+use Rattle.cedar_expr_model.specs.Tree.{SlotId, principal_slot, resource_slot}
 use Rattle.cedar_expr_names.specs.declared.loc.Loc.{Loc}
 use Rattle.cedar_expr_trees.specs.Positions.{positions, slot_at}
 use Rattle.cedar_expr_trees.specs.Trees.{place_of}

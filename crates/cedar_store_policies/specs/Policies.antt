@@ -3,8 +3,8 @@
 use Rattle.std.specs.Option.{option_map_or}
 use Rattle.std.specs.Prelude.{Option}
 use Rattle.cedar_expr_names.specs.declared.loc.Loc.{Loc}
-use Rattle.cedar_store_model.specs.Whole.Policy as model
-use Rattle.cedar_store_model.specs.Whole.PolicySet.{linked}
+use Rattle.cedar_store_model.specs.Policy as model
+use Rattle.cedar_store_model.specs.PolicySet.{linked}
 use Rattle.cedar_store_parts.specs.Parts.{id_text, bindings_of, BindingPlaces, binding_places}
 use Rattle.cedar_store_policies.specs.Places.{Places}
 use Rattle.cedar_store_policies.specs.Templates.{template_of, template_loc, places_of}

@@ -3,8 +3,8 @@
 use Rattle.std.specs.Prelude.{find, Option}
 use Rattle.std.specs.Str.{bytes_eq}
 use Rattle.cedar_expr_model.specs.Name.{Text}
-use Rattle.cedar_store_model.specs.Whole.Policy.{Policy}
-use Rattle.cedar_store_model.specs.Whole.PolicySet as model
+use Rattle.cedar_store_model.specs.Policy.{Policy}
+use Rattle.cedar_store_model.specs.PolicySet as model
 use Rattle.cedar_store_policies.specs.Seen.{SetSeen, entries_seen}
 use Rattle.cedar_store_policies.specs.SetParts.{set_made}
 use Rattle.cedar_store_policies.specs.declared.policy_set.PolicySet.{PolicySet}

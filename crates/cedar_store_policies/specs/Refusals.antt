@@ -2,11 +2,11 @@
 -- Rule: policies and templates (docs/RULES.md).
 use Rattle.std.specs.Prelude.{◌≡◌, List, Option, Some}
 use Rattle.cedar_expr_leaves.specs.Slots.{slot_of}
-use Rattle.cedar_expr_model.specs.Whole.Parts.{slots}
-use Rattle.cedar_expr_model.specs.Whole.Tree.{SlotId}
+use Rattle.cedar_expr_model.specs.Parts.{slots}
+use Rattle.cedar_expr_model.specs.Tree.{SlotId}
 use Rattle.cedar_expr_names.specs.declared.loc.Loc.{Loc}
 use Rattle.cedar_expr_trees.specs.Positions.{slot_placed}
-use Rattle.cedar_store_model.specs.Whole.Policy.{Policy, condition}
+use Rattle.cedar_store_model.specs.Policy.{Policy, condition}
 use Rattle.cedar_store_policies.specs.Lists.{first_of}
 use Rattle.cedar_store_refusals.specs.declared.err.UnexpectedSlotError.{UnexpectedSlotError}
 use Rattle.cedar_store_refusals.specs.declared.err.UnexpectedSlotError.TheVariants.{OutOfMemory, FoundSlot}

@@ -5,7 +5,7 @@ use Rattle.std.specs.Str.{bytes_eq}
 use Rattle.std.specs.declared.alloc.Global.{Global}
 use Rattle.std.specs.declared.rc.Rc.{Rc}
 use Rattle.cedar_expr_model.specs.Name.{Text}
-use Rattle.cedar_store_model.specs.Whole.Policy as model
+use Rattle.cedar_store_model.specs.Policy as model
 use Rattle.cedar_store_policies.specs.Places.{Places}
 use Rattle.cedar_store_policies.specs.Templates.{template_of, places_of}
 use Rattle.cedar_store_policies.specs.Policies.{static_of, static_places, policy_of, policy_places, policy_bound, template_behind}

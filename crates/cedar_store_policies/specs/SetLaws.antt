@@ -1,8 +1,8 @@
 -- What the laws of policies and of sets of them say.
 -- Rule: policies and templates (docs/RULES.md).
 use Rattle.std.specs.Prelude.{◌≡◌, true}
-use Rattle.cedar_store_model.specs.Whole.OfLaws.Distinct.{has_distinct_ids}
-use Rattle.cedar_store_model.specs.Whole.PolicySet.{linked}
+use Rattle.cedar_store_model.specs.OfLaws.Distinct.{has_distinct_ids}
+use Rattle.cedar_store_model.specs.PolicySet.{linked}
 use Rattle.cedar_store_policies.specs.Policies.{policy_of, template_behind}
 use Rattle.cedar_store_policies.specs.PolicySets.{set_of}
 use Rattle.cedar_store_policies.specs.declared.policy.Policy.{Policy}

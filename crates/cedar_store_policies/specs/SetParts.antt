@@ -4,8 +4,8 @@ use Rattle.std.specs.Prelude.{List, map}
 use Rattle.std.specs.declared.alloc.Global.{Global}
 use Rattle.std.specs.declared.rc.Rc.{Rc}
 use Rattle.cedar_expr_model.specs.Name.{Text}
-use Rattle.cedar_store_model.specs.Whole.Policy as model
-use Rattle.cedar_store_model.specs.Whole.PolicySet.{PolicySet}
+use Rattle.cedar_store_model.specs.Policy as model
+use Rattle.cedar_store_model.specs.PolicySet.{PolicySet}
 use Rattle.cedar_store_parts.specs.Parts.{id_text}
 use Rattle.cedar_store_policies.specs.Templates.{template_of}
 use Rattle.cedar_store_policies.specs.Policies.{policy_of}

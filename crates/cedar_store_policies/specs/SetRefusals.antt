@@ -5,11 +5,11 @@ use Rattle.std.specs.Str.{bytes_eq}
 use Rattle.std.specs.Option.{option_map_or}
 use Rattle.cedar_expr_leaves.specs.Slots.{slot_of}
 use Rattle.cedar_expr_model.specs.Name.{Text}
-use Rattle.cedar_expr_model.specs.Whole.Tree.{principal_slot, resource_slot}
-use Rattle.cedar_expr_model.specs.Whole.Repeats.{repeated}
-use Rattle.cedar_store_model.specs.Whole.Policy.{Policy, SlotBindings, binding_of, has_slot}
-use Rattle.cedar_store_model.specs.Whole.PolicySet as model
-use Rattle.cedar_store_model.specs.Whole.PolicySet.{id_present, slot_not_bound, slot_not_of_template, no_template, is_taken, template_of, has_link_fault}
+use Rattle.cedar_expr_model.specs.Tree.{principal_slot, resource_slot}
+use Rattle.cedar_expr_model.specs.Repeats.{repeated}
+use Rattle.cedar_store_model.specs.Policy.{Policy, SlotBindings, binding_of, has_slot}
+use Rattle.cedar_store_model.specs.PolicySet as model
+use Rattle.cedar_store_model.specs.PolicySet.{id_present, slot_not_bound, slot_not_of_template, no_template, is_taken, template_of, has_link_fault}
 use Rattle.cedar_store_parts.specs.Parts.{id_text}
 use Rattle.cedar_store_refusals.specs.declared.err.PolicySetError.{PolicySetError}
 use Rattle.cedar_store_refusals.specs.declared.err.PolicySetError.TheVariants as adding

@@ -4,9 +4,9 @@ use Rattle.std.specs.Prelude.{◌≡◌, Bool, true, false, refl}
 use Rattle.std.proofs.Common.{sym, ◌∙◌, true≢false}
 use Rattle.std.specs.Bool.{Decides}
 use mathlib.Core.HLevel.{hedberg}
-use Rattle.cedar_expr_model.specs.Whole.Tree.{Tree}
-use Rattle.cedar_expr_model.specs.Whole.Shape.{tree_eq}
-use Rattle.cedar_expr_model.proofs.Whole.ShapeOrder.{trees_decide}
+use Rattle.cedar_expr_model.specs.Tree.{Tree}
+use Rattle.cedar_expr_model.specs.Shape.{tree_eq}
+use Rattle.cedar_expr_model.proofs.ShapeOrder.{trees_decide}
 
 tested : {P : Type 0} (b t : Bool) → b ≡ t → Decides b P → Dec P
 tested b true e d = yes (d.0 e)

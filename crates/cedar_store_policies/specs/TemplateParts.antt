@@ -3,10 +3,10 @@
 use Rattle.std.specs.Prelude.{List, map, Option, option_map}
 use Rattle.cedar_expr_leaves.specs.declared.slot.Slot as code
 use Rattle.cedar_expr_leaves.specs.Slots.{slot_of}
-use Rattle.cedar_expr_model.specs.Whole.Tree.{Tree, SlotId}
+use Rattle.cedar_expr_model.specs.Tree.{Tree, SlotId}
 use Rattle.cedar_expr_trees.specs.Trees.{tree_of}
-use Rattle.cedar_store_model.specs.Whole.Policy as model
-use Rattle.cedar_store_model.specs.Whole.Policy.{no_bindings}
+use Rattle.cedar_store_model.specs.Policy as model
+use Rattle.cedar_store_model.specs.Policy.{no_bindings}
 use Rattle.cedar_store_parts.specs.Parts.{id_text, effect_of, annotations_of, scope_of, action_scope_of}
 use Rattle.cedar_store_parts.specs.declared.policy_id.PolicyID.{PolicyID}
 use Rattle.cedar_store_parts.specs.declared.policy_id.Effect.{Effect}

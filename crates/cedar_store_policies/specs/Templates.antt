@@ -2,7 +2,7 @@
 -- Rule: policies and templates (docs/RULES.md).
 use Rattle.std.specs.Prelude.{Option}
 use Rattle.cedar_expr_names.specs.declared.loc.Loc.{Loc}
-use Rattle.cedar_store_model.specs.Whole.Policy as model
+use Rattle.cedar_store_model.specs.Policy as model
 use Rattle.cedar_store_policies.specs.Places.{Places}
 use Rattle.cedar_store_policies.specs.TemplateParts.{made_of, body_places}
 use Rattle.cedar_store_policies.specs.declared.template.Template.{Template}

@@ -3,8 +3,8 @@
 ghost use Rattle.std.specs.Prelude.{◌≡◌, ◌==◌, is_some, OnOk, IfErr};
 ghost use Rattle.std.specs.List.{list_any};
 ghost use Rattle.cedar_expr_leaves.specs.Slots.{slot_of};
-ghost use Rattle.cedar_expr_model.specs.Whole.Shape.{slot_rank};
-ghost use Rattle.cedar_store_model.specs.Whole.Policy.{binding_of, has_slot as uses_slot};
+ghost use Rattle.cedar_expr_model.specs.Shape.{slot_rank};
+ghost use Rattle.cedar_store_model.specs.Policy.{binding_of, has_slot as uses_slot};
 ghost use Rattle.cedar_store_parts.specs.Parts.{bindings_of};
 ghost use Rattle.cedar_store_policies.specs.Templates.{template_of};
 ghost use Rattle.cedar_store_policies.specs.SetRefusals.{FitsBindings, RefusesBindings};

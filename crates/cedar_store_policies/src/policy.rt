@@ -3,8 +3,8 @@
 ghost use Rattle.std.specs.Prelude.{◌≡◌, ◌++◌, [], Some, IfOk, map, option_map, unwrap_or};
 ghost use Rattle.std.specs.Option.{option_map_or};
 ghost use Rattle.cedar_expr_trees.specs.Trees.{tree_of};
-ghost use Rattle.cedar_store_model.specs.Whole.Policy.{any, any_action, no_bindings, condition as asked_by};
-ghost use Rattle.cedar_store_model.specs.Whole.PolicySet.{linked};
+ghost use Rattle.cedar_store_model.specs.Policy.{any, any_action, no_bindings, condition as asked_by};
+ghost use Rattle.cedar_store_model.specs.PolicySet.{linked};
 ghost use Rattle.cedar_store_parts.specs.Parts.{id_text, effect_of, annotation_pair, annotations_of, seen_pair, annotations_seen, scope_of, scope_places, scope_named_places, action_scope_of, action_places, bindings_of, binding_places, filled, places_left, places_bound};
 ghost use Rattle.cedar_store_policies.specs.Places.{places_made, slots_within, nodes_within};
 ghost use Rattle.cedar_store_policies.specs.Policies.{static_of, static_loc, static_places, policy_of, policy_loc, policy_places, policy_bound, template_behind};

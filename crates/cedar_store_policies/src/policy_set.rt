@@ -1,7 +1,7 @@
 //! Sets of policies.
 
 ghost use Rattle.std.specs.Prelude.{◌≡◌, true};
-ghost use Rattle.cedar_store_model.specs.Whole.OfLaws.Distinct.{has_distinct_ids};
+ghost use Rattle.cedar_store_model.specs.OfLaws.Distinct.{has_distinct_ids};
 ghost use Rattle.cedar_store_policies.specs.SetParts.{keys_in, templates_in, policies_in, ids_of, set_made};
 
 use crate::entries::{has_key, put};
@@ -31,7 +31,7 @@ impl PolicySet {
     ghost use Rattle.std.specs.List.{list_any};
     ghost use Rattle.std.specs.Str.{bytes_eq};
     ghost use Rattle.cedar_expr_model.specs.Name.{Text};
-    ghost use Rattle.cedar_store_model.specs.Whole.PolicySet.{template_of as find_template, add_template, add_policy, link};
+    ghost use Rattle.cedar_store_model.specs.PolicySet.{template_of as find_template, add_template, add_policy, link};
     ghost use Rattle.cedar_store_parts.specs.Parts.{id_text, bindings_of, binding_places};
     ghost use Rattle.cedar_store_policies.specs.Templates.{template_of};
     ghost use Rattle.cedar_store_policies.specs.Policies.{static_of, policy_of};

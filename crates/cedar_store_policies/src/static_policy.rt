@@ -1,7 +1,7 @@
 //! Policies without slots.
 
 ghost use Rattle.std.specs.Prelude.{◌≡◌, true};
-ghost use Rattle.cedar_store_model.specs.Whole.PolicySet.{is_static};
+ghost use Rattle.cedar_store_model.specs.PolicySet.{is_static};
 ghost use Rattle.cedar_store_policies.specs.Templates.{template_of};
 
 use crate::template::Template;

@@ -1,10 +1,10 @@
 //! Templates.
 
 ghost use Rattle.std.specs.Prelude.{◌≡◌, map};
-ghost use Rattle.cedar_expr_model.specs.Whole.Parts.{slots as slots_in};
+ghost use Rattle.cedar_expr_model.specs.Parts.{slots as slots_in};
 ghost use Rattle.cedar_expr_trees.specs.Positions.{slot_placed};
 ghost use Rattle.cedar_expr_trees.specs.Trees.{tree_of};
-ghost use Rattle.cedar_store_model.specs.Whole.Policy.{condition as asked_by};
+ghost use Rattle.cedar_store_model.specs.Policy.{condition as asked_by};
 ghost use Rattle.cedar_store_policies.specs.Places.{slots_placed};
 ghost use Rattle.cedar_store_policies.specs.TemplateParts.{made_of, body_places, slot_ids};
 ghost use Rattle.cedar_store_policies.specs.Sets.{tree_set};
@@ -48,7 +48,7 @@ impl Template {
     ghost use Rattle.std.specs.Prelude.{[], IfOk, option_map, unwrap_or};
     ghost use Rattle.std.specs.Slice.Iter.{iter_rest};
     ghost use Rattle.cedar_expr_leaves.specs.Slots.{slot_of};
-    ghost use Rattle.cedar_store_model.specs.Whole.Policy.{has_slot as uses_slot};
+    ghost use Rattle.cedar_store_model.specs.Policy.{has_slot as uses_slot};
     ghost use Rattle.cedar_store_policies.specs.TemplateParts.{template_made};
     ghost use Rattle.cedar_store_parts.specs.Parts.{id_text, effect_of, annotation_pair, annotations_of, seen_pair, annotations_seen, scope_of, scope_places, scope_named_places, action_scope_of, action_places};
     ghost use Rattle.cedar_store_policies.specs.Places.{places_made, slots_within, nodes_within};

@@ -1,10 +1,10 @@
 //! The parts of a template, and what they ask together.
 
 ghost use Rattle.std.specs.Prelude.{◌≡◌, ◌++◌, [], unwrap_or, map, option_map, IfOk, OnOk};
-ghost use Rattle.cedar_expr_model.specs.Whole.Parts.{slots};
+ghost use Rattle.cedar_expr_model.specs.Parts.{slots};
 ghost use Rattle.cedar_expr_trees.specs.Positions.{slot_placed};
 ghost use Rattle.cedar_expr_trees.specs.Trees.{tree_of};
-ghost use Rattle.cedar_store_model.specs.Whole.Policy.{condition, scope_tree, body_tree};
+ghost use Rattle.cedar_store_model.specs.Policy.{condition, scope_tree, body_tree};
 ghost use Rattle.cedar_store_parts.specs.Parts.{part_var, part_slot, scope_of, scope_places};
 ghost use Rattle.cedar_store_policies.specs.Places.{slots_at, slots_placed, slots_within};
 ghost use Rattle.cedar_store_policies.specs.TemplateParts.{made_of, body_places, slot_ids};

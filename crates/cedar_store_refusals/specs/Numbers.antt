@@ -1,7 +1,7 @@
 -- The numbers of what is refused of policies and sets of them.
 -- Rule: policies and templates (docs/RULES.md).
 use Rattle.std.specs.Prelude.{ℕ}
-use Rattle.cedar_store_model.specs.Whole.PolicySet.{LinkFault, id_present, slot_not_bound, slot_not_of_template, no_template}
+use Rattle.cedar_store_model.specs.PolicySet.{LinkFault, id_present, slot_not_bound, slot_not_of_template, no_template}
 use Rattle.cedar_store_refusals.specs.declared.err.PolicySetError.{PolicySetError}
 use Rattle.cedar_store_refusals.specs.declared.err.PolicySetError.TheVariants as adding
 use Rattle.cedar_store_refusals.specs.declared.err.LinkingError.{LinkingError}

@@ -2,14 +2,14 @@
 use Rattle.std.proofs.Common.{◌≡◌, List, [], ◌∷◌, refl, ap}
 use Rattle.std.specs.Prelude.{Some, false}
 use Rattle.cedar_expr_model.specs.Name.{Text}
-use Rattle.cedar_expr_model.specs.Whole.Value.{text, entity, V, prim}
-use Rattle.cedar_store_model.specs.Whole.World.{World}
-use Rattle.cedar_store_model.specs.Whole.Outcome.{bind}
-use Rattle.cedar_store_model.specs.Whole.Store.{Store, look_up}
-use Rattle.cedar_store_model.specs.Whole.Operators.{says}
-use Rattle.cedar_store_model.specs.Whole.Reads.{part_read, part_tested, attribute_read, attribute_tested, found_in, within}
-use Rattle.cedar_store_model.specs.Whole.Meaning.{picked, path_tested}
-use Rattle.cedar_store_model.proofs.Whole.Named.{attributes_of, tags_of, tag_read, tag_tested}
+use Rattle.cedar_expr_model.specs.Value.{text, entity, V, prim}
+use Rattle.cedar_store_model.specs.World.{World}
+use Rattle.cedar_store_model.specs.Outcome.{bind}
+use Rattle.cedar_store_model.specs.Store.{Store, look_up}
+use Rattle.cedar_store_model.specs.Operators.{says}
+use Rattle.cedar_store_model.specs.Reads.{part_read, part_tested, attribute_read, attribute_tested, found_in, within}
+use Rattle.cedar_store_model.specs.Meaning.{picked, path_tested}
+use Rattle.cedar_store_model.proofs.Named.{attributes_of, tags_of, tag_read, tag_tested}
 use Rattle.cedar_store_worlds_model.specs.Alone.{store_alone}
 use Rattle.cedar_store_worlds_model.specs.Laws.{ReadsAsAlone}
 

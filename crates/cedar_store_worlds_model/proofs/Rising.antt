@@ -10,22 +10,22 @@ use Rattle.std.specs.declared.cmp.Ordering.{Ordering}
 use Rattle.std.specs.declared.cmp.Ordering.TheVariants.{Less, Equal, Greater}
 use Rattle.cedar_expr_model.specs.Name.{Text, Name, name_eq}
 use Rattle.cedar_expr_model.specs.Uid.{Uid}
-use Rattle.cedar_expr_model.specs.Whole.Value.{V, prim, truth, long, text, entity, set_of, record_of, extension, Vs, no_values, value, Fields, no_fields, field, field_of}
-use Rattle.cedar_expr_model.specs.Whole.Canonical.{are_rising, is_canonical, are_canonical, have_canonical, is_before, inserted, members_made, set_made, is_subset, is_disjoint}
-use Rattle.cedar_expr_model.specs.Whole.Order.{value_cmp, text_cmp}
-use Rattle.cedar_expr_model.specs.Whole.Tree.{Tree, lit, var, slot, unknown, choice, both, either, unary, binary, call, get_attr, has_attr, has_path, like, is_type, set_literal, record_literal, Trees, no_trees, tree, TreeFields, no_tree_fields, tree_field, Var, principal, action, resource, context, UnaryOp, negation, minus, is_empty, BinaryOp, equal, less, less_or_equal, plus, difference, times, is_in, contains, contains_all, contains_any, get_tag, has_tag}
-use Rattle.cedar_expr_model.specs.Whole.Table.{Table, Signature, Called, gives, fails, leaves, signature_of, takes_count, are_of_types, is_ordered}
-use Rattle.cedar_expr_model.specs.Whole.Pattern.{Pattern}
-use Rattle.cedar_expr_model.specs.Whole.ValueParts.{Part, known, left}
+use Rattle.cedar_expr_model.specs.Value.{V, prim, truth, long, text, entity, set_of, record_of, extension, Vs, no_values, value, Fields, no_fields, field, field_of}
+use Rattle.cedar_expr_model.specs.Canonical.{are_rising, is_canonical, are_canonical, have_canonical, is_before, inserted, members_made, set_made, is_subset, is_disjoint}
+use Rattle.cedar_expr_model.specs.Order.{value_cmp, text_cmp}
+use Rattle.cedar_expr_model.specs.Tree.{Tree, lit, var, slot, unknown, choice, both, either, unary, binary, call, get_attr, has_attr, has_path, like, is_type, set_literal, record_literal, Trees, no_trees, tree, TreeFields, no_tree_fields, tree_field, Var, principal, action, resource, context, UnaryOp, negation, minus, is_empty, BinaryOp, equal, less, less_or_equal, plus, difference, times, is_in, contains, contains_all, contains_any, get_tag, has_tag}
+use Rattle.cedar_expr_model.specs.Table.{Table, Signature, Called, gives, fails, leaves, signature_of, takes_count, are_of_types, is_ordered}
+use Rattle.cedar_expr_model.specs.Pattern.{Pattern}
+use Rattle.cedar_expr_model.specs.ValueParts.{Part, known, left}
 use Rattle.cedar_expr_model.proofs.Lists.{both_hold}
-use Rattle.cedar_expr_model.proofs.Whole.Sets.{made_rises}
-use Rattle.cedar_store_model.specs.Whole.Outcome.{Fault, Res, val, err, bind, wrong_type, missing_field, overflow}
-use Rattle.cedar_store_model.specs.Whole.World.{World, Entity, Found, held, missing, not_loaded}
-use Rattle.cedar_store_model.specs.Whole.Operators.{is_long, in_range, says, applied, ordered, calculated, of_sets, among_members, like_pattern, of_type, answered}
-use Rattle.cedar_store_model.specs.Whole.Reads.{part_value, part_read, part_tested, attribute_read, attribute_tested, uids_in, is_in_some, found_in, within}
-use Rattle.cedar_store_model.specs.Whole.Meaning.{Means, variable, slot_value, combined, picked, truth_asked, outcome_of, outcomes_of, field_outcomes_of, path_tested}
-use Rattle.cedar_store_model.proofs.Whole.Meaning.{means_outcome}
-use Rattle.cedar_store_model.proofs.Whole.Named.{called_of, attributes_of, tags_of, tag_read, tag_tested, bound_value, known_uid}
+use Rattle.cedar_expr_model.proofs.Sets.{made_rises}
+use Rattle.cedar_store_model.specs.Outcome.{Fault, Res, val, err, bind, wrong_type, missing_field, overflow}
+use Rattle.cedar_store_model.specs.World.{World, Entity, Found, held, missing, not_loaded}
+use Rattle.cedar_store_model.specs.Operators.{is_long, in_range, says, applied, ordered, calculated, of_sets, among_members, like_pattern, of_type, answered}
+use Rattle.cedar_store_model.specs.Reads.{part_value, part_read, part_tested, attribute_read, attribute_tested, uids_in, is_in_some, found_in, within}
+use Rattle.cedar_store_model.specs.Meaning.{Means, variable, slot_value, combined, picked, truth_asked, outcome_of, outcomes_of, field_outcomes_of, path_tested}
+use Rattle.cedar_store_model.proofs.Meaning.{means_outcome}
+use Rattle.cedar_store_model.proofs.Named.{called_of, attributes_of, tags_of, tag_read, tag_tested, bound_value, known_uid}
 use Rattle.cedar_store_worlds_model.specs.Rising.{Rises, MembersRise, FieldsRise, PartRises, FoundRises, WorldRises}
 
 -- canonical values rise

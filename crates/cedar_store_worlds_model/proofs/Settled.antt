@@ -4,24 +4,24 @@ use Rattle.std.specs.Prelude.{Option, Some, None, length, IsSome, is_some, unwra
 use Rattle.std.specs.List.{list_all}
 use Rattle.cedar_expr_model.specs.Name.{Text, Name, name_eq}
 use Rattle.cedar_expr_model.specs.Uid.{Uid}
-use Rattle.cedar_expr_model.specs.Whole.Value.{text, entity, V, prim, record_of, no_fields, field, truth_value}
-use Rattle.cedar_expr_model.specs.Whole.Canonical.{set_made}
-use Rattle.cedar_expr_model.specs.Whole.Tree.{CoreType, Tree, lit, var, slot, unknown, choice, both, either, unary, binary, call, get_attr, has_attr, has_path, like, is_type, set_literal, record_literal, Trees, no_trees, tree, TreeFields, no_tree_fields, tree_field, Var, principal, action, resource, context, BinaryOp, is_in, get_tag, has_tag}
-use Rattle.cedar_expr_model.specs.Whole.Table.{Table, Signature, Called, gives, fails, leaves, signature_of, takes_count, are_of_types, all_typed}
-use Rattle.cedar_expr_model.specs.Whole.OfLaws.Fair.{IsTaken, IsAnswer, IsFair}
+use Rattle.cedar_expr_model.specs.Value.{text, entity, V, prim, record_of, no_fields, field, truth_value}
+use Rattle.cedar_expr_model.specs.Canonical.{set_made}
+use Rattle.cedar_expr_model.specs.Tree.{CoreType, Tree, lit, var, slot, unknown, choice, both, either, unary, binary, call, get_attr, has_attr, has_path, like, is_type, set_literal, record_literal, Trees, no_trees, tree, TreeFields, no_tree_fields, tree_field, Var, principal, action, resource, context, BinaryOp, is_in, get_tag, has_tag}
+use Rattle.cedar_expr_model.specs.Table.{Table, Signature, Called, gives, fails, leaves, signature_of, takes_count, are_of_types, all_typed}
+use Rattle.cedar_expr_model.specs.OfLaws.Fair.{IsTaken, IsAnswer, IsFair}
 use Rattle.cedar_expr_model.proofs.Lists.{both_hold}
-use Rattle.cedar_expr_model.proofs.Whole.Gathering.{EachIn, each_in, EachAmong, EachInFields}
-use Rattle.cedar_store_model.specs.Whole.Outcome.{Res, val, bind, wrong_type, wrong_count, err}
-use Rattle.cedar_store_model.specs.Whole.World.{World, Request}
-use Rattle.cedar_store_model.specs.Whole.Operators.{says, applied, like_pattern, of_type, answered}
-use Rattle.cedar_store_model.specs.Whole.Reads.{attribute_read, attribute_tested, within}
-use Rattle.cedar_store_model.specs.Whole.Meaning.{Means, variable, combined, picked, truth_asked, outcome_of, outcomes_of, field_outcomes_of, path_tested}
-use Rattle.cedar_store_model.specs.Whole.Knowledge.{holds_values, IsSettled, IsWhole}
-use Rattle.cedar_store_model.specs.Whole.Store.{Store, Extent, whole, look_up}
-use Rattle.cedar_store_model.proofs.Whole.Named.{bound_value, called_of, tag_read, tag_tested}
-use Rattle.cedar_store_model.proofs.Whole.Known.{an_outcome}
-use Rattle.cedar_store_model.proofs.Whole.Meaning.{outcome_means, means_outcome, one_outcome}
-use Rattle.cedar_store_model.proofs.Whole.Stores.{whole_stores_are_whole}
+use Rattle.cedar_expr_model.proofs.Gathering.{EachIn, each_in, EachAmong, EachInFields}
+use Rattle.cedar_store_model.specs.Outcome.{Res, val, bind, wrong_type, wrong_count, err}
+use Rattle.cedar_store_model.specs.World.{World, Request}
+use Rattle.cedar_store_model.specs.Operators.{says, applied, like_pattern, of_type, answered}
+use Rattle.cedar_store_model.specs.Reads.{attribute_read, attribute_tested, within}
+use Rattle.cedar_store_model.specs.Meaning.{Means, variable, combined, picked, truth_asked, outcome_of, outcomes_of, field_outcomes_of, path_tested}
+use Rattle.cedar_store_model.specs.Knowledge.{holds_values, IsSettled, IsWhole}
+use Rattle.cedar_store_model.specs.Store.{Store, Extent, whole, look_up}
+use Rattle.cedar_store_model.proofs.Named.{bound_value, called_of, tag_read, tag_tested}
+use Rattle.cedar_store_model.proofs.Known.{an_outcome}
+use Rattle.cedar_store_model.proofs.Meaning.{outcome_means, means_outcome, one_outcome}
+use Rattle.cedar_store_model.proofs.Stores.{whole_stores_are_whole}
 use Rattle.cedar_store_worlds_model.specs.Alone.{no_functions}
 use Rattle.cedar_store_worlds_model.specs.Settled.{CallsLeaveNone, IsSettledWorld, BindsUnknowns}
 

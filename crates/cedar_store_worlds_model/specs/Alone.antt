@@ -1,9 +1,9 @@
 -- Worlds of which the store alone is known.
 -- Rule: the store (docs/RULES.md).
 use Rattle.std.specs.Prelude.{[], None}
-use Rattle.cedar_expr_model.specs.Whole.Table.{Table, fails}
-use Rattle.cedar_store_model.specs.Whole.World.{World}
-use Rattle.cedar_store_model.specs.Whole.Store.{Store, OpenRequest, world_of}
+use Rattle.cedar_expr_model.specs.Table.{Table, fails}
+use Rattle.cedar_store_model.specs.World.{World}
+use Rattle.cedar_store_model.specs.Store.{Store, OpenRequest, world_of}
 
 -- the table without functions
 abbrev pub no_functions : Table

@@ -4,17 +4,17 @@ use Rattle.std.specs.Prelude.{◌≡◌, List, true}
 use Rattle.std.specs.List.{list_all}
 use Rattle.cedar_expr_model.specs.Name.{Text}
 use Rattle.cedar_expr_model.specs.Uid.{Uid}
-use Rattle.cedar_expr_model.specs.Whole.Value.{V}
-use Rattle.cedar_expr_model.specs.Whole.Canonical.{is_canonical}
-use Rattle.cedar_expr_model.specs.Whole.Tree.{Tree, is_in, get_tag, has_tag}
-use Rattle.cedar_expr_model.specs.Whole.Table.{Table, all_typed}
-use Rattle.cedar_expr_model.specs.Whole.OfLaws.Fair.{IsFair}
-use Rattle.cedar_store_model.specs.Whole.Outcome.{Res, val}
-use Rattle.cedar_store_model.specs.Whole.World.{World}
-use Rattle.cedar_store_model.specs.Whole.Store.{Store, whole, look_up}
-use Rattle.cedar_store_model.specs.Whole.Knowledge.{holds_values, IsSettled}
-use Rattle.cedar_store_model.specs.Whole.Reads.{attribute_read, attribute_tested}
-use Rattle.cedar_store_model.specs.Whole.Meaning.{Means, combined, path_tested}
+use Rattle.cedar_expr_model.specs.Value.{V}
+use Rattle.cedar_expr_model.specs.Canonical.{is_canonical}
+use Rattle.cedar_expr_model.specs.Tree.{Tree, is_in, get_tag, has_tag}
+use Rattle.cedar_expr_model.specs.Table.{Table, all_typed}
+use Rattle.cedar_expr_model.specs.OfLaws.Fair.{IsFair}
+use Rattle.cedar_store_model.specs.Outcome.{Res, val}
+use Rattle.cedar_store_model.specs.World.{World}
+use Rattle.cedar_store_model.specs.Store.{Store, whole, look_up}
+use Rattle.cedar_store_model.specs.Knowledge.{holds_values, IsSettled}
+use Rattle.cedar_store_model.specs.Reads.{attribute_read, attribute_tested}
+use Rattle.cedar_store_model.specs.Meaning.{Means, combined, path_tested}
 use Rattle.cedar_store_worlds_model.specs.Rising.{Rises, WorldRises}
 use Rattle.cedar_store_worlds_model.specs.Alone.{store_alone}
 use Rattle.cedar_store_worlds_model.specs.Settled.{CallsLeaveNone, IsSettledWorld, BindsUnknowns}

@@ -6,11 +6,11 @@ use Rattle.std.specs.Map.{lookup}
 use Rattle.std.specs.Str.{bytes_eq}
 use Rattle.cedar_expr_model.specs.Name.{Text, Name}
 use Rattle.cedar_expr_model.specs.Uid.{Uid}
-use Rattle.cedar_expr_model.specs.Whole.Value.{V, prim, set_of, record_of, extension, Vs, no_values, value, Fields, no_fields, field}
-use Rattle.cedar_expr_model.specs.Whole.Canonical.{are_rising}
-use Rattle.cedar_expr_model.specs.Whole.Table.{Table, gives}
-use Rattle.cedar_expr_model.specs.Whole.ValueParts.{Part, known_value}
-use Rattle.cedar_store_model.specs.Whole.World.{World, Found, held}
+use Rattle.cedar_expr_model.specs.Value.{V, prim, set_of, record_of, extension, Vs, no_values, value, Fields, no_fields, field}
+use Rattle.cedar_expr_model.specs.Canonical.{are_rising}
+use Rattle.cedar_expr_model.specs.Table.{Table, gives}
+use Rattle.cedar_expr_model.specs.ValueParts.{Part, known_value}
+use Rattle.cedar_store_model.specs.World.{World, Found, held}
 
 -- The members of each set in the value rise.
 abbrev mutual

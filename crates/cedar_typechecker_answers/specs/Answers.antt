@@ -6,8 +6,8 @@ use Rattle.cedar_expr_trees.specs.declared.expr.Expr.{Expr}
 use Rattle.cedar_schema_types.specs.Types.{type_of}
 use Rattle.cedar_schema_types.specs.declared.types.Type.{«Type» as CodeType}
 use Rattle.cedar_typechecker_facts.specs.Facts.{facts_of}
-use Rattle.cedar_typechecker_model.specs.Whole.Facts.{Facts}
-use Rattle.cedar_typechecker_model.specs.Whole.Typing.{Judgement}
+use Rattle.cedar_typechecker_model.specs.Facts.{Facts}
+use Rattle.cedar_typechecker_model.specs.Typing.{Judgement}
 use Rattle.cedar_typechecker_typed_model.specs.Typed.{Typed}
 use Rattle.cedar_typechecker_nodes.specs.Marked.{kind_marks}
 use Rattle.cedar_typechecker_answers.specs.declared.answer.TypecheckAnswer.{TypecheckAnswer}

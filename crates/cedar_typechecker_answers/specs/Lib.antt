@@ -1,3 +1,4 @@
 pub mod Answers
+pub mod Sequences
 pub mod Steps
 pub mod Surface

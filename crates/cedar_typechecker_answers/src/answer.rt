@@ -3,7 +3,7 @@
 ghost use Rattle.std.specs.Prelude.{◌≡◌, None, option_map, IfOk};
 ghost use Rattle.cedar_expr_trees.specs.Trees.{kind_tree};
 ghost use Rattle.cedar_schema_types.specs.Types.{type_of};
-ghost use Rattle.cedar_typechecker_model.specs.Whole.Typing.{plain};
+ghost use Rattle.cedar_typechecker_model.specs.Typing.{plain};
 ghost use Rattle.cedar_typechecker_typed_model.specs.Typed.{noted};
 ghost use Rattle.cedar_typechecker_nodes.specs.Marked.{kind_marks};
 ghost use Rattle.cedar_typechecker_answers.specs.Answers.{seen, judgement_seen};

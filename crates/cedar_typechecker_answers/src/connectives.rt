@@ -2,12 +2,12 @@
 
 ghost use Rattle.std.specs.Prelude.{◌≡◌, Some, option_map, option_and_then, IfOk};
 ghost use Rattle.cedar_expr_trees.specs.Trees.{tree_of, data_of};
-ghost use Rattle.cedar_schema_model.specs.Whole.Types.{bool_type};
+ghost use Rattle.cedar_schema_model.specs.Types.{bool_type};
 ghost use Rattle.cedar_schema_types.specs.Types.{type_of};
 ghost use Rattle.cedar_schema_types.specs.Kinds.{bool_type_of};
 ghost use Rattle.cedar_typechecker_facts.specs.Facts.{facts_of};
-ghost use Rattle.cedar_typechecker_model.specs.Whole.Facts.{no_facts};
-ghost use Rattle.cedar_typechecker_model.specs.Whole.Typing.{conjoined, disjoined};
+ghost use Rattle.cedar_typechecker_model.specs.Facts.{no_facts};
+ghost use Rattle.cedar_typechecker_model.specs.Typing.{conjoined, disjoined};
 ghost use Rattle.cedar_typechecker_typed_model.specs.Typed.{and_step as model_and_step, or_step as model_or_step, and_typed, or_typed, conjoined_by, disjoined_by};
 ghost use Rattle.cedar_typechecker_answers.specs.Answers.{seen, typed_at, judgement_seen};
 ghost use Rattle.cedar_typechecker_answers.specs.Steps.{goes_on_with, step_seen, true_where_true};

@@ -7,6 +7,7 @@ mod answer;
 mod choice;
 mod connectives;
 mod faults;
+mod sequence;
 mod surface;
 
 pub use answer::{Judged, TypecheckAnswer, judged_node, plain_node};

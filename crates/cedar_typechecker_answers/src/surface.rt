@@ -4,7 +4,7 @@ ghost use Rattle.std.specs.Prelude.{◌≡◌, false, None};
 ghost use Rattle.std.specs.Option.{option_map_or};
 ghost use Rattle.cedar_expr_trees.specs.Trees.{data_of};
 ghost use Rattle.cedar_typechecker_facts.specs.Facts.{facts_of};
-ghost use Rattle.cedar_typechecker_model.specs.Whole.Facts.{no_facts};
+ghost use Rattle.cedar_typechecker_model.specs.Facts.{no_facts};
 ghost use Rattle.cedar_typechecker_answers.specs.Answers.{seen, typed_at};
 ghost use Rattle.cedar_typechecker_answers.specs.Surface.{has_type, held, root_type, MapsFacts};
 
@@ -103,7 +103,8 @@ impl<'a> TypecheckAnswer<'a> {
 
     /// The answer that the expression has no type.
     pub fn into_fail(self) -> TypecheckAnswer<'a>
-        ensures { seen result ≡ None }
+        ensures fails { seen result ≡ None }
+        ensures expression { held result ≡ held self.entry }
     {
         TypecheckAnswer::Fail {
             expr_recovery_type: self.into_typed_expr(),

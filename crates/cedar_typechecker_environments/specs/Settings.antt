@@ -2,12 +2,12 @@
 -- Rule: environments; typing (docs/RULES.md).
 use Rattle.std.specs.Prelude.{option_map}
 use Rattle.cedar_expr_names.specs.Views.{type_name_of, uid_of}
-use Rattle.cedar_expr_model.specs.Whole.Table.{Table}
-use Rattle.cedar_schema_model.specs.Whole.Schema.{Schema}
-use Rattle.cedar_schema_model.specs.Whole.Environment.{Environment}
+use Rattle.cedar_expr_model.specs.Table.{Table}
+use Rattle.cedar_schema_model.specs.Schema.{Schema}
+use Rattle.cedar_schema_model.specs.Environment.{Environment}
 use Rattle.cedar_schema_types.specs.Types.{attributes_of}
 use Rattle.cedar_schema_joins.specs.Modes.{mode_of}
-use Rattle.cedar_typechecker_model.specs.Whole.Rules.{Setting}
+use Rattle.cedar_typechecker_model.specs.Rules.{Setting}
 use Rattle.cedar_typechecker_environments.specs.declared.request_env.RequestEnv.{RequestEnv}
 use Rattle.cedar_typechecker_environments.specs.declared.setting.World.{World}
 

@@ -1,8 +1,8 @@
 -- What a call asks of a function's signature.
 -- Rule: typing (docs/RULES.md).
 use Rattle.std.specs.Prelude.{List, map, Bool, Option, option_map}
-use Rattle.cedar_expr_model.specs.Whole.Tree.{CoreType}
-use Rattle.cedar_expr_model.specs.Whole.Table.{Signature, is_constructor}
+use Rattle.cedar_expr_model.specs.Tree.{CoreType}
+use Rattle.cedar_expr_model.specs.Table.{Signature, is_constructor}
 use Rattle.cedar_expr_values.specs.Types.{core_of}
 use Rattle.cedar_typechecker_environments.specs.declared.setting.FunctionSignature.{FunctionSignature}
 

@@ -2,11 +2,11 @@
 
 ghost use Rattle.std.specs.Prelude.{◌≡◌, IfOk, None, option_map, if◌then◌else◌, Some};
 ghost use Rattle.cedar_expr_names.specs.Views.{type_name_of, uid_of};
-ghost use Rattle.cedar_schema_model.specs.Whole.Types.{entity_type, record_type, is_closed};
-ghost use Rattle.cedar_schema_model.specs.Whole.Schema.{declares_action};
+ghost use Rattle.cedar_schema_model.specs.Types.{entity_type, record_type, is_closed};
+ghost use Rattle.cedar_schema_model.specs.Schema.{declares_action};
 ghost use Rattle.cedar_schema_types.specs.Types.{type_of, attributes_of};
 ghost use Rattle.cedar_expr_leaves.specs.Slots.{slot_of};
-ghost use Rattle.cedar_store_model.specs.Whole.Policy.{binding_of};
+ghost use Rattle.cedar_store_model.specs.Policy.{binding_of};
 ghost use Rattle.cedar_store_parts.specs.Parts.{bindings_of};
 ghost use Rattle.cedar_store_records.specs.Views.{kind_of};
 ghost use Rattle.cedar_typechecker_environments.specs.Settings.{environment_of};

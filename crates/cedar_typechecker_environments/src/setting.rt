@@ -1,13 +1,13 @@
 //! What expressions are typed in.
 
 ghost use Rattle.std.specs.Prelude.{◌≡◌, option_map, IfOk};
-ghost use Rattle.cedar_expr_model.specs.Whole.Table.{Table, is_ordered, signature_of};
+ghost use Rattle.cedar_expr_model.specs.Table.{Table, is_ordered, signature_of};
 ghost use Rattle.cedar_expr_names.specs.Views.{plain_name_of, type_name_of, uid_of};
-ghost use Rattle.cedar_schema_model.specs.Whole.Schema.{declares_type, declares_action};
-ghost use Rattle.cedar_schema_model.specs.Whole.Descent.{type_descends, action_descends};
+ghost use Rattle.cedar_schema_model.specs.Schema.{declares_type, declares_action};
+ghost use Rattle.cedar_schema_model.specs.Descent.{type_descends, action_descends};
 ghost use Rattle.cedar_schema_types.specs.Types.{type_of};
 ghost use Rattle.cedar_typechecker_environments.specs.Signatures.{call_signature, signature_seen};
-ghost use Rattle.cedar_typechecker_model.specs.Whole.Rules.{tags_of};
+ghost use Rattle.cedar_typechecker_model.specs.Rules.{tags_of};
 
 use crate::request_env::RequestEnv;
 use cedar_expr_names::{EntityType, EntityUID, Name};

@@ -5,10 +5,10 @@ use Rattle.std.proofs.lemmas.Slice.Eq.{bytes_eq-Decides}
 use Rattle.std.specs.Rc.{rc_str_bytes}
 use Rattle.std.specs.Ordering.{eq_by_cmp}
 use Rattle.std.specs.List.{list_any}
-use Rattle.cedar_expr_model.specs.Whole.Tree.{Tree}
-use Rattle.cedar_expr_model.proofs.Whole.ShapeOrder.{trees_decide}
+use Rattle.cedar_expr_model.specs.Tree.{Tree}
+use Rattle.cedar_expr_model.proofs.ShapeOrder.{trees_decide}
 use Rattle.cedar_expr_shapes.specs.Shapes.{shape_of}
-use Rattle.cedar_typechecker_model.specs.Whole.Facts.{Part, attribute_part, tag_part, part_eq, fact, union, intersection}
+use Rattle.cedar_typechecker_model.specs.Facts.{Part, attribute_part, tag_part, part_eq, fact, union, intersection}
 use Rattle.cedar_typechecker_facts.specs.Facts.{capability_of, is_of, facts_among}
 use Rattle.cedar_typechecker_facts.specs.declared.facts.Capability.{Capability}
 use Rattle.cedar_typechecker_facts.specs.declared.facts.Capability.TheVariants.{Attribute, Tag}

@@ -3,9 +3,9 @@
 use Rattle.std.specs.Prelude.{Bool, List}
 use Rattle.std.specs.List.{list_any}
 use Rattle.std.specs.Rc.{rc_str_bytes}
-use Rattle.cedar_expr_model.specs.Whole.Tree.{Tree}
+use Rattle.cedar_expr_model.specs.Tree.{Tree}
 use Rattle.cedar_expr_shapes.specs.Shapes.{shape_of}
-use Rattle.cedar_typechecker_model.specs.Whole.Facts.{Facts, fact, Part, attribute_part, tag_part}
+use Rattle.cedar_typechecker_model.specs.Facts.{Facts, fact, Part, attribute_part, tag_part}
 use Rattle.cedar_typechecker_facts.specs.declared.facts.Capability.{Capability}
 use Rattle.cedar_typechecker_facts.specs.declared.facts.Capability.TheVariants.{Attribute, Tag}
 use Rattle.cedar_typechecker_facts.specs.declared.facts.CapabilitySet.{CapabilitySet}
@@ -24,4 +24,4 @@ abbrev pub facts_among : List Capability → Facts
 facts_among ks = λ e p. list_any (is_of e p) ks
 
 abbrev pub facts_of : CapabilitySet → Facts
-facts_of c = facts_among c.capabilities.keys
+facts_of c = facts_among c.capabilities

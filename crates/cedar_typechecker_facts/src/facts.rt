@@ -3,13 +3,13 @@
 ghost use Rattle.std.specs.Prelude.{◌≡◌, IfOk};
 ghost use Rattle.std.specs.Rc.{rc_str_bytes};
 ghost use Rattle.cedar_expr_trees.specs.Trees.{tree_of};
-ghost use Rattle.cedar_typechecker_model.specs.Whole.Facts.{no_facts, fact, union, intersection, attribute_part, tag_part};
+ghost use Rattle.cedar_typechecker_model.specs.Facts.{no_facts, fact, union, intersection, attribute_part, tag_part};
 ghost use Rattle.cedar_typechecker_facts.specs.Facts.{capability_of, facts_of};
 
+use crate::sorted::SortedKeys;
 use cedar_expr_shapes::ExprShapeOnly;
 use cedar_expr_trees::Expr;
 use std::alloc::{AllocError, Global};
-use std::collections::BTreeSet;
 use std::rc::RcStr;
 
 /// That an expression has an attribute, or the tag that another expression names. Expressions count by their shape: their places
@@ -92,10 +92,10 @@ impl<'a> Clone for Capability<'a> {
     }
 }
 
-/// A set of facts.
+/// A set of facts, kept in the order of facts.
 #[derive(Drop)]
 pub struct CapabilitySet<'a> {
-    capabilities: BTreeSet<Capability<'a>>,
+    capabilities: SortedKeys<Capability<'a>>,
 }
 
 impl<'a> CapabilitySet<'a> {
@@ -104,7 +104,7 @@ impl<'a> CapabilitySet<'a> {
         ensures { facts_of result ≡ no_facts }
     {
         CapabilitySet {
-            capabilities: BTreeSet::new(alloc),
+            capabilities: SortedKeys::new(alloc),
         }
     }
 
@@ -112,28 +112,27 @@ impl<'a> CapabilitySet<'a> {
     pub fn singleton(alloc: Global, e: Capability<'a>) -> Result<CapabilitySet<'a>, AllocError>
         ensures { IfOk result (λ c. facts_of c ≡ fact (capability_of e.entry).0 (capability_of e.entry).1) }
     {
-        let mut capabilities = BTreeSet::new(alloc);
-        capabilities.insert(e)?;
+        let capabilities = SortedKeys::singleton(alloc, e)?;
         Ok(CapabilitySet { capabilities })
     }
 
-    /// The facts of either set.
+    /// The facts of either set. Each set is gone along once.
     pub fn union(&self, other: &CapabilitySet<'a>) -> Result<CapabilitySet<'a>, AllocError>
         ensures { IfOk result (λ c. facts_of c ≡ union (facts_of self.now) (facts_of other.now)) }
     {
-        let capabilities = (&self.capabilities | &other.capabilities)?;
+        let capabilities = self.capabilities.union(&other.capabilities)?;
         Ok(CapabilitySet { capabilities })
     }
 
-    /// The facts that both sets have.
+    /// The facts that both sets have. Each set is gone along once.
     pub fn intersect(&self, other: &CapabilitySet<'a>) -> Result<CapabilitySet<'a>, AllocError>
         ensures { IfOk result (λ c. facts_of c ≡ intersection (facts_of self.now) (facts_of other.now)) }
     {
-        let capabilities = (&self.capabilities & &other.capabilities)?;
+        let capabilities = self.capabilities.intersect(&other.capabilities)?;
         Ok(CapabilitySet { capabilities })
     }
 
-    /// Whether this is one of the facts.
+    /// Whether this is one of the facts. It is looked for by halving.
     pub fn contains(&self, e: &Capability<'a>) -> bool
         ensures { result ≡ facts_of self.now (capability_of e.now).0 (capability_of e.now).1 }
     {

@@ -5,5 +5,7 @@
 
 mod facts;
 pub mod laws;
+mod merging;
+mod sorted;
 
 pub use facts::{Capability, CapabilitySet};

@@ -1,7 +1,7 @@
 -- Steps that are counted up to a greatest number.
 use Rattle.std.proofs.Common.{◌≡◌, ℕ, ◌+◌, arith}
 use Rattle.std.specs.Prelude.{max}
-use Rattle.cedar_typechecker_model.specs.Whole.Levels.{needed}
+use Rattle.cedar_typechecker_model.specs.Levels.{needed}
 
 pub needed_again : (j k : ℕ) → needed (needed j + k) ≡ needed (j + k)
 needed_again j k = omega arith

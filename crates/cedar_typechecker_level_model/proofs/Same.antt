@@ -3,12 +3,12 @@ use Rattle.std.proofs.Common.{◌≡◌, ℕ, ◌<◌, Bool, true, false, List, 
 use Rattle.std.specs.Prelude.{max, if◌then◌else◌}
 use Rattle.std.specs.Str.{bytes_eq}
 use Rattle.cedar_expr_model.specs.Name.{Text}
-use Rattle.cedar_expr_model.specs.Whole.Value.{truth, long, text, entity}
-use Rattle.cedar_expr_model.specs.Whole.Tree.{BinaryOp, equal, less, less_or_equal, plus, difference, times, is_in, contains, contains_all, contains_any, get_tag, has_tag, Tree, lit, var, slot, unknown, choice, both, either, unary, binary, call, get_attr, has_attr, has_path, like, is_type, set_literal, record_literal, Trees, no_trees, tree, TreeFields, no_tree_fields, tree_field}
+use Rattle.cedar_expr_model.specs.Value.{truth, long, text, entity}
+use Rattle.cedar_expr_model.specs.Tree.{BinaryOp, equal, less, less_or_equal, plus, difference, times, is_in, contains, contains_all, contains_any, get_tag, has_tag, Tree, lit, var, slot, unknown, choice, both, either, unary, binary, call, get_attr, has_attr, has_path, like, is_type, set_literal, record_literal, Trees, no_trees, tree, TreeFields, no_tree_fields, tree_field}
 use Rattle.cedar_expr_model.specs.Uid.{Uid, uid_eq}
-use Rattle.cedar_store_model.specs.Whole.Looks.{looks_up}
-use Rattle.cedar_typechecker_model.specs.Whole.Rules.{Setting}
-use Rattle.cedar_typechecker_model.specs.Whole.Levels.{Violation, Count, count, joined, further, needed, stepped, is_entity, literal_count, entity_steps, fields_before}
+use Rattle.cedar_store_model.specs.Looks.{looks_up}
+use Rattle.cedar_typechecker_model.specs.Rules.{Setting}
+use Rattle.cedar_typechecker_model.specs.Levels.{Violation, Count, count, joined, further, needed, stepped, is_entity, literal_count, entity_steps, fields_before}
 use Rattle.cedar_typechecker_typed_model.specs.Typed.{Marks, MarkRow}
 use Rattle.cedar_typechecker_typed_model.specs.Counts.{top, parts, head, rest, first, second, third, violations_at, violations_in_row, violations_in_field_row, target_at, target_in_field_row}
 use Rattle.cedar_typechecker_level_model.specs.Reported.{further_on, may_be_true, may_be_false, taken, taken_steps, too_far, is_get_tag, steps, steps_in_fields, reported, reported_in_row, reported_in_fields, reached, reached_in_fields}

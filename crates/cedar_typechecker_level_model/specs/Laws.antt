@@ -1,8 +1,8 @@
 -- What a walk meets are the violations of a typed expression.
 -- Rule: levels (docs/RULES.md).
 use Rattle.std.specs.Prelude.{◌≡◌, ◌<◌, ℕ}
-use Rattle.cedar_expr_model.specs.Whole.Tree.{Tree}
-use Rattle.cedar_typechecker_model.specs.Whole.Rules.{Setting}
+use Rattle.cedar_expr_model.specs.Tree.{Tree}
+use Rattle.cedar_typechecker_model.specs.Rules.{Setting}
 use Rattle.cedar_typechecker_typed_model.specs.Typed.{Marks}
 use Rattle.cedar_typechecker_typed_model.specs.Counts.{violations_at}
 use Rattle.cedar_typechecker_level_model.specs.Reported.{reported}

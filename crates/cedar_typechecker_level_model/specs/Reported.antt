@@ -4,11 +4,11 @@
 use Rattle.std.specs.Prelude.{◌+◌, ◌==◌, ℕ, max, nat_le, List, [], ◌∷◌, ◌++◌, Bool, true, false, Option, Some, None, if◌then◌else◌}
 use Rattle.std.specs.Str.{bytes_eq}
 use Rattle.cedar_expr_model.specs.Name.{Text}
-use Rattle.cedar_expr_model.specs.Whole.Tree.{BinaryOp, get_tag, Tree, lit, slot, choice, both, either, unary, binary, call, get_attr, has_attr, has_path, like, is_type, set_literal, record_literal, Trees, no_trees, tree, TreeFields, no_tree_fields, tree_field}
-use Rattle.cedar_schema_model.specs.Whole.Types.{only_true, only_false, Ty, bool_type}
-use Rattle.cedar_store_model.specs.Whole.Looks.{looks_up}
-use Rattle.cedar_typechecker_model.specs.Whole.Rules.{Setting}
-use Rattle.cedar_typechecker_model.specs.Whole.Levels.{Violation, needed, is_entity, literal_count, entity_steps, fields_before}
+use Rattle.cedar_expr_model.specs.Tree.{BinaryOp, get_tag, Tree, lit, slot, choice, both, either, unary, binary, call, get_attr, has_attr, has_path, like, is_type, set_literal, record_literal, Trees, no_trees, tree, TreeFields, no_tree_fields, tree_field}
+use Rattle.cedar_schema_model.specs.Types.{only_true, only_false, Ty, bool_type}
+use Rattle.cedar_store_model.specs.Looks.{looks_up}
+use Rattle.cedar_typechecker_model.specs.Rules.{Setting}
+use Rattle.cedar_typechecker_model.specs.Levels.{Violation, needed, is_entity, literal_count, entity_steps, fields_before}
 use Rattle.cedar_typechecker_typed_model.specs.Typed.{Marks, MarkRow}
 use Rattle.cedar_typechecker_typed_model.specs.Counts.{top, parts, head, rest, first, second, third}
 

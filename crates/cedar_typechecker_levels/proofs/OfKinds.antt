@@ -11,7 +11,7 @@ use Rattle.std.specs.declared.rc.Rc.{Rc}
 use Rattle.std.specs.declared.rc.RcStr.{RcStr}
 use Rattle.std.specs.declared.vec.Vec.{Vec}
 use Rattle.cedar_expr_model.specs.Name.{Text}
-use Rattle.cedar_expr_model.specs.Whole.Builder.{trees}
+use Rattle.cedar_expr_model.specs.Builder.{trees}
 use Rattle.cedar_expr_names.specs.declared.name.Name.{Name}
 use Rattle.cedar_expr_trees.specs.Trees.{tree_of, kind_tree}
 use Rattle.cedar_expr_trees.specs.declared.expr.Expr.{Expr, size-Expr, size_is-Expr}
@@ -20,8 +20,8 @@ use Rattle.cedar_expr_trees.specs.declared.expr.ExprKind.TheViews.{sized-Set}
 use Rattle.cedar_expr_trees.specs.declared.expr.ExprKind.TheBlock.{hidden-the_row-Expr-0, hidden-the_row-Expr-1}
 use Rattle.cedar_expr_trees.proofs.Trees.{call_tree, set_tree, record_tree}
 use Rattle.cedar_schema_types.specs.declared.types.Type.{«Type» as CodeType}
-use Rattle.cedar_typechecker_model.specs.Whole.Levels.{Violation}
-use Rattle.cedar_typechecker_model.specs.Whole.Rules.{Setting}
+use Rattle.cedar_typechecker_model.specs.Levels.{Violation}
+use Rattle.cedar_typechecker_model.specs.Rules.{Setting}
 use Rattle.cedar_typechecker_typed_model.specs.Typed.{mark, marks}
 use Rattle.cedar_typechecker_level_model.specs.Reported.{steps, reported, reported_in_row, reported_in_fields, reached, reached_in_fields, steps_in_fields}
 use Rattle.cedar_typechecker_levels.specs.InRows.{steps_of, reported_of, reached_of, steps_in, others_in, reached_in}

@@ -10,8 +10,8 @@ use Rattle.std.specs.declared.rc.RcStr.{RcStr}
 use Rattle.cedar_expr_model.specs.Name.{Text}
 use Rattle.cedar_expr_trees.specs.declared.expr.Expr.{Expr}
 use Rattle.cedar_schema_types.specs.declared.types.Type.{«Type» as CodeType}
-use Rattle.cedar_typechecker_model.specs.Whole.Levels.{Violation}
-use Rattle.cedar_typechecker_model.specs.Whole.Rules.{Setting}
+use Rattle.cedar_typechecker_model.specs.Levels.{Violation}
+use Rattle.cedar_typechecker_model.specs.Rules.{Setting}
 use Rattle.cedar_typechecker_levels.specs.InRows.{Fields, steps_of, reported_of, reached_of, steps_in, others_in, reached_in}
 
 -- one part, and then another

@@ -2,10 +2,10 @@
 -- Rule: levels (docs/RULES.md).
 use Rattle.std.specs.Prelude.{◌+◌, ℕ, List, [], ◌∷◌, Option, Some, None, if◌then◌else◌}
 use Rattle.cedar_expr_model.specs.Name.{Text}
-use Rattle.cedar_schema_model.specs.Whole.Types.{Ty}
-use Rattle.cedar_typechecker_model.specs.Whole.Levels.{is_entity}
-use Rattle.cedar_typechecker_model.specs.Whole.Rules.{Setting}
-use Rattle.cedar_typechecker_model.specs.Whole.Typing.{step_type}
+use Rattle.cedar_schema_model.specs.Types.{Ty}
+use Rattle.cedar_typechecker_model.specs.Levels.{is_entity}
+use Rattle.cedar_typechecker_model.specs.Rules.{Setting}
+use Rattle.cedar_typechecker_model.specs.Typing.{step_type}
 
 -- the steps on entities
 abbrev pub entity_steps_along : Setting → List Text → Option Ty → ℕ

@@ -3,7 +3,7 @@
 use Rattle.std.specs.Prelude.{Option, option_map}
 use Rattle.cedar_expr_trees.specs.declared.expr.Expr.{Expr}
 use Rattle.cedar_expr_trees.specs.declared.expr.ExprKind.{ExprKind, Row_of-Expr, end_of-Expr, more_of-Expr, Lit, Var, Slot, Unknown, If', And', Or', UnaryApp', BinaryApp', ExtensionFunctionApp', GetAttr', HasAttr', ExtHasAttr', Like', Is', Set', Record'}
-use Rattle.cedar_schema_model.specs.Whole.Types.{Ty}
+use Rattle.cedar_schema_model.specs.Types.{Ty}
 use Rattle.cedar_schema_types.specs.Types.{type_of}
 use Rattle.cedar_schema_types.specs.declared.types.Type.{«Type» as CodeType}
 use Rattle.cedar_typechecker_typed_model.specs.Typed.{Marks, mark, MarkRow, no_marks, marks, one, two, three}

@@ -1,7 +1,7 @@
 -- A code violation as the model's.
 -- Rule: levels (docs/RULES.md).
 use Rattle.cedar_expr_trees.specs.Trees.{tree_of}
-use Rattle.cedar_typechecker_model.specs.Whole.Levels.{Violation}
+use Rattle.cedar_typechecker_model.specs.Levels.{Violation}
 use Rattle.cedar_typechecker_levels.specs.declared.violation.LevelViolation.{LevelViolation}
 
 abbrev pub violation_of : LevelViolation → Violation

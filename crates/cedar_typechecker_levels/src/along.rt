@@ -4,8 +4,8 @@ ghost use Rattle.std.specs.Prelude.{◌≡◌, map, IfOk, Some, if◌then◌else
 ghost use Rattle.std.specs.Rc.{rc_str_bytes};
 ghost use Rattle.cedar_schema_types.specs.Types.{type_of};
 ghost use Rattle.cedar_typechecker_environments.specs.Settings.{setting_of};
-ghost use Rattle.cedar_typechecker_model.specs.Whole.Levels.{is_entity, needed, entity_steps, fields_before};
-ghost use Rattle.cedar_typechecker_model.specs.Whole.Typing.{step_type};
+ghost use Rattle.cedar_typechecker_model.specs.Levels.{is_entity, needed, entity_steps, fields_before};
+ghost use Rattle.cedar_typechecker_model.specs.Typing.{step_type};
 ghost use Rattle.cedar_typechecker_levels.specs.Along.{entity_steps_along, fields_along};
 ghost use Rattle.cedar_typechecker_levels.specs.Marked.{type_in};
 ghost use Rattle.cedar_typechecker_levels.specs.Paths.{path_of};

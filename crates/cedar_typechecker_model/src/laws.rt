@@ -1,53 +1,69 @@
-//! Laws of the definitions. Each function's contract is the theorem; its body does nothing.
+//! Laws of the definitions for every kind of expression. Each function's contract is the theorem; its body does nothing.
 
-ghost use Rattle.cedar_typechecker_model.specs.Order.{OrderKeepsTypes, OrderKeepsPassing, OrderKeepsImpossible, OrderKeepsKnownTypes, OrderKeepsKnownActions};
-ghost use Rattle.cedar_typechecker_model.specs.Laws.{TypingIsAFunction, OneJudgement, PassingDecides, ImpossibleDecides, NamingDecides};
-ghost use Rattle.cedar_typechecker_model.specs.Parts.{LiteralsAreTyped, VariablesAreTyped, ConjunctionsAreTyped, UnaryAreTyped, BinaryAreTyped, NoFactsArise};
-ghost use Rattle.cedar_typechecker_model.specs.Soundness.{TypesAreSound, PassingIsSound, ImpossibleIsSound};
+ghost use Rattle.cedar_typechecker_model.specs.Laws.{TypingIsAFunction, ListsAreTyped, FieldsAreTyped, OneJudgement, FactsAreOfBool, TruthHasNoFacts, MoreFactsKeepTypes, PathsAreConjunctions, PassingDecides, WarningDecides, ImpossibleDecides, IrrelevantDecides, VerdictDecides, UidsAreNamed, TypesAreNamed, KnownTypesDecide, KnownActionsDecide, KnownMembersDecide};
+ghost use Rattle.cedar_typechecker_model.specs.OrderLaws.{OrderPassesTheSame, OrderFindsTheSame};
+ghost use Rattle.cedar_typechecker_model.specs.LevelLaws.{ViolationsAreListed, CountsAreExact, TargetsAreListed, PolicyViolationsAreListed, LargerLevelsKeep, LargerLevelsPass, LargerLevelsPassPolicies};
 
-/// An expression has a type with facts exactly where the function gives them: so it has one type at most.
+/// An expression has a type with facts exactly where the function gives them: so it has one type at most, with one set of facts.
 pub fn typing_is_a_function()
     ensures computed { TypingIsAFunction }
+    ensures lists { ListsAreTyped }
+    ensures fields { FieldsAreTyped }
     ensures at_most_one { OneJudgement }
 {}
 
-/// The type of an expression, by the types of its parts. Expressions of today's kinds give no facts, so what is known before doesn't matter.
-pub fn types_come_from_parts()
-    ensures literals { LiteralsAreTyped }
-    ensures variables { VariablesAreTyped }
-    ensures conjunctions { ConjunctionsAreTyped }
-    ensures unary { UnaryAreTyped }
-    ensures binary { BinaryAreTyped }
-    ensures no_facts { NoFactsArise }
+/// Only an expression of the type of both truth values has facts; one of type True has none.
+pub fn facts_are_of_bool()
+    ensures others { FactsAreOfBool }
+    ensures truth { TruthHasNoFacts }
 {}
 
-/// The tests of a policy decide whether it passes, whether it is impossible, and whether each uid that it writes passes.
+/// Where more is known, what has a type keeps it, and its facts.
+pub fn more_facts_keep_types()
+    ensures { MoreFactsKeepTypes }
+{}
+
+/// The test of a path has the type and the facts of the conjunction of its tests.
+pub fn paths_are_conjunctions()
+    ensures { PathsAreConjunctions }
+{}
+
+/// The tests of a policy decide whether it passes, whether it is warned of, whether it is impossible, whether it is irrelevant
+/// for the types of a request, and what the check in one environment says.
 pub fn verdicts_are_decided()
     ensures passes { PassingDecides }
+    ensures warned { WarningDecides }
     ensures impossible { ImpossibleDecides }
-    ensures named { NamingDecides }
+    ensures irrelevant { IrrelevantDecides }
+    ensures check { VerdictDecides }
 {}
 
-/// An expression that has a type means a value of that type, in each world whose request is in the environment: never an error.
-pub fn types_are_sound()
-    ensures { TypesAreSound }
+/// The uids and entity types that are gathered are those that the policy names, and the tests of them decide the scope rules.
+pub fn scope_rules_are_decided()
+    ensures uids { UidsAreNamed }
+    ensures kinds { TypesAreNamed }
+    ensures types { KnownTypesDecide }
+    ensures actions { KnownActionsDecide }
+    ensures members { KnownMembersDecide }
 {}
 
-/// The condition of a policy that passes means a truth value, in each world whose request conforms.
-pub fn passing_policies_never_err()
-    ensures { PassingIsSound }
+/// The lists of violations have those of the relations and no others, and a target has one count.
+pub fn violations_are_listed()
+    ensures expressions { ViolationsAreListed }
+    ensures counts { CountsAreExact }
+    ensures targets { TargetsAreListed }
+    ensures policies { PolicyViolationsAreListed }
 {}
 
-/// An impossible policy isn't satisfied in any world whose request conforms.
-pub fn impossible_policies_are_never_satisfied()
-    ensures { ImpossibleIsSound }
+/// A violation at a larger level is one at the smaller: without violations at a level there are none at a larger one.
+pub fn larger_levels_pass()
+    ensures each { LargerLevelsKeep }
+    ensures expressions { LargerLevelsPass }
+    ensures policies { LargerLevelsPassPolicies }
 {}
 
-/// Under declarations in another order an expression has the same type, and a policy the same verdicts.
+/// Well-formed declarations in another order pass the same policies, and find the same violations of each.
 pub fn order_of_declarations_is_free()
-    ensures types { OrderKeepsTypes }
-    ensures passing { OrderKeepsPassing }
-    ensures impossible { OrderKeepsImpossible }
-    ensures known_types { OrderKeepsKnownTypes }
-    ensures known_actions { OrderKeepsKnownActions }
+    ensures typing { OrderPassesTheSame }
+    ensures levels { OrderFindsTheSame }
 {}

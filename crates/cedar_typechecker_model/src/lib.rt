@@ -4,9 +4,5 @@
 #![tactic(auto)]
 
 pub mod laws;
-pub mod whole_first_path;
-pub mod whole_first_worked;
-pub mod whole_laws;
-pub mod whole_soundness;
-pub mod whole_worked;
+pub mod soundness;
 pub mod worked;

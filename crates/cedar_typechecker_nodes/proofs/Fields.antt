@@ -4,9 +4,9 @@ use Rattle.std.specs.Rc.{rc_str_bytes}
 use Rattle.std.specs.declared.alloc.Global.{Global}
 use Rattle.std.specs.declared.rc.RcStr.{RcStr}
 use Rattle.cedar_expr_model.specs.Name.{Text}
-use Rattle.cedar_expr_model.specs.Whole.Records.{in_order, names_rise}
-use Rattle.cedar_expr_model.specs.Whole.Tree.{Tree}
-use Rattle.cedar_expr_model.proofs.Whole.Ordering.{in_order_stays}
+use Rattle.cedar_expr_model.specs.Records.{in_order, names_rise}
+use Rattle.cedar_expr_model.specs.Tree.{Tree}
+use Rattle.cedar_expr_model.proofs.Ordering.{in_order_stays}
 use Rattle.cedar_expr_trees.specs.declared.expr.Expr.{Expr}
 use Rattle.cedar_expr_trees.specs.Trees.{tree_of, named, field_trees}
 use Rattle.cedar_schema_types.specs.declared.types.Type.{«Type» as CodeType}

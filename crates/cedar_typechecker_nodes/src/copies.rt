@@ -1,7 +1,7 @@
 //! Copies without types.
 
 ghost use Rattle.std.specs.Prelude.{◌≡◌, true, None, map, IfOk};
-ghost use Rattle.cedar_expr_model.specs.Whole.Records.{names_rise};
+ghost use Rattle.cedar_expr_model.specs.Records.{names_rise};
 ghost use Rattle.cedar_expr_trees.specs.Trees.{tree_of, kind_tree, named};
 ghost use Rattle.cedar_typechecker_typed_model.specs.Typed.{blank, mark};
 ghost use Rattle.cedar_typechecker_nodes.specs.Marked.{marks_of, kind_marks, named_tree};

@@ -2,9 +2,9 @@
 
 ghost use Rattle.std.specs.Prelude.{◌≡◌, true, map, IfOk};
 ghost use Rattle.cedar_expr_names.specs.Views.{plain_name_of};
-ghost use Rattle.cedar_expr_model.specs.Whole.Builder.{trees, tree_fields};
-ghost use Rattle.cedar_expr_model.specs.Whole.Records.{names_rise};
-ghost use Rattle.cedar_expr_model.specs.Whole.Tree.{call, set_literal, record_literal};
+ghost use Rattle.cedar_expr_model.specs.Builder.{trees, tree_fields};
+ghost use Rattle.cedar_expr_model.specs.Records.{names_rise};
+ghost use Rattle.cedar_expr_model.specs.Tree.{call, set_literal, record_literal};
 ghost use Rattle.cedar_expr_trees.specs.Trees.{tree_of, kind_tree, named, field_trees};
 ghost use Rattle.cedar_typechecker_nodes.specs.Marked.{marks_of, kind_marks, rows};
 

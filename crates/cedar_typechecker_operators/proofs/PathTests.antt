@@ -5,16 +5,16 @@ use Rattle.std.specs.Rc.{rc_str_bytes}
 use Rattle.std.specs.declared.alloc.Global.{Global}
 use Rattle.std.specs.declared.rc.RcStr.{RcStr}
 use Rattle.cedar_expr_leaves.specs.declared.non_empty.NonEmpty.{NonEmpty}
-use Rattle.cedar_expr_model.specs.Whole.Tree.{Tree, has_path}
+use Rattle.cedar_expr_model.specs.Tree.{Tree, has_path}
 use Rattle.cedar_expr_trees.specs.Trees.{tree_of}
 use Rattle.cedar_expr_trees.specs.declared.expr.Expr.{Expr}
 use Rattle.cedar_schema_types.specs.Types.{type_of}
 use Rattle.cedar_schema_types.specs.declared.types.Type.{«Type» as CodeType}
 use Rattle.cedar_typechecker_answers.specs.Answers.{typed_at, judgement_seen}
 use Rattle.cedar_typechecker_answers.specs.declared.answer.Judged.{Judged}
-use Rattle.cedar_typechecker_model.specs.Whole.Facts.{Facts}
-use Rattle.cedar_typechecker_model.specs.Whole.Rules.{Setting}
-use Rattle.cedar_typechecker_model.specs.Whole.Typing.{Judgement, path_judged}
+use Rattle.cedar_typechecker_model.specs.Facts.{Facts}
+use Rattle.cedar_typechecker_model.specs.Rules.{Setting}
+use Rattle.cedar_typechecker_model.specs.Typing.{Judgement, path_judged}
 use Rattle.cedar_typechecker_nodes.specs.Marked.{type_in, kind_marks}
 use Rattle.cedar_typechecker_typed_model.specs.Typed.{mark, one, noted, path_typed}
 

@@ -10,26 +10,26 @@ use Rattle.std.specs.Rc.{rc_str_bytes}
 use Rattle.std.specs.declared.alloc.Global.{Global}
 use Rattle.std.specs.declared.rc.RcStr.{RcStr}
 use Rattle.cedar_expr_model.specs.Name.{Text}
-use Rattle.cedar_expr_model.specs.Whole.Builder.{trees, tree_fields}
-use Rattle.cedar_expr_model.specs.Whole.Lists.{all_given}
-use Rattle.cedar_expr_model.specs.Whole.Tree.{Tree, record_literal}
+use Rattle.cedar_expr_model.specs.Builder.{trees, tree_fields}
+use Rattle.cedar_expr_model.specs.Lists.{all_given}
+use Rattle.cedar_expr_model.specs.Tree.{Tree, record_literal}
 use Rattle.cedar_expr_trees.specs.Trees.{tree_of, named, field_trees}
 use Rattle.cedar_expr_names.specs.declared.loc.Loc.{Loc}
 use Rattle.cedar_expr_trees.specs.declared.expr.Expr.{Expr}
 use Rattle.cedar_expr_trees.specs.declared.expr.ExprKind.{ExprKind}
-use Rattle.cedar_expr_model.specs.Whole.Lists.{rises}
-use Rattle.cedar_expr_model.specs.Whole.Order.{text_cmp}
-use Rattle.cedar_expr_model.specs.Whole.Records.{names_rise, in_order}
+use Rattle.cedar_expr_model.specs.Lists.{rises}
+use Rattle.cedar_expr_model.specs.Order.{text_cmp}
+use Rattle.cedar_expr_model.specs.Records.{names_rise, in_order}
 use Rattle.cedar_expr_model.proofs.Lists.{both_hold}
-use Rattle.cedar_expr_model.proofs.Whole.Linear.{text_total}
-use Rattle.cedar_expr_model.proofs.Whole.Ordering.{in_order_stays}
-use Rattle.cedar_expr_model.proofs.Whole.Rising.{less_is, is_less}
-use Rattle.cedar_schema_model.specs.Whole.Types.{Ty, record_type, is_closed, Declared, attribute_named}
+use Rattle.cedar_expr_model.proofs.Linear.{text_total}
+use Rattle.cedar_expr_model.proofs.Ordering.{in_order_stays}
+use Rattle.cedar_expr_model.proofs.Rising.{less_is, is_less}
+use Rattle.cedar_schema_model.specs.Types.{Ty, record_type, is_closed, Declared, attribute_named}
 use Rattle.cedar_schema_types.specs.AttributeLists.{attributes_from}
 use Rattle.cedar_schema_types.specs.declared.types.Type.{«Type» as CodeType}
-use Rattle.cedar_typechecker_model.specs.Whole.Facts.{no_facts}
-use Rattle.cedar_typechecker_model.specs.Whole.Rules.{has_names_once, record_literal_type}
-use Rattle.cedar_typechecker_model.specs.Whole.Typing.{plain}
+use Rattle.cedar_typechecker_model.specs.Facts.{no_facts}
+use Rattle.cedar_typechecker_model.specs.Rules.{has_names_once, record_literal_type}
+use Rattle.cedar_typechecker_model.specs.Typing.{plain}
 use Rattle.cedar_typechecker_typed_model.specs.Typed.{Typed, Row, no_row, row_with, FieldRow, no_field_row, field_row_with, record_typed, noted}
 use Rattle.cedar_typechecker_nodes.specs.Marked.{type_in, marks_of, rows}
 use Rattle.cedar_typechecker_answers.specs.Answers.{typed_at, seen}

@@ -6,12 +6,12 @@ use Rattle.std.specs.declared.alloc.Global.{Global}
 use Rattle.std.specs.declared.rc.RcStr.{RcStr}
 use Rattle.std.specs.declared.vec.Vec.{Vec}
 use Rattle.cedar_expr_model.specs.Name.{Text}
-use Rattle.cedar_expr_model.specs.Whole.Records.{names_rise}
+use Rattle.cedar_expr_model.specs.Records.{names_rise}
 use Rattle.cedar_expr_trees.specs.Trees.{named}
 use Rattle.cedar_expr_trees.specs.declared.expr.Expr.{Expr}
-use Rattle.cedar_schema_model.specs.Whole.Types.{Ty, Declared}
+use Rattle.cedar_schema_model.specs.Types.{Ty, Declared}
 use Rattle.cedar_schema_types.specs.declared.types.Type.{«Type» as CodeType}
-use Rattle.cedar_typechecker_model.specs.Whole.Facts.{no_facts}
+use Rattle.cedar_typechecker_model.specs.Facts.{no_facts}
 use Rattle.cedar_typechecker_typed_model.specs.Typed.{Row, no_row, row_with, FieldRow, no_field_row, field_row_with}
 use Rattle.cedar_typechecker_nodes.specs.Marked.{type_in}
 use Rattle.cedar_typechecker_answers.specs.Answers.{typed_at}

@@ -3,7 +3,7 @@
 ghost use Rattle.std.specs.Prelude.{◌≡◌, option_map, option_and_then, IfOk};
 ghost use Rattle.cedar_schema_types.specs.Types.{type_of};
 ghost use Rattle.cedar_typechecker_facts.specs.Facts.{facts_of};
-ghost use Rattle.cedar_typechecker_model.specs.Whole.Typing.{chosen as model_chosen};
+ghost use Rattle.cedar_typechecker_model.specs.Typing.{chosen as model_chosen};
 ghost use Rattle.cedar_typechecker_environments.specs.Settings.{setting_of};
 ghost use Rattle.cedar_typechecker_typed_model.specs.Typed.{chosen_typed};
 ghost use Rattle.cedar_typechecker_answers.specs.Answers.{seen, judgement_seen};

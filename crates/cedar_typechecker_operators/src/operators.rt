@@ -11,9 +11,9 @@ ghost use Rattle.cedar_typechecker_environments.specs.Settings.{setting_of};
 ghost use Rattle.cedar_typechecker_typed_model.specs.Typed.{unary_typed, like_typed, is_typed, get_typed, has_typed};
 ghost use Rattle.cedar_schema_types.specs.Kinds.{bool_type_of};
 ghost use Rattle.cedar_schema_types.specs.Types.{type_of};
-ghost use Rattle.cedar_typechecker_model.specs.Whole.Rules.{get_type as model_get_type, has_type as model_has_type};
-ghost use Rattle.cedar_typechecker_model.specs.Whole.Facts.{attribute_part};
-ghost use Rattle.cedar_typechecker_model.specs.Whole.Typing.{tested as model_tested};
+ghost use Rattle.cedar_typechecker_model.specs.Rules.{get_type as model_get_type, has_type as model_has_type};
+ghost use Rattle.cedar_typechecker_model.specs.Facts.{attribute_part};
+ghost use Rattle.cedar_typechecker_model.specs.Typing.{tested as model_tested};
 ghost use Rattle.cedar_typechecker_answers.specs.Answers.{seen, judgement_seen};
 
 use cedar_expr_leaves::{Pattern, UnaryOp};

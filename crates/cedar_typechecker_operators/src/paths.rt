@@ -2,13 +2,13 @@
 
 ghost use Rattle.std.specs.Prelude.{◌≡◌, map, option_map, option_and_then, IfOk};
 ghost use Rattle.std.specs.Rc.{rc_str_bytes};
-ghost use Rattle.cedar_expr_model.specs.Whole.Tree.{get_attr};
+ghost use Rattle.cedar_expr_model.specs.Tree.{get_attr};
 ghost use Rattle.cedar_expr_trees.specs.Trees.{tree_of};
 ghost use Rattle.cedar_schema_types.specs.Kinds.{bool_type_of};
 ghost use Rattle.cedar_schema_types.specs.Types.{type_of};
 ghost use Rattle.cedar_typechecker_facts.specs.Facts.{capability_of, facts_of};
-ghost use Rattle.cedar_typechecker_model.specs.Whole.Facts.{fact as model_fact, attribute_part};
-ghost use Rattle.cedar_typechecker_model.specs.Whole.Typing.{path_judged, step_type as model_step_type, conjoined, tested as model_tested};
+ghost use Rattle.cedar_typechecker_model.specs.Facts.{fact as model_fact, attribute_part};
+ghost use Rattle.cedar_typechecker_model.specs.Typing.{path_judged, step_type as model_step_type, conjoined, tested as model_tested};
 ghost use Rattle.cedar_typechecker_environments.specs.Settings.{setting_of};
 ghost use Rattle.cedar_typechecker_typed_model.specs.Typed.{path_typed};
 ghost use Rattle.cedar_typechecker_answers.specs.Answers.{seen, judgement_seen};

@@ -1,13 +1,13 @@
 //! Calls, sets and records, by the types of their parts.
 
 ghost use Rattle.std.specs.Prelude.{◌≡◌, true, map, option_map, option_and_then, IfOk};
-ghost use Rattle.cedar_expr_model.specs.Whole.Builder.{trees};
-ghost use Rattle.cedar_expr_model.specs.Whole.Lists.{all_given};
+ghost use Rattle.cedar_expr_model.specs.Builder.{trees};
+ghost use Rattle.cedar_expr_model.specs.Lists.{all_given};
 ghost use Rattle.cedar_expr_names.specs.Views.{plain_name_of};
 ghost use Rattle.cedar_expr_trees.specs.Trees.{tree_of};
 ghost use Rattle.cedar_schema_types.specs.AttributeLists.{required_pairs};
 ghost use Rattle.cedar_schema_types.specs.Types.{type_of};
-ghost use Rattle.cedar_typechecker_model.specs.Whole.Rules.{call_type as model_call_type, set_literal_type as model_set_type};
+ghost use Rattle.cedar_typechecker_model.specs.Rules.{call_type as model_call_type, set_literal_type as model_set_type};
 ghost use Rattle.cedar_typechecker_environments.specs.Settings.{setting_of};
 ghost use Rattle.cedar_typechecker_typed_model.specs.Typed.{call_typed, set_typed, record_typed};
 ghost use Rattle.cedar_typechecker_answers.specs.Answers.{seen};

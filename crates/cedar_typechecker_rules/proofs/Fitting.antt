@@ -1,8 +1,8 @@
 -- Arguments and the types of parameters, argument by argument.
 use Rattle.std.proofs.Common.{◌≡◌, ◌&&◌, Bool, true, false, List, [], ◌∷◌, refl, sym, ap, ◌∙◌}
-use Rattle.cedar_schema_model.specs.Whole.Types.{Ty, strict}
-use Rattle.cedar_schema_model.specs.Whole.Subtype.{is_subtype}
-use Rattle.cedar_typechecker_model.specs.Whole.Rules.{arguments_fit}
+use Rattle.cedar_schema_model.specs.Types.{Ty, strict}
+use Rattle.cedar_schema_model.specs.Subtype.{is_subtype}
+use Rattle.cedar_typechecker_model.specs.Rules.{arguments_fit}
 use Rattle.cedar_typechecker_rules.specs.Arguments.{after_one}
 
 none_due : (ts : List Ty) → arguments_fit [] ts ≡ true

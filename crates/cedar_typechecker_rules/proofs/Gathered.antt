@@ -1,6 +1,6 @@
 -- What is given of each, one after the other: that of those so far, and then that of the rest.
 use Rattle.std.proofs.Common.{◌≡◌, List, [], ◌∷◌, ◌++◌, Option, Some, None, option_map, option_and_then, refl, sym, ap, ◌∙◌, append_assoc, append-nil}
-use Rattle.cedar_expr_model.specs.Whole.Lists.{all_given}
+use Rattle.cedar_expr_model.specs.Lists.{all_given}
 
 module _ {X Y : Type 0} (f : X → Option Y) where
   abbrev pub left_to_give : List Y → List X → Option (List Y)

@@ -5,13 +5,13 @@ use Rattle.std.specs.List.{list_any}
 use Rattle.std.specs.Option.{option_map_or}
 use Rattle.cedar_expr_model.specs.Name.{Name, name_eq}
 use Rattle.cedar_expr_model.specs.Uid.{Uid}
-use Rattle.cedar_expr_model.specs.Whole.Builder.{trees}
-use Rattle.cedar_expr_model.specs.Whole.Lists.{all_given}
-use Rattle.cedar_expr_model.specs.Whole.Parts.{listed}
-use Rattle.cedar_expr_model.specs.Whole.Tree.{Tree, lit, var, slot, unknown, choice, both, either, unary, binary, call, get_attr, has_attr, has_path, like, is_type, set_literal, record_literal, Trees}
-use Rattle.cedar_schema_model.specs.Whole.Schema.{Schema}
-use Rattle.cedar_schema_model.specs.Whole.Types.{Ty, bool_type, any_bool, only_false}
-use Rattle.cedar_typechecker_model.specs.Whole.Rules.{Setting, known_truth, written_action, written_actions, action_literal, may_be_in, within_kinds, entity_kinds, entity_or_set_kinds, in_type}
+use Rattle.cedar_expr_model.specs.Builder.{trees}
+use Rattle.cedar_expr_model.specs.Lists.{all_given}
+use Rattle.cedar_expr_model.specs.Parts.{listed}
+use Rattle.cedar_expr_model.specs.Tree.{Tree, lit, var, slot, unknown, choice, both, either, unary, binary, call, get_attr, has_attr, has_path, like, is_type, set_literal, record_literal, Trees}
+use Rattle.cedar_schema_model.specs.Schema.{Schema}
+use Rattle.cedar_schema_model.specs.Types.{Ty, bool_type, any_bool, only_false}
+use Rattle.cedar_typechecker_model.specs.Rules.{Setting, known_truth, written_action, written_actions, action_literal, may_be_in, within_kinds, entity_kinds, entity_or_set_kinds, in_type}
 use Rattle.cedar_typechecker_rules.specs.Decided.{is_within, within_some, decided_in}
 use Rattle.cedar_typechecker_rules.specs.Uids.{set_here}
 

@@ -1,10 +1,10 @@
 -- Joins of several types, one after the other, as far as each is given.
 use Rattle.std.proofs.Common.{◌≡◌, ℕ, ◌+◌, ◌<◌, List, [], ◌∷◌, map, drop, length, get_or, Option, Some, None, option_map, option_and_then, refl, sym, ap, ◌∙◌}
 use Rattle.std.proofs.lemmas.List.{drop_more}
-use Rattle.cedar_expr_model.specs.Whole.Lists.{all_given}
-use Rattle.cedar_schema_model.specs.Whole.Types.{Ty, Mode}
-use Rattle.cedar_schema_model.specs.Whole.Join.{join}
-use Rattle.cedar_schema_model.proofs.Whole.Named.{join_all}
+use Rattle.cedar_expr_model.specs.Lists.{all_given}
+use Rattle.cedar_schema_model.specs.Types.{Ty, Mode}
+use Rattle.cedar_schema_model.specs.Join.{join}
+use Rattle.cedar_schema_model.proofs.Named.{join_all}
 
 nothing_joins : (m : Mode) (us : List Ty) → join_all m None us ≡ None
 nothing_joins m [] = refl

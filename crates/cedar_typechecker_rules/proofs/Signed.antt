@@ -2,11 +2,11 @@
 use Rattle.std.proofs.Common.{◌≡◌, ◌&&◌, Bool, List, length, Option, Some, None, option_map, option_and_then, refl, sym, ap, ◌∙◌}
 use Rattle.std.specs.Prelude.{if◌then◌else◌}
 use Rattle.cedar_expr_model.specs.Name.{Name}
-use Rattle.cedar_expr_model.specs.Whole.Tree.{Trees}
-use Rattle.cedar_expr_model.specs.Whole.Table.{Signature, signature_of, takes_count, is_constructor}
-use Rattle.cedar_expr_model.specs.Whole.Lists.{all_given}
-use Rattle.cedar_schema_model.specs.Whole.Types.{Ty, Mode, strict, permissive}
-use Rattle.cedar_typechecker_model.specs.Whole.Rules.{Setting, call_type, signature_type, core_as_type, arguments_fit, takes_literal}
+use Rattle.cedar_expr_model.specs.Tree.{Trees}
+use Rattle.cedar_expr_model.specs.Table.{Signature, signature_of, takes_count, is_constructor}
+use Rattle.cedar_expr_model.specs.Lists.{all_given}
+use Rattle.cedar_schema_model.specs.Types.{Ty, Mode, strict, permissive}
+use Rattle.cedar_typechecker_model.specs.Rules.{Setting, call_type, signature_type, core_as_type, arguments_fit, takes_literal}
 use Rattle.cedar_typechecker_environments.specs.Signatures.{CallSignature, call_signature}
 use Rattle.cedar_typechecker_rules.specs.Signatures.{literal_taken, called_type}
 

@@ -2,13 +2,13 @@
 use Rattle.std.proofs.Common.{◌≡◌, ◌≤◌, Bool, true, false, List, [], ◌∷◌, length, map, Option, Some, None, refl, sym, arith}
 use Rattle.std.specs.Prelude.{if◌then◌else◌}
 use Rattle.cedar_expr_model.specs.Uid.{Uid}
-use Rattle.cedar_expr_model.specs.Whole.Value.{truth, long, text, entity}
-use Rattle.cedar_expr_model.specs.Whole.Tree.{principal, action, resource, context, Tree, lit, var, slot, unknown, choice, both, either, unary, binary, call, get_attr, has_attr, has_path, like, is_type, set_literal, record_literal, Trees, tree, no_trees}
-use Rattle.cedar_expr_model.specs.Whole.Builder.{trees}
-use Rattle.cedar_expr_model.specs.Whole.Parts.{uid_here}
+use Rattle.cedar_expr_model.specs.Value.{truth, long, text, entity}
+use Rattle.cedar_expr_model.specs.Tree.{principal, action, resource, context, Tree, lit, var, slot, unknown, choice, both, either, unary, binary, call, get_attr, has_attr, has_path, like, is_type, set_literal, record_literal, Trees, tree, no_trees}
+use Rattle.cedar_expr_model.specs.Builder.{trees}
+use Rattle.cedar_expr_model.specs.Parts.{uid_here}
 use Rattle.cedar_expr_trees.specs.Trees.{tree_of}
 use Rattle.cedar_expr_trees.specs.declared.expr.Expr.{Expr}
-use Rattle.cedar_typechecker_model.specs.Whole.Rules.{Setting, written_uid, written_action, action_literal, is_text_literal}
+use Rattle.cedar_typechecker_model.specs.Rules.{Setting, written_uid, written_action, action_literal, is_text_literal}
 use Rattle.cedar_typechecker_rules.specs.Uids.{is_action_variable, is_text}
 
 -- the uid that an expression writes

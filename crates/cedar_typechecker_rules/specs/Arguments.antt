@@ -1,7 +1,7 @@
 -- The types that are due for further arguments.
 -- Rule: typing (docs/RULES.md).
 use Rattle.std.specs.Prelude.{List, [], ◌∷◌}
-use Rattle.cedar_schema_model.specs.Whole.Types.{Ty}
+use Rattle.cedar_schema_model.specs.Types.{Ty}
 
 -- without the first, but the last stays
 abbrev pub after_one : List Ty → List Ty

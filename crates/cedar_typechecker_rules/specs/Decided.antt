@@ -3,9 +3,9 @@
 use Rattle.std.specs.Prelude.{◌||◌, Bool, List, Option, option_map, option_and_then}
 use Rattle.std.specs.List.{list_any}
 use Rattle.cedar_expr_model.specs.Uid.{Uid, uid_eq}
-use Rattle.cedar_expr_model.specs.Whole.Tree.{Tree}
-use Rattle.cedar_schema_model.specs.Whole.Descent.{action_descends}
-use Rattle.cedar_typechecker_model.specs.Whole.Rules.{Setting, written_action, written_actions}
+use Rattle.cedar_expr_model.specs.Tree.{Tree}
+use Rattle.cedar_schema_model.specs.Descent.{action_descends}
+use Rattle.cedar_typechecker_model.specs.Rules.{Setting, written_action, written_actions}
 
 -- the action is this one, or in it
 abbrev pub is_within : Setting → Uid → Uid → Bool

@@ -1,10 +1,10 @@
 -- What a call asks of a function's signature.
 -- Rule: typing (docs/RULES.md).
 use Rattle.std.specs.Prelude.{◌&&◌, ◌||◌, ◌==◌, ℕ, List, length, nat_le, Bool, true, not, Option, None, option_and_then, if◌then◌else◌}
-use Rattle.cedar_expr_model.specs.Whole.Tree.{Trees}
-use Rattle.cedar_expr_model.specs.Whole.Lists.{all_given}
-use Rattle.cedar_schema_model.specs.Whole.Types.{Ty, Mode, strict, permissive}
-use Rattle.cedar_typechecker_model.specs.Whole.Rules.{core_as_type, arguments_fit, is_text_literal}
+use Rattle.cedar_expr_model.specs.Tree.{Trees}
+use Rattle.cedar_expr_model.specs.Lists.{all_given}
+use Rattle.cedar_schema_model.specs.Types.{Ty, Mode, strict, permissive}
+use Rattle.cedar_typechecker_model.specs.Rules.{core_as_type, arguments_fit, is_text_literal}
 use Rattle.cedar_typechecker_environments.specs.Signatures.{CallSignature}
 
 -- the function takes this many arguments

@@ -1,8 +1,8 @@
 -- What an expression is as a whole: the variable of the action, a set, a literal text.
 -- Rule: typing (docs/RULES.md).
 use Rattle.std.specs.Prelude.{Bool, true, false, Option, Some, None}
-use Rattle.cedar_expr_model.specs.Whole.Value.{text}
-use Rattle.cedar_expr_model.specs.Whole.Tree.{Tree, lit, var, action, set_literal, Trees}
+use Rattle.cedar_expr_model.specs.Value.{text}
+use Rattle.cedar_expr_model.specs.Tree.{Tree, lit, var, action, set_literal, Trees}
 
 abbrev pub is_action_variable : Tree → Bool
 is_action_variable (var action) = true

@@ -1,11 +1,11 @@
 //! Attributes, and tests of them.
 
 ghost use Rattle.std.specs.Prelude.{◌≡◌, option_map, IfOk};
-ghost use Rattle.cedar_schema_model.specs.Whole.Lookup.{lookup_attribute};
+ghost use Rattle.cedar_schema_model.specs.Lookup.{lookup_attribute};
 ghost use Rattle.cedar_schema_types.specs.Kinds.{bool_type_of, openness_of};
 ghost use Rattle.cedar_schema_types.specs.Types.{type_of, attribute_of};
-ghost use Rattle.cedar_typechecker_model.specs.Whole.Rules.{has_type, has_field, attribute_type};
-ghost use Rattle.cedar_typechecker_model.specs.Whole.Typing.{step_type};
+ghost use Rattle.cedar_typechecker_model.specs.Rules.{has_type, has_field, attribute_type};
+ghost use Rattle.cedar_typechecker_model.specs.Typing.{step_type};
 ghost use Rattle.cedar_typechecker_environments.specs.Settings.{setting_of};
 
 use cedar_schema_admission::{lookup_attribute_type, may_have_attr};

@@ -1,13 +1,13 @@
 //! Operators of two operands, but for membership of entities and tags.
 
 ghost use Rattle.std.specs.Prelude.{◌≡◌, option_map, IfOk};
-ghost use Rattle.cedar_expr_model.specs.Whole.Tree.{equal};
+ghost use Rattle.cedar_expr_model.specs.Tree.{equal};
 ghost use Rattle.cedar_expr_names.specs.Views.{uid_of};
 ghost use Rattle.cedar_expr_trees.specs.Trees.{tree_of};
-ghost use Rattle.cedar_schema_model.specs.Whole.Types.{long_type};
+ghost use Rattle.cedar_schema_model.specs.Types.{long_type};
 ghost use Rattle.cedar_schema_joins.specs.Modes.{mode_of};
 ghost use Rattle.cedar_schema_types.specs.Types.{type_of};
-ghost use Rattle.cedar_typechecker_model.specs.Whole.Rules.{binary_type, written_equal, number_type, order_type, comparable, member_type, sets_type, is_set_type, if_there};
+ghost use Rattle.cedar_typechecker_model.specs.Rules.{binary_type, written_equal, number_type, order_type, comparable, member_type, sets_type, is_set_type, if_there};
 ghost use Rattle.cedar_typechecker_environments.specs.Settings.{setting_of};
 
 use crate::uids::written_uid;

@@ -1,14 +1,14 @@
 //! Calls of functions.
 
 ghost use Rattle.std.specs.Prelude.{◌≡◌, map, option_map, option_and_then, IfOk};
-ghost use Rattle.cedar_expr_model.specs.Whole.Builder.{trees};
-ghost use Rattle.cedar_expr_model.specs.Whole.Lists.{all_given};
+ghost use Rattle.cedar_expr_model.specs.Builder.{trees};
+ghost use Rattle.cedar_expr_model.specs.Lists.{all_given};
 ghost use Rattle.cedar_expr_names.specs.Views.{plain_name_of};
 ghost use Rattle.cedar_expr_trees.specs.Trees.{tree_of};
 ghost use Rattle.cedar_expr_values.specs.Types.{core_of};
 ghost use Rattle.cedar_schema_joins.specs.Modes.{mode_of};
 ghost use Rattle.cedar_schema_types.specs.Types.{type_of};
-ghost use Rattle.cedar_typechecker_model.specs.Whole.Rules.{call_type, core_as_type, arguments_fit};
+ghost use Rattle.cedar_typechecker_model.specs.Rules.{call_type, core_as_type, arguments_fit};
 ghost use Rattle.cedar_typechecker_rules.specs.Arguments.{after_one};
 ghost use Rattle.cedar_typechecker_environments.specs.Settings.{setting_of};
 ghost use Rattle.cedar_typechecker_environments.specs.Signatures.{signature_seen};

@@ -1,11 +1,11 @@
 //! Sets, and choices.
 
 ghost use Rattle.std.specs.Prelude.{◌≡◌, map, option_map, IfOk};
-ghost use Rattle.cedar_schema_model.specs.Whole.Join.{join, reduce_to_join};
-ghost use Rattle.cedar_schema_model.specs.Whole.Types.{set_type};
+ghost use Rattle.cedar_schema_model.specs.Join.{join, reduce_to_join};
+ghost use Rattle.cedar_schema_model.specs.Types.{set_type};
 ghost use Rattle.cedar_schema_joins.specs.Modes.{mode_of};
 ghost use Rattle.cedar_schema_types.specs.Types.{type_of};
-ghost use Rattle.cedar_typechecker_model.specs.Whole.Rules.{set_literal_type};
+ghost use Rattle.cedar_typechecker_model.specs.Rules.{set_literal_type};
 
 use cedar_schema_joins::{ValidationMode, least_upper_bound};
 use cedar_schema_types::Type;

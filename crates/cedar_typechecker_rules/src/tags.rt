@@ -2,13 +2,13 @@
 
 ghost use Rattle.std.specs.Prelude.{◌≡◌, ◌&&◌, map, option_map, option_and_then, is_some, IfOk, None, if◌then◌else◌};
 ghost use Rattle.std.specs.List.{list_any};
-ghost use Rattle.cedar_expr_model.specs.Whole.Lists.{all_given};
-ghost use Rattle.cedar_schema_model.specs.Whole.Join.{reduce_to_join};
-ghost use Rattle.cedar_schema_model.specs.Whole.Types.{permissive, entity_types};
+ghost use Rattle.cedar_expr_model.specs.Lists.{all_given};
+ghost use Rattle.cedar_schema_model.specs.Join.{reduce_to_join};
+ghost use Rattle.cedar_schema_model.specs.Types.{permissive, entity_types};
 ghost use Rattle.cedar_schema_types.specs.Kinds.{bool_type_of};
 ghost use Rattle.cedar_schema_types.specs.Types.{type_of};
 ghost use Rattle.cedar_schema_types.specs.Unions.{members_of, entities_of};
-ghost use Rattle.cedar_typechecker_model.specs.Whole.Rules.{has_tag_type, tag_type, tags_of, may_have_tags, is_string_type};
+ghost use Rattle.cedar_typechecker_model.specs.Rules.{has_tag_type, tag_type, tags_of, may_have_tags, is_string_type};
 ghost use Rattle.cedar_typechecker_environments.specs.Settings.{setting_of};
 
 use cedar_schema_joins::{ValidationMode, least_upper_bound};

@@ -4,11 +4,11 @@ ghost use Rattle.std.specs.Prelude.{◌≡◌, ◌&&◌, map, option_map};
 ghost use Rattle.cedar_expr_names.specs.Views.{uid_of};
 ghost use Rattle.cedar_expr_leaves.specs.Literals.{literal_of};
 ghost use Rattle.cedar_expr_leaves.specs.Variables.{var_of};
-ghost use Rattle.cedar_expr_model.specs.Whole.Builder.{trees};
-ghost use Rattle.cedar_expr_model.specs.Whole.Parts.{uid_here};
-ghost use Rattle.cedar_expr_model.specs.Whole.Tree.{lit, var};
+ghost use Rattle.cedar_expr_model.specs.Builder.{trees};
+ghost use Rattle.cedar_expr_model.specs.Parts.{uid_here};
+ghost use Rattle.cedar_expr_model.specs.Tree.{lit, var};
 ghost use Rattle.cedar_expr_trees.specs.Trees.{tree_of};
-ghost use Rattle.cedar_typechecker_model.specs.Whole.Rules.{written_uid, written_action, action_literal, is_text_literal};
+ghost use Rattle.cedar_typechecker_model.specs.Rules.{written_uid, written_action, action_literal, is_text_literal};
 ghost use Rattle.cedar_typechecker_environments.specs.Settings.{setting_of};
 ghost use Rattle.cedar_typechecker_rules.specs.Uids.{is_action_variable, set_here, is_text};
 

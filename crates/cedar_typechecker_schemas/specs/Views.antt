@@ -2,10 +2,10 @@
 -- Rule: schemas; extension functions (docs/RULES.md).
 use Rattle.std.specs.Prelude.{List}
 use Rattle.cedar_expr_model.specs.Name.{Name}
-use Rattle.cedar_expr_model.specs.Whole.Table.{Called, fails, Table}
-use Rattle.cedar_expr_model.specs.Whole.Value.{V}
+use Rattle.cedar_expr_model.specs.Table.{Called, fails, Table}
+use Rattle.cedar_expr_model.specs.Value.{V}
 use Rattle.cedar_expr_functions.specs.Tables.{table_of}
-use Rattle.cedar_schema_model.specs.Whole.Schema.{Schema}
+use Rattle.cedar_schema_model.specs.Schema.{Schema}
 use Rattle.cedar_schema_built.specs.Views.{schema_kept}
 use Rattle.cedar_typechecker_schemas.specs.declared.schema_and_functions.SchemaAndFunctions.{SchemaAndFunctions}
 use Rattle.cedar_typechecker_seen_model.specs.Seen.{schema_seen}

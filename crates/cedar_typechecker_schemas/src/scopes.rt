@@ -5,9 +5,9 @@ ghost use Rattle.std.specs.List.{filter};
 ghost use Rattle.cedar_expr_model.specs.Name.{name_eq};
 ghost use Rattle.cedar_expr_names.specs.Views.{type_name_of, eid_text};
 ghost use Rattle.cedar_schema_built.specs.Iterators.{ancestors_left};
-ghost use Rattle.cedar_schema_model.specs.Whole.Types.{Attributes as ModelAttributes};
+ghost use Rattle.cedar_schema_model.specs.Types.{Attributes as ModelAttributes};
 ghost use Rattle.cedar_schema_entries.specs.Kinds.{kind_with};
-ghost use Rattle.cedar_typechecker_model.specs.Whole.ScopeRules.{has_id};
+ghost use Rattle.cedar_typechecker_model.specs.ScopeRules.{has_id};
 
 use crate::environments::environments_of;
 use crate::schema_and_functions::SchemaAndFunctions;

@@ -5,11 +5,11 @@ use Rattle.std.specs.List.{list_any}
 use Rattle.cedar_expr_model.specs.Name.{Text, Name, name_eq}
 use Rattle.cedar_expr_model.specs.Uid.{Uid, uid_eq}
 use Rattle.cedar_expr_names.specs.declared.loc.Loc.{Loc}
-use Rattle.cedar_store_model.specs.Whole.Policy.{Target, named, own_slot, Scope, any, exactly, inside, of_kind, of_kind_inside, ActionScope, any_action, exactly_action, inside_actions}
+use Rattle.cedar_store_model.specs.Policy.{Target, named, own_slot, Scope, any, exactly, inside, of_kind, of_kind_inside, ActionScope, any_action, exactly_action, inside_actions}
 use Rattle.cedar_store_records.specs.Views.{WarningSeen, fits_no_action}
-use Rattle.cedar_schema_model.specs.Whole.Schema.{Schema}
-use Rattle.cedar_schema_model.specs.Whole.Descent.{type_descends, action_descends}
-use Rattle.cedar_schema_model.specs.Whole.Environment.{Environment, environments}
+use Rattle.cedar_schema_model.specs.Schema.{Schema}
+use Rattle.cedar_schema_model.specs.Descent.{type_descends, action_descends}
+use Rattle.cedar_schema_model.specs.Environment.{Environment, environments}
 
 -- whether an entity of this type may be the target, or in it; a slot may be bound to any entity
 abbrev pub may_equal : Target → Name → Bool

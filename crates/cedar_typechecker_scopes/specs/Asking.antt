@@ -1,12 +1,12 @@
 -- What the scope of a code policy asks for, as the model's.
 -- Rule: the scope rules (docs/RULES.md).
 use Rattle.std.specs.Prelude.{Bool, true, false}
-use Rattle.cedar_store_model.specs.Whole.Policy.{Scope}
+use Rattle.cedar_store_model.specs.Policy.{Scope}
 use Rattle.cedar_store_parts.specs.Parts.{scope_of, action_scope_of}
 use Rattle.cedar_store_parts.specs.declared.constraint.PrincipalOrResource.{PrincipalOrResource}
 use Rattle.cedar_store_parts.specs.declared.constraint.PrincipalOrResource.TheVariants.{Principal, Resource}
-use Rattle.cedar_schema_model.specs.Whole.Schema.{Schema}
-use Rattle.cedar_schema_model.specs.Whole.Environment.{Environment}
+use Rattle.cedar_schema_model.specs.Schema.{Schema}
+use Rattle.cedar_schema_model.specs.Environment.{Environment}
 use Rattle.cedar_typechecker_scopes.specs.Applying as model
 use Rattle.cedar_typechecker_scopes.specs.Applying.{principal_fits, resource_fits, in_for_equal}
 use Rattle.cedar_typechecker_scopes.specs.declared.applying.Asked.{Asked}

@@ -5,15 +5,15 @@ use Rattle.std.specs.List.{flat_map}
 use Rattle.std.specs.Option.{option_map_or}
 use Rattle.cedar_expr_model.specs.Name.{Text, Name}
 use Rattle.cedar_expr_model.specs.Uid.{Uid}
-use Rattle.cedar_expr_model.specs.Whole.Value.{Literal, entity}
-use Rattle.cedar_expr_model.specs.Whole.Tree.{Tree, lit, is_type}
-use Rattle.cedar_expr_model.specs.Whole.Parts.{subexpressions}
-use Rattle.cedar_store_model.specs.Whole.Policy.{Policy, SlotBindings, condition}
+use Rattle.cedar_expr_model.specs.Value.{Literal, entity}
+use Rattle.cedar_expr_model.specs.Tree.{Tree, lit, is_type}
+use Rattle.cedar_expr_model.specs.Parts.{subexpressions}
+use Rattle.cedar_store_model.specs.Policy.{Policy, SlotBindings, condition}
 use Rattle.cedar_store_parts.specs.Parts.{id_text}
 use Rattle.cedar_store_records.specs.Views.{Wrong, unknown_type, unknown_action, unknown_member, wrong_of}
 use Rattle.cedar_store_records.specs.declared.diagnostics.ValidationError.{ValidationError}
-use Rattle.cedar_schema_model.specs.Whole.Schema.{Schema}
-use Rattle.cedar_typechecker_model.specs.Whole.ScopeRules.{is_known_type, is_no_unknown_action, is_no_unknown_member}
+use Rattle.cedar_schema_model.specs.Schema.{Schema}
+use Rattle.cedar_typechecker_model.specs.ScopeRules.{is_known_type, is_no_unknown_action, is_no_unknown_member}
 
 -- the policy and what is wrong with it
 pub record Blame : Type 0 where

@@ -3,9 +3,9 @@
 use Rattle.std.specs.Prelude.{◌≡◌, ◌↔◌, List, [], ◌++◌}
 use Rattle.std.specs.List.{flat_map}
 use Rattle.std.specs.Option.{option_map_or}
-use Rattle.cedar_store_model.specs.Whole.Policy.{Policy}
-use Rattle.cedar_schema_model.specs.Whole.Schema.{Schema}
-use Rattle.cedar_typechecker_model.specs.Whole.ScopeRules.{NamesKnownTypes, NamesKnownActions, NamesKnownMembers}
+use Rattle.cedar_store_model.specs.Policy.{Policy}
+use Rattle.cedar_schema_model.specs.Schema.{Schema}
+use Rattle.cedar_typechecker_model.specs.ScopeRules.{NamesKnownTypes, NamesKnownActions, NamesKnownMembers}
 use Rattle.cedar_store_records.specs.Views.{Wrong}
 use Rattle.cedar_typechecker_scopes.specs.Faults.{ScopeRule, known_types, known_actions, known_members, wrong_uid, wrong_within, wrong_bound}
 

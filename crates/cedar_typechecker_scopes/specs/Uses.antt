@@ -2,9 +2,9 @@
 -- Rule: environments (docs/RULES.md).
 use Rattle.std.specs.Prelude.{List, map}
 use Rattle.std.specs.List.{flat_map}
-use Rattle.cedar_schema_model.specs.Whole.Environment as model
-use Rattle.cedar_schema_model.specs.Whole.Environment.{Environment, slot_types, with_slots}
-use Rattle.cedar_schema_model.specs.Whole.Schema.{Schema}
+use Rattle.cedar_schema_model.specs.Environment as model
+use Rattle.cedar_schema_model.specs.Environment.{Environment, slot_types, with_slots}
+use Rattle.cedar_schema_model.specs.Schema.{Schema}
 use Rattle.cedar_typechecker_scopes.specs.declared.slot_use.SlotUse.{SlotUse}
 use Rattle.cedar_typechecker_scopes.specs.declared.slot_use.SlotUse.TheVariants.{NoSlot, Equal, Inside}
 

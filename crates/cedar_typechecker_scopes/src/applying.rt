@@ -3,7 +3,7 @@
 ghost use Rattle.std.specs.Prelude.{◌≡◌, ◌∷◌, [], map, IfOk};
 ghost use Rattle.std.specs.List.{list_any};
 ghost use Rattle.cedar_expr_names.specs.Views.{type_name_of, uid_of};
-ghost use Rattle.cedar_store_model.specs.Whole.Policy.{exactly};
+ghost use Rattle.cedar_store_model.specs.Policy.{exactly};
 ghost use Rattle.cedar_store_parts.specs.Parts.{id_text, target_of, scope_of, action_scope_of, filled};
 ghost use Rattle.cedar_store_policies.specs.Policies.{policy_of, policy_loc};
 ghost use Rattle.cedar_store_policies.specs.Templates.{template_of, template_loc};

@@ -3,9 +3,9 @@
 ghost use Rattle.std.specs.Prelude.{◌≡◌, ◌++◌, ◌∷◌, [], map, option_map, IfOk, OnOk};
 ghost use Rattle.std.specs.List.{flat_map};
 ghost use Rattle.cedar_expr_names.specs.Views.{type_name_of};
-ghost use Rattle.cedar_schema_model.specs.Whole.Environment.{environments, types_above, slot_types, with_slots, in_slot};
+ghost use Rattle.cedar_schema_model.specs.Environment.{environments, types_above, slot_types, with_slots, in_slot};
 ghost use Rattle.cedar_store_policies.specs.Templates.{template_of};
-ghost use Rattle.cedar_typechecker_model.specs.Whole.Verdicts.{policy_environments};
+ghost use Rattle.cedar_typechecker_model.specs.Verdicts.{policy_environments};
 ghost use Rattle.cedar_typechecker_environments.specs.Settings.{environment_of};
 ghost use Rattle.cedar_typechecker_scopes.specs.Uses.{use_of, linked_environments};
 

@@ -2,7 +2,7 @@
 
 ghost use Rattle.std.specs.Prelude.{◌≡◌};
 ghost use Rattle.cedar_expr_names.specs.Views.{type_name_of, uid_of};
-ghost use Rattle.cedar_typechecker_model.specs.Whole.ScopeRules.{is_action_type, is_no_unknown_member};
+ghost use Rattle.cedar_typechecker_model.specs.ScopeRules.{is_action_type, is_no_unknown_member};
 
 use crate::environments::SchemaEnvironments;
 use cedar_expr_names::{EntityType, EntityUID};

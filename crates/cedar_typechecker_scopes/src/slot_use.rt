@@ -1,9 +1,9 @@
 //! How a part of a policy's scope uses its slot.
 
 ghost use Rattle.std.specs.Prelude.{◌≡◌};
-ghost use Rattle.cedar_schema_model.specs.Whole.Environment as model;
+ghost use Rattle.cedar_schema_model.specs.Environment as model;
 ghost use Rattle.cedar_store_parts.specs.Parts.{target_of, scope_of};
-ghost use Rattle.cedar_typechecker_model.specs.Whole.Verdicts.{target_use, scope_use};
+ghost use Rattle.cedar_typechecker_model.specs.Verdicts.{target_use, scope_use};
 ghost use Rattle.cedar_typechecker_scopes.specs.Uses.{use_of};
 
 use cedar_store_parts::{EntityReference, PrincipalOrResourceConstraint};

@@ -3,13 +3,13 @@
 use Rattle.std.specs.Prelude.{◌≡◌, ◌↔◌, Contains}
 use Rattle.cedar_expr_model.specs.Name.{Text, Name}
 use Rattle.cedar_expr_model.specs.Uid.{Uid}
-use Rattle.cedar_expr_model.specs.Whole.Table.{Table}
-use Rattle.cedar_schema_model.specs.Whole.Schema.{Schema, declares_type, declares_action}
-use Rattle.cedar_schema_model.specs.Whole.Descent.{type_names, action_uids, Descends, ActionDescends, type_descends, action_descends}
-use Rattle.cedar_schema_model.specs.Whole.Environment.{Environment, environments, types_above}
-use Rattle.cedar_schema_model.specs.Whole.Lookup.{declared_of}
-use Rattle.cedar_typechecker_model.specs.Whole.Rules.{tags_of}
-use Rattle.cedar_typechecker_model.specs.Whole.ScopeRules.{is_action_type, is_no_unknown_member}
+use Rattle.cedar_expr_model.specs.Table.{Table}
+use Rattle.cedar_schema_model.specs.Schema.{Schema, declares_type, declares_action}
+use Rattle.cedar_schema_model.specs.Descent.{type_names, action_uids, Descends, ActionDescends, type_descends, action_descends}
+use Rattle.cedar_schema_model.specs.Environment.{Environment, environments, types_above}
+use Rattle.cedar_schema_model.specs.Lookup.{declared_of}
+use Rattle.cedar_typechecker_model.specs.Rules.{tags_of}
+use Rattle.cedar_typechecker_model.specs.ScopeRules.{is_action_type, is_no_unknown_member}
 
 -- They declare the same entity types and actions, with the same descent, attributes, tags and members, and have the same environments
 -- and the same types for slots, in any order.

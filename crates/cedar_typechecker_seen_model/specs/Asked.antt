@@ -5,7 +5,7 @@ use Rattle.std.specs.List.{list_any, filter, flat_map}
 use Rattle.std.specs.Option.{option_map_or}
 use Rattle.cedar_expr_model.specs.Name.{Name, name_eq}
 use Rattle.cedar_expr_model.specs.Uid.{Uid, uid_eq}
-use Rattle.cedar_schema_model.specs.Whole.Environment.{Environment}
+use Rattle.cedar_schema_model.specs.Environment.{Environment}
 use Rattle.cedar_schema_kept_model.specs.Kept.{KeptAction, Kept, kept_type, kept_action, kept_ancestors}
 use Rattle.cedar_typechecker_seen_model.specs.Seen.{context_of}
 

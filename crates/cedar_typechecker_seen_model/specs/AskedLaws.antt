@@ -4,10 +4,10 @@ use Rattle.std.specs.Prelude.{◌≡◌, ◌||◌}
 use Rattle.std.specs.List.{flat_map}
 use Rattle.cedar_expr_model.specs.Name.{Name}
 use Rattle.cedar_expr_model.specs.Uid.{Uid}
-use Rattle.cedar_schema_model.specs.Whole.Descent.{type_descends, action_descends}
-use Rattle.cedar_schema_model.specs.Whole.Environment.{environments, types_above}
+use Rattle.cedar_schema_model.specs.Descent.{type_descends, action_descends}
+use Rattle.cedar_schema_model.specs.Environment.{environments, types_above}
 use Rattle.cedar_schema_kept_model.specs.Kept.{Kept}
-use Rattle.cedar_typechecker_model.specs.Whole.ScopeRules.{is_action_type}
+use Rattle.cedar_typechecker_model.specs.ScopeRules.{is_action_type}
 use Rattle.cedar_typechecker_seen_model.specs.Asked.{type_is_below, action_is_below, kind_is_below, is_kind, others_above, environments_kept}
 use Rattle.cedar_typechecker_seen_model.specs.Seen.{schema_seen, IsClosed, IsKeptOnce}
 

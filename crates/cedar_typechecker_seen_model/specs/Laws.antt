@@ -1,18 +1,18 @@
 -- What the laws of schemas that answer alike say. What the functions of a table answer is never asked.
 -- Rule: the acceptance rules; impossible policies; levels; the scope rules (docs/RULES.md).
 use Rattle.std.specs.Prelude.{◌≡◌, ◌↔◌, ℕ, Contains}
-use Rattle.cedar_expr_model.specs.Whole.Lists.{is_nil}
-use Rattle.cedar_expr_model.specs.Whole.Table.{Table}
-use Rattle.cedar_expr_model.specs.Whole.Tree.{Tree}
-use Rattle.cedar_store_model.specs.Whole.Policy.{Policy}
-use Rattle.cedar_schema_model.specs.Whole.Environment.{Environment}
-use Rattle.cedar_schema_model.specs.Whole.Schema.{Schema}
-use Rattle.cedar_schema_model.specs.Whole.Types.{Mode}
-use Rattle.cedar_typechecker_model.specs.Whole.Facts.{Facts}
-use Rattle.cedar_typechecker_model.specs.Whole.Levels.{Violation, violations}
-use Rattle.cedar_typechecker_model.specs.Whole.ScopeRules.{names_known_types, names_known_actions, names_known_members}
-use Rattle.cedar_typechecker_model.specs.Whole.Typing.{judgement}
-use Rattle.cedar_typechecker_model.specs.Whole.Verdicts.{RequestType, in_mode, policy_environments, passes_in, is_warned, impossible, irrelevant_for, policy_violations_in}
+use Rattle.cedar_expr_model.specs.Lists.{is_nil}
+use Rattle.cedar_expr_model.specs.Table.{Table}
+use Rattle.cedar_expr_model.specs.Tree.{Tree}
+use Rattle.cedar_store_model.specs.Policy.{Policy}
+use Rattle.cedar_schema_model.specs.Environment.{Environment}
+use Rattle.cedar_schema_model.specs.Schema.{Schema}
+use Rattle.cedar_schema_model.specs.Types.{Mode}
+use Rattle.cedar_typechecker_model.specs.Facts.{Facts}
+use Rattle.cedar_typechecker_model.specs.Levels.{Violation, violations}
+use Rattle.cedar_typechecker_model.specs.ScopeRules.{names_known_types, names_known_actions, names_known_members}
+use Rattle.cedar_typechecker_model.specs.Typing.{judgement}
+use Rattle.cedar_typechecker_model.specs.Verdicts.{RequestType, in_mode, policy_environments, passes_in, is_warned, impossible, irrelevant_for, policy_violations_in}
 use Rattle.cedar_typechecker_seen_model.specs.Alike.{AnswersAlike, HasSameSignatures}
 
 -- An expression has the same type and facts, and the same violations.

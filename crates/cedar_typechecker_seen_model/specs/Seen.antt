@@ -5,9 +5,9 @@ use Rattle.std.specs.Prelude.{◌≡◌, List, map, true, Contains}
 use Rattle.std.specs.List.{list_any}
 use Rattle.cedar_expr_model.specs.Name.{Name, name_eq}
 use Rattle.cedar_expr_model.specs.Uid.{Uid, uid_eq}
-use Rattle.cedar_schema_model.specs.Whole.BagLaws.{HasTwice}
-use Rattle.cedar_schema_model.specs.Whole.Types.{Ty, record_type, Attributes, no_attributes}
-use Rattle.cedar_schema_model.specs.Whole.Schema.{EntityType, Action, Schema}
+use Rattle.cedar_schema_model.specs.BagLaws.{HasTwice}
+use Rattle.cedar_schema_model.specs.Types.{Ty, record_type, Attributes, no_attributes}
+use Rattle.cedar_schema_model.specs.Schema.{EntityType, Action, Schema}
 use Rattle.cedar_schema_kept_model.specs.Kept.{KeptType, KeptAction, Kept, kept_ancestors, kept_action_ancestors}
 
 -- the attributes of a context of this type

@@ -1,8 +1,8 @@
 -- What the laws of a schema as it is seen say.
 -- Rule: schemas; descent; typing; the scope rules (docs/RULES.md).
-use Rattle.cedar_schema_model.specs.Whole.Declarations.{Declarations}
-use Rattle.cedar_schema_model.specs.Whole.Resolved.{schema_of}
-use Rattle.cedar_schema_model.specs.Whole.Schema.{Schema}
+use Rattle.cedar_schema_model.specs.Declarations.{Declarations}
+use Rattle.cedar_schema_model.specs.Resolved.{schema_of}
+use Rattle.cedar_schema_model.specs.Schema.{Schema}
 use Rattle.cedar_schema_kept_model.specs.Kept.{Kept}
 use Rattle.cedar_schema_kept_model.specs.KeptOf.{IsKeptOf}
 use Rattle.cedar_typechecker_seen_model.specs.Alike.{AnswersAlike, DescendsToDeclared}

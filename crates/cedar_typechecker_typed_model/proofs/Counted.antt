@@ -3,13 +3,13 @@ use Rattle.std.proofs.Common.{◌≡◌, ℕ, List, [], ◌∷◌, ◌++◌, Opt
 use Rattle.std.specs.Prelude.{option_map, option_and_then, max, if◌then◌else◌}
 use Rattle.std.specs.Str.{bytes_eq}
 use Rattle.cedar_expr_model.specs.Name.{Text}
-use Rattle.cedar_expr_model.specs.Whole.Tree.{BinaryOp, equal, less, less_or_equal, plus, difference, times, is_in, contains, contains_all, contains_any, get_tag, has_tag, Tree, lit, var, slot, unknown, choice, both, either, unary, binary, call, get_attr, has_attr, has_path, like, is_type, set_literal, record_literal, Trees, no_trees, tree, TreeFields, no_tree_fields, tree_field}
-use Rattle.cedar_schema_model.specs.Whole.Types.{any_bool, only_true, only_false, Ty, never, bool_type, long_type, string_type, any_entity, entity_types, any_set, set_type, record_type, extension_type}
-use Rattle.cedar_store_model.specs.Whole.Looks.{looks_up}
-use Rattle.cedar_typechecker_model.specs.Whole.Facts.{Facts, union}
-use Rattle.cedar_typechecker_model.specs.Whole.Rules.{Setting}
-use Rattle.cedar_typechecker_model.specs.Whole.Typing.{Judgement, judgement}
-use Rattle.cedar_typechecker_model.specs.Whole.Levels.{Violation, Count, count, joined, further, stepped, is_entity, unless_false, unless_true, after, after_test, target_after_test, entity_steps, fields_before, path_violations, violations, violations_among, violations_in_fields, target, target_in_fields}
+use Rattle.cedar_expr_model.specs.Tree.{BinaryOp, equal, less, less_or_equal, plus, difference, times, is_in, contains, contains_all, contains_any, get_tag, has_tag, Tree, lit, var, slot, unknown, choice, both, either, unary, binary, call, get_attr, has_attr, has_path, like, is_type, set_literal, record_literal, Trees, no_trees, tree, TreeFields, no_tree_fields, tree_field}
+use Rattle.cedar_schema_model.specs.Types.{any_bool, only_true, only_false, Ty, never, bool_type, long_type, string_type, any_entity, entity_types, any_set, set_type, record_type, extension_type}
+use Rattle.cedar_store_model.specs.Looks.{looks_up}
+use Rattle.cedar_typechecker_model.specs.Facts.{Facts, union}
+use Rattle.cedar_typechecker_model.specs.Rules.{Setting}
+use Rattle.cedar_typechecker_model.specs.Typing.{Judgement, judgement}
+use Rattle.cedar_typechecker_model.specs.Levels.{Violation, Count, count, joined, further, stepped, is_entity, unless_false, unless_true, after, after_test, target_after_test, entity_steps, fields_before, path_violations, violations, violations_among, violations_in_fields, target, target_in_fields}
 use Rattle.cedar_typechecker_typed_model.specs.Typed.{MarkRow, no_marks, marks, two, Typed, marked, noted, on_step, and_step_at, and_step, and_typed, or_step_at, or_step, or_typed, choice_step_at, choice_step, on_choice, typed, typed_row, typed_fields, Row, FieldRow}
 use Rattle.cedar_typechecker_typed_model.proofs.Judged.{typed_is}
 use Rattle.cedar_typechecker_typed_model.specs.Laws.{judgement_of}

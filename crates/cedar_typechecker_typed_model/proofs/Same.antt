@@ -1,11 +1,11 @@
 -- What is typed is the expression itself.
 use Rattle.std.proofs.Common.{◌≡◌, Option, Some, None, refl, ap, subst}
 use Rattle.std.specs.Prelude.{option_and_then}
-use Rattle.cedar_expr_model.specs.Whole.Tree.{Tree, lit, var, slot, unknown, choice, both, either, unary, binary, call, get_attr, has_attr, has_path, like, is_type, set_literal, record_literal, Trees, no_trees, tree, TreeFields, no_tree_fields, tree_field}
-use Rattle.cedar_schema_model.specs.Whole.Types.{any_bool, only_true, only_false, Ty, never, bool_type, long_type, string_type, any_entity, entity_types, any_set, set_type, record_type, extension_type}
-use Rattle.cedar_typechecker_model.specs.Whole.Facts.{Facts, union}
-use Rattle.cedar_typechecker_model.specs.Whole.Rules.{Setting}
-use Rattle.cedar_typechecker_model.specs.Whole.Typing.{Judgement}
+use Rattle.cedar_expr_model.specs.Tree.{Tree, lit, var, slot, unknown, choice, both, either, unary, binary, call, get_attr, has_attr, has_path, like, is_type, set_literal, record_literal, Trees, no_trees, tree, TreeFields, no_tree_fields, tree_field}
+use Rattle.cedar_schema_model.specs.Types.{any_bool, only_true, only_false, Ty, never, bool_type, long_type, string_type, any_entity, entity_types, any_set, set_type, record_type, extension_type}
+use Rattle.cedar_typechecker_model.specs.Facts.{Facts, union}
+use Rattle.cedar_typechecker_model.specs.Rules.{Setting}
+use Rattle.cedar_typechecker_model.specs.Typing.{Judgement}
 use Rattle.cedar_typechecker_typed_model.specs.Typed.{MarkRow, Typed, noted, on_step, and_step_at, and_step, and_typed, or_step_at, or_step, or_typed, choice_step_at, choice_step, on_choice, typed, typed_row, typed_fields, Row, FieldRow}
 use Rattle.cedar_typechecker_typed_model.proofs.Held.{Holds, then_holds, map_holds}
 

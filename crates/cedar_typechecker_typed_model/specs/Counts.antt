@@ -4,11 +4,11 @@ use Rattle.std.specs.Prelude.{ℕ, max, List, [], ◌∷◌, ◌++◌, Option, N
 use Rattle.std.specs.Option.{option_map_or}
 use Rattle.std.specs.Str.{bytes_eq}
 use Rattle.cedar_expr_model.specs.Name.{Text}
-use Rattle.cedar_expr_model.specs.Whole.Tree.{get_tag, Tree, lit, slot, choice, both, either, unary, binary, call, get_attr, has_attr, has_path, like, is_type, set_literal, record_literal, Trees, no_trees, tree, TreeFields, no_tree_fields, tree_field}
-use Rattle.cedar_schema_model.specs.Whole.Types.{Ty}
-use Rattle.cedar_store_model.specs.Whole.Looks.{looks_up}
-use Rattle.cedar_typechecker_model.specs.Whole.Rules.{Setting}
-use Rattle.cedar_typechecker_model.specs.Whole.Levels.{Violation, Count, count, joined, further, stepped, is_entity, literal_count, unless_false, unless_true, branches, entity_steps, fields_before, path_violations}
+use Rattle.cedar_expr_model.specs.Tree.{get_tag, Tree, lit, slot, choice, both, either, unary, binary, call, get_attr, has_attr, has_path, like, is_type, set_literal, record_literal, Trees, no_trees, tree, TreeFields, no_tree_fields, tree_field}
+use Rattle.cedar_schema_model.specs.Types.{Ty}
+use Rattle.cedar_store_model.specs.Looks.{looks_up}
+use Rattle.cedar_typechecker_model.specs.Rules.{Setting}
+use Rattle.cedar_typechecker_model.specs.Levels.{Violation, Count, count, joined, further, stepped, is_entity, literal_count, unless_false, unless_true, branches, entity_steps, fields_before, path_violations}
 use Rattle.cedar_typechecker_typed_model.specs.Typed.{Marks, mark, MarkRow, no_marks, marks}
 
 abbrev pub top : Marks → Option Ty

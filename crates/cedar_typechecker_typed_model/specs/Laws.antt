@@ -1,11 +1,11 @@
 -- A typed expression has the type and the facts that are judged, is the expression itself, and is counted by the types of its parts.
 -- Rule: typing; levels (docs/RULES.md).
 use Rattle.std.specs.Prelude.{◌≡◌, ℕ, Some, option_map}
-use Rattle.cedar_expr_model.specs.Whole.Tree.{Tree}
-use Rattle.cedar_typechecker_model.specs.Whole.Facts.{Facts}
-use Rattle.cedar_typechecker_model.specs.Whole.Rules.{Setting}
-use Rattle.cedar_typechecker_model.specs.Whole.Typing.{Judgement, judgement}
-use Rattle.cedar_typechecker_model.specs.Whole.Levels.{violations}
+use Rattle.cedar_expr_model.specs.Tree.{Tree}
+use Rattle.cedar_typechecker_model.specs.Facts.{Facts}
+use Rattle.cedar_typechecker_model.specs.Rules.{Setting}
+use Rattle.cedar_typechecker_model.specs.Typing.{Judgement, judgement}
+use Rattle.cedar_typechecker_model.specs.Levels.{violations}
 use Rattle.cedar_typechecker_typed_model.specs.Typed.{Typed, typed, marked}
 use Rattle.cedar_typechecker_typed_model.specs.Counts.{violations_at}
 

@@ -2,12 +2,12 @@
 -- Rule: typing (docs/RULES.md).
 use Rattle.std.specs.Prelude.{List, [], ◌∷◌, true, Option, Some, None, option_map, option_and_then}
 use Rattle.cedar_expr_model.specs.Name.{Text, Name}
-use Rattle.cedar_expr_model.specs.Whole.Pattern.{Pattern}
-use Rattle.cedar_expr_model.specs.Whole.Tree.{UnaryOp, BinaryOp, Tree, lit, var, slot, unknown, choice, both, either, unary, binary, call, get_attr, has_attr, has_path, like, is_type, set_literal, record_literal, Trees, no_trees, tree, TreeFields, no_tree_fields, tree_field}
-use Rattle.cedar_schema_model.specs.Whole.Types.{any_bool, only_true, only_false, Ty, bool_type, Attributes, no_attributes, attribute}
-use Rattle.cedar_typechecker_model.specs.Whole.Facts.{Facts, no_facts, union, attribute_part}
-use Rattle.cedar_typechecker_model.specs.Whole.Rules.{Setting, literal_type, var_type, slot_type, unary_type, like_type, is_type_type, has_type, get_type, set_literal_type, record_literal_type, call_type}
-use Rattle.cedar_typechecker_model.specs.Whole.Typing.{Judgement, judged, plain, tested, conjoined, disjoined, chosen, path_judged, binary_judged}
+use Rattle.cedar_expr_model.specs.Pattern.{Pattern}
+use Rattle.cedar_expr_model.specs.Tree.{UnaryOp, BinaryOp, Tree, lit, var, slot, unknown, choice, both, either, unary, binary, call, get_attr, has_attr, has_path, like, is_type, set_literal, record_literal, Trees, no_trees, tree, TreeFields, no_tree_fields, tree_field}
+use Rattle.cedar_schema_model.specs.Types.{any_bool, only_true, only_false, Ty, bool_type, Attributes, no_attributes, attribute}
+use Rattle.cedar_typechecker_model.specs.Facts.{Facts, no_facts, union, attribute_part}
+use Rattle.cedar_typechecker_model.specs.Rules.{Setting, literal_type, var_type, slot_type, unary_type, like_type, is_type_type, has_type, get_type, set_literal_type, record_literal_type, call_type}
+use Rattle.cedar_typechecker_model.specs.Typing.{Judgement, judged, plain, tested, conjoined, disjoined, chosen, path_judged, binary_judged}
 
 -- the type of an expression, where typing reached it, and the same of its parts
 mutual

@@ -6,16 +6,16 @@ use Rattle.std.specs.List.Sorted.{IsStrictlySortedBy}
 use Rattle.std.specs.Map.{keys_of}
 use Rattle.std.specs.declared.alloc.Global.{Global}
 use Rattle.std.specs.declared.rc.RcStr.{RcStr}
-use Rattle.cedar_expr_model.specs.Whole.Builder.{trees, tree_fields}
-use Rattle.cedar_expr_model.specs.Whole.Lists.{rises}
-use Rattle.cedar_expr_model.specs.Whole.Order.{text_cmp}
-use Rattle.cedar_expr_model.specs.Whole.Records.{names_rise}
+use Rattle.cedar_expr_model.specs.Builder.{trees, tree_fields}
+use Rattle.cedar_expr_model.specs.Lists.{rises}
+use Rattle.cedar_expr_model.specs.Order.{text_cmp}
+use Rattle.cedar_expr_model.specs.Records.{names_rise}
 use Rattle.cedar_expr_values.proofs.Ascending.{names_ascend}
 use Rattle.cedar_expr_trees.specs.Trees.{tree_of, named, field_trees}
 use Rattle.cedar_expr_trees.specs.declared.expr.Expr.{Expr}
 use Rattle.cedar_schema_types.specs.declared.types.Type.{«Type» as CodeType}
-use Rattle.cedar_typechecker_model.specs.Whole.Facts.{Facts, no_facts}
-use Rattle.cedar_typechecker_model.specs.Whole.Rules.{Setting}
+use Rattle.cedar_typechecker_model.specs.Facts.{Facts, no_facts}
+use Rattle.cedar_typechecker_model.specs.Rules.{Setting}
 use Rattle.cedar_typechecker_typed_model.specs.Typed.{Typed, Row, no_row, row_with, FieldRow, no_field_row, field_row_with, typed, typed_row, typed_fields}
 use Rattle.cedar_typechecker_answers.specs.Answers.{typed_at}
 use Rattle.cedar_typechecker_operators.specs.Rows.{then_row, then_fields}

@@ -1,7 +1,7 @@
 //! Typing: a walk along an expression.
 
 ghost use Rattle.std.specs.Prelude.{◌≡◌, true, map, IfOk};
-ghost use Rattle.cedar_expr_model.specs.Whole.Builder.{trees, tree_fields};
+ghost use Rattle.cedar_expr_model.specs.Builder.{trees, tree_fields};
 ghost use Rattle.cedar_expr_trees.specs.Trees.{tree_of, named, field_trees};
 ghost use Rattle.cedar_typechecker_facts.specs.Facts.{facts_of};
 ghost use Rattle.cedar_typechecker_environments.specs.Settings.{setting_of};

@@ -5,7 +5,7 @@ use Rattle.std.proofs.lemmas.List.Elements.{All-from_recursion}
 use Rattle.std.specs.Option.{option_map_or}
 use Rattle.std.specs.Prelude.{ℕ, All}
 use Rattle.cedar_expr_model.specs.Name.{Text, Name, name_eq}
-use Rattle.cedar_expr_model.specs.Whole.Made.{Made}
+use Rattle.cedar_expr_model.specs.Made.{Made}
 use Rattle.cedar_expr_model.proofs.Lists.{contains_head, contains_tail}
 use Rattle.cedar_expr_names.specs.Views.{plain_name_of}
 use Rattle.cedar_expr_values.specs.Values.{made}
@@ -30,9 +30,9 @@ use Rattle.cedar_gate_service.specs.Runs.{AnswersFairly}
 use Rattle.cedar_gate_service.specs.Serving.{ServeGives}
 use Rattle.cedar_gate_service.specs.declared.faults.ServeFault.{ServeFault}
 use Rattle.cedar_gate_transcripts.specs.declared.status.Status.{Status}
-use Rattle.cedar_gate_model.specs.Whole.Bundle.{Functions, Bundle}
-use Rattle.cedar_gate_model.specs.Whole.Lines as lines
-use Rattle.cedar_gate_model.specs.Whole.ReadingBundle.{input_read}
+use Rattle.cedar_gate_model.specs.Bundle.{Functions, Bundle}
+use Rattle.cedar_gate_model.specs.Lines as lines
+use Rattle.cedar_gate_model.specs.ReadingBundle.{input_read}
 use Rattle.cedargate.specs.Served.{served_by, read_by}
 
 -- an outcome that is alike to the answer is that answer

@@ -6,15 +6,15 @@ use Rattle.std.specs.declared.alloc.Global.{Global}
 use Rattle.std.proofs.lemmas.List.{append-nil}
 use Rattle.std.proofs.lemmas.List.Sorted.{Contains-permutation, IsPermutation-sym}
 use Rattle.std.proofs.lemmas.Slice.Eq.{bytes_eq-Decides}
-use Rattle.cedar_expr_model.specs.Whole.Made as model
-use Rattle.cedar_expr_model.specs.Whole.Made.{Made}
-use Rattle.cedar_expr_model.specs.Whole.Order.{value_eq}
-use Rattle.cedar_expr_model.specs.Whole.Shape.{tree_eq}
-use Rattle.cedar_expr_model.specs.Whole.Table.{Signature, Table, all_typed}
+use Rattle.cedar_expr_model.specs.Made as model
+use Rattle.cedar_expr_model.specs.Made.{Made}
+use Rattle.cedar_expr_model.specs.Order.{value_eq}
+use Rattle.cedar_expr_model.specs.Shape.{tree_eq}
+use Rattle.cedar_expr_model.specs.Table.{Signature, Table, all_typed}
 use Rattle.cedar_expr_model.proofs.Equality.{name_eq_same}
 use Rattle.cedar_expr_model.proofs.Lists.{hold_both, contains_cases, contains_none}
-use Rattle.cedar_expr_model.proofs.Whole.ValueOrder.{values_decide}
-use Rattle.cedar_expr_model.proofs.Whole.ShapeOrder.{trees_decide}
+use Rattle.cedar_expr_model.proofs.ValueOrder.{values_decide}
+use Rattle.cedar_expr_model.proofs.ShapeOrder.{trees_decide}
 use Rattle.cedar_expr_names.specs.Views.{plain_name_of}
 use Rattle.cedar_expr_values.specs.Values.{made}
 use Rattle.cedar_expr_values.specs.Extensions.{extension_of}

@@ -3,8 +3,8 @@
 ghost use Rattle.std.specs.Prelude.{◌≡◌, List, ℕ, Some, IfErr};
 ghost use Rattle.cedar_evaluator_restricted.specs.Answers.{AnswersMade};
 ghost use Rattle.cedar_expr_functions.specs.Tables.{table_of};
-ghost use Rattle.cedar_gate_headline.specs.Headline.{Promises};
-ghost use Rattle.cedar_gate_model.specs.Whole.Lines.{Prints};
+ghost use Rattle.cedar_gate_model.specs.Headline.{Promises};
+ghost use Rattle.cedar_gate_model.specs.Lines.{Prints};
 ghost use Rattle.cedar_gate_ranks.specs.Ranks.{rank_calls, rank_answers};
 ghost use Rattle.cedar_gate_ranks.specs.Tables.{HoldsRanks};
 ghost use Rattle.cedar_gate_service.specs.Serving.{ServeGives, LeavesAlone};

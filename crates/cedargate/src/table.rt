@@ -1,8 +1,8 @@
 //! The program's table of extension functions.
 
 ghost use Rattle.std.specs.Prelude.{◌≡◌, true, [], ◌∷◌, IfOk};
-ghost use Rattle.cedar_expr_model.specs.Whole.Table.{all_typed};
-ghost use Rattle.cedar_expr_model.specs.Whole.Tree.{extension_core};
+ghost use Rattle.cedar_expr_model.specs.Table.{all_typed};
+ghost use Rattle.cedar_expr_model.specs.Tree.{extension_core};
 ghost use Rattle.cedar_expr_values.specs.Types.{core_of};
 ghost use Rattle.cedar_expr_functions.specs.Extended.{functions_in, ordered_in};
 ghost use Rattle.cedar_expr_functions.specs.Functions.{function_signature};

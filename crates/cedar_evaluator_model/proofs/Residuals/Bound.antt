@@ -3,15 +3,15 @@ use Rattle.std.proofs.Common.{◌≡◌, Bool, true, false, cond, refl, sym, ap,
 use Rattle.std.specs.Prelude.{Option, Some, None, option_map, codes}
 use Rattle.cedar_expr_model.specs.Name.{Text, Name, name_eq}
 use Rattle.cedar_expr_model.specs.Uid.{Uid}
-use Rattle.cedar_expr_model.specs.Whole.Value.{V, entity, prim, record_of}
-use Rattle.cedar_expr_model.specs.Whole.Tree.{record_literal, TreeFields, Var, principal, action, resource, context}
-use Rattle.cedar_expr_model.specs.Whole.Made.{Made, made_prim, made_set, made_record, made_extension, MadeFields, bare, bare_fields}
-use Rattle.cedar_expr_model.specs.Whole.Substitution.{Bindings, substituted}
-use Rattle.cedar_store_model.specs.Whole.Outcome.{val}
-use Rattle.cedar_store_model.specs.Whole.World.{World}
-use Rattle.cedar_store_model.specs.Whole.Meaning.{outcome_of}
-use Rattle.cedar_store_model.specs.Whole.OfLaws.Extends.{Keeps}
-use Rattle.cedar_store_model.proofs.Whole.Meaning.{means_outcome, outcome_means}
+use Rattle.cedar_expr_model.specs.Value.{V, entity, prim, record_of}
+use Rattle.cedar_expr_model.specs.Tree.{record_literal, TreeFields, Var, principal, action, resource, context}
+use Rattle.cedar_expr_model.specs.Made.{Made, made_prim, made_set, made_record, made_extension, MadeFields, bare, bare_fields}
+use Rattle.cedar_expr_model.specs.Substitution.{Bindings, substituted}
+use Rattle.cedar_store_model.specs.Outcome.{val}
+use Rattle.cedar_store_model.specs.World.{World}
+use Rattle.cedar_store_model.specs.Meaning.{outcome_of}
+use Rattle.cedar_store_model.specs.OfLaws.Extends.{Keeps}
+use Rattle.cedar_store_model.proofs.Meaning.{means_outcome, outcome_means}
 use Rattle.cedar_evaluator_model.specs.Scope.{Scope, Entry, uid, unknown_uid, Context, closed, residual_fields, unknown_context, Left, value_left, residual, stopped}
 use Rattle.cedar_evaluator_model.specs.OfLaws.Calls.{Agrees}
 use Rattle.cedar_evaluator_model.specs.OfLaws.WellMade.{IsWellMade, IsMadeWell, IsContextMadeWell, AllMadeWell}

@@ -6,17 +6,17 @@ use Rattle.std.specs.Str.{bytes_eq}
 use Rattle.std.proofs.lemmas.List.Elements.{All-contains, Contains-get_or, Contains-append_left, Contains-append_right, Contains-append_cases}
 use Rattle.std.proofs.lemmas.Slice.Eq.{bytes_eq-Decides}
 use Rattle.cedar_expr_model.specs.Name.{Text}
-use Rattle.cedar_expr_model.specs.Whole.ListLaws.{AreDistinct}
-use Rattle.cedar_expr_model.specs.Whole.Repeats.{repeated}
-use Rattle.cedar_expr_model.proofs.Whole.Repeating.{repeats_decide}
-use Rattle.cedar_expr_model.specs.Whole.Substitution.{Bindings}
+use Rattle.cedar_expr_model.specs.ListLaws.{AreDistinct}
+use Rattle.cedar_expr_model.specs.Repeats.{repeated}
+use Rattle.cedar_expr_model.proofs.Repeating.{repeats_decide}
+use Rattle.cedar_expr_model.specs.Substitution.{Bindings}
 use Rattle.cedar_expr_model.proofs.Lists.{contains_head, contains_tail}
-use Rattle.cedar_store_model.specs.Whole.World.{World}
-use Rattle.cedar_store_model.specs.Whole.Policy.{Policy, permit, forbid, condition}
-use Rattle.cedar_store_model.specs.Whole.Answer.{Decision, allow, deny, IsSatisfied, satisfied, ids, decision_of}
-use Rattle.cedar_store_model.specs.Whole.AnswerLaws.{HasPermit, HasNoForbid}
-use Rattle.cedar_store_model.proofs.Whole.Answers.{allow_is_earned}
-use Rattle.cedar_store_model.proofs.Whole.Conditions.{satisfied-Decides}
+use Rattle.cedar_store_model.specs.World.{World}
+use Rattle.cedar_store_model.specs.Policy.{Policy, permit, forbid, condition}
+use Rattle.cedar_store_model.specs.Answer.{Decision, allow, deny, IsSatisfied, satisfied, ids, decision_of}
+use Rattle.cedar_store_model.specs.AnswerLaws.{HasPermit, HasNoForbid}
+use Rattle.cedar_store_model.proofs.Answers.{allow_is_earned}
+use Rattle.cedar_store_model.proofs.Conditions.{satisfied-Decides}
 use Rattle.cedar_evaluator_model.specs.Scope.{Scope}
 use Rattle.cedar_evaluator_model.specs.OfLaws.Calls.{Agrees}
 use Rattle.cedar_evaluator_model.specs.OfLaws.WellMade.{IsContextMadeWell, AllMadeWell}

@@ -5,12 +5,12 @@ use Rattle.std.specs.Map.{lookup}
 use Rattle.std.specs.Str.{bytes_eq}
 use Rattle.cedar_expr_model.specs.Name.{Text}
 use Rattle.cedar_expr_model.specs.Uid.{Uid}
-use Rattle.cedar_expr_model.specs.Whole.Value.{V}
-use Rattle.cedar_expr_model.specs.Whole.Tree.{SlotId}
-use Rattle.cedar_expr_model.specs.Whole.Made.{Made}
-use Rattle.cedar_expr_model.specs.Whole.ValueParts.{Part, known, left}
-use Rattle.cedar_store_model.specs.Whole.World.{World, Found, held, missing, not_loaded}
-use Rattle.cedar_store_model.specs.Whole.Knowledge.{IsWhole}
+use Rattle.cedar_expr_model.specs.Value.{V}
+use Rattle.cedar_expr_model.specs.Tree.{SlotId}
+use Rattle.cedar_expr_model.specs.Made.{Made}
+use Rattle.cedar_expr_model.specs.ValueParts.{Part, known, left}
+use Rattle.cedar_store_model.specs.World.{World, Found, held, missing, not_loaded}
+use Rattle.cedar_store_model.specs.Knowledge.{IsWhole}
 use Rattle.cedar_evaluator_model.specs.Scope.{Scope, Entry, uid, unknown_uid, Context, closed, residual_fields, unknown_context}
 use Rattle.cedar_evaluator_model.specs.OfLaws.WellMade.{AllMadeWell}
 use Rattle.cedar_evaluator_model.specs.OfLaws.Completing.{EntryMeans, ContextMeans, PartMeans, PartsMean, FoundMeans, Completes}

@@ -6,16 +6,16 @@ use Rattle.std.specs.Str.{bytes_eq}
 use Rattle.std.proofs.lemmas.List.Elements.{All-contains, Contains-append_left, Contains-append_right}
 use Rattle.std.proofs.lemmas.Slice.Eq.{bytes_eq-Decides}
 use Rattle.cedar_expr_model.specs.Name.{Text}
-use Rattle.cedar_expr_model.specs.Whole.Value.{truth}
-use Rattle.cedar_expr_model.specs.Whole.Tree.{Tree, lit}
+use Rattle.cedar_expr_model.specs.Value.{truth}
+use Rattle.cedar_expr_model.specs.Tree.{Tree, lit}
 use Rattle.cedar_expr_model.proofs.Lists.{contains_head, contains_none, filter_has, filter_only, any_has, any_from, map_has, map_from}
-use Rattle.cedar_store_model.specs.Whole.World.{World}
-use Rattle.cedar_store_model.specs.Whole.Policy.{Policy, Effect, permit, forbid, condition}
-use Rattle.cedar_store_model.specs.Whole.Answer.{Decision, allow, deny, IsSatisfied, satisfied, ids, decision_of, reasons_of}
-use Rattle.cedar_store_model.specs.Whole.AnswerLaws.{deciding}
-use Rattle.cedar_store_model.proofs.Whole.Answers.{allow_is_earned}
-use Rattle.cedar_store_model.proofs.Whole.Conditions.{satisfied-Decides}
-use Rattle.cedar_store_model.proofs.Whole.Reports.{reasons_are_those}
+use Rattle.cedar_store_model.specs.World.{World}
+use Rattle.cedar_store_model.specs.Policy.{Policy, Effect, permit, forbid, condition}
+use Rattle.cedar_store_model.specs.Answer.{Decision, allow, deny, IsSatisfied, satisfied, ids, decision_of, reasons_of}
+use Rattle.cedar_store_model.specs.AnswerLaws.{deciding}
+use Rattle.cedar_store_model.proofs.Answers.{allow_is_earned}
+use Rattle.cedar_store_model.proofs.Conditions.{satisfied-Decides}
+use Rattle.cedar_store_model.proofs.Reports.{reasons_are_those}
 use Rattle.cedar_evaluator_model.specs.Scope.{Scope}
 use Rattle.cedar_evaluator_model.specs.OfLaws.Calls.{Agrees}
 use Rattle.cedar_evaluator_model.specs.OfLaws.WellMade.{AllMadeWell}

@@ -6,17 +6,17 @@ use Rattle.std.specs.List.{list_all}
 use Rattle.std.specs.Str.{bytes_eq}
 use Rattle.cedar_expr_model.specs.Name.{Text}
 use Rattle.cedar_expr_model.specs.Uid.{Uid}
-use Rattle.cedar_expr_model.specs.Whole.Value.{V, record_of, Fields, no_fields, field, field_of}
-use Rattle.cedar_expr_model.specs.Whole.Canonical.{set_made}
-use Rattle.cedar_expr_model.specs.Whole.Tree.{CoreType, Tree, lit, var, slot, unknown, choice, both, either, unary, binary, call, get_attr, has_attr, has_path, like, is_type, set_literal, record_literal, Trees, no_trees, tree, TreeFields, no_tree_fields, tree_field, Var, principal, action, resource, context}
-use Rattle.cedar_expr_model.specs.Whole.Parts.{is_projectable, may_project, subexpressions, subexpressions_among, subexpressions_in_fields}
-use Rattle.cedar_expr_model.proofs.Whole.Gathering.{EachIn, EachInFields, all_split}
-use Rattle.cedar_store_model.specs.Whole.Outcome.{Fault, Res, val, err, bind, missing_field}
-use Rattle.cedar_store_model.specs.Whole.World.{World}
-use Rattle.cedar_store_model.specs.Whole.Operators.{says}
-use Rattle.cedar_store_model.proofs.Whole.Named.{bound_value, known_uid}
-use Rattle.cedar_store_model.specs.Whole.Reads.{attribute_read, attribute_tested}
-use Rattle.cedar_store_model.specs.Whole.Meaning.{variable, outcome_of, outcomes_of, field_outcomes_of}
+use Rattle.cedar_expr_model.specs.Value.{V, record_of, Fields, no_fields, field, field_of}
+use Rattle.cedar_expr_model.specs.Canonical.{set_made}
+use Rattle.cedar_expr_model.specs.Tree.{CoreType, Tree, lit, var, slot, unknown, choice, both, either, unary, binary, call, get_attr, has_attr, has_path, like, is_type, set_literal, record_literal, Trees, no_trees, tree, TreeFields, no_tree_fields, tree_field, Var, principal, action, resource, context}
+use Rattle.cedar_expr_model.specs.Parts.{is_projectable, may_project, subexpressions, subexpressions_among, subexpressions_in_fields}
+use Rattle.cedar_expr_model.proofs.Gathering.{EachIn, EachInFields, all_split}
+use Rattle.cedar_store_model.specs.Outcome.{Fault, Res, val, err, bind, missing_field}
+use Rattle.cedar_store_model.specs.World.{World}
+use Rattle.cedar_store_model.specs.Operators.{says}
+use Rattle.cedar_store_model.proofs.Named.{bound_value, known_uid}
+use Rattle.cedar_store_model.specs.Reads.{attribute_read, attribute_tested}
+use Rattle.cedar_store_model.specs.Meaning.{variable, outcome_of, outcomes_of, field_outcomes_of}
 use Rattle.cedar_evaluator_model.specs.Scope.{Left, residual}
 use Rattle.cedar_evaluator_model.specs.Steps.{errs, truth_left}
 use Rattle.cedar_evaluator_model.specs.Evaluation.{tree_named, get_of_residual, has_of_residual}

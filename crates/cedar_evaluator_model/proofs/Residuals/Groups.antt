@@ -2,11 +2,11 @@
 use Rattle.std.proofs.Common.{◌≡◌, true, false, List, [], ◌∷◌, refl, sym, ap, ◌∙◌, subst, ◌⊎◌, inl, inr}
 use Rattle.std.specs.Prelude.{Option, Some, None, Contains}
 use Rattle.std.specs.List.{filter_map, cons_option}
-use Rattle.cedar_expr_model.specs.Whole.Value.{truth}
-use Rattle.cedar_expr_model.specs.Whole.Tree.{Tree}
-use Rattle.cedar_expr_model.specs.Whole.Made.{made_prim}
+use Rattle.cedar_expr_model.specs.Value.{truth}
+use Rattle.cedar_expr_model.specs.Tree.{Tree}
+use Rattle.cedar_expr_model.specs.Made.{made_prim}
 use Rattle.cedar_expr_model.proofs.Lists.{contains_head, contains_tail, contains_cases, contains_none}
-use Rattle.cedar_store_model.specs.Whole.Policy.{Policy, Effect, permit, forbid}
+use Rattle.cedar_store_model.specs.Policy.{Policy, Effect, permit, forbid}
 use Rattle.cedar_evaluator_model.specs.Scope.{Stop, Left, value_left, residual, stopped}
 use Rattle.cedar_evaluator_model.specs.Steps.{truth_left}
 use Rattle.cedar_evaluator_model.specs.Response.{Noted, ErrorState, no_error, with_error, noted, of_effect, if_true, if_false, if_residual, group}

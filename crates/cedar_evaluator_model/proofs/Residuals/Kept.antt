@@ -5,15 +5,15 @@ use Rattle.std.specs.Str.{bytes_eq}
 use Rattle.std.proofs.lemmas.List.Elements.{All-contains, Contains-append_left, Contains-append_right, Contains-append_cases}
 use Rattle.std.proofs.lemmas.Slice.Eq.{bytes_eq-Decides}
 use Rattle.cedar_expr_model.specs.Name.{Text}
-use Rattle.cedar_expr_model.specs.Whole.Value.{truth}
-use Rattle.cedar_expr_model.specs.Whole.ListLaws.{AreDistinct}
-use Rattle.cedar_expr_model.specs.Whole.Tree.{Tree, lit}
-use Rattle.cedar_expr_model.specs.Whole.Made.{made_prim}
+use Rattle.cedar_expr_model.specs.Value.{truth}
+use Rattle.cedar_expr_model.specs.ListLaws.{AreDistinct}
+use Rattle.cedar_expr_model.specs.Tree.{Tree, lit}
+use Rattle.cedar_expr_model.specs.Made.{made_prim}
 use Rattle.cedar_expr_model.proofs.Lists.{contains_head, contains_tail, contains_cases, contains_none, map_has, map_from}
-use Rattle.cedar_store_model.specs.Whole.World.{World}
-use Rattle.cedar_store_model.specs.Whole.Policy.{Policy, Effect, permit, forbid, binding_of, condition}
-use Rattle.cedar_store_model.specs.Whole.Answer.{IsSatisfied, satisfied, ids}
-use Rattle.cedar_store_model.proofs.Whole.Conditions.{satisfied-Decides}
+use Rattle.cedar_store_model.specs.World.{World}
+use Rattle.cedar_store_model.specs.Policy.{Policy, Effect, permit, forbid, binding_of, condition}
+use Rattle.cedar_store_model.specs.Answer.{IsSatisfied, satisfied, ids}
+use Rattle.cedar_store_model.proofs.Conditions.{satisfied-Decides}
 use Rattle.cedar_evaluator_model.specs.Scope.{Scope, Stop, Left, value_left, residual, stopped}
 use Rattle.cedar_evaluator_model.specs.OfLaws.Calls.{Agrees}
 use Rattle.cedar_evaluator_model.specs.Steps.{truth_left, on_value, truth_wanted}

@@ -2,19 +2,19 @@
 use Rattle.std.proofs.Common.{◌≡◌, Bool, true, false, cond, not, refl, sym, ap, ◌∙◌, subst}
 use Rattle.std.specs.Prelude.{Option, Some, None}
 use Rattle.cedar_expr_model.specs.Name.{Name, name_eq}
-use Rattle.cedar_expr_model.specs.Whole.Value.{truth, long, text, entity, V, prim, set_of, record_of, extension}
-use Rattle.cedar_expr_model.specs.Whole.Order.{value_eq}
-use Rattle.cedar_expr_model.specs.Whole.Substitution.{core_type_of}
-use Rattle.cedar_expr_model.specs.Whole.Tree.{entity_core, BinaryOp, equal, Tree, unknown, binary}
-use Rattle.cedar_expr_model.specs.Whole.Made.{Made, made_prim, bare}
+use Rattle.cedar_expr_model.specs.Value.{truth, long, text, entity, V, prim, set_of, record_of, extension}
+use Rattle.cedar_expr_model.specs.Order.{value_eq}
+use Rattle.cedar_expr_model.specs.Substitution.{core_type_of}
+use Rattle.cedar_expr_model.specs.Tree.{entity_core, BinaryOp, equal, Tree, unknown, binary}
+use Rattle.cedar_expr_model.specs.Made.{Made, made_prim, bare}
 use Rattle.cedar_expr_model.proofs.Equality.{name_eq-Decides}
-use Rattle.cedar_expr_model.proofs.Whole.ValueOrder.{values_decide}
-use Rattle.cedar_store_model.specs.Whole.Outcome.{Res, val, err, bind}
-use Rattle.cedar_store_model.specs.Whole.World.{World}
-use Rattle.cedar_store_model.specs.Whole.Operators.{says, of_type}
-use Rattle.cedar_store_model.proofs.Whole.Named.{bound_value}
-use Rattle.cedar_store_model.specs.Whole.Meaning.{combined, outcome_of}
-use Rattle.cedar_store_model.specs.Whole.OfLaws.Extends.{Keeps}
+use Rattle.cedar_expr_model.proofs.ValueOrder.{values_decide}
+use Rattle.cedar_store_model.specs.Outcome.{Res, val, err, bind}
+use Rattle.cedar_store_model.specs.World.{World}
+use Rattle.cedar_store_model.specs.Operators.{says, of_type}
+use Rattle.cedar_store_model.proofs.Named.{bound_value}
+use Rattle.cedar_store_model.specs.Meaning.{combined, outcome_of}
+use Rattle.cedar_store_model.specs.OfLaws.Extends.{Keeps}
 use Rattle.cedar_evaluator_model.specs.Scope.{residual}
 use Rattle.cedar_evaluator_model.specs.Steps.{truth_left, kind_of_value, kind_of_unknown, differ, with_residual}
 use Rattle.cedar_evaluator_model.specs.Completion.{Fits}

@@ -6,23 +6,23 @@ use Rattle.std.specs.Ordering.{match_ordering}
 use Rattle.std.specs.declared.cmp.Ordering.{Ordering}
 use Rattle.std.specs.declared.cmp.Ordering.TheVariants.{Less, Equal, Greater}
 use Rattle.cedar_expr_model.specs.Name.{Text, Name}
-use Rattle.cedar_expr_model.specs.Whole.Value.{V, set_of}
-use Rattle.cedar_expr_model.specs.Whole.Order.{value_cmp}
-use Rattle.cedar_expr_model.specs.Whole.Canonical.{are_rising, members_made}
-use Rattle.cedar_expr_model.specs.Whole.Tree.{Tree}
-use Rattle.cedar_expr_model.specs.Whole.Builder.{trees}
-use Rattle.cedar_expr_model.specs.Whole.OfLaws.Represented.{AreMade, HaveMade}
-use Rattle.cedar_expr_model.specs.Whole.ValueParts.{Part, known, all_known, part_tree}
-use Rattle.cedar_expr_model.specs.Whole.Made.{Made, made_set, Mades, no_mades, made, bare, written}
-use Rattle.cedar_expr_model.specs.Whole.Table.{Table, Signature, signature_of, takes_count, are_of_types}
-use Rattle.cedar_expr_model.specs.Whole.OfLaws.Fair.{IsTaken}
-use Rattle.cedar_expr_model.proofs.Whole.Sets.{made_rises}
-use Rattle.cedar_store_model.specs.Whole.Outcome.{Res, val, err, wrong_type, wrong_count, bind}
-use Rattle.cedar_store_model.specs.Whole.World.{World}
-use Rattle.cedar_store_model.specs.Whole.Operators.{answered, called}
-use Rattle.cedar_store_model.proofs.Whole.Named.{bound_value, called_of}
-use Rattle.cedar_store_model.specs.Whole.Meaning.{outcome_of}
-use Rattle.cedar_store_model.specs.Whole.OfLaws.Extends.{Keeps}
+use Rattle.cedar_expr_model.specs.Value.{V, set_of}
+use Rattle.cedar_expr_model.specs.Order.{value_cmp}
+use Rattle.cedar_expr_model.specs.Canonical.{are_rising, members_made}
+use Rattle.cedar_expr_model.specs.Tree.{Tree}
+use Rattle.cedar_expr_model.specs.Builder.{trees}
+use Rattle.cedar_expr_model.specs.OfLaws.Represented.{AreMade, HaveMade}
+use Rattle.cedar_expr_model.specs.ValueParts.{Part, known, all_known, part_tree}
+use Rattle.cedar_expr_model.specs.Made.{Made, made_set, Mades, no_mades, made, bare, written}
+use Rattle.cedar_expr_model.specs.Table.{Table, Signature, signature_of, takes_count, are_of_types}
+use Rattle.cedar_expr_model.specs.OfLaws.Fair.{IsTaken}
+use Rattle.cedar_expr_model.proofs.Sets.{made_rises}
+use Rattle.cedar_store_model.specs.Outcome.{Res, val, err, wrong_type, wrong_count, bind}
+use Rattle.cedar_store_model.specs.World.{World}
+use Rattle.cedar_store_model.specs.Operators.{answered, called}
+use Rattle.cedar_store_model.proofs.Named.{bound_value, called_of}
+use Rattle.cedar_store_model.specs.Meaning.{outcome_of}
+use Rattle.cedar_store_model.specs.OfLaws.Extends.{Keeps}
 use Rattle.cedar_evaluator_model.specs.Scope.{Scope, MadeCalled, makes, faults, leaves_unknown, fault, limit, Left, value_left, residual, stopped}
 use Rattle.cedar_evaluator_model.specs.OfLaws.Calls.{bare_called, Agrees}
 use Rattle.cedar_evaluator_model.specs.Steps.{errs, answer_left, call_left, called_left, made_inserted, made_members, Pieces, pieces, halted, with_piece, from_pieces}

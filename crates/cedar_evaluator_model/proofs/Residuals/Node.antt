@@ -3,24 +3,24 @@ use Rattle.std.proofs.Common.{◌≡◌, ℕ, zero, suc, true, false, List, [], 
 use Rattle.std.specs.Prelude.{Option, Some, None, map, codes, zip, IsSome}
 use Rattle.cedar_expr_model.specs.Name.{Text}
 use Rattle.cedar_expr_model.specs.Uid.{Uid}
-use Rattle.cedar_expr_model.specs.Whole.Value.{entity, V, record_of, field}
-use Rattle.cedar_expr_model.specs.Whole.Canonical.{set_made}
-use Rattle.cedar_expr_model.specs.Whole.Tree.{CoreType, entity_core, BinaryOp, Tree, lit, var, slot, unknown, choice, both, either, unary, binary, call, get_attr, has_attr, has_path, like, is_type, set_literal, record_literal, Trees, no_trees, tree, TreeFields, no_tree_fields, tree_field, Var, principal, action, resource, context}
-use Rattle.cedar_expr_model.specs.Whole.Builder.{trees, tree_fields}
-use Rattle.cedar_expr_model.specs.Whole.Parts.{listed}
-use Rattle.cedar_expr_model.proofs.Whole.Gathering.{EachAmong, EachInFields}
-use Rattle.cedar_expr_model.specs.Whole.Made.{Made, made_prim, made_set, made_record, bare, bare_fields, written}
-use Rattle.cedar_store_model.specs.Whole.Outcome.{Res, val, err, bind}
-use Rattle.cedar_store_model.specs.Whole.World.{World}
-use Rattle.cedar_store_model.specs.Whole.Operators.{says, applied, like_pattern, of_type, called}
-use Rattle.cedar_store_model.proofs.Whole.Named.{bound_value, known_uid}
-use Rattle.cedar_store_model.specs.Whole.Reads.{attribute_read, attribute_tested}
-use Rattle.cedar_store_model.specs.Whole.Meaning.{Means, variable, combined, slot_value, outcome_of, outcomes_of, field_outcomes_of, path_tested}
-use Rattle.cedar_store_model.specs.Whole.Knowledge.{IsWhole}
-use Rattle.cedar_store_model.specs.Whole.OfLaws.Extends.{Keeps}
-use Rattle.cedar_store_model.proofs.Whole.Built.{conjunction_outcome, disjunction_outcome}
-use Rattle.cedar_store_model.proofs.Whole.Known.{there}
-use Rattle.cedar_store_model.proofs.Whole.Meaning.{means_outcome, outcome_means}
+use Rattle.cedar_expr_model.specs.Value.{entity, V, record_of, field}
+use Rattle.cedar_expr_model.specs.Canonical.{set_made}
+use Rattle.cedar_expr_model.specs.Tree.{CoreType, entity_core, BinaryOp, Tree, lit, var, slot, unknown, choice, both, either, unary, binary, call, get_attr, has_attr, has_path, like, is_type, set_literal, record_literal, Trees, no_trees, tree, TreeFields, no_tree_fields, tree_field, Var, principal, action, resource, context}
+use Rattle.cedar_expr_model.specs.Builder.{trees, tree_fields}
+use Rattle.cedar_expr_model.specs.Parts.{listed}
+use Rattle.cedar_expr_model.proofs.Gathering.{EachAmong, EachInFields}
+use Rattle.cedar_expr_model.specs.Made.{Made, made_prim, made_set, made_record, bare, bare_fields, written}
+use Rattle.cedar_store_model.specs.Outcome.{Res, val, err, bind}
+use Rattle.cedar_store_model.specs.World.{World}
+use Rattle.cedar_store_model.specs.Operators.{says, applied, like_pattern, of_type, called}
+use Rattle.cedar_store_model.proofs.Named.{bound_value, known_uid}
+use Rattle.cedar_store_model.specs.Reads.{attribute_read, attribute_tested}
+use Rattle.cedar_store_model.specs.Meaning.{Means, variable, combined, slot_value, outcome_of, outcomes_of, field_outcomes_of, path_tested}
+use Rattle.cedar_store_model.specs.Knowledge.{IsWhole}
+use Rattle.cedar_store_model.specs.OfLaws.Extends.{Keeps}
+use Rattle.cedar_store_model.proofs.Built.{conjunction_outcome, disjunction_outcome}
+use Rattle.cedar_store_model.proofs.Known.{there}
+use Rattle.cedar_store_model.proofs.Meaning.{means_outcome, outcome_means}
 use Rattle.cedar_evaluator_model.specs.Scope.{Scope, Entry, uid, unknown_uid, Context, closed, residual_fields, unknown_context, Left, value_left, residual, stopped, fault, limit}
 use Rattle.cedar_evaluator_model.specs.OfLaws.Calls.{Agrees}
 use Rattle.cedar_evaluator_model.specs.Steps.{truth_left, on_value, best, kind_of_value, kind_of_unknown, with_residual, combined_left, attribute_of, test_of, path_of, called_left, made_members}

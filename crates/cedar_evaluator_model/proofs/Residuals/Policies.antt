@@ -2,18 +2,18 @@
 use Rattle.std.proofs.Common.{◌≡◌, ◌↔◌, ℕ, Bool, true, false, refl, sym, ap, ◌∙◌, subst, ◌⊎◌, inl, inr}
 use Rattle.std.specs.Prelude.{Option, Some, None, IsSome}
 use Rattle.std.specs.Bool.{Decides}
-use Rattle.cedar_expr_model.specs.Whole.Value.{truth, V}
-use Rattle.cedar_expr_model.specs.Whole.Builder.{conjunction}
-use Rattle.cedar_expr_model.specs.Whole.Tree.{Tree, lit}
-use Rattle.cedar_expr_model.specs.Whole.Made.{made_prim}
-use Rattle.cedar_store_model.specs.Whole.Outcome.{Res, val, err}
-use Rattle.cedar_store_model.specs.Whole.World.{World}
-use Rattle.cedar_store_model.specs.Whole.Meaning.{outcome_of}
-use Rattle.cedar_store_model.specs.Whole.Policy.{Policy, Effect, SlotBindings, binding_of, no_bindings, condition}
-use Rattle.cedar_store_model.specs.Whole.Answer.{with_slots, IsSatisfied, is_true, satisfied}
-use Rattle.cedar_store_model.specs.Whole.AnswerLaws.{Holds}
-use Rattle.cedar_store_model.proofs.Whole.Conditions.{holds_in, holds-Decides, satisfied_holds, satisfied-Decides, conjunction_true}
-use Rattle.cedar_store_model.proofs.Whole.Known.{there}
+use Rattle.cedar_expr_model.specs.Value.{truth, V}
+use Rattle.cedar_expr_model.specs.Builder.{conjunction}
+use Rattle.cedar_expr_model.specs.Tree.{Tree, lit}
+use Rattle.cedar_expr_model.specs.Made.{made_prim}
+use Rattle.cedar_store_model.specs.Outcome.{Res, val, err}
+use Rattle.cedar_store_model.specs.World.{World}
+use Rattle.cedar_store_model.specs.Meaning.{outcome_of}
+use Rattle.cedar_store_model.specs.Policy.{Policy, Effect, SlotBindings, binding_of, no_bindings, condition}
+use Rattle.cedar_store_model.specs.Answer.{with_slots, IsSatisfied, is_true, satisfied}
+use Rattle.cedar_store_model.specs.AnswerLaws.{Holds}
+use Rattle.cedar_store_model.proofs.Conditions.{holds_in, holds-Decides, satisfied_holds, satisfied-Decides, conjunction_true}
+use Rattle.cedar_store_model.proofs.Known.{there}
 use Rattle.cedar_evaluator_model.specs.Scope.{Scope, fault, limit, Left, value_left, residual, stopped}
 use Rattle.cedar_evaluator_model.specs.OfLaws.Calls.{Agrees}
 use Rattle.cedar_evaluator_model.specs.Steps.{truth_left, on_value, truth_wanted}

@@ -7,25 +7,25 @@ use Rattle.std.specs.Map.{lookup}
 use Rattle.std.specs.Option.{option_map_or}
 use Rattle.cedar_expr_model.specs.Name.{Text}
 use Rattle.cedar_expr_model.specs.Uid.{Uid, uid_text}
-use Rattle.cedar_expr_model.specs.Whole.Value.{text, entity, V, prim, field_of, truth_value}
-use Rattle.cedar_expr_model.specs.Whole.Canonical.{is_subset, is_disjoint}
-use Rattle.cedar_expr_model.specs.Whole.Tree.{CoreType, entity_core, Tree, unknown, binary, has_path, BinaryOp, equal, less, less_or_equal, plus, difference, times, is_in, contains, contains_all, contains_any, get_tag, has_tag}
-use Rattle.cedar_expr_model.specs.Whole.Builder.{path_test}
-use Rattle.cedar_expr_model.proofs.Whole.Gathering.{EachIn}
-use Rattle.cedar_expr_model.specs.Whole.Made.{Made, made_prim, made_record, MadeFields, no_made_fields, made_field, bare, bare_fields, written}
-use Rattle.cedar_expr_model.specs.Whole.Table.{Table}
-use Rattle.cedar_expr_model.specs.Whole.ValueParts.{Part, known, left}
-use Rattle.cedar_expr_model.specs.Whole.OfLaws.Represented.{HaveMade}
-use Rattle.cedar_expr_model.proofs.Whole.CoreTypes.{fits-Decides}
-use Rattle.cedar_store_model.specs.Whole.Outcome.{Res, val, err, wrong_type, missing_attribute_or_tag, missing_field, bind}
-use Rattle.cedar_store_model.specs.Whole.World.{World, Found, held, missing, not_loaded}
-use Rattle.cedar_store_model.specs.Whole.Operators.{says, ordered}
-use Rattle.cedar_store_model.proofs.Whole.Named.{bound_value, attributes_of, tags_of, tag_read, tag_tested}
-use Rattle.cedar_store_model.specs.Whole.Reads.{part_value, part_read, part_tested, attribute_read, attribute_tested, uids_in, is_in_some, found_in, within}
-use Rattle.cedar_store_model.specs.Whole.Meaning.{combined, outcome_of, path_tested, picked}
-use Rattle.cedar_store_model.specs.Whole.OfLaws.Extends.{Keeps}
-use Rattle.cedar_store_model.proofs.Whole.Meaning.{means_outcome}
-use Rattle.cedar_store_model.specs.Whole.Store.{stand_in}
+use Rattle.cedar_expr_model.specs.Value.{text, entity, V, prim, field_of, truth_value}
+use Rattle.cedar_expr_model.specs.Canonical.{is_subset, is_disjoint}
+use Rattle.cedar_expr_model.specs.Tree.{CoreType, entity_core, Tree, unknown, binary, has_path, BinaryOp, equal, less, less_or_equal, plus, difference, times, is_in, contains, contains_all, contains_any, get_tag, has_tag}
+use Rattle.cedar_expr_model.specs.Builder.{path_test}
+use Rattle.cedar_expr_model.proofs.Gathering.{EachIn}
+use Rattle.cedar_expr_model.specs.Made.{Made, made_prim, made_record, MadeFields, no_made_fields, made_field, bare, bare_fields, written}
+use Rattle.cedar_expr_model.specs.Table.{Table}
+use Rattle.cedar_expr_model.specs.ValueParts.{Part, known, left}
+use Rattle.cedar_expr_model.specs.OfLaws.Represented.{HaveMade}
+use Rattle.cedar_expr_model.proofs.CoreTypes.{fits-Decides}
+use Rattle.cedar_store_model.specs.Outcome.{Res, val, err, wrong_type, missing_attribute_or_tag, missing_field, bind}
+use Rattle.cedar_store_model.specs.World.{World, Found, held, missing, not_loaded}
+use Rattle.cedar_store_model.specs.Operators.{says, ordered}
+use Rattle.cedar_store_model.proofs.Named.{bound_value, attributes_of, tags_of, tag_read, tag_tested}
+use Rattle.cedar_store_model.specs.Reads.{part_value, part_read, part_tested, attribute_read, attribute_tested, uids_in, is_in_some, found_in, within}
+use Rattle.cedar_store_model.specs.Meaning.{combined, outcome_of, path_tested, picked}
+use Rattle.cedar_store_model.specs.OfLaws.Extends.{Keeps}
+use Rattle.cedar_store_model.proofs.Meaning.{means_outcome}
+use Rattle.cedar_store_model.specs.Store.{stand_in}
 use Rattle.cedar_evaluator_model.specs.Scope.{Scope, Left, value_left, residual}
 use Rattle.cedar_evaluator_model.specs.Steps.{errs, truth_left, mapped, part_left, tag_left, made_named, attribute_of, test_of, path_step, path_of, get_tag_found, has_tag_found, tag_of, in_found, in_of, left_of, combined_left}
 use Rattle.cedar_evaluator_model.specs.OfLaws.WellMade.{IsWellMade, IsMadeWell, IsPartMadeWell, IsFoundMadeWell, AllMadeWell}

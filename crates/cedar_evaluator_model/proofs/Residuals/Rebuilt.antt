@@ -4,18 +4,18 @@ use Rattle.std.proofs.Common.{◌≡◌, true, false, List, [], ◌∷◌, sym, 
 use Rattle.std.specs.Prelude.{Option, Some}
 use Rattle.cedar_expr_model.specs.Name.{Text}
 use Rattle.cedar_expr_model.specs.Uid.{Uid}
-use Rattle.cedar_expr_model.specs.Whole.Value.{truth, V, prim, record_of, Fields, no_fields, field}
-use Rattle.cedar_expr_model.specs.Whole.Canonical.{set_made}
-use Rattle.cedar_expr_model.specs.Whole.Builder.{Builder, trees, tree_fields, tree_builder, built, built_list, built_fields}
-use Rattle.cedar_expr_model.specs.Whole.Tree.{CoreType, SlotId, Tree, lit, var, slot, unknown, choice, both, either, unary, binary, call, get_attr, has_attr, has_path, like, is_type, set_literal, record_literal, Trees, no_trees, tree, TreeFields, no_tree_fields, tree_field}
-use Rattle.cedar_expr_model.proofs.Whole.Gathering.{EachIn, EachAmong, EachInFields}
-use Rattle.cedar_store_model.specs.Whole.Outcome.{Res, val, bind}
-use Rattle.cedar_store_model.specs.Whole.World.{World}
-use Rattle.cedar_store_model.specs.Whole.Operators.{says, applied, like_pattern, of_type, called}
-use Rattle.cedar_store_model.proofs.Whole.Named.{bound_value}
-use Rattle.cedar_store_model.specs.Whole.Reads.{attribute_read, attribute_tested}
-use Rattle.cedar_store_model.specs.Whole.Meaning.{variable, combined, picked, slot_value, truth_asked, outcome_of, outcomes_of, field_outcomes_of, path_tested}
-use Rattle.cedar_store_model.proofs.Whole.Built.{conjunction_outcome, disjunction_outcome}
+use Rattle.cedar_expr_model.specs.Value.{truth, V, prim, record_of, Fields, no_fields, field}
+use Rattle.cedar_expr_model.specs.Canonical.{set_made}
+use Rattle.cedar_expr_model.specs.Builder.{Builder, trees, tree_fields, tree_builder, built, built_list, built_fields}
+use Rattle.cedar_expr_model.specs.Tree.{CoreType, SlotId, Tree, lit, var, slot, unknown, choice, both, either, unary, binary, call, get_attr, has_attr, has_path, like, is_type, set_literal, record_literal, Trees, no_trees, tree, TreeFields, no_tree_fields, tree_field}
+use Rattle.cedar_expr_model.proofs.Gathering.{EachIn, EachAmong, EachInFields}
+use Rattle.cedar_store_model.specs.Outcome.{Res, val, bind}
+use Rattle.cedar_store_model.specs.World.{World}
+use Rattle.cedar_store_model.specs.Operators.{says, applied, like_pattern, of_type, called}
+use Rattle.cedar_store_model.proofs.Named.{bound_value}
+use Rattle.cedar_store_model.specs.Reads.{attribute_read, attribute_tested}
+use Rattle.cedar_store_model.specs.Meaning.{variable, combined, picked, slot_value, truth_asked, outcome_of, outcomes_of, field_outcomes_of, path_tested}
+use Rattle.cedar_store_model.proofs.Built.{conjunction_outcome, disjunction_outcome}
 use Rattle.cedar_evaluator_model.proofs.SameReads.{same_variable, same_read, same_tested, same_path, same_combined}
 use Rattle.cedar_evaluator_model.proofs.Residuals.Reads.{path_same, path_fits}
 use Rattle.cedar_evaluator_model.proofs.Residuals.Stands.{each_conjunction, each_disjunction}

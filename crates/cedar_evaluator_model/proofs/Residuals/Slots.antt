@@ -4,22 +4,22 @@ use Rattle.std.specs.Prelude.{Option, Some, None, option_map}
 use Rattle.std.specs.Option.{option_map_or}
 use Rattle.cedar_expr_model.specs.Name.{Text}
 use Rattle.cedar_expr_model.specs.Uid.{Uid}
-use Rattle.cedar_expr_model.specs.Whole.Value.{V, entity}
-use Rattle.cedar_expr_model.specs.Whole.Tree.{CoreType, SlotId, principal_slot, resource_slot, Tree, lit, slot, unknown}
-use Rattle.cedar_expr_model.specs.Whole.Builder.{tree_builder, built}
-use Rattle.cedar_expr_model.proofs.Whole.Gathering.{EachIn}
-use Rattle.cedar_expr_model.specs.Whole.Made.{Made, bare, written}
-use Rattle.cedar_expr_model.specs.Whole.Substitution.{Bindings, substituted}
-use Rattle.cedar_expr_model.proofs.Whole.Substituting.{bound_or}
-use Rattle.cedar_store_model.specs.Whole.Outcome.{Res, val, err, bind}
-use Rattle.cedar_store_model.specs.Whole.World.{World}
-use Rattle.cedar_store_model.proofs.Whole.Named.{bound_value}
-use Rattle.cedar_store_model.specs.Whole.Meaning.{Means, slot_value, outcome_of}
-use Rattle.cedar_store_model.specs.Whole.OfLaws.Extends.{Keeps}
-use Rattle.cedar_store_model.specs.Whole.Policy.{SlotBindings, binding_of, no_bindings}
-use Rattle.cedar_store_model.specs.Whole.Answer.{with_slots}
-use Rattle.cedar_store_model.proofs.Whole.Built.{same_built}
-use Rattle.cedar_store_model.proofs.Whole.Meaning.{means_outcome, outcome_means}
+use Rattle.cedar_expr_model.specs.Value.{V, entity}
+use Rattle.cedar_expr_model.specs.Tree.{CoreType, SlotId, principal_slot, resource_slot, Tree, lit, slot, unknown}
+use Rattle.cedar_expr_model.specs.Builder.{tree_builder, built}
+use Rattle.cedar_expr_model.proofs.Gathering.{EachIn}
+use Rattle.cedar_expr_model.specs.Made.{Made, bare, written}
+use Rattle.cedar_expr_model.specs.Substitution.{Bindings, substituted}
+use Rattle.cedar_expr_model.proofs.Substituting.{bound_or}
+use Rattle.cedar_store_model.specs.Outcome.{Res, val, err, bind}
+use Rattle.cedar_store_model.specs.World.{World}
+use Rattle.cedar_store_model.proofs.Named.{bound_value}
+use Rattle.cedar_store_model.specs.Meaning.{Means, slot_value, outcome_of}
+use Rattle.cedar_store_model.specs.OfLaws.Extends.{Keeps}
+use Rattle.cedar_store_model.specs.Policy.{SlotBindings, binding_of, no_bindings}
+use Rattle.cedar_store_model.specs.Answer.{with_slots}
+use Rattle.cedar_store_model.proofs.Built.{same_built}
+use Rattle.cedar_store_model.proofs.Meaning.{means_outcome, outcome_means}
 use Rattle.cedar_evaluator_model.specs.OfLaws.WellMade.{IsMadeWell}
 use Rattle.cedar_evaluator_model.specs.Response.{slots_bound}
 use Rattle.cedar_evaluator_model.proofs.Written.{written_means, no_unknown}

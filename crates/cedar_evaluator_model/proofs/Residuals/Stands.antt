@@ -2,17 +2,17 @@
 use Rattle.std.proofs.Common.{◌≡◌, Bool, true, false, refl, sym, ap, ◌∙◌, subst}
 use Rattle.std.specs.Prelude.{Option, Some, None}
 use Rattle.cedar_expr_model.specs.Name.{Text}
-use Rattle.cedar_expr_model.specs.Whole.Value.{truth, V, prim, set_of, record_of, extension}
-use Rattle.cedar_expr_model.specs.Whole.Tree.{CoreType, Tree, lit, both, either}
-use Rattle.cedar_expr_model.specs.Whole.Builder.{written_truth, folded, conjunction, disjunction}
-use Rattle.cedar_expr_model.proofs.Whole.Gathering.{EachIn}
-use Rattle.cedar_expr_model.specs.Whole.Made.{Made, made_prim, bare, written}
-use Rattle.cedar_store_model.specs.Whole.Outcome.{Fault, Res, val, err, wrong_type, bind}
-use Rattle.cedar_store_model.specs.Whole.World.{World}
-use Rattle.cedar_store_model.specs.Whole.Meaning.{picked, truth_asked, outcome_of}
-use Rattle.cedar_store_model.specs.Whole.OfLaws.Extends.{Keeps}
-use Rattle.cedar_store_model.proofs.Whole.Built.{conjunction_outcome, disjunction_outcome}
-use Rattle.cedar_store_model.proofs.Whole.Meaning.{means_outcome}
+use Rattle.cedar_expr_model.specs.Value.{truth, V, prim, set_of, record_of, extension}
+use Rattle.cedar_expr_model.specs.Tree.{CoreType, Tree, lit, both, either}
+use Rattle.cedar_expr_model.specs.Builder.{written_truth, folded, conjunction, disjunction}
+use Rattle.cedar_expr_model.proofs.Gathering.{EachIn}
+use Rattle.cedar_expr_model.specs.Made.{Made, made_prim, bare, written}
+use Rattle.cedar_store_model.specs.Outcome.{Fault, Res, val, err, wrong_type, bind}
+use Rattle.cedar_store_model.specs.World.{World}
+use Rattle.cedar_store_model.specs.Meaning.{picked, truth_asked, outcome_of}
+use Rattle.cedar_store_model.specs.OfLaws.Extends.{Keeps}
+use Rattle.cedar_store_model.proofs.Built.{conjunction_outcome, disjunction_outcome}
+use Rattle.cedar_store_model.proofs.Meaning.{means_outcome}
 use Rattle.cedar_evaluator_model.specs.Scope.{fault, limit, Left, value_left, residual, stopped}
 use Rattle.cedar_evaluator_model.specs.Steps.{on_value, best, left_of, truth_wanted, picks}
 use Rattle.cedar_evaluator_model.specs.Evaluation.{right_left}

@@ -2,8 +2,8 @@
 use Rattle.std.proofs.Common.{rules, ◌≡◌, Bool, true, false, cond, refl, sym, subst, [], ◌∷◌}
 use Rattle.cedar_expr_model.specs.Uid.{Uid, uid_eq, uid_text}
 use Rattle.cedar_expr_model.proofs.Equality.{uid_eq-Decides}
-use Rattle.cedar_store_model.specs.Whole.World.{held, missing, not_loaded}
-use Rattle.cedar_store_model.specs.Whole.Knowledge.{IsSettled}
+use Rattle.cedar_store_model.specs.World.{held, missing, not_loaded}
+use Rattle.cedar_store_model.specs.Knowledge.{IsSettled}
 use Rattle.cedar_evaluator_model.specs.OfLaws.Calls.{Agrees}
 use Rattle.cedar_evaluator_model.specs.OfLaws.WellMade.{IsFoundMadeWell, AllMadeWell}
 use Rattle.cedar_evaluator_model.specs.OfLaws.Completing.{NameMeans, FoundMeans, Completes}

@@ -2,9 +2,9 @@
 -- Rule: extension functions; partial evaluation (docs/RULES.md).
 use Rattle.std.specs.Prelude.{◌≡◌, List, map}
 use Rattle.cedar_expr_model.specs.Name.{Name}
-use Rattle.cedar_expr_model.specs.Whole.Made.{Made, bare}
-use Rattle.cedar_expr_model.specs.Whole.Table.{Called, gives, fails, leaves}
-use Rattle.cedar_expr_model.specs.Whole.OfLaws.Fair.{IsTaken}
+use Rattle.cedar_expr_model.specs.Made.{Made, bare}
+use Rattle.cedar_expr_model.specs.Table.{Called, gives, fails, leaves}
+use Rattle.cedar_expr_model.specs.OfLaws.Fair.{IsTaken}
 use Rattle.cedar_evaluator_model.specs.Scope.{MadeCalled, makes, faults, leaves_unknown, Scope}
 
 -- the answer with the value alone

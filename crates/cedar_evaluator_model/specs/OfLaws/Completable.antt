@@ -5,12 +5,12 @@ use Rattle.std.specs.List.{list_any}
 use Rattle.std.specs.Str.{bytes_eq}
 use Rattle.cedar_expr_model.specs.Name.{Text}
 use Rattle.cedar_expr_model.specs.Uid.{Uid}
-use Rattle.cedar_expr_model.specs.Whole.Uids.{is_uid}
-use Rattle.cedar_expr_model.specs.Whole.Value.{V, prim, entity, record_of}
-use Rattle.cedar_expr_model.specs.Whole.Tree.{record_literal}
-use Rattle.cedar_expr_model.specs.Whole.Made.{bare, bare_fields}
-use Rattle.cedar_store_model.specs.Whole.World.{World, not_loaded}
-use Rattle.cedar_store_model.specs.Whole.OfLaws.Extends.{Keeps}
+use Rattle.cedar_expr_model.specs.Uids.{is_uid}
+use Rattle.cedar_expr_model.specs.Value.{V, prim, entity, record_of}
+use Rattle.cedar_expr_model.specs.Tree.{record_literal}
+use Rattle.cedar_expr_model.specs.Made.{bare, bare_fields}
+use Rattle.cedar_store_model.specs.World.{World, not_loaded}
+use Rattle.cedar_store_model.specs.OfLaws.Extends.{Keeps}
 use Rattle.cedar_evaluator_model.specs.Scope.{Scope, Entry, uid, unknown_uid, Context, closed, residual_fields, unknown_context}
 use Rattle.cedar_evaluator_model.specs.Known.{known_found}
 use Rattle.cedar_evaluator_model.specs.OfLaws.Whole.{HoldsValues}

@@ -3,13 +3,13 @@
 use Rattle.std.specs.Prelude.{◌≡◌, List, Option, Some, None, option_map, codes, IfSome}
 use Rattle.cedar_expr_model.specs.Name.{Text, Name}
 use Rattle.cedar_expr_model.specs.Uid.{Uid, uid_text}
-use Rattle.cedar_expr_model.specs.Whole.Value.{V, prim, entity, record_of, Fields}
-use Rattle.cedar_expr_model.specs.Whole.Tree.{SlotId, record_literal}
-use Rattle.cedar_expr_model.specs.Whole.Made.{Made, bare, bare_fields}
-use Rattle.cedar_expr_model.specs.Whole.ValueParts.{Part, known, left}
-use Rattle.cedar_store_model.specs.Whole.World.{World, Entity, Found, held, missing, not_loaded}
-use Rattle.cedar_store_model.specs.Whole.Knowledge.{IsWhole}
-use Rattle.cedar_store_model.specs.Whole.OfLaws.Extends.{Keeps}
+use Rattle.cedar_expr_model.specs.Value.{V, prim, entity, record_of, Fields}
+use Rattle.cedar_expr_model.specs.Tree.{SlotId, record_literal}
+use Rattle.cedar_expr_model.specs.Made.{Made, bare, bare_fields}
+use Rattle.cedar_expr_model.specs.ValueParts.{Part, known, left}
+use Rattle.cedar_store_model.specs.World.{World, Entity, Found, held, missing, not_loaded}
+use Rattle.cedar_store_model.specs.Knowledge.{IsWhole}
+use Rattle.cedar_store_model.specs.OfLaws.Extends.{Keeps}
 use Rattle.cedar_evaluator_model.specs.Scope.{Scope, Entry, uid, unknown_uid, Context, closed, residual_fields, unknown_context}
 use Rattle.std.specs.Map.{lookup}
 use Rattle.std.specs.Str.{bytes_eq}

@@ -2,13 +2,13 @@
 -- Rule: partial evaluation; completions (docs/RULES.md).
 use Rattle.std.specs.Prelude.{◌≡◌, ◌≤◌, ℕ, List, map, None}
 use Rattle.cedar_expr_model.specs.Name.{Text, Name}
-use Rattle.cedar_expr_model.specs.Whole.Value.{V}
-use Rattle.cedar_expr_model.specs.Whole.Tree.{Tree, nesting}
-use Rattle.cedar_expr_model.specs.Whole.Made.{Made, bare}
-use Rattle.cedar_store_model.specs.Whole.Outcome.{Fault, Res, val, err}
-use Rattle.cedar_store_model.specs.Whole.World.{World}
-use Rattle.cedar_store_model.specs.Whole.Meaning.{Means}
-use Rattle.cedar_expr_model.specs.Whole.OfLaws.Fair.{IsTaken}
+use Rattle.cedar_expr_model.specs.Value.{V}
+use Rattle.cedar_expr_model.specs.Tree.{Tree, nesting}
+use Rattle.cedar_expr_model.specs.Made.{Made, bare}
+use Rattle.cedar_store_model.specs.Outcome.{Fault, Res, val, err}
+use Rattle.cedar_store_model.specs.World.{World}
+use Rattle.cedar_store_model.specs.Meaning.{Means}
+use Rattle.cedar_expr_model.specs.OfLaws.Fair.{IsTaken}
 use Rattle.cedar_evaluator_model.specs.Scope.{Scope, leaves_unknown, fault, limit, Left, value_left, residual, stopped}
 use Rattle.cedar_evaluator_model.specs.Evaluation.{evaluated}
 use Rattle.cedar_evaluator_model.specs.Known.{known_world}

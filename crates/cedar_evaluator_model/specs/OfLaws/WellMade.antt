@@ -3,16 +3,16 @@
 use Rattle.std.specs.Prelude.{◌≡◌, List, map, true, Option, IfSome, option_and_then}
 use Rattle.cedar_expr_model.specs.Name.{Text, Name}
 use Rattle.cedar_expr_model.specs.Uid.{Uid}
-use Rattle.cedar_expr_model.specs.Whole.Canonical.{are_rising}
-use Rattle.cedar_expr_model.specs.Whole.Made.{Made, made_record, bare}
-use Rattle.cedar_expr_model.specs.Whole.Table.{Table}
-use Rattle.cedar_expr_model.specs.Whole.OfLaws.Fair.{IsTaken}
-use Rattle.cedar_expr_model.specs.Whole.ValueParts.{Part, known_value}
-use Rattle.cedar_store_model.specs.Whole.World.{Found, held}
+use Rattle.cedar_expr_model.specs.Canonical.{are_rising}
+use Rattle.cedar_expr_model.specs.Made.{Made, made_record, bare}
+use Rattle.cedar_expr_model.specs.Table.{Table}
+use Rattle.cedar_expr_model.specs.OfLaws.Fair.{IsTaken}
+use Rattle.cedar_expr_model.specs.ValueParts.{Part, known_value}
+use Rattle.cedar_store_model.specs.World.{Found, held}
 use Rattle.cedar_evaluator_model.specs.Scope.{Scope, makes, Context, closed}
 use Rattle.std.specs.Map.{lookup}
 use Rattle.std.specs.Str.{bytes_eq}
-use Rattle.cedar_expr_model.specs.Whole.OfLaws.Represented.{IsMade}
+use Rattle.cedar_expr_model.specs.OfLaws.Represented.{IsMade}
 
 -- the members of each set in it rise, and each extension value is what its call gives
 abbrev pub IsWellMade : Table → Made → Type 0

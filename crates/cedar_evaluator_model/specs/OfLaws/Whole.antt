@@ -3,14 +3,14 @@
 use Rattle.std.specs.Prelude.{◌≡◌, List, true, Option, Some, IsSome}
 use Rattle.cedar_expr_model.specs.Name.{Text, Name}
 use Rattle.cedar_expr_model.specs.Uid.{Uid}
-use Rattle.cedar_expr_model.specs.Whole.Value.{V}
-use Rattle.cedar_expr_model.specs.Whole.Tree.{CoreType, Tree}
-use Rattle.cedar_expr_model.specs.Whole.Unknowns.{EachUnknown}
-use Rattle.cedar_expr_model.specs.Whole.Table.{Table, leaves}
-use Rattle.cedar_expr_model.specs.Whole.OfLaws.Fair.{IsTaken}
-use Rattle.cedar_expr_model.specs.Whole.Substitution.{IsOfType}
-use Rattle.cedar_store_model.specs.Whole.World.{Found, held}
-use Rattle.cedar_store_model.specs.Whole.Knowledge.{IsSettled, holds_values}
+use Rattle.cedar_expr_model.specs.Value.{V}
+use Rattle.cedar_expr_model.specs.Tree.{CoreType, Tree}
+use Rattle.cedar_expr_model.specs.Unknowns.{EachUnknown}
+use Rattle.cedar_expr_model.specs.Table.{Table, leaves}
+use Rattle.cedar_expr_model.specs.OfLaws.Fair.{IsTaken}
+use Rattle.cedar_expr_model.specs.Substitution.{IsOfType}
+use Rattle.cedar_store_model.specs.World.{Found, held}
+use Rattle.cedar_store_model.specs.Knowledge.{IsSettled, holds_values}
 use Rattle.cedar_evaluator_model.specs.Scope.{Scope}
 use Rattle.cedar_evaluator_model.specs.Known.{known_world}
 

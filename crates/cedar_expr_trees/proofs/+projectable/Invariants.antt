@@ -1,7 +1,7 @@
 use Rattle.std.proofs.Common.{◌≡◌, true, take}
 use Rattle.std.specs.BTreeMap.{values}
 use Rattle.std.specs.List.{list_all}
-use Rattle.cedar_expr_model.specs.Whole.Parts.{is_projectable}
+use Rattle.cedar_expr_model.specs.Parts.{is_projectable}
 use Rattle.cedar_expr_trees.specs.Trees.{tree_of}
 use Rattle.cedar_expr_trees.proofs.+projectable.Given as goal
 

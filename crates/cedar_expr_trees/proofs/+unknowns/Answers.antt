@@ -1,6 +1,6 @@
 use Rattle.std.proofs.Common.{sym, ap, ◌∙◌, rules, arith}
 use Rattle.std.specs.List.{list_any}
-use Rattle.cedar_expr_model.specs.Whole.Unknowns.{has_unknown}
+use Rattle.cedar_expr_model.specs.Unknowns.{has_unknown}
 use Rattle.cedar_expr_trees.specs.Trees.{kind_tree, tree_of}
 use Rattle.cedar_expr_trees.proofs.Sizes.{arguments_are_smaller}
 use Rattle.cedar_expr_trees.proofs.ByParts.{call_has_unknown}

@@ -1,7 +1,7 @@
 use Rattle.std.proofs.Common.{◌≡◌, false, take}
 use Rattle.std.specs.BTreeMap.{values}
 use Rattle.std.specs.List.{list_any}
-use Rattle.cedar_expr_model.specs.Whole.Unknowns.{has_unknown}
+use Rattle.cedar_expr_model.specs.Unknowns.{has_unknown}
 use Rattle.cedar_expr_trees.specs.Trees.{tree_of}
 use Rattle.cedar_expr_trees.proofs.+unknowns.Given as goal
 

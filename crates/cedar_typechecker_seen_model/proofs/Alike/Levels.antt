@@ -3,19 +3,19 @@ use Rattle.std.proofs.Common.{◌≡◌, ◌∙◌, ℕ, ◌+◌, List, [], ◌�
 use Rattle.std.specs.Option.{option_map_or}
 use Rattle.std.specs.Str.{bytes_eq}
 use Rattle.cedar_expr_model.specs.Name.{Text}
-use Rattle.cedar_expr_model.specs.Whole.Table.{Table}
-use Rattle.cedar_expr_model.specs.Whole.Tree.{Tree, lit, slot, choice, both, either, unary, binary, get_tag, call, get_attr, has_attr, has_path, like, is_type, set_literal, record_literal, Trees, no_trees, tree, TreeFields, no_tree_fields, tree_field}
-use Rattle.cedar_expr_model.specs.Whole.Value.{truth, long, text, entity, Literal}
-use Rattle.cedar_store_model.specs.Whole.Looks.{looks_up}
-use Rattle.cedar_store_model.specs.Whole.Policy.{Policy, condition}
-use Rattle.cedar_schema_model.specs.Whole.Environment.{Environment}
-use Rattle.cedar_schema_model.specs.Whole.Schema.{Schema}
-use Rattle.cedar_schema_model.specs.Whole.Types.{Ty, Mode}
-use Rattle.cedar_typechecker_model.specs.Whole.Facts.{Facts, union, no_facts}
-use Rattle.cedar_typechecker_model.specs.Whole.Levels.{joined, further, stepped, is_entity, literal_count, after_test, target_after_test, entity_steps, fields_before, path_violations, on_entity, violations, violations_among, violations_in_fields, target, target_in_fields, after, unless_false, unless_true}
-use Rattle.cedar_typechecker_model.specs.Whole.Rules.{Setting}
-use Rattle.cedar_typechecker_model.specs.Whole.Typing.{step_type, judgement, type_under}
-use Rattle.cedar_typechecker_model.specs.Whole.Verdicts.{is_bool, violations_in}
+use Rattle.cedar_expr_model.specs.Table.{Table}
+use Rattle.cedar_expr_model.specs.Tree.{Tree, lit, slot, choice, both, either, unary, binary, get_tag, call, get_attr, has_attr, has_path, like, is_type, set_literal, record_literal, Trees, no_trees, tree, TreeFields, no_tree_fields, tree_field}
+use Rattle.cedar_expr_model.specs.Value.{truth, long, text, entity, Literal}
+use Rattle.cedar_store_model.specs.Looks.{looks_up}
+use Rattle.cedar_store_model.specs.Policy.{Policy, condition}
+use Rattle.cedar_schema_model.specs.Environment.{Environment}
+use Rattle.cedar_schema_model.specs.Schema.{Schema}
+use Rattle.cedar_schema_model.specs.Types.{Ty, Mode}
+use Rattle.cedar_typechecker_model.specs.Facts.{Facts, union, no_facts}
+use Rattle.cedar_typechecker_model.specs.Levels.{joined, further, stepped, is_entity, literal_count, after_test, target_after_test, entity_steps, fields_before, path_violations, on_entity, violations, violations_among, violations_in_fields, target, target_in_fields, after, unless_false, unless_true}
+use Rattle.cedar_typechecker_model.specs.Rules.{Setting}
+use Rattle.cedar_typechecker_model.specs.Typing.{step_type, judgement, type_under}
+use Rattle.cedar_typechecker_model.specs.Verdicts.{is_bool, violations_in}
 use Rattle.cedar_typechecker_seen_model.specs.Alike.{AnswersAlike, HasSameSignatures}
 use Rattle.cedar_typechecker_seen_model.proofs.Alike.Typing.{first, second, same_step, same_judgement, same_type}
 

@@ -3,17 +3,17 @@ use Rattle.std.proofs.Common.{◌≡◌, ◌∙◌, ℕ, Bool, true, ◌&&◌, L
 use Rattle.std.specs.Prelude.{Contains, map}
 use Rattle.std.specs.List.{list_all, filter, flat_map}
 use Rattle.cedar_expr_model.specs.Name.{Name}
-use Rattle.cedar_expr_model.specs.Whole.Lists.{is_nil}
-use Rattle.cedar_expr_model.specs.Whole.Table.{Table}
+use Rattle.cedar_expr_model.specs.Lists.{is_nil}
+use Rattle.cedar_expr_model.specs.Table.{Table}
 use Rattle.cedar_expr_model.proofs.Lists.{contains_head, contains_tail, contains_cases, map_has, map_from, filter_has, filter_only, all_each, all_from, flat_from, flat_has}
-use Rattle.cedar_store_model.specs.Whole.Policy.{Policy, condition}
-use Rattle.cedar_schema_model.specs.Whole.Environment.{Environment, SlotUse, no_slot, equal_slot, in_slot, environments, types_above, slot_types, with_slots}
-use Rattle.cedar_schema_model.specs.Whole.Schema.{Schema}
-use Rattle.cedar_schema_model.specs.Whole.Types.{Mode, strict}
-use Rattle.cedar_schema_model.proofs.Whole.Named.{linked}
-use Rattle.cedar_typechecker_model.specs.Whole.Facts.{no_facts}
-use Rattle.cedar_typechecker_model.specs.Whole.Typing.{type_of}
-use Rattle.cedar_typechecker_model.specs.Whole.Verdicts.{scope_use, policy_environments, in_mode, is_bool, is_false, fits, RequestType, is_of_request, passes_in, is_warned, impossible, irrelevant_for, violations_in, policy_violations_in}
+use Rattle.cedar_store_model.specs.Policy.{Policy, condition}
+use Rattle.cedar_schema_model.specs.Environment.{Environment, SlotUse, no_slot, equal_slot, in_slot, environments, types_above, slot_types, with_slots}
+use Rattle.cedar_schema_model.specs.Schema.{Schema}
+use Rattle.cedar_schema_model.specs.Types.{Mode, strict}
+use Rattle.cedar_schema_model.proofs.Named.{linked}
+use Rattle.cedar_typechecker_model.specs.Facts.{no_facts}
+use Rattle.cedar_typechecker_model.specs.Typing.{type_of}
+use Rattle.cedar_typechecker_model.specs.Verdicts.{scope_use, policy_environments, in_mode, is_bool, is_false, fits, RequestType, is_of_request, passes_in, is_warned, impossible, irrelevant_for, violations_in, policy_violations_in}
 use Rattle.cedar_typechecker_seen_model.specs.Alike.{AnswersAlike, HasSameSignatures}
 use Rattle.cedar_typechecker_seen_model.specs.Laws.{TypesAreAlike, CountsAreAlike, EnvironmentsAreAlike, PassingIsAlike, WarningsAreAlike, ImpossibleIsAlike, IrrelevantIsAlike, ViolationsAreAlike, LevelsAreAlike}
 use Rattle.cedar_typechecker_seen_model.proofs.Alike.Schemas.{alike_back, same_test}

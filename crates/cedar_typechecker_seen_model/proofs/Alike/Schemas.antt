@@ -5,14 +5,14 @@ use Rattle.std.specs.Bool.{one_answer}
 use Rattle.std.specs.List.{list_any, list_all}
 use Rattle.cedar_expr_model.specs.Name.{Text, Name, name_eq}
 use Rattle.cedar_expr_model.specs.Uid.{Uid}
-use Rattle.cedar_expr_model.specs.Whole.Lists.{all_given}
-use Rattle.cedar_store_model.specs.Whole.Policy.{Policy}
-use Rattle.cedar_schema_model.specs.Whole.Types.{Ty, entity_types, record_type, is_open, is_closed}
-use Rattle.cedar_schema_model.specs.Whole.Schema.{Schema, declares_type, declares_action}
-use Rattle.cedar_schema_model.specs.Whole.Descent.{action_descends}
-use Rattle.cedar_schema_model.specs.Whole.Lookup.{declared_by_all, lookup_attribute, may_have_attribute}
-use Rattle.cedar_typechecker_model.specs.Whole.Rules.{may_be_in, tags_of}
-use Rattle.cedar_typechecker_model.specs.Whole.ScopeRules.{is_known_type, is_no_unknown_action, policy_kinds, policy_uids, names_known_types, names_known_actions, names_known_members}
+use Rattle.cedar_expr_model.specs.Lists.{all_given}
+use Rattle.cedar_store_model.specs.Policy.{Policy}
+use Rattle.cedar_schema_model.specs.Types.{Ty, entity_types, record_type, is_open, is_closed}
+use Rattle.cedar_schema_model.specs.Schema.{Schema, declares_type, declares_action}
+use Rattle.cedar_schema_model.specs.Descent.{action_descends}
+use Rattle.cedar_schema_model.specs.Lookup.{declared_by_all, lookup_attribute, may_have_attribute}
+use Rattle.cedar_typechecker_model.specs.Rules.{may_be_in, tags_of}
+use Rattle.cedar_typechecker_model.specs.ScopeRules.{is_known_type, is_no_unknown_action, policy_kinds, policy_uids, names_known_types, names_known_actions, names_known_members}
 use Rattle.cedar_typechecker_seen_model.specs.Alike.{AnswersAlike}
 
 pub alike_back : (s t : Schema) → AnswersAlike s t → AnswersAlike t s

@@ -4,22 +4,22 @@ use Rattle.std.specs.Prelude.{option_and_then, find}
 use Rattle.std.specs.List.{list_any}
 use Rattle.cedar_expr_model.specs.Name.{Text, Name, name_eq}
 use Rattle.cedar_expr_model.specs.Uid.{Uid, uid_eq}
-use Rattle.cedar_expr_model.specs.Whole.Lists.{all_given}
-use Rattle.cedar_expr_model.specs.Whole.Parts.{uid_here, listed}
-use Rattle.cedar_expr_model.specs.Whole.Table.{Table}
-use Rattle.cedar_expr_model.specs.Whole.Tree.{Var, principal, action, resource, context, SlotId, principal_slot, resource_slot, BinaryOp, equal, is_in, get_tag, has_tag, less, less_or_equal, contains, contains_all, contains_any, Tree, lit, var, slot, unknown, choice, both, either, unary, binary, call, get_attr, has_attr, has_path, like, is_type, set_literal, record_literal, Trees, no_trees, tree, TreeFields, no_tree_fields, tree_field}
-use Rattle.cedar_expr_model.specs.Whole.Value.{truth, long, text, entity, Literal}
-use Rattle.cedar_schema_model.specs.Whole.Environment.{Environment}
-use Rattle.cedar_schema_model.specs.Whole.Join.{reduce_to_join, are_disjoint}
-use Rattle.cedar_schema_model.specs.Whole.Schema.{Schema}
-use Rattle.cedar_schema_model.specs.Whole.Types.{any_bool, only_true, only_false, Ty, any_entity, bool_type, long_type, any_set, set_type, extension_type, entity_types, entity_type, record_type, attribute, Mode, permissive}
-use Rattle.cedar_typechecker_model.specs.Whole.Facts.{Facts, union, attribute_part, tag_part}
-use Rattle.cedar_typechecker_model.specs.Whole.Rules.{Setting, known_truth, literal_type, var_type, slot_type, written_uid, written_equal, order_type, member_type, sets_type, action_literal, written_action, written_actions, within_kinds, entity_kinds, entity_or_set_kinds, in_type, binary_type, has_type, attribute_type, get_type, tag_type, may_have_tags, is_string_type, has_tag_type, get_tag_type, unary_type, like_type, is_type_type, set_literal_type, record_literal_type, signature_type, call_type}
-use Rattle.cedar_typechecker_model.specs.Whole.Typing.{Judgement, plain, tested, chosen, step_type, and_judged, or_judged, path_judged, binary_judged, choice_judged, judgement, judgements, field_judgements, type_under}
-use Rattle.cedar_typechecker_model.specs.Whole.Verdicts.{in_mode}
+use Rattle.cedar_expr_model.specs.Lists.{all_given}
+use Rattle.cedar_expr_model.specs.Parts.{uid_here, listed}
+use Rattle.cedar_expr_model.specs.Table.{Table}
+use Rattle.cedar_expr_model.specs.Tree.{Var, principal, action, resource, context, SlotId, principal_slot, resource_slot, BinaryOp, equal, is_in, get_tag, has_tag, less, less_or_equal, contains, contains_all, contains_any, Tree, lit, var, slot, unknown, choice, both, either, unary, binary, call, get_attr, has_attr, has_path, like, is_type, set_literal, record_literal, Trees, no_trees, tree, TreeFields, no_tree_fields, tree_field}
+use Rattle.cedar_expr_model.specs.Value.{truth, long, text, entity, Literal}
+use Rattle.cedar_schema_model.specs.Environment.{Environment}
+use Rattle.cedar_schema_model.specs.Join.{reduce_to_join, are_disjoint}
+use Rattle.cedar_schema_model.specs.Schema.{Schema}
+use Rattle.cedar_schema_model.specs.Types.{any_bool, only_true, only_false, Ty, any_entity, bool_type, long_type, any_set, set_type, extension_type, entity_types, entity_type, record_type, attribute, Mode, permissive}
+use Rattle.cedar_typechecker_model.specs.Facts.{Facts, union, attribute_part, tag_part}
+use Rattle.cedar_typechecker_model.specs.Rules.{Setting, known_truth, literal_type, var_type, slot_type, written_uid, written_equal, order_type, member_type, sets_type, action_literal, written_action, written_actions, within_kinds, entity_kinds, entity_or_set_kinds, in_type, binary_type, has_type, attribute_type, get_type, tag_type, may_have_tags, is_string_type, has_tag_type, get_tag_type, unary_type, like_type, is_type_type, set_literal_type, record_literal_type, signature_type, call_type}
+use Rattle.cedar_typechecker_model.specs.Typing.{Judgement, plain, tested, chosen, step_type, and_judged, or_judged, path_judged, binary_judged, choice_judged, judgement, judgements, field_judgements, type_under}
+use Rattle.cedar_typechecker_model.specs.Verdicts.{in_mode}
 use Rattle.cedar_typechecker_seen_model.specs.Alike.{AnswersAlike, HasSameSignatures}
 use Rattle.cedar_typechecker_seen_model.proofs.Alike.Schemas.{same_declares_type, same_declares_action, same_action_descends, same_may_be_in, same_lookup, same_may_have, same_tags}
-use Rattle.cedar_typechecker_model.proofs.Whole.Named.{equal_type}
+use Rattle.cedar_typechecker_model.proofs.Named.{equal_type}
 
 module _ (s t : Schema) (m : AnswersAlike s t) (mode : Mode) (x z : Table) (q : HasSameSignatures x z) (e : Environment) where
   abbrev pub first : Setting

@@ -6,9 +6,9 @@ use Rattle.cedar_expr_model.specs.Name.{Name, name_eq}
 use Rattle.cedar_expr_model.specs.Uid.{Uid, uid_eq}
 use Rattle.cedar_expr_model.proofs.Equality.{name_eq-Decides, uid_eq-Decides}
 use Rattle.cedar_expr_model.proofs.Lists.{map_has, map_from, filter_has, filter_only, found-Decides}
-use Rattle.cedar_schema_model.specs.Whole.Schema.{EntityType, Action, Schema}
-use Rattle.cedar_schema_model.specs.Whole.Descent.{type_names, action_uids, HasParent, HasActionParent, Descends, ActionDescends}
-use Rattle.cedar_schema_model.proofs.Whole.Decls.Descent.{reaches_on}
+use Rattle.cedar_schema_model.specs.Schema.{EntityType, Action, Schema}
+use Rattle.cedar_schema_model.specs.Descent.{type_names, action_uids, HasParent, HasActionParent, Descends, ActionDescends}
+use Rattle.cedar_schema_model.proofs.Decls.Descent.{reaches_on}
 use Rattle.cedar_schema_kept_model.specs.Kept.{KeptType, KeptAction, Kept, kept_ancestors, kept_action_ancestors}
 use Rattle.cedar_schema_kept_model.specs.KeptOf.{IsKeptOf}
 use Rattle.cedar_typechecker_seen_model.specs.Seen.{names_kept, uids_kept, IsClosed}

@@ -8,20 +8,20 @@ use Rattle.std.specs.Str.{bytes_eq}
 use Rattle.cedar_expr_model.specs.Name.{Text, Name, name_eq}
 use Rattle.cedar_expr_model.specs.Uid.{Uid}
 use Rattle.cedar_expr_model.proofs.Lists.{map_has, map_from, filter_has, filter_only, any_has, any_from}
-use Rattle.cedar_schema_model.specs.Whole.Types.{attribute_named}
-use Rattle.cedar_schema_model.specs.Whole.Schema.{EntityKind, standard, enumerated, external, EntityType, Action, Schema, type_named, declares_type, declares_action}
-use Rattle.cedar_schema_model.specs.Whole.Descent.{type_names, action_uids, HasParent, HasActionParent, Descends, descends, ActionDescends, action_descends, type_descends}
-use Rattle.cedar_schema_model.specs.Whole.DeclLaws.{TypeDescends, IsProduct}
-use Rattle.cedar_schema_model.specs.Whole.Conforming.{of_kind, attributes_at, tags_at}
-use Rattle.cedar_schema_model.specs.Whole.Environment.{Environment, environment_at, environments, types_above}
-use Rattle.cedar_schema_model.specs.Whole.Lookup.{declared_of}
-use Rattle.cedar_schema_model.proofs.Whole.Decls.Descent.{chain_starts, descends-Decides, action_descends-Decides, type_descends-Decides}
-use Rattle.cedar_schema_model.proofs.Whole.Decls.Environments.{products}
+use Rattle.cedar_schema_model.specs.Types.{attribute_named}
+use Rattle.cedar_schema_model.specs.Schema.{EntityKind, standard, enumerated, external, EntityType, Action, Schema, type_named, declares_type, declares_action}
+use Rattle.cedar_schema_model.specs.Descent.{type_names, action_uids, HasParent, HasActionParent, Descends, descends, ActionDescends, action_descends, type_descends}
+use Rattle.cedar_schema_model.specs.DeclLaws.{TypeDescends, IsProduct}
+use Rattle.cedar_schema_model.specs.Conforming.{of_kind, attributes_at, tags_at}
+use Rattle.cedar_schema_model.specs.Environment.{Environment, environment_at, environments, types_above}
+use Rattle.cedar_schema_model.specs.Lookup.{declared_of}
+use Rattle.cedar_schema_model.proofs.Decls.Descent.{chain_starts, descends-Decides, action_descends-Decides, type_descends-Decides}
+use Rattle.cedar_schema_model.proofs.Decls.Environments.{products}
 use Rattle.cedar_schema_kept_model.specs.Kept.{KeptType, KeptAction, Kept, kept_type, kept_action}
 use Rattle.cedar_schema_kept_model.specs.KeptOf.{IsSameKind, IsSameAction, IsKeptOf}
 use Rattle.cedar_schema_kept_model.specs.Laws.{TypesAreDeclared, ActionsAreDeclared, TypesAreFound}
-use Rattle.cedar_typechecker_model.specs.Whole.Rules.{tags_of}
-use Rattle.cedar_typechecker_model.specs.Whole.ScopeRules.{is_action_type, has_id, is_no_unknown_member}
+use Rattle.cedar_typechecker_model.specs.Rules.{tags_of}
+use Rattle.cedar_typechecker_model.specs.ScopeRules.{is_action_type, has_id, is_no_unknown_member}
 use Rattle.cedar_typechecker_seen_model.specs.Alike.{AnswersAlike, DescendsToDeclared}
 use Rattle.cedar_typechecker_seen_model.specs.Seen.{context_of, type_seen, action_seen, schema_seen, IsClosed}
 use Rattle.cedar_typechecker_seen_model.proofs.Alike.Schemas.{same_test}

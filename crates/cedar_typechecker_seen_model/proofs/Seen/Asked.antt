@@ -9,14 +9,14 @@ use Rattle.cedar_expr_model.specs.Name.{Name, name_eq}
 use Rattle.cedar_expr_model.specs.Uid.{Uid, uid_eq}
 use Rattle.cedar_expr_model.proofs.Equality.{name_eq-Decides, uid_eq-Decides}
 use Rattle.cedar_expr_model.proofs.Lists.{contains_head, contains_tail, contains_cases, contains_none, map_has, map_from, filter_has, filter_only, flat_has, flat_from, any-Decides, found-Decides}
-use Rattle.cedar_schema_model.specs.Whole.BagLaws.{HasTwice}
-use Rattle.cedar_schema_model.specs.Whole.DeclLaws.{ActionTypeDescends}
-use Rattle.cedar_schema_model.specs.Whole.Descent.{action_uids, descends, action_descends, action_type_descends}
-use Rattle.cedar_schema_model.specs.Whole.Environment.{environments, types_above}
-use Rattle.cedar_schema_model.proofs.Whole.Named.{environments_of}
-use Rattle.cedar_schema_model.proofs.Whole.Decls.Descent.{action_type_descends-Decides}
+use Rattle.cedar_schema_model.specs.BagLaws.{HasTwice}
+use Rattle.cedar_schema_model.specs.DeclLaws.{ActionTypeDescends}
+use Rattle.cedar_schema_model.specs.Descent.{action_uids, descends, action_descends, action_type_descends}
+use Rattle.cedar_schema_model.specs.Environment.{environments, types_above}
+use Rattle.cedar_schema_model.proofs.Named.{environments_of}
+use Rattle.cedar_schema_model.proofs.Decls.Descent.{action_type_descends-Decides}
 use Rattle.cedar_schema_kept_model.specs.Kept.{KeptType, KeptAction, Kept, kept_action_ancestors}
-use Rattle.cedar_typechecker_model.specs.Whole.ScopeRules.{is_action_type}
+use Rattle.cedar_typechecker_model.specs.ScopeRules.{is_action_type}
 use Rattle.cedar_typechecker_seen_model.specs.Asked.{type_is_below, action_is_below, KindPair, pairs_of, is_pair, kind_is_below, is_kind, others_above, environments_kept}
 use Rattle.cedar_typechecker_seen_model.specs.Seen.{action_seen, schema_seen, uids_kept, IsClosed, IsKeptOnce}
 use Rattle.cedar_typechecker_seen_model.proofs.Seen.Found.{type_names_seen, action_uids_seen}

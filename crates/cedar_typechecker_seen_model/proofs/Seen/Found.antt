@@ -5,8 +5,8 @@ use Rattle.std.specs.List.{find}
 use Rattle.std.specs.Option.{option_map_or}
 use Rattle.cedar_expr_model.specs.Name.{Name, name_eq}
 use Rattle.cedar_expr_model.specs.Uid.{Uid, uid_eq}
-use Rattle.cedar_schema_model.specs.Whole.Schema.{EntityKind, EntityType, Action, type_named, action_with}
-use Rattle.cedar_schema_model.specs.Whole.Descent.{type_names, action_uids}
+use Rattle.cedar_schema_model.specs.Schema.{EntityKind, EntityType, Action, type_named, action_with}
+use Rattle.cedar_schema_model.specs.Descent.{type_names, action_uids}
 use Rattle.cedar_schema_kept_model.specs.Kept.{KeptType, KeptAction, Kept, kept_type, kept_action}
 use Rattle.cedar_typechecker_seen_model.specs.Seen.{type_seen, action_seen, schema_seen, names_kept, uids_kept}
 

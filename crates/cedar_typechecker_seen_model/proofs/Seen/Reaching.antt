@@ -7,9 +7,9 @@ use Rattle.cedar_expr_model.specs.Name.{Name, name_eq}
 use Rattle.cedar_expr_model.specs.Uid.{Uid, uid_eq}
 use Rattle.cedar_expr_model.proofs.Equality.{name_eq-Decides, uid_eq-Decides}
 use Rattle.cedar_expr_model.proofs.Lists.{map_has, map_from, found-Decides}
-use Rattle.cedar_schema_model.specs.Whole.Schema.{EntityType, Action}
-use Rattle.cedar_schema_model.specs.Whole.Descent.{Chain, HasParent, HasActionParent, Descends, descends, ActionDescends, action_descends}
-use Rattle.cedar_schema_model.proofs.Whole.Decls.Descent.{descends-Decides, action_descends-Decides}
+use Rattle.cedar_schema_model.specs.Schema.{EntityType, Action}
+use Rattle.cedar_schema_model.specs.Descent.{Chain, HasParent, HasActionParent, Descends, descends, ActionDescends, action_descends}
+use Rattle.cedar_schema_model.proofs.Decls.Descent.{descends-Decides, action_descends-Decides}
 use Rattle.cedar_schema_kept_model.specs.Kept.{KeptType, KeptAction, Kept, kept_ancestors, kept_action_ancestors}
 use Rattle.cedar_typechecker_seen_model.specs.Seen.{type_seen, action_seen, schema_seen, names_kept, uids_kept, IsClosed}
 

@@ -7,14 +7,14 @@ use Rattle.cedar_expr_model.specs.Name.{Name, name_eq}
 use Rattle.cedar_expr_model.specs.Uid.{Uid, uid_eq}
 use Rattle.cedar_expr_model.proofs.Equality.{name_eq-Decides}
 use Rattle.cedar_expr_model.proofs.Lists.{contains_head, contains_cases, contains_none}
-use Rattle.cedar_schema_model.specs.Whole.Conforming.{of_kind, attributes_at, tags_at}
-use Rattle.cedar_schema_model.specs.Whole.Descent.{type_descends, action_descends}
-use Rattle.cedar_schema_model.specs.Whole.Environment.{types_above}
-use Rattle.cedar_schema_model.specs.Whole.Schema.{EntityType, type_named, declares_type, declares_action}
-use Rattle.cedar_schema_model.specs.Whole.Types.{Attributes}
+use Rattle.cedar_schema_model.specs.Conforming.{of_kind, attributes_at, tags_at}
+use Rattle.cedar_schema_model.specs.Descent.{type_descends, action_descends}
+use Rattle.cedar_schema_model.specs.Environment.{types_above}
+use Rattle.cedar_schema_model.specs.Schema.{EntityType, type_named, declares_type, declares_action}
+use Rattle.cedar_schema_model.specs.Types.{Attributes}
 use Rattle.cedar_schema_kept_model.specs.Kept.{KeptType, KeptAction, Kept, kept_type, kept_action, kept_ancestors}
-use Rattle.cedar_typechecker_model.specs.Whole.Rules.{tags_of}
-use Rattle.cedar_typechecker_model.specs.Whole.ScopeRules.{has_id, is_no_unknown_member}
+use Rattle.cedar_typechecker_model.specs.Rules.{tags_of}
+use Rattle.cedar_typechecker_model.specs.ScopeRules.{has_id, is_no_unknown_member}
 use Rattle.cedar_typechecker_seen_model.specs.Asked.{type_is_below, kind_is_below}
 use Rattle.cedar_typechecker_seen_model.specs.Seen.{type_seen, action_seen, schema_seen, IsClosed, IsKeptOnce}
 use Rattle.cedar_typechecker_seen_model.proofs.Seen.Asked.{type_asked, action_asked, others_asked, kinds_asked}

@@ -1,8 +1,8 @@
 use Rattle.std.proofs.Common.{◌∷◌, [], ◌++◌, map, append_assoc, sym, ap, ◌∙◌}
 use Rattle.std.proofs.lemmas.List.{map-append, append-nil}
 use Rattle.std.specs.Borrow.{Bor}
-use Rattle.cedar_store_model.specs.Whole.Policy as model
-use Rattle.cedar_store_model.specs.Whole.Policy.{no_bindings}
+use Rattle.cedar_store_model.specs.Policy as model
+use Rattle.cedar_store_model.specs.Policy.{no_bindings}
 use Rattle.cedar_store_policies.specs.Policies.{policy_of}
 use Rattle.cedar_store_policies.specs.PolicySets.{set_of}
 use Rattle.cedar_store_policies.specs.declared.policy.Policy.{Policy}

@@ -1,6 +1,6 @@
 use Rattle.std.specs.Prelude.{codes, Some}
 use Rattle.std.proofs.Common.{◌≡◌}
-use Rattle.cedar_expr_model.specs.Whole.Tree.{bool_core, long_core, unknown, both}
+use Rattle.cedar_expr_model.specs.Tree.{bool_core, long_core, unknown, both}
 use Rattle.cedar_evaluator_model.specs.Worked.{unknown_u}
 use Rattle.cedar_evaluator_model.specs.WorkedCompletions.{completed}
 use Rattle.cedar_evaluator_model.proofs.Named.{fits_in}

@@ -1,11 +1,11 @@
 use Rattle.std.proofs.Common.{[], ◌∷◌, refl, codes, Some, None, pos, ap, sym, ◌∙◌, ◌≡◌}
-use Rattle.cedar_expr_model.specs.Whole.Value.{text, prim, long}
+use Rattle.cedar_expr_model.specs.Value.{text, prim, long}
 use Rattle.cedar_evaluator_model.specs.Worked.{user_b, later, later_function, with_value, made_number, scope, unknown_u}
 use Rattle.cedar_evaluator_model.proofs.worked_completions.worked_knowledge.Goals as goal
 use Rattle.cedar_evaluator_model.specs.OfLaws.Whole.{BoundTo}
-use Rattle.cedar_expr_model.proofs.Whole.Gathering.{each_in}
-use Rattle.cedar_expr_model.specs.Whole.Tree.{unknown, long_core, bool_core}
-use Rattle.cedar_expr_model.specs.Whole.Substitution.{core_type_of}
+use Rattle.cedar_expr_model.proofs.Gathering.{each_in}
+use Rattle.cedar_expr_model.specs.Tree.{unknown, long_core, bool_core}
+use Rattle.cedar_expr_model.specs.Substitution.{core_type_of}
 
 -- the call `later("u")` leaves the unknown `u`
 pub returns-clause-leaves : goal.returns-clause-leaves

@@ -1,7 +1,7 @@
 use Rattle.std.proofs.Common.{codes, Some, ◌≡◌}
-use Rattle.cedar_expr_model.specs.Whole.Tree.{bool_core, long_core, unknown, record_literal, no_tree_fields, tree_field}
-use Rattle.cedar_store_model.specs.Whole.Outcome.{val}
-use Rattle.cedar_store_model.proofs.Whole.Meaning.{means_outcome}
+use Rattle.cedar_expr_model.specs.Tree.{bool_core, long_core, unknown, record_literal, no_tree_fields, tree_field}
+use Rattle.cedar_store_model.specs.Outcome.{val}
+use Rattle.cedar_store_model.proofs.Meaning.{means_outcome}
 use Rattle.cedar_evaluator_model.specs.Worked.{no_slot, unknown_u}
 use Rattle.cedar_evaluator_model.specs.WorkedCompletions.{completed}
 use Rattle.cedar_evaluator_model.proofs.Named.{fits_in}

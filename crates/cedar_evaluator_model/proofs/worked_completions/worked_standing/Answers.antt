@@ -1,11 +1,11 @@
 use Rattle.std.proofs.Common.{refl, inr}
 use Rattle.std.specs.Prelude.{true}
-use Rattle.cedar_expr_model.specs.Whole.Value.{truth_value}
-use Rattle.cedar_store_model.specs.Whole.Outcome.{val, wrong_type}
-use Rattle.cedar_store_model.proofs.Whole.Meaning.{means_outcome}
+use Rattle.cedar_expr_model.specs.Value.{truth_value}
+use Rattle.cedar_store_model.specs.Outcome.{val, wrong_type}
+use Rattle.cedar_store_model.proofs.Meaning.{means_outcome}
 use Rattle.cedar_evaluator_model.specs.Worked.{unknown_a, false_tree}
 use Rattle.cedar_evaluator_model.specs.WorkedCompletions.{completed}
-use Rattle.cedar_expr_model.specs.Whole.Tree.{both}
+use Rattle.cedar_expr_model.specs.Tree.{both}
 use Rattle.cedar_evaluator_model.proofs.worked_completions.worked_standing.Goals as goal
 
 -- it is a type error

@@ -1,7 +1,7 @@
 use Rattle.std.proofs.Common.{◌≡◌, ◌∙◌, [], ◌∷◌, codes, Some, sym, ap, subst}
-use Rattle.cedar_expr_model.specs.Whole.Value.{prim, entity}
+use Rattle.cedar_expr_model.specs.Value.{prim, entity}
 use Rattle.cedar_expr_model.specs.Uid.{uid_text}
-use Rattle.cedar_store_model.specs.Whole.World.{World, not_loaded}
+use Rattle.cedar_store_model.specs.World.{World, not_loaded}
 use Rattle.cedar_evaluator_model.specs.OfLaws.Completing.{FoundMeans, Completes}
 use Rattle.cedar_evaluator_model.specs.Scope.{Scope}
 use Rattle.cedar_evaluator_model.specs.WorkedCompletions.{twin, other_twin}

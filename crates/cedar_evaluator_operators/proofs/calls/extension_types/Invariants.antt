@@ -1,6 +1,6 @@
 use Rattle.std.proofs.Common.{◌≡◌, ◌++◌, map}
 use Rattle.std.specs.Slice.Iter.{iter_rest}
-use Rattle.cedar_expr_model.specs.Whole.Tree.{extension_core}
+use Rattle.cedar_expr_model.specs.Tree.{extension_core}
 use Rattle.cedar_expr_names.specs.Views.{plain_name_of}
 use Rattle.cedar_expr_values.specs.Types.{core_of}
 use Rattle.cedar_evaluator_operators.proofs.calls.extension_types.Given as goal

@@ -1,5 +1,5 @@
 use Rattle.std.proofs.Common.{sym, ap, ◌∙◌, map}
-use Rattle.cedar_expr_model.specs.Whole.Made.{made_record}
+use Rattle.cedar_expr_model.specs.Made.{made_record}
 use Rattle.cedar_expr_values.specs.Extensions.{extension_of}
 use Rattle.cedar_expr_values.specs.Values.{made_kind, made_fields, made_pair}
 use Rattle.cedar_expr_values.proofs.Recorded.{record_kind}

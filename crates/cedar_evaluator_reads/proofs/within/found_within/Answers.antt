@@ -4,7 +4,7 @@ use Rattle.std.specs.Slice.Iter.{iter_rest}
 use Rattle.cedar_expr_names.specs.Views.{uid_of}
 use Rattle.cedar_expr_values.specs.Extensions.{extension_of}
 use Rattle.cedar_expr_values.specs.Values.{made}
-use Rattle.cedar_store_model.specs.Whole.Reads.{is_in_some}
+use Rattle.cedar_store_model.specs.Reads.{is_in_some}
 use Rattle.cedar_evaluator_model.specs.Scope.{value_left}
 use Rattle.cedar_evaluator_model.specs.Steps.{left_of}
 use Rattle.cedar_evaluator_reads.specs.Ancestors.{ancestors_of}

@@ -1,6 +1,6 @@
 use Rattle.std.proofs.Common.{true, map, ap, ◌∙◌}
-use Rattle.cedar_expr_model.specs.Whole.Tree.{lit}
-use Rattle.cedar_expr_model.specs.Whole.Value.{truth}
+use Rattle.cedar_expr_model.specs.Tree.{lit}
+use Rattle.cedar_expr_model.specs.Value.{truth}
 use Rattle.cedar_expr_trees.specs.Trees.{tree_of}
 use Rattle.cedar_store_parts.specs.Parts.{effect_of}
 use Rattle.cedar_store_policies.specs.Policies.{policy_of}

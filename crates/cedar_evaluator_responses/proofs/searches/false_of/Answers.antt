@@ -1,10 +1,10 @@
 use Rattle.std.proofs.Common.{false, Some, find, refl, sym, ap, ◌∙◌}
 use Rattle.std.specs.Str.{bytes_eq}
 use Rattle.cedar_expr_model.specs.Name.{Text}
-use Rattle.cedar_expr_model.specs.Whole.Tree.{lit}
-use Rattle.cedar_expr_model.specs.Whole.Value.{truth}
+use Rattle.cedar_expr_model.specs.Tree.{lit}
+use Rattle.cedar_expr_model.specs.Value.{truth}
 use Rattle.cedar_expr_trees.specs.Trees.{tree_of}
-use Rattle.cedar_store_model.specs.Whole.Policy.{Policy}
+use Rattle.cedar_store_model.specs.Policy.{Policy}
 use Rattle.cedar_store_parts.specs.Parts.{effect_of, id_text}
 use Rattle.cedar_evaluator_model.specs.Response.{Noted, ErrorState}
 use Rattle.cedar_evaluator_model.specs.Members.{left_policy}

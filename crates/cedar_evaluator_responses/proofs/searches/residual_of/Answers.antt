@@ -1,8 +1,8 @@
 use Rattle.std.proofs.Common.{Some, find, refl, sym, ap, ◌∙◌}
 use Rattle.std.specs.Str.{bytes_eq}
 use Rattle.cedar_expr_model.specs.Name.{Text}
-use Rattle.cedar_expr_model.specs.Whole.Tree.{Tree}
-use Rattle.cedar_store_model.specs.Whole.Policy.{Policy}
+use Rattle.cedar_expr_model.specs.Tree.{Tree}
+use Rattle.cedar_store_model.specs.Policy.{Policy}
 use Rattle.cedar_store_parts.specs.Parts.{effect_of, id_text}
 use Rattle.cedar_evaluator_model.specs.Response.{Noted}
 use Rattle.cedar_evaluator_model.specs.Members.{left_policy}

@@ -1,12 +1,12 @@
 use Rattle.std.proofs.Common.{map, ap, sym, subst, ◌∙◌}
 use Rattle.std.specs.Option.{option_map_or}
 use Rattle.cedar_expr_names.specs.Views.{plain_name_of}
-use Rattle.cedar_expr_model.specs.Whole.Table.{signature_of}
+use Rattle.cedar_expr_model.specs.Table.{signature_of}
 use Rattle.cedar_expr_values.specs.Extensions.{extension_of}
 use Rattle.cedar_expr_values.specs.Values.{made}
-use Rattle.cedar_store_model.specs.Whole.Outcome.{no_function}
+use Rattle.cedar_store_model.specs.Outcome.{no_function}
 use Rattle.cedar_evaluator_model.specs.Steps.{errs, call_left}
-use Rattle.cedar_gate_model.specs.Whole.ReadingValue.{with_functions}
+use Rattle.cedar_gate_model.specs.ReadingValue.{with_functions}
 use Rattle.cedar_evaluator_restricted.specs.Lefts.{Leaves, is_stopped}
 use Rattle.cedar_evaluator_restricted.proofs.Called.{found_made}
 use Rattle.cedar_evaluator_restricted.proofs.calls.call_in.Goals as goal

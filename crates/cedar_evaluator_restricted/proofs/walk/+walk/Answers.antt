@@ -1,12 +1,12 @@
 use Rattle.std.proofs.Common.{◌≡◌, true, map, arith, rules, refl, sym, ap, subst, ◌∙◌}
 use Rattle.cedar_expr_names.specs.Views.{plain_name_of}
-use Rattle.cedar_expr_model.specs.Whole.Builder.{trees, tree_fields}
-use Rattle.cedar_expr_model.specs.Whole.Restricted.{is_restricted}
-use Rattle.cedar_expr_model.specs.Whole.Tree.{call, set_literal, record_literal}
+use Rattle.cedar_expr_model.specs.Builder.{trees, tree_fields}
+use Rattle.cedar_expr_model.specs.Restricted.{is_restricted}
+use Rattle.cedar_expr_model.specs.Tree.{call, set_literal, record_literal}
 use Rattle.cedar_expr_trees.specs.Trees.{tree_of, kind_tree, named, field_trees}
 use Rattle.cedar_expr_trees.proofs.Trees.{call_tree, set_tree, record_tree}
 use Rattle.cedar_evaluator_model.specs.Evaluation.{evaluated, node}
-use Rattle.cedar_gate_model.specs.Whole.ReadingValue.{with_functions}
+use Rattle.cedar_gate_model.specs.ReadingValue.{with_functions}
 use Rattle.cedar_evaluator_restricted.specs.Lefts.{Leaves}
 use Rattle.cedar_evaluator_restricted.proofs.Levels.{one_level, at_limit}
 use Rattle.cedar_evaluator_restricted.proofs.Gathered.{starts, fields_start, on, off, all, handed_on, field_on, field_off, fields_all, trees_in}

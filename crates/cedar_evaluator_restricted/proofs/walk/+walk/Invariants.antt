@@ -1,7 +1,7 @@
 use Rattle.std.proofs.Common.{◌≡◌, ◌+◌, ◌*◌, true, drop}
 use Rattle.std.specs.BTreeMap.{values}
 use Rattle.cedar_evaluator_model.specs.Evaluation.{evaluated}
-use Rattle.cedar_gate_model.specs.Whole.ReadingValue.{with_functions}
+use Rattle.cedar_gate_model.specs.ReadingValue.{with_functions}
 use Rattle.cedar_evaluator_restricted.specs.Restricted.{are_restricted, have_restricted}
 use Rattle.cedar_evaluator_restricted.proofs.Gathered.{SoFar, trees_in}
 use Rattle.cedar_evaluator_restricted.proofs.walk.+walk.Given as goal

@@ -1,11 +1,11 @@
 use Rattle.std.proofs.Common.{rules, ◌≡◌, IfOk, map, subst, sym, ap, ◌∙◌}
 use Rattle.cedar_expr_names.specs.Views.{plain_name_of, type_name_of}
 use Rattle.cedar_expr_leaves.specs.Operators.{binary_op_of}
-use Rattle.cedar_expr_model.specs.Whole.Builder.{built_list, conjunction, disjunction, trees, tree_fields}
+use Rattle.cedar_expr_model.specs.Builder.{built_list, conjunction, disjunction, trees, tree_fields}
 use Rattle.cedar_evaluator_model.specs.Response.{slots_bound}
-use Rattle.cedar_store_model.specs.Whole.Policy.{binding_of}
+use Rattle.cedar_store_model.specs.Policy.{binding_of}
 use Rattle.cedar_store_parts.specs.Parts.{bindings_of}
-use Rattle.cedar_expr_model.specs.Whole.Tree.{Tree, choice, both, either, binary, is_type, call, set_literal, record_literal}
+use Rattle.cedar_expr_model.specs.Tree.{Tree, choice, both, either, binary, is_type, call, set_literal, record_literal}
 use Rattle.cedar_expr_trees.specs.Trees.{tree_of, kind_tree, named, field_trees}
 use Rattle.cedar_expr_trees.specs.declared.expr.Expr.{Expr}
 use Rattle.cedar_expr_trees.proofs.Trees.{call_tree, set_tree, record_tree}

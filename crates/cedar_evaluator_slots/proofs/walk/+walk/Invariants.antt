@@ -1,7 +1,7 @@
 use Rattle.std.proofs.Common.{◌≡◌, ◌++◌, map, drop}
-use Rattle.cedar_expr_model.specs.Whole.Builder.{built_list, built_fields, trees, tree_fields}
+use Rattle.cedar_expr_model.specs.Builder.{built_list, built_fields, trees, tree_fields}
 use Rattle.cedar_expr_trees.specs.Trees.{tree_of, named, field_trees}
-use Rattle.cedar_store_model.specs.Whole.Policy.{binding_of}
+use Rattle.cedar_store_model.specs.Policy.{binding_of}
 use Rattle.cedar_store_parts.specs.Parts.{bindings_of}
 use Rattle.cedar_evaluator_slots.specs.Binding.{binding}
 use Rattle.cedar_evaluator_slots.proofs.walk.+walk.Given as goal

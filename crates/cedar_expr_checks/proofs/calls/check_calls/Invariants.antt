@@ -1,5 +1,5 @@
 use Rattle.std.proofs.Common.{◌≡◌, map}
-use Rattle.cedar_expr_model.specs.Whole.Lists.{first_found}
+use Rattle.cedar_expr_model.specs.Lists.{first_found}
 use Rattle.cedar_expr_trees.specs.Trees.{tree_of}
 use Rattle.cedar_expr_trees.specs.Positions.{exprs_left}
 use Rattle.cedar_expr_functions.specs.Tables.{functions_of}

@@ -1,6 +1,6 @@
 use Rattle.std.proofs.Common.{◌≡◌, ◌++◌, map, drop}
 use Rattle.std.specs.List.{filter_map}
-use Rattle.cedar_expr_model.specs.Whole.Table.{constructed}
+use Rattle.cedar_expr_model.specs.Table.{constructed}
 use Rattle.cedar_expr_values.specs.Types.{core_of}
 use Rattle.cedar_expr_functions.specs.Functions.{function_signature}
 use Rattle.cedar_expr_functions.proofs.gathered.constructed_types.Given as goal

@@ -1,6 +1,6 @@
 -- Elements are compared by cases, and patterns element by element.
 use Rattle.std.proofs.Common.{◌≡◌, refl, rules}
-use Rattle.cedar_expr_model.specs.Whole.Shape.{element_cmp}
+use Rattle.cedar_expr_model.specs.Shape.{element_cmp}
 use Rattle.cedar_expr_leaves.specs.declared.pattern.PatternElem.{PatternElem}
 use Rattle.cedar_expr_leaves.specs.declared.pattern.PatternElem.TheVariants.{Char, Wildcard}
 use Rattle.cedar_expr_leaves.specs.Patterns.{element_of}

@@ -3,7 +3,7 @@ use Rattle.std.proofs.Common.{sym, ◌∙◌, rules, tests}
 use Rattle.std.proofs.lemmas.Iterator.{YieldsList-from_slice}
 use Rattle.std.proofs.lemmas.Iterator.Search.{all_from_yields_List}
 use Rattle.std.specs.Str.{chars}
-use Rattle.cedar_expr_model.specs.Whole.Pattern.{matches_text}
+use Rattle.cedar_expr_model.specs.Pattern.{matches_text}
 use Rattle.cedar_expr_leaves.specs.Patterns.{elements_of}
 use Rattle.cedar_expr_leaves.specs.Turns.{back_of}
 use Rattle.cedar_expr_leaves.proofs.Walking.{ends}

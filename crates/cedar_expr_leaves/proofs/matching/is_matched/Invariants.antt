@@ -2,7 +2,7 @@
 use denote.Shadow.{shadow}
 use denote.Text.{Utf8}
 use Rattle.std.specs.Str.{chars}
-use Rattle.cedar_expr_model.specs.Whole.Pattern.{matches_text}
+use Rattle.cedar_expr_model.specs.Pattern.{matches_text}
 use Rattle.cedar_expr_leaves.specs.Patterns.{elements_of}
 use Rattle.cedar_expr_leaves.specs.Turns.{back_of}
 use Rattle.cedar_expr_leaves.proofs.Walking.{Walks}

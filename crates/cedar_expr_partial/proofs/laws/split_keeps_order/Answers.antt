@@ -1,4 +1,4 @@
-use Rattle.cedar_expr_model.proofs.Whole.SideBySide.{split_gives}
+use Rattle.cedar_expr_model.proofs.SideBySide.{split_gives}
 use Rattle.cedar_expr_partial.proofs.Parted.{expressions_are, all_kept}
 use Rattle.cedar_expr_partial.proofs.laws.split_keeps_order.Goals as goal
 

@@ -1,5 +1,5 @@
 use Rattle.std.proofs.Common.{◌≡◌, map}
-use Rattle.cedar_expr_model.specs.Whole.ValueParts.{part_tree}
+use Rattle.cedar_expr_model.specs.ValueParts.{part_tree}
 use Rattle.cedar_expr_trees.specs.Trees.{tree_of}
 use Rattle.cedar_expr_partial.specs.Parts.{part_of}
 use Rattle.cedar_expr_partial.proofs.partial_value.exprs_of.Given as goal

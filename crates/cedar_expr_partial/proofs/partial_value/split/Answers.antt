@@ -1,7 +1,7 @@
 use Rattle.std.proofs.Common.{map, ap, ◌∙◌}
 use Rattle.std.specs.Prelude.{is_some}
 use Rattle.std.specs.List.{list_all}
-use Rattle.cedar_expr_model.specs.Whole.ValueParts.{known_value}
+use Rattle.cedar_expr_model.specs.ValueParts.{known_value}
 use Rattle.cedar_expr_values.specs.Values.{made}
 use Rattle.cedar_expr_partial.specs.Parts.{part_of}
 use Rattle.cedar_expr_trees.specs.Trees.{tree_of}

@@ -1,8 +1,8 @@
 use Rattle.std.proofs.Common.{map, ap, sym, ◌∙◌, rules, Some}
-use Rattle.cedar_expr_model.specs.Whole.Builder.{trees, tree_fields}
-use Rattle.cedar_expr_model.specs.Whole.Lists.{all_given}
-use Rattle.cedar_expr_model.specs.Whole.Tree.{set_literal, record_literal}
-use Rattle.cedar_expr_model.specs.Whole.ValueParts.{value_of_tree}
+use Rattle.cedar_expr_model.specs.Builder.{trees, tree_fields}
+use Rattle.cedar_expr_model.specs.Lists.{all_given}
+use Rattle.cedar_expr_model.specs.Tree.{set_literal, record_literal}
+use Rattle.cedar_expr_model.specs.ValueParts.{value_of_tree}
 use Rattle.cedar_expr_values.specs.Values.{bare, bare_pair}
 use Rattle.cedar_expr_trees.specs.Trees.{tree_of, kind_tree, named, field_trees}
 use Rattle.cedar_expr_trees.proofs.Trees.{set_tree, record_tree}

@@ -1,6 +1,6 @@
 use Rattle.std.proofs.Common.{◌≡◌, true, ◌++◌, map, take, Some}
 use Rattle.std.specs.Rc.{rc_str_bytes}
-use Rattle.cedar_expr_model.specs.Whole.Lists.{all_given}
+use Rattle.cedar_expr_model.specs.Lists.{all_given}
 use Rattle.cedar_expr_values.specs.Values.{bare, bare_pair, all_canonical, values_of}
 use Rattle.cedar_expr_partial.specs.Parts.{value_shown, field_shown}
 use Rattle.cedar_expr_partial.proofs.Shown.{after}

@@ -1,9 +1,9 @@
 use Rattle.std.proofs.Common.{map, ap, sym, ◌∙◌, rules, arith}
 use Rattle.std.specs.Slice.Iter.{iter_rest}
-use Rattle.cedar_expr_model.specs.Whole.Builder.{tree_fields}
-use Rattle.cedar_expr_model.specs.Whole.Made.{written}
-use Rattle.cedar_expr_model.specs.Whole.Records.{names_rise}
-use Rattle.cedar_expr_model.specs.Whole.Tree.{record_literal}
+use Rattle.cedar_expr_model.specs.Builder.{tree_fields}
+use Rattle.cedar_expr_model.specs.Made.{written}
+use Rattle.cedar_expr_model.specs.Records.{names_rise}
+use Rattle.cedar_expr_model.specs.Tree.{record_literal}
 use Rattle.cedar_expr_values.specs.Values.{made, made_kind, made_list}
 use Rattle.cedar_expr_trees.specs.Trees.{tree_of}
 use Rattle.cedar_expr_partial.specs.Parts.{written_pair}

@@ -1,7 +1,7 @@
 use Rattle.std.proofs.Common.{◌≡◌, ◌≤◌, ◌++◌, map}
 use Rattle.std.specs.Slice.Iter.{iter_rest}
 use denote.Param.Weighed.{most}
-use Rattle.cedar_expr_model.specs.Whole.Made.{written}
+use Rattle.cedar_expr_model.specs.Made.{written}
 use Rattle.cedar_expr_values.specs.Values.{made, members_of}
 use Rattle.cedar_expr_values.specs.declared.value.Value.{size-Value}
 use Rattle.cedar_expr_trees.specs.Trees.{tree_of, named, field_trees}

@@ -1,5 +1,5 @@
 use Rattle.std.proofs.Common.{◌≡◌, map, take}
-use Rattle.cedar_expr_model.specs.Whole.Tree.{lit}
+use Rattle.cedar_expr_model.specs.Tree.{lit}
 use Rattle.cedar_expr_leaves.specs.Literals.{literal_of}
 use Rattle.cedar_expr_trees.specs.Trees.{tree_of}
 use Rattle.cedar_expr_partial.proofs.writing.literal_exprs.Given as goal

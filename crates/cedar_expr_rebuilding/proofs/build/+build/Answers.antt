@@ -1,7 +1,7 @@
 use Rattle.std.proofs.Common.{◌≡◌, IfOk, IfErr, Ok, map, subst, sym, ap, ◌∙◌}
 use Rattle.cedar_expr_names.specs.Views.{plain_name_of}
-use Rattle.cedar_expr_model.specs.Whole.Builder.{trees, tree_fields}
-use Rattle.cedar_expr_model.specs.Whole.Tree.{call, set_literal, record_literal}
+use Rattle.cedar_expr_model.specs.Builder.{trees, tree_fields}
+use Rattle.cedar_expr_model.specs.Tree.{call, set_literal, record_literal}
 use Rattle.cedar_expr_trees.specs.Trees.{tree_of, kind_tree, named, field_trees}
 use Rattle.cedar_expr_trees.proofs.Trees.{call_tree, set_tree, record_tree}
 use Rattle.cedar_expr_rebuilding.specs.Outcome.{placing, built_placed, Refuses}

@@ -1,5 +1,5 @@
 use Rattle.std.proofs.Common.{◌≡◌, map, drop}
-use Rattle.cedar_expr_model.specs.Whole.Builder.{built_list, built_fields, trees, tree_fields}
+use Rattle.cedar_expr_model.specs.Builder.{built_list, built_fields, trees, tree_fields}
 use Rattle.cedar_expr_trees.specs.Trees.{tree_of, named, field_trees}
 use Rattle.cedar_expr_builders.specs.Refusing.{all_made, fields_made}
 use Rattle.cedar_expr_builders.specs.Views.{meant}

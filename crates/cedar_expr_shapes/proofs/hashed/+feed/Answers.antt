@@ -3,9 +3,9 @@ use Rattle.std.specs.Hash as fed
 use Rattle.std.specs.Rc.{rc_str_bytes}
 use Rattle.cedar_expr_names.specs.Views.{plain_name_of}
 use Rattle.cedar_expr_leaves.specs.Patterns.{pattern_of}
-use Rattle.cedar_expr_model.specs.Whole.Builder.{trees, tree_fields}
-use Rattle.cedar_expr_model.specs.Whole.Shape.{tree_rank}
-use Rattle.cedar_expr_model.specs.Whole.Tree.{call, has_path, like, set_literal, record_literal}
+use Rattle.cedar_expr_model.specs.Builder.{trees, tree_fields}
+use Rattle.cedar_expr_model.specs.Shape.{tree_rank}
+use Rattle.cedar_expr_model.specs.Tree.{call, has_path, like, set_literal, record_literal}
 use Rattle.cedar_expr_trees.specs.Trees.{tree_of, kind_tree, named, field_trees}
 use Rattle.cedar_expr_trees.proofs.Sizes.{arguments_are_smaller}
 use Rattle.cedar_expr_trees.proofs.Trees.{call_tree, set_tree, record_tree}

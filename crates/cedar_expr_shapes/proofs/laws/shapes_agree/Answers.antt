@@ -3,7 +3,7 @@ use Rattle.std.specs.Ordering.{is_eq}
 use Rattle.std.specs.declared.cmp.Ordering.{Ordering}
 use Rattle.std.specs.declared.cmp.Ordering.TheVariants.{Less, Equal, Greater}
 use Rattle.std.specs.Prelude.{◌↔◌}
-use Rattle.cedar_expr_model.specs.Whole.Shape.{tree_cmp}
+use Rattle.cedar_expr_model.specs.Shape.{tree_cmp}
 use Rattle.cedar_expr_shapes.specs.Compared.{trees_are_ordered, trees_are_equal, trees_are_hashed}
 use Rattle.cedar_expr_shapes.proofs.laws.shapes_agree.Goals as goal
 

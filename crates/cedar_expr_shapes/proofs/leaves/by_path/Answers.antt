@@ -1,7 +1,7 @@
 use Rattle.std.proofs.Common.{refl, ap, ◌∙◌}
 use Rattle.std.specs.Ordering.{ordering_then}
 use Rattle.std.specs.Rc.{rc_str_bytes}
-use Rattle.cedar_expr_model.specs.Whole.Order.{text_cmp}
+use Rattle.cedar_expr_model.specs.Order.{text_cmp}
 use Rattle.cedar_expr_shapes.proofs.Comparing.{slices_by}
 use Rattle.cedar_expr_shapes.proofs.leaves.by_path.Goals as goal
 

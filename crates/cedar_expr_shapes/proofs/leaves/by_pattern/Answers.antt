@@ -1,5 +1,5 @@
 use Rattle.std.proofs.Common.{◌∙◌, rules}
-use Rattle.cedar_expr_model.specs.Whole.Shape.{element_cmp}
+use Rattle.cedar_expr_model.specs.Shape.{element_cmp}
 use Rattle.cedar_expr_leaves.specs.Patterns.{element_of}
 use Rattle.cedar_expr_leaves.specs.declared.pattern.PatternElem.TheVariants.{Char, Wildcard}
 use Rattle.cedar_expr_shapes.proofs.Comparing.{slices_by}

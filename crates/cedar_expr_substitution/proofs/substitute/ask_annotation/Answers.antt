@@ -3,7 +3,7 @@ use Rattle.std.specs.Prelude.{option_map}
 use Rattle.std.specs.HashMap.{get_by}
 use Rattle.std.specs.Rc.{rc_str_bytes}
 use Rattle.std.specs.Str.{bytes_eq}
-use Rattle.cedar_expr_model.specs.Whole.Substitution.{Mismatch}
+use Rattle.cedar_expr_model.specs.Substitution.{Mismatch}
 use Rattle.cedar_expr_values.specs.Types.{core_of}
 use Rattle.cedar_expr_values.specs.Values.{made}
 use Rattle.cedar_expr_trees.specs.Unknowns.{unknown_of}

@@ -1,6 +1,6 @@
 use Rattle.std.proofs.Common.{◌≡◌}
-use Rattle.cedar_expr_model.specs.Whole.Lists.{first_found}
-use Rattle.cedar_expr_model.specs.Whole.Substitution.{mismatch, mismatch_at}
+use Rattle.cedar_expr_model.specs.Lists.{first_found}
+use Rattle.cedar_expr_model.specs.Substitution.{mismatch, mismatch_at}
 use Rattle.cedar_expr_trees.specs.Trees.{tree_of}
 use Rattle.cedar_expr_trees.specs.Positions.{unknowns_left}
 use Rattle.cedar_expr_substitution.specs.Bound.{bindings_of}

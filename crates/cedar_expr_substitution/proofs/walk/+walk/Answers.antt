@@ -1,8 +1,8 @@
 use Rattle.std.proofs.Common.{◌≡◌, IfOk, map, subst, sym, ap, ◌∙◌}
 use Rattle.cedar_expr_names.specs.Views.{plain_name_of}
-use Rattle.cedar_expr_model.specs.Whole.Builder.{built_list, trees, tree_fields}
-use Rattle.cedar_expr_model.specs.Whole.Substitution.{substituted}
-use Rattle.cedar_expr_model.specs.Whole.Tree.{call, set_literal, record_literal}
+use Rattle.cedar_expr_model.specs.Builder.{built_list, trees, tree_fields}
+use Rattle.cedar_expr_model.specs.Substitution.{substituted}
+use Rattle.cedar_expr_model.specs.Tree.{call, set_literal, record_literal}
 use Rattle.cedar_expr_trees.specs.Trees.{tree_of, kind_tree, named, field_trees}
 use Rattle.cedar_expr_trees.proofs.Trees.{call_tree, set_tree, record_tree}
 use Rattle.cedar_expr_substitution.specs.Bound.{bindings_of, substituting}

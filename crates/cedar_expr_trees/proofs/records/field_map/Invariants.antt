@@ -1,7 +1,7 @@
 use Rattle.std.proofs.Common.{◌≡◌, ◌++◌, None}
 use Rattle.std.specs.Vec.Iter.{into_iter_items}
-use Rattle.cedar_expr_model.specs.Whole.Records.{in_order}
-use Rattle.cedar_expr_model.specs.Whole.Repeats.{repeated_name}
+use Rattle.cedar_expr_model.specs.Records.{in_order}
+use Rattle.cedar_expr_model.specs.Repeats.{repeated_name}
 use Rattle.cedar_expr_trees.specs.Trees.{named}
 use Rattle.cedar_expr_trees.proofs.records.field_map.Given as goal
 

@@ -1,5 +1,5 @@
 use Rattle.std.proofs.Common.{◌≡◌, map}
-use Rattle.cedar_expr_model.specs.Whole.Records.{in_order}
+use Rattle.cedar_expr_model.specs.Records.{in_order}
 use Rattle.cedar_expr_values.specs.Fields.{by_text}
 use Rattle.cedar_expr_values.proofs.fields.field_map.Given as goal
 

@@ -1,5 +1,5 @@
 use Rattle.std.proofs.Common.{sym, ◌∙◌}
-use Rattle.cedar_expr_model.proofs.Whole.Rising.{member_Decides, same_rising}
+use Rattle.cedar_expr_model.proofs.Rising.{member_Decides, same_rising}
 use Rattle.cedar_expr_values.specs.Values.{bares}
 use Rattle.cedar_expr_values.proofs.laws.sets_are_their_members.Goals as goal
 

@@ -2,8 +2,8 @@
 use Rattle.std.proofs.Common.{ap, ◌∙◌}
 use Rattle.std.specs.Ordering.{is_eq}
 use Rattle.std.proofs.lemmas.Cmp.{tied_itself}
-use Rattle.cedar_expr_model.specs.Whole.Order.{value_eq}
-use Rattle.cedar_expr_model.proofs.Whole.ValueOrder.{value_linear}
+use Rattle.cedar_expr_model.specs.Order.{value_eq}
+use Rattle.cedar_expr_model.proofs.ValueOrder.{value_linear}
 use Rattle.cedar_expr_values.specs.Values.{bare}
 use Rattle.cedar_expr_values.specs.contracts.value.ValueHash.TheImpl.Laws as hash_laws
 use Rattle.cedar_expr_values.proofs.Derived.{equal_is}

@@ -1,5 +1,5 @@
 use Rattle.std.proofs.Common.{◌≡◌, map}
-use Rattle.cedar_expr_model.specs.Whole.Made.{made_prim}
+use Rattle.cedar_expr_model.specs.Made.{made_prim}
 use Rattle.cedar_expr_leaves.specs.Literals.{literal_of}
 use Rattle.cedar_expr_values.specs.Values.{made}
 use Rattle.cedar_expr_values.proofs.value.literal_values.Given as goal

@@ -1,7 +1,7 @@
 use Rattle.std.proofs.Common.{sym, subst}
 use Rattle.cedar_gate_acceptance.specs.Handed.{IsSeenBy}
 use Rattle.cedar_gate_rules.specs.Policies.{policies_of}
-use Rattle.cedar_schema_model.specs.Whole.Schema.{Schema}
+use Rattle.cedar_schema_model.specs.Schema.{Schema}
 use Rattle.cedar_gate_acceptance.proofs.admitted.check_by.Goals as goal
 
 pub returns-clause-kept : goal.returns-clause-kept

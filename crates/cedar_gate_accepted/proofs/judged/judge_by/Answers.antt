@@ -3,7 +3,7 @@ use Rattle.std.specs.declared.alloc.Global.{Global}
 use Rattle.std.specs.declared.vec.Vec.{Vec}
 use Rattle.cedar_gate_accepted.proofs.Judging.{warned_by}
 use Rattle.cedar_gate_accepted.proofs.Listed.{on_ok}
-use Rattle.cedar_gate_model.specs.Whole.Acceptance.{warnings_of}
+use Rattle.cedar_gate_model.specs.Acceptance.{warnings_of}
 use Rattle.cedar_gate_rules.specs.Policies.{policies_of}
 use Rattle.cedar_store_parts.specs.Parts.{id_text}
 use Rattle.cedar_store_parts.specs.declared.policy_id.PolicyID.{PolicyID}

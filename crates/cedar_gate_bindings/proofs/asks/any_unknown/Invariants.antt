@@ -1,7 +1,7 @@
 -- Whether it holds of an unknown that is left.
 use Rattle.std.proofs.Common.{◌≡◌}
 use Rattle.std.specs.List.{list_any}
-use Rattle.cedar_expr_model.specs.Whole.Parts.{unknowns}
+use Rattle.cedar_expr_model.specs.Parts.{unknowns}
 use Rattle.cedar_expr_trees.specs.Trees.{tree_of}
 use Rattle.cedar_expr_trees.specs.Positions.{unknowns_left}
 use Rattle.cedar_gate_bindings.proofs.asks.any_unknown.Given as goal

@@ -2,8 +2,8 @@ use Rattle.std.proofs.Common.{◌≡◌, Some, None, true, codes, rules, ap, ◌
 use Rattle.serde_json.specs.View.{view}
 use Rattle.cedar_store_entities.specs.Stores.{store_seen}
 use Rattle.cedar_gate_model.specs.Reading.{given, required}
-use Rattle.cedar_gate_model.specs.Whole.ReadingBundle.{is_bundle, bundle_read}
-use Rattle.cedar_gate_model.specs.Whole.ReadingRequest.{request_read, store_read}
+use Rattle.cedar_gate_model.specs.ReadingBundle.{is_bundle, bundle_read}
+use Rattle.cedar_gate_model.specs.ReadingRequest.{request_read, store_read}
 use Rattle.cedar_gate_bundles.specs.Bundles.{submission_of}
 use Rattle.cedar_gate_bundles.specs.Requests.{request_of}
 use Rattle.cedar_gate_bundles.proofs.Unread.{handed_on, steps_unread}

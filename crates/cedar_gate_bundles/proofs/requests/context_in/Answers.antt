@@ -1,12 +1,12 @@
 use Rattle.std.proofs.Common.{◌≡◌, Some, None, IfOk, IfErr, true, rules, subst, sym, ap, ◌∙◌}
 use Rattle.serde_json.specs.Data.{object}
 use Rattle.serde_json.specs.View.{members_view}
-use Rattle.cedar_expr_model.specs.Whole.Builder.{tree_fields}
-use Rattle.cedar_expr_model.specs.Whole.Restricted.{is_restricted}
-use Rattle.cedar_expr_model.specs.Whole.Tree.{record_literal}
+use Rattle.cedar_expr_model.specs.Builder.{tree_fields}
+use Rattle.cedar_expr_model.specs.Restricted.{is_restricted}
+use Rattle.cedar_expr_model.specs.Tree.{record_literal}
 use Rattle.cedar_expr_trees.specs.Trees.{tree_of, named, field_trees}
 use Rattle.cedar_evaluator_model.specs.Reauthorize.{context_from}
-use Rattle.cedar_gate_model.specs.Whole.ReadingValue.{fields_context_read, left_of_restricted}
+use Rattle.cedar_gate_model.specs.ReadingValue.{fields_context_read, left_of_restricted}
 use Rattle.cedar_gate_reading.specs.declared.fault.ReadFault.TheVariants.{Unreadable}
 use Rattle.cedar_gate_bundles.specs.Requests.{context_of}
 use Rattle.cedar_gate_bundles.proofs.Parted.{stopped_context}

@@ -1,5 +1,5 @@
 use Rattle.std.proofs.Common.{Some, map, sym, ap, ◌∙◌}
-use Rattle.cedar_expr_model.specs.Whole.Builder.{tree_fields}
+use Rattle.cedar_expr_model.specs.Builder.{tree_fields}
 use Rattle.cedar_expr_trees.specs.Trees.{kind_tree, named, field_trees}
 use Rattle.cedar_expr_trees.proofs.Trees.{record_tree}
 use Rattle.cedar_expr_values.specs.Extensions.{extension_of}

@@ -2,8 +2,8 @@ use Rattle.std.proofs.Common.{◌≡◌, Some, None, map}
 use Rattle.serde_json.specs.View.{view}
 use Rattle.cedar_store_entities.specs.Views.{entity_pair}
 use Rattle.cedar_gate_model.specs.Reading.{list_of}
-use Rattle.cedar_gate_model.specs.Whole.ReadingRequest.{entity_read}
-use Rattle.cedar_gate_model.specs.Whole.RunsAnswer.{MakeFairly}
+use Rattle.cedar_gate_model.specs.ReadingRequest.{entity_read}
+use Rattle.cedar_gate_model.specs.RunsAnswer.{MakeFairly}
 use Rattle.cedar_gate_reading.specs.declared.fault.ReadFault.TheVariants.{Unreadable}
 use Rattle.cedar_gate_bundles.specs.Written.{entity_read_made, entity_pair_made, AreWritten}
 use Rattle.cedar_gate_bundles.proofs.Kept.{if_ok, if_err, listed, unlisted}

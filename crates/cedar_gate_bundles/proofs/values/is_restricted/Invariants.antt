@@ -1,7 +1,7 @@
 use Rattle.std.proofs.Common.{◌≡◌, map}
 use Rattle.std.specs.Prelude.{is_none}
-use Rattle.cedar_expr_model.specs.Whole.Lists.{first_found}
-use Rattle.cedar_expr_model.specs.Whole.Restricted.{is_restricted, feature_here}
+use Rattle.cedar_expr_model.specs.Lists.{first_found}
+use Rattle.cedar_expr_model.specs.Restricted.{is_restricted, feature_here}
 use Rattle.cedar_expr_trees.specs.Positions.{exprs_left}
 use Rattle.cedar_expr_trees.specs.Trees.{tree_of}
 use Rattle.cedar_gate_bundles.proofs.values.is_restricted.Given as goal

@@ -2,7 +2,7 @@ use Rattle.std.proofs.Common.{◌≡◌, map}
 use Rattle.cedar_expr_names.specs.Views.{uid_of}
 use Rattle.cedar_gate_conforming_model.specs.Asked.{has_wrong_ancestor}
 use Rattle.cedar_schema_built.specs.Views.{schema_kept}
-use Rattle.cedar_schema_model.specs.Whole.Conforming.{among_actions}
+use Rattle.cedar_schema_model.specs.Conforming.{among_actions}
 use Rattle.cedar_store_entities.specs.Views.{entity_uid, entity_of}
 use Rattle.cedar_gate_conforming.proofs.ancestors.action_has_wrong_ancestor.Given as goal
 

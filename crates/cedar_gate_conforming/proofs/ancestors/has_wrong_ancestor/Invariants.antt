@@ -3,7 +3,7 @@ use Rattle.cedar_expr_names.specs.Views.{uid_of}
 use Rattle.cedar_gate_conforming_model.specs.Asked.{has_wrong_ancestor}
 use Rattle.cedar_schema_built.specs.Views.{schema_kept}
 use Rattle.cedar_schema_entries.specs.Views.{entity_type_seen}
-use Rattle.cedar_schema_model.specs.Whole.Conforming.{of_kind}
+use Rattle.cedar_schema_model.specs.Conforming.{of_kind}
 use Rattle.cedar_store_entities.specs.Views.{entity_uid, entity_of}
 use Rattle.cedar_gate_conforming.proofs.ancestors.has_wrong_ancestor.Given as goal
 

@@ -1,6 +1,6 @@
 use Rattle.std.proofs.Common.{◌≡◌}
 use Rattle.std.specs.List.{list_all}
-use Rattle.cedar_store_model.specs.Whole.Knowledge.{is_known}
+use Rattle.cedar_store_model.specs.Knowledge.{is_known}
 use Rattle.cedar_gate_conforming.specs.Parts.{parts_left}
 use Rattle.cedar_gate_conforming.proofs.attributes.are_values.Given as goal
 

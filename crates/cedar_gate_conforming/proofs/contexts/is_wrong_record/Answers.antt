@@ -1,10 +1,10 @@
 use Rattle.std.proofs.Common.{rules, ◌≡◌, not, map, ap, ◌∙◌}
-use Rattle.cedar_expr_model.specs.Whole.Made as model
-use Rattle.cedar_expr_model.specs.Whole.Made.{Made, bare_fields}
-use Rattle.cedar_expr_model.specs.Whole.Value.{record_of}
+use Rattle.cedar_expr_model.specs.Made as model
+use Rattle.cedar_expr_model.specs.Made.{Made, bare_fields}
+use Rattle.cedar_expr_model.specs.Value.{record_of}
 use Rattle.cedar_expr_values.specs.Extensions.{extension_of}
 use Rattle.cedar_expr_values.specs.Values.{made_fields, made_pair}
-use Rattle.cedar_schema_model.specs.Whole.HasType.{has_type}
+use Rattle.cedar_schema_model.specs.HasType.{has_type}
 use Rattle.cedar_schema_types.specs.Types.{type_of}
 use Rattle.cedar_gate_conforming.proofs.contexts.is_wrong_record.Goals as goal
 

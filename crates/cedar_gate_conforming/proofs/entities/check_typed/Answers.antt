@@ -6,7 +6,7 @@ use Rattle.cedar_gate_conforming_model.specs.First.{first_fault}
 use Rattle.cedar_schema_built.specs.Views.{schema_kept}
 use Rattle.cedar_schema_entries.specs.Views.{entity_type_seen}
 use Rattle.cedar_schema_kept_model.specs.Kept.{kept_type}
-use Rattle.cedar_schema_model.specs.Whole.Conforming.{Place, undeclared}
+use Rattle.cedar_schema_model.specs.Conforming.{Place, undeclared}
 use Rattle.cedar_store_entities.specs.Views.{entity_uid, entity_of}
 use Rattle.cedar_gate_conforming.specs.Faults.{IsFirst}
 use Rattle.cedar_gate_conforming.proofs.Placed.{place_found, place_none}

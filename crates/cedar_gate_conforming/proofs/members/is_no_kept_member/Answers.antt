@@ -1,7 +1,7 @@
 use Rattle.std.proofs.Common.{sym, ap, ◌∙◌}
 use Rattle.cedar_expr_names.specs.Views.{uid_of}
 use Rattle.cedar_schema_built.specs.Views.{schema_kept}
-use Rattle.cedar_schema_model.specs.Whole.Conforming.{Place, is_no_member}
+use Rattle.cedar_schema_model.specs.Conforming.{Place, is_no_member}
 use Rattle.cedar_gate_conforming.proofs.Placed.{place_action, place_typed}
 use Rattle.cedar_gate_conforming.proofs.members.is_no_kept_member.Goals as goal
 

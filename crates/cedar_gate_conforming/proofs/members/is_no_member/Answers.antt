@@ -1,6 +1,6 @@
 use Rattle.std.proofs.Common.{◌∙◌}
 use Rattle.cedar_schema_entries.specs.Views.{entity_type_seen}
-use Rattle.cedar_schema_model.specs.Whole.Conforming.{of_kind, attributes_at, is_no_member}
+use Rattle.cedar_schema_model.specs.Conforming.{of_kind, attributes_at, is_no_member}
 use Rattle.cedar_gate_conforming.proofs.members.is_no_member.Goals as goal
 
 pub returns : goal.returns

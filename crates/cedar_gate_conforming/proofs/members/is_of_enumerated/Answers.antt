@@ -1,6 +1,6 @@
 use Rattle.std.proofs.Common.{ap, ◌∙◌}
 use Rattle.cedar_schema_entries.specs.Views.{entity_type_seen}
-use Rattle.cedar_schema_model.specs.Whole.Conforming.{of_kind, attributes_at}
+use Rattle.cedar_schema_model.specs.Conforming.{of_kind, attributes_at}
 use Rattle.cedar_gate_conforming.specs.Views.{is_enumerated}
 use Rattle.cedar_gate_conforming.proofs.members.is_of_enumerated.Goals as goal
 

@@ -4,7 +4,7 @@ use Rattle.std.specs.Rc.{rc_str_bytes}
 use Rattle.std.specs.Str.{bytes_eq}
 use Rattle.cedar_expr_names.specs.Views.{eid_text}
 use Rattle.cedar_schema_entries.specs.Kinds.{kind_with}
-use Rattle.cedar_schema_model.specs.Whole.Conforming.{of_kind, is_no_member}
+use Rattle.cedar_schema_model.specs.Conforming.{of_kind, is_no_member}
 use Rattle.cedar_gate_conforming.proofs.Texts.{text_among}
 use Rattle.cedar_gate_conforming.proofs.members.lacks_id.Goals as goal
 

@@ -1,7 +1,7 @@
 use Rattle.std.proofs.Common.{ap, ◌∙◌}
 use Rattle.cedar_gate_conforming_model.specs.Asked.{is_unlisted}
 use Rattle.cedar_schema_built.specs.Views.{schema_kept}
-use Rattle.cedar_schema_model.specs.Whole.Conforming.{where_known}
+use Rattle.cedar_schema_model.specs.Conforming.{where_known}
 use Rattle.cedar_gate_conforming.specs.Views.{request_seen}
 use Rattle.cedar_gate_conforming.proofs.Placed.{asked}
 use Rattle.cedar_gate_conforming.proofs.requests.is_unlisted.Goals as goal

@@ -3,7 +3,7 @@ use Rattle.std.specs.List.{list_any}
 use Rattle.cedar_expr_model.specs.Name.{name_eq}
 use Rattle.cedar_evaluator_requests.specs.Views.{entry_of}
 use Rattle.cedar_schema_entries.specs.Views.{action_seen}
-use Rattle.cedar_schema_model.specs.Whole.Conforming.{is_not_listed}
+use Rattle.cedar_schema_model.specs.Conforming.{is_not_listed}
 use Rattle.cedar_gate_conforming.proofs.Placed.{known_is}
 use Rattle.cedar_gate_conforming.proofs.requests.refuses_resource.Goals as goal
 

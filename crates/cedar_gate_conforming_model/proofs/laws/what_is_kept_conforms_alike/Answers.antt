@@ -1,4 +1,4 @@
-use Rattle.cedar_schema_model.specs.Whole.Resolved.{schema_of}
+use Rattle.cedar_schema_model.specs.Resolved.{schema_of}
 use Rattle.cedar_gate_conforming_model.proofs.Faults.{conforms_alike}
 use Rattle.cedar_gate_conforming_model.proofs.laws.what_is_kept_conforms_alike.Goals as goal
 

@@ -1,6 +1,6 @@
 use Rattle.std.proofs.Common.{◌≡◌, map, subst, ◌∙◌}
 use Rattle.std.specs.Prelude.{IfOk}
-use Rattle.cedar_store_model.specs.Whole.Policy.{no_bindings}
+use Rattle.cedar_store_model.specs.Policy.{no_bindings}
 use Rattle.cedar_store_policies.specs.Policies.{policy_of}
 use Rattle.cedar_evaluator_core.specs.Evaluators.{limit_of, scope_in}
 use Rattle.cedar_evaluator_requests.specs.Views.{answer_of}

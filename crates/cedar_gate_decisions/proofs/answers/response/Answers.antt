@@ -1,5 +1,5 @@
 use Rattle.std.proofs.Common.{false, sym, subst, ◌∙◌}
-use Rattle.cedar_expr_model.specs.Whole.ListLaws.{AreDistinct}
+use Rattle.cedar_expr_model.specs.ListLaws.{AreDistinct}
 use Rattle.cedar_store_policies.specs.Policies.{policy_of}
 use Rattle.cedar_gate_decisions.specs.Verdicts.{must_by}
 use Rattle.cedar_gate_decisions.proofs.Marked.{decision_is, reasons_are, picks_apart}

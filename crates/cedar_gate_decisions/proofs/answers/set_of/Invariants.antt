@@ -1,6 +1,6 @@
 use Rattle.std.proofs.Common.{◌≡◌, ◌++◌, map, length}
 use Rattle.std.specs.Vec.Iter.{into_iter_items, into_iter_len}
-use Rattle.cedar_expr_model.specs.Whole.ListLaws.{AreDistinct}
+use Rattle.cedar_expr_model.specs.ListLaws.{AreDistinct}
 use Rattle.cedar_store_parts.specs.Parts.{id_text}
 use Rattle.cedar_gate_decisions.proofs.answers.set_of.Given as goal
 

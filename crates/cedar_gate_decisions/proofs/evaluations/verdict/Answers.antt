@@ -1,6 +1,6 @@
 use Rattle.std.proofs.Common.{◌≡◌, subst}
 use Rattle.std.specs.Prelude.{IfOk}
-use Rattle.cedar_store_model.specs.Whole.Policy.{binding_of, condition, no_bindings}
+use Rattle.cedar_store_model.specs.Policy.{binding_of, condition, no_bindings}
 use Rattle.cedar_store_policies.specs.Policies.{policy_of}
 use Rattle.cedar_evaluator_model.specs.Evaluation.{evaluated}
 use Rattle.cedar_evaluator_model.specs.Response.{slots_bound}

@@ -1,4 +1,4 @@
-use Rattle.cedar_store_model.specs.Whole.Policy.{no_bindings}
+use Rattle.cedar_store_model.specs.Policy.{no_bindings}
 use Rattle.cedar_store_policies.specs.Policies.{policy_of}
 use Rattle.cedar_evaluator_model.specs.Response.{verdict}
 use Rattle.cedar_evaluator_core.specs.Evaluators.{limit_of, scope_in}

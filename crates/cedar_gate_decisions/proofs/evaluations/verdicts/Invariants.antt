@@ -1,6 +1,6 @@
 -- The verdicts are those on the policies so far.
 use Rattle.std.proofs.Common.{◌≡◌, map, take}
-use Rattle.cedar_store_model.specs.Whole.Policy.{no_bindings}
+use Rattle.cedar_store_model.specs.Policy.{no_bindings}
 use Rattle.cedar_store_policies.specs.Policies.{policy_of}
 use Rattle.cedar_evaluator_operators.specs.Calls.{Functions}
 use Rattle.cedar_evaluator_core.specs.Evaluators.{limit_of, scope_in, Serves}

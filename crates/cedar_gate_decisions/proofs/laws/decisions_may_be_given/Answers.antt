@@ -1,4 +1,4 @@
-use Rattle.cedar_gate_decisions.proofs.Sessions.{may_be_given}
+use Rattle.cedar_gate_model.proofs.Runs.InPart.{may_be_given}
 use Rattle.cedar_gate_decisions.proofs.laws.decisions_may_be_given.Goals as goal
 
 pub returns : goal.returns

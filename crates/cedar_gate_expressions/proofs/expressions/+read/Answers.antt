@@ -5,7 +5,7 @@ use Rattle.std.specs.String.{string_cmp}
 use Rattle.std.specs.Rc.{rc_str_bytes}
 use Rattle.serde_json.proofs.Views.{Entry}
 use Rattle.serde_json.specs.View.{members_view}
-use Rattle.cedar_gate_model.specs.Whole.ReadingExpression.{fields_in}
+use Rattle.cedar_gate_model.specs.ReadingExpression.{fields_in}
 use Rattle.cedar_expr_trees.specs.Trees.{named, field_trees}
 use Rattle.std.specs.Cmp.Lexicographic.{slice_cmp}
 use Rattle.cedar_gate_reading.proofs.Sorted.{insert_last, same_names_more}

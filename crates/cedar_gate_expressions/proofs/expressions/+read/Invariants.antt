@@ -2,9 +2,9 @@ use Rattle.std.proofs.Common.{◌≡◌, List, ◌++◌, drop, map, string_bytes
 use Rattle.std.specs.Rc.{rc_str_bytes}
 use Rattle.serde_json.specs.View.{members_view}
 use Rattle.serde_json.proofs.Views.{Entry}
-use Rattle.cedar_expr_model.specs.Whole.Lists.{all_given}
+use Rattle.cedar_expr_model.specs.Lists.{all_given}
 use Rattle.cedar_expr_trees.specs.Trees.{tree_of, named, field_trees}
-use Rattle.cedar_gate_model.specs.Whole.ReadingExpression.{fields_in}
+use Rattle.cedar_gate_model.specs.ReadingExpression.{fields_in}
 use Rattle.cedar_gate_expressions.specs.Parts.{parts}
 use Rattle.cedar_gate_reading.proofs.Gathered.{then_rest}
 use Rattle.cedar_gate_reading.proofs.Sorted.{SameNames}

@@ -1,6 +1,6 @@
 use Rattle.std.proofs.Common.{◌≡◌, ap, sym, ◌∙◌, Some, string_bytes}
 use Rattle.serde_json.specs.View.{view}
-use Rattle.cedar_gate_model.specs.Whole.ReadingSchema.{namespace_read}
+use Rattle.cedar_gate_model.specs.ReadingSchema.{namespace_read}
 use Rattle.cedar_gate_fragments.specs.Written.{declared_in_fragment}
 use Rattle.cedar_gate_fragments.proofs.Together.{next_namespace}
 use Rattle.cedar_gate_fragments.proofs.fragments.add_namespaces.Goals as goal

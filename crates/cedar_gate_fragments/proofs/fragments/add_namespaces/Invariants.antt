@@ -1,8 +1,8 @@
 use Rattle.std.proofs.Common.{◌≡◌, option_map}
 use Rattle.serde_json.specs.View.{members_view}
-use Rattle.cedar_schema_model.specs.Whole.Declarations.{bag}
+use Rattle.cedar_schema_model.specs.Declarations.{bag}
 use Rattle.cedar_gate_model.specs.Reading.{each_member}
-use Rattle.cedar_gate_model.specs.Whole.ReadingSchema.{namespace_read}
+use Rattle.cedar_gate_model.specs.ReadingSchema.{namespace_read}
 use Rattle.cedar_gate_fragments.specs.Written.{declared_by}
 use Rattle.cedar_gate_fragments.proofs.Together.{then_joined}
 use Rattle.cedar_gate_fragments.proofs.fragments.add_namespaces.Given as goal

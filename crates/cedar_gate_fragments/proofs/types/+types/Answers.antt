@@ -6,7 +6,7 @@ use Rattle.std.specs.String.{string_cmp}
 use Rattle.std.specs.Rc.{rc_str_bytes}
 use Rattle.serde_json.proofs.Views.{Entry}
 use Rattle.serde_json.specs.View.{members_view}
-use Rattle.cedar_gate_model.specs.Whole.ReadingSchema.{attributes_in}
+use Rattle.cedar_gate_model.specs.ReadingSchema.{attributes_in}
 use Rattle.cedar_gate_reading.proofs.Sorted.{insert_last, same_names_more}
 use Rattle.cedar_gate_fragments.proofs.Attributes.{next_attribute, start}
 use Rattle.cedar_gate_fragments.proofs.types.+types.Goals as goal

@@ -1,9 +1,9 @@
 use Rattle.std.proofs.Common.{◌≡◌, ◌++◌, [], OnOk, sym, ap, ◌∙◌, subst}
 use Rattle.std.proofs.lemmas.List.{append-nil}
-use Rattle.cedar_expr_model.specs.Whole.Made as model
+use Rattle.cedar_expr_model.specs.Made as model
 use Rattle.cedar_expr_values.specs.Extensions.{extension_of}
 use Rattle.cedar_expr_values.specs.Values.{bare, bare_kind}
-use Rattle.cedar_gate_model.specs.Whole.Slice.{mentioned}
+use Rattle.cedar_gate_model.specs.Slice.{mentioned}
 use Rattle.cedar_gate_mentions.specs.Mentions.{uids, mentioned_in}
 use Rattle.cedar_gate_mentions.proofs.Mentioned.{by_literal, by_set, by_record, by_extension, add_one}
 use Rattle.cedar_gate_mentions.proofs.values.+mentions.Goals as goal

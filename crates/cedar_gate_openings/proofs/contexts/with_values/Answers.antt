@@ -1,5 +1,5 @@
 use Rattle.std.proofs.Common.{◌≡◌, IfOk, subst}
-use Rattle.cedar_expr_model.specs.Whole.Substitution.{substituted}
+use Rattle.cedar_expr_model.specs.Substitution.{substituted}
 use Rattle.cedar_expr_trees.specs.Trees.{tree_of}
 use Rattle.cedar_evaluator_requests.specs.Views.{restricted_tree}
 use Rattle.cedar_gate_bindings.specs.Names.{bound_in}

@@ -1,7 +1,7 @@
 use Rattle.std.proofs.Common.{◌-◌, sym, ap, ◌∙◌}
 use Rattle.std.specs.Prelude.{nat_le}
 use Rattle.std.specs.List.{list_all}
-use Rattle.cedar_expr_model.specs.Whole.Tree.{nesting}
+use Rattle.cedar_expr_model.specs.Tree.{nesting}
 use Rattle.cedar_expr_trees.specs.Trees.{kind_tree, tree_of}
 use Rattle.cedar_gate_rules.proofs.ByParts.{call_nests}
 use Rattle.cedar_gate_rules.proofs.nesting.+nesting.Goals as goal

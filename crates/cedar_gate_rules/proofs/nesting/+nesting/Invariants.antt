@@ -2,7 +2,7 @@ use Rattle.std.proofs.Common.{◌≡◌, ◌*◌, ◌+◌, true, take}
 use Rattle.std.specs.Prelude.{nat_le}
 use Rattle.std.specs.BTreeMap.{values}
 use Rattle.std.specs.List.{list_all}
-use Rattle.cedar_expr_model.specs.Whole.Tree.{nesting}
+use Rattle.cedar_expr_model.specs.Tree.{nesting}
 use Rattle.cedar_expr_trees.specs.Trees.{tree_of}
 use Rattle.cedar_gate_rules.proofs.nesting.+nesting.Given as goal
 

@@ -1,5 +1,5 @@
 use Rattle.std.proofs.Common.{sym, ◌∙◌}
-use Rattle.cedar_gate_model.specs.Whole.Acceptance.{is_linked}
+use Rattle.cedar_gate_model.specs.Acceptance.{is_linked}
 use Rattle.cedar_store_policies.specs.Policies.{policy_of}
 use Rattle.cedar_gate_rules.proofs.Failing.{one_fails}
 use Rattle.cedar_gate_rules.proofs.policies.are_linked.Goals as goal

@@ -1,6 +1,6 @@
 use Rattle.std.proofs.Common.{◌≡◌, true, take}
 use Rattle.std.specs.List.{list_all}
-use Rattle.cedar_gate_model.specs.Whole.Acceptance.{is_linked}
+use Rattle.cedar_gate_model.specs.Acceptance.{is_linked}
 use Rattle.cedar_gate_rules.specs.Policies.{policies_of}
 use Rattle.cedar_gate_rules.proofs.policies.are_linked.Given as goal
 

@@ -1,5 +1,5 @@
 use Rattle.std.proofs.Common.{sym, ◌∙◌}
-use Rattle.cedar_gate_model.specs.Whole.Acceptance.{keeps_slots_in_scope}
+use Rattle.cedar_gate_model.specs.Acceptance.{keeps_slots_in_scope}
 use Rattle.cedar_store_policies.specs.Policies.{policy_of}
 use Rattle.cedar_gate_rules.proofs.Failing.{one_fails}
 use Rattle.cedar_gate_rules.proofs.policies.keep_slots_in_scope.Goals as goal

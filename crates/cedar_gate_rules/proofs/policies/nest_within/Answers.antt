@@ -1,7 +1,7 @@
 use Rattle.std.proofs.Common.{sym, ap, ◌∙◌}
 use Rattle.std.specs.Prelude.{nat_le}
-use Rattle.cedar_expr_model.specs.Whole.Tree.{nesting}
-use Rattle.cedar_store_model.specs.Whole.Policy.{condition}
+use Rattle.cedar_expr_model.specs.Tree.{nesting}
+use Rattle.cedar_store_model.specs.Policy.{condition}
 use Rattle.cedar_store_policies.specs.Policies.{policy_of}
 use Rattle.cedar_gate_rules.proofs.Failing.{one_fails}
 use Rattle.cedar_gate_rules.proofs.policies.nest_within.Goals as goal

@@ -1,7 +1,7 @@
 use Rattle.std.proofs.Common.{sym, ap, ◌∙◌}
 use Rattle.std.specs.Prelude.{not}
-use Rattle.cedar_expr_model.specs.Whole.Unknowns.{has_unknown}
-use Rattle.cedar_store_model.specs.Whole.Policy.{condition}
+use Rattle.cedar_expr_model.specs.Unknowns.{has_unknown}
+use Rattle.cedar_store_model.specs.Policy.{condition}
 use Rattle.cedar_store_policies.specs.Policies.{policy_of}
 use Rattle.cedar_gate_rules.proofs.Failing.{one_fails}
 use Rattle.cedar_gate_rules.proofs.policies.stand_without_unknowns.Goals as goal

@@ -1,6 +1,6 @@
 use Rattle.std.proofs.Common.{◌∙◌, sym, subst}
-use Rattle.cedar_gate_model.specs.Whole.RunsAnswer.{session_of}
-use Rattle.cedar_gate_model.specs.Whole.Session.{IsWantedList}
+use Rattle.cedar_gate_model.specs.RunsAnswer.{session_of}
+use Rattle.cedar_gate_model.specs.Session.{IsWantedList}
 use Rattle.cedar_gate_runs.proofs.Pushed.{carried}
 use Rattle.cedar_gate_runs.proofs.loading.copy_wanted.Goals as goal
 

@@ -1,13 +1,15 @@
-use Rattle.std.proofs.Common.{◌≡◌, [], ◌∷◌, map, length, refl, sym, ap, ◌∙◌, subst}
+use Rattle.std.proofs.Common.{◌≡◌, [], ◌∷◌, ◌++◌, map, length, refl, sym, ap, ◌∙◌, subst}
 use Rattle.cedar_expr_names.specs.Views.{uid_of}
-use Rattle.cedar_gate_model.specs.Whole.Runs.{supplied_by, with_asked}
-use Rattle.cedar_gate_model.specs.Whole.RunsAnswer.{session_of}
-use Rattle.cedar_gate_model.specs.Whole.Session.{SupplyRefusal, SupplyFault}
-use Rattle.cedar_gate_model.specs.Whole.Transcript.{round}
+use Rattle.cedar_gate_model.specs.Runs.{supplied_by, with_asked}
+use Rattle.cedar_gate_model.specs.RunsAnswer.{session_of}
+use Rattle.cedar_gate_model.specs.Session.{SupplyRefusal, SupplyFault}
+use Rattle.cedar_gate_model.specs.Transcript.{round}
+use Rattle.cedar_gate_runs.proofs.Asked.{alone_beyond, memory_beyond, memory_beyond_one, one_more}
 use Rattle.cedar_gate_runs.proofs.Faulted.{round_stops}
 use Rattle.cedar_gate_runs.proofs.Looped.{not_none, round_done}
-use Rattle.cedar_gate_runs.proofs.Pushed.{handed, pushed, uids_none}
+use Rattle.cedar_gate_runs.proofs.Pushed.{handed, pushed_in_room, uids_none}
 use Rattle.cedar_gate_runs.specs.Running.{StopsSupply}
+use Rattle.cedar_gate_runs.specs.declared.stops.Stop.TheVariants.{Memory}
 use Rattle.cedar_gate_runs.proofs.loading.load.Goals as goal
 
 pub returns-in_err-take_in-clause-stopped : goal.returns-in_err-take_in-clause-stopped
@@ -33,6 +35,25 @@ returns-clause-did g c =
       state = with_asked s us;
       leads = round_done (session_of d) s us (λ k. some (uids_none items k)) (c.in_ok-wanted.ensures.exact d s h)
           (subst (λ vs. (f : SupplyRefusal) → SupplyFault (session_of d) s (supplied_by (session_of d) vs) f → ⊥) same (c.in_ok-take_in.ensures.taken d s h i));
-      added = pushed _ _ _ (round us) c.in_ok-push.ensures.items refl;
+      added = pushed_in_room _ _ _ _ (round us) c.in_ok-reserve.ensures.items c.in_ok-push.ensures.items refl;
       at = subst (λ vs. g.E.SessionCalls.stands d (with_asked s vs) c.take_in.new.session) same (c.in_ok-take_in.ensures.at d s h i (same ∙ c.in_ok-wanted.ensures.wanted));
     }
+
+pub returns-clause-asked : goal.returns-clause-asked
+returns-clause-asked g c = λ first h.
+    let us = map uid_of c.in_ok-wanted.wanted.items in
+    let same : map uid_of c.as_slice.result.now ≡ us = ap (map uid_of) c.as_slice.ensures.value in
+    c.in_ok-take_in.ensures.asked ∙ ap (λ z. g.H.Host.asked c.args.host.now ++ z ∷ []) same
+    ∙ one_more first _ _ _ us (pushed_in_room _ _ _ _ (round us) c.in_ok-reserve.ensures.items c.in_ok-push.ensures.items refl) h
+
+pub returns-in_err-wanted-clause-beyond : goal.returns-in_err-wanted-clause-beyond
+returns-in_err-wanted-clause-beyond g c = handed _ Memory c.from_residual.result c.from_residual.ensures.1 (alone_beyond _ Memory memory_beyond)
+
+pub returns-in_err-reserve-clause-beyond : goal.returns-in_err-reserve-clause-beyond
+returns-in_err-reserve-clause-beyond g c = handed _ Memory c.from_residual-in_err-reserve.result c.from_residual-in_err-reserve.ensures.1 (alone_beyond _ Memory memory_beyond)
+
+pub returns-in_err-take_in-clause-beyond : goal.returns-in_err-take_in-clause-beyond
+returns-in_err-take_in-clause-beyond g c = handed _ c.in_err-take_in.field-0.0 c.from_residual-in_err-take_in.result c.from_residual-in_err-take_in.ensures.1 c.in_err-take_in.ensures.beyond
+
+pub returns-in_err-push-clause-beyond : goal.returns-in_err-push-clause-beyond
+returns-in_err-push-clause-beyond g c = handed _ Memory c.from_residual-in_err-push.result c.from_residual-in_err-push.ensures.1 (map uid_of c.as_slice.result.now ∷ [], memory_beyond_one (map uid_of c.as_slice.result.now), c.in_ok-take_in.ensures.asked)

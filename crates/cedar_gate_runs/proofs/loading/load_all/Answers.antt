@@ -1,5 +1,6 @@
 use Rattle.std.proofs.Common.{rules, ◌≡◌, ◌<◌, true, false, refl, ◌∙◌, subst, arith}
-use Rattle.cedar_gate_model.specs.Whole.RunsAnswer.{session_of}
+use Rattle.cedar_gate_model.specs.RunsAnswer.{session_of}
+use Rattle.cedar_gate_runs.proofs.Asked.{beyond_on}
 use Rattle.cedar_gate_runs.proofs.Looped.{loading_none, loading_more, loading_ends, loading_halts, loading_few}
 use Rattle.cedar_gate_runs.proofs.Pushed.{handed}
 use Rattle.cedar_gate_runs.specs.Running.{Went, DidLoad}
@@ -9,6 +10,7 @@ use Rattle.cedar_gate_runs.proofs.loading.load_all.Goals as goal
 pub loop-round-init : goal.loop-round-init
 loop-round-init g c = record {
   faults = refl;
+  asked = λ first h. h;
   host = λ d i. i;
   loading = λ d s h i. loading_none (g.E.SessionCalls.stands d) (session_of d) s _ _ h;
 }
@@ -19,6 +21,7 @@ loop-round-preserved g c =
     let more : c.in_ok-load.field-0 ≡ true = search rules in
     record {
       faults = c.in_ok-load.ensures.faults ∙ i.faults;
+      asked = λ first h. c.in_ok-load.ensures.asked first (i.asked first h);
       host = λ d k. c.in_ok-load.ensures.host d (i.host d k);
       loading = λ d s h k.
           let l = i.loading d s h k in
@@ -65,3 +68,13 @@ returns-clause-did g c = λ d s h k.
     let at : d.submission.level ≡ c.level.result = c.level.ensures d s h in
     let high : d.submission.level < c.loop-round._round = omega (arith, at, c.loop-round-test.false, c.from-round-end.ensures) in
     loading_few (g.E.SessionCalls.stands d) (session_of d) s c.loop-round._round _ _ _ (i.loading d s h k) high
+
+pub returns-in_err-load-clause-beyond : goal.returns-in_err-load-clause-beyond
+returns-in_err-load-clause-beyond g c = handed _ c.in_err-load.field-0.0 c.from_residual.result c.from_residual.ensures.1
+    (λ first h. beyond_on first _ _ _ _ c.in_err-load.field-0.0 (c.loop-round.invariant.asked first h) c.in_err-load.ensures.unchanged c.in_err-load.ensures.beyond)
+
+pub returns-then-not-branch-clause-asked : goal.returns-then-not-branch-clause-asked
+returns-then-not-branch-clause-asked g c = λ first h. c.in_ok-load.ensures.asked first (c.loop-round.invariant.asked first h)
+
+pub returns-clause-asked : goal.returns-clause-asked
+returns-clause-asked g c = c.loop-round.invariant.asked

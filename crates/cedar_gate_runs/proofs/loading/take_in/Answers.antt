@@ -1,11 +1,14 @@
-use Rattle.std.proofs.Common.{map, sym, subst}
+use Rattle.std.proofs.Common.{[], ◌∷◌, map, sym, subst, ◌∙◌}
 use Rattle.cedar_expr_names.specs.Views.{uid_of}
-use Rattle.cedar_gate_model.specs.Whole.Runs.{supplied_by, with_asked}
-use Rattle.cedar_gate_model.specs.Whole.RunsAnswer.{session_of}
-use Rattle.cedar_gate_model.specs.Whole.Session.{SupplyFault}
+use Rattle.cedar_gate_model.specs.Runs.{supplied_by, with_asked}
+use Rattle.cedar_gate_model.specs.RunsAnswer.{session_of}
+use Rattle.cedar_gate_model.specs.Session.{SupplyFault}
+use Rattle.cedar_gate_runs.proofs.Asked.{host_beyond, supply_beyond}
 use Rattle.cedar_gate_runs.proofs.Faulted.{host_stops, supply_stops}
 use Rattle.cedar_gate_runs.proofs.Hosted.{host_stays, supplied_is, are_answers}
 use Rattle.cedar_gate_runs.proofs.Pushed.{handed}
+use Rattle.std.proofs.lemmas.List.{append-nil}
+use Rattle.cedar_gate_runs.specs.Asking.{AskedBeyond}
 use Rattle.cedar_gate_runs.specs.Refusals.{IsSupplyRefusal}
 use Rattle.cedar_gate_runs.specs.Running.{StopsSupply}
 use Rattle.cedar_gate_runs.specs.Stops.{host_stop}
@@ -41,3 +44,11 @@ returns-in-Err-clause-refused g c = λ d s h i.
     let e = supplied_is g.H.Host.honest g.H.Host.store d c.args.host.now i c.in_ok-supplied.supplied.items us (c.in_ok-supplied.ensures.answers i.honest) in
     subst (StopsSupply (session_of d) s (supplied_by (session_of d) us)) (sym c.supplying.ensures)
     (supply_stops (session_of d) s (supplied_by (session_of d) us) c.in-Err.refusal (subst (λ ps. IsSupplyRefusal (session_of d) s ps c.in-Err.refusal) e (c.in-Err.ensures.refused d s h)))
+
+pub returns-in_err-supplied-clause-beyond : goal.returns-in_err-supplied-clause-beyond
+returns-in_err-supplied-clause-beyond g c =
+    handed _ (host_stop c.in_err-supplied.field-0.0) c.from_residual.result c.from_residual.ensures.1 ([], host_beyond c.in_err-supplied.field-0.0, c.in_err-supplied.ensures.asked ∙ sym (append-nil _))
+
+pub returns-in-Err-clause-beyond : goal.returns-in-Err-clause-beyond
+returns-in-Err-clause-beyond g c =
+    subst (AskedBeyond (g.H.Host.asked c.args.host.now) (g.H.Host.asked c.fetch.new.self)) (sym c.supplying.ensures) (map uid_of c.args.wanted.now ∷ [], supply_beyond c.in-Err.refusal _, c.in_ok-supplied.ensures.asked)

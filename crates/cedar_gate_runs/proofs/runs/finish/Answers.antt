@@ -1,8 +1,10 @@
 use Rattle.std.proofs.Common.{[], refl, sym, subst}
-use Rattle.cedar_store_model.specs.Whole.Answer.{answer_of}
-use Rattle.cedar_gate_model.specs.Whole.RunsAnswer.{session_of}
-use Rattle.cedar_gate_model.specs.Whole.Session.{world_now}
+use Rattle.cedar_store_model.specs.Answer.{answer_of}
+use Rattle.cedar_gate_model.specs.RunsAnswer.{session_of}
+use Rattle.cedar_gate_model.specs.Session.{world_now}
+use Rattle.cedar_gate_runs.proofs.Asked.{answer_beyond}
 use Rattle.cedar_gate_runs.proofs.Faulted.{answer_stops}
+use Rattle.cedar_gate_runs.specs.Asking.{IsBeyond}
 use Rattle.cedar_gate_runs.specs.Stopping.{IsRefused}
 use Rattle.cedar_gate_runs.proofs.runs.finish.Goals as goal
 
@@ -13,3 +15,6 @@ returns-in-Ok-clause-answered g c = λ d s h none.
 pub returns-in-Err-clause-stopped : goal.returns-in-Err-clause-stopped
 returns-in-Err-clause-stopped g c = λ d s h none.
     subst (IsRefused (session_of d) d.submission.policies s [] []) (sym c.answering.ensures) (answer_stops (session_of d) d.submission.policies s c.in-Err.refusal none (c.in-Err.ensures.refused d s h))
+
+pub returns-in-Err-clause-alone : goal.returns-in-Err-clause-alone
+returns-in-Err-clause-alone g c = subst (λ s. IsBeyond s []) (sym c.answering.ensures) (answer_beyond c.in-Err.refusal)

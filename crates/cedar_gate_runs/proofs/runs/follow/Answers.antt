@@ -1,8 +1,11 @@
+use Rattle.std.proofs.Common.{refl}
+use Rattle.cedar_gate_runs.proofs.Asked.{alone_beyond, beyond_on}
 use Rattle.cedar_gate_runs.proofs.Ended.{carried_err, comes_to, halts_last}
 use Rattle.cedar_gate_runs.proofs.Looped.{halts_after}
-use Rattle.cedar_gate_runs.proofs.Pushed.{handed, carried}
+use Rattle.cedar_gate_runs.proofs.Pushed.{handed, carried, carried_to}
 use Rattle.cedar_gate_runs.specs.Steps.{steps_of}
 use Rattle.cedar_evaluator_requests.specs.Views.{answer_of}
+use Rattle.cedar_gate_transcripts.specs.Transcripts.{entries_of}
 use Rattle.cedar_gate_runs.proofs.runs.follow.Goals as goal
 
 pub returns-in_err-take_steps-clause-stopped : goal.returns-in_err-take_steps-clause-stopped
@@ -27,3 +30,20 @@ returns-clause-stopped g c = carried_err _ _ c.finish.result
     let w = c.in_ok-take_steps.ensures.did d s h i b in
     let v = c.in_ok-load_all.ensures.did d w.state w.at (c.in_ok-take_steps.ensures.host d i) in
     halts_last (g.E.SessionCalls.stands d) d s (steps_of c.args.steps.items) _ _ _ _ _ w v stop (p d v.state v.at v.leads.1)) c.finish.ensures.stopped
+
+pub returns-in_err-take_steps-clause-beyond : goal.returns-in_err-take_steps-clause-beyond
+returns-in_err-take_steps-clause-beyond g c = handed _ c.in_err-take_steps.field-0.0 c.from_residual.result c.from_residual.ensures.1 c.in_err-take_steps.ensures.beyond
+
+pub returns-in_err-load_all-clause-beyond : goal.returns-in_err-load_all-clause-beyond
+returns-in_err-load_all-clause-beyond g c = handed _ c.in_err-load_all.field-0.0 c.from_residual-in_err-load_all.result c.from_residual-in_err-load_all.ensures.1
+    (λ first h. c.in_err-load_all.ensures.beyond first (c.in_ok-take_steps.ensures.asked first h))
+
+pub returns-clause-asked : goal.returns-clause-asked
+returns-clause-asked g c = carried_to _ c.finish.result (λ first h. c.in_ok-load_all.ensures.asked first (c.in_ok-take_steps.ensures.asked first h))
+
+pub returns-clause-beyond : goal.returns-clause-beyond
+returns-clause-beyond g c = carried_err _ _ c.finish.result
+    (λ stop p first h.
+    let es = entries_of c.load_all.new.entries.items in
+    let asked = g.H.Host.asked c.load_all.new.host in
+    beyond_on first asked asked es es stop (c.in_ok-load_all.ensures.asked first (c.in_ok-take_steps.ensures.asked first h)) refl (alone_beyond asked stop p)) c.finish.ensures.alone

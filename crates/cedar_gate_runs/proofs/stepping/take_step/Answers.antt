@@ -2,15 +2,18 @@ use Rattle.std.proofs.Common.{[], ◌∷◌, sym, subst}
 use Rattle.std.specs.Rc.{rc_str_bytes}
 use Rattle.cedar_expr_values.specs.Extensions.{extension_of}
 use Rattle.cedar_expr_values.specs.Values.{made}
-use Rattle.cedar_gate_model.specs.Whole.RunsAnswer.{session_of}
+use Rattle.cedar_gate_model.specs.RunsAnswer.{session_of}
+use Rattle.cedar_gate_runs.proofs.Asked.{alone_beyond, asked_alone, memory_beyond}
 use Rattle.cedar_gate_runs.proofs.Ended.{carried_err}
 use Rattle.cedar_gate_runs.proofs.Looped.{bound_well}
 use Rattle.cedar_gate_runs.proofs.Pushed.{handed, carried_ok}
 use Rattle.cedar_gate_runs.proofs.Stepped.{load_stops}
+use Rattle.cedar_gate_runs.specs.Asking.{AskedBeyond}
 use Rattle.cedar_gate_runs.specs.Courses.{BindWell, DidSteps}
 use Rattle.cedar_gate_runs.specs.Running.{Went}
 use Rattle.cedar_gate_runs.specs.Steps.{step_of}
 use Rattle.cedar_gate_runs.specs.Stopping.{IsRefused}
+use Rattle.cedar_gate_runs.specs.declared.stops.Stop.TheVariants.{Memory}
 use Rattle.cedar_gate_transcripts.specs.Transcripts.{entries_of}
 use Rattle.cedar_gate_runs.proofs.stepping.take_step.Goals as goal
 
@@ -37,3 +40,19 @@ pub returns-in-Decide-clause-did : goal.returns-in-Decide-clause-did
 returns-in-Decide-clause-did g c = carried_ok _ _ c.decide.result
     (λ p d s h i b. subst (λ z. Went (g.E.SessionCalls.stands d) (DidSteps d s (step_of z ∷ [])) (entries_of c.args.entries.now.items) (entries_of c.decide.new.entries.items) c.args.session.now) (sym c.in-Decide.is) (p d s h))
     c.decide.ensures.did
+
+pub returns-in_err-load-in-Load-clause-beyond : goal.returns-in_err-load-in-Load-clause-beyond
+returns-in_err-load-in-Load-clause-beyond g c = handed _ c.in_err-load-in-Load.field-0.0 c.from_residual.result c.from_residual.ensures.1 c.in_err-load-in-Load.ensures.beyond
+
+pub returns-in-Bind-clause-asked : goal.returns-in-Bind-clause-asked
+returns-in-Bind-clause-asked g c = carried_ok _ _ c.bind_name.result (λ p first h. asked_alone first (g.H.Host.asked c.args.host.now) (entries_of c.args.entries.now.items) (entries_of c.bind_name.new.entries.items) p h) c.bind_name.ensures.rounds
+
+pub returns-in-Bind-clause-beyond : goal.returns-in-Bind-clause-beyond
+returns-in-Bind-clause-beyond g c = carried_err _ _ c.bind_name.result (λ stop p. alone_beyond (g.H.Host.asked c.args.host.now) stop p) c.bind_name.ensures.alone
+
+pub returns-in-Decide-clause-asked : goal.returns-in-Decide-clause-asked
+returns-in-Decide-clause-asked g c = carried_ok _ _ c.decide.result (λ p first h. asked_alone first (g.H.Host.asked c.args.host.now) (entries_of c.args.entries.now.items) (entries_of c.decide.new.entries.items) p h) c.decide.ensures.rounds
+
+pub returns-in-Decide-clause-beyond : goal.returns-in-Decide-clause-beyond
+returns-in-Decide-clause-beyond g c =
+    carried_err _ _ c.decide.result (λ stop p. subst (AskedBeyond (g.H.Host.asked c.args.host.now) (g.H.Host.asked c.args.host.now)) (sym p) (alone_beyond (g.H.Host.asked c.args.host.now) Memory memory_beyond)) c.decide.ensures.stopped

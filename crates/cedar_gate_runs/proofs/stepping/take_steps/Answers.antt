@@ -1,7 +1,8 @@
 use Rattle.std.proofs.Common.{rules, ◌≡◌, [], ◌∷◌, ◌++◌, refl, sym, ap, ◌∙◌, subst, append_assoc}
 use Rattle.std.proofs.lemmas.List.{append-nil, map-append, nil_from_length}
 use Rattle.std.specs.Vec.Iter.{into_iter_items}
-use Rattle.cedar_gate_model.specs.Whole.RunsAnswer.{session_of}
+use Rattle.cedar_gate_model.specs.RunsAnswer.{session_of}
+use Rattle.cedar_gate_runs.proofs.Asked.{beyond_on}
 use Rattle.cedar_gate_runs.proofs.Looped.{went_none, halts_on, one_binds_well}
 use Rattle.cedar_gate_runs.proofs.Pushed.{handed}
 use Rattle.cedar_gate_runs.proofs.Stepped.{went_more}
@@ -15,6 +16,7 @@ pub loop-step-init : goal.loop-step-init
 loop-step-init g c = record {
   goes = search rules;
   faults = refl;
+  asked = λ first h. h;
   host = λ d i. i;
   went = λ d s h i b. went_none (g.E.SessionCalls.stands d) d s _ _ h;
 }
@@ -29,6 +31,7 @@ loop-step-preserved g c =
     record {
       goes = all ∙ sym (append_assoc ys (step ∷ []) rest);
       faults = c.in_ok-take_step.ensures.faults ∙ i.faults;
+      asked = λ first h. c.in_ok-take_step.ensures.asked first (i.asked first h);
       host = λ d k. c.in_ok-take_step.ensures.host d (i.host d k);
       went = λ d s h k b.
           let w = i.went d s h k b in
@@ -62,3 +65,10 @@ returns-clause-did g c = λ d s h i b.
 
 pub returns-in_err-take_step-clause-host : goal.returns-in_err-take_step-clause-host
 returns-in_err-take_step-clause-host g c = λ d k. c.in_err-take_step.ensures.host d (c.loop-step.invariant.host d k)
+
+pub returns-in_err-take_step-clause-beyond : goal.returns-in_err-take_step-clause-beyond
+returns-in_err-take_step-clause-beyond g c = handed _ c.in_err-take_step.field-0.0 c.from_residual.result c.from_residual.ensures.1
+    (λ first h. beyond_on first _ _ _ _ c.in_err-take_step.field-0.0 (c.loop-step.invariant.asked first h) c.in_err-take_step.ensures.unchanged c.in_err-take_step.ensures.beyond)
+
+pub returns-clause-asked : goal.returns-clause-asked
+returns-clause-asked g c = c.loop-step.invariant.asked

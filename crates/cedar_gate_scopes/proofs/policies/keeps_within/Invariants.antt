@@ -1,6 +1,6 @@
 use Rattle.std.proofs.Common.{◌≡◌, map}
 use Rattle.std.specs.List.{list_all}
-use Rattle.cedar_expr_model.specs.Whole.Parts.{subexpressions}
+use Rattle.cedar_expr_model.specs.Parts.{subexpressions}
 use Rattle.cedar_expr_trees.specs.Positions.{exprs_left}
 use Rattle.cedar_expr_trees.specs.Trees.{tree_of}
 use Rattle.cedar_gate_scopes.specs.Rules.{keeps_here}

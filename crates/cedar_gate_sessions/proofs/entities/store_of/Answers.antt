@@ -1,7 +1,7 @@
 use Rattle.std.proofs.Common.{map, sym, ap, ◌∙◌}
 use Rattle.cedar_store_entities.specs.Stores.{store_seen}
 use Rattle.cedar_store_entities.specs.Views.{entity_pair}
-use Rattle.cedar_store_model.specs.Whole.Store.{store_of, whole}
+use Rattle.cedar_store_model.specs.Store.{store_of, whole}
 use Rattle.cedar_gate_sessions.proofs.Taking.{same_pairs, store_is}
 use Rattle.cedar_gate_sessions.proofs.entities.store_of.Goals as goal
 

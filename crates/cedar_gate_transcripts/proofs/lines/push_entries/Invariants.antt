@@ -1,6 +1,6 @@
 -- The lines so far and those of the entries that are left are all lines; there are at most as many rounds as entries.
 use Rattle.std.proofs.Common.{◌≡◌, ◌≤◌, ◌+◌, ◌++◌, drop, string_bytes}
-use Rattle.cedar_gate_model.specs.Whole.Lines.{entry_lines}
+use Rattle.cedar_gate_model.specs.Lines.{entry_lines}
 use Rattle.cedar_gate_transcripts.specs.Transcripts.{entries_of}
 use Rattle.cedar_gate_transcripts.proofs.lines.push_entries.Given as goal
 

@@ -6,7 +6,7 @@ use Rattle.cedar_gate_typing.proofs.Excused.{all_filtered, on_ok}
 use Rattle.cedar_store_policies.specs.Policies.{policy_of}
 use Rattle.cedar_store_policies.specs.Templates.{template_of}
 use Rattle.cedar_typechecker_environments.specs.Settings.{environment_of}
-use Rattle.cedar_typechecker_model.specs.Whole.Verdicts.{is_bool, is_false, fits, condition_type, passes, impossible, policy_environments}
+use Rattle.cedar_typechecker_model.specs.Verdicts.{is_bool, is_false, fits, condition_type, passes, impossible, policy_environments}
 use Rattle.cedar_gate_typing.proofs.check.check_policy.Goals as goal
 
 pub returns-clause-passes : goal.returns-clause-passes

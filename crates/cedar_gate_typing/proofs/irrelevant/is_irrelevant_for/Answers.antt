@@ -5,7 +5,7 @@ use Rattle.cedar_gate_typing.proofs.Excused.{all_filtered_twice}
 use Rattle.cedar_store_policies.specs.Policies.{policy_of}
 use Rattle.cedar_store_policies.specs.Templates.{template_of}
 use Rattle.cedar_typechecker_environments.specs.Settings.{environment_of}
-use Rattle.cedar_typechecker_model.specs.Whole.Verdicts.{is_false, fits, is_of_request, condition_type, policy_environments}
+use Rattle.cedar_typechecker_model.specs.Verdicts.{is_false, fits, is_of_request, condition_type, policy_environments}
 use Rattle.cedar_gate_typing.proofs.irrelevant.is_irrelevant_for.Goals as goal
 
 pub returns : goal.returns

@@ -1,7 +1,7 @@
 use Rattle.std.proofs.Common.{◌≡◌, map, option_and_then}
 use Rattle.cedar_expr_names.specs.Views.{type_name_of}
-use Rattle.cedar_schema_model.specs.Whole.Lookup.{declared_by_all}
-use Rattle.cedar_schema_model.proofs.Whole.Named.{all_declared}
+use Rattle.cedar_schema_model.specs.Lookup.{declared_by_all}
+use Rattle.cedar_schema_model.proofs.Named.{all_declared}
 use Rattle.cedar_schema_types.specs.Types.{type_of}
 use Rattle.cedar_schema_types.specs.Unions.{members_of}
 use Rattle.cedar_schema_admission.proofs.Shared.{left_to_join}

@@ -1,9 +1,9 @@
 use Rattle.std.proofs.Common.{map, sym, ap, ◌∙◌}
-use Rattle.cedar_expr_model.specs.Whole.Made as model
-use Rattle.cedar_expr_model.specs.Whole.Records.{fields}
-use Rattle.cedar_expr_model.specs.Whole.Value.{record_of}
+use Rattle.cedar_expr_model.specs.Made as model
+use Rattle.cedar_expr_model.specs.Records.{fields}
+use Rattle.cedar_expr_model.specs.Value.{record_of}
 use Rattle.cedar_expr_values.specs.Values.{bare_kind, bare_pair}
-use Rattle.cedar_schema_model.specs.Whole.HasType.{has_type}
+use Rattle.cedar_schema_model.specs.HasType.{has_type}
 use Rattle.cedar_schema_types.specs.Types.{type_of}
 use Rattle.cedar_schema_admission.proofs.Fitting.{record_is}
 use Rattle.cedar_schema_admission.proofs.values.+values.Goals as goal

@@ -1,10 +1,10 @@
 use Rattle.std.proofs.Common.{◌≡◌, ◌≤◌, map}
 use Rattle.std.specs.Slice.Iter.{iter_rest}
 use denote.Param.Weighed.{most}
-use Rattle.cedar_expr_model.specs.Whole.Records.{fields}
+use Rattle.cedar_expr_model.specs.Records.{fields}
 use Rattle.cedar_expr_values.specs.Values.{bares, bare_pair, members_of}
 use Rattle.cedar_expr_values.specs.declared.value.Value.{size-Value}
-use Rattle.cedar_schema_model.specs.Whole.HasType.{have_type, fields_fit}
+use Rattle.cedar_schema_model.specs.HasType.{have_type, fields_fit}
 use Rattle.cedar_schema_types.specs.Kinds.{openness_of}
 use Rattle.cedar_schema_types.specs.Types.{type_of, attributes_of}
 use Rattle.cedar_schema_admission.proofs.Fitting.{all_have, all_fit}

@@ -1,7 +1,7 @@
 use Rattle.std.proofs.Common.{◌≡◌, map}
-use Rattle.cedar_expr_model.specs.Whole.Records.{fields}
+use Rattle.cedar_expr_model.specs.Records.{fields}
 use Rattle.cedar_expr_values.specs.Values.{bare_pair}
-use Rattle.cedar_schema_model.specs.Whole.HasType.{has_required}
+use Rattle.cedar_schema_model.specs.HasType.{has_required}
 use Rattle.cedar_schema_types.specs.Types.{attributes_of}
 use Rattle.cedar_schema_admission.proofs.Fitting.{all_there}
 use Rattle.cedar_schema_admission.proofs.values.has_required.Given as goal

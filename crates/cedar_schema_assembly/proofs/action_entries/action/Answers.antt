@@ -6,8 +6,8 @@ use Rattle.cedar_schema_building_model.specs.Contexts.{is_record_type}
 use Rattle.cedar_schema_entries.specs.Views.{applied_seen, action_seen}
 use Rattle.cedar_schema_fragments.specs.Actions.{principals_form, resources_form, context_form, is_elsewhere}
 use Rattle.cedar_schema_fragments.specs.declared.actions.ActionFragmentKind.TheVariants.{Declared}
-use Rattle.cedar_schema_model.specs.Whole.Resolved.{attributes_of_record}
-use Rattle.cedar_schema_model.specs.Whole.Types.{record_type, is_closed}
+use Rattle.cedar_schema_model.specs.Resolved.{attributes_of_record}
+use Rattle.cedar_schema_model.specs.Types.{record_type, is_closed}
 use Rattle.cedar_schema_resolver.specs.Meanings.{setting_of, extensions_seen, told}
 use Rattle.cedar_schema_resolver.specs.Refusals.{AreKnown}
 use Rattle.cedar_schema_types.specs.Types.{type_of}

@@ -1,6 +1,6 @@
 use Rattle.std.proofs.Common.{◌≡◌, map}
 use Rattle.std.specs.Rc.{rc_str_bytes}
-use Rattle.cedar_schema_model.specs.Whole.Lookup.{lookup_attribute}
+use Rattle.cedar_schema_model.specs.Lookup.{lookup_attribute}
 use Rattle.cedar_schema_types.specs.Types.{type_of, attributes_of}
 use Rattle.cedar_schema_types.specs.AttributeLists.{declared_pairs, names_in}
 use Rattle.cedar_schema_attributes.specs.Known.{declared_among}

@@ -1,6 +1,6 @@
 use Rattle.std.proofs.Common.{ap, ◌∙◌}
-use Rattle.cedar_expr_model.specs.Whole.Records.{in_order}
-use Rattle.cedar_schema_model.specs.Whole.Lookup.{lookup_attribute}
+use Rattle.cedar_expr_model.specs.Records.{in_order}
+use Rattle.cedar_schema_model.specs.Lookup.{lookup_attribute}
 use Rattle.cedar_schema_types.specs.AttributeLists.{attributes_from, names_in}
 use Rattle.cedar_schema_types.specs.Types.{attributes_of}
 use Rattle.cedar_schema_types.specs.Unions.{members_of}

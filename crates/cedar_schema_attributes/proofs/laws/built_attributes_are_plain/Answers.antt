@@ -1,5 +1,5 @@
 use Rattle.std.proofs.Common.{sym, ◌∙◌}
-use Rattle.cedar_schema_model.specs.Whole.Resolved.{schema_of}
+use Rattle.cedar_schema_model.specs.Resolved.{schema_of}
 use Rattle.cedar_schema_attributes.proofs.Plain.{schema_plain}
 use Rattle.cedar_schema_attributes.proofs.Same.{same_declared}
 use Rattle.cedar_schema_attributes.proofs.WrittenNames.{written_named}

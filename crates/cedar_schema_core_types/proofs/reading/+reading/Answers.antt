@@ -3,7 +3,7 @@ use Rattle.std.specs.Rc.{rc_str_bytes}
 use Rattle.std.proofs.lemmas.List.{map-append}
 use Rattle.std.specs.List.Sorted.{IsStrictlySortedBy}
 use Rattle.std.specs.Map.{keys_of}
-use Rattle.cedar_expr_model.specs.Whole.Order.{text_cmp}
+use Rattle.cedar_expr_model.specs.Order.{text_cmp}
 use Rattle.cedar_expr_values.specs.Fields.{by_text}
 use Rattle.cedar_schema_types.specs.Types.{attributes_of, entries_of}
 use Rattle.cedar_schema_core_types.specs.CoreTypes.{core_attributes_read}

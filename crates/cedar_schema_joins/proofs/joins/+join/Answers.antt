@@ -1,7 +1,7 @@
 use Rattle.std.proofs.Common.{sym, ap, ◌∙◌}
-use Rattle.cedar_expr_model.proofs.Whole.Ordering.{in_order_stays}
-use Rattle.cedar_schema_model.specs.Whole.Types.{record_type}
-use Rattle.cedar_schema_model.specs.Whole.Join.{join, attributes_join, record_join}
+use Rattle.cedar_expr_model.proofs.Ordering.{in_order_stays}
+use Rattle.cedar_schema_model.specs.Types.{record_type}
+use Rattle.cedar_schema_model.specs.Join.{join, attributes_join, record_join}
 use Rattle.cedar_schema_types.specs.Kinds.{openness_of}
 use Rattle.cedar_schema_types.specs.Types.{type_of, attributes_of, entries_of}
 use Rattle.cedar_schema_types.specs.AttributeLists.{attributes_from, declared_pairs}

@@ -1,6 +1,6 @@
 use Rattle.std.proofs.Common.{◌≡◌, Some, map, drop}
-use Rattle.cedar_schema_model.specs.Whole.Join.{reduce_to_join}
-use Rattle.cedar_schema_model.proofs.Whole.Named.{join_all}
+use Rattle.cedar_schema_model.specs.Join.{reduce_to_join}
+use Rattle.cedar_schema_model.proofs.Named.{join_all}
 use Rattle.cedar_schema_types.specs.Types.{type_of}
 use Rattle.cedar_schema_joins.specs.Modes.{mode_of}
 use Rattle.cedar_schema_joins.proofs.joins.reduce_to_least_upper_bound.Given as goal

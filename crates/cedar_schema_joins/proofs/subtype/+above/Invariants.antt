@@ -1,5 +1,5 @@
 use Rattle.std.proofs.Common.{◌≡◌}
-use Rattle.cedar_schema_model.specs.Whole.Subtype.{have_below}
+use Rattle.cedar_schema_model.specs.Subtype.{have_below}
 use Rattle.cedar_schema_types.specs.Types.{attributes_of}
 use Rattle.cedar_schema_joins.specs.Modes.{mode_of}
 use Rattle.cedar_schema_joins.proofs.Below.{all_below}

@@ -1,6 +1,6 @@
-use Rattle.cedar_schema_model.proofs.Whole.Types.JoinAbove.{join_above}
-use Rattle.cedar_schema_model.proofs.Whole.Types.JoinLeast.{least_bound}
-use Rattle.cedar_schema_model.proofs.Whole.Types.JoinSame.{join_swaps}
+use Rattle.cedar_schema_model.proofs.Types.JoinAbove.{join_above}
+use Rattle.cedar_schema_model.proofs.Types.JoinLeast.{least_bound}
+use Rattle.cedar_schema_model.proofs.Types.JoinSame.{join_swaps}
 use Rattle.cedar_schema_types.specs.Types.{type_of}
 use Rattle.cedar_schema_joins.specs.Modes.{mode_of}
 use Rattle.cedar_schema_laws.proofs.laws.joins_are_bounds.Goals as goal

@@ -1,5 +1,5 @@
 use Rattle.std.proofs.Common.{refl, map}
-use Rattle.cedar_schema_model.proofs.Whole.Types.Reduction.{reduction_of_members}
+use Rattle.cedar_schema_model.proofs.Types.Reduction.{reduction_of_members}
 use Rattle.cedar_schema_types.specs.Types.{type_of}
 use Rattle.cedar_schema_joins.specs.Modes.{mode_of}
 use Rattle.cedar_schema_laws.proofs.laws.reductions_are_of_members.Goals as goal

@@ -1,4 +1,4 @@
-use Rattle.cedar_schema_model.proofs.Whole.Types.Subtypes.{below_same, below_on, below_both}
+use Rattle.cedar_schema_model.proofs.Types.Subtypes.{below_same, below_on, below_both}
 use Rattle.cedar_schema_types.specs.Types.{type_of}
 use Rattle.cedar_schema_joins.specs.Modes.{mode_of}
 use Rattle.cedar_schema_laws.proofs.laws.subtypes_are_ordered.Goals as goal

@@ -1,5 +1,5 @@
 use Rattle.cedar_expr_values.specs.Values.{bare}
-use Rattle.cedar_schema_model.proofs.Whole.Types.Values.{value_decided, supertypes_keep, disjoint_apart}
+use Rattle.cedar_schema_model.proofs.Types.Values.{value_decided, supertypes_keep, disjoint_apart}
 use Rattle.cedar_schema_types.specs.Types.{type_of}
 use Rattle.cedar_schema_joins.specs.Modes.{mode_of}
 use Rattle.cedar_schema_laws.proofs.laws.values_keep_to_types.Goals as goal

@@ -1,5 +1,5 @@
 use Rattle.std.proofs.Common.{◌≡◌}
-use Rattle.cedar_expr_model.specs.Whole.Builder.{tree_fields}
+use Rattle.cedar_expr_model.specs.Builder.{tree_fields}
 use Rattle.cedar_expr_trees.specs.Trees.{named, field_trees}
 use Rattle.cedar_schema_types.specs.Types.{attributes_of}
 use Rattle.cedar_schema_admission_model.specs.Restricted.{has_required_fields}

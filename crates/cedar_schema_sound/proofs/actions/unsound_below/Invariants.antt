@@ -1,5 +1,5 @@
 use Rattle.std.proofs.Common.{◌≡◌, map}
-use Rattle.cedar_expr_model.specs.Whole.Lists.{first_found}
+use Rattle.cedar_expr_model.specs.Lists.{first_found}
 use Rattle.cedar_expr_names.specs.Views.{uid_of}
 use Rattle.cedar_schema_entries.specs.Views.{action_seen}
 use Rattle.cedar_schema_built.specs.Views.{schema_kept}

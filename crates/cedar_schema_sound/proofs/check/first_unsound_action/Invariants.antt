@@ -1,6 +1,6 @@
 use Rattle.std.proofs.Common.{◌≡◌, map, true}
 use Rattle.std.specs.List.{list_all}
-use Rattle.cedar_expr_model.specs.Whole.Lists.{first_found}
+use Rattle.cedar_expr_model.specs.Lists.{first_found}
 use Rattle.cedar_schema_entries.specs.Views.{action_seen}
 use Rattle.cedar_schema_built.specs.Views.{schema_kept}
 use Rattle.cedar_schema_sound_model.specs.Unsound.{action_fault}

@@ -1,5 +1,5 @@
 use Rattle.std.proofs.Common.{◌≡◌, map, true}
-use Rattle.cedar_expr_model.specs.Whole.Lists.{first_found}
+use Rattle.cedar_expr_model.specs.Lists.{first_found}
 use Rattle.std.specs.Prelude.{Contains}
 use Rattle.cedar_expr_model.specs.Uid.{Uid}
 use Rattle.cedar_expr_names.specs.Views.{uid_of}

@@ -3,8 +3,8 @@ use Rattle.std.specs.Option.{option_map_or}
 use Rattle.cedar_expr_names.specs.Views.{plain_name_of}
 use Rattle.cedar_expr_functions.specs.Signatures.{bare_values}
 use Rattle.cedar_expr_functions.specs.Tables.{table_of}
-use Rattle.cedar_store_model.specs.Whole.Outcome.{err, no_function}
-use Rattle.cedar_store_model.specs.Whole.Operators.{called_with}
+use Rattle.cedar_store_model.specs.Outcome.{err, no_function}
+use Rattle.cedar_store_model.specs.Operators.{called_with}
 use Rattle.cedar_store_meaning.specs.Outcomes.{IsMeaning, unknowns_of}
 use Rattle.cedar_store_meaning.proofs.calls.call.Goals as goal
 

@@ -1,7 +1,7 @@
 use Rattle.std.proofs.Common.{Some, ap, sym}
-use Rattle.cedar_expr_model.specs.Whole.Made.{bare}
+use Rattle.cedar_expr_model.specs.Made.{bare}
 use Rattle.cedar_expr_values.specs.Extensions.{extension_of}
-use Rattle.cedar_store_model.specs.Whole.Outcome.{val}
+use Rattle.cedar_store_model.specs.Outcome.{val}
 use Rattle.cedar_store_meaning.proofs.calls.copied.Goals as goal
 
 pub returns : goal.returns

@@ -2,8 +2,8 @@ use Rattle.std.proofs.Common.{Some, Ok, map, ap, sym, subst, ◌∙◌}
 use Rattle.std.specs.Rc.{rc_str_bytes}
 use Rattle.cedar_expr_values.specs.Extensions.{extension_of}
 use Rattle.cedar_expr_values.specs.Values.{bare}
-use Rattle.cedar_store_model.specs.Whole.Outcome.{val}
-use Rattle.cedar_store_model.specs.Whole.Meaning.{path_tested}
+use Rattle.cedar_store_model.specs.Outcome.{val}
+use Rattle.cedar_store_model.specs.Meaning.{path_tested}
 use Rattle.cedar_store_worlds_model.specs.Alone.{store_alone}
 use Rattle.cedar_store_entities.specs.Stores.{store_seen}
 use Rattle.cedar_store_meaning.specs.Outcomes.{IsMeaning}

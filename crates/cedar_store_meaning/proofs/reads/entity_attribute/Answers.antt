@@ -1,6 +1,6 @@
 use Rattle.std.proofs.Common.{refl, sym, subst}
 use Rattle.cedar_expr_names.specs.Views.{uid_of}
-use Rattle.cedar_store_model.specs.Whole.Store.{look_up}
+use Rattle.cedar_store_model.specs.Store.{look_up}
 use Rattle.cedar_store_entities.specs.Stores.{store_seen}
 use Rattle.cedar_store_entities.specs.Views.{entity_seen, entity_of}
 use Rattle.cedar_store_meaning.specs.Outcomes.{IsMeaning}

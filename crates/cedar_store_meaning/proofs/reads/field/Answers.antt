@@ -5,7 +5,7 @@ use Rattle.cedar_expr_values.specs.Extensions.{extension_of}
 use Rattle.cedar_expr_values.specs.Values.{bare}
 use Rattle.cedar_expr_values.specs.declared.value.Value.{Value}
 use Rattle.cedar_expr_values.specs.declared.extension.ExtValue.{ExtValue}
-use Rattle.cedar_store_model.specs.Whole.Outcome.{val, err, missing_field}
+use Rattle.cedar_store_model.specs.Outcome.{val, err, missing_field}
 use Rattle.cedar_store_meaning.specs.Outcomes.{IsMeaning}
 use Rattle.cedar_store_meaning.proofs.Found.{field_is}
 use Rattle.cedar_store_meaning.proofs.reads.field.Goals as goal

@@ -4,8 +4,8 @@ use Rattle.std.specs.Slice.Iter.{iter_rest}
 use Rattle.cedar_expr_names.specs.Views.{uid_of}
 use Rattle.cedar_expr_values.specs.Extensions.{extension_of}
 use Rattle.cedar_expr_values.specs.Values.{made}
-use Rattle.cedar_store_model.specs.Whole.Outcome.{val}
-use Rattle.cedar_store_model.specs.Whole.Reads.{is_in_some}
+use Rattle.cedar_store_model.specs.Outcome.{val}
+use Rattle.cedar_store_model.specs.Reads.{is_in_some}
 use Rattle.cedar_store_meaning.specs.StoreParts.{ancestors_of}
 use Rattle.cedar_store_meaning.proofs.Found.{set_uids, below_value, all_entities, not_entities}
 use Rattle.cedar_store_meaning.proofs.reads.found_within.Goals as goal

@@ -1,14 +1,14 @@
 use Rattle.std.proofs.Common.{Some, map, ap, sym, subst, ◌∙◌}
-use Rattle.cedar_expr_model.specs.Whole.Value.{V, prim, entity, text, record_of}
-use Rattle.cedar_expr_model.specs.Whole.Tree.{get_tag, has_tag}
+use Rattle.cedar_expr_model.specs.Value.{V, prim, entity, text, record_of}
+use Rattle.cedar_expr_model.specs.Tree.{get_tag, has_tag}
 use Rattle.cedar_expr_leaves.specs.Literals.{literal_of}
 use Rattle.cedar_expr_names.specs.Views.{uid_of}
 use Rattle.cedar_expr_values.specs.Extensions.{extension_of}
 use Rattle.cedar_expr_values.specs.Values.{bare, made}
-use Rattle.cedar_store_model.specs.Whole.Outcome.{val}
-use Rattle.cedar_store_model.specs.Whole.Operators.{says}
-use Rattle.cedar_store_model.specs.Whole.Reads.{attribute_read, attribute_tested}
-use Rattle.cedar_store_model.specs.Whole.Meaning.{combined}
+use Rattle.cedar_store_model.specs.Outcome.{val}
+use Rattle.cedar_store_model.specs.Operators.{says}
+use Rattle.cedar_store_model.specs.Reads.{attribute_read, attribute_tested}
+use Rattle.cedar_store_model.specs.Meaning.{combined}
 use Rattle.cedar_store_worlds_model.specs.Alone.{store_alone}
 use Rattle.cedar_store_entities.specs.Stores.{store_seen}
 use Rattle.cedar_store_meaning.specs.Outcomes.{IsMeaning}

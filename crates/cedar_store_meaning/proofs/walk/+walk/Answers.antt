@@ -8,11 +8,11 @@ use Rattle.cedar_expr_leaves.specs.Slots.{slot_of}
 use Rattle.cedar_expr_leaves.specs.Variables.{var_of}
 use Rattle.cedar_expr_leaves.specs.Literals.{literal_of}
 use Rattle.cedar_expr_names.specs.Views.{plain_name_of, type_name_of}
-use Rattle.cedar_expr_model.specs.Whole.Builder.{trees, tree_fields}
-use Rattle.cedar_expr_model.specs.Whole.Records.{fields}
-use Rattle.cedar_expr_model.specs.Whole.Tree.{call, set_literal, record_literal}
-use Rattle.cedar_expr_model.specs.Whole.Value.{record_of}
-use Rattle.cedar_expr_model.proofs.Whole.Ordering.{in_order_stays}
+use Rattle.cedar_expr_model.specs.Builder.{trees, tree_fields}
+use Rattle.cedar_expr_model.specs.Records.{fields}
+use Rattle.cedar_expr_model.specs.Tree.{call, set_literal, record_literal}
+use Rattle.cedar_expr_model.specs.Value.{record_of}
+use Rattle.cedar_expr_model.proofs.Ordering.{in_order_stays}
 use Rattle.cedar_expr_functions.specs.Signatures.{bare_values}
 use Rattle.cedar_expr_leaves.specs.Operators.{unary_op_of, binary_op_of}
 use Rattle.cedar_expr_trees.specs.Trees.{tree_of, kind_tree, named, field_trees}
@@ -23,7 +23,7 @@ use Rattle.cedar_expr_values.specs.Extensions.{extension_of}
 use Rattle.cedar_expr_values.specs.Values.{bare}
 use Rattle.cedar_expr_values.specs.declared.value.Value.{Value}
 use Rattle.cedar_expr_values.specs.declared.extension.ExtValue.{ExtValue}
-use Rattle.cedar_store_model.specs.Whole.Outcome.{val}
+use Rattle.cedar_store_model.specs.Outcome.{val}
 use Rattle.cedar_store_meaning.specs.Meanings.{MeaningIn, fields_seen}
 use Rattle.cedar_store_meaning.proofs.Steps.{memory_alone}
 use Rattle.cedar_store_meaning.proofs.Walked.{AllSoFar}

@@ -1,4 +1,5 @@
-use Rattle.cedar_store_model.proofs.Meaning.{meaning_is_a_function, one_outcome, an_outcome}
+use Rattle.cedar_store_model.proofs.Meaning.{meaning_is_a_function, one_outcome}
+use Rattle.cedar_store_model.proofs.Known.{an_outcome}
 use Rattle.cedar_store_model.proofs.laws.meaning_is_a_function.Goals as goal
 
 pub returns-clause-computed : goal.returns-clause-computed

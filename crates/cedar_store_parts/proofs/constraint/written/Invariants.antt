@@ -1,7 +1,7 @@
 use Rattle.std.proofs.Common.{◌≡◌, map, take}
 use Rattle.cedar_expr_names.specs.Views.{uid_of}
-use Rattle.cedar_expr_model.specs.Whole.Value.{entity}
-use Rattle.cedar_expr_model.specs.Whole.Tree.{lit}
+use Rattle.cedar_expr_model.specs.Value.{entity}
+use Rattle.cedar_expr_model.specs.Tree.{lit}
 use Rattle.cedar_expr_trees.specs.Trees.{tree_of}
 use Rattle.cedar_store_parts.proofs.constraint.written.Given as goal
 

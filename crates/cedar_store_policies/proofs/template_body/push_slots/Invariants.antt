@@ -1,5 +1,5 @@
 use Rattle.std.proofs.Common.{◌≡◌, ◌++◌, map}
-use Rattle.cedar_expr_model.specs.Whole.Parts.{slots}
+use Rattle.cedar_expr_model.specs.Parts.{slots}
 use Rattle.cedar_expr_trees.specs.Trees.{tree_of}
 use Rattle.cedar_expr_trees.specs.Positions.{slot_placed, slots_left}
 use Rattle.cedar_store_policies.specs.Places.{slots_within}

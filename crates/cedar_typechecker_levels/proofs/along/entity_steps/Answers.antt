@@ -2,7 +2,7 @@ use Rattle.std.proofs.Common.{ap, map, ◌∙◌}
 use Rattle.std.specs.Rc.{rc_str_bytes}
 use Rattle.cedar_schema_types.specs.Types.{type_of}
 use Rattle.cedar_typechecker_environments.specs.Settings.{setting_of}
-use Rattle.cedar_typechecker_model.specs.Whole.Levels.{needed}
+use Rattle.cedar_typechecker_model.specs.Levels.{needed}
 use Rattle.cedar_typechecker_levels.specs.Along.{entity_steps_along}
 use Rattle.cedar_typechecker_levels.specs.Marked.{type_in}
 use Rattle.cedar_typechecker_levels.proofs.OfPaths.{steps_whole}

@@ -1,7 +1,7 @@
 use Rattle.std.proofs.Common.{◌≡◌, IfOk, option_map, subst}
-use Rattle.cedar_schema_model.specs.Whole.Lookup.{lookup_attribute}
+use Rattle.cedar_schema_model.specs.Lookup.{lookup_attribute}
 use Rattle.cedar_schema_types.specs.Types.{type_of}
-use Rattle.cedar_typechecker_model.specs.Whole.Rules.{attribute_type}
+use Rattle.cedar_typechecker_model.specs.Rules.{attribute_type}
 use Rattle.cedar_typechecker_operators.proofs.operators.known_type.Goals as goal
 
 pub returns : goal.returns

@@ -1,13 +1,13 @@
 use Rattle.std.proofs.Common.{◌≡◌, ◌∙◌, map, refl, ap, sym, rules, None, Some, option_map, option_and_then}
-use Rattle.cedar_expr_model.specs.Whole.Builder.{trees}
-use Rattle.cedar_expr_model.specs.Whole.Lists.{all_given}
-use Rattle.cedar_expr_model.specs.Whole.Tree.{call}
+use Rattle.cedar_expr_model.specs.Builder.{trees}
+use Rattle.cedar_expr_model.specs.Lists.{all_given}
+use Rattle.cedar_expr_model.specs.Tree.{call}
 use Rattle.cedar_expr_names.specs.Views.{plain_name_of}
 use Rattle.cedar_expr_trees.specs.Trees.{tree_of, kind_tree}
 use Rattle.cedar_schema_types.specs.Types.{type_of}
 use Rattle.cedar_typechecker_environments.specs.Settings.{setting_of}
-use Rattle.cedar_typechecker_model.specs.Whole.Rules.{call_type}
-use Rattle.cedar_typechecker_model.specs.Whole.Typing.{plain}
+use Rattle.cedar_typechecker_model.specs.Rules.{call_type}
+use Rattle.cedar_typechecker_model.specs.Typing.{plain}
 use Rattle.cedar_typechecker_nodes.specs.Marked.{kind_marks}
 use Rattle.cedar_typechecker_typed_model.specs.Typed.{call_typed, noted}
 use Rattle.cedar_typechecker_operators.specs.Rows.{type_at, row_found}

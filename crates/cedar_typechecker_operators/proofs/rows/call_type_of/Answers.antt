@@ -1,11 +1,11 @@
 use Rattle.std.proofs.Common.{◌≡◌, ◌∙◌, ap, sym, map, Some, option_map}
-use Rattle.cedar_expr_model.specs.Whole.Builder.{trees}
-use Rattle.cedar_expr_model.specs.Whole.Lists.{all_given}
+use Rattle.cedar_expr_model.specs.Builder.{trees}
+use Rattle.cedar_expr_model.specs.Lists.{all_given}
 use Rattle.cedar_expr_names.specs.Views.{plain_name_of}
 use Rattle.cedar_expr_trees.specs.Trees.{tree_of}
 use Rattle.cedar_schema_types.specs.Types.{type_of}
 use Rattle.cedar_typechecker_environments.specs.Settings.{setting_of}
-use Rattle.cedar_typechecker_model.specs.Whole.Rules.{call_type}
+use Rattle.cedar_typechecker_model.specs.Rules.{call_type}
 use Rattle.cedar_typechecker_operators.specs.Rows.{type_at}
 use Rattle.cedar_typechecker_operators.proofs.rows.call_type_of.Goals as goal
 

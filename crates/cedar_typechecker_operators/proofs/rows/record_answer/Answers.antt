@@ -1,10 +1,10 @@
 use Rattle.std.proofs.Common.{◌≡◌, ◌∙◌, ap, sym, None, Some, true, option_map, option_and_then}
-use Rattle.cedar_expr_model.specs.Whole.Lists.{all_given}
-use Rattle.cedar_expr_model.specs.Whole.Records.{names_rise}
+use Rattle.cedar_expr_model.specs.Lists.{all_given}
+use Rattle.cedar_expr_model.specs.Records.{names_rise}
 use Rattle.cedar_expr_trees.specs.Trees.{kind_tree, named}
 use Rattle.cedar_schema_types.specs.AttributeLists.{required_pairs}
 use Rattle.cedar_schema_types.specs.Types.{type_of}
-use Rattle.cedar_typechecker_model.specs.Whole.Typing.{plain}
+use Rattle.cedar_typechecker_model.specs.Typing.{plain}
 use Rattle.cedar_typechecker_nodes.specs.Marked.{kind_marks}
 use Rattle.cedar_typechecker_typed_model.specs.Typed.{record_typed, noted}
 use Rattle.cedar_typechecker_operators.specs.Rows.{required_at, fields_found, rising_found}

@@ -1,5 +1,5 @@
 use Rattle.std.proofs.Common.{◌≡◌, map, drop}
-use Rattle.cedar_expr_model.specs.Whole.Lists.{all_given}
+use Rattle.cedar_expr_model.specs.Lists.{all_given}
 use Rattle.cedar_schema_types.specs.Types.{type_of}
 use Rattle.cedar_typechecker_rules.proofs.Gathered.{left_to_give}
 use Rattle.cedar_typechecker_operators.specs.Rows.{type_at}

@@ -1,8 +1,8 @@
 use Rattle.std.proofs.Common.{◌≡◌, map, drop}
-use Rattle.cedar_expr_model.specs.Whole.Lists.{all_given}
+use Rattle.cedar_expr_model.specs.Lists.{all_given}
 use Rattle.cedar_expr_values.specs.Types.{core_of}
 use Rattle.cedar_schema_types.specs.Types.{type_of}
-use Rattle.cedar_typechecker_model.specs.Whole.Rules.{core_as_type}
+use Rattle.cedar_typechecker_model.specs.Rules.{core_as_type}
 use Rattle.cedar_typechecker_rules.proofs.Gathered.{left_to_give}
 use Rattle.cedar_typechecker_rules.proofs.calls.all_core_types.Given as goal
 

@@ -1,6 +1,6 @@
 use Rattle.std.proofs.Common.{◌≡◌, map, drop}
 use Rattle.cedar_schema_types.specs.Types.{type_of}
-use Rattle.cedar_typechecker_model.specs.Whole.Rules.{arguments_fit}
+use Rattle.cedar_typechecker_model.specs.Rules.{arguments_fit}
 use Rattle.cedar_typechecker_rules.proofs.calls.arguments_fit.Given as goal
 
 abbrev pub invariant-loop-ty : goal.invariant-loop-ty

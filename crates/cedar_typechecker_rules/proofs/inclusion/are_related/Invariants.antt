@@ -2,7 +2,7 @@ use Rattle.std.proofs.Common.{◌≡◌, ◌||◌, Bool, map}
 use Rattle.std.specs.List.{list_any}
 use Rattle.cedar_expr_model.specs.Name.{Name, name_eq}
 use Rattle.cedar_expr_names.specs.Views.{type_name_of}
-use Rattle.cedar_schema_model.specs.Whole.Descent.{type_descends}
+use Rattle.cedar_schema_model.specs.Descent.{type_descends}
 use Rattle.cedar_schema_types.specs.Unions.{members_of}
 use Rattle.cedar_typechecker_rules.proofs.inclusion.are_related.Given as goal
 

@@ -1,10 +1,10 @@
 use Rattle.std.proofs.Common.{◌≡◌, map, drop}
-use Rattle.cedar_expr_model.specs.Whole.Builder.{trees}
-use Rattle.cedar_expr_model.specs.Whole.Lists.{all_given}
-use Rattle.cedar_expr_model.specs.Whole.Parts.{listed}
+use Rattle.cedar_expr_model.specs.Builder.{trees}
+use Rattle.cedar_expr_model.specs.Lists.{all_given}
+use Rattle.cedar_expr_model.specs.Parts.{listed}
 use Rattle.cedar_expr_names.specs.Views.{uid_of}
 use Rattle.cedar_expr_trees.specs.Trees.{tree_of}
-use Rattle.cedar_typechecker_model.specs.Whole.Rules.{action_literal}
+use Rattle.cedar_typechecker_model.specs.Rules.{action_literal}
 use Rattle.cedar_typechecker_rules.specs.Decided.{within_some}
 use Rattle.cedar_typechecker_environments.specs.Settings.{setting_of}
 use Rattle.cedar_typechecker_rules.proofs.Included.{left_to_find}

@@ -3,7 +3,7 @@ use Rattle.std.specs.List.{list_any}
 use Rattle.cedar_expr_model.specs.Name.{Name}
 use Rattle.cedar_expr_names.specs.Views.{type_name_of}
 use Rattle.cedar_schema_types.specs.Unions.{members_of}
-use Rattle.cedar_typechecker_model.specs.Whole.Rules.{tags_of}
+use Rattle.cedar_typechecker_model.specs.Rules.{tags_of}
 use Rattle.cedar_typechecker_rules.proofs.tags.some_has_tags.Given as goal
 
 abbrev pub invariant-loop-ty : goal.invariant-loop-ty

@@ -1,8 +1,8 @@
 use Rattle.std.proofs.Common.{map, option_map, ap, sym, ◌∙◌}
 use Rattle.cedar_expr_names.specs.Views.{type_name_of}
-use Rattle.cedar_schema_model.specs.Whole.Types.{permissive}
+use Rattle.cedar_schema_model.specs.Types.{permissive}
 use Rattle.cedar_schema_types.specs.Types.{type_of}
-use Rattle.cedar_typechecker_model.specs.Whole.Rules.{tags_of}
+use Rattle.cedar_typechecker_model.specs.Rules.{tags_of}
 use Rattle.cedar_typechecker_rules.proofs.Joined.{left_to_join, joins_apart}
 use Rattle.cedar_typechecker_rules.proofs.tags.tags_of_all.Goals as goal
 

@@ -4,7 +4,7 @@ use Rattle.std.specs.Rc.{rc_str_bytes}
 use Rattle.std.specs.Str.{bytes_eq}
 use Rattle.cedar_expr_names.specs.Views.{eid_text}
 use Rattle.cedar_schema_entries.specs.Kinds.{kind_with}
-use Rattle.cedar_typechecker_model.specs.Whole.ScopeRules.{has_id}
+use Rattle.cedar_typechecker_model.specs.ScopeRules.{has_id}
 use Rattle.cedar_typechecker_schemas.proofs.Given.{text_among}
 use Rattle.cedar_typechecker_schemas.proofs.scopes.may_have_id.Goals as goal
 

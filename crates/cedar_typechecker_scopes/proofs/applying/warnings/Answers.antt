@@ -1,7 +1,7 @@
 use Rattle.std.proofs.Common.{◌≡◌, map, sym, ap, ◌∙◌, subst}
 use Rattle.std.specs.Prelude.{IfOk}
 use Rattle.std.specs.List.{list_any}
-use Rattle.cedar_schema_model.specs.Whole.Environment.{environments}
+use Rattle.cedar_schema_model.specs.Environment.{environments}
 use Rattle.cedar_store_parts.specs.Parts.{id_text}
 use Rattle.cedar_store_records.specs.Views.{warning_of}
 use Rattle.cedar_typechecker_environments.specs.Settings.{environment_of}

@@ -1,7 +1,7 @@
 use Rattle.std.proofs.Common.{◌≡◌, ◌++◌, map, take, option_map}
 use Rattle.std.specs.List.{flat_map}
 use Rattle.cedar_expr_names.specs.Views.{type_name_of}
-use Rattle.cedar_schema_model.specs.Whole.Environment.{with_slots}
+use Rattle.cedar_schema_model.specs.Environment.{with_slots}
 use Rattle.cedar_typechecker_environments.specs.Settings.{environment_of}
 use Rattle.cedar_typechecker_scopes.proofs.environments.add_for_each.Given as goal
 

@@ -1,6 +1,6 @@
-use Rattle.cedar_schema_model.specs.Whole.Declarations.{Declarations}
-use Rattle.cedar_schema_model.specs.Whole.Resolved.{schema_of}
-use Rattle.cedar_schema_model.proofs.Whole.Decls.Named.{ancestors_named, action_ancestors_named}
+use Rattle.cedar_schema_model.specs.Declarations.{Declarations}
+use Rattle.cedar_schema_model.specs.Resolved.{schema_of}
+use Rattle.cedar_schema_model.proofs.Decls.Named.{ancestors_named, action_ancestors_named}
 use Rattle.cedar_typechecker_seen_model.specs.Alike.{DescendsToDeclared}
 use Rattle.cedar_typechecker_seen_model.proofs.Seen.Above.{kept_closed}
 use Rattle.cedar_typechecker_seen_model.proofs.Seen.Answers.{seen_alike}

@@ -4,7 +4,8 @@ use Rattle.cedar_expr_trees.proofs.Sizes.{arguments_are_smaller}
 use Rattle.cedar_typechecker_facts.specs.Facts.{facts_of}
 use Rattle.cedar_typechecker_environments.specs.Settings.{setting_of}
 use Rattle.cedar_typechecker_answers.specs.Answers.{seen}
-use Rattle.cedar_typechecker_typing.proofs.ByKind.{call_goes, set_goes, record_goes, path_goes}
+use Rattle.cedar_typechecker_answers.specs.Steps.{choice_step_seen}
+use Rattle.cedar_typechecker_typing.proofs.ByKind.{both_go, call_goes, set_goes, record_goes, path_goes}
 use Rattle.cedar_typechecker_nodes.proofs.Copied.{one_more, all_made}
 use Rattle.cedar_typechecker_typing.proofs.InRows.{row_on, row_stops, fields_on, fields_stop, fields_end, rise_by_names}
 use Rattle.cedar_typechecker_typing.proofs.Smaller.{members_are_smaller}
@@ -27,6 +28,13 @@ typecheck-returns-in-ExtensionFunctionApp g t c = call_goes (setting_of g.S.Decl
 
 pub typecheck-returns-in-ExtHasAttr : goal.typecheck-returns-in-ExtHasAttr
 typecheck-returns-in-ExtHasAttr g t c = path_goes (setting_of g.S.DeclaredAttributes.schema g.S.TypingSchema.table c.args.world.now) (facts_of c.args.known.now) _ _ c.expr_kind.ensures.tree _ c.in-ExtHasAttr.expr c.in-ExtHasAttr.attrs _ _ c.in-ExtHasAttr.is c.deref-in-ExtHasAttr.ensures c.in_ok-operand-in-ExtHasAttr.ensures c.path_answer.ensures
+
+pub typecheck-returns-in-If : goal.typecheck-returns-in-If
+typecheck-returns-in-If g t c =
+    both_go (setting_of g.S.DeclaredAttributes.schema g.S.TypingSchema.table c.args.world.now) (facts_of c.args.known.now) _ _ c.expr_kind.ensures.tree _ c.in-If.test_expr c.in-If.then_expr c.in-If.else_expr
+    c.deref.result.now c.deref-in-Both.result.now c.deref-in-Both-2.result.now (seen c.in_ok-tested-in-If.tested) (seen c.in-Both.test) (seen c.in_ok-first-in-Both.first) (seen c.in_ok-second-in-Both.second) (facts_of c.in-Both.then)
+    c.in-If.is c.deref.ensures c.deref-in-Both.ensures c.deref-in-Both-2.ensures c.in_ok-tested-in-If.ensures (ap choice_step_seen (sym c.in-Both.is) ∙ c.in_ok-choice_step-in-If.ensures)
+    c.in_ok-first-in-Both.ensures c.in_ok-second-in-Both.ensures c.chosen_answer.ensures
 
 pub typecheck-returns-in-Set : goal.typecheck-returns-in-Set
 typecheck-returns-in-Set g t c = set_goes (setting_of g.S.DeclaredAttributes.schema g.S.TypingSchema.table c.args.world.now) (facts_of c.args.known.now) _ _ c.expr_kind.ensures.tree _ c.in-Set.members _ _ c.in-Set.is (c.as_slice.ensures.value ∙ ap (λ v. v.items) c.deref-in-Set.ensures) c.in_ok-row-in-Set.ensures c.set_answer.ensures

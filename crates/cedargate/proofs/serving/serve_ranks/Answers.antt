@@ -1,5 +1,5 @@
-use Rattle.cedar_gate_headline.specs.Headline.{Promises}
-use Rattle.cedar_gate_model.specs.Whole.Lines.{Prints}
+use Rattle.cedar_gate_model.specs.Headline.{Promises}
+use Rattle.cedar_gate_model.specs.Lines.{Prints}
 use Rattle.cedargate.proofs.Fair.{served_fairly}
 use Rattle.cedargate.proofs.serving.serve_ranks.Goals as goal
 

@@ -1,5 +1,5 @@
 use Rattle.std.proofs.Common.{sym, subst}
-use Rattle.cedar_store_model.specs.Whole.Policy.{condition}
+use Rattle.cedar_store_model.specs.Policy.{condition}
 use Rattle.cedar_store_parts.specs.Parts.{bindings_of}
 use Rattle.cedar_store_policies.specs.Policies.{policy_of}
 use Rattle.cedar_evaluator_model.specs.Scope.{residual}

@@ -3,7 +3,7 @@ use Rattle.std.specs.Option.{option_map_or}
 use Rattle.cedar_expr_names.specs.Views.{plain_name_of}
 use Rattle.cedar_expr_values.specs.Extensions.{extension_of}
 use Rattle.cedar_expr_values.specs.Values.{made}
-use Rattle.cedar_store_model.specs.Whole.Outcome.{no_function}
+use Rattle.cedar_store_model.specs.Outcome.{no_function}
 use Rattle.cedar_evaluator_model.specs.Steps.{errs}
 use Rattle.cedar_evaluator_errors.specs.Outcomes.{Leaves}
 use Rattle.cedar_evaluator_operators.specs.Calls.{call_by}

@@ -1,6 +1,6 @@
 use Rattle.std.proofs.Common.{◌∷◌, map, ap, ◌∙◌}
 use Rattle.std.specs.Slice.Iter.{iter_rest}
-use Rattle.cedar_expr_model.specs.Whole.Tree.{long_core, extension_core}
+use Rattle.cedar_expr_model.specs.Tree.{long_core, extension_core}
 use Rattle.cedar_expr_names.specs.Views.{plain_name_of}
 use Rattle.cedar_evaluator_operators.proofs.Lists.{map-after}
 use Rattle.cedar_evaluator_operators.proofs.calls.ExtensionsFunctionTable.ordered_types.Goals as goal

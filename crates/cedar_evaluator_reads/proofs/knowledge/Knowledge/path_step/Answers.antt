@@ -1,8 +1,8 @@
 use Rattle.std.proofs.Common.{◌∷◌, map, sym, subst, ap, ◌∙◌}
 use Rattle.std.specs.Rc.{rc_str_bytes}
 use Rattle.cedar_expr_names.specs.Views.{uid_of}
-use Rattle.cedar_expr_model.specs.Whole.Made.{made_prim}
-use Rattle.cedar_expr_model.specs.Whole.Value.{entity}
+use Rattle.cedar_expr_model.specs.Made.{made_prim}
+use Rattle.cedar_expr_model.specs.Value.{entity}
 use Rattle.cedar_expr_values.specs.Extensions.{extension_of}
 use Rattle.cedar_expr_values.specs.Values.{made}
 use Rattle.cedar_evaluator_model.specs.Steps.{path_of}

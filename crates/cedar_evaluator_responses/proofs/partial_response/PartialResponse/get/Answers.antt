@@ -1,6 +1,6 @@
 use Rattle.std.proofs.Common.{Bool, ◌++◌, option_map, sym, ap, ◌∙◌}
 use Rattle.std.specs.Str.{bytes_eq}
-use Rattle.cedar_store_model.specs.Whole.Policy.{Policy, permit, forbid}
+use Rattle.cedar_store_model.specs.Policy.{Policy, permit, forbid}
 use Rattle.cedar_store_parts.specs.Parts.{id_text}
 use Rattle.cedar_store_policies.specs.Policies.{policy_of}
 use Rattle.cedar_evaluator_model.specs.Members.{of_true, of_false, of_residual}

@@ -1,7 +1,7 @@
 use Rattle.std.proofs.Common.{◌++◌, map, sym, ◌∙◌}
 use Rattle.std.proofs.lemmas.List.{map-append}
 use Rattle.cedar_expr_model.specs.Name.{Text}
-use Rattle.cedar_store_model.specs.Whole.Policy.{Policy, permit, forbid}
+use Rattle.cedar_store_model.specs.Policy.{Policy, permit, forbid}
 use Rattle.cedar_store_parts.specs.Parts.{id_text}
 use Rattle.cedar_evaluator_model.specs.Members.{of_residual}
 use Rattle.cedar_evaluator_responses.specs.Groups.{residual_seen}

@@ -1,6 +1,6 @@
 use Rattle.std.proofs.Common.{map, sym, ap, ◌∙◌}
 use Rattle.cedar_expr_model.specs.Name.{Text}
-use Rattle.cedar_store_model.specs.Whole.Policy.{Policy}
+use Rattle.cedar_store_model.specs.Policy.{Policy}
 use Rattle.cedar_store_parts.specs.Parts.{effect_of}
 use Rattle.cedar_evaluator_responses.proofs.Identified.{true_ids}
 use Rattle.cedar_evaluator_responses.proofs.partial_response.PartialResponse.reasons.Goals as goal

@@ -1,7 +1,7 @@
 use Rattle.std.proofs.Common.{sym, ap, flat_map, ◌∙◌}
 use Rattle.std.specs.Map.{values_of}
-use Rattle.cedar_expr_model.specs.Whole.Builder.{tree_fields}
-use Rattle.cedar_expr_model.specs.Whole.Tree.{record_literal}
+use Rattle.cedar_expr_model.specs.Builder.{tree_fields}
+use Rattle.cedar_expr_model.specs.Tree.{record_literal}
 use Rattle.cedar_expr_trees.specs.Trees.{tree_of, named, field_trees}
 use Rattle.cedar_expr_trees.specs.Positions.{positions}
 use Rattle.cedar_expr_builders.proofs.Kept.{values_named}

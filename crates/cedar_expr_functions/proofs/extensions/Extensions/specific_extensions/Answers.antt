@@ -1,9 +1,9 @@
 use Rattle.std.proofs.Common.{◌≡◌, map, ap, ◌∙◌, subst, sym, None}
 use Rattle.std.specs.BTreeMap.{values}
 use Rattle.std.specs.List.{filter_map}
-use Rattle.cedar_expr_model.specs.Whole.Order.{core_eq}
-use Rattle.cedar_expr_model.specs.Whole.Repeats.{repeated}
-use Rattle.cedar_expr_model.specs.Whole.Table.{constructed}
+use Rattle.cedar_expr_model.specs.Order.{core_eq}
+use Rattle.cedar_expr_model.specs.Repeats.{repeated}
+use Rattle.cedar_expr_model.specs.Table.{constructed}
 use Rattle.cedar_expr_functions.specs.Functions.{function_signature}
 use Rattle.cedar_expr_functions.specs.Refusals.{RefusesConstructors}
 use Rattle.cedar_expr_functions.proofs.Found.{moved_signatures, moved_answers, moved_functions}

@@ -1,7 +1,7 @@
 -- The elements that were written so far.
 use Rattle.std.proofs.Common.{take}
 use Rattle.std.specs.Fmt.{HasWritten, IsPlainFormatter}
-use Rattle.cedar_expr_model.specs.Whole.Texts.{pattern_text}
+use Rattle.cedar_expr_model.specs.Texts.{pattern_text}
 use Rattle.cedar_expr_leaves.specs.Patterns.{elements_of}
 use Rattle.cedar_expr_leaves.proofs.pattern.PatternDisplay.fmt.Given as goal
 

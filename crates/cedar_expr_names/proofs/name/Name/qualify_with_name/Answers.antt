@@ -1,7 +1,7 @@
 -- A name in a namespace is not reserved, as neither of them is.
 use Rattle.std.proofs.Common.{◌≡◌, false, Option, Some, None, Bor, ap, ◌∙◌, rules}
 use Rattle.cedar_expr_model.specs.Name.{is_reserved}
-use Rattle.cedar_expr_model.specs.Whole.Names.{qualified}
+use Rattle.cedar_expr_model.specs.Names.{qualified}
 use Rattle.cedar_expr_names.specs.declared.name.Name.{Name}
 use Rattle.cedar_expr_names.specs.Views.{name_of, plain_name_of}
 use Rattle.cedar_expr_names.specs.Namespaces.{plain_space_of}

@@ -2,7 +2,7 @@
 use Rattle.std.proofs.Common.{◌≡◌, [], sym, ◌∙◌, rules}
 use Rattle.std.proofs.lemmas.Slice.Eq.{bytes_eq-Decides}
 use Rattle.cedar_expr_model.specs.Name.{Name, reserved}
-use Rattle.cedar_expr_model.specs.Whole.Names.{cedar_name}
+use Rattle.cedar_expr_model.specs.Names.{cedar_name}
 use Rattle.cedar_expr_names.specs.Ids.{id_text}
 use Rattle.cedar_expr_names.specs.Parts.{name_of}
 use Rattle.cedar_expr_names.proofs.unreserved_id.UnreservedId.try_from_id.Goals as goal

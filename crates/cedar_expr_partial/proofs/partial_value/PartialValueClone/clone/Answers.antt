@@ -1,5 +1,5 @@
 use Rattle.std.proofs.Common.{ap, sym, ◌∙◌}
-use Rattle.cedar_expr_model.specs.Whole.ValueParts.{known}
+use Rattle.cedar_expr_model.specs.ValueParts.{known}
 use Rattle.cedar_expr_partial.specs.Parts.{part_of, part_place}
 use Rattle.cedar_expr_partial.proofs.partial_value.PartialValueClone.clone.Goals as goal
 

@@ -1,5 +1,5 @@
 use Rattle.std.proofs.Common.{◌≡◌, IfOk, IfErr, Ok, subst, ap, ◌∙◌}
-use Rattle.cedar_expr_model.specs.Whole.Substitution.{built_under}
+use Rattle.cedar_expr_model.specs.Substitution.{built_under}
 use Rattle.cedar_expr_trees.specs.Trees.{tree_of}
 use Rattle.cedar_expr_builders.specs.Refusing.{refusing}
 use Rattle.cedar_expr_rebuilding.specs.Outcome.{Refuses}

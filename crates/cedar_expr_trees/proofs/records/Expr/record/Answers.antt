@@ -1,6 +1,6 @@
 use Rattle.std.proofs.Common.{ap, ◌∙◌}
-use Rattle.cedar_expr_model.specs.Whole.Builder.{tree_fields}
-use Rattle.cedar_expr_model.specs.Whole.Tree.{record_literal}
+use Rattle.cedar_expr_model.specs.Builder.{tree_fields}
+use Rattle.cedar_expr_model.specs.Tree.{record_literal}
 use Rattle.cedar_expr_trees.specs.Trees.{named, field_trees}
 use Rattle.cedar_expr_trees.proofs.Ordered.{ordered_trees}
 use Rattle.cedar_expr_trees.proofs.records.Expr.record.Goals as goal

@@ -1,6 +1,6 @@
 use Rattle.std.proofs.Common.{length, eqb, ap, sym, ◌∙◌}
-use Rattle.cedar_expr_model.specs.Whole.Value.{values_list}
-use Rattle.cedar_expr_model.specs.Whole.Made.{bares}
+use Rattle.cedar_expr_model.specs.Value.{values_list}
+use Rattle.cedar_expr_model.specs.Made.{bares}
 use Rattle.cedar_expr_values.proofs.Members.{length_is}
 use Rattle.cedar_expr_values.proofs.value.Set.is_empty.Goals as goal
 

@@ -1,6 +1,6 @@
 use Rattle.std.proofs.Common.{map, ap, ◌∙◌}
-use Rattle.cedar_expr_model.specs.Whole.Canonical.{is_canonical}
-use Rattle.cedar_expr_model.specs.Whole.Made.{bare, made_record}
+use Rattle.cedar_expr_model.specs.Canonical.{is_canonical}
+use Rattle.cedar_expr_model.specs.Made.{bare, made_record}
 use Rattle.cedar_expr_values.specs.Values.{made_fields, made_pair}
 use Rattle.cedar_expr_values.proofs.Recorded.{recorded, recorded_bare, recorded_canonical}
 use Rattle.cedar_expr_values.proofs.value.ValueKind.record.Goals as goal

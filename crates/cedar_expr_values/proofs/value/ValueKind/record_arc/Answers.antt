@@ -1,6 +1,6 @@
 use Rattle.std.proofs.Common.{ap, ◌∙◌}
-use Rattle.cedar_expr_model.specs.Whole.Canonical.{is_canonical}
-use Rattle.cedar_expr_model.specs.Whole.Made.{bare}
+use Rattle.cedar_expr_model.specs.Canonical.{is_canonical}
+use Rattle.cedar_expr_model.specs.Made.{bare}
 use Rattle.cedar_expr_values.proofs.Recorded.{record_kind, arc_canonical}
 use Rattle.cedar_expr_values.proofs.value.ValueKind.record_arc.Goals as goal
 

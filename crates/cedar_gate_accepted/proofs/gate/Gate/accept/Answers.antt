@@ -5,12 +5,12 @@ use Rattle.cedar_gate_accepted.proofs.Tested.{kept_by_tests}
 use Rattle.cedar_gate_accepted.proofs.Together.{as_typed, all_accepted, schema_there}
 use Rattle.cedar_gate_faults.specs.Causes.{IsRefusedFor}
 use Rattle.cedar_gate_fragments.specs.Written.{declared_by}
-use Rattle.cedar_gate_model.specs.Whole.Acceptance.{Submission}
+use Rattle.cedar_gate_model.specs.Acceptance.{Submission}
 use Rattle.cedar_gate_rules.specs.Limit.{levels_of}
 use Rattle.cedar_gate_rules.specs.Policies.{policies_of}
 use Rattle.cedar_schema_built.specs.Views.{schema_kept}
 use Rattle.cedar_schema_decl.proofs.Gathered.{handed}
-use Rattle.cedar_schema_model.specs.Whole.Resolved.{schema_of}
+use Rattle.cedar_schema_model.specs.Resolved.{schema_of}
 use Rattle.cedar_store_policies.specs.declared.policy.Policy.{Policy}
 use Rattle.cedar_typechecker_schemas.specs.Views.{silent}
 use Rattle.cedar_typechecker_seen_model.proofs.Seen.Tests.{closed_by_tests}

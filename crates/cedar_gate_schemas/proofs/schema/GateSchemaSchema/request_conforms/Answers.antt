@@ -2,7 +2,7 @@ use Rattle.std.proofs.Common.{subst, sym}
 use Rattle.cedar_evaluator_requests.specs.Views.{request_of}
 use Rattle.cedar_schema_built.specs.Views.{schema_kept}
 use Rattle.cedar_schema_built.specs.declared.schema.ValidatorSchema.{ValidatorSchema}
-use Rattle.cedar_schema_model.specs.Whole.Resolved.{schema_of}
+use Rattle.cedar_schema_model.specs.Resolved.{schema_of}
 use Rattle.cedar_gate_accepted.specs.Alike.{IsKeptByTests}
 use Rattle.cedar_gate_accepted.specs.Views.{declared_in}
 use Rattle.cedar_gate_sessions.specs.Requests.{known_request}

@@ -1,4 +1,4 @@
-use Rattle.cedar_gate_model.specs.Whole.RunsAnswer.{session_of}
+use Rattle.cedar_gate_model.specs.RunsAnswer.{session_of}
 use Rattle.cedar_gate_sessions.proofs.courses.CourseSessionSessionCalls.answer.Goals as goal
 
 pub returns-in-Err-clause-refused : goal.returns-in-Err-clause-refused

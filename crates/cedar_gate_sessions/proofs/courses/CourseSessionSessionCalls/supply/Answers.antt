@@ -1,5 +1,5 @@
 use Rattle.std.proofs.Common.{◌∙◌}
-use Rattle.cedar_gate_model.specs.Whole.RunsAnswer.{session_of}
+use Rattle.cedar_gate_model.specs.RunsAnswer.{session_of}
 use Rattle.cedar_gate_sessions.specs.Entities.{supplied_of}
 use Rattle.cedar_gate_sessions.proofs.courses.CourseSessionSessionCalls.supply.Goals as goal
 

@@ -1,4 +1,4 @@
-use Rattle.cedar_gate_model.specs.Whole.RunsAnswer.{session_of}
+use Rattle.cedar_gate_model.specs.RunsAnswer.{session_of}
 use Rattle.cedar_gate_sessions.proofs.courses.CourseSessionSessionCalls.wanted.Goals as goal
 
 pub returns-clause-exact : goal.returns-clause-exact

@@ -1,5 +1,5 @@
-use Rattle.cedar_gate_model.specs.Whole.RunsAnswer.{session_of}
-use Rattle.cedar_gate_model.specs.Whole.Session.{still_wanted}
+use Rattle.cedar_gate_model.specs.RunsAnswer.{session_of}
+use Rattle.cedar_gate_model.specs.Session.{still_wanted}
 use Rattle.cedar_gate_sessions.proofs.session.Session.answer.Goals as goal
 
 pub returns-clause-answer : goal.returns-clause-answer

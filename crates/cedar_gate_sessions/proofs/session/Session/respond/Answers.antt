@@ -1,11 +1,11 @@
 use Rattle.std.proofs.Common.{map, sym, ap, subst, ◌∙◌}
-use Rattle.cedar_expr_model.specs.Whole.ListLaws.{AreDistinct}
+use Rattle.cedar_expr_model.specs.ListLaws.{AreDistinct}
 use Rattle.cedar_store_entities.specs.Views.{kept_pair}
-use Rattle.cedar_store_model.specs.Whole.Answer.{ids}
-use Rattle.cedar_store_model.specs.Whole.Store.{Store, whole}
+use Rattle.cedar_store_model.specs.Answer.{ids}
+use Rattle.cedar_store_model.specs.Store.{Store, whole}
 use Rattle.cedar_evaluator_requests.specs.Views.{answer_of}
 use Rattle.cedar_gate_decisions.specs.Answers.{answered}
-use Rattle.cedar_gate_model.specs.Whole.RunsAnswer.{session_of}
+use Rattle.cedar_gate_model.specs.RunsAnswer.{session_of}
 use Rattle.cedar_gate_sessions.specs.Sessions.{policies_in}
 use Rattle.cedar_gate_sessions.proofs.Answered.{answer_told}
 use Rattle.cedar_gate_sessions.proofs.Knowing.{functions_at, made_alike, made_store, says_same, steady_whole}
@@ -20,7 +20,7 @@ returns g c = λ r s proper at is nothing fine.
     let functions = g.T.FunctionCalls.functions in
     let store = made_store whole d.loaded.items in
     let distinct = subst (λ ps. AreDistinct (ids ps)) (sym is) (c.accepted_policies_are_fit.ensures.distinct r.submission proper.accepted) in
-    answer_told r s proper at.opened store (steady x.schema store) (λ u. made_alike x s d.loaded.items at.loaded u c.uids_are_uids.ensures whole) (policies_in d) is c.answers_are_the_meaning.ensures.sessions (at.loaded).conform nothing fine
+    answer_told r s store (steady x.schema store) (λ u. made_alike x s d.loaded.items at.loaded u c.uids_are_uids.ensures whole) (policies_in d) is proper at.opened c.answers_are_the_meaning.ensures.sessions (at.loaded).conform nothing fine
     (λ u. steady_whole x s d.loaded.items at.loaded u) (answer_of c.in_ok-response.response)
     (says_same schema functions x s d at c.with_unknowns-evaluator.result whole c.in_ok-entities.entities
     (ap (λ (z : Store). z.extent) c.in_ok-entities.ensures.seen) (c.in_ok-entities.ensures.kept ∙ ap (map kept_pair) c.as_slice.ensures.value)

@@ -1,6 +1,6 @@
 use Rattle.std.proofs.Common.{Some, option_map, ap, ◌∙◌}
 use Rattle.cedar_expr_names.specs.Views.{type_name_of}
-use Rattle.cedar_schema_model.specs.Whole.Conforming.{of_kind, attributes_at}
+use Rattle.cedar_schema_model.specs.Conforming.{of_kind, attributes_at}
 use Rattle.cedar_schema_kept_model.specs.Kept.{KeptType}
 use Rattle.cedar_schema_built.specs.Views.{schema_kept}
 use Rattle.cedar_schema_attributes.proofs.Kept.{kept_is_found}

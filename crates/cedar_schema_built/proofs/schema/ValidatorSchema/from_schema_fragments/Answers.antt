@@ -1,7 +1,7 @@
 use Rattle.std.proofs.Common.{◌≡◌, List, sym, subst, ◌∙◌}
 use Rattle.cedar_expr_raw_names.specs.declared.conditional_name.ConditionalName.{ConditionalName}
 use Rattle.cedar_schema_resolver.specs.Meanings.{extensions_seen}
-use Rattle.cedar_schema_model.specs.Whole.Resolved.{schema_of}
+use Rattle.cedar_schema_model.specs.Resolved.{schema_of}
 use Rattle.cedar_schema_fragments.specs.declared.namespace_def.ValidatorSchemaFragment.{ValidatorSchemaFragment}
 use Rattle.cedar_schema_builder.specs.Built.{types_made, actions_made, NamesFaultOf}
 use Rattle.cedar_schema_builder.specs.Extensions.{types_given}

@@ -1,5 +1,5 @@
 use Rattle.std.proofs.Common.{ap, ◌∙◌}
-use Rattle.cedar_schema_model.specs.Whole.Types.{attribute_named}
+use Rattle.cedar_schema_model.specs.Types.{attribute_named}
 use Rattle.cedar_schema_types.specs.Types.{attributes_of}
 use Rattle.cedar_schema_entries.proofs.Attributed.{its_attributes}
 use Rattle.cedar_schema_entries.proofs.entity_type.ValidatorEntityType.attr.Goals as goal

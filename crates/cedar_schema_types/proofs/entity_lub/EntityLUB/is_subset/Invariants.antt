@@ -1,5 +1,5 @@
 use Rattle.std.proofs.Common.{◌≡◌}
-use Rattle.cedar_schema_model.specs.Whole.Subtype.{are_among}
+use Rattle.cedar_schema_model.specs.Subtype.{are_among}
 use Rattle.cedar_schema_types.specs.Unions.{members_of}
 use Rattle.cedar_schema_types.proofs.Unions.{all_among}
 use Rattle.cedar_schema_types.proofs.entity_lub.EntityLUB.is_subset.Given as goal

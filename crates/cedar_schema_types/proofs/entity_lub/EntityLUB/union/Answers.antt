@@ -1,7 +1,7 @@
 use Rattle.std.proofs.Common.{map, ap, ◌∙◌}
 use Rattle.cedar_expr_names.specs.Views.{type_name_of}
-use Rattle.cedar_schema_model.specs.Whole.Join.{names_of_both}
-use Rattle.cedar_expr_model.specs.Whole.Lists.{is_nil}
+use Rattle.cedar_schema_model.specs.Join.{names_of_both}
+use Rattle.cedar_expr_model.specs.Lists.{is_nil}
 use Rattle.cedar_schema_types.proofs.Unions.{names_copied, one_from_back, some_joined}
 use Rattle.cedar_schema_types.proofs.entity_lub.EntityLUB.union.Goals as goal
 

@@ -1,6 +1,6 @@
 use Rattle.std.proofs.Common.{◌≡◌, map}
 use Rattle.cedar_expr_names.specs.Views.{type_name_of}
-use Rattle.cedar_schema_model.specs.Whole.Join.{names_of_both}
+use Rattle.cedar_schema_model.specs.Join.{names_of_both}
 use Rattle.cedar_schema_types.specs.Unions.{members_of}
 use Rattle.cedar_schema_types.proofs.entity_lub.EntityLUB.union.Given as goal
 

@@ -1,5 +1,5 @@
 use Rattle.std.proofs.Common.{◌≡◌}
-use Rattle.cedar_schema_model.specs.Whole.Subtype.{are_named}
+use Rattle.cedar_schema_model.specs.Subtype.{are_named}
 use Rattle.cedar_schema_types.specs.Types.{attributes_of}
 use Rattle.cedar_schema_types.proofs.Named.{all_named}
 use Rattle.cedar_schema_types.proofs.types.Attributes.are_named.Given as goal

@@ -1,5 +1,5 @@
 use Rattle.std.proofs.Common.{ap, ◌∙◌}
-use Rattle.cedar_expr_model.specs.Whole.Records.{names_rise}
+use Rattle.cedar_expr_model.specs.Records.{names_rise}
 use Rattle.cedar_schema_types.specs.AttributeLists.{declared_pairs}
 use Rattle.cedar_schema_types.proofs.InOrder.{entries_rise}
 use Rattle.cedar_schema_types.proofs.types.Attributes.iter.Goals as goal

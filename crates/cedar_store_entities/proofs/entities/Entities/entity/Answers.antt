@@ -1,5 +1,5 @@
 use Rattle.std.proofs.Common.{None, ap, ◌∙◌}
-use Rattle.cedar_store_model.specs.Whole.Store.{found_as}
+use Rattle.cedar_store_model.specs.Store.{found_as}
 use Rattle.cedar_store_entities.specs.Stores.{extent_of}
 use Rattle.cedar_store_entities.specs.declared.entities.Mode.{Mode}
 use Rattle.cedar_store_entities.proofs.Keyed.{stored, not_stored}

@@ -1,6 +1,6 @@
 use Rattle.std.proofs.Common.{◌≡◌, ◌++◌, map}
 use Rattle.std.specs.Vec.Iter.{into_iter_items}
-use Rattle.cedar_store_model.specs.Whole.Store.{whole}
+use Rattle.cedar_store_model.specs.Store.{whole}
 use Rattle.cedar_store_entities.specs.Views.{entity_pair, kept_pair}
 use Rattle.cedar_store_entities.specs.StoreParts.{entities_in, kept_in}
 use Rattle.cedar_store_entities.specs.Stores.{extent_of}

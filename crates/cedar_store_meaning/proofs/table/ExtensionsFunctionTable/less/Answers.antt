@@ -1,4 +1,4 @@
-use Rattle.cedar_expr_model.specs.Whole.Table.{fails}
+use Rattle.cedar_expr_model.specs.Table.{fails}
 use Rattle.cedar_store_meaning.proofs.table.ExtensionsFunctionTable.less.Goals as goal
 
 pub returns : goal.returns

@@ -1,5 +1,5 @@
 use Rattle.std.proofs.Common.{◌≡◌, true, rules, sym, ◌∙◌}
-use Rattle.cedar_store_model.specs.Whole.PolicySet.{is_taken}
+use Rattle.cedar_store_model.specs.PolicySet.{is_taken}
 use Rattle.cedar_store_parts.specs.Parts.{id_text}
 use Rattle.cedar_store_policies.specs.PolicySets.{set_of}
 use Rattle.cedar_store_policies.proofs.Keyed.{taken_by_template, taken_by_policy}

@@ -1,6 +1,6 @@
 use Rattle.std.proofs.Common.{Some, option_map, sym, ap, ◌∙◌}
-use Rattle.cedar_store_model.specs.Whole.Policy as model
-use Rattle.cedar_store_model.specs.Whole.PolicySet.{with_policy}
+use Rattle.cedar_store_model.specs.Policy as model
+use Rattle.cedar_store_model.specs.PolicySet.{with_policy}
 use Rattle.cedar_store_parts.specs.Parts.{id_text, bindings_of, binding_places}
 use Rattle.cedar_store_policies.specs.Templates.{template_of}
 use Rattle.cedar_store_policies.specs.PolicySets.{set_of, set_seen}

@@ -1,5 +1,5 @@
-use Rattle.cedar_expr_model.specs.Whole.Parts.{slots}
-use Rattle.cedar_store_model.specs.Whole.Policy.{condition}
+use Rattle.cedar_expr_model.specs.Parts.{slots}
+use Rattle.cedar_store_model.specs.Policy.{condition}
 use Rattle.cedar_store_policies.specs.Templates.{template_of}
 use Rattle.cedar_store_policies.proofs.Firsts.{no_slot}
 use Rattle.cedar_store_policies.proofs.static_policy.StaticPolicy.new.Goals as goal

@@ -2,7 +2,7 @@ use Rattle.std.proofs.Common.{◌==◌, ap, ◌∙◌}
 use Rattle.std.specs.List.{list_any}
 use Rattle.cedar_expr_leaves.specs.Slots.{slot_of}
 use Rattle.cedar_expr_leaves.specs.declared.slot.Slot.{Slot}
-use Rattle.cedar_expr_model.specs.Whole.Shape.{slot_rank}
+use Rattle.cedar_expr_model.specs.Shape.{slot_rank}
 use Rattle.cedar_store_policies.proofs.Bound.{slots_used}
 use Rattle.cedar_store_policies.proofs.template.Template.has_slot.Goals as goal
 

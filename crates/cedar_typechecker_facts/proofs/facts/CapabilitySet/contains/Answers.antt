@@ -3,4 +3,4 @@ use Rattle.cedar_typechecker_facts.proofs.Told.{found}
 use Rattle.cedar_typechecker_facts.proofs.facts.CapabilitySet.contains.Goals as goal
 
 pub returns : goal.returns
-returns c = c.contains.ensures ∙ found c.args.e.now c.args.self.now.capabilities.keys
+returns c = c.contains.ensures ∙ found c.args.e.now c.args.self.now.capabilities

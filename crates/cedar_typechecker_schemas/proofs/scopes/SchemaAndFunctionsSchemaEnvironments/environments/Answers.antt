@@ -2,7 +2,7 @@ use Rattle.std.proofs.Common.{◌≡◌, List, map, IfOk, subst, ap, ◌∙◌}
 use Rattle.std.specs.List.{flat_map}
 use Rattle.std.specs.declared.alloc.Global.{Global}
 use Rattle.std.specs.declared.vec.Vec.{Vec}
-use Rattle.cedar_schema_model.specs.Whole.Environment.{Environment}
+use Rattle.cedar_schema_model.specs.Environment.{Environment}
 use Rattle.cedar_schema_built.specs.Views.{schema_kept}
 use Rattle.cedar_typechecker_environments.specs.Settings.{environment_of}
 use Rattle.cedar_typechecker_environments.specs.declared.request_env.RequestEnv.{RequestEnv}

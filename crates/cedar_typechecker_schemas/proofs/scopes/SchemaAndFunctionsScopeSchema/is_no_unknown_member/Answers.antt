@@ -3,8 +3,8 @@ use Rattle.cedar_expr_names.specs.Views.{uid_of}
 use Rattle.cedar_schema_built.specs.Views.{schema_kept}
 use Rattle.cedar_schema_entries.specs.Views.{entity_type_seen}
 use Rattle.cedar_schema_kept_model.specs.Kept.{kept_type}
-use Rattle.cedar_schema_model.specs.Whole.Conforming.{of_kind, attributes_at}
-use Rattle.cedar_typechecker_model.specs.Whole.ScopeRules.{has_id}
+use Rattle.cedar_schema_model.specs.Conforming.{of_kind, attributes_at}
+use Rattle.cedar_typechecker_model.specs.ScopeRules.{has_id}
 use Rattle.cedar_typechecker_seen_model.proofs.Seen.Told.{member_found, member_none}
 use Rattle.cedar_typechecker_schemas.proofs.scopes.SchemaAndFunctionsScopeSchema.is_no_unknown_member.Goals as goal
 

@@ -1,5 +1,0 @@
-use Rattle.cedar_expr_model.proofs.Whole.Mismatching.{all_fit}
-use Rattle.cedar_expr_model.proofs.whole_laws.mismatches_decide.Goals as goal
-
-pub returns : goal.returns
-returns c = all_fit

@@ -1,5 +1,0 @@
-use Rattle.cedar_expr_model.proofs.Whole.PatternTexts.{pattern_text_apart}
-use Rattle.cedar_expr_model.proofs.whole_laws.pattern_texts_tell_apart.Goals as goal
-
-pub returns : goal.returns
-returns c = pattern_text_apart

@@ -1,5 +1,0 @@
-use Rattle.cedar_expr_model.proofs.Whole.Examples.{variables_lawful}
-use Rattle.cedar_expr_model.proofs.whole_worked.worked_another_builder.Goals as goal
-
-pub returns-clause-lawful : goal.returns-clause-lawful
-returns-clause-lawful c = variables_lawful

@@ -1,8 +1,0 @@
-use Rattle.cedar_expr_model.proofs.Whole.Examples.{table_fair, table_unfair}
-use Rattle.cedar_expr_model.proofs.whole_worked.worked_fairness.Goals as goal
-
-pub returns-clause-fair : goal.returns-clause-fair
-returns-clause-fair c = table_fair
-
-pub returns-clause-unfair : goal.returns-clause-unfair
-returns-clause-unfair c = table_unfair

@@ -1,8 +1,0 @@
-use Rattle.cedar_expr_model.proofs.Whole.Examples.{rank_represented, feigned_not}
-use Rattle.cedar_expr_model.proofs.whole_worked.worked_represented.Goals as goal
-
-pub returns-clause-rank : goal.returns-clause-rank
-returns-clause-rank c = rank_represented
-
-pub returns-clause-other_key : goal.returns-clause-other_key
-returns-clause-other_key c = feigned_not

@@ -1,5 +1,0 @@
-use Rattle.cedar_gate_model.proofs.Whole.Gate.Reach.{accepted_are_sound}
-use Rattle.cedar_gate_model.proofs.whole_soundness.accepted_policies_are_sound.Goals as goal
-
-pub returns : goal.returns
-returns c = λ b w p a f k. accepted_are_sound b w a f p k

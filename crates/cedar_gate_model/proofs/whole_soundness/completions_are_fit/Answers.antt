@@ -1,5 +1,0 @@
-use Rattle.cedar_gate_model.proofs.Whole.Gate.Reach.{completions_fit}
-use Rattle.cedar_gate_model.proofs.whole_soundness.completions_are_fit.Goals as goal
-
-pub returns : goal.returns
-returns c = completions_fit

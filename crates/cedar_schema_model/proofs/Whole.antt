@@ -1,4 +1,0 @@
-pub mod Named
-pub mod Types
-pub mod Decls
-pub mod FirstPath

@@ -1,4 +1,0 @@
-pub mod Lists
-pub mod Faults
-pub mod Schemas
-pub mod Joins

@@ -1,9 +1,0 @@
-use Rattle.cedar_schema_model.proofs.Whole.Types.JoinLeast.{join_exists}
-use Rattle.cedar_schema_model.proofs.Whole.Types.Reduction.{exists_exactly}
-use Rattle.cedar_schema_model.proofs.whole_type_laws.joins_exist_where_bounds_do.Goals as goal
-
-pub returns-clause-where_bounded : goal.returns-clause-where_bounded
-returns-clause-where_bounded c = join_exists
-
-pub returns-clause-exactly : goal.returns-clause-exactly
-returns-clause-exactly c = exists_exactly

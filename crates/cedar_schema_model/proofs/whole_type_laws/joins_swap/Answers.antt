@@ -1,5 +1,0 @@
-use Rattle.cedar_schema_model.proofs.Whole.Types.JoinSame.{join_swaps}
-use Rattle.cedar_schema_model.proofs.whole_type_laws.joins_swap.Goals as goal
-
-pub returns : goal.returns
-returns c = join_swaps

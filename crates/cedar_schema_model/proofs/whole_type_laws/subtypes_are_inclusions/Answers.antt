@@ -1,5 +1,0 @@
-use Rattle.cedar_schema_model.proofs.Whole.Types.Inclusion.{subtypes_include}
-use Rattle.cedar_schema_model.proofs.whole_type_laws.subtypes_are_inclusions.Goals as goal
-
-pub returns : goal.returns
-returns c = subtypes_include

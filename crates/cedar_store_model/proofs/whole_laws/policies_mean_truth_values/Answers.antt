@@ -1,9 +1,0 @@
-use Rattle.cedar_store_model.proofs.Whole.Conditions.{policies_mean_truth}
-use Rattle.cedar_store_model.proofs.Whole.Conditions.{policy_meaning_is_a_function}
-use Rattle.cedar_store_model.proofs.whole_laws.policies_mean_truth_values.Goals as goal
-
-pub returns-clause-same : goal.returns-clause-same
-returns-clause-same c = policies_mean_truth
-
-pub returns-clause-computed : goal.returns-clause-computed
-returns-clause-computed c = policy_meaning_is_a_function

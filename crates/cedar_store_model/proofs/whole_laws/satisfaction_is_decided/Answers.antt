@@ -1,9 +1,0 @@
-use Rattle.cedar_store_model.proofs.Whole.Conditions.{satisfied-Decides}
-use Rattle.cedar_store_model.proofs.Whole.Conditions.{satisfaction_is_kept}
-use Rattle.cedar_store_model.proofs.whole_laws.satisfaction_is_decided.Goals as goal
-
-pub returns-clause-decides : goal.returns-clause-decides
-returns-clause-decides c = satisfied-Decides
-
-pub returns-clause-kept : goal.returns-clause-kept
-returns-clause-kept c = satisfaction_is_kept

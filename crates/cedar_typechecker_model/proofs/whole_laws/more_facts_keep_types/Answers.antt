@@ -1,5 +1,0 @@
-use Rattle.cedar_typechecker_model.proofs.Whole.More.{more_facts_keep_types}
-use Rattle.cedar_typechecker_model.proofs.whole_laws.more_facts_keep_types.Goals as goal
-
-pub returns : goal.returns
-returns c = more_facts_keep_types

@@ -1,9 +1,0 @@
-use Rattle.cedar_typechecker_model.proofs.Whole.Sound.Orderly.{schemas_are_orderly}
-use Rattle.cedar_typechecker_model.proofs.Whole.Sound.Typed.{types_are_simple}
-use Rattle.cedar_typechecker_model.proofs.whole_soundness.types_are_simple.Goals as goal
-
-pub returns-clause-schemas : goal.returns-clause-schemas
-returns-clause-schemas c = schemas_are_orderly
-
-pub returns-clause-types : goal.returns-clause-types
-returns-clause-types c = λ s x e known t ty out o h d. types_are_simple s x e o h known t ty out d

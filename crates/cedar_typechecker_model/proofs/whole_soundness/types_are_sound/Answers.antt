@@ -1,5 +1,0 @@
-use Rattle.cedar_typechecker_model.proofs.Whole.Sound.Policies.{types_are_sound}
-use Rattle.cedar_typechecker_model.proofs.whole_soundness.types_are_sound.Goals as goal
-
-pub returns : goal.returns
-returns c = types_are_sound

@@ -1,0 +1,33 @@
+//! Laws of typing against the meaning. Each function's contract is the theorem; its body does nothing.
+
+ghost use Rattle.cedar_typechecker_model.specs.OfLaws.Simple.{SchemasAreOrderly};
+ghost use Rattle.cedar_typechecker_model.specs.Soundness.{TypesAreSimple, TypesAreSound};
+ghost use Rattle.cedar_typechecker_model.specs.PolicySoundness.{EnvironmentsCover, PassingIsSound, ImpossibleIsSound};
+
+/// The schema of well-formed declarations is orderly, and under an orderly schema each type of an expression in Strict is simple: no
+/// union arises, and no record has a name twice.
+pub fn types_are_simple()
+    ensures schemas { SchemasAreOrderly }
+    ensures types { TypesAreSimple }
+{}
+
+/// An expression that has a type in Strict means a value of it, or errs by a missing entity, an overflow or a failed extension
+/// function; and where it means true, its facts hold.
+pub fn types_are_sound()
+    ensures { TypesAreSound }
+{}
+
+/// A conforming request has an environment of the policy that fits its bindings, or the policy's condition is false.
+pub fn environments_cover()
+    ensures { EnvironmentsCover }
+{}
+
+/// The condition of a policy that passes means a truth value, or errs in one of those three ways.
+pub fn passing_policies_err_as_expected()
+    ensures { PassingIsSound }
+{}
+
+/// An impossible policy isn't satisfied by any conforming request.
+pub fn impossible_policies_are_never_satisfied()
+    ensures { ImpossibleIsSound }
+{}
