@@ -1,6 +1,8 @@
 pub mod Answered
+pub mod Copied
+pub mod Decided
 pub mod Kept
 pub mod Pushed
 pub mod Put
-pub mod Scoped
+pub mod Repeated
 pub mod Told

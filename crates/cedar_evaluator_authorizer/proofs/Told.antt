@@ -55,10 +55,6 @@ told_stop l (FailedExtensionFunctionExecution x) m h = refl
 told_stop l (NonValue x) m h = absurd (apart l (h limit m) (h (fault overflow) m))
 told_stop l (RecursionLimit x) m h = refl
 
--- What serves an evaluator serves it whatever slots are bound to.
-pub serves_any : {T : Type 0} (table : T → (Name → List V → Called) → Table) (answers_as : T → (Name → List Made → MadeCalled) → Type 0) (e : Evaluator T) (a b : SlotBindings) (fs : Functions) → Serves table answers_as e a fs → Serves table answers_as e b fs
-serves_any table answers_as e a b fs s = record { answered = s.answered; rises = record { known_context = s.rises.known_context; bound = s.rises.bound; stored = s.rises.stored; answered = s.rises.answered } }
-
 -- what a verdict tells
 pub told_true : (f : Tree → Tree) (l : Left) (b : Bool) → l ≡ truth_left b → b ≡ true → IsLeft (with_residual f l) True
 told_true f l b h k = record { seen = ap (with_residual f) h ∙ ap truth_left k; tells = tt }

@@ -1,4 +1,8 @@
+pub mod Again
 pub mod Authorizers
+pub mod Copies
+pub mod Decisions
 pub mod Gathering
-pub mod Scopes
+pub mod Refusals
+pub mod Responses
 pub mod Verdicts

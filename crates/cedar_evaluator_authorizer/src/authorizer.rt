@@ -1,28 +1,38 @@
 //! Authorizers.
 
 ghost use Rattle.std.specs.Prelude.{◌≡◌, IfOk};
+ghost use Rattle.cedar_store_model.specs.Answer as model;
 ghost use Rattle.cedar_store_model.specs.Policy.{no_bindings};
 ghost use Rattle.cedar_store_policies.specs.PolicySets.{set_of};
+ghost use Rattle.cedar_evaluator_model.specs.Known.{known_world};
+ghost use Rattle.cedar_evaluator_model.specs.Laws.{as_concrete};
 ghost use Rattle.cedar_evaluator_model.specs.Members.{concretize};
+ghost use Rattle.cedar_evaluator_model.specs.Reauthorize.{request_bound};
 ghost use Rattle.cedar_evaluator_model.specs.Response.{PartialRequest, response_of};
 ghost use Rattle.cedar_evaluator_operators.specs.Calls.{Functions};
+ghost use Rattle.cedar_evaluator_reads.specs.Scopes.{values_in};
 ghost use Rattle.cedar_evaluator_core.specs.Evaluators.{asked_of, limit_of, scope_in, Serves};
 ghost use Rattle.cedar_evaluator_requests.specs.Views.{request_of, answer_of};
-ghost use Rattle.cedar_evaluator_responses.specs.Responses.{response_seen};
+ghost use Rattle.cedar_evaluator_authorizer.specs.Responses.{response_seen};
 ghost use Rattle.cedar_evaluator_authorizer.specs.Gathering.{gathered};
-ghost use Rattle.cedar_evaluator_authorizer.specs.Scopes.{Knows, scope_for};
+ghost use Rattle.cedar_evaluator_concretizing.specs.Refusals.{Takes};
+ghost use Rattle.cedar_evaluator_authorizer.specs.Decisions.{IsClosedFor};
+ghost use Rattle.cedar_evaluator_concretizing.specs.Scopes.{Knows, KnowsUnder, scope_for};
 
 use crate::gathering::Gathering;
+use crate::partial_response::PartialResponse;
 use crate::verdicts::verdict_on;
+use cedar_evaluator_concretizing::{ConcretizationError, concretized};
 use cedar_evaluator_core::Evaluator;
 use cedar_evaluator_operators::FunctionTable;
+use cedar_evaluator_reads::V;
 use cedar_evaluator_requests::{Request, Response};
-use cedar_evaluator_responses::PartialResponse;
 use cedar_store_entities::Entities;
 use cedar_store_policies::PolicySet;
 use cedar_store_policies::laws::ids_are_distinct;
 use std::alloc::{AllocError, Global};
-use std::rc::Rc;
+use std::collections::HashMap;
+use std::rc::{Rc, RcStr};
 
 /// Answers requests by policies, over a table of extension functions, within a limit on the depth of expressions.
 #[derive(Drop)]
@@ -53,7 +63,8 @@ impl<'a, T: FunctionTable> Authorizer<'a, T> {
         Authorizer { table, limit }
     }
 
-    /// The answer to the request by these policies, over these entities, where each residual counts as an error. Answers want of memory.
+    /// The answer to the request by these policies, over these entities, where each residual counts as an error. Where nothing is unknown,
+    /// everything is loaded and the policies are within the limit, it is the answer by what the policies mean. Answers want of memory.
     pub fn is_authorized(
         &self,
         alloc: Global,
@@ -61,7 +72,8 @@ impl<'a, T: FunctionTable> Authorizer<'a, T> {
         policies: &PolicySet,
         entities: &Entities,
     ) -> Result<Response, AllocError>
-        ensures { (fs : Functions) → Knows T.table T.answers_as (asks_table self.now) (request_of q) entities.now fs → IfOk result (λ a. answer_of a ≡ concretize (response_of (scope_for T.table (asks_table self.now) (request_of q) entities.now fs) (keeps_limit self.now) (set_of policies.now).policies)) }
+        ensures response { (fs : Functions) → Knows T.table T.answers_as (asks_table self.now) (request_of q) entities.now fs → IfOk result (λ a. answer_of a ≡ concretize (response_of (scope_for T.table (asks_table self.now) (request_of q) entities.now fs) (keeps_limit self.now) (set_of policies.now).policies)) }
+        ensures meaning { (fs : Functions) → Knows T.table T.answers_as (asks_table self.now) (request_of q) entities.now fs → IsClosedFor (scope_for T.table (asks_table self.now) (request_of q) entities.now fs) (keeps_limit self.now) (set_of policies.now).policies → IfOk result (λ a. answer_of a ≡ as_concrete (model.answer_of (known_world (scope_for T.table (asks_table self.now) (request_of q) entities.now fs)) (set_of policies.now).policies)) }
     {
         let response = self.is_authorized_core(alloc, q, policies, entities)?;
         response.concretize(alloc)
@@ -79,6 +91,36 @@ impl<'a, T: FunctionTable> Authorizer<'a, T> {
     {
         let request = Rc::new(alloc, q.clone()?)?;
         let evaluator = Evaluator::new(q, entities, self.table, self.limit);
+        respond(alloc, &evaluator, request, policies)
+    }
+
+    // The request with these values for what is unknown in it.
+    pub(crate) fn concretized(
+        &self,
+        alloc: Global,
+        request: &Request,
+        mapping: &HashMap<RcStr, V>,
+        entities: &Entities,
+    ) -> Result<Request, ConcretizationError>
+        ensures { (fs : Functions) → KnowsUnder T.table T.answers_as (asks_table self.now) (values_in mapping.now) (request_of request.now) entities.now fs → Takes request_of (request_bound (scope_for T.table (asks_table self.now) (request_of request.now) entities.now fs) (values_in mapping.now) (request_of request.now)) result }
+    {
+        concretized(alloc, self.table, entities, request, mapping)
+    }
+
+    // What is left of these policies for the request, where these unknowns have values.
+    pub(crate) fn resume(
+        &self,
+        alloc: Global,
+        q: Request,
+        mapping: &HashMap<RcStr, V>,
+        policies: &PolicySet,
+        entities: &Entities,
+    ) -> Result<PartialResponse, AllocError>
+        ensures { (fs : Functions) → KnowsUnder T.table T.answers_as (asks_table self.now) (values_in mapping.now) (request_of q) entities.now fs → IfOk result (λ r. response_seen r ≡ response_of (record (scope_for T.table (asks_table self.now) (request_of q) entities.now fs) { values = values_in mapping.now }) (keeps_limit self.now) (set_of policies.now).policies) }
+    {
+        let request = Rc::new(alloc, q.clone()?)?;
+        let plain = Evaluator::new(q, entities, self.table, self.limit);
+        let evaluator = plain.with_unknowns(mapping);
         respond(alloc, &evaluator, request, policies)
     }
 }

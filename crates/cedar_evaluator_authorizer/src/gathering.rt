@@ -7,14 +7,15 @@ ghost use Rattle.cedar_evaluator_model.specs.Response.{PartialRequest, noted, wi
 ghost use Rattle.cedar_evaluator_errors.specs.Outcomes.{cause_of};
 ghost use Rattle.cedar_evaluator_requests.specs.Views.{request_of};
 ghost use Rattle.cedar_evaluator_responses.specs.Groups.{noted_seen, state_of};
-ghost use Rattle.cedar_evaluator_responses.specs.Responses.{response_seen};
+ghost use Rattle.cedar_evaluator_authorizer.specs.Responses.{response_seen};
 ghost use Rattle.cedar_evaluator_authorizer.specs.Verdicts.{left_seen, TellsStop};
 ghost use Rattle.cedar_evaluator_authorizer.specs.Gathering.{gathered, each_kept, with_left, with_true, with_false, with_residual, with_error, nothing_gathered};
 
+use crate::partial_response::PartialResponse;
 use crate::verdicts::Verdict;
 use cedar_evaluator_errors::EvaluationError;
 use cedar_evaluator_requests::{AuthorizationError, Request};
-use cedar_evaluator_responses::{ErrorState, PartialResponse};
+use cedar_evaluator_responses::ErrorState;
 use cedar_expr_trees::Expr;
 use cedar_store_parts::{Annotations, Effect, PolicyID};
 use cedar_store_policies::Policy;

@@ -33,8 +33,8 @@ fn without_a_value(id: &PolicyID, left: &Expr) -> Result<AuthorizationError, All
     })
 }
 
-// Puts the errors of a group of residual policies at the end.
-pub(crate) fn push_without_value(
+/// Puts the errors of a group of residual policies at the end.
+pub fn push_without_value(
     errors: &mut Vec<AuthorizationError>,
     group: &IndexMap<PolicyID, (Rc<Expr>, Rc<Annotations>)>,
 ) -> Result<(), AllocError>
@@ -46,8 +46,8 @@ pub(crate) fn push_without_value(
     Ok(())
 }
 
-// Whether an evaluation met the limit on the depth, by one of these errors. Want of memory counts as met.
-pub(crate) fn met_limit(errors: &[AuthorizationError]) -> bool
+/// Whether an evaluation met the limit on the depth, by one of these errors. Want of memory counts as met.
+pub fn met_limit(errors: &[AuthorizationError]) -> bool
     ensures { result ≡ list_any (λ e. is_limit (error_of e).cause) errors.now }
 {
     errors.iter().any(is_of_limit)

@@ -17,8 +17,8 @@ pub enum ErrorState {
     Error,
 }
 
-// The group of these entries: an id that is repeated keeps its place, with what stands last under it.
-pub(crate) fn group_of<V: Drop>(
+/// The group of these entries: an id that is repeated keeps its place, with what stands last under it.
+pub fn group_of<V: Drop>(
     alloc: Global,
     entries: Vec<(PolicyID, V)>,
 ) -> Result<IndexMap<PolicyID, V>, AllocError>
@@ -31,8 +31,8 @@ pub(crate) fn group_of<V: Drop>(
     Ok(group)
 }
 
-// Whether there is no policy in the group.
-pub(crate) fn is_empty<V>(group: &IndexMap<PolicyID, V>) -> bool
+/// Whether there is no policy in the group.
+pub fn is_empty<V>(group: &IndexMap<PolicyID, V>) -> bool
     ensures { result ≡ is_nil group.now.entries }
 {
     group.is_empty()

@@ -13,8 +13,8 @@ use indexmap::{IndexMap, IndexSet};
 use std::alloc::{AllocError, Global};
 use std::rc::Rc;
 
-// The ids of the group, in order.
-pub(crate) fn ids_of<V>(
+/// The ids of the group, in order.
+pub fn ids_of<V>(
     alloc: Global,
     group: &IndexMap<PolicyID, V>,
 ) -> Result<IndexSet<PolicyID>, AllocError>
@@ -27,8 +27,8 @@ pub(crate) fn ids_of<V>(
     Ok(ids)
 }
 
-// Puts the ids of a group of residual policies at the end.
-pub(crate) fn push_ids<'a>(
+/// Puts the ids of a group of residual policies at the end.
+pub fn push_ids<'a>(
     ids: &mut Vec<&'a PolicyID>,
     group: &'a IndexMap<PolicyID, (Rc<Expr>, Rc<Annotations>)>,
 ) -> Result<(), AllocError>
@@ -40,8 +40,8 @@ pub(crate) fn push_ids<'a>(
     Ok(())
 }
 
-// Puts the ids of those policies of a group at the end that erred.
-pub(crate) fn push_erred<'a>(
+/// Puts the ids of those policies of a group at the end that erred.
+pub fn push_erred<'a>(
     ids: &mut Vec<&'a PolicyID>,
     group: &'a IndexMap<PolicyID, (ErrorState, Rc<Annotations>)>,
 ) -> Result<(), AllocError>

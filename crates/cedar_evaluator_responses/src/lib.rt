@@ -1,14 +1,12 @@
-//! What a partial evaluation of policies answers.
-//! Contract: `response_seen`, which response of the model a partial response is; what is asked of it is what the model answers.
-//! Used by authorizers and by sessions.
+//! The groups of a partial response: the policies of an effect that are satisfied, false, or of which an expression is left.
+//! Contract: `noted_seen`, `false_seen` and `residual_seen`, what the entries of a group are in the model; each call gives what that says.
+//! Used by partial responses (`cedar_evaluator_authorizer`).
 #![tactic(auto)]
 
-mod errors;
+pub mod errors;
 pub mod groups;
-mod ids;
-pub mod partial_response;
-mod policies;
-mod searches;
+pub mod ids;
+pub mod policies;
+pub mod searches;
 
 pub use groups::ErrorState;
-pub use partial_response::PartialResponse;

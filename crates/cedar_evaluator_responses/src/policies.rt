@@ -32,8 +32,8 @@ pub(crate) fn policy_left(
     Policy::from_when_clause_annos(alloc, effect, body, id.clone()?, loc, annotations)
 }
 
-// Puts the policies of a group of satisfied ones at the end.
-pub(crate) fn push_true(
+/// Puts the policies of a group of satisfied ones at the end.
+pub fn push_true(
     alloc: Global,
     policies: &mut Vec<Policy>,
     effect: Effect,
@@ -48,8 +48,8 @@ pub(crate) fn push_true(
     Ok(())
 }
 
-// Puts the policies of a group of false ones at the end.
-pub(crate) fn push_false(
+/// Puts the policies of a group of false ones at the end.
+pub fn push_false(
     alloc: Global,
     policies: &mut Vec<Policy>,
     effect: Effect,
@@ -64,8 +64,8 @@ pub(crate) fn push_false(
     Ok(())
 }
 
-// Puts the policies of a group of residual ones at the end, each with what is left of it.
-pub(crate) fn push_residual(
+/// Puts the policies of a group of residual ones at the end, each with what is left of it.
+pub fn push_residual(
     alloc: Global,
     policies: &mut Vec<Policy>,
     effect: Effect,
@@ -79,8 +79,8 @@ pub(crate) fn push_residual(
     Ok(())
 }
 
-// Puts the policies of the groups of an effect at the end: first the satisfied ones, then the false ones, then the residual ones.
-pub(crate) fn push_all(
+/// Puts the policies of the groups of an effect at the end: first the satisfied ones, then the false ones, then the residual ones.
+pub fn push_all(
     alloc: Global,
     policies: &mut Vec<Policy>,
     effect: Effect,

@@ -17,8 +17,8 @@ use indexmap::IndexMap;
 use std::alloc::{AllocError, Global};
 use std::rc::Rc;
 
-// The policy of this id in the groups of an effect: residual, true, false.
-pub(crate) fn policy_in(
+/// The policy of this id in the groups of an effect: residual, true, false.
+pub fn policy_in(
     alloc: Global,
     effect: Effect,
     id: &PolicyID,

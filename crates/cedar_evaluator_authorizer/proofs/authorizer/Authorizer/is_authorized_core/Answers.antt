@@ -4,7 +4,7 @@ use Rattle.cedar_store_policies.specs.PolicySets.{set_of}
 use Rattle.cedar_evaluator_model.specs.Response.{response_of}
 use Rattle.cedar_evaluator_requests.specs.Views.{request_of}
 use Rattle.cedar_evaluator_authorizer.specs.Authorizers.{asks_table}
-use Rattle.cedar_evaluator_authorizer.proofs.Scoped.{same_scope, served}
+use Rattle.cedar_evaluator_concretizing.proofs.Scoped.{same_scope, served}
 use Rattle.cedar_evaluator_authorizer.proofs.authorizer.Authorizer.is_authorized_core.Goals as goal
 
 pub returns : goal.returns

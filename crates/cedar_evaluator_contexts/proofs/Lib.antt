@@ -1,0 +1,4 @@
+mod Alike
+mod Evaluated
+mod Known
+mod Records

@@ -1,0 +1,4 @@
+pub mod Read
+pub mod Refused
+pub mod Shapes
+pub mod Views

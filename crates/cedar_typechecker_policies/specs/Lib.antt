@@ -1,0 +1,5 @@
+pub mod Checks
+pub mod Findings
+pub mod Found
+pub mod Iterated
+pub mod Sound

@@ -1,0 +1,83 @@
+//! What typing says of a policy in one environment.
+
+ghost use Rattle.std.specs.Prelude.{◌≡◌, true, IfOk};
+ghost use Rattle.cedar_expr_model.specs.Name.{Text};
+ghost use Rattle.cedar_expr_model.specs.Tree.{Tree};
+ghost use Rattle.cedar_schema_model.specs.Types.{strict};
+ghost use Rattle.cedar_store_model.specs.Policy.{condition};
+ghost use Rattle.cedar_store_policies.specs.Templates.{template_of};
+ghost use Rattle.cedar_schema_joins.specs.Modes.{mode_of};
+ghost use Rattle.cedar_typechecker_environments.specs.Settings.{environment_of, setting_of};
+ghost use Rattle.cedar_typechecker_model.specs.Rules.{Setting};
+ghost use Rattle.cedar_typechecker_model.specs.Verdicts.{HasVerdict};
+ghost use Rattle.cedar_typechecker_policies.specs.Checks.{IsChecked, CheckSays, verdict_seen, is_passing};
+ghost use Rattle.cedar_typechecker_policies.specs.Sound.{ForAlike, MeansTruth};
+
+use crate::checked::{Checked, check_condition};
+use cedar_expr_trees::Expr;
+use cedar_schema_types::Type;
+use cedar_store_policies::Template;
+use cedar_store_records::ValidationError;
+use cedar_typechecker_environments::{TypingSchema, World};
+use cedar_typechecker_typed_model::laws::typed_as_judged;
+use std::alloc::{AllocError, Global};
+
+/// What typing says of a policy in an environment.
+#[derive(Drop)]
+pub enum PolicyCheck {
+    /// The condition is True or Bool. It comes with its type and those of its parts.
+    Success(Expr<Option<Type>>),
+    /// The condition is False. It comes with its type and those of its parts; nothing is wrong with it.
+    Irrelevant(Vec<ValidationError>, Expr<Option<Type>>),
+    /// The condition has no type of truth values. It comes with what is wrong with it.
+    Fail(Vec<ValidationError>),
+}
+
+// The check of which this is known: without a type there is no verdict but failing.
+#[tactic(auto, using(crate::proofs::Said::says_irrelevant, crate::proofs::Said::says_success, crate::proofs::Said::says_fail, crate::proofs::Said::says_untyped))]
+fn policy_check(checked: Checked) -> PolicyCheck
+    ensures { (s : Setting) (t : Tree) (id : Text) → IsChecked s t id checked → CheckSays s t id result }
+{
+    typed_as_judged();
+    let Checked {
+        verdict,
+        typed,
+        errors,
+    } = checked;
+    let Some(typed) = typed else {
+        return PolicyCheck::Fail(errors);
+    };
+    if verdict.is_false {
+        return PolicyCheck::Irrelevant(errors, typed);
+    }
+    if verdict.is_bool {
+        return PolicyCheck::Success(typed);
+    }
+    PolicyCheck::Fail(errors)
+}
+
+// What typing says of the policy in what it is typed in.
+pub(crate) fn check_said<S: TypingSchema>(
+    alloc: Global,
+    world: &World<'_, S>,
+    template: &Template,
+) -> Result<PolicyCheck, AllocError>
+    ensures { IfOk result (CheckSays (setting_of S.schema S.table world.now) (condition (template_of template.now)) (template_of template.now).id) }
+{
+    let checked = check_condition(alloc, world, template)?;
+    Ok(policy_check(checked))
+}
+
+/// What typing says of the policy in an environment, in a mode: that it passes, that it passes and is irrelevant for requests of the
+/// environment's types, or that it fails, and why. One that passes in the strict mode means a truth value there, or errs as expected.
+pub fn check_in<S: TypingSchema>(
+    alloc: Global,
+    world: &World<'_, S>,
+    template: &Template,
+) -> Result<PolicyCheck, AllocError>
+    ensures verdict { IfOk result (λ c. HasVerdict (setting_of S.schema S.table world.now) (condition (template_of template.now)) (verdict_seen c)) }
+    ensures says { IfOk result (CheckSays (setting_of S.schema S.table world.now) (condition (template_of template.now)) (template_of template.now).id) }
+    ensures sound { mode_of world.now.mode ≡ strict → IfOk result (λ c. is_passing (verdict_seen c) ≡ true → ForAlike (S.schema world.now.schema.now) (S.table world.now.schema.now) (MeansTruth (environment_of world.now.env.now) (condition (template_of template.now)))) }
+{
+    check_said(alloc, world, template)
+}
