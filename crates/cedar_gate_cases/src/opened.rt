@@ -1,0 +1,64 @@
+//! The bundle that the tests stand on, and what they need of it.
+
+use cedar_evaluator_requests::{Context, EntityUIDEntry, Request};
+use cedar_evaluator_restricted::{FunctionCalls, Left, RestrictedFault, V};
+use cedar_expr_names::Name;
+use cedar_gate_bundles::{Bundle, read_input};
+use cedar_test_exprs::uid;
+use std::alloc::{AllocError, Global};
+use std::rc::Rc;
+
+// Users have a boss, documents an owner. p0 permits where the boss of the owner asks, p1 permits `User::"a"`, p2 forbids who is ok. The
+// owner is b, whose boss is a, who isn't ok.
+const BUNDLE: &str = r#"{"version": 1, "level": 2, "limit": 16,
+"schema": [{"": {"entityTypes": {"User": {"attrs": {"boss": {"entity": "User"}, "ok": "Bool"}}, "Doc": {"attrs": {"owner": {"entity": "User"}}}},
+"actions": {"view": {"principals": ["User"], "resources": ["Doc"]}}}}],
+"policies": [{"id": "p0", "effect": "permit", "when": ["eq", ["get", ["get", ["var", "resource"], "owner"], "boss"], ["var", "principal"]]},
+{"id": "p1", "effect": "permit", "principal": {"eq": ["User", "a"]}},
+{"id": "p2", "effect": "forbid", "when": ["get", ["var", "principal"], "ok"]}],
+"request": {"principal": ["User", "a"], "action": ["Action", "view"], "resource": ["Doc", "d"]},
+"store": [{"uid": ["User", "a"], "attrs": {"boss": ["uid", "User", "a"], "ok": false}},
+{"uid": ["User", "b"], "attrs": {"boss": ["uid", "User", "a"], "ok": true}},
+{"uid": ["User", "z"], "attrs": {"boss": ["uid", "User", "z"], "ok": true}},
+{"uid": ["Doc", "d"], "attrs": {"owner": ["uid", "User", "b"]}}]}"#;
+
+// The bundle, read.
+pub(crate) fn bundle(alloc: Global) -> Result<Bundle, AllocError> {
+    read_input(alloc, &NoFunctions, BUNDLE.as_bytes())
+        .ok()
+        .ok_or(AllocError)
+}
+
+// No functions.
+pub(crate) struct NoFunctions;
+
+impl FunctionCalls for NoFunctions {
+    ghost use Rattle.cedar_gate_model.specs.WorkedGate.{no_functions};
+
+    ghost functions = { λ _. no_functions };
+
+    fn call(&self, _alloc: Global, _name: &Name, _args: &[V]) -> Result<Left, RestrictedFault> {
+        Err(RestrictedFault::Stopped)
+    }
+}
+
+// A part of a request: this uid, or, of an empty text, an unknown one.
+fn entry(alloc: Global, text: &str) -> Result<EntityUIDEntry, AllocError> {
+    if text.is_empty() {
+        return Ok(EntityUIDEntry::Unknown {
+            ty: None,
+            loc: None,
+        });
+    }
+    let euid = Rc::new(alloc, uid(alloc, text)?)?;
+    Ok(EntityUIDEntry::Known { euid, loc: None })
+}
+
+// The request of this principal to view the document.
+pub(crate) fn request(alloc: Global, principal: &str) -> Result<Request, AllocError> {
+    let principal = entry(alloc, principal)?;
+    let action = entry(alloc, "Action::view")?;
+    let resource = entry(alloc, "Doc::d")?;
+    let context = Context::empty(alloc)?;
+    Ok(Request::new_unchecked(principal, action, resource, Some(context)))
+}
