@@ -1,5 +1,5 @@
--- Copies of groups.
-use Rattle.std.proofs.Common.{◌≡◌, List, [], ◌∷◌, map, refl, ap}
+-- Copies of groups, and of errors.
+use Rattle.std.proofs.Common.{◌≡◌, List, map}
 use Rattle.std.specs.List.{AllZip}
 use Rattle.std.specs.declared.alloc.Global.{Global}
 use Rattle.std.specs.declared.rc.Rc.{Rc}
@@ -8,15 +8,12 @@ use Rattle.cedar_expr_trees.specs.declared.expr.Expr.{Expr}
 use Rattle.cedar_store_parts.specs.Parts.{id_text, annotations_of}
 use Rattle.cedar_store_parts.specs.declared.annotation.Annotations.{Annotations}
 use Rattle.cedar_store_parts.specs.declared.policy_id.PolicyID.{PolicyID}
+use Rattle.cedar_evaluator_errors.proofs.Copied.{copies_are}
+use Rattle.cedar_evaluator_requests.specs.Copies.{IsSamePolicyError}
+use Rattle.cedar_evaluator_requests.specs.Views.{error_of}
+use Rattle.cedar_evaluator_requests.specs.declared.response.AuthorizationError.{AuthorizationError}
 use Rattle.cedar_evaluator_responses.specs.Groups.{noted_seen, false_seen, residual_seen, state_of}
 use Rattle.cedar_evaluator_responses.specs.declared.groups.ErrorState.{ErrorState}
-
--- what is seen of copies, one by one
-pub copies_are : {A B : Type 0} (seen : A → B) (alike : A → A → Type 0) → ((a b : A) → alike a b → seen b ≡ seen a) → (xs ys : List A) → AllZip alike xs ys → map seen ys ≡ map seen xs
-copies_are seen alike same [] [] h = refl
-copies_are seen alike same [] (y ∷ ys) h = absurd h
-copies_are seen alike same (x ∷ xs) [] h = absurd h
-copies_are seen alike same (x ∷ xs) (y ∷ ys) h = λ i. same x y h.0 i ∷ copies_are seen alike same xs ys h.1 i
 
 abbrev NotedAlike : PolicyID × Rc Annotations Global → PolicyID × Rc Annotations Global → Type 0
 NotedAlike p q = (id_text q.0 ≡ id_text p.0) × ((q.1).value ≡ (p.1).value)
@@ -35,3 +32,6 @@ LeftAlike p q = (id_text q.0 ≡ id_text p.0) × (((q.1.0).value ≡ (p.1.0).val
 
 pub residuals_copied : (xs ys : List (PolicyID × (Rc (Expr Unit) Global × Rc Annotations Global))) → AllZip LeftAlike xs ys → map residual_seen ys ≡ map residual_seen xs
 residuals_copied xs ys h = copies_are residual_seen LeftAlike (λ p q k i. (record { id = k.0 i; annotations = annotations_of ((k.1).1 i) }, tree_of ((k.1).0 i))) xs ys h
+
+pub errors_copied : (xs ys : List AuthorizationError) → AllZip IsSamePolicyError xs ys → map error_of ys ≡ map error_of xs
+errors_copied xs ys h = copies_are error_of IsSamePolicyError (λ e copy k. k.seen) xs ys h

@@ -1,17 +1,22 @@
 -- What a decision says, by the laws.
 use Rattle.std.proofs.Common.{◌≡◌, ℕ, Bool, true, false, List, Option, Some, None, refl, sym, ap, ◌∙◌, subst}
 use Rattle.std.specs.Prelude.{All, if◌then◌else◌}
-use Rattle.cedar_store_model.specs.Answer.{Decision, answer_of}
+use Rattle.cedar_expr_model.specs.ListLaws.{AreDistinct}
+use Rattle.cedar_store_model.specs.Answer.{Decision, answer_of, ids}
 use Rattle.cedar_store_model.specs.Policy.{Policy}
-use Rattle.cedar_evaluator_model.specs.Members.{concretize, decision, decision_in_session, met_limit}
+use Rattle.cedar_store_model.specs.World.{World}
+use Rattle.cedar_evaluator_model.specs.Members.{bounds_in_session, concretize, decision, decision_in_session, met_limit}
 use Rattle.cedar_evaluator_model.specs.Known.{known_world}
-use Rattle.cedar_evaluator_model.specs.Laws.{IsBound, WithinLimit, as_concrete}
+use Rattle.cedar_evaluator_model.specs.Laws.{IsBound, IsReady, WithinLimit, as_concrete}
 use Rattle.cedar_evaluator_model.specs.Response.{Response, response_of}
+use Rattle.cedar_evaluator_model.specs.ResponseLaws.{IsKept}
 use Rattle.cedar_evaluator_model.specs.Scope.{Scope}
 use Rattle.cedar_evaluator_model.proofs.Forced.{forbid_forces, permit_forces, no_permit_forces}
 use Rattle.cedar_evaluator_model.proofs.Limits.{none_met}
-use Rattle.cedar_evaluator_model.proofs.Residuals.Decisions.{given}
+use Rattle.cedar_evaluator_model.proofs.Residuals.Decisions.{given, bounds_hold}
+use Rattle.cedar_evaluator_model.proofs.Residuals.Kept.{keeps_satisfied}
 use Rattle.cedar_evaluator_model.proofs.Responses.{answers}
+use Rattle.cedar_evaluator_authorizer.specs.Completed.{HoldsIn, IsCompletionFor, IsForced}
 use Rattle.cedar_evaluator_authorizer.specs.Decisions.{IsClosedFor, IsDecision}
 
 -- where no policy met the limit, a session's decision is the decision
@@ -26,12 +31,26 @@ same_session r e = open_session r (met_limit r) e
 decides : (r q : Response) (o : Option Decision) → o ≡ decision r → r ≡ q → met_limit q ≡ false → o ≡ decision_in_session q
 decides r q o h same m = h ∙ ap decision same ∙ sym (same_session q m)
 
+-- the decision that is owed
+pub is_forced : (s : Scope) (n : ℕ) (ps : List Policy) (r : Response) (o : Option Decision) → o ≡ decision r → r ≡ response_of s n ps → IsReady s n ps → IsForced (known_world s) ps o
+is_forced s n ps r o h same ready = record {
+  by_forbid = λ p c f i. decides r (response_of s n ps) o h same ready.within ∙ forbid_forces s n ps ready p c f i;
+  by_permit = λ out p c f i. decides r (response_of s n ps) o h same ready.within ∙ permit_forces s n ps ready out p c f i;
+  by_no_permit = λ out. decides r (response_of s n ps) o h same ready.within ∙ no_permit_forces s n ps ready out;
+}
+
 pub is_decision : (r : Response) (o : Option Decision) → o ≡ decision r → IsDecision r o
 is_decision r o h = record {
-  given = λ s n ps same agrees well m w complete fits d k. given s agrees well n ps d (sym (decides r (response_of s n ps) o h same (ap met_limit (sym same) ∙ m)) ∙ k) w complete fits;
-  by_forbid = λ s n ps same ready p c f i. decides r (response_of s n ps) o h same ready.within ∙ forbid_forces s n ps ready p c f i;
-  by_permit = λ s n ps same ready out p c f i. decides r (response_of s n ps) o h same ready.within ∙ permit_forces s n ps ready out p c f i;
-  by_no_permit = λ s n ps same ready out. decides r (response_of s n ps) o h same ready.within ∙ no_permit_forces s n ps ready out;
+  given = λ s n ps same m w k d e. given s k.agrees k.made n ps d (sym (decides r (response_of s n ps) o h same (ap met_limit (sym same) ∙ m)) ∙ e) w k.completes k.fits;
+  owed = λ s n ps same ready. is_forced s n ps r o h same ready;
+}
+
+-- what a response to policies of distinct ids says in a completion
+pub holds_in : (s : Scope) (n : ℕ) (ps : List Policy) → AreDistinct (ids ps) → (r : Response) → r ≡ response_of s n ps → (w : World) → IsCompletionFor w s ps → HoldsIn w ps r
+holds_in s n ps d r same w k = record {
+  decides = λ m e h. given s k.agrees k.made n ps e (sym (decides r (response_of s n ps) (decision r) refl same (ap met_limit (sym same) ∙ m)) ∙ h) w k.completes k.fits;
+  bounds = λ b h. bounds_hold s k.agrees k.made n ps b (ap (bounds_in_session ps) (sym same) ∙ h) w k.completes k.fits;
+  keeps = λ m p h. subst (λ q. IsKept w q p) (sym same) (keeps_satisfied s k.agrees k.made n ps d (ap met_limit (sym same) ∙ m) w k.completes k.fits p h);
 }
 
 -- where nothing is unknown and everything is loaded the answer is that by what the policies mean

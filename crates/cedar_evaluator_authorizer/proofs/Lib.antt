@@ -5,4 +5,6 @@ pub mod Kept
 pub mod Pushed
 pub mod Put
 pub mod Repeated
+pub mod RisesAgain
+pub mod Scoped
 pub mod Told

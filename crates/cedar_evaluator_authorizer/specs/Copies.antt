@@ -1,10 +1,12 @@
--- What a copy of a partial response keeps: all but its errors, of which nothing is said.
+-- When a copy of a partial response is the same response.
 -- Rule: partial responses (docs/RULES.md).
-use Rattle.std.specs.Prelude.{[]}
-use Rattle.cedar_evaluator_model.specs.Response.{Response}
+use Rattle.std.specs.Prelude.{◌≡◌}
+use Rattle.std.specs.List.{AllZip}
+use Rattle.cedar_evaluator_requests.specs.Copies.{IsSamePolicyError}
 use Rattle.cedar_evaluator_authorizer.specs.Responses.{response_seen}
 use Rattle.cedar_evaluator_authorizer.specs.declared.partial_response.PartialResponse.{PartialResponse}
 
--- the groups and the request
-abbrev pub groups_seen : PartialResponse → Response
-groups_seen r = record (response_seen r) { errors = [] }
+-- The copy has the same groups, errors and request, and each of its errors is the same error.
+pub record IsSameResponse (r copy : PartialResponse) : Type 0 where
+  pub seen : response_seen copy ≡ response_seen r
+  pub errors : AllZip IsSamePolicyError r.errors.items copy.errors.items

@@ -1,8 +1,10 @@
 pub mod Again
 pub mod Authorizers
+pub mod Completed
 pub mod Copies
 pub mod Decisions
 pub mod Gathering
 pub mod Refusals
 pub mod Responses
+pub mod Scopes
 pub mod Verdicts

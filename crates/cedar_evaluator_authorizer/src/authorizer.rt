@@ -3,10 +3,11 @@
 ghost use Rattle.std.specs.Prelude.{◌≡◌, IfOk};
 ghost use Rattle.cedar_store_model.specs.Answer as model;
 ghost use Rattle.cedar_store_model.specs.Policy.{no_bindings};
+ghost use Rattle.cedar_store_model.specs.World.{World};
 ghost use Rattle.cedar_store_policies.specs.PolicySets.{set_of};
 ghost use Rattle.cedar_evaluator_model.specs.Known.{known_world};
-ghost use Rattle.cedar_evaluator_model.specs.Laws.{as_concrete};
-ghost use Rattle.cedar_evaluator_model.specs.Members.{concretize};
+ghost use Rattle.cedar_evaluator_model.specs.Laws.{as_concrete, IsReady};
+ghost use Rattle.cedar_evaluator_model.specs.Members.{concretize, decision};
 ghost use Rattle.cedar_evaluator_model.specs.Reauthorize.{request_bound};
 ghost use Rattle.cedar_evaluator_model.specs.Response.{PartialRequest, response_of};
 ghost use Rattle.cedar_evaluator_operators.specs.Calls.{Functions};
@@ -16,8 +17,11 @@ ghost use Rattle.cedar_evaluator_requests.specs.Views.{request_of, answer_of};
 ghost use Rattle.cedar_evaluator_authorizer.specs.Responses.{response_seen};
 ghost use Rattle.cedar_evaluator_authorizer.specs.Gathering.{gathered};
 ghost use Rattle.cedar_evaluator_concretizing.specs.Refusals.{Takes};
+ghost use Rattle.cedar_evaluator_contexts.specs.Functions.{HasFunctionsOf};
+ghost use Rattle.cedar_evaluator_model.specs.Scope.{Scope};
+ghost use Rattle.cedar_evaluator_authorizer.specs.Completed.{HoldsIn, IsCompletionFor, IsForced};
 ghost use Rattle.cedar_evaluator_authorizer.specs.Decisions.{IsClosedFor};
-ghost use Rattle.cedar_evaluator_concretizing.specs.Scopes.{Knows, KnowsUnder, scope_for};
+ghost use Rattle.cedar_evaluator_authorizer.specs.Scopes.{Knows, KnowsUnder, scope_for};
 
 use crate::gathering::Gathering;
 use crate::partial_response::PartialResponse;
@@ -79,7 +83,8 @@ impl<'a, T: FunctionTable> Authorizer<'a, T> {
         response.concretize(alloc)
     }
 
-    /// What is left of these policies for the request, over these entities. Answers want of memory.
+    /// What is left of these policies for the request, over these entities. It holds in every completion, and a decision is owed where what
+    /// is known forces it. Answers want of memory.
     pub fn is_authorized_core(
         &self,
         alloc: Global,
@@ -87,8 +92,11 @@ impl<'a, T: FunctionTable> Authorizer<'a, T> {
         policies: &PolicySet,
         entities: &Entities,
     ) -> Result<PartialResponse, AllocError>
-        ensures { (fs : Functions) → Knows T.table T.answers_as (asks_table self.now) (request_of q) entities.now fs → IfOk result (λ r. response_seen r ≡ response_of (scope_for T.table (asks_table self.now) (request_of q) entities.now fs) (keeps_limit self.now) (set_of policies.now).policies) }
+        ensures response { (fs : Functions) → Knows T.table T.answers_as (asks_table self.now) (request_of q) entities.now fs → IfOk result (λ r. response_seen r ≡ response_of (scope_for T.table (asks_table self.now) (request_of q) entities.now fs) (keeps_limit self.now) (set_of policies.now).policies) }
+        ensures completions { (fs : Functions) → Knows T.table T.answers_as (asks_table self.now) (request_of q) entities.now fs → (w : World) → IsCompletionFor w (scope_for T.table (asks_table self.now) (request_of q) entities.now fs) (set_of policies.now).policies → IfOk result (λ r. HoldsIn w (set_of policies.now).policies (response_seen r)) }
+        ensures owed { (fs : Functions) → Knows T.table T.answers_as (asks_table self.now) (request_of q) entities.now fs → IsReady (scope_for T.table (asks_table self.now) (request_of q) entities.now fs) (keeps_limit self.now) (set_of policies.now).policies → IfOk result (λ r. IsForced (known_world (scope_for T.table (asks_table self.now) (request_of q) entities.now fs)) (set_of policies.now).policies (decision (response_seen r))) }
     {
+        ids_are_distinct();
         let request = Rc::new(alloc, q.clone()?)?;
         let evaluator = Evaluator::new(q, entities, self.table, self.limit);
         respond(alloc, &evaluator, request, policies)
@@ -100,11 +108,10 @@ impl<'a, T: FunctionTable> Authorizer<'a, T> {
         alloc: Global,
         request: &Request,
         mapping: &HashMap<RcStr, V>,
-        entities: &Entities,
     ) -> Result<Request, ConcretizationError>
-        ensures { (fs : Functions) → KnowsUnder T.table T.answers_as (asks_table self.now) (values_in mapping.now) (request_of request.now) entities.now fs → Takes request_of (request_bound (scope_for T.table (asks_table self.now) (request_of request.now) entities.now fs) (values_in mapping.now) (request_of request.now)) result }
+        ensures { (s : Scope) → HasFunctionsOf T.table T.answers_as (asks_table self.now) s → Takes request_of (request_bound s (values_in mapping.now) (request_of request.now)) result }
     {
-        concretized(alloc, self.table, entities, request, mapping)
+        concretized(alloc, self.table, request, mapping)
     }
 
     // What is left of these policies for the request, where these unknowns have values.

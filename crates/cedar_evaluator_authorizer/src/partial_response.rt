@@ -58,10 +58,9 @@ impl Drop for PartialResponse {
 }
 
 impl Clone for PartialResponse {
-    ghost use Rattle.std.specs.Prelude.{◌≡◌};
-    ghost use Rattle.cedar_evaluator_authorizer.specs.Copies.{groups_seen};
+    ghost use Rattle.cedar_evaluator_authorizer.specs.Copies.{IsSameResponse};
 
-    ghost is_clone = { λ r copy. groups_seen copy ≡ groups_seen r };
+    ghost is_clone = { IsSameResponse };
 
     // Its parts are copied one after the other into a response without groups: each that is at hand is a step to the proof.
     fn clone(&self) -> Result<PartialResponse, AllocError> {
@@ -103,7 +102,7 @@ impl PartialResponse {
     ghost use Rattle.cedar_evaluator_authorizer.specs.Decisions.{IsDecision};
     ghost use Rattle.cedar_evaluator_authorizer.specs.Refusals.{Reauthorizes};
     ghost use Rattle.cedar_evaluator_authorizer.specs.Responses.{response_seen};
-    ghost use Rattle.cedar_evaluator_concretizing.specs.Scopes.{scope_for, KnowsUnder};
+    ghost use Rattle.cedar_evaluator_authorizer.specs.Scopes.{scope_for, KnowsUnder};
 
     /// The response of these groups, errors and request. An id that is repeated in a group keeps its place, with what stands last under
     /// it. Answers want of memory.
@@ -441,7 +440,7 @@ impl PartialResponse {
     {
         let left = self.all_residuals(alloc)?;
         let policies = PolicySet::try_from_iter(alloc, left)?;
-        let request = auth.concretized(alloc, &self.request, mapping, es)?;
+        let request = auth.concretized(alloc, &self.request, mapping)?;
         Ok(auth.resume(alloc, request, mapping, &policies, es)?)
     }
 }

@@ -1,7 +1,8 @@
 //! Why a path gives up.
 
-use cedar_evaluator::{EvaluationError, ReauthorizationError};
+use cedar_evaluator::{ContextCreationError, EvaluationError, ReauthorizationError};
 use cedar_expr_names::NameError;
+use cedar_expr_trees::ExpressionConstructionError;
 use cedar_store_policies::PolicySetError;
 use std::alloc::{AllocError, AllocFailed};
 
@@ -60,6 +61,22 @@ impl From<ReauthorizationError> for Fault {
             Fault::OutOfMemory
         } else {
             Fault::Refused
+        }
+    }
+}
+
+impl From<ContextCreationError> for Fault {
+    fn from(error: ContextCreationError) -> Fault {
+        match error {
+            ContextCreationError::OutOfMemory => Fault::OutOfMemory,
+            ContextCreationError::Evaluation(error) => Fault::from(error),
+            ContextCreationError::ExpressionConstruction(
+                ExpressionConstructionError::OutOfMemory,
+            ) => Fault::OutOfMemory,
+            ContextCreationError::ExpressionConstruction(
+                ExpressionConstructionError::DuplicateKey(_),
+            )
+            | ContextCreationError::NotARecord(_) => Fault::Refused,
         }
     }
 }

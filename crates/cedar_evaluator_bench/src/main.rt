@@ -6,6 +6,7 @@
 #![tactic(auto)]
 
 mod conditions;
+mod contexts;
 mod fault;
 mod names;
 mod parts;
@@ -35,6 +36,8 @@ enum Path {
     Half,
     /// Policies of which each second one has an unknown are authorized, and once more when it has its value.
     Again,
+    /// A context with an unknown in each field takes their values.
+    Substituted,
 }
 
 fn main(rt: HostRuntime) -> ExitCode {
@@ -66,6 +69,7 @@ fn named(text: &str) -> Option<(Path, u32)> {
         "authorized" => Path::Authorized,
         "half" => Path::Half,
         "again" => Path::Again,
+        "substituted" => Path::Substituted,
         _ => return None,
     };
     Some((path, size))
@@ -81,5 +85,6 @@ fn run(alloc: Global, path: Path, size: u32) -> Result<usize, Fault> {
         Path::Authorized => responses::authorized(alloc, size),
         Path::Half => responses::half(alloc, size),
         Path::Again => responses::again(alloc, size),
+        Path::Substituted => contexts::substituted(alloc, size),
     }
 }

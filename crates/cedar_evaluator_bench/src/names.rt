@@ -3,7 +3,8 @@
 
 mod authorizer {
     use cedar_evaluator::authorizer::{
-        Authorizer, Decision, Diagnostics, ErrorState, PartialResponse, Response,
+        Authorizer, Decision, Diagnostics, ErrorState, EvaluationResponse, PartialResponse,
+        Response,
     };
 }
 
@@ -15,8 +16,8 @@ mod authorizer_err {
 
 mod evaluator {
     use cedar_evaluator::evaluator::{
-        Evaluator, FunctionTable, Left, V, any_entity_type, binary_arith, binary_relation,
-        unary_app,
+        Evaluator, FunctionTable, Left, RestrictedEvaluator, V, any_entity_type, binary_arith,
+        binary_relation, unary_app,
     };
 }
 
@@ -42,29 +43,33 @@ mod util {
 
 mod request {
     use cedar_evaluator::request::{
-        Context, ContextCreationError, EntityUIDEntry, NotARecord, Request, RestrictedFields,
+        Context, ContextCalls, ContextCreationError, EntityUIDEntry, Infallible, IntoIter,
+        IsInfallible, NotARecord, Request, RequestError, RequestSchema, RequestSchemaAllPass,
+        RestrictedFields, UnwrapInfallible,
     };
 }
 
 mod restricted_expr {
     use cedar_evaluator::restricted_expr::{
-        InvalidRestrictedExpressionError, PartialValueToRestrictedExprError,
-        RestrictedExpressionError,
+        BorrowedRestrictedExpr, InvalidRestrictedExpressionError,
+        PartialValueToRestrictedExprError, RestrictedElements, RestrictedExpr,
+        RestrictedExprShapeOnly, RestrictedExpressionError, RestrictedPairs,
     };
 }
 
 mod all {
     use cedar_evaluator::{
-        AuthorizationError, Authorizer, BinaryOpOverflowError, ConcretizationError, Context,
-        ContextCreationError, Decision, Diagnostics, EntityAttrDoesNotExistError,
-        EntityDoesNotExistError, EntityUIDEntry, ErrorState, EvaluationError, Evaluator, ExtTable,
-        ExtensionFunctionExecutionError, ExtensionFunctionLookupError,
-        ExtensionInitializationError, Extensions, FuncDoesNotExistError, FuncMultiplyDefinedError,
-        FunctionTable, IntegerOverflowError, InvalidRestrictedExpressionError,
-        MultipleConstructorsSameSignatureError, NonValueError, NotARecord, PartialResponse,
-        PartialValueToRestrictedExprError, ReauthorizationError, RecordAttrDoesNotExistError,
-        RecursionLimitError, Request, Response, RestrictedExpressionError, TypeError,
-        UnaryOpOverflowError, UnlinkedSlotError, WrongNumArgumentsError, any_entity_type,
-        binary_arith, binary_relation, unary_app,
+        AuthorizationError, Authorizer, BinaryOpOverflowError, BorrowedRestrictedExpr,
+        ConcretizationError, Context, ContextCalls, ContextCreationError, Decision, Diagnostics,
+        EntityAttrDoesNotExistError, EntityDoesNotExistError, EntityUIDEntry, ErrorState,
+        EvaluationError, EvaluationResponse, Evaluator, ExtTable, ExtensionFunctionExecutionError,
+        ExtensionFunctionLookupError, ExtensionInitializationError, Extensions,
+        FuncDoesNotExistError, FuncMultiplyDefinedError, FunctionTable, IntegerOverflowError,
+        InvalidRestrictedExpressionError, MultipleConstructorsSameSignatureError, NonValueError,
+        NotARecord, PartialResponse, PartialValueToRestrictedExprError, ReauthorizationError,
+        RecordAttrDoesNotExistError, RecursionLimitError, Request, RequestError, RequestSchema,
+        RequestSchemaAllPass, Response, RestrictedEvaluator, RestrictedExpr,
+        RestrictedExpressionError, TypeError, UnaryOpOverflowError, UnlinkedSlotError,
+        WrongNumArgumentsError, any_entity_type, binary_arith, binary_relation, unary_app,
     };
 }

@@ -1,15 +1,16 @@
 //! Commands on contexts, and on what restricted expressions are evaluated to.
 
-use crate::desk::{Desk, Made, Part};
+use crate::desk::{Desk, Made};
 use crate::made::{pairs, restricted};
-use crate::said::{found_value, left, made, one, put, same, say, show, tell, top, two};
+use crate::said::{found_value, left, made, put, same, two};
 use cedar_evaluator_contexts::{ContextCalls, RestrictedEvaluator};
 use cedar_evaluator_requests::Context;
 use cedar_evaluator_restricted_exprs::RestrictedExpr;
 use cedar_expr_functions::Extensions;
-use cedar_expr_partial::FromValue;
+use cedar_expr_partial::{FromValue, PartialValue};
 use cedar_expr_trees::Expr;
 use cedar_test_exprs::{value, word};
+use cedar_test_helpers::{one, say, show};
 use std::alloc::Global;
 
 // Does the command, where it is one of these: `empty`, `from_expr E`, `from_pairs a E | b E`, `let t V`, `substitute`, or one that `read`
@@ -23,7 +24,7 @@ pub fn done(
     said: &mut String,
 ) -> Made<bool> {
     let alloc = desk.alloc;
-    match verb {
+    let done = match verb {
         "empty" => put(alloc, said, &mut desk.contexts, Context::empty(alloc)),
         "from_expr" => {
             let e = restricted(alloc, rest)?;
@@ -34,39 +35,40 @@ pub fn done(
             let made = Context::from_pairs(alloc, pairs(alloc, rest)?, table);
             put(alloc, said, &mut desk.contexts, made)
         }
-        "let" => {
-            let (name, text) = two(rest);
-            desk.unknowns
-                .insert(word(alloc, name)?, value(alloc, text)?)?;
-            Ok(true)
-        }
+        "let" => bind(desk, rest),
         "substitute" => {
             let context = one(&mut desk.contexts)?;
             let made = context.substitute(alloc, &desk.unknowns, table);
             put(alloc, said, &mut desk.contexts, made)
         }
-        _ => read(desk, verb, wanted, said),
-    }
+        _ => return read(desk, verb, wanted, said),
+    };
+    done?;
+    Ok(true)
 }
 
-// Does the command, where it is one of these: `keys`, `context`, `whole`, `fields`, `same`.
+// A value for an unknown.
+fn bind(desk: &mut Desk, text: &str) -> Made<()> {
+    let (name, text) = two(text);
+    let value = value(desk.alloc, text)?;
+    desk.unknowns.insert(word(desk.alloc, name)?, value)?;
+    Ok(())
+}
+
+// Does the command, where it is one of these: `context`, `whole`, `fields`.
 fn read(desk: &mut Desk, verb: &str, wanted: &str, said: &mut String) -> Made<bool> {
     let alloc = desk.alloc;
-    match verb {
-        "keys" => show(alloc, said, &top(desk.contexts.as_slice())?.num_keys()),
-        "context" => {
-            let context = one(&mut desk.contexts)?;
-            record(alloc, said, context.into_partial_value(), wanted)
-        }
+    let done = match verb {
+        "context" => record(alloc, said, one(&mut desk.contexts)?, wanted),
         "whole" => {
-            let context = one(&mut desk.contexts)?;
-            let e = RestrictedExpr::from_context(alloc, context)?;
-            same(alloc, said, &e, wanted)
+            let e = RestrictedExpr::from_context(alloc, one(&mut desk.contexts)?);
+            made(alloc, said, e, wanted)
         }
         "fields" => fields(alloc, said, one(&mut desk.contexts)?),
-        "same" => same_contexts(desk, said),
-        _ => Ok(false),
-    }
+        _ => return Ok(false),
+    };
+    done?;
+    Ok(true)
 }
 
 // Does the command, where it is one of these: `interpret E`, `partial_interpret E`.
@@ -79,45 +81,34 @@ pub fn evaluated(
     said: &mut String,
 ) -> Made<bool> {
     let evaluator = RestrictedEvaluator::new(table);
-    match verb {
+    let done = match verb {
         "interpret" => {
             let e = restricted(alloc, rest)?;
-            found_value(
-                alloc,
-                said,
-                evaluator.interpret(alloc, e.as_borrowed()),
-                wanted,
-            )
+            let found = evaluator.interpret(alloc, e.as_borrowed());
+            found_value(alloc, said, found, wanted)
         }
         "partial_interpret" => {
             let e = restricted(alloc, rest)?;
-            left(
-                alloc,
-                said,
-                evaluator.partial_interpret(alloc, e.as_borrowed()),
-                wanted,
-            )
+            let found = evaluator.partial_interpret(alloc, e.as_borrowed());
+            left(alloc, said, found, wanted)
         }
-        _ => Ok(false),
-    }
+        _ => return Ok(false),
+    };
+    done?;
+    Ok(true)
 }
 
 // Says the record of a context, behind `value` or `residual`.
-fn record(alloc: Global, said: &mut String, found: Part, wanted: &str) -> Made<bool> {
-    say(
-        said,
-        if matches!(&found, Part::Value(_)) {
-            "value"
-        } else {
-            "residual"
-        },
-    )?;
-    let wanted = two(wanted).1;
-    made(alloc, said, Expr::from_partial_value(alloc, found), wanted)
+fn record(alloc: Global, said: &mut String, context: Context, wanted: &str) -> Made<()> {
+    let found = context.into_partial_value();
+    let is_value = matches!(&found, PartialValue::Value(_));
+    say(said, if is_value { "value" } else { "residual" })?;
+    let record = Expr::from_partial_value(alloc, found)?;
+    same(alloc, said, &record, two(wanted).1)
 }
 
 // The names of the fields, each with the number or the unknown that stands under it.
-fn fields(alloc: Global, said: &mut String, context: Context) -> Made<bool> {
+fn fields(alloc: Global, said: &mut String, context: Context) -> Made<()> {
     let fields = context.into_iter(alloc)?;
     show(alloc, said, &format!(in alloc; "{fields:?}")?)?;
     for (name, e) in fields {
@@ -129,12 +120,5 @@ fn fields(alloc: Global, said: &mut String, context: Context) -> Made<bool> {
             show(alloc, said, u)?;
         }
     }
-    Ok(true)
-}
-
-// Whether the last two contexts are equal.
-fn same_contexts(desk: &mut Desk, said: &mut String) -> Made<bool> {
-    let second = one(&mut desk.contexts)?;
-    let first = one(&mut desk.contexts)?;
-    tell(said, first.clone()? == second)
+    Ok(())
 }

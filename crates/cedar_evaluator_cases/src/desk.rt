@@ -17,13 +17,12 @@ pub type V = Value<ExtValue>;
 
 pub type Part = PartialValue<ExtValue>;
 
-/// Contexts, requests, a store, and what else is known.
+/// Contexts, a request, a store, and what else is known.
 pub struct Desk {
     pub alloc: Global,
     pub limit: u32,
     pub contexts: Vec<Context>,
-    pub entries: Vec<EntityUIDEntry>,
-    pub requests: Vec<Request>,
+    pub request: Request,
     pub unknowns: HashMap<RcStr, V>,
     pub slots: SlotEnv,
     pub known: Known,
@@ -36,8 +35,7 @@ impl Drop for Desk {
             alloc: _,
             limit: _,
             contexts: _,
-            entries: _,
-            requests: _,
+            request: _,
             unknowns: _,
             slots: _,
             known: _,
@@ -47,12 +45,12 @@ impl Drop for Desk {
 
 impl Desk {
     pub fn new(alloc: Global) -> Desk {
+        let (principal, action) = (EntityUIDEntry::unknown(), EntityUIDEntry::unknown());
         Desk {
             alloc,
             limit: 16,
             contexts: Vec::new(alloc),
-            entries: Vec::new(alloc),
-            requests: Vec::new(alloc),
+            request: Request::new_unchecked(principal, action, EntityUIDEntry::unknown(), None),
             unknowns: HashMap::new(alloc),
             slots: SlotEnv::new(),
             known: Known::new(alloc),

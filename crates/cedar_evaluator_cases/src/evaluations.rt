@@ -1,15 +1,17 @@
 //! Commands on the evaluator of a request.
 
 use crate::desk::{Desk, Made, Part};
-use crate::said::{found_value, left, say, show, top};
+use crate::said::{found_value, left};
 use cedar_evaluator_core::Evaluator;
 use cedar_evaluator_errors::EvaluationError;
 use cedar_expr_functions::Extensions;
 use cedar_expr_trees::{Expr, ExprKind};
-use cedar_test_exprs::expr;
-use std::alloc::Global;
+use cedar_test_exprs::{at, expr};
+use cedar_test_helpers::{say, show, tell};
+use std::alloc::{AllocError, Global};
+use std::rc::RcStr;
 
-// Does the command, where it is one of these: `limit 3`, `left E`, `value E`, `shown E`.
+// Does the command, where it is one of these: `limit 3`, `left E`, `value E`, `unknowns E`, `at E`, `error E`.
 pub fn done(
     desk: &mut Desk,
     table: &Extensions<'_>,
@@ -18,91 +20,119 @@ pub fn done(
     wanted: &str,
     said: &mut String,
 ) -> Made<bool> {
-    match verb {
-        "limit" => {
-            desk.limit = rest.parse::<u32>().unwrap_or(0);
-            Ok(true)
-        }
-        "left" => partly(desk, table, rest, wanted, said),
+    let done = match verb {
+        "limit" => limit(desk, rest),
+        "left" => left(desk.alloc, said, evaluated(desk, table, rest)?, wanted),
         "value" => wholly(desk, table, rest, wanted, said),
-        "shown" => shown(desk, table, rest, said),
-        _ => Ok(false),
-    }
+        "unknowns" => open(desk, table, rest, said),
+        "at" => placed(desk, table, rest, said),
+        "error" => refused(desk, table, rest, said),
+        _ => return Ok(false),
+    };
+    done?;
+    Ok(true)
 }
 
-// What is left of the expression in the last request.
+// The limit from here on.
+fn limit(desk: &mut Desk, text: &str) -> Made<()> {
+    desk.limit = text.parse::<u32>().map_err(|_| AllocError)?;
+    Ok(())
+}
+
+// What is left of the expression in the request.
 fn evaluated(
     desk: &Desk,
     table: &Extensions<'_>,
-    rest: &str,
+    text: &str,
 ) -> Made<Result<Part, EvaluationError>> {
     let alloc = desk.alloc;
-    let e = expr(alloc, rest)?;
-    let request = top(desk.requests.as_slice())?.clone()?;
+    let e = expr(alloc, text)?;
+    let request = desk.request.clone()?;
     let evaluator = Evaluator::new(request, &desk.known.store, table, desk.limit);
     let evaluator = evaluator.with_unknowns(&desk.unknowns);
     Ok(evaluator.partial_interpret(alloc, &e, &desk.slots))
 }
 
-// Says what is left of the expression.
-fn partly(
-    desk: &Desk,
-    table: &Extensions<'_>,
-    rest: &str,
-    wanted: &str,
-    said: &mut String,
-) -> Made<bool> {
-    left(desk.alloc, said, evaluated(desk, table, rest)?, wanted)
-}
-
-// Says the value of the expression in the last request.
+// Says the value of the expression in the request.
 fn wholly(
     desk: &Desk,
     table: &Extensions<'_>,
-    rest: &str,
+    text: &str,
     wanted: &str,
     said: &mut String,
-) -> Made<bool> {
+) -> Made<()> {
     let alloc = desk.alloc;
-    let e = expr(alloc, rest)?;
-    let request = top(desk.requests.as_slice())?.clone()?;
+    let e = expr(alloc, text)?;
+    let request = desk.request.clone()?;
     let evaluator = Evaluator::new(request, &desk.known.store, table, desk.limit);
-    found_value(
-        alloc,
-        said,
-        evaluator.interpret(alloc, &e, &desk.slots),
-        wanted,
-    )
+    let found = evaluator.interpret(alloc, &e, &desk.slots);
+    found_value(alloc, said, found, wanted)
 }
 
-// Says how the expression is shown that is left.
-fn shown(desk: &Desk, table: &Extensions<'_>, rest: &str, said: &mut String) -> Made<bool> {
-    match evaluated(desk, table, rest)? {
-        Ok(Part::Residual(e)) => show_expr(desk.alloc, said, &e),
+// Says the place of what is left, or of the error.
+fn placed(desk: &Desk, table: &Extensions<'_>, text: &str, said: &mut String) -> Made<()> {
+    let place = match evaluated(desk, table, text)? {
+        Ok(Part::Value(v)) => v.source_loc(),
+        Ok(Part::Residual(e)) => e.source_loc(),
+        Err(error) => error.source_loc(),
+    };
+    at(desk.alloc, said, place)
+}
+
+// Says what a copy of the error keeps.
+fn refused(desk: &Desk, table: &Extensions<'_>, text: &str, said: &mut String) -> Made<()> {
+    match evaluated(desk, table, text)? {
+        Ok(_) => say(said, "no error"),
+        Err(error) => kept(desk.alloc, said, &error.clone()?),
+    }
+}
+
+// Says the names that are there, how many there are, and whether an attribute was asked for and the other kind is there; or the name of
+// the extension.
+fn kept(alloc: Global, said: &mut String, error: &EvaluationError) -> Made<()> {
+    match error {
+        EvaluationError::EntityAttrDoesNotExist(e) => {
+            names(said, e.available_attrs_or_tags.as_slice())?;
+            show(alloc, said, &e.total_attrs_or_tags)?;
+            tell(said, e.was_attr)?;
+            tell(said, e.exists_the_other_kind)
+        }
+        EvaluationError::RecordAttrDoesNotExist(e) => {
+            names(said, e.available_attrs.as_slice())?;
+            show(alloc, said, &e.total_attrs)
+        }
+        EvaluationError::FailedExtensionFunctionExecution(e) => {
+            say(said, e.extension_name(alloc)?.as_str())
+        }
+        _ => show(alloc, said, error),
+    }
+}
+
+// Says the names.
+fn names(said: &mut String, names: &[RcStr]) -> Made<()> {
+    for name in names {
+        say(said, name.as_str())?;
+    }
+    Ok(())
+}
+
+// Says the unknowns of what is left.
+fn open(desk: &Desk, table: &Extensions<'_>, text: &str, said: &mut String) -> Made<()> {
+    match evaluated(desk, table, text)? {
+        Ok(Part::Residual(e)) => unknowns(desk.alloc, said, &e),
         _ => say(said, "no residual"),
     }
 }
 
-// How an unknown, a literal, an operator of two operands or an attribute is shown, operands first.
-fn show_expr(alloc: Global, said: &mut String, e: &Expr) -> Made<bool> {
-    match e.expr_kind() {
-        ExprKind::Unknown(u) => {
+// Says the unknowns of an expression, each with its type where that is known.
+fn unknowns(alloc: Global, said: &mut String, e: &Expr) -> Made<()> {
+    for part in e.subexpressions(alloc)? {
+        if let ExprKind::Unknown(u) = part.expr_kind() {
             show(alloc, said, u)?;
-            match &u.type_annotation {
-                Some(ty) => show(alloc, said, ty),
-                None => Ok(true),
+            if let Some(ty) = &u.type_annotation {
+                show(alloc, said, ty)?;
             }
         }
-        ExprKind::Lit(literal) => show(alloc, said, literal),
-        ExprKind::BinaryApp { op, arg1, arg2 } => {
-            show_expr(alloc, said, arg1)?;
-            show_expr(alloc, said, arg2)?;
-            show(alloc, said, op)
-        }
-        ExprKind::GetAttr { expr, attr } => {
-            show_expr(alloc, said, expr)?;
-            say(said, attr.as_str())
-        }
-        _ => say(said, "other"),
     }
+    Ok(())
 }

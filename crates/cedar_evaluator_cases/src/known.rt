@@ -1,15 +1,17 @@
 //! Commands that make entities and a store of them.
 
 use crate::desk::{Desk, Known, Made, Part};
-use crate::said::{say, two};
+use crate::said::two;
+use cedar_expr_leaves::SlotId;
 use cedar_expr_partial::TryFromExpr;
 use cedar_expr_values::Value;
 use cedar_store_entities::{Entities, Entity};
 use cedar_test_exprs::{expr, uid, word};
 use std::alloc::{AllocError, Global};
-use std::rc::RcStr;
+use std::rc::{Rc, RcStr};
 
-// Does the command, where it is one of these: `attr age 40`, `tag spoon $t`, `above Team::all`, `entity User::a`, `store`, `partial`.
+// Does the command, where it is one of these: `attr age 40`, `tag spoon $t`, `above Team::all`, `entity User::a`, `store`, `partial`,
+// `slot User::a`, the uid that the principal's slot is bound to.
 pub fn done(desk: &mut Desk, verb: &str, rest: &str) -> Made<bool> {
     let alloc = desk.alloc;
     let known = &mut desk.known;
@@ -24,6 +26,10 @@ pub fn done(desk: &mut Desk, verb: &str, rest: &str) -> Made<bool> {
         "store" => {
             let entities = all(alloc, &mut known.entities);
             known.store = Entities::from_entities(alloc, entities).map_err(|_| AllocError)?;
+        }
+        "slot" => {
+            let bound = Rc::new(alloc, uid(alloc, rest)?)?;
+            let _before = desk.slots.insert(SlotId::principal(), bound);
         }
         "partial" => {
             let mut store = Entities::new(alloc);

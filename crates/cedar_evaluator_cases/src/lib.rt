@@ -1,6 +1,6 @@
 //! Tests of restricted expressions, contexts, requests and the evaluator, as rows of text.
 //! Contract: none; what is wanted in the rows is written by the rules.
-//! Used by nothing: the tests stand in `rows.rt`.
+//! Used by nothing: the rows stand in `tables.rt`, `kinds.rt` and `stores.rt`.
 #![tactic(auto)]
 
 #[cfg(test)]
@@ -9,6 +9,8 @@ mod contexts;
 mod desk;
 #[cfg(test)]
 mod evaluations;
+#[cfg(test)]
+mod kinds;
 #[cfg(test)]
 mod known;
 #[cfg(test)]
@@ -21,5 +23,7 @@ mod restricted;
 mod rows;
 #[cfg(test)]
 mod said;
+#[cfg(test)]
+mod stores;
 #[cfg(test)]
 mod tables;

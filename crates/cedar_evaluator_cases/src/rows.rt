@@ -43,7 +43,7 @@ fn holds(desk: &mut Desk, table: &Extensions<'_>, row: &str, said: &mut String) 
             return Err(AllocError);
         }
     }
-    Ok(said.as_str() == wanted)
+    Ok(said.trim_start() == wanted)
 }
 
 // Does the command, where it is one.

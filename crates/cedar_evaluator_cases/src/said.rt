@@ -1,49 +1,12 @@
 //! What a row comes to, said behind its command.
 
 use crate::desk::{Made, Part, V};
-use cedar_expr_names::Loc;
 use cedar_expr_partial::FromValue;
 use cedar_expr_trees::Expr;
 use cedar_test_exprs::{expr, value};
-use std::alloc::{AllocError, Global};
+use cedar_test_helpers::{say, show};
+use std::alloc::Global;
 use std::fmt::Display;
-
-// Says the text, behind a space where something stands before it.
-pub fn say(said: &mut String, text: &str) -> Made<bool> {
-    if !said.is_empty() {
-        said.push(' ')?;
-    }
-    said.push_str(text)?;
-    Ok(true)
-}
-
-// Says its text.
-pub fn show<E: Display>(alloc: Global, said: &mut String, it: &E) -> Made<bool> {
-    say(said, it.to_string(alloc)?.as_str())
-}
-
-// Says whether it is so.
-pub fn tell(said: &mut String, is_so: bool) -> Made<bool> {
-    say(said, if is_so { "yes" } else { "no" })
-}
-
-// Says where a place begins, as `@4`; where there is none, `@nowhere`.
-pub fn at(alloc: Global, said: &mut String, place: Option<Loc>) -> Made<bool> {
-    match place {
-        None => say(said, "@nowhere"),
-        Some(place) => say(said, format!(in alloc; "@{}", place.start())?.as_str()),
-    }
-}
-
-// The last of the pile.
-pub fn one<T: Drop>(pile: &mut Vec<T>) -> Made<T> {
-    pile.pop().ok_or(AllocError)
-}
-
-// The last of the pile, left there.
-pub fn top<T>(pile: &[T]) -> Made<&T> {
-    pile.last().ok_or(AllocError)
-}
 
 // What was made, laid on the pile. Says why it wasn't made.
 pub fn put<T: Drop, E: Display + Drop>(
@@ -51,18 +14,18 @@ pub fn put<T: Drop, E: Display + Drop>(
     said: &mut String,
     pile: &mut Vec<T>,
     made: Result<T, E>,
-) -> Made<bool> {
+) -> Made<()> {
     match made {
         Ok(made) => {
             pile.push(made)?;
-            Ok(true)
+            Ok(())
         }
         Err(e) => show(alloc, said, &e),
     }
 }
 
 // Says the expression that is wanted, where it is the one that was found.
-pub fn same(alloc: Global, said: &mut String, found: &Expr, wanted: &str) -> Made<bool> {
+pub fn same(alloc: Global, said: &mut String, found: &Expr, wanted: &str) -> Made<()> {
     if *found == expr(alloc, wanted)? {
         say(said, wanted)
     } else {
@@ -71,14 +34,14 @@ pub fn same(alloc: Global, said: &mut String, found: &Expr, wanted: &str) -> Mad
 }
 
 // Says the expression that is wanted, where it was made. Says why it wasn't.
-pub fn made<E: Display + Drop>(
+pub fn made<T: AsRef<Expr> + Drop, E: Display + Drop>(
     alloc: Global,
     said: &mut String,
-    found: Result<Expr, E>,
+    found: Result<T, E>,
     wanted: &str,
-) -> Made<bool> {
+) -> Made<()> {
     match found {
-        Ok(found) => same(alloc, said, &found, wanted),
+        Ok(found) => same(alloc, said, found.as_ref(), wanted),
         Err(e) => show(alloc, said, &e),
     }
 }
@@ -89,25 +52,16 @@ pub fn left<E: Display + Drop>(
     said: &mut String,
     found: Result<Part, E>,
     wanted: &str,
-) -> Made<bool> {
+) -> Made<()> {
+    let (_, wanted) = two(wanted);
     match found {
         Ok(Part::Value(v)) => {
             say(said, "value")?;
-            said_value(
-                alloc,
-                said,
-                &v,
-                wanted.strip_prefix("value ").unwrap_or(wanted),
-            )
+            said_value(alloc, said, &v, wanted)
         }
         Ok(Part::Residual(e)) => {
             say(said, "residual")?;
-            same(
-                alloc,
-                said,
-                &e,
-                wanted.strip_prefix("residual ").unwrap_or(wanted),
-            )
+            same(alloc, said, &e, wanted)
         }
         Err(e) => show(alloc, said, &e),
     }
@@ -119,7 +73,7 @@ pub fn found_value<E: Display + Drop>(
     said: &mut String,
     found: Result<V, E>,
     wanted: &str,
-) -> Made<bool> {
+) -> Made<()> {
     match found {
         Ok(v) => said_value(alloc, said, &v, wanted),
         Err(e) => show(alloc, said, &e),
@@ -127,7 +81,7 @@ pub fn found_value<E: Display + Drop>(
 }
 
 // Says the value that is wanted, where it is the one that was found; of another one the expression that it is written as.
-fn said_value(alloc: Global, said: &mut String, found: &V, wanted: &str) -> Made<bool> {
+fn said_value(alloc: Global, said: &mut String, found: &V, wanted: &str) -> Made<()> {
     match value(alloc, wanted) {
         Ok(v) if v == *found => say(said, wanted),
         _ => same(alloc, said, &Expr::from_value(alloc, found)?, wanted),

@@ -7,7 +7,9 @@ ghost use Rattle.cedar_expr_model.specs.Value.{prim, truth};
 ghost use Rattle.cedar_expr_model.specs.Table.{gives, fails};
 ghost use Rattle.cedar_expr_functions.specs.Answers.{answer, is_of_result};
 
+use crate::kinds::KINDS;
 use crate::rows::hold;
+use crate::stores::STORES;
 use cedar_expr_functions::{
     CallFault, CallStyle, Extension, ExtensionFunction, ExtensionOutputValue, Extensions, Func,
 };
@@ -44,11 +46,11 @@ fn failing(alloc: Global, extension: &str) -> Result<ExtensionOutputValue, CallF
 }
 
 const RESTRICTED: &str = r##"# literals, unknowns, calls, sets and records alone are restricted
-restricted 1 : yes
-restricted $t:Bool : yes
-restricted "a call=yes/1 : yes
-restricted 1 true set=2 $t record=a,b : yes
-borrowed 1 true set=2 $t record=a,b : yes
+restricted 1 : done
+restricted $t:Bool : done
+restricted "a call=yes/1 : done
+restricted 1 true set=2 $t record=a,b : done
+borrowed 1 true set=2 $t record=a,b : done
 restricted principal : not allowed to use variables in a restricted expression
 borrowed context : not allowed to use variables in a restricted expression
 restricted ?principal : not allowed to use template slots in a restricted expression
@@ -82,33 +84,22 @@ part true ! principal set=2 : true !
 part 1 ?resource call=f/2 : ?resource
 part principal .a : principal .a
 part 1 : nothing is refused
-# readers
-read true : truth
-read false : untruth
-read -5 : -5
-read "hi : hi
-read User::a : User::"a"
-read $t : unknown("t")
-read 1 $t true set=3 : set 1 unknown("t") other
-read 2 1 record=b,a : record a 1 b 2
-read 1 $t call=f/2 : call f 1 unknown("t")
-read set=0 : set
 # the type that an expression shows
 type 1 : long
 type $t : none
 type $t:Bool : bool
 type "a call=yes/1 : bool
 type 1 set=1 : set
-# shapes, copies and places
-shape 1@4 set=1@3 | 1 set=1 : yes
-shape 1 | 2 : no
+# copies
 copy 1@4 set=1@3 : yes yes @3
-place 1@4 : @nowhere
 # made of parts
 set 1 | $t : 1 $t set=2
 set  : set=0
 record b 1 | a $t : $t 1 record=a,b
-record foo 1 | foo 1 : duplicate key `foo` in record literal
+record foo 37 | foo "hello : duplicate key `foo` in record literal
+record foo 37 | foo 101 : duplicate key `foo` in record literal
+record foo 37 | foo 37 : duplicate key `foo` in record literal
+record bar -3 | foo 37 | spam "eggs | foo 37 | eggs "spam : duplicate key `foo` in record literal
 record a 1 | b 2 | a 3 | b 4 : duplicate key `a` in record literal
 call f | 1 | true : 1 true call=f/2
 of_value 1 2 set=2 "x record=a,b : 1 2 set=2 "x record=a,b
@@ -121,13 +112,11 @@ of_left $t principal set=2 : residual is not a valid restricted expression
 "##;
 
 const CONTEXTS: &str = r##"# contexts are records
-empty ; keys : 0
 empty ; context : value record=
 empty ; fields : IntoIter(<context>)
 from_expr 1 : expression is not a record
 from_expr "a call=yes/1 : expression is not a record
 from_expr $t : expression is not a record
-from_expr 2 1 record=b,a ; keys : 2
 from_expr 2 1 record=b,a ; context : value 1 2 record=a,b
 from_expr 2 $t record=b,a ; context : residual $t 2 record=a,b
 from_expr 2 $t record=b,a ; whole : $t 2 record=a,b
@@ -140,13 +129,13 @@ from_expr "a call=none/1 record=a : extension function `none` does not exist
 from_expr "a call=fail/1 record=a : error while evaluating `rank` extension function: no
 from_expr 1 call=yes/1 record=a : type error: expected string, got long
 from_expr call=yes/0 record=a : wrong number of arguments provided to extension function `yes`: expected 1, got 0
-from_expr 1 record=a ; from_expr 1 record=a ; same : yes
-from_expr 1 record=a ; from_expr $t record=a ; same : no
 # of pairs
 from_pairs b 2 | a $t ; context : residual $t 2 record=a,b
 from_pairs foo 1 | foo 1 : duplicate key `foo` in context
+from_pairs foo 1 | bar $t | foo "x : duplicate key `foo` in context
 from_pairs a "x call=fail/1 : error while evaluating `rank` extension function: no
-from_pairs  ; keys : 0
+from_pairs a $t | b 1 call=yes/1 : type error: expected string, got long
+from_pairs  ; context : value record=
 # values in the place of unknowns
 let t 3 ; from_expr 2 $t record=b,a ; substitute ; context : value 3 2 record=a,b
 from_expr 2 $t $u record=b,a,c ; substitute ; context : residual 3 2 $u record=a,b,c
@@ -155,6 +144,7 @@ from_expr $t:Bool record=a ; substitute ; context : value 3 record=a
 - a context of values stays as it is
 from_expr 1 record=a ; substitute ; context : value 1 record=a
 from_expr $t call=yes/1 record=a ; substitute : type error: expected string, got long
+from_expr $t call=none/1 record=a ; substitute : extension function `none` does not exist
 # restricted expressions are evaluated
 interpret 2 1 2 set=3 : 1 2 set=2
 interpret "a call=yes/1 : true
@@ -164,71 +154,13 @@ partial_interpret "a call=yes/1 $t set=2 : residual true $t set=2
 partial_interpret "a call=yes/1 set=1 : value true set=1
 "##;
 
-const REQUESTS: &str = r##"# entries of requests
-known User::a ; entry principal : value User::a
-known User::a ; entry_of : User::"a" User @4
-own User::a ; entry_of : User::"a" User @nowhere
-unknown ; entry action : residual $action
-unknown ; entry_of : @nowhere
-unknown User ; entry_of : User @nowhere
+const REQUESTS: &str = r##"# what the variables of requests are
+variable principal User::a : value User::a
+variable action ? : residual $action
 # requests
-empty ; new any User::a Action::view Doc::d ; kind : User Action::"view" Doc
-empty ; new all User::a Action::view Doc::d ; request : User::"a" User @nowhere Action::"view" Action @nowhere Doc::"d" Doc @nowhere 0
-known User::a ; known Action::view ; unknown ; empty ; new_open ; kind : none
-unknown User ; unknown ; unknown ; empty ; new_open ; request : User @nowhere @nowhere @nowhere 0
-known User::a ; known Action::view ; known Doc::d ; new_open : 7
-known User::a ; known Action::view ; known Doc::d ; unchecked ; request : User::"a" User @4 Action::"view" Action @4 Doc::"d" Doc @4 unknown
-asked : yes no
-"##;
-
-const EVALUATED: &str = r##"# the root has depth 1
-known User::a ; known Action::view ; known Doc::d ; empty ; unchecked
-limit 3 ; value $t ! ! : the expression contains unknown(s)
-limit 2 ; value true ! ! : recursion limit reached
-limit 3 ; value true ! ! : true
-limit 0 ; value true : recursion limit reached
-# what of an unknown principal is decided by its type
-unknown User ; known Action::view ; known Doc::d ; empty ; unchecked
-left principal is=Doc : value false
-left principal is=User : value true
-left principal Doc::d == : value false
-shown principal User::b == : unknown("principal") (entity of type `User`) User::"b" ==
-left Doc::d principal == : value false
-# `true && u` stays
-known User::a ; known Action::view ; known Doc::d ; empty ; unchecked
-left true $u && : residual true $u &&
-left $u true && : residual $u true &&
-left false $u || : residual false $u ||
-left $u 1 true + && : residual $u 1 true + &&
-left true 1 && : type error: expected bool, got long
-left $u $v 1 true + if : residual $u $v 1 true + if
-left false $u && : value false
-left true $u || : value true
-let u true ; left true $u && : value true
-# attributes that are unknown
-known E::parent ; known Action::view ; known E::e ; empty ; unchecked
-attr child E::e ; entity E::parent ; attr foo $u ; entity E::e ; store
-left E::parent has=child.foo : value true
-left E::parent has=child.missing : value false
-left E::e .foo : residual $u
-left E::parent .child .foo : residual $u
-left E::e .gone : `E::"e"` does not have the attribute `gone`
-left E::x .foo : entity `E::"x"` does not exist
-left 1 record=a .b : record does not have the attribute `b`
-left $u 1 record=a,b .b : value 1
-left $u 1 record=a,b .c : record does not have the attribute `c`
-left $u 1 record=a,b has=b : value true
-left 1 .a : type error: expected one of [record, (entity of type `any_entity_type`)], got long
-let u 3 ; left E::e .foo : value 3
-# a partial store
-known E::child ; known Action::view ; known E::parent ; empty ; unchecked
-above E::parent ; tag color "red ; entity E::child ; store ; partial
-left E::child E::parent in : value true
-shown E::x E::parent in : unknown("E::\"x\"") (entity of type `E`) E::"parent" in
-shown E::x .spoon : unknown("E::\"x\"") (entity of type `E`) spoon
-left E::child "color getTag : value "red
-left E::child "size hasTag : value false
-left E::child "size getTag : `E::"child"` does not have the tag `size`
+empty ; new User::a Action::view Doc::d ; kind : User Action::"view" Doc
+request User::a Action::view ? ; kind : none
+request User::a Action::view Doc::d ; kind : User Action::"view" Doc
 "##;
 
 // `yes` is always true, and `fail` always fails.
@@ -246,10 +178,12 @@ fn rows_hold(rt: HostRuntime) -> Result<(), Fail> {
     let func: Func = Box::new(alloc, |alloc: Global, _args: &[V]| failing(alloc, "rank"))?;
     let asked = ExtensionFunction::unary(alloc, called, style, func, Type::Bool, Type::String)?;
     functions.push(asked)?;
-    let extensions = [Extension::new(name(alloc, "rank")?, functions, Vec::new(alloc))];
+    let ordered = vec![in alloc; name(alloc, "rank")?]?;
+    let extensions = [Extension::new(name(alloc, "rank")?, functions, ordered)];
     let table = Extensions::specific_extensions(alloc, &extensions)?;
     hold(alloc, &table, RESTRICTED)?;
     hold(alloc, &table, CONTEXTS)?;
     hold(alloc, &table, REQUESTS)?;
-    Ok(hold(alloc, &table, EVALUATED)?)
+    hold(alloc, &table, KINDS)?;
+    Ok(hold(alloc, &table, STORES)?)
 }

@@ -16,8 +16,8 @@ use Rattle.cedar_expr_model.specs.Uid.{Uid}
 use Rattle.cedar_expr_model.specs.Value.{truth, long, text, entity}
 use Rattle.cedar_store_model.specs.Outcome.{wrong_type}
 use Rattle.cedar_store_model.specs.Reads.{uid_of}
-use Rattle.cedar_evaluator_model.specs.Scope.{Scope, Entry, Context, Stop, Left, value_left, stopped, fault, limit, closed, residual_fields, unknown_context}
-use Rattle.cedar_evaluator_model.specs.Reauthorize.{Outcome, makes_it, refuses, Refusal, wrong_value, known_already, other_type, and_next, entry_bound, entry_with, context_bound, context_made, context_substituted, request_bound}
+use Rattle.cedar_evaluator_model.specs.Scope.{Scope, Entry, Context, Stop, fault, limit, closed, residual_fields, unknown_context}
+use Rattle.cedar_evaluator_model.specs.Reauthorize.{Outcome, makes_it, refuses, Refusal, wrong_value, known_already, other_type, context_stops, and_next, entry_bound, entry_with, context_bound, context_substituted, request_bound}
 use Rattle.cedar_evaluator_model.specs.Response.{PartialRequest}
 use Rattle.cedar_evaluator_errors.specs.Outcomes.{is_memory, stop_or}
 use Rattle.cedar_evaluator_errors.specs.declared.err.EvaluationError.{EvaluationError}
@@ -98,16 +98,7 @@ fields_record (made_set ms) fs h = cc
 fields_record (made_record gs) fs h = let same : fs ≡ gs = cc in ap made_record (sym same)
 fields_record (made_extension n k f ps) fs h = cc
 
--- a context of these fields, and a record for an unknown context, or for a known one
-pub made_of_fields : (m : Made) (fs gs : MadeFields) → Some fs ≡ fields_in_value m → fs ≡ gs → context_made (value_left m) ≡ makes_it (closed gs)
-made_of_fields m fs gs h k = ap (λ x. context_made (value_left x)) (fields_record m fs h) ∙ ap (λ x. makes_it (closed x)) k
-
-pub no_fields : (m : Made) → None ≡ fields_in_value m → context_made (value_left m) ≡ refuses (wrong_value context)
-no_fields (made_prim p) h = refl
-no_fields (made_set ms) h = refl
-no_fields (made_record gs) h = cc
-no_fields (made_extension n k f ps) h = refl
-
+-- a record for an unknown context, or for a known one
 pub record_for_unknown : (c : Context) (fs gs : MadeFields) → c ≡ unknown_context → fs ≡ gs → context_bound c (Some (made_record fs)) ≡ makes_it (closed gs)
 record_for_unknown c fs gs h k = ap (λ x. context_bound x (Some (made_record fs))) h ∙ ap (λ x. makes_it (closed x)) k
 
@@ -118,34 +109,29 @@ record_for_known c k fs h = ap (λ x. context_bound x (Some (made_record fs))) h
     there (known.Value gs) = refl
     there (known.RestrictedResidual r) = refl
 
--- an evaluation that stopped
-two_stops : (l : Left) → ((other : Stop) → l ≡ stopped other) → ⊥
-two_stops l h = let e = sym (h limit) ∙ h (fault wrong_type) in absurd (cc)
+-- a context that isn't made, since its evaluation stopped
+two_stops : (o : Outcome Context) → ((other : Stop) → o ≡ refuses (context_stops other)) → ⊥
+two_stops o h = let e = sym (h limit) ∙ h (fault wrong_type) in absurd (cc)
 
-stop_case : (l : Left) (x : EvaluationError) → ((other : Stop) → l ≡ stopped (stop_or other x)) → (other : Refusal) → context_made l ≡ refuses (stopped_or other x)
-stop_case l evaluation.OutOfMemory h other = absurd (two_stops l h)
-stop_case l (evaluation.NonValue e) h other = absurd (two_stops l h)
-stop_case l x h other = ap context_made (h limit)
+stop_case : (o : Outcome Context) (x : EvaluationError) → ((other : Stop) → o ≡ refuses (context_stops (stop_or other x))) → (other : Refusal) → o ≡ refuses (stopped_or other x)
+stop_case o evaluation.OutOfMemory h other = absurd (two_stops o h)
+stop_case o (evaluation.NonValue e) h other = absurd (two_stops o h)
+stop_case o x h other = h limit
 
-memory_case : (l : Left) (x : EvaluationError) (b : Bool) → is_memory x ≡ b → ((other : Stop) → is_memory x ≡ false → l ≡ stopped (stop_or other x)) → (other : Refusal) → is_request_memory (as_concretization x) ≡ false → context_made l ≡ refuses (refusal_or other (as_concretization x))
-memory_case l x true m h other k =
+memory_case : (o : Outcome Context) (x : EvaluationError) (b : Bool) → is_memory x ≡ b → ((other : Stop) → is_memory x ≡ false → o ≡ refuses (context_stops (stop_or other x))) → (other : Refusal) → is_request_memory (as_concretization x) ≡ false → o ≡ refuses (refusal_or other (as_concretization x))
+memory_case o x true m h other k =
     let t : is_request_memory (as_concretization x) ≡ true = ap (λ b. is_request_memory (if b then OutOfMemory else ValueEval x)) m in
     let f = sym t ∙ k in
     absurd (cc)
-memory_case l x false m h other k = stop_case l x (λ s. h s m) other ∙ sym (ap (λ b. refuses (refusal_or other (if b then OutOfMemory else ValueEval x))) m)
+memory_case o x false m h other k = stop_case o x (λ s. h s m) other ∙ sym (ap (λ b. refuses (refusal_or other (if b then OutOfMemory else ValueEval x))) m)
 
-pub stop_told : (l : Left) (x : EvaluationError) (e : ConcretizationError) → e ≡ as_concretization x → ((other : Stop) → is_memory x ≡ false → l ≡ stopped (stop_or other x)) → (other : Refusal) → is_request_memory e ≡ false → context_made l ≡ refuses (refusal_or other e)
-stop_told l x e q h other m = subst (λ y. is_request_memory y ≡ false → context_made l ≡ refuses (refusal_or other y)) (sym q) (memory_case l x (is_memory x) refl h other) m
+pub stop_told : (o : Outcome Context) (x : EvaluationError) (e : ConcretizationError) → e ≡ as_concretization x → ((other : Stop) → is_memory x ≡ false → o ≡ refuses (context_stops (stop_or other x))) → (other : Refusal) → is_request_memory e ≡ false → o ≡ refuses (refusal_or other e)
+stop_told o x e q h other m = subst (λ y. is_request_memory y ≡ false → o ≡ refuses (refusal_or other y)) (sym q) (memory_case o x (is_memory x) refl h other) m
 
 -- an error that is handed on
 pub passed : {A C : Type 0} (seen : C → A) (o : Outcome A) (e : ConcretizationError) (r : Result C ConcretizationError) → IsErrAnd r (λ y. y ≡ e) → ((other : Refusal) → is_request_memory e ≡ false → o ≡ refuses (refusal_or other e)) → Takes seen o r
 passed seen o e (Ok c) same h = absurd same
 passed seen o e (Err y) same h = λ other m. h other (subst (λ z. is_request_memory z ≡ false) same m) ∙ ap (λ z. refuses (refusal_or other z)) (sym same)
-
--- want of memory that is handed on
-pub memory_passed : {A C : Type 0} (seen : C → A) (o : Outcome A) (r : Result C ConcretizationError) → IsErrAnd r (λ y. y ≡ OutOfMemory) → Takes seen o r
-memory_passed seen o (Ok c) same = absurd same
-memory_passed seen o (Err y) same = λ other m. let t = ap is_request_memory (sym same) ∙ m in absurd (cc)
 
 -- the parts of a request, one after the other
 module _ (s : Scope) (env : Bindings) (q : PartialRequest) where

@@ -1,5 +1,1 @@
 pub mod Bound
-pub mod Opened
-pub mod Restricting
-pub mod RisesAgain
-pub mod Scoped

@@ -1,3 +1,2 @@
 pub mod Contexts
 pub mod Refusals
-pub mod Scopes

@@ -6,11 +6,11 @@ ghost use Rattle.cedar_expr_names.specs.Views.{uid_of};
 ghost use Rattle.cedar_expr_values.specs.Extensions.{extension_of};
 ghost use Rattle.cedar_expr_values.specs.Values.{made};
 ghost use Rattle.cedar_evaluator_model.specs.Reauthorize.{Refusal, entry_bound, entry_with, known_already, other_type, request_bound, wrong_value};
-ghost use Rattle.cedar_evaluator_operators.specs.Calls.{Functions};
+ghost use Rattle.cedar_evaluator_model.specs.Scope.{Scope};
+ghost use Rattle.cedar_evaluator_contexts.specs.Functions.{HasFunctionsOf};
 ghost use Rattle.cedar_evaluator_reads.specs.Scopes.{values_in};
 ghost use Rattle.cedar_evaluator_requests.specs.Views.{entry_of, name_of_var, request_of};
 ghost use Rattle.cedar_evaluator_concretizing.specs.Refusals.{refusal_or, Takes};
-ghost use Rattle.cedar_evaluator_concretizing.specs.Scopes.{scope_for, KnowsUnder};
 
 use crate::contexts::{context_now, value_for};
 use crate::err::ConcretizationError;
@@ -21,26 +21,24 @@ use cedar_evaluator_requests::entry::variable_name;
 use cedar_evaluator_requests::{EntityUIDEntry, Request};
 use cedar_expr_leaves::Var;
 use cedar_expr_names::{EntityType, EntityUID};
-use cedar_store_entities::Entities;
 use std::alloc::{AllocError, Global};
 use std::collections::HashMap;
 use std::rc::RcStr;
 
 /// The request with these values for what is unknown in it, by their names: its entries take theirs, and its context takes a value of its
-/// own, or has those of its unknowns put in and is evaluated. Refuses what `ConcretizationError` tells.
+/// own, or has those of its unknowns put in and is evaluated by the functions of the table. Refuses what `ConcretizationError` tells.
 pub fn concretized<T: FunctionTable>(
     alloc: Global,
     table: &T,
-    entities: &Entities,
     request: &Request,
     mapping: &HashMap<RcStr, V>,
 ) -> Result<Request, ConcretizationError>
-    ensures { (fs : Functions) → KnowsUnder T.table T.answers_as table.now (values_in mapping.now) (request_of request.now) entities.now fs → Takes request_of (request_bound (scope_for T.table table.now (request_of request.now) entities.now fs) (values_in mapping.now) (request_of request.now)) result }
+    ensures { (s : Scope) → HasFunctionsOf T.table T.answers_as table.now s → Takes request_of (request_bound s (values_in mapping.now) (request_of request.now)) result }
 {
     let principal = entry_for(alloc, Var::Principal, request.principal(), mapping)?;
     let action = entry_for(alloc, Var::Action, request.action(), mapping)?;
     let resource = entry_for(alloc, Var::Resource, request.resource(), mapping)?;
-    let context = context_now(alloc, table, entities, request, mapping)?;
+    let context = context_now(alloc, table, request, mapping)?;
     Ok(Request::new_unchecked(principal, action, resource, context))
 }
 

@@ -1,6 +1,6 @@
 //! The evaluation of restricted expressions, the calls of contexts that stand on it, and the plain record of an evaluation.
 //! Contract: `ContextCalls::substitute`: what comes of a context is what the model's `context_substituted` makes of it.
-//! Used by the rows of `cedar_evaluator_cases`.
+//! Used by requests that take values (`cedar_evaluator_concretizing`).
 #![tactic(auto)]
 
 mod contexts;

@@ -4,3 +4,4 @@ pub mod Named
 pub mod Nodes
 pub mod OneLevel
 pub mod Concluded
+pub mod Stood

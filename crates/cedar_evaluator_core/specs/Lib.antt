@@ -1,3 +1,4 @@
+pub mod Completed
 pub mod Gathered
 pub mod Walked
 pub mod Evaluators

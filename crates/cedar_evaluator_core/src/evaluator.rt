@@ -17,6 +17,8 @@ ghost use Rattle.cedar_evaluator_errors.specs.Outcomes.{Leaves};
 ghost use Rattle.cedar_evaluator_requests.specs.Views.{request_of};
 ghost use Rattle.cedar_evaluator_operators.specs.Calls.{Functions};
 ghost use Rattle.cedar_evaluator_reads.specs.Scopes.{values_in};
+ghost use Rattle.cedar_store_model.specs.World.{World};
+ghost use Rattle.cedar_evaluator_core.specs.Completed.{IsCompletion, StandsIn, IsWithin, IsOutcomeIn};
 ghost use Rattle.cedar_evaluator_core.specs.Evaluators.{asked_of, bound_in, entities_in, table_in, limit_of, scope_in, Serves, IsValueOf, IsTruthOf, IsVerdict, IsMeaningOf, IsClosed, is_limit_error};
 
 use crate::outcomes::{truth_of, value_of, verdict_of};
@@ -82,8 +84,9 @@ impl<'a, T: FunctionTable> Evaluator<'a, T> {
         }
     }
 
-    /// What is left of the expression where the slots are bound so: a value or a residual. Where nothing is unknown the limit isn't met by
-    /// an expression that nests within it.
+    /// What is left of the expression where the slots are bound so: a value or a residual. In every completion it stands for the
+    /// expression. An outcome that what is known as values gives an expression within the limit is answered, whatever else is unknown; and
+    /// where nothing is unknown such an expression doesn't meet the limit.
     pub fn partial_interpret(
         &'a self,
         alloc: Global,
@@ -92,6 +95,8 @@ impl<'a, T: FunctionTable> Evaluator<'a, T> {
     ) -> Result<Left, EvaluationError>
         ensures left { (fs : Functions) → Serves T.table T.answers_as self.now (bindings_of slots.now) fs → Leaves (evaluated (scope_in T.table fs self.now (bindings_of slots.now)) (limit_of self.now) (tree_of e.now)) result }
         ensures no_limit { (fs : Functions) → Serves T.table T.answers_as self.now (bindings_of slots.now) fs → IsClosed (scope_in T.table fs self.now (bindings_of slots.now)) (limit_of self.now) (tree_of e.now) → IfErr result (λ x. is_limit_error x ≡ false) }
+        ensures stands { (fs : Functions) → Serves T.table T.answers_as self.now (bindings_of slots.now) fs → (w : World) → IsCompletion w (scope_in T.table fs self.now (bindings_of slots.now)) (tree_of e.now) → StandsIn w (tree_of e.now) result }
+        ensures owed { (fs : Functions) → Serves T.table T.answers_as self.now (bindings_of slots.now) fs → IsWithin (scope_in T.table fs self.now (bindings_of slots.now)) (limit_of self.now) (tree_of e.now) → (r : Res ModelValue) → Means (known_world (scope_in T.table fs self.now (bindings_of slots.now))) (tree_of e.now) r → IsOutcomeIn r result }
     {
         let known = Knowledge {
             request: &self.request,

@@ -5,8 +5,10 @@ ghost use Rattle.std.specs.Map.{values_of};
 ghost use Rattle.std.specs.Rc.{rc_str_bytes};
 ghost use Rattle.cedar_expr_model.specs.Builder.{trees, tree_fields};
 ghost use Rattle.cedar_expr_model.specs.Parts.{listed, listed_fields};
-ghost use Rattle.cedar_expr_model.specs.Tree.{choice, both, either, get_attr, call, set_literal, record_literal};
-ghost use Rattle.cedar_expr_names.specs.Views.{plain_name_of};
+ghost use Rattle.cedar_expr_leaves.specs.Operators.{unary_op_of, binary_op_of};
+ghost use Rattle.cedar_expr_leaves.specs.Patterns.{pattern_of};
+ghost use Rattle.cedar_expr_model.specs.Tree.{choice, both, either, unary, binary, like, is_type, has_attr, has_path, get_attr, call, set_literal, record_literal};
+ghost use Rattle.cedar_expr_names.specs.Views.{plain_name_of, type_name_of};
 ghost use Rattle.cedar_expr_trees.specs.Trees.{tree_of, kind_tree, named, field_trees};
 ghost use Rattle.cedar_evaluator_core.specs.Walked.{LeavesWithin, LeavesLevel, LeavesField, BestWithin, PiecesWithin};
 
@@ -26,12 +28,13 @@ use cedar_evaluator_reads::leaves::{literal_value, truth};
 use cedar_evaluator_reads::missing::no_such_field;
 use cedar_evaluator_reads::seen::{field_expr, record_of};
 use cedar_evaluator_reads::{Knowledge, Left};
-use cedar_expr_names::{Loc, Name};
+use cedar_expr_leaves::{BinaryOp, NonEmpty, Pattern, UnaryOp};
+use cedar_expr_names::{EntityType, Loc, Name};
 use cedar_expr_partial::PartialValue;
 use cedar_expr_trees::{Expr, ExprKind};
 use std::alloc::Global;
 use std::collections::BTreeMap;
-use std::rc::RcStr;
+use std::rc::{Rc, RcStr};
 
 /// What is left of the expression, which may nest as deep as the limit. What is left takes the expression's place, and so does an error
 /// without a place. Errors: those of the steps, and `RecursionLimit`.
@@ -77,38 +80,115 @@ fn level<T: FunctionTable>(
         } => choice(alloc, known, deeper, test_expr, then_expr, else_expr),
         ExprKind::And { left, right } => both(alloc, known, deeper, left, right),
         ExprKind::Or { left, right } => either(alloc, known, deeper, left, right),
-        ExprKind::UnaryApp { op, arg } => {
-            let arg = walk(alloc, known, deeper, arg)?;
-            unary_left(alloc, *op, arg, loc)
-        }
-        ExprKind::Like { expr, pattern } => {
-            let arg = walk(alloc, known, deeper, expr)?;
-            like_left(alloc, arg, pattern)
-        }
-        ExprKind::Is { expr, entity_type } => {
-            let arg = walk(alloc, known, deeper, expr)?;
-            is_left(alloc, arg, entity_type)
-        }
+        ExprKind::UnaryApp { op, arg } => unary(alloc, known, deeper, *op, arg, loc),
+        ExprKind::Like { expr, pattern } => like(alloc, known, deeper, expr, pattern),
+        ExprKind::Is { expr, entity_type } => is_type(alloc, known, deeper, expr, entity_type),
         ExprKind::BinaryApp { op, arg1, arg2 } => {
-            let first = walk(alloc, known, deeper, arg1)?;
-            let second = walk(alloc, known, deeper, arg2)?;
-            binary_left(alloc, known, *op, first, second, loc)
+            binary(alloc, known, deeper, *op, arg1, arg2, loc)
         }
         ExprKind::ExtensionFunctionApp { fn_name, args } => {
             called(alloc, known, deeper, fn_name, args.as_slice())
         }
         ExprKind::GetAttr { expr, attr } => attribute(alloc, known, deeper, expr, attr),
-        ExprKind::HasAttr { expr, attr } => {
-            let arg = walk(alloc, known, deeper, expr)?;
-            tested(alloc, known, arg, attr)
-        }
-        ExprKind::ExtHasAttr { expr, attrs } => {
-            let arg = walk(alloc, known, deeper, expr)?;
-            known.path_left(alloc, arg, attrs)
-        }
+        ExprKind::HasAttr { expr, attr } => has_attr(alloc, known, deeper, expr, attr),
+        ExprKind::ExtHasAttr { expr, attrs } => has_path(alloc, known, deeper, expr, attrs),
         ExprKind::Set(members) => set(alloc, known, deeper, members.as_slice()),
         ExprKind::Record(fields) => record(alloc, known, deeper, fields),
     }
+}
+
+// An operator of one operand.
+#[cycle(walk)]
+fn unary<T: FunctionTable>(
+    alloc: Global,
+    known: &Knowledge<'_, T>,
+    deeper: u32,
+    op: UnaryOp,
+    arg: &Expr,
+    loc: Option<Loc>,
+) -> Result<Left, EvaluationError>
+    ensures { LeavesLevel T.table T.answers_as known.now deeper (unary (unary_op_of op) (tree_of arg.now)) result }
+{
+    let arg = walk(alloc, known, deeper, arg)?;
+    unary_left(alloc, op, arg, loc)
+}
+
+// A pattern.
+#[cycle(walk)]
+fn like<T: FunctionTable>(
+    alloc: Global,
+    known: &Knowledge<'_, T>,
+    deeper: u32,
+    arg: &Expr,
+    pattern: &Pattern,
+) -> Result<Left, EvaluationError>
+    ensures { LeavesLevel T.table T.answers_as known.now deeper (like (tree_of arg.now) (pattern_of pattern.now)) result }
+{
+    let arg = walk(alloc, known, deeper, arg)?;
+    like_left(alloc, arg, pattern)
+}
+
+// A test of the entity type.
+#[cycle(walk)]
+fn is_type<T: FunctionTable>(
+    alloc: Global,
+    known: &Knowledge<'_, T>,
+    deeper: u32,
+    arg: &Expr,
+    kind: &EntityType,
+) -> Result<Left, EvaluationError>
+    ensures { LeavesLevel T.table T.answers_as known.now deeper (is_type (tree_of arg.now) (type_name_of kind.now)) result }
+{
+    let arg = walk(alloc, known, deeper, arg)?;
+    is_left(alloc, arg, kind)
+}
+
+// An operator of two operands.
+#[cycle(walk)]
+fn binary<T: FunctionTable>(
+    alloc: Global,
+    known: &Knowledge<'_, T>,
+    deeper: u32,
+    op: BinaryOp,
+    first: &Expr,
+    second: &Expr,
+    loc: Option<Loc>,
+) -> Result<Left, EvaluationError>
+    ensures { LeavesLevel T.table T.answers_as known.now deeper (binary (binary_op_of op) (tree_of first.now) (tree_of second.now)) result }
+{
+    let first = walk(alloc, known, deeper, first)?;
+    let second = walk(alloc, known, deeper, second)?;
+    binary_left(alloc, known, op, first, second, loc)
+}
+
+// The presence of an attribute.
+#[cycle(walk)]
+fn has_attr<T: FunctionTable>(
+    alloc: Global,
+    known: &Knowledge<'_, T>,
+    deeper: u32,
+    arg: &Expr,
+    attr: &RcStr,
+) -> Result<Left, EvaluationError>
+    ensures { LeavesLevel T.table T.answers_as known.now deeper (has_attr (tree_of arg.now) (rc_str_bytes attr.now)) result }
+{
+    let arg = walk(alloc, known, deeper, arg)?;
+    tested(alloc, known, arg, attr)
+}
+
+// The presence of a path of attributes.
+#[cycle(walk)]
+fn has_path<T: FunctionTable>(
+    alloc: Global,
+    known: &Knowledge<'_, T>,
+    deeper: u32,
+    arg: &Expr,
+    attrs: &Rc<NonEmpty<RcStr>>,
+) -> Result<Left, EvaluationError>
+    ensures { LeavesLevel T.table T.answers_as known.now deeper (has_path (tree_of arg.now) (rc_str_bytes attrs.now.value.head) (map rc_str_bytes attrs.now.value.tail.items)) result }
+{
+    let arg = walk(alloc, known, deeper, arg)?;
+    known.path_left(alloc, arg, attrs)
 }
 
 // `if`.

@@ -2,6 +2,7 @@
 
 ghost use Rattle.std.specs.Prelude.{◌≡◌};
 ghost use Rattle.cedar_evaluator_model.specs.Scope.{Stop};
+ghost use Rattle.cedar_evaluator_errors.specs.Contents.{IsSameError};
 ghost use Rattle.cedar_evaluator_errors.specs.Outcomes.{is_memory, stop_or};
 ghost use Rattle.cedar_evaluator_errors.specs.Places.{error_place, error_moved, error_placed};
 ghost use Rattle.cedar_evaluator_errors.specs.declared.err.EvaluationError.TheVariants.{OutOfMemory};
@@ -9,8 +10,7 @@ ghost use Rattle.cedar_evaluator_errors.specs.declared.err.EvaluationError.TheVa
 use crate::evaluation_errors::{
     EntityAttrDoesNotExistError, EntityDoesNotExistError, ExtensionFunctionExecutionError,
     IntegerOverflowError, NonValueError, RecordAttrDoesNotExistError, RecursionLimitError,
-    TypeError, UnlinkedSlotError, WrongNumArgumentsError, is_lookup_memory, lookup_at,
-    lookup_copied, lookup_loc,
+    TypeError, UnlinkedSlotError, WrongNumArgumentsError, is_lookup_memory, lookup_at, lookup_loc,
 };
 use cedar_expr_functions::ExtensionFunctionLookupError;
 use cedar_expr_names::Loc;
@@ -70,6 +70,9 @@ pub enum EvaluationError {
 }
 
 impl Clone for EvaluationError {
+    ghost is_clone = { IsSameError };
+
+    #[tactic(auto, using(crate::proofs::Copied::texts_copied))]
     fn clone(&self) -> Result<EvaluationError, AllocError> {
         match self {
             EvaluationError::OutOfMemory => Ok(EvaluationError::OutOfMemory),
@@ -83,7 +86,7 @@ impl Clone for EvaluationError {
                 EvaluationError::RecordAttrDoesNotExist(e.clone()?),
             ),
             EvaluationError::FailedExtensionFunctionLookup(e) => Ok(
-                EvaluationError::FailedExtensionFunctionLookup(lookup_copied(e)?),
+                EvaluationError::FailedExtensionFunctionLookup(e.clone()?),
             ),
             EvaluationError::TypeError(e) => Ok(EvaluationError::TypeError(e.clone()?)),
             EvaluationError::WrongNumArguments(e) => Ok(EvaluationError::WrongNumArguments(

@@ -81,6 +81,11 @@ pub struct TypeError {
 }
 
 impl Clone for TypeError {
+    ghost use Rattle.cedar_evaluator_errors.specs.Contents.{told_of_type};
+
+    ghost is_clone = { λ e copy. (told_of_type copy ≡ told_of_type e) × (copy.source_loc ≡ e.source_loc) };
+
+    #[tactic(auto, using(crate::proofs::Copied::types_copied))]
     fn clone(&self) -> Result<TypeError, AllocError> {
         let head = self.expected.head.clone()?;
         let tail = self.expected.tail.clone()?;
@@ -173,7 +178,7 @@ impl Display for UnaryOpOverflowError {
 }
 
 /// An operator's result isn't a whole number of 64 bits.
-#[derive(Debug, Clone, PartialEq, Eq, Drop, Error)]
+#[derive(Debug, PartialEq, Eq, Drop, Error)]
 pub enum IntegerOverflowError {
     /// Of an operator of two operands.
     #[error(transparent)]
@@ -182,6 +187,20 @@ pub enum IntegerOverflowError {
     /// Of an operator of one operand.
     #[error(transparent)]
     UnaryOp(UnaryOpOverflowError),
+}
+
+impl Clone for IntegerOverflowError {
+    ghost use Rattle.cedar_evaluator_errors.specs.Contents.{told_of_overflow};
+    ghost use Rattle.cedar_evaluator_errors.specs.Places.{overflow_place};
+
+    ghost is_clone = { λ e copy. (told_of_overflow copy ≡ told_of_overflow e) × (overflow_place copy ≡ overflow_place e) };
+
+    fn clone(&self) -> Result<IntegerOverflowError, AllocError> {
+        match self {
+            IntegerOverflowError::BinaryOp(e) => Ok(IntegerOverflowError::BinaryOp(e.clone()?)),
+            IntegerOverflowError::UnaryOp(e) => Ok(IntegerOverflowError::UnaryOp(e.clone()?)),
+        }
+    }
 }
 
 impl From<BinaryOpOverflowError> for IntegerOverflowError {
@@ -325,21 +344,6 @@ pub(crate) fn lookup_at(
             let name = e.name;
             let e = FuncDoesNotExistError { name, source_loc };
             ExtensionFunctionLookupError::FuncDoesNotExist(e)
-        }
-    }
-}
-
-// A copy of a look-up that failed.
-pub(crate) fn lookup_copied(
-    error: &ExtensionFunctionLookupError,
-) -> Result<ExtensionFunctionLookupError, AllocError> {
-    match error {
-        ExtensionFunctionLookupError::OutOfMemory => Ok(ExtensionFunctionLookupError::OutOfMemory),
-        ExtensionFunctionLookupError::FuncDoesNotExist(e) => {
-            let name = e.name.clone()?;
-            let source_loc = e.source_loc;
-            let e = FuncDoesNotExistError { name, source_loc };
-            Ok(ExtensionFunctionLookupError::FuncDoesNotExist(e))
         }
     }
 }

@@ -1,3 +1,4 @@
+pub mod Copies
 pub mod Fields
 pub mod Infallible
 pub mod Kinds

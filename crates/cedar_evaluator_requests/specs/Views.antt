@@ -21,6 +21,7 @@ use Rattle.cedar_evaluator_model.specs.Scope.{Entry}
 use Rattle.cedar_evaluator_model.specs.Response.{PartialRequest, ResponseError}
 use Rattle.cedar_evaluator_model.specs.Members.{Concrete}
 use Rattle.cedar_evaluator_errors.specs.Outcomes.{cause_of}
+use Rattle.cedar_evaluator_errors.specs.declared.err.EvaluationError.{EvaluationError}
 use Rattle.cedar_evaluator_requests.specs.Fields.{fields_in, fields_tree}
 use Rattle.cedar_evaluator_requests.specs.declared.entry.EntityUIDEntry.{EntityUIDEntry}
 use Rattle.cedar_evaluator_requests.specs.declared.entry.EntityUIDEntry.TheVariants as entry
@@ -97,6 +98,10 @@ decision_of Deny = model.deny
 
 abbrev pub error_of : AuthorizationError → ResponseError
 error_of (PolicyEvaluationError i e) = record { id = id_text i; cause = cause_of e }
+
+-- the error of evaluation that an error of a policy tells
+abbrev pub error_in : AuthorizationError → EvaluationError
+error_in (PolicyEvaluationError i e) = e
 
 abbrev pub answer_of : Response → Concrete
 answer_of r = record { decision = decision_of r.decision; reasons = map id_text r.diagnostics.reason.keys; errors = map error_of r.diagnostics.errors.items }

@@ -2,11 +2,13 @@
 
 ghost use Rattle.std.specs.Prelude.{◌≡◌, map};
 ghost use Rattle.cedar_store_parts.specs.Parts.{id_text};
+ghost use Rattle.cedar_evaluator_requests.specs.Copies.{IsSamePolicyError};
 ghost use Rattle.cedar_evaluator_requests.specs.Views.{decision_of, error_of, answer_of};
 
 use cedar_evaluator_errors::EvaluationError;
 use cedar_store_parts::PolicyID;
 use indexmap::IndexSet;
+use std::alloc::AllocError;
 use thiserror::Error;
 
 /// A decision.
@@ -19,7 +21,7 @@ pub enum Decision {
 }
 
 /// What went wrong with a policy.
-#[derive(Debug, Clone, PartialEq, Eq, Drop, Error)]
+#[derive(Debug, PartialEq, Eq, Drop, Error)]
 pub enum AuthorizationError {
     /// Its condition didn't evaluate.
     #[error("while evaluating policy `{id}`: {error}")]
@@ -29,6 +31,20 @@ pub enum AuthorizationError {
         /// What went wrong.
         error: EvaluationError,
     },
+}
+
+impl Clone for AuthorizationError {
+    ghost is_clone = { IsSamePolicyError };
+
+    fn clone(&self) -> Result<AuthorizationError, AllocError> {
+        match self {
+            AuthorizationError::PolicyEvaluationError { id, error } => {
+                let id = id.clone()?;
+                let error = error.clone()?;
+                Ok(AuthorizationError::PolicyEvaluationError { id, error })
+            }
+        }
+    }
 }
 
 /// Why a decision was made.

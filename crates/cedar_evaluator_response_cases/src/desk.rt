@@ -7,7 +7,7 @@ use cedar_expr_partial::PartialValue;
 use cedar_expr_trees::Expr;
 use cedar_expr_values::{ExtValue, Value};
 use cedar_store_entities::{Entities, Entity};
-use cedar_store_policies::{Annotations, Policy, PolicyID, SlotEnv};
+use cedar_store_policies::{Annotations, Policy, PolicyID};
 use std::alloc::{AllocError, Global};
 use std::collections::HashMap;
 use std::rc::{Rc, RcStr};
@@ -30,7 +30,6 @@ pub struct Desk {
     pub groups: Groups,
     pub policies: Vec<Policy>,
     pub limit: u32,
-    pub slots: SlotEnv,
     pub responses: Vec<PartialResponse>,
 }
 
@@ -42,7 +41,6 @@ impl Drop for Desk {
             groups: _,
             policies: _,
             limit: _,
-            slots: _,
             responses: _,
         } = self;
     }
@@ -55,7 +53,6 @@ impl Desk {
             groups: Groups::new(alloc),
             policies: Vec::new(alloc),
             limit: 16,
-            slots: SlotEnv::new(),
             responses: Vec::new(alloc),
         }
     }

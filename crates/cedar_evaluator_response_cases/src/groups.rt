@@ -14,7 +14,8 @@ pub fn done(desk: &mut Desk, verb: &str, rest: &str, said: &mut String) -> Made<
     let alloc = desk.known.alloc;
     if verb == "groups" {
         let made = response(alloc, &mut desk.groups);
-        return put(alloc, said, &mut desk.responses, made);
+        put(alloc, said, &mut desk.responses, made)?;
+        return Ok(true);
     }
     grouped(alloc, &mut desk.groups, verb, rest)
 }

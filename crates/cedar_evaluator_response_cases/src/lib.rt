@@ -10,8 +10,6 @@ mod contexts;
 #[cfg(test)]
 mod desk;
 #[cfg(test)]
-mod evals;
-#[cfg(test)]
 mod groups;
 #[cfg(test)]
 mod known;
@@ -23,3 +21,5 @@ mod responses;
 mod rows;
 #[cfg(test)]
 mod said;
+#[cfg(test)]
+mod verdicts;

@@ -2,38 +2,31 @@
 
 use crate::desk::{Desk, Made};
 use crate::policies::set_of;
-use crate::said::{one, put, say, told, top};
+use crate::said::{put, top};
 use cedar_evaluator_authorizer::{Authorizer, ConcretizationError, ReauthorizationError};
 use cedar_evaluator_requests::{Decision, Response};
 use cedar_expr_functions::Extensions;
+use cedar_test_helpers::{one, say, show};
 use std::alloc::Global;
 use std::collections::HashMap;
 
 // Does the command, where it is one of these: `core`, the response to the policies; `answer`, their answer; `again`, the last
 // response reauthorized with the values at hand; `copy`, a copy of it; `concrete`, its answer, after which it is gone; `lacking memory`.
 pub fn done(desk: &mut Desk, table: &Extensions<'_>, verb: &str, said: &mut String) -> Made<bool> {
-    match verb {
+    let done = match verb {
         "core" => core(desk, table, said),
         "answer" => answer(desk, table, said),
         "again" => again(desk, table, said),
         "copy" => copy(desk, table, said),
-        "concrete" => {
-            let response = one(&mut desk.responses)?;
-            say_answer(
-                desk.known.alloc,
-                said,
-                &response.concretize(desk.known.alloc)?,
-            )
-        }
-        "lacking" => {
-            told(desk.known.alloc, said, &ReauthorizationError::OutOfMemory)?;
-            told(desk.known.alloc, said, &ConcretizationError::OutOfMemory)
-        }
-        _ => Ok(false),
-    }
+        "concrete" => concrete(desk, said),
+        "lacking" => lacking(desk.known.alloc, said),
+        _ => return Ok(false),
+    };
+    done?;
+    Ok(true)
 }
 
-fn core(desk: &mut Desk, table: &Extensions<'_>, said: &mut String) -> Made<bool> {
+fn core(desk: &mut Desk, table: &Extensions<'_>, said: &mut String) -> Made<()> {
     let alloc = desk.known.alloc;
     let set = set_of(desk)?;
     let authorizer = Authorizer::new(table, desk.limit);
@@ -42,7 +35,7 @@ fn core(desk: &mut Desk, table: &Extensions<'_>, said: &mut String) -> Made<bool
     put(alloc, said, &mut desk.responses, made)
 }
 
-fn answer(desk: &Desk, table: &Extensions<'_>, said: &mut String) -> Made<bool> {
+fn answer(desk: &Desk, table: &Extensions<'_>, said: &mut String) -> Made<()> {
     let alloc = desk.known.alloc;
     let set = set_of(desk)?;
     let authorizer = Authorizer::new(table, desk.limit);
@@ -52,7 +45,7 @@ fn answer(desk: &Desk, table: &Extensions<'_>, said: &mut String) -> Made<bool> 
 }
 
 // The values are gone after it.
-fn again(desk: &mut Desk, table: &Extensions<'_>, said: &mut String) -> Made<bool> {
+fn again(desk: &mut Desk, table: &Extensions<'_>, said: &mut String) -> Made<()> {
     let alloc = desk.known.alloc;
     let mut mapping = HashMap::new(alloc);
     std::mem::swap(&mut mapping, &mut desk.known.mapping);
@@ -67,10 +60,23 @@ fn again(desk: &mut Desk, table: &Extensions<'_>, said: &mut String) -> Made<boo
 }
 
 // A copy of the last response.
-fn copy(desk: &mut Desk, table: &Extensions<'_>, said: &mut String) -> Made<bool> {
+fn copy(desk: &mut Desk, table: &Extensions<'_>, said: &mut String) -> Made<()> {
     let _copied = Authorizer::new(table, desk.limit).clone()?;
     let made: Result<_, _> = top(desk.responses.as_slice())?.clone();
     put(desk.known.alloc, said, &mut desk.responses, made)
+}
+
+// The answer of the last response, which is gone after it.
+fn concrete(desk: &mut Desk, said: &mut String) -> Made<()> {
+    let alloc = desk.known.alloc;
+    let answer = one(&mut desk.responses)?.concretize(alloc)?;
+    say_answer(alloc, said, &answer)
+}
+
+// How want of memory is told.
+fn lacking(alloc: Global, said: &mut String) -> Made<()> {
+    show(alloc, said, &ReauthorizationError::OutOfMemory)?;
+    show(alloc, said, &ConcretizationError::OutOfMemory)
 }
 
 // The text of a decision.
@@ -82,14 +88,14 @@ pub fn decision_text(decision: Decision) -> &'static str {
 }
 
 // Says an answer: its decision, its reasons, and its errors.
-fn say_answer(alloc: Global, said: &mut String, answer: &Response) -> Made<bool> {
+fn say_answer(alloc: Global, said: &mut String, answer: &Response) -> Made<()> {
     say(said, decision_text(answer.decision))?;
     for id in answer.diagnostics.reason.iter() {
         say(said, id.as_str())?;
     }
     for error in answer.diagnostics.errors.iter() {
         said.push(',')?;
-        told(alloc, said, error)?;
+        show(alloc, said, error)?;
     }
-    Ok(true)
+    Ok(())
 }

@@ -1,9 +1,10 @@
 //! The rows. Expressions are written with their operands before their operator, as `cedar_test_exprs` reads them.
 
 use crate::desk::{Desk, Made};
-use crate::{answers, evals, groups, known, policies, responses};
+use crate::said::top;
+use crate::{answers, groups, known, policies, responses, verdicts};
 use cedar_expr_functions::Extensions;
-use std::alloc::{AllocError, Global};
+use std::alloc::Global;
 use std::test::Fail;
 
 const ROWS: &str =
@@ -49,6 +50,50 @@ let a true ; again : done
 decision : Allow
 concrete : Allow 2
 concrete : Deny, while evaluating policy `2`: the expression contains unknown(s)
+forbid 3 true
+core : done
+decision : Deny
+satisfied : forbid 3
+left : permit 2
+erred : nothing
+# a forbid that isn't known decides
+permit 1 true
+forbid 2 $test
+core : done
+decision : None
+satisfied : permit 1
+left : forbid 2
+let test false ; again : done
+concrete : Allow 1
+let test true ; again : done
+concrete : Deny 2
+# no permit is satisfied, and then a forbid is
+core : done
+decision : Deny
+permit 1 false
+core : done
+decision : Deny
+forbid 2 $a
+core : done
+decision : Deny
+forbid 3 true
+permit 4 true
+core : done
+decision : Deny
+satisfied : permit 4 forbid 3
+left : forbid 2
+erred : nothing
+# a context with an unknown in it
+permit 0 true
+residual $name record=test ; request User::p Action::a User::r ; answer : Allow 0
+forbid 1 context .test
+answer : Allow, while evaluating policy `1`: the expression contains unknown(s)
+# a forbid alone that isn't known
+forbid 1 context .test
+residual $name record=test ; request User::p Action::a User::r ; answer : Deny, while evaluating policy `1`: the expression contains unknown(s)
+# a permit alone that isn't known
+permit 1 context .test
+residual $name record=test ; request User::p Action::a User::r ; answer : Deny, while evaluating policy `1`: the expression contains unknown(s)
 # values come in two steps
 permit 1 principal NS::a == resource NS::b == &&
 forbid 2 context .c context .d 10 == &&
@@ -85,6 +130,15 @@ let resource NS::b ; again : done
 decision : Allow
 let action Action::a ; let c 1 ; again : done
 asked : NS::"a" Action::"a" NS::"b"
+# refusals of each variable: a known one, one of another type
+request NS::a Action::v NS::r ; core : done
+let principal NS::a ; again : concretizing existing value of principal
+let action Action::v ; again : concretizing existing value of action
+let resource NS::r ; again : concretizing existing value of resource
+request ?User ?Action ?Doc ; core : done
+let principal Doc::d ; again : concretizing existing but unknown entity value of type User of principal
+let action User::a ; again : concretizing existing but unknown entity value of type Action of action
+let resource User::a ; again : concretizing existing but unknown entity value of type Doc of resource
 # an entity of the type that is known, and none of it
 permit 1 principal User::a ==
 request ?User ? ? ; core : done
@@ -150,12 +204,35 @@ permit 1 9223372036854775807 1 + 0 ==
 permit 2 $t
 core : done
 erred : 1
+copy : done
+concrete : Deny, while evaluating policy `2`: the expression contains unknown(s), while evaluating policy `1`: integer overflow while attempting to add the values `x` and `y`
 decision : None
 let t true ; again : done
 erred : nothing
 all : permit 2 permit 1
 body 1 : false
 concrete : Allow 2
+# policies in each group
+true_permit a ; erred_permit b ; false_permit c ; left_permit d 1 2 + ; true_forbid e ; erred_forbid f ; false_forbid g ; left_forbid h 3 4 + ; groups : done
+satisfied : permit a forbid e
+erred : b f
+may : forbid e forbid h
+must : forbid e
+left : permit d forbid h
+left_ids : d h
+all : permit a permit b permit c permit d forbid e forbid f forbid g forbid h
+get b : permit b
+get c : permit c
+get e : forbid e
+get f : forbid f
+get g : forbid g
+get h : forbid h
+get i : nothing
+body a : true
+body d : 1 2 +
+body e : true
+body f : false
+body h : 3 4 +
 # policies in groups
 true_permit a@x ; erred_permit b ; false_permit c ; left_permit d $t ; true_forbid e ; left_forbid h $u ; groups : done
 must : forbid e
@@ -204,8 +281,12 @@ forbid 3 context .bad 2 ==
 context record= ; request User::a Action::v User::b ; answer : Allow 1, while evaluating policy `2`: record does not have the attribute `bad`, while evaluating policy `3`: record does not have the attribute `bad`
 forbid 4 true
 answer : Deny 4, while evaluating policy `2`: record does not have the attribute `bad`, while evaluating policy `3`: record does not have the attribute `bad`
-# no policies
+# no policies, a permit, and a forbid
 answer : Deny
+permit 0 true
+answer : Allow 0
+forbid 1 true
+answer : Deny 1
 # a condition that is no truth value
 permit 1 7
 answer : Deny, while evaluating policy `1`: type error: expected bool, got long
@@ -217,55 +298,25 @@ limit 5 ; core : done
 decision : Deny at the limit
 erred : 1
 concrete : Deny, while evaluating policy `1`: recursion limit reached
-# the limit of an expression
-limit 2 ; eval true ! ! : recursion limit reached
-limit 3 ; eval true ! ! : true
-limit 0 ; eval true : recursion limit reached
-limit 1 ; eval true : true
-limit 1 ; eval 1 set=1 : recursion limit reached
-limit 2 ; eval 1 set=1 : a set
-limit 2 ; eval 1 record=a .a : recursion limit reached
-limit 3 ; eval 1 record=a .a : 1
-- a best effort hides it
-limit 3 ; eval $u true ! ! && : $u true ! ! &&
-limit 4 ; eval $u true ! ! && : $u true &&
-# best effort with an error inside
-eval $u 9223372036854775807 1 + 0 == && : $u 9223372036854775807 1 + 0 == &&
-eval $u 1 2 + 3 == && : $u true &&
-eval $u 9223372036854775807 1 + 0 == || : $u 9223372036854775807 1 + 0 == ||
-eval $u 1 2 + 9223372036854775807 1 + if : $u 3 9223372036854775807 1 + if
-eval true $u && : true $u &&
-eval false $u || : false $u ||
-eval false $u && : false
-eval true $u || : true
-eval $u 1 + : $u 1 +
-eval $u 9223372036854775807 1 + + : integer overflow while attempting to add the values `x` and `y`
-eval $u 2 1 + set=2 : $u 3 set=2
-value $u : the expression contains unknown(s)
-value 1 2 + : 3
-# an unknown that is annotated
-request ?User ? ? ; eval principal is=Doc : false
-request ?User ? ? ; eval principal is=User : true
-request ?User ? ? ; eval principal Doc::d == : false
-request ?User ? ? ; eval Doc::d principal == : false
-request ?User ? ? ; eval principal User::a == : a residual
-request ?User ? ? ; eval principal : unknown("principal") (entity of type `User`)
-# presence along a path
-attr child E::e ; entity E::parent
-attr foo $u ; entity E::e
-store
-eval E::parent has=child.foo : true
-eval E::parent has=child.missing : false
-eval E::e .foo : $u
-eval E::e .foo 1 == : $u 1 ==
-# entities that aren't loaded
-above E::parent ; entity E::child ; partial
-eval E::child E::parent in : true
-eval E::x E::parent in : unknown("E::\"x\"") (entity of type `E`) in
-eval E::missing .spoon : unknown("E::\"missing\"") (entity of type `E`) spoon
-# slots
-eval ?principal : template slot `?principal` was not linked
-slot User::a ; eval ?principal : User::"a"
+# a policy by itself
+permit 1 1 1 ==
+permit 2 1 2 ==
+permit 3 $u
+permit 4 7
+permit 5 1 true +
+truth 1 : true
+truth 2 : false
+truth 3 : the expression contains unknown(s)
+truth 4 : type error: expected bool, got long
+truth 5 : type error: expected long, got bool
+verdict 1 : true
+verdict 2 : false
+verdict 3 : true true true $u && && &&
+verdict 4 : type error: expected bool, got long
+verdict 5 : type error: expected long, got bool
+limit 5 ; truth 1 : true
+limit 4 ; truth 1 : recursion limit reached
+limit 4 ; verdict 1 : recursion limit reached
 # want of memory
 lacking : out of memory out of memory
 "##;
@@ -282,15 +333,15 @@ fn holds(desk: &mut Desk, table: &Extensions<'_>, row: &str, said: &mut String) 
     for command in commands.split(" ; ") {
         let (verb, rest) = command.split_once(' ').unwrap_or((command, ""));
         if !makes(desk, verb, rest)?
-            && !responses::done(desk, table, verb, said)?
             && !groups::done(desk, verb, rest, said)?
-            && !answers::done(desk, verb, rest, wanted, said)?
-            && !evals::done(desk, table, verb, rest, wanted, said)?
+            && !responses::done(desk, table, verb, said)?
+            && !verdicts::done(desk, table, verb, rest, wanted, said)?
         {
-            return Err(AllocError);
+            let response = top(desk.responses.as_slice())?;
+            answers::done(desk.known.alloc, response, verb, rest, wanted, said)?;
         }
     }
-    Ok(said.as_str() == wanted)
+    Ok(said.trim_start() == wanted)
 }
 
 // Does a command that makes what is known, where it is one.

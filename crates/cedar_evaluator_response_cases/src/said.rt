@@ -1,25 +1,12 @@
-//! Helpers over any type, and what is said of policies and ids.
+//! What is said of expressions, policies and ids.
 
 use crate::desk::Made;
 use cedar_expr_trees::Expr;
 use cedar_store_policies::{Effect, Policy, PolicyID};
 use cedar_test_exprs::expr;
+use cedar_test_helpers::{say, show};
 use std::alloc::{AllocError, Global};
 use std::fmt::Display;
-
-// Says the text, behind a space where something stands before it.
-pub fn say(said: &mut String, text: &str) -> Made<bool> {
-    if !said.is_empty() {
-        said.push(' ')?;
-    }
-    said.push_str(text)?;
-    Ok(true)
-}
-
-// Says its text.
-pub fn told<E: Display>(alloc: Global, said: &mut String, e: &E) -> Made<bool> {
-    say(said, e.to_string(alloc)?.as_str())
-}
 
 // What was made, laid on the pile. Says why it wasn't made.
 pub fn put<T: Drop, E: Display + Drop>(
@@ -27,19 +14,14 @@ pub fn put<T: Drop, E: Display + Drop>(
     said: &mut String,
     pile: &mut Vec<T>,
     made: Result<T, E>,
-) -> Made<bool> {
+) -> Made<()> {
     match made {
         Ok(made) => {
             pile.push(made)?;
             say(said, "done")
         }
-        Err(e) => told(alloc, said, &e),
+        Err(e) => show(alloc, said, &e),
     }
-}
-
-// The last of the pile.
-pub fn one<T: Drop>(pile: &mut Vec<T>) -> Made<T> {
-    pile.pop().ok_or(AllocError)
 }
 
 // The last of the pile, left there.
@@ -60,7 +42,7 @@ pub fn two(text: &str) -> (&str, &str) {
 }
 
 // Says the expression that is wanted, where it is the one that was found.
-pub fn same(alloc: Global, said: &mut String, found: &Expr, wanted: &str) -> Made<bool> {
+pub fn same(alloc: Global, said: &mut String, found: &Expr, wanted: &str) -> Made<()> {
     if *found == expr(alloc, wanted)? {
         say(said, wanted)
     } else {
@@ -68,42 +50,39 @@ pub fn same(alloc: Global, said: &mut String, found: &Expr, wanted: &str) -> Mad
     }
 }
 
-fn effect_text(effect: Effect) -> &'static str {
-    match effect {
+// Says the policy's effect, its id, and its annotations.
+pub fn say_policy(said: &mut String, policy: &Policy) -> Made<()> {
+    let effect = match policy.effect() {
         Effect::Permit => "permit",
         Effect::Forbid => "forbid",
-    }
-}
-
-// Says the policy's effect, its id, and its annotations.
-pub fn say_policy(said: &mut String, policy: &Policy) -> Made<bool> {
-    say(said, effect_text(policy.effect()))?;
+    };
+    say(said, effect)?;
     say(said, policy.id().as_str())?;
     for (name, note) in policy.annotations() {
         say(said, name.as_str())?;
         say(said, note.val.as_str())?;
     }
-    Ok(true)
+    Ok(())
 }
 
-// Says the effects and ids of policies; of none `nothing`.
-pub fn say_policies(said: &mut String, policies: &[Policy]) -> Made<bool> {
+// Says policies; of none `nothing`.
+pub fn say_policies(said: &mut String, policies: &[Policy]) -> Made<()> {
     if policies.is_empty() {
         return say(said, "nothing");
     }
     for policy in policies {
         say_policy(said, policy)?;
     }
-    Ok(true)
+    Ok(())
 }
 
 // Says ids; of none `nothing`.
-pub fn say_ids(said: &mut String, ids: &[&PolicyID]) -> Made<bool> {
+pub fn say_ids(said: &mut String, ids: &[&PolicyID]) -> Made<()> {
     if ids.is_empty() {
         return say(said, "nothing");
     }
     for id in ids {
         say(said, id.as_str())?;
     }
-    Ok(true)
+    Ok(())
 }

@@ -1,98 +1,146 @@
-//! The constructors of expressions by name, and the refusals of records.
+//! The constructors of expressions by name, and those of builders.
 
+use cedar_expr_builders::expr_builder::ExprBuilder as Builds;
+use cedar_expr_names::Loc;
+use cedar_expr_plain_builder::PlainBuilder;
 use cedar_expr_trees::*;
-use cedar_test_exprs::{all, expr, word};
-use cedar_test_helpers::{one, refused, say, show, tell};
+use cedar_test_exprs::{expr, is, word};
 use std::alloc::{AllocError, Global};
-use std::collections::BTreeMap;
-use std::rc::{Rc, RcStr};
+use std::rc::RcStr;
 
-type Made = Result<Expr, AllocError>;
-
-// What the named constructor makes of expressions; behind the name may stand `=` and further names.
-pub fn make(alloc: Global, text: &str) -> Made {
-    let (verb, rest) = text.split_once(' ').unwrap_or((text, ""));
-    let (verb, names) = verb.split_once('=').unwrap_or((verb, ""));
-    let mut exprs = all(alloc, rest)?;
-    match verb {
-        "not" => Expr::not(alloc, one(&mut exprs)?),
-        "neg" => Expr::neg(alloc, one(&mut exprs)?),
-        "is_empty" => Expr::is_empty(alloc, one(&mut exprs)?),
-        "has_attr" => {
-            let attr = word(alloc, names)?;
-            Expr::has_attr(alloc, one(&mut exprs)?, attr)
-        }
-        "ite_arc" => choice(alloc, exprs),
-        "record_arc" => shared_record(alloc, names, exprs),
-        _ => {
-            let second = one(&mut exprs)?;
-            of_two(alloc, verb, one(&mut exprs)?, second)
-        }
-    }
+// The number.
+fn n(number: i64) -> Expr {
+    Expr::val(Literal::from(number))
 }
 
-fn of_two(alloc: Global, verb: &str, first: Expr, second: Expr) -> Made {
-    match verb {
-        "is_eq" => Expr::is_eq(alloc, first, second),
-        "noteq" => Expr::noteq(alloc, first, second),
-        "less" => Expr::less(alloc, first, second),
-        "lesseq" => Expr::lesseq(alloc, first, second),
-        "greater" => Expr::greater(alloc, first, second),
-        "greatereq" => Expr::greatereq(alloc, first, second),
-        "add" => Expr::add(alloc, first, second),
-        "sub" => Expr::sub(alloc, first, second),
-        "mul" => Expr::mul(alloc, first, second),
-        _ => of_members(alloc, verb, first, second),
-    }
+pub fn relations(alloc: Global, said: &mut String) -> Result<(), AllocError> {
+    is(alloc, said, Expr::is_eq(alloc, n(1), n(2)), "1 2 ==")?;
+    is(alloc, said, Expr::noteq(alloc, n(1), n(2)), "1 2 == !")?;
+    is(alloc, said, Expr::less(alloc, n(1), n(2)), "1 2 <")?;
+    is(alloc, said, Expr::lesseq(alloc, n(1), n(2)), "1 2 <=")?;
+    is(alloc, said, Expr::greater(alloc, n(1), n(2)), "1 2 <= !")?;
+    is(alloc, said, Expr::greatereq(alloc, n(1), n(2)), "1 2 < !")
 }
 
-fn of_members(alloc: Global, verb: &str, first: Expr, second: Expr) -> Made {
-    match verb {
-        "is_in" => Expr::is_in(alloc, first, second),
-        "contains" => Expr::contains(alloc, first, second),
-        "contains_all" => Expr::contains_all(alloc, first, second),
-        "contains_any" => Expr::contains_any(alloc, first, second),
-        "get_tag" => Expr::get_tag(alloc, first, second),
-        "has_tag" => Expr::has_tag(alloc, first, second),
-        _ => Err(AllocError),
-    }
+pub fn sums(alloc: Global, said: &mut String) -> Result<(), AllocError> {
+    is(alloc, said, Expr::add(alloc, n(1), n(2)), "1 2 +")?;
+    is(alloc, said, Expr::sub(alloc, n(1), n(2)), "1 2 -")?;
+    is(alloc, said, Expr::mul(alloc, n(1), n(2)), "1 2 *")?;
+    is(alloc, said, Expr::neg(alloc, n(1)), "1 neg")?;
+    is(alloc, said, Expr::not(alloc, n(1)), "1 !")?;
+    is(alloc, said, Expr::is_empty(alloc, n(1)), "1 isEmpty")?;
+    is(
+        alloc,
+        said,
+        Expr::has_attr(alloc, n(1), word(alloc, "x")?),
+        "1 has=x",
+    )
 }
 
-// Three, shared.
-pub fn three_shared(
-    alloc: Global,
-    mut exprs: Vec<Expr>,
-) -> Result<(Rc<Expr>, Rc<Expr>, Rc<Expr>), AllocError> {
-    let third = Rc::new(alloc, one(&mut exprs)?)?;
-    let second = Rc::new(alloc, one(&mut exprs)?)?;
-    let first = Rc::new(alloc, one(&mut exprs)?)?;
-    Ok((first, second, third))
+pub fn members(alloc: Global, said: &mut String) -> Result<(), AllocError> {
+    is(alloc, said, Expr::is_in(alloc, n(1), n(2)), "1 2 in")?;
+    is(
+        alloc,
+        said,
+        Expr::contains(alloc, n(1), n(2)),
+        "1 2 contains",
+    )?;
+    is(
+        alloc,
+        said,
+        Expr::contains_all(alloc, n(1), n(2)),
+        "1 2 containsAll",
+    )?;
+    is(
+        alloc,
+        said,
+        Expr::contains_any(alloc, n(1), n(2)),
+        "1 2 containsAny",
+    )?;
+    is(alloc, said, Expr::get_tag(alloc, n(1), n(2)), "1 2 getTag")?;
+    is(alloc, said, Expr::has_tag(alloc, n(1), n(2)), "1 2 hasTag")
 }
 
-fn choice(alloc: Global, exprs: Vec<Expr>) -> Made {
-    let (test, yes, no) = three_shared(alloc, exprs)?;
-    Ok(Expr::ite_arc(test, yes, no))
+// The plain builder at the place 3.
+fn plain() -> PlainBuilder {
+    PlainBuilder::new().with_source_loc(Loc::new(3, 3))
 }
 
-// The names, with commas between them, each with its expression, in a map that is shared.
-pub fn shared_fields(
-    alloc: Global,
-    names: &str,
-    exprs: Vec<Expr>,
-) -> Result<Rc<BTreeMap<RcStr, Expr>>, AllocError> {
-    let mut fields = BTreeMap::new(alloc);
-    for (name, e) in names.split(',').zip(exprs) {
-        fields.insert(word(alloc, name)?, e)?;
-    }
-    Ok(Rc::new(alloc, fields)?)
+pub fn built_relations(alloc: Global, said: &mut String) -> Result<(), AllocError> {
+    is(alloc, said, plain().is_eq(alloc, n(1), n(2)), "1 2 ==@3")?;
+    is(
+        alloc,
+        said,
+        plain().noteq(alloc, n(1), n(2)),
+        "1 2 ==@3 !@3",
+    )?;
+    is(alloc, said, plain().less(alloc, n(1), n(2)), "1 2 <@3")?;
+    is(alloc, said, plain().lesseq(alloc, n(1), n(2)), "1 2 <=@3")?;
+    is(
+        alloc,
+        said,
+        plain().greater(alloc, n(1), n(2)),
+        "1 2 <=@3 !@3",
+    )?;
+    is(
+        alloc,
+        said,
+        plain().greatereq(alloc, n(1), n(2)),
+        "1 2 <@3 !@3",
+    )
 }
 
-fn shared_record(alloc: Global, names: &str, exprs: Vec<Expr>) -> Made {
-    Ok(Expr::record_arc(shared_fields(alloc, names, exprs)?))
+pub fn built_sums(alloc: Global, said: &mut String) -> Result<(), AllocError> {
+    is(alloc, said, plain().add(alloc, n(1), n(2)), "1 2 +@3")?;
+    is(alloc, said, plain().sub(alloc, n(1), n(2)), "1 2 -@3")?;
+    is(alloc, said, plain().mul(alloc, n(1), n(2)), "1 2 *@3")?;
+    is(alloc, said, plain().neg(alloc, n(1)), "1 neg@3")?;
+    is(alloc, said, plain().not(alloc, n(1)), "1 !@3")?;
+    is(alloc, said, plain().is_empty(alloc, n(1)), "1 isEmpty@3")?;
+    is(
+        alloc,
+        said,
+        plain().ite(alloc, n(1), n(2), n(1)),
+        "1 2 1 if@3",
+    )
+}
+
+pub fn built_members(alloc: Global, said: &mut String) -> Result<(), AllocError> {
+    is(alloc, said, plain().is_in(alloc, n(1), n(2)), "1 2 in@3")?;
+    is(
+        alloc,
+        said,
+        plain().contains(alloc, n(1), n(2)),
+        "1 2 contains@3",
+    )?;
+    is(
+        alloc,
+        said,
+        plain().contains_all(alloc, n(1), n(2)),
+        "1 2 containsAll@3",
+    )?;
+    is(
+        alloc,
+        said,
+        plain().contains_any(alloc, n(1), n(2)),
+        "1 2 containsAny@3",
+    )?;
+    is(
+        alloc,
+        said,
+        plain().get_tag(alloc, n(1), n(2)),
+        "1 2 getTag@3",
+    )?;
+    is(
+        alloc,
+        said,
+        plain().has_tag(alloc, n(1), n(2)),
+        "1 2 hasTag@3",
+    )
 }
 
 // The names and expressions of a text, as in `b=1 a=2`.
-pub fn pairs(alloc: Global, text: &str) -> Result<Vec<(RcStr, Expr)>, AllocError> {
+fn pairs(alloc: Global, text: &str) -> Result<Vec<(RcStr, Expr)>, AllocError> {
     let mut pairs = Vec::new(alloc);
     for pair in text.split(' ') {
         let (name, text) = pair.split_once('=').ok_or(AllocError)?;
@@ -101,36 +149,10 @@ pub fn pairs(alloc: Global, text: &str) -> Result<Vec<(RcStr, Expr)>, AllocError
     Ok(pairs)
 }
 
-pub fn record(alloc: Global, said: &mut String, text: &str) -> Result<(), AllocError> {
-    let pairs = pairs(alloc, text)?;
-    refused(alloc, said, Expr::record(alloc, pairs))
+pub fn record(alloc: Global, text: &str) -> Result<Expr, ExpressionConstructionError> {
+    Expr::record(alloc, pairs(alloc, text)?)
 }
 
-// The name that stands twice, whether the refusal is that of the name, and what it says of another context.
-pub fn key(alloc: Global, said: &mut String, text: &str) -> Result<(), AllocError> {
-    let pairs = pairs(alloc, text)?;
-    match refusal(Expr::record(alloc, pairs)) {
-        Some(ExpressionConstructionError::DuplicateKey(refusal)) => key_told(alloc, said, refusal),
-        _ => say(said, "not refused"),
-    }
-}
-
-// The refusal, where there is one.
-pub fn refusal<T: Drop, E: Drop>(made: Result<T, E>) -> Option<E> {
-    made.err()
-}
-
-fn key_told(
-    alloc: Global,
-    said: &mut String,
-    refusal: DuplicateKeyError,
-) -> Result<(), AllocError> {
-    say(said, refusal.key())?;
-    let wanted = DuplicateKeyError::new(word(alloc, refusal.key())?, "in record literal");
-    tell(said, refusal == wanted)?;
-    show(
-        alloc,
-        said,
-        &ExpressionConstructionError::from(refusal.with_context("in context")),
-    )
+pub fn built_record(alloc: Global, text: &str) -> Result<Expr, ExpressionConstructionError> {
+    plain().record(alloc, pairs(alloc, text)?)
 }

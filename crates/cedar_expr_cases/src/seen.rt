@@ -1,23 +1,31 @@
-//! What is seen of an expression.
+//! What is seen of an expression, and how two are compared.
 
-use cedar_expr_trees::{Expr, ExprKind, ExpressionConstructionError};
+use crate::{building, data};
+use cedar_expr_shapes::{ExprShape, ExprShapeOnly};
+use cedar_expr_trees::{Expr, ExprKind};
 use cedar_test_exprs::{at, read};
-use cedar_test_helpers::{say, show};
+use cedar_test_helpers::{say, show, tell};
 use std::alloc::{AllocError, Global};
+use std::cmp::Ordering;
+use std::collections::HashSet;
+use std::hash::{DefaultHasher, Hash, Hasher};
 
-// Does the command.
-pub fn done(alloc: Global, said: &mut String, verb: &str, rest: &str) -> Result<(), AllocError> {
-    if verb == "no_memory" {
-        return show(alloc, said, &ExpressionConstructionError::OutOfMemory);
-    }
-    let e = read(alloc, rest)?;
+// Does the command, which has a verb and the rest, or one of the others.
+pub fn done(
+    alloc: Global,
+    said: &mut String,
+    command: (&str, &str),
+    wanted: &str,
+) -> Result<(), AllocError> {
+    let (verb, rest) = command;
     match verb {
-        "root" => root(alloc, said, &e),
-        "places" => places(alloc, said, &e),
-        "what" => what(said, &e),
-        "unknowns" => unknowns(alloc, said, &e),
-        "slots" => slots(alloc, said, &e),
-        _ => Err(AllocError),
+        "root" => root(alloc, said, &*read(alloc, rest)?),
+        "places" => places(alloc, said, &*read(alloc, rest)?),
+        "what" => what(said, &*read(alloc, rest)?),
+        "held" => held(alloc, said, &*read(alloc, rest)?),
+        "same" => same(alloc, said, rest),
+        "data" => data::copied(alloc, said),
+        _ => building::done(alloc, said, command, wanted),
     }
 }
 
@@ -52,39 +60,58 @@ fn places(alloc: Global, said: &mut String, e: &Expr) -> Result<(), AllocError> 
 }
 
 fn what(said: &mut String, e: &Expr) -> Result<(), AllocError> {
-    let mut is_something = false;
-    for (is_so, word) in [
-        (e.is_ref(), "reference"),
-        (e.is_slot(), "slot"),
-        (e.is_ref_set(), "references"),
-        (e.is_projectable(), "projectable"),
-        (e.contains_unknown(), "unknown"),
-    ] {
-        if is_so {
-            is_something = true;
-            say(said, word)?;
-        }
-    }
-    if is_something { Ok(()) } else { say(said, "") }
+    tell(said, e.is_ref())?;
+    tell(said, e.is_slot())?;
+    tell(said, e.is_ref_set())?;
+    tell(said, e.is_projectable())
 }
 
-fn unknowns(alloc: Global, said: &mut String, e: &Expr) -> Result<(), AllocError> {
-    let mut unknowns = e.unknowns(alloc)?.peekable();
-    if unknowns.peek().is_none() {
-        return say(said, "");
-    }
-    for unknown in unknowns {
+fn held(alloc: Global, said: &mut String, e: &Expr) -> Result<(), AllocError> {
+    for unknown in e.unknowns(alloc)? {
         say(said, unknown.name.as_str())?;
     }
-    Ok(())
-}
-
-fn slots(alloc: Global, said: &mut String, e: &Expr) -> Result<(), AllocError> {
-    let mut are_none = true;
     for slot in e.slots(alloc)? {
-        are_none = false;
         show(alloc, said, &slot.id)?;
         at(alloc, said, slot.loc)?;
     }
-    if are_none { say(said, "") } else { Ok(()) }
+    if said.is_empty() {
+        say(said, "")
+    } else {
+        Ok(())
+    }
+}
+
+// What an expression feeds a hasher, and what its shape does.
+fn hashes(e: &Expr) -> (u64, u64) {
+    let mut of_expr = DefaultHasher::new();
+    e.hash(&mut of_expr);
+    let mut of_shape = DefaultHasher::new();
+    e.hash_shape(&mut of_shape);
+    (of_expr.finish(), of_shape.finish())
+}
+
+fn same(alloc: Global, said: &mut String, text: &str) -> Result<(), AllocError> {
+    let (first, second) = text.split_once(" | ").ok_or(AllocError)?;
+    let (first, second) = (read(alloc, first)?, read(alloc, second)?);
+    let (ours, theirs) = (hashes(&first), hashes(&second));
+    tell(said, *first == *second && ours.0 == theirs.0)?;
+    tell(said, first.eq_shape(&second) && ours.1 == theirs.1)?;
+    tell(said, are_same_keys(alloc, &first, &second)?)?;
+    say(
+        said,
+        match first.cmp_shape(&second) {
+            Ordering::Less => "before",
+            Ordering::Equal => "same",
+            Ordering::Greater => "behind",
+        },
+    )
+}
+
+// Whether a copy of the second is found among the keys of the first, by its shape, and stands nowhere else in their order.
+fn are_same_keys(alloc: Global, first: &Expr, second: &Expr) -> Result<bool, AllocError> {
+    let key = ExprShapeOnly::new_from_borrowed(second).clone()?;
+    let stands_there = key.cmp(&ExprShapeOnly::new_from_borrowed(first)).is_eq();
+    let mut seen = HashSet::new(alloc);
+    seen.insert(ExprShapeOnly::new_from_borrowed(first))?;
+    Ok(seen.contains(&key) && stands_there)
 }

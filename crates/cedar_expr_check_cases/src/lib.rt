@@ -1,10 +1,9 @@
 //! Tests of partial values, of calls, and of tables of functions with the checks of expressions against them, as rows: a command, and
-//! behind ` : ` what it comes to. What a row says comes from the rules. No function has a contract but those that tables store, and
+//! behind ` : ` what it comes to. What a row says comes from the rules. Each call that takes memory is made once with enough of it, and each
+//! generic one at a type; what the clauses say of the others isn't repeated. No function has a contract but those that tables store, and
 //! nothing uses this crate.
 #![tactic(auto)]
 
-#[cfg(test)]
-mod calls;
 #[cfg(test)]
 mod partial;
 #[cfg(test)]

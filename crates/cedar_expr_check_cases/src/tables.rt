@@ -1,43 +1,41 @@
-//! Tables of functions, and the checks of expressions against them.
+//! Tables of functions, calls, and the checks of expressions against tables.
 
-ghost use Rattle.std.specs.Prelude.{◌≡◌, Err};
-ghost use Rattle.cedar_expr_model.specs.Table.{Signature};
-ghost use Rattle.cedar_expr_functions.specs.Answers.{IsStored};
+ghost use Rattle.std.specs.Prelude.{◌≡◌, true, Some, Err};
+ghost use Rattle.cedar_expr_model.specs.Table.{Signature, gives};
+ghost use Rattle.cedar_expr_model.specs.Tree.{bool_core};
+ghost use Rattle.cedar_expr_model.specs.Value.{prim, truth};
+ghost use Rattle.cedar_expr_functions.specs.Answers.{IsStored, answer, is_of_result};
 ghost use Rattle.cedar_expr_functions.specs.declared.err.CallFault.TheVariants.{OutOfMemory};
 
-use crate::calls::V;
 use cedar_expr_checks::{CheckExpr, ExprValidationError};
-use cedar_expr_functions::util::collect_no_duplicates;
 use cedar_expr_functions::*;
-use cedar_expr_names::Name;
-use cedar_expr_values::Type;
-use cedar_test_exprs::{expr, name};
-use cedar_test_helpers::{refused, say, show, tell};
+use cedar_expr_leaves::Literal;
+use cedar_expr_values::{ExtValue, Type, Value, ValueKind};
+use cedar_test_exprs::{expr, name, value};
+use cedar_test_helpers::{parted, refused, say, show};
 use std::alloc::{AllocError, Global};
-use std::slice::Iter;
 use std::test::Fail;
 
-// Cases, with an empty line between two. A case begins with the functions of a table, each with its style, name and kind, the type of
-// its arguments and that of its result; `also` stands before those of a second extension. The first extension orders ranks. What is
-// behind that is asked of the table.
+type V = Value<ExtValue>;
+
+// Cases, with an empty line between two. A case begins with the functions of a table, each with its name and kind, the type of its first
+// argument and that of its result, where its kind has such. What is behind them is asked of the table.
 const CASES: &str = r#"function rank unary String rank
-method least variadic rank Long
-function open leaves String
-extensions : first second
-ordered : rank
+function least variadic rank Long
+function open leaves String String
+function nearer binary Long Bool
+function between ternary Long Bool
 types : rank
-all_typed : no
 find rank : rank
 find none : extension function `none` does not exist
-form rank : function string -> rank constructor of 1
-form least : method rank .. -> long of 0
-form open : function string of 0
 check "a call=rank/1 : done
 check call=rank/0 : wrong number of arguments provided to extension function `rank`: expected 1, got 0
 check "a "a call=rank/2 : wrong number of arguments provided to extension function `rank`: expected 1, got 2
 check "a call=least/1 : done
 check "a "a "a call=least/3 : done
 check call=least/0 : wrong number of arguments provided to extension function `least`: expected 1, got 0
+check 1 2 call=nearer/2 : done
+check 1 2 3 call=between/3 : done
 check "a call=none/1 : extension function `none` does not exist
 check "a "a call=rank/2 ! call=none/0 && : wrong number of arguments provided to extension function `rank`: expected 1, got 2
 check call=rank/0 call=none/1 : extension function `none` does not exist
@@ -71,13 +69,10 @@ type 1 has=a.a : bool
 type set=0 : set
 type record= : record
 
-method f nullary rank
-also g unary String Bool
+function f nullary rank rank
 types : rank
-all_typed : yes
-find g : g
-form f : method -> rank of 1
-form g : function string -> bool of 0
+find f : f
+type call=f/0 : rank
 
 function f unary String rank
 function g unary String rank
@@ -88,17 +83,13 @@ function f unary String rank
 function g unary String rank
 refused : multiple extension constructors for the same extension type rank
 
-function f unary String Bool
-also f unary String Bool
-refused : extension function `f` is defined multiple times
-
-empty all_typed : yes
-empty types : nothing
-empty check 1 : done
-empty check "a call=rank/1 : extension function `rank` does not exist
-collect 2=b 1=a : 1 a 2 b
-collect 2=b 1=a 2=c : duplicate key `2`
-no_memory : out of memory out of memory
+call "a : true
+call : wrong number of arguments provided to extension function `one`: expected 1, got 0
+call "a "b : wrong number of arguments provided to extension function `one`: expected 1, got 2
+call 1 : type error: expected string, got long
+failed : error while evaluating `decimal` extension function: too many digits
+repeated : duplicate key `2`
+no_memory : out of memory out of memory out of memory out of memory out of memory
 "#;
 
 #[test]
@@ -106,17 +97,16 @@ fn tables_hold(rt: HostRuntime) -> Result<(), Fail> {
     let alloc = rt.alloc();
     for case in CASES.split("\n\n") {
         let mut functions = Vec::new(alloc);
-        let mut others = Vec::new(alloc);
-        for row in case.lines().filter(|row| is_function(row)) {
-            let func: Func = Box::new(alloc, |alloc: Global, args: &[V]| exhausted(alloc, args))?;
-            let f = function(alloc, row, func)?;
-            if row.starts_with("also") {
-                others.push(f)?;
-            } else {
-                functions.push(f)?;
+        for row in case.lines() {
+            if let Some(row) = row.strip_prefix("function ") {
+                let func: Func = Box::new(
+                    alloc,
+                    |alloc: Global, args: &[V]| exhausted(alloc, args),
+                )?;
+                functions.push(function(alloc, row, func)?)?;
             }
         }
-        let wrong = wrong(alloc, case, functions, others)?;
+        let wrong = wrong(alloc, case, functions)?;
         assert!(rt; wrong.is_empty(), "{wrong}");
     }
     Ok(())
@@ -127,11 +117,6 @@ fn exhausted(_alloc: Global, _args: &[V]) -> Result<ExtensionOutputValue, CallFa
     ensures { result ≡ Err OutOfMemory }
 {
     Err(CallFault::OutOfMemory)
-}
-
-// Whether the row is that of a function.
-fn is_function(row: &str) -> bool {
-    row.starts_with("function ") || row.starts_with("method ") || row.starts_with("also ")
 }
 
 // The type of a word: an extension type, where it names no other.
@@ -151,27 +136,27 @@ fn core_type(alloc: Global, word: Option<&str>) -> Result<Type, AllocError> {
 fn function(alloc: Global, row: &str, func: Func) -> Result<ExtensionFunction, AllocError>
     requires { (s : Signature) → IsStored s (pre func) (post func) }
 {
+    let (called, row) = row.split_once(' ').ok_or(AllocError)?;
     let mut words = row.split(' ');
-    let style = if words.next() == Some("method") {
-        CallStyle::MethodStyle
-    } else {
-        CallStyle::FunctionStyle
-    };
-    let called = name(alloc, words.next().ok_or(AllocError)?)?;
     let kind = words.next();
-    let first = core_type(alloc, words.next())?;
+    let of = core_type(alloc, words.next())?;
+    let given = core_type(alloc, words.next())?;
+    let called = name(alloc, called)?;
+    let style = CallStyle::FunctionStyle;
     match kind {
-        Some("nullary") => Ok(ExtensionFunction::nullary(alloc, called, style, func, first)),
-        Some("leaves") => ExtensionFunction::partial_eval_unknown(
-            alloc, called, style, func, first,
-        ),
-        Some("unary") => {
-            let given = core_type(alloc, words.next())?;
-            ExtensionFunction::unary(alloc, called, style, func, given, first)
+        Some("nullary") => Ok(ExtensionFunction::nullary(alloc, called, style, func, given)),
+        Some("leaves") => ExtensionFunction::partial_eval_unknown(alloc, called, style, func, of),
+        Some("unary") => ExtensionFunction::unary(alloc, called, style, func, given, of),
+        Some("binary") => {
+            let types = (of, Type::Long);
+            ExtensionFunction::binary(alloc, called, style, func, given, types)
+        }
+        Some("ternary") => {
+            let types = (of, Type::Long, Type::Long);
+            ExtensionFunction::ternary(alloc, called, style, func, given, types)
         }
         _ => {
-            let given = core_type(alloc, words.next())?;
-            let types = vec![in alloc; first]?;
+            let types = vec![in alloc; of]?;
             Ok(ExtensionFunction::variadic(called, style, func, given, types))
         }
     }
@@ -182,88 +167,63 @@ fn wrong(
     alloc: Global,
     case: &str,
     functions: Vec<ExtensionFunction>,
-    others: Vec<ExtensionFunction>,
 ) -> Result<String, AllocError> {
-    let ordered = vec![in alloc; name(alloc, "rank")?]?;
-    let mut extensions = Vec::new(alloc);
-    extensions.push(Extension::new(name(alloc, "first")?, functions, ordered))?;
-    extensions.push(Extension::new(name(alloc, "second")?, others, Vec::new(alloc)))?;
+    let extensions = [Extension::new(name(alloc, "ranks")?, functions, Vec::new(alloc))];
     let table = Extensions::specific_extensions(alloc, &extensions);
-    for row in case.lines().filter(|row| !is_function(row)) {
-        let said = answer(alloc, &table, row)?;
-        if said.as_str() != row {
-            return format!(in alloc; "{row}: {said}");
+    for row in case.lines() {
+        let (verb, rest, wanted) = parted(row).ok_or(AllocError)?;
+        if verb != "function" {
+            let mut said = String::new(alloc);
+            done(alloc, &mut said, &table, verb, rest)?;
+            if said.as_str() != wanted {
+                return format!(in alloc; "{row}: {said}");
+            }
         }
     }
     Ok(String::new(alloc))
 }
 
-// The row with what its command comes to.
-fn answer(
+// Does the command.
+fn done(
     alloc: Global,
+    said: &mut String,
     table: &Result<Extensions<'_>, ExtensionInitializationError>,
-    row: &str,
-) -> Result<String, AllocError> {
-    let (command, _) = row.split_once(" : ").unwrap_or((row, ""));
-    let (verb, rest) = command.split_once(' ').unwrap_or((command, ""));
-    let mut said = format!(in alloc; "{command} :")?;
-    match (verb, table) {
-        ("empty", _) => asked(alloc, &mut said, &Extensions::none(alloc), rest),
-        ("collect", _) => collect(alloc, &mut said, rest),
-        ("no_memory", _) => no_memory(alloc, &mut said),
-        (_, Ok(table)) => asked(alloc, &mut said, table, command),
-        (_, Err(refusal)) => show(alloc, &mut said, refusal),
-    }?;
-    Ok(said)
+    verb: &str,
+    rest: &str,
+) -> Result<(), AllocError> {
+    match table {
+        Ok(table) => asked(alloc, said, table, verb, rest),
+        Err(refusal) => show(alloc, said, refusal),
+    }
 }
 
-// What a table comes to where it is asked this.
+// Says what a table comes to where it is asked this, or does a command that asks none.
 fn asked(
     alloc: Global,
     said: &mut String,
     table: &Extensions<'_>,
-    command: &str,
+    verb: &str,
+    rest: &str,
 ) -> Result<(), AllocError> {
-    let (verb, rest) = command.split_once(' ').unwrap_or((command, ""));
     match verb {
-        "extensions" => named(alloc, said, table.ext_names()),
-        "ordered" => named(alloc, said, table.types_with_operator_overloading()),
         "types" => types(alloc, said, table),
-        "all_typed" => tell(said, table.all_typed()),
         "find" => find(alloc, said, table, rest),
-        "form" => form(alloc, said, table, rest),
         "check" => refused(alloc, said, expr(alloc, rest)?.try_validate(alloc, table)),
         "type" => type_shown(alloc, said, table, rest),
+        "call" => called(alloc, said, rest),
+        "failed" => failed(alloc, said),
+        "repeated" => show(alloc, said, &CollectError::Repeated(2u8)),
+        "no_memory" => no_memory(alloc, said),
         _ => Err(AllocError),
     }
 }
 
-// Says names, one after the other.
-fn named<'a>(
-    alloc: Global,
-    said: &mut String,
-    names: Iter<'_, &'a Name>,
-) -> Result<(), AllocError> {
-    for name in names {
-        show(alloc, said, *name)?;
-    }
-    Ok(())
-}
-
-// Says the extension types that functions give: as a list, and by the iterator.
+// Says the extension types that functions give.
 fn types(alloc: Global, said: &mut String, table: &Extensions<'_>) -> Result<(), AllocError> {
-    let list = table.ext_type_list(alloc)?;
-    if list.is_empty() {
-        say(said, "")?;
-    }
-    for name in list.iter() {
+    for name in table.ext_type_list(alloc)?.iter() {
         show(alloc, said, name)?;
     }
-    if table.ext_types().count() == list.len() {
-        Ok(())
-    } else {
-        say(said, "at odds")
-    }
+    Ok(())
 }
 
 fn find(
@@ -278,45 +238,6 @@ fn find(
     }
 }
 
-fn form(
-    alloc: Global,
-    said: &mut String,
-    table: &Extensions<'_>,
-    text: &str,
-) -> Result<(), AllocError> {
-    let Ok(f) = table.func(&name(alloc, text)?) else {
-        return Err(AllocError);
-    };
-    let is_method = f.style() == CallStyle::MethodStyle;
-    say(said, if is_method { "method" } else { "function" })?;
-    all_shown(alloc, said, f.arg_types())?;
-    if f.is_variadic() {
-        say(said, "..")?;
-    }
-    if let Some(ty) = f.return_type() {
-        say(said, "->")?;
-        show(alloc, said, ty)?;
-    }
-    if f.is_single_arg_constructor() {
-        say(said, "constructor")?;
-    }
-    given_shown(alloc, said, f)
-}
-
-// Says types, one after the other.
-fn all_shown(alloc: Global, said: &mut String, types: &[Type]) -> Result<(), AllocError> {
-    for ty in types {
-        show(alloc, said, ty)?;
-    }
-    Ok(())
-}
-
-// Says how many extension types a function gives.
-fn given_shown(alloc: Global, said: &mut String, f: &ExtensionFunction) -> Result<(), AllocError> {
-    say(said, "of")?;
-    show(alloc, said, &f.ext_types().count())
-}
-
 fn type_shown(
     alloc: Global,
     said: &mut String,
@@ -329,26 +250,68 @@ fn type_shown(
     }
 }
 
-// Says the map of pairs, as in `2=b 1=a`.
-fn collect(alloc: Global, said: &mut String, text: &str) -> Result<(), AllocError> {
-    let mut pairs = Vec::new(alloc);
-    for pair in text.split(' ') {
-        let (key, it) = pair.split_once('=').ok_or(AllocError)?;
-        pairs.push((key.parse::<u8>().map_err(|_| AllocError)?, it))?;
-    }
-    match collect_no_duplicates(alloc, pairs) {
-        Err(refusal) => show(alloc, said, &refusal),
-        Ok(map) => {
-            for (key, it) in map.iter() {
-                show(alloc, said, key)?;
-                say(said, it)?;
-            }
-            Ok(())
+// It answers `true`, whatever it is asked.
+fn yes(_alloc: Global, _args: &[V]) -> Result<ExtensionOutputValue, CallFault>
+    ensures answers { answer result ≡ Some (gives (prim (truth true))) }
+    ensures own { is_of_result (Some bool_core) result ≡ true }
+{
+    Ok(ExtensionOutputValue::Known(Value::from(Literal::from(true))))
+}
+
+// Says what a function of one text that answers `true` answers to these arguments.
+fn called(alloc: Global, said: &mut String, text: &str) -> Result<(), AllocError> {
+    let func: Func = Box::new(alloc, |alloc: Global, args: &[V]| yes(alloc, args))?;
+    let style = CallStyle::FunctionStyle;
+    let called = name(alloc, "one")?;
+    let f = ExtensionFunction::unary(alloc, called, style, func, Type::Bool, Type::String)?;
+    let args = args(alloc, text)?;
+    answered(alloc, said, f.call(alloc, args.as_slice()))
+}
+
+fn args(alloc: Global, text: &str) -> Result<Vec<V>, AllocError> {
+    let mut args = Vec::new(alloc);
+    for text in text.split(' ') {
+        if !text.is_empty() {
+            args.push(value(alloc, text)?)?;
         }
+    }
+    Ok(args)
+}
+
+// Says the literal that was answered, or the refusal.
+fn answered(
+    alloc: Global,
+    said: &mut String,
+    answered: Result<ExtensionOutputValue, CallFault>,
+) -> Result<(), AllocError> {
+    match answered {
+        Ok(ExtensionOutputValue::Known(value)) => literal(alloc, said, &value),
+        Ok(ExtensionOutputValue::Unknown(unknown)) => show(alloc, said, &unknown),
+        Err(fault) => show(alloc, said, &fault),
     }
 }
 
+fn literal(alloc: Global, said: &mut String, value: &V) -> Result<(), AllocError> {
+    match value.value_kind() {
+        ValueKind::Lit(literal) => show(alloc, said, literal),
+        _ => Err(AllocError),
+    }
+}
+
+// Says what the fault of a function itself says.
+fn failed(alloc: Global, said: &mut String) -> Result<(), AllocError> {
+    let fault = CallFault::Fault {
+        extension_name: name(alloc, "decimal")?,
+        message: String::from_str(alloc, "too many digits")?,
+        advice: None,
+    };
+    show(alloc, said, &fault)
+}
+
 fn no_memory(alloc: Global, said: &mut String) -> Result<(), AllocError> {
+    show(alloc, said, &CallFault::OutOfMemory)?;
+    show(alloc, said, &ExtensionFunctionLookupError::OutOfMemory)?;
+    show(alloc, said, &ExtensionInitializationError::OutOfMemory)?;
     let fault: CollectError<u8> = CollectError::OutOfMemory;
     show(alloc, said, &fault)?;
     show(alloc, said, &ExprValidationError::OutOfMemory)

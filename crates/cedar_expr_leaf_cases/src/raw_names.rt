@@ -1,69 +1,53 @@
-//! Names of a schema before they are resolved.
+//! Names within namespaces, and names of a schema before they are resolved.
 
 use crate::names::internal;
-use cedar_expr_names::{Id, Loc, UnreservedId};
+use crate::values;
+use cedar_expr_names::{InternalName, Name};
 use cedar_expr_raw_names::*;
-use cedar_test_exprs::{at, name};
-use cedar_test_helpers::{before, kept, made, same, say, show, told, told_twice};
+use cedar_test_exprs::name;
+use cedar_test_helpers::{kept, made, say, show, told};
 use std::alloc::{AllocError, Global};
 
-// Does the command.
+// Does the command, or one of those on values.
 pub fn done(alloc: Global, said: &mut String, verb: &str, rest: &str) -> Result<(), AllocError> {
+    let (space, text) = rest.split_once(' ').unwrap_or(("", rest));
     match verb {
-        "raw" => told(alloc, said, RawName::from_normalized_str(alloc, rest)),
-        "raw_part" => told(alloc, said, RawName::parse_unqualified_name(alloc, rest)),
-        "raw_makers" => makers(alloc, said, rest),
-        "raw_order" => order(alloc, said, rest),
-        "raw_within" => within(alloc, said, rest),
-        "raw_within_name" => within_name(alloc, said, rest),
-        "raw_within_none" => told(alloc, said, raw(alloc, rest)?.qualify_with(alloc, None)),
-        "possible" => possible(alloc, said, rest),
-        "alone" => alone(alloc, said, rest),
-        "kinds" => kinds(alloc, said, rest),
-        _ => Err(AllocError),
+        "within" => within(alloc, said, space, text),
+        "possible" => conditional(alloc, said, possible(alloc, space, text)),
+        "alone" => conditional(alloc, said, alone(alloc, text)),
+        _ => values::done(alloc, said, verb, rest),
     }
 }
 
-fn raw(alloc: Global, text: &str) -> Result<RawName, AllocError> {
-    made(RawName::from_normalized_str(alloc, text))
-}
-
-fn makers(alloc: Global, said: &mut String, text: &str) -> Result<(), AllocError> {
-    let id = made(UnreservedId::from_normalized_str(alloc, text))?;
-    told_twice(alloc, said, RawName::new_from_unreserved(alloc, id, None))?;
-    show(alloc, said, &RawName::from_name(internal(alloc, text)?))?;
-    let id = made(Id::from_normalized_str(alloc, text))?;
-    let name = kept(alloc, RawName::new(alloc, id, Some(Loc::new(1, 3))))?;
-    show(alloc, said, name.as_ref())?;
-    at(alloc, said, name.loc())
-}
-
-fn order(alloc: Global, said: &mut String, text: &str) -> Result<(), AllocError> {
-    let (first, second) = text.split_once(' ').ok_or(AllocError)?;
-    let first = raw(alloc, first)?;
-    before(said, first, raw(alloc, second)?)
-}
-
-// The name behind the space, within the internal name before it.
-fn within(alloc: Global, said: &mut String, text: &str) -> Result<(), AllocError> {
-    let (space, text) = text.split_once(' ').ok_or(AllocError)?;
-    let space = internal(alloc, space)?;
-    told(
-        alloc,
-        said,
-        raw(alloc, text)?.qualify_with(alloc, Some(&space)),
-    )
-}
-
-// The name behind the space, within the name before it.
-fn within_name(alloc: Global, said: &mut String, text: &str) -> Result<(), AllocError> {
-    let (space, text) = text.split_once(' ').ok_or(AllocError)?;
-    let space = name(alloc, space)?;
+fn within(alloc: Global, said: &mut String, space: &str, text: &str) -> Result<(), AllocError> {
+    let space = kept(alloc, name(alloc, space))?;
+    let name = kept(alloc, name(alloc, text))?;
+    of_name(alloc, said, &name, &space)?;
     told(
         alloc,
         said,
         raw(alloc, text)?.qualify_with_name(alloc, Some(&space)),
+    )?;
+    told(
+        alloc,
+        said,
+        raw(alloc, text)?.qualify_with(alloc, Some(space.as_internal())),
     )
+}
+
+fn of_name(alloc: Global, said: &mut String, it: &Name, space: &Name) -> Result<(), AllocError> {
+    let (internal, within): (&InternalName, &InternalName) = (
+        it.as_internal(),
+        space.as_internal(),
+    );
+    told(alloc, said, it.qualify_with_name(alloc, Some(space)))?;
+    told(alloc, said, it.qualify_with(alloc, Some(within)))?;
+    told(alloc, said, internal.qualify_with_name(alloc, Some(space)))?;
+    told(alloc, said, internal.qualify_with(alloc, Some(within)))
+}
+
+fn raw(alloc: Global, text: &str) -> Result<RawName, AllocError> {
+    made(RawName::from_normalized_str(alloc, text))
 }
 
 // Says the name as it is written, and what it may stand for.
@@ -80,30 +64,14 @@ fn conditional(
     Ok(())
 }
 
-fn possible(alloc: Global, said: &mut String, text: &str) -> Result<(), AllocError> {
-    let (space, text) = text.split_once(' ').ok_or(AllocError)?;
+fn possible(alloc: Global, space: &str, text: &str) -> Result<ConditionalName, AllocError> {
     let space = internal(alloc, space)?;
     let kind = ReferenceType::CommonOrEntity;
-    let name = raw(alloc, text)?.conditionally_qualify_with(alloc, Some(&space), kind);
-    conditional(alloc, said, name)
+    raw(alloc, text)?.conditionally_qualify_with(alloc, Some(&space), kind)
 }
 
-// A name that stands for itself alone, as an entity type.
-fn unconditional(alloc: Global, text: &str) -> Result<ConditionalName, AllocError> {
-    ConditionalName::unconditional(alloc, internal(alloc, text)?, ReferenceType::Entity)
-}
-
-// A copy of that.
-fn alone(alloc: Global, said: &mut String, text: &str) -> Result<(), AllocError> {
-    let name = unconditional(alloc, text)?;
-    conditional(alloc, said, name.clone())
-}
-
-// Whether that is what the name may be in no namespace, as an entity type and as a common type.
-fn kinds(alloc: Global, said: &mut String, text: &str) -> Result<(), AllocError> {
-    for kind in [ReferenceType::Entity, ReferenceType::Common] {
-        let name = raw(alloc, text)?.conditionally_qualify_with(alloc, None, kind)?;
-        same(said, name, unconditional(alloc, text)?)?;
-    }
-    Ok(())
+// A copy of a name that stands for itself alone.
+fn alone(alloc: Global, text: &str) -> Result<ConditionalName, AllocError> {
+    let name = internal(alloc, text)?;
+    ConditionalName::unconditional(alloc, name, ReferenceType::Entity)?.clone()
 }

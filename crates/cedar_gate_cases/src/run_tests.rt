@@ -120,7 +120,7 @@ fn the_host_is_asked_for_the_rounds(rt: HostRuntime) -> Result<(), Fail> {
     let lists = told_lists(rt.alloc(), &host)?;
     assert_eq!(rt;
         lists.as_str(),
-        " round Doc::\"d\" User::\"a\" round User::\"b\""
+        "round Doc::\"d\" User::\"a\" round User::\"b\""
     );
     Ok(())
 }
@@ -139,7 +139,7 @@ fn a_host_fails_at_its_second_fetch(rt: HostRuntime) -> Result<(), Fail> {
         "decision None\nround 1 Doc::\"d\" User::\"a\"\n the host failed"
     );
     let lists = told_lists(rt.alloc(), &host.host)?;
-    assert_eq!(rt; lists.as_str(), " round Doc::\"d\" User::\"a\"");
+    assert_eq!(rt; lists.as_str(), "round Doc::\"d\" User::\"a\"");
     assert_eq!(rt; host.failures(), 1);
     Ok(())
 }
@@ -154,6 +154,6 @@ fn what_a_forgetful_host_answers_is_refused(rt: HostRuntime) -> Result<(), Fail>
         "decision None\n what is supplied is refused, by refusal 2"
     );
     let lists = told_lists(rt.alloc(), &host.host)?;
-    assert_eq!(rt; lists.as_str(), " round Doc::\"d\" User::\"a\"");
+    assert_eq!(rt; lists.as_str(), "round Doc::\"d\" User::\"a\"");
     Ok(())
 }

@@ -241,7 +241,7 @@ fn wrong_row<S: Schema, T: FunctionCalls>(
     rows: &str,
 ) -> Result<Option<String>, AllocError> {
     for row in rows.lines() {
-        let (command, wanted) = row.split_once(" :").unwrap_or((row, ""));
+        let (command, wanted) = row.split_once(" : ").unwrap_or((row, ""));
         let mut said = String::new(alloc);
         answer(alloc, session, host, command, &mut said)?;
         if said.as_str() != wanted {

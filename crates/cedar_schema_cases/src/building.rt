@@ -1,94 +1,42 @@
-//! Questions on what is built of the fragments.
+//! The schema that is built of the fragments of a case.
 
 use crate::desk::Desk;
-use crate::shown::{Shown, add};
+use crate::said::{Entry, put};
 use cedar_expr_functions::Extensions;
 use cedar_schema_builder::SchemaError;
 use cedar_schema_built::ValidatorSchema;
 use std::alloc::{AllocError, Global};
 
-// Answers the question, where it is one of these.
-pub fn done(
-    desk: &mut Desk,
-    verb: &str,
-    rest: &str,
-    table: &Extensions<'_>,
-    said: &mut String,
-) -> Result<bool, AllocError> {
-    match verb {
-        "schema" => schema(desk, table, said),
-        "build" => build(desk, table, said),
-        "refused" => refused(desk, rest, table, said),
-        "shown" => shown(desk, said),
-        _ => Ok(false),
-    }
-}
-
-// Builds the schema.
-fn built(desk: &mut Desk, table: &Extensions<'_>) -> Result<ValidatorSchema, SchemaError> {
+fn built(desk: &Desk, table: &Extensions<'_>) -> Result<ValidatorSchema, SchemaError> {
     let fragments = desk.fragments()?;
     ValidatorSchema::from_schema_fragments(desk.alloc, fragments, table)
 }
 
-// Says why no schema is built: the number and the text of the refusal.
-fn told(alloc: Global, error: SchemaError, said: &mut String) -> Result<bool, AllocError> {
-    add(
-        said,
-        format!(in alloc; "refused {}: {error}", error.number())?.as_str(),
-    )?;
-    Ok(true)
-}
-
-// The entity types and actions of the schema.
-fn shown(desk: &Desk, said: &mut String) -> Result<bool, AllocError> {
-    for ty in desk.schema.entity_types() {
-        ty.show(desk.alloc, said)?;
-    }
-    for action in desk.schema.action_ids() {
-        action.show(desk.alloc, said)?;
-    }
-    Ok(true)
-}
-
-// Those of the schema that is built.
-fn schema(desk: &mut Desk, table: &Extensions<'_>, said: &mut String) -> Result<bool, AllocError> {
-    match built(desk, table) {
-        Ok(schema) => {
-            desk.schema = schema;
-            shown(desk, said)
-        }
-        Err(error) => told(desk.alloc, error, said),
-    }
-}
-
-// Whether a schema is built.
-fn build(desk: &mut Desk, table: &Extensions<'_>, said: &mut String) -> Result<bool, AllocError> {
-    match built(desk, table) {
-        Ok(schema) => {
-            desk.schema = schema;
-            add(said, "built")?;
-            Ok(true)
-        }
-        Err(error) => told(desk.alloc, error, said),
-    }
-}
-
-// Whether the number of the refusal is one of these.
-fn refused(
+// Builds the schema, and says its entity types and actions, or the refusal.
+pub fn schema(
     desk: &mut Desk,
-    rest: &str,
     table: &Extensions<'_>,
     said: &mut String,
-) -> Result<bool, AllocError> {
-    let Err(error) = built(desk, table) else {
-        return Ok(false);
+) -> Result<(), AllocError> {
+    let built = built(desk, table);
+    let number = match &built {
+        Ok(_) => 0,
+        Err(error) => error.number(),
     };
-    let number = error.number();
-    for text in rest.split(' ') {
-        if text.parse::<u32>() == Ok(number) {
-            add(said, "yes")?;
-            return Ok(true);
-        }
+    if put(desk.alloc, &mut desk.schema, built, number, said)? {
+        shown(desk.alloc, &desk.schema, said)
+    } else {
+        Ok(())
     }
-    told(desk.alloc, error, said)
+}
+
+// Says the entity types and actions of the schema.
+fn shown(alloc: Global, schema: &ValidatorSchema, said: &mut String) -> Result<(), AllocError> {
+    for ty in schema.entity_types() {
+        ty.say(alloc, said)?;
+    }
+    for action in schema.action_ids() {
+        action.say(alloc, said)?;
+    }
+    Ok(())
 }

@@ -1,25 +1,23 @@
 //! What the rows of a case work on, and how they are gone over.
 //!
 //! A row `QUESTION => ANSWER` asks, and the answer is compared whole. A row that begins with `#` begins a case anew. Any other row
-//! declares something: a line of `cedar_schema_examples::fragment`; `fragment` alone, behind which another fragment begins; or one of
-//! the words of `made`.
+//! declares something: a line of `cedar_schema_examples::fragment`; `fragment` alone, behind which another fragment begins; or
+//! `common A | Set of T` or `commons A | Set of T`, a fragment of its own that declares this common type alone.
 
-use crate::{building, declaring, made, reading, resolving, sound};
+use crate::written::{Written, written};
+use crate::{building, declaring, reading, sound, steps};
 use cedar_expr_functions::Extensions;
-use cedar_expr_raw_names::ConditionalName;
 use cedar_schema_built::ValidatorSchema;
-use cedar_schema_examples::fragment;
-use cedar_schema_fragments::{FragmentError, ValidatorSchemaFragment};
+use cedar_schema_fragments::FragmentError;
 use std::alloc::{AllocError, Global};
 
-pub type Written = ValidatorSchemaFragment<ConditionalName, ConditionalName>;
+// The words that begin a row that declares something.
+const DECLARING: &str = "type entity enum extern action outside namespace fragment common commons";
 
 pub struct Desk {
     pub alloc: Global,
     // The declarations of the case.
-    pub lines: String,
-    // Fragments that no lines write.
-    pub made: Vec<Written>,
+    lines: String,
     // The schema that was built last.
     pub schema: ValidatorSchema,
 }
@@ -30,7 +28,6 @@ impl Drop for Desk {
         let Desk {
             alloc: _,
             lines: _,
-            made: _,
             schema: _,
         } = self;
     }
@@ -41,59 +38,47 @@ impl Desk {
         Desk {
             alloc,
             lines: String::new(alloc),
-            made: Vec::new(alloc),
             schema: ValidatorSchema::empty(alloc),
         }
     }
 
-    // The fragments of the case: those that no lines write, which are taken, and then those of its lines.
-    pub fn fragments(&mut self) -> Result<Vec<Written>, FragmentError> {
+    // The fragments of the case.
+    pub fn fragments(&self) -> Result<Vec<Written>, FragmentError> {
         let mut fragments = Vec::new(self.alloc);
-        std::mem::swap(&mut fragments, &mut self.made);
         for lines in self.lines.split("fragment\n") {
-            let fragment = fragment(self.alloc, lines)?;
-            fragments.push(Written::from_schema_fragment(self.alloc, fragment)?)?;
+            fragments.push(written(self.alloc, lines)?)?;
         }
         Ok(fragments)
     }
 
     // Takes in a row that declares something. Fails where it doesn't.
     fn declare(&mut self, row: &str) -> Result<(), AllocError> {
-        let (verb, rest) = row.split_once(' ').unwrap_or((row, ""));
-        match verb {
-            "made" => sound::made(self, rest),
-            "filled" | "common" | "commons" => made::add(self, verb, rest),
-            "type"
-            | "entity"
-            | "enum"
-            | "extern"
-            | "action"
-            | "outside"
-            | "namespace"
-            | "fragment" => {
-                self.lines.push_str(row)?;
-                self.lines.push_str("\n")
-            }
-            _ => Err(AllocError),
+        let (verb, _) = row.split_once(' ').unwrap_or((row, ""));
+        if !DECLARING.contains(verb) {
+            return Err(AllocError);
         }
+        self.lines.push_str(row)?;
+        self.lines.push_str("\n")
     }
 }
 
-// Answers a question.
+// Answers a question. Fails where it is none.
 fn answer(
     desk: &mut Desk,
     question: &str,
     table: &Extensions<'_>,
     said: &mut String,
-) -> Result<bool, AllocError> {
+) -> Result<(), AllocError> {
     let (verb, rest) = question.split_once(' ').unwrap_or((question, ""));
-    Ok(
-        reading::done(desk, verb, rest, said)?
-            || sound::done(desk, verb, rest, table, said)?
-            || building::done(desk, verb, rest, table, said)?
-            || resolving::done(desk, verb, rest, table, said)?
-            || declaring::done(desk, verb, rest, said)?,
-    )
+    match verb {
+        "schema" => building::schema(desk, table, said),
+        "steps" => steps::steps(desk, table, said),
+        "refusal" => steps::refusal(desk.alloc, rest, said),
+        "validate" => sound::validate(desk, rest, table, said),
+        "validate_without" => sound::validate(desk, rest, &Extensions::none(desk.alloc), said),
+        "names" | "checked" | "means" => declaring::answer(desk, verb, rest, said),
+        _ => reading::answer(desk.alloc, &desk.schema, verb, rest, said),
+    }
 }
 
 // Whether the row holds, with what is said in place of its answer.
@@ -113,8 +98,8 @@ fn holds(
             Ok(true)
         }
         Some((question, wanted)) => {
-            let is_known = answer(desk, question, table, said)?;
-            Ok(is_known && said.as_str() == wanted.strip_prefix(' ').unwrap_or(wanted))
+            answer(desk, question, table, said)?;
+            Ok(said.as_str() == wanted.strip_prefix(' ').unwrap_or(wanted))
         }
     }
 }

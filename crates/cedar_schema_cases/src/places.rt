@@ -1,112 +1,74 @@
-//! Places that a built schema keeps.
+//! Places that a built schema keeps of its declarations.
 
-use crate::shown::add;
+use crate::said::show;
 use cedar_expr_names::Loc;
 use cedar_schema_built::ValidatorSchema;
-use cedar_schema_types::{AttributeType, Attributes, Type};
-use cedar_test_exprs::{entity_type, uid};
+use cedar_schema_types::{Attributes, Type};
 use std::alloc::{AllocError, Global};
 
-// The text of a place, which is empty where there is none.
-fn place_text(alloc: Global, place: Option<Loc>) -> Result<String, AllocError> {
+// Puts a place behind what is said, if there is one.
+fn add_place(alloc: Global, place: Option<Loc>, said: &mut String) -> Result<(), AllocError> {
     match place {
-        Some(place) => format!(in alloc; " @{}-{}", place.start(), place.end()),
-        None => Ok(String::new(alloc)),
+        Some(place) => {
+            let text = format!(in alloc; " @{}-{}", place.start(), place.end())?;
+            said.push_str(text.as_str())
+        }
+        None => Ok(()),
     }
 }
 
-// The common types that the schema lists: the whole name, its last part, the place of the name and that of the type.
-pub fn common_types(
-    alloc: Global,
-    schema: &ValidatorSchema,
-    said: &mut String,
-) -> Result<bool, AllocError> {
+// The common types that the schema lists, with the places of their names and of their types, and its namespaces, with those of their
+// names and of their definitions.
+fn listed(alloc: Global, schema: &ValidatorSchema, said: &mut String) -> Result<(), AllocError> {
     for common in schema.common_types() {
-        let of_name = place_text(alloc, common.name_loc())?;
-        let of_type = place_text(alloc, common.type_loc())?;
-        let (name, last) = (common.full_name(), common.name());
-        add(
-            said,
-            format!(in alloc; "{name} {last}{of_name}{of_type}")?.as_str(),
-        )?;
+        show(alloc, common.full_name(), said)?;
+        add_place(alloc, common.name_loc(), said)?;
+        add_place(alloc, common.type_loc(), said)?;
     }
-    Ok(true)
-}
-
-// The namespaces that the schema lists: the name twice, its place and that of the definition.
-pub fn namespaces(
-    alloc: Global,
-    schema: &ValidatorSchema,
-    said: &mut String,
-) -> Result<bool, AllocError> {
     for namespace in schema.namespaces() {
-        let of_name = place_text(alloc, namespace.name_loc())?;
-        let of_definition = place_text(alloc, namespace.def_loc())?;
-        let (name, again) = (namespace.full_name(), namespace.name());
-        add(
-            said,
-            format!(in alloc; "{name} {again}{of_name}{of_definition}")?.as_str(),
-        )?;
+        show(alloc, namespace.full_name(), said)?;
+        add_place(alloc, namespace.name_loc(), said)?;
+        add_place(alloc, namespace.def_loc(), said)?;
     }
-    Ok(true)
+    Ok(())
 }
 
-// What is declared of the attribute of this path.
-fn attribute<'a>(attributes: &'a Attributes, path: &str) -> Option<&'a AttributeType> {
-    let mut attributes = attributes;
-    let mut found = None;
-    for name in path.split(' ') {
-        let declared = attributes.get_attr(name)?;
-        found = Some(declared);
+// Puts the names of the attributes behind what is said, each with its place and those of the attributes of its own type.
+#[cycle(places)]
+fn add_attributes(
+    alloc: Global,
+    attributes: &Attributes,
+    said: &mut String,
+) -> Result<(), AllocError> {
+    for (name, declared) in attributes.attrs.iter() {
+        said.push_str(" ")?;
+        said.push_str(name.as_str())?;
+        add_place(alloc, declared.loc, said)?;
         if let Type::Record { attrs, .. } = &declared.attr_type {
-            attributes = attrs;
+            add_attributes(alloc, attrs, said)?;
         }
     }
-    found
+    Ok(())
 }
 
-// Says the place of the attribute of this path, or that of what has the attributes where there is no path.
-fn say_place(
-    alloc: Global,
-    own: Option<Loc>,
-    attributes: &Attributes,
-    path: &str,
-    said: &mut String,
-) -> Result<bool, AllocError> {
-    let place = if path.is_empty() {
-        own
-    } else {
-        attribute(attributes, path).and_then(|declared| declared.loc)
-    };
-    add(said, place_text(alloc, place)?.as_str().trim_start())?;
-    Ok(true)
-}
-
-// The place of an entity type, or of an attribute of it behind a space.
-pub fn of_type(
+// What the schema lists, and its entity types and actions with their places and those of attributes.
+pub fn places(
     alloc: Global,
     schema: &ValidatorSchema,
-    rest: &str,
     said: &mut String,
-) -> Result<bool, AllocError> {
-    let (name, path) = rest.split_once(' ').unwrap_or((rest, ""));
-    let ty = entity_type(alloc, name)?;
-    let ty = schema.get_entity_type(&ty).ok_or(AllocError)?;
-    say_place(alloc, ty.loc(), ty.attributes(), path, said)
-}
-
-// The place of an action, or of an attribute of its context behind a space.
-pub fn of_action(
-    alloc: Global,
-    schema: &ValidatorSchema,
-    rest: &str,
-    said: &mut String,
-) -> Result<bool, AllocError> {
-    let (name, path) = rest.split_once(' ').unwrap_or((rest, ""));
-    let action = uid(alloc, name)?;
-    let action = schema.get_action_id(&action).ok_or(AllocError)?;
-    match action.context() {
-        Type::Record { attrs, .. } => say_place(alloc, action.loc(), attrs, path, said),
-        _ => Ok(false),
+) -> Result<(), AllocError> {
+    listed(alloc, schema, said)?;
+    for ty in schema.entity_types() {
+        show(alloc, ty.name(), said)?;
+        add_place(alloc, ty.loc(), said)?;
+        add_attributes(alloc, ty.attributes(), said)?;
     }
+    for action in schema.action_ids() {
+        show(alloc, action.name(), said)?;
+        add_place(alloc, action.loc(), said)?;
+        if let Type::Record { attrs, .. } = action.context() {
+            add_attributes(alloc, attrs, said)?;
+        }
+    }
+    Ok(())
 }

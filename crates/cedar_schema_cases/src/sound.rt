@@ -1,111 +1,46 @@
 //! Schemas that are made by hand, which may be unsound, and the question whether one is sound.
 
 use crate::desk::Desk;
-use crate::shown::add;
+use crate::said::pass;
 use cedar_expr_functions::Extensions;
 use cedar_expr_names::{EntityType, EntityUID};
-use cedar_schema_builder::extension_types;
 use cedar_schema_built::ValidatorSchema;
 use cedar_schema_entries::{AppliesTo, ValidatorActionId, ValidatorEntityType};
-use cedar_schema_sound::{TryValidate, first_unsound};
-use cedar_schema_types::{Attributes, OpenTag, Type};
-use cedar_test_exprs::{entity_type, name, uid_of, word};
+use cedar_schema_sound::TryValidate;
+use cedar_schema_types::Type;
+use cedar_test_exprs::{entity_type, uid};
 use std::alloc::{AllocError, Global};
 use std::collections::BTreeSet;
 
-// Answers the question, where it is this one.
-pub fn done(
+// Whether the schema that was built last is sound, or the one that the rest of the question makes.
+pub fn validate(
     desk: &mut Desk,
-    verb: &str,
-    _rest: &str,
+    rest: &str,
     table: &Extensions<'_>,
     said: &mut String,
-) -> Result<bool, AllocError> {
-    if verb != "validate" {
-        return Ok(false);
-    }
-    let known = extension_types(desk.alloc, table)?;
-    let is_sound = first_unsound(&desk.schema, &known).is_none();
-    add(said, if is_sound { "sound" } else { "unsound" })?;
-    let schema = std::mem::replace(&mut desk.schema, ValidatorSchema::empty(desk.alloc));
-    match schema.try_validate(desk.alloc, table) {
-        Ok(schema) => desk.schema = schema,
-        Err(error) => add(said, error.to_string(desk.alloc)?.as_str())?,
-    }
-    Ok(true)
+) -> Result<(), AllocError> {
+    let schema = if rest.is_empty() {
+        std::mem::replace(&mut desk.schema, ValidatorSchema::empty(desk.alloc))
+    } else {
+        made(desk.alloc, rest)?
+    };
+    pass(desk.alloc, schema.try_validate(desk.alloc, table), said)
 }
 
-// Makes the schema of the entity types and actions of a text, as `A < B C; B; C | view < edit; edit`, where the names behind a `<`
-// are of what descends.
-pub fn made(desk: &mut Desk, rest: &str) -> Result<(), AllocError> {
-    let (types, acts) = rest.split_once(" | ").unwrap_or((rest, ""));
-    let types = entity_types(desk.alloc, types)?;
-    let acts = actions(desk.alloc, acts)?;
-    desk.schema = ValidatorSchema::new(desk.alloc, types, acts)?;
-    Ok(())
-}
-
-fn types_of(alloc: Global, text: &str) -> Result<BTreeSet<EntityType>, AllocError> {
-    let mut types = BTreeSet::new(alloc);
-    for word in text.split(' ') {
-        if !word.is_empty() {
-            types.insert(entity_type(alloc, word)?)?;
-        }
-    }
-    Ok(types)
-}
-
-// The action of this id, whose type stands before it where it isn't `Action`.
-fn uid(alloc: Global, text: &str) -> Result<EntityUID, AllocError> {
-    let (of, id) = text.split_once('/').unwrap_or(("Action", text));
-    uid_of(alloc, of, id)
-}
-
-fn uids_of(alloc: Global, text: &str) -> Result<BTreeSet<EntityUID>, AllocError> {
-    let mut uids = BTreeSet::new(alloc);
-    for word in text.split(' ') {
-        if !word.is_empty() {
-            uids.insert(uid(alloc, word)?)?;
-        }
-    }
-    Ok(uids)
-}
-
-// The attributes of the entity type of this name: `Ranked` alone has one, of the extension type `rank`.
-fn attributes(alloc: Global, text: &str) -> Result<Attributes, AllocError> {
-    let mut pairs = Vec::new(alloc);
-    if text == "Ranked" {
-        pairs.push((word(alloc, "rank")?, Type::extension(name(alloc, "rank")?)))?;
-    }
-    Attributes::with_required_attributes(alloc, pairs)
+// The schema of the entity types and actions of a text, as `A < B; B | Action::a < Action::b; Action::b`.
+fn made(alloc: Global, text: &str) -> Result<ValidatorSchema, AllocError> {
+    let (types, acts) = text.split_once(" | ").unwrap_or((text, ""));
+    let types = entity_types(alloc, types)?;
+    ValidatorSchema::new(alloc, types, actions(alloc, acts)?)
 }
 
 fn entity_types(alloc: Global, text: &str) -> Result<Vec<ValidatorEntityType>, AllocError> {
     let mut types = Vec::new(alloc);
     for part in text.split("; ") {
         let (word, below) = part.split_once(" < ").unwrap_or((part, ""));
-        types.push(ValidatorEntityType::new_standard(
-            entity_type(alloc, word)?,
-            types_of(alloc, below)?,
-            attributes(alloc, word)?,
-            None,
-            None,
-        ))?;
+        types.push(declared(alloc, word, below)?)?;
     }
     Ok(types)
-}
-
-// An action of users on documents. The context of `open` alone is an open record.
-fn action(alloc: Global, word: &str, below: &str) -> Result<ValidatorActionId, AllocError> {
-    let open = if word == "open" {
-        OpenTag::OpenAttributes
-    } else {
-        OpenTag::ClosedAttributes
-    };
-    let context = Type::record_with_attributes(alloc, Vec::new(alloc), open)?;
-    let applies_to = AppliesTo::new(types_of(alloc, "User")?, types_of(alloc, "Doc")?);
-    let below = uids_of(alloc, below)?;
-    Ok(ValidatorActionId::new_defined(uid(alloc, word)?, applies_to, below, context, None))
 }
 
 fn actions(alloc: Global, text: &str) -> Result<Vec<ValidatorActionId>, AllocError> {
@@ -115,4 +50,39 @@ fn actions(alloc: Global, text: &str) -> Result<Vec<ValidatorActionId>, AllocErr
         actions.push(action(alloc, word, below)?)?;
     }
     Ok(actions)
+}
+
+// An entity type that is declared elsewhere.
+fn declared(alloc: Global, word: &str, below: &str) -> Result<ValidatorEntityType, AllocError> {
+    let below = types_of(alloc, below)?;
+    ValidatorEntityType::new_external(alloc, entity_type(alloc, word)?, below, None)
+}
+
+// An action that is declared elsewhere; `Action::long` is declared here, and its context is no record.
+fn action(alloc: Global, word: &str, below: &str) -> Result<ValidatorActionId, AllocError> {
+    let below = uids_of(alloc, below)?;
+    let uid = uid(alloc, word)?;
+    if word == "Action::long" {
+        let applies_to = AppliesTo::new(BTreeSet::new(alloc), BTreeSet::new(alloc));
+        return Ok(ValidatorActionId::new_defined(uid, applies_to, below, Type::Long, None));
+    }
+    ValidatorActionId::new_external(alloc, uid, below, None)
+}
+
+// The entity type of this name alone; of the empty name none.
+fn types_of(alloc: Global, word: &str) -> Result<BTreeSet<EntityType>, AllocError> {
+    let mut types = BTreeSet::new(alloc);
+    if !word.is_empty() {
+        types.insert(entity_type(alloc, word)?)?;
+    }
+    Ok(types)
+}
+
+// The uid alone; of the empty text none.
+fn uids_of(alloc: Global, word: &str) -> Result<BTreeSet<EntityUID>, AllocError> {
+    let mut uids = BTreeSet::new(alloc);
+    if !word.is_empty() {
+        uids.insert(uid(alloc, word)?)?;
+    }
+    Ok(uids)
 }

@@ -1,19 +1,11 @@
-//! Tests of the types of a schema: their texts, what is below what, joins, the values and the restricted expressions of a type, and
-//! the types by which values can be read. Rows of text: a question and its answer. No contract: the rows are compared whole when the
-//! tests run.
+//! Tests of the types of a schema: their texts, joins, the restricted expressions of a type, and the types by which values can be read, as
+//! rows: a command, and behind ` : ` what it comes to. Each call that takes memory is made once with enough of it; what the clauses say of
+//! the others isn't repeated. No function has a contract, and nothing uses this crate.
 #![tactic(auto)]
 
 #[cfg(test)]
 mod asked;
 #[cfg(test)]
-mod core_types;
-#[cfg(test)]
-mod joined;
-#[cfg(test)]
-mod restricted_rows;
-#[cfg(test)]
 mod rows;
 #[cfg(test)]
 mod types;
-#[cfg(test)]
-mod values;

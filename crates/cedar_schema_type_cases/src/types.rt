@@ -1,7 +1,7 @@
 //! The types that the rows name.
 
-use cedar_schema_types::{AttributeType, Attributes, EntityKind, EntityLUB, OpenTag, Type};
-use cedar_test_exprs::{entity_type, name};
+use cedar_schema_types::{AttributeType, EntityKind, EntityLUB, OpenTag, Type};
+use cedar_test_exprs::{entity_type, name, word};
 use cedar_test_helpers::{kept, shared};
 use std::alloc::{AllocError, Global};
 use std::rc::{Rc, RcStr};
@@ -20,7 +20,7 @@ fn extension(alloc: Global, text: &str) -> Made {
 
 // The union of the entity types of a text, with `or` between two.
 pub fn union(alloc: Global, text: &str) -> Result<EntityLUB, AllocError> {
-    let (first, second) = text.split_once(" or ").unwrap_or((text, text));
+    let (first, second) = text.split_once(" or ").ok_or(AllocError)?;
     let first = EntityLUB::single_entity(alloc, entity_type(alloc, first)?)?;
     let second = EntityLUB::single_entity(alloc, entity_type(alloc, second)?)?;
     first.union(alloc, &second)
@@ -31,69 +31,44 @@ fn of_union(alloc: Global, text: &str) -> Made {
     shared(alloc, Type::Entity(EntityKind::Entity(union)))
 }
 
-// The name of an attribute, whether it is required, where no `?` stands behind it, and the name of its type.
-fn attribute_parts(text: &str) -> (&str, bool, &str) {
-    let (name, ty) = text.split_once(": ").unwrap_or((text, "Never"));
-    match name.strip_suffix('?') {
-        Some(name) => (name, false, ty),
-        None => (name, true, ty),
-    }
-}
-
-// The attributes of a record, and whether it is open: where `..` stands behind them.
-fn record_parts(text: &str) -> (&str, bool) {
-    match text.strip_suffix("..") {
-        Some(attrs) => (attrs, true),
-        None => (text, false),
-    }
-}
-
+// The attribute of a text, as `a: Long` or, where it isn't required, `a?: Long`.
 fn attribute(alloc: Global, text: &str) -> Result<(RcStr, AttributeType), AllocError> {
-    let (name, is_required, ty) = attribute_parts(text);
-    let declared = AttributeType::new(copied(plain(alloc, ty))?, is_required);
-    Ok((RcStr::from_str(alloc, name)?, declared))
+    let (name, of) = text.split_once(": ").ok_or(AllocError)?;
+    let declared = Type::clone(&*plain(alloc, of)?)?;
+    match name.strip_suffix('?') {
+        Some(name) => Ok((
+            word(alloc, name)?,
+            AttributeType::optional_attribute(declared),
+        )),
+        None => Ok((
+            word(alloc, name)?,
+            AttributeType::required_attribute(declared),
+        )),
+    }
 }
 
-// Attributes with commas between them.
-fn attributes(alloc: Global, text: &str) -> Result<Attributes, AllocError> {
+// The record of attributes with commas between them; `..` stands behind those of an open one.
+fn record(alloc: Global, text: &str) -> Made {
+    let (attrs, tag) = match text.strip_suffix("..") {
+        Some(attrs) => (attrs, OpenTag::OpenAttributes),
+        None => (text, OpenTag::ClosedAttributes),
+    };
     let mut pairs = Vec::new(alloc);
-    for attr in text.split(", ") {
+    for attr in attrs.split(", ") {
         if !attr.is_empty() {
             pairs.push(attribute(alloc, attr)?)?;
         }
     }
-    Attributes::with_attributes(alloc, pairs)
-}
-
-fn record(alloc: Global, text: &str) -> Made {
-    let (attrs, is_open) = record_parts(text);
-    let attrs = attributes(alloc, attrs)?;
-    let open_attributes = if is_open {
-        OpenTag::OpenAttributes
-    } else {
-        OpenTag::ClosedAttributes
-    };
-    shared(
-        alloc,
-        Type::Record {
-            attrs,
-            open_attributes,
-        },
-    )
-}
-
-// A copy of what was made.
-pub fn copied(made: Made) -> Result<Type, AllocError> {
-    Type::clone(&*made?)
+    kept(alloc, Type::record_with_attributes(alloc, pairs, tag))
 }
 
 fn sets(alloc: Global, element: Made) -> Made {
-    let element = copied(element)?;
+    let element = Type::clone(&*element?)?;
     kept(alloc, Type::set(alloc, element))
 }
 
 // The type without parts of this name. Another name is that of an entity type.
-pub fn plain(alloc: Global, text: &str) -> Made {
+fn plain(alloc: Global, text: &str) -> Made {
     match text {
         "Never" => shared(alloc, Type::Never),
         "True" => shared(alloc, Type::singleton_boolean(true)),
@@ -123,4 +98,15 @@ pub fn ty(alloc: Global, text: &str) -> Made {
         Some(element) => sets(alloc, unnested(alloc, element)),
         None => unnested(alloc, text),
     }
+}
+
+// The types of a text, with commas between them.
+pub fn types(alloc: Global, text: &str) -> Result<Vec<Type>, AllocError> {
+    let mut types = Vec::new(alloc);
+    for name in text.split(", ") {
+        if !name.is_empty() {
+            types.push(Type::clone(&*plain(alloc, name)?)?)?;
+        }
+    }
+    Ok(types)
 }

@@ -22,7 +22,7 @@ shown : User::"a"@1 age 40 spoon 2 tag spoon -121 parent Team::"all"@2 parent Te
 above Team::all ; above Team::red ; parent Team::red ; entity User::a
 shown : User::"a" above Team::"all" parent Team::"red"
 # an attribute and a tag may be no value yet
-attr age 40 ; attr foo $u ; tag spoon $t:Bool ; above Team::all@2 ; parent Team::red@3 ; partial_entity User::c@6
+attr age 40 ; attr foo $u ; tag spoon $t:Bool ; above Team::all@2 ; parent Team::red@3 ; entity User::c@6
 shown : User::"c"@6 age 40 foo unknown("u") tag spoon unknown("t") bool above Team::"all"@2 parent Team::"red"@3
 copy
 shown : User::"c"@6 age 40 foo unknown("u") tag spoon unknown("t") bool above Team::"all"@2 parent Team::"red"@3
@@ -38,11 +38,10 @@ store : duplicate entity entry `User::"a"`
 entity User::b
 entity User::a
 store : done
-lacking_store memory : out of memory
 # a store that has nothing is whole
 find User::a : none
 # a whole store knows what is missing, and a partial one has an unknown for it
-attr age 40 ; attr foo $u ; tag spoon -121 ; above Team::all@2 ; parent Team::red@3 ; partial_entity User::a@1
+attr age 40 ; attr foo $u ; tag spoon -121 ; above Team::all@2 ; parent Team::red@3 ; entity User::a@1
 entity User::b
 entity Team::red
 store : done

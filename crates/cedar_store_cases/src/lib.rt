@@ -8,5 +8,3 @@ mod entity_rows;
 mod meaning_rows;
 #[cfg(test)]
 mod policy_rows;
-#[cfg(test)]
-mod tables;

@@ -1,10 +1,23 @@
 //! What expressions and policies mean. Expressions are written with their operands before their operator, as `cedar_test_exprs` reads
 //! them.
 
-use cedar_expr_functions::{Extension, Extensions};
+ghost use Rattle.std.specs.Prelude.{◌≡◌, true, Some};
+ghost use Rattle.cedar_expr_model.specs.Tree.{bool_core};
+ghost use Rattle.cedar_expr_model.specs.Value.{prim, truth};
+ghost use Rattle.cedar_expr_model.specs.Table.{gives};
+ghost use Rattle.cedar_expr_functions.specs.Answers.{answer, is_of_result};
+
+use cedar_expr_functions::{
+    CallFault, CallStyle, Extension, ExtensionFunction, ExtensionOutputValue, Extensions, Func,
+};
+use cedar_expr_leaves::Literal;
+use cedar_expr_values::{ExtValue, Type, Value};
 use cedar_test_exprs::name;
 use cedar_test_store::hold;
+use std::alloc::Global;
 use std::test::Fail;
+
+type V = Value<ExtValue>;
 
 const EXPRESSIONS: &str = r##"# operators, choices, sets, records and texts
 attr boss User::a ; attr ok true ; entity User::a
@@ -14,7 +27,7 @@ parent Folder::root ; entity Folder::f
 store : done
 request User::a Action::view Doc::d
 context "Windows record=os_name 7 record=device_properties,n
-let t true ; slot principal User::c ; let_value low rank 7 ; let_value high rank 10 ; let_value other mark 7 ; means 1 2 + : 3
+let t true ; slot principal User::c ; let low ext=rank/"7/7 ; let high ext=rank/"10/10 ; let other ext=mark/"7/7 ; means 1 2 + : 3
 means 9223372036854775807 1 + : integer overflow
 means 1 2 - : -1
 means -9223372036854775808 1 - : integer overflow
@@ -179,7 +192,12 @@ means User::x resource in : false
 means resource User::x Folder::top set=2 in : true
 means resource resource 1 set=2 in : a value has a wrong type
 means 1 resource in : a value has a wrong type
-lacking_meaning memory : out of memory
+- arguments come first, then the function, then their count and their types
+means "a call=yes/1 : true
+means 1 call=yes/1 : a value has a wrong type
+means call=yes/0 : wrong number of arguments
+means "a call=none/1 : there is no such function
+means 9223372036854775807 1 + call=none/1 : integer overflow
 # what a partial store has not is not known
 attr boss User::a ; attr ok true ; entity User::a
 attr boss User::a ; attr ok true ; entity User::b
@@ -201,7 +219,7 @@ means resource User::x Folder::top set=2 in : true
 means resource has=owner : true
 means resource has=ok : false
 # a part may be no value yet: whatever the unknown t is bound to, it is known that the part is there
-attr boss User::u ; attr ok $t ; tag spoon $t ; partial_entity User::u
+attr boss User::u ; attr ok $t ; tag spoon $t ; entity User::u
 store : done
 request User::u Action::view Doc::d
 let t true ; means User::u .boss : User::"u"
@@ -366,13 +384,25 @@ by User::a ; outcome : true, satisfied
 by User::b ; outcome : false, not satisfied
 "##;
 
-// The table has no functions and orders the values of the type rank.
+// It answers `true`, whatever it is asked.
+fn yes(_alloc: Global, _args: &[V]) -> Result<ExtensionOutputValue, CallFault>
+    ensures answers { answer result ≡ Some (gives (prim (truth true))) }
+    ensures own { is_of_result (Some bool_core) result ≡ true }
+{
+    Ok(ExtensionOutputValue::Known(Value::from(Literal::from(true))))
+}
+
+// The table has the function `yes`, which is always true, and orders the values of the type rank.
 #[test]
 fn expressions_and_policies_have_meanings(rt: HostRuntime) -> Result<(), Fail> {
     let alloc = rt.alloc();
-    let mut kinds = Vec::new(alloc);
-    kinds.push(name(alloc, "rank")?)?;
-    let extensions = [Extension::new(name(alloc, "rank")?, Vec::new(alloc), kinds)];
+    let func: Func = Box::new(alloc, |alloc: Global, args: &[V]| yes(alloc, args))?;
+    let style = CallStyle::FunctionStyle;
+    let called = name(alloc, "yes")?;
+    let yes = ExtensionFunction::unary(alloc, called, style, func, Type::Bool, Type::String)?;
+    let functions = vec![in alloc; yes]?;
+    let kinds = vec![in alloc; name(alloc, "rank")?]?;
+    let extensions = [Extension::new(name(alloc, "rank")?, functions, kinds)];
     let table = Extensions::specific_extensions(alloc, &extensions)?;
     hold(alloc, &table, EXPRESSIONS)?;
     Ok(hold(alloc, &table, POLICIES)?)

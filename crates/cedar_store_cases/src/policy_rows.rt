@@ -58,10 +58,8 @@ set : b of b permit; a of a permit; l of t permit ?principal a; c of c permit;
 # lists in which an id stands twice don't: the first that is met again is told
 static b ; whole ; static a ; whole ; static c ; whole ; static a ; whole ; static b ; whole
 listed : duplicate template or policy id `a`
-# want of memory
-lacking static : out of memory
-lacking add : out of memory
-lacking link : out of memory
+# what refusals say where memory is wanting, and what the failure of a function says
+texts : out of memory out of memory out of memory out of memory out of memory extension function of `rank` failed
 "##;
 
 const POLICIES: &str = r##"# a linked policy asks its slot, and names what that is bound to
@@ -120,18 +118,16 @@ asked principal : principal is=User principal Team::t in &&
 asked action : true
 asked resource : resource Folder::f in
 # slots of a scope and of a body keep their places in the condition, also where they are bound
-at 2 ; scope principal in ?principal ; at 3 ; body ?resource ; at 1 ; template t ; bind principal User::a ; bind resource Doc::d
-linked l ; stands 2 : ?principal
-stands 3 : ?resource
-stands 1 : nothing
+scope principal in ?principal@2 ; body ?resource@3 ; template t ; bind principal User::a ; bind resource Doc::d
+linked l ; condition : principal ?principal@2 in true true ?resource@3 && && &&
 # a body keeps its place in the condition, whatever the scope asks
-at 4 ; body context .n ; when p ; stands 4 : context .n
-scope principal == User::a, action == Action::view, resource in Doc::d ; body context .n ; template p ; linked
-stands 4 : context .n
-scope principal == User::a, action == Action::view, resource in Doc::d ; body true ; template p ; linked ; stands 4 : true
+body context .n@4 ; when p ; condition : true true true context .n@4 && && &&
+scope principal == User::a, action == Action::view, resource in Doc::d ; body context .n@4 ; template p ; linked
+condition : principal User::a == action Action::view == resource Doc::d in context .n@4 && && &&
+scope principal == User::a, action == Action::view, resource in Doc::d ; body true@4 ; template p ; linked
+condition : principal User::a == action Action::view == resource Doc::d in true@4 && && &&
 - where it is a truth value and the scope asks nothing, the condition is one literal, which has no place
-body true ; when p ; stands 4 : nothing
-condition : true
+body true@4 ; when p ; condition : true
 "##;
 
 #[test]

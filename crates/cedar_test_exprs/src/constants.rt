@@ -35,26 +35,6 @@ pub fn binary(word: &str) -> Option<BinaryOp> {
     }
 }
 
-// The variable that the word names.
-fn variable(word: &str) -> Option<Var> {
-    match word {
-        "principal" => Some(Var::Principal),
-        "action" => Some(Var::Action),
-        "resource" => Some(Var::Resource),
-        "context" => Some(Var::Context),
-        _ => None,
-    }
-}
-
-// The slot that the word names.
-fn slot(word: &str) -> Option<SlotId> {
-    match word {
-        "?principal" => Some(SlotId::principal()),
-        "?resource" => Some(SlotId::resource()),
-        _ => None,
-    }
-}
-
 /// The literal that the word writes: `true`, `-5`, `"text`, `User::a`. Fails where it writes none, and for want of memory.
 pub fn literal(alloc: Global, text: &str) -> Result<Literal, AllocError> {
     if let Some(text) = text.strip_prefix("\"") {
@@ -72,15 +52,17 @@ pub fn literal(alloc: Global, text: &str) -> Result<Literal, AllocError> {
 
 // The variable, slot, unknown or literal that the word writes. Fails where it writes none, and for want of memory.
 pub fn constant(alloc: Global, text: &str) -> Result<Expr, AllocError> {
-    if let Some(v) = variable(text) {
-        return Ok(Expr::var(v));
+    if let Some(named) = text.strip_prefix("$") {
+        return Ok(Expr::unknown(unknown(alloc, named)?));
     }
-    if let Some(s) = slot(text) {
-        return Ok(Expr::slot(s));
-    }
-    match text.strip_prefix("$") {
-        Some(named) => Ok(Expr::unknown(unknown(alloc, named)?)),
-        None => Ok(Expr::val(literal(alloc, text)?)),
+    match text {
+        "principal" => Ok(Expr::var(Var::Principal)),
+        "action" => Ok(Expr::var(Var::Action)),
+        "resource" => Ok(Expr::var(Var::Resource)),
+        "context" => Ok(Expr::var(Var::Context)),
+        "?principal" => Ok(Expr::slot(SlotId::principal())),
+        "?resource" => Ok(Expr::slot(SlotId::resource())),
+        _ => Ok(Expr::val(literal(alloc, text)?)),
     }
 }
 

@@ -13,5 +13,5 @@ mod values;
 pub use constants::literal;
 pub use naming::{entity_type, name, placed, uid, uid_of, word};
 pub use reading::expr;
-pub use said::{all, at, is, read};
+pub use said::{at, is, read};
 pub use values::value;

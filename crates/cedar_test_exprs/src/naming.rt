@@ -1,6 +1,7 @@
 //! Names, types and uids of texts.
 
 use cedar_expr_names::{Eid, EntityType, EntityUID, Loc, Name};
+use cedar_test_helpers::made;
 use std::alloc::{AllocError, Global};
 use std::rc::RcStr;
 
@@ -11,12 +12,12 @@ pub fn word(alloc: Global, text: &str) -> Result<RcStr, AllocError> {
 
 /// The name of this text. Fails where the text writes none, and for want of memory.
 pub fn name(alloc: Global, text: &str) -> Result<Name, AllocError> {
-    Name::from_normalized_str(alloc, text).map_err(|_| AllocError)
+    made(Name::from_normalized_str(alloc, text))
 }
 
 /// The entity type of this name. Fails where the text writes none, and for want of memory.
 pub fn entity_type(alloc: Global, text: &str) -> Result<EntityType, AllocError> {
-    EntityType::from_normalized_str(alloc, text).map_err(|_| AllocError)
+    made(EntityType::from_normalized_str(alloc, text))
 }
 
 /// The uid of this type and id. Fails where the type is no name, and for want of memory.
@@ -25,13 +26,13 @@ pub fn uid_of(alloc: Global, of: &str, id: &str) -> Result<EntityUID, AllocError
     Ok(EntityUID::from_components(of, Eid::from_str(alloc, id)?, None))
 }
 
-/// The uid of a type and an id, as in `User::a`: what stands behind the last `::` is the id. Fails where there is none, and for want
-/// of memory.
+/// The uid of a type and an id, as in `User::a` or, at a place, `User::a@3`: what stands behind the last `::` is the id. Fails where
+/// there is none, and for want of memory.
 pub fn uid(alloc: Global, text: &str) -> Result<EntityUID, AllocError> {
-    match text.rsplit_once("::") {
-        Some((of, id)) => uid_of(alloc, of, id),
-        None => Err(AllocError),
-    }
+    let (text, place) = placed(text);
+    let (of, id) = text.rsplit_once("::").ok_or(AllocError)?;
+    let of = entity_type(alloc, of)?;
+    Ok(EntityUID::from_components(of, Eid::from_str(alloc, id)?, place))
 }
 
 /// The word without the place behind it, and that place: of `1@4` it is `1`, and the place that begins and ends at 4.

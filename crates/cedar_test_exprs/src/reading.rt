@@ -3,8 +3,9 @@
 use crate::constants::{binary, constant, unary};
 use crate::naming::{placed, word};
 use crate::nodes::{call, has, is, like, record, set};
-use crate::stack::{one, the_one, three, two};
+use crate::stack::{the_one, two};
 use cedar_expr_trees::Expr;
+use cedar_test_helpers::one;
 use std::alloc::{AllocError, Global};
 
 /// The expression that the text writes: words with a space between two of them, the operands before their operator. `1 2 + 3 <` is
@@ -43,26 +44,19 @@ fn of_word(alloc: Global, made: &mut Vec<Expr>, text: &str) -> Result<Expr, Allo
         return Expr::get_attr(alloc, one(made)?, attr);
     }
     match text {
-        "&&" => and(alloc, made),
-        "||" => or(alloc, made),
-        "if" => choice(alloc, made),
+        "&&" | "||" | "if" => joined(alloc, made, text),
         _ => of_parts(alloc, made, text),
     }
 }
 
-fn and(alloc: Global, made: &mut Vec<Expr>) -> Result<Expr, AllocError> {
+// The conjunction, the disjunction or the choice of the last ones.
+fn joined(alloc: Global, made: &mut Vec<Expr>, text: &str) -> Result<Expr, AllocError> {
     let (first, second) = two(made)?;
-    Expr::and(alloc, first, second)
-}
-
-fn or(alloc: Global, made: &mut Vec<Expr>) -> Result<Expr, AllocError> {
-    let (first, second) = two(made)?;
-    Expr::or(alloc, first, second)
-}
-
-fn choice(alloc: Global, made: &mut Vec<Expr>) -> Result<Expr, AllocError> {
-    let (test, yes, no) = three(made)?;
-    Expr::ite(alloc, test, yes, no)
+    match text {
+        "&&" => Expr::and(alloc, first, second),
+        "||" => Expr::or(alloc, first, second),
+        _ => Expr::ite(alloc, one(made)?, first, second),
+    }
 }
 
 // The expression of a word that has `=` between its kind and the rest; of any other word a constant.

@@ -23,15 +23,6 @@ pub fn read(alloc: Global, text: &str) -> Result<Rc<Expr>, AllocError> {
     kept(alloc, expr(alloc, text))
 }
 
-/// The expressions that the text writes, with bars between them. Fails where one writes none, and for want of memory.
-pub fn all(alloc: Global, text: &str) -> Result<Vec<Expr>, AllocError> {
-    let mut exprs = Vec::new(alloc);
-    for text in text.split(" | ").filter(|text| !text.is_empty()) {
-        exprs.push(expr(alloc, text)?)?;
-    }
-    Ok(exprs)
-}
-
 // Whether each part of the one stands where that of the other does.
 fn stand_alike(alloc: Global, e: &Expr, other: &Expr) -> Result<bool, AllocError> {
     let mut others = other.subexpressions(alloc)?;

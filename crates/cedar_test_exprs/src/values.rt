@@ -1,8 +1,8 @@
 //! Values as texts.
 
 use crate::constants::literal;
-use crate::naming::{name, placed, word};
-use crate::stack::{one, several, the_one};
+use crate::naming::{name, placed};
+use crate::stack::{named, several, the_one};
 use cedar_expr_values::{ExtValue, Value, ValueKind};
 use std::alloc::{AllocError, Global};
 use std::rc::Rc;
@@ -37,27 +37,20 @@ fn of_word(alloc: Global, made: &mut Vec<V>, text: &str) -> Result<V, AllocError
 }
 
 fn set(alloc: Global, made: &mut Vec<V>, count: &str) -> Result<V, AllocError> {
-    let count = count.parse::<usize>().map_err(|_| AllocError)?;
     Value::set(alloc, several(alloc, made, count)?, None)
 }
 
 // The record of fields of these names and the last values.
 fn record(alloc: Global, made: &mut Vec<V>, names: &str) -> Result<V, AllocError> {
-    let mut fields = Vec::new(alloc);
-    for name in names.rsplit(',').filter(|name| !name.is_empty()) {
-        fields.push((word(alloc, name)?, one(made)?))?;
-    }
-    fields.reverse();
-    Value::record(alloc, fields, None)
+    Value::record(alloc, named(alloc, made, names)?, None)
 }
 
 // The extension value of a kind, the text of its call, and its key.
 fn extension(alloc: Global, text: &str) -> Result<V, AllocError> {
     let (kind, text) = text.split_once('/').ok_or(AllocError)?;
     let (argument, key) = text.split_once('/').ok_or(AllocError)?;
-    let key = key.parse::<u8>().map_err(|_| AllocError)?;
+    let key = vec![in alloc; key.parse::<u8>().ok().ok_or(AllocError)?]?;
     let args = vec![in alloc; literal(alloc, argument)?]?;
-    let (kind, function) = (name(alloc, kind)?, name(alloc, kind)?);
-    let made = ExtValue::new(kind, function, args, vec![in alloc; key]?);
+    let made = ExtValue::new(name(alloc, kind)?, name(alloc, kind)?, args, key);
     Ok(Value::new(ValueKind::ExtensionValue(Rc::new(alloc, made)?), None))
 }

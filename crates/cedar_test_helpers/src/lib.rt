@@ -7,9 +7,7 @@ mod said;
 ghost use Rattle.std.specs.Prelude.{◌≡◌, IfOk};
 ghost use Rattle.std.specs.declared.result.Result.TheVariants.{Ok};
 
-pub use said::{
-    after_all, before, copied, made, one, refused, same, say, show, tell, told, told_twice,
-};
+pub use said::{copied, made, one, parted, refused, say, show, tell, told, told_copy};
 use std::alloc::{AllocError, Global};
 use std::rc::Rc;
 

@@ -1,11 +1,24 @@
-//! What a row of a test comes to, said word by word behind its command.
+//! What a row of a test comes to, said word by word.
 
 use std::alloc::{AllocError, Global};
 use std::fmt::Display;
 
-/// Says a text behind a space; of the empty one `nothing`. Fails only for want of memory.
+/// The verb of a row's command, the rest of the command, and what is wanted, which stands behind ` : `; or nothing, where the row begins
+/// with `#`.
+pub fn parted(row: &str) -> Option<(&str, &str, &str)> {
+    if row.starts_with('#') {
+        return None;
+    }
+    let (command, wanted) = row.split_once(" : ").unwrap_or((row, ""));
+    let (verb, rest) = command.split_once(' ').unwrap_or((command, ""));
+    Some((verb, rest, wanted))
+}
+
+/// Says a text, behind a space where something stands before it; of the empty one `nothing`. Fails only for want of memory.
 pub fn say(said: &mut String, text: &str) -> Result<(), AllocError> {
-    said.push(' ')?;
+    if !said.is_empty() {
+        said.push(' ')?;
+    }
     said.push_str(if text.is_empty() { "nothing" } else { text })
 }
 
@@ -50,33 +63,17 @@ pub fn copied<T: Clone + Display + Drop>(
     said: &mut String,
     it: &T,
 ) -> Result<(), AllocError> {
-    let copy = made(it.clone())?;
-    show(alloc, said, &copy)
+    told(alloc, said, it.clone())
 }
 
-/// Says how what was made is shown, and how a copy is. Fails where it wasn't made, and for want of memory.
-pub fn told_twice<T: Clone + Display + Drop, E: Drop>(
+/// Says how a copy of what was made is shown. Fails where it wasn't made, and for want of memory.
+pub fn told_copy<T: Clone + Display + Drop, E: Drop>(
     alloc: Global,
     said: &mut String,
     it: Result<T, E>,
 ) -> Result<(), AllocError> {
     let it = made(it)?;
-    show(alloc, said, &it)?;
     copied(alloc, said, &it)
-}
-
-/// Says whether two are the same. Fails only for want of memory.
-pub fn same<T: Drop + PartialEq>(said: &mut String, one: T, other: T) -> Result<(), AllocError> {
-    tell(said, one == other)
-}
-
-/// Says whether the first is before the second. Fails only for want of memory.
-pub fn before<T: Drop + PartialOrd>(
-    said: &mut String,
-    first: T,
-    second: T,
-) -> Result<(), AllocError> {
-    tell(said, first < second)
 }
 
 /// What was made. Fails where it wasn't.
@@ -90,20 +87,4 @@ pub fn made<T: Drop, E: Drop>(made: Result<T, E>) -> Result<T, AllocError> {
 /// The last of a list. Fails where there is none.
 pub fn one<T: Drop>(list: &mut Vec<T>) -> Result<T, AllocError> {
     list.pop().ok_or(AllocError)
-}
-
-/// Says whether what is laid on the pile comes after all that lie there, and is what is made anew of its text. Fails only for want of
-/// memory.
-pub fn after_all<T: Drop + Ord>(
-    said: &mut String,
-    pile: &mut Vec<T>,
-    it: T,
-    again: T,
-) -> Result<(), AllocError> {
-    let mut is_so = it == again && it.cmp(&again).is_eq();
-    for earlier in pile.iter() {
-        is_so = is_so && *earlier != it && earlier.cmp(&it).is_lt() && it.cmp(earlier).is_gt();
-    }
-    pile.push(it)?;
-    say(said, if is_so { "after all" } else { "not after all" })
 }

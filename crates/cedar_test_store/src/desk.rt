@@ -1,7 +1,7 @@
 //! What the commands of a case work on: the last made is taken first.
 
 use cedar_expr_leaves::Literal;
-use cedar_expr_names::{EntityUID, Loc};
+use cedar_expr_names::EntityUID;
 use cedar_expr_partial::PartialValue;
 use cedar_expr_trees::Expr;
 use cedar_expr_values::{ExtValue, Value};
@@ -21,36 +21,9 @@ pub type V = Value<ExtValue>;
 
 pub type Part = PartialValue<ExtValue>;
 
-/// Policies and what they are made of, and what entities stand in a store and what else is known.
-pub struct Desk {
-    pub parts: Parts,
-    pub known: Known,
-}
-
-impl Drop for Desk {
-    fn drop(self) {
-        let Desk { parts: _, known: _ } = self;
-    }
-}
-
-impl Desk {
-    pub fn new(alloc: Global) -> Desk {
-        Desk {
-            parts: Parts::new(alloc),
-            known: Known::new(alloc),
-        }
-    }
-
-    // Begins anew.
-    pub fn clear(&mut self) {
-        *self = Desk::new(self.known.alloc);
-    }
-}
-
 /// Policies, a set of them, and what they are made of.
 pub struct Parts {
     pub alloc: Global,
-    pub at: Option<Loc>,
     pub effect: Effect,
     pub principals: Vec<PrincipalOrResourceConstraint>,
     pub actions: Vec<ActionConstraint>,
@@ -69,7 +42,6 @@ impl Drop for Parts {
     fn drop(self) {
         let Parts {
             alloc: _,
-            at: _,
             effect: _,
             principals: _,
             actions: _,
@@ -89,7 +61,6 @@ impl Parts {
     pub fn new(alloc: Global) -> Parts {
         Parts {
             alloc,
-            at: None,
             effect: Effect::Permit,
             principals: Vec::new(alloc),
             actions: Vec::new(alloc),

@@ -1,49 +1,76 @@
 //! Commands that make templates and policies of the parts at hand.
 
 use crate::desk::{Made, Parts};
-use crate::made::{one, put};
+use crate::made::put;
+use crate::parts::{bind, body, note, scope};
+use crate::sets;
 use cedar_store_policies::{
-    ActionConstraint, Annotations, Policy, PolicyID, PrincipalConstraint,
+    ActionConstraint, Annotations, Effect, Policy, PolicyID, PrincipalConstraint,
     PrincipalOrResourceConstraint, ResourceConstraint, SlotEnv, StaticPolicy, Template,
     UnexpectedSlotError,
 };
-use std::alloc::AllocError;
+use cedar_test_helpers::one;
+use std::alloc::{AllocError, Global};
 use std::rc::Rc;
 
-// Does the command, where it is one of these: `template t`, `static z`, `whole`, `when p`, `linked l`, `get l`.
-pub fn done(parts: &mut Parts, verb: &str, rest: &str, said: &mut String) -> Made<bool> {
+// Does the command: `forbid`, `scope principal in User::a, resource == ?resource`, `body context .n`, `note name text`,
+// `bind principal User::a`, `template t`, `static z`, `whole`, `when p`, `linked l`, `get l`, or one on sets of policies.
+pub fn done(
+    parts: &mut Parts,
+    verb: &str,
+    rest: &str,
+    wanted: &str,
+    said: &mut String,
+) -> Made<bool> {
     let alloc = parts.alloc;
     match verb {
+        "forbid" => parts.effect = Effect::Forbid,
+        "scope" => scope(parts, rest)?,
+        "body" => body(parts, rest)?,
+        "note" => note(parts, rest)?,
+        "bind" => bind(parts, rest)?,
         "template" => {
-            let made = template(parts, rest);
-            put(alloc, said, &mut parts.templates, made)
+            let made = made(parts, rest);
+            put(alloc, said, &mut parts.templates, made)?;
         }
         "static" => {
             let made = bare(parts, rest);
-            put(alloc, said, &mut parts.bare, made)
+            put(alloc, said, &mut parts.bare, made)?;
         }
-        "whole" => {
-            let made = whole(parts);
-            put(alloc, said, &mut parts.policies, made)
-        }
-        "when" => {
-            let made = when(parts, rest);
-            put(alloc, said, &mut parts.policies, made)
-        }
-        "linked" => {
-            let made = linked(parts, rest);
-            put(alloc, said, &mut parts.policies, made)
-        }
-        "get" => {
-            let made = copied(parts, rest);
-            put(alloc, said, &mut parts.policies, made)
-        }
-        _ => Ok(false),
+        _ => return policy_done(parts, verb, rest, wanted, said),
     }
+    Ok(true)
+}
+
+// Does the command that makes a policy, or one on sets of policies.
+fn policy_done(
+    parts: &mut Parts,
+    verb: &str,
+    rest: &str,
+    wanted: &str,
+    said: &mut String,
+) -> Made<bool> {
+    let made = match verb {
+        "whole" => whole(parts)?,
+        "when" => when(parts, rest)?,
+        "linked" => linked(parts, rest)?,
+        "get" => copied(parts, rest)?,
+        _ => return sets::done(parts, verb, rest, wanted, said),
+    };
+    parts.policies.push(made)?;
+    Ok(true)
+}
+
+/// The template `p` of this scope, written as in the rows, and this body. Fails where they write none, and for want of memory.
+pub fn template(alloc: Global, asked: &str, text: &str) -> Made<Template> {
+    let mut parts = Parts::new(alloc);
+    scope(&mut parts, asked)?;
+    body(&mut parts, text)?;
+    made(&mut parts, "p")
 }
 
 // The template of the last scope, annotations and body.
-fn template(parts: &mut Parts, text: &str) -> Made<Template> {
+fn made(parts: &mut Parts, text: &str) -> Made<Template> {
     let alloc = parts.alloc;
     let id = PolicyID::from_string(alloc, text)?;
     let principal = parts
@@ -57,7 +84,7 @@ fn template(parts: &mut Parts, text: &str) -> Made<Template> {
     Template::new(
         alloc,
         id,
-        parts.at,
+        None,
         parts.notes.pop().unwrap_or(Annotations::new(alloc)),
         parts.effect,
         PrincipalConstraint {
@@ -86,7 +113,7 @@ fn bare(parts: &mut Parts, text: &str) -> Result<StaticPolicy, UnexpectedSlotErr
     StaticPolicy::new(
         alloc,
         id,
-        parts.at,
+        None,
         parts.notes.pop().unwrap_or(Annotations::new(alloc)),
         parts.effect,
         PrincipalConstraint {
@@ -110,7 +137,25 @@ fn whole(parts: &mut Parts) -> Made<Policy> {
 fn when(parts: &mut Parts, text: &str) -> Made<Policy> {
     let id = PolicyID::from_string(parts.alloc, text)?;
     let body = one(&mut parts.bodies)?;
-    Policy::from_when_clause(parts.alloc, parts.effect, body, id, parts.at)
+    Policy::from_when_clause(parts.alloc, parts.effect, body, id, None)
+}
+
+// The policy `p` of this body.
+pub fn of_body(parts: &mut Parts, text: &str) -> Made<()> {
+    body(parts, text)?;
+    let made = when(parts, "p")?;
+    parts.policies.push(made)?;
+    Ok(())
+}
+
+// The link `l` of a template of this scope with what the slots are bound to.
+pub fn of_scope(parts: &mut Parts, text: &str) -> Made<()> {
+    scope(parts, text)?;
+    let template = made(parts, "t")?;
+    parts.templates.push(template)?;
+    let made = linked(parts, "l")?;
+    parts.policies.push(made)?;
+    Ok(())
 }
 
 // What the slots are bound to. They aren't bound any more.

@@ -1,29 +1,36 @@
-//! Commands that say what the last policy is.
+//! Commands that say what the last policy is, and texts of refusals.
 
 use crate::desk::{Made, Parts};
-use crate::made::{place, same, say, top};
+use crate::made::top;
 use crate::sets::say_policy;
 use cedar_expr_trees::Expr;
-use cedar_store_policies::{Policy, PrincipalOrResource};
+use cedar_store_entities::EntitiesError;
+use cedar_store_meaning::MeaningFault;
+use cedar_store_policies::{
+    LinkingError, Policy, PolicySetError, PrincipalOrResource, UnexpectedSlotError,
+};
+use cedar_test_exprs::{is, name};
+use cedar_test_helpers::show;
 use std::alloc::{AllocError, Global};
 
-// Does the command, where it is one of these. Of `policy` the answer is its text; of `condition`, `asked principal` and its like,
-// and `stands 4`, an expression.
+// Does the command, where it is one of these. Of `policy` the answer is its text; of `condition`, `asked principal` and its like an
+// expression, with its places.
 pub fn done(parts: &Parts, verb: &str, rest: &str, wanted: &str, said: &mut String) -> Made<bool> {
     let alloc = parts.alloc;
     match verb {
-        "policy" => say_policy(said, top(parts.policies.as_slice())?),
+        "policy" => say_policy(said, top(parts.policies.as_slice())?)?,
         "condition" => {
             let policy = top(parts.policies.as_slice())?;
-            same(alloc, said, policy.condition(), wanted)
+            is(alloc, said, policy.condition().clone(), wanted)?;
         }
         "asked" => {
-            let found = asked(alloc, top(parts.policies.as_slice())?, rest)?;
-            same(alloc, said, &found, wanted)
+            let policy = top(parts.policies.as_slice())?;
+            is(alloc, said, asked(alloc, policy, rest), wanted)?;
         }
-        "stands" => stands(parts, rest, wanted, said),
-        _ => Ok(false),
+        "texts" => texts(alloc, said)?,
+        _ => return Ok(false),
     }
+    Ok(true)
 }
 
 // What the policy asks of the variable.
@@ -46,14 +53,13 @@ fn asked(alloc: Global, policy: &Policy, variable: &str) -> Made<Expr> {
     }
 }
 
-// What stands at this place in the policy's condition.
-fn stands(parts: &Parts, rest: &str, wanted: &str, said: &mut String) -> Made<bool> {
-    let policy = top(parts.policies.as_slice())?;
-    let at = place(rest);
-    for part in policy.condition().subexpressions(parts.alloc)? {
-        if part.source_loc() == at {
-            return same(parts.alloc, said, part, wanted);
-        }
-    }
-    say(said, "nothing")
+// What refusals for want of memory say, of a static policy, a set, a link, a store and a meaning, and what the failure of a function says.
+fn texts(alloc: Global, said: &mut String) -> Made<()> {
+    show(alloc, said, &UnexpectedSlotError::OutOfMemory)?;
+    show(alloc, said, &PolicySetError::OutOfMemory)?;
+    show(alloc, said, &LinkingError::OutOfMemory)?;
+    show(alloc, said, &EntitiesError::OutOfMemory)?;
+    show(alloc, said, &MeaningFault::OutOfMemory)?;
+    let extension = name(alloc, "rank")?;
+    show(alloc, said, &MeaningFault::ExtensionFailed { extension })
 }

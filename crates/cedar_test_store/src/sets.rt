@@ -1,82 +1,78 @@
 //! Commands on the set of policies.
 
 use crate::desk::{Made, Parts};
-use crate::made::{all, done as is_done, one, say, told, two};
+use crate::made::{all, two};
 use crate::policies::bound;
+use crate::seen;
 use cedar_expr_leaves::SlotId;
-use cedar_store_policies::{
-    Effect, LinkingError, Policy, PolicyID, PolicySet, PolicySetError, Template,
-    UnexpectedSlotError,
-};
+use cedar_store_policies::{Effect, Policy, PolicyID, PolicySet, Template};
+use cedar_test_helpers::{one, refused, say, show};
 
-// Does the command, where it is one of these: `add_template`, `add_static`, `add`, `link t l`, `listed`, `set`, `lacking memory`.
-pub fn done(parts: &mut Parts, verb: &str, rest: &str, said: &mut String) -> Made<bool> {
+// Does the command: `add_template`, `add_static`, `add`, `link t l`, `listed`, `set`, or one on a policy.
+pub fn done(
+    parts: &mut Parts,
+    verb: &str,
+    rest: &str,
+    wanted: &str,
+    said: &mut String,
+) -> Made<bool> {
     match verb {
-        "add_template" => add_template(parts, said),
-        "add_static" => add_static(parts, said),
-        "add" => add(parts, said),
-        "link" => link(parts, rest, said),
-        "listed" => listed(parts, said),
-        "set" => say_set(&parts.set, said),
-        "lacking" => lacking(parts, rest, said),
-        _ => Ok(false),
+        "add_template" => add_template(parts, said)?,
+        "add_static" => add_static(parts, said)?,
+        "add" => add(parts, said)?,
+        "link" => link(parts, rest, said)?,
+        "listed" => listed(parts, said)?,
+        "set" => say_set(&parts.set, said)?,
+        _ => return seen::done(parts, verb, rest, wanted, said),
     }
+    Ok(true)
 }
 
-fn add_template(parts: &mut Parts, said: &mut String) -> Made<bool> {
+fn add_template(parts: &mut Parts, said: &mut String) -> Made<()> {
     let template = one(&mut parts.templates)?;
-    is_done(parts.alloc, said, parts.set.add_template(template))
+    refused(parts.alloc, said, parts.set.add_template(template))
 }
 
-fn add_static(parts: &mut Parts, said: &mut String) -> Made<bool> {
+fn add_static(parts: &mut Parts, said: &mut String) -> Made<()> {
     let policy = one(&mut parts.bare)?;
-    is_done(parts.alloc, said, parts.set.add_static(policy))
+    refused(parts.alloc, said, parts.set.add_static(policy))
 }
 
-fn add(parts: &mut Parts, said: &mut String) -> Made<bool> {
+fn add(parts: &mut Parts, said: &mut String) -> Made<()> {
     let policy = one(&mut parts.policies)?;
-    is_done(parts.alloc, said, parts.set.add(policy))
+    refused(parts.alloc, said, parts.set.add(policy))
 }
 
 // Links the template of the first id under the second, with what the slots are bound to.
-fn link(parts: &mut Parts, rest: &str, said: &mut String) -> Made<bool> {
+fn link(parts: &mut Parts, rest: &str, said: &mut String) -> Made<()> {
     let (of, new) = two(rest);
     let of = PolicyID::from_string(parts.alloc, of)?;
     let new = PolicyID::from_string(parts.alloc, new)?;
     let values = bound(parts);
-    is_done(parts.alloc, said, parts.set.link(&of, new, values))
+    refused(parts.alloc, said, parts.set.link(&of, new, values))
 }
 
 // Makes the set of the policies at hand.
-fn listed(parts: &mut Parts, said: &mut String) -> Made<bool> {
+fn listed(parts: &mut Parts, said: &mut String) -> Made<()> {
     let policies = all(parts.alloc, &mut parts.policies);
     match PolicySet::try_from_iter(parts.alloc, policies) {
         Ok(set) => {
             parts.set = set;
             say(said, "done")
         }
-        Err(e) => told(parts.alloc, said, &e),
-    }
-}
-
-// What a refusal for want of memory says.
-fn lacking(parts: &Parts, of: &str, said: &mut String) -> Made<bool> {
-    match of {
-        "static" => told(parts.alloc, said, &UnexpectedSlotError::OutOfMemory),
-        "add" => told(parts.alloc, said, &PolicySetError::OutOfMemory),
-        _ => told(parts.alloc, said, &LinkingError::OutOfMemory),
+        Err(e) => show(parts.alloc, said, &e),
     }
 }
 
 // What stands in the set: its templates, and then its policies.
-fn say_set(set: &PolicySet, said: &mut String) -> Made<bool> {
+fn say_set(set: &PolicySet, said: &mut String) -> Made<()> {
     for template in set.templates() {
         say_template(said, template)?;
     }
     for policy in set.policies() {
         say_policy(said, policy)?;
     }
-    Ok(true)
+    Ok(())
 }
 
 fn effect_text(effect: Effect) -> &'static str {
@@ -100,7 +96,7 @@ fn say_template(said: &mut String, it: &Template) -> Made<()> {
 }
 
 // Its id, its template's, its effect, what its slots are bound to, and its annotations.
-pub fn say_policy(said: &mut String, it: &Policy) -> Made<bool> {
+pub fn say_policy(said: &mut String, it: &Policy) -> Made<()> {
     say(said, it.id().as_str())?;
     say(said, "of")?;
     say(said, it.template().id().as_str())?;
@@ -111,16 +107,15 @@ pub fn say_policy(said: &mut String, it: &Policy) -> Made<bool> {
         say(said, name.as_str())?;
         say(said, note.val.as_str())?;
     }
-    said.push(';')?;
-    Ok(true)
+    said.push(';')
 }
 
-fn say_bound(said: &mut String, it: &Policy, slot: SlotId, text: &str) -> Made<bool> {
+fn say_bound(said: &mut String, it: &Policy, slot: SlotId, text: &str) -> Made<()> {
     match it.env().get(slot) {
         Some(uid) => {
             say(said, text)?;
             say(said, uid.eid().as_str())
         }
-        None => Ok(true),
+        None => Ok(()),
     }
 }

@@ -1,4 +1,4 @@
-//! The built schema of the rows of policies.
+//! The built schemas of the rows.
 
 ghost use Rattle.std.specs.Prelude.{IfOk};
 ghost use Rattle.cedar_schema_built.specs.Views.{schema_kept};
@@ -12,10 +12,6 @@ use cedar_schema_examples::fragment;
 use cedar_schema_fragments::{FragmentError, ValidatorSchemaFragment};
 use cedar_typechecker_schemas::laws::built_schemas_answer_alike;
 use std::alloc::Global;
-
-// Users may be in groups and have a boss, documents have an owner and a color, and one action of a group of actions applies to them.
-const LINES: &str =
-    "entity Group\nenum Color | red, green\nentity User | Group | boss: User, ok: Bool, nick?: String, home: {of: User, zip?: Long} | String\nentity Doc |  | owner: User, color: Color\naction read\naction view | Action read | User | Doc | {}\n";
 
 // The schema of the fragment.
 fn schema_of(
@@ -40,24 +36,14 @@ fn written(
     ValidatorSchemaFragment::from_schema_fragment(alloc, fragment)
 }
 
-/// The schema of the rows.
-pub(crate) fn people(
+/// The schema of these lines. Fails where they declare none, and for want of memory.
+pub(crate) fn built(
     alloc: Global,
+    lines: &str,
     functions: &Extensions<'_>,
 ) -> Result<ValidatorSchema, SchemaError>
     ensures { IfOk result (λ s. IsClosed (schema_kept s)) }
 {
-    let fragment = written(alloc, LINES)?;
-    schema_of(alloc, fragment, functions)
-}
-
-/// A schema that declares nothing.
-pub(crate) fn nothing(
-    alloc: Global,
-    functions: &Extensions<'_>,
-) -> Result<ValidatorSchema, SchemaError>
-    ensures { IfOk result (λ s. IsClosed (schema_kept s)) }
-{
-    let fragment = written(alloc, "")?;
+    let fragment = written(alloc, lines)?;
     schema_of(alloc, fragment, functions)
 }

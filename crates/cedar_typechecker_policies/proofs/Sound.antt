@@ -49,7 +49,8 @@ module _ (m : Mode) (s : Schema) (x : Table) (p : Policy) (strictly_typed : m �
       let there = nothing (policy_violations n d y q) (sym (levels_alike s d alike x y same strict n q) ∙ ap is_nil here) in
       conditions_are_in_reach n d y w q o c slice bound (passes_alike d y alike same q refl) there u looks
 
--- the same of one environment
+-- an expression that is typed as a truth value in one environment means one there, or errs as expected, under each schema and table that answer
+-- alike
 module _ (k : Setting) (t : Tree) (strictly_typed : k.mode ≡ strict) (bool : is_bool (type_of k t) ≡ true) where
   type_alike : (d : Schema) (y : Table) → AnswersAlike k.schema d → HasSameSignatures k.table y → type_of (strictly d y k.env) t ≡ type_of k t
   type_alike d y alike same =

@@ -10,7 +10,7 @@ use Rattle.cedar_evaluator_model.specs.Steps.{on_value, truth_wanted}
 use Rattle.cedar_evaluator_core.specs.Evaluators.{limit_of, scope_in}
 use Rattle.cedar_evaluator_authorizer.specs.Verdicts.{with_residual, IsLeft}
 use Rattle.cedar_evaluator_authorizer.proofs.Told.{asked_then}
-use Rattle.cedar_evaluator_concretizing.proofs.Scoped.{serves_any}
+use Rattle.cedar_evaluator_authorizer.proofs.Scoped.{serves_any}
 use Rattle.cedar_evaluator_authorizer.proofs.verdicts.verdict_on.Goals as goal
 
 pub returns-in-Ok : goal.returns-in-Ok

@@ -1,14 +1,17 @@
-use Rattle.std.proofs.Common.{◌≡◌, Some, rules, sym, subst}
+use Rattle.std.proofs.Common.{◌≡◌, Some, rules, ap, ◌∙◌}
 use Rattle.cedar_evaluator_model.specs.Reauthorize.{context_substituted}
 use Rattle.cedar_evaluator_reads.specs.Scopes.{values_in}
-use Rattle.cedar_evaluator_requests.specs.Views.{context_or_unknown, request_of}
-use Rattle.cedar_evaluator_requests.specs.declared.context.Context.TheVariants as known
-use Rattle.cedar_evaluator_concretizing.specs.Refusals.{Takes}
-use Rattle.cedar_evaluator_concretizing.specs.Scopes.{scope_for}
+use Rattle.cedar_evaluator_requests.specs.Views.{context_of, context_or_unknown}
+use Rattle.cedar_evaluator_concretizing.proofs.Bound.{stop_told}
 use Rattle.cedar_evaluator_concretizing.proofs.contexts.substituted.Goals as goal
 
-pub returns-in-Some-RestrictedResidual : goal.returns-in-Some-RestrictedResidual
-returns-in-Some-RestrictedResidual g c = λ fs k.
-    let s = scope_for g.T.FunctionTable.table c.args.table.now (request_of c.args.request.now) c.args.entities.now fs in
-    let there : c.args.context ≡ Some (known.RestrictedResidual c.in-Some-RestrictedResidual.fields) = search rules in
-    subst (λ o. Takes context_or_unknown (context_substituted s (values_in c.args.mapping.now) (context_or_unknown o)) c.some_context.result) (sym there) (c.some_context.ensures _ (c.fields_of_request-made.ensures fs k))
+pub returns-in-Ok : goal.returns-in-Ok
+returns-in-Ok g c = λ s h.
+    let there : c.args.context ≡ Some c.in-Some.known = search rules in
+    ap (λ o. context_substituted s (values_in c.args.mapping.now) (context_or_unknown o)) there ∙ c.in-Ok.ensures s h
+
+pub returns-in-Err : goal.returns-in-Err
+returns-in-Err g c = λ s h other m.
+    let there : c.args.context ≡ Some c.in-Some.known = search rules in
+    ap (λ o. context_substituted s (values_in c.args.mapping.now) (context_or_unknown o)) there
+    ∙ stop_told (context_substituted s (values_in c.args.mapping.now) (context_of c.in-Some.known)) c.in-Err.error c.from.result c.from.ensures (c.in-Err.ensures s h) other m

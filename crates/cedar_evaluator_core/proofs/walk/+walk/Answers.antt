@@ -44,44 +44,44 @@ level-returns-in-Slot g t c = in_tree g.T.FunctionTable.table g.T.FunctionTable.
 pub level-returns-in-Unknown : goal.level-returns-in-Unknown
 level-returns-in-Unknown g t c = in_tree g.T.FunctionTable.table g.T.FunctionTable.answers_as c.args.known.now c.args.deeper _ _ _ (search rules) (unknown_says g.T.FunctionTable.table g.T.FunctionTable.answers_as c.args.known.now c.args.deeper _ _ _ c.unknown.ensures)
 
-pub level-returns-in_err-arg-in-UnaryApp : goal.level-returns-in_err-arg-in-UnaryApp
-level-returns-in_err-arg-in-UnaryApp g t c = in_tree g.T.FunctionTable.table g.T.FunctionTable.answers_as c.args.known.now c.args.deeper _ _ _ (search rules) (unary_stops g.T.FunctionTable.table g.T.FunctionTable.answers_as c.args.known.now c.args.deeper _ _ (unary_op_of c.in-UnaryApp.op) _ c.in_err-arg-in-UnaryApp.ensures c.from_residual.ensures.1)
+pub unary-returns-in_err-arg : goal.unary-returns-in_err-arg
+unary-returns-in_err-arg g t c = unary_stops g.T.FunctionTable.table g.T.FunctionTable.answers_as c.args.known.now c.args.deeper _ _ (unary_op_of c.args.op) _ c.in_err-arg.ensures c.from_residual.ensures.1
 
-pub level-returns-in_ok-arg-in-UnaryApp : goal.level-returns-in_ok-arg-in-UnaryApp
-level-returns-in_ok-arg-in-UnaryApp g t c = in_tree g.T.FunctionTable.table g.T.FunctionTable.answers_as c.args.known.now c.args.deeper _ _ _ (search rules) (unary_goes g.T.FunctionTable.table g.T.FunctionTable.answers_as c.args.known.now c.args.deeper _ _ (unary_op_of c.in-UnaryApp.op) _ c.in_ok-arg-in-UnaryApp.ensures c.unary_left.ensures)
+pub unary-returns : goal.unary-returns
+unary-returns g t c = unary_goes g.T.FunctionTable.table g.T.FunctionTable.answers_as c.args.known.now c.args.deeper _ _ (unary_op_of c.args.op) _ c.in_ok-arg.ensures c.unary_left.ensures
 
-pub level-returns-in_err-arg-in-Like : goal.level-returns-in_err-arg-in-Like
-level-returns-in_err-arg-in-Like g t c = in_tree g.T.FunctionTable.table g.T.FunctionTable.answers_as c.args.known.now c.args.deeper _ _ _ (search rules) (like_stops g.T.FunctionTable.table g.T.FunctionTable.answers_as c.args.known.now c.args.deeper _ _ (pattern_of c.in-Like.pattern) _ c.in_err-arg-in-Like.ensures c.from_residual-in_err-arg-in-Like.ensures.1)
+pub like-returns-in_err-arg : goal.like-returns-in_err-arg
+like-returns-in_err-arg g t c = like_stops g.T.FunctionTable.table g.T.FunctionTable.answers_as c.args.known.now c.args.deeper _ _ (pattern_of c.args.pattern.now) _ c.in_err-arg.ensures c.from_residual.ensures.1
 
-pub level-returns-in_ok-arg-in-Like : goal.level-returns-in_ok-arg-in-Like
-level-returns-in_ok-arg-in-Like g t c = in_tree g.T.FunctionTable.table g.T.FunctionTable.answers_as c.args.known.now c.args.deeper _ _ _ (search rules) (like_goes g.T.FunctionTable.table g.T.FunctionTable.answers_as c.args.known.now c.args.deeper _ _ (pattern_of c.in-Like.pattern) _ c.in_ok-arg-in-Like.ensures c.like_left.ensures)
+pub like-returns : goal.like-returns
+like-returns g t c = like_goes g.T.FunctionTable.table g.T.FunctionTable.answers_as c.args.known.now c.args.deeper _ _ (pattern_of c.args.pattern.now) _ c.in_ok-arg.ensures c.like_left.ensures
 
-pub level-returns-in_err-arg-in-Is : goal.level-returns-in_err-arg-in-Is
-level-returns-in_err-arg-in-Is g t c = in_tree g.T.FunctionTable.table g.T.FunctionTable.answers_as c.args.known.now c.args.deeper _ _ _ (search rules) (type_stops g.T.FunctionTable.table g.T.FunctionTable.answers_as c.args.known.now c.args.deeper _ _ (type_name_of c.in-Is.entity_type) _ c.in_err-arg-in-Is.ensures c.from_residual-in_err-arg-in-Is.ensures.1)
+pub is_type-returns-in_err-arg : goal.is_type-returns-in_err-arg
+is_type-returns-in_err-arg g t c = type_stops g.T.FunctionTable.table g.T.FunctionTable.answers_as c.args.known.now c.args.deeper _ _ (type_name_of c.args.kind.now) _ c.in_err-arg.ensures c.from_residual.ensures.1
 
-pub level-returns-in_ok-arg-in-Is : goal.level-returns-in_ok-arg-in-Is
-level-returns-in_ok-arg-in-Is g t c = in_tree g.T.FunctionTable.table g.T.FunctionTable.answers_as c.args.known.now c.args.deeper _ _ _ (search rules) (type_goes g.T.FunctionTable.table g.T.FunctionTable.answers_as c.args.known.now c.args.deeper _ _ (type_name_of c.in-Is.entity_type) _ c.in_ok-arg-in-Is.ensures c.is_left.ensures)
+pub is_type-returns : goal.is_type-returns
+is_type-returns g t c = type_goes g.T.FunctionTable.table g.T.FunctionTable.answers_as c.args.known.now c.args.deeper _ _ (type_name_of c.args.kind.now) _ c.in_ok-arg.ensures c.is_left.ensures
 
-pub level-returns-in_err-arg-in-HasAttr : goal.level-returns-in_err-arg-in-HasAttr
-level-returns-in_err-arg-in-HasAttr g t c = in_tree g.T.FunctionTable.table g.T.FunctionTable.answers_as c.args.known.now c.args.deeper _ _ _ (search rules) (test_stops g.T.FunctionTable.table g.T.FunctionTable.answers_as c.args.known.now c.args.deeper _ _ (rc_str_bytes c.in-HasAttr.attr) _ c.in_err-arg-in-HasAttr.ensures c.from_residual-in_err-arg-in-HasAttr.ensures.1)
+pub has_attr-returns-in_err-arg : goal.has_attr-returns-in_err-arg
+has_attr-returns-in_err-arg g t c = test_stops g.T.FunctionTable.table g.T.FunctionTable.answers_as c.args.known.now c.args.deeper _ _ (rc_str_bytes c.args.attr.now) _ c.in_err-arg.ensures c.from_residual.ensures.1
 
-pub level-returns-in_ok-arg-in-HasAttr : goal.level-returns-in_ok-arg-in-HasAttr
-level-returns-in_ok-arg-in-HasAttr g t c = in_tree g.T.FunctionTable.table g.T.FunctionTable.answers_as c.args.known.now c.args.deeper _ _ _ (search rules) (test_goes g.T.FunctionTable.table g.T.FunctionTable.answers_as c.args.known.now c.args.deeper _ _ (rc_str_bytes c.in-HasAttr.attr) _ c.in_ok-arg-in-HasAttr.ensures c.tested.ensures)
+pub has_attr-returns : goal.has_attr-returns
+has_attr-returns g t c = test_goes g.T.FunctionTable.table g.T.FunctionTable.answers_as c.args.known.now c.args.deeper _ _ (rc_str_bytes c.args.attr.now) _ c.in_ok-arg.ensures c.tested.ensures
 
-pub level-returns-in_err-arg-in-ExtHasAttr : goal.level-returns-in_err-arg-in-ExtHasAttr
-level-returns-in_err-arg-in-ExtHasAttr g t c = in_tree g.T.FunctionTable.table g.T.FunctionTable.answers_as c.args.known.now c.args.deeper _ _ _ (search rules) (path_stops g.T.FunctionTable.table g.T.FunctionTable.answers_as c.args.known.now c.args.deeper _ _ (rc_str_bytes c.in-ExtHasAttr.attrs.value.head) (map rc_str_bytes c.in-ExtHasAttr.attrs.value.tail.items) _ c.in_err-arg-in-ExtHasAttr.ensures c.from_residual-in_err-arg-in-ExtHasAttr.ensures.1)
+pub has_path-returns-in_err-arg : goal.has_path-returns-in_err-arg
+has_path-returns-in_err-arg g t c = path_stops g.T.FunctionTable.table g.T.FunctionTable.answers_as c.args.known.now c.args.deeper _ _ (rc_str_bytes c.args.attrs.now.value.head) (map rc_str_bytes c.args.attrs.now.value.tail.items) _ c.in_err-arg.ensures c.from_residual.ensures.1
 
-pub level-returns-in_ok-arg-in-ExtHasAttr : goal.level-returns-in_ok-arg-in-ExtHasAttr
-level-returns-in_ok-arg-in-ExtHasAttr g t c = in_tree g.T.FunctionTable.table g.T.FunctionTable.answers_as c.args.known.now c.args.deeper _ _ _ (search rules) (path_goes g.T.FunctionTable.table g.T.FunctionTable.answers_as c.args.known.now c.args.deeper _ _ (rc_str_bytes c.in-ExtHasAttr.attrs.value.head) (map rc_str_bytes c.in-ExtHasAttr.attrs.value.tail.items) _ c.in_ok-arg-in-ExtHasAttr.ensures c.path_left.ensures)
+pub has_path-returns : goal.has_path-returns
+has_path-returns g t c = path_goes g.T.FunctionTable.table g.T.FunctionTable.answers_as c.args.known.now c.args.deeper _ _ (rc_str_bytes c.args.attrs.now.value.head) (map rc_str_bytes c.args.attrs.now.value.tail.items) _ c.in_ok-arg.ensures c.path_left.ensures
 
-pub level-returns-in_err-first-in-BinaryApp : goal.level-returns-in_err-first-in-BinaryApp
-level-returns-in_err-first-in-BinaryApp g t c = in_tree g.T.FunctionTable.table g.T.FunctionTable.answers_as c.args.known.now c.args.deeper _ _ _ (search rules) (binary_stops g.T.FunctionTable.table g.T.FunctionTable.answers_as c.args.known.now c.args.deeper (binary_op_of c.in-BinaryApp.op) _ (tree_of {T = Unit} c.in-BinaryApp.arg2.value) _ _ c.in_err-first-in-BinaryApp.ensures c.from_residual-in_err-first-in-BinaryApp.ensures.1)
+pub binary-returns-in_err-first : goal.binary-returns-in_err-first
+binary-returns-in_err-first g t c = binary_stops g.T.FunctionTable.table g.T.FunctionTable.answers_as c.args.known.now c.args.deeper (binary_op_of c.args.op) _ (tree_of {T = Unit} c.args.second.now) _ _ c.in_err-first.ensures c.from_residual.ensures.1
 
-pub level-returns-in_err-second-in-BinaryApp : goal.level-returns-in_err-second-in-BinaryApp
-level-returns-in_err-second-in-BinaryApp g t c = in_tree g.T.FunctionTable.table g.T.FunctionTable.answers_as c.args.known.now c.args.deeper _ _ _ (search rules) (binary_right_stops g.T.FunctionTable.table g.T.FunctionTable.answers_as c.args.known.now c.args.deeper (binary_op_of c.in-BinaryApp.op) _ _ _ _ c.in_ok-first-in-BinaryApp.ensures _ c.in_err-second-in-BinaryApp.ensures c.from_residual-in_err-second-in-BinaryApp.ensures.1)
+pub binary-returns-in_err-second : goal.binary-returns-in_err-second
+binary-returns-in_err-second g t c = binary_right_stops g.T.FunctionTable.table g.T.FunctionTable.answers_as c.args.known.now c.args.deeper (binary_op_of c.args.op) _ _ _ _ c.in_ok-first.ensures _ c.in_err-second.ensures c.from_residual-in_err-second.ensures.1
 
-pub level-returns-in_ok-second-in-BinaryApp : goal.level-returns-in_ok-second-in-BinaryApp
-level-returns-in_ok-second-in-BinaryApp g t c = in_tree g.T.FunctionTable.table g.T.FunctionTable.answers_as c.args.known.now c.args.deeper _ _ _ (search rules) (binary_goes g.T.FunctionTable.table g.T.FunctionTable.answers_as c.args.known.now c.args.deeper (binary_op_of c.in-BinaryApp.op) _ _ _ g.T.FunctionTable.ordered_types_in (λ fs. g.met.T.FunctionTable.orders c.args.known.now.table.now fs.answers) _ _ c.in_ok-first-in-BinaryApp.ensures c.in_ok-second-in-BinaryApp.ensures c.binary_left.ensures)
+pub binary-returns : goal.binary-returns
+binary-returns g t c = binary_goes g.T.FunctionTable.table g.T.FunctionTable.answers_as c.args.known.now c.args.deeper (binary_op_of c.args.op) _ _ _ g.T.FunctionTable.ordered_types_in (λ fs. g.met.T.FunctionTable.orders c.args.known.now.table.now fs.answers) _ _ c.in_ok-first.ensures c.in_ok-second.ensures c.binary_left.ensures
 
 pub level-returns-in-ExtensionFunctionApp : goal.level-returns-in-ExtensionFunctionApp
 level-returns-in-ExtensionFunctionApp g t c =

@@ -34,6 +34,24 @@ decreases-set g l = 5 * l.deeper + 2
 abbrev pub decreases-record : goal.decreases-record
 decreases-record g l = 5 * l.deeper + 2
 
+abbrev pub decreases-unary : goal.decreases-unary
+decreases-unary g l = 5 * l.deeper + 2
+
+abbrev pub decreases-like : goal.decreases-like
+decreases-like g l = 5 * l.deeper + 2
+
+abbrev pub decreases-is_type : goal.decreases-is_type
+decreases-is_type g l = 5 * l.deeper + 2
+
+abbrev pub decreases-binary : goal.decreases-binary
+decreases-binary g l = 5 * l.deeper + 2
+
+abbrev pub decreases-has_attr : goal.decreases-has_attr
+decreases-has_attr g l = 5 * l.deeper + 2
+
+abbrev pub decreases-has_path : goal.decreases-has_path
+decreases-has_path g l = 5 * l.deeper + 2
+
 abbrev pub decreases-attempt : goal.decreases-attempt
 decreases-attempt g l = 5 * l.deeper + 1
 

@@ -11,3 +11,9 @@ unary-requires g c = c.requires _
 
 pub variadic-requires-clause-stored : goal.variadic-requires-clause-stored
 variadic-requires-clause-stored g c = c.requires _
+
+pub binary-requires : goal.binary-requires
+binary-requires g c = c.requires _
+
+pub ternary-requires : goal.ternary-requires
+ternary-requires g c = c.requires _

@@ -5,7 +5,7 @@ use Rattle.cedar_evaluator_model.specs.Response.{response_of}
 use Rattle.cedar_evaluator_reads.specs.Scopes.{values_in}
 use Rattle.cedar_evaluator_requests.specs.Views.{request_of}
 use Rattle.cedar_evaluator_authorizer.specs.Authorizers.{asks_table}
-use Rattle.cedar_evaluator_concretizing.proofs.Scoped.{scope_under, served_under}
+use Rattle.cedar_evaluator_authorizer.proofs.Scoped.{scope_under, served_under}
 use Rattle.cedar_evaluator_authorizer.proofs.authorizer.Authorizer.resume.Goals as goal
 
 pub returns : goal.returns

@@ -1,7 +1,7 @@
 use Rattle.cedar_evaluator_reads.specs.Scopes.{values_in}
 use Rattle.cedar_evaluator_authorizer.specs.Authorizers.{asks_table, keeps_limit}
 use Rattle.cedar_evaluator_authorizer.specs.Responses.{response_seen}
-use Rattle.cedar_evaluator_concretizing.specs.Scopes.{scope_for}
+use Rattle.cedar_evaluator_authorizer.specs.Scopes.{scope_for}
 use Rattle.cedar_evaluator_authorizer.proofs.Repeated.{again_laws}
 use Rattle.cedar_evaluator_authorizer.proofs.partial_response.PartialResponse.reauthorize.Goals as goal
 

@@ -1,6 +1,6 @@
-use Rattle.std.proofs.Common.{◌≡◌, [], ap, ◌∙◌}
+use Rattle.std.proofs.Common.{◌≡◌, ap, ◌∙◌}
 use Rattle.cedar_evaluator_requests.specs.Views.{request_of}
-use Rattle.cedar_evaluator_authorizer.proofs.Copied.{trues_copied, falses_copied, residuals_copied}
+use Rattle.cedar_evaluator_authorizer.proofs.Copied.{trues_copied, falses_copied, residuals_copied, errors_copied}
 use Rattle.cedar_evaluator_authorizer.proofs.partial_response.PartialResponseClone.clone.Goals as goal
 
 pub returns : goal.returns
@@ -12,15 +12,19 @@ returns c =
     let true_forbids = trues_copied _ _ c.in_ok-satisfied_forbids.ensures.cases in
     let false_forbids = falses_copied _ _ c.in_ok-false_forbids.ensures.cases in
     let left_forbids = residuals_copied _ _ c.in_ok-residual_forbids.ensures.cases in
+    let told = errors_copied _ _ c.in_ok-errors.ensures.cases.0 in
     record {
-      cases = λ i. record {
-        true_permits = trues i;
-        false_permits = falses i;
-        residual_permits = left i;
-        true_forbids = true_forbids i;
-        false_forbids = false_forbids i;
-        residual_forbids = left_forbids i;
-        errors = [];
-        request = asked i;
+      cases = record {
+        seen = λ i. record {
+          true_permits = trues i;
+          false_permits = falses i;
+          residual_permits = left i;
+          true_forbids = true_forbids i;
+          false_forbids = false_forbids i;
+          residual_forbids = left_forbids i;
+          errors = told i;
+          request = asked i;
+        };
+        errors = c.in_ok-errors.ensures.cases.0;
       };
     }
