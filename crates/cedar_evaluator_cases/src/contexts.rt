@@ -2,6 +2,7 @@
 
 use crate::desk::{Desk, Made};
 use crate::made::{pairs, restricted};
+use crate::requests;
 use crate::said::{found_value, left, made, put, same, two};
 use cedar_evaluator_contexts::{ContextCalls, RestrictedEvaluator};
 use cedar_evaluator_requests::Context;
@@ -10,21 +11,21 @@ use cedar_expr_functions::Extensions;
 use cedar_expr_partial::{FromValue, PartialValue};
 use cedar_expr_trees::Expr;
 use cedar_test_exprs::{value, word};
-use cedar_test_helpers::{one, say, show};
+use cedar_test_helpers::{both, one, say, show};
 use std::alloc::Global;
 
 // Does the command, where it is one of these: `empty`, `from_expr E`, `from_pairs a E | b E`, `let t V`, `substitute`, or one that `read`
 // does.
-pub fn done(
+fn done(
     desk: &mut Desk,
     table: &Extensions<'_>,
     verb: &str,
     rest: &str,
     wanted: &str,
     said: &mut String,
-) -> Made<bool> {
+) -> Made<()> {
     let alloc = desk.alloc;
-    let done = match verb {
+    match verb {
         "empty" => put(alloc, said, &mut desk.contexts, Context::empty(alloc)),
         "from_expr" => {
             let e = restricted(alloc, rest)?;
@@ -41,47 +42,51 @@ pub fn done(
             let made = context.substitute(alloc, &desk.unknowns, table);
             put(alloc, said, &mut desk.contexts, made)
         }
-        _ => return read(desk, verb, wanted, said),
-    };
-    done?;
-    Ok(true)
+        _ => read(desk, table, verb, rest, wanted, said),
+    }
 }
 
 // A value for an unknown.
 fn bind(desk: &mut Desk, text: &str) -> Made<()> {
     let (name, text) = two(text);
-    let value = value(desk.alloc, text)?;
-    desk.unknowns.insert(word(desk.alloc, name)?, value)?;
+    let (name, value) = both(word(desk.alloc, name), value(desk.alloc, text))?;
+    desk.unknowns.insert(name, value)?;
     Ok(())
 }
 
-// Does the command, where it is one of these: `context`, `whole`, `fields`.
-fn read(desk: &mut Desk, verb: &str, wanted: &str, said: &mut String) -> Made<bool> {
+// Does the command, where it is one of these: `context`, `whole`, `fields`, or one that `requests` does.
+fn read(
+    desk: &mut Desk,
+    table: &Extensions<'_>,
+    verb: &str,
+    rest: &str,
+    wanted: &str,
+    said: &mut String,
+) -> Made<()> {
     let alloc = desk.alloc;
-    let done = match verb {
+    match verb {
         "context" => record(alloc, said, one(&mut desk.contexts)?, wanted),
         "whole" => {
             let e = RestrictedExpr::from_context(alloc, one(&mut desk.contexts)?);
             made(alloc, said, e, wanted)
         }
         "fields" => fields(alloc, said, one(&mut desk.contexts)?),
-        _ => return Ok(false),
-    };
-    done?;
-    Ok(true)
+        _ => requests::done(desk, table, verb, rest, wanted, said),
+    }
 }
 
-// Does the command, where it is one of these: `interpret E`, `partial_interpret E`.
+// Does the command, where it is one of these: `interpret E`, `partial_interpret E`, or one that `done` does.
 pub fn evaluated(
-    alloc: Global,
+    desk: &mut Desk,
     table: &Extensions<'_>,
     verb: &str,
     rest: &str,
     wanted: &str,
     said: &mut String,
-) -> Made<bool> {
+) -> Made<()> {
+    let alloc = desk.alloc;
     let evaluator = RestrictedEvaluator::new(table);
-    let done = match verb {
+    match verb {
         "interpret" => {
             let e = restricted(alloc, rest)?;
             let found = evaluator.interpret(alloc, e.as_borrowed());
@@ -92,10 +97,8 @@ pub fn evaluated(
             let found = evaluator.partial_interpret(alloc, e.as_borrowed());
             left(alloc, said, found, wanted)
         }
-        _ => return Ok(false),
-    };
-    done?;
-    Ok(true)
+        _ => done(desk, table, verb, rest, wanted, said),
+    }
 }
 
 // Says the record of a context, behind `value` or `residual`.

@@ -17,12 +17,12 @@ pub type V = Value<ExtValue>;
 
 pub type Part = PartialValue<ExtValue>;
 
-/// Contexts, a request, a store, and what else is known.
+/// Contexts, requests, a store, and what else is known.
 pub struct Desk {
     pub alloc: Global,
     pub limit: u32,
     pub contexts: Vec<Context>,
-    pub request: Request,
+    pub requests: Vec<Request>,
     pub unknowns: HashMap<RcStr, V>,
     pub slots: SlotEnv,
     pub known: Known,
@@ -35,7 +35,7 @@ impl Drop for Desk {
             alloc: _,
             limit: _,
             contexts: _,
-            request: _,
+            requests: _,
             unknowns: _,
             slots: _,
             known: _,
@@ -45,15 +45,27 @@ impl Drop for Desk {
 
 impl Desk {
     pub fn new(alloc: Global) -> Desk {
-        let (principal, action) = (EntityUIDEntry::unknown(), EntityUIDEntry::unknown());
         Desk {
             alloc,
             limit: 16,
             contexts: Vec::new(alloc),
-            request: Request::new_unchecked(principal, action, EntityUIDEntry::unknown(), None),
+            requests: Vec::new(alloc),
             unknowns: HashMap::new(alloc),
             slots: SlotEnv::new(),
             known: Known::new(alloc),
+        }
+    }
+
+    // A copy of the last request. Where there is none, it is one of which nothing is known.
+    pub fn request(&self) -> Made<Request> {
+        match self.requests.last() {
+            Some(request) => request.clone(),
+            None => Ok(Request::new_unchecked(
+                EntityUIDEntry::unknown(),
+                EntityUIDEntry::unknown(),
+                EntityUIDEntry::unknown(),
+                None,
+            )),
         }
     }
 }

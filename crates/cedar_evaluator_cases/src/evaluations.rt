@@ -7,11 +7,11 @@ use cedar_evaluator_errors::EvaluationError;
 use cedar_expr_functions::Extensions;
 use cedar_expr_trees::{Expr, ExprKind};
 use cedar_test_exprs::{at, expr};
-use cedar_test_helpers::{say, show, tell};
+use cedar_test_helpers::{both, made, say, show, tell};
 use std::alloc::{AllocError, Global};
 use std::rc::RcStr;
 
-// Does the command, where it is one of these: `limit 3`, `left E`, `value E`, `unknowns E`, `at E`, `error E`.
+// Does the command, which is one of these: `limit 3`, `left E`, `value E`, `unknowns E`, `at E`, `error E`.
 pub fn done(
     desk: &mut Desk,
     table: &Extensions<'_>,
@@ -19,23 +19,21 @@ pub fn done(
     rest: &str,
     wanted: &str,
     said: &mut String,
-) -> Made<bool> {
-    let done = match verb {
+) -> Made<()> {
+    match verb {
         "limit" => limit(desk, rest),
         "left" => left(desk.alloc, said, evaluated(desk, table, rest)?, wanted),
         "value" => wholly(desk, table, rest, wanted, said),
         "unknowns" => open(desk, table, rest, said),
         "at" => placed(desk, table, rest, said),
         "error" => refused(desk, table, rest, said),
-        _ => return Ok(false),
-    };
-    done?;
-    Ok(true)
+        _ => Err(AllocError),
+    }
 }
 
 // The limit from here on.
 fn limit(desk: &mut Desk, text: &str) -> Made<()> {
-    desk.limit = text.parse::<u32>().map_err(|_| AllocError)?;
+    desk.limit = made(text.parse::<u32>())?;
     Ok(())
 }
 
@@ -46,8 +44,7 @@ fn evaluated(
     text: &str,
 ) -> Made<Result<Part, EvaluationError>> {
     let alloc = desk.alloc;
-    let e = expr(alloc, text)?;
-    let request = desk.request.clone()?;
+    let (e, request) = both(expr(alloc, text), desk.request())?;
     let evaluator = Evaluator::new(request, &desk.known.store, table, desk.limit);
     let evaluator = evaluator.with_unknowns(&desk.unknowns);
     Ok(evaluator.partial_interpret(alloc, &e, &desk.slots))
@@ -62,8 +59,7 @@ fn wholly(
     said: &mut String,
 ) -> Made<()> {
     let alloc = desk.alloc;
-    let e = expr(alloc, text)?;
-    let request = desk.request.clone()?;
+    let (e, request) = both(expr(alloc, text), desk.request())?;
     let evaluator = Evaluator::new(request, &desk.known.store, table, desk.limit);
     let found = evaluator.interpret(alloc, &e, &desk.slots);
     found_value(alloc, said, found, wanted)

@@ -1,44 +1,59 @@
 //! Commands that make entities and a store of them.
 
 use crate::desk::{Desk, Known, Made, Part};
-use crate::said::two;
+use crate::evaluations;
+use crate::said::{lay, two};
+use cedar_expr_functions::Extensions;
 use cedar_expr_leaves::SlotId;
 use cedar_expr_partial::TryFromExpr;
 use cedar_expr_values::Value;
 use cedar_store_entities::{Entities, Entity};
 use cedar_test_exprs::{expr, uid, word};
-use std::alloc::{AllocError, Global};
-use std::rc::{Rc, RcStr};
+use cedar_test_helpers::{kept, made};
+use std::alloc::Global;
+use std::rc::RcStr;
 
 // Does the command, where it is one of these: `attr age 40`, `tag spoon $t`, `above Team::all`, `entity User::a`, `store`, `partial`,
-// `slot User::a`, the uid that the principal's slot is bound to.
-pub fn done(desk: &mut Desk, verb: &str, rest: &str) -> Made<bool> {
+// `slot User::a`, the uid that the principal's slot is bound to; or one that `evaluations` does.
+pub fn done(
+    desk: &mut Desk,
+    table: &Extensions<'_>,
+    verb: &str,
+    rest: &str,
+    wanted: &str,
+    said: &mut String,
+) -> Made<()> {
     let alloc = desk.alloc;
     let known = &mut desk.known;
     match verb {
-        "attr" => known.attrs.push(part(alloc, rest)?)?,
-        "tag" => known.tags.push(part(alloc, rest)?)?,
-        "above" => known.above.push(uid(alloc, rest)?)?,
+        "attr" => lay(&mut known.attrs, part(alloc, rest)),
+        "tag" => lay(&mut known.tags, part(alloc, rest)),
+        "above" => lay(&mut known.above, uid(alloc, rest)),
         "entity" => {
-            let made = entity(alloc, known, rest)?;
-            known.entities.push(made)?;
+            let made = entity(alloc, known, rest);
+            lay(&mut known.entities, made)
         }
-        "store" => {
-            let entities = all(alloc, &mut known.entities);
-            known.store = Entities::from_entities(alloc, entities).map_err(|_| AllocError)?;
-        }
+        "store" => store(alloc, known),
         "slot" => {
-            let bound = Rc::new(alloc, uid(alloc, rest)?)?;
+            let bound = kept(alloc, uid(alloc, rest))?;
             let _before = desk.slots.insert(SlotId::principal(), bound);
+            Ok(())
         }
         "partial" => {
             let mut store = Entities::new(alloc);
             std::mem::swap(&mut store, &mut known.store);
             known.store = store.partial();
+            Ok(())
         }
-        _ => return Ok(false),
+        _ => evaluations::done(desk, table, verb, rest, wanted, said),
     }
-    Ok(true)
+}
+
+// Makes the whole store of the entities at hand.
+fn store(alloc: Global, known: &mut Known) -> Made<()> {
+    let entities = all(alloc, &mut known.entities);
+    known.store = made(Entities::from_entities(alloc, entities))?;
+    Ok(())
 }
 
 // The whole pile.

@@ -1,17 +1,18 @@
 //! Commands on requests.
 
 use crate::desk::{Desk, Made};
-use crate::said::{left, two};
+use crate::known;
+use crate::said::{lay, left, two};
 use cedar_evaluator_requests::{EntityUIDEntry, Request, RequestSchemaAllPass};
 use cedar_expr_functions::Extensions;
 use cedar_expr_leaves::Var;
-use cedar_expr_names::Loc;
+use cedar_expr_names::{EntityType, EntityUID, Loc};
 use cedar_test_exprs::{entity_type, uid};
-use cedar_test_helpers::{one, say, show};
+use cedar_test_helpers::{both, made, one, say, show};
 use std::alloc::{AllocError, Global};
 
 // Does the command, where it is one of these: `variable principal User::a`, `request User::a Action::view ?Doc`,
-// `new User::a Action::view Doc::d`, `kind`. Of `?` nothing is known, and of `?Doc` the type.
+// `new User::a Action::view Doc::d`, `kind`; or one that `known` does. Of `?` nothing is known, and of `?Doc` the type.
 pub fn done(
     desk: &mut Desk,
     table: &Extensions<'_>,
@@ -19,16 +20,14 @@ pub fn done(
     rest: &str,
     wanted: &str,
     said: &mut String,
-) -> Made<bool> {
-    let done = match verb {
+) -> Made<()> {
+    match verb {
         "variable" => variable(desk.alloc, said, rest, wanted),
         "request" => request(desk, rest),
         "new" => new(desk, table, rest),
-        "kind" => kind(desk.alloc, said, &desk.request),
-        _ => return Ok(false),
-    };
-    done?;
-    Ok(true)
+        "kind" => kind(desk, said),
+        _ => known::done(desk, table, verb, rest, wanted, said),
+    }
 }
 
 // The entry of a uid, or of what is known of its type.
@@ -60,11 +59,11 @@ fn variable(alloc: Global, said: &mut String, text: &str, wanted: &str) -> Made<
 fn request(desk: &mut Desk, text: &str) -> Made<()> {
     let (principal, rest) = two(text);
     let (action, resource) = two(rest);
-    let principal = entry(desk.alloc, principal)?;
-    let action = entry(desk.alloc, action)?;
-    let resource = entry(desk.alloc, resource)?;
-    desk.request = Request::new_unchecked(principal, action, resource, desk.contexts.pop());
-    Ok(())
+    let alloc = desk.alloc;
+    let entries = both(entry(alloc, principal), entry(alloc, action));
+    let ((principal, action), resource) = both(entries, entry(alloc, resource))?;
+    let made = Request::new_unchecked(principal, action, resource, desk.contexts.pop());
+    lay(&mut desk.requests, Ok(made))
 }
 
 // The request of three uids and the last context, of which a schema is asked that never refuses.
@@ -72,24 +71,35 @@ fn new(desk: &mut Desk, table: &Extensions<'_>, text: &str) -> Made<()> {
     let alloc = desk.alloc;
     let (principal, rest) = two(text);
     let (action, resource) = two(rest);
-    let principal = (uid(alloc, principal)?, None);
-    let action = (uid(alloc, action)?, None);
-    let resource = (uid(alloc, resource)?, None);
-    let context = one(&mut desk.contexts)?;
+    let uids = both(uid(alloc, principal), uid(alloc, action));
+    let rest = both(uid(alloc, resource), one(&mut desk.contexts));
+    let ((principal, action), (resource, context)) = both(uids, rest)?;
+    let (principal, action, resource) = ((principal, None), (action, None), (resource, None));
     let schema = Some(&RequestSchemaAllPass);
-    let made = Request::new(alloc, principal, action, resource, context, schema, table);
-    desk.request = made.map_err(|_| AllocError)?;
-    Ok(())
+    let request = Request::new(alloc, principal, action, resource, context, schema, table);
+    lay(&mut desk.requests, made(request))
 }
 
-// The types of principal and resource, and the action.
-fn kind(alloc: Global, said: &mut String, request: &Request) -> Made<()> {
+// The types of principal and resource of the last request, and its action.
+fn kind(desk: &Desk, said: &mut String) -> Made<()> {
+    let request = desk.requests.last().ok_or(AllocError)?;
     match request.to_request_type()? {
         None => say(said, "none"),
         Some(kind) => {
-            show(alloc, said, &kind.principal)?;
-            show(alloc, said, &kind.action)?;
-            show(alloc, said, &kind.resource)
+            let of = (&kind.principal, &kind.resource);
+            say_kind(desk.alloc, said, of, &kind.action)
         }
     }
+}
+
+// Says the first type, the action, and the second type.
+fn say_kind(
+    alloc: Global,
+    said: &mut String,
+    of: (&EntityType, &EntityType),
+    action: &EntityUID,
+) -> Made<()> {
+    show(alloc, said, of.0)?;
+    show(alloc, said, action)?;
+    show(alloc, said, of.1)
 }

@@ -1,6 +1,7 @@
 //! Commands on restricted expressions.
 
-use crate::desk::{Made, Part};
+use crate::contexts;
+use crate::desk::{Desk, Made, Part};
 use crate::made::{pairs, restricted, several};
 use crate::said::{made, same, two};
 use cedar_evaluator_restricted_exprs::{
@@ -10,43 +11,45 @@ use cedar_expr_functions::Extensions;
 use cedar_expr_trees::Expr;
 use cedar_expr_values::{RepresentableExtensionValue, ValueKind};
 use cedar_test_exprs::{at, expr, literal, name, value};
-use cedar_test_helpers::{refused, say, show, tell};
+use cedar_test_helpers::{both, refused, say, show, tell};
 use std::alloc::{AllocError, Global};
+use std::fmt::Display;
 
-// Does the command, where it is one of these: `restricted E`, `borrowed E`, `part E | P`, `copy E`, `type E`.
+// Does the command, where it is one of these: `restricted E`, `borrowed E`, `part E | P`, `copy E`, `type E`, or one that `of_parts` does.
 pub fn asked(
-    alloc: Global,
+    desk: &mut Desk,
     table: &Extensions<'_>,
     verb: &str,
     rest: &str,
     wanted: &str,
     said: &mut String,
-) -> Made<bool> {
-    let done = match verb {
+) -> Made<()> {
+    let alloc = desk.alloc;
+    match verb {
         "restricted" => refused(alloc, said, RestrictedExpr::new(alloc, expr(alloc, rest)?)),
         "borrowed" => {
             let e = expr(alloc, rest)?;
             refused(alloc, said, BorrowedRestrictedExpr::new(alloc, &e))
         }
-        "part" => part(alloc, said, expr(alloc, rest)?, wanted),
-        "copy" => copy(alloc, said, restricted(alloc, rest)?),
-        "type" => core_type(alloc, table, said, restricted(alloc, rest)?),
-        _ => return Ok(false),
-    };
-    done?;
-    Ok(true)
+        "part" => part(alloc, said, rest, wanted),
+        "copy" => copy(alloc, said, rest),
+        "type" => core_type(alloc, table, said, rest),
+        _ => of_parts(desk, table, verb, rest, wanted, said),
+    }
 }
 
 // Does the command, where it is one of these: `set E | E`, `record a E | b E`, `call f | E`, `of_value V`, `of_kind V`, `of_call f "a`,
-// `of_left E`.
-pub fn of_parts(
-    alloc: Global,
+// `of_left E`, or one that `contexts` does.
+fn of_parts(
+    desk: &mut Desk,
+    table: &Extensions<'_>,
     verb: &str,
     rest: &str,
     wanted: &str,
     said: &mut String,
-) -> Made<bool> {
-    let done = match verb {
+) -> Made<()> {
+    let alloc = desk.alloc;
+    match verb {
         "set" => {
             let set = RestrictedExpr::set(alloc, several(alloc, rest)?);
             made(alloc, said, set, wanted)
@@ -67,15 +70,13 @@ pub fn of_parts(
         }
         "of_call" => of_call(alloc, said, rest, wanted),
         "of_left" => of_left(alloc, said, rest, wanted),
-        _ => return Ok(false),
-    };
-    done?;
-    Ok(true)
+        _ => contexts::evaluated(desk, table, verb, rest, wanted, said),
+    }
 }
 
 // Says the part that is wanted, where it is the one that was refused.
-fn part(alloc: Global, said: &mut String, e: Expr, wanted: &str) -> Made<()> {
-    match RestrictedExpr::new(alloc, e) {
+fn part(alloc: Global, said: &mut String, text: &str, wanted: &str) -> Made<()> {
+    match RestrictedExpr::new(alloc, expr(alloc, text)?) {
         Err(RestrictedExpressionError::InvalidRestrictedExpression(e)) => {
             same(alloc, said, &e.expr, wanted)
         }
@@ -84,22 +85,35 @@ fn part(alloc: Global, said: &mut String, e: Expr, wanted: &str) -> Made<()> {
 }
 
 // Whether copies are equal to what was copied, and where the copy is.
-fn copy(alloc: Global, said: &mut String, e: RestrictedExpr) -> Made<()> {
-    let owned = e.as_borrowed().to_owned()?;
-    tell(said, e.clone()? == owned)?;
-    tell(said, *owned == *e.as_borrowed().expr())?;
-    at(alloc, said, owned.source_loc())
+fn copy(alloc: Global, said: &mut String, text: &str) -> Made<()> {
+    let e = restricted(alloc, text)?;
+    let (owned, copy) = both(e.as_borrowed().to_owned(), e.clone())?;
+    say_copy(
+        alloc,
+        said,
+        copy == owned,
+        *owned == *e.as_borrowed().expr(),
+        &owned,
+    )
+}
+
+// Says both truth values, and where the expression is.
+fn say_copy(alloc: Global, said: &mut String, one: bool, other: bool, e: &Expr) -> Made<()> {
+    tell(said, one)?;
+    tell(said, other)?;
+    at(alloc, said, e.source_loc())
 }
 
 // The type that the expression shows.
-fn core_type(
-    alloc: Global,
-    table: &Extensions<'_>,
-    said: &mut String,
-    e: RestrictedExpr,
-) -> Made<()> {
-    match e.as_borrowed().try_type_of(table)? {
-        Some(ty) => show(alloc, said, &ty),
+fn core_type(alloc: Global, table: &Extensions<'_>, said: &mut String, text: &str) -> Made<()> {
+    let e = restricted(alloc, text)?;
+    some(alloc, said, e.as_borrowed().try_type_of(table))
+}
+
+// Says what was found, or `none`.
+fn some<T: Display + Drop>(alloc: Global, said: &mut String, found: Made<Option<T>>) -> Made<()> {
+    match found? {
+        Some(it) => show(alloc, said, &it),
         None => say(said, "none"),
     }
 }
@@ -107,8 +121,8 @@ fn core_type(
 // The call of the function of this name.
 fn call(alloc: Global, said: &mut String, text: &str, wanted: &str) -> Made<()> {
     let (called, args) = text.split_once(" | ").ok_or(AllocError)?;
-    let args = several(alloc, args)?;
-    let call = RestrictedExpr::call_extension_fn(alloc, name(alloc, called)?, args);
+    let (called, args) = both(name(alloc, called), several(alloc, args))?;
+    let call = RestrictedExpr::call_extension_fn(alloc, called, args);
     made(alloc, said, call, wanted)
 }
 

@@ -1,20 +1,22 @@
 //! How rows are gone over.
 
 use crate::desk::{Desk, Made};
-use crate::{contexts, evaluations, known, requests, restricted};
+use crate::restricted;
 use cedar_expr_functions::Extensions;
-use std::alloc::{AllocError, Global};
+use std::alloc::Global;
 
-// Goes over the rows. A row is a command, or several with ` ; ` between them, and, behind ` : `, what they say. A command's first word
+// Goes over the rows of the texts, each of which begins with a `#`. A row is a command, or several with ` ; ` between them, and, behind ` : `, what they say. A command's first word
 // is its verb; the module of each verb says what it does. A row that begins with `#` clears the desk, and one that begins with `-` is a
 // remark. Errors: the rows that say something else, with what they say.
-pub fn hold(alloc: Global, table: &Extensions<'_>, rows: &str) -> Result<(), String> {
+pub fn hold(alloc: Global, table: &Extensions<'_>, texts: &[&str]) -> Result<(), String> {
     let mut desk = Desk::new(alloc);
     let mut wrong = String::new(alloc);
-    for row in rows.lines() {
-        let mut said = String::new(alloc);
-        if !holds(&mut desk, table, row, &mut said).unwrap_or(false) {
-            let _ = note(&mut wrong, row, &said);
+    for rows in texts {
+        for row in rows.lines() {
+            let mut said = String::new(alloc);
+            if !holds(&mut desk, table, row, &mut said).unwrap_or(false) {
+                let _ = note(&mut wrong, row, &said);
+            }
         }
     }
     if wrong.is_empty() { Ok(()) } else { Err(wrong) }
@@ -39,30 +41,7 @@ fn holds(desk: &mut Desk, table: &Extensions<'_>, row: &str, said: &mut String) 
     let (commands, wanted) = row.split_once(" : ").unwrap_or((row, ""));
     for command in commands.split(" ; ") {
         let (verb, rest) = command.split_once(' ').unwrap_or((command, ""));
-        if !done(desk, table, verb, rest, wanted, said)? {
-            return Err(AllocError);
-        }
+        restricted::asked(desk, table, verb, rest, wanted, said)?;
     }
     Ok(said.trim_start() == wanted)
-}
-
-// Does the command, where it is one.
-fn done(
-    desk: &mut Desk,
-    table: &Extensions<'_>,
-    verb: &str,
-    rest: &str,
-    wanted: &str,
-    said: &mut String,
-) -> Made<bool> {
-    let alloc = desk.alloc;
-    Ok(
-        restricted::asked(alloc, table, verb, rest, wanted, said)?
-            || restricted::of_parts(alloc, verb, rest, wanted, said)?
-            || contexts::evaluated(alloc, table, verb, rest, wanted, said)?
-            || contexts::done(desk, table, verb, rest, wanted, said)?
-            || requests::done(desk, table, verb, rest, wanted, said)?
-            || known::done(desk, verb, rest)?
-            || evaluations::done(desk, table, verb, rest, wanted, said)?,
-    )
 }

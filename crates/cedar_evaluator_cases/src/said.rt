@@ -24,6 +24,12 @@ pub fn put<T: Drop, E: Display + Drop>(
     }
 }
 
+// Lays what was made on the pile. Fails where it wasn't made.
+pub fn lay<T: Drop>(pile: &mut Vec<T>, made: Made<T>) -> Made<()> {
+    pile.push(made?)?;
+    Ok(())
+}
+
 // Says the expression that is wanted, where it is the one that was found.
 pub fn same(alloc: Global, said: &mut String, found: &Expr, wanted: &str) -> Made<()> {
     if *found == expr(alloc, wanted)? {

@@ -181,9 +181,6 @@ fn rows_hold(rt: HostRuntime) -> Result<(), Fail> {
     let ordered = vec![in alloc; name(alloc, "rank")?]?;
     let extensions = [Extension::new(name(alloc, "rank")?, functions, ordered)];
     let table = Extensions::specific_extensions(alloc, &extensions)?;
-    hold(alloc, &table, RESTRICTED)?;
-    hold(alloc, &table, CONTEXTS)?;
-    hold(alloc, &table, REQUESTS)?;
-    hold(alloc, &table, KINDS)?;
-    Ok(hold(alloc, &table, STORES)?)
+    let texts = [RESTRICTED, CONTEXTS, REQUESTS, KINDS, STORES];
+    Ok(hold(alloc, &table, &texts)?)
 }

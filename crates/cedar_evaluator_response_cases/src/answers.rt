@@ -5,7 +5,7 @@ use crate::responses::decision_text;
 use crate::said::{same, say_ids, say_policies, say_policy};
 use cedar_evaluator_authorizer::PartialResponse;
 use cedar_evaluator_requests::EntityUIDEntry;
-use cedar_store_policies::PolicyID;
+use cedar_store_policies::{Policy, PolicyID};
 use cedar_test_helpers::{say, show};
 use std::alloc::{AllocError, Global};
 
@@ -39,15 +39,15 @@ pub fn done(
 // Says policies of the response.
 fn listed(alloc: Global, response: &PartialResponse, verb: &str, said: &mut String) -> Made<()> {
     let policies = match verb {
-        "satisfied" => response.definitely_satisfied(alloc)?,
-        "may" => response.may_be_determining(alloc)?,
-        "must" => response.must_be_determining(alloc)?,
-        "left" => response.nontrivial_residuals(alloc)?,
-        "left_forbids" => response.nontrivial_forbids(alloc)?,
-        "all" => response.all_residuals(alloc)?,
-        _ => return Err(AllocError),
+        "satisfied" => response.definitely_satisfied(alloc),
+        "may" => response.may_be_determining(alloc),
+        "must" => response.must_be_determining(alloc),
+        "left" => response.nontrivial_residuals(alloc),
+        "left_forbids" => response.nontrivial_forbids(alloc),
+        "all" => response.all_residuals(alloc),
+        _ => Err(AllocError),
     };
-    say_policies(said, policies.as_slice())
+    say_policies(said, policies?.as_slice())
 }
 
 // Says the decision, and whether the limit was met.
@@ -59,10 +59,15 @@ fn decision(response: &PartialResponse, said: &mut String) -> Made<()> {
     Ok(())
 }
 
+// The policy of an id.
+fn of_id(alloc: Global, response: &PartialResponse, id: &str) -> Made<Option<Policy>> {
+    let id = PolicyID::from_string(alloc, id)?;
+    response.get(alloc, &id)
+}
+
 // Says the policy of an id.
 fn found(alloc: Global, response: &PartialResponse, id: &str, said: &mut String) -> Made<()> {
-    let id = PolicyID::from_string(alloc, id)?;
-    match response.get(alloc, &id)? {
+    match of_id(alloc, response, id)? {
         Some(policy) => say_policy(said, &policy),
         None => say(said, "nothing"),
     }
@@ -76,8 +81,7 @@ fn body(
     wanted: &str,
     said: &mut String,
 ) -> Made<()> {
-    let id = PolicyID::from_string(alloc, id)?;
-    let policy = response.get(alloc, &id)?.ok_or(AllocError)?;
+    let policy = of_id(alloc, response, id)?.ok_or(AllocError)?;
     match policy.non_scope_constraints() {
         Some(body) => same(alloc, said, body, wanted),
         None => say(said, "no body"),

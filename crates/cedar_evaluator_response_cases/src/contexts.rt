@@ -6,15 +6,12 @@ use cedar_evaluator_requests::Context;
 use cedar_evaluator_restricted_exprs::RestrictedExpr;
 use cedar_expr_functions::Extensions;
 use cedar_test_exprs::expr;
-use std::alloc::{AllocError, Global};
+use cedar_test_helpers::made;
+use std::alloc::Global;
 
 // The context of a record of restricted expressions, by no functions.
 pub fn residual(alloc: Global, text: &str) -> Made<Context> {
-    let record = RestrictedExpr::new(alloc, expr(alloc, text)?)
-        .ok()
-        .ok_or(AllocError)?;
+    let record = made(RestrictedExpr::new(alloc, expr(alloc, text)?))?;
     let table = Extensions::none(alloc);
-    Context::from_expr(alloc, record.as_borrowed(), &table)
-        .ok()
-        .ok_or(AllocError)
+    made(Context::from_expr(alloc, record.as_borrowed(), &table))
 }

@@ -1,7 +1,7 @@
 //! What the commands of a case work on: the last made is taken first.
 
 use cedar_evaluator_authorizer::{ErrorState, PartialResponse};
-use cedar_evaluator_requests::{AuthorizationError, Context, EntityUIDEntry, Request};
+use cedar_evaluator_requests::{Context, EntityUIDEntry, Request};
 use cedar_expr_names::EntityUID;
 use cedar_expr_partial::PartialValue;
 use cedar_expr_trees::Expr;
@@ -18,6 +18,9 @@ pub type Made<T> = Result<T, AllocError>;
 pub type V = Value<ExtValue>;
 
 pub type Part = PartialValue<ExtValue>;
+
+// The id and the annotations of a policy.
+pub type Noted = (PolicyID, Rc<Annotations>);
 
 // What a policy that isn't satisfied keeps, and what is left of one.
 pub type False = (ErrorState, Rc<Annotations>);
@@ -63,15 +66,15 @@ impl Desk {
     }
 }
 
-// What is known: entities and a store of them, the request, and values for unknowns.
+// What is known: entities and a store of them, contexts, requests, and values for unknowns.
 pub struct Known {
     pub alloc: Global,
     pub attrs: Vec<(RcStr, Part)>,
     pub above: Vec<EntityUID>,
     pub entities: Vec<Entity>,
     pub store: Entities,
-    pub context: Option<Context>,
-    pub request: Request,
+    pub contexts: Vec<Context>,
+    pub requests: Vec<Request>,
     pub mapping: HashMap<RcStr, V>,
 }
 
@@ -83,8 +86,8 @@ impl Drop for Known {
             above: _,
             entities: _,
             store: _,
-            context: _,
-            request: _,
+            contexts: _,
+            requests: _,
             mapping: _,
         } = self;
     }
@@ -98,9 +101,17 @@ impl Known {
             above: Vec::new(alloc),
             entities: Vec::new(alloc),
             store: Entities::new(alloc),
-            context: None,
-            request: nothing_asked(),
+            contexts: Vec::new(alloc),
+            requests: Vec::new(alloc),
             mapping: HashMap::new(alloc),
+        }
+    }
+
+    // A copy of the last request. Where there is none, it is one of which nothing is known.
+    pub fn request(&self) -> Made<Request> {
+        match self.requests.last() {
+            Some(request) => request.clone(),
+            None => Ok(nothing_asked()),
         }
     }
 }
@@ -117,25 +128,15 @@ pub fn nothing_asked() -> Request {
 
 // The groups of a response that is made by hand.
 pub struct Groups {
-    pub true_permits: Vec<(PolicyID, Rc<Annotations>)>,
-    pub false_permits: Vec<(PolicyID, False)>,
-    pub residual_permits: Vec<(PolicyID, Left)>,
-    pub true_forbids: Vec<(PolicyID, Rc<Annotations>)>,
-    pub false_forbids: Vec<(PolicyID, False)>,
-    pub residual_forbids: Vec<(PolicyID, Left)>,
-    pub errors: Vec<AuthorizationError>,
+    pub permits: Side,
+    pub forbids: Side,
 }
 
 impl Drop for Groups {
     fn drop(self) {
         let Groups {
-            true_permits: _,
-            false_permits: _,
-            residual_permits: _,
-            true_forbids: _,
-            false_forbids: _,
-            residual_forbids: _,
-            errors: _,
+            permits: _,
+            forbids: _,
         } = self;
     }
 }
@@ -143,38 +144,63 @@ impl Drop for Groups {
 impl Groups {
     pub fn new(alloc: Global) -> Groups {
         Groups {
-            true_permits: Vec::new(alloc),
-            false_permits: Vec::new(alloc),
-            residual_permits: Vec::new(alloc),
-            true_forbids: Vec::new(alloc),
-            false_forbids: Vec::new(alloc),
-            residual_forbids: Vec::new(alloc),
-            errors: Vec::new(alloc),
+            permits: Side::new(alloc),
+            forbids: Side::new(alloc),
         }
     }
 
     // The response of these, to a request of which nothing is known.
     pub fn into_response(self, alloc: Global) -> Made<PartialResponse> {
-        let Groups {
-            true_permits,
-            false_permits,
-            residual_permits,
-            true_forbids,
-            false_forbids,
-            residual_forbids,
-            errors,
-        } = self;
         let request = Rc::new(alloc, nothing_asked())?;
+        let Groups { permits, forbids } = self;
+        let (trues, falses, lefts) = permits.into_parts();
+        let (true_forbids, false_forbids, left_forbids) = forbids.into_parts();
         PartialResponse::new(
             alloc,
-            true_permits,
-            false_permits,
-            residual_permits,
+            trues,
+            falses,
+            lefts,
             true_forbids,
             false_forbids,
-            residual_forbids,
-            errors,
+            left_forbids,
+            Vec::new(alloc),
             request,
         )
+    }
+}
+
+// The groups of one effect: policies that are satisfied, those that aren't, and those of which something is left.
+pub struct Side {
+    pub trues: Vec<Noted>,
+    pub falses: Vec<(PolicyID, False)>,
+    pub lefts: Vec<(PolicyID, Left)>,
+}
+
+impl Drop for Side {
+    fn drop(self) {
+        let Side {
+            trues: _,
+            falses: _,
+            lefts: _,
+        } = self;
+    }
+}
+
+impl Side {
+    pub fn new(alloc: Global) -> Side {
+        Side {
+            trues: Vec::new(alloc),
+            falses: Vec::new(alloc),
+            lefts: Vec::new(alloc),
+        }
+    }
+
+    fn into_parts(self) -> (Vec<Noted>, Vec<(PolicyID, False)>, Vec<(PolicyID, Left)>) {
+        let Side {
+            trues,
+            falses,
+            lefts,
+        } = self;
+        (trues, falses, lefts)
     }
 }

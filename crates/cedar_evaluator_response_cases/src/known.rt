@@ -2,45 +2,75 @@
 
 use crate::contexts::residual;
 use crate::desk::{Desk, Known, Made, Part};
-use crate::said::{all, two};
+use crate::groups;
+use crate::said::{all, lay, two};
 use cedar_evaluator_requests::{Context, EntityUIDEntry, Request};
+use cedar_expr_functions::Extensions;
 use cedar_expr_partial::{PartialValue, TryFromExpr};
 use cedar_expr_values::{Value, ValueKind};
 use cedar_store_entities::{Entities, Entity};
 use cedar_test_exprs::{entity_type, expr, uid, value, word};
+use cedar_test_helpers::{both, made};
 use std::alloc::{AllocError, Global};
 use std::rc::RcStr;
 
-// Does the command, where it is one of these: `attr ok true`, `attr foo $u`, `above E::parent`, `entity User::a`, `store`, `partial`.
-pub fn stored(known: &mut Known, verb: &str, rest: &str) -> Made<bool> {
+// Does the command, where it is one of these: `attr ok true`, `attr foo $u`, `above E::parent`, `entity User::a`, `store`, `partial`;
+// or one that `asked` does.
+pub fn stored(
+    desk: &mut Desk,
+    table: &Extensions<'_>,
+    verb: &str,
+    rest: &str,
+    wanted: &str,
+    said: &mut String,
+) -> Made<()> {
+    let known = &mut desk.known;
     let alloc = known.alloc;
     match verb {
-        "attr" => known.attrs.push(part(alloc, rest)?)?,
-        "above" => known.above.push(uid(alloc, rest)?)?,
+        "attr" => lay(&mut known.attrs, part(alloc, rest)),
+        "above" => lay(&mut known.above, uid(alloc, rest)),
         "entity" => {
-            let made = entity(known, rest)?;
-            known.entities.push(made)?;
+            let made = entity(known, rest);
+            lay(&mut known.entities, made)
         }
-        "store" => known.store = store(known)?,
-        "partial" => known.store = store(known)?.partial(),
-        _ => return Ok(false),
+        "store" | "partial" => keep(known, verb == "partial"),
+        _ => asked(desk, table, verb, rest, wanted, said),
     }
-    Ok(true)
+}
+
+// Keeps the store of the entities at hand: the whole one, or a partial one.
+fn keep(known: &mut Known, is_partial: bool) -> Made<()> {
+    let entities = all(known.alloc, &mut known.entities);
+    let store = made(Entities::from_entities(known.alloc, entities))?;
+    known.store = if is_partial { store.partial() } else { store };
+    Ok(())
 }
 
 // Does the command, where it is one of these: `context 1 record=n`, `residual $t record=t`, `request User::a Action::view ?Doc`,
-// `let t 5`, `limit 4`. Of `?` nothing is known, and of `?Doc` the type.
-pub fn asked(desk: &mut Desk, verb: &str, rest: &str) -> Made<bool> {
+// `let t 5`, `limit 4`, or one that `groups` does. Of `?` nothing is known, and of `?Doc` the type.
+fn asked(
+    desk: &mut Desk,
+    table: &Extensions<'_>,
+    verb: &str,
+    rest: &str,
+    wanted: &str,
+    said: &mut String,
+) -> Made<()> {
     let known = &mut desk.known;
     match verb {
-        "context" => known.context = Some(of_value(known.alloc, rest)?),
-        "residual" => known.context = Some(residual(known.alloc, rest)?),
-        "request" => request(known, rest)?,
-        "let" => bind(known, rest)?,
-        "limit" => desk.limit = rest.parse::<u32>().map_err(|_| AllocError)?,
-        _ => return Ok(false),
+        "context" => lay(&mut known.contexts, of_value(known.alloc, rest)),
+        "residual" => lay(&mut known.contexts, residual(known.alloc, rest)),
+        "request" => request(known, rest),
+        "let" => bind(known, rest),
+        "limit" => limit(desk, rest),
+        _ => groups::done(desk, table, verb, rest, wanted, said),
     }
-    Ok(true)
+}
+
+// The limit from here on.
+fn limit(desk: &mut Desk, text: &str) -> Made<()> {
+    desk.limit = made(text.parse::<u32>())?;
+    Ok(())
 }
 
 // A name, and what the rest of the text writes: a value, or an expression that is none yet.
@@ -61,12 +91,6 @@ fn entity(known: &mut Known, text: &str) -> Made<Entity> {
     let above = all(alloc, &mut known.above);
     let (parents, tags) = (Vec::new(alloc), Vec::new(alloc));
     Entity::new_with_attr_partial_value(alloc, uid(alloc, text)?, attrs, above, parents, tags)
-}
-
-// The whole store of the entities at hand.
-fn store(known: &mut Known) -> Made<Entities> {
-    let entities = all(known.alloc, &mut known.entities);
-    Entities::from_entities(known.alloc, entities).map_err(|_| AllocError)
 }
 
 // The context of a record of values.
@@ -91,19 +115,16 @@ fn request(known: &mut Known, text: &str) -> Made<()> {
     let alloc = known.alloc;
     let (principal, rest) = two(text);
     let (action, resource) = two(rest);
-    let principal = entry(alloc, principal)?;
-    let action = entry(alloc, action)?;
-    let resource = entry(alloc, resource)?;
-    let mut context = None;
-    std::mem::swap(&mut context, &mut known.context);
-    known.request = Request::new_unchecked(principal, action, resource, context);
-    Ok(())
+    let entries = both(entry(alloc, principal), entry(alloc, action));
+    let ((principal, action), resource) = both(entries, entry(alloc, resource))?;
+    let made = Request::new_unchecked(principal, action, resource, known.contexts.pop());
+    lay(&mut known.requests, Ok(made))
 }
 
 // A value for an unknown.
 fn bind(known: &mut Known, text: &str) -> Made<()> {
     let (name, text) = two(text);
-    let value = value(known.alloc, text)?;
-    known.mapping.insert(word(known.alloc, name)?, value)?;
+    let (name, value) = both(word(known.alloc, name), value(known.alloc, text))?;
+    known.mapping.insert(name, value)?;
     Ok(())
 }

@@ -3,59 +3,61 @@
 use crate::desk::{Desk, Made};
 use crate::policies::set_of;
 use crate::said::{put, top};
+use crate::verdicts;
 use cedar_evaluator_authorizer::{Authorizer, ConcretizationError, ReauthorizationError};
 use cedar_evaluator_requests::{Decision, Response};
 use cedar_expr_functions::Extensions;
-use cedar_test_helpers::{one, say, show};
+use cedar_test_helpers::{both, kept, one, say, show};
 use std::alloc::Global;
 use std::collections::HashMap;
+use std::rc::Rc;
 
 // Does the command, where it is one of these: `core`, the response to the policies; `answer`, their answer; `again`, the last
-// response reauthorized with the values at hand; `copy`, a copy of it; `concrete`, its answer, after which it is gone; `lacking memory`.
-pub fn done(desk: &mut Desk, table: &Extensions<'_>, verb: &str, said: &mut String) -> Made<bool> {
-    let done = match verb {
+// response reauthorized with the values at hand; `copy`, a copy of it; `concrete`, its answer, after which it is gone; `lacking memory`;
+// or one that `verdicts` does.
+pub fn done(
+    desk: &mut Desk,
+    table: &Extensions<'_>,
+    verb: &str,
+    rest: &str,
+    wanted: &str,
+    said: &mut String,
+) -> Made<()> {
+    match verb {
         "core" => core(desk, table, said),
         "answer" => answer(desk, table, said),
         "again" => again(desk, table, said),
         "copy" => copy(desk, table, said),
         "concrete" => concrete(desk, said),
         "lacking" => lacking(desk.known.alloc, said),
-        _ => return Ok(false),
-    };
-    done?;
-    Ok(true)
+        _ => verdicts::done(desk, table, verb, rest, wanted, said),
+    }
 }
 
 fn core(desk: &mut Desk, table: &Extensions<'_>, said: &mut String) -> Made<()> {
     let alloc = desk.known.alloc;
-    let set = set_of(desk)?;
+    let (set, request) = both(set_of(desk), desk.known.request())?;
     let authorizer = Authorizer::new(table, desk.limit);
-    let request = desk.known.request.clone()?;
     let made = authorizer.is_authorized_core(alloc, request, &set, &desk.known.store);
     put(alloc, said, &mut desk.responses, made)
 }
 
 fn answer(desk: &Desk, table: &Extensions<'_>, said: &mut String) -> Made<()> {
     let alloc = desk.known.alloc;
-    let set = set_of(desk)?;
+    let (set, request) = both(set_of(desk), desk.known.request())?;
     let authorizer = Authorizer::new(table, desk.limit);
-    let request = desk.known.request.clone()?;
-    let answer = authorizer.is_authorized(alloc, request, &set, &desk.known.store)?;
-    say_answer(alloc, said, &answer)
+    let answer = authorizer.is_authorized(alloc, request, &set, &desk.known.store);
+    say_kept(alloc, said, kept(alloc, answer))
 }
 
 // The values are gone after it.
 fn again(desk: &mut Desk, table: &Extensions<'_>, said: &mut String) -> Made<()> {
     let alloc = desk.known.alloc;
+    let response = top(desk.responses.as_slice())?;
     let mut mapping = HashMap::new(alloc);
     std::mem::swap(&mut mapping, &mut desk.known.mapping);
     let authorizer = Authorizer::new(table, desk.limit);
-    let made = top(desk.responses.as_slice())?.reauthorize(
-        alloc,
-        &mapping,
-        &authorizer,
-        &desk.known.store,
-    );
+    let made = response.reauthorize(alloc, &mapping, &authorizer, &desk.known.store);
     put(alloc, said, &mut desk.responses, made)
 }
 
@@ -69,8 +71,8 @@ fn copy(desk: &mut Desk, table: &Extensions<'_>, said: &mut String) -> Made<()> 
 // The answer of the last response, which is gone after it.
 fn concrete(desk: &mut Desk, said: &mut String) -> Made<()> {
     let alloc = desk.known.alloc;
-    let answer = one(&mut desk.responses)?.concretize(alloc)?;
-    say_answer(alloc, said, &answer)
+    let answer = one(&mut desk.responses)?.concretize(alloc);
+    say_kept(alloc, said, kept(alloc, answer))
 }
 
 // How want of memory is told.
@@ -85,6 +87,12 @@ pub fn decision_text(decision: Decision) -> &'static str {
         Decision::Allow => "Allow",
         Decision::Deny => "Deny",
     }
+}
+
+// Says an answer that was made.
+fn say_kept(alloc: Global, said: &mut String, answer: Made<Rc<Response>>) -> Made<()> {
+    let answer = answer?;
+    say_answer(alloc, said, &answer)
 }
 
 // Says an answer: its decision, its reasons, and its errors.

@@ -1,8 +1,7 @@
 //! The rows. Expressions are written with their operands before their operator, as `cedar_test_exprs` reads them.
 
 use crate::desk::{Desk, Made};
-use crate::said::top;
-use crate::{answers, groups, known, policies, responses, verdicts};
+use crate::policies;
 use cedar_expr_functions::Extensions;
 use std::alloc::Global;
 use std::test::Fail;
@@ -332,25 +331,17 @@ fn holds(desk: &mut Desk, table: &Extensions<'_>, row: &str, said: &mut String) 
     let (commands, wanted) = row.split_once(" : ").unwrap_or((row, ""));
     for command in commands.split(" ; ") {
         let (verb, rest) = command.split_once(' ').unwrap_or((command, ""));
-        if !makes(desk, verb, rest)?
-            && !groups::done(desk, verb, rest, said)?
-            && !responses::done(desk, table, verb, said)?
-            && !verdicts::done(desk, table, verb, rest, wanted, said)?
-        {
-            let response = top(desk.responses.as_slice())?;
-            answers::done(desk.known.alloc, response, verb, rest, wanted, said)?;
-        }
+        policies::done(desk, table, verb, rest, wanted, said)?;
     }
     Ok(said.trim_start() == wanted)
 }
 
-// Does a command that makes what is known, where it is one.
-fn makes(desk: &mut Desk, verb: &str, rest: &str) -> Made<bool> {
-    Ok(
-        policies::done(desk, verb, rest)?
-            || known::stored(&mut desk.known, verb, rest)?
-            || known::asked(desk, verb, rest)?,
-    )
+// Notes a row and what it says.
+fn note(wrong: &mut String, row: &str, said: &str) -> Made<()> {
+    wrong.push_str(row)?;
+    wrong.push_str(" but it was: ")?;
+    wrong.push_str(said)?;
+    wrong.push('\n')
 }
 
 // The rows that say something else, each with what it says; empty where all hold.
@@ -360,10 +351,7 @@ fn wrong_rows(alloc: Global, table: &Extensions<'_>, rows: &str) -> Made<String>
     for row in rows.lines() {
         let mut said = String::new(alloc);
         if !holds(&mut desk, table, row, &mut said).unwrap_or(false) {
-            wrong.push_str(row)?;
-            wrong.push_str(" but it was: ")?;
-            wrong.push_str(said.as_str())?;
-            wrong.push('\n')?;
+            note(&mut wrong, row, said.as_str())?;
         }
     }
     Ok(wrong)

@@ -24,6 +24,12 @@ pub fn put<T: Drop, E: Display + Drop>(
     }
 }
 
+// Lays what was made on the pile. Fails where it wasn't made.
+pub fn lay<T: Drop>(pile: &mut Vec<T>, made: Made<T>) -> Made<()> {
+    pile.push(made?)?;
+    Ok(())
+}
+
 // The last of the pile, left there.
 pub fn top<T>(pile: &[T]) -> Made<&T> {
     pile.last().ok_or(AllocError)

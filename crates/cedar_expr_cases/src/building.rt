@@ -9,7 +9,7 @@ use cedar_expr_substitution::{Substitute, SubstitutionError};
 use cedar_expr_trees::{Expr, ExpressionConstructionError};
 use cedar_expr_values::{ExtValue, Value};
 use cedar_test_exprs::{at, is, read, value, word};
-use cedar_test_helpers::{refused, show};
+use cedar_test_helpers::{both, refused, show};
 use std::alloc::{AllocError, Global};
 use std::collections::HashMap;
 use std::rc::RcStr;
@@ -57,8 +57,8 @@ fn of_expr(
         ),
         _ => {
             let (bound, text) = rest.split_once(' ').ok_or(AllocError)?;
-            let bindings = bindings(alloc, bound)?;
-            substituted(alloc, said, verb, (&*read(alloc, text)?, &bindings), wanted)
+            let (bindings, e) = both(bindings(alloc, bound), read(alloc, text))?;
+            substituted(alloc, said, verb, (&*e, &bindings), wanted)
         }
     }
 }
@@ -74,7 +74,8 @@ fn bindings(alloc: Global, text: &str) -> Result<Bindings, AllocError> {
     let mut bindings = HashMap::new(alloc);
     for binding in text.split(';') {
         if let Some((name, text)) = binding.split_once('=') {
-            bindings.insert(word(alloc, name)?, value(alloc, text)?)?;
+            let (name, value) = both(word(alloc, name), value(alloc, text))?;
+            bindings.insert(name, value)?;
         }
     }
     Ok(bindings)

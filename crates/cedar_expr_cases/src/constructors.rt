@@ -5,6 +5,7 @@ use cedar_expr_names::Loc;
 use cedar_expr_plain_builder::PlainBuilder;
 use cedar_expr_trees::*;
 use cedar_test_exprs::{expr, is, word};
+use cedar_test_helpers::both;
 use std::alloc::{AllocError, Global};
 use std::rc::RcStr;
 
@@ -144,7 +145,7 @@ fn pairs(alloc: Global, text: &str) -> Result<Vec<(RcStr, Expr)>, AllocError> {
     let mut pairs = Vec::new(alloc);
     for pair in text.split(' ') {
         let (name, text) = pair.split_once('=').ok_or(AllocError)?;
-        pairs.push((word(alloc, name)?, expr(alloc, text)?))?;
+        pairs.push(both(word(alloc, name), expr(alloc, text))?)?;
     }
     Ok(pairs)
 }

@@ -32,7 +32,7 @@ pub fn copied(alloc: Global, said: &mut String) -> Result<(), AllocError> {
 
 // Says its place, and a copy of its kind.
 fn taken(alloc: Global, said: &mut String) -> Result<(), AllocError> {
-    let (_, place, _) = five().into_parts();
+    let place = five().into_parts().1;
     at(alloc, said, place)?;
     let kind = shared(alloc, five().into_expr_kind())?;
     let copy = kept(alloc, ExprKind::clone(&kind))?;

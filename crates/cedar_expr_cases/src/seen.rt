@@ -4,7 +4,7 @@ use crate::{building, data};
 use cedar_expr_shapes::{ExprShape, ExprShapeOnly};
 use cedar_expr_trees::{Expr, ExprKind};
 use cedar_test_exprs::{at, read};
-use cedar_test_helpers::{say, show, tell};
+use cedar_test_helpers::{both, say, show, tell};
 use std::alloc::{AllocError, Global};
 use std::cmp::Ordering;
 use std::collections::HashSet;
@@ -92,7 +92,7 @@ fn hashes(e: &Expr) -> (u64, u64) {
 
 fn same(alloc: Global, said: &mut String, text: &str) -> Result<(), AllocError> {
     let (first, second) = text.split_once(" | ").ok_or(AllocError)?;
-    let (first, second) = (read(alloc, first)?, read(alloc, second)?);
+    let (first, second) = both(read(alloc, first), read(alloc, second))?;
     let (ours, theirs) = (hashes(&first), hashes(&second));
     tell(said, *first == *second && ours.0 == theirs.0)?;
     tell(said, first.eq_shape(&second) && ours.1 == theirs.1)?;

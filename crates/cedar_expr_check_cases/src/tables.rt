@@ -12,7 +12,7 @@ use cedar_expr_functions::*;
 use cedar_expr_leaves::Literal;
 use cedar_expr_values::{ExtValue, Type, Value, ValueKind};
 use cedar_test_exprs::{expr, name, value};
-use cedar_test_helpers::{parted, refused, say, show};
+use cedar_test_helpers::{both, parted, refused, say, show};
 use std::alloc::{AllocError, Global};
 use std::test::Fail;
 
@@ -139,9 +139,9 @@ fn function(alloc: Global, row: &str, func: Func) -> Result<ExtensionFunction, A
     let (called, row) = row.split_once(' ').ok_or(AllocError)?;
     let mut words = row.split(' ');
     let kind = words.next();
-    let of = core_type(alloc, words.next())?;
-    let given = core_type(alloc, words.next())?;
-    let called = name(alloc, called)?;
+    let of = core_type(alloc, words.next());
+    let given = core_type(alloc, words.next());
+    let ((of, given), called) = both(both(of, given), name(alloc, called))?;
     let style = CallStyle::FunctionStyle;
     match kind {
         Some("nullary") => Ok(ExtensionFunction::nullary(alloc, called, style, func, given)),
@@ -170,11 +170,20 @@ fn wrong(
 ) -> Result<String, AllocError> {
     let extensions = [Extension::new(name(alloc, "ranks")?, functions, Vec::new(alloc))];
     let table = Extensions::specific_extensions(alloc, &extensions);
+    first_wrong(alloc, case, &table)
+}
+
+// The first row that the table doesn't answer as it stands there, with what it comes to; or nothing.
+fn first_wrong(
+    alloc: Global,
+    case: &str,
+    table: &Result<Extensions<'_>, ExtensionInitializationError>,
+) -> Result<String, AllocError> {
     for row in case.lines() {
         let (verb, rest, wanted) = parted(row).ok_or(AllocError)?;
         if verb != "function" {
             let mut said = String::new(alloc);
-            done(alloc, &mut said, &table, verb, rest)?;
+            done(alloc, &mut said, table, verb, rest)?;
             if said.as_str() != wanted {
                 return format!(in alloc; "{row}: {said}");
             }

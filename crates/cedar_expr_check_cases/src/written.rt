@@ -4,7 +4,7 @@ use cedar_expr_partial::*;
 use cedar_expr_trees::{Expr, ExprKind};
 use cedar_expr_values::{ExtValue, Literal, Loc, RepresentableExtensionValue, Value, ValueKind};
 use cedar_test_exprs::{at, is, literal, name, read, value};
-use cedar_test_helpers::{kept, made, say, show};
+use cedar_test_helpers::{both, kept, made, say, show};
 use std::alloc::{AllocError, Global};
 use std::rc::Rc;
 use std::vec::IntoIter;
@@ -14,10 +14,11 @@ type V = Value<ExtValue>;
 // The value, as it is written; the kind and the partial value have to be written so too, the kind at no place.
 pub fn write(alloc: Global, said: &mut String, text: &str, wanted: &str) -> Result<(), AllocError> {
     let read = kept(alloc, value(alloc, text))?;
-    let of_value = kept(alloc, Expr::from_value(alloc, read.as_ref()))?;
-    let of_kind = kept(alloc, Expr::from_value_kind(alloc, read.value_kind()))?;
+    let of_value = kept(alloc, Expr::from_value(alloc, read.as_ref()));
+    let of_kind = kept(alloc, Expr::from_value_kind(alloc, read.value_kind()));
+    let ((of_value, of_kind), again) = both(both(of_value, of_kind), value(alloc, text))?;
     if *of_value == *of_kind && of_kind.source_loc().is_none() {
-        let part = PartialValue::from(value(alloc, text)?);
+        let part = PartialValue::from(again);
         is(alloc, said, Expr::from_partial_value(alloc, part), wanted)
     } else {
         say(said, "at odds")
@@ -32,9 +33,9 @@ pub fn read_again(
     wanted: &str,
 ) -> Result<(), AllocError> {
     let e = read(alloc, text)?;
-    let value = kept(alloc, V::try_from_expr(alloc, &e))?;
+    let value = kept(alloc, V::try_from_expr(alloc, &e));
     let kind: Result<ValueKind<ExtValue>, NotValue> = ValueKind::try_from_expr(alloc, &e);
-    let kind = kept(alloc, kind)?;
+    let (value, kind) = both(value, kept(alloc, kind))?;
     if *kind == *value.value_kind() {
         is(alloc, said, Expr::from_value(alloc, value.as_ref()), wanted)
     } else {
@@ -51,7 +52,8 @@ pub fn given(alloc: Global, text: &str) -> Result<Expr, AllocError> {
     let ValueKind::ExtensionValue(it) = value.value_kind() else {
         return Err(AllocError);
     };
-    let it = RepresentableExtensionValue::new(made(it.clone())?, name(alloc, function)?, args);
+    let (it, called) = both(made(it.clone()), name(alloc, function))?;
+    let it = RepresentableExtensionValue::new(it, called, args);
     let it = ValueKind::ExtensionValue(Rc::new(alloc, it)?);
     Expr::from_value(alloc, &Value::new(it, None))
 }

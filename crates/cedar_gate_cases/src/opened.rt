@@ -3,10 +3,12 @@
 use cedar_evaluator_requests::{Context, EntityUIDEntry, Request};
 use cedar_evaluator_restricted::{FunctionCalls, Left, RestrictedFault, V};
 use cedar_expr_names::Name;
-use cedar_gate_bundles::{Bundle, read_input};
+use cedar_gate_bundles::{Bundle, Submission, read_input};
+use cedar_gate_hosts::StoreHost;
+use cedar_gate_rules::NestLimit;
 use cedar_test_exprs::uid;
+use cedar_test_helpers::{both, kept, made};
 use std::alloc::{AllocError, Global};
-use std::rc::Rc;
 
 // Users have a boss, documents an owner. p0 permits where the boss of the owner asks, p1 permits `User::"a"`, p2 forbids who is ok. The
 // owner is b, whose boss is a, who isn't ok.
@@ -24,9 +26,39 @@ const BUNDLE: &str = r#"{"version": 1, "level": 2, "limit": 16,
 
 // The bundle, read.
 pub(crate) fn bundle(alloc: Global) -> Result<Bundle, AllocError> {
-    read_input(alloc, &NoFunctions, BUNDLE.as_bytes())
-        .ok()
-        .ok_or(AllocError)
+    made(read_input(alloc, &NoFunctions, BUNDLE.as_bytes()))
+}
+
+// What the bundle hands to the gate, and its limit.
+pub(crate) fn handed(alloc: Global) -> Result<(Submission, NestLimit), AllocError> {
+    let Bundle {
+        submission,
+        request,
+        store,
+        ..
+    } = bundle(alloc)?;
+    drop(request);
+    drop(store);
+    match NestLimit::new(submission.limit) {
+        Some(limit) => Ok((submission, limit)),
+        None => {
+            drop(submission);
+            Err(AllocError)
+        }
+    }
+}
+
+// A host over the store of the bundle.
+pub(crate) fn store_host(alloc: Global) -> Result<StoreHost, AllocError> {
+    let Bundle {
+        submission,
+        request,
+        store,
+        ..
+    } = bundle(alloc)?;
+    drop(submission);
+    drop(request);
+    Ok(StoreHost::new(alloc, store))
 }
 
 // No functions.
@@ -50,15 +82,13 @@ fn entry(alloc: Global, text: &str) -> Result<EntityUIDEntry, AllocError> {
             loc: None,
         });
     }
-    let euid = Rc::new(alloc, uid(alloc, text)?)?;
+    let euid = kept(alloc, uid(alloc, text))?;
     Ok(EntityUIDEntry::Known { euid, loc: None })
 }
 
 // The request of this principal to view the document.
 pub(crate) fn request(alloc: Global, principal: &str) -> Result<Request, AllocError> {
-    let principal = entry(alloc, principal)?;
-    let action = entry(alloc, "Action::view")?;
-    let resource = entry(alloc, "Doc::d")?;
-    let context = Context::empty(alloc)?;
+    let (principal, action) = both(entry(alloc, principal), entry(alloc, "Action::view"))?;
+    let (resource, context) = both(entry(alloc, "Doc::d"), Context::empty(alloc))?;
     Ok(Request::new_unchecked(principal, action, resource, Some(context)))
 }

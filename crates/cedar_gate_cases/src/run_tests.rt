@@ -3,41 +3,64 @@
 ghost use Rattle.std.specs.Prelude.{◌<◌};
 
 use crate::hosts::{FailingHost, ForgetfulHost};
-use crate::opened::{NoFunctions, bundle, request};
+use crate::opened::{NoFunctions, handed, request, store_host};
+use cedar_evaluator_restricted::FunctionCalls;
 use cedar_expr_functions::Extensions;
 use cedar_gate_accepted::Gate;
-use cedar_gate_bundles::{Bundle, Submission};
+use cedar_gate_bundles::Submission;
 use cedar_gate_hosts::{Host, StoreHost};
-use cedar_gate_rules::NestLimit;
 use cedar_gate_runs::{RunFault, Step, Transcript, run};
 use cedar_gate_schemas::GateSchema;
-use cedar_gate_sessions::{Basis, CourseSession};
+use cedar_gate_sessions::{Basis, CourseSession, Schema};
 use cedar_gate_transcripts::lines::push_entries;
-use cedar_test_helpers::{say, show};
+use cedar_test_helpers::{both, made, say, show};
 use std::alloc::{AllocError, Global};
 use std::test::Fail;
 
 // What a run over the host comes to: its entries, and the decision or why it stopped.
-fn told<H: Host>(alloc: Global, gate: &Gate<'_, '_, '_>, host: &mut H) -> Result<String, AllocError>
+fn told<S: Schema, T: FunctionCalls, H: Host>(
+    alloc: Global,
+    basis: Basis<'_, '_, S, T>,
+    host: &mut H,
+) -> Result<String, AllocError>
     requires { H.faults host.old < u64.MAX }
 {
-    let schema = GateSchema { gate };
-    let basis = Basis {
-        schema: &schema,
-        policies: gate.policies(),
-        functions: &NoFunctions,
-        table: gate.table(),
-        level: gate.level(),
-        limit: gate.limit().levels(),
-    };
-    let Ok(session) = CourseSession::open(alloc, basis, request(alloc, "User::a")?) else {
-        return Err(AllocError);
-    };
-    let mut steps = Vec::new(alloc);
-    steps.push(Step::Decide)?;
-    match run(alloc, session, steps, host) {
-        Ok(transcript) => told_answer(alloc, &transcript),
-        Err(fault) => told_fault(alloc, &fault),
+    let (steps, request) = both(steps(alloc), request(alloc, "User::a"))?;
+    match CourseSession::open(alloc, basis, request) {
+        Ok(session) => told_run(alloc, run(alloc, session, steps, host)),
+        Err(_) => {
+            drop(steps);
+            Err(AllocError)
+        }
+    }
+}
+
+// One step: the early decision is asked for.
+fn steps(alloc: Global) -> Result<Vec<Step>, AllocError> {
+    Ok(vec![in alloc; Step::Decide]?)
+}
+
+// What is told of how a run ended.
+trait Ending: Drop {
+    fn tell(&self, alloc: Global) -> Result<String, AllocError>;
+}
+
+impl Ending for Transcript {
+    fn tell(&self, alloc: Global) -> Result<String, AllocError> {
+        told_answer(alloc, self)
+    }
+}
+
+impl Ending for RunFault {
+    fn tell(&self, alloc: Global) -> Result<String, AllocError> {
+        told_fault(alloc, self)
+    }
+}
+
+fn told_run<T: Ending, E: Ending>(alloc: Global, run: Result<T, E>) -> Result<String, AllocError> {
+    match run {
+        Ok(it) => it.tell(alloc),
+        Err(fault) => fault.tell(alloc),
     }
 }
 
@@ -88,72 +111,116 @@ fn told_lists(alloc: Global, host: &StoreHost) -> Result<String, AllocError> {
 fn over_bundle<H: Host + Drop>(alloc: Global, host: &mut H) -> Result<String, AllocError>
     requires { H.faults host.old < u64.MAX }
 {
-    let Bundle { submission, .. } = bundle(alloc)?;
+    let (submission, limit) = handed(alloc)?;
     let Submission {
         fragments,
         policies,
         level,
-        limit,
+        limit: _,
     } = submission;
-    let limit = NestLimit::new(limit).ok_or(AllocError)?;
     let table = Extensions::none(alloc);
-    match Gate::accept(alloc, fragments.as_slice(), policies, &table, level, limit) {
-        Ok(gate) => told(alloc, &gate, host),
-        Err(_) => Err(AllocError),
-    }
+    let gate = Gate::accept(alloc, fragments.as_slice(), policies, &table, level, limit);
+    let gate = made(gate)?;
+    let schema = GateSchema { gate: &gate };
+    let basis = Basis {
+        schema: &schema,
+        policies: gate.policies(),
+        functions: &NoFunctions,
+        table: gate.table(),
+        level: gate.level(),
+        limit: gate.limit().levels(),
+    };
+    let said = told(alloc, basis, host);
+    drop(gate);
+    said
 }
 
-// A host over the store of the bundle.
-fn store_host(alloc: Global) -> Result<StoreHost, AllocError> {
-    let Bundle { store, .. } = bundle(alloc)?;
-    Ok(StoreHost::new(alloc, store))
+// What is told of a run and of the lists of uids that were asked for, where it isn't what is wanted.
+fn unlike(
+    told: Result<(String, String), AllocError>,
+    wanted: (&str, &str),
+) -> Result<String, AllocError> {
+    let (mut said, lists) = told?;
+    if said.as_str() == wanted.0 && lists.as_str() == wanted.1 {
+        said.clear();
+    } else {
+        say(&mut said, "lists:")?;
+        say(&mut said, lists.as_str())?;
+    }
+    Ok(said)
+}
+
+// What is told of a run over this host, where it isn't what is wanted.
+fn over_store(
+    alloc: Global,
+    mut host: StoreHost,
+    wanted: (&str, &str),
+) -> Result<String, AllocError> {
+    let told = both(over_bundle(alloc, &mut host), told_lists(alloc, &host));
+    drop(host);
+    unlike(told, wanted)
+}
+
+// The same of a host that fails at its second fetch, and how many failures it counts.
+fn over_failing(
+    alloc: Global,
+    host: StoreHost,
+    wanted: (&str, &str),
+) -> (Result<String, AllocError>, u64) {
+    let mut host = FailingHost {
+        host,
+        left: 1,
+        failed: 0,
+    };
+    let told = both(over_bundle(alloc, &mut host), told_lists(alloc, &host.host));
+    let failures = host.failures();
+    drop(host);
+    (unlike(told, wanted), failures)
+}
+
+// The same of a forgetful host.
+fn over_forgetful(
+    alloc: Global,
+    host: StoreHost,
+    wanted: (&str, &str),
+) -> Result<String, AllocError> {
+    let mut host = ForgetfulHost { host };
+    let told = both(over_bundle(alloc, &mut host), told_lists(alloc, &host.host));
+    drop(host);
+    unlike(told, wanted)
 }
 
 #[test]
 fn the_host_is_asked_for_the_rounds(rt: HostRuntime) -> Result<(), Fail> {
-    let mut host = store_host(rt.alloc())?;
-    let said = over_bundle(rt.alloc(), &mut host)?;
-    assert_eq!(rt;
-        said.as_str(),
-        "decision None\nround 1 Doc::\"d\" User::\"a\"\nround 2 User::\"b\"\n answered"
+    let host = store_host(rt.alloc())?;
+    let wanted = (
+        "decision None\nround 1 Doc::\"d\" User::\"a\"\nround 2 User::\"b\"\n answered",
+        "round Doc::\"d\" User::\"a\" round User::\"b\"",
     );
-    let lists = told_lists(rt.alloc(), &host)?;
-    assert_eq!(rt;
-        lists.as_str(),
-        "round Doc::\"d\" User::\"a\" round User::\"b\""
-    );
+    assert_eq!(rt; over_store(rt.alloc(), host, wanted)?.as_str(), "");
     Ok(())
 }
 
 #[test]
 fn a_host_fails_at_its_second_fetch(rt: HostRuntime) -> Result<(), Fail> {
     let host = store_host(rt.alloc())?;
-    let mut host = FailingHost {
-        host,
-        left: 1,
-        failed: 0,
-    };
-    let said = over_bundle(rt.alloc(), &mut host)?;
-    assert_eq!(rt;
-        said.as_str(),
-        "decision None\nround 1 Doc::\"d\" User::\"a\"\n the host failed"
+    let wanted = (
+        "decision None\nround 1 Doc::\"d\" User::\"a\"\n the host failed",
+        "round Doc::\"d\" User::\"a\"",
     );
-    let lists = told_lists(rt.alloc(), &host.host)?;
-    assert_eq!(rt; lists.as_str(), "round Doc::\"d\" User::\"a\"");
-    assert_eq!(rt; host.failures(), 1);
+    let (said, failures) = over_failing(rt.alloc(), host, wanted);
+    assert_eq!(rt; said?.as_str(), "");
+    assert_eq!(rt; failures, 1);
     Ok(())
 }
 
 #[test]
 fn what_a_forgetful_host_answers_is_refused(rt: HostRuntime) -> Result<(), Fail> {
     let host = store_host(rt.alloc())?;
-    let mut host = ForgetfulHost { host };
-    let said = over_bundle(rt.alloc(), &mut host)?;
-    assert_eq!(rt;
-        said.as_str(),
-        "decision None\n what is supplied is refused, by refusal 2"
+    let wanted = (
+        "decision None\n what is supplied is refused, by refusal 2",
+        "round Doc::\"d\" User::\"a\"",
     );
-    let lists = told_lists(rt.alloc(), &host.host)?;
-    assert_eq!(rt; lists.as_str(), "round Doc::\"d\" User::\"a\"");
+    assert_eq!(rt; over_forgetful(rt.alloc(), host, wanted)?.as_str(), "");
     Ok(())
 }

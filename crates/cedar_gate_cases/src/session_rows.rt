@@ -1,24 +1,22 @@
 //! What calls of a session say, row by row.
 
-use crate::opened::{NoFunctions, bundle, request};
-use cedar_evaluator_requests::Decision;
+use crate::opened::{NoFunctions, handed, request, store_host};
+use cedar_evaluator_requests::{Decision, Response};
 use cedar_evaluator_restricted::FunctionCalls;
 use cedar_expr_functions::Extensions;
 use cedar_expr_leaves::Literal;
 use cedar_expr_names::EntityUID;
 use cedar_expr_values::{ExtValue, Value};
 use cedar_gate_accepted::Gate;
-use cedar_gate_bundles::{Bundle, Submission};
+use cedar_gate_bundles::Submission;
 use cedar_gate_hosts::{Host, StoreHost};
-use cedar_gate_rules::NestLimit;
 use cedar_gate_schemas::GateSchema;
-use cedar_gate_sessions::{Basis, Schema, Session};
+use cedar_gate_sessions::{Basis, Bounds, Schema, Session};
 use cedar_store_entities::Entity;
 use cedar_store_parts::PolicyID;
 use cedar_test_exprs::{uid, word};
-use cedar_test_helpers::{say, show};
+use cedar_test_helpers::{both, made, say, shared, show};
 use std::alloc::{AllocError, Global};
-use std::rc::Rc;
 use std::test::Fail;
 
 const KNOWN: &str = r#"wanted : Doc::"d" User::"a"
@@ -108,40 +106,52 @@ fn decision_word(decision: Option<Decision>) -> &'static str {
     }
 }
 
-// Supplies what the store answers to these uids. Of `one=other` the answer to the other is supplied for the one, and of `one=absent`
-// that there is none.
+// What the store answers to the uid of this text, which is nothing where the text is `absent`.
+fn answered(alloc: Global, host: &mut StoreHost, text: &str) -> Result<Option<Entity>, AllocError> {
+    if text == "absent" {
+        return Ok(None);
+    }
+    let asked = uid(alloc, text)?;
+    match host.fetch(alloc, std::slice::from_ref(&asked)) {
+        Ok(mut answers) => Ok(answers.pop().and_then(|it| it.1)),
+        Err(_) => Err(AllocError),
+    }
+}
+
+// What is supplied for a uid: what the store answers to it, or, of `one=other`, what it answers to the other.
+fn given(
+    alloc: Global,
+    host: &mut StoreHost,
+    text: &str,
+) -> Result<(EntityUID, Option<Entity>), AllocError> {
+    let (one, other) = text.split_once('=').unwrap_or((text, text));
+    both(uid(alloc, one), answered(alloc, host, other))
+}
+
+// Supplies what is given for these uids.
 fn supply<S: Schema, T: FunctionCalls>(
     alloc: Global,
     session: &mut Opened<'_, '_, S, T>,
     host: &mut StoreHost,
     rest: &str,
-) -> Result<Option<u32>, AllocError> {
+    said: &mut String,
+) -> Result<(), AllocError> {
     let mut supplied = Vec::new(alloc);
-    for given in rest.split(' ') {
-        let (one, other) = given.split_once('=').unwrap_or((given, given));
-        let asked = uid(alloc, one)?;
-        let found = if other == "absent" {
-            None
-        } else {
-            answered(alloc, host, uid(alloc, other)?)?
-        };
-        supplied.push((asked, found))?;
+    for text in rest.split(' ') {
+        supplied.push(given(alloc, host, text)?)?;
     }
-    match session.supply(alloc, supplied) {
-        Ok(()) => Ok(None),
-        Err(fault) => Ok(Some(fault.number())),
-    }
+    let refused = match session.supply(alloc, supplied) {
+        Ok(()) => None,
+        Err(fault) => Some(fault.number()),
+    };
+    say_done(alloc, said, refused)
 }
 
-// What the store answers to one uid.
-fn answered(
-    alloc: Global,
-    host: &mut StoreHost,
-    asked: EntityUID,
-) -> Result<Option<Entity>, AllocError> {
-    match host.fetch(alloc, std::slice::from_ref(&asked)) {
-        Ok(mut answers) => Ok(answers.pop().and_then(|it| it.1)),
-        Err(_) => Err(AllocError),
+// A uid, or a whole number.
+fn literal(alloc: Global, text: &str) -> Result<Literal, AllocError> {
+    match uid(alloc, text) {
+        Ok(it) => Ok(Literal::EntityUID(shared(alloc, it)?)),
+        Err(_) => Ok(Literal::from(text.len() as i64)),
     }
 }
 
@@ -150,17 +160,16 @@ fn bind<S: Schema, T: FunctionCalls>(
     alloc: Global,
     session: &mut Opened<'_, '_, S, T>,
     rest: &str,
-) -> Result<Option<u32>, AllocError> {
+    said: &mut String,
+) -> Result<(), AllocError> {
     let (name, text) = rest.split_once(' ').unwrap_or((rest, ""));
-    let literal = match uid(alloc, text) {
-        Ok(it) => Literal::EntityUID(Rc::new(alloc, it)?),
-        Err(_) => Literal::from(text.len() as i64),
-    };
+    let (name, literal) = both(word(alloc, name), literal(alloc, text))?;
     let value: Value<ExtValue> = Value::from(literal);
-    match session.bind(alloc, word(alloc, name)?, value) {
-        Ok(()) => Ok(None),
-        Err(fault) => Ok(Some(fault.number())),
-    }
+    let refused = match session.bind(alloc, name, value) {
+        Ok(()) => None,
+        Err(fault) => Some(fault.number()),
+    };
+    say_done(alloc, said, refused)
 }
 
 // What is said of the answer: the decision, the reasons, and how many errors there are.
@@ -171,20 +180,22 @@ fn say_answer<S: Schema, T: FunctionCalls>(
 ) -> Result<(), AllocError> {
     match session.answer(alloc) {
         Err(fault) => say_done(alloc, said, Some(fault.number())),
-        Ok(response) => {
-            say(said, decision_word(Some(response.decision)))?;
-            for it in response.diagnostics.reason.iter() {
-                say(said, it.as_str())?;
-            }
-            let errors = response.diagnostics.errors.len();
-            if errors != 0 {
-                say(said, "with")?;
-                show(alloc, said, &errors)?;
-                say(said, "errors")?;
-            }
-            Ok(())
-        }
+        Ok(response) => say_response(alloc, said, &response),
     }
+}
+
+fn say_response(alloc: Global, said: &mut String, response: &Response) -> Result<(), AllocError> {
+    say(said, decision_word(Some(response.decision)))?;
+    for it in response.diagnostics.reason.iter() {
+        say(said, it.as_str())?;
+    }
+    let errors = response.diagnostics.errors.len();
+    if errors != 0 {
+        say(said, "with")?;
+        show(alloc, said, &errors)?;
+        say(said, "errors")?;
+    }
+    Ok(())
 }
 
 // What is said of the bounds.
@@ -195,13 +206,15 @@ fn say_bounds<S: Schema, T: FunctionCalls>(
 ) -> Result<(), AllocError> {
     match session.bounds(alloc)? {
         None => say(said, "None"),
-        Some(bounds) => {
-            say(said, "must")?;
-            say_ids(said, bounds.must.as_slice())?;
-            say(said, "may")?;
-            say_ids(said, bounds.may.as_slice())
-        }
+        Some(bounds) => say_both(said, &bounds),
     }
+}
+
+fn say_both(said: &mut String, bounds: &Bounds) -> Result<(), AllocError> {
+    say(said, "must")?;
+    say_ids(said, bounds.must.as_slice())?;
+    say(said, "may")?;
+    say_ids(said, bounds.may.as_slice())
 }
 
 // Does one command, and says what it comes to.
@@ -215,20 +228,11 @@ fn answer<S: Schema, T: FunctionCalls>(
     let (verb, rest) = command.split_once(' ').unwrap_or((command, ""));
     match verb {
         "wanted" => say_uids(alloc, said, session.wanted()),
-        "decision" => {
-            let decision = session.decision(alloc)?;
-            say(said, decision_word(decision))
-        }
+        "decision" => say(said, decision_word(session.decision(alloc)?)),
         "bounds" => say_bounds(alloc, session, said),
         "answer" => say_answer(alloc, session, said),
-        "supply" => {
-            let refused = supply(alloc, session, host, rest)?;
-            say_done(alloc, said, refused)
-        }
-        "bind" => {
-            let refused = bind(alloc, session, rest)?;
-            say_done(alloc, said, refused)
-        }
+        "supply" => supply(alloc, session, host, rest, said),
+        "bind" => bind(alloc, session, rest, said),
         _ => Err(AllocError),
     }
 }
@@ -253,24 +257,33 @@ fn wrong_row<S: Schema, T: FunctionCalls>(
     Ok(None)
 }
 
+// A session of this principal's request.
+fn opened<'g, 'e, S: Schema, T: FunctionCalls>(
+    alloc: Global,
+    basis: Basis<'g, 'e, S, T>,
+    principal: &str,
+) -> Result<Opened<'g, 'e, S, T>, AllocError> {
+    let request = request(alloc, principal)?;
+    made(Session::open(alloc, basis, request))
+}
+
 // Opens a session of this principal's request on the bundle, and goes over the rows.
-fn goes_wrong(alloc: Global, principal: &str, rows: &str) -> Result<Option<String>, AllocError> {
-    let Bundle {
-        submission,
-        store,
-        ..
-    } = bundle(alloc)?;
+fn goes_wrong(
+    alloc: Global,
+    host: &mut StoreHost,
+    principal: &str,
+    rows: &str,
+) -> Result<Option<String>, AllocError> {
+    let (submission, limit) = handed(alloc)?;
     let Submission {
         fragments,
         policies,
         level,
-        limit,
+        limit: _,
     } = submission;
-    let limit = NestLimit::new(limit).ok_or(AllocError)?;
     let table = Extensions::none(alloc);
-    let Ok(gate) = Gate::accept(alloc, fragments.as_slice(), policies, &table, level, limit) else {
-        return Err(AllocError);
-    };
+    let gate = Gate::accept(alloc, fragments.as_slice(), policies, &table, level, limit);
+    let gate = made(gate)?;
     let schema = GateSchema { gate: &gate };
     let basis = Basis {
         schema: &schema,
@@ -280,17 +293,23 @@ fn goes_wrong(alloc: Global, principal: &str, rows: &str) -> Result<Option<Strin
         level: gate.level(),
         limit: gate.limit().levels(),
     };
-    let Ok(mut session) = Session::open(alloc, basis, request(alloc, principal)?) else {
-        return Err(AllocError);
+    let wrong = match opened(alloc, basis, principal) {
+        Ok(mut session) => {
+            let wrong = wrong_row(alloc, &mut session, host, rows);
+            drop(session);
+            wrong
+        }
+        Err(fault) => Err(fault),
     };
-    let mut host = StoreHost::new(alloc, store);
-    wrong_row(alloc, &mut session, &mut host, rows)
+    drop(gate);
+    wrong
 }
 
 #[test]
 fn calls_of_a_session(rt: HostRuntime) -> Result<(), Fail> {
     for (principal, rows) in [("User::a", KNOWN), ("User::a", ABSENT), ("", OPEN)] {
-        if let Some(said) = goes_wrong(rt.alloc(), principal, rows)? {
+        let mut host = store_host(rt.alloc())?;
+        if let Some(said) = goes_wrong(rt.alloc(), &mut host, principal, rows)? {
             assert!(rt; false, "{said}");
         }
     }

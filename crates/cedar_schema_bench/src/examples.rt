@@ -1,9 +1,10 @@
 //! Examples of declarations, and texts of what comes of them.
 
-use crate::fault::Fault;
+use crate::fault::{Fault, number_of};
+use crate::shapes::schema_of_all;
 use cedar_expr_functions::Extensions;
 use cedar_expr_raw_names::ConditionalName;
-use cedar_schema::{SchemaError, ValidatorSchema, ValidatorSchemaFragment};
+use cedar_schema::{ValidatorSchema, ValidatorSchemaFragment};
 use cedar_schema_examples::{action_text, entity_type_text, fragment};
 use std::alloc::{AllocError, Global};
 
@@ -31,39 +32,52 @@ fn documents(alloc: Global, size: u32) -> Result<String, AllocError> {
     Ok(lines)
 }
 
-// The texts of the entity types.
-fn types_text(alloc: Global, schema: &ValidatorSchema) -> Result<String, AllocError> {
-    let mut text = String::new(alloc);
+// Pushes the texts of the entity types.
+fn push_types(
+    alloc: Global,
+    text: &mut String,
+    schema: &ValidatorSchema,
+) -> Result<(), AllocError> {
     for ty in schema.entity_types() {
         text.push_str(entity_type_text(alloc, ty)?.as_str())?;
     }
-    Ok(text)
+    Ok(())
 }
 
-// The texts of the actions.
-fn actions_text(alloc: Global, schema: &ValidatorSchema) -> Result<String, AllocError> {
-    let mut text = String::new(alloc);
+// Pushes the texts of the actions.
+fn push_actions(
+    alloc: Global,
+    text: &mut String,
+    schema: &ValidatorSchema,
+) -> Result<(), AllocError> {
     for action in schema.action_ids() {
         text.push_str(action_text(alloc, action)?.as_str())?;
     }
+    Ok(())
+}
+
+// The text of the schema.
+fn text_of(alloc: Global, schema: &ValidatorSchema) -> Result<String, Fault> {
+    let mut text = String::new(alloc);
+    push_types(alloc, &mut text, schema)?;
+    push_actions(alloc, &mut text, schema)?;
     Ok(text)
+}
+
+// The fragments of documents and of people.
+fn fragments(alloc: Global, size: u32) -> Result<Vec<Written>, Fault> {
+    let documents = documents(alloc, size)?;
+    let mut fragments = vec![in alloc; written(alloc, documents.as_str())?]?;
+    fragments.push(written(alloc, PEOPLE)?)?;
+    Ok(fragments)
 }
 
 /// The text of the schema of two fragments. One declares a group, users, colors and an action in the empty namespace, the other in
 /// another namespace documents, an action of that group and this many entity types below users.
 pub fn mixed(alloc: Global, size: u32) -> Result<String, Fault> {
-    let documents = documents(alloc, size)?;
-    let mut fragments = Vec::new(alloc);
-    fragments.push(written(alloc, documents.as_str())?)?;
-    fragments.push(written(alloc, PEOPLE)?)?;
-    let schema = ValidatorSchema::from_schema_fragments(
-        alloc,
-        fragments,
-        &Extensions::none(alloc),
-    )?;
-    let types = types_text(alloc, &schema)?;
-    let actions = actions_text(alloc, &schema)?;
-    Ok(format!(in alloc; "{types}{actions}")?)
+    let fragments = fragments(alloc, size)?;
+    let schema = schema_of_all(alloc, fragments)?;
+    text_of(alloc, &schema)
 }
 
 // The lines that are to be refused under this number.
@@ -80,13 +94,21 @@ fn faulty(number: u32) -> &'static str {
     }
 }
 
+// The number of the refusal of these lines, if they are refused; that of a want of memory is 0.
+fn refusal(alloc: Global, lines: &str) -> Result<Option<u32>, Fault> {
+    let fragments = vec![in alloc; written(alloc, lines)?]?;
+    let built = ValidatorSchema::from_schema_fragments(alloc, fragments, &Extensions::none(alloc));
+    match built {
+        Ok(_) => Ok(None),
+        Err(error) => Ok(Some(number_of(error))),
+    }
+}
+
 /// What comes of lines that are to be refused under this number: the number of the refusal.
 pub fn refused(alloc: Global, number: u32) -> Result<String, Fault> {
-    let mut fragments = Vec::new(alloc);
-    fragments.push(written(alloc, faulty(number))?)?;
-    match ValidatorSchema::from_schema_fragments(alloc, fragments, &Extensions::none(alloc)) {
-        Ok(_) => Ok(format!(in alloc; "built\n")?),
-        Err(SchemaError::OutOfMemory) => Err(Fault::OutOfMemory),
-        Err(error) => Ok(format!(in alloc; "refused {}\n", error.number())?),
+    match refusal(alloc, faulty(number))? {
+        None => Ok(format!(in alloc; "built\n")?),
+        Some(0) => Err(Fault::OutOfMemory),
+        Some(number) => Ok(format!(in alloc; "refused {number}\n")?),
     }
 }

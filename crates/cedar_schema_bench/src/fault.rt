@@ -43,10 +43,15 @@ impl From<FragmentError> for Fault {
     }
 }
 
+/// The number of a refusal; that of a want of memory is 0.
+pub fn number_of(error: SchemaError) -> u32 {
+    error.number()
+}
+
 impl From<SchemaError> for Fault {
     fn from(error: SchemaError) -> Fault {
-        match error {
-            SchemaError::OutOfMemory => Fault::OutOfMemory,
+        match number_of(error) {
+            0 => Fault::OutOfMemory,
             _ => Fault::Refused,
         }
     }

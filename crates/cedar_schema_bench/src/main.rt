@@ -75,19 +75,19 @@ fn named(text: &str) -> Option<(Wanted, u32)> {
 
 // Builds what is wanted of this size, and gives the text that is printed.
 fn run(alloc: Global, wanted: Wanted, size: u32) -> Result<String, Fault> {
-    match wanted {
-        Wanted::Shape(shape) => counted(alloc, &shapes::built(alloc, shape, size)?),
-        Wanted::Checked(shape) => counted(alloc, &shapes::checked(alloc, shape, size)?),
-        Wanted::Written => counted(alloc, &written::built(alloc, size)?),
-        Wanted::Mixed => examples::mixed(alloc, size),
-        Wanted::Refused => examples::refused(alloc, size),
-    }
+    let count = match wanted {
+        Wanted::Shape(shape) => counted(shapes::built(alloc, shape, size)?),
+        Wanted::Checked(shape) => counted(shapes::checked(alloc, shape, size)?),
+        Wanted::Written => counted(written::built(alloc, size)?),
+        Wanted::Mixed => return examples::mixed(alloc, size),
+        Wanted::Refused => return examples::refused(alloc, size),
+    };
+    Ok(format!(in alloc; "{count}\n")?)
 }
 
 // Counts what the schema has.
-fn counted(alloc: Global, schema: &ValidatorSchema) -> Result<String, Fault> {
+fn counted(schema: ValidatorSchema) -> usize {
     let types = schema.entity_types().count();
     let actions = schema.action_ids().count();
-    let count = types.wrapping_add(actions);
-    Ok(format!(in alloc; "{count}\n")?)
+    types.wrapping_add(actions)
 }

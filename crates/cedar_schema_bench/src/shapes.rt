@@ -2,7 +2,7 @@
 
 use crate::fault::Fault;
 use cedar_expr_functions::Extensions;
-use cedar_expr_raw_names::RawName;
+use cedar_expr_raw_names::{ConditionalName, RawName};
 use cedar_schema::json_schema::Fragment;
 use cedar_schema::{TryValidate, ValidatorSchema, ValidatorSchemaFragment};
 use cedar_schema_examples::fragment;
@@ -68,11 +68,18 @@ fn lines(alloc: Global, shape: Shape, size: u32) -> Result<String, AllocError> {
     Ok(lines)
 }
 
+/// The schema of these fragments.
+pub fn schema_of_all(
+    alloc: Global,
+    fragments: Vec<ValidatorSchemaFragment<ConditionalName, ConditionalName>>,
+) -> Result<ValidatorSchema, Fault> {
+    Ok(ValidatorSchema::from_schema_fragments(alloc, fragments, &Extensions::none(alloc))?)
+}
+
 /// The schema of this fragment.
 pub fn schema_of(alloc: Global, fragment: Fragment<RawName>) -> Result<ValidatorSchema, Fault> {
     let fragment = ValidatorSchemaFragment::from_schema_fragment(alloc, fragment)?;
-    let fragments = vec![in alloc; fragment]?;
-    Ok(ValidatorSchema::from_schema_fragments(alloc, fragments, &Extensions::none(alloc))?)
+    schema_of_all(alloc, vec![in alloc; fragment]?)
 }
 
 /// The schema of declarations of this shape and size.

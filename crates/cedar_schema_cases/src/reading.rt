@@ -1,14 +1,14 @@
 //! Questions on what is read from the schema that was built last.
 
 use crate::places::places;
-use crate::said::{add, tell, tell_all};
+use crate::said::{add, show, tell, tell_all};
 use cedar_schema_admission::{lookup_attribute_type, may_have_attr};
 use cedar_schema_attributes::{AllAttributes, AllKnownAttrs, SchemaAttributes};
 use cedar_schema_built::ValidatorSchema;
 use cedar_schema_examples::listed;
-use cedar_schema_types::{Attributes, EntityKind, EntityLUB, OpenTag, Type};
+use cedar_schema_types::{AttributeType, Attributes, EntityKind, EntityLUB, OpenTag, Type};
 use cedar_test_exprs::{entity_type, uid};
-use cedar_test_helpers::kept;
+use cedar_test_helpers::{both, kept};
 use std::alloc::{AllocError, Global};
 
 // Answers a question. Fails where it is none.
@@ -42,18 +42,24 @@ fn complete(alloc: Global, schema: &ValidatorSchema, said: &mut String) -> Resul
 
 // The types of principals of each action in turn, those of resources, and the environments.
 fn requests(alloc: Global, schema: &ValidatorSchema, said: &mut String) -> Result<(), AllocError> {
-    let principals = listed(alloc, schema.principals(alloc)?)?;
-    add(said, principals.as_str().trim_start())?;
-    let resources = listed(alloc, schema.resources(alloc)?)?;
-    add(said, resources.as_str().trim_start())?;
+    add_listed(said, listed(alloc, schema.principals(alloc)?))?;
+    add_listed(said, listed(alloc, schema.resources(alloc)?))?;
     tell_all(alloc, schema.unlinked_request_envs(alloc), said)
+}
+
+// Says these, which have a space before each.
+fn add_listed(said: &mut String, listed: Result<String, AllocError>) -> Result<(), AllocError> {
+    add(said, listed?.as_str().trim_start())
+}
+
+fn single(alloc: Global, text: &str) -> Result<EntityLUB, AllocError> {
+    EntityLUB::single_entity(alloc, entity_type(alloc, text)?)
 }
 
 // The type of the entities of a type, or of two with `or` between them.
 fn entities(alloc: Global, text: &str) -> Result<Type, AllocError> {
     let (first, other) = text.split_once(" or ").unwrap_or((text, text));
-    let first = EntityLUB::single_entity(alloc, entity_type(alloc, first)?)?;
-    let other = EntityLUB::single_entity(alloc, entity_type(alloc, other)?)?;
+    let (first, other) = both(single(alloc, first), single(alloc, other))?;
     Ok(Type::Entity(EntityKind::Entity(first.union(alloc, &other)?)))
 }
 
@@ -136,8 +142,16 @@ fn attribute(
         let is_there = may_have_attr(schema, ty, name);
         return add(said, if is_there { "not known" } else { "not there" });
     };
-    let text = declared.attr_type.to_string(alloc)?;
-    add(said, text.as_str())?;
+    say_declared(alloc, declared, said)
+}
+
+// What is declared of an attribute, by its type.
+fn say_declared(
+    alloc: Global,
+    declared: &AttributeType,
+    said: &mut String,
+) -> Result<(), AllocError> {
+    show(alloc, &declared.attr_type, said)?;
     said.push_str(if declared.is_required() {
         ""
     } else {

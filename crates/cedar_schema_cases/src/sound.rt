@@ -9,6 +9,7 @@ use cedar_schema_entries::{AppliesTo, ValidatorActionId, ValidatorEntityType};
 use cedar_schema_sound::TryValidate;
 use cedar_schema_types::Type;
 use cedar_test_exprs::{entity_type, uid};
+use cedar_test_helpers::both;
 use std::alloc::{AllocError, Global};
 use std::collections::BTreeSet;
 
@@ -30,8 +31,8 @@ pub fn validate(
 // The schema of the entity types and actions of a text, as `A < B; B | Action::a < Action::b; Action::b`.
 fn made(alloc: Global, text: &str) -> Result<ValidatorSchema, AllocError> {
     let (types, acts) = text.split_once(" | ").unwrap_or((text, ""));
-    let types = entity_types(alloc, types)?;
-    ValidatorSchema::new(alloc, types, actions(alloc, acts)?)
+    let (types, acts) = both(entity_types(alloc, types), actions(alloc, acts))?;
+    ValidatorSchema::new(alloc, types, acts)
 }
 
 fn entity_types(alloc: Global, text: &str) -> Result<Vec<ValidatorEntityType>, AllocError> {
@@ -54,14 +55,13 @@ fn actions(alloc: Global, text: &str) -> Result<Vec<ValidatorActionId>, AllocErr
 
 // An entity type that is declared elsewhere.
 fn declared(alloc: Global, word: &str, below: &str) -> Result<ValidatorEntityType, AllocError> {
-    let below = types_of(alloc, below)?;
-    ValidatorEntityType::new_external(alloc, entity_type(alloc, word)?, below, None)
+    let (name, below) = both(entity_type(alloc, word), types_of(alloc, below))?;
+    ValidatorEntityType::new_external(alloc, name, below, None)
 }
 
 // An action that is declared elsewhere; `Action::long` is declared here, and its context is no record.
 fn action(alloc: Global, word: &str, below: &str) -> Result<ValidatorActionId, AllocError> {
-    let below = uids_of(alloc, below)?;
-    let uid = uid(alloc, word)?;
+    let (uid, below) = both(uid(alloc, word), uids_of(alloc, below))?;
     if word == "Action::long" {
         let applies_to = AppliesTo::new(BTreeSet::new(alloc), BTreeSet::new(alloc));
         return Ok(ValidatorActionId::new_defined(uid, applies_to, below, Type::Long, None));

@@ -53,12 +53,18 @@ fn assembled(
         all_defs,
         extension_types: &known,
     };
-    tell_all(
-        alloc,
-        entity_types(alloc, &gathered.entity_types, &resolver),
-        said,
-    )?;
-    tell_all(alloc, actions(alloc, &gathered.actions, &resolver), said)
+    told(alloc, gathered, &resolver, said)
+}
+
+fn told(
+    alloc: Global,
+    gathered: &GatheredDefs,
+    resolver: &TypeResolver<'_>,
+    said: &mut String,
+) -> Result<(), AllocError> {
+    let types = entity_types(alloc, &gathered.entity_types, resolver);
+    tell_all(alloc, types, said)?;
+    tell_all(alloc, actions(alloc, &gathered.actions, resolver), said)
 }
 
 // What a graph of names is refused for.

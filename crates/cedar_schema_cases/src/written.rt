@@ -4,6 +4,7 @@ use cedar_expr_raw_names::ConditionalName;
 use cedar_schema_decl::json_schema::CommonType;
 use cedar_schema_examples::{fragment, id, ty};
 use cedar_schema_fragments::{FragmentError, ValidatorNamespaceDef, ValidatorSchemaFragment};
+use cedar_test_helpers::both;
 use std::alloc::{AllocError, Global};
 use std::collections::BTreeMap;
 
@@ -25,11 +26,8 @@ pub fn written(alloc: Global, lines: &str) -> Result<Written, FragmentError> {
 // namespace `N`.
 fn common_type(alloc: Global, verb: &str, text: &str) -> Result<Space, AllocError> {
     let (word, text) = text.split_once(" | ").unwrap_or((text, ""));
-    let word = id(alloc, word)?;
-    let common = CommonType {
-        ty: ty(alloc, text)?,
-        loc: None,
-    };
+    let (word, ty) = both(id(alloc, word), ty(alloc, text))?;
+    let common = CommonType { ty, loc: None };
     if verb == "common" {
         Space::from_common_type_def(alloc, None, (word, common))
     } else {

@@ -26,14 +26,20 @@ fn store_of(alloc: Global, size: u32) -> Result<Entities, Fault> {
     Ok(Entities::from_entities(alloc, members)?)
 }
 
-/// How many of so many entities are found in the store that is made of their list.
-pub fn found(alloc: Global, size: u32) -> Result<usize, Fault> {
-    let store = store_of(alloc, size)?;
+// How many of the users with the numbers below a size are found.
+fn found_in(alloc: Global, store: &Entities, size: u32) -> Result<usize, Fault> {
     let mut count = 0usize;
     for n in 0..size {
-        if let Dereference::Data(_) = store.entity(alloc, &user(alloc, n)?)? {
+        let uid = user(alloc, n)?;
+        if let Dereference::Data(_) = store.entity(alloc, &uid)? {
             count = count.wrapping_add(1);
         }
     }
     Ok(count)
+}
+
+/// How many of so many entities are found in the store that is made of their list.
+pub fn found(alloc: Global, size: u32) -> Result<usize, Fault> {
+    let store = store_of(alloc, size)?;
+    found_in(alloc, &store, size)
 }

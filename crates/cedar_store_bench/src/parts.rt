@@ -13,8 +13,8 @@ pub fn id(alloc: Global, number: u32) -> Result<PolicyID, Fault> {
 
 /// The uid of a user with this number.
 pub fn user(alloc: Global, number: u32) -> Result<EntityUID, Fault> {
-    let ty = EntityType::from_normalized_str(alloc, "User")?;
     let text = format!(in alloc; "u{number}")?;
     let eid = Eid::from_str(alloc, text.as_str())?;
+    let ty = EntityType::from_normalized_str(alloc, "User")?;
     Ok(EntityUID::from_components(ty, eid, None))
 }

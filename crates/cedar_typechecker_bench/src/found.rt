@@ -11,6 +11,19 @@ use cedar_typechecker::{PolicyCheck, Typechecker, Validator};
 use std::alloc::{AllocError, Global};
 use std::collections::HashSet;
 
+/// What is asked of the policies.
+#[derive(Clone, Copy)]
+pub enum Path {
+    /// `typecheck_policy`.
+    Typed,
+    /// `typecheck_by_request_env`.
+    Checked,
+    /// `validate_policy_with_level`.
+    Leveled,
+    /// The other passes of the validator.
+    Scoped,
+}
+
 // Whether the policy passes. Where memory runs out the sets have to be as large as before; then it is asked again.
 fn passes(
     checker: &Typechecker<'_, '_, '_>,
@@ -28,20 +41,35 @@ fn passes(
     Ok(checker.typecheck_policy(policy, errors, warnings)?)
 }
 
-/// How many of the policies pass, and how many errors and warnings the sets have then.
-pub fn typed(alloc: Global, shape: Shape, size: u32) -> Result<String, Fault> {
-    let functions = Extensions::none(alloc);
-    let schema = built(alloc, shape.attributes(size), &functions)?;
-    let checker = Typechecker::new(alloc, &schema, ValidationMode::Strict, &functions)?;
-    let mut errors = HashSet::new(alloc);
-    let mut warnings = HashSet::new(alloc);
+// How many of the policies pass. What is found goes into the sets.
+fn passing(
+    alloc: Global,
+    checker: &Typechecker<'_, '_, '_>,
+    shape: Shape,
+    size: u32,
+    errors: &mut HashSet<ValidationError>,
+    warnings: &mut HashSet<ValidationWarning>,
+) -> Result<u32, Fault> {
     let mut passing = 0u32;
     for n in 0..shape.count(size) {
         let policy = policy(alloc, shape, size, n)?;
-        if passes(&checker, &policy, &mut errors, &mut warnings)? {
+        if passes(checker, &policy, errors, warnings)? {
             passing = passing.wrapping_add(1);
         }
     }
+    Ok(passing)
+}
+
+// How many of the policies pass, and how many errors and warnings the sets have then.
+fn typed(
+    alloc: Global,
+    checker: &Typechecker<'_, '_, '_>,
+    shape: Shape,
+    size: u32,
+) -> Result<String, Fault> {
+    let mut errors = HashSet::new(alloc);
+    let mut warnings = HashSet::new(alloc);
+    let passing = passing(alloc, checker, shape, size, &mut errors, &mut warnings)?;
     let (wrong, odd) = (errors.len(), warnings.len());
     Ok(format!(in alloc; "{passing} pass, {wrong} errors, {odd} warnings")?)
 }
@@ -64,25 +92,29 @@ fn counted(
     Ok((passing, irrelevant, failing))
 }
 
-/// How many checks of the policies, each in each environment, succeed, are irrelevant, or fail.
-pub fn checked(alloc: Global, shape: Shape, size: u32) -> Result<String, Fault> {
-    let functions = Extensions::none(alloc);
-    let schema = built(alloc, shape.attributes(size), &functions)?;
-    let checker = Typechecker::new(alloc, &schema, ValidationMode::Strict, &functions)?;
+// How many checks of the policies, each in each environment, succeed, are irrelevant, or fail.
+fn checked(
+    alloc: Global,
+    checker: &Typechecker<'_, '_, '_>,
+    shape: Shape,
+    size: u32,
+) -> Result<String, Fault> {
     let mut counts = (0, 0, 0);
     for n in 0..shape.count(size) {
         let policy = policy(alloc, shape, size, n)?;
-        counts = counted(&checker, &policy, counts)?;
+        counts = counted(checker, &policy, counts)?;
     }
     let (passing, irrelevant, failing) = counts;
     Ok(format!(in alloc; "{passing} succeed, {irrelevant} are irrelevant, {failing} fail")?)
 }
 
-/// How many errors and warnings there are of the policies at level 1.
-pub fn leveled(alloc: Global, shape: Shape, size: u32) -> Result<String, Fault> {
-    let functions = Extensions::none(alloc);
-    let schema = built(alloc, shape.attributes(size), &functions)?;
-    let validator = Validator::new(alloc, &schema, &functions)?;
+// How many errors and warnings there are of the policies at level 1.
+fn leveled(
+    alloc: Global,
+    validator: &Validator<'_, '_, '_>,
+    shape: Shape,
+    size: u32,
+) -> Result<String, Fault> {
     let (mut errors, mut warnings) = (0usize, 0usize);
     for n in 0..shape.count(size) {
         let policy = policy(alloc, shape, size, n)?;
@@ -93,11 +125,13 @@ pub fn leveled(alloc: Global, shape: Shape, size: u32) -> Result<String, Fault> 
     Ok(format!(in alloc; "{errors} errors, {warnings} warnings")?)
 }
 
-/// How much the passes of the scope rules report of the policies.
-pub fn scoped(alloc: Global, shape: Shape, size: u32) -> Result<String, Fault> {
-    let functions = Extensions::none(alloc);
-    let schema = built(alloc, shape.attributes(size), &functions)?;
-    let validator = Validator::new(alloc, &schema, &functions)?;
+// How much the passes of the scope rules report of the policies.
+fn scoped(
+    alloc: Global,
+    validator: &Validator<'_, '_, '_>,
+    shape: Shape,
+    size: u32,
+) -> Result<String, Fault> {
     let (mut types, mut others) = (0usize, 0usize);
     for n in 0..shape.count(size) {
         let policy = policy(alloc, shape, size, n)?;
@@ -106,4 +140,48 @@ pub fn scoped(alloc: Global, shape: Shape, size: u32) -> Result<String, Fault> {
         others = others.wrapping_add(validator.validate_enum_entity(&policy)?.len());
     }
     Ok(format!(in alloc; "{types} types, {others} others")?)
+}
+
+/// Tells what is found of the policies of a shape and a size.
+pub fn found(alloc: Global, path: Path, shape: Shape, size: u32) -> Result<String, Fault> {
+    let functions = Extensions::none(alloc);
+    let schema = built(alloc, shape.attributes(size), &functions)?;
+    match path {
+        Path::Typed | Path::Checked => {
+            let checker = Typechecker::new(alloc, &schema, ValidationMode::Strict, &functions)?;
+            by_checker(alloc, &checker, path, shape, size)
+        }
+        Path::Leveled | Path::Scoped => {
+            let validator = Validator::new(alloc, &schema, &functions)?;
+            by_validator(alloc, &validator, path, shape, size)
+        }
+    }
+}
+
+// What this checker finds.
+fn by_checker(
+    alloc: Global,
+    checker: &Typechecker<'_, '_, '_>,
+    path: Path,
+    shape: Shape,
+    size: u32,
+) -> Result<String, Fault> {
+    match path {
+        Path::Checked => checked(alloc, checker, shape, size),
+        _ => typed(alloc, checker, shape, size),
+    }
+}
+
+// What this validator finds.
+fn by_validator(
+    alloc: Global,
+    validator: &Validator<'_, '_, '_>,
+    path: Path,
+    shape: Shape,
+    size: u32,
+) -> Result<String, Fault> {
+    match path {
+        Path::Scoped => scoped(alloc, validator, shape, size),
+        _ => leveled(alloc, validator, shape, size),
+    }
 }

@@ -12,34 +12,20 @@ mod policies;
 mod schema;
 
 use crate::fault::Fault;
-use crate::found::{checked, leveled, scoped, typed};
+use crate::found::{Path, found};
 use crate::policies::Shape;
-use std::alloc::Global;
 use std::io;
 use std::io::Write;
 use std::process::ExitCode;
-
-// What is asked of the policies.
-#[derive(Clone, Copy)]
-enum Path {
-    // `typecheck_policy`.
-    Typed(Shape),
-    // `typecheck_by_request_env`.
-    Checked(Shape),
-    // `validate_policy_with_level`.
-    Leveled(Shape),
-    // The other passes of the validator.
-    Scoped(Shape),
-}
 
 fn main(rt: HostRuntime) -> ExitCode {
     let Ok(text) = io::read_to_string(rt.alloc(), rt.stdin()) else {
         return ExitCode::from(4);
     };
-    let Some((path, size)) = named(text.as_str()) else {
+    let Some((path, shape, size)) = named(text.as_str()) else {
         return ExitCode::from(2);
     };
-    match run(rt.alloc(), path, size) {
+    match found(rt.alloc(), path, shape, size) {
         Ok(text) => match writeln!(rt.stdout(), "{text}") {
             Ok(_) => ExitCode::SUCCESS,
             Err(_) => ExitCode::from(4),
@@ -49,31 +35,21 @@ fn main(rt: HostRuntime) -> ExitCode {
     }
 }
 
-// The path and the size that a text names.
-fn named(text: &str) -> Option<(Path, u32)> {
+// The path, the shape and the size that a text names.
+fn named(text: &str) -> Option<(Path, Shape, u32)> {
     let (word, number) = text.trim().split_once(' ')?;
     let size = number.parse::<u32>().ok()?;
-    let path = match word {
-        "policies" => Path::Typed(Shape::Many),
-        "facts" => Path::Typed(Shape::Facts),
-        "chain" => Path::Typed(Shape::Chain),
-        "wrong" => Path::Typed(Shape::Wrong),
-        "checked" => Path::Checked(Shape::Many),
-        "leveled" => Path::Leveled(Shape::Many),
-        "leveled_chain" => Path::Leveled(Shape::Chain),
-        "leveled_wrong" => Path::Leveled(Shape::Wrong),
-        "scoped" => Path::Scoped(Shape::Wrong),
+    let (path, shape) = match word {
+        "policies" => (Path::Typed, Shape::Many),
+        "facts" => (Path::Typed, Shape::Facts),
+        "chain" => (Path::Typed, Shape::Chain),
+        "wrong" => (Path::Typed, Shape::Wrong),
+        "checked" => (Path::Checked, Shape::Many),
+        "leveled" => (Path::Leveled, Shape::Many),
+        "leveled_chain" => (Path::Leveled, Shape::Chain),
+        "leveled_wrong" => (Path::Leveled, Shape::Wrong),
+        "scoped" => (Path::Scoped, Shape::Wrong),
         _ => return None,
     };
-    Some((path, size))
-}
-
-// Runs a path at a size, and tells what it found.
-fn run(alloc: Global, path: Path, size: u32) -> Result<String, Fault> {
-    match path {
-        Path::Typed(shape) => typed(alloc, shape, size),
-        Path::Checked(shape) => checked(alloc, shape, size),
-        Path::Leveled(shape) => leveled(alloc, shape, size),
-        Path::Scoped(shape) => scoped(alloc, shape, size),
-    }
+    Some((path, shape, size))
 }

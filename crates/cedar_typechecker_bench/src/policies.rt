@@ -50,12 +50,16 @@ fn body(alloc: Global, shape: Shape, size: u32, n: u32) -> Result<String, AllocE
     }
 }
 
+// The id of the policy of this number.
+fn id(alloc: Global, n: u32) -> Result<PolicyID, AllocError> {
+    let text = format!(in alloc; "p{n}")?;
+    PolicyID::from_string(alloc, text.as_str())
+}
+
 /// The policy of this number. Its scope is open.
 pub fn policy(alloc: Global, shape: Shape, size: u32, n: u32) -> Result<Template, AllocError> {
-    let body = body(alloc, shape, size, n)?;
-    let body = expr(alloc, body.as_str())?;
-    let id = format!(in alloc; "p{n}")?;
-    let id = PolicyID::from_string(alloc, id.as_str())?;
+    let id = id(alloc, n)?;
+    let body = expr(alloc, body(alloc, shape, size, n)?.as_str())?;
     Template::new(
         alloc,
         id,

@@ -8,11 +8,13 @@ use cedar_expr_functions::Extensions;
 use cedar_schema_built::ValidatorSchema;
 use cedar_schema_joins::ValidationMode;
 use cedar_store_policies::Template;
-use cedar_test_helpers::{say, show};
+use cedar_store_records::{ValidationError, ValidationWarning};
+use cedar_test_helpers::{kept, say, show};
 use cedar_test_store::template;
-use cedar_typechecker::{Typechecker, Validator};
+use cedar_typechecker::{PolicyCheck, RequestEnv, Typechecker, Validator};
 use std::alloc::{AllocError, Global};
 use std::collections::HashSet;
+use std::rc::Rc;
 
 // Says what a call says of a policy.
 pub(crate) fn checked(
@@ -75,18 +77,54 @@ fn passes(
 ) -> Result<(), AllocError> {
     let mut errors = HashSet::new(alloc);
     let mut warnings = HashSet::new(alloc);
-    let passes = checker.typecheck_policy(policy, &mut errors, &mut warnings)?;
-    if passes && errors.is_empty() {
+    let passes = checker.typecheck_policy(policy, &mut errors, &mut warnings);
+    say_pass(alloc, said, passes, errors.len(), warnings.is_empty())
+}
+
+fn say_pass(
+    alloc: Global,
+    said: &mut String,
+    passes: Result<bool, AllocError>,
+    errors: usize,
+    is_possible: bool,
+) -> Result<(), AllocError> {
+    if passes? && errors == 0 {
         say(said, "passes")?;
     } else {
-        show(alloc, said, &errors.len())?;
+        show(alloc, said, &errors)?;
         say(said, "wrong")?;
     }
-    if warnings.is_empty() {
+    if is_possible {
         Ok(())
     } else {
         say(said, "impossible")
     }
+}
+
+// Says the check in an environment, and elsewhere the one that is made there alone.
+fn in_one(
+    alloc: Global,
+    said: &mut String,
+    alone: &mut String,
+    asked: (&Typechecker<'_, '_, '_>, &Template),
+    item: Result<(RequestEnv, PolicyCheck), AllocError>,
+) -> Result<(), AllocError> {
+    let (env, check) = item?;
+    let (checker, policy) = asked;
+    let again = checker.typecheck_by_single_request_env(policy, &env);
+    say_both(alloc, (said, &check), alone, kept(alloc, again))
+}
+
+fn say_both(
+    alloc: Global,
+    first: (&mut String, &PolicyCheck),
+    alone: &mut String,
+    again: Result<Rc<PolicyCheck>, AllocError>,
+) -> Result<(), AllocError> {
+    let again = again?;
+    let (said, check) = first;
+    say_check(alloc, said, check)?;
+    say_check(alloc, alone, &again)
 }
 
 // Says the checks in all environments, where each of them alone says the same.
@@ -98,10 +136,7 @@ fn in_all(
 ) -> Result<(), AllocError> {
     let mut alone = String::new(alloc);
     for item in checker.typecheck_by_request_env(policy) {
-        let (env, check) = item?;
-        say_check(alloc, said, &check)?;
-        let check = checker.typecheck_by_single_request_env(policy, &env)?;
-        say_check(alloc, &mut alone, &check)?;
+        in_one(alloc, said, &mut alone, (checker, policy), item)?;
     }
     if alone.as_str() == said.as_str() {
         Ok(())
@@ -134,8 +169,22 @@ fn leveled(
     level: u32,
 ) -> Result<(), AllocError> {
     let found = validator.validate_policy_with_level(policy, ValidationMode::Strict, level)?;
-    say_errors(alloc, said, found.errors.as_slice())?;
-    say_warnings(said, found.warnings.as_slice())
+    say_found(
+        alloc,
+        said,
+        found.errors.as_slice(),
+        found.warnings.as_slice(),
+    )
+}
+
+fn say_found(
+    alloc: Global,
+    said: &mut String,
+    errors: &[ValidationError],
+    warnings: &[ValidationWarning],
+) -> Result<(), AllocError> {
+    say_errors(alloc, said, errors)?;
+    say_warnings(said, warnings)
 }
 
 fn passed(
@@ -146,13 +195,13 @@ fn passed(
     policy: &Template,
 ) -> Result<(), AllocError> {
     let errors = match verb {
-        "types" => validator.validate_entity_types(policy)?,
-        "actions" => validator.validate_action_ids(policy)?,
-        "members" => validator.validate_enum_entity(policy)?,
+        "types" => validator.validate_entity_types(policy),
+        "actions" => validator.validate_action_ids(policy),
+        "members" => validator.validate_enum_entity(policy),
         _ => {
             let warnings = validator.validate_template_action_application(policy)?;
             return say_warnings(said, warnings.as_slice());
         }
     };
-    say_errors(alloc, said, errors.as_slice())
+    say_errors(alloc, said, errors?.as_slice())
 }

@@ -7,6 +7,7 @@ use crate::built::built;
 use crate::checked::checked;
 use crate::typed::typed;
 use cedar_expr_functions::Extensions;
+use cedar_schema_builder::SchemaError;
 use cedar_schema_built::ValidatorSchema;
 use cedar_test_helpers::{parted, say};
 use std::alloc::{AllocError, Global};
@@ -265,17 +266,20 @@ fn wrong_row(
     Ok(String::new(alloc))
 }
 
+// The first row that is wrong by the schema of these lines.
+fn wrong_of(alloc: Global, lines: &str, rows: &str) -> Result<String, SchemaError> {
+    let functions = Extensions::none(alloc);
+    let schema = built(alloc, lines, &functions)?;
+    let wrong = wrong_row(alloc, &schema, &functions, rows);
+    drop(schema);
+    Ok(wrong?)
+}
+
 /// Expressions and policies, typed and validated.
 #[test]
 fn rows_hold(rt: HostRuntime) -> Result<(), Fail> {
-    let alloc = rt.alloc();
-    let functions = Extensions::none(alloc);
-    let schema = built(alloc, LINES, &functions)?;
-    assert_eq!(rt; wrong_row(alloc, &schema, &functions, ROWS)?.as_str(), "");
-    let schema = built(alloc, "", &functions)?;
-    assert_eq!(rt;
-        wrong_row(alloc, &schema, &functions, OF_NOTHING)?.as_str(),
-        ""
-    );
+    for (lines, rows) in [(LINES, ROWS), ("", OF_NOTHING)] {
+        assert_eq!(rt; wrong_of(rt.alloc(), lines, rows)?.as_str(), "");
+    }
     Ok(())
 }

@@ -29,16 +29,26 @@ pub(crate) fn typed(
 {
     let schema = SchemaAndFunctions::new(alloc, schema, functions)?;
     let envs = schema.environments(alloc)?;
+    in_first(alloc, said, &schema, envs.as_slice(), call)
+}
+
+fn in_first(
+    alloc: Global,
+    said: &mut String,
+    schema: &SchemaAndFunctions<'_, '_, '_>,
+    envs: &[RequestEnv],
+    call: (&str, &str),
+) -> Result<(), AllocError> {
     let env = envs.first().ok_or(AllocError)?;
-    let mode = if call.0 == "type" {
+    let (verb, text) = call;
+    let mode = if verb == "type" {
         ValidationMode::Strict
     } else {
         ValidationMode::Permissive
     };
-    let schema = &schema;
-    match call {
-        ("env", _) => told_env(alloc, said, schema, env),
-        (_, text) => told_type(
+    match verb {
+        "env" => told_env(alloc, said, schema, env),
+        _ => told_type(
             alloc,
             said,
             &World { schema, mode, env },
@@ -71,9 +81,18 @@ fn told_type(
 ) -> Result<(), AllocError> {
     let mut faults = Vec::new(alloc);
     let known = CapabilitySet::new(alloc);
-    let answer = typecheck(alloc, world, &known, &mut faults, e)?;
-    let answer = handed_on(alloc, answer)?;
-    shown(alloc, said, &answer, faults.is_empty())
+    let answer = typecheck(alloc, world, &known, &mut faults, e);
+    told_answer(alloc, said, answer, faults.is_empty())
+}
+
+fn told_answer(
+    alloc: Global,
+    said: &mut String,
+    answer: Result<TypecheckAnswer<'_>, AllocError>,
+    is_faultless: bool,
+) -> Result<(), AllocError> {
+    let answer = handed_on(alloc, answer?)?;
+    shown(alloc, said, &answer, is_faultless)
 }
 
 fn shown(
@@ -111,6 +130,15 @@ fn told_env(
         Rc::new(alloc, uid(alloc, "Group::g")?)?,
     );
     let env = kept(alloc, env.clone()?.link_slot_env(&slots))?;
+    told_parts(alloc, said, schema, &env)
+}
+
+fn told_parts(
+    alloc: Global,
+    said: &mut String,
+    schema: &SchemaAndFunctions<'_, '_, '_>,
+    env: &RequestEnv,
+) -> Result<(), AllocError> {
     told(alloc, said, env.principal_type(alloc))?;
     told(
         alloc,
