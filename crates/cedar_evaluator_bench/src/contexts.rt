@@ -1,15 +1,15 @@
 //! Contexts whose unknowns take values.
 
 use crate::fault::Fault;
-use cedar_evaluator::{Context, ContextCalls, Extensions, RestrictedExpr};
+use crate::parts::Values;
+use crate::setting::Setting;
+use cedar_evaluator::{Context, ContextCalls, EvaluationError, Extensions, RestrictedExpr};
 use cedar_expr_leaves::Literal;
 use cedar_expr_trees::Unknown;
-use cedar_expr_values::{ExtValue, Value};
+use cedar_expr_values::Value;
 use std::alloc::{AllocError, Global};
 use std::collections::HashMap;
 use std::rc::RcStr;
-
-type V = Value<ExtValue>;
 
 // The name of the field, and of the unknown, with this number.
 fn name(alloc: Global, n: u32) -> Result<RcStr, AllocError> {
@@ -25,17 +25,28 @@ fn field(alloc: Global, n: u32) -> Result<RestrictedExpr, AllocError> {
     RestrictedExpr::set(alloc, members)
 }
 
+// Pushes the field with this number, and its name.
+fn push_field(
+    alloc: Global,
+    pairs: &mut Vec<(RcStr, RestrictedExpr)>,
+    n: u32,
+) -> Result<(), AllocError> {
+    let name = name(alloc, n)?;
+    pairs.push((name, field(alloc, n)?))?;
+    Ok(())
+}
+
 // The context of so many fields, with an unknown in each.
 fn context(alloc: Global, size: u32, table: &Extensions<'_>) -> Result<Context, Fault> {
     let mut pairs = Vec::new(alloc);
     for n in 0..size {
-        pairs.push((name(alloc, n)?, field(alloc, n)?))?;
+        push_field(alloc, &mut pairs, n)?;
     }
     Ok(Context::from_pairs(alloc, pairs, table)?)
 }
 
 // A number for each unknown.
-fn values(alloc: Global, size: u32) -> Result<HashMap<RcStr, V>, AllocError> {
+fn values(alloc: Global, size: u32) -> Result<Values, AllocError> {
     let mut values = HashMap::new(alloc);
     for n in 0..size {
         values.insert(name(alloc, n)?, Value::from(Literal::from(i64::from(n))))?;
@@ -43,19 +54,31 @@ fn values(alloc: Global, size: u32) -> Result<HashMap<RcStr, V>, AllocError> {
     Ok(values)
 }
 
-// The context with these values. Where there is no memory for it, it is tried once more.
-fn with_values(
+// How many fields are values in the context with these values: all, or none.
+fn value_fields(
     alloc: Global,
     context: Context,
-    values: &HashMap<RcStr, V>,
+    values: &Values,
     table: &Extensions<'_>,
-) -> Result<Context, Fault> {
-    let kept = context.clone()?;
-    match context.substitute(alloc, values, table) {
-        Ok(made) => Ok(made),
+) -> Result<usize, EvaluationError> {
+    match context.substitute(alloc, values, table)? {
+        Context::Value(fields) => Ok(fields.len()),
+        Context::RestrictedResidual(_) => Ok(0),
+    }
+}
+
+// The same. Where there is no memory for it, it is tried once more.
+fn value_fields_again(
+    alloc: Global,
+    context: &Context,
+    values: &Values,
+    table: &Extensions<'_>,
+) -> Result<usize, Fault> {
+    match value_fields(alloc, context.clone()?, values, table) {
+        Ok(count) => Ok(count),
         Err(error) => {
             if error.is_out_of_memory() {
-                Ok(kept.substitute(alloc, values, table)?)
+                Ok(value_fields(alloc, context.clone()?, values, table)?)
             } else {
                 Err(Fault::Refused)
             }
@@ -64,13 +87,8 @@ fn with_values(
 }
 
 /// How many fields are values in a context of so many fields that have unknowns, once each unknown has its value: all, or none.
-pub fn substituted(alloc: Global, size: u32) -> Result<usize, Fault> {
-    let table = Extensions::none(alloc);
+pub fn substituted(alloc: Global, setting: &Setting<'_>, size: u32) -> Result<usize, Fault> {
     let values = values(alloc, size)?;
-    let context = context(alloc, size, &table)?;
-    let made = with_values(alloc, context, &values, &table)?;
-    match &made {
-        Context::Value(fields) => Ok(fields.len()),
-        Context::RestrictedResidual(_) => Ok(0),
-    }
+    let context = context(alloc, size, &setting.table)?;
+    value_fields_again(alloc, &context, &values, &setting.table)
 }

@@ -12,8 +12,13 @@ mod names;
 mod parts;
 mod records;
 mod responses;
+mod setting;
 
 use crate::fault::Fault;
+use crate::setting::Setting;
+use cedar_evaluator::Extensions;
+use cedar_store_entities::Entities;
+use cedar_store_policies::SlotEnv;
 use std::alloc::Global;
 use std::io;
 use std::io::Write;
@@ -75,16 +80,26 @@ fn named(text: &str) -> Option<(Path, u32)> {
     Some((path, size))
 }
 
-// Runs a path at a size, and counts what it found.
+// Runs a path at a size, over no entities and no functions, and counts what it found.
 fn run(alloc: Global, path: Path, size: u32) -> Result<usize, Fault> {
+    let setting = Setting {
+        entities: Entities::new(alloc),
+        table: Extensions::none(alloc),
+        slots: SlotEnv::new(),
+    };
+    counted(alloc, &setting, path, size)
+}
+
+// Runs a path at a size, and counts what it found.
+fn counted(alloc: Global, setting: &Setting<'_>, path: Path, size: u32) -> Result<usize, Fault> {
     match path {
-        Path::Known => conditions::known(alloc, size),
-        Path::Open => conditions::open(alloc, size),
-        Path::Members => records::members(alloc, size),
-        Path::Nested => records::nested(alloc, size),
-        Path::Authorized => responses::authorized(alloc, size),
-        Path::Half => responses::half(alloc, size),
-        Path::Again => responses::again(alloc, size),
-        Path::Substituted => contexts::substituted(alloc, size),
+        Path::Known => conditions::known(alloc, setting, size),
+        Path::Open => conditions::open(alloc, setting, size),
+        Path::Members => records::members(alloc, setting, size),
+        Path::Nested => records::nested(alloc, setting, size),
+        Path::Authorized => responses::authorized(alloc, setting, size),
+        Path::Half => responses::half(alloc, setting, size),
+        Path::Again => responses::again(alloc, setting, size),
+        Path::Substituted => contexts::substituted(alloc, setting, size),
     }
 }

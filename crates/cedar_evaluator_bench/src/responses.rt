@@ -1,94 +1,115 @@
 //! Policies that are authorized.
 
 use crate::fault::Fault;
-use crate::parts::{part, request, user};
-use cedar_evaluator::{Authorizer, Extensions, PartialResponse};
+use crate::parts::{Values, bind, part, request, user};
+use crate::setting::Setting;
+use cedar_evaluator::{Authorizer, PartialResponse};
 use cedar_expr_leaves::{BinaryOp, Literal, Var};
 use cedar_expr_trees::Expr;
-use cedar_expr_values::{ExtValue, Value};
-use cedar_store_entities::Entities;
+use cedar_expr_values::Value;
 use cedar_store_policies::{Effect, Policy, PolicyID, PolicySet};
-use std::alloc::Global;
+use std::alloc::{AllocError, Global};
 use std::collections::HashMap;
-use std::rc::{Rc, RcStr};
-
-type V = Value<ExtValue>;
+use std::rc::Rc;
 
 // How deep a condition may nest.
 const DEPTH: u32 = 64;
 
-// The policy with this number, which may have an unknown: a permit.
-fn policy(alloc: Global, n: u32, has_unknown: bool) -> Result<Policy, Fault> {
+// The condition of the policy with this number.
+fn condition(alloc: Global, n: u32, has_unknown: bool) -> Result<Expr, Fault> {
     let uid = Rc::new(alloc, user(alloc, 0)?)?;
     let user = Expr::val(Literal::EntityUID(uid));
     let asked = Expr::binary_app(alloc, BinaryOp::Eq, Expr::var(Var::Principal), user)?;
-    let body = Expr::and(alloc, asked, part(alloc, n, has_unknown)?)?;
+    Ok(Expr::and(alloc, asked, part(alloc, n, has_unknown)?)?)
+}
+
+// The id of the policy with this number.
+fn id(alloc: Global, n: u32) -> Result<PolicyID, AllocError> {
     let text = format!(in alloc; "p{n}")?;
-    let id = PolicyID::from_string(alloc, text.as_str())?;
+    PolicyID::from_string(alloc, text.as_str())
+}
+
+// The policy with this number, which may have an unknown: a permit.
+fn policy(alloc: Global, n: u32, has_unknown: bool) -> Result<Policy, Fault> {
+    let id = id(alloc, n)?;
+    let body = condition(alloc, n, has_unknown)?;
     Ok(Policy::from_when_clause(alloc, Effect::Permit, body, id, None)?)
 }
 
-// The set of so many policies, each second one of which may have an unknown.
-fn set_of(alloc: Global, size: u32, has_unknowns: bool) -> Result<PolicySet, Fault> {
-    let mut set = PolicySet::new(alloc);
-    for n in 0..size {
-        set.add(policy(alloc, n, has_unknowns && n % 2 == 0)?)?;
-    }
-    Ok(set)
+// Policies.
+struct Policies {
+    set: PolicySet,
 }
 
-/// How many of so many policies determine the answer.
-pub fn authorized(alloc: Global, size: u32) -> Result<usize, Fault> {
-    let (entities, table) = (Entities::new(alloc), Extensions::none(alloc));
-    let set = set_of(alloc, size, false)?;
-    let answer = Authorizer::new(&table, DEPTH).is_authorized(
-        alloc,
-        request(alloc)?,
-        &set,
-        &entities,
-    )?;
+// A drop of its own is one step in the proof of a function that holds them.
+impl Drop for Policies {
+    fn drop(self) {
+        let Policies { set: _ } = self;
+    }
+}
+
+// So many policies, each second one of which may have an unknown.
+fn set_of(alloc: Global, size: u32, has_unknowns: bool) -> Result<Policies, Fault> {
+    let mut policies = Policies {
+        set: PolicySet::new(alloc),
+    };
+    for n in 0..size {
+        let policy = policy(alloc, n, has_unknowns && n % 2 == 0)?;
+        policies.set.add(policy)?;
+    }
+    Ok(policies)
+}
+
+// How many of the policies determine the answer.
+fn determining(alloc: Global, setting: &Setting<'_>, set: &PolicySet) -> Result<usize, Fault> {
+    let authorizer = Authorizer::new(&setting.table, DEPTH);
+    let answer = authorizer.is_authorized(alloc, request(alloc)?, set, &setting.entities)?;
     Ok(answer.diagnostics.reason.len())
 }
 
+/// How many of so many policies determine the answer.
+pub fn authorized(alloc: Global, setting: &Setting<'_>, size: u32) -> Result<usize, Fault> {
+    determining(alloc, setting, &set_of(alloc, size, false)?.set)
+}
+
+// What is said at first of so many policies, where each second one has an unknown.
+fn first(alloc: Global, setting: &Setting<'_>, size: u32) -> Result<PartialResponse, Fault> {
+    let policies = set_of(alloc, size, true)?;
+    let authorizer = Authorizer::new(&setting.table, DEPTH);
+    let request = request(alloc)?;
+    Ok(authorizer.is_authorized_core(alloc, request, &policies.set, &setting.entities)?)
+}
+
 /// How many of so many policies may determine the answer, where each second one has an unknown.
-pub fn half(alloc: Global, size: u32) -> Result<usize, Fault> {
-    let (entities, table) = (Entities::new(alloc), Extensions::none(alloc));
-    let set = set_of(alloc, size, true)?;
-    let response = Authorizer::new(&table, DEPTH).is_authorized_core(
-        alloc,
-        request(alloc)?,
-        &set,
-        &entities,
-    )?;
+pub fn half(alloc: Global, setting: &Setting<'_>, size: u32) -> Result<usize, Fault> {
+    let response = first(alloc, setting, size)?;
     Ok(response.may_be_determining(alloc)?.len())
 }
 
 // The values of what is unknown: a number, and a context without fields.
-fn values(alloc: Global, size: u32) -> Result<HashMap<RcStr, V>, Fault> {
-    let mut values = HashMap::new(alloc);
-    values.insert(
-        RcStr::from_str(alloc, "t")?,
-        Value::from(Literal::from(i64::from(size))),
-    )?;
+fn values(alloc: Global, size: u32) -> Result<Values, Fault> {
     let fields = Vec::new(alloc);
     let context = Value::record(alloc, fields, None).map_err(|_| Fault::OutOfMemory)?;
-    values.insert(RcStr::from_str(alloc, "context")?, context)?;
+    let mut values = HashMap::new(alloc);
+    bind(alloc, &mut values, "context", context)?;
+    let number = Value::from(Literal::from(i64::from(size)));
+    bind(alloc, &mut values, "t", number)?;
     Ok(values)
 }
 
 // The response once these values are known. Where there is no memory for it, it is tried once more.
 fn resumed(
     alloc: Global,
+    setting: &Setting<'_>,
     response: &PartialResponse,
-    values: &HashMap<RcStr, V>,
-    authorizer: &Authorizer<'_, Extensions<'_>>,
-    entities: &Entities,
+    values: &Values,
 ) -> Result<PartialResponse, Fault> {
-    match response.reauthorize(alloc, values, authorizer, entities) {
+    let authorizer = Authorizer::new(&setting.table, DEPTH);
+    match response.reauthorize(alloc, values, &authorizer, &setting.entities) {
         Ok(made) => Ok(made),
         Err(error) => {
             if error.is_out_of_memory() {
-                Ok(response.reauthorize(alloc, values, authorizer, entities)?)
+                Ok(response.reauthorize(alloc, values, &authorizer, &setting.entities)?)
             } else {
                 Err(Fault::Refused)
             }
@@ -96,13 +117,19 @@ fn resumed(
     }
 }
 
-/// How many of so many policies are satisfied, where each second one has an unknown, once it has its value.
-pub fn again(alloc: Global, size: u32) -> Result<usize, Fault> {
-    let (entities, table) = (Entities::new(alloc), Extensions::none(alloc));
-    let set = set_of(alloc, size, true)?;
-    let authorizer = Authorizer::new(&table, DEPTH);
-    let response = authorizer.is_authorized_core(alloc, request(alloc)?, &set, &entities)?;
-    let values = values(alloc, size)?;
-    let response = resumed(alloc, &response, &values, &authorizer, &entities)?;
+// How many policies are satisfied by the response once these values are known.
+fn satisfied(
+    alloc: Global,
+    setting: &Setting<'_>,
+    response: &PartialResponse,
+    values: &Values,
+) -> Result<usize, Fault> {
+    let response = resumed(alloc, setting, response, values)?;
     Ok(response.definitely_satisfied(alloc)?.len())
+}
+
+/// How many of so many policies are satisfied, where each second one has an unknown, once it has its value.
+pub fn again(alloc: Global, setting: &Setting<'_>, size: u32) -> Result<usize, Fault> {
+    let response = first(alloc, setting, size)?;
+    satisfied(alloc, setting, &response, &values(alloc, size)?)
 }
