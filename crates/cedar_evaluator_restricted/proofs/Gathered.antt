@@ -181,3 +181,7 @@ module _ (go : Tree → Left) (es : List (RcStr Global × Expr Unit)) (done : Li
 
   pub fields_all : rest ≡ [] → pieces_of go (values_of (listed_fields (tree_fields (named (field_trees es))))) ≡ pieces (parts_of done)
   fields_all is = ap (pieces_of go) (trees_of_fields es) ∙ ends go (trees_in (values_of es)) done (subst (λ r. SoFar go (trees_in (values_of es)) done (trees_in r)) is was)
+
+-- a field less is left
+pub fewer : (rest later : List (Expr Unit)) (e : Expr Unit) → rest ≡ e ∷ later → length later < length rest
+fewer rest later e is = let same = ap length is in omega arith

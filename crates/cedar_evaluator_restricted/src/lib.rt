@@ -4,6 +4,7 @@
 
 mod calls;
 mod fault;
+mod fields;
 mod parts;
 mod records;
 mod table;

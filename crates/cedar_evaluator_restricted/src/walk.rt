@@ -17,6 +17,7 @@ ghost use Rattle.cedar_evaluator_restricted.specs.Lefts.{Leaves, ArePieces};
 ghost use Rattle.cedar_evaluator_restricted.specs.Restricted.{are_restricted, have_restricted};
 
 use crate::fault::RestrictedFault;
+use crate::fields::{fields_of, next_field};
 use crate::parts::{call_left, record_left, set_left};
 use crate::table::{FunctionCalls, Left};
 use cedar_expr_leaves::Literal;
@@ -171,7 +172,8 @@ fn field_pieces<T: FunctionCalls>(
     ensures { have_restricted fields.now.entries ≡ true → ArePieces (pieces_of (evaluated (with_functions (T.functions functions.now)) deeper) (values_of (listed_fields (tree_fields (named (field_trees fields.now.entries)))))) result }
 {
     let mut values = Vec::with_capacity(alloc, fields.len())?;
-    for e in fields.values() {
+    let mut left = fields_of(fields);
+    while let Some(e) = next_field(&mut left) {
         values.push(walk(alloc, functions, deeper, e)?)?;
     }
     Ok(values)

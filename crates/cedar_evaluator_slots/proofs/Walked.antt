@@ -1,11 +1,12 @@
 -- What is gathered on the walk that puts uids in the place of slots.
-use Rattle.std.proofs.Common.{◌≡◌, true, ℕ, suc, ◌+◌, ◌<◌, length, get_or, drop, drop-cons, append_assoc, arith, List, [], ◌∷◌, ◌++◌, map, refl, sym, ap, ◌∙◌}
+use Rattle.std.proofs.Common.{◌≡◌, true, ℕ, suc, ◌+◌, ◌<◌, ◌≤◌, length, get_or, drop, drop-cons, append_assoc, arith, List, [], ◌∷◌, ◌++◌, map, refl, sym, ap, ◌∙◌}
 use Rattle.std.proofs.lemmas.List.{append-nil, map-append}
 use Rattle.std.specs.declared.alloc.Global.{Global}
 use Rattle.std.specs.declared.rc.RcStr.{RcStr}
 use Rattle.std.specs.Rc.{rc_str_bytes}
 use Rattle.std.specs.List.Sorted.{IsStrictlySortedBy}
-use Rattle.std.specs.Map.{keys_of}
+use Rattle.std.specs.Map.{keys_of, values_of}
+use denote.Param.Weighed.{most}
 use Rattle.cedar_expr_model.specs.Name.{Text}
 use Rattle.cedar_expr_model.specs.Tree.{Tree}
 use Rattle.cedar_expr_model.specs.Builder.{Builder, built, built_list, built_fields, trees, tree_fields}
@@ -14,7 +15,7 @@ use Rattle.cedar_expr_model.specs.Order.{text_cmp}
 use Rattle.cedar_expr_model.specs.Records.{names_rise}
 use Rattle.cedar_expr_values.proofs.Ascending.{names_ascend}
 use Rattle.cedar_expr_trees.specs.Trees.{tree_of, named, field_trees}
-use Rattle.cedar_expr_trees.specs.declared.expr.Expr.{Expr}
+use Rattle.cedar_expr_trees.specs.declared.expr.Expr.{Expr, size-Expr}
 
 -- a walk along fields: those made so far, and then those that are left, are those of all
 module _ (b : Builder Tree) (all rest : List (RcStr Global × Expr Unit)) where
@@ -65,3 +66,10 @@ module _ (b : Builder Tree) (xs : List (Expr Unit)) (i : ℕ) (x d : Expr Unit) 
       ∙ ap (λ k. map tree_of done ++ built b (tree_of (get_or xs i d)) ∷ of_row (drop k xs)) next
       ∙ ap (λ zs. map tree_of done ++ of_row zs) (sym (drop-cons xs i d below))
       ∙ h
+
+-- what is left of fields holds nothing greater than all do
+pub later_are_smaller : (all left later : List (RcStr Global × Expr Unit)) (k : RcStr Global) (e : Expr Unit) → most (size-Expr Unit) (values_of left) ≤ most (size-Expr Unit) (values_of all) → left ≡ (k, e) ∷ later → most (size-Expr Unit) (values_of later) ≤ most (size-Expr Unit) (values_of all)
+later_are_smaller all left later k e h is = let same = ap (λ es. most (size-Expr Unit) (values_of es)) is in omega arith
+
+pub fewer : {A : Type 0} (left later : List A) (x : A) → left ≡ x ∷ later → length later < length left
+fewer left later x is = let same = ap length is in omega arith

@@ -3,6 +3,7 @@
 //! Used by authorizers.
 #![tactic(auto)]
 
+mod fields;
 mod walk;
 
 pub use walk::bind_slots;

@@ -13,6 +13,7 @@ ghost use Rattle.cedar_store_parts.specs.Parts.{bindings_of};
 ghost use Rattle.cedar_evaluator_model.specs.Response.{slots_bound};
 ghost use Rattle.cedar_evaluator_slots.specs.Binding.{binding};
 
+use crate::fields::{fields_of, next_field};
 use cedar_expr_leaves::{Literal, NonEmpty, SlotId};
 use cedar_expr_names::Name;
 use cedar_expr_trees::{Expr, ExprKind};
@@ -169,7 +170,8 @@ fn fields_bound(
     ensures rising { IfOk result (λ rs. names_rise (named rs.items) ≡ true) }
 {
     let mut made = Vec::with_capacity(alloc, fields.len())?;
-    for (name, e) in fields {
+    let mut left = fields_of(fields);
+    while let Some((name, e)) = next_field(&mut left) {
         made.push((name.clone()?, bind_slots(alloc, e, slots)?))?;
     }
     Ok(made)

@@ -1,2 +1,3 @@
 mod Gathered
 mod Recorded
+mod Stepping

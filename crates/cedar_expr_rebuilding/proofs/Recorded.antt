@@ -1,21 +1,19 @@
 -- The names of what is made of fields.
-use Rattle.std.proofs.Common.{◌≡◌, true, List, [], ◌∷◌, ◌++◌, map, Result, Ok, Err, refl, sym, ap, ◌∙◌}
+use Rattle.std.proofs.Common.{◌≡◌, true, ℕ, suc, ◌+◌, ◌<◌, length, get_or, drop, drop-cons, arith, List, [], ◌∷◌, ◌++◌, map, Result, Ok, Err, refl, sym, ap, ◌∙◌}
 use Rattle.std.specs.declared.alloc.Global.{Global}
 use Rattle.std.specs.declared.rc.RcStr.{RcStr}
 use Rattle.std.specs.Rc.{rc_str_bytes}
-use Rattle.std.specs.List.Sorted.{IsStrictlySortedBy}
-use Rattle.std.specs.Map.{keys_of}
 use Rattle.cedar_expr_model.specs.Name.{Text}
-use Rattle.cedar_expr_model.specs.Builder.{Builder, built, built_fields, tree_fields}
+use Rattle.cedar_expr_model.specs.Builder.{Builder, built, built_list, built_fields, trees, tree_fields}
 use Rattle.cedar_expr_model.specs.Lists.{rises}
 use Rattle.cedar_expr_model.specs.Order.{text_cmp}
 use Rattle.cedar_expr_model.specs.Records.{names_rise}
-use Rattle.cedar_expr_values.proofs.Ascending.{names_ascend}
 use Rattle.cedar_expr_trees.specs.Trees.{tree_of, named, field_trees}
 use Rattle.cedar_expr_trees.specs.declared.expr.Expr.{Expr}
-use Rattle.cedar_expr_builders.specs.Refusing.{and_then, fields_made}
+use Rattle.cedar_expr_builders.specs.Refusing.{and_then, all_made, fields_made}
 use Rattle.cedar_expr_builders.specs.Views.{meant}
-use Rattle.cedar_expr_rebuilding.proofs.Gathered.{after, goes_on, ends}
+use Rattle.cedar_expr_rebuilding.proofs.Gathered.{one_and, after, ends}
+use Rattle.cedar_expr_rebuilding.proofs.Stepping.{row_goes_on, row_goes_wrong}
 
 -- what is made has the names of the fields
 names_stay : {M R : Type 0} (os : List (Text × Result M R)) (ms : List (Text × M)) → fields_made os ≡ Ok ms → map (λ p. p.0) ms ≡ map (λ p. p.0) os
@@ -36,23 +34,39 @@ names_meant means [] = refl
 names_meant means (e ∷ es) = ap (λ ns. rc_str_bytes e.0 ∷ ns) (names_meant means es)
 
 -- the names of what is made rise where those of the fields do
-pub made_rises : {T B M R : Type 0} (b : Builder (Result M R)) (means : B → M) (es : List (RcStr Global × Expr T)) (made : List (RcStr Global × B)) → fields_made (built_fields b (tree_fields (named (field_trees es)))) ≡ Ok (named (meant means made)) → IsStrictlySortedBy (λ a b. text_cmp (rc_str_bytes a) (rc_str_bytes b)) (keys_of es) → names_rise (named made) ≡ true
+pub made_rises : {T B M R : Type 0} (b : Builder (Result M R)) (means : B → M) (es : List (RcStr Global × Expr T)) (made : List (RcStr Global × B)) → fields_made (built_fields b (tree_fields (named (field_trees es)))) ≡ Ok (named (meant means made)) → names_rise (named es) ≡ true → names_rise (named made) ≡ true
 made_rises b means es made h s =
     ap (rises text_cmp) (sym (names_meant means made) ∙ names_stay (built_fields b (tree_fields (named (field_trees es)))) (named (meant means made)) h ∙ names_built b es)
-    ∙ names_ascend es s
+    ∙ s
 
 -- a walk along fields
 module _ {T B M R : Type 0} (b : Builder (Result M R)) (means : B → M) (all rest : List (RcStr Global × Expr T)) where
   abbrev pub of_fields : List (RcStr Global × Expr T) → Result (List (Text × M)) R
   of_fields es = fields_made (built_fields b (tree_fields (named (field_trees es))))
 
-  named_more : (done : List (RcStr Global × B)) (k c : RcStr Global) (x : B) → rc_str_bytes c ≡ rc_str_bytes k → named (meant means (done ++ (c, x) ∷ [])) ≡ named (meant means done) ++ (rc_str_bytes k, means x) ∷ []
-  named_more [] k c x same = ap (λ n. (n, means x) ∷ []) same
-  named_more (d ∷ done) k c x same = ap (λ ps. (rc_str_bytes d.0, means d.1) ∷ ps) (named_more done k c x same)
+  pub field_goes_on : (later : List (RcStr Global × Expr T)) (done more : List (RcStr Global × B)) (k : RcStr Global) (e : Expr T) → of_fields all ≡ after (named (meant means done)) (of_fields rest) → rest ≡ (k, e) ∷ later → and_then (λ x. Ok (named (meant means done) ++ (rc_str_bytes k, x) ∷ [])) (built b (tree_of e)) ≡ Ok (named (meant means more)) → of_fields all ≡ after (named (meant means more)) (of_fields later)
+  field_goes_on later done more k e h is n = row_goes_on (λ m. (rc_str_bytes k, m)) (of_fields all) (of_fields rest) (of_fields later) (built b (tree_of e)) (named (meant means done)) (named (meant means more)) h (ap of_fields is) n
 
-  pub field_steps : (later : List (RcStr Global × Expr T)) (done more : List (RcStr Global × B)) (k c : RcStr Global) (e : Expr T) (x : B) → of_fields all ≡ after (named (meant means done)) (of_fields rest) → rest ≡ (k, e) ∷ later → more ≡ done ++ (c, x) ∷ [] → rc_str_bytes c ≡ rc_str_bytes k → built b (tree_of e) ≡ Ok (means x) → of_fields all ≡ after (named (meant means more)) (of_fields later)
-  field_steps later done more k c e x h is n same made =
-      goes_on (λ m. (rc_str_bytes k, m)) (of_fields all) (of_fields rest) (of_fields later) (built b (tree_of e)) (named (meant means done)) (means x) (named (meant means more)) h (ap of_fields is) made (ap (λ ds. named (meant means ds)) n ∙ named_more done k c x same)
+  pub field_goes_wrong : (later : List (RcStr Global × Expr T)) (done : List (RcStr Global × B)) (k : RcStr Global) (e : Expr T) (r : R) → of_fields all ≡ after (named (meant means done)) (of_fields rest) → rest ≡ (k, e) ∷ later → and_then (λ x. Ok (named (meant means done) ++ (rc_str_bytes k, x) ∷ [])) (built b (tree_of e)) ≡ Err r → of_fields all ≡ Err r
+  field_goes_wrong later done k e r h is n = row_goes_wrong (λ m. (rc_str_bytes k, m)) (of_fields all) (of_fields rest) (of_fields later) (built b (tree_of e)) (named (meant means done)) r h (ap of_fields is) n
 
   pub fields_end : (done : List (RcStr Global × B)) → of_fields all ≡ after (named (meant means done)) (of_fields rest) → rest ≡ [] → of_fields all ≡ Ok (named (meant means done))
   fields_end done h is = ends (of_fields all) (of_fields rest) (named (meant means done)) h (ap of_fields is)
+
+-- a walk along a row
+module _ {T B M R : Type 0} (b : Builder (Result M R)) (means : B → M) (xs : List (Expr T)) (i : ℕ) (x d : Expr T) where
+  abbrev of_row : List (Expr T) → Result (List M) R
+  of_row es = all_made (built_list b (trees (map tree_of es)))
+
+  falls : i < length xs → x ≡ get_or xs i d → of_row (drop i xs) ≡ one_and (λ m. m) (built b (tree_of x)) (of_row (drop (i + 1) xs))
+  falls below at =
+      let next : suc i ≡ i + 1 = omega arith in
+      ap of_row (drop-cons xs i d below)
+      ∙ ap (λ y. one_and (λ m. m) (built b (tree_of y)) (of_row (drop (suc i) xs))) (sym at)
+      ∙ ap (λ k. one_and (λ m. m) (built b (tree_of x)) (of_row (drop k xs))) next
+
+  pub row_steps : (all : Result (List M) R) (done more : List B) → i < length xs → x ≡ get_or xs i d → all ≡ after (map means done) (of_row (drop i xs)) → and_then (λ y. Ok (map means done ++ y ∷ [])) (built b (tree_of x)) ≡ Ok (map means more) → all ≡ after (map means more) (of_row (drop (i + 1) xs))
+  row_steps all done more below at h n = row_goes_on (λ m. m) all (of_row (drop i xs)) (of_row (drop (i + 1) xs)) (built b (tree_of x)) (map means done) (map means more) h (falls below at) n
+
+  pub row_wrong : (all : Result (List M) R) (done : List B) (r : R) → i < length xs → x ≡ get_or xs i d → all ≡ after (map means done) (of_row (drop i xs)) → and_then (λ y. Ok (map means done ++ y ∷ [])) (built b (tree_of x)) ≡ Err r → all ≡ Err r
+  row_wrong all done r below at h n = row_goes_wrong (λ m. m) all (of_row (drop i xs)) (of_row (drop (i + 1) xs)) (built b (tree_of x)) (map means done) r h (falls below at) n

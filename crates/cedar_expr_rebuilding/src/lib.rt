@@ -4,6 +4,8 @@
 #![tactic(auto)]
 
 pub mod build;
+mod gathering;
+mod making;
 pub mod rebuilding;
 pub mod unknowns;
 

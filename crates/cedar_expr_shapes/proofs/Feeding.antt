@@ -27,9 +27,6 @@ module _ {S : Type 0} (w : S → List ℕ → S) where
   pub three_steps : (s t u v : S) (as_ bs cs : HashWrites) → t ≡ fold w s as_ → u ≡ fold w t bs → v ≡ fold w u cs → v ≡ fold w s (as_ ++ (bs ++ cs))
   three_steps s t u v as_ bs cs e f g = two_steps s t v as_ (bs ++ cs) e (two_steps t u v bs cs f g)
 
-  pub four_steps : (s t u v x : S) (as_ bs cs ds : HashWrites) → t ≡ fold w s as_ → u ≡ fold w t bs → v ≡ fold w u cs → x ≡ fold w v ds → x ≡ fold w s (as_ ++ (bs ++ (cs ++ ds)))
-  four_steps s t u v x as_ bs cs ds e f g h = two_steps s t x as_ (bs ++ (cs ++ ds)) e (three_steps t u v x bs cs ds f g h)
-
   module _ {T : Type 0} where
     -- expressions in a row, and fields
     abbrev pub all_fed : List (Expr T) → HashWrites

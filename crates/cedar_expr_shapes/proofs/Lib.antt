@@ -5,3 +5,4 @@ mod Feeding
 mod LevelData
 mod Levels
 mod SameTrees
+mod Smaller

@@ -6,10 +6,14 @@ ghost use Rattle.cedar_expr_model.specs.Builder.{trees, tree_fields};
 ghost use Rattle.cedar_expr_trees.specs.Trees.{tree_of, named, field_trees};
 ghost use Rattle.cedar_expr_shapes.specs.Hashed.{tree_input, trees_input, count, tree_fields_input, field_count};
 
-use crate::ranks::rank;
+use crate::fed::{
+    feed_binary, feed_count, feed_literal, feed_name, feed_path, feed_pattern, feed_rank,
+    feed_slot, feed_text, feed_type, feed_unary, feed_unknown, feed_var,
+};
+use crate::fields::{fields_of, next_field};
 use cedar_expr_trees::{Expr, ExprKind};
 use std::collections::BTreeMap;
-use std::hash::{Hash, Hasher};
+use std::hash::Hasher;
 use std::rc::RcStr;
 
 // Feeds the hasher an expression: the place of its kind, and then its parts.
@@ -17,15 +21,13 @@ use std::rc::RcStr;
 pub fn feed<T, H: Hasher>(e: &Expr<T>, state: &mut H)
     ensures { state.new ≡ fold H.write state.old (tree_input (tree_of e.now)) }
 {
-    rank(e.expr_kind()).hash(state);
-    match e.expr_kind() {
-        ExprKind::Lit(literal) => literal.hash(state),
-        ExprKind::Var(v) => v.hash(state),
-        ExprKind::Slot(s) => s.hash(state),
-        ExprKind::Unknown(u) => {
-            u.name.hash(state);
-            u.type_annotation.hash(state);
-        }
+    let kind = e.expr_kind();
+    feed_rank(kind, state);
+    match kind {
+        ExprKind::Lit(literal) => feed_literal(literal, state),
+        ExprKind::Var(v) => feed_var(*v, state),
+        ExprKind::Slot(s) => feed_slot(*s, state),
+        ExprKind::Unknown(u) => feed_unknown(u, state),
         ExprKind::If {
             test_expr,
             then_expr,
@@ -40,34 +42,33 @@ pub fn feed<T, H: Hasher>(e: &Expr<T>, state: &mut H)
             feed(right, state);
         }
         ExprKind::UnaryApp { op, arg } => {
-            op.hash(state);
+            feed_unary(*op, state);
             feed(arg, state);
         }
         ExprKind::BinaryApp { op, arg1, arg2 } => {
-            op.hash(state);
+            feed_binary(*op, state);
             feed(arg1, state);
             feed(arg2, state);
         }
         ExprKind::ExtensionFunctionApp { fn_name, args } => {
-            fn_name.hash(state);
+            feed_name(fn_name, state);
             feed_all(args.as_slice(), state);
         }
         ExprKind::GetAttr { expr, attr } | ExprKind::HasAttr { expr, attr } => {
             feed(expr, state);
-            attr.hash(state);
+            feed_text(attr, state);
         }
         ExprKind::ExtHasAttr { expr, attrs } => {
             feed(expr, state);
-            attrs.head.hash(state);
-            attrs.tail.hash(state);
+            feed_path(attrs, state);
         }
         ExprKind::Like { expr, pattern } => {
             feed(expr, state);
-            pattern.hash(state);
+            feed_pattern(pattern, state);
         }
         ExprKind::Is { expr, entity_type } => {
             feed(expr, state);
-            entity_type.hash(state);
+            feed_type(entity_type, state);
         }
         ExprKind::Set(members) => feed_all(members.as_slice(), state),
         ExprKind::Record(fields) => feed_fields(fields, state),
@@ -79,7 +80,7 @@ pub fn feed<T, H: Hasher>(e: &Expr<T>, state: &mut H)
 fn feed_all<T, H: Hasher>(exprs: &[Expr<T>], state: &mut H)
     ensures { let ts = trees (map tree_of exprs.now) in state.new ≡ fold H.write state.old (fed.usize (count ts) ++ trees_input ts) }
 {
-    exprs.len().hash(state);
+    feed_count(exprs.len(), state);
     for e in exprs {
         feed(e, state);
     }
@@ -90,9 +91,10 @@ fn feed_all<T, H: Hasher>(exprs: &[Expr<T>], state: &mut H)
 fn feed_fields<T, H: Hasher>(fields: &BTreeMap<RcStr, Expr<T>>, state: &mut H)
     ensures { let fs = tree_fields (named (field_trees fields.now.entries)) in state.new ≡ fold H.write state.old (fed.usize (field_count fs) ++ tree_fields_input fs) }
 {
-    fields.len().hash(state);
-    for (name, e) in fields.iter() {
-        name.hash(state);
+    feed_count(fields.len(), state);
+    let mut left = fields_of(fields);
+    while let Some((name, e)) = next_field(&mut left) {
+        feed_text(name, state);
         feed(e, state);
     }
 }

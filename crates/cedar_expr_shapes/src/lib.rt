@@ -4,6 +4,8 @@
 #![tactic(auto)]
 
 mod compare;
+mod fed;
+mod fields;
 mod hashed;
 pub mod laws;
 mod leaves;

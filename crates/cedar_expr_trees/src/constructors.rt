@@ -385,15 +385,6 @@ pub fn truth_of<T>(e: &Expr<T>) -> Option<bool>
 {
     match e.expr_kind() {
         ExprKind::Lit(Literal::Bool(b)) => Some(*b),
-        ExprKind::Lit(Literal::Long(_))
-        | ExprKind::Lit(Literal::String(_))
-        | ExprKind::Lit(Literal::EntityUID(_)) => None,
-        ExprKind::Var(_) | ExprKind::Slot(_) | ExprKind::Unknown(_) => None,
-        ExprKind::If { .. } | ExprKind::And { .. } | ExprKind::Or { .. } => None,
-        ExprKind::UnaryApp { .. } | ExprKind::BinaryApp { .. } => None,
-        ExprKind::ExtensionFunctionApp { .. } => None,
-        ExprKind::GetAttr { .. } | ExprKind::HasAttr { .. } => None,
-        ExprKind::ExtHasAttr { .. } | ExprKind::Like { .. } | ExprKind::Is { .. } => None,
-        ExprKind::Set(_) | ExprKind::Record(_) => None,
+        _ => None,
     }
 }

@@ -8,6 +8,7 @@ ghost use Rattle.cedar_expr_model.specs.Unknowns.{has_unknown};
 ghost use Rattle.cedar_expr_trees.specs.Trees.{tree_of};
 
 use crate::expr::{Expr, ExprKind};
+use crate::fields::{fields_of, next_field};
 use std::collections::BTreeMap;
 use std::rc::RcStr;
 
@@ -18,13 +19,7 @@ impl<T> Expr<T> {
     {
         match &self.expr_kind {
             ExprKind::Lit(literal) => literal.is_ref(),
-            ExprKind::Var(_) | ExprKind::Slot(_) | ExprKind::Unknown(_) => false,
-            ExprKind::If { .. } | ExprKind::And { .. } | ExprKind::Or { .. } => false,
-            ExprKind::UnaryApp { .. } | ExprKind::BinaryApp { .. } => false,
-            ExprKind::ExtensionFunctionApp { .. } => false,
-            ExprKind::GetAttr { .. } | ExprKind::HasAttr { .. } => false,
-            ExprKind::ExtHasAttr { .. } | ExprKind::Like { .. } | ExprKind::Is { .. } => false,
-            ExprKind::Set(_) | ExprKind::Record(_) => false,
+            _ => false,
         }
     }
 
@@ -34,13 +29,7 @@ impl<T> Expr<T> {
     {
         match &self.expr_kind {
             ExprKind::Slot(_) => true,
-            ExprKind::Lit(_) | ExprKind::Var(_) | ExprKind::Unknown(_) => false,
-            ExprKind::If { .. } | ExprKind::And { .. } | ExprKind::Or { .. } => false,
-            ExprKind::UnaryApp { .. } | ExprKind::BinaryApp { .. } => false,
-            ExprKind::ExtensionFunctionApp { .. } => false,
-            ExprKind::GetAttr { .. } | ExprKind::HasAttr { .. } => false,
-            ExprKind::ExtHasAttr { .. } | ExprKind::Like { .. } | ExprKind::Is { .. } => false,
-            ExprKind::Set(_) | ExprKind::Record(_) => false,
+            _ => false,
         }
     }
 
@@ -51,14 +40,7 @@ impl<T> Expr<T> {
     {
         match &self.expr_kind {
             ExprKind::Set(members) => are_refs(members.as_slice()),
-            ExprKind::Lit(_) | ExprKind::Var(_) => false,
-            ExprKind::Slot(_) | ExprKind::Unknown(_) => false,
-            ExprKind::If { .. } | ExprKind::And { .. } | ExprKind::Or { .. } => false,
-            ExprKind::UnaryApp { .. } | ExprKind::BinaryApp { .. } => false,
-            ExprKind::ExtensionFunctionApp { .. } => false,
-            ExprKind::GetAttr { .. } | ExprKind::HasAttr { .. } => false,
-            ExprKind::ExtHasAttr { .. } | ExprKind::Like { .. } | ExprKind::Is { .. } => false,
-            ExprKind::Record(_) => false,
+            _ => false,
         }
     }
 
@@ -72,12 +54,7 @@ impl<T> Expr<T> {
             ExprKind::Lit(_) | ExprKind::Var(_) | ExprKind::Unknown(_) => true,
             ExprKind::Set(members) => are_projectable(members.as_slice()),
             ExprKind::Record(fields) => have_projectable(fields),
-            ExprKind::Slot(_) => false,
-            ExprKind::If { .. } | ExprKind::And { .. } | ExprKind::Or { .. } => false,
-            ExprKind::UnaryApp { .. } | ExprKind::BinaryApp { .. } => false,
-            ExprKind::ExtensionFunctionApp { .. } => false,
-            ExprKind::GetAttr { .. } | ExprKind::HasAttr { .. } => false,
-            ExprKind::ExtHasAttr { .. } | ExprKind::Like { .. } | ExprKind::Is { .. } => false,
+            _ => false,
         }
     }
 
@@ -143,7 +120,8 @@ fn are_projectable<T>(exprs: &[Expr<T>]) -> bool
 fn have_projectable<T>(fields: &BTreeMap<RcStr, Expr<T>>) -> bool
     ensures { result ≡ list_all (λ e. is_projectable (tree_of e)) (values fields.now) }
 {
-    for e in fields.values() {
+    let mut left = fields_of(fields);
+    while let Some(e) = next_field(&mut left) {
         if !e.is_projectable() {
             return false;
         }
@@ -169,7 +147,8 @@ fn any_contains_unknown<T>(exprs: &[Expr<T>]) -> bool
 fn any_field_contains_unknown<T>(fields: &BTreeMap<RcStr, Expr<T>>) -> bool
     ensures { result ≡ list_any (λ e. has_unknown (tree_of e)) (values fields.now) }
 {
-    for e in fields.values() {
+    let mut left = fields_of(fields);
+    while let Some(e) = next_field(&mut left) {
         if e.contains_unknown() {
             return true;
         }

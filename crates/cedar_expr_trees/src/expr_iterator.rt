@@ -6,6 +6,7 @@ ghost use Rattle.std.specs.List.{flat_map};
 ghost use Rattle.cedar_expr_trees.specs.Positions.{positions};
 
 use crate::expr::{Expr, ExprKind, Unknown};
+use crate::fields::{fields_of, next_field};
 use cedar_expr_leaves::Slot;
 use std::alloc::{AllocError, Global};
 use std::collections::BTreeMap;
@@ -110,7 +111,8 @@ fn gather_fields<'a, T>(
 ) -> Result<(), AllocError>
     ensures { OnOk result (map (λ e. e.now) found.new.items ≡ map (λ e. e.now) found.old.items ++ flat_map positions (values fields.entry.now)) }
 {
-    for e in fields.values() {
+    let mut left = fields_of(fields);
+    while let Some(e) = next_field(&mut left) {
         gather(e, found)?;
     }
     Ok(())

@@ -9,6 +9,7 @@ mod copies;
 pub mod err;
 pub mod expr;
 pub mod expr_iterator;
+mod fields;
 pub mod laws;
 pub mod records;
 pub mod sharing;

@@ -1,5 +1,6 @@
 -- Reading an object of expressions member by member.
-use Rattle.std.proofs.Common.{◌≡◌, List, [], ◌∷◌, ◌++◌, Option, Some, None, option_map, Global, string_bytes, refl, ap, ◌∙◌}
+use Rattle.std.proofs.Common.{◌≡◌, List, [], ◌∷◌, ◌++◌, Option, Some, None, option_map, Global, string_bytes, refl, ap, ◌∙◌, ℕ, ◌≤◌, subst, arith}
+use denote.Param.Weighed.{most}
 use Rattle.std.specs.Rc.{rc_str_bytes}
 use Rattle.std.specs.declared.rc.RcStr.{RcStr}
 use Rattle.serde_json.proofs.Views.{Entry}
@@ -46,3 +47,12 @@ pub next_field : {T : Type 0} (es : List (RcStr Global × Expr T)) (k : RcStr Gl
     → then_fields (named (field_trees (es ++ (k, x) ∷ []))) (fields_in (members_view left)) ≡ then_fields (named (field_trees es)) (fields_in (members_view rest))
 next_field es k x e left rest is h r =
     ap (λ ps. then_fields ps (fields_in (members_view left))) (named_more es k x) ∙ one_more_field (named (field_trees es)) (rc_str_bytes k) (tree_of x) (fields_in (members_view left)) ∙ rw (is, r, h)
+
+-- what is left of a list weighs no more than the whole
+pub within_all : {A : Type 0} (f : A → ℕ) (left whole : List A) → left ≡ whole → most f left ≤ most f whole
+within_all f left whole e = rw e (omega arith)
+
+pub still_within : {A : Type 0} (f : A → ℕ) (x : A) (rest left whole : List A) → left ≡ x ∷ rest → most f left ≤ most f whole → most f rest ≤ most f whole
+still_within f x rest left whole e h =
+    let g : most f (x ∷ rest) ≤ most f whole = subst (λ ys. most f ys ≤ most f whole) e h in
+    omega arith

@@ -1,5 +1,11 @@
 //! Expressions.
-ghost use Rattle.std.specs.Prelude.{◌≡◌, Some, None, IfOk, IfErr, map, drop};
+ghost use Rattle.std.specs.Prelude.{◌≡◌, Some, None, IfOk, IfErr, OnOk, map, drop, string_bytes};
+ghost use Rattle.std.specs.BTreeMap.{insert_entry};
+ghost use Rattle.std.specs.Cmp.Lexicographic.{slice_cmp};
+ghost use Rattle.std.specs.Ordering.{nat_cmp};
+ghost use Rattle.std.specs.Rc.{rc_str_bytes};
+ghost use Rattle.std.specs.declared.alloc.Global.{Global};
+ghost use Rattle.std.specs.declared.rc.RcStr.{RcStr as Named};
 ghost use Rattle.serde_json.specs.View.{view, members_view};
 ghost use Rattle.cedar_expr_model.specs.Lists.{all_given};
 ghost use Rattle.cedar_expr_model.specs.Builder.{tree_fields};
@@ -14,11 +20,13 @@ ghost use Rattle.cedar_gate_reading.specs.declared.fault.ReadFault.TheVariants.{
 use crate::finished::{join, test};
 use crate::forms::{Form, Joint, Test};
 use crate::leaves::{form_of_word, read_leaf, read_long, read_string};
+use crate::members::{members_of, next_member};
+use crate::shapes::{first_of, one_of, three_of, two_of};
 use cedar_expr_leaves::Literal;
 use cedar_expr_trees::Expr;
 use cedar_gate_reading::{ReadFault, read_name};
 use serde_json::{Map, Value};
-use std::alloc::Global;
+use std::alloc::{AllocError, Global};
 use std::collections::BTreeMap;
 use std::rc::{Rc, RcStr};
 
@@ -59,91 +67,81 @@ fn read_form(alloc: Global, form: Form, items: &[Value]) -> Result<Expr, ReadFau
 
 // Reads an expression, and what else this form takes.
 #[cycle(read)]
-#[tactic(auto, using(cedar_gate_reading::proofs::Shapes::first, crate::proofs::Heads::tested, crate::proofs::Heads::no_test))]
+#[tactic(auto, using(crate::proofs::Heads::tested, crate::proofs::Heads::no_test))]
 fn read_test(alloc: Global, kind: Test, items: &[Value]) -> Result<Expr, ReadFault>
     ensures ok { IfOk result (λ e. form_of (OfTest kind) (parts items.now) ≡ Some (tree_of e)) }
     ensures unreadable { IfErr result (λ f. f ≡ Unreadable → form_of (OfTest kind) (parts items.now) ≡ None) }
 {
-    match items {
-        [x, rest @ ..] => test(alloc, kind, read_expression(alloc, x)?, rest),
-        [] => Err(ReadFault::Unreadable),
+    match first_of(items) {
+        Some((x, rest)) => test(alloc, kind, read_expression(alloc, x)?, rest),
+        None => Err(ReadFault::Unreadable),
     }
 }
 
 // Reads two expressions, and joins them.
 #[cycle(read)]
-#[tactic(auto, using(cedar_gate_reading::proofs::Shapes::two, crate::proofs::Short::too_few_for_two, crate::proofs::Short::too_many_for_two))]
 fn read_joint(alloc: Global, joint: Joint, items: &[Value]) -> Result<Expr, ReadFault>
     ensures ok { IfOk result (λ e. of_two (joint_of joint) (parts items.now) ≡ Some (tree_of e)) }
     ensures unreadable { IfErr result (λ f. f ≡ Unreadable → of_two (joint_of joint) (parts items.now) ≡ None) }
 {
-    match items {
-        [x, y] => {
+    match two_of(items) {
+        Some((x, y)) => {
             let left = read_expression(alloc, x)?;
             let right = read_expression(alloc, y)?;
             Ok(join(joint, alloc, left, right)?)
         }
-        [] => Err(ReadFault::Unreadable),
-        [_] => Err(ReadFault::Unreadable),
-        [_, _, _, ..] => Err(ReadFault::Unreadable),
+        None => Err(ReadFault::Unreadable),
     }
 }
 
 // Reads a choice.
 #[cycle(read)]
-#[tactic(auto, using(cedar_gate_reading::proofs::Shapes::three, crate::proofs::Short::too_few_for_three, crate::proofs::Short::too_many_for_three))]
 fn read_choice(alloc: Global, items: &[Value]) -> Result<Expr, ReadFault>
     ensures ok { IfOk result (λ e. of_three choice (parts items.now) ≡ Some (tree_of e)) }
     ensures unreadable { IfErr result (λ f. f ≡ Unreadable → of_three choice (parts items.now) ≡ None) }
 {
-    match items {
-        [x, y, z] => {
+    match three_of(items) {
+        Some((x, y, z)) => {
             let test_expr = read_expression(alloc, x)?;
             let then_expr = read_expression(alloc, y)?;
             let else_expr = read_expression(alloc, z)?;
             Ok(Expr::ite(alloc, test_expr, then_expr, else_expr)?)
         }
-        [] => Err(ReadFault::Unreadable),
-        [_] => Err(ReadFault::Unreadable),
-        [_, _] => Err(ReadFault::Unreadable),
-        [_, _, _, _, ..] => Err(ReadFault::Unreadable),
+        None => Err(ReadFault::Unreadable),
     }
 }
 
 // Reads a call.
 #[cycle(read)]
-#[tactic(auto, using(cedar_gate_reading::proofs::Shapes::first))]
 fn read_call(alloc: Global, items: &[Value]) -> Result<Expr, ReadFault>
     ensures ok { IfOk result (λ e. call_form (parts items.now) ≡ Some (tree_of e)) }
     ensures unreadable { IfErr result (λ f. f ≡ Unreadable → call_form (parts items.now) ≡ None) }
 {
-    match items {
-        [name, ..] => {
+    match first_of(items) {
+        Some((name, _)) => {
             let name = read_name(alloc, name)?;
             let args = read_each_expression(alloc, items, 1)?;
             Ok(Expr::call_extension_fn(alloc, name, args)?)
         }
-        [] => Err(ReadFault::Unreadable),
+        None => Err(ReadFault::Unreadable),
     }
 }
 
 // Reads a record.
 #[cycle(read)]
-#[tactic(auto, using(cedar_gate_reading::proofs::Shapes::one, crate::proofs::Short::no_record))]
 fn read_record(alloc: Global, items: &[Value]) -> Result<Expr, ReadFault>
     ensures ok { IfOk result (λ e. form_of Record (parts items.now) ≡ Some (tree_of e)) }
     ensures unreadable { IfErr result (λ f. f ≡ Unreadable → form_of Record (parts items.now) ≡ None) }
 {
-    match items {
-        [x] => match x {
+    match one_of(items) {
+        Some(x) => match x {
             Value::Object(members) => {
                 let fields = read_fields(alloc, members)?;
                 Ok(Expr::record_arc(Rc::new(alloc, fields)?))
             }
             _ => Err(ReadFault::Unreadable),
         },
-        [] => Err(ReadFault::Unreadable),
-        [_, _, ..] => Err(ReadFault::Unreadable),
+        None => Err(ReadFault::Unreadable),
     }
 }
 
@@ -173,10 +171,24 @@ pub fn read_fields(
     ensures unreadable { IfErr result (λ f. f ≡ Unreadable → fields_in (members_view members.now.entries) ≡ None) }
 {
     let mut fields = BTreeMap::new(alloc);
-    for (key, member) in members.iter() {
-        let name = RcStr::from_str(alloc, key.as_str())?;
+    let mut left = members_of(members);
+    while let Some((key, member)) = next_member(&mut left) {
         let field = read_expression(alloc, member)?;
-        drop(fields.insert(name, field)?);
+        add_field(alloc, &mut fields, key, field)?;
     }
     Ok(fields)
+}
+
+// Puts a field under this name.
+fn add_field(
+    alloc: Global,
+    fields: &mut BTreeMap<RcStr, Expr>,
+    key: &String,
+    field: Expr,
+) -> Result<(), AllocError>
+    ensures { OnOk result ((k : Named Global) × (rc_str_bytes k ≡ string_bytes key.now) × (fields.new.entries ≡ insert_entry (λ s t. slice_cmp nat_cmp (rc_str_bytes s) (rc_str_bytes t)) fields.old.entries k field)) }
+{
+    let name = RcStr::from_str(alloc, key.as_str())?;
+    drop(fields.insert(name, field)?);
+    Ok(())
 }

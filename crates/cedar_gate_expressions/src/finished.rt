@@ -1,5 +1,5 @@
 //! Forms whose expressions are read.
-ghost use Rattle.std.specs.Prelude.{◌≡◌, ◌++◌, Some, None, IfOk, IfErr, OnOk, map, option_map};
+ghost use Rattle.std.specs.Prelude.{◌≡◌, [], ◌∷◌, ◌++◌, Some, None, IfOk, IfErr, OnOk, map, option_map};
 ghost use Rattle.std.specs.Rc.{rc_str_bytes};
 ghost use Rattle.std.specs.List.{flat_map};
 ghost use Rattle.std.specs.Str.{chars};
@@ -14,10 +14,10 @@ ghost use Rattle.cedar_gate_model.specs.Reading.{given, each};
 ghost use Rattle.cedar_gate_model.specs.ReadingExpression.{pattern_read, elements_read};
 ghost use Rattle.cedar_gate_expressions.specs.Forms.{joint_of, test_rest};
 ghost use Rattle.cedar_gate_expressions.specs.Parts.{parts};
-ghost use Rattle.cedar_gate_expressions.specs.declared.forms.Test.TheVariants.{Has};
 ghost use Rattle.cedar_gate_reading.specs.declared.fault.ReadFault.TheVariants.{Unreadable};
 
 use crate::forms::{Joint, Test};
+use crate::shapes::first_of;
 use cedar_expr_leaves::{NonEmpty, Pattern, PatternElem};
 use cedar_expr_trees::Expr;
 use cedar_gate_reading::{ReadFault, Texts, read_each, read_text, read_type};
@@ -37,7 +37,7 @@ pub(crate) fn join(joint: Joint, alloc: Global, left: Expr, right: Expr) -> Resu
 }
 
 /// What a form makes of an expression that is read, and of what else it takes.
-#[tactic(auto, using(cedar_gate_reading::proofs::Shapes::one, crate::proofs::Heads::texts_in, crate::proofs::Short::unary_alone, crate::proofs::Short::one_name, crate::proofs::Short::one_pattern, crate::proofs::Short::one_type))]
+#[tactic(auto, using(crate::proofs::Heads::path_is))]
 pub(crate) fn test(
     alloc: Global,
     kind: Test,
@@ -47,37 +47,43 @@ pub(crate) fn test(
     ensures ok { IfOk result (λ e. test_rest kind (tree_of head) (parts items.now) ≡ Some (tree_of e)) }
     ensures unreadable { IfErr result (λ f. f ≡ Unreadable → test_rest kind (tree_of head) (parts items.now) ≡ None) }
 {
-    match items {
-        [] => match kind {
-            Test::Unary(op) => Ok(Expr::unary_app(alloc, op, head)?),
-            Test::Get | Test::Has | Test::Like | Test::Is => Err(ReadFault::Unreadable),
-        },
-        [x] => match kind {
-            Test::Unary(_) => Err(ReadFault::Unreadable),
-            Test::Get => Ok(Expr::get_attr(alloc, head, read_text(alloc, x)?)?),
-            Test::Has => Ok(Expr::has_attr(alloc, head, read_text(alloc, x)?)?),
-            Test::Like => Ok(Expr::like(alloc, head, read_pattern(alloc, x)?)?),
-            Test::Is => Ok(Expr::is_entity_type(alloc, head, read_type(alloc, x)?)?),
-        },
-        [_, _, ..] => match kind {
-            Test::Has => read_has(alloc, head, items),
-            Test::Unary(_) => Err(ReadFault::Unreadable),
-            Test::Get => Err(ReadFault::Unreadable),
-            Test::Like => Err(ReadFault::Unreadable),
-            Test::Is => Err(ReadFault::Unreadable),
+    match first_of(items) {
+        None => test_alone(alloc, kind, head),
+        Some((x, rest)) => match first_of(rest) {
+            None => test_of_one(alloc, kind, head, x),
+            Some(_) => match kind {
+                Test::Has => read_path(alloc, head, x, rest),
+                Test::Unary(_) => Err(ReadFault::Unreadable),
+                Test::Get => Err(ReadFault::Unreadable),
+                Test::Like => Err(ReadFault::Unreadable),
+                Test::Is => Err(ReadFault::Unreadable),
+            },
         },
     }
 }
 
-// Whether one attribute is there, or more.
-#[tactic(auto, using(cedar_gate_reading::proofs::Shapes::first, crate::proofs::Heads::texts_in))]
-fn read_has(alloc: Global, head: Expr, items: &[Value]) -> Result<Expr, ReadFault>
-    ensures ok { IfOk result (λ e. test_rest Has (tree_of head) (parts items.now) ≡ Some (tree_of e)) }
-    ensures unreadable { IfErr result (λ f. f ≡ Unreadable → test_rest Has (tree_of head) (parts items.now) ≡ None) }
+// What a form makes of an expression alone.
+fn test_alone(alloc: Global, kind: Test, head: Expr) -> Result<Expr, ReadFault>
+    ensures ok { IfOk result (λ e. test_rest kind (tree_of head) (parts []) ≡ Some (tree_of e)) }
+    ensures unreadable { IfErr result (λ f. f ≡ Unreadable → test_rest kind (tree_of head) (parts []) ≡ None) }
 {
-    match items {
-        [x, rest @ ..] => read_path(alloc, head, x, rest),
-        [] => Err(ReadFault::Unreadable),
+    match kind {
+        Test::Unary(op) => Ok(Expr::unary_app(alloc, op, head)?),
+        Test::Get | Test::Has | Test::Like | Test::Is => Err(ReadFault::Unreadable),
+    }
+}
+
+// What a form makes of an expression and of this one item.
+fn test_of_one(alloc: Global, kind: Test, head: Expr, x: &Value) -> Result<Expr, ReadFault>
+    ensures ok { IfOk result (λ e. test_rest kind (tree_of head) (parts (x.now ∷ [])) ≡ Some (tree_of e)) }
+    ensures unreadable { IfErr result (λ f. f ≡ Unreadable → test_rest kind (tree_of head) (parts (x.now ∷ [])) ≡ None) }
+{
+    match kind {
+        Test::Unary(_) => Err(ReadFault::Unreadable),
+        Test::Get => Ok(Expr::get_attr(alloc, head, read_text(alloc, x)?)?),
+        Test::Has => Ok(Expr::has_attr(alloc, head, read_text(alloc, x)?)?),
+        Test::Like => Ok(Expr::like(alloc, head, read_pattern(alloc, x)?)?),
+        Test::Is => Ok(Expr::is_entity_type(alloc, head, read_type(alloc, x)?)?),
     }
 }
 

@@ -1,5 +1,5 @@
 //! Forms without expressions in them.
-ghost use Rattle.std.specs.Prelude.{◌≡◌, Some, None, IfOk, IfErr, option_map};
+ghost use Rattle.std.specs.Prelude.{◌≡◌, [], ◌∷◌, Some, None, IfOk, IfErr, option_map};
 ghost use Rattle.serde_json.specs.Find.{as_i64, as_str};
 ghost use Rattle.serde_json.specs.View.{view, number_view};
 ghost use Rattle.cedar_expr_model.specs.Tree.{lit, var, slot, unknown};
@@ -17,6 +17,7 @@ ghost use Rattle.cedar_gate_expressions.specs.Parts.{parts};
 ghost use Rattle.cedar_gate_reading.specs.declared.fault.ReadFault.TheVariants.{Unreadable};
 
 use crate::forms::{Form, Leaf, form_named};
+use crate::shapes::first_of;
 use cedar_expr_leaves::{Literal, SlotId, Var};
 use cedar_expr_trees::{Expr, Unknown};
 use cedar_gate_reading::{ReadFault, read_annotation, read_text, read_uid_from, text};
@@ -51,25 +52,45 @@ pub(crate) fn form_of_word(word: &Value) -> Result<Form, ReadFault>
 }
 
 /// Reads a form without expressions in it, of what follows its word.
-#[tactic(auto, using(cedar_gate_reading::proofs::Shapes::one, cedar_gate_reading::proofs::Shapes::two, crate::proofs::Short::no_leaf))]
+#[tactic(auto, using(crate::proofs::Short::no_leaf_of_none, crate::proofs::Short::no_leaf_of_three))]
 pub(crate) fn read_leaf(alloc: Global, leaf: Leaf, items: &[Value]) -> Result<Expr, ReadFault>
     ensures ok { IfOk result (λ e. leaf_form leaf (parts items.now) ≡ Some (tree_of e)) }
     ensures unreadable { IfErr result (λ f. f ≡ Unreadable → leaf_form leaf (parts items.now) ≡ None) }
 {
-    match items {
-        [x] => match leaf {
-            Leaf::Uid => Err(ReadFault::Unreadable),
-            Leaf::Var => Ok(Expr::var(read_var(x)?)),
-            Leaf::Slot => Ok(Expr::slot(read_slot(x)?)),
-            Leaf::Unknown => Ok(Expr::unknown(Unknown::new_untyped(read_text(alloc, x)?))),
+    match first_of(items) {
+        None => Err(ReadFault::Unreadable),
+        Some((x, others)) => match first_of(others) {
+            None => read_leaf_of_one(alloc, leaf, x),
+            Some((y, more)) => match first_of(more) {
+                None => read_leaf_of_two(alloc, leaf, x, y),
+                Some(_) => Err(ReadFault::Unreadable),
+            },
         },
-        [x, y] => match leaf {
-            Leaf::Uid => read_entity(alloc, x, y),
-            Leaf::Unknown => read_annotated(alloc, x, y),
-            Leaf::Var | Leaf::Slot => Err(ReadFault::Unreadable),
-        },
-        [] => Err(ReadFault::Unreadable),
-        [_, _, _, ..] => Err(ReadFault::Unreadable),
+    }
+}
+
+// Reads a form of this one item.
+fn read_leaf_of_one(alloc: Global, leaf: Leaf, x: &Value) -> Result<Expr, ReadFault>
+    ensures ok { IfOk result (λ e. leaf_form leaf (parts (x.now ∷ [])) ≡ Some (tree_of e)) }
+    ensures unreadable { IfErr result (λ f. f ≡ Unreadable → leaf_form leaf (parts (x.now ∷ [])) ≡ None) }
+{
+    match leaf {
+        Leaf::Uid => Err(ReadFault::Unreadable),
+        Leaf::Var => Ok(Expr::var(read_var(x)?)),
+        Leaf::Slot => Ok(Expr::slot(read_slot(x)?)),
+        Leaf::Unknown => Ok(Expr::unknown(Unknown::new_untyped(read_text(alloc, x)?))),
+    }
+}
+
+// Reads a form of these two items.
+fn read_leaf_of_two(alloc: Global, leaf: Leaf, x: &Value, y: &Value) -> Result<Expr, ReadFault>
+    ensures ok { IfOk result (λ e. leaf_form leaf (parts (x.now ∷ y.now ∷ [])) ≡ Some (tree_of e)) }
+    ensures unreadable { IfErr result (λ f. f ≡ Unreadable → leaf_form leaf (parts (x.now ∷ y.now ∷ [])) ≡ None) }
+{
+    match leaf {
+        Leaf::Uid => read_entity(alloc, x, y),
+        Leaf::Unknown => read_annotated(alloc, x, y),
+        Leaf::Var | Leaf::Slot => Err(ReadFault::Unreadable),
     }
 }
 

@@ -6,7 +6,9 @@ mod expressions;
 mod finished;
 mod forms;
 mod leaves;
+mod members;
 mod reader;
+mod shapes;
 
 pub use expressions::{read_expression, read_fields};
 pub use reader::ExpressionReader;

@@ -1,5 +1,6 @@
 -- Reading an object of attributes member by member.
-use Rattle.std.proofs.Common.{◌≡◌, List, [], ◌∷◌, ◌++◌, map, Bool, true, false, Option, Some, None, option_map, Global, string_bytes, refl, ap, ◌∙◌}
+use Rattle.std.proofs.Common.{◌≡◌, List, [], ◌∷◌, ◌++◌, map, Bool, true, false, Option, Some, None, option_map, Global, string_bytes, refl, ap, ◌∙◌, ℕ, ◌≤◌, subst, arith}
+use denote.Param.Weighed.{most}
 use Rattle.std.proofs.lemmas.List.{map-append}
 use Rattle.std.specs.Option.{option_or}
 use Rattle.std.specs.Rc.{rc_str_bytes}
@@ -75,3 +76,12 @@ next_attribute es k x e left rest is h r =
     ap (λ rows. then_rows rows (attributes_in (members_view left))) (more_rows raw_name_of es k x)
     ∙ one_more_row (attribute_rows raw_name_of es) (rc_str_bytes k) (attribute_form raw_name_of x) (attributes_in (members_view left))
     ∙ rw (is, as_attribute (string_bytes e.0) (type_read (view e.1)) (marked_read (view e.1)) (attributes_in (members_view left)), r, h) refl
+
+-- what is left of a list weighs no more than the whole
+pub within_all : {A : Type 0} (f : A → ℕ) (left whole : List A) → left ≡ whole → most f left ≤ most f whole
+within_all f left whole e = rw e (omega arith)
+
+pub still_within : {A : Type 0} (f : A → ℕ) (x : A) (rest left whole : List A) → left ≡ x ∷ rest → most f left ≤ most f whole → most f rest ≤ most f whole
+still_within f x rest left whole e h =
+    let g : most f (x ∷ rest) ≤ most f whole = subst (λ ys. most f ys ≤ most f whole) e h in
+    omega arith

@@ -5,6 +5,7 @@
 mod actions;
 mod entity_types;
 mod fragments;
+mod members;
 mod types;
 
 pub use fragments::read_schema;

@@ -1,7 +1,13 @@
 //! Types, as they are written in a schema.
-ghost use Rattle.std.specs.Prelude.{◌≡◌, Option, Some, None, IfOk, IfErr, option_map};
+ghost use Rattle.std.specs.Prelude.{◌≡◌, Option, Some, None, IfOk, IfErr, OnOk, option_map, string_bytes};
+ghost use Rattle.std.specs.BTreeMap.{insert_entry};
+ghost use Rattle.std.specs.Cmp.Lexicographic.{slice_cmp};
 ghost use Rattle.std.specs.Map.{lookup};
+ghost use Rattle.std.specs.Ordering.{nat_cmp};
+ghost use Rattle.std.specs.Rc.{rc_str_bytes};
 ghost use Rattle.std.specs.Str.{bytes_eq};
+ghost use Rattle.std.specs.declared.alloc.Global.{Global};
+ghost use Rattle.std.specs.declared.rc.RcStr.{RcStr as Named};
 ghost use Rattle.serde_json.specs.View.{view, members_view};
 ghost use Rattle.cedar_expr_raw_names.specs.Views.{raw_name_of};
 ghost use Rattle.cedar_schema_model.specs.Declarations.{TypeExpr};
@@ -11,12 +17,13 @@ ghost use Rattle.cedar_gate_model.specs.ReadingSchema.{type_read, type_in, attri
 ghost use Rattle.cedar_gate_fragments.specs.Types.{type_seen, fields_seen, attribute_seen, attribute_read, attribute_in, type_part, form_of, leaf_read, word_read, variant_seen};
 ghost use Rattle.cedar_gate_reading.specs.declared.fault.ReadFault.TheVariants.{Unreadable};
 
+use crate::members::{members_of, next_member, only_member};
 use cedar_expr_names::InternalName;
 use cedar_expr_raw_names::RawName;
 use cedar_gate_reading::{ReadFault, Reader, read_any_name, text};
 use cedar_schema_decl::json_schema::{CommonType, RecordType, Type, TypeOfAttribute, TypeVariant};
 use serde_json::{Map, Value};
-use std::alloc::Global;
+use std::alloc::{AllocError, Global};
 use std::collections::BTreeMap;
 use std::rc::RcStr;
 
@@ -72,13 +79,9 @@ fn read_keyed(alloc: Global, members: &Map<String, Value>) -> Result<Type<RawNam
     ensures ok { IfOk result (λ t. type_in (members_view members.now.entries) ≡ Some (type_seen t)) }
     ensures unreadable { IfErr result (λ f. f ≡ Unreadable → type_in (members_view members.now.entries) ≡ None) }
 {
-    let mut left = members.iter();
-    match left.next() {
+    match only_member(members) {
+        Some((key, inner)) => read_form(alloc, form_named(key.as_str())?, inner),
         None => Err(ReadFault::Unreadable),
-        Some((key, inner)) => match left.next() {
-            None => read_form(alloc, form_named(key.as_str())?, inner),
-            Some(_) => Err(ReadFault::Unreadable),
-        },
     }
 }
 
@@ -128,12 +131,26 @@ fn read_each_attribute(
     ensures unreadable { IfErr result (λ f. f ≡ Unreadable → attributes_in (members_view members.now.entries) ≡ None) }
 {
     let mut attributes = BTreeMap::new(alloc);
-    for (key, member) in members.iter() {
-        let name = RcStr::from_str(alloc, key.as_str())?;
+    let mut left = members_of(members);
+    while let Some((key, member)) = next_member(&mut left) {
         let attribute = read_attribute(alloc, member)?;
-        drop(attributes.insert(name, attribute)?);
+        add_attribute(alloc, &mut attributes, key, attribute)?;
     }
     Ok(record_of(attributes))
+}
+
+// Puts an attribute under this name.
+fn add_attribute(
+    alloc: Global,
+    attributes: &mut BTreeMap<RcStr, TypeOfAttribute<RawName>>,
+    key: &String,
+    attribute: TypeOfAttribute<RawName>,
+) -> Result<(), AllocError>
+    ensures { OnOk result ((k : Named Global) × (rc_str_bytes k ≡ string_bytes key.now) × (attributes.new.entries ≡ insert_entry (λ s t. slice_cmp nat_cmp (rc_str_bytes s) (rc_str_bytes t)) attributes.old.entries k attribute)) }
+{
+    let name = RcStr::from_str(alloc, key.as_str())?;
+    drop(attributes.insert(name, attribute)?);
+    Ok(())
 }
 
 // Reads an attribute: a type, or an object whose one key says that it is optional.
@@ -160,16 +177,12 @@ fn read_keyed_attribute(
     ensures ok { IfOk result (λ a. attribute_in (members_view members.now.entries) ≡ Some (attribute_seen a)) }
     ensures unreadable { IfErr result (λ f. f ≡ Unreadable → attribute_in (members_view members.now.entries) ≡ None) }
 {
-    let mut left = members.iter();
-    match left.next() {
-        None => Err(ReadFault::Unreadable),
-        Some((key, inner)) => match left.next() {
-            None => match key.as_str() {
-                "optional" => Ok(attribute_of(read_type(alloc, inner)?, false)),
-                word => Ok(attribute_of(read_form(alloc, form_named(word)?, inner)?, true)),
-            },
-            Some(_) => Err(ReadFault::Unreadable),
+    match only_member(members) {
+        Some((key, inner)) => match key.as_str() {
+            "optional" => Ok(attribute_of(read_type(alloc, inner)?, false)),
+            word => Ok(attribute_of(read_form(alloc, form_named(word)?, inner)?, true)),
         },
+        None => Err(ReadFault::Unreadable),
     }
 }
 

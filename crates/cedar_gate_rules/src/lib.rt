@@ -3,6 +3,7 @@
 //! Used by the gate, before it asks the schema.
 #![tactic(auto)]
 
+mod fields;
 mod ids;
 mod nest_limit;
 mod nesting;

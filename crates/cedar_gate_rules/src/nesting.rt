@@ -6,13 +6,14 @@ ghost use Rattle.std.specs.List.{list_all};
 ghost use Rattle.cedar_expr_model.specs.Tree.{nesting};
 ghost use Rattle.cedar_expr_trees.specs.Trees.{tree_of};
 
+use crate::fields::{fields_of, next_field};
 use cedar_expr_trees::{Expr, ExprKind};
 use std::collections::BTreeMap;
 use std::rc::RcStr;
 
 /// Whether the expression nests within the limit. It is not walked deeper than the limit.
 #[cycle(nesting)]
-#[tactic(auto, using(crate::proofs::ByParts::nested_trees, crate::proofs::Depth::within_one_more, crate::proofs::Depth::within_both, crate::proofs::Depth::never_within, crate::proofs::Depth::zero_within))]
+#[tactic(auto, using(crate::proofs::Depth::within_one_more, crate::proofs::Depth::within_both, crate::proofs::Depth::zero_within))]
 pub fn nests_within<T>(e: &Expr<T>, limit: u32) -> bool
     ensures { result ≡ nat_le (nesting (tree_of e.now)) limit }
 {
@@ -66,7 +67,8 @@ fn all_nest_within<T>(exprs: &[Expr<T>], limit: u32) -> bool
 fn fields_nest_within<T>(fields: &BTreeMap<RcStr, Expr<T>>, limit: u32) -> bool
     ensures { result ≡ list_all (λ e. nat_le (nesting (tree_of e)) limit) (values fields.now) }
 {
-    for e in fields.values() {
+    let mut left = fields_of(fields);
+    while let Some(e) = next_field(&mut left) {
         if !nests_within(e, limit) {
             return false;
         }

@@ -1,5 +1,5 @@
 -- The values of a type, by their kinds, members and fields.
-use Rattle.std.proofs.Common.{◌≡◌, ◌&&◌, ◌||◌, not, Bool, true, false, cond, List, [], ◌∷◌, map, length, Option, Some, None, option_map, is_some, refl, sym, ap, ◌∙◌, arith}
+use Rattle.std.proofs.Common.{◌≡◌, ◌&&◌, ◌||◌, not, Bool, true, false, cond, List, [], ◌∷◌, map, length, Option, Some, option_map, is_some, refl, sym, ap, ◌∙◌, arith}
 use Rattle.std.proofs.lemmas.Map.Text.{is_eq-slice_cmp}
 use Rattle.std.specs.Borrow.{Bor}
 use Rattle.std.specs.BTreeMap.{is_at}
@@ -16,19 +16,19 @@ use Rattle.cedar_expr_model.specs.Order.{text_cmp}
 use Rattle.cedar_expr_model.specs.Records.{fields}
 use Rattle.cedar_expr_model.specs.Made as model
 use Rattle.cedar_expr_model.specs.Made.{Made, Mades}
-use Rattle.cedar_expr_model.specs.Value.{V, prim, set_of, record_of, extension, Vs, field, field_of}
+use Rattle.cedar_expr_model.specs.Value.{prim, set_of, record_of, extension, field, field_of}
 use Rattle.cedar_expr_leaves.specs.Literals.{literal_of}
 use Rattle.cedar_expr_leaves.specs.declared.literal.Literal.{Literal}
 use Rattle.cedar_expr_values.specs.Extension.{Extension}
-use Rattle.cedar_expr_values.specs.Values.{made, made_kind, mades, bare, bare_kind, bares, bare_pair, made_list, made_fields, made_pair, kind_step, set_step, value_step, members_of}
+use Rattle.cedar_expr_values.specs.Values.{made, made_kind, bare, bare_kind, bares, bare_pair, made_list, made_fields, made_pair, kind_step, set_step, value_step}
 use Rattle.cedar_expr_values.specs.declared.value.Value.{Value}
 use Rattle.cedar_expr_values.specs.declared.value.ValueKind.{ValueKind-F, fold-roll-ValueKind}
 use Rattle.cedar_expr_values.specs.declared.value.ValueKind.TheVariants.{Lit, Set as SetKind, Record, ExtensionValue, rolls-Lit, rolls-Set, rolls-ExtensionValue}
 use Rattle.cedar_expr_values.specs.declared.value.Set.{Set}
 use Rattle.cedar_expr_values.proofs.Recorded.{record_kind}
-use Rattle.cedar_schema_model.specs.Types.{Ty, Openness, Attributes, Declared, attribute_named}
+use Rattle.cedar_schema_model.specs.Types.{Ty, Openness, Attributes, attribute_named}
 use Rattle.cedar_schema_model.specs.HasType.{has_type, have_type, field_fits, fields_fit, has_required}
-use Rattle.cedar_schema_types.specs.Types.{type_of, attribute_of}
+use Rattle.cedar_schema_types.specs.Types.{attribute_of}
 use Rattle.cedar_schema_types.specs.AttributeLists.{attributes_from, declared_pairs}
 use Rattle.cedar_schema_types.specs.declared.types.AttributeType.{AttributeType}
 

@@ -2,7 +2,6 @@
 use Rattle.std.proofs.Common.{◌≡◌, ◌&&◌, ◌||◌, Bool, true, false, List, [], ◌∷◌, map, Option, Some, None, option_map, is_some, option_and_then, refl, sym, ap, ◌∙◌}
 use Rattle.std.specs.List.{list_all, list_any}
 use Rattle.cedar_expr_model.specs.Name.{Text, Name}
-use Rattle.cedar_expr_model.specs.Lists.{all_given}
 use Rattle.cedar_schema_model.specs.Types.{Ty, Declared, Mode, permissive}
 use Rattle.cedar_schema_model.specs.Schema.{Schema}
 use Rattle.cedar_schema_model.specs.Join.{join}

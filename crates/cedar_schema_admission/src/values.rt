@@ -1,20 +1,32 @@
 //! The values of a type.
 
-ghost use Rattle.std.specs.Prelude.{◌≡◌, ◌&&◌, not, is_some, map, option_map};
+ghost use Rattle.std.specs.Prelude.{◌≡◌, ◌∷◌, [], ◌&&◌, not, is_some, map, option_map, MatchOption};
+ghost use Rattle.std.specs.Rc.{rc_str_bytes};
 ghost use Rattle.cedar_expr_model.specs.Records.{fields};
 ghost use Rattle.cedar_expr_model.specs.Value.{prim, set_of, record_of, extension, field_of};
 ghost use Rattle.cedar_expr_leaves.specs.Literals.{literal_of};
 ghost use Rattle.cedar_expr_values.specs.Values.{bare, bares, bare_pair};
 ghost use Rattle.cedar_schema_model.specs.HasType.{has_type, have_type, literal_has_type, has_required, field_fits, fields_fit};
-ghost use Rattle.cedar_schema_model.specs.Types.{bool_type, long_type, string_type};
+ghost use Rattle.cedar_schema_model.specs.Types.{bool_type, long_type, string_type, attribute_named};
 ghost use Rattle.cedar_schema_types.specs.Kinds.{bool_type_of, openness_of};
 ghost use Rattle.cedar_schema_types.specs.Unions.{entities_of};
 ghost use Rattle.cedar_schema_types.specs.Types.{type_of, attributes_of, attribute_of};
 
 use cedar_expr_values::{ExtensionValue, Literal, Set, Value, ValueKind};
 use cedar_schema_types::{AttributeType, Attributes, BoolType, EntityKind, OpenTag, Type};
-use std::collections::BTreeMap;
+use std::collections::{BTreeMap, btree_map};
 use std::rc::{Rc, RcStr};
+
+// The fields that are left.
+struct Fields<'a, X> {
+    left: btree_map::Iter<'a, RcStr, Value<X>>,
+}
+
+impl<'a, X> Drop for Fields<'a, X> {
+    fn drop(self) {
+        let Fields { left: _ } = self;
+    }
+}
 
 /// Whether the value is of the type.
 pub fn typecheck_value<X: ExtensionValue>(ty: &Type, value: &Value<X>) -> bool
@@ -105,8 +117,9 @@ fn fields_fit<X: ExtensionValue>(
 ) -> bool
     ensures { result ≡ fields_fit (attributes_of attrs.now) (openness_of tag) (fields (map (bare_pair X.seen) pairs.now.entries)) }
 {
-    for (name, value) in pairs {
-        if !field_fits(value, attrs.get_attr(name.as_str()), tag) {
+    let mut rest = fields_of(pairs);
+    while let Some((name, value)) = next_of(&mut rest) {
+        if !field_fits(value, declared_of(attrs, name), tag) {
             return false;
         }
     }
@@ -126,6 +139,27 @@ fn field_fits<X: ExtensionValue>(
         Some(declared) => has_type(value, &declared.attr_type),
         None => !tag.is_closed(),
     }
+}
+
+// All fields are left.
+fn fields_of<'a, X: ExtensionValue>(pairs: &'a BTreeMap<RcStr, Value<X>>) -> Fields<'a, X>
+    ensures { result.left ≡ pairs.entry.now.entries }
+{
+    Fields { left: pairs.iter() }
+}
+
+// The first of the fields that are left, which then isn't one of these any more.
+fn next_of<'a, X: ExtensionValue>(fields: &mut Fields<'a, X>) -> Option<(&'a RcStr, &'a Value<X>)>
+    ensures { MatchOption result (fields.old.left ≡ []) (λ f. fields.old.left ≡ (f.0.now, f.1.now) ∷ fields.new.left) }
+{
+    fields.left.next()
+}
+
+// What is declared of the attribute of this name.
+fn declared_of<'a>(attrs: &'a Attributes, name: &RcStr) -> Option<&'a AttributeType>
+    ensures { option_map (λ d. attribute_of d.now) result ≡ attribute_named (rc_str_bytes name.now) (attributes_of attrs.entry.now) }
+{
+    attrs.get_attr(name.as_str())
 }
 
 // Whether there is a field for each required attribute.

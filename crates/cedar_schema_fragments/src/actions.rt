@@ -12,11 +12,11 @@ ghost use Rattle.cedar_expr_names.specs.Views.{name_of, type_name_of, uid_of};
 ghost use Rattle.cedar_schema_decl.specs.Conditional.{Conditional, conditional_of};
 ghost use Rattle.cedar_schema_decl.specs.Defined.{defined_of, is_defined_action, resolving};
 ghost use Rattle.cedar_schema_decl.specs.Forms.{ActionForm};
-ghost use Rattle.cedar_schema_decl.specs.Requalified.{requalified, each};
+ghost use Rattle.cedar_schema_decl.specs.Requalified.{and_then, requalified, each};
 ghost use Rattle.cedar_schema_decl.specs.Trees.{type_form};
-ghost use Rattle.cedar_schema_fragments.specs.Actions.{parent_form, action_form, under_uid, actions_form};
+ghost use Rattle.cedar_schema_fragments.specs.Actions.{parent_form, principals_form, resources_form, context_form, is_elsewhere, action_form, under_uid, actions_form};
 ghost use Rattle.cedar_schema_fragments.specs.Refusals.{Refuses};
-ghost use Rattle.cedar_schema_fragments.specs.Resolved.{of_types, entity_resolved, applied_resolved, parent_resolved, action_resolved, with_uid};
+ghost use Rattle.cedar_schema_fragments.specs.Resolved.{of_types, entity_resolved, applied_resolved, parent_resolved, context_resolved, action_resolved, with_uid};
 
 use crate::err::FragmentError;
 use crate::resolving::{Resolve, resolve_each};
@@ -267,6 +267,42 @@ fn resolved_context(
     }
 }
 
+// The kind of an action with each name replaced by that of the type that it means. Refuses the first that means none, of
+// principals, resources and context in this order, or a principal or resource type that is reserved, and answers want of memory.
+fn resolved_kind(
+    alloc: Global,
+    kind: ActionFragmentKind<ConditionalName, ConditionalName>,
+    all_defs: &AllDefs,
+) -> Result<ActionFragmentKind<InternalName, EntityType>, FragmentError>
+    ensures applied { IfOk result (λ k. applied_resolved (defined_of all_defs.now) (principals_form conditional_of kind, resources_form conditional_of kind) ≡ Ok (principals_form type_name_of k, resources_form type_name_of k)) }
+    ensures context { IfOk result (λ k. context_resolved (defined_of all_defs.now) (context_form conditional_of kind) ≡ Ok (context_form name_of k)) }
+    ensures placed { IfOk result (λ k. is_elsewhere k ≡ is_elsewhere kind) }
+    ensures refused { IfErr result (Refuses (and_then (λ a. context_resolved (defined_of all_defs.now) (context_form conditional_of kind)) (applied_resolved (defined_of all_defs.now) (principals_form conditional_of kind, resources_form conditional_of kind)))) }
+{
+    match kind {
+        ActionFragmentKind::External => Ok(ActionFragmentKind::External),
+        ActionFragmentKind::Declared {
+            applies_to,
+            context,
+        } => match applies_to.fully_qualify_type_references(alloc, all_defs) {
+            Ok(applies_to) => match resolved_context(alloc, context, all_defs) {
+                Ok(context) => Ok(ActionFragmentKind::Declared {
+                    applies_to,
+                    context,
+                }),
+                Err(error) => {
+                    drop(applies_to);
+                    Err(error)
+                }
+            },
+            Err(error) => {
+                drop(context);
+                Err(error)
+            }
+        },
+    }
+}
+
 impl ActionFragment<ConditionalName, ConditionalName> {
     /// The action with each name replaced by that of the type that it means, and each parent by the action that it means. Refuses
     /// the first that means none, of principals, resources, context and parents in this order, or a principal or resource type that
@@ -280,24 +316,17 @@ impl ActionFragment<ConditionalName, ConditionalName> {
         ensures refused { IfErr result (Refuses (action_resolved (defined_of all_defs.now) (action_form conditional_of conditional_of self))) }
     {
         let ActionFragment { parents, kind } = self;
-        match kind {
-            ActionFragmentKind::Declared {
-                applies_to,
-                context,
-            } => {
-                let applies_to = applies_to.fully_qualify_type_references(alloc, all_defs)?;
-                let context = resolved_context(alloc, context, all_defs)?;
-                let parents = resolve_each(alloc, parents, &Parents(all_defs))?;
-                let kind = ActionFragmentKind::Declared {
-                    applies_to,
-                    context,
-                };
-                Ok(ActionFragment { parents, kind })
-            }
-            ActionFragmentKind::External => {
-                let parents = resolve_each(alloc, parents, &Parents(all_defs))?;
-                let kind = ActionFragmentKind::External;
-                Ok(ActionFragment { parents, kind })
+        match resolved_kind(alloc, kind, all_defs) {
+            Ok(kind) => match resolve_each(alloc, parents, &Parents(all_defs)) {
+                Ok(parents) => Ok(ActionFragment { parents, kind }),
+                Err(error) => {
+                    drop(kind);
+                    Err(error)
+                }
+            },
+            Err(error) => {
+                drop(parents);
+                Err(error)
             }
         }
     }

@@ -1,11 +1,13 @@
 //! Restricted expressions of a type.
 
-ghost use Rattle.std.specs.Prelude.{◌≡◌, ◌&&◌, not, map, option_map};
+ghost use Rattle.std.specs.Prelude.{◌≡◌, ◌∷◌, [], ◌&&◌, not, map, option_map, MatchOption};
+ghost use Rattle.std.specs.Rc.{rc_str_bytes};
 ghost use Rattle.cedar_expr_names.specs.Views.{plain_name_of};
 ghost use Rattle.cedar_expr_model.specs.Builder.{trees, tree_fields};
 ghost use Rattle.cedar_expr_model.specs.Tree.{Trees, call, set_literal, record_literal};
 ghost use Rattle.cedar_expr_trees.specs.Trees.{tree_of, named, field_trees};
 ghost use Rattle.cedar_expr_functions.specs.Tables.{functions_of};
+ghost use Rattle.cedar_schema_model.specs.Types.{attribute_named};
 ghost use Rattle.cedar_schema_types.specs.Kinds.{openness_of};
 ghost use Rattle.cedar_schema_types.specs.Types.{type_of, attributes_of, attribute_of};
 ghost use Rattle.cedar_schema_admission_model.specs.Restricted.{asked_for, all_asked_for, fields_asked_for, field_asked, has_tree_field, has_required_fields};
@@ -18,7 +20,19 @@ use cedar_expr_trees::{Expr, ExprKind};
 use cedar_schema_admission::typecheck_literal;
 use cedar_schema_types::{AttributeType, Attributes, OpenTag, Type};
 use std::collections::BTreeMap;
+use std::collections::btree_map::Iter;
 use std::rc::RcStr;
+
+// The fields that are left.
+struct Fields<'a, T> {
+    left: Iter<'a, RcStr, Expr<T>>,
+}
+
+impl<'a, T> Drop for Fields<'a, T> {
+    fn drop(self) {
+        let Fields { left: _ } = self;
+    }
+}
 
 /// Whether the restricted expression is of the type: a literal, a set or a record as a value is, and a call where the function
 /// gives the extension type. Refuses a function that is asked for and isn't in the table, and answers want of memory for the
@@ -140,8 +154,9 @@ fn ask_fields<T, F: Functions>(
 ) -> Result<bool, ExtensionFunctionLookupError>
     ensures { AnswersAsked (fields_asked_for (F.signatures table.now) (attributes_of attrs.now) (openness_of tag) (tree_fields (named (field_trees pairs.now.entries)))) result }
 {
-    for (name, expr) in pairs {
-        if !ask_field(expr, attrs.get_attr(name.as_str()), tag, table)? {
+    let mut rest = fields_of(pairs);
+    while let Some((name, expr)) = next_of(&mut rest) {
+        if !ask_field(expr, declared_of(attrs, name), tag, table)? {
             return Ok(false);
         }
     }
@@ -162,6 +177,27 @@ fn ask_field<T, F: Functions>(
         Some(declared) => ask(expr, &declared.attr_type, table),
         None => Ok(!tag.is_closed()),
     }
+}
+
+// All fields are left.
+fn fields_of<'a, T>(pairs: &'a BTreeMap<RcStr, Expr<T>>) -> Fields<'a, T>
+    ensures { result.left ≡ pairs.entry.now.entries }
+{
+    Fields { left: pairs.iter() }
+}
+
+// The first of the fields that are left, which then isn't one of these any more.
+fn next_of<'a, T>(fields: &mut Fields<'a, T>) -> Option<(&'a RcStr, &'a Expr<T>)>
+    ensures { MatchOption result (fields.old.left ≡ []) (λ f. fields.old.left ≡ (f.0.now, f.1.now) ∷ fields.new.left) }
+{
+    fields.left.next()
+}
+
+// What is declared of the attribute of this name.
+fn declared_of<'a>(attrs: &'a Attributes, name: &RcStr) -> Option<&'a AttributeType>
+    ensures { option_map (λ d. attribute_of d.now) result ≡ attribute_named (rc_str_bytes name.now) (attributes_of attrs.entry.now) }
+{
+    attrs.get_attr(name.as_str())
 }
 
 // Whether there is a field for each required attribute.

@@ -7,6 +7,7 @@ pub mod binary;
 pub mod calls;
 pub mod combined;
 pub mod fault;
+mod fields;
 pub mod leaves;
 pub mod operators;
 pub mod paths;

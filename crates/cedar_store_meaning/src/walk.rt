@@ -13,6 +13,7 @@ ghost use Rattle.cedar_store_meaning.specs.Meanings.{MeaningIn, MeaningsIn, Fiel
 use crate::calls::unknown;
 use crate::combined::combined;
 use crate::fault::MeaningFault;
+use crate::fields::{fields_of, next_field};
 use crate::leaves::{literal_value, slot, variable};
 use crate::operators::{V, applied, as_bool, as_truth, is_of_type, like, truth};
 use crate::paths::has_path;
@@ -169,7 +170,8 @@ fn evaluate_fields<T: FunctionTable>(
     ensures rising { IfOk result (λ ps. names_rise (map (bare_pair extension_of) ps.items) ≡ true) }
 {
     let mut values = Vec::with_capacity(alloc, fields.len())?;
-    for (name, e) in fields {
+    let mut left = fields_of(fields);
+    while let Some((name, e)) = next_field(&mut left) {
         values.push((name.clone()?, evaluate(alloc, world, e)?))?;
     }
     Ok(values)

@@ -3,7 +3,6 @@ use Rattle.std.proofs.Common.{◌≡◌, ◌<◌, ℕ, List, [], ◌∷◌, ◌+
 use denote.Param.Weighed.{most}
 use Rattle.std.specs.BTreeMap.{values}
 use Rattle.std.specs.List.{flat_map}
-use Rattle.std.specs.Map.{values_of}
 use Rattle.std.specs.Option.{option_map_or}
 use Rattle.std.specs.declared.alloc.Global.{Global}
 use Rattle.std.specs.declared.collections.BTreeMap.{BTreeMap}
@@ -11,9 +10,8 @@ use Rattle.std.specs.declared.rc.Rc.{Rc}
 use Rattle.std.specs.declared.rc.RcStr.{RcStr}
 use Rattle.std.specs.declared.vec.Vec.{Vec}
 use Rattle.cedar_expr_model.specs.Name.{Text}
-use Rattle.cedar_expr_model.specs.Builder.{trees}
 use Rattle.cedar_expr_names.specs.declared.name.Name.{Name}
-use Rattle.cedar_expr_trees.specs.Trees.{tree_of, kind_tree}
+use Rattle.cedar_expr_trees.specs.Trees.{kind_tree}
 use Rattle.cedar_expr_trees.specs.declared.expr.Expr.{Expr, size-Expr, size_is-Expr}
 use Rattle.cedar_expr_trees.specs.declared.expr.ExprKind.{ExprKind, ExtensionFunctionApp, Set, Record, Row_of-Expr, end_of-Expr, more_of-Expr, items-the_row-Expr, items_hidden-the_row-Expr-0, items_hidden-the_row-Expr-1, size-ExprKind}
 use Rattle.cedar_expr_trees.specs.declared.expr.ExprKind.TheViews.{sized-Set}
@@ -23,7 +21,7 @@ use Rattle.cedar_schema_types.specs.declared.types.Type.{«Type» as CodeType}
 use Rattle.cedar_typechecker_model.specs.Levels.{Violation}
 use Rattle.cedar_typechecker_model.specs.Rules.{Setting}
 use Rattle.cedar_typechecker_typed_model.specs.Typed.{mark, marks}
-use Rattle.cedar_typechecker_level_model.specs.Reported.{steps, reported, reported_in_row, reported_in_fields, reached, reached_in_fields, steps_in_fields}
+use Rattle.cedar_typechecker_level_model.specs.Reported.{steps, reported, reached, reached_in_fields, steps_in_fields}
 use Rattle.cedar_typechecker_levels.specs.InRows.{steps_of, reported_of, reached_of, steps_in, others_in, reached_in}
 use Rattle.cedar_typechecker_levels.specs.Marked.{type_in, kind_marks, row_marks, marks_of}
 use Rattle.cedar_typechecker_levels.specs.Paths.{first_apart}

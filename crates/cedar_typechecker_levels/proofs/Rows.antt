@@ -1,12 +1,10 @@
 -- Expressions in a row, and the fields of records, as the model counts them and as the walk goes over them.
-use Rattle.std.proofs.Common.{◌≡◌, ℕ, List, [], ◌∷◌, ◌++◌, map, Bool, true, false, Option, refl, sym, ap, ◌∙◌, append_assoc}
+use Rattle.std.proofs.Common.{◌≡◌, ℕ, List, [], ◌∷◌, ◌++◌, map, Bool, true, false, Option, refl, ap, ◌∙◌, append_assoc}
 use Rattle.std.specs.Prelude.{if◌then◌else◌}
 use Rattle.std.specs.List.{flat_map}
 use Rattle.std.specs.Map.{values_of}
 use Rattle.std.specs.Rc.{rc_str_bytes}
 use Rattle.std.specs.Str.{bytes_eq}
-use Rattle.std.specs.declared.alloc.Global.{Global}
-use Rattle.std.specs.declared.rc.RcStr.{RcStr}
 use Rattle.cedar_expr_model.specs.Name.{Text}
 use Rattle.cedar_expr_model.specs.Builder.{trees, tree_fields}
 use Rattle.cedar_expr_model.specs.Tree.{TreeFields, no_tree_fields, tree_field}
@@ -17,7 +15,7 @@ use Rattle.cedar_typechecker_model.specs.Levels.{Violation}
 use Rattle.cedar_typechecker_model.specs.Rules.{Setting}
 use Rattle.cedar_typechecker_typed_model.specs.Typed.{Marks, MarkRow, no_marks, marks}
 use Rattle.cedar_typechecker_typed_model.specs.Counts.{head, rest}
-use Rattle.cedar_typechecker_level_model.specs.Reported.{steps, steps_in_fields, reported, reported_in_row, reported_in_fields, reached, reached_in_fields}
+use Rattle.cedar_typechecker_level_model.specs.Reported.{steps_in_fields, reported, reported_in_row, reported_in_fields, reached_in_fields}
 use Rattle.cedar_typechecker_levels.specs.InRows.{Fields, steps_of, reported_of, reached_of, steps_in, others_in, reached_in}
 use Rattle.cedar_typechecker_levels.specs.Marked.{marks_of}
 

@@ -4,6 +4,7 @@
 #![tactic(auto)]
 
 mod along;
+mod fields;
 mod kinds;
 mod level;
 mod path;

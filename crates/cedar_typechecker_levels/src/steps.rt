@@ -5,6 +5,7 @@ ghost use Rattle.std.specs.Rc.{rc_str_bytes};
 ghost use Rattle.cedar_typechecker_levels.specs.InRows.{steps_of, steps_in};
 ghost use Rattle.cedar_typechecker_levels.specs.Paths.{path_of};
 
+use crate::fields::field_of;
 use crate::kinds::{further, is_entity, is_get_tag, may_be_false, may_be_true};
 use crate::path::Path;
 use cedar_expr_trees::{Expr, ExprKind};
@@ -66,12 +67,10 @@ fn steps_in<'p>(
 ) -> u64
     ensures { result ≡ steps_in (rc_str_bytes name.entry.now) (path_of others.entry.now) fields.entry.now.entries }
 {
-    for (key, expr) in fields {
-        if name == key {
-            return steps(expr, others);
-        }
+    match field_of(fields, name) {
+        Some(e) => steps(e, others),
+        None => 0,
     }
-    0
 }
 
 // The greater of two numbers.

@@ -13,6 +13,7 @@ ghost use Rattle.cedar_typechecker_levels.specs.Paths.{path_of};
 ghost use Rattle.cedar_typechecker_levels.specs.Views.{violation_of};
 
 use crate::along::{entity_steps, fields_before};
+use crate::fields::{field_of, fields_of, is_skipped, next_field};
 use crate::kinds::{further, is_entity, is_get_tag, looks_up, may_be_false, may_be_true};
 use crate::level::EntityDerefLevel;
 use crate::path::Path;
@@ -169,7 +170,8 @@ fn report_fields<'a, S: TypingSchema>(
 ) -> Result<(), AllocError>
     ensures { OnOk result (map violation_of found.new.items ≡ map violation_of found.old.items ++ flat_map (reported_of level (setting_of S.schema S.table world.now)) (values fields.entry.now)) }
 {
-    for e in fields.values() {
+    let mut left = fields_of(fields);
+    while let Some((_, e)) = next_field(&mut left) {
         report(alloc, world, level, e, found)?;
     }
     Ok(())
@@ -187,13 +189,10 @@ fn report_others<'a, S: TypingSchema>(
 ) -> Result<(), AllocError>
     ensures { OnOk result (map violation_of found.new.items ≡ map violation_of found.old.items ++ others_in level (setting_of S.schema S.table world.now) (rc_str_bytes name.now) fields.entry.now.entries) }
 {
+    let mut left = fields_of(fields);
     let mut is_past = false;
-    for (key, e) in fields {
-        if is_past {
-            report(alloc, world, level, e, found)?;
-            continue;
-        }
-        if name == key {
+    while let Some((key, e)) = next_field(&mut left) {
+        if is_skipped(is_past, name, key) {
             is_past = true;
             continue;
         }
@@ -287,10 +286,8 @@ fn reach_in<'a, S: TypingSchema>(
 ) -> Result<(), AllocError>
     ensures { OnOk result (map violation_of found.new.items ≡ map violation_of found.old.items ++ reached_in level (setting_of S.schema S.table world.now) (rc_str_bytes name.now) (path_of others.now) fields.entry.now.entries) }
 {
-    for (key, e) in fields {
-        if name == key {
-            return reach(alloc, world, level, e, &*others, found);
-        }
+    match field_of(fields, name) {
+        Some(e) => reach(alloc, world, level, e, &*others, found),
+        None => Ok(()),
     }
-    Ok(())
 }

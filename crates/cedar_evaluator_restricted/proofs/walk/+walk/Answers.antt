@@ -9,7 +9,7 @@ use Rattle.cedar_evaluator_model.specs.Evaluation.{evaluated, node}
 use Rattle.cedar_gate_model.specs.ReadingValue.{with_functions}
 use Rattle.cedar_evaluator_restricted.specs.Lefts.{Leaves}
 use Rattle.cedar_evaluator_restricted.proofs.Levels.{one_level, at_limit}
-use Rattle.cedar_evaluator_restricted.proofs.Gathered.{starts, fields_start, on, off, all, handed_on, field_on, field_off, fields_all, trees_in}
+use Rattle.cedar_evaluator_restricted.proofs.Gathered.{starts, fields_start, on, off, all, handed_on, field_on, field_off, fields_all, fewer, trees_in}
 use Rattle.cedar_evaluator_restricted.proofs.walk.+walk.Goals as goal
 
 pub level-returns-in-ExtensionFunctionApp : goal.level-returns-in-ExtensionFunctionApp
@@ -56,15 +56,18 @@ pieces-returns-in_err-walk g t c = λ h.
     handed_on _ _ _ c.from_residual-in_err-walk.ensures.1 (λ q. off go c.args.exprs.now c.loop-e.e-index c.loop-e.values.items (c.loop-e.invariant h) c.e-item.result _ c.loop-e-test.true c.e-item.is (λ r. c.in_err-walk.ensures r q))
 
 pub field_pieces-loop-e-init : goal.field_pieces-loop-e-init
-field_pieces-loop-e-init g t c = λ h. fields_start _ c.args.fields.now.entries c.into_iter-e-iterator.result c.in_ok-values.values.items c.in_ok-values.ensures.items (search rules) h
+field_pieces-loop-e-init g t c = λ h. fields_start _ c.args.fields.now.entries c.fields_of-left.result.left c.in_ok-values.values.items c.in_ok-values.ensures.items c.fields_of-left.ensures h
 
 pub field_pieces-loop-e-preserved : goal.field_pieces-loop-e-preserved
-field_pieces-loop-e-preserved g t c = λ h. field_on (evaluated (with_functions (g.T.FunctionCalls.functions c.args.functions.now)) c.args.deeper) c.args.fields.now.entries c.loop-e.values.items c.loop-e.e-iterator (c.loop-e.invariant h) c.in-Some.e.now c.next.new.self c.push.new.self.items c.in_ok-walk.field-0 c.in-Some.ensures.steps c.in_ok-walk.ensures c.in_ok-push.ensures.items
+field_pieces-loop-e-preserved g t c = λ h. field_on (evaluated (with_functions (g.T.FunctionCalls.functions c.args.functions.now)) c.args.deeper) c.args.fields.now.entries c.loop-e.values.items c.loop-e.left.left (c.loop-e.invariant h) c.in-Some.e.now c.next_field.new.fields.left c.push.new.self.items c.in_ok-walk.field-0 c.in-Some.ensures c.in_ok-walk.ensures c.in_ok-push.ensures.items
 
 pub field_pieces-returns-in_err-walk : goal.field_pieces-returns-in_err-walk
 field_pieces-returns-in_err-walk g t c = λ h.
     let go = evaluated (with_functions (g.T.FunctionCalls.functions c.args.functions.now)) c.args.deeper in
-    handed_on _ _ _ c.from_residual-in_err-walk.ensures.1 (λ q. field_off go c.args.fields.now.entries c.loop-e.values.items c.loop-e.e-iterator (c.loop-e.invariant h) c.in-Some.e.now c.next.new.self c.in-Some.ensures.steps (λ r. c.in_err-walk.ensures r q))
+    handed_on _ _ _ c.from_residual-in_err-walk.ensures.1 (λ q. field_off go c.args.fields.now.entries c.loop-e.values.items c.loop-e.left.left (c.loop-e.invariant h) c.in-Some.e.now c.next_field.new.fields.left c.in-Some.ensures (λ r. c.in_err-walk.ensures r q))
 
 pub field_pieces-returns : goal.field_pieces-returns
-field_pieces-returns g t c = λ h. fields_all (evaluated (with_functions (g.T.FunctionCalls.functions c.args.functions.now)) c.args.deeper) c.args.fields.now.entries c.loop-e.values.items c.loop-e.e-iterator (c.loop-e.invariant h) c.in-None.ensures.steps.0
+field_pieces-returns g t c = λ h. fields_all (evaluated (with_functions (g.T.FunctionCalls.functions c.args.functions.now)) c.args.deeper) c.args.fields.now.entries c.loop-e.values.items c.loop-e.left.left (c.loop-e.invariant h) c.in_default.ensures
+
+pub field_pieces-loop-e-smaller : goal.field_pieces-loop-e-smaller
+field_pieces-loop-e-smaller g t c = fewer c.loop-e.left.left c.next_field.new.fields.left c.in-Some.e.now c.in-Some.ensures

@@ -1,4 +1,4 @@
-use Rattle.std.proofs.Common.{◌≡◌, ◌+◌, ◌*◌, true, drop}
+use Rattle.std.proofs.Common.{◌≡◌, ◌+◌, ◌*◌, true, drop, length}
 use Rattle.std.specs.BTreeMap.{values}
 use Rattle.cedar_evaluator_model.specs.Evaluation.{evaluated}
 use Rattle.cedar_gate_model.specs.ReadingValue.{with_functions}
@@ -31,4 +31,7 @@ abbrev pub invariant-pieces-loop-e : goal.invariant-pieces-loop-e
 invariant-pieces-loop-e g l = are_restricted (trees_in l.exprs) ≡ true → SoFar (evaluated (with_functions (g.T.FunctionCalls.functions l.functions)) l.deeper) (trees_in l.exprs) l.values.items (trees_in (drop l.e-index l.exprs))
 
 abbrev pub invariant-field_pieces-loop-e : goal.invariant-field_pieces-loop-e
-invariant-field_pieces-loop-e g l = have_restricted l.fields.entries ≡ true → SoFar (evaluated (with_functions (g.T.FunctionCalls.functions l.functions)) l.deeper) (trees_in (values l.fields)) l.values.items (trees_in l.e-iterator)
+invariant-field_pieces-loop-e g l = have_restricted l.fields.entries ≡ true → SoFar (evaluated (with_functions (g.T.FunctionCalls.functions l.functions)) l.deeper) (trees_in (values l.fields)) l.values.items (trees_in l.left.left)
+
+abbrev pub decreases-field_pieces-loop-e : goal.decreases-field_pieces-loop-e
+decreases-field_pieces-loop-e g l = length l.left.left

@@ -1,17 +1,19 @@
 use Rattle.std.proofs.Common.{rules, ◌≡◌, IfOk, map, subst, sym, ap, ◌∙◌}
 use Rattle.cedar_expr_names.specs.Views.{plain_name_of, type_name_of}
-use Rattle.cedar_expr_leaves.specs.Operators.{binary_op_of}
+use Rattle.std.specs.Rc.{rc_str_bytes}
+use Rattle.cedar_expr_leaves.specs.Operators.{unary_op_of, binary_op_of}
+use Rattle.cedar_expr_leaves.specs.Patterns.{pattern_of}
 use Rattle.cedar_expr_model.specs.Builder.{built_list, conjunction, disjunction, trees, tree_fields}
 use Rattle.cedar_evaluator_model.specs.Response.{slots_bound}
 use Rattle.cedar_store_model.specs.Policy.{binding_of}
 use Rattle.cedar_store_parts.specs.Parts.{bindings_of}
-use Rattle.cedar_expr_model.specs.Tree.{Tree, choice, both, either, binary, is_type, call, set_literal, record_literal}
+use Rattle.cedar_expr_model.specs.Tree.{Tree, choice, both, either, unary, binary, get_attr, has_attr, like, is_type, call, set_literal, record_literal}
 use Rattle.cedar_expr_trees.specs.Trees.{tree_of, kind_tree, named, field_trees}
 use Rattle.cedar_expr_trees.specs.declared.expr.Expr.{Expr}
 use Rattle.cedar_expr_trees.proofs.Trees.{call_tree, set_tree, record_tree}
 use Rattle.cedar_evaluator_slots.specs.Binding.{binding}
 use Rattle.cedar_evaluator_slots.proofs.Bound.{onto}
-use Rattle.cedar_evaluator_slots.proofs.Walked.{row_steps, field_steps, fields_end, made_rises}
+use Rattle.cedar_evaluator_slots.proofs.Walked.{row_steps, field_steps, fields_end, made_rises, later_are_smaller, fewer}
 use Rattle.cedar_evaluator_slots.proofs.walk.+walk.Goals as goal
 
 pub bind_slots-returns-in-ExtensionFunctionApp : goal.bind_slots-returns-in-ExtensionFunctionApp
@@ -45,14 +47,23 @@ bind_slots-returns-in-Record t c =
     subst (λ u. IfOk c.record_bound.result (λ r. tree_of r ≡ slots_bound (binding_of (bindings_of c.args.slots.now)) u)) (sym is) c.record_bound.ensures
 
 pub fields_bound-loop-name-preserved : goal.fields_bound-loop-name-preserved
-fields_bound-loop-name-preserved t c =
-    field_steps (binding (binding_of (bindings_of c.args.slots.now))) c.args.fields.now.entries c.loop-name.name-iterator c.next.new.self c.loop-name.made.items c.push.new.self.items c.in-Some.name.now c.in_ok-clone.field-0 c.in-Some.e.now c.in_ok-bind_slots.field-0 c.loop-name.invariant c.in-Some.ensures.steps c.in_ok-push.ensures.items c.in_ok-clone.ensures.cases c.in_ok-bind_slots.ensures
+fields_bound-loop-name-preserved t c = (
+  field_steps (binding (binding_of (bindings_of c.args.slots.now))) c.args.fields.now.entries c.loop-name.left.left c.next_field.new.fields.left c.loop-name.made.items c.push.new.self.items c.in-Some.name.now c.in_ok-clone.field-0 c.in-Some.e.now c.in_ok-bind_slots.field-0 c.loop-name.invariant.0 c.in-Some.ensures c.in_ok-push.ensures.items c.in_ok-clone.ensures.cases c.in_ok-bind_slots.ensures,
+  later_are_smaller c.args.fields.now.entries c.loop-name.left.left c.next_field.new.fields.left c.in-Some.name.now c.in-Some.e.now c.loop-name.invariant.1 c.in-Some.ensures,
+)
+
+pub fields_bound-loop-name-smaller : goal.fields_bound-loop-name-smaller
+fields_bound-loop-name-smaller t c = fewer c.loop-name.left.left c.next_field.new.fields.left (c.in-Some.name.now, c.in-Some.e.now) c.in-Some.ensures
+
+pub fields_bound-returns-clause-made : goal.fields_bound-returns-clause-made
+fields_bound-returns-clause-made t c =
+    fields_end (binding (binding_of (bindings_of c.args.slots.now))) c.args.fields.now.entries c.loop-name.left.left c.loop-name.made.items c.loop-name.invariant.0 c.in_default.ensures
 
 pub fields_bound-returns-clause-rising : goal.fields_bound-returns-clause-rising
 fields_bound-returns-clause-rising t c =
     let b = binding (binding_of (bindings_of c.args.slots.now)) in
     made_rises b c.args.fields.now.entries c.loop-name.made.items
-    (fields_end b c.args.fields.now.entries c.loop-name.name-iterator c.loop-name.made.items c.loop-name.invariant c.in-None.ensures.steps.0)
+    (fields_end b c.args.fields.now.entries c.loop-name.left.left c.loop-name.made.items c.loop-name.invariant.0 c.in_default.ensures)
     c.len.ensures.ordered
 
 pub all_bound-loop-e-preserved : goal.all_bound-loop-e-preserved
@@ -105,3 +116,38 @@ bind_slots-returns-in_ok-clone-in-Is t c =
     let first = c.in_ok-expr-in-Is.ensures ∙ ap part c.deref-in-Is.ensures in
     let named : type_name_of c.in_ok-clone-in-Is.field-0 ≡ type_name_of c.in-Is.entity_type = search rules in
     onto c.is_entity_type.result _ (bound (tree_of c.args.e.now)) ((λ i. is_type (first i) (named i)) ∙ ap bound (sym whole)) c.is_entity_type.ensures.tree
+
+pub bind_slots-returns-in_ok-arg-in-UnaryApp : goal.bind_slots-returns-in_ok-arg-in-UnaryApp
+bind_slots-returns-in_ok-arg-in-UnaryApp t c =
+    let bound : Tree → Tree = λ u. slots_bound (binding_of (bindings_of c.args.slots.now)) u in
+    let part : Expr Unit → Tree = λ e. bound (tree_of e) in
+    let whole : tree_of c.args.e.now ≡ unary (unary_op_of c.in-UnaryApp.op) (tree_of c.in-UnaryApp.arg.value) = sym c.expr_kind.ensures.tree ∙ ap (kind_tree {T = Unit}) c.in-UnaryApp.is in
+    let first = c.in_ok-arg-in-UnaryApp.ensures ∙ ap part c.deref-in-UnaryApp.ensures in
+    onto c.unary_app.result _ (bound (tree_of c.args.e.now)) (ap (unary (unary_op_of c.in-UnaryApp.op)) first ∙ ap bound (sym whole)) c.unary_app.ensures.tree
+
+pub bind_slots-returns-in_ok-clone-in-GetAttr : goal.bind_slots-returns-in_ok-clone-in-GetAttr
+bind_slots-returns-in_ok-clone-in-GetAttr t c =
+    let bound : Tree → Tree = λ u. slots_bound (binding_of (bindings_of c.args.slots.now)) u in
+    let part : Expr Unit → Tree = λ e. bound (tree_of e) in
+    let whole : tree_of c.args.e.now ≡ get_attr (tree_of c.in-GetAttr.expr.value) (rc_str_bytes c.in-GetAttr.attr) = sym c.expr_kind.ensures.tree ∙ ap (kind_tree {T = Unit}) c.in-GetAttr.is in
+    let first = c.in_ok-expr-in-GetAttr.ensures ∙ ap part c.deref-in-GetAttr.ensures in
+    let named : rc_str_bytes c.in_ok-clone-in-GetAttr.field-0 ≡ rc_str_bytes c.in-GetAttr.attr = search rules in
+    onto c.get_attr.result _ (bound (tree_of c.args.e.now)) ((λ i. get_attr (first i) (named i)) ∙ ap bound (sym whole)) c.get_attr.ensures.tree
+
+pub bind_slots-returns-in_ok-clone-in-HasAttr : goal.bind_slots-returns-in_ok-clone-in-HasAttr
+bind_slots-returns-in_ok-clone-in-HasAttr t c =
+    let bound : Tree → Tree = λ u. slots_bound (binding_of (bindings_of c.args.slots.now)) u in
+    let part : Expr Unit → Tree = λ e. bound (tree_of e) in
+    let whole : tree_of c.args.e.now ≡ has_attr (tree_of c.in-HasAttr.expr.value) (rc_str_bytes c.in-HasAttr.attr) = sym c.expr_kind.ensures.tree ∙ ap (kind_tree {T = Unit}) c.in-HasAttr.is in
+    let first = c.in_ok-expr-in-HasAttr.ensures ∙ ap part c.deref-in-HasAttr.ensures in
+    let named : rc_str_bytes c.in_ok-clone-in-HasAttr.field-0 ≡ rc_str_bytes c.in-HasAttr.attr = search rules in
+    onto c.has_attr.result _ (bound (tree_of c.args.e.now)) ((λ i. has_attr (first i) (named i)) ∙ ap bound (sym whole)) c.has_attr.ensures.tree
+
+pub bind_slots-returns-in_ok-clone-in-Like : goal.bind_slots-returns-in_ok-clone-in-Like
+bind_slots-returns-in_ok-clone-in-Like t c =
+    let bound : Tree → Tree = λ u. slots_bound (binding_of (bindings_of c.args.slots.now)) u in
+    let part : Expr Unit → Tree = λ e. bound (tree_of e) in
+    let whole : tree_of c.args.e.now ≡ like (tree_of c.in-Like.expr.value) (pattern_of c.in-Like.pattern) = sym c.expr_kind.ensures.tree ∙ ap (kind_tree {T = Unit}) c.in-Like.is in
+    let first = c.in_ok-expr-in-Like.ensures ∙ ap part c.deref-in-Like.ensures in
+    let named : pattern_of c.in_ok-clone-in-Like.field-0 ≡ pattern_of c.in-Like.pattern = search rules in
+    onto c.like.result _ (bound (tree_of c.args.e.now)) ((λ i. like (first i) (named i)) ∙ ap bound (sym whole)) c.like.ensures.tree

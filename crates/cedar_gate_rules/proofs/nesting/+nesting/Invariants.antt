@@ -1,4 +1,4 @@
-use Rattle.std.proofs.Common.{◌≡◌, ◌*◌, ◌+◌, true, take}
+use Rattle.std.proofs.Common.{◌≡◌, ◌*◌, ◌+◌, true, take, length}
 use Rattle.std.specs.Prelude.{nat_le}
 use Rattle.std.specs.BTreeMap.{values}
 use Rattle.std.specs.List.{list_all}
@@ -19,4 +19,7 @@ abbrev pub invariant-all_nest_within-loop-e : goal.invariant-all_nest_within-loo
 invariant-all_nest_within-loop-e g l = list_all (λ e. nat_le (nesting (tree_of e)) l.limit) (take l.e-index l.exprs) ≡ true
 
 abbrev pub invariant-fields_nest_within-loop-e : goal.invariant-fields_nest_within-loop-e
-invariant-fields_nest_within-loop-e g l = list_all (λ e. nat_le (nesting (tree_of e)) l.limit) (values l.fields) ≡ list_all (λ e. nat_le (nesting (tree_of e)) l.limit) l.e-iterator
+invariant-fields_nest_within-loop-e g l = list_all (λ e. nat_le (nesting (tree_of e)) l.limit) (values l.fields) ≡ list_all (λ e. nat_le (nesting (tree_of e)) l.limit) l.left.left
+
+abbrev pub decreases-fields_nest_within-loop-e : goal.decreases-fields_nest_within-loop-e
+decreases-fields_nest_within-loop-e g l = length l.left.left

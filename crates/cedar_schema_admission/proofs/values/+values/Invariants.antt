@@ -1,4 +1,4 @@
-use Rattle.std.proofs.Common.{◌≡◌, ◌≤◌, map}
+use Rattle.std.proofs.Common.{◌≡◌, ◌≤◌, map, length}
 use Rattle.std.specs.Slice.Iter.{iter_rest}
 use denote.Param.Weighed.{most}
 use Rattle.cedar_expr_model.specs.Records.{fields}
@@ -8,6 +8,7 @@ use Rattle.cedar_schema_model.specs.HasType.{have_type, fields_fit}
 use Rattle.cedar_schema_types.specs.Kinds.{openness_of}
 use Rattle.cedar_schema_types.specs.Types.{type_of, attributes_of}
 use Rattle.cedar_schema_admission.proofs.Fitting.{all_have, all_fit}
+use Rattle.cedar_schema_admission.proofs.Smaller.{deepest_field}
 use Rattle.cedar_schema_admission.proofs.values.+values.Given as goal
 
 abbrev pub invariant-have_type-loop-member : goal.invariant-have_type-loop-member
@@ -19,5 +20,11 @@ invariant-have_type-loop-member g l =
 
 abbrev pub invariant-fields_fit-loop-name : goal.invariant-fields_fit-loop-name
 invariant-fields_fit-loop-name g l =
-    all_fit g.X.ExtensionValue.seen (attributes_of l.attrs) (openness_of l.tag) l.name-iterator
-    ≡ fields_fit (attributes_of l.attrs) (openness_of l.tag) (fields (map (bare_pair g.X.ExtensionValue.seen) l.pairs.entries))
+    record {
+      fits : all_fit g.X.ExtensionValue.seen (attributes_of l.attrs) (openness_of l.tag) l.rest.left
+          ≡ fields_fit (attributes_of l.attrs) (openness_of l.tag) (fields (map (bare_pair g.X.ExtensionValue.seen) l.pairs.entries));
+      within : deepest_field {X = g.row.X.Denot} l.rest.left ≤ deepest_field {X = g.row.X.Denot} l.pairs.entries;
+    }
+
+abbrev pub decreases-fields_fit-loop-name : goal.decreases-fields_fit-loop-name
+decreases-fields_fit-loop-name g l = length l.rest.left

@@ -1,7 +1,8 @@
-use Rattle.std.proofs.Common.{◌≡◌, drop}
+use Rattle.std.proofs.Common.{◌≡◌, ◌≤◌, drop, length}
 use Rattle.cedar_schema_types.specs.Kinds.{openness_of}
 use Rattle.cedar_schema_types.specs.Types.{type_of, attributes_of}
 use Rattle.cedar_schema_restricted.proofs.Asking.{left_to_ask, fields_left}
+use Rattle.cedar_schema_restricted.proofs.Smaller.{deepest_field}
 use Rattle.cedar_schema_restricted.proofs.restricted.+asked.Given as goal
 
 abbrev pub invariant-ask_each-loop-expr : goal.invariant-ask_each-loop-expr
@@ -10,5 +11,11 @@ invariant-ask_each-loop-expr g l =
 
 abbrev pub invariant-ask_fields-loop-name : goal.invariant-ask_fields-loop-name
 invariant-ask_fields-loop-name g l =
-    fields_left (g.F.Functions.signatures l.table) (attributes_of l.attrs) (openness_of l.tag) l.name-iterator
-    ≡ fields_left (g.F.Functions.signatures l.table) (attributes_of l.attrs) (openness_of l.tag) l.pairs.entries
+    record {
+      asked : fields_left (g.F.Functions.signatures l.table) (attributes_of l.attrs) (openness_of l.tag) l.rest.left
+          ≡ fields_left (g.F.Functions.signatures l.table) (attributes_of l.attrs) (openness_of l.tag) l.pairs.entries;
+      within : deepest_field {T = g.row.T.Denot} l.rest.left ≤ deepest_field {T = g.row.T.Denot} l.pairs.entries;
+    }
+
+abbrev pub decreases-ask_fields-loop-name : goal.decreases-ask_fields-loop-name
+decreases-ask_fields-loop-name g l = length l.rest.left

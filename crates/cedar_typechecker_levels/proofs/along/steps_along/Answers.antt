@@ -1,4 +1,4 @@
-use Rattle.std.proofs.Common.{◌≡◌, ap, sym, ◌∙◌}
+use Rattle.std.proofs.Common.{ap}
 use Rattle.cedar_typechecker_environments.specs.Settings.{setting_of}
 use Rattle.cedar_typechecker_levels.specs.Marked.{type_in}
 use Rattle.cedar_typechecker_levels.proofs.OfPaths.{steps_none}

@@ -1,4 +1,4 @@
-use Rattle.std.proofs.Common.{rules, arith, Option, map, sym, ap, ◌∙◌, ◌++◌, append-nil}
+use Rattle.std.proofs.Common.{rules, arith, Option, Some, None, map, sym, ap, ◌∙◌, ◌++◌, append-nil}
 use Rattle.std.specs.BTreeMap.{values}
 use Rattle.std.specs.List.{flat_map}
 use Rattle.std.specs.Rc.{rc_str_bytes}
@@ -13,7 +13,8 @@ use Rattle.cedar_typechecker_levels.specs.InRows.{reported_of, reached_of, other
 use Rattle.cedar_typechecker_levels.specs.Paths.{path_of}
 use Rattle.cedar_typechecker_levels.specs.Views.{violation_of}
 use Rattle.cedar_typechecker_levels.proofs.OfKinds.{members_are_smaller, call_reported, set_reported, record_reported, record_reached_all, record_reached}
-use Rattle.cedar_typechecker_levels.proofs.Walking.{goes, goes_on, goes_from, reach_here, reach_end}
+use Rattle.cedar_typechecker_levels.proofs.Finding.{reached_found, later_are_smaller, fewer}
+use Rattle.cedar_typechecker_levels.proofs.Walking.{goes, goes_on, fields_on, fields_end, others_end}
 use Rattle.cedar_typechecker_levels.proofs.walk.+walk.Goals as goal
 
 pub report-report_all-requires : goal.report-report_all-requires
@@ -46,18 +47,17 @@ reach-returns-in_ok-report_others-in-Some g t c =
     ∙ record_reached c.args.level s c.args.expr.now (path_of c.args.path.now) (rc_str_bytes split.name.now) (path_of split.others) c.in-Record.fields c.deref-in-Some.result.now (sym c.expr_kind.ensures.kind ∙ c.in-Record.is) c.deref-in-Some.ensures (sym c.in-Some.ensures))
     c.reach_in.ensures
 
-pub reach_in-returns-then-eq : goal.reach_in-returns-then-eq
-reach_in-returns-then-eq g t c =
+pub reach_in-returns-in-Some : goal.reach_in-returns-in-Some
+reach_in-returns-in-Some g t c =
     let s = setting_of g.S.DeclaredAttributes.schema g.S.TypingSchema.table c.args.world.now in
-    goes_from c.reach.result (map violation_of c.args.found.now.items) (map violation_of c.loop-key.found.items) (map violation_of c.reach.new.found.items) (reached_of c.args.level s (path_of c.args.others.now) c.in-Some.e.now) (reached_in c.args.level s (rc_str_bytes c.args.name.now) (path_of c.args.others.now) c.args.fields.now.entries)
-    c.loop-key.invariant.1
-    (reach_here c.args.level s (rc_str_bytes c.args.name.now) (path_of c.args.others.now) c.args.fields.now.entries c.loop-key.key-iterator c.next.new.self c.in-Some.key.now c.in-Some.e.now c.loop-key.invariant.0 c.in-Some.ensures.steps (sym c.eq.ensures ∙ c.if-eq.true))
+    goes c.reach.result (map violation_of c.args.found.now.items) (map violation_of c.reach.new.found.items) (reached_of c.args.level s (path_of c.args.others.now) c.in-Some.e.now) (reached_in c.args.level s (rc_str_bytes c.args.name.now) (path_of c.args.others.now) c.args.fields.now.entries)
+    (reached_found (rc_str_bytes c.args.name.now) c.args.level s (path_of c.args.others.now) c.args.fields.now.entries (Some c.in-Some.e.now) c.in-Some.ensures.value)
     c.reach.ensures
 
-pub reach_in-returns : goal.reach_in-returns
-reach_in-returns g t c =
+pub reach_in-returns-in-None : goal.reach_in-returns-in-None
+reach_in-returns-in-None g t c =
     let s = setting_of g.S.DeclaredAttributes.schema g.S.TypingSchema.table c.args.world.now in
-    c.loop-key.invariant.1 ∙ sym (append-nil (map violation_of c.args.found.now.items)) ∙ ap (λ vs. map violation_of c.args.found.now.items ++ vs) (reach_end c.args.level s (rc_str_bytes c.args.name.now) (path_of c.args.others.now) c.args.fields.now.entries c.loop-key.key-iterator c.loop-key.invariant.0 (c.in-None.ensures.steps).0)
+    sym (append-nil (map violation_of c.args.found.now.items)) ∙ ap (λ vs. map violation_of c.args.found.now.items ++ vs) (reached_found (rc_str_bytes c.args.name.now) c.args.level s (path_of c.args.others.now) c.args.fields.now.entries None c.in-None.ensures.value)
 
 pub report-returns-in-ExtensionFunctionApp : goal.report-returns-in-ExtensionFunctionApp
 report-returns-in-ExtensionFunctionApp g t c =
@@ -81,3 +81,22 @@ report-returns-in-Record g t c =
     goes c.report_fields.result (map violation_of c.args.found.now.items) (map violation_of c.report_fields.new.found.items) (flat_map (reported_of c.args.level s) (values c.deref-in-Record.result.now)) (reported_of c.args.level s c.args.expr.now)
     (record_reported c.args.level s c.args.expr.now c.in-Record.fields c.deref-in-Record.result.now (sym c.expr_kind.ensures.kind ∙ c.in-Record.is) c.deref-in-Record.ensures)
     c.report_fields.ensures
+
+pub report_fields-loop-e-smaller : goal.report_fields-loop-e-smaller
+report_fields-loop-e-smaller g t c = fewer c.loop-e.left.left c.next_field.new.fields.left _ c.in-Some.ensures
+
+pub report_others-loop-key-smaller : goal.report_others-loop-key-smaller
+report_others-loop-key-smaller g t c = fewer c.loop-key.left.left c.next_field.new.fields.left (c.in-Some.key.now, c.in-Some.e.now) c.in-Some.ensures
+
+pub report_fields-loop-e-preserved : goal.report_fields-loop-e-preserved
+report_fields-loop-e-preserved g t c =
+    let s = setting_of g.S.DeclaredAttributes.schema g.S.TypingSchema.table c.args.world.now in (
+      fields_on c.args.level s _ c.loop-e.left.left c.next_field.new.fields.left (map violation_of c.loop-e.found.items) (map violation_of c.report.new.found.items) _ c.in-Some.e.now c.loop-e.invariant.0 c.in-Some.ensures c.in_ok-report.ensures,
+      later_are_smaller c.args.fields.now.entries c.loop-e.left.left c.next_field.new.fields.left _ c.in-Some.e.now c.loop-e.invariant.1 c.in-Some.ensures,
+    )
+
+pub report_fields-returns : goal.report_fields-returns
+report_fields-returns g t c = fields_end c.args.level (setting_of g.S.DeclaredAttributes.schema g.S.TypingSchema.table c.args.world.now) _ c.loop-e.left.left (map violation_of c.loop-e.found.items) c.loop-e.invariant.0 c.in_default.ensures
+
+pub report_others-returns : goal.report_others-returns
+report_others-returns g t c = others_end c.args.level (setting_of g.S.DeclaredAttributes.schema g.S.TypingSchema.table c.args.world.now) (rc_str_bytes c.args.name.now) c.args.fields.now.entries c.loop-key.left.left (map violation_of c.args.found.now.items) (map violation_of c.loop-key.found.items) c.loop-key.is_past c.loop-key.invariant.0 c.in_default.ensures

@@ -3,7 +3,7 @@ use Rattle.cedar_expr_trees.specs.Trees.{named}
 use Rattle.cedar_expr_builders.specs.Views.{meant}
 use Rattle.cedar_expr_builders.proofs.Ordered.{meant_rising}
 use Rattle.cedar_expr_rebuilding.proofs.Gathered.{means_other}
-use Rattle.cedar_expr_rebuilding.proofs.build.record.Goals as goal
+use Rattle.cedar_expr_rebuilding.proofs.making.shared_record.Goals as goal
 
 pub returns : goal.returns
 returns g c = λ h.

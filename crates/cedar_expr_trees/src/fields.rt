@@ -1,0 +1,38 @@
+//! The fields of a record, one after the other.
+
+ghost use Rattle.std.specs.Prelude.{◌≡◌, [], ◌∷◌, MatchOption};
+ghost use Rattle.std.specs.BTreeMap.{values};
+
+use crate::expr::Expr;
+use std::collections::BTreeMap;
+use std::collections::btree_map::Values;
+use std::rc::RcStr;
+
+/// What fields hold, as far as it is still to come.
+pub(crate) struct FieldsLeft<'a, T> {
+    left: Values<'a, RcStr, Expr<T>>,
+}
+
+// A drop of its own is one step in the proof of a function that goes over fields.
+impl<'a, T> Drop for FieldsLeft<'a, T> {
+    fn drop(self) {
+        let FieldsLeft { left: _ } = self;
+    }
+}
+
+/// What these fields hold, all of it to come. A function of a cycle goes over fields by this and not by the map's own iterator, whose
+/// proof would be part of the cycle's.
+pub(crate) fn fields_of<'a, T>(fields: &'a BTreeMap<RcStr, Expr<T>>) -> FieldsLeft<'a, T>
+    ensures { result.left ≡ values fields.entry.now }
+{
+    FieldsLeft {
+        left: fields.values(),
+    }
+}
+
+/// The next of what fields hold, if there is more.
+pub(crate) fn next_field<'a, T>(fields: &mut FieldsLeft<'a, T>) -> Option<&'a Expr<T>>
+    ensures { MatchOption result (fields.old.left ≡ []) (λ e. fields.old.left ≡ e.now ∷ fields.new.left) }
+{
+    fields.left.next()
+}
