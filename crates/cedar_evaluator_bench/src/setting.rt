@@ -33,7 +33,7 @@ impl Drop for Setting<'_> {
 
 /// The evaluator of the first user's request.
 pub struct Asked<'a, 'b> {
-    /// It.
+    /// The evaluator. It reads the setting, which is lent to it.
     pub evaluator: Evaluator<'a, Extensions<'b>>,
 }
 
