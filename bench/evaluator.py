@@ -1,7 +1,7 @@
 #!/usr/bin/env python3
 """bench/evaluator.py [PROGRAM] [--most N] [--runs R]: how the main paths of the evaluator grow with their size.
 
-It has PROGRAM (crates/cedar_evaluator_bench/out/cedar_evaluator_bench, if none is named) evaluate a condition of 256 parts 10 to 10,000
+It has PROGRAM (crates/cedar_policy_bench/out/cedar_policy_bench, if none is named) evaluate a condition of 256 parts 10 to 10,000
 times, once with nothing unknown (`known`) and once with an unknown in each second part (`open`); look for each member of a set of as many
 numbers (`members`); read what stands innermost in records 10 to 100 deep, a hundred times each (`nested`); authorize as many policies
 (`authorized`), authorize them where each second one has an unknown (`half`), and then reauthorize them with its value (`again`); put values
@@ -15,9 +15,9 @@ PATHS = {"known": 10_000, "open": 10_000, "members": 10_000, "nested": 100, "aut
 
 
 def main():
-    program, sizes, runs = times.given(__doc__, "cedar_evaluator_bench", 10_000)
+    program, sizes, runs = times.given(__doc__, "cedar_policy_bench", 10_000)
     for name, most in PATHS.items():
-        times.series(name, lambda size: f"{name} {size}\n", program, [it for it in sizes if it <= most], runs)
+        times.series(name, lambda size: f"evaluator {name} {size}\n", program, [it for it in sizes if it <= most], runs)
 
 
 main()

@@ -1,7 +1,7 @@
 #!/usr/bin/env python3
 """bench/expressions.py [PROGRAM] [--most N] [--runs R]: how the main paths of expressions grow with their size.
 
-It has PROGRAM (crates/cedar_expr_bench/out/cedar_expr_bench, if none is named) make sets of 10 to 100,000 numbers, look for
+It has PROGRAM (crates/cedar_data_bench/out/cedar_data_bench, if none is named) make sets of 10 to 100,000 numbers, look for
 each of their members, go over the parts of wide and of deep expressions, put functions into a table and find them, put values in
 the place of the unknowns of wide and of deep expressions, and of wide ones through a builder, and try patterns of many wildcards
 on texts that they just don't match, each R times (3). It prints the least time of a run, the time for one of the size, and how many
@@ -16,9 +16,9 @@ MOST = {"sets": 100_000, "members": 100_000, "wide": 100_000, "deep": 10_000, "t
 
 
 def main():
-    program, sizes, runs = times.given(__doc__, "cedar_expr_bench", 100_000)
+    program, sizes, runs = times.given(__doc__, "cedar_data_bench", 100_000)
     for name, most in MOST.items():
-        times.series(name, lambda size: f"{name} {size}\n", program, [it for it in sizes if it <= most], runs)
+        times.series(name, lambda size: f"expressions {name} {size}\n", program, [it for it in sizes if it <= most], runs)
 
 
 main()

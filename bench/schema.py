@@ -1,7 +1,7 @@
 #!/usr/bin/env python3
 """bench/schema.py [PROGRAM] [--most N] [--runs R]: how the time to build a schema grows with its declarations.
 
-It has PROGRAM (crates/cedar_schema_bench/out/cedar_schema_bench, if none is named) build schemas of 10 to 10,000 declarations, R times
+It has PROGRAM (crates/cedar_data_bench/out/cedar_data_bench, if none is named) build schemas of 10 to 10,000 declarations, R times
 each (3): entity types without parents, with one parent, in a tree of which each is the parent of ten others, and in a chain (to 1,000:
 what descends from each is kept, so that is half the square of the size), actions in one group, in such a tree of groups and in a chain of
 groups (to 1,000 too), common types of records of which each holds the next (to 100), and one type that is written as a record in a record
@@ -18,9 +18,9 @@ SHAPES = {"flat": 10_000, "wide": 10_000, "groups": 10_000, "tree": 10_000, "gro
 
 
 def main():
-    program, sizes, runs = times.given(__doc__, "cedar_schema_bench", 10_000)
+    program, sizes, runs = times.given(__doc__, "cedar_data_bench", 10_000)
     for name, most in SHAPES.items():
-        times.series(name, lambda size: f"{name} {size}\n", program, [it for it in sizes if it <= most], runs)
+        times.series(name, lambda size: f"schema {name} {size}\n", program, [it for it in sizes if it <= most], runs)
 
 
 main()

@@ -1,7 +1,7 @@
 #!/usr/bin/env python3
 """bench/typechecker.py [PROGRAM] [--most N] [--runs R]: how the time to type policies grows with their number and their size.
 
-It has PROGRAM (crates/cedar_typechecker_bench/out/cedar_typechecker_bench, if none is named) type 10 to 10,000 policies in four
+It has PROGRAM (crates/cedar_policy_bench/out/cedar_policy_bench, if none is named) type 10 to 10,000 policies in four
 environments each, by `typecheck_policy` (`policies`, and `wrong`, where each has faults), by `typecheck_by_request_env` (`checked`) and by
 `validate_policy_with_level` (`leveled`), and one policy whose body has 16 to 256 parts with facts (`facts`) or is a conjunction of 10 to
 1,000 tests of attributes (`chain`, and `leveled_chain` with its levels), R times each (3). It prints the least time of a run, the time
@@ -19,14 +19,14 @@ ONE = {"facts": (16, 64, 256), "chain": (10, 100, 1_000), "leveled_chain": (10, 
 
 
 def main():
-    program, sizes, runs = times.given(__doc__, "cedar_typechecker_bench", 10_000)
+    program, sizes, runs = times.given(__doc__, "cedar_policy_bench", 10_000)
     _, hard = resource.getrlimit(resource.RLIMIT_STACK)
     resource.setrlimit(resource.RLIMIT_STACK, (STACK if hard == resource.RLIM_INFINITY else min(STACK, hard), hard))
     for name in MANY:
-        times.series(name, lambda size: f"{name} {size}\n", program, sizes, runs)
+        times.series(name, lambda size: f"typechecker {name} {size}\n", program, sizes, runs)
     most = sizes[-1] if sizes else 0
     for name, own in ONE.items():
-        times.series(name, lambda size: f"{name} {size}\n", program, [it for it in own if it <= most], runs)
+        times.series(name, lambda size: f"typechecker {name} {size}\n", program, [it for it in own if it <= most], runs)
 
 
 main()

@@ -1,4 +1,4 @@
-//! The rows.
+//! The rows on expressions.
 
 use crate::seen;
 use cedar_test_helpers::parted;

@@ -7,6 +7,7 @@ ghost use Rattle.cedar_expr_model.specs.Records.{names_rise};
 ghost use Rattle.cedar_expr_values.specs.Fields.{by_text};
 ghost use Rattle.cedar_schema_model.specs.Reference.{ReferenceKind};
 ghost use Rattle.cedar_schema_decl.specs.Conditional.{Conditional, kind_of};
+ghost use Rattle.cedar_schema_decl.specs.Forms.{reference_form, set_form};
 ghost use Rattle.cedar_schema_decl.specs.Refusals.{Refuses};
 ghost use Rattle.cedar_schema_decl.specs.Requalified.{requalified, requalified_fields, requalified_attribute, under_name, each};
 ghost use Rattle.cedar_schema_decl.specs.Trees.{type_form, variant_form, record_rows, record_fields, attribute_form, attribute_rows};
@@ -15,7 +16,7 @@ use crate::err::TypeNotDefinedError;
 use crate::json_schema::{RecordType, Type, TypeOfAttribute, TypeVariant};
 use cedar_expr_raw_names::ReferenceType;
 use cedar_expr_values::fields::field_map;
-use std::alloc::Global;
+use std::alloc::{AllocError, Global};
 use std::rc::RcStr;
 
 /// Gives a name of one state in the place of each name of another.
@@ -66,6 +67,35 @@ pub fn requalify_type<R: Requalify>(
     })
 }
 
+// A type by a name of this kind, with another name in the place of its own. Refuses a name in the place of which there is none.
+fn requalify_name<R: Requalify>(
+    alloc: Global,
+    name: R::From,
+    kind: ReferenceType,
+    names: &R,
+) -> Result<TypeVariant<R::To>, TypeNotDefinedError>
+    ensures made { IfOk result (λ r. requalified (R.renames names.now) (reference_form (kind_of kind) (R.before name)) ≡ Ok (variant_form R.after r)) }
+    ensures refused { IfErr result (Refuses (requalified (R.renames names.now) (reference_form (kind_of kind) (R.before name)))) }
+{
+    let name = names.requalify(alloc, name, kind)?;
+    Ok(match kind {
+        ReferenceType::Entity => TypeVariant::Entity { name },
+        ReferenceType::Common => TypeVariant::CommonTypeRef { type_name: name },
+        ReferenceType::CommonOrEntity => TypeVariant::EntityOrCommon { type_name: name },
+    })
+}
+
+// The type of sets of these elements.
+fn set_of<R: Requalify>(
+    alloc: Global,
+    element: Type<R::To>,
+) -> Result<TypeVariant<R::To>, AllocError>
+    ensures { IfOk result (λ r. variant_form R.after r ≡ set_form (type_form R.after element)) }
+{
+    let element = Box::new(alloc, element)?;
+    Ok(TypeVariant::Set { element })
+}
+
 // What a type writes, with other names in the place of its own. Refuses the first name in the place of which there is none.
 #[cycle(requalify)]
 fn requalify_variant<R: Requalify>(
@@ -82,24 +112,18 @@ fn requalify_variant<R: Requalify>(
         TypeVariant::Boolean => Ok(TypeVariant::Boolean),
         TypeVariant::Set { element } => {
             let element = requalify_type(alloc, Box::into_inner(element), names)?;
-            let element = Box::new(alloc, element)?;
-            Ok(TypeVariant::Set { element })
+            Ok(set_of::<R>(alloc, element)?)
         }
         TypeVariant::Record(fields) => {
             let fields = requalify_record(alloc, fields, names)?;
             Ok(TypeVariant::Record(fields))
         }
-        TypeVariant::Entity { name } => {
-            let name = names.requalify(alloc, name, ReferenceType::Entity)?;
-            Ok(TypeVariant::Entity { name })
-        }
+        TypeVariant::Entity { name } => requalify_name(alloc, name, ReferenceType::Entity, names),
         TypeVariant::EntityOrCommon { type_name } => {
-            let type_name = names.requalify(alloc, type_name, ReferenceType::CommonOrEntity)?;
-            Ok(TypeVariant::EntityOrCommon { type_name })
+            requalify_name(alloc, type_name, ReferenceType::CommonOrEntity, names)
         }
         TypeVariant::CommonTypeRef { type_name } => {
-            let type_name = names.requalify(alloc, type_name, ReferenceType::Common)?;
-            Ok(TypeVariant::CommonTypeRef { type_name })
+            requalify_name(alloc, type_name, ReferenceType::Common, names)
         }
         TypeVariant::Extension { name } => Ok(TypeVariant::Extension { name }),
     }

@@ -1,5 +1,6 @@
 -- Records of validation are equal exactly where what counts of them is the same.
-use Rattle.std.proofs.Common.{◌≡◌, Bool, Option, Some, None, refl, ap, Decides}
+use lib.Dec.{eqb}
+use Rattle.std.proofs.Common.{◌≡◌, ℕ, Bool, false, Option, Some, None, refl, ap, Decides}
 use Rattle.std.proofs.lemmas.Bool.Decides.{Decides-and, Decides-like, Decides-eqb}
 use Rattle.std.proofs.lemmas.Slice.Eq.{bytes_eq-Decides}
 use Rattle.std.specs.Option.{option_eq}
@@ -9,7 +10,7 @@ use Rattle.cedar_expr_names.specs.declared.loc.Loc.{Loc}
 use Rattle.cedar_expr_names.specs.contracts.loc.LocPartialEq.TheImpl as locs
 use Rattle.cedar_store_parts.proofs.Compared.{types_decide, names_decide, uids_decide}
 use Rattle.cedar_store_parts.specs.Parts.{id_text}
-use Rattle.cedar_store_records.specs.Views.{wrong_of, error_of, warning_of, kind_of, mode_seen, unknown_type, unknown_action, unknown_member, unsafe_attribute, unknown_function, too_deep, impossible, fits_no_action}
+use Rattle.cedar_store_records.specs.Views.{Wrong, wrong_of, error_of, warning_of, kind_of, mode_seen, unknown_type, unknown_action, unknown_member, unexpected_type, no_common_type, unsafe_attribute, unsafe_tag, no_tags, unknown_function, wrong_number, empty_set, no_literal, too_deep, impossible, fits_no_action}
 use Rattle.cedar_store_records.specs.declared.diagnostics.ValidationError.{ValidationError}
 use Rattle.cedar_store_records.specs.declared.diagnostics.ValidationErrorKind.{ValidationErrorKind}
 use Rattle.cedar_store_records.specs.declared.diagnostics.ValidationErrorKind.TheVariants as code
@@ -35,6 +36,26 @@ maybe_decides E d None (Some y) = (λ h. cc, λ h. cc)
 maybe_decides E d (Some x) None = (λ h. cc, λ h. cc)
 maybe_decides E d (Some x) (Some y) = Decides-like _ (λ e. ap Some e) (λ e. cc) (d x y)
 
+-- a number for each form of what is wrong
+abbrev form : Wrong → ℕ
+form (unknown_type n) = 0
+form (unknown_action u) = 1
+form (unknown_member u) = 2
+form unexpected_type = 3
+form no_common_type = 4
+form (unsafe_attribute a) = 5
+form unsafe_tag = 6
+form no_tags = 7
+form (unknown_function n) = 8
+form wrong_number = 9
+form empty_set = 10
+form no_literal = 11
+form (too_deep k) = 12
+
+-- what is wrong in different forms is different
+apart : (a b : Wrong) (t : Bool) → t ≡ false → eqb (form a) (form b) ≡ false → Decides t (a ≡ b)
+apart a b t is differ = (λ h. cc, λ e. let same = (Decides-eqb (form a) (form b)).1 (ap form e) in cc)
+
 -- what is wrong
 kinds_decide : (a b : ValidationErrorKind) → Decides ((kinds.ghosts).eq a b) (wrong_of a ≡ wrong_of b)
 kinds_decide (code.UnrecognizedEntityType n) (code.UnrecognizedEntityType m) = Decides-like _ (λ e. ap unknown_type e) (λ e. cc) (types_decide n m)
@@ -50,7 +71,7 @@ kinds_decide code.WrongNumberArguments code.WrongNumberArguments = (λ _. refl, 
 kinds_decide code.EmptySetForbidden code.EmptySetForbidden = (λ _. refl, λ _. refl)
 kinds_decide code.NonLitExtConstructor code.NonLitExtConstructor = (λ _. refl, λ _. refl)
 kinds_decide (code.EntityDerefLevelViolation j) (code.EntityDerefLevelViolation k) = Decides-like _ (λ e. ap too_deep e) (λ e. cc) (maybe_decides _ Decides-eqb j k)
-kinds_decide a b = (λ h. cc, λ h. cc)
+kinds_decide a b = apart (wrong_of a) (wrong_of b) _ refl refl
 
 pub errors_decide : (a b : ValidationError) → Decides ((errors.ghosts).eq a b) (error_of a ≡ error_of b)
 errors_decide a b = Decides-like _ (λ p i. record { policy = p.0 i; place = p.1.0 i; wrong = p.1.1 i }) (λ e. (ap (λ x. x.policy) e, (ap (λ x. x.place) e, ap (λ x. x.wrong) e)))

@@ -182,6 +182,10 @@ call_clean s f ms t None h = tt
 call_clean s f ms t (Some g) h =
     if_clean t (takes_count g (length ms)) _ _ (if_clean t (are_of_types g.parameters (map bare ms)) _ _ (answer_clean t (s.calls f ms) h) tt) tt
 
+-- something is nothing: an expression of another form isn't restricted
+never : {A : Type 0} {P : Type 0} {a : A} → Some a ≡ None → P
+never h = cc
+
 node_clean : (x : Functions) (go : Tree → Left) → ((t : Tree) → offence t ≡ None → Clean t (go t)) → (t : Tree) → offence t ≡ None → Clean t (node (with_functions x) go t)
 node_clean x go h (lit p) e = refl
 node_clean x go h (unknown n a) e = (refl, refl)
@@ -197,7 +201,7 @@ node_clean x go h (record_literal fs) e =
     from_clean (record_literal fs) (field_trees fs) _ (λ us. record_literal (tree_fields (zip (field_names fs) us))) (pieces_of go (field_trees fs)) (pieces_clean go h (field_trees fs) (ap feature_of (sym (fields_same fs)) ∙ e))
     (λ ms u. ap some_unknown (fields_same fs) ∙ u)
     (λ qs c n. (some_field_open fs qs c n, fields_restricted (field_names fs) (map part_tree qs) (rest_restricted (field_trees fs) qs c)))
-node_clean x go h t e = cc
+node_clean x go h t e = never e
 
 pub evaluated_clean : (x : Functions) (n : ℕ) (t : Tree) → offence t ≡ None → Clean t (evaluated (with_functions x) n t)
 evaluated_clean x zero t e = tt

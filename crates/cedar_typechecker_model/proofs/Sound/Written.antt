@@ -39,6 +39,10 @@ literal_fine s (entity u) ty e = by (declares_type s.schema u.kind || declares_a
     by true q = fine_as _ ty (Some (val (prim (entity u)))) (inside q) (contains_head u.kind [])
     by false q = cc
 
+-- nothing is something: an expression of another form writes no uid
+never : {A : Type 0} {P : Type 0} {a : A} → None ≡ Some a → P
+never h = cc
+
 of_kind_alone : (n m : Name) → n ≡ m → Contains (m ∷ []) n
 of_kind_alone n m e = subst (Contains (m ∷ [])) (sym e) (contains_head m [])
 
@@ -79,7 +83,7 @@ module _ (s : Schema) (x : Table) (e : Environment) (w : World) (suits : Suits s
   writes_uid (var action) v q u h =
       let k = uid_known w.action v q in
       k.2 ∙ ap (λ z. prim (entity z)) (suits.action k.0 k.1 ∙ inside h)
-  writes_uid t v q u h = cc
+  writes_uid t v q u h = never h
 
   literal_writes : (y : Uid) (b : Bool) (v : V) (u : Uid) → declares_action s y ≡ b → Some (val (prim (entity y))) ≡ Some (val v) → (if b then Some y else None) ≡ Some u → (v ≡ prim (entity u)) × (declares_action s u ≡ true)
   literal_writes y true v u k q h = let p : y ≡ u = inside h in ((let z : prim (entity y) ≡ v = cc in sym z ∙ ap (λ a. prim (entity a)) p), subst (λ a. declares_action s a ≡ true) p k)
@@ -91,7 +95,7 @@ module _ (s : Schema) (x : Table) (e : Environment) (w : World) (suits : Suits s
       let k = uid_known w.action v q in
       let p : e.action ≡ u = inside h in
       (k.2 ∙ ap (λ z. prim (entity z)) (suits.action k.0 k.1 ∙ p), subst (λ a. declares_action s a ≡ true) p action_declared)
-  writes_action t v q u h = cc
+  writes_action t v q u h = never h
 
   -- a literal, and several
   literal_action : (t : Tree) (u : Uid) → action_literal (strictly s x e) t ≡ Some u → (outcome_of w t ≡ Some (val (prim (entity u)))) × (declares_action s u ≡ true)
@@ -100,7 +104,7 @@ module _ (s : Schema) (x : Table) (e : Environment) (w : World) (suits : Suits s
       by : (b : Bool) → declares_action s y ≡ b → (if b then Some y else None) ≡ Some u → (Some (val (prim (entity y))) ≡ Some (val (prim (entity u)))) × (declares_action s u ≡ true)
       by true k r = let p : y ≡ u = inside r in (ap (λ a. Some (val (prim (entity a)))) p, subst (λ a. declares_action s a ≡ true) p k)
       by false k r = cc
-  literal_action t u h = cc
+  literal_action t u h = never h
 
   one_action : (o : Option Uid) (v : V) (us : List Uid) → ((u : Uid) → o ≡ Some u → (v ≡ prim (entity u)) × (declares_action s u ≡ true)) → option_map (λ u. u ∷ []) o ≡ Some us → Actions s us v
   one_action None v us f h = cc
@@ -154,4 +158,4 @@ module _ (s : Schema) (x : Table) (e : Environment) (w : World) (suits : Suits s
       let p : set_made (map (λ u. prim (entity u)) us) ≡ v = (let z = sym (ap (λ o. bind o (λ vs. Some (val (set_made vs)))) k.0) ∙ q in cc) in
       subst (Actions s us) p (set_actions us k.1)
   writes_actions (lit p) v q us h = one_action (action_literal (strictly s x e) (lit p)) v us (λ u i. let k = literal_action (lit p) u i in ((let z = sym q ∙ k.0 in cc), k.1)) h
-  writes_actions t v q us h = cc
+  writes_actions t v q us h = never h

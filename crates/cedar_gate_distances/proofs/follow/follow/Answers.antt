@@ -24,3 +24,15 @@ loop-key-preserved c =
             undo = c.loop-key.invariant.undo;
           }
     ]
+
+pub returns-clause-next : goal.returns-clause-next
+returns-clause-next c = c.loop-key.invariant.next
+
+pub returns-clause-undo : goal.returns-clause-undo
+returns-clause-undo c = c.loop-key.invariant.undo
+
+pub returns-in_err-spread-clause-next : goal.returns-in_err-spread-clause-next
+returns-in_err-spread-clause-next c = λ x k. c.spread.ensures.next x (c.loop-key.invariant.next x k)
+
+pub returns-in_err-spread-clause-undo : goal.returns-in_err-spread-clause-undo
+returns-in_err-spread-clause-undo c = λ f i. c.spread.ensures.undo f (c.loop-key.invariant.undo f i)

@@ -34,3 +34,9 @@ loop-uid-preserved c =
       ];
       undo = λ f i. c.lower.ensures.undo f (c.loop-uid.invariant.undo f i);
     }
+
+pub returns-clause-next : goal.returns-clause-next
+returns-clause-next c = c.loop-uid.invariant.next
+
+pub returns-clause-undo : goal.returns-clause-undo
+returns-clause-undo c = c.loop-uid.invariant.undo

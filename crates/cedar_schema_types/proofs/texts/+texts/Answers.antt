@@ -2,7 +2,7 @@ use Rattle.std.proofs.Common.{rules, sym, ap, ◌∙◌, true, []}
 use Rattle.std.proofs.Output.{has_written_of_eq, writes_in_calls_nil}
 use Rattle.cedar_schema_texts_model.specs.Texts.{attributes_text}
 use Rattle.cedar_schema_types.proofs.Entries.{attributes_are}
-use Rattle.cedar_schema_types.proofs.Shown.{attributes_left, shown_first, attribute_shown}
+use Rattle.cedar_schema_types.proofs.Shown.{attributes_left, shown_first, attribute_shown, attributes_shown}
 use Rattle.cedar_schema_types.proofs.texts.+texts.Goals as goal
 
 pub show_attributes-loop-name-init : goal.show_attributes-loop-name-init
@@ -16,3 +16,6 @@ show_attributes-loop-name-preserved g t c = λ p.
     let sep = has_written_of_eq _ _ _ _ _ c.between.ensures (c.in_ok-write_str.ensures.writes before.wrote.plain (search rules)) in
     let one = c.in_ok-show_attribute.ensures sep.plain (search rules) in
     attribute_shown _ c.args.f.now c.loop-name.f c.write_str.new.self c.show_attribute.new.f c.loop-name.is_first c.loop-name.name-iterator c.next.new.self c.in-Some.name.now c.in-Some.declared.now _ before c.in-Some.ensures.steps sep one
+
+pub show_attributes-returns : goal.show_attributes-returns
+show_attributes-returns g t c = λ p ok. attributes_shown _ c.args.f.now c.loop-name.f c.loop-name.is_first c.loop-name.name-iterator _ (c.loop-name.invariant p) c.in-None.ensures.steps.0

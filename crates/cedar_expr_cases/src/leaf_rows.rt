@@ -1,0 +1,121 @@
+//! The rows on names, leaves and values.
+
+use crate::leaves;
+use cedar_test_helpers::parted;
+use std::test::Fail;
+
+const ROWS: &str =
+    r#"# whether an id, an unreserved id, any id, an internal name, a name and a raw name are read from a text, and whether an internal name, a
+# name and a raw name without a namespace are: `+` it is, `-` it writes none, `r` it is reserved
+read _a9 : ++++++ +++
+read a_1 : ++++++ +++
+read If : ++++++ +++
+read __cedar : +r++r+ +r+
+read if : --+--- ---
+read has : --+--- ---
+read true : --+--- ---
+read 9a : ------ ---
+read 1a : ------ ---
+read a b : ------ ---
+read é : ------ ---
+read : ------ ---
+read a::b : ---+++ ---
+read A::B : ---+++ ---
+read __cedar::X : ---+r+ ---
+read A:: : ------ ---
+read ::A : ------ ---
+read A:::B : ------ ---
+read A:: B : ------ ---
+read A::if : ------ ---
+# copies of an id, an unreserved id, any id, an internal name, a name, an entity type and a raw name
+copies a : a a a a a a a
+# how names are shown, and how they are refused
+name A::B : A::B
+name a:: : not a normalized name
+name __cedar::X : the name `__cedar::X` is reserved
+name __cedar : the name `__cedar` is reserved
+name A::__cedar : the name `A::__cedar` is reserved
+borrowed A::B : A::B
+borrowed A::__cedar : the name `A::__cedar` is reserved
+unreserved a : a
+unreserved __cedar : the name `__cedar` is reserved
+no_memory : out of memory
+# names of ids: two internal names and a name, and two raw names
+makers T : __cedar T T T T
+# a name of a namespace, by its parts and as a type
+joined A T : A::T A::T
+# the last part of a name, and its namespace
+apart x : x nothing
+apart a::x : x a
+apart a::b::x : x a::b
+# a name within a namespace: a name, and an internal one, as a name and as an internal one; and a raw one within both
+within N::M a : N::M::a N::M::a N::M::a N::M::a N::M::a N::M::a
+within N::M a::b : a::b a::b a::b a::b a::b a::b
+within N::M a::b::c : a::b::c a::b::c a::b::c a::b::c a::b::c a::b::c
+# what a raw name may stand for in a namespace, in order, behind the name; and a copy of one that stands for itself alone
+possible A::B T : T A::B::T T
+possible A::B C::T : C::T C::T
+alone T : T T
+# copies of a uid, of its type and of its id
+uid User::a : User::"a" User a
+uid A::B::a"b\é : A::B::"a\"b\\\u{e9}" A::B a"b\é
+# a copy of a pattern; a `*` is a wildcard
+pattern a*"é : a*\"\u{e9}
+pattern : nothing
+# copies of literals
+literal true : true
+literal -9223372036854775808 : -9223372036854775808
+literal "a"b\ : "a\"b\\"
+literal A::User::7 : A::User::"7"
+string : ""
+string x : "x"
+# a copy of the literal of a uid keeps its place
+reference A::User::8@3 : A::User::"8" @3
+reference A::User::8 : A::User::"8" @nowhere
+# whether two values are the same, by each way to compare them, which places don't count for; whether they stand at one place too; and whether
+# they are the same keys
+same 1 2 set=2 | 2 1 1 set=3 : yes yes yes yes yes
+same 1 2 set=2 set=1 | 2 1 1 set=3 set=1 : yes yes yes yes yes
+same 1 2 set=2 set=1 | 1 2 set=2 : no no no no no
+same 1 2 3 record=b,a,b | 2 3 record=a,b : yes yes yes yes yes
+same 1 2 3 record=b,a,b | 2 1 record=a,b : no no no no no
+same 1@4 set=1@3 | 1 1 set=2 : yes yes yes no yes
+same 1@4 set=1@3 | 1 1 set=2@3 : yes yes yes yes yes
+same ext=decimal/"1.0/1 | ext=decimal/"1.00/1 : yes yes yes yes yes
+same ext=decimal/"1.0/1 | ext=decimal/"2.0/2 : no no no no no
+same 1 | true : no no no no no
+# the type that a value shows, and a copy of that of its kind
+type true : bool bool
+type 7 : long long
+type " : string string
+type A::B::x : (entity of type `A::B`) (entity of type `A::B`)
+type 1 set=1 : set set
+type 1 record=a : record record
+type ext=decimal/"1.0/1 : decimal decimal
+# a copy of an extension value with a call that it is given: its call, its types, and whether it is the same
+given unit 7 ext=decimal/"1.0/1 : unit 7 decimal decimal yes yes
+# the uids of a value, at any depth, not those of calls and of texts
+uids A::x B::x "A::y set=3 A::x ext=decimal/A::z/1 record=s,u,e set=1 : A::"x" B::"x"
+uids 1 : nothing
+# copies of values at the place 3 as they are made: sets have each member once, in rising order; fields stand by their names, of a repeated
+# name the last
+made empty_set : nothing @3
+made empty_record : nothing @3
+made set 2 1 2 : 1 2 @3
+made literals 2 1 2 : 1 2 @3
+made record b=1 a=2 b=3 : a 2 b 3 @3
+made shared b=1 a=2 b=3 : a 2 b 3 @3
+"#;
+
+#[test]
+fn rows_of_leaves_hold(rt: HostRuntime) -> Result<(), Fail> {
+    let alloc = rt.alloc();
+    for row in ROWS.lines() {
+        if let Some((verb, rest, wanted)) = parted(row) {
+            let mut said = String::new(alloc);
+            leaves::done(alloc, &mut said, verb, rest)?;
+            assert!(rt; said.as_str() == wanted, "{row}: {said}");
+        }
+    }
+    Ok(())
+}
