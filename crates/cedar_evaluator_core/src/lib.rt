@@ -2,8 +2,11 @@
 //! `Evaluator::partial_interpret`: what is left is what the model's evaluation leaves. Authorizers stand on it.
 #![tactic(auto)]
 
+mod after;
 pub mod calls;
 pub mod evaluator;
+mod fields;
+mod gathering;
 mod outcomes;
 pub mod parts;
 pub mod rebuilt;

@@ -12,19 +12,20 @@ ghost use Rattle.cedar_expr_names.specs.Views.{plain_name_of, type_name_of};
 ghost use Rattle.cedar_expr_trees.specs.Trees.{tree_of, kind_tree, named, field_trees};
 ghost use Rattle.cedar_evaluator_core.specs.Walked.{LeavesWithin, LeavesLevel, LeavesField, BestWithin, PiecesWithin};
 
+use crate::after::{Truth, and_stays, choice_stays, or_stays, settled, truth_after};
 use crate::calls::call_left;
+use crate::fields::{fields_of, next_field};
+use crate::gathering::{members_of, room, room_for_fields, with_next};
 use crate::parts::{record_left, set_left};
 use crate::rebuilt::{
-    and_left, and_right, choice_left, expr_of, get_of, given_up, is_left, like_left, or_left,
-    or_right, unary_left,
+    and_right, expr_of, get_of, given_up, is_left, like_left, or_right, unary_left,
 };
 use crate::tested::tested;
 use cedar_evaluator_errors::EvaluationError;
 use cedar_evaluator_errors::evaluation_errors::RecursionLimitError;
 use cedar_evaluator_operators::FunctionTable;
 use cedar_evaluator_operators::binary::binary_left;
-use cedar_evaluator_operators::unary::as_bool;
-use cedar_evaluator_reads::leaves::{literal_value, truth};
+use cedar_evaluator_reads::leaves::literal_value;
 use cedar_evaluator_reads::missing::no_such_field;
 use cedar_evaluator_reads::seen::{field_expr, record_of};
 use cedar_evaluator_reads::{Knowledge, Left};
@@ -87,12 +88,12 @@ fn level<T: FunctionTable>(
             binary(alloc, known, deeper, *op, arg1, arg2, loc)
         }
         ExprKind::ExtensionFunctionApp { fn_name, args } => {
-            called(alloc, known, deeper, fn_name, args.as_slice())
+            called(alloc, known, deeper, fn_name, members_of(args))
         }
         ExprKind::GetAttr { expr, attr } => attribute(alloc, known, deeper, expr, attr),
         ExprKind::HasAttr { expr, attr } => has_attr(alloc, known, deeper, expr, attr),
         ExprKind::ExtHasAttr { expr, attrs } => has_path(alloc, known, deeper, expr, attrs),
-        ExprKind::Set(members) => set(alloc, known, deeper, members.as_slice()),
+        ExprKind::Set(members) => set(alloc, known, deeper, members_of(members)),
         ExprKind::Record(fields) => record(alloc, known, deeper, fields),
     }
 }
@@ -109,8 +110,10 @@ fn unary<T: FunctionTable>(
 ) -> Result<Left, EvaluationError>
     ensures { LeavesLevel T.table T.answers_as known.now deeper (unary (unary_op_of op) (tree_of arg.now)) result }
 {
-    let arg = walk(alloc, known, deeper, arg)?;
-    unary_left(alloc, op, arg, loc)
+    match walk(alloc, known, deeper, arg) {
+        Ok(arg) => unary_left(alloc, op, arg, loc),
+        Err(error) => Err(error),
+    }
 }
 
 // A pattern.
@@ -124,8 +127,10 @@ fn like<T: FunctionTable>(
 ) -> Result<Left, EvaluationError>
     ensures { LeavesLevel T.table T.answers_as known.now deeper (like (tree_of arg.now) (pattern_of pattern.now)) result }
 {
-    let arg = walk(alloc, known, deeper, arg)?;
-    like_left(alloc, arg, pattern)
+    match walk(alloc, known, deeper, arg) {
+        Ok(arg) => like_left(alloc, arg, pattern),
+        Err(error) => Err(error),
+    }
 }
 
 // A test of the entity type.
@@ -139,8 +144,10 @@ fn is_type<T: FunctionTable>(
 ) -> Result<Left, EvaluationError>
     ensures { LeavesLevel T.table T.answers_as known.now deeper (is_type (tree_of arg.now) (type_name_of kind.now)) result }
 {
-    let arg = walk(alloc, known, deeper, arg)?;
-    is_left(alloc, arg, kind)
+    match walk(alloc, known, deeper, arg) {
+        Ok(arg) => is_left(alloc, arg, kind),
+        Err(error) => Err(error),
+    }
 }
 
 // An operator of two operands.
@@ -156,9 +163,13 @@ fn binary<T: FunctionTable>(
 ) -> Result<Left, EvaluationError>
     ensures { LeavesLevel T.table T.answers_as known.now deeper (binary (binary_op_of op) (tree_of first.now) (tree_of second.now)) result }
 {
-    let first = walk(alloc, known, deeper, first)?;
-    let second = walk(alloc, known, deeper, second)?;
-    binary_left(alloc, known, op, first, second, loc)
+    match walk(alloc, known, deeper, first) {
+        Ok(first) => match walk(alloc, known, deeper, second) {
+            Ok(second) => binary_left(alloc, known, op, first, second, loc),
+            Err(error) => Err(error),
+        },
+        Err(error) => Err(error),
+    }
 }
 
 // The presence of an attribute.
@@ -172,8 +183,10 @@ fn has_attr<T: FunctionTable>(
 ) -> Result<Left, EvaluationError>
     ensures { LeavesLevel T.table T.answers_as known.now deeper (has_attr (tree_of arg.now) (rc_str_bytes attr.now)) result }
 {
-    let arg = walk(alloc, known, deeper, arg)?;
-    tested(alloc, known, arg, attr)
+    match walk(alloc, known, deeper, arg) {
+        Ok(arg) => tested(alloc, known, arg, attr),
+        Err(error) => Err(error),
+    }
 }
 
 // The presence of a path of attributes.
@@ -187,8 +200,10 @@ fn has_path<T: FunctionTable>(
 ) -> Result<Left, EvaluationError>
     ensures { LeavesLevel T.table T.answers_as known.now deeper (has_path (tree_of arg.now) (rc_str_bytes attrs.now.value.head) (map rc_str_bytes attrs.now.value.tail.items)) result }
 {
-    let arg = walk(alloc, known, deeper, arg)?;
-    known.path_left(alloc, arg, attrs)
+    match walk(alloc, known, deeper, arg) {
+        Ok(arg) => known.path_left(alloc, arg, attrs),
+        Err(error) => Err(error),
+    }
 }
 
 // `if`.
@@ -203,19 +218,14 @@ fn choice<T: FunctionTable>(
 ) -> Result<Left, EvaluationError>
     ensures { LeavesLevel T.table T.answers_as known.now deeper (choice (tree_of test.now) (tree_of first.now) (tree_of last.now)) result }
 {
-    match walk(alloc, known, deeper, test)? {
-        PartialValue::Value(v) => {
-            if as_bool(alloc, &v)? {
-                walk(alloc, known, deeper, first)
-            } else {
-                walk(alloc, known, deeper, last)
-            }
-        }
-        PartialValue::Residual(r) => {
-            let first = attempt(alloc, known, deeper, first)?;
-            let last = attempt(alloc, known, deeper, last)?;
-            choice_left(alloc, r, first, last)
-        }
+    match truth_after(alloc, walk(alloc, known, deeper, test)) {
+        Truth::Holds => walk(alloc, known, deeper, first),
+        Truth::Fails => walk(alloc, known, deeper, last),
+        Truth::Open(r) => match attempt(alloc, known, deeper, first) {
+            Ok(first) => choice_stays(alloc, r, first, attempt(alloc, known, deeper, last)),
+            Err(error) => Err(error),
+        },
+        Truth::Stops(error) => Err(error),
     }
 }
 
@@ -230,19 +240,14 @@ fn both<T: FunctionTable>(
 ) -> Result<Left, EvaluationError>
     ensures { LeavesLevel T.table T.answers_as known.now deeper (both (tree_of left.now) (tree_of right.now)) result }
 {
-    match walk(alloc, known, deeper, left)? {
-        PartialValue::Value(v) => {
-            if as_bool(alloc, &v)? {
-                let second = walk(alloc, known, deeper, right)?;
-                and_right(alloc, second)
-            } else {
-                Ok(PartialValue::Value(truth(false)))
-            }
-        }
-        PartialValue::Residual(r) => {
-            let second = attempt(alloc, known, deeper, right)?;
-            and_left(alloc, r, second)
-        }
+    match truth_after(alloc, walk(alloc, known, deeper, left)) {
+        Truth::Holds => match walk(alloc, known, deeper, right) {
+            Ok(second) => and_right(alloc, second),
+            Err(error) => Err(error),
+        },
+        Truth::Fails => settled(false),
+        Truth::Open(r) => and_stays(alloc, r, attempt(alloc, known, deeper, right)),
+        Truth::Stops(error) => Err(error),
     }
 }
 
@@ -257,19 +262,14 @@ fn either<T: FunctionTable>(
 ) -> Result<Left, EvaluationError>
     ensures { LeavesLevel T.table T.answers_as known.now deeper (either (tree_of left.now) (tree_of right.now)) result }
 {
-    match walk(alloc, known, deeper, left)? {
-        PartialValue::Value(v) => {
-            if as_bool(alloc, &v)? {
-                Ok(PartialValue::Value(truth(true)))
-            } else {
-                let second = walk(alloc, known, deeper, right)?;
-                or_right(alloc, second)
-            }
-        }
-        PartialValue::Residual(r) => {
-            let second = attempt(alloc, known, deeper, right)?;
-            or_left(alloc, r, second)
-        }
+    match truth_after(alloc, walk(alloc, known, deeper, left)) {
+        Truth::Holds => settled(true),
+        Truth::Fails => match walk(alloc, known, deeper, right) {
+            Ok(second) => or_right(alloc, second),
+            Err(error) => Err(error),
+        },
+        Truth::Open(r) => or_stays(alloc, r, attempt(alloc, known, deeper, right)),
+        Truth::Stops(error) => Err(error),
     }
 }
 
@@ -284,8 +284,10 @@ fn called<T: FunctionTable>(
 ) -> Result<Left, EvaluationError>
     ensures { LeavesLevel T.table T.answers_as known.now deeper (call (plain_name_of name.now) (trees (map tree_of args.now))) result }
 {
-    let parts = pieces(alloc, known, deeper, args)?;
-    call_left(alloc, known, name, parts)
+    match pieces(alloc, known, deeper, args) {
+        Ok(parts) => call_left(alloc, known, name, parts),
+        Err(error) => Err(error),
+    }
 }
 
 // A set.
@@ -298,8 +300,10 @@ fn set<T: FunctionTable>(
 ) -> Result<Left, EvaluationError>
     ensures { LeavesLevel T.table T.answers_as known.now deeper (set_literal (trees (map tree_of members.now))) result }
 {
-    let parts = pieces(alloc, known, deeper, members)?;
-    set_left(alloc, parts)
+    match pieces(alloc, known, deeper, members) {
+        Ok(parts) => set_left(alloc, parts),
+        Err(error) => Err(error),
+    }
 }
 
 // What each of these leaves.
@@ -312,11 +316,11 @@ fn pieces<T: FunctionTable>(
 ) -> Result<Vec<Left>, EvaluationError>
     ensures { PiecesWithin T.table T.answers_as known.now deeper (listed (trees (map tree_of exprs.now))) result }
 {
-    let mut values = Vec::with_capacity(alloc, exprs.len())?;
+    let mut parts = room(alloc, exprs.len())?;
     for e in exprs {
-        values.push(walk(alloc, known, deeper, e)?)?;
+        parts = with_next(parts, walk(alloc, known, deeper, e))?;
     }
-    Ok(values)
+    Ok(parts)
 }
 
 // A record.
@@ -329,8 +333,10 @@ fn record<T: FunctionTable>(
 ) -> Result<Left, EvaluationError>
     ensures { LeavesLevel T.table T.answers_as known.now deeper (record_literal (tree_fields (named (field_trees fields.now.entries)))) result }
 {
-    let parts = field_pieces(alloc, known, deeper, fields)?;
-    record_left(alloc, fields, parts)
+    match field_pieces(alloc, known, deeper, fields) {
+        Ok(parts) => record_left(alloc, fields, parts),
+        Err(error) => Err(error),
+    }
 }
 
 // What the fields of a record leave, in the order of their names.
@@ -343,11 +349,12 @@ fn field_pieces<T: FunctionTable>(
 ) -> Result<Vec<Left>, EvaluationError>
     ensures { PiecesWithin T.table T.answers_as known.now deeper (values_of (listed_fields (tree_fields (named (field_trees fields.now.entries))))) result }
 {
-    let mut values = Vec::with_capacity(alloc, fields.len())?;
-    for e in fields.values() {
-        values.push(walk(alloc, known, deeper, e)?)?;
+    let mut parts = room_for_fields(alloc, fields)?;
+    let mut left = fields_of(fields);
+    while let Some(e) = next_field(&mut left) {
+        parts = with_next(parts, walk(alloc, known, deeper, e))?;
     }
-    Ok(values)
+    Ok(parts)
 }
 
 // An attribute.

@@ -1,6 +1,6 @@
 //! Cedar's expressions, whole: the items of the crates `cedar_expr_*` under one name, in the Rust crate's modules.
 //! Contract: that of the items; this crate has no code of its own but the names `Integer` and `InputInteger`.
-//! Used by users of the library and by `cedar_data_bench`; crates of this repository name the crates below.
+//! Used by users of the library and by `cedar_bench`; crates of this repository name the crates below.
 #![tactic(auto)]
 
 /// Expressions and their leaves, their own builder, their shapes, substitution and checks.

@@ -1,6 +1,6 @@
 //! The operators.
 
-ghost use Rattle.std.specs.Prelude.{Some};
+ghost use Rattle.std.specs.Prelude.{◌≡◌, Some};
 ghost use Rattle.cedar_expr_model.specs.Texts.{unary_text, binary_text};
 ghost use Rattle.cedar_expr_leaves.specs.Operators.{unary_op_of, binary_op_of};
 
@@ -52,9 +52,9 @@ impl Display for UnaryOp {
 
     fn fmt<W: Write>(&self, f: &mut Formatter<W>) -> fmt::Result {
         match self {
-            UnaryOp::Not => write!(f, "!"),
-            UnaryOp::Neg => write!(f, "-"),
-            UnaryOp::IsEmpty => write!(f, "isEmpty"),
+            UnaryOp::Not => f.write_str("!"),
+            UnaryOp::Neg => f.write_str("-"),
+            UnaryOp::IsEmpty => f.write_str("isEmpty"),
         }
     }
 }
@@ -63,19 +63,26 @@ impl Display for BinaryOp {
     ghost output = { λ o. Some (binary_text (binary_op_of o)) };
 
     fn fmt<W: Write>(&self, f: &mut Formatter<W>) -> fmt::Result {
-        match self {
-            BinaryOp::Eq => write!(f, "=="),
-            BinaryOp::Less => write!(f, "<"),
-            BinaryOp::LessEq => write!(f, "<="),
-            BinaryOp::Add => write!(f, "+"),
-            BinaryOp::Sub => write!(f, "-"),
-            BinaryOp::Mul => write!(f, "*"),
-            BinaryOp::In => write!(f, "in"),
-            BinaryOp::Contains => write!(f, "contains"),
-            BinaryOp::ContainsAll => write!(f, "containsAll"),
-            BinaryOp::ContainsAny => write!(f, "containsAny"),
-            BinaryOp::GetTag => write!(f, "getTag"),
-            BinaryOp::HasTag => write!(f, "hasTag"),
-        }
+        f.write_str(binary_text(*self))
+    }
+}
+
+// The text of the operator.
+fn binary_text(op: BinaryOp) -> &'static str
+    ensures { result.now ≡ binary_text (binary_op_of op) }
+{
+    match op {
+        BinaryOp::Eq => "==",
+        BinaryOp::Less => "<",
+        BinaryOp::LessEq => "<=",
+        BinaryOp::Add => "+",
+        BinaryOp::Sub => "-",
+        BinaryOp::Mul => "*",
+        BinaryOp::In => "in",
+        BinaryOp::Contains => "contains",
+        BinaryOp::ContainsAll => "containsAll",
+        BinaryOp::ContainsAny => "containsAny",
+        BinaryOp::GetTag => "getTag",
+        BinaryOp::HasTag => "hasTag",
     }
 }

@@ -29,9 +29,9 @@ impl Display for PatternElem {
 
     fn fmt<W: Write>(&self, f: &mut Formatter<W>) -> fmt::Result {
         match self {
-            PatternElem::Wildcard => write!(f, "*"),
-            PatternElem::Char('*') => write!(f, "\\*"),
-            PatternElem::Char(c) => write!(f, "{}", Escaped::new(*c)),
+            PatternElem::Wildcard => f.write_str("*"),
+            PatternElem::Char('*') => f.write_str("\\*"),
+            PatternElem::Char(c) => Display::fmt(&Escaped::new(*c), f),
         }
     }
 }
@@ -109,7 +109,7 @@ impl Display for Pattern {
 
     fn fmt<W: Write>(&self, f: &mut Formatter<W>) -> fmt::Result {
         for elem in self.elems.as_slice() {
-            write!(f, "{elem}")?;
+            Display::fmt(elem, f)?;
         }
         Ok(())
     }

@@ -54,8 +54,8 @@ impl Display for SlotId {
 
     fn fmt<W: Write>(&self, f: &mut Formatter<W>) -> fmt::Result {
         match self.0 {
-            ValidSlotId::Principal => write!(f, "?principal"),
-            ValidSlotId::Resource => write!(f, "?resource"),
+            ValidSlotId::Principal => f.write_str("?principal"),
+            ValidSlotId::Resource => f.write_str("?resource"),
         }
     }
 }

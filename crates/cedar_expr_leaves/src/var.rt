@@ -28,10 +28,10 @@ impl Display for Var {
 
     fn fmt<W: Write>(&self, f: &mut Formatter<W>) -> fmt::Result {
         match self {
-            Var::Principal => write!(f, "principal"),
-            Var::Action => write!(f, "action"),
-            Var::Resource => write!(f, "resource"),
-            Var::Context => write!(f, "context"),
+            Var::Principal => f.write_str("principal"),
+            Var::Action => f.write_str("action"),
+            Var::Resource => f.write_str("resource"),
+            Var::Context => f.write_str("context"),
         }
     }
 }

@@ -3,3 +3,5 @@ pub mod Kept
 pub mod Refused
 pub mod Scopes
 pub mod Together
+pub mod Building
+pub mod DeclaredGiven

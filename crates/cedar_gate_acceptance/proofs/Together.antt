@@ -7,8 +7,8 @@ use Rattle.cedar_expr_model.specs.Table.{Signature}
 use Rattle.cedar_gate_acceptance.specs.Handed.{HasPolicies, IsSeenBy, IsHandedIn}
 use Rattle.cedar_gate_acceptance.specs.Untyped.{is_clear_of_all, plain_causes, scope_causes, admits_untyped}
 use Rattle.cedar_gate_acceptance.proofs.Refused.{has_declared}
-use Rattle.cedar_gate_declarations.proofs.Given.{all_given}
-use Rattle.cedar_gate_declarations.specs.Refused.{IsSubmittedWith}
+use Rattle.cedar_gate_acceptance.proofs.DeclaredGiven.{all_given}
+use Rattle.cedar_gate_acceptance.specs.Refused.{IsSubmittedWith}
 use Rattle.cedar_gate_model.specs.Acceptance.{Submission, extension_of, extension_types, has_schema}
 use Rattle.cedar_schema_kept_model.specs.Kept.{Kept}
 use Rattle.cedar_schema_kept_model.specs.KeptOf.{IsKeptOf}

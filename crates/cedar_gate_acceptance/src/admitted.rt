@@ -14,11 +14,11 @@ ghost use Rattle.cedar_schema_kept_model.specs.KeptOf.{IsKeptOf};
 ghost use Rattle.cedar_schema_model.specs.Resolved.{schema_of};
 ghost use Rattle.cedar_typechecker_seen_model.specs.Seen.{schema_seen, IsClosed};
 
+use crate::declared_schema;
 use crate::names::check_names;
 use crate::plain::check_policies;
 use cedar_expr_functions::Extensions;
 use cedar_expr_raw_names::RawName;
-use cedar_gate_declarations::declared_schema;
 use cedar_gate_faults::GateFault;
 use cedar_gate_rules::NestLimit;
 use cedar_schema_built::ValidatorSchema;

@@ -1,9 +1,9 @@
 //! Hosts that fail, and hosts that aren't honest.
 
-ghost use Rattle.cedar_gate_hosts.specs.Stores.{store_of, store_asked};
+ghost use Rattle.cedar_gate_runs.specs.Stores.{store_of, store_asked};
 
 use cedar_expr_names::EntityUID;
-use cedar_gate_hosts::{Host, HostFault, StoreHost};
+use cedar_gate_runs::{Host, HostFault, StoreHost};
 use cedar_store_entities::Entity;
 use std::alloc::Global;
 

@@ -9,7 +9,7 @@ use cedar_expr_names::EntityUID;
 use cedar_expr_values::{ExtValue, Value};
 use cedar_gate_accepted::Gate;
 use cedar_gate_bundles::Submission;
-use cedar_gate_hosts::{Host, StoreHost};
+use cedar_gate_runs::{Host, StoreHost};
 use cedar_gate_schemas::GateSchema;
 use cedar_gate_sessions::{Basis, Bounds, Schema, Session};
 use cedar_store_entities::Entity;

@@ -13,7 +13,7 @@ use Rattle.cedar_expr_values.specs.declared.extension.ExtValue.{ExtValue}
 use Rattle.cedar_expr_values.specs.declared.value.Value.{Value}
 use Rattle.cedar_evaluator_model.specs.Scope.{closed}
 use Rattle.cedar_gate_model.specs.Slice.{mentioned_in_fields}
-use Rattle.cedar_gate_mentions.specs.Mentions.{mentioned_in}
+use Rattle.cedar_gate_openings.specs.Mentions.{mentioned_in}
 use Rattle.cedar_gate_openings.specs.Roots.{mentioned_by_context}
 
 fields_are : (es : List (RcStr Global × Value ExtValue)) → bare_fields (made_fields (map (made_pair extension_of) es)) ≡ fields (map (bare_pair extension_of) es)

@@ -1,3 +1,4 @@
 pub mod Requests
 pub mod Roots
 pub mod Laws
+pub mod Mentions

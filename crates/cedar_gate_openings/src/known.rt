@@ -3,12 +3,12 @@
 ghost use Rattle.std.specs.Prelude.{◌≡◌, ◌++◌, IfOk, OnOk, option_map, option_to_list};
 ghost use Rattle.cedar_evaluator_model.specs.Known.{known_entry};
 ghost use Rattle.cedar_evaluator_requests.specs.Views.{entry_of, context_or_unknown, request_of};
-ghost use Rattle.cedar_gate_mentions.specs.Mentions.{uids};
+ghost use Rattle.cedar_gate_openings.specs.Mentions.{uids};
 ghost use Rattle.cedar_gate_openings.specs.Roots.{known_roots, mentioned_by_context};
 
+use crate::add_mentioned_in;
 use cedar_evaluator_requests::{Context, EntityUIDEntry, Request};
 use cedar_expr_names::EntityUID;
-use cedar_gate_mentions::add_mentioned_in;
 use std::alloc::{AllocError, Global};
 
 /// The roots of a request: its principal, its resource and what its context mentions, as far as they are known. Answers want of memory.

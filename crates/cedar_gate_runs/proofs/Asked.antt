@@ -2,8 +2,8 @@
 use Rattle.std.proofs.Common.{◌≡◌, List, [], ◌∷◌, ◌++◌, refl, sym, ap, ◌∙◌, append_assoc, arith}
 use Rattle.std.proofs.lemmas.List.{append-nil}
 use Rattle.cedar_expr_model.specs.Uid.{Uid}
-use Rattle.cedar_gate_hosts.specs.declared.host.HostFault.{HostFault}
-use Rattle.cedar_gate_hosts.specs.declared.host.HostFault.TheVariants as host
+use Rattle.cedar_gate_runs.specs.declared.host.HostFault.{HostFault}
+use Rattle.cedar_gate_runs.specs.declared.host.HostFault.TheVariants as host
 use Rattle.cedar_gate_model.specs.Headline.{Headline}
 use Rattle.cedar_gate_model.specs.RunsAnswer.{Course, IsProper, MakeFairly}
 use Rattle.cedar_gate_model.specs.Transcript.{Entry, round, bound, decided}

@@ -4,8 +4,8 @@ use Rattle.cedar_expr_model.specs.Name.{Text}
 use Rattle.cedar_expr_model.specs.Uid.{Uid}
 use Rattle.cedar_expr_model.specs.Made.{Made}
 use Rattle.cedar_store_model.specs.Policy.{Policy}
-use Rattle.cedar_gate_hosts.specs.declared.host.HostFault.{HostFault}
-use Rattle.cedar_gate_hosts.specs.declared.host.HostFault.TheVariants as host
+use Rattle.cedar_gate_runs.specs.declared.host.HostFault.{HostFault}
+use Rattle.cedar_gate_runs.specs.declared.host.HostFault.TheVariants as host
 use Rattle.cedar_gate_model.specs.Runs.{supplied_by}
 use Rattle.cedar_gate_model.specs.RunsAnswer.{Course, session_of}
 use Rattle.cedar_gate_model.specs.Session.{Setup, State, Supplied, IsWantedList, NothingIsWanted, at_start, OpenRefusal, OpenFault}

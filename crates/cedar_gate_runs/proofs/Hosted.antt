@@ -12,7 +12,7 @@ use Rattle.cedar_store_entities.specs.declared.entity.Entity.{Entity}
 use Rattle.cedar_store_model.specs.World as world
 use Rattle.cedar_store_model.specs.World.{held}
 use Rattle.cedar_evaluator_model.specs.OfLaws.WellMade.{IsFoundMadeWell}
-use Rattle.cedar_gate_hosts.specs.Hosts.{Answers, answered_of, answer_from}
+use Rattle.cedar_gate_runs.specs.Hosts.{Answers, answered_of, answer_from}
 use Rattle.cedar_gate_model.specs.Runs.{supplied_by}
 use Rattle.cedar_gate_model.specs.RunsAnswer.{Course, session_of}
 use Rattle.cedar_gate_model.specs.Session.{Setup}

@@ -7,3 +7,4 @@ pub mod Rounds
 pub mod Stepped
 pub mod Stopped
 pub mod Asked
+pub mod Stored

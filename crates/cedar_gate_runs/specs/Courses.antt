@@ -8,7 +8,7 @@ use Rattle.cedar_store_entities.specs.Views.{bare_entity}
 use Rattle.cedar_store_model.specs.World as world
 use Rattle.cedar_store_model.specs.World.{held}
 use Rattle.cedar_evaluator_model.specs.OfLaws.WellMade.{IsWellMade, IsFoundMadeWell}
-use Rattle.cedar_gate_hosts.specs.Hosts.{Answers}
+use Rattle.cedar_gate_runs.specs.Hosts.{Answers}
 use Rattle.cedar_gate_model.specs.RunLaws.{bindings_in}
 use Rattle.cedar_gate_model.specs.Runs.{DecidesInPart}
 use Rattle.cedar_gate_model.specs.RunsAnswer.{Course, session_of}

@@ -8,3 +8,5 @@ pub mod Courses
 pub mod Ends
 pub mod Asking
 pub mod Promised
+pub mod Hosts
+pub mod Stores

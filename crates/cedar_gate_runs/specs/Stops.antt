@@ -1,7 +1,7 @@
 -- What the faults of hosts and the refusals of sessions stop a run with.
 -- Rule: refusals of a session (docs/RULES.md).
-use Rattle.cedar_gate_hosts.specs.declared.host.HostFault.{HostFault}
-use Rattle.cedar_gate_hosts.specs.declared.host.HostFault.TheVariants as host
+use Rattle.cedar_gate_runs.specs.declared.host.HostFault.{HostFault}
+use Rattle.cedar_gate_runs.specs.declared.host.HostFault.TheVariants as host
 use Rattle.cedar_gate_runs.specs.declared.sessions.Refusal.{Refusal}
 use Rattle.cedar_gate_runs.specs.declared.sessions.Refusal.TheVariants.{OutOfMemory, Numbered}
 use Rattle.cedar_gate_runs.specs.declared.stops.Stop.{Stop}

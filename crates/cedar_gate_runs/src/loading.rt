@@ -13,8 +13,8 @@ ghost use Rattle.cedar_gate_runs.specs.Running.{Went, DidLoad, DidLoadAll, Stops
 
 use crate::sessions::SessionCalls;
 use crate::stops::Stop;
+use crate::{Host, copied};
 use cedar_expr_names::EntityUID;
-use cedar_gate_hosts::{Host, copied};
 use cedar_gate_transcripts::Entry;
 use std::alloc::{AllocError, Global};
 

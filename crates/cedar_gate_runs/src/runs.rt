@@ -14,13 +14,13 @@ ghost use Rattle.cedar_gate_runs.specs.Refusals.{IsOpenRefusal};
 ghost use Rattle.cedar_gate_runs.specs.Steps.{steps_of};
 ghost use Rattle.cedar_gate_runs.specs.Stopping.{Finished, IsRefused, HasStopped, Halts, ComesTo};
 
+use crate::Host;
 use crate::loading::load_all;
 use crate::sessions::{Refusal, SessionCalls};
 use crate::stepping::take_steps;
 use crate::steps::Step;
 use crate::stops::Stop;
 use cedar_evaluator_requests::Response;
-use cedar_gate_hosts::Host;
 use cedar_gate_model::headline::runs_keep_the_headline;
 use cedar_gate_transcripts::{Entry, RunFault, Transcript};
 use std::alloc::Global;

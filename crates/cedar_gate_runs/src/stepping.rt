@@ -17,12 +17,12 @@ ghost use Rattle.cedar_gate_runs.specs.Steps.{step_of, steps_of};
 ghost use Rattle.cedar_gate_runs.specs.Stopping.{IsRefused, Halts};
 ghost use Rattle.cedar_gate_runs.specs.declared.stops.Stop.TheVariants.{Memory};
 
+use crate::Host;
 use crate::loading::load;
 use crate::sessions::SessionCalls;
 use crate::steps::Step;
 use crate::stops::Stop;
 use cedar_expr_values::{ExtValue, Value};
-use cedar_gate_hosts::Host;
 use cedar_gate_transcripts::Entry;
 use std::alloc::Global;
 use std::rc::RcStr;

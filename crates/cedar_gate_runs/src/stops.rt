@@ -2,8 +2,8 @@
 
 ghost use Rattle.std.specs.Prelude.{◌≡◌};
 
+use crate::HostFault;
 use crate::sessions::Refusal;
-use cedar_gate_hosts::HostFault;
 use std::alloc::{AllocError, AllocFailed};
 
 /// Why a run stops; a refusal has its number.

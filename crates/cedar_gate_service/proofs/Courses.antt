@@ -28,7 +28,7 @@ use Rattle.cedar_gate_bundles.specs.declared.requests.RequestRead.{RequestRead}
 use Rattle.cedar_gate_sessions.specs.Courses.{Stands}
 use Rattle.cedar_gate_sessions.specs.declared.courses.CourseSession.{CourseSession}
 use Rattle.cedar_gate_fragments.specs.Written.{declared_by}
-use Rattle.cedar_gate_hosts.proofs.Stored.{bare_kept, found_bare}
+use Rattle.cedar_gate_runs.proofs.Stored.{bare_kept, found_bare}
 use Rattle.cedar_gate_model.proofs.Runs.Read.{bundles_are_proper}
 use Rattle.cedar_gate_model.specs.Acceptance.{Submission, IsAccepted, warnings_of}
 use Rattle.cedar_gate_model.specs.Bundle.{Functions}

@@ -9,9 +9,9 @@ use Rattle.cedar_evaluator_requests.specs.declared.response.Response.{Response}
 use Rattle.cedar_store_entities.specs.Stores.{store_made}
 use Rattle.cedar_store_entities.specs.Views.{bare_entity}
 use Rattle.cedar_store_entities.specs.declared.entities.Entities.{Entities}
-use Rattle.cedar_gate_hosts.specs.Hosts.{Answers, stored}
-use Rattle.cedar_gate_hosts.specs.Stores.{store_of}
-use Rattle.cedar_gate_hosts.specs.declared.store_host.StoreHost.{StoreHost}
+use Rattle.cedar_gate_runs.specs.Hosts.{Answers, stored}
+use Rattle.cedar_gate_runs.specs.Stores.{store_of}
+use Rattle.cedar_gate_runs.specs.declared.store_host.StoreHost.{StoreHost}
 use Rattle.cedar_gate_model.specs.Acceptance.{warnings_of}
 use Rattle.cedar_gate_model.specs.Lines.{Status, warning_lines, entry_lines, end_lines, end_status, numbered, is_answered, is_stopped}
 use Rattle.cedar_gate_model.specs.Runs.{End, answered, opening_refused, supply_refused, binding_refused, answer_refused}

@@ -10,7 +10,7 @@ use Rattle.cedar_store_entities.specs.declared.entities.Entities.{Entities}
 use Rattle.cedar_store_model.specs.World as world
 use Rattle.cedar_store_model.specs.World.{held}
 use Rattle.cedar_evaluator_model.specs.OfLaws.WellMade.{IsFoundMadeWell}
-use Rattle.cedar_gate_hosts.specs.Hosts.{stored}
+use Rattle.cedar_gate_runs.specs.Hosts.{stored}
 use Rattle.cedar_gate_model.specs.Lines.{Status, entry_lines, end_lines, end_status, warning_lines}
 use Rattle.cedar_gate_model.specs.Runs.{End}
 use Rattle.cedar_gate_model.specs.RunsAnswer.{Course, IsRun}

@@ -9,7 +9,7 @@ ghost use Rattle.cedar_gate_sessions.specs.Loaded.{is_right};
 use crate::basis::Schema;
 use crate::faults::SupplyFault;
 use cedar_expr_names::EntityUID;
-use cedar_gate_mentions::mentioned_by;
+use cedar_gate_openings::mentioned_by;
 use cedar_gate_wanted::Loading;
 use cedar_store_entities::Entity;
 use std::alloc::{AllocError, Global};

@@ -11,8 +11,8 @@ ghost use Rattle.cedar_typechecker_model.specs.Verdicts.{passes, impossible, pol
 use crate::environment::{check_in, fits};
 use cedar_gate_faults::PolicyViolation;
 use cedar_store_policies::Policy;
-use cedar_typechecker_conditions::Verdict;
 use cedar_typechecker_environments::{RequestEnv, TypingSchema};
+use cedar_typechecker_policies::Verdict;
 use cedar_typechecker_scopes::{SchemaEnvironments, policy_environments};
 use std::alloc::{AllocError, Global};
 

@@ -1,6 +1,6 @@
 //! Cedar's schemas, whole: the items of the crates `cedar_schema_*` under one name.
 //! Contract: that of the items; this crate has no code of its own.
-//! Used by users of the library and by `cedar_data_bench`; crates of this repository name the crates below.
+//! Used by users of the library and by `cedar_bench`; crates of this repository name the crates below.
 #![tactic(auto)]
 
 /// Types by which values can be read.

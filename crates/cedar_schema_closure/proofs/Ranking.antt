@@ -1,10 +1,11 @@
 -- Nodes with the lengths of their rows: they are all nodes, each once.
-use Rattle.std.proofs.Common.{◌≡◌, ℕ, zero, suc, ◌<◌, ◌≤◌, ◌+◌, List, [], ◌∷◌, false, eqb, get_or, map, length, sym, ap, ◌∙◌, subst, ⊎_elim, arith}
+use Rattle.std.proofs.Common.{◌≡◌, ℕ, zero, suc, ◌<◌, ◌≤◌, ◌+◌, List, [], ◌∷◌, ◌++◌, false, eqb, get_or, map, take, drop, length, sym, ap, ◌∙◌, subst, ⊎_elim, arith, Vec, Global}
 use Rattle.std.specs.Prelude.{Contains}
 use Rattle.std.specs.List.{IsDistinct}
 use Rattle.std.proofs.lemmas.Map.Keys.{IsDistinct-from_apart}
 use Rattle.std.proofs.Math.Nat.{eq-or-lt_of_le}
 use Rattle.std.proofs.lemmas.Bool.Decides.{eqb_tells}
+use Rattle.std.proofs.lemmas.List.{take_more, take_all, drop_more, drop_all, append_assoc, append-nil, map-append}
 use Rattle.cedar_expr_model.proofs.Lists.{contains_head, contains_tail, contains_cases, contains_none}
 use Rattle.cedar_schema_closure.specs.Graphs.{Graph, targets}
 use Rattle.cedar_schema_closure.specs.Ranks.{ranks_from}
@@ -57,3 +58,21 @@ rank_is (row ∷ rows) i r h =
 
 pub rank_counts : (c : Graph) (r : Rank) → Contains (ranks_from c 0) r → r.count ≡ length (targets c r.node)
 rank_counts c r h = let q = rank_is c 0 r h in let e = q.1 in let n : q.0 ≡ r.node = omega (arith, e) in q.2 ∙ ap (λ k. length (targets c k)) n
+
+-- a rank more of those that are left, and the end
+pub rank_one : (c : Graph) (rs ts whole : List Rank) (k : ℕ) (d : Vec ℕ Global) (count : ℕ) → k < length c → count ≡ length (get_or c k d).items → ts ≡ rs ++ record { count = count; node = k } ∷ [] → rs ++ ranks_from (drop k c) k ≡ whole → ts ++ ranks_from (drop (k + 1) c) (k + 1) ≡ whole
+rank_one c rs ts whole k d count l n e so =
+    let r : Rank = record { count = length (get_or c k d).items; node = k } in
+    let next : k + 1 ≡ suc k = omega arith in
+    ap (λ xs. xs ++ ranks_from (drop (k + 1) c) (k + 1)) (e ∙ ap (λ m. rs ++ record { count = m; node = k } ∷ []) n)
+    ∙ append_assoc rs (r ∷ []) (ranks_from (drop (k + 1) c) (k + 1))
+    ∙ ap (λ m. rs ++ r ∷ ranks_from (drop (k + 1) c) m) next ∙ ap (λ xs. rs ++ ranks_from xs k) (sym (drop_more c k d l)) ∙ so
+
+pub rank_all : (c : Graph) (rs whole : List Rank) (k : ℕ) → length c ≤ k → rs ++ ranks_from (drop k c) k ≡ whole → rs ≡ whole
+rank_all c rs whole k l so = sym (append-nil rs) ∙ ap (λ xs. rs ++ ranks_from xs k) (sym (drop_all k c l)) ∙ so
+
+-- one more node, and the end
+pub node_one : (rs : List Rank) (ns ms : List ℕ) (i n : ℕ) (d : Rank) → i < length rs → n ≡ (get_or rs i d).node → ms ≡ ns ++ n ∷ [] → ns ≡ nodes_of (take i rs) → ms ≡ nodes_of (take (i + 1) rs)
+node_one rs ns ms i n d l q e so =
+    e ∙ ap (λ m. ns ++ m ∷ []) q ∙ ap (λ xs. xs ++ (get_or rs i d).node ∷ []) so
+    ∙ sym (ap nodes_of (take_more rs i d l) ∙ map-append (λ (r : Rank). r.node) (take i rs) (get_or rs i d ∷ []))

@@ -1,7 +1,8 @@
 -- What comes of a list, one after the other: what was made so far, and then what comes of the rest, is what comes of all.
-use Rattle.std.proofs.Common.{◌≡◌, length, List, [], ◌∷◌, ◌++◌, append_assoc, Result, Ok, Err, IfErr, refl, sym, ap, ◌∙◌, subst}
+use Rattle.std.proofs.Common.{◌≡◌, length, List, [], ◌∷◌, ◌++◌, append_assoc, Result, Ok, Err, IfOk, IfErr, refl, sym, ap, ◌∙◌, subst}
 use Rattle.std.proofs.lemmas.List.{append-nil}
-use Rattle.std.specs.Result.{IsErrAnd}
+use Rattle.std.proofs.lemmas.Bool.{false≢true}
+use Rattle.std.specs.Result.{IsErr, IsErrAnd}
 use Rattle.cedar_schema_decl.specs.Requalified.{and_then, each}
 
 -- what was made, and then what comes of the rest
@@ -20,6 +21,11 @@ pub record Gathers {A B R : Type 0} (f : A → Result B R) (all : List A) (done 
 pub handed : {X E : Type 0} (P : E → Type 0) (e : E) (r : Result X E) → IsErrAnd r (λ y. y ≡ e) → P e → IfErr r P
 handed P e (Ok x) same p = tt
 handed P e (Err y) same p = subst P (sym same) p
+
+-- nothing is made of what is refused
+pub unmade : {X E : Type 0} (r : Result X E) (P : X → Type 0) → IsErr r → IfOk r P
+unmade (Ok x) P h = absurd (false≢true h)
+unmade (Err y) P h = tt
 
 pub starts : {B R : Type 0} (o : Result (List B) R) → o ≡ after [] o
 starts (Ok ys) = refl

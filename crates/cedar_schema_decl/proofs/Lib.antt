@@ -4,3 +4,4 @@ mod Sets
 mod Meant
 mod Resolving
 mod Told
+mod Variants

@@ -1,5 +1,5 @@
-//! Declarations of a schema from short lines, and the texts of the entity types and actions that come of them, for tests and the bench.
-//! Its contract is its text: `fragment` says which lines it reads. Used by `cedar_schema_cases` and `cedar_data_bench`.
+//! Declarations of a schema from short lines, and the texts of the entity types and actions that come of them, for tests.
+//! Its contract is its text: `fragment` says which lines it reads. Used by `cedar_schema_cases` and `cedar_typechecker_cases`.
 #![tactic(auto)]
 
 mod naming;

@@ -1,14 +1,16 @@
 -- One node after the other gets its number.
-use Rattle.std.proofs.Common.{◌≡◌, ℕ, List, [], ◌∷◌, ◌++◌, Bool, true, false, cond, Option, Some, None, length, get_or, take, ◌<◌, ◌+◌, ◌≤◌, is_some, refl, sym, ap, ◌∙◌, subst, ⊎_elim, arith}
+use Rattle.std.proofs.Common.{◌≡◌, ℕ, List, [], ◌∷◌, ◌++◌, Bool, true, false, cond, Option, Some, None, length, get_or, map, take, ◌<◌, ◌+◌, ◌≤◌, is_some, refl, sym, ap, ◌∙◌, subst, ⊎_elim, arith}
 use Rattle.std.specs.List.{filter_map, cons_option}
 use Rattle.std.proofs.lemmas.List.Elements.{filter_map-append}
-use Rattle.std.proofs.lemmas.List.{append-nil, take_more, take_all, length-take-le}
+use Rattle.std.proofs.lemmas.List.{append-nil, map-append, take_more, take_all, length-take-le}
 use Rattle.std.specs.Prelude.{Contains}
 use Rattle.std.specs.Bool.{Decides}
 use Rattle.std.proofs.lemmas.Bool.{true≢false}
 use Rattle.std.proofs.lemmas.List.Elements.{Contains-push_cases}
 use Rattle.cedar_expr_model.proofs.Lists.{contains_none}
-use Rattle.cedar_schema_nodes.specs.Numbers.{IsAt, AreNumbers, AreOnce, StoodBefore}
+use Rattle.std.specs.declared.alloc.Global.{Global}
+use Rattle.std.specs.declared.vec.Vec.{Vec}
+use Rattle.cedar_schema_nodes.specs.Numbers.{IsAt, AreNumbers, AreOnce, StoodBefore, rows_of}
 use Rattle.cedar_schema_nodes.proofs.Places.{at_in, at_kept, at_last, once_more}
 use Rattle.cedar_schema_model.specs.BagLaws.{HasTwice}
 
@@ -97,3 +99,14 @@ kept_none f xs i x l e q =
     ∙ ap (λ z. filter_map f (take i xs) ++ cons_option (f z) []) (sym e)
     ∙ ap (λ o. filter_map f (take i xs) ++ cons_option o []) q
     ∙ append-nil (filter_map f (take i xs))
+
+-- one more row
+abbrev pub items_of : List (Vec ℕ Global) → List (List ℕ)
+items_of rows = map (λ r. r.items) rows
+
+pub row_one : {N : Type 0} (f : N → Option ℕ) (ts : List (N × Vec N Global)) (rows more : List (Vec ℕ Global)) (r : Vec ℕ Global) (i : ℕ) (t : N × Vec N Global) → i < length ts → t ≡ get_or ts i t → r.items ≡ filter_map f t.1.items → more ≡ rows ++ r ∷ [] → items_of rows ≡ rows_of f (take i ts) → items_of more ≡ rows_of f (take (i + 1) ts)
+row_one f ts rows more r i t l e q m so =
+    ap items_of m ∙ map-append (λ r. r.items) rows (r ∷ [])
+    ∙ ap (λ ns. ns ++ r.items ∷ []) so
+    ∙ ap (λ n. rows_of f (take i ts) ++ n ∷ []) (q ∙ ap (λ u. filter_map f u.1.items) e)
+    ∙ sym (ap (rows_of f) (take_more ts i t l) ∙ map-append (λ u. filter_map f u.1.items) (take i ts) (get_or ts i t ∷ []))

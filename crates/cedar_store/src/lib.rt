@@ -1,6 +1,6 @@
 //! Cedar's policies and stores, whole: the items of the crates `cedar_store_*` under one name.
 //! Contract: that of the items; this crate has no code of its own.
-//! Used by users of the library and by `cedar_data_bench`; crates of this repository name the crates below.
+//! Used by users of the library and by `cedar_bench`; crates of this repository name the crates below.
 #![tactic(auto)]
 
 /// Annotations of policies.

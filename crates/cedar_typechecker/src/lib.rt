@@ -1,6 +1,6 @@
 //! Cedar's typechecker and validator, whole: over a built schema and a table of extension functions, and the items of the crates
 //! `cedar_typechecker_*` under one name. Contract: each call says exactly what the model's verdicts, scope rules and violations are, and
-//! where a policy passes what typing and slices promise of its meaning. Used by users of the library and by `cedar_policy_bench`.
+//! where a policy passes what typing and slices promise of its meaning. Used by users of the library and by `cedar_typechecker_cases`.
 #![tactic(auto)]
 
 mod typechecker;

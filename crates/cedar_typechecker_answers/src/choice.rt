@@ -1,14 +1,17 @@
 //! Choices.
 
-ghost use Rattle.std.specs.Prelude.{◌≡◌, option_and_then, IfOk};
-ghost use Rattle.cedar_expr_trees.specs.Trees.{tree_of};
+ghost use Rattle.std.specs.Prelude.{◌≡◌, option_map, option_and_then, IfOk};
+ghost use Rattle.cedar_expr_model.specs.Tree.{choice};
+ghost use Rattle.cedar_expr_trees.specs.Trees.{tree_of, data_of};
 ghost use Rattle.cedar_typechecker_facts.specs.Facts.{facts_of};
-ghost use Rattle.cedar_typechecker_typed_model.specs.Typed.{choice_step as model_choice_step, first_typed, second_typed};
-ghost use Rattle.cedar_typechecker_answers.specs.Answers.{seen};
+ghost use Rattle.cedar_typechecker_nodes.specs.Marked.{marks_of};
+ghost use Rattle.cedar_typechecker_typed_model.specs.Typed.{choice_step as model_choice_step, first_typed, second_typed, noted, three};
+ghost use Rattle.cedar_typechecker_answers.specs.Answers.{seen, known_of_both, judgement_seen, branch_judged};
 ghost use Rattle.cedar_typechecker_answers.specs.Steps.{choice_step_seen};
 
 use crate::answer::{Judged, TypecheckAnswer, judged_node};
 use crate::faults::{Faults, failed, no_type};
+use crate::parts::shared_three;
 use cedar_expr_names::Loc;
 use cedar_expr_trees::{Expr, ExprKind};
 use cedar_schema_types::{BoolType, Type};
@@ -16,7 +19,6 @@ use cedar_store_records::ValidationErrorKind;
 use cedar_typechecker_facts::CapabilitySet;
 use cedar_typechecker_nodes::untyped;
 use std::alloc::{AllocError, Global};
-use std::rc::Rc;
 
 /// What follows the test of a choice: one of the branches, or both.
 #[derive(Drop)]
@@ -112,42 +114,60 @@ pub fn first_answer<'a>(
 ) -> Result<TypecheckAnswer<'a>, AllocError>
     ensures { IfOk result (λ a. seen a ≡ option_and_then (λ x. option_and_then (first_typed (tree_of second.now) x) (seen first.entry)) (seen test.entry)) }
 {
-    let TypecheckAnswer::Success {
-        expr_type: test,
-        expr_capability: own,
-    } = test
-    else {
-        return Ok(no_type());
-    };
-    let TypecheckAnswer::Success {
-        expr_type: first,
-        expr_capability: other,
-    } = first
-    else {
-        return Ok(no_type());
-    };
-    let (Some(_), Some(ty)) = (test.data(), first.data()) else {
-        return Ok(no_type());
-    };
-    let judged = Judged {
-        ty: ty.clone()?,
-        known: own.union(&other)?,
-    };
-    let test_expr = Rc::new(alloc, test)?;
-    let then_expr = Rc::new(alloc, first)?;
-    let else_expr = Rc::new(alloc, untyped(alloc, second)?)?;
-    let kind = ExprKind::If {
-        test_expr,
-        then_expr,
-        else_expr,
-    };
-    judged_node(
-        faults,
-        kind,
-        place,
-        Some(judged),
-        ValidationErrorKind::UnexpectedType,
-    )
+    let second = untyped(alloc, second)?;
+    let known = known_of_both(alloc, &test, &first)?;
+    match (test, first) {
+        (
+            TypecheckAnswer::Success {
+                expr_type: test,
+                ..
+            },
+            TypecheckAnswer::Success {
+                expr_type: first,
+                ..
+            },
+        ) => first_node(alloc, faults, place, test, first, second, known),
+        _ => Ok(no_type()),
+    }
+}
+
+// What holds where both expressions are true.
+fn known_of_both<'a>(
+    alloc: Global,
+    test: &TypecheckAnswer<'a>,
+    first: &TypecheckAnswer<'a>,
+) -> Result<CapabilitySet<'a>, AllocError>
+    ensures { IfOk result (λ r. facts_of r ≡ known_of_both test.now first.now) }
+{
+    match (test, first) {
+        (
+            TypecheckAnswer::Success {
+                expr_capability: own,
+                ..
+            },
+            TypecheckAnswer::Success {
+                expr_capability: other,
+                ..
+            },
+        ) => own.union(other),
+        _ => Ok(CapabilitySet::new(alloc)),
+    }
+}
+
+// The node of a choice of which the first branch is typed.
+fn first_node<'a>(
+    alloc: Global,
+    faults: &mut Faults,
+    place: Option<Loc>,
+    test: Expr<Option<Type>>,
+    first: Expr<Option<Type>>,
+    second: Expr<Option<Type>>,
+    known: CapabilitySet<'a>,
+) -> Result<TypecheckAnswer<'a>, AllocError>
+    ensures { IfOk result (λ a. seen a ≡ noted (choice (tree_of test) (tree_of first) (tree_of second)) (three (marks_of test) (marks_of first) (marks_of second)) (branch_judged (data_of test) (data_of first) (facts_of known.entry))) }
+{
+    let judged = branch_judgement(&test, &first, known)?;
+    choice_node(alloc, faults, place, test, first, second, judged)
 }
 
 /// The answer of a choice by those of a test of type False and of the second branch.
@@ -161,30 +181,68 @@ pub fn second_answer<'a>(
 ) -> Result<TypecheckAnswer<'a>, AllocError>
     ensures { IfOk result (λ a. seen a ≡ option_and_then (λ x. option_and_then (second_typed (tree_of first.now) x) (seen second.entry)) (seen test.entry)) }
 {
-    let TypecheckAnswer::Success {
-        expr_type: test,
-        ..
-    } = test
-    else {
-        return Ok(no_type());
-    };
-    let TypecheckAnswer::Success {
-        expr_type: second,
-        expr_capability: known,
-    } = second
-    else {
-        return Ok(no_type());
-    };
-    let (Some(_), Some(ty)) = (test.data(), second.data()) else {
-        return Ok(no_type());
-    };
-    let judged = Judged {
-        ty: ty.clone()?,
-        known,
-    };
-    let test_expr = Rc::new(alloc, test)?;
-    let then_expr = Rc::new(alloc, untyped(alloc, first)?)?;
-    let else_expr = Rc::new(alloc, second)?;
+    let first = untyped(alloc, first)?;
+    match (test, second) {
+        (
+            TypecheckAnswer::Success {
+                expr_type: test,
+                ..
+            },
+            TypecheckAnswer::Success {
+                expr_type: second,
+                expr_capability: known,
+            },
+        ) => second_node(alloc, faults, place, test, first, second, known),
+        _ => Ok(no_type()),
+    }
+}
+
+// The node of a choice of which the second branch is typed.
+fn second_node<'a>(
+    alloc: Global,
+    faults: &mut Faults,
+    place: Option<Loc>,
+    test: Expr<Option<Type>>,
+    first: Expr<Option<Type>>,
+    second: Expr<Option<Type>>,
+    known: CapabilitySet<'a>,
+) -> Result<TypecheckAnswer<'a>, AllocError>
+    ensures { IfOk result (λ a. seen a ≡ noted (choice (tree_of test) (tree_of first) (tree_of second)) (three (marks_of test) (marks_of first) (marks_of second)) (branch_judged (data_of test) (data_of second) (facts_of known.entry))) }
+{
+    let judged = branch_judgement(&test, &second, known)?;
+    choice_node(alloc, faults, place, test, first, second, judged)
+}
+
+// The judgement of a choice by the branch that is taken, where the test and the branch have types.
+fn branch_judgement<'a>(
+    test: &Expr<Option<Type>>,
+    branch: &Expr<Option<Type>>,
+    known: CapabilitySet<'a>,
+) -> Result<Option<Judged<'a>>, AllocError>
+    ensures { IfOk result (λ j. option_map judgement_seen j ≡ branch_judged (data_of test.now) (data_of branch.now) (facts_of known.entry)) }
+{
+    match (test.data(), branch.data()) {
+        (Some(_), Some(ty)) => Ok(Some(Judged {
+            ty: ty.clone()?,
+            known,
+        })),
+        _ => Ok(None),
+    }
+}
+
+// The node of a choice of these parts, by its judgement.
+fn choice_node<'a>(
+    alloc: Global,
+    faults: &mut Faults,
+    place: Option<Loc>,
+    test: Expr<Option<Type>>,
+    first: Expr<Option<Type>>,
+    second: Expr<Option<Type>>,
+    judged: Option<Judged<'a>>,
+) -> Result<TypecheckAnswer<'a>, AllocError>
+    ensures { IfOk result (λ a. seen a ≡ noted (choice (tree_of test) (tree_of first) (tree_of second)) (three (marks_of test) (marks_of first) (marks_of second)) (option_map judgement_seen judged.entry)) }
+{
+    let (test_expr, then_expr, else_expr) = shared_three(alloc, test, first, second)?;
     let kind = ExprKind::If {
         test_expr,
         then_expr,
@@ -194,7 +252,7 @@ pub fn second_answer<'a>(
         faults,
         kind,
         place,
-        Some(judged),
+        judged,
         ValidationErrorKind::UnexpectedType,
     )
 }

@@ -1,6 +1,7 @@
 //! Conjunctions and disjunctions.
 
 ghost use Rattle.std.specs.Prelude.{◌≡◌, Some, option_map, option_and_then, IfOk};
+ghost use Rattle.cedar_expr_model.specs.Tree.{both, either};
 ghost use Rattle.cedar_expr_trees.specs.Trees.{tree_of, data_of};
 ghost use Rattle.cedar_schema_model.specs.Types.{bool_type};
 ghost use Rattle.cedar_schema_types.specs.Types.{type_of};
@@ -8,12 +9,14 @@ ghost use Rattle.cedar_schema_types.specs.Kinds.{bool_type_of};
 ghost use Rattle.cedar_typechecker_facts.specs.Facts.{facts_of};
 ghost use Rattle.cedar_typechecker_model.specs.Facts.{no_facts};
 ghost use Rattle.cedar_typechecker_model.specs.Typing.{conjoined, disjoined};
-ghost use Rattle.cedar_typechecker_typed_model.specs.Typed.{and_step as model_and_step, or_step as model_or_step, and_typed, or_typed, conjoined_by, disjoined_by};
-ghost use Rattle.cedar_typechecker_answers.specs.Answers.{seen, typed_at, judgement_seen};
+ghost use Rattle.cedar_typechecker_nodes.specs.Marked.{marks_of};
+ghost use Rattle.cedar_typechecker_typed_model.specs.Typed.{and_step as model_and_step, or_step as model_or_step, and_typed, or_typed, conjoined_by, disjoined_by, noted, two, blank};
+ghost use Rattle.cedar_typechecker_answers.specs.Answers.{seen, typed_at, judgement_seen, and_judged, or_judged};
 ghost use Rattle.cedar_typechecker_answers.specs.Steps.{goes_on_with, step_seen, true_where_true};
 
 use crate::answer::{Judged, TypecheckAnswer, judged_node};
 use crate::faults::{Faults, failed, no_type};
+use crate::parts::shared_two;
 use cedar_expr_names::Loc;
 use cedar_expr_trees::{Expr, ExprKind};
 use cedar_schema_types::{BoolType, Type};
@@ -21,7 +24,6 @@ use cedar_store_records::ValidationErrorKind;
 use cedar_typechecker_facts::CapabilitySet;
 use cedar_typechecker_nodes::untyped;
 use std::alloc::{AllocError, Global};
-use std::rc::Rc;
 
 /// What follows the left side: an answer, or going on to the right side with it and with what is known then.
 #[derive(Drop)]
@@ -57,21 +59,11 @@ pub fn and_step<'a>(
     };
     match expr.data() {
         Some(Type::Bool(BoolType::False)) => {
-            let right = untyped(alloc, right)?;
-            let left = Rc::new(alloc, expr)?;
-            let right = Rc::new(alloc, right)?;
             let judged = Judged {
                 ty: Type::Bool(BoolType::False),
                 known: CapabilitySet::new(alloc),
             };
-            let kind = ExprKind::And { left, right };
-            Ok(Step::Done(judged_node(
-                faults,
-                kind,
-                place,
-                Some(judged),
-                ValidationErrorKind::UnexpectedType,
-            )?))
+            Ok(Step::Done(and_left_alone(alloc, faults, place, expr, right, judged)?))
         }
         Some(Type::Bool(BoolType::True)) | Some(Type::Bool(BoolType::AnyBool)) => {
             let known = known.union(&own)?;
@@ -97,36 +89,33 @@ pub fn and_step<'a>(
     }
 }
 
-/// The answer of a conjunction by those of both sides.
-pub fn and_answer<'a>(
+// The answer of a conjunction by its left side alone.
+fn and_left_alone<'a>(
     alloc: Global,
     faults: &mut Faults,
     place: Option<Loc>,
-    left: TypecheckAnswer<'a>,
-    right: TypecheckAnswer<'a>,
+    left: Expr<Option<Type>>,
+    right: &Expr,
+    judged: Judged<'a>,
 ) -> Result<TypecheckAnswer<'a>, AllocError>
-    ensures { IfOk result (λ a. seen a ≡ option_and_then (λ x. option_and_then (and_typed x) (seen right.entry)) (seen left.entry)) }
+    ensures { IfOk result (λ a. seen a ≡ noted (both (tree_of left) (tree_of right.now)) (two (marks_of left) (blank (tree_of right.now))) (Some (judgement_seen judged.entry))) }
 {
-    let TypecheckAnswer::Success {
-        expr_type: left,
-        expr_capability: own,
-    } = left
-    else {
-        return Ok(no_type());
-    };
-    let TypecheckAnswer::Success {
-        expr_type: right,
-        expr_capability: other,
-    } = right
-    else {
-        return Ok(no_type());
-    };
-    let (Some(first), Some(second)) = (left.data(), right.data()) else {
-        return Ok(no_type());
-    };
-    let judged = conjoined(alloc, first, own, second, other)?;
-    let left = Rc::new(alloc, left)?;
-    let right = Rc::new(alloc, right)?;
+    let right = untyped(alloc, right)?;
+    and_node(alloc, faults, place, left, right, Some(judged))
+}
+
+// The node of a conjunction of these sides, by its judgement.
+fn and_node<'a>(
+    alloc: Global,
+    faults: &mut Faults,
+    place: Option<Loc>,
+    left: Expr<Option<Type>>,
+    right: Expr<Option<Type>>,
+    judged: Option<Judged<'a>>,
+) -> Result<TypecheckAnswer<'a>, AllocError>
+    ensures { IfOk result (λ a. seen a ≡ noted (both (tree_of left) (tree_of right)) (two (marks_of left) (marks_of right)) (option_map judgement_seen judged.entry)) }
+{
+    let (left, right) = shared_two(alloc, left, right)?;
     let kind = ExprKind::And { left, right };
     judged_node(
         faults,
@@ -137,15 +126,67 @@ pub fn and_answer<'a>(
     )
 }
 
+/// The answer of a conjunction by those of both sides.
+pub fn and_answer<'a>(
+    alloc: Global,
+    faults: &mut Faults,
+    place: Option<Loc>,
+    left: TypecheckAnswer<'a>,
+    right: TypecheckAnswer<'a>,
+) -> Result<TypecheckAnswer<'a>, AllocError>
+    ensures { IfOk result (λ a. seen a ≡ option_and_then (λ x. option_and_then (and_typed x) (seen right.entry)) (seen left.entry)) }
+{
+    let judged = and_judgement(alloc, &left, &right)?;
+    match (left, right) {
+        (
+            TypecheckAnswer::Success {
+                expr_type: left,
+                ..
+            },
+            TypecheckAnswer::Success {
+                expr_type: right,
+                ..
+            },
+        ) => and_node(alloc, faults, place, left, right, judged),
+        _ => Ok(no_type()),
+    }
+}
+
+// The judgement of a conjunction by the answers of both sides.
+fn and_judgement<'a>(
+    alloc: Global,
+    left: &TypecheckAnswer<'a>,
+    right: &TypecheckAnswer<'a>,
+) -> Result<Option<Judged<'a>>, AllocError>
+    ensures { IfOk result (λ j. option_map judgement_seen j ≡ option_and_then (λ x. option_and_then (and_judged x) (seen right.now)) (seen left.now)) }
+{
+    match (left, right) {
+        (
+            TypecheckAnswer::Success {
+                expr_type: left,
+                expr_capability: own,
+            },
+            TypecheckAnswer::Success {
+                expr_type: right,
+                expr_capability: other,
+            },
+        ) => match (left.data(), right.data()) {
+            (Some(first), Some(second)) => conjoined(alloc, first, own, second, other),
+            _ => Ok(None),
+        },
+        _ => Ok(None),
+    }
+}
+
 // The judgement of a conjunction of sides of these types.
 fn conjoined<'a>(
     alloc: Global,
     left: &Type,
-    own: CapabilitySet<'a>,
+    own: &CapabilitySet<'a>,
     right: &Type,
-    other: CapabilitySet<'a>,
+    other: &CapabilitySet<'a>,
 ) -> Result<Option<Judged<'a>>, AllocError>
-    ensures { IfOk result (λ j. option_map judgement_seen j ≡ conjoined_by (type_of left.now) (facts_of own.entry) (type_of right.now) (facts_of other.entry)) }
+    ensures { IfOk result (λ j. option_map judgement_seen j ≡ conjoined_by (type_of left.now) (facts_of own.now) (type_of right.now) (facts_of other.now)) }
 {
     match left {
         Type::Bool(b) => conjoined_bool(alloc, *b, own, right, other),
@@ -163,11 +204,11 @@ fn conjoined<'a>(
 pub fn conjoined_bool<'a>(
     alloc: Global,
     left: BoolType,
-    own: CapabilitySet<'a>,
+    own: &CapabilitySet<'a>,
     right: &Type,
-    other: CapabilitySet<'a>,
+    other: &CapabilitySet<'a>,
 ) -> Result<Option<Judged<'a>>, AllocError>
-    ensures { IfOk result (λ j. option_map judgement_seen j ≡ conjoined (bool_type_of left) (facts_of own.entry) (type_of right.now) (facts_of other.entry)) }
+    ensures { IfOk result (λ j. option_map judgement_seen j ≡ conjoined (bool_type_of left) (facts_of own.now) (type_of right.now) (facts_of other.now)) }
 {
     match right {
         Type::Bool(BoolType::False) => Ok(Some(Judged {
@@ -176,11 +217,11 @@ pub fn conjoined_bool<'a>(
         })),
         Type::Bool(BoolType::True) => Ok(Some(Judged {
             ty: Type::Bool(true_where_true(left)),
-            known: own.union(&other)?,
+            known: own.union(other)?,
         })),
         Type::Bool(BoolType::AnyBool) => Ok(Some(Judged {
             ty: Type::Bool(BoolType::AnyBool),
-            known: own.union(&other)?,
+            known: own.union(other)?,
         })),
         Type::Never
         | Type::Long
@@ -221,21 +262,11 @@ pub fn or_step<'a>(
     };
     match expr.data() {
         Some(Type::Bool(BoolType::True)) => {
-            let right = untyped(alloc, right)?;
-            let left = Rc::new(alloc, expr)?;
-            let right = Rc::new(alloc, right)?;
             let judged = Judged {
                 ty: Type::Bool(BoolType::True),
                 known: own,
             };
-            let kind = ExprKind::Or { left, right };
-            Ok(Step::Done(judged_node(
-                faults,
-                kind,
-                place,
-                Some(judged),
-                ValidationErrorKind::UnexpectedType,
-            )?))
+            Ok(Step::Done(or_left_alone(alloc, faults, place, expr, right, judged)?))
         }
         Some(Type::Bool(BoolType::False)) => Ok(goes_on(alloc, expr, own)),
         Some(Type::Bool(BoolType::AnyBool)) => Ok(goes_on(alloc, expr, own)),
@@ -270,6 +301,43 @@ fn goes_on<'a>(
     }
 }
 
+// The answer of a disjunction by its left side alone.
+fn or_left_alone<'a>(
+    alloc: Global,
+    faults: &mut Faults,
+    place: Option<Loc>,
+    left: Expr<Option<Type>>,
+    right: &Expr,
+    judged: Judged<'a>,
+) -> Result<TypecheckAnswer<'a>, AllocError>
+    ensures { IfOk result (λ a. seen a ≡ noted (either (tree_of left) (tree_of right.now)) (two (marks_of left) (blank (tree_of right.now))) (Some (judgement_seen judged.entry))) }
+{
+    let right = untyped(alloc, right)?;
+    or_node(alloc, faults, place, left, right, Some(judged))
+}
+
+// The node of a disjunction of these sides, by its judgement.
+fn or_node<'a>(
+    alloc: Global,
+    faults: &mut Faults,
+    place: Option<Loc>,
+    left: Expr<Option<Type>>,
+    right: Expr<Option<Type>>,
+    judged: Option<Judged<'a>>,
+) -> Result<TypecheckAnswer<'a>, AllocError>
+    ensures { IfOk result (λ a. seen a ≡ noted (either (tree_of left) (tree_of right)) (two (marks_of left) (marks_of right)) (option_map judgement_seen judged.entry)) }
+{
+    let (left, right) = shared_two(alloc, left, right)?;
+    let kind = ExprKind::Or { left, right };
+    judged_node(
+        faults,
+        kind,
+        place,
+        judged,
+        ValidationErrorKind::UnexpectedType,
+    )
+}
+
 /// The answer of a disjunction by those of both sides.
 pub fn or_answer<'a>(
     alloc: Global,
@@ -280,34 +348,38 @@ pub fn or_answer<'a>(
 ) -> Result<TypecheckAnswer<'a>, AllocError>
     ensures { IfOk result (λ a. seen a ≡ option_and_then (λ x. option_and_then (or_typed x) (seen right.entry)) (seen left.entry)) }
 {
-    let TypecheckAnswer::Success {
-        expr_type: left,
-        expr_capability: own,
-    } = left
-    else {
-        return Ok(no_type());
-    };
-    let TypecheckAnswer::Success {
-        expr_type: right,
-        expr_capability: other,
-    } = right
-    else {
-        return Ok(no_type());
-    };
-    let (Some(first), Some(second)) = (left.data(), right.data()) else {
-        return Ok(no_type());
-    };
-    let judged = disjoined(alloc, first, own, second, other)?;
-    let left = Rc::new(alloc, left)?;
-    let right = Rc::new(alloc, right)?;
-    let kind = ExprKind::Or { left, right };
-    judged_node(
-        faults,
-        kind,
-        place,
-        judged,
-        ValidationErrorKind::UnexpectedType,
-    )
+    match (left, right) {
+        (
+            TypecheckAnswer::Success {
+                expr_type: left,
+                expr_capability: own,
+            },
+            TypecheckAnswer::Success {
+                expr_type: right,
+                expr_capability: other,
+            },
+        ) => {
+            let judged = or_judgement(alloc, &left, own, &right, other)?;
+            or_node(alloc, faults, place, left, right, judged)
+        }
+        _ => Ok(no_type()),
+    }
+}
+
+// The judgement of a disjunction of these sides, where both have types.
+fn or_judgement<'a>(
+    alloc: Global,
+    left: &Expr<Option<Type>>,
+    own: CapabilitySet<'a>,
+    right: &Expr<Option<Type>>,
+    other: CapabilitySet<'a>,
+) -> Result<Option<Judged<'a>>, AllocError>
+    ensures { IfOk result (λ j. option_map judgement_seen j ≡ or_judged (data_of left.now) (facts_of own.entry) (data_of right.now) (facts_of other.entry)) }
+{
+    match (left.data(), right.data()) {
+        (Some(first), Some(second)) => disjoined(alloc, first, own, second, other),
+        _ => Ok(None),
+    }
 }
 
 // The judgement of a disjunction of sides of these types.

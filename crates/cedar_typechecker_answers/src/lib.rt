@@ -7,6 +7,7 @@ mod answer;
 mod choice;
 mod connectives;
 mod faults;
+mod parts;
 mod sequence;
 mod surface;
 
@@ -14,3 +15,4 @@ pub use answer::{Judged, TypecheckAnswer, judged_node, plain_node};
 pub use choice::{ChoiceStep, choice_step, first_answer, second_answer};
 pub use connectives::{Step, and_answer, and_step, conjoined_bool, or_answer, or_step};
 pub use faults::{Faults, TypeFault, failed, no_type};
+pub use parts::shared_two;

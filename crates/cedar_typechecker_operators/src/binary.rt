@@ -1,6 +1,7 @@
 //! Operators of two operands.
 
 ghost use Rattle.std.specs.Prelude.{◌≡◌, option_map, option_and_then, IfOk};
+ghost use Rattle.cedar_expr_model.specs.Tree.{binary};
 ghost use Rattle.cedar_expr_leaves.specs.Operators.{binary_op_of};
 ghost use Rattle.cedar_expr_trees.specs.Trees.{tree_of};
 ghost use Rattle.cedar_schema_types.specs.Types.{type_of};
@@ -9,7 +10,8 @@ ghost use Rattle.cedar_typechecker_model.specs.Facts.{tag_part};
 ghost use Rattle.cedar_typechecker_model.specs.Rules.{get_tag_type as model_get_tag_type, has_tag_type as model_has_tag_type};
 ghost use Rattle.cedar_typechecker_model.specs.Typing.{binary_judged, plain, tested as model_tested};
 ghost use Rattle.cedar_typechecker_environments.specs.Settings.{setting_of};
-ghost use Rattle.cedar_typechecker_typed_model.specs.Typed.{binary_typed};
+ghost use Rattle.cedar_typechecker_typed_model.specs.Typed.{binary_typed, noted, two};
+ghost use Rattle.cedar_typechecker_nodes.specs.Marked.{marks_of};
 ghost use Rattle.cedar_typechecker_answers.specs.Answers.{seen, judgement_seen};
 
 use crate::operators::tested;
@@ -18,7 +20,9 @@ use cedar_expr_names::Loc;
 use cedar_expr_trees::{Expr, ExprKind};
 use cedar_schema_types::Type;
 use cedar_store_records::ValidationErrorKind;
-use cedar_typechecker_answers::{Faults, Judged, TypecheckAnswer, judged_node, no_type};
+use cedar_typechecker_answers::{
+    Faults, Judged, TypecheckAnswer, judged_node, no_type, shared_two,
+};
 use cedar_typechecker_environments::{TypingSchema, World};
 use cedar_typechecker_facts::{Capability, CapabilitySet};
 use cedar_typechecker_rules::{
@@ -26,7 +30,6 @@ use cedar_typechecker_rules::{
     sets_type,
 };
 use std::alloc::{AllocError, Global};
-use std::rc::Rc;
 
 /// The answer of an operator by those of its operands, where these facts are known.
 pub fn binary_answer<'a, S: TypingSchema>(
@@ -43,33 +46,68 @@ pub fn binary_answer<'a, S: TypingSchema>(
 ) -> Result<TypecheckAnswer<'a>, AllocError>
     ensures { IfOk result (λ r. seen r ≡ option_and_then (λ x. option_and_then (binary_typed (setting_of S.schema S.table world.now) (facts_of known.now) (binary_op_of op) (tree_of a.entry.now) (tree_of b.entry.now) x) (seen second.entry)) (seen first.entry)) }
 {
-    let TypecheckAnswer::Success {
-        expr_type: arg1,
-        ..
-    } = first
-    else {
-        return Ok(no_type());
-    };
-    let TypecheckAnswer::Success {
-        expr_type: arg2,
-        ..
-    } = second
-    else {
-        return Ok(no_type());
-    };
-    let (Some(t), Some(u)) = (arg1.data(), arg2.data()) else {
-        return Ok(no_type());
-    };
-    let judged = binary_judgement(alloc, world, known, op, a, b, t, u)?;
-    let arg1 = Rc::new(alloc, arg1)?;
-    let arg2 = Rc::new(alloc, arg2)?;
-    judged_node(
-        faults,
-        ExprKind::BinaryApp { op, arg1, arg2 },
-        place,
-        judged,
-        wrong(op),
-    )
+    let judged = operands_judgement(alloc, world, known, op, a, b, &first, &second)?;
+    match (first, second) {
+        (
+            TypecheckAnswer::Success {
+                expr_type: arg1,
+                ..
+            },
+            TypecheckAnswer::Success {
+                expr_type: arg2,
+                ..
+            },
+        ) => binary_node(alloc, faults, place, op, arg1, arg2, judged),
+        _ => Ok(no_type()),
+    }
+}
+
+// The node of an operator of these operands, by its judgement.
+fn binary_node<'a>(
+    alloc: Global,
+    faults: &mut Faults,
+    place: Option<Loc>,
+    op: BinaryOp,
+    arg1: Expr<Option<Type>>,
+    arg2: Expr<Option<Type>>,
+    judged: Option<Judged<'a>>,
+) -> Result<TypecheckAnswer<'a>, AllocError>
+    ensures { IfOk result (λ a. seen a ≡ noted (binary (binary_op_of op) (tree_of arg1) (tree_of arg2)) (two (marks_of arg1) (marks_of arg2)) (option_map judgement_seen judged.entry)) }
+{
+    let (arg1, arg2) = shared_two(alloc, arg1, arg2)?;
+    let kind = ExprKind::BinaryApp { op, arg1, arg2 };
+    judged_node(faults, kind, place, judged, wrong(op))
+}
+
+// The judgement of an operator by the answers of its operands.
+fn operands_judgement<'a, S: TypingSchema>(
+    alloc: Global,
+    world: &World<'_, S>,
+    known: &CapabilitySet<'a>,
+    op: BinaryOp,
+    a: &'a Expr,
+    b: &'a Expr,
+    first: &TypecheckAnswer<'a>,
+    second: &TypecheckAnswer<'a>,
+) -> Result<Option<Judged<'a>>, AllocError>
+    ensures { IfOk result (λ j. option_map judgement_seen j ≡ option_and_then (λ x. option_and_then (λ y. binary_judged (setting_of S.schema S.table world.now) (facts_of known.now) (binary_op_of op) (tree_of a.entry.now) (tree_of b.entry.now) x.type y.type) (seen second.now)) (seen first.now)) }
+{
+    match (first, second) {
+        (
+            TypecheckAnswer::Success {
+                expr_type: arg1,
+                ..
+            },
+            TypecheckAnswer::Success {
+                expr_type: arg2,
+                ..
+            },
+        ) => match (arg1.data(), arg2.data()) {
+            (Some(t), Some(u)) => binary_judgement(alloc, world, known, op, a, b, t, u),
+            _ => Ok(None),
+        },
+        _ => Ok(None),
+    }
 }
 
 // What is wrong where an operator has no type.

@@ -5,15 +5,17 @@ ghost use Rattle.std.specs.Rc.{rc_str_bytes};
 ghost use Rattle.cedar_expr_names.specs.Views.{type_name_of};
 ghost use Rattle.cedar_expr_leaves.specs.Operators.{unary_op_of};
 ghost use Rattle.cedar_expr_leaves.specs.Patterns.{pattern_of};
-ghost use Rattle.cedar_expr_trees.specs.Trees.{tree_of};
+ghost use Rattle.cedar_expr_model.specs.Tree.{get_attr, has_attr, like, is_type};
+ghost use Rattle.cedar_expr_trees.specs.Trees.{tree_of, kind_tree};
 ghost use Rattle.cedar_typechecker_facts.specs.Facts.{capability_of, facts_of};
 ghost use Rattle.cedar_typechecker_environments.specs.Settings.{setting_of};
-ghost use Rattle.cedar_typechecker_typed_model.specs.Typed.{unary_typed, like_typed, is_typed, get_typed, has_typed};
+ghost use Rattle.cedar_typechecker_typed_model.specs.Typed.{unary_typed, like_typed, is_typed, get_typed, has_typed, noted, one};
 ghost use Rattle.cedar_schema_types.specs.Kinds.{bool_type_of};
 ghost use Rattle.cedar_schema_types.specs.Types.{type_of};
 ghost use Rattle.cedar_typechecker_model.specs.Rules.{get_type as model_get_type, has_type as model_has_type};
 ghost use Rattle.cedar_typechecker_model.specs.Facts.{attribute_part};
-ghost use Rattle.cedar_typechecker_model.specs.Typing.{tested as model_tested};
+ghost use Rattle.cedar_typechecker_model.specs.Typing.{plain, tested as model_tested};
+ghost use Rattle.cedar_typechecker_nodes.specs.Marked.{marks_of, kind_marks};
 ghost use Rattle.cedar_typechecker_answers.specs.Answers.{seen, judgement_seen};
 
 use cedar_expr_leaves::{Pattern, UnaryOp};
@@ -84,17 +86,25 @@ pub fn like_answer<'a>(
         return Ok(no_type());
     };
     let ty = like_type(operand);
+    like_node(alloc, faults, place, expr, pattern, ty)
+}
+
+// The node of a test of this expression against a pattern, by its type.
+fn like_node<'a>(
+    alloc: Global,
+    faults: &mut Faults,
+    place: Option<Loc>,
+    expr: Expr<Option<Type>>,
+    pattern: &Pattern,
+    ty: Option<Type>,
+) -> Result<TypecheckAnswer<'a>, AllocError>
+    ensures { IfOk result (λ a. seen a ≡ noted (like (tree_of expr) (pattern_of pattern.now)) (one (marks_of expr)) (plain (option_map type_of ty))) }
+{
     let pattern = pattern.clone()?;
     let expr = Rc::new(alloc, expr)?;
     let kind = ExprKind::Like { expr, pattern };
-    plain_node(
-        alloc,
-        faults,
-        kind,
-        place,
-        ty,
-        ValidationErrorKind::UnexpectedType,
-    )
+    let wrong = ValidationErrorKind::UnexpectedType;
+    plain_node(alloc, faults, kind, place, ty, wrong)
 }
 
 /// The answer of a test of an entity's type by that of its operand.
@@ -118,17 +128,25 @@ pub fn is_answer<'a>(
         return Ok(no_type());
     };
     let ty = is_type_type(kind, operand);
+    is_node(alloc, faults, place, expr, kind, ty)
+}
+
+// The node of a test of this expression's entity type, by its type.
+fn is_node<'a>(
+    alloc: Global,
+    faults: &mut Faults,
+    place: Option<Loc>,
+    expr: Expr<Option<Type>>,
+    kind: &EntityType,
+    ty: Option<Type>,
+) -> Result<TypecheckAnswer<'a>, AllocError>
+    ensures { IfOk result (λ a. seen a ≡ noted (is_type (tree_of expr) (type_name_of kind.now)) (one (marks_of expr)) (plain (option_map type_of ty))) }
+{
     let entity_type = kind.clone()?;
     let expr = Rc::new(alloc, expr)?;
     let kind = ExprKind::Is { expr, entity_type };
-    plain_node(
-        alloc,
-        faults,
-        kind,
-        place,
-        ty,
-        ValidationErrorKind::UnexpectedType,
-    )
+    let wrong = ValidationErrorKind::UnexpectedType;
+    plain_node(alloc, faults, kind, place, ty, wrong)
 }
 
 /// The answer of an attribute's value by that of what has it, where these facts are known.
@@ -155,17 +173,37 @@ pub fn get_answer<'a, S: TypingSchema>(
         return Ok(no_type());
     };
     let ty = known_type(alloc, world, known, of, operand, attr)?;
+    get_node(alloc, faults, place, expr, attr, ty)
+}
+
+// The node of an attribute's value, by its type.
+fn get_node<'a>(
+    alloc: Global,
+    faults: &mut Faults,
+    place: Option<Loc>,
+    expr: Expr<Option<Type>>,
+    attr: &RcStr,
+    ty: Option<Type>,
+) -> Result<TypecheckAnswer<'a>, AllocError>
+    ensures { IfOk result (λ a. seen a ≡ noted (get_attr (tree_of expr) (rc_str_bytes attr.now)) (one (marks_of expr)) (plain (option_map type_of ty))) }
+{
     let wrong = ValidationErrorKind::UnsafeAttributeAccess(attr.clone()?);
+    let kind = get_kind(alloc, expr, attr)?;
+    plain_node(alloc, faults, kind, place, ty, wrong)
+}
+
+// The kind of an attribute's value.
+fn get_kind(
+    alloc: Global,
+    expr: Expr<Option<Type>>,
+    attr: &RcStr,
+) -> Result<ExprKind<Option<Type>>, AllocError>
+    ensures tree { IfOk result (λ k. kind_tree k ≡ get_attr (tree_of expr) (rc_str_bytes attr.now)) }
+    ensures marks { IfOk result (λ k. kind_marks k ≡ one (marks_of expr)) }
+{
     let attr = attr.clone()?;
     let expr = Rc::new(alloc, expr)?;
-    plain_node(
-        alloc,
-        faults,
-        ExprKind::GetAttr { expr, attr },
-        place,
-        ty,
-        wrong,
-    )
+    Ok(ExprKind::GetAttr { expr, attr })
 }
 
 // The type of an attribute that is declared and required, or one of the facts.
@@ -214,6 +252,20 @@ pub fn has_answer<'a, S: TypingSchema>(
         return Ok(no_type());
     };
     let judged = attribute_judgement(alloc, world, of, attr, operand)?;
+    has_node(alloc, faults, place, expr, attr, judged)
+}
+
+// The node of a test of an attribute, by its judgement.
+fn has_node<'a>(
+    alloc: Global,
+    faults: &mut Faults,
+    place: Option<Loc>,
+    expr: Expr<Option<Type>>,
+    attr: &RcStr,
+    judged: Option<Judged<'a>>,
+) -> Result<TypecheckAnswer<'a>, AllocError>
+    ensures { IfOk result (λ a. seen a ≡ noted (has_attr (tree_of expr) (rc_str_bytes attr.now)) (one (marks_of expr)) (option_map judgement_seen judged.entry)) }
+{
     let attr = attr.clone()?;
     let expr = Rc::new(alloc, expr)?;
     let kind = ExprKind::HasAttr { expr, attr };

@@ -163,7 +163,7 @@ fn joined<'a>(
     ensures { IfOk result (λ j. option_map judgement_seen j ≡ option_and_then (λ r. conjoined (bool_type_of left) (facts_of known.entry) r.type r.facts) (option_map judgement_seen rest.entry)) }
 {
     match rest {
-        Some(Judged { ty, known: other }) => conjoined_bool(alloc, left, known, &ty, other),
+        Some(Judged { ty, known: other }) => conjoined_bool(alloc, left, &known, &ty, &other),
         None => Ok(None),
     }
 }

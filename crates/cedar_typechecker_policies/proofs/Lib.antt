@@ -5,3 +5,5 @@ pub mod Over
 pub mod Said
 pub mod Sound
 pub mod Wrong
+mod Marked
+pub mod Typing

@@ -8,9 +8,9 @@ use Rattle.cedar_expr_trees.specs.declared.expr.Expr.{Expr}
 use Rattle.cedar_schema_model.specs.Types.{only_false, Ty, bool_type}
 use Rattle.cedar_schema_types.specs.declared.types.Type.{«Type» as CodeType}
 use Rattle.cedar_schema_types.specs.Types as code
-use Rattle.cedar_typechecker_conditions.specs.Checks.{IsTypedAs, IsVerdictOf}
-use Rattle.cedar_typechecker_conditions.specs.declared.verdict.Verdict.{Verdict as CodeVerdict}
-use Rattle.cedar_typechecker_conditions.proofs.Typing.{no_type, none_violated, verdict_held, violated_at}
+use Rattle.cedar_typechecker_policies.specs.Conditions.{IsTypedAs, IsVerdictOf}
+use Rattle.cedar_typechecker_policies.specs.declared.verdict.Verdict.{Verdict as CodeVerdict}
+use Rattle.cedar_typechecker_policies.proofs.Typing.{no_type, none_violated, verdict_held, violated_at}
 use Rattle.cedar_typechecker_levels.specs.Marked.{marks_of}
 use Rattle.cedar_typechecker_model.specs.Facts.{no_facts}
 use Rattle.cedar_typechecker_model.specs.Rules.{Setting}

@@ -8,7 +8,7 @@ use Rattle.cedar_expr_model.specs.Name.{Text}
 use Rattle.cedar_expr_model.specs.Tree.{Tree}
 use Rattle.cedar_store_parts.specs.Parts.{id_text}
 use Rattle.cedar_store_records.specs.declared.diagnostics.ValidationError.{ValidationError}
-use Rattle.cedar_typechecker_conditions.specs.Checks.{IsTypedAs, IsVerdictOf}
+use Rattle.cedar_typechecker_policies.specs.Conditions.{IsTypedAs, IsVerdictOf}
 use Rattle.cedar_typechecker_model.specs.Facts.{no_facts}
 use Rattle.cedar_typechecker_model.specs.Rules.{Setting}
 use Rattle.cedar_typechecker_model.specs.Typing.{type_of}

@@ -3,3 +3,4 @@ pub mod Findings
 pub mod Found
 pub mod Iterated
 pub mod Sound
+pub mod Conditions

@@ -7,7 +7,7 @@ ghost use Rattle.cedar_expr_model.specs.Tree.{Tree};
 ghost use Rattle.cedar_store_model.specs.Policy.{condition};
 ghost use Rattle.cedar_store_parts.specs.Parts.{id_text};
 ghost use Rattle.cedar_store_policies.specs.Templates.{template_of};
-ghost use Rattle.cedar_typechecker_conditions.specs.Checks.{IsTypedAs, IsVerdictOf};
+ghost use Rattle.cedar_typechecker_policies.specs.Conditions.{IsTypedAs, IsVerdictOf};
 ghost use Rattle.cedar_typechecker_environments.specs.Settings.{setting_of};
 ghost use Rattle.cedar_typechecker_model.specs.Facts.{no_facts};
 ghost use Rattle.cedar_typechecker_model.specs.Rules.{Setting};
@@ -16,6 +16,7 @@ ghost use Rattle.cedar_typechecker_policies.specs.Checks.{IsChecked, is_error_of
 ghost use Rattle.cedar_typechecker_typed_model.specs.Typed.{typed};
 
 use crate::errors::errors_of;
+use crate::{Verdict, no_bool, typed_condition, verdict_of};
 use cedar_expr_names::Loc;
 use cedar_expr_trees::Expr;
 use cedar_schema_types::Type;
@@ -23,7 +24,6 @@ use cedar_store_parts::PolicyID;
 use cedar_store_policies::Template;
 use cedar_store_records::ValidationError;
 use cedar_typechecker_answers::Faults;
-use cedar_typechecker_conditions::{Verdict, no_bool, typed_condition, verdict_of};
 use cedar_typechecker_environments::{TypingSchema, World};
 use cedar_typechecker_typed_model::laws::typed_as_judged;
 use std::alloc::{AllocError, Global};

@@ -13,11 +13,11 @@ ghost use Rattle.cedar_typechecker_model.specs.Verdicts.{in_mode, policy_environ
 ghost use Rattle.cedar_typechecker_policies.specs.Checks.{IsChecked};
 ghost use Rattle.cedar_typechecker_policies.specs.Findings.{ChecksOver};
 
+use crate::Verdict;
 use crate::checked::{Checked, check_condition};
 use cedar_schema_joins::ValidationMode;
 use cedar_store_policies::Template;
 use cedar_store_records::ValidationError;
-use cedar_typechecker_conditions::Verdict;
 use cedar_typechecker_environments::{RequestEnv, TypingSchema, World};
 use cedar_typechecker_scopes::{SchemaEnvironments, policy_environments};
 use std::alloc::{AllocError, Global};

@@ -1,2 +1,4 @@
 pub mod Views
 pub mod Laws
+pub mod Pairs
+pub mod Types

@@ -1,13 +1,13 @@
 //! A built schema with a table of extension functions.
 
 ghost use Rattle.cedar_schema_built.specs.Views.{schema_kept};
-ghost use Rattle.cedar_typechecker_actions.specs.Types.{AreTypesOf};
+ghost use Rattle.cedar_typechecker_schemas.specs.Types.{AreTypesOf};
 ghost use Rattle.cedar_typechecker_seen_model.specs.Seen.{ClosedByTests, IsKeptOnce};
 
+use crate::action_types::ActionTypes;
 use cedar_expr_functions::Extensions;
 use cedar_schema_built::ValidatorSchema;
 use cedar_schema_built::laws::schemas_are_in_order;
-use cedar_typechecker_actions::ActionTypes;
 use std::alloc::{AllocError, Global};
 
 /// A built schema with a table of extension functions, and what is asked often of the types of its actions.

@@ -7,7 +7,7 @@ ghost use Rattle.cedar_expr_model.specs.Name.{name_eq};
 ghost use Rattle.cedar_expr_functions.specs.Tables.{ordered_of};
 ghost use Rattle.cedar_expr_names.specs.Views.{plain_name_of, type_name_of};
 ghost use Rattle.cedar_schema_built.specs.Views.{schema_kept};
-ghost use Rattle.cedar_typechecker_actions.specs.Types.{descends_by_actions};
+ghost use Rattle.cedar_typechecker_schemas.specs.Types.{descends_by_actions};
 ghost use Rattle.cedar_typechecker_schemas.specs.Views.{schema_of, table_seen};
 ghost use Rattle.cedar_typechecker_seen_model.specs.Asked.{type_is_below};
 

@@ -1,5 +1,7 @@
-use Rattle.std.proofs.Common.{rules, ◌+◌, ◌≡◌, Some, take, add-one}
+use Rattle.std.proofs.Common.{rules, ◌+◌, ◌≡◌, Some, ap, subst, take, add-one}
+use Rattle.std.proofs.lemmas.List.{take_all}
 use Rattle.cedar_expr_names.specs.Views.{uid_of}
+use Rattle.cedar_gate_distances.specs.Kept.{IsFollowed}
 use Rattle.cedar_gate_distances.specs.Rows.{found_at, mentions_in, uids}
 use Rattle.cedar_gate_distances.proofs.Going.{next_uid}
 use Rattle.cedar_gate_distances.proofs.Following.{followed_more, followed_skip}
@@ -36,3 +38,9 @@ returns-in_err-spread-clause-next c = λ x k. c.spread.ensures.next x (c.loop-ke
 
 pub returns-in_err-spread-clause-undo : goal.returns-in_err-spread-clause-undo
 returns-in_err-spread-clause-undo c = λ f i. c.spread.ensures.undo f (c.loop-key.invariant.undo f i)
+
+pub returns-clause-followed : goal.returns-clause-followed
+returns-clause-followed c =
+    let all = take_all c.loop-key.key-index c.args.keys.now c.loop-key-test.false in
+    let mentions = mentions_in c.args.loaded.now in
+    subst (λ ks. IsFollowed mentions (found_at c.args.near.now) (found_at c.loop-key.near) c.args.distance ks (uids c.loop-key.next.items)) (ap uids all) c.loop-key.invariant.followed

@@ -1,7 +1,9 @@
-use Rattle.std.proofs.Common.{rules, ◌≡◌, [], ◌∷◌, ◌++◌, Contains, sym, subst, take}
+use Rattle.std.proofs.Common.{rules, ◌≡◌, [], ◌∷◌, ◌++◌, Contains, sym, ap, subst, take}
+use Rattle.std.proofs.lemmas.List.{take_all}
 use Rattle.std.proofs.lemmas.List.Elements.{Contains-append_left}
 use Rattle.cedar_expr_names.specs.Views.{uid_of}
-use Rattle.cedar_gate_distances.specs.Rows.{uids}
+use Rattle.cedar_gate_distances.specs.Rows.{found_at, uids}
+use Rattle.cedar_gate_distances.specs.Kept.{IsSpread}
 use Rattle.cedar_gate_distances.proofs.Going.{next_uid, pushed_uids}
 use Rattle.cedar_gate_distances.proofs.Spreading.{spread_lowered, spread_left}
 use Rattle.cedar_gate_distances.proofs.follow.spread.Goals.{then-branch+in_ok-clone+in_ok-push, else-branch}
@@ -40,3 +42,23 @@ returns-clause-next c = c.loop-uid.invariant.next
 
 pub returns-clause-undo : goal.returns-clause-undo
 returns-clause-undo c = c.loop-uid.invariant.undo
+
+pub returns-in_err-lower-clause-next : goal.returns-in_err-lower-clause-next
+returns-in_err-lower-clause-next c = c.loop-uid.invariant.next
+
+pub returns-in_err-lower-clause-undo : goal.returns-in_err-lower-clause-undo
+returns-in_err-lower-clause-undo c = λ f i. c.lower.ensures.undo f (c.loop-uid.invariant.undo f i)
+
+pub returns-in_err-clone-clause-next : goal.returns-in_err-clone-clause-next
+returns-in_err-clone-clause-next c = c.loop-uid.invariant.next
+
+pub returns-in_err-clone-clause-undo : goal.returns-in_err-clone-clause-undo
+returns-in_err-clone-clause-undo c = λ f i. c.lower.ensures.undo f (c.loop-uid.invariant.undo f i)
+
+pub returns-in_err-push-clause-undo : goal.returns-in_err-push-clause-undo
+returns-in_err-push-clause-undo c = λ f i. c.lower.ensures.undo f (c.loop-uid.invariant.undo f i)
+
+pub returns-clause-spread : goal.returns-clause-spread
+returns-clause-spread c =
+    let all = take_all c.loop-uid.uid-index c.args.mentioned.now c.loop-uid-test.false in
+    subst (λ us. IsSpread (found_at c.args.near.now) (found_at c.loop-uid.near) c.args.distance us (uids c.loop-uid.next.items)) (ap uids all) c.loop-uid.invariant.spread

@@ -5,8 +5,8 @@ use Rattle.cedar_schema_model.specs.Types.{strict}
 use Rattle.cedar_schema_types.specs.declared.types.Type.{«Type» as CodeType}
 use Rattle.cedar_store_model.specs.Policy.{condition}
 use Rattle.cedar_store_policies.specs.Policies.{policy_of}
-use Rattle.cedar_typechecker_conditions.specs.Checks.{IsTypedAs}
-use Rattle.cedar_typechecker_conditions.proofs.Typing.{violated_at}
+use Rattle.cedar_typechecker_policies.specs.Conditions.{IsTypedAs}
+use Rattle.cedar_typechecker_policies.proofs.Typing.{violated_at}
 use Rattle.cedar_typechecker_environments.specs.Settings.{environment_of}
 use Rattle.cedar_typechecker_model.specs.Facts.{no_facts}
 use Rattle.cedar_typechecker_model.specs.Verdicts.{in_mode}

@@ -1,5 +1,7 @@
 use Rattle.std.proofs.Common.{◌++◌, [], ◌∷◌, sym, ap, ◌∙◌}
+use Rattle.std.proofs.lemmas.List.{take_all}
 use Rattle.std.specs.BTreeMap.{get}
+use Rattle.std.specs.List.{filter_map}
 use Rattle.std.specs.Option.{option_copied}
 use Rattle.cedar_schema_nodes.proofs.Numbering.{kept_some, kept_none}
 use Rattle.cedar_schema_nodes.proofs.numbers.numbers_of.Goals as goal
@@ -16,3 +18,9 @@ loop-name-preserved g c =
           ap (λ v. v.items) w.found-is ∙ c.loop-name.invariant
           ∙ sym (kept_none number c.args.names.now c.loop-name.name-index c.name-item.result c.loop-name-test.true c.name-item.is (sym c.get.ensures.value ∙ ap option_copied w.in-None.is))
     ]
+
+pub loop-name-init : goal.loop-name-init
+loop-name-init g c = c.in_ok-found.ensures.items
+
+pub returns : goal.returns
+returns g c = c.loop-name.invariant ∙ ap (filter_map (get g.N.Ord.cmp c.args.numbers.now)) (take_all c.loop-name.name-index c.args.names.now c.loop-name-test.false)

@@ -1,7 +1,7 @@
 use Rattle.std.proofs.Common.{List, subst}
 use Rattle.cedar_schema_kept_model.specs.Kept.{KeptAction}
 use Rattle.cedar_schema_built.specs.Views.{schema_kept}
-use Rattle.cedar_typechecker_actions.specs.Types.{AreTypesOf}
+use Rattle.cedar_typechecker_schemas.specs.Types.{AreTypesOf}
 use Rattle.cedar_typechecker_seen_model.proofs.Seen.Tests.{closed_by_tests}
 use Rattle.cedar_typechecker_schemas.proofs.Once.{kept_once}
 use Rattle.cedar_typechecker_schemas.proofs.schema_and_functions.SchemaAndFunctions.new.Goals as goal

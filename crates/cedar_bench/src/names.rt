@@ -1,0 +1,6 @@
+//! Each name that the libraries give out.
+
+mod evaluator;
+mod expressions;
+mod schema;
+mod store;

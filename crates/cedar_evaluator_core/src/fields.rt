@@ -1,0 +1,38 @@
+//! The fields of a record, one after the other.
+
+ghost use Rattle.std.specs.Prelude.{◌≡◌, [], ◌∷◌, MatchOption};
+ghost use Rattle.std.specs.BTreeMap.{values};
+
+use cedar_expr_trees::Expr;
+use std::collections::BTreeMap;
+use std::collections::btree_map::Values;
+use std::rc::RcStr;
+
+// What fields hold, as far as it is still to come. A cycle of calls goes over fields by this and not by the map's own iterator,
+// whose proof would be part of the cycle's.
+pub(crate) struct Fields<'a> {
+    left: Values<'a, RcStr, Expr>,
+}
+
+// A drop of its own is one step in the proof of a function that goes over fields.
+impl<'a> Drop for Fields<'a> {
+    fn drop(self) {
+        let Fields { left: _ } = self;
+    }
+}
+
+// What these fields hold, all of it to come.
+pub(crate) fn fields_of<'a>(fields: &'a BTreeMap<RcStr, Expr>) -> Fields<'a>
+    ensures { result.left ≡ values fields.entry.now }
+{
+    Fields {
+        left: fields.values(),
+    }
+}
+
+// The next of what fields hold, if there is more.
+pub(crate) fn next_field<'a>(fields: &mut Fields<'a>) -> Option<&'a Expr>
+    ensures { MatchOption result (fields.old.left ≡ []) (λ e. fields.old.left ≡ e.now ∷ fields.new.left) }
+{
+    fields.left.next()
+}

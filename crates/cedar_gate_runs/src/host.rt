@@ -1,0 +1,56 @@
+//! Hosts, which are asked for entities.
+
+ghost use Rattle.std.specs.Prelude.{◌≡◌, ℕ, ◌<◌, ◌↔◌, List, [], ◌∷◌, ◌++◌, map, IfOk, is_ok, if◌then◌else◌};
+ghost use Rattle.cedar_expr_names.specs.Views.{uid_of};
+ghost use Rattle.cedar_expr_model.specs.Uid.{Uid};
+ghost use Rattle.cedar_gate_runs.specs.Hosts.{Answers, answered_of, answer_from, failures_after};
+
+use cedar_expr_names::EntityUID;
+use cedar_store_entities::Entity;
+use std::alloc::Global;
+use thiserror::Error;
+
+/// Why a host doesn't answer.
+#[derive(Clone, Copy, Debug, PartialEq, Eq, Error)]
+pub enum HostFault {
+    /// Want of memory.
+    #[error("out of memory")]
+    Memory,
+    /// A fault of the host's own.
+    #[error("the host failed")]
+    Device,
+}
+
+/// What is asked for entities.
+pub trait Host {
+    /// The store that the host answers from: the entity of a uid with its values as they were made, where it holds one.
+    ghost store: { Self → Answers };
+    /// The lists of uids that were asked for and answered, in their order.
+    ghost asked: { Self → List (List Uid) };
+    /// The host answers from its store.
+    ghost honest: { Self → Type 0 };
+    /// How many faults of its own the host has had.
+    ghost faults: { Self → ℕ };
+
+    /// How many faults of its own the host has had.
+    fn failures(&self) -> u64
+        ensures { result ≡ faults self.now };
+
+    /// Asks for the entities of these uids. An honest host answers from its store, in the order of the uids.
+    ///
+    /// # Errors
+    ///
+    /// `Device` exactly where the count of failures rose; else want of memory. The list then isn't among those asked.
+    fn fetch(
+        &mut self,
+        alloc: Global,
+        ids: &[EntityUID],
+    ) -> Result<Vec<(EntityUID, Option<Entity>)>, HostFault>
+        requires { faults self.old < u64.MAX }
+        ensures store { store self.new ≡ store self.old }
+        ensures honest { honest self.new ↔ honest self.old }
+        ensures asked { asked self.new ≡ (if is_ok result then asked self.old ++ map uid_of ids.now ∷ [] else asked self.old) }
+        ensures faults { faults self.new ≡ failures_after result (faults self.old) }
+        ensures answers { honest self.old → IfOk result (λ answers.
+            map answered_of answers.items ≡ map (answer_from (store self.old)) (map uid_of ids.now)) };
+}

@@ -1,2 +1,0 @@
-mod Marked
-pub mod Typing

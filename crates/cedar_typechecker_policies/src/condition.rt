@@ -1,0 +1,43 @@
+//! Conditions, typed.
+
+ghost use Rattle.std.specs.Prelude.{◌≡◌, true, is_some, None, IfOk, MatchOption};
+ghost use Rattle.cedar_expr_trees.specs.Trees.{tree_of, data_of};
+ghost use Rattle.cedar_typechecker_policies.specs.Conditions.{IsTypedAs};
+ghost use Rattle.cedar_typechecker_environments.specs.Settings.{setting_of};
+ghost use Rattle.cedar_typechecker_model.specs.Facts.{no_facts};
+ghost use Rattle.cedar_typechecker_typed_model.specs.Typed.{typed};
+
+use cedar_expr_trees::Expr;
+use cedar_schema_types::Type;
+use cedar_typechecker_answers::{Faults, TypecheckAnswer};
+use cedar_typechecker_environments::{TypingSchema, World};
+use cedar_typechecker_facts::CapabilitySet;
+use cedar_typechecker_typing::typecheck;
+use std::alloc::{AllocError, Global};
+
+// The expression, if it has a type.
+fn with_type(expr: Expr<Option<Type>>) -> Option<Expr<Option<Type>>>
+    ensures { MatchOption result (data_of expr ≡ None) (λ e. (e ≡ expr) × (is_some (data_of expr) ≡ true)) }
+{
+    if expr.data().is_some() {
+        Some(expr)
+    } else {
+        None
+    }
+}
+
+/// The condition with the types of its parts, if it has one itself. If it has none, what is wrong with it is put behind the faults.
+pub fn typed_condition<S: TypingSchema>(
+    alloc: Global,
+    world: &World<'_, S>,
+    faults: &mut Faults,
+    condition: &Expr,
+) -> Result<Option<Expr<Option<Type>>>, AllocError>
+    ensures { IfOk result (λ o. MatchOption o (typed (setting_of S.schema S.table world.now) no_facts (tree_of condition.now) ≡ None) (IsTypedAs (setting_of S.schema S.table world.now) (tree_of condition.now))) }
+{
+    let none = CapabilitySet::new(alloc);
+    match typecheck(alloc, world, &none, faults, condition)? {
+        TypecheckAnswer::Fail { .. } => Ok(None),
+        TypecheckAnswer::Success { expr_type, .. } => Ok(with_type(expr_type)),
+    }
+}
