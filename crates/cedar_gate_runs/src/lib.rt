@@ -2,7 +2,7 @@
 //! Contract: an honest host answers from its store, in the order of what is asked; what `run` hands out is a run of the definitions
 //! (`IsRun`) over that store: the entries and the answer, or the refusal with which it ended. For want of memory and after a fault of the
 //! host it is what was done by then.
-//! Used by `cedar_gate_service`. Open `runs.rt` first.
+//! Used by `cedar_gate_serving`. Open `runs.rt` first.
 #![tactic(auto)]
 
 pub mod host;
