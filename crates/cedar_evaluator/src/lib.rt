@@ -1,17 +1,54 @@
-//! Cedar's evaluator, whole: the items of the crates `cedar_evaluator_*` under one name.
-//! Contract: that of the items; this crate has no code of its own.
-//! Used by users of the library and by `cedar_bench`; crates of this repository name the crates below.
+//! Cedar's evaluator, whole: the items of the crates `cedar_evaluator_*` under one name, and authorization: the policies of a set evaluated
+//! for a request over a store of entities, and what a partial evaluation answers.
+//! Contract: `is_authorized_core` answers the model's response to the policies, what a response is asked of is what the model answers, and
+//! `reauthorize` is the model's.
+//! Used by users of the library and by `cedar_bench`; crates of this repository name the crates below. Open `authorizing.rt` first.
 #![tactic(auto)]
+
+pub mod authorizing;
+pub mod err;
+mod gathering;
+pub mod partial_response;
+mod verdicts;
+
+pub use authorizer::err::{AuthorizationError, ConcretizationError, ReauthorizationError};
+pub use authorizer::{
+    Authorizer, Decision, Diagnostics, ErrorState, EvaluationResponse, PartialResponse, Response,
+};
+pub use evaluator::err::{
+    BinaryOpOverflowError, EntityAttrDoesNotExistError, EntityDoesNotExistError, EvaluationError,
+    ExtensionFunctionExecutionError, IntegerOverflowError, NonValueError,
+    RecordAttrDoesNotExistError, RecursionLimitError, TypeError, UnaryOpOverflowError,
+    UnlinkedSlotError, WrongNumArgumentsError,
+};
+pub use evaluator::{
+    Evaluator, FunctionTable, RestrictedEvaluator, any_entity_type, binary_arith, binary_relation,
+    unary_app,
+};
+pub use extensions::{
+    ExtTable, ExtensionFunctionLookupError, ExtensionInitializationError, Extensions,
+    FuncDoesNotExistError, FuncMultiplyDefinedError, MultipleConstructorsSameSignatureError,
+};
+pub use request::{
+    Context, ContextCalls, ContextCreationError, EntityUIDEntry, NotARecord, Request, RequestError,
+    RequestSchema, RequestSchemaAllPass,
+};
+pub use restricted_expr::{
+    BorrowedRestrictedExpr, InvalidRestrictedExpressionError, PartialValueToRestrictedExprError,
+    RestrictedExpr, RestrictedExpressionError,
+};
 
 /// Authorizers, and partial responses.
 pub mod authorizer {
-    pub use cedar_evaluator_authorizer::{Authorizer, ErrorState, PartialResponse};
+    pub use crate::authorizing::Authorizer;
+    pub use crate::partial_response::PartialResponse;
     pub use cedar_evaluator_contexts::EvaluationResponse;
-    pub use cedar_evaluator_requests::{Decision, Diagnostics, Response};
+    pub use cedar_evaluator_requests::{Decision, Diagnostics, ErrorState, Response};
 
     /// What goes wrong with policies, and why a partial response isn't reauthorized.
     pub mod err {
-        pub use cedar_evaluator_authorizer::{ConcretizationError, ReauthorizationError};
+        pub use crate::err::ReauthorizationError;
+        pub use cedar_evaluator_contexts::ConcretizationError;
         pub use cedar_evaluator_requests::AuthorizationError;
     }
 }
@@ -71,30 +108,3 @@ pub mod restricted_expr {
         RestrictedPairs,
     };
 }
-
-pub use authorizer::err::{AuthorizationError, ConcretizationError, ReauthorizationError};
-pub use authorizer::{
-    Authorizer, Decision, Diagnostics, ErrorState, EvaluationResponse, PartialResponse, Response,
-};
-pub use evaluator::err::{
-    BinaryOpOverflowError, EntityAttrDoesNotExistError, EntityDoesNotExistError, EvaluationError,
-    ExtensionFunctionExecutionError, IntegerOverflowError, NonValueError,
-    RecordAttrDoesNotExistError, RecursionLimitError, TypeError, UnaryOpOverflowError,
-    UnlinkedSlotError, WrongNumArgumentsError,
-};
-pub use evaluator::{
-    Evaluator, FunctionTable, RestrictedEvaluator, any_entity_type, binary_arith, binary_relation,
-    unary_app,
-};
-pub use extensions::{
-    ExtTable, ExtensionFunctionLookupError, ExtensionInitializationError, Extensions,
-    FuncDoesNotExistError, FuncMultiplyDefinedError, MultipleConstructorsSameSignatureError,
-};
-pub use request::{
-    Context, ContextCalls, ContextCreationError, EntityUIDEntry, NotARecord, Request, RequestError,
-    RequestSchema, RequestSchemaAllPass,
-};
-pub use restricted_expr::{
-    BorrowedRestrictedExpr, InvalidRestrictedExpressionError, PartialValueToRestrictedExprError,
-    RestrictedExpr, RestrictedExpressionError,
-};

@@ -10,8 +10,7 @@ use cedar_evaluator_restricted_exprs::RestrictedExpr;
 use cedar_expr_functions::Extensions;
 use cedar_expr_partial::{FromValue, PartialValue};
 use cedar_expr_trees::Expr;
-use cedar_test_exprs::{value, word};
-use cedar_test_helpers::{both, one, say, show};
+use cedar_test_exprs::{both, one, say, show, value, word};
 use std::alloc::Global;
 
 // Does the command, where it is one of these: `empty`, `from_expr E`, `from_pairs a E | b E`, `let t V`, `substitute`, or one that `read`

@@ -6,8 +6,7 @@ use cedar_evaluator_core::Evaluator;
 use cedar_evaluator_errors::EvaluationError;
 use cedar_expr_functions::Extensions;
 use cedar_expr_trees::{Expr, ExprKind};
-use cedar_test_exprs::{at, expr};
-use cedar_test_helpers::{both, made, say, show, tell};
+use cedar_test_exprs::{at, both, expr, made, say, show, tell};
 use std::alloc::{AllocError, Global};
 use std::rc::RcStr;
 

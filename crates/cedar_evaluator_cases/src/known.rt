@@ -8,8 +8,7 @@ use cedar_expr_leaves::SlotId;
 use cedar_expr_partial::TryFromExpr;
 use cedar_expr_values::Value;
 use cedar_store_entities::{Entities, Entity};
-use cedar_test_exprs::{expr, uid, word};
-use cedar_test_helpers::{kept, made};
+use cedar_test_exprs::{expr, kept, made, uid, word};
 use std::alloc::Global;
 use std::rc::RcStr;
 

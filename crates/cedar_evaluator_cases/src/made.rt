@@ -3,8 +3,7 @@
 use crate::desk::Made;
 use crate::said::two;
 use cedar_evaluator_restricted_exprs::RestrictedExpr;
-use cedar_test_exprs::{expr, word};
-use cedar_test_helpers::{both, made};
+use cedar_test_exprs::{both, expr, made, word};
 use std::alloc::Global;
 use std::rc::RcStr;
 

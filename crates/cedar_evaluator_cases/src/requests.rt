@@ -7,8 +7,7 @@ use cedar_evaluator_requests::{EntityUIDEntry, Request, RequestSchemaAllPass};
 use cedar_expr_functions::Extensions;
 use cedar_expr_leaves::Var;
 use cedar_expr_names::{EntityType, EntityUID, Loc};
-use cedar_test_exprs::{entity_type, uid};
-use cedar_test_helpers::{both, made, one, say, show};
+use cedar_test_exprs::{both, entity_type, made, one, say, show, uid};
 use std::alloc::{AllocError, Global};
 
 // Does the command, where it is one of these: `variable principal User::a`, `request User::a Action::view ?Doc`,

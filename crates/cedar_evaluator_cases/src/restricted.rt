@@ -10,8 +10,7 @@ use cedar_evaluator_restricted_exprs::{
 use cedar_expr_functions::Extensions;
 use cedar_expr_trees::Expr;
 use cedar_expr_values::{RepresentableExtensionValue, ValueKind};
-use cedar_test_exprs::{at, expr, literal, name, value};
-use cedar_test_helpers::{both, refused, say, show, tell};
+use cedar_test_exprs::{at, both, expr, literal, name, refused, say, show, tell, value};
 use std::alloc::{AllocError, Global};
 use std::fmt::Display;
 

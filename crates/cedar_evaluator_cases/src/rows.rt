@@ -5,29 +5,21 @@ use crate::restricted;
 use cedar_expr_functions::Extensions;
 use std::alloc::Global;
 
-// Goes over the rows of the texts, each of which begins with a `#`. A row is a command, or several with ` ; ` between them, and, behind ` : `, what they say. A command's first word
+// Goes over the rows of the texts, each of which begins with a `#`, and gives the first that says something else, with what it says;
+// nothing where all hold. A row is a command, or several with ` ; ` between them, and, behind ` : `, what they say. A command's first word
 // is its verb; the module of each verb says what it does. A row that begins with `#` clears the desk, and one that begins with `-` is a
-// remark. Errors: the rows that say something else, with what they say.
-pub fn hold(alloc: Global, table: &Extensions<'_>, texts: &[&str]) -> Result<(), String> {
+// remark. Fails for want of memory.
+pub fn first_wrong(alloc: Global, table: &Extensions<'_>, texts: &[&str]) -> Made<String> {
     let mut desk = Desk::new(alloc);
-    let mut wrong = String::new(alloc);
     for rows in texts {
         for row in rows.lines() {
             let mut said = String::new(alloc);
             if !holds(&mut desk, table, row, &mut said).unwrap_or(false) {
-                let _ = note(&mut wrong, row, &said);
+                return format!(in alloc; "{row}: {said}");
             }
         }
     }
-    if wrong.is_empty() { Ok(()) } else { Err(wrong) }
-}
-
-// Notes a row and what it says.
-fn note(wrong: &mut String, row: &str, said: &str) -> Made<()> {
-    wrong.push_str(row)?;
-    wrong.push_str(" -> ")?;
-    wrong.push_str(said)?;
-    wrong.push('\n')
+    Ok(String::new(alloc))
 }
 
 // Whether the row says what stands in it. Fails where a command isn't known or lacks what it needs.

@@ -3,8 +3,7 @@
 use crate::desk::{Made, Part, V};
 use cedar_expr_partial::FromValue;
 use cedar_expr_trees::Expr;
-use cedar_test_exprs::{expr, value};
-use cedar_test_helpers::{say, show};
+use cedar_test_exprs::{expr, say, show, value};
 use std::alloc::Global;
 use std::fmt::Display;
 

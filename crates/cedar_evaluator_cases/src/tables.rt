@@ -7,8 +7,9 @@ ghost use Rattle.cedar_expr_model.specs.Value.{prim, truth};
 ghost use Rattle.cedar_expr_model.specs.Table.{gives, fails};
 ghost use Rattle.cedar_expr_functions.specs.Answers.{answer, is_of_result};
 
+use crate::desk::Made;
 use crate::kinds::KINDS;
-use crate::rows::hold;
+use crate::rows::first_wrong;
 use crate::stores::STORES;
 use cedar_expr_functions::{
     CallFault, CallStyle, Extension, ExtensionFunction, ExtensionOutputValue, Extensions, Func,
@@ -16,9 +17,8 @@ use cedar_expr_functions::{
 use cedar_expr_leaves::Literal;
 use cedar_expr_names::Name;
 use cedar_expr_values::{ExtValue, Type, Value};
-use cedar_test_exprs::name;
+use cedar_test_exprs::{made, name};
 use std::alloc::Global;
-use std::test::Fail;
 
 type V = Value<ExtValue>;
 
@@ -163,11 +163,10 @@ request User::a Action::view ? ; kind : none
 request User::a Action::view Doc::d ; kind : User Action::"view" Doc
 "##;
 
-// `yes` is always true, and `fail` always fails.
-#[test]
+/// The first row that says something else, with what it says; nothing where all hold. `yes` is always true, and `fail` always fails.
+/// Fails for want of memory.
 #[tactic(auto, using(crate::proofs::Alike::fails_alike))]
-fn rows_hold(rt: HostRuntime) -> Result<(), Fail> {
-    let alloc = rt.alloc();
+pub fn wrong_row(alloc: Global) -> Made<String> {
     let style = CallStyle::FunctionStyle;
     let mut functions = Vec::new(alloc);
     let called = name(alloc, "yes")?;
@@ -180,7 +179,7 @@ fn rows_hold(rt: HostRuntime) -> Result<(), Fail> {
     functions.push(asked)?;
     let ordered = vec![in alloc; name(alloc, "rank")?]?;
     let extensions = [Extension::new(name(alloc, "rank")?, functions, ordered)];
-    let table = Extensions::specific_extensions(alloc, &extensions)?;
+    let table = made(Extensions::specific_extensions(alloc, &extensions))?;
     let texts = [RESTRICTED, CONTEXTS, REQUESTS, KINDS, STORES];
-    Ok(hold(alloc, &table, &texts)?)
+    first_wrong(alloc, &table, &texts)
 }

@@ -12,7 +12,7 @@ use Rattle.cedar_store_entities.specs.Views.{Kept}
 use Rattle.cedar_store_entities.specs.declared.entities.Entities.{Entities}
 use Rattle.cedar_evaluator_model.specs.Scope.{Scope, unknown_context}
 use Rattle.cedar_evaluator_reads.specs.Scopes.{store_of, found_kept}
-use Rattle.cedar_evaluator_rising.specs.Rising.{ScopeRises, ContextRises, FoundRises, MadeRises, CallsRise}
+use Rattle.cedar_evaluator_model.specs.Rising.{ScopeRises, ContextRises, FoundRises, MadeRises, CallsRise}
 
 none_kept : (x : Extent) → FoundRises (found_kept x None)
 none_kept whole = tt

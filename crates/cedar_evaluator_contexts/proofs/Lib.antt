@@ -2,3 +2,4 @@ mod Alike
 mod Evaluated
 mod Known
 mod Records
+pub mod Bound

@@ -1,3 +1,5 @@
 pub mod Contexts
 pub mod Functions
 pub mod Views
+pub mod ContextParts
+pub mod Refusals

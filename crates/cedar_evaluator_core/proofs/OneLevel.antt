@@ -29,7 +29,7 @@ use Rattle.cedar_evaluator_model.specs.Steps.{errs, truth_left, on_value, best, 
 use Rattle.cedar_evaluator_model.specs.Evaluation.{evaluated, node, variable_left, right_left, binary_left, get_of_residual, has_of_residual, tree_named, pieces_of}
 use Rattle.cedar_evaluator_errors.specs.Outcomes.{Leaves, IsTree, left_seen, is_memory, stop_or}
 use Rattle.cedar_evaluator_errors.specs.declared.err.EvaluationError.{EvaluationError}
-use Rattle.cedar_evaluator_rising.specs.Rising.{LeftRises}
+use Rattle.cedar_evaluator_model.specs.Rising.{LeftRises}
 use Rattle.cedar_evaluator_reads.specs.Scopes.{scope_seen}
 use Rattle.cedar_evaluator_reads.specs.declared.knowledge.Knowledge.{Knowledge}
 use Rattle.cedar_evaluator_operators.specs.Calls.{Functions}

@@ -28,7 +28,7 @@ use Rattle.cedar_evaluator_errors.specs.declared.err.EvaluationError.TheVariants
 use Rattle.cedar_evaluator_requests.specs.Views.{request_of}
 use Rattle.cedar_evaluator_operators.specs.Calls.{Functions}
 use Rattle.cedar_evaluator_reads.specs.Scopes.{values_bound, store_of}
-use Rattle.cedar_evaluator_rising.specs.Rising.{ScopeRises}
+use Rattle.cedar_evaluator_model.specs.Rising.{ScopeRises}
 use Rattle.cedar_evaluator_core.specs.declared.evaluator.Evaluator.{Evaluator}
 
 -- the request, the values of unknowns, the entities, the table and the limit

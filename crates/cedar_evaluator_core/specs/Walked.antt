@@ -19,7 +19,7 @@ use Rattle.cedar_evaluator_errors.specs.declared.err.EvaluationError.{Evaluation
 use Rattle.cedar_evaluator_operators.specs.Calls.{Functions}
 use Rattle.cedar_evaluator_operators.specs.Scopes.{scope_of}
 use Rattle.cedar_evaluator_reads.specs.declared.knowledge.Knowledge.{Knowledge}
-use Rattle.cedar_evaluator_rising.specs.Rising.{ValuesRise}
+use Rattle.cedar_evaluator_model.specs.Rising.{ValuesRise}
 use Rattle.cedar_evaluator_core.specs.Gathered.{ArePieces}
 
 -- The functions of the table answer so, and then the members of each set that is left rise.

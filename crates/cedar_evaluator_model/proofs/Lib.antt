@@ -19,3 +19,4 @@ pub mod Forced
 pub mod Written
 pub mod Again
 pub mod Residuals
+pub mod Rising

@@ -11,12 +11,12 @@ ghost use Rattle.cedar_expr_trees.specs.Trees.{tree_of};
 ghost use Rattle.cedar_expr_values.specs.Extensions.{extension_of};
 ghost use Rattle.cedar_expr_values.specs.Values.{bare, made};
 ghost use Rattle.cedar_store_model.specs.Operators.{among_members, of_sets};
-ghost use Rattle.cedar_store_worlds_model.specs.Rising.{Rises};
+ghost use Rattle.cedar_store_model.specs.Rising.{Rises};
 ghost use Rattle.cedar_evaluator_model.specs.Scope.{residual};
 ghost use Rattle.cedar_evaluator_model.specs.Steps.{left_of, kind_of_value, kind_of_unknown, differ as model_differ, with_residual, combined_left};
 ghost use Rattle.cedar_evaluator_model.specs.Evaluation.{binary_left};
 ghost use Rattle.cedar_evaluator_errors.specs.Outcomes.{Leaves, Gives, left_seen};
-ghost use Rattle.cedar_evaluator_rising.specs.Rising.{LeftRises};
+ghost use Rattle.cedar_evaluator_model.specs.Rising.{LeftRises};
 ghost use Rattle.cedar_evaluator_operators.specs.Scopes.{scope_ordering};
 
 use crate::arithmetic::binary_arith;

@@ -2,7 +2,7 @@
 -- Rule: partial evaluation (docs/RULES.md).
 use Rattle.std.specs.Prelude.{Option, Some, None}
 use Rattle.cedar_expr_model.specs.Uid.{Uid}
-use Rattle.cedar_store_records.specs.Views.{KindSeen}
+use Rattle.cedar_store_parts.specs.Views.{KindSeen}
 use Rattle.cedar_evaluator_model.specs.Response.{PartialRequest}
 use Rattle.cedar_evaluator_requests.specs.Views.{entry_uid}
 

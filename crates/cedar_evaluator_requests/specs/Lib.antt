@@ -4,3 +4,5 @@ pub mod Infallible
 pub mod Kinds
 pub mod Schemas
 pub mod Views
+pub mod Groups
+pub mod Binding

@@ -2,7 +2,7 @@
 
 ghost use Rattle.std.specs.Prelude.{◌≡◌, option_map, IfOk, IfErr};
 ghost use Rattle.cedar_expr_names.specs.Views.{uid_of};
-ghost use Rattle.cedar_store_records.specs.Views.{kind_of};
+ghost use Rattle.cedar_store_parts.specs.Views.{kind_of};
 ghost use Rattle.cedar_evaluator_model.specs.Scope.{uid};
 ghost use Rattle.cedar_evaluator_requests.specs.Kinds.{kind_asked};
 ghost use Rattle.cedar_evaluator_requests.specs.Schemas.{Passes, Refuses};
@@ -13,7 +13,7 @@ use crate::entry::EntityUIDEntry;
 use crate::schema::{RequestError, RequestSchema};
 use cedar_expr_functions::Extensions;
 use cedar_expr_names::{EntityUID, Loc};
-use cedar_store_records::RequestType;
+use cedar_store_parts::RequestType;
 use std::alloc::{AllocError, Global};
 
 /// A request: who asks, what is to be done, with what, and what is known beside them. Each may be unknown.

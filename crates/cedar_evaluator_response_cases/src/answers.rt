@@ -3,10 +3,10 @@
 use crate::desk::Made;
 use crate::responses::decision_text;
 use crate::said::{same, say_ids, say_policies, say_policy};
-use cedar_evaluator_authorizer::PartialResponse;
+use cedar_evaluator::PartialResponse;
 use cedar_evaluator_requests::EntityUIDEntry;
 use cedar_store_policies::{Policy, PolicyID};
-use cedar_test_helpers::{say, show};
+use cedar_test_exprs::{say, show};
 use std::alloc::{AllocError, Global};
 
 // Does the command: `decision`, `satisfied`, `may`, `must`, `left`, `left_forbids`, `all`, `erred`, `left_ids`, `get p`, `body p`, `asked`.

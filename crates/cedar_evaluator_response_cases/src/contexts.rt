@@ -5,8 +5,7 @@ use cedar_evaluator_contexts::ContextCalls;
 use cedar_evaluator_requests::Context;
 use cedar_evaluator_restricted_exprs::RestrictedExpr;
 use cedar_expr_functions::Extensions;
-use cedar_test_exprs::expr;
-use cedar_test_helpers::made;
+use cedar_test_exprs::{expr, made};
 use std::alloc::Global;
 
 // The context of a record of restricted expressions, by no functions.

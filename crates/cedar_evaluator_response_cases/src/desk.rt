@@ -1,6 +1,6 @@
 //! What the commands of a case work on: the last made is taken first.
 
-use cedar_evaluator_authorizer::{ErrorState, PartialResponse};
+use cedar_evaluator::{ErrorState, PartialResponse};
 use cedar_evaluator_requests::{Context, EntityUIDEntry, Request};
 use cedar_expr_names::EntityUID;
 use cedar_expr_partial::PartialValue;

@@ -4,11 +4,10 @@ use crate::desk::{Desk, False, Groups, Left, Made, Noted, Side};
 use crate::policies::noted;
 use crate::responses;
 use crate::said::{lay, put, two};
-use cedar_evaluator_authorizer::{ErrorState, PartialResponse};
+use cedar_evaluator::{ErrorState, PartialResponse};
 use cedar_expr_functions::Extensions;
 use cedar_store_policies::PolicyID;
-use cedar_test_exprs::read;
-use cedar_test_helpers::both;
+use cedar_test_exprs::{both, read};
 use std::alloc::{AllocError, Global};
 
 // Does the command, where it is one of these: `true_permit p`, `false_permit p`, `erred_permit p`, `left_permit p $t`, the same of

@@ -9,8 +9,7 @@ use cedar_expr_functions::Extensions;
 use cedar_expr_partial::{PartialValue, TryFromExpr};
 use cedar_expr_values::{Value, ValueKind};
 use cedar_store_entities::{Entities, Entity};
-use cedar_test_exprs::{entity_type, expr, uid, value, word};
-use cedar_test_helpers::{both, made};
+use cedar_test_exprs::{both, entity_type, expr, made, uid, value, word};
 use std::alloc::{AllocError, Global};
 use std::rc::RcStr;
 

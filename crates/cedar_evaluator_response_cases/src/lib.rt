@@ -1,25 +1,17 @@
 //! Tests of authorizers, partial responses and reauthorizing, as rows of text.
 //! Contract: none; what is wanted in the rows is written by the rules.
-//! Used by nothing: `rows_hold` and what stands beside it in `rows.rt` are the tests.
+//! `cedar_cases` asks for the first row that is wrong. The rows stand in `rows.rt`.
 #![tactic(auto)]
 
-#[cfg(test)]
 mod answers;
-#[cfg(test)]
 mod contexts;
-#[cfg(test)]
 mod desk;
-#[cfg(test)]
 mod groups;
-#[cfg(test)]
 mod known;
-#[cfg(test)]
 mod policies;
-#[cfg(test)]
 mod responses;
-#[cfg(test)]
 mod rows;
-#[cfg(test)]
 mod said;
-#[cfg(test)]
 mod verdicts;
+
+pub use rows::wrong_row;

@@ -6,8 +6,7 @@ use crate::said::{lay, two};
 use cedar_expr_functions::Extensions;
 use cedar_expr_names::AnyId;
 use cedar_store_policies::{Annotation, Annotations, Effect, Policy, PolicyID, PolicySet};
-use cedar_test_exprs::{read, word};
-use cedar_test_helpers::{both, kept, made};
+use cedar_test_exprs::{both, kept, made, read, word};
 use std::alloc::Global;
 
 // Does the command, where it is one of these: `permit p principal User::a ==`, `forbid f true`. A note of an id, as in `permit p@q`,

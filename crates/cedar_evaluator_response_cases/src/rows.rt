@@ -4,7 +4,6 @@ use crate::desk::{Desk, Made};
 use crate::policies;
 use cedar_expr_functions::Extensions;
 use std::alloc::Global;
-use std::test::Fail;
 
 const ROWS: &str =
     r##"# a permit of the principal, a forbid that is false, and a permit that isn't known
@@ -336,32 +335,15 @@ fn holds(desk: &mut Desk, table: &Extensions<'_>, row: &str, said: &mut String) 
     Ok(said.trim_start() == wanted)
 }
 
-// Notes a row and what it says.
-fn note(wrong: &mut String, row: &str, said: &str) -> Made<()> {
-    wrong.push_str(row)?;
-    wrong.push_str(" but it was: ")?;
-    wrong.push_str(said)?;
-    wrong.push('\n')
-}
-
-// The rows that say something else, each with what it says; empty where all hold.
-fn wrong_rows(alloc: Global, table: &Extensions<'_>, rows: &str) -> Made<String> {
+/// The first row that says something else, with what it says; nothing where all hold. No function is known. Fails for want of memory.
+pub fn wrong_row(alloc: Global) -> Made<String> {
+    let table = Extensions::none(alloc);
     let mut desk = Desk::new(alloc);
-    let mut wrong = String::new(alloc);
-    for row in rows.lines() {
+    for row in ROWS.lines() {
         let mut said = String::new(alloc);
-        if !holds(&mut desk, table, row, &mut said).unwrap_or(false) {
-            note(&mut wrong, row, said.as_str())?;
+        if !holds(&mut desk, &table, row, &mut said).unwrap_or(false) {
+            return format!(in alloc; "{row}: {said}");
         }
     }
-    Ok(wrong)
-}
-
-#[test]
-fn rows_hold(rt: HostRuntime) -> Result<(), Fail> {
-    let alloc = rt.alloc();
-    let table = Extensions::none(alloc);
-    let wrong = wrong_rows(alloc, &table, ROWS)?;
-    assert!(rt; wrong.is_empty(), "{wrong}");
-    Ok(())
+    Ok(String::new(alloc))
 }

@@ -3,8 +3,7 @@
 use crate::desk::Made;
 use cedar_expr_trees::Expr;
 use cedar_store_policies::{Effect, Policy, PolicyID};
-use cedar_test_exprs::expr;
-use cedar_test_helpers::{say, show};
+use cedar_test_exprs::{expr, say, show};
 use std::alloc::{AllocError, Global};
 use std::fmt::Display;
 

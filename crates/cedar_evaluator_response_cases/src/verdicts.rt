@@ -7,7 +7,7 @@ use cedar_evaluator_core::Evaluator;
 use cedar_expr_functions::Extensions;
 use cedar_expr_trees::Expr;
 use cedar_store_policies::Policy;
-use cedar_test_helpers::{say, show};
+use cedar_test_exprs::{say, show};
 use either::Either;
 use std::alloc::{AllocError, Global};
 use std::fmt::Display;

@@ -1,3 +1,9 @@
 mod Names
 mod Parted
 mod Reading
+pub mod Alike
+pub mod Called
+pub mod Gathered
+pub mod Levels
+pub mod Named
+pub mod RestrictedWalk

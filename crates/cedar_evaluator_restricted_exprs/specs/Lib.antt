@@ -2,3 +2,7 @@ pub mod Read
 pub mod Refused
 pub mod Shapes
 pub mod Views
+pub mod Alike
+pub mod Answers
+pub mod Lefts
+pub mod Restricted

@@ -1,12 +1,44 @@
 //! Cedar's expressions, whole: the items of the crates `cedar_expr_*` under one name, in the Rust crate's modules.
-//! Contract: that of the items; this crate has no code of its own but the names `Integer` and `InputInteger`.
+//! Contract: that of the items. Its own code is laws: of small parts, `==`, `cmp` and `hash` go by what their values are in the model.
 //! Used by users of the library and by `cedar_bench`; crates of this repository name the crates below.
 #![tactic(auto)]
+
+pub mod laws;
+
+pub use expr::{
+    Bound, CheckExpr, DuplicateKeyError, Expr, ExprBuilder, ExprKind, ExprShape, ExprShapeOnly,
+    ExprValidationError, ExpressionConstructionError, NonEmpty, Slot, SlotId, Substitute,
+    SubstitutionError, Unknown, Var,
+};
+pub use expr_builder::{BuildFault, BuildUnknown, KeepUnknowns, PlainBuilder, Rebuild, build_with};
+pub use expr_iterator::{ExprIterator, Slots, Unknowns};
+pub use extension::{
+    CallFault, CallStyle, ExtTypes, ExtValue, Extension, ExtensionCall, ExtensionFunction,
+    ExtensionOutputValue, ExtensionValue, Func, InternalExtensionValue,
+    RepresentableExtensionValue,
+};
+pub use extensions::{
+    ExtTable, ExtensionFunctionLookupError, ExtensionInitializationError, Extensions,
+    FuncDoesNotExistError, FuncMultiplyDefinedError, MultipleConstructorsSameSignatureError,
+    TableTypes,
+};
+pub use id::{AnyId, Id, UnreservedId, is_normalized_ident};
+pub use literal::{InputInteger, Integer, Literal};
+pub use name::{
+    ConditionalName, Eid, EntityType, EntityUID, Escaped, InternalName, Loc, Name, NameError,
+    Quoted, RawName, ReferenceType, ReservedNameError,
+};
+pub use ops::{BinaryOp, UnaryOp};
+pub use partial_value::{ContainsUnknown, PartialValue, PartialValueToValueError, split};
+pub use pattern::{Pattern, PatternElem};
+pub use types::{StaticallyTyped, Type};
+pub use util::{CollectError, collect_no_duplicates};
+pub use value::{FromValue, NotValue, Set, TryFromExpr, Value, ValueKind};
 
 /// Expressions and their leaves, their own builder, their shapes, substitution and checks.
 pub mod expr {
     pub use cedar_expr_builders::ExprBuilder;
-    pub use cedar_expr_checks::{CheckExpr, ExprValidationError};
+    pub use cedar_expr_functions::{CheckExpr, ExprValidationError};
     pub use cedar_expr_leaves::{Slot, SlotId, Var};
     pub use cedar_expr_shapes::{ExprShape, ExprShapeOnly};
     pub use cedar_expr_substitution::{Bound, Substitute, SubstitutionError};
@@ -17,10 +49,9 @@ pub mod expr {
 
 /// Builders of expressions, and building anew.
 pub mod expr_builder {
-    pub use cedar_expr_builders::BuildFault;
     pub use cedar_expr_builders::expr_builder::ExprBuilder;
-    pub use cedar_expr_plain_builder::PlainBuilder;
-    pub use cedar_expr_rebuilding::{BuildUnknown, KeepUnknowns, Rebuild, build_with};
+    pub use cedar_expr_builders::{BuildFault, PlainBuilder};
+    pub use cedar_expr_substitution::{BuildUnknown, KeepUnknowns, Rebuild, build_with};
 }
 
 /// Iterators over the parts of an expression.
@@ -66,11 +97,11 @@ pub mod literal {
 
 /// Names, entity types and uids.
 pub mod name {
+    pub use cedar_expr_leaves::{ConditionalName, RawName, ReferenceType};
     pub use cedar_expr_names::{
         Eid, EntityType, EntityUID, Escaped, InternalName, Loc, Name, NameError, Quoted,
         ReservedNameError, is_normalized_ident,
     };
-    pub use cedar_expr_raw_names::{ConditionalName, RawName, ReferenceType};
 }
 
 /// The operators.
@@ -104,33 +135,3 @@ pub mod value {
     pub use cedar_expr_partial::{FromValue, NotValue, TryFromExpr};
     pub use cedar_expr_values::{Set, Value, ValueKind};
 }
-
-pub use expr::{
-    Bound, CheckExpr, DuplicateKeyError, Expr, ExprBuilder, ExprKind, ExprShape, ExprShapeOnly,
-    ExprValidationError, ExpressionConstructionError, NonEmpty, Slot, SlotId, Substitute,
-    SubstitutionError, Unknown, Var,
-};
-pub use expr_builder::{BuildFault, BuildUnknown, KeepUnknowns, PlainBuilder, Rebuild, build_with};
-pub use expr_iterator::{ExprIterator, Slots, Unknowns};
-pub use extension::{
-    CallFault, CallStyle, ExtTypes, ExtValue, Extension, ExtensionCall, ExtensionFunction,
-    ExtensionOutputValue, ExtensionValue, Func, InternalExtensionValue,
-    RepresentableExtensionValue,
-};
-pub use extensions::{
-    ExtTable, ExtensionFunctionLookupError, ExtensionInitializationError, Extensions,
-    FuncDoesNotExistError, FuncMultiplyDefinedError, MultipleConstructorsSameSignatureError,
-    TableTypes,
-};
-pub use id::{AnyId, Id, UnreservedId, is_normalized_ident};
-pub use literal::{InputInteger, Integer, Literal};
-pub use name::{
-    ConditionalName, Eid, EntityType, EntityUID, Escaped, InternalName, Loc, Name, NameError,
-    Quoted, RawName, ReferenceType, ReservedNameError,
-};
-pub use ops::{BinaryOp, UnaryOp};
-pub use partial_value::{ContainsUnknown, PartialValue, PartialValueToValueError, split};
-pub use pattern::{Pattern, PatternElem};
-pub use types::{StaticallyTyped, Type};
-pub use util::{CollectError, collect_no_duplicates};
-pub use value::{FromValue, NotValue, Set, TryFromExpr, Value, ValueKind};

@@ -2,14 +2,11 @@
 
 use crate::constructors as constructed;
 use cedar_expr_builders::expr_builder::ExprBuilder as Builds;
-use cedar_expr_builders::{BuildFault, ExprBuilder};
-use cedar_expr_plain_builder::PlainBuilder;
-use cedar_expr_rebuilding::Rebuild;
-use cedar_expr_substitution::{Substitute, SubstitutionError};
+use cedar_expr_builders::{BuildFault, ExprBuilder, PlainBuilder};
+use cedar_expr_substitution::{Rebuild, Substitute, SubstitutionError};
 use cedar_expr_trees::{Expr, ExpressionConstructionError};
 use cedar_expr_values::{ExtValue, Value};
-use cedar_test_exprs::{at, is, read, value, word};
-use cedar_test_helpers::{both, refused, show};
+use cedar_test_exprs::{at, both, is, read, refused, show, value, word};
 use std::alloc::{AllocError, Global};
 use std::collections::HashMap;
 use std::rc::RcStr;

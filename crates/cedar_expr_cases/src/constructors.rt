@@ -1,11 +1,10 @@
 //! The constructors of expressions by name, and those of builders.
 
+use cedar_expr_builders::PlainBuilder;
 use cedar_expr_builders::expr_builder::ExprBuilder as Builds;
 use cedar_expr_names::Loc;
-use cedar_expr_plain_builder::PlainBuilder;
 use cedar_expr_trees::*;
-use cedar_test_exprs::{expr, is, word};
-use cedar_test_helpers::both;
+use cedar_test_exprs::{both, expr, is, word};
 use std::alloc::{AllocError, Global};
 use std::rc::RcStr;
 

@@ -1,8 +1,7 @@
 //! Expressions with data.
 
 use cedar_expr_trees::{Expr, ExprKind, Literal, Loc};
-use cedar_test_exprs::at;
-use cedar_test_helpers::{kept, shared, show};
+use cedar_test_exprs::{at, kept, shared, show};
 use std::alloc::{AllocError, Global};
 
 // The number 5 at a place, with data.

@@ -3,8 +3,7 @@
 use crate::names;
 use cedar_expr_leaves::*;
 use cedar_expr_names::Loc;
-use cedar_test_exprs::{at, literal, uid};
-use cedar_test_helpers::{kept, made, show, told_copy};
+use cedar_test_exprs::{at, kept, literal, made, show, told_copy, uid};
 use std::alloc::{AllocError, Global};
 
 // Does the command, or one of those on names and values.

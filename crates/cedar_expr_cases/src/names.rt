@@ -1,10 +1,9 @@
 //! Identifiers, names and uids.
 
 use crate::raw_names;
+use cedar_expr_leaves::RawName;
 use cedar_expr_names::*;
-use cedar_expr_raw_names::RawName;
-use cedar_test_exprs::{entity_type, name, uid};
-use cedar_test_helpers::{copied, kept, made, say, show, told, told_copy};
+use cedar_test_exprs::{copied, entity_type, kept, made, name, say, show, told, told_copy, uid};
 use std::alloc::{AllocError, Global};
 
 // Does the command, or one of those on raw names and values.

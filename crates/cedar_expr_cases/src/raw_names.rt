@@ -2,10 +2,9 @@
 
 use crate::names::internal;
 use crate::values;
+use cedar_expr_leaves::*;
 use cedar_expr_names::{InternalName, Name};
-use cedar_expr_raw_names::*;
-use cedar_test_exprs::name;
-use cedar_test_helpers::{kept, made, say, show, told};
+use cedar_test_exprs::{kept, made, name, say, show, told};
 use std::alloc::{AllocError, Global};
 
 // Does the command, or one of those on values.

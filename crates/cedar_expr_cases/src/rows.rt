@@ -1,8 +1,8 @@
 //! The rows on expressions.
 
 use crate::seen;
-use cedar_test_helpers::parted;
-use std::test::Fail;
+use cedar_test_exprs::parted;
+use std::alloc::{AllocError, Global};
 
 const ROWS: &str =
     r#"# the root of what is made: its operator, name or literal; two truth values make their literal
@@ -139,15 +139,16 @@ through x=true $x:Bool ! : true !
 faults : out of memory 5 out of memory
 "#;
 
-#[test]
-fn rows_hold(rt: HostRuntime) -> Result<(), Fail> {
-    let alloc = rt.alloc();
+/// The first row that says something else, with what it says; nothing where all hold. Fails for want of memory.
+pub fn wrong_row(alloc: Global) -> Result<String, AllocError> {
     for row in ROWS.lines() {
         if let Some((verb, rest, wanted)) = parted(row) {
             let mut said = String::new(alloc);
             seen::done(alloc, &mut said, (verb, rest), wanted)?;
-            assert!(rt; said.as_str() == wanted, "{row}: {said}");
+            if said.as_str() != wanted {
+                return format!(in alloc; "{row}: {said}");
+            }
         }
     }
-    Ok(())
+    Ok(String::new(alloc))
 }

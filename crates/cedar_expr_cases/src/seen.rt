@@ -3,8 +3,7 @@
 use crate::{building, data};
 use cedar_expr_shapes::{ExprShape, ExprShapeOnly};
 use cedar_expr_trees::{Expr, ExprKind};
-use cedar_test_exprs::{at, read};
-use cedar_test_helpers::{both, say, show, tell};
+use cedar_test_exprs::{at, both, read, say, show, tell};
 use std::alloc::{AllocError, Global};
 use std::cmp::Ordering;
 use std::collections::HashSet;

@@ -2,8 +2,7 @@
 
 use cedar_expr_names::Loc;
 use cedar_expr_values::*;
-use cedar_test_exprs::{at, literal, name, value, word};
-use cedar_test_helpers::{copied, kept, made, say, show, tell};
+use cedar_test_exprs::{at, copied, kept, literal, made, name, say, show, tell, value, word};
 use std::alloc::{AllocError, Global};
 use std::collections::{BTreeMap, HashSet};
 use std::rc::{Rc, RcStr};

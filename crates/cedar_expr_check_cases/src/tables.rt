@@ -7,14 +7,11 @@ ghost use Rattle.cedar_expr_model.specs.Value.{prim, truth};
 ghost use Rattle.cedar_expr_functions.specs.Answers.{IsStored, answer, is_of_result};
 ghost use Rattle.cedar_expr_functions.specs.declared.err.CallFault.TheVariants.{OutOfMemory};
 
-use cedar_expr_checks::{CheckExpr, ExprValidationError};
-use cedar_expr_functions::*;
+use cedar_expr_functions::{CheckExpr, ExprValidationError, *};
 use cedar_expr_leaves::Literal;
 use cedar_expr_values::{ExtValue, Type, Value, ValueKind};
-use cedar_test_exprs::{expr, name, value};
-use cedar_test_helpers::{both, parted, refused, say, show};
+use cedar_test_exprs::{both, expr, name, parted, refused, say, show, value};
 use std::alloc::{AllocError, Global};
-use std::test::Fail;
 
 type V = Value<ExtValue>;
 
@@ -92,9 +89,8 @@ repeated : duplicate key `2`
 no_memory : out of memory out of memory out of memory out of memory out of memory
 "#;
 
-#[test]
-fn tables_hold(rt: HostRuntime) -> Result<(), Fail> {
-    let alloc = rt.alloc();
+/// The first row on tables of functions that says something else, with what it says; nothing where all hold. Fails for want of memory.
+pub fn wrong_table_row(alloc: Global) -> Result<String, AllocError> {
     for case in CASES.split("\n\n") {
         let mut functions = Vec::new(alloc);
         for row in case.lines() {
@@ -107,9 +103,11 @@ fn tables_hold(rt: HostRuntime) -> Result<(), Fail> {
             }
         }
         let wrong = wrong(alloc, case, functions)?;
-        assert!(rt; wrong.is_empty(), "{wrong}");
+        if !wrong.is_empty() {
+            return Ok(wrong);
+        }
     }
-    Ok(())
+    Ok(String::new(alloc))
 }
 
 // It never has memory.

@@ -3,8 +3,7 @@
 use cedar_expr_partial::*;
 use cedar_expr_trees::{Expr, ExprKind};
 use cedar_expr_values::{ExtValue, Literal, Loc, RepresentableExtensionValue, Value, ValueKind};
-use cedar_test_exprs::{at, is, literal, name, read, value};
-use cedar_test_helpers::{both, kept, made, say, show};
+use cedar_test_exprs::{at, both, is, kept, literal, made, name, read, say, show, value};
 use std::alloc::{AllocError, Global};
 use std::rc::Rc;
 use std::vec::IntoIter;

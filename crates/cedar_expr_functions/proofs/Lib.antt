@@ -4,3 +4,5 @@ pub mod Entered
 pub mod Distinct
 pub mod Found
 pub mod Faulty
+mod Wrong
+mod Shown

@@ -8,3 +8,5 @@ pub mod Extended
 pub mod Named
 pub mod Tables
 pub mod Texts
+pub mod Calls
+pub mod CallLaws

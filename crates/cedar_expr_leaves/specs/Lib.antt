@@ -4,3 +4,4 @@ pub mod Slots
 pub mod Variables
 pub mod Literals
 pub mod Operators
+pub mod Views

@@ -2,3 +2,6 @@ mod InTurn
 mod Placed
 mod Typed
 mod Walked
+mod Gathered
+mod Recorded
+mod Stepping

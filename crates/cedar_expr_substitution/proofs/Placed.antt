@@ -12,7 +12,7 @@ use Rattle.cedar_expr_builders.specs.Refusing.{and_then, all_made, fields_made, 
 use Rattle.cedar_expr_builders.specs.declared.err.BuildFault.{BuildFault}
 use Rattle.cedar_expr_builders.specs.declared.err.BuildFault.TheVariants.{OutOfMemory, Refused}
 use Rattle.cedar_expr_builders.specs.Views.{refuses_nothing}
-use Rattle.cedar_expr_rebuilding.specs.Outcome.{with_placed, Refuses}
+use Rattle.cedar_expr_substitution.specs.Outcome.{with_placed, Refuses}
 use Rattle.cedar_expr_substitution.specs.Bound.{placed_by}
 
 -- what a builder makes of the expressions that bindings put in the place of unknowns

@@ -1,2 +1,4 @@
 pub mod Bound
 pub mod SubstitutionLaws
+pub mod Outcome
+pub mod Steps

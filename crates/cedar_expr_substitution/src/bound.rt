@@ -3,10 +3,10 @@
 ghost use Rattle.cedar_expr_model.specs.Made.{written};
 ghost use Rattle.cedar_expr_substitution.specs.Bound.{bindings_of, placed_by};
 
+use crate::{BuildUnknown, KeepUnknowns, build_with};
 use cedar_expr_builders::BuildFault;
 use cedar_expr_builders::expr_builder::ExprBuilder;
 use cedar_expr_partial::{ExtensionCall, FromValue};
-use cedar_expr_rebuilding::{BuildUnknown, KeepUnknowns, build_with};
 use cedar_expr_trees::{Expr, Unknown};
 use cedar_expr_values::Value;
 use std::alloc::Global;

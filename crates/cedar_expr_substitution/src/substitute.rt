@@ -10,12 +10,12 @@ ghost use Rattle.cedar_expr_builders.specs.Refusing.{refusing, refusal, IsRefusa
 ghost use Rattle.cedar_expr_substitution.specs.Bound.{bindings_of, IsMismatch};
 
 use crate::bound::Bound;
+use crate::build_with;
 use crate::err::SubstitutionError;
 use crate::walk::put_in;
 use cedar_expr_builders::BuildFault;
 use cedar_expr_builders::expr_builder::ExprBuilder;
 use cedar_expr_partial::ExtensionCall;
-use cedar_expr_rebuilding::build_with;
 use cedar_expr_trees::{Expr, Unknown};
 use cedar_expr_values::{StaticallyTyped, Value};
 use std::alloc::{AllocError, Global};

@@ -1,6 +1,6 @@
 //! Cedar's expressions: trees with places and data, their constructors, parts and iterators.
 //! Contract: each constructor makes the tree of the definitions (`tree_of`), folding two literal truth values; `record` refuses repeated names.
-//! Used by all that makes or reads expressions; `cedar_expr_shapes`, `cedar_expr_checks` and others add to it.
+//! Used by all that makes or reads expressions; `cedar_expr_shapes`, `cedar_expr_functions` and others add to it.
 #![tactic(auto)]
 
 pub mod constructors;

@@ -7,23 +7,23 @@ use Rattle.std.proofs.lemmas.List.{map-append}
 use Rattle.std.proofs.lemmas.List.Folds.{list_all-append}
 use Rattle.cedar_expr_model.specs.Lists.{is_nil}
 use Rattle.cedar_expr_model.specs.Table.{Table}
-use Rattle.cedar_gate_acceptance.proofs.Kept.{all_alike}
-use Rattle.cedar_gate_acceptance.proofs.Refused.{schema_fault, of_named}
+use Rattle.cedar_gate_accepted.proofs.Kept.{all_alike}
+use Rattle.cedar_gate_accepted.proofs.Refused.{schema_fault, of_named}
 use Rattle.cedar_gate_accepted.specs.Checked.{ChecksAll, IsTypedBy, IsJudgedBy, IsClearOfTyping, relevant_ids}
 use Rattle.cedar_gate_accepted.specs.declared.checked.Checked.{Checked}
 use Rattle.cedar_gate_accepted.proofs.Listed.{filter_both, filter_alike, nil_all, nil_map, nil_length}
-use Rattle.cedar_gate_faults.specs.Causes.{IsRefusedFor}
-use Rattle.cedar_gate_faults.specs.declared.fault.GateFault.TheVariants.{IllTyped, Level}
-use Rattle.cedar_gate_faults.specs.declared.fault.PolicyViolation.{PolicyViolation}
+use Rattle.cedar_gate_rules.specs.Causes.{IsRefusedFor}
+use Rattle.cedar_gate_rules.specs.declared.fault.GateFault.TheVariants.{IllTyped, Level}
+use Rattle.cedar_gate_rules.specs.declared.fault.PolicyViolation.{PolicyViolation}
 use Rattle.cedar_gate_model.specs.Acceptance.{Submission, ill_typed, reaches_too_far, schema_in, is_clear_of, has_schema, warnings_of}
-use Rattle.cedar_gate_typing.specs.Views.{reach_of}
+use Rattle.cedar_gate_accepted.specs.ViolationViews.{reach_of}
 use Rattle.cedar_schema_model.specs.Schema.{Schema}
 use Rattle.cedar_schema_model.specs.Types.{strict}
 use Rattle.cedar_store_model.specs.Answer.{ids}
 use Rattle.cedar_store_model.specs.Policy.{Policy}
 use Rattle.cedar_store_parts.specs.Parts.{id_text}
 use Rattle.cedar_typechecker_model.specs.Verdicts.{RequestType, passes, impossible, irrelevant_for, policy_violations}
-use Rattle.cedar_typechecker_seen_model.specs.Laws.{PassingIsAlike, ImpossibleIsAlike, LevelsAreAlike}
+use Rattle.cedar_typechecker_model.specs.AlikeLaws.{PassingIsAlike, ImpossibleIsAlike, LevelsAreAlike}
 use Rattle.std.specs.declared.alloc.Global.{Global}
 use Rattle.std.specs.declared.vec.Vec.{Vec}
 

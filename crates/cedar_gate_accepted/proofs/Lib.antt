@@ -2,3 +2,12 @@ pub mod Judging
 pub mod Listed
 pub mod Tested
 pub mod Together
+pub mod Alone
+pub mod Kept
+pub mod Refused
+pub mod Scopes
+pub mod ChecksTogether
+pub mod Building
+pub mod DeclaredGiven
+pub mod Excused
+pub mod Loops

@@ -2,13 +2,13 @@
 use Rattle.std.proofs.Common.{◌≡◌, Bool, true, false, refl, sym, ◌∙◌}
 use Rattle.cedar_expr_model.specs.Uid.{Uid}
 use Rattle.cedar_gate_accepted.specs.Alike.{IsKeptByTests}
-use Rattle.cedar_schema_kept_model.specs.Kept.{Kept}
-use Rattle.cedar_schema_kept_model.specs.KeptOf.{IsKeptOf}
+use Rattle.cedar_schema_model.specs.Kept.{Kept}
+use Rattle.cedar_schema_model.specs.KeptOf.{IsKeptOf}
 use Rattle.cedar_schema_model.specs.Declarations.{Declarations}
 use Rattle.cedar_schema_model.specs.Resolved.{schema_of}
 use Rattle.cedar_schema_model.specs.Schema.{Schema, declares_action}
-use Rattle.cedar_typechecker_seen_model.specs.Seen.{schema_seen}
-use Rattle.cedar_typechecker_seen_model.specs.SeenLaws.{DeclaredAnswerAlike}
+use Rattle.cedar_typechecker_model.specs.Seen.{schema_seen}
+use Rattle.cedar_typechecker_model.specs.SeenLaws.{DeclaredAnswerAlike}
 
 settled : (b c : Bool) → ((b ≡ c → ⊥) → ⊥) → b ≡ c
 settled true true h = refl

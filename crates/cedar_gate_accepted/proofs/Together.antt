@@ -4,28 +4,28 @@ use Rattle.std.specs.Prelude.{not}
 use Rattle.std.specs.List.{filter}
 use Rattle.cedar_expr_model.specs.Name.{Name}
 use Rattle.cedar_expr_model.specs.Table.{Table, Signature}
-use Rattle.cedar_gate_acceptance.specs.Handed.{IsHandedIn}
-use Rattle.cedar_gate_acceptance.specs.Untyped.{is_clear_of_all, plain_causes, scope_causes, admits_untyped}
-use Rattle.cedar_gate_acceptance.proofs.Refused.{all_admitted}
-use Rattle.cedar_gate_acceptance.proofs.Together.{as_seen}
+use Rattle.cedar_gate_accepted.specs.Handed.{IsHandedIn}
+use Rattle.cedar_gate_accepted.specs.Untyped.{is_clear_of_all, plain_causes, scope_causes, admits_untyped}
+use Rattle.cedar_gate_accepted.proofs.Refused.{all_admitted}
+use Rattle.cedar_gate_accepted.proofs.ChecksTogether.{as_seen}
 use Rattle.cedar_gate_accepted.specs.Alike.{IsKeptByTests}
 use Rattle.cedar_gate_accepted.specs.Checked.{IsTypedBy, IsClearOfTyping, relevant_ids}
 use Rattle.cedar_gate_accepted.proofs.Listed.{filter_alike}
 use Rattle.cedar_gate_accepted.proofs.Tested.{tested_alike}
 use Rattle.cedar_gate_model.specs.Acceptance.{Submission, schema_in, has_schema, IsAccepted, policies_for}
 use Rattle.cedar_gate_model.specs.GateLaws.{AcceptanceDecides}
-use Rattle.cedar_schema_kept_model.specs.Kept.{Kept}
-use Rattle.cedar_schema_kept_model.specs.KeptOf.{IsKeptOf}
+use Rattle.cedar_schema_model.specs.Kept.{Kept}
+use Rattle.cedar_schema_model.specs.KeptOf.{IsKeptOf}
 use Rattle.cedar_schema_model.specs.Declarations.{Declarations}
 use Rattle.cedar_schema_model.specs.Resolved.{schema_of}
 use Rattle.cedar_schema_model.specs.Schema.{Schema}
 use Rattle.cedar_store_model.specs.Answer.{ids}
 use Rattle.cedar_store_model.specs.Policy.{Policy}
 use Rattle.cedar_typechecker_model.specs.Verdicts.{RequestType, irrelevant_for}
-use Rattle.cedar_typechecker_seen_model.specs.Alike.{AnswersAlike, HasSameSignatures}
-use Rattle.cedar_typechecker_seen_model.specs.Laws.{IrrelevantIsAlike}
-use Rattle.cedar_typechecker_seen_model.specs.Seen.{schema_seen}
-use Rattle.cedar_typechecker_seen_model.specs.SeenLaws.{DeclaredAnswerAlike}
+use Rattle.cedar_typechecker_model.specs.Alike.{AnswersAlike, HasSameSignatures}
+use Rattle.cedar_typechecker_model.specs.AlikeLaws.{IrrelevantIsAlike}
+use Rattle.cedar_typechecker_model.specs.Seen.{schema_seen}
+use Rattle.cedar_typechecker_model.specs.SeenLaws.{DeclaredAnswerAlike}
 
 module _ (d : Declarations) (ps : List Policy) (y : Table) (limit : ℕ) (s : Submission) (w : IsHandedIn d ps y.functions y.ordered limit s) where
   same_table : HasSameSignatures s.table y

@@ -7,13 +7,13 @@ use Rattle.cedar_expr_model.specs.Lists.{is_nil}
 use Rattle.cedar_expr_model.specs.Table.{Table}
 use Rattle.cedar_gate_accepted.specs.declared.checked.Checked.{Checked}
 use Rattle.cedar_gate_model.specs.Acceptance.{Submission, ill_typed, reaches_too_far, schema_in, is_clear_of}
-use Rattle.cedar_gate_typing.specs.Views.{reach_of}
+use Rattle.cedar_gate_accepted.specs.ViolationViews.{reach_of}
 use Rattle.cedar_schema_model.specs.Schema.{Schema}
 use Rattle.cedar_store_model.specs.Answer.{ids}
 use Rattle.cedar_store_model.specs.Policy.{Policy}
 use Rattle.cedar_store_parts.specs.Parts.{id_text}
 use Rattle.cedar_typechecker_model.specs.Verdicts.{RequestType, passes, impossible, irrelevant_for, policy_violations}
-use Rattle.cedar_typechecker_seen_model.specs.Alike.{AnswersAlike, HasSameSignatures}
+use Rattle.cedar_typechecker_model.specs.Alike.{AnswersAlike, HasSameSignatures}
 
 -- The check says of these policies what is to be said of them.
 pub record ChecksAll (n : ℕ) (s : Schema) (x : Table) (ps : List Policy) (c : Checked) : Type 0 where

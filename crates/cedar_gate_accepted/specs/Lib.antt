@@ -1,3 +1,8 @@
 pub mod Alike
 pub mod Checked
 pub mod Views
+pub mod Handed
+pub mod Untyped
+pub mod Refused
+pub mod Checks
+pub mod ViolationViews

@@ -3,7 +3,7 @@
 use Rattle.std.specs.Prelude.{◌≡◌, ℕ, List}
 use Rattle.cedar_expr_functions.specs.Tables.{functions_of, ordered_of}
 use Rattle.cedar_expr_functions.specs.declared.extensions.Extensions.{Extensions}
-use Rattle.cedar_gate_acceptance.specs.Handed.{IsHandedIn}
+use Rattle.cedar_gate_accepted.specs.Handed.{IsHandedIn}
 use Rattle.cedar_gate_accepted.specs.declared.gate.Gate.{Gate}
 use Rattle.cedar_gate_fragments.specs.Written.{declared_by}
 use Rattle.cedar_gate_model.specs.Acceptance.{Submission}

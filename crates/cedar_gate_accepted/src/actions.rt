@@ -6,7 +6,7 @@ ghost use Rattle.cedar_schema_model.specs.Resolved.{schema_of};
 use crate::gate::Gate;
 use cedar_expr_names::EntityUID;
 use cedar_gate_wanted::DeclaredActions;
-use cedar_typechecker_seen_model::laws::seen_schemas_answer_alike;
+use cedar_typechecker_model::alike_laws::seen_schemas_answer_alike;
 
 impl DeclaredActions for Gate<'_, '_, '_> {
     ghost schema = { λ g. schema_of (declared_in g) };

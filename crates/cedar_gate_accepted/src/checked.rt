@@ -3,13 +3,13 @@
 ghost use Rattle.std.specs.Prelude.{◌≡◌, ◌&&◌, ◌++◌, ◌∷◌, [], List, map, if◌then◌else◌, IfOk, OnOk};
 ghost use Rattle.cedar_gate_accepted.specs.Checked.{ChecksAll};
 ghost use Rattle.cedar_gate_rules.specs.Policies.{policies_of};
-ghost use Rattle.cedar_gate_typing.specs.Views.{reach_of};
+ghost use Rattle.cedar_gate_accepted.specs.ViolationViews.{reach_of};
 ghost use Rattle.cedar_store_model.specs.Policy.{Policy as ModelPolicy};
 ghost use Rattle.cedar_store_parts.specs.Parts.{id_text};
 ghost use Rattle.cedar_store_policies.specs.Policies.{policy_of};
 
-use cedar_gate_faults::PolicyViolation;
-use cedar_gate_typing::check_policy;
+use crate::check_policy;
+use cedar_gate_rules::PolicyViolation;
 use cedar_store_parts::PolicyID;
 use cedar_store_policies::Policy;
 use cedar_typechecker_scopes::SchemaEnvironments;

@@ -4,23 +4,21 @@ ghost use Rattle.cedar_gate_accepted.specs.Alike.{IsKeptByTests};
 ghost use Rattle.cedar_gate_fragments.specs.Written.{declared_by};
 ghost use Rattle.cedar_schema_built.specs.Views.{schema_kept};
 ghost use Rattle.cedar_schema_model.specs.Resolved.{schema_of};
-ghost use Rattle.cedar_typechecker_seen_model.specs.Seen.{ClosedByTests};
+ghost use Rattle.cedar_typechecker_model.specs.Seen.{ClosedByTests};
 
+use crate::admitted_schema;
 use crate::judged::judge;
 use crate::relevant::relevant;
 use cedar_expr_functions::Extensions;
-use cedar_expr_raw_names::RawName;
-use cedar_gate_acceptance::admitted_schema;
-use cedar_gate_faults::GateFault;
+use cedar_expr_leaves::RawName;
 use cedar_gate_model::laws::acceptance_is_decided;
-use cedar_gate_rules::NestLimit;
+use cedar_gate_rules::{GateFault, NestLimit};
 use cedar_schema_built::ValidatorSchema;
 use cedar_schema_decl::json_schema::Fragment;
-use cedar_store_parts::PolicyID;
+use cedar_store_parts::{PolicyID, RequestType};
 use cedar_store_policies::Policy;
-use cedar_store_records::RequestType;
-use cedar_typechecker_schemas::SchemaAndFunctions;
-use cedar_typechecker_seen_model::laws::{seen_schemas_answer_alike, verdicts_are_alike};
+use cedar_typechecker::SchemaAndFunctions;
+use cedar_typechecker_model::alike_laws::{seen_schemas_answer_alike, verdicts_are_alike};
 use std::alloc::{AllocError, Global};
 
 /// What the gate accepted: fragments of a schema with what is built of them, policies, extension functions, a level and a limit on
@@ -41,13 +39,13 @@ pub struct Gate<'f, 't, 'e> {
 impl<'f, 't, 'e> Gate<'f, 't, 'e> {
     ghost use Rattle.std.specs.Prelude.{◌≡◌, map, IfOk, IfErr, OnOk};
     ghost use Rattle.cedar_expr_functions.specs.Tables.{functions_of, ordered_of};
-    ghost use Rattle.cedar_gate_acceptance.specs.Handed.{IsHandedIn};
+    ghost use Rattle.cedar_gate_accepted.specs.Handed.{IsHandedIn};
     ghost use Rattle.cedar_gate_accepted.specs.Views.{IsOf, declared_in, schema_built, policies_held, table_held, level_held, limit_held, warned_of};
-    ghost use Rattle.cedar_gate_faults.specs.Causes.{IsRefusedFor};
+    ghost use Rattle.cedar_gate_rules.specs.Causes.{IsRefusedFor};
     ghost use Rattle.cedar_gate_model.specs.Acceptance.{Submission, IsAccepted, warnings_of, policies_for};
     ghost use Rattle.cedar_gate_rules.specs.Limit.{levels_of};
     ghost use Rattle.cedar_gate_rules.specs.Policies.{policies_of};
-    ghost use Rattle.cedar_gate_typing.specs.Checks.{kind_asked};
+    ghost use Rattle.cedar_gate_accepted.specs.Checks.{kind_asked};
     ghost use Rattle.cedar_store_parts.specs.Parts.{id_text};
 
     /// The gate of what is handed in, where that breaks none of the acceptance rules.

@@ -3,23 +3,23 @@
 ghost use Rattle.std.specs.Prelude.{◌≡◌, true, map, IfOk, IfErr, OnOk};
 ghost use Rattle.cedar_expr_functions.specs.Tables.{table_of};
 ghost use Rattle.cedar_gate_accepted.specs.Checked.{IsTypedBy, IsJudgedBy, IsClearOfTyping};
-ghost use Rattle.cedar_gate_faults.specs.Causes.{IsRefusedFor};
+ghost use Rattle.cedar_gate_rules.specs.Causes.{IsRefusedFor};
 ghost use Rattle.cedar_gate_model.specs.Acceptance.{Submission, has_schema, warnings_of};
 ghost use Rattle.cedar_gate_rules.specs.Policies.{policies_of};
 ghost use Rattle.cedar_schema_built.specs.Views.{schema_kept};
 ghost use Rattle.cedar_store_parts.specs.Parts.{id_text};
-ghost use Rattle.cedar_typechecker_schemas.specs.Views.{silent};
-ghost use Rattle.cedar_typechecker_seen_model.specs.Seen.{schema_seen, IsClosed};
+ghost use Rattle.cedar_typechecker.specs.SchemaViews.{silent};
+ghost use Rattle.cedar_typechecker_model.specs.Seen.{schema_seen, IsClosed};
 
 use crate::checked::{Checked, check_all};
 use cedar_expr_functions::Extensions;
-use cedar_gate_faults::GateFault;
+use cedar_gate_rules::GateFault;
 use cedar_schema_built::ValidatorSchema;
 use cedar_store_parts::PolicyID;
 use cedar_store_policies::Policy;
-use cedar_typechecker_schemas::SchemaAndFunctions;
+use cedar_typechecker::SchemaAndFunctions;
+use cedar_typechecker_model::alike_laws::{levels_are_alike, verdicts_are_alike};
 use cedar_typechecker_scopes::SchemaEnvironments;
-use cedar_typechecker_seen_model::laws::{levels_are_alike, verdicts_are_alike};
 use std::alloc::Global;
 
 // The ids to warn of, if each policy passes and none reaches too far.

@@ -4,14 +4,13 @@ ghost use Rattle.std.specs.Prelude.{◌≡◌, ◌++◌, ◌∷◌, [], not, map
 ghost use Rattle.std.specs.List.{filter};
 ghost use Rattle.cedar_gate_rules.specs.Policies.{policies_of};
 ghost use Rattle.cedar_gate_accepted.specs.Checked.{relevant_ids};
-ghost use Rattle.cedar_gate_typing.specs.Checks.{kind_asked};
+ghost use Rattle.cedar_gate_accepted.specs.Checks.{kind_asked};
 ghost use Rattle.cedar_store_parts.specs.Parts.{id_text};
 ghost use Rattle.cedar_store_policies.specs.Policies.{policy_of};
 
-use cedar_gate_typing::is_irrelevant_for;
-use cedar_store_parts::PolicyID;
+use crate::is_irrelevant_for;
+use cedar_store_parts::{PolicyID, RequestType};
 use cedar_store_policies::Policy;
-use cedar_store_records::RequestType;
 use cedar_typechecker_scopes::SchemaEnvironments;
 use std::alloc::{AllocError, Global};
 

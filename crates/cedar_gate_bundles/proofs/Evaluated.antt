@@ -4,7 +4,7 @@ use Rattle.cedar_expr_partial.specs.declared.partial_value.PartialValue.{Partial
 use Rattle.cedar_expr_partial.specs.declared.partial_value.PartialValue.TheVariants as part
 use Rattle.cedar_expr_values.specs.declared.extension.ExtValue.{ExtValue}
 use Rattle.cedar_evaluator_model.specs.Scope.{Left, value_left, residual, stopped}
-use Rattle.cedar_evaluator_restricted.specs.Lefts.{left_seen, is_stopped}
+use Rattle.cedar_evaluator_restricted_exprs.specs.Lefts.{left_seen, is_stopped}
 use Rattle.cedar_gate_bundles.specs.Values.{left_of_part, IsStopped}
 
 pub same_left : (p : PartialValue ExtValue) → left_seen p ≡ left_of_part p

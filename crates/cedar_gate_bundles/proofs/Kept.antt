@@ -25,7 +25,7 @@ use Rattle.cedar_gate_model.specs.Bundle.{Functions}
 use Rattle.cedar_gate_model.specs.ReadingName.{uid_read}
 use Rattle.cedar_gate_model.specs.ReadingRequest.{with_uids, entity_read}
 use Rattle.cedar_gate_model.specs.ReadingValue.{value_read}
-use Rattle.cedar_gate_reading.specs.Maps.{under_text}
+use Rattle.cedar_gate_expressions.specs.Maps.{under_text}
 use Rattle.cedar_gate_bundles.specs.Written.{known_made, entity_read_made, entity_pair_made, bare_entity_pair, AreWritten, IsStoreWritten}
 use Rattle.cedar_gate_bundles.proofs.Parted.{as_known, parts_are}
 

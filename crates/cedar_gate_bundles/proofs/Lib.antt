@@ -3,3 +3,4 @@ pub mod Parted
 pub mod Unread
 pub mod Written
 pub mod Kept
+pub mod ScopeForms

@@ -36,8 +36,8 @@ use Rattle.cedar_gate_model.specs.ReadingForms.{if_passing}
 use Rattle.cedar_gate_model.specs.ReadingName.{uid_read}
 use Rattle.cedar_gate_model.specs.ReadingRequest.{parts_read, with_uid, with_uids, step_read, binding_read}
 use Rattle.cedar_gate_model.specs.ReadingValue.{value_read, if_value, context_read, fields_context_read}
-use Rattle.cedar_gate_reading.specs.Json.{json_read}
-use Rattle.cedar_gate_reading.specs.Maps.{under_text, texts_seen}
+use Rattle.cedar_gate_expressions.specs.Json.{json_read}
+use Rattle.cedar_gate_expressions.specs.Maps.{under_text, texts_seen}
 use Rattle.cedar_gate_bundles.specs.Values.{IsStopped}
 use Rattle.cedar_gate_bundles.specs.Written.{known_made, entity_read_made, entity_pair_made}
 

@@ -26,9 +26,9 @@ use Rattle.cedar_gate_model.specs.ReadingForms.{if_passing}
 use Rattle.cedar_gate_model.specs.ReadingName.{uid_read}
 use Rattle.cedar_gate_model.specs.ReadingRequest.{entity_read, store_read, request_read, steps_read}
 use Rattle.cedar_gate_model.specs.ReadingValue.{value_read, fields_context_read, left_of_restricted}
-use Rattle.cedar_gate_reading.specs.Maps.{under_text}
-use Rattle.cedar_gate_reading.specs.declared.fault.ReadFault.{ReadFault}
-use Rattle.cedar_gate_reading.specs.declared.fault.ReadFault.TheVariants.{Unreadable}
+use Rattle.cedar_gate_expressions.specs.Maps.{under_text}
+use Rattle.cedar_gate_expressions.specs.declared.fault.ReadFault.{ReadFault}
+use Rattle.cedar_gate_expressions.specs.declared.fault.ReadFault.TheVariants.{Unreadable}
 use Rattle.cedar_gate_bundles.specs.Written.{entity_read_made}
 use Rattle.cedar_gate_bundles.proofs.Parted.{store_repeats}
 

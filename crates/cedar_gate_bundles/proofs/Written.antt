@@ -29,7 +29,7 @@ use Rattle.cedar_gate_model.proofs.Reading.Bundles.{there_has}
 use Rattle.cedar_gate_model.proofs.Reading.Steps.{given_some, map_some, passing_some, beside_all, given_gives, map_gives, if_gives}
 use Rattle.cedar_gate_model.proofs.Reading.Values.{none_is, first_some}
 use Rattle.cedar_gate_model.proofs.Runs.WellMade.{evaluated_well}
-use Rattle.cedar_gate_reading.specs.Maps.{under_text}
+use Rattle.cedar_gate_expressions.specs.Maps.{under_text}
 use Rattle.cedar_gate_bundles.specs.Written.{known_made, entity_read_made, AreWritten}
 
 module _ (x : Functions) (fair : MakeFairly x) where

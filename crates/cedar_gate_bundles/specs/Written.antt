@@ -22,7 +22,7 @@ use Rattle.cedar_gate_model.specs.Bundle.{Functions}
 use Rattle.cedar_gate_model.specs.ReadingName.{uid_read}
 use Rattle.cedar_gate_model.specs.ReadingRequest.{with_uids}
 use Rattle.cedar_gate_model.specs.ReadingValue.{value_read}
-use Rattle.cedar_gate_reading.specs.Maps.{under_text}
+use Rattle.cedar_gate_expressions.specs.Maps.{under_text}
 
 -- an attribute or a tag, as it is made
 abbrev pub known_made : Text × Made → Text × Part Made

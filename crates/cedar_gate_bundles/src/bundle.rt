@@ -10,16 +10,16 @@ ghost use Rattle.cedar_evaluator_model.specs.OfLaws.WellMade.{IsContextMadeWell}
 ghost use Rattle.cedar_gate_bundles.specs.Bundles.{submission_of, bundle_of};
 ghost use Rattle.cedar_gate_bundles.specs.Requests.{request_of};
 ghost use Rattle.cedar_gate_bundles.specs.Written.{IsStoreWritten};
-ghost use Rattle.cedar_gate_reading.specs.declared.fault.ReadFault.TheVariants.{Unreadable};
+ghost use Rattle.cedar_gate_expressions.specs.declared.fault.ReadFault.TheVariants.{Unreadable};
 
+use crate::PolicyReader;
 use crate::requests::{RequestRead, read_request};
 use crate::steps::{Step, StepReader};
 use crate::stores::read_store;
 use crate::values::Evaluate;
-use cedar_expr_raw_names::RawName;
+use cedar_expr_leaves::RawName;
+use cedar_gate_expressions::{ReadFault, has_only, optional_list, read_json, read_list, required};
 use cedar_gate_fragments::read_schema;
-use cedar_gate_policies::PolicyReader;
-use cedar_gate_reading::{ReadFault, has_only, optional_list, read_json, read_list, required};
 use cedar_schema_decl::json_schema::Fragment;
 use cedar_store_entities::Entities;
 use cedar_store_policies::Policy;

@@ -1,11 +1,11 @@
 //! What evaluates restricted values: the functions of a table.
 
 use crate::values::Evaluate;
-use cedar_evaluator_restricted::{FunctionCalls, RestrictedFault, evaluate};
+use cedar_evaluator_restricted_exprs::{FunctionCalls, RestrictedFault, evaluate};
 use cedar_expr_partial::PartialValue;
 use cedar_expr_trees::Expr;
 use cedar_expr_values::ExtValue;
-use cedar_gate_reading::ReadFault;
+use cedar_gate_expressions::ReadFault;
 use std::alloc::Global;
 
 impl<T: FunctionCalls> Evaluate for T {

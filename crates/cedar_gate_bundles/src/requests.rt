@@ -10,15 +10,16 @@ ghost use Rattle.cedar_gate_model.specs.ReadingRequest.{entry_read, request_read
 ghost use Rattle.cedar_gate_model.specs.ReadingValue.{context_read, fields_context_read};
 ghost use Rattle.cedar_gate_bundles.specs.Requests.{entry_of, context_of, request_of};
 ghost use Rattle.cedar_gate_bundles.specs.Values.{left_of_part};
-ghost use Rattle.cedar_gate_reading.specs.declared.fault.ReadFault.TheVariants.{Unreadable};
+ghost use Rattle.cedar_gate_expressions.specs.declared.fault.ReadFault.TheVariants.{Unreadable};
 
 use crate::values::{Evaluate, is_restricted};
 use cedar_expr_names::{EntityType, EntityUID};
 use cedar_expr_partial::PartialValue;
 use cedar_expr_trees::{Expr, ExprKind};
 use cedar_expr_values::{ExtValue, Value as CedarValue, ValueKind};
-use cedar_gate_expressions::read_fields;
-use cedar_gate_reading::{ReadFault, Reader, SharedUids, has_only, read_type, required};
+use cedar_gate_expressions::{
+    ReadFault, Reader, SharedUids, has_only, read_fields, read_type, required,
+};
 use serde_json::{Map, Value};
 use std::alloc::Global;
 use std::collections::BTreeMap;

@@ -4,11 +4,11 @@ ghost use Rattle.serde_json.specs.View.{view};
 ghost use Rattle.cedar_gate_model.specs.Transcript as run;
 ghost use Rattle.cedar_gate_model.specs.ReadingRequest.{step_read, binding_read};
 ghost use Rattle.cedar_gate_bundles.specs.Requests.{step_of};
-ghost use Rattle.cedar_gate_reading.specs.declared.fault.ReadFault.TheVariants.{Unreadable};
+ghost use Rattle.cedar_gate_expressions.specs.declared.fault.ReadFault.TheVariants.{Unreadable};
 
 use crate::values::{Evaluate, read_value};
 use cedar_expr_values::{ExtValue, Value as CedarValue};
-use cedar_gate_reading::{ReadFault, Reader, has_only, read_text, required};
+use cedar_gate_expressions::{ReadFault, Reader, has_only, read_text, required};
 use serde_json::Value;
 use std::alloc::Global;
 use std::rc::RcStr;

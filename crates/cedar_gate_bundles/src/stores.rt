@@ -10,10 +10,10 @@ ghost use Rattle.cedar_gate_model.specs.Reading.{list_of};
 ghost use Rattle.cedar_gate_model.specs.ReadingRequest.{entity_read, store_read};
 ghost use Rattle.cedar_gate_model.specs.RunsAnswer.{MakeFairly};
 ghost use Rattle.cedar_gate_bundles.specs.Written.{entity_read_made, entity_pair_made, AreWritten, IsStoreWritten};
-ghost use Rattle.cedar_gate_reading.specs.declared.fault.ReadFault.TheVariants.{Unreadable};
+ghost use Rattle.cedar_gate_expressions.specs.declared.fault.ReadFault.TheVariants.{Unreadable};
 
 use crate::values::{Evaluate, ValueReader};
-use cedar_gate_reading::{
+use cedar_gate_expressions::{
     ReadFault, Reader, Uids, has_only, optional_list, optional_pairs, read_list, read_uid, required,
 };
 use cedar_store_entities::{Entities, EntitiesError, Entity};

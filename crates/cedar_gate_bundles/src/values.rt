@@ -9,13 +9,12 @@ ghost use Rattle.cedar_expr_values.specs.Values.{made};
 ghost use Rattle.cedar_gate_model.specs.Bundle.{Functions};
 ghost use Rattle.cedar_gate_model.specs.ReadingValue.{left_of_restricted, value_read};
 ghost use Rattle.cedar_gate_bundles.specs.Values.{left_of_part, IsStopped};
-ghost use Rattle.cedar_gate_reading.specs.declared.fault.ReadFault.TheVariants.{Unreadable};
+ghost use Rattle.cedar_gate_expressions.specs.declared.fault.ReadFault.TheVariants.{Unreadable};
 
 use cedar_expr_partial::PartialValue;
 use cedar_expr_trees::{Expr, ExprKind};
 use cedar_expr_values::{ExtValue, Value as CedarValue};
-use cedar_gate_expressions::read_expression;
-use cedar_gate_reading::{ReadFault, Reader};
+use cedar_gate_expressions::{ReadFault, Reader, read_expression};
 use serde_json::Value;
 use std::alloc::{AllocError, Global};
 

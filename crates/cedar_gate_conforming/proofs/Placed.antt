@@ -12,12 +12,12 @@ use Rattle.cedar_expr_model.specs.ValueParts.{Part}
 use Rattle.cedar_evaluator_model.specs.Known.{known_entry}
 use Rattle.cedar_evaluator_model.specs.Scope.{Entry, uid, unknown_uid}
 use Rattle.cedar_evaluator_requests.specs.Views.{entry_uid}
-use Rattle.cedar_gate_conforming_model.specs.Asked.{kept_place, may_be_below}
-use Rattle.cedar_schema_kept_model.specs.Kept.{KeptType, KeptAction, Kept, kept_type, kept_action}
+use Rattle.cedar_gate_model.specs.Asked.{kept_place, may_be_below}
+use Rattle.cedar_schema_model.specs.Kept.{KeptType, KeptAction, Kept, kept_type, kept_action}
 use Rattle.cedar_schema_model.specs.Conforming.{Place, among_actions, of_kind, nowhere, where_known}
 use Rattle.cedar_schema_model.specs.Schema.{EntityKind, standard, enumerated, external}
 use Rattle.cedar_store_entities.specs.Views.{bare_part}
-use Rattle.cedar_typechecker_seen_model.specs.Asked.{type_is_below, action_is_below}
+use Rattle.cedar_typechecker_model.specs.Asked.{type_is_below, action_is_below}
 use Rattle.cedar_gate_conforming.specs.Views.{bare_parts, is_enumerated}
 
 -- the place by what is found

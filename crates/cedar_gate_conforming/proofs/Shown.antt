@@ -2,9 +2,9 @@
 use Rattle.std.proofs.Common.{◌≡◌, ◌∙◌, Bool, true, Option, Some, None}
 use Rattle.std.specs.Prelude.{IfSome}
 use Rattle.cedar_schema_model.specs.Conforming.{ConformFault}
-use Rattle.cedar_gate_conforming_model.specs.First.{first_fault}
-use Rattle.cedar_gate_conforming_model.specs.Laws.{FirstIsFault}
-use Rattle.cedar_gate_conforming_model.proofs.First.{first_alike}
+use Rattle.cedar_gate_model.specs.First.{first_fault}
+use Rattle.cedar_gate_model.specs.ConformingLaws.{FirstIsFault}
+use Rattle.cedar_gate_model.proofs.First.{first_alike}
 use Rattle.cedar_gate_conforming.specs.Faults.{fault_seen, IsFirst, IsThere}
 use Rattle.cedar_gate_conforming.specs.declared.faults.ConformFault as code
 

@@ -6,7 +6,7 @@ use Rattle.std.specs.List.{list_all}
 use Rattle.cedar_expr_model.specs.Name.{Text}
 use Rattle.cedar_expr_model.specs.Made.{Made}
 use Rattle.cedar_expr_model.specs.ValueParts.{Part}
-use Rattle.cedar_gate_conforming_model.specs.Asked.{Parts, has_undeclared, has_wrong_value, has_wrong_tag}
+use Rattle.cedar_gate_model.specs.Asked.{Parts, has_undeclared, has_wrong_value, has_wrong_tag}
 use Rattle.cedar_schema_model.specs.Types.{no_attributes}
 use Rattle.cedar_store_model.specs.Knowledge.{is_known}
 use Rattle.cedar_gate_conforming.specs.Views.{bare_parts}

@@ -2,7 +2,7 @@
 -- Rule: conforming entities; conforming requests (docs/RULES.md).
 use Rattle.std.specs.Prelude.{◌≡◌, ℕ, Bool, true, Option, Some, None, IfSome}
 use Rattle.cedar_schema_model.specs.Conforming.{ConformFault, undeclared, not_listed, no_member, lacks_attribute, undeclared_attribute, attribute_value, tag, ancestor, context_value, open_part}
-use Rattle.cedar_gate_conforming_model.specs.First.{first_fault}
+use Rattle.cedar_gate_model.specs.First.{first_fault}
 use Rattle.cedar_gate_conforming.specs.declared.faults.ConformFault as code
 use Rattle.cedar_gate_conforming.specs.declared.faults.ConformFault.TheVariants.{OutOfMemory, Undeclared, NotListed, NoMember, LacksAttribute, UndeclaredAttribute, AttributeValue, Tag, Ancestor, Context, OpenPart}
 

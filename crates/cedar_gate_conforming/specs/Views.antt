@@ -12,7 +12,7 @@ use Rattle.cedar_schema_model.specs.Schema.{EntityKind, standard, enumerated, ex
 use Rattle.cedar_schema_model.specs.Types.{Ty}
 use Rattle.cedar_schema_types.specs.Types.{type_of}
 use Rattle.cedar_schema_types.specs.declared.types.Type.{«Type» as CodeType}
-use Rattle.cedar_schema_kept_model.specs.Kept.{KeptAction, Kept, kept_action}
+use Rattle.cedar_schema_model.specs.Kept.{KeptAction, Kept, kept_action}
 use Rattle.cedar_evaluator_model.specs.Known.{known_entry, known_context}
 use Rattle.cedar_evaluator_model.specs.Response.{PartialRequest}
 use Rattle.cedar_evaluator_requests.specs.Views.{request_of, context_or_unknown}

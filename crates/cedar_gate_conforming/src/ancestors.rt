@@ -2,12 +2,12 @@
 
 ghost use Rattle.std.specs.Prelude.{◌≡◌};
 ghost use Rattle.cedar_expr_names.specs.Views.{uid_of, type_name_of};
-ghost use Rattle.cedar_gate_conforming_model.specs.Asked.{kept_fault_at, may_be_below, has_wrong_ancestor, is_lacking, lacks_above};
+ghost use Rattle.cedar_gate_model.specs.Asked.{kept_fault_at, may_be_below, has_wrong_ancestor, is_lacking, lacks_above};
 ghost use Rattle.cedar_schema_built.specs.Views.{schema_kept};
 ghost use Rattle.cedar_schema_entries.specs.Views.{entity_type_seen, action_seen};
 ghost use Rattle.cedar_schema_model.specs.Conforming.{of_kind, among_actions, ancestor};
 ghost use Rattle.cedar_store_entities.specs.Views.{entity_uid, entity_of};
-ghost use Rattle.cedar_typechecker_seen_model.specs.Asked.{type_is_below, action_is_below};
+ghost use Rattle.cedar_typechecker_model.specs.Asked.{type_is_below, action_is_below};
 
 use crate::members::is_of_enumerated;
 use cedar_expr_names::{EntityType, EntityUID};

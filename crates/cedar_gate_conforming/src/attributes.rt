@@ -4,7 +4,7 @@ ghost use Rattle.std.specs.Prelude.{◌≡◌, ◌&&◌, Some, is_none, not};
 ghost use Rattle.std.specs.List.{list_all};
 ghost use Rattle.std.specs.Map.{lookup};
 ghost use Rattle.std.specs.Str.{bytes_eq};
-ghost use Rattle.cedar_gate_conforming_model.specs.Asked.{lacks_required, has_undeclared, has_wrong_value};
+ghost use Rattle.cedar_gate_model.specs.Asked.{lacks_required, has_undeclared, has_wrong_value};
 ghost use Rattle.cedar_schema_model.specs.Conforming.{is_refused, type_at};
 ghost use Rattle.cedar_schema_types.specs.Types.{type_of, attributes_of, attribute_of};
 ghost use Rattle.cedar_store_entities.specs.Views.{bare_part, part_seen, entity_of};
@@ -13,7 +13,7 @@ ghost use Rattle.cedar_gate_conforming.specs.Parts.{parts_left};
 
 use cedar_expr_partial::PartialValue;
 use cedar_expr_values::ExtValue;
-use cedar_schema_admission::typecheck_value;
+use cedar_schema_joins::typecheck_value;
 use cedar_schema_types::{AttributeType, Attributes, Type};
 use cedar_store_entities::Entity;
 use std::collections::btree_map::Iter;

@@ -12,7 +12,7 @@ ghost use Rattle.cedar_gate_conforming.specs.Views.{context_seen};
 
 use cedar_evaluator_requests::Context;
 use cedar_expr_values::{ExtValue, Value};
-use cedar_schema_admission::typecheck_value;
+use cedar_schema_joins::typecheck_value;
 use cedar_schema_types::Type;
 use std::alloc::AllocError;
 use std::collections::BTreeMap;

@@ -1,9 +1,9 @@
 //! Entities against a schema.
 
 ghost use Rattle.std.specs.Prelude.{◌≡◌, Some, None, IfErr, OnOk};
-ghost use Rattle.cedar_gate_conforming_model.specs.Alike.{ConformsAlike};
-ghost use Rattle.cedar_gate_conforming_model.specs.Asked.{kept_fault_at, kept_entity_fault};
-ghost use Rattle.cedar_gate_conforming_model.specs.First.{first_fault};
+ghost use Rattle.cedar_gate_model.specs.Alike.{ConformsAlike};
+ghost use Rattle.cedar_gate_model.specs.Asked.{kept_fault_at, kept_entity_fault};
+ghost use Rattle.cedar_gate_model.specs.First.{first_fault};
 ghost use Rattle.cedar_schema_built.specs.Views.{schema_kept};
 ghost use Rattle.cedar_schema_entries.specs.Views.{entity_type_seen};
 ghost use Rattle.cedar_schema_model.specs.Conforming.{of_kind, among_actions, has_entity_fault, EntityConforms};
@@ -16,7 +16,7 @@ use crate::attributes::{has_undeclared, has_wrong_value, holds_values, lacks_req
 use crate::faults::ConformFault;
 use crate::members::is_no_member;
 use crate::tags::has_wrong_tag;
-use cedar_gate_conforming_model::laws::first_faults_are_faults;
+use cedar_gate_model::conforming_laws::first_faults_are_faults;
 use cedar_schema_built::ValidatorSchema;
 use cedar_schema_entries::ValidatorEntityType;
 use cedar_store_entities::Entity;
@@ -61,7 +61,7 @@ fn check_action(schema: &ValidatorSchema, entity: &Entity) -> Result<(), Conform
     Ok(())
 }
 
-ghost use Rattle.cedar_gate_conforming_model.specs.Asked.{has_undeclared, has_wrong_tag};
+ghost use Rattle.cedar_gate_model.specs.Asked.{has_undeclared, has_wrong_tag};
 ghost use Rattle.cedar_schema_model.specs.Types.{no_attributes};
 
 // Whether the entity has attributes.
@@ -79,7 +79,7 @@ fn has_tags(entity: &Entity) -> bool
 }
 
 ghost use Rattle.std.specs.Option.{option_map_or};
-ghost use Rattle.cedar_schema_kept_model.specs.Kept.{kept_type};
+ghost use Rattle.cedar_schema_model.specs.Kept.{kept_type};
 ghost use Rattle.cedar_schema_model.specs.Conforming.{nowhere};
 
 // Checks whether an entity that is no action's conforms to what the schema keeps of its type. Errors: the first of its faults.

@@ -1,12 +1,12 @@
 //! The declared actions as entities.
 
 ghost use Rattle.std.specs.Prelude.{◌≡◌, map, IfOk};
-ghost use Rattle.cedar_gate_conforming_model.specs.Alike.{ConformsAlike, AreActionEntities};
+ghost use Rattle.cedar_gate_model.specs.Alike.{ConformsAlike, AreActionEntities};
 ghost use Rattle.cedar_schema_built.specs.Views.{schema_kept};
 ghost use Rattle.cedar_schema_model.specs.Schema.{Schema};
 ghost use Rattle.cedar_store_entities.specs.Views.{entity_pair};
 
-use cedar_gate_conforming_model::laws::kept_actions_are_entities;
+use cedar_gate_model::conforming_laws::kept_actions_are_entities;
 use cedar_schema_built::ValidatorSchema;
 use cedar_schema_built::laws::schemas_are_in_order;
 use cedar_store_entities::Entity;

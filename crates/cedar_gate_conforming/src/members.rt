@@ -2,7 +2,7 @@
 
 ghost use Rattle.std.specs.Prelude.{◌≡◌};
 ghost use Rattle.cedar_expr_names.specs.Views.{uid_of, eid_text};
-ghost use Rattle.cedar_gate_conforming_model.specs.Asked.{kept_place};
+ghost use Rattle.cedar_gate_model.specs.Asked.{kept_place};
 ghost use Rattle.cedar_schema_built.specs.Views.{schema_kept};
 ghost use Rattle.cedar_schema_entries.specs.Kinds.{kind_with};
 ghost use Rattle.cedar_schema_entries.specs.Views.{entity_type_seen};
@@ -59,7 +59,7 @@ pub(crate) fn is_no_kept_member(schema: &ValidatorSchema, uid: &EntityUID) -> bo
 }
 
 ghost use Rattle.std.specs.Option.{option_map_or};
-ghost use Rattle.cedar_schema_kept_model.specs.Kept.{kept_type};
+ghost use Rattle.cedar_schema_model.specs.Kept.{kept_type};
 ghost use Rattle.cedar_schema_model.specs.Conforming.{nowhere};
 
 // Whether the uid, which is no action's, is of a type that is enumerated by the schema, and its entity is no member.

@@ -1,7 +1,7 @@
 //! The tags of an entity against the type that is declared for them.
 
 ghost use Rattle.std.specs.Prelude.{◌≡◌, ◌||◌, is_none};
-ghost use Rattle.cedar_gate_conforming_model.specs.Asked.{has_wrong_tag};
+ghost use Rattle.cedar_gate_model.specs.Asked.{has_wrong_tag};
 ghost use Rattle.cedar_schema_model.specs.Conforming.{is_refused};
 ghost use Rattle.cedar_store_entities.specs.Views.{bare_part, part_seen, entity_of};
 ghost use Rattle.cedar_gate_conforming.specs.Views.{type_seen};

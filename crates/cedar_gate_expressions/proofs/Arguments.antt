@@ -10,7 +10,7 @@ use Rattle.cedar_expr_trees.specs.declared.expr.Expr.{Expr}
 use Rattle.cedar_expr_trees.specs.Trees.{tree_of}
 use Rattle.cedar_gate_model.specs.ReadingExpression.{expression_read}
 use Rattle.cedar_gate_expressions.specs.Parts.{parts}
-use Rattle.cedar_gate_reading.proofs.Gathered.{then_rest, one_more}
+use Rattle.cedar_gate_expressions.proofs.Gathered.{then_rest, one_more}
 
 pub here : (xs : List Value) (i : ℕ) (v : Value) → i < length xs → v ≡ get_or xs i v → drop i xs ≡ v ∷ drop (i + 1) xs
 here xs i v h e = rw add-one (drop-cons xs i v h ∙ ap (λ y. y ∷ drop (suc i) xs) (sym e))

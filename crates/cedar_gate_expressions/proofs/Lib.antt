@@ -4,3 +4,11 @@ pub mod Heads
 pub mod Fields
 pub mod Arguments
 pub mod Patterns
+pub mod Named
+pub mod FewItems
+pub mod Alone
+pub mod Gathered
+pub mod UidParts
+pub mod Sorted
+pub mod Keys
+pub mod InputForms

@@ -15,16 +15,16 @@ ghost use Rattle.cedar_gate_expressions.specs.Forms.{form_of, joint_of};
 ghost use Rattle.cedar_expr_model.specs.Tree.{choice};
 ghost use Rattle.cedar_gate_expressions.specs.declared.forms.Form.TheVariants.{OfTest, Record};
 ghost use Rattle.cedar_gate_expressions.specs.Parts.{parts};
-ghost use Rattle.cedar_gate_reading.specs.declared.fault.ReadFault.TheVariants.{Unreadable};
+ghost use Rattle.cedar_gate_expressions.specs.declared.fault.ReadFault.TheVariants.{Unreadable};
 
 use crate::finished::{join, test};
 use crate::forms::{Form, Joint, Test};
 use crate::leaves::{form_of_word, read_leaf, read_long, read_string};
 use crate::members::{members_of, next_member};
 use crate::shapes::{first_of, one_of, three_of, two_of};
+use crate::{ReadFault, read_name};
 use cedar_expr_leaves::Literal;
 use cedar_expr_trees::Expr;
-use cedar_gate_reading::{ReadFault, read_name};
 use serde_json::{Map, Value};
 use std::alloc::{AllocError, Global};
 use std::collections::BTreeMap;
@@ -147,7 +147,7 @@ fn read_record(alloc: Global, items: &[Value]) -> Result<Expr, ReadFault>
 
 // Reads each of these expressions from this place on, in their order.
 #[cycle(read)]
-#[tactic(auto, using(cedar_gate_reading::proofs::Gathered::nothing_before, cedar_gate_reading::proofs::Gathered::one_more, crate::proofs::Arguments::ended, crate::proofs::Arguments::here))]
+#[tactic(auto, using(crate::proofs::Gathered::nothing_before, crate::proofs::Gathered::one_more, crate::proofs::Arguments::ended, crate::proofs::Arguments::here))]
 fn read_each_expression(alloc: Global, items: &[Value], from: usize) -> Result<Vec<Expr>, ReadFault>
     ensures ok { IfOk result (λ v. all_given (λ x. x.tree) (parts (drop from items.now)) ≡ Some (map tree_of v.items)) }
     ensures unreadable { IfErr result (λ f. f ≡ Unreadable → all_given (λ x. x.tree) (parts (drop from items.now)) ≡ None) }

@@ -14,13 +14,13 @@ ghost use Rattle.cedar_gate_model.specs.Reading.{given, each};
 ghost use Rattle.cedar_gate_model.specs.ReadingExpression.{pattern_read, elements_read};
 ghost use Rattle.cedar_gate_expressions.specs.Forms.{joint_of, test_rest};
 ghost use Rattle.cedar_gate_expressions.specs.Parts.{parts};
-ghost use Rattle.cedar_gate_reading.specs.declared.fault.ReadFault.TheVariants.{Unreadable};
+ghost use Rattle.cedar_gate_expressions.specs.declared.fault.ReadFault.TheVariants.{Unreadable};
 
 use crate::forms::{Joint, Test};
 use crate::shapes::first_of;
+use crate::{ReadFault, Texts, read_each, read_text, read_type};
 use cedar_expr_leaves::{NonEmpty, Pattern, PatternElem};
 use cedar_expr_trees::Expr;
-use cedar_gate_reading::{ReadFault, Texts, read_each, read_text, read_type};
 use serde_json::Value;
 use std::alloc::{AllocError, Global};
 use std::rc::RcStr;

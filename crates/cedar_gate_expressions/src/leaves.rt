@@ -14,13 +14,13 @@ ghost use Rattle.cedar_gate_model.specs.ReadingName.{plain_name_read, uid_from, 
 ghost use Rattle.cedar_gate_model.specs.ReadingExpression.{var_words, slot_words, forms};
 ghost use Rattle.cedar_gate_expressions.specs.Forms.{leaf_form, form_of};
 ghost use Rattle.cedar_gate_expressions.specs.Parts.{parts};
-ghost use Rattle.cedar_gate_reading.specs.declared.fault.ReadFault.TheVariants.{Unreadable};
+ghost use Rattle.cedar_gate_expressions.specs.declared.fault.ReadFault.TheVariants.{Unreadable};
 
 use crate::forms::{Form, Leaf, form_named};
 use crate::shapes::first_of;
+use crate::{ReadFault, read_annotation, read_text, read_uid_from, text};
 use cedar_expr_leaves::{Literal, SlotId, Var};
 use cedar_expr_trees::{Expr, Unknown};
-use cedar_gate_reading::{ReadFault, read_annotation, read_text, read_uid_from, text};
 use serde_json::{Number, Value};
 use std::alloc::{AllocError, Global};
 use std::rc::{Rc, RcStr};

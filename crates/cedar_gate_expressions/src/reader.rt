@@ -3,8 +3,8 @@ ghost use Rattle.cedar_expr_trees.specs.Trees.{tree_of};
 ghost use Rattle.cedar_gate_model.specs.ReadingExpression.{expression_read};
 
 use crate::expressions::read_expression;
+use crate::{ReadFault, Reader};
 use cedar_expr_trees::Expr;
-use cedar_gate_reading::{ReadFault, Reader};
 use serde_json::Value;
 use std::alloc::Global;
 

@@ -9,7 +9,7 @@ ghost use Rattle.cedar_gate_expressions.specs.Parts.{parts};
 use serde_json::Value;
 
 /// The first item and the others, if there is an item.
-#[tactic(auto, using(cedar_gate_reading::proofs::Shapes::first))]
+#[tactic(auto, using(crate::proofs::FewItems::first))]
 pub(crate) fn first_of<'a>(items: &'a [Value]) -> Option<(&'a Value, &'a [Value])>
     ensures first { IfSome result (λ p. items.entry.now ≡ p.0.now ∷ p.1.now) }
     ensures nothing { IfNone result (items.entry.now ≡ []) }
@@ -21,7 +21,7 @@ pub(crate) fn first_of<'a>(items: &'a [Value]) -> Option<(&'a Value, &'a [Value]
 }
 
 /// The item, if there is exactly one.
-#[tactic(auto, using(cedar_gate_reading::proofs::Shapes::one, crate::proofs::Short::no_record))]
+#[tactic(auto, using(crate::proofs::FewItems::one, crate::proofs::Short::no_record))]
 pub(crate) fn one_of<'a>(items: &'a [Value]) -> Option<&'a Value>
     ensures one { IfSome result (λ x. items.entry.now ≡ x.now ∷ []) }
     ensures nothing { IfNone result (of_part record_literal (λ x. x.fields) (parts items.entry.now) ≡ None) }
@@ -34,7 +34,7 @@ pub(crate) fn one_of<'a>(items: &'a [Value]) -> Option<&'a Value>
 }
 
 /// The two items, if there are exactly two.
-#[tactic(auto, using(cedar_gate_reading::proofs::Shapes::two, crate::proofs::Short::too_few_for_two, crate::proofs::Short::too_many_for_two))]
+#[tactic(auto, using(crate::proofs::FewItems::two, crate::proofs::Short::too_few_for_two, crate::proofs::Short::too_many_for_two))]
 pub(crate) fn two_of<'a>(items: &'a [Value]) -> Option<(&'a Value, &'a Value)>
     ensures two { IfSome result (λ p. items.entry.now ≡ p.0.now ∷ p.1.now ∷ []) }
     ensures nothing { IfNone result ((f : Tree → Tree → Tree) → of_two f (parts items.entry.now) ≡ None) }
@@ -48,7 +48,7 @@ pub(crate) fn two_of<'a>(items: &'a [Value]) -> Option<(&'a Value, &'a Value)>
 }
 
 /// The three items, if there are exactly three.
-#[tactic(auto, using(cedar_gate_reading::proofs::Shapes::three, crate::proofs::Short::too_few_for_three, crate::proofs::Short::too_many_for_three))]
+#[tactic(auto, using(crate::proofs::FewItems::three, crate::proofs::Short::too_few_for_three, crate::proofs::Short::too_many_for_three))]
 pub(crate) fn three_of<'a>(items: &'a [Value]) -> Option<(&'a Value, &'a Value, &'a Value)>
     ensures three { IfSome result (λ p. items.entry.now ≡ p.0.now ∷ p.1.now ∷ p.2.now ∷ []) }
     ensures nothing { IfNone result ((f : Tree → Tree → Tree → Tree) → of_three f (parts items.entry.now) ≡ None) }

@@ -8,8 +8,8 @@ use Rattle.std.specs.declared.rc.RcStr.{RcStr}
 use Rattle.serde_json.proofs.Views.{Entry}
 use Rattle.serde_json.specs.View.{view, members_view}
 use Rattle.cedar_expr_model.specs.Name.{Text, Name}
-use Rattle.cedar_expr_raw_names.specs.Views.{raw_name_of}
-use Rattle.cedar_expr_raw_names.specs.declared.raw_name.RawName.{RawName}
+use Rattle.cedar_expr_leaves.specs.Views.{raw_name_of}
+use Rattle.cedar_expr_leaves.specs.declared.raw_name.RawName.{RawName}
 use Rattle.cedar_schema_model.specs.Declarations.{TypeExpr, FieldExprs, no_field_exprs, field_expr}
 use Rattle.cedar_schema_decl.specs.Forms.{TypeForm}
 use Rattle.cedar_schema_decl.specs.Laws.{as_expr, as_exprs}

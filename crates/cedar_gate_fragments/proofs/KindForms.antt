@@ -10,7 +10,7 @@ use Rattle.cedar_gate_model.specs.Reading.{given, has_only, list_of}
 use Rattle.cedar_gate_model.specs.ReadingForms.{read_as, alone}
 use Rattle.cedar_gate_model.specs.ReadingName.{any_name_read}
 use Rattle.cedar_gate_model.specs.ReadingSchema.{standard_read, enumerated_read, kind_read}
-use Rattle.cedar_gate_reading.proofs.Keys.{not_alone, is_alone, is_not}
+use Rattle.cedar_gate_expressions.proofs.Keys.{not_alone, is_alone, is_not}
 use Rattle.cedar_gate_fragments.specs.Written.{ids_read}
 
 abbrev externals : Data → Option (List Name × KindExpr)

@@ -14,8 +14,8 @@ use Rattle.cedar_expr_model.specs.Lists.{when}
 use Rattle.cedar_expr_names.specs.Views.{id_text, name_of}
 use Rattle.cedar_expr_names.specs.declared.id.Id.{Id}
 use Rattle.cedar_expr_names.specs.declared.internal_name.InternalName.{InternalName}
-use Rattle.cedar_expr_raw_names.specs.Views.{raw_name_of}
-use Rattle.cedar_expr_raw_names.specs.declared.raw_name.RawName.{RawName}
+use Rattle.cedar_expr_leaves.specs.Views.{raw_name_of}
+use Rattle.cedar_expr_leaves.specs.declared.raw_name.RawName.{RawName}
 use Rattle.cedar_schema_model.specs.Reference.{Namespace}
 use Rattle.cedar_schema_model.specs.Declarations.{TypeExpr, record_expr, no_field_exprs, KindExpr, Declarations, bag}
 use Rattle.cedar_schema_decl.specs.Definitions.{common_form}
@@ -32,8 +32,8 @@ use Rattle.cedar_schema_fragments.specs.WrittenDeclarations.{common_declaration,
 use Rattle.cedar_gate_model.specs.Reading.{given, if_there, each, has_only, optional, list_of, members_of, each_member}
 use Rattle.cedar_gate_model.specs.ReadingName.{any_name_read, declared_uid_read}
 use Rattle.cedar_gate_model.specs.ReadingSchema.{type_read, kind_read, common_read, entity_type_read, action_read, namespace_named, declared_in, namespace_read}
-use Rattle.cedar_gate_reading.specs.Maps.{under_text, under_word}
-use Rattle.cedar_gate_reading.proofs.Keys.{none_when}
+use Rattle.cedar_gate_expressions.specs.Maps.{under_text, under_word}
+use Rattle.cedar_gate_expressions.proofs.Keys.{none_when}
 use Rattle.cedar_gate_fragments.specs.Types.{type_seen}
 use Rattle.cedar_gate_fragments.specs.Written.{kind_seen, ActionBody, action_body_read, parent_seen, action_seen, Definition, definition_read, definition_seen, space_seen, common_at, entity_at, action_at, declared_at, declared_in_fragment, declared_by, joined}
 

@@ -1,2 +1,4 @@
 pub mod Types
 pub mod Written
+pub mod Maps
+pub mod Actions

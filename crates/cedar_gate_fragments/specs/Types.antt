@@ -6,8 +6,8 @@ use Rattle.std.specs.Map.{lookup}
 use Rattle.std.specs.Str.{bytes_eq}
 use Rattle.serde_json.specs.Data.{Data, null, boolean, number, string, array, object, Members, no_members, member}
 use Rattle.cedar_expr_model.specs.Name.{Text}
-use Rattle.cedar_expr_raw_names.specs.Views.{raw_name_of}
-use Rattle.cedar_expr_raw_names.specs.declared.raw_name.RawName.{RawName}
+use Rattle.cedar_expr_leaves.specs.Views.{raw_name_of}
+use Rattle.cedar_expr_leaves.specs.declared.raw_name.RawName.{RawName}
 use Rattle.cedar_schema_model.specs.Reference.{to_entity, to_common}
 use Rattle.cedar_schema_model.specs.Declarations.{TypeExpr, bool_expr, long_expr, string_expr, set_expr, record_expr, reference, extension_expr, FieldExprs}
 use Rattle.cedar_schema_decl.specs.Laws.{as_expr, as_exprs}

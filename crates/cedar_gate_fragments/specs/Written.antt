@@ -13,8 +13,8 @@ use Rattle.cedar_expr_model.specs.Uid.{Uid}
 use Rattle.cedar_expr_model.specs.Lists.{when, is_nil}
 use Rattle.cedar_expr_names.specs.Views.{name_of}
 use Rattle.cedar_expr_names.specs.declared.internal_name.InternalName.{InternalName}
-use Rattle.cedar_expr_raw_names.specs.Views.{raw_name_of}
-use Rattle.cedar_expr_raw_names.specs.declared.raw_name.RawName.{RawName}
+use Rattle.cedar_expr_leaves.specs.Views.{raw_name_of}
+use Rattle.cedar_expr_leaves.specs.declared.raw_name.RawName.{RawName}
 use Rattle.cedar_schema_model.specs.Reference.{Namespace}
 use Rattle.cedar_schema_model.specs.Declarations.{TypeExpr, record_expr, no_field_exprs, KindExpr, CommonDeclaration, EntityDeclaration, ActionDeclaration, Declarations}
 use Rattle.cedar_schema_decl.specs.Laws.{as_expr, namespace_parts}
@@ -30,7 +30,7 @@ use Rattle.cedar_gate_model.specs.Reading.{given, optional, has_only, list_of, m
 use Rattle.cedar_gate_model.specs.ReadingForms.{if_passing}
 use Rattle.cedar_gate_model.specs.ReadingName.{any_name_read, declared_uid_read}
 use Rattle.cedar_gate_model.specs.ReadingSchema.{type_read, kind_read}
-use Rattle.cedar_gate_reading.specs.Maps.{under_text, under_word, texts_seen, words_seen}
+use Rattle.cedar_gate_expressions.specs.Maps.{under_text, under_word, texts_seen, words_seen}
 use Rattle.cedar_gate_fragments.specs.Types.{type_seen}
 
 -- an entity type: its parents, and its kind

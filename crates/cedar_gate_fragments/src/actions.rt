@@ -8,11 +8,11 @@ ghost use Rattle.cedar_gate_model.specs.ReadingName.{any_name_read, uid_in, decl
 ghost use Rattle.cedar_gate_model.specs.ReadingSchema.{type_read};
 ghost use Rattle.cedar_gate_fragments.specs.Types.{type_seen};
 ghost use Rattle.cedar_gate_fragments.specs.Written.{parent_seen, ActionBody, action_seen, action_body_read};
-ghost use Rattle.cedar_gate_reading.specs.declared.fault.ReadFault.TheVariants.{Unreadable};
+ghost use Rattle.cedar_gate_expressions.specs.declared.fault.ReadFault.TheVariants.{Unreadable};
 
 use crate::types::{read_type, record_of};
-use cedar_expr_raw_names::RawName;
-use cedar_gate_reading::{
+use cedar_expr_leaves::RawName;
+use cedar_gate_expressions::{
     AnyNames, ReadFault, Reader, has_only, optional_list, read_any_name, read_text,
 };
 use cedar_schema_decl::json_schema::{
@@ -84,7 +84,7 @@ impl Reader for Parents {
 }
 
 // Reads the parent of an action of its parts.
-#[tactic(auto, using(cedar_gate_reading::proofs::Shapes::two, cedar_gate_reading::proofs::UidParts::short_uid, cedar_gate_reading::proofs::UidParts::long_uid))]
+#[tactic(auto, using(cedar_gate_expressions::proofs::FewItems::two, cedar_gate_expressions::proofs::UidParts::short_uid, cedar_gate_expressions::proofs::UidParts::long_uid))]
 fn read_parent(alloc: Global, items: &[Value]) -> Result<ActionEntityUID<RawName>, ReadFault>
     ensures ok { IfOk result (λ p. uid_in any_name_read (items_view items.now) ≡ Some (parent_seen p)) }
     ensures unreadable { IfErr result (λ f. f ≡ Unreadable → uid_in any_name_read (items_view items.now) ≡ None) }

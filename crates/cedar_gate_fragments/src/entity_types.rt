@@ -7,12 +7,11 @@ ghost use Rattle.cedar_gate_model.specs.Reading.{has_only, optional};
 ghost use Rattle.cedar_gate_model.specs.ReadingSchema.{attributes_read, standard_read, enumerated_read, kind_read};
 ghost use Rattle.cedar_gate_fragments.specs.Types.{fields_seen};
 ghost use Rattle.cedar_gate_fragments.specs.Written.{kind_seen, ids_seen, ids_read};
-ghost use Rattle.cedar_gate_reading.specs.declared.fault.ReadFault.TheVariants.{Unreadable};
+ghost use Rattle.cedar_gate_expressions.specs.declared.fault.ReadFault.TheVariants.{Unreadable};
 
 use crate::types::{WrittenTypes, read_attributes, record_of};
-use cedar_expr_leaves::NonEmpty;
-use cedar_expr_raw_names::RawName;
-use cedar_gate_reading::{
+use cedar_expr_leaves::{NonEmpty, RawName};
+use cedar_gate_expressions::{
     AnyNames, ReadFault, Reader, Texts, has_only, optional, optional_list, read_each, read_list,
     read_text, required,
 };
@@ -72,7 +71,7 @@ fn optional_attributes(alloc: Global, value: &Value) -> Result<RecordType<RawNam
 }
 
 // Reads the ids of an enumerated type, one or more.
-#[tactic(auto, using(cedar_gate_reading::proofs::Shapes::first_rest))]
+#[tactic(auto, using(cedar_gate_expressions::proofs::FewItems::first_rest))]
 fn read_ids(alloc: Global, value: &Value) -> Result<NonEmpty<RcStr>, ReadFault>
     ensures ok { IfOk result (λ ids. ids_read (view value.now) ≡ Some (ids_seen ids)) }
     ensures unreadable { IfErr result (λ f. f ≡ Unreadable → ids_read (view value.now) ≡ None) }

@@ -5,14 +5,14 @@ ghost use Rattle.cedar_gate_model.specs.Reading.{each, each_member};
 ghost use Rattle.cedar_gate_model.specs.ReadingSchema.{namespace_named, namespace_read, fragment_read, schema_read};
 ghost use Rattle.cedar_schema_model.specs.Declarations.{bag};
 ghost use Rattle.cedar_gate_fragments.specs.Written.{space_seen, definition_read, definition_seen, declared_in_fragment, declared_by, joined};
-ghost use Rattle.cedar_gate_reading.specs.declared.fault.ReadFault.TheVariants.{Unreadable};
+ghost use Rattle.cedar_gate_expressions.specs.declared.fault.ReadFault.TheVariants.{Unreadable};
 
 use crate::actions::Actions;
 use crate::entity_types::EntityTypes;
 use crate::types::CommonTypes;
+use cedar_expr_leaves::RawName;
 use cedar_expr_names::InternalName;
-use cedar_expr_raw_names::RawName;
-use cedar_gate_reading::{ReadFault, has_only, optional_texts, optional_words};
+use cedar_gate_expressions::{ReadFault, has_only, optional_texts, optional_words};
 use cedar_schema_decl::json_schema::{Fragment, NamespaceDefinition};
 use serde_json::{Map, Value};
 use std::alloc::Global;

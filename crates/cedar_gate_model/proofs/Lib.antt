@@ -3,3 +3,9 @@ pub mod Reading
 pub mod Gate
 pub mod Runs
 pub mod Promised
+pub mod Doing
+pub mod Looked
+pub mod Descent
+pub mod Faults
+pub mod Actions
+pub mod First

@@ -26,3 +26,9 @@ pub mod RunsAlike
 pub mod SliceSoundness
 pub mod WorkedGate
 pub mod Headline
+pub mod Did
+pub mod DidLaws
+pub mod Asked
+pub mod Alike
+pub mod First
+pub mod ConformingLaws

@@ -20,7 +20,7 @@ use Rattle.cedar_evaluator_requests.specs.declared.context.RestrictedFields.{Res
 use Rattle.cedar_expr_trees.specs.Trees.{tree_of}
 use Rattle.cedar_expr_trees.specs.declared.expr.Expr.{Expr}
 use Rattle.cedar_evaluator_requests.specs.declared.context.Context as code
-use Rattle.cedar_evaluator_restricted.specs.Lefts.{is_stopped}
+use Rattle.cedar_evaluator_restricted_exprs.specs.Lefts.{is_stopped}
 use Rattle.cedar_gate_model.specs.Bundle.{Functions}
 use Rattle.cedar_gate_model.specs.ReadingValue.{with_functions, left_of_restricted}
 use Rattle.cedar_gate_model.proofs.Reading.Values.{Clean, evaluated_clean, none_is}

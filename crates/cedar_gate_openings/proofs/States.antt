@@ -8,7 +8,7 @@ use Rattle.cedar_expr_model.specs.Substitution.{Bindings}
 use Rattle.cedar_evaluator_model.specs.Response.{PartialRequest}
 use Rattle.cedar_evaluator_model.specs.Scope.{Entry, uid, unknown_uid, Context, closed, residual_fields, unknown_context, Stop, Left, value_left, residual, stopped}
 use Rattle.cedar_expr_model.specs.Tree.{record_literal}
-use Rattle.cedar_evaluator_restricted.specs.Lefts.{is_stopped}
+use Rattle.cedar_evaluator_restricted_exprs.specs.Lefts.{is_stopped}
 use Rattle.cedar_evaluator_requests.specs.Views.{request_of}
 use Rattle.cedar_evaluator_requests.specs.declared.request.Request.{Request}
 use Rattle.cedar_gate_model.specs.Bundle.{Functions}

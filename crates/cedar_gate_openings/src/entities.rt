@@ -6,7 +6,7 @@ ghost use Rattle.cedar_store_entities.specs.Views.{entity_of};
 ghost use Rattle.cedar_gate_model.specs.Slice.{mentioned_by_found};
 ghost use Rattle.cedar_gate_openings.specs.Mentions.{uids, mentioned_by_these};
 
-use crate::values::add_mentioned;
+use crate::mentions::add_mentioned;
 use cedar_expr_names::EntityUID;
 use cedar_expr_partial::PartialValue;
 use cedar_expr_values::ExtValue;

@@ -4,16 +4,16 @@ ghost use Rattle.std.specs.Prelude.{◌≡◌, true, false, codes, IfOk, option_
 ghost use Rattle.cedar_expr_values.specs.Extensions.{extension_of};
 ghost use Rattle.cedar_expr_values.specs.Values.{made};
 ghost use Rattle.cedar_evaluator_requests.specs.Views.{entry_of, context_or_unknown, request_of};
-ghost use Rattle.cedar_gate_bindings.specs.Names.{bound_in};
+ghost use Rattle.cedar_gate_openings.specs.Names.{bound_in};
 ghost use Rattle.cedar_gate_model.specs.RunsAsk.{IsMadeContext};
 ghost use Rattle.cedar_gate_model.specs.Session.{State, ContextFails};
 ghost use Rattle.cedar_gate_openings.specs.Requests.{entry_with, bound_context, context_by, fails_by, request_by, request_at, AreValuesOf};
 
 use crate::contexts::bound_context;
+use crate::{V, uid_in};
 use cedar_evaluator_requests::{Context, EntityUIDEntry, Request};
-use cedar_evaluator_restricted::FunctionCalls;
+use cedar_evaluator_restricted_exprs::FunctionCalls;
 use cedar_expr_values::ValueKind;
-use cedar_gate_bindings::{V, uid_in};
 use std::alloc::{AllocError, Global};
 use std::collections::HashMap;
 use std::rc::RcStr;

@@ -3,3 +3,4 @@ pub mod Depth
 pub mod Failing
 pub mod Repeating
 pub mod Slots
+pub mod Named

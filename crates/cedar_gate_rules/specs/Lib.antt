@@ -1,2 +1,4 @@
 pub mod Policies
 pub mod Limit
+pub mod Causes
+pub mod Rules

@@ -10,14 +10,14 @@ use Rattle.cedar_gate_model.specs.Transcript.{Entry, round, bound, decided}
 use Rattle.cedar_gate_runs.specs.Asking.{rounds_of, AskedRounds, IsBeyond, AskedBeyond}
 use Rattle.cedar_gate_runs.specs.Ends.{IsAnswered, IsStopped}
 use Rattle.cedar_gate_runs.specs.Promised.{KeepsAnswered, KeepsStopped}
-use Rattle.cedar_gate_runs.specs.Stops.{host_stop, supply_stop, bind_stop, answer_stop}
+use Rattle.cedar_gate_runs.specs.StopsWith.{host_stop, supply_stop, bind_stop, answer_stop}
 use Rattle.cedar_gate_runs.specs.declared.sessions.Refusal.{Refusal}
 use Rattle.cedar_gate_runs.specs.declared.sessions.Refusal.TheVariants.{OutOfMemory, Numbered}
-use Rattle.cedar_gate_runs.specs.declared.stops.Stop.{Stop}
-use Rattle.cedar_gate_runs.specs.declared.stops.Stop.TheVariants as stop
-use Rattle.cedar_gate_transcripts.specs.declared.stops.RunFault.{RunFault}
-use Rattle.cedar_gate_transcripts.specs.declared.stops.RunFault.TheVariants.{Memory, Host, Opening, Supplying, Binding, Answering}
-use Rattle.cedar_gate_transcripts.specs.declared.transcript.Transcript.{Transcript}
+use Rattle.cedar_gate_runs.specs.declared.stops_with.Stop.{Stop}
+use Rattle.cedar_gate_runs.specs.declared.stops_with.Stop.TheVariants as stop
+use Rattle.cedar_gate_runs.specs.declared.stops.RunFault.{RunFault}
+use Rattle.cedar_gate_runs.specs.declared.stops.RunFault.TheVariants.{Memory, Host, Opening, Supplying, Binding, Answering}
+use Rattle.cedar_gate_runs.specs.declared.transcript.Transcript.{Transcript}
 
 -- the rounds of entries and of those after them
 pub rounds_append : (es fs : List Entry) → rounds_of (es ++ fs) ≡ rounds_of es ++ rounds_of fs

@@ -15,9 +15,9 @@ use Rattle.cedar_gate_runs.specs.Running.{Went, DidLoadAll}
 use Rattle.cedar_gate_runs.specs.Steps.{steps_of}
 use Rattle.cedar_gate_runs.specs.Stopping.{IsRefused, HasStopped, Halts, ComesTo, Finished}
 use Rattle.cedar_gate_runs.specs.declared.steps.Step as code
-use Rattle.cedar_gate_runs.specs.declared.stops.Stop.{Stop}
-use Rattle.cedar_gate_transcripts.specs.Transcripts.{entries_of}
-use Rattle.cedar_gate_transcripts.specs.declared.transcript.Transcript.{Transcript}
+use Rattle.cedar_gate_runs.specs.declared.stops_with.Stop.{Stop}
+use Rattle.cedar_gate_runs.specs.Transcripts.{entries_of}
+use Rattle.cedar_gate_runs.specs.declared.transcript.Transcript.{Transcript}
 
 pub carried_err : {A B : Type 0} (P Q : B → Type 0) (r : Result A B) → ((e : B) → P e → Q e) → IfErr r P → IfErr r Q
 carried_err P Q (Ok a) f h = tt

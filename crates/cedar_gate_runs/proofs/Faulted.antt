@@ -14,14 +14,14 @@ use Rattle.cedar_gate_runs.specs.Ends.{IsStopped}
 use Rattle.cedar_gate_runs.specs.Refusals.{IsOpenRefusal, IsSupplyRefusal, IsBindRefusal, IsAnswerRefusal}
 use Rattle.cedar_gate_runs.specs.Running.{StopsSupply, StopsLoad}
 use Rattle.cedar_gate_runs.specs.Stopping.{IsRefused, HasStopped}
-use Rattle.cedar_gate_runs.specs.Stops.{host_stop, supply_stop, bind_stop, answer_stop}
+use Rattle.cedar_gate_runs.specs.StopsWith.{host_stop, supply_stop, bind_stop, answer_stop}
 use Rattle.cedar_gate_runs.specs.declared.sessions.Refusal.{Refusal}
 use Rattle.cedar_gate_runs.specs.declared.sessions.Refusal.TheVariants.{OutOfMemory, Numbered}
-use Rattle.cedar_gate_runs.specs.declared.stops.Stop.{Stop}
-use Rattle.cedar_gate_runs.specs.declared.stops.Stop.TheVariants.{Memory, Host, Supplying, Binding, Answering}
-use Rattle.cedar_gate_transcripts.specs.Transcripts.{entries_of}
-use Rattle.cedar_gate_transcripts.specs.declared.transcript.Transcript.{Transcript}
-use Rattle.cedar_gate_transcripts.specs.declared.stops.RunFault.TheVariants as fault
+use Rattle.cedar_gate_runs.specs.declared.stops_with.Stop.{Stop}
+use Rattle.cedar_gate_runs.specs.declared.stops_with.Stop.TheVariants.{Memory, Host, Supplying, Binding, Answering}
+use Rattle.cedar_gate_runs.specs.Transcripts.{entries_of}
+use Rattle.cedar_gate_runs.specs.declared.transcript.Transcript.{Transcript}
+use Rattle.cedar_gate_runs.specs.declared.stops.RunFault.TheVariants as fault
 
 pub host_stops : (x : Setup) (s : State) (ps : Supplied) (f : HostFault) → StopsSupply x s ps (host_stop f)
 host_stops x s ps host.Memory = tt

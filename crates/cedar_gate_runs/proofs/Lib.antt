@@ -8,3 +8,4 @@ pub mod Stepped
 pub mod Stopped
 pub mod Asked
 pub mod Stored
+pub mod Appending

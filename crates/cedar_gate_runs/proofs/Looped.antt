@@ -12,15 +12,15 @@ use Rattle.cedar_gate_model.specs.RunLaws.{bindings_in}
 use Rattle.cedar_gate_model.specs.RunsAnswer.{Course, session_of}
 use Rattle.cedar_gate_model.specs.Session.{Setup, State, NothingIsWanted, IsWantedList, SupplyRefusal, SupplyFault}
 use Rattle.cedar_gate_model.specs.Transcript.{Step, load, bind_name, decide, Entry, round}
-use Rattle.cedar_gate_runs_model.specs.Did.{Loaded}
-use Rattle.cedar_gate_runs_model.proofs.Doing.{nothing, loaded_more}
+use Rattle.cedar_gate_model.specs.Did.{Loaded}
+use Rattle.cedar_gate_model.proofs.Doing.{nothing, loaded_more}
 use Rattle.cedar_gate_runs.proofs.Rounds.{AreSettled, settled_first, settled_more, below}
 use Rattle.cedar_gate_runs.proofs.Stepped.{loading_stops}
 use Rattle.cedar_gate_runs.proofs.Stopped.{stopped_on, stopped_after}
 use Rattle.cedar_gate_runs.specs.Courses.{BindWell, DidSteps}
 use Rattle.cedar_gate_runs.specs.Running.{Went, DidLoad, DidLoadAll, StopsLoad, HaltsLoading}
 use Rattle.cedar_gate_runs.specs.Stopping.{IsRefused, Halts}
-use Rattle.cedar_gate_runs.specs.declared.stops.Stop.{Stop}
+use Rattle.cedar_gate_runs.specs.declared.stops_with.Stop.{Stop}
 
 -- the bindings of one of several steps are among theirs
 bindings_more : (s : Step) (ss : List Step) (b : Text × Made) → Contains (bindings_in ss) b → Contains (bindings_in (s ∷ ss)) b

@@ -5,8 +5,8 @@ use Rattle.std.proofs.lemmas.List.{map-append}
 use Rattle.cedar_expr_names.specs.Views.{uid_of}
 use Rattle.cedar_expr_names.specs.declared.entity.EntityUID.{EntityUID}
 use Rattle.cedar_gate_model.specs.Transcript as model
-use Rattle.cedar_gate_transcripts.specs.Transcripts.{entry_of, entries_of}
-use Rattle.cedar_gate_transcripts.specs.declared.transcript.Entry.{Entry}
+use Rattle.cedar_gate_runs.specs.Transcripts.{entry_of, entries_of}
+use Rattle.cedar_gate_runs.specs.declared.transcript.Entry.{Entry}
 
 pub pushed : (before after : List Entry) (e : Entry) (m : model.Entry) → after ≡ before ++ e ∷ [] → entry_of e ≡ m → entries_of after ≡ entries_of before ++ m ∷ []
 pushed before after e m h k = ap entries_of h ∙ map-append entry_of before (e ∷ []) ∙ ap (λ z. entries_of before ++ z ∷ []) k

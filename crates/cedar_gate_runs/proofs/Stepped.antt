@@ -7,12 +7,12 @@ use Rattle.cedar_store_model.specs.Policy.{Policy}
 use Rattle.cedar_gate_model.specs.Runs.{DecidesInPart}
 use Rattle.cedar_gate_model.specs.Session.{Setup, State, with_bound, BindFault, BindRefusal, bind_number}
 use Rattle.cedar_gate_model.specs.Transcript.{Step, load, bind_name, decide, Entry, bound, decided}
-use Rattle.cedar_gate_runs_model.specs.Did.{Did}
-use Rattle.cedar_gate_runs_model.proofs.Doing.{more}
+use Rattle.cedar_gate_model.specs.Did.{Did}
+use Rattle.cedar_gate_model.proofs.Doing.{more}
 use Rattle.cedar_gate_runs.specs.Running.{Went, DidLoad, StopsLoad}
 use Rattle.cedar_gate_runs.specs.Stopping.{IsRefused}
-use Rattle.cedar_gate_runs.specs.declared.stops.Stop.{Stop}
-use Rattle.cedar_gate_runs.specs.declared.stops.Stop.TheVariants.{Memory, Host, Supplying, Binding, Answering}
+use Rattle.cedar_gate_runs.specs.declared.stops_with.Stop.{Stop}
+use Rattle.cedar_gate_runs.specs.declared.stops_with.Stop.TheVariants.{Memory, Host, Supplying, Binding, Answering}
 
 module _ (x : Setup) (ps : List Policy) where
   pub loads : (s t : State) (b : Bool) (es : List Entry) → DidLoad x s b es t → Did (DecidesInPart x ps) x s (load ∷ []) es t

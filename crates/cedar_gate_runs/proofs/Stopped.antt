@@ -5,11 +5,11 @@ use Rattle.cedar_store_model.specs.Policy.{Policy}
 use Rattle.cedar_gate_model.specs.Runs.{End, DecidesInPart, Follows, Finishes}
 use Rattle.cedar_gate_model.specs.Session.{Setup, State}
 use Rattle.cedar_gate_model.specs.Transcript.{Step, Entry}
-use Rattle.cedar_gate_runs_model.specs.Did.{Did, Loaded}
-use Rattle.cedar_gate_runs_model.proofs.Doing.{follows, loaded_finishes}
+use Rattle.cedar_gate_model.specs.Did.{Did, Loaded}
+use Rattle.cedar_gate_model.proofs.Doing.{follows, loaded_finishes}
 use Rattle.cedar_gate_runs.specs.Stopping.{IsRefused, HasStopped}
-use Rattle.cedar_gate_runs.specs.declared.stops.Stop.{Stop}
-use Rattle.cedar_gate_runs.specs.declared.stops.Stop.TheVariants.{Memory, Host, Supplying, Binding, Answering}
+use Rattle.cedar_gate_runs.specs.declared.stops_with.Stop.{Stop}
+use Rattle.cedar_gate_runs.specs.declared.stops_with.Stop.TheVariants.{Memory, Host, Supplying, Binding, Answering}
 
 module _ (x : Setup) (ps : List Policy) where
   -- a stop of the steps that are left

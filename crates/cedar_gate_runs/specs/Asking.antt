@@ -3,11 +3,11 @@
 use Rattle.std.specs.Prelude.{◌≡◌, ◌≤◌, ◌++◌, ◌∷◌, [], List, length}
 use Rattle.cedar_expr_model.specs.Uid.{Uid}
 use Rattle.cedar_gate_model.specs.Transcript.{Entry, round, bound, decided}
-use Rattle.cedar_gate_runs.specs.declared.stops.Stop.{Stop}
-use Rattle.cedar_gate_runs.specs.declared.stops.Stop.TheVariants as stop
-use Rattle.cedar_gate_transcripts.specs.Transcripts.{entries_of}
-use Rattle.cedar_gate_transcripts.specs.declared.stops.RunFault.{RunFault}
-use Rattle.cedar_gate_transcripts.specs.declared.stops.RunFault.TheVariants.{Memory, Host, Opening, Supplying, Binding, Answering}
+use Rattle.cedar_gate_runs.specs.declared.stops_with.Stop.{Stop}
+use Rattle.cedar_gate_runs.specs.declared.stops_with.Stop.TheVariants as stop
+use Rattle.cedar_gate_runs.specs.Transcripts.{entries_of}
+use Rattle.cedar_gate_runs.specs.declared.stops.RunFault.{RunFault}
+use Rattle.cedar_gate_runs.specs.declared.stops.RunFault.TheVariants.{Memory, Host, Opening, Supplying, Binding, Answering}
 
 -- the lists of the rounds among these entries, in their order
 abbrev pub rounds_of : List Entry → List (List Uid)

@@ -14,7 +14,7 @@ use Rattle.cedar_gate_model.specs.Runs.{DecidesInPart}
 use Rattle.cedar_gate_model.specs.RunsAnswer.{Course, session_of}
 use Rattle.cedar_gate_model.specs.Session.{State, at_start, OpenRefusal, OpenFault}
 use Rattle.cedar_gate_model.specs.Transcript.{Step, Entry}
-use Rattle.cedar_gate_runs_model.specs.Did.{Did}
+use Rattle.cedar_gate_model.specs.Did.{Did}
 use Rattle.cedar_gate_runs.specs.Steps.{steps_of}
 use Rattle.cedar_gate_runs.specs.declared.steps.Step as code
 

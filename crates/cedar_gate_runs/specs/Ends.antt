@@ -8,10 +8,10 @@ use Rattle.cedar_gate_model.specs.Runs.{answered, opening_refused, supply_refuse
 use Rattle.cedar_gate_model.specs.RunsAnswer.{Course, session_of, IsRun}
 use Rattle.cedar_gate_model.specs.Session.{at_start, OpenRefusal, open_number, SupplyRefusal, supply_number, BindRefusal, bind_number, AnswerRefusal, answer_number}
 use Rattle.cedar_gate_runs.specs.Stopping.{WasDone}
-use Rattle.cedar_gate_transcripts.specs.Transcripts.{entries_of}
-use Rattle.cedar_gate_transcripts.specs.declared.transcript.Transcript.{Transcript}
-use Rattle.cedar_gate_transcripts.specs.declared.stops.RunFault.{RunFault}
-use Rattle.cedar_gate_transcripts.specs.declared.stops.RunFault.TheVariants.{Memory, Host, Opening, Supplying, Binding, Answering}
+use Rattle.cedar_gate_runs.specs.Transcripts.{entries_of}
+use Rattle.cedar_gate_runs.specs.declared.transcript.Transcript.{Transcript}
+use Rattle.cedar_gate_runs.specs.declared.stops.RunFault.{RunFault}
+use Rattle.cedar_gate_runs.specs.declared.stops.RunFault.TheVariants.{Memory, Host, Opening, Supplying, Binding, Answering}
 
 -- The entries and the answer are those of a run of the course.
 abbrev pub IsAnswered : Course → Transcript → Type 0

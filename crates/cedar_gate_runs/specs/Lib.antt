@@ -1,7 +1,7 @@
 pub mod Steps
 pub mod Supplies
 pub mod Refusals
-pub mod Stops
+pub mod StopsWith
 pub mod Stopping
 pub mod Running
 pub mod Courses
@@ -10,3 +10,7 @@ pub mod Asking
 pub mod Promised
 pub mod Hosts
 pub mod Stores
+pub mod Printing
+pub mod Statuses
+pub mod Stops
+pub mod Transcripts

@@ -5,9 +5,9 @@ use Rattle.cedar_expr_model.specs.Uid.{Uid}
 use Rattle.cedar_gate_model.specs.Runs.{IsRoundNow, RefusesSupply, with_asked}
 use Rattle.cedar_gate_model.specs.Session.{Setup, State, NothingIsWanted, Supplied, SupplyFault, SupplyRefusal, supply_number}
 use Rattle.cedar_gate_model.specs.Transcript.{Entry, round}
-use Rattle.cedar_gate_runs_model.specs.Did.{Loaded}
-use Rattle.cedar_gate_runs.specs.declared.stops.Stop.{Stop}
-use Rattle.cedar_gate_runs.specs.declared.stops.Stop.TheVariants.{Memory, Host, Supplying, Binding, Answering}
+use Rattle.cedar_gate_model.specs.Did.{Loaded}
+use Rattle.cedar_gate_runs.specs.declared.stops_with.Stop.{Stop}
+use Rattle.cedar_gate_runs.specs.declared.stops_with.Stop.TheVariants.{Memory, Host, Supplying, Binding, Answering}
 
 -- Entries were added, which led to a state, and the session is at it.
 pub record Went {E : Type 0} (IsAt : State → E → Type 0) (Leads : List Entry → State → Type 0) (before after : List Entry) (e : E) : Type 0 where

@@ -9,9 +9,9 @@ use Rattle.cedar_gate_model.specs.Runs.{answered, DecidesInPart, Finishes, Follo
 use Rattle.cedar_gate_model.specs.RunsAnswer.{Course, session_of}
 use Rattle.cedar_gate_model.specs.Session.{Setup, State, SupplyRefusal, supply_number, BindRefusal, bind_number, AnswerRefusal, answer_number}
 use Rattle.cedar_gate_model.specs.Transcript.{Step, Entry}
-use Rattle.cedar_gate_runs_model.specs.Did.{Did, Loaded}
-use Rattle.cedar_gate_runs.specs.declared.stops.Stop.{Stop}
-use Rattle.cedar_gate_runs.specs.declared.stops.Stop.TheVariants.{Memory, Host, Supplying, Binding, Answering}
+use Rattle.cedar_gate_model.specs.Did.{Did, Loaded}
+use Rattle.cedar_gate_runs.specs.declared.stops_with.Stop.{Stop}
+use Rattle.cedar_gate_runs.specs.declared.stops_with.Stop.TheVariants.{Memory, Host, Supplying, Binding, Answering}
 
 -- Some of the steps made these entries.
 pub record DidSome (x : Setup) (ps : List Policy) (s : State) (steps : List Step) (es : List Entry) : Type 0 where

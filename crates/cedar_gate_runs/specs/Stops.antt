@@ -1,24 +1,33 @@
--- What the faults of hosts and the refusals of sessions stop a run with.
--- Rule: refusals of a session (docs/RULES.md).
-use Rattle.cedar_gate_runs.specs.declared.host.HostFault.{HostFault}
-use Rattle.cedar_gate_runs.specs.declared.host.HostFault.TheVariants as host
-use Rattle.cedar_gate_runs.specs.declared.sessions.Refusal.{Refusal}
-use Rattle.cedar_gate_runs.specs.declared.sessions.Refusal.TheVariants.{OutOfMemory, Numbered}
-use Rattle.cedar_gate_runs.specs.declared.stops.Stop.{Stop}
-use Rattle.cedar_gate_runs.specs.declared.stops.Stop.TheVariants.{Memory, Host, Supplying, Binding, Answering}
+-- Why runs stop, and the last line of it.
+-- Rule: statuses and refusal numbers; the lines (docs/RULES.md).
+use Rattle.std.specs.Prelude.{ℕ, Option, Some, None, codes}
+use Rattle.cedar_expr_model.specs.Name.{Text}
+use Rattle.cedar_gate_model.specs.Lines.{numbered}
+use Rattle.cedar_gate_runs.specs.declared.transcript.Transcript.{Transcript}
+use Rattle.cedar_gate_runs.specs.declared.stops.RunFault.{RunFault}
+use Rattle.cedar_gate_runs.specs.declared.stops.RunFault.TheVariants.{Memory, Host, Opening, Supplying, Binding, Answering}
 
-abbrev pub host_stop : HostFault → Stop
-host_stop host.Memory = Memory
-host_stop host.Device = Host
+abbrev pub run_fault_number : RunFault → ℕ
+run_fault_number (Memory t) = 0
+run_fault_number (Host t) = 1
+run_fault_number (Opening n t) = 2
+run_fault_number (Supplying n t) = 3
+run_fault_number (Binding n t) = 4
+run_fault_number (Answering n t) = 5
 
-abbrev pub supply_stop : Refusal → Stop
-supply_stop OutOfMemory = Memory
-supply_stop (Numbered n) = Supplying n
+abbrev pub run_fault_transcript : RunFault → Transcript
+run_fault_transcript (Memory t) = t
+run_fault_transcript (Host t) = t
+run_fault_transcript (Opening n t) = t
+run_fault_transcript (Supplying n t) = t
+run_fault_transcript (Binding n t) = t
+run_fault_transcript (Answering n t) = t
 
-abbrev pub bind_stop : Refusal → Stop
-bind_stop OutOfMemory = Memory
-bind_stop (Numbered n) = Binding n
-
-abbrev pub answer_stop : Refusal → Stop
-answer_stop OutOfMemory = Memory
-answer_stop (Numbered n) = Answering n
+-- the last line of a run that was refused
+abbrev pub refusal_line : RunFault → Option Text
+refusal_line (Memory t) = None
+refusal_line (Host t) = None
+refusal_line (Opening n t) = Some (numbered (codes "open") n)
+refusal_line (Supplying n t) = Some (numbered (codes "supply") n)
+refusal_line (Binding n t) = Some (numbered (codes "bind") n)
+refusal_line (Answering n t) = Some (numbered (codes "answer") n)

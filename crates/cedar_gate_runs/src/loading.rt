@@ -6,16 +6,15 @@ ghost use Rattle.cedar_expr_model.specs.Uid.{Uid};
 ghost use Rattle.cedar_gate_model.specs.Runs.{supplied_by, with_asked};
 ghost use Rattle.cedar_gate_model.specs.RunsAnswer.{Course, session_of};
 ghost use Rattle.cedar_gate_model.specs.Session.{State, IsWantedList, SupplyRefusal, SupplyFault};
-ghost use Rattle.cedar_gate_transcripts.specs.Transcripts.{entries_of};
+ghost use Rattle.cedar_gate_runs.specs.Transcripts.{entries_of};
 ghost use Rattle.cedar_gate_runs.specs.Asking.{rounds_of, AskedRounds, AskedBeyond};
 ghost use Rattle.cedar_gate_runs.specs.Courses.{IsHost};
 ghost use Rattle.cedar_gate_runs.specs.Running.{Went, DidLoad, DidLoadAll, StopsSupply, StopsLoad, HaltsLoading};
 
 use crate::sessions::SessionCalls;
-use crate::stops::Stop;
-use crate::{Host, copied};
+use crate::stops_with::Stop;
+use crate::{Entry, Host, copied};
 use cedar_expr_names::EntityUID;
-use cedar_gate_transcripts::Entry;
 use std::alloc::{AllocError, Global};
 
 // Asks the host for these, which are wanted, and takes in what it answers.

@@ -5,7 +5,7 @@ ghost use Rattle.cedar_evaluator_requests.specs.Views.{answer_of};
 ghost use Rattle.cedar_expr_model.specs.Uid.{Uid};
 ghost use Rattle.cedar_gate_model.specs.RunsAnswer.{Course, session_of, IsProper, MakeFairly};
 ghost use Rattle.cedar_gate_model.specs.Session.{State, at_start, NothingIsWanted, OpenRefusal, OpenFault};
-ghost use Rattle.cedar_gate_transcripts.specs.Transcripts.{entries_of};
+ghost use Rattle.cedar_gate_runs.specs.Transcripts.{entries_of};
 ghost use Rattle.cedar_gate_runs.specs.Asking.{rounds_of, AskedRounds, IsBeyond, AskedBeyond, AskedBy};
 ghost use Rattle.cedar_gate_runs.specs.Courses.{IsHost, BindWell, IsOf};
 ghost use Rattle.cedar_gate_runs.specs.Ends.{IsAnswered, IsStopped};
@@ -14,15 +14,14 @@ ghost use Rattle.cedar_gate_runs.specs.Refusals.{IsOpenRefusal};
 ghost use Rattle.cedar_gate_runs.specs.Steps.{steps_of};
 ghost use Rattle.cedar_gate_runs.specs.Stopping.{Finished, IsRefused, HasStopped, Halts, ComesTo};
 
-use crate::Host;
 use crate::loading::load_all;
 use crate::sessions::{Refusal, SessionCalls};
 use crate::stepping::take_steps;
 use crate::steps::Step;
-use crate::stops::Stop;
+use crate::stops_with::Stop;
+use crate::{Entry, Host, RunFault, Transcript};
 use cedar_evaluator_requests::Response;
 use cedar_gate_model::headline::runs_keep_the_headline;
-use cedar_gate_transcripts::{Entry, RunFault, Transcript};
 use std::alloc::Global;
 
 // The answer of a session, of which nothing is wanted.

@@ -9,21 +9,20 @@ ghost use Rattle.cedar_expr_model.specs.Uid.{Uid};
 ghost use Rattle.cedar_gate_model.specs.RunsAnswer.{Course, session_of};
 ghost use Rattle.cedar_gate_model.specs.Session.{State, with_bound, BindRefusal, BindFault};
 ghost use Rattle.cedar_gate_model.specs.Transcript as model;
-ghost use Rattle.cedar_gate_transcripts.specs.Transcripts.{entries_of};
+ghost use Rattle.cedar_gate_runs.specs.Transcripts.{entries_of};
 ghost use Rattle.cedar_gate_runs.specs.Asking.{rounds_of, AskedRounds, IsBeyond, AskedBeyond};
 ghost use Rattle.cedar_gate_runs.specs.Courses.{IsHost, BindWell, DidSteps};
 ghost use Rattle.cedar_gate_runs.specs.Running.{Went};
 ghost use Rattle.cedar_gate_runs.specs.Steps.{step_of, steps_of};
 ghost use Rattle.cedar_gate_runs.specs.Stopping.{IsRefused, Halts};
-ghost use Rattle.cedar_gate_runs.specs.declared.stops.Stop.TheVariants.{Memory};
+ghost use Rattle.cedar_gate_runs.specs.declared.stops_with.Stop.TheVariants.{Memory};
 
-use crate::Host;
 use crate::loading::load;
 use crate::sessions::SessionCalls;
 use crate::steps::Step;
-use crate::stops::Stop;
+use crate::stops_with::Stop;
+use crate::{Entry, Host};
 use cedar_expr_values::{ExtValue, Value};
-use cedar_gate_transcripts::Entry;
 use std::alloc::Global;
 use std::rc::RcStr;
 

@@ -1,89 +1,86 @@
-//! Why runs stop.
+//! Why runs stop without an answer.
 
-ghost use Rattle.std.specs.Prelude.{◌≡◌};
+use crate::transcript::Transcript;
+use thiserror::Error;
 
-use crate::HostFault;
-use crate::sessions::Refusal;
-use std::alloc::{AllocError, AllocFailed};
-
-/// Why a run stops; a refusal has its number.
-#[derive(Clone, Copy)]
-pub(crate) enum Stop {
+/// Why a run comes to no answer, with what it did so far.
+#[derive(Debug, Drop, Error)]
+pub enum RunFault {
     /// Want of memory.
-    Memory,
-    /// A fault of the host.
-    Host,
+    #[error("out of memory")]
+    Memory {
+        /// What was done so far.
+        transcript: Transcript,
+    },
+    /// The host failed.
+    #[error("the host failed")]
+    Host {
+        /// What was done so far.
+        transcript: Transcript,
+    },
+    /// The session isn't opened.
+    #[error("no session is opened, by refusal {number}")]
+    Opening {
+        /// The number of the refusal.
+        number: u32,
+        /// What was done so far.
+        transcript: Transcript,
+    },
     /// What the host answers is refused.
-    Supplying(u32),
+    #[error("what is supplied is refused, by refusal {number}")]
+    Supplying {
+        /// The number of the refusal.
+        number: u32,
+        /// What was done so far.
+        transcript: Transcript,
+    },
     /// A binding is refused.
-    Binding(u32),
+    #[error("a binding is refused, by refusal {number}")]
+    Binding {
+        /// The number of the refusal.
+        number: u32,
+        /// What was done so far.
+        transcript: Transcript,
+    },
     /// The session gives no answer.
-    Answering(u32),
+    #[error("no answer is given, by refusal {number}")]
+    Answering {
+        /// The number of the refusal.
+        number: u32,
+        /// What was done so far.
+        transcript: Transcript,
+    },
 }
 
-impl From<AllocError> for Stop {
-    ghost use Rattle.cedar_gate_runs.specs.declared.stops.Stop.TheVariants.{Memory};
+impl RunFault {
+    ghost use Rattle.std.specs.Prelude.{◌≡◌};
+    ghost use Rattle.cedar_gate_runs.specs.Stops.{run_fault_number, run_fault_transcript};
 
-    ghost from_gives = { λ _ s. s ≡ Memory };
-
-    fn from(_error: AllocError) -> Stop {
-        Stop::Memory
-    }
-}
-
-impl<T: Drop> From<AllocFailed<T>> for Stop {
-    ghost use Rattle.cedar_gate_runs.specs.declared.stops.Stop.TheVariants.{Memory};
-
-    ghost from_gives = { λ _ s. s ≡ Memory };
-
-    fn from(_error: AllocFailed<T>) -> Stop {
-        Stop::Memory
-    }
-}
-
-impl From<HostFault> for Stop {
-    ghost use Rattle.cedar_gate_runs.specs.Stops.{host_stop};
-
-    ghost from_gives = { λ f s. s ≡ host_stop f };
-
-    fn from(fault: HostFault) -> Stop {
-        match fault {
-            HostFault::Memory => Stop::Memory,
-            HostFault::Device => Stop::Host,
-        }
-    }
-}
-
-impl Stop {
-    ghost use Rattle.cedar_gate_runs.specs.Stops.{supply_stop, bind_stop, answer_stop};
-
-    /// What a refused supply stops a run with.
-    pub(crate) fn supplying(refusal: Refusal) -> Stop
-        ensures { result ≡ supply_stop refusal }
+    /// The number of the fault.
+    pub fn number(&self) -> u32
+        ensures { result ≡ run_fault_number self.now }
     {
-        match refusal {
-            Refusal::OutOfMemory => Stop::Memory,
-            Refusal::Numbered(number) => Stop::Supplying(number),
+        match self {
+            RunFault::Memory { .. } => 0,
+            RunFault::Host { .. } => 1,
+            RunFault::Opening { .. } => 2,
+            RunFault::Supplying { .. } => 3,
+            RunFault::Binding { .. } => 4,
+            RunFault::Answering { .. } => 5,
         }
     }
 
-    /// What a refused binding stops a run with.
-    pub(crate) fn binding(refusal: Refusal) -> Stop
-        ensures { result ≡ bind_stop refusal }
+    /// What was done so far.
+    pub fn transcript(&self) -> &Transcript
+        ensures { result.now ≡ run_fault_transcript self.now }
     {
-        match refusal {
-            Refusal::OutOfMemory => Stop::Memory,
-            Refusal::Numbered(number) => Stop::Binding(number),
-        }
-    }
-
-    /// What a refused answer stops a run with.
-    pub(crate) fn answering(refusal: Refusal) -> Stop
-        ensures { result ≡ answer_stop refusal }
-    {
-        match refusal {
-            Refusal::OutOfMemory => Stop::Memory,
-            Refusal::Numbered(number) => Stop::Answering(number),
+        match self {
+            RunFault::Memory { transcript } => transcript,
+            RunFault::Host { transcript } => transcript,
+            RunFault::Opening { transcript, .. } => transcript,
+            RunFault::Supplying { transcript, .. } => transcript,
+            RunFault::Binding { transcript, .. } => transcript,
+            RunFault::Answering { transcript, .. } => transcript,
         }
     }
 }

@@ -16,7 +16,7 @@ use Rattle.cedar_store_entities.specs.Views.{Kept, bare_entity}
 use Rattle.cedar_store_parts.specs.Parts.{id_text}
 use Rattle.cedar_store_policies.specs.Policies.{policy_of}
 use Rattle.cedar_store_policies.specs.declared.policy.Policy.{Policy}
-use Rattle.cedar_gate_acceptance.specs.Handed.{IsHandedIn}
+use Rattle.cedar_gate_accepted.specs.Handed.{IsHandedIn}
 use Rattle.cedar_gate_accepted.specs.Views.{IsOf, declared_in, policies_held, table_held, level_held, limit_held, warned_of}
 use Rattle.cedar_gate_accepted.specs.declared.gate.Gate.{Gate}
 use Rattle.cedar_gate_bundles.specs.Bundles.{submission_of, bundle_of}
@@ -44,10 +44,10 @@ use Rattle.cedar_gate_runs.specs.declared.sessions.Refusal.{Refusal}
 use Rattle.cedar_gate_service.proofs.Printed.{input_bundle, run_prints}
 use Rattle.cedar_gate_service.specs.Runs.{AnswersFairly, IsCourseAt, IsStartOf, AreRunBy, IsReadWell}
 use Rattle.cedar_gate_service.specs.declared.printing.Printed.{Printed}
-use Rattle.cedar_gate_serving.specs.Printed.{Opens, IsStore, AddsAccepted}
+use Rattle.cedar_gate_service.specs.Printed.{Opens, IsStore, AddsAccepted}
 use Rattle.cedar_gate_sessions.specs.Sessions.{IsSetup}
 use Rattle.cedar_gate_sessions.specs.declared.basis.Basis.{Basis}
-use Rattle.cedar_gate_transcripts.specs.Statuses.{status_of}
+use Rattle.cedar_gate_runs.specs.Statuses.{status_of}
 
 -- the store of a bundle, with the values as they are made
 bare_of : (k : Option Kept) → option_map bare_kept k ≡ option_map bare_entity (option_map (λ k. k.0) k)

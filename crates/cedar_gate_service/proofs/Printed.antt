@@ -18,13 +18,13 @@ use Rattle.cedar_gate_model.specs.ReadingBundle.{input_read, bundle_read}
 use Rattle.cedar_gate_model.specs.Runs.{End, answered, opening_refused, supply_refused, binding_refused, answer_refused}
 use Rattle.cedar_gate_model.specs.RunsAnswer.{Course, IsRun, course_of}
 use Rattle.cedar_gate_model.specs.Transcript.{Entry}
-use Rattle.cedar_gate_faults.specs.Causes.{cause_named, gate_fault_number, IsRefusedFor}
-use Rattle.cedar_gate_faults.specs.declared.fault.GateFault.{GateFault}
-use Rattle.cedar_gate_faults.specs.declared.fault.GateFault.TheVariants as fault
-use Rattle.cedar_gate_serving.specs.Printed.{AddsAccepted, IsOfRun}
-use Rattle.cedar_gate_transcripts.specs.Statuses.{status_of}
-use Rattle.cedar_gate_transcripts.specs.declared.status.Status.{Status as CodeStatus}
-use Rattle.cedar_gate_transcripts.specs.declared.status.Status.TheVariants.{Answered, Refused, Unreadable, Stopped}
+use Rattle.cedar_gate_rules.specs.Causes.{cause_named, gate_fault_number, IsRefusedFor}
+use Rattle.cedar_gate_rules.specs.declared.fault.GateFault.{GateFault}
+use Rattle.cedar_gate_rules.specs.declared.fault.GateFault.TheVariants as fault
+use Rattle.cedar_gate_service.specs.Printed.{AddsAccepted, IsOfRun}
+use Rattle.cedar_gate_runs.specs.Statuses.{status_of}
+use Rattle.cedar_gate_runs.specs.declared.status.Status.{Status as CodeStatus}
+use Rattle.cedar_gate_runs.specs.declared.status.Status.TheVariants.{Answered, Refused, Unreadable, Stopped}
 use Rattle.cedar_gate_service.specs.Serving.{Judged}
 use Rattle.cedar_gate_service.specs.declared.printing.Printed.{Printed}
 

@@ -6,8 +6,8 @@ use Rattle.cedar_gate_model.specs.Bundle.{Functions}
 use Rattle.cedar_gate_model.specs.Lines.{Status, Prints}
 use Rattle.cedar_gate_model.specs.ReadingBundle.{input_read}
 use Rattle.cedar_gate_model.specs.RunsAnswer.{MakeFairly}
-use Rattle.cedar_gate_transcripts.specs.Statuses.{status_of}
-use Rattle.cedar_gate_transcripts.specs.declared.status.Status as code
+use Rattle.cedar_gate_runs.specs.Statuses.{status_of}
+use Rattle.cedar_gate_runs.specs.declared.status.Status as code
 use Rattle.cedar_gate_service.specs.Serving.{ServeGives}
 use Rattle.cedar_gate_service.specs.declared.faults.ServeFault.{ServeFault}
 use Rattle.cedar_gate_service.specs.declared.faults.ServeFault.TheVariants.{Memory, Read, Write}

@@ -1,2 +1,4 @@
 pub mod Runs
 pub mod Serving
+pub mod Printed
+pub mod Checks

@@ -3,7 +3,7 @@
 use Rattle.std.specs.Prelude.{◌≡◌, List, map}
 use Rattle.cedar_evaluator_operators.specs.Answers.{AnswersMade}
 use Rattle.cedar_evaluator_model.specs.OfLaws.WellMade.{IsContextMadeWell}
-use Rattle.cedar_evaluator_rising.specs.Rising.{CallsRise}
+use Rattle.cedar_evaluator_model.specs.Rising.{CallsRise}
 use Rattle.cedar_expr_functions.specs.Tables.{table_of}
 use Rattle.cedar_expr_functions.specs.declared.extensions.Extensions.{Extensions}
 use Rattle.cedar_gate_accepted.specs.Views.{IsOf, table_held, warned_of}
@@ -17,7 +17,7 @@ use Rattle.cedar_gate_bundles.specs.declared.steps.Step.{Step}
 use Rattle.cedar_gate_model.specs.Acceptance.{IsAccepted, warnings_of}
 use Rattle.cedar_gate_model.specs.Bundle.{Functions}
 use Rattle.cedar_gate_model.specs.RunsAnswer.{Course, IsProper, MakeFairly, course_of}
-use Rattle.cedar_gate_serving.specs.Printed.{IsStore}
+use Rattle.cedar_gate_service.specs.Printed.{IsStore}
 use Rattle.cedar_store_entities.specs.declared.entities.Entities.{Entities}
 use Rattle.cedar_store_parts.specs.Parts.{id_text}
 

@@ -6,8 +6,8 @@ use Rattle.cedar_expr_model.specs.Name.{Text}
 use Rattle.cedar_gate_model.specs.Acceptance.{Cause, HasFault, IsAccepted, number_of}
 use Rattle.cedar_gate_model.specs.Bundle.{Bundle}
 use Rattle.cedar_gate_model.specs.Lines as lines
-use Rattle.cedar_gate_transcripts.specs.Statuses.{status_of}
-use Rattle.cedar_gate_transcripts.specs.declared.status.Status.{Status}
+use Rattle.cedar_gate_runs.specs.Statuses.{status_of}
+use Rattle.cedar_gate_runs.specs.declared.status.Status.{Status}
 use Rattle.cedar_gate_service.specs.declared.faults.ServeFault.{ServeFault}
 use Rattle.cedar_gate_service.specs.declared.faults.ServeFault.TheVariants.{Memory, Read, Write}
 

@@ -2,8 +2,8 @@
 
 ghost use Rattle.std.specs.Prelude.{◌≡◌, ◌≤◌, false, Some, IfOk, is_none, string_bytes};
 ghost use Rattle.cedar_expr_functions.specs.Tables.{functions_of, ordered_of};
-ghost use Rattle.cedar_gate_transcripts.specs.Statuses.{status_of};
-ghost use Rattle.cedar_gate_faults.specs.Causes.{cause_named, gate_fault_number};
+ghost use Rattle.cedar_gate_runs.specs.Statuses.{status_of};
+ghost use Rattle.cedar_gate_rules.specs.Causes.{cause_named, gate_fault_number};
 ghost use Rattle.cedar_gate_bundles.specs.Bundles.{bundle_of};
 ghost use Rattle.cedar_gate_bundles.specs.Requests.{request_of};
 ghost use Rattle.cedar_gate_model.specs.RunsAsk.{IsMadeContext};
@@ -14,14 +14,13 @@ ghost use Rattle.cedar_gate_service.specs.Runs.{AnswersFairly, IsReadWell};
 ghost use Rattle.cedar_gate_service.specs.Serving.{Judged};
 
 use crate::runs::print_run_at;
-use cedar_evaluator_restricted::FunctionCalls;
+use cedar_evaluator_restricted_exprs::FunctionCalls;
 use cedar_expr_functions::Extensions;
 use cedar_gate_accepted::Gate;
 use cedar_gate_bundles::{Bundle, ReadFault, Submission, read_input};
-use cedar_gate_faults::GateFault;
-use cedar_gate_rules::NestLimit;
-use cedar_gate_transcripts::Status;
-use cedar_gate_transcripts::lines::{push_numbered, push_unreadable};
+use cedar_gate_rules::{GateFault, NestLimit};
+use cedar_gate_runs::Status;
+use cedar_gate_runs::lines::{push_numbered, push_unreadable};
 use cedar_schema_builder::SchemaError;
 use std::alloc::{AllocError, Global};
 

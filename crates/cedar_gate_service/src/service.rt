@@ -10,11 +10,11 @@ ghost use Rattle.cedar_gate_service.specs.Runs.{AnswersFairly};
 
 use crate::faults::{ServeFault, read_all};
 use crate::printing::print_input;
-use cedar_evaluator_restricted::FunctionCalls;
+use cedar_evaluator_restricted_exprs::FunctionCalls;
 use cedar_expr_functions::Extensions;
 use cedar_gate_model::headline::what_is_printed_is_promised;
-use cedar_gate_transcripts::Status;
-use cedar_gate_transcripts::output::write_out;
+use cedar_gate_runs::Status;
+use cedar_gate_runs::output::write_out;
 use std::alloc::Global;
 use std::io::{Read, Write};
 

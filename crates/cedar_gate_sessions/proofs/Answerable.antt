@@ -9,7 +9,7 @@ use Rattle.cedar_expr_model.proofs.Lists.{contains_head, contains_none}
 use Rattle.cedar_schema_model.specs.Conforming.{RequestConforms, request_conforms}
 use Rattle.cedar_schema_model.proofs.Decls.Conforming.{request_conforms-Decides}
 use Rattle.cedar_evaluator_model.specs.Response.{PartialRequest}
-use Rattle.cedar_gate_bindings.specs.Names.{HasOpenBy}
+use Rattle.cedar_gate_openings.specs.Names.{HasOpenBy}
 use Rattle.cedar_gate_model.specs.Moment.{request_of}
 use Rattle.cedar_gate_model.specs.Session.{Setup, State, value_of, world_now, HasOpenName, is_open_name, is_open_entry, is_open_context, entry_named, IsWantedNow, IsWantedList, NothingIsWanted, AnswerRefusal, AnswerFault, not_bound, still_wanted, not_conforming}
 use Rattle.cedar_gate_openings.specs.Requests.{request_at}

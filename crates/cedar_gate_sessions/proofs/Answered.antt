@@ -10,8 +10,8 @@ use Rattle.cedar_evaluator_model.specs.Known.{known_found}
 use Rattle.cedar_evaluator_model.specs.Laws.{as_concrete}
 use Rattle.cedar_evaluator_model.specs.Members.{Concrete, decision_in_session}
 use Rattle.cedar_evaluator_model.specs.Response.{response_of}
-use Rattle.cedar_gate_decisions.specs.Answers.{answered}
-use Rattle.cedar_gate_decisions.specs.Laws.{SessionsAnswer, Conform, loaded_store}
+use Rattle.cedar_gate_sessions.specs.Answers.{answered}
+use Rattle.cedar_gate_sessions.specs.Laws.{SessionsAnswer, Conform, loaded_store}
 use Rattle.cedar_gate_model.specs.Runs.{DecidesInPart}
 use Rattle.cedar_gate_model.specs.RunsAnswer.{Course, session_of, IsProper, IsOpened, IsKnownStore}
 use Rattle.cedar_gate_model.specs.Session.{Setup, State, scope_now, world_now, NothingIsWanted, AnswerRefusal, AnswerFault}

@@ -11,12 +11,12 @@ use Rattle.cedar_schema_model.specs.Schema as model
 use Rattle.cedar_evaluator_model.specs.OfLaws.WellMade.{IsWellMade}
 use Rattle.cedar_evaluator_model.specs.Response.{PartialRequest}
 use Rattle.cedar_evaluator_requests.specs.Views.{request_of}
-use Rattle.cedar_gate_bindings.specs.Faults.{IsValueFault}
-use Rattle.cedar_gate_bindings.specs.Names.{bound_in, is_open_by}
-use Rattle.cedar_gate_bindings.specs.Values.{takes}
-use Rattle.cedar_gate_bindings.specs.declared.faults.BindFault.{BindFault}
-use Rattle.cedar_gate_bindings.specs.declared.faults.BindFault.TheVariants as binding
-use Rattle.cedar_gate_distances.specs.Kept.{IsKept}
+use Rattle.cedar_gate_openings.specs.Faults.{IsValueFault}
+use Rattle.cedar_gate_openings.specs.Names.{bound_in, is_open_by}
+use Rattle.cedar_gate_openings.specs.Values.{takes}
+use Rattle.cedar_gate_openings.specs.declared.faults.BindFault.{BindFault}
+use Rattle.cedar_gate_openings.specs.declared.faults.BindFault.TheVariants as binding
+use Rattle.cedar_gate_wanted.specs.Kept.{IsKept}
 use Rattle.cedar_gate_model.specs.Bundle.{Functions}
 use Rattle.cedar_gate_model.specs.Session as session
 use Rattle.cedar_gate_model.specs.Session.{Setup, State, value_of, with_bound, is_open_name, is_open_entry, is_open_context, entry_named, ContextFails, BindRefusal, not_open, against_annotation, no_entity_or_record, context_fails}

@@ -33,8 +33,8 @@ use Rattle.cedar_evaluator_operators.specs.Answers.{AnswersMade}
 use Rattle.cedar_evaluator_operators.specs.Calls as operators
 use Rattle.cedar_evaluator_reads.specs.Scopes.{found_kept, values_in, store_of}
 use Rattle.cedar_evaluator_requests.specs.Views.{request_of}
-use Rattle.cedar_evaluator_rising.specs.Rising.{ScopeRises}
-use Rattle.cedar_gate_decisions.specs.Laws.{loaded_store}
+use Rattle.cedar_evaluator_model.specs.Rising.{ScopeRises}
+use Rattle.cedar_gate_sessions.specs.Laws.{loaded_store}
 use Rattle.cedar_gate_model.specs.Bundle.{Functions}
 use Rattle.cedar_gate_model.specs.RunsAnswer.{Course, session_of, IsKnownStore}
 use Rattle.cedar_gate_model.specs.Session.{Setup, State, scope_now, known_now}

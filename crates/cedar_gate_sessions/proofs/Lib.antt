@@ -17,3 +17,10 @@ pub mod Stores
 pub mod Supplying
 pub mod Taking
 pub mod Texts
+mod AnswersLeft
+mod Deciding
+mod Marked
+mod Once
+mod Sessions
+mod Stepping
+mod Told

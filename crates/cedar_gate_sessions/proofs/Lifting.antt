@@ -9,10 +9,10 @@ use Rattle.cedar_expr_model.specs.OfLaws.Represented.{AreMade, HaveMade}
 use Rattle.cedar_expr_model.specs.Table.{Table}
 use Rattle.cedar_expr_model.specs.ValueParts.{Part, known, left}
 use Rattle.cedar_store_model.specs.World.{Found, held, missing, not_loaded}
-use Rattle.cedar_store_worlds_model.specs.Rising.{Rises, MembersRise, FieldsRise}
+use Rattle.cedar_store_model.specs.Rising.{Rises, MembersRise, FieldsRise}
 use Rattle.cedar_evaluator_model.specs.OfLaws.WellMade.{IsWellMade, IsMadeWell, IsPartMadeWell, IsFoundMadeWell, IsContextMadeWell}
 use Rattle.cedar_evaluator_model.specs.Scope.{Context, closed, residual_fields, unknown_context}
-use Rattle.cedar_evaluator_rising.specs.Rising.{MadeRises, PartRises, FoundRises, ContextRises}
+use Rattle.cedar_evaluator_model.specs.Rising.{MadeRises, PartRises, FoundRises, ContextRises}
 
 module _ (x : Table) where
   mutual

@@ -12,8 +12,8 @@ use Rattle.cedar_store_model.specs.Store.{unloaded, if_uid, found_as, whole}
 use Rattle.cedar_store_model.specs.World.{held, missing, not_loaded}
 use Rattle.cedar_schema_model.specs.ActionEntities.{as_entity}
 use Rattle.cedar_schema_model.specs.Schema.{Schema, declares_action}
-use Rattle.cedar_gate_distances.specs.Kept.{IsKept}
-use Rattle.cedar_gate_distances.specs.Rows.{row_of, uids}
+use Rattle.cedar_gate_wanted.specs.Kept.{IsKept}
+use Rattle.cedar_gate_wanted.specs.Rows.{row_of, uids}
 use Rattle.cedar_gate_model.specs.Moment.{told}
 use Rattle.cedar_gate_model.specs.Session.{Setup, State, at_start, known_now}
 use Rattle.cedar_gate_model.specs.Slice.{roots, mentioned_by_found}

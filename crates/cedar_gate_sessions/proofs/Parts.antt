@@ -13,7 +13,7 @@ use Rattle.cedar_store_entities.specs.Views.{Kept, entity_uid, entity_of, entity
 use Rattle.cedar_store_entities.specs.declared.entity.Entity.{Entity}
 use Rattle.cedar_store_model.specs.World as world
 use Rattle.cedar_schema_model.specs.Schema.{declares_action}
-use Rattle.cedar_gate_distances.specs.Rows.{uids}
+use Rattle.cedar_gate_wanted.specs.Rows.{uids}
 use Rattle.cedar_gate_model.specs.Runs.{supplied_by}
 use Rattle.cedar_gate_model.specs.Session.{Setup}
 use Rattle.cedar_gate_wanted.specs.Laws.{AreAnswers}

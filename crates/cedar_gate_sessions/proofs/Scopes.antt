@@ -15,8 +15,8 @@ use Rattle.cedar_evaluator_model.specs.OfLaws.WellMade.{IsFoundMadeWell, IsConte
 use Rattle.cedar_evaluator_model.specs.Reauthorize.{context_from}
 use Rattle.cedar_evaluator_model.specs.Response.{PartialRequest}
 use Rattle.cedar_evaluator_model.specs.Scope.{Scope, Context, closed, residual_fields, unknown_context, MadeCalled, Left, value_left, residual, stopped}
-use Rattle.cedar_evaluator_rising.specs.Rising.{MadeRises, FoundRises, ContextRises, CallsRise, ScopeRises, LeftRises}
-use Rattle.cedar_evaluator_rising.proofs.Rising.{values_rise}
+use Rattle.cedar_evaluator_model.specs.Rising.{MadeRises, FoundRises, ContextRises, CallsRise, ScopeRises, LeftRises}
+use Rattle.cedar_evaluator_model.proofs.Rising.{values_rise}
 use Rattle.cedar_gate_model.specs.ReadingValue.{with_functions}
 use Rattle.cedar_gate_model.specs.RunsAnswer.{IsOpened}
 use Rattle.cedar_gate_model.specs.Session.{Setup, State, value_of, context_now, scope_now, entry_now}

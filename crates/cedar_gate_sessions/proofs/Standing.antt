@@ -26,8 +26,8 @@ use Rattle.cedar_schema_model.specs.Schema as model
 use Rattle.cedar_evaluator_model.specs.OfLaws.WellMade.{IsWellMade, IsFoundMadeWell}
 use Rattle.cedar_evaluator_reads.specs.Scopes.{found_kept}
 use Rattle.cedar_evaluator_requests.specs.Views.{request_of}
-use Rattle.cedar_gate_bindings.specs.Names.{bound_in}
-use Rattle.cedar_gate_distances.specs.Kept.{IsKept}
+use Rattle.cedar_gate_openings.specs.Names.{bound_in}
+use Rattle.cedar_gate_wanted.specs.Kept.{IsKept}
 use Rattle.cedar_gate_model.specs.Bundle.{Functions}
 use Rattle.cedar_gate_model.specs.Runs.{with_asked, supplied_by}
 use Rattle.cedar_gate_model.specs.Session.{Setup, State, with_bound, IsWantedList, BindRefusal, BindFault, known_now}

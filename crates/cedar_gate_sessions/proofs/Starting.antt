@@ -27,9 +27,9 @@ use Rattle.cedar_schema_model.specs.Schema as model
 use Rattle.cedar_evaluator_model.specs.OfLaws.WellMade.{IsPartMadeWell, IsFoundMadeWell}
 use Rattle.cedar_evaluator_reads.specs.Scopes.{found_kept}
 use Rattle.cedar_evaluator_requests.specs.Views.{request_of}
-use Rattle.cedar_gate_bindings.specs.Faults.{opens}
-use Rattle.cedar_gate_bindings.specs.Names.{bound_in}
-use Rattle.cedar_gate_distances.specs.Kept.{IsKept}
+use Rattle.cedar_gate_openings.specs.Faults.{opens}
+use Rattle.cedar_gate_openings.specs.Names.{bound_in}
+use Rattle.cedar_gate_wanted.specs.Kept.{IsKept}
 use Rattle.cedar_gate_model.specs.Bundle.{Functions}
 use Rattle.cedar_gate_model.specs.RunsAsk.{IsMadeContext}
 use Rattle.cedar_gate_model.specs.Session.{Setup, State, at_start}

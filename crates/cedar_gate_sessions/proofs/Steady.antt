@@ -24,7 +24,7 @@ use Rattle.cedar_evaluator_model.specs.Response.{with_bindings, slots_bound, ver
 use Rattle.cedar_evaluator_model.specs.Scope.{Scope, Left, residual}
 use Rattle.cedar_evaluator_model.specs.Steps.{errs, truth_left, on_value, left_of, truth_wanted, path_step, part_left, tag_left, part_or_missing, part_there, made_named, attribute_of, test_of, path_of, get_tag_found, has_tag_found, tag_of, in_found, in_of, combined_left, kind_of_value, kind_of_unknown, with_residual}
 use Rattle.cedar_expr_model.specs.Made.{written}
-use Rattle.cedar_gate_decisions.specs.Answers.{asked, if_erring, reasons_left, answered}
+use Rattle.cedar_gate_sessions.specs.Answers.{asked, if_erring, reasons_left, answered}
 
 -- entities that evaluations don't tell apart
 pub record AreAlike (d e : Entity Made) : Type 0 where

@@ -11,7 +11,7 @@ use Rattle.cedar_expr_names.specs.declared.entity.EntityUID.{EntityUID}
 use Rattle.cedar_store_entities.specs.Views.{entity_of, entity_pair}
 use Rattle.cedar_store_entities.specs.declared.entity.Entity.{Entity}
 use Rattle.cedar_store_model.specs.World as world
-use Rattle.cedar_gate_distances.specs.Rows.{uids}
+use Rattle.cedar_gate_wanted.specs.Rows.{uids}
 use Rattle.cedar_gate_model.specs.Session.{Supplied}
 use Rattle.cedar_gate_sessions.specs.Loaded.{mentioned_there}
 

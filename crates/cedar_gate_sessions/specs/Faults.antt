@@ -6,8 +6,8 @@ use Rattle.cedar_expr_model.specs.Name.{Text}
 use Rattle.cedar_expr_model.specs.Uid.{Uid}
 use Rattle.cedar_expr_model.specs.Made.{Made}
 use Rattle.cedar_evaluator_model.specs.Scope.{Context}
-use Rattle.cedar_gate_bindings.specs.declared.faults.BindFault.{BindFault}
-use Rattle.cedar_gate_bindings.specs.declared.faults.BindFault.TheVariants as binding
+use Rattle.cedar_gate_openings.specs.declared.faults.BindFault.{BindFault}
+use Rattle.cedar_gate_openings.specs.declared.faults.BindFault.TheVariants as binding
 use Rattle.cedar_gate_model.specs.Bundle.{Functions}
 use Rattle.cedar_gate_model.specs.Session as session
 use Rattle.cedar_gate_model.specs.Session.{Setup, State, Supplied, SupplyRefusal, BindRefusal, AnswerRefusal, supply_number, answer_number}

@@ -4,3 +4,8 @@ pub mod Faults
 pub mod Loaded
 pub mod Requests
 pub mod Sessions
+pub mod Answers
+pub mod Bounds
+pub mod Laws
+pub mod Outcomes
+pub mod Verdicts

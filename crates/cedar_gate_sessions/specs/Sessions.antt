@@ -22,8 +22,8 @@ use Rattle.cedar_evaluator_operators.specs.Answers.{AnswersMade}
 use Rattle.cedar_evaluator_reads.specs.Scopes.{found_kept}
 use Rattle.cedar_evaluator_requests.specs.Views.{request_of}
 use Rattle.cedar_evaluator_requests.specs.declared.request.Request.{Request}
-use Rattle.cedar_evaluator_rising.specs.Rising.{CallsRise}
-use Rattle.cedar_gate_bindings.specs.Names.{bound_in}
+use Rattle.cedar_evaluator_model.specs.Rising.{CallsRise}
+use Rattle.cedar_gate_openings.specs.Names.{bound_in}
 use Rattle.cedar_gate_model.specs.Bundle.{Functions}
 use Rattle.cedar_gate_model.specs.Runs.{supplied_by}
 use Rattle.cedar_gate_model.specs.RunsAnswer.{IsOpened}

@@ -13,7 +13,7 @@ use crate::basis::{Basis, Schema};
 use crate::refusals::{refused_answer, refused_binding, refused_opening, refused_supply};
 use crate::session::Session;
 use cedar_evaluator_requests::{Decision, Request, Response};
-use cedar_evaluator_restricted::FunctionCalls;
+use cedar_evaluator_restricted_exprs::FunctionCalls;
 use cedar_expr_names::EntityUID;
 use cedar_expr_values::{ExtValue, Value};
 use cedar_gate_runs::{Refusal, SessionCalls};

@@ -3,13 +3,13 @@
 ghost use Rattle.cedar_expr_model.specs.Name.{Text};
 ghost use Rattle.cedar_expr_model.specs.Made.{Made};
 ghost use Rattle.cedar_evaluator_model.specs.Response.{PartialRequest};
-ghost use Rattle.cedar_gate_bindings.specs.Faults.{IsOpenFault};
+ghost use Rattle.cedar_gate_openings.specs.Faults.{IsOpenFault};
 ghost use Rattle.cedar_gate_model.specs.Session.{Setup, State, Supplied};
 ghost use Rattle.cedar_gate_runs.specs.Refusals.{IsOpenRefusal, IsSupplyRefusal, IsBindRefusal, IsAnswerRefusal};
 ghost use Rattle.cedar_gate_sessions.specs.Faults.{IsSupplyFault, IsBindFault, IsAnswerFault};
 
 use crate::faults::{AnswerFault, SupplyFault};
-use cedar_gate_bindings::{BindFault, OpenFault};
+use cedar_gate_openings::{BindFault, OpenFault};
 use cedar_gate_runs::Refusal;
 
 /// The refusal to open.

@@ -13,10 +13,10 @@ ghost use Rattle.cedar_evaluator_model.specs.Response.{response_of};
 ghost use Rattle.cedar_evaluator_requests.specs.Views.{request_of, decision_of, answer_of};
 ghost use Rattle.cedar_expr_model.specs.ListLaws.{AreDistinct};
 ghost use Rattle.cedar_store_model.specs.Answer.{ids};
-ghost use Rattle.cedar_gate_bindings.specs.Faults.{opens, IsOpenFault};
-ghost use Rattle.cedar_gate_decisions.specs.Bounds.{bounds_of};
-ghost use Rattle.cedar_gate_decisions.specs.Verdicts.{verdicts_of};
-ghost use Rattle.cedar_gate_distances.specs.Rows.{uids};
+ghost use Rattle.cedar_gate_openings.specs.Faults.{opens, IsOpenFault};
+ghost use Rattle.cedar_gate_sessions.specs.Bounds.{bounds_of};
+ghost use Rattle.cedar_gate_sessions.specs.Verdicts.{verdicts_of};
+ghost use Rattle.cedar_gate_wanted.specs.Rows.{uids};
 ghost use Rattle.cedar_gate_model.specs.Runs.{DecidesInPart, with_asked};
 ghost use Rattle.cedar_gate_model.specs.RunsAnswer.{Course, session_of, IsProper};
 ghost use Rattle.cedar_gate_model.specs.Session.{Setup, State, at_start, with_bound, scope_now, world_now, IsWantedList, NothingIsWanted, SupplyRefusal, BindRefusal, AnswerRefusal, SupplyFault as SupplyIsRefused, BindFault as BindIsRefused, AnswerFault as AnswerIsRefused};
@@ -28,19 +28,19 @@ use crate::basis::{Basis, Schema};
 use crate::bound::{add_known_roots, put_value, request_bound, take_value};
 use crate::entities::store_of;
 use crate::faults::{AnswerFault, SupplyFault};
+use crate::laws::{accepted_policies_are_fit, answers_are_the_meaning, decisions_may_be_given};
 use crate::supplied::{are_right, parted, take_in};
+use crate::{Bounds, Verdict, bounded, decided, respond, verdicts};
 use cedar_evaluator_core::Evaluator;
 use cedar_evaluator_requests::{Decision, Request, Response};
-use cedar_evaluator_restricted::FunctionCalls;
+use cedar_evaluator_restricted_exprs::FunctionCalls;
 use cedar_expr_functions::Extensions;
 use cedar_expr_names::EntityUID;
-use cedar_gate_bindings::{BindFault, OpenFault, V, check_names, check_value, has_open, is_open};
-use cedar_gate_decisions::laws::{
-    accepted_policies_are_fit, answers_are_the_meaning, decisions_may_be_given,
-};
-use cedar_gate_decisions::{Bounds, Verdict, bounded, decided, respond, verdicts};
 use cedar_gate_openings::laws::{a_binding_is_more, roots_are_known};
-use cedar_gate_openings::{context_is_made, request_now};
+use cedar_gate_openings::{
+    BindFault, OpenFault, V, check_names, check_value, context_is_made, has_open, is_open,
+    request_now,
+};
 use cedar_gate_wanted::Loading;
 use cedar_store_entities::Entity;
 use cedar_store_entities::laws::uids_are_uids;

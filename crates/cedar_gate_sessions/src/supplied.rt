@@ -2,7 +2,7 @@
 
 ghost use Rattle.std.specs.Prelude.{◌≡◌, ◌++◌, ◌∷◌, [], IfOk, OnOk, map, option_to_list};
 ghost use Rattle.std.specs.List.{list_all};
-ghost use Rattle.cedar_gate_distances.specs.Rows.{uids};
+ghost use Rattle.cedar_gate_wanted.specs.Rows.{uids};
 ghost use Rattle.cedar_gate_sessions.specs.Entities.{supplied_pair, supplied_of, supplied_entities, mentioned_by_this, row_pair, mentions_pair};
 ghost use Rattle.cedar_gate_sessions.specs.Loaded.{is_right};
 
@@ -106,7 +106,7 @@ fn put(entities: &mut Vec<Entity>, entity: Option<Entity>) -> Result<(), AllocEr
 
 ghost use Rattle.std.specs.Prelude.{IfErr, OnErr, List};
 ghost use Rattle.cedar_expr_model.specs.Uid.{Uid};
-ghost use Rattle.cedar_gate_distances.specs.Kept.{IsKept};
+ghost use Rattle.cedar_gate_wanted.specs.Kept.{IsKept};
 ghost use Rattle.cedar_gate_wanted.specs.Supplying.{rows_of, keys_in, IsFilled, AreKeys};
 ghost use Rattle.cedar_gate_wanted.specs.Wanting.{IsWanting, IsSameLoading, near_in, rows_in, mentions_of, wanted_in, level_of};
 ghost use Rattle.cedar_gate_sessions.specs.Faults.{IsTakingFault};

@@ -4,7 +4,7 @@ use Rattle.std.proofs.lemmas.List.{take_more, map-append}
 use Rattle.cedar_expr_model.specs.Uid.{Uid}
 use Rattle.cedar_expr_names.specs.Views.{uid_of}
 use Rattle.cedar_expr_names.specs.declared.entity.EntityUID.{EntityUID}
-use Rattle.cedar_gate_distances.specs.Rows.{uids}
+use Rattle.cedar_gate_wanted.specs.Rows.{uids}
 
 -- one more is behind the others
 pub pushed_uids : (xs ys : List EntityUID) (k : EntityUID) (u : Uid) → ys ≡ xs ++ k ∷ [] → uid_of k ≡ u → uids ys ≡ uids xs ++ u ∷ []

@@ -5,9 +5,9 @@ use Rattle.cedar_expr_model.specs.Uid.{Uid}
 use Rattle.cedar_expr_model.proofs.Lists.{both_hold, hold_both, map_from, map_has, contains_none}
 use Rattle.cedar_expr_names.specs.Views.{uid_of}
 use Rattle.cedar_expr_names.specs.declared.entity.EntityUID.{EntityUID}
-use Rattle.cedar_gate_distances.specs.Kept.{IsUndo, IsWrite, IsWritten}
-use Rattle.cedar_gate_distances.specs.Rows.{writes}
-use Rattle.cedar_gate_distances.proofs.Fresh.{fresh_in_log}
+use Rattle.cedar_gate_wanted.specs.Kept.{IsUndo, IsWrite, IsWritten}
+use Rattle.cedar_gate_wanted.specs.Rows.{writes}
+use Rattle.cedar_gate_wanted.proofs.Fresh.{fresh_in_log}
 use Rattle.cedar_gate_wanted.specs.Supplying.{keys_in}
 use Rattle.cedar_schema_model.specs.Schema.{Schema, declares_action}
 

@@ -20,7 +20,7 @@ use Rattle.cedar_expr_model.proofs.Lists.{hold_both, map_has, map_from}
 use Rattle.cedar_expr_names.proofs.Equality.{uids_cmp_is, uids_eq_is}
 use Rattle.cedar_expr_names.specs.Views.{eid_text, uid_of}
 use Rattle.cedar_expr_names.specs.declared.entity.EntityUID.{EntityUID}
-use Rattle.cedar_gate_distances.specs.Rows.{uids}
+use Rattle.cedar_gate_wanted.specs.Rows.{uids}
 use Rattle.cedar_gate_wanted.proofs.ByUid.{uids_by, same_uid}
 
 -- what `==` computes of two uids

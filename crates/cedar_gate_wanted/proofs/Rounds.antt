@@ -19,9 +19,9 @@ use Rattle.cedar_gate_model.specs.Moment.{told}
 use Rattle.cedar_gate_model.specs.Runs.{with_asked}
 use Rattle.cedar_gate_model.specs.Session.{Setup, State, known_now, whole_store}
 use Rattle.cedar_gate_model.specs.Slice.{roots, mentioned_by_found}
-use Rattle.cedar_gate_distances.specs.Near.{IsNear, IsBelow}
-use Rattle.cedar_gate_distances.specs.Kept.{IsKept}
-use Rattle.cedar_gate_distances.specs.Rows.{uids, row_of, found_at, mentions_in}
+use Rattle.cedar_gate_wanted.specs.Near.{IsNear, IsBelow}
+use Rattle.cedar_gate_wanted.specs.Kept.{IsKept}
+use Rattle.cedar_gate_wanted.specs.Rows.{uids, row_of, found_at, mentions_in}
 use Rattle.cedar_gate_wanted.specs.Laws.{IsLoadedAt, AreAnswers, KeepsFrom, IsBoundMore, SupplyIsRound, RootsAreBound}
 use Rattle.cedar_gate_wanted.specs.Supplying.{rows_of, keys_in, IsFilled, AreKeys}
 use Rattle.cedar_gate_wanted.specs.Wanting.{near_in, rows_in, mentions_of, wanted_in}

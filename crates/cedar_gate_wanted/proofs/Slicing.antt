@@ -9,8 +9,8 @@ use Rattle.cedar_store_model.specs.World.{World}
 use Rattle.cedar_schema_model.specs.Schema.{Schema, declares_action}
 use Rattle.cedar_gate_model.specs.Slice as slice
 use Rattle.cedar_gate_model.specs.Session.{Setup, State, known_now, IsWantedList}
-use Rattle.cedar_gate_distances.specs.Near as kept
-use Rattle.cedar_gate_distances.specs.Kept.{IsKept}
+use Rattle.cedar_gate_wanted.specs.Near as kept
+use Rattle.cedar_gate_wanted.specs.Kept.{IsKept}
 use Rattle.cedar_gate_wanted.specs.Laws.{IsLoadedAt, WantedIsNext}
 use Rattle.cedar_gate_wanted.specs.Wanting.{IsWanting, near_in, rows_in, mentions_of, wanted_in}
 use Rattle.cedar_gate_wanted.specs.declared.loading.Loading.{Loading}

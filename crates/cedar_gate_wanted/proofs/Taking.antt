@@ -7,8 +7,8 @@ use Rattle.cedar_expr_model.specs.Uid.{Uid}
 use Rattle.cedar_expr_model.proofs.Lists.{contains_none, map_has}
 use Rattle.cedar_expr_names.specs.Views.{uid_of}
 use Rattle.cedar_expr_names.specs.declared.entity.EntityUID.{EntityUID}
-use Rattle.cedar_gate_distances.specs.Kept.{IsUndo, IsLoaded}
-use Rattle.cedar_gate_distances.specs.Rows.{writes, uids, row_of}
+use Rattle.cedar_gate_wanted.specs.Kept.{IsUndo, IsLoaded}
+use Rattle.cedar_gate_wanted.specs.Rows.{writes, uids, row_of}
 use Rattle.cedar_gate_wanted.specs.Supplying.{keys_in, rows_of, IsFilled, AreKeys}
 use Rattle.cedar_gate_wanted.specs.Wanting.{is_open, Exact}
 use Rattle.cedar_gate_wanted.proofs.Opening.{open_parts, open_made, stays, written_anew, had_or_not}

@@ -3,9 +3,9 @@
 use Rattle.std.specs.Prelude.{◌≡◌, ◌↔◌, ◌++◌, List, Contains, is_some}
 use Rattle.std.specs.List.{list_any}
 use Rattle.cedar_expr_model.specs.Uid.{Uid, uid_eq}
-use Rattle.cedar_gate_distances.specs.Kept.{IsKept}
+use Rattle.cedar_gate_wanted.specs.Kept.{IsKept}
 use Rattle.cedar_expr_names.specs.declared.entity.EntityUID.{EntityUID}
-use Rattle.cedar_gate_distances.specs.Rows.{uids}
+use Rattle.cedar_gate_wanted.specs.Rows.{uids}
 use Rattle.cedar_gate_model.specs.Moment.{told}
 use Rattle.cedar_gate_model.specs.Runs.{with_asked}
 use Rattle.cedar_gate_model.specs.Session.{Setup, State, known_now, whole_store, IsWantedList}

@@ -1,3 +1,6 @@
 pub mod Wanting
 pub mod Supplying
 pub mod Laws
+pub mod Near
+pub mod Kept
+pub mod Rows

@@ -5,7 +5,7 @@ use Rattle.cedar_expr_model.specs.UidOrder.{are_rising}
 use Rattle.cedar_expr_model.specs.Uid.{Uid}
 use Rattle.cedar_expr_names.specs.Views.{uid_of}
 use Rattle.cedar_expr_names.specs.declared.entity.EntityUID.{EntityUID}
-use Rattle.cedar_gate_distances.specs.Rows.{found_at, mentions_in, uids}
+use Rattle.cedar_gate_wanted.specs.Rows.{found_at, mentions_in, uids}
 use Rattle.cedar_gate_wanted.specs.declared.loading.Loading.{Loading}
 use Rattle.cedar_schema_model.specs.Schema.{Schema, declares_action}
 use Rattle.std.specs.BTreeMap.{BTreeMap}

@@ -3,16 +3,16 @@
 ghost use Rattle.std.specs.Prelude.{◌≡◌, ◌++◌, ◌⊎◌, ℕ, List, [], None, Contains, IfOk, IfErr, OnOk, OnErr};
 ghost use Rattle.cedar_expr_model.specs.Uid.{Uid};
 ghost use Rattle.cedar_expr_names.specs.Views.{uid_of};
-ghost use Rattle.cedar_gate_distances.specs.Kept.{IsKept};
-ghost use Rattle.cedar_gate_distances.specs.Rows.{found_at, mentions_in, uids};
+ghost use Rattle.cedar_gate_wanted.specs.Kept.{IsKept};
+ghost use Rattle.cedar_gate_wanted.specs.Rows.{found_at, mentions_in, uids};
 ghost use Rattle.cedar_schema_model.specs.Schema.{Schema};
 ghost use Rattle.cedar_gate_wanted.specs.Supplying.{rows_of, keys_in, IsFilled, AreKeys, IsUnfit};
 
 use crate::next::{DeclaredActions, next_wanted};
 use crate::rows::{put_rows, take_out_all};
 use crate::supplied::{Unfit, check};
+use crate::{Loaded, Near, add, supply, undo};
 use cedar_expr_names::EntityUID;
-use cedar_gate_distances::{Loaded, Near, add, supply, undo};
 use std::alloc::{AllocError, Global};
 use std::collections::BTreeMap;
 

@@ -4,13 +4,13 @@ ghost use Rattle.std.specs.Prelude.{◌≡◌, ◌⊎◌, ◌↔◌, true, Conta
 ghost use Rattle.cedar_expr_model.specs.UidOrder.{are_rising};
 ghost use Rattle.cedar_expr_model.specs.Uid.{Uid};
 ghost use Rattle.cedar_expr_names.specs.Views.{uid_of};
-ghost use Rattle.cedar_gate_distances.specs.Rows.{found_at, uids};
+ghost use Rattle.cedar_gate_wanted.specs.Rows.{found_at, uids};
 ghost use Rattle.cedar_schema_model.specs.Schema.{Schema, declares_action};
 ghost use Rattle.cedar_gate_wanted.specs.Wanting.{is_open};
 ghost use Rattle.cedar_gate_wanted.specs.Supplying.{keys_in};
 
+use crate::{Loaded, Log, Near};
 use cedar_expr_names::EntityUID;
-use cedar_gate_distances::{Loaded, Log, Near};
 use std::alloc::{AllocError, Global};
 
 /// What says which uids are those of declared actions.

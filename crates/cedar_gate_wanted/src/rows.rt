@@ -3,11 +3,11 @@
 ghost use Rattle.std.specs.Prelude.{◌≡◌, ◌⊎◌, None, Contains, OnOk, OnErr};
 ghost use Rattle.cedar_expr_model.specs.Uid.{Uid};
 ghost use Rattle.cedar_expr_names.specs.Views.{uid_of};
-ghost use Rattle.cedar_gate_distances.specs.Rows.{found_at, uids};
+ghost use Rattle.cedar_gate_wanted.specs.Rows.{found_at, uids};
 ghost use Rattle.cedar_gate_wanted.specs.Supplying.{rows_of, keys_in, IsFilled};
 
+use crate::Loaded;
 use cedar_expr_names::EntityUID;
-use cedar_gate_distances::Loaded;
 use std::alloc::AllocError;
 
 // Puts a row in.

@@ -5,14 +5,14 @@ ghost use Rattle.std.specs.List.{list_all};
 ghost use Rattle.cedar_expr_model.specs.Uid.{Uid, uid_eq};
 ghost use Rattle.cedar_expr_model.specs.Repeats.{repeated};
 ghost use Rattle.cedar_expr_names.specs.Views.{uid_of};
-ghost use Rattle.cedar_gate_distances.specs.Rows.{found_at, uids};
+ghost use Rattle.cedar_gate_wanted.specs.Rows.{found_at, uids};
 ghost use Rattle.cedar_schema_model.specs.Schema.{Schema};
 ghost use Rattle.cedar_gate_wanted.specs.Wanting.{is_open};
 ghost use Rattle.cedar_gate_wanted.specs.Supplying.{keys_in, AreKeys, IsUnfit};
 
 use crate::next::{DeclaredActions, is_open};
+use crate::{Loaded, Near};
 use cedar_expr_names::EntityUID;
-use cedar_gate_distances::{Loaded, Near};
 use std::alloc::{AllocError, Global};
 use std::collections::BTreeMap;
 

@@ -1,81 +1,10 @@
 //! Cedar's schemas, whole: the items of the crates `cedar_schema_*` under one name.
-//! Contract: that of the items; this crate has no code of its own.
+//! Contract: that of the items. Its own code is laws: every type of the code is well-formed, and `==`, `cmp` and `hash` go by the model's.
 //! Used by users of the library and by `cedar_bench`; crates of this repository name the crates below.
 #![tactic(auto)]
 
-/// Types by which values can be read.
-pub mod core_types {
-    pub use cedar_schema_core_types::{
-        CoreAttributeType, CoreAttributes, CoreSchemaType, CoreTypeError, core_schema_type,
-    };
-}
-
-/// Declarations as they are written.
-pub mod json_schema {
-    pub use cedar_schema_decl::json_schema::{
-        ActionEntityUID, ActionType, ActionTypeKind, ApplySpec, CommonType, EntityType,
-        EntityTypeKind, Fragment, NamespaceDefinition, RecordType, Type, TypeOfAttribute,
-        TypeVariant,
-    };
-}
-
-/// Built schemas, and the steps that build them.
-pub mod schema {
-    pub use cedar_schema_builder::extension_types;
-    pub use cedar_schema_built::{
-        ActionGroups, ActionsFor, Ancestors, UnresolvedDeclaration, UnresolvedDeclarations,
-        ValidatorSchema,
-    };
-    pub use cedar_schema_decl::{
-        AllDefs, CommonTypeDefs, EntityTypeFragment, EntityTypesDef, resolve,
-    };
-    pub use cedar_schema_entries::{
-        AppliesTo, StandardValidatorEntityType, ValidatorActionId, ValidatorEntityType,
-        ValidatorEntityTypeKind,
-    };
-    pub use cedar_schema_fragments::{
-        ActionFragment, ActionFragmentKind, ActionsDef, DeclaredNames, DeclaredNamespaces,
-        ValidatorApplySpec, ValidatorNamespaceDef, ValidatorSchemaFragment,
-    };
-    pub use cedar_schema_gathered::DefsOfFragments;
-    pub use cedar_schema_located::{LocatedCommonType, LocatedNamespace, LocatedType};
-    pub use cedar_schema_resolver::{CommonTypes, TypeResolver, resolve_common_types};
-    pub use cedar_schema_sound::{TryValidate, Unsound, first_unsound, try_validate};
-
-    /// What fragments declare.
-    pub mod all_defs {
-        pub use cedar_schema_fragments::all_defs::{new, single_fragment};
-    }
-
-    /// Why declarations are refused.
-    pub mod err {
-        pub use cedar_schema_builder::SchemaError;
-        pub use cedar_schema_built::UnresolvedExternalError;
-        pub use cedar_schema_decl::{ShadowingError, TypeNotDefinedError};
-        pub use cedar_schema_fragments::FragmentError;
-        pub use cedar_schema_resolver::ResolveError;
-        pub use cedar_schema_sound::UnsoundSchemaError;
-    }
-}
-
-/// Types of a schema.
-pub mod types {
-    pub use cedar_schema_admission::{
-        DeclaredAttributes, lookup_attribute_type, may_have_attr, typecheck_literal,
-        typecheck_value,
-    };
-    pub use cedar_schema_attributes::{
-        AllAttributes, AllKnownAttrs, SchemaAttributes, all_attributes, all_known_attrs,
-    };
-    pub use cedar_schema_joins::{
-        ValidationMode, are_types_disjoint, is_subtype, least_upper_bound,
-        reduce_to_least_upper_bound,
-    };
-    pub use cedar_schema_restricted::typecheck_restricted_expr;
-    pub use cedar_schema_types::{
-        AttributeType, Attributes, BoolType, EntityKind, EntityLUB, OpenTag, Type,
-    };
-}
+pub mod formed;
+pub mod laws;
 
 pub use core_types::{CoreSchemaType, core_schema_type};
 pub use schema::err::{
@@ -97,3 +26,71 @@ pub use types::{
     may_have_attr, reduce_to_least_upper_bound, typecheck_literal, typecheck_restricted_expr,
     typecheck_value,
 };
+
+/// Types by which values can be read.
+pub mod core_types {
+    pub use cedar_schema_types::{
+        CoreAttributeType, CoreAttributes, CoreSchemaType, CoreTypeError, core_schema_type,
+    };
+}
+
+/// Declarations as they are written.
+pub mod json_schema {
+    pub use cedar_schema_decl::json_schema::{
+        ActionEntityUID, ActionType, ActionTypeKind, ApplySpec, CommonType, EntityType,
+        EntityTypeKind, Fragment, NamespaceDefinition, RecordType, Type, TypeOfAttribute,
+        TypeVariant,
+    };
+}
+
+/// Built schemas, and the steps that build them.
+pub mod schema {
+    pub use cedar_schema_builder::{DefsOfFragments, extension_types};
+    pub use cedar_schema_built::{
+        ActionGroups, ActionsFor, Ancestors, LocatedCommonType, LocatedNamespace, LocatedType,
+        UnresolvedDeclaration, UnresolvedDeclarations, ValidatorSchema,
+    };
+    pub use cedar_schema_decl::{
+        AllDefs, CommonTypeDefs, EntityTypeFragment, EntityTypesDef, resolve,
+    };
+    pub use cedar_schema_entries::{
+        AppliesTo, StandardValidatorEntityType, ValidatorActionId, ValidatorEntityType,
+        ValidatorEntityTypeKind,
+    };
+    pub use cedar_schema_fragments::{
+        ActionFragment, ActionFragmentKind, ActionsDef, DeclaredNames, DeclaredNamespaces,
+        ValidatorApplySpec, ValidatorNamespaceDef, ValidatorSchemaFragment,
+    };
+    pub use cedar_schema_resolver::{CommonTypes, TypeResolver, resolve_common_types};
+    pub use cedar_schema_sound::{TryValidate, Unsound, first_unsound, try_validate};
+
+    /// What fragments declare.
+    pub mod all_defs {
+        pub use cedar_schema_fragments::all_defs::{new, single_fragment};
+    }
+
+    /// Why declarations are refused.
+    pub mod err {
+        pub use cedar_schema_builder::SchemaError;
+        pub use cedar_schema_built::UnresolvedExternalError;
+        pub use cedar_schema_decl::{ShadowingError, TypeNotDefinedError};
+        pub use cedar_schema_fragments::FragmentError;
+        pub use cedar_schema_resolver::ResolveError;
+        pub use cedar_schema_sound::UnsoundSchemaError;
+    }
+}
+
+/// Types of a schema.
+pub mod types {
+    pub use cedar_schema_joins::{
+        DeclaredAttributes, ValidationMode, are_types_disjoint, is_subtype, least_upper_bound,
+        lookup_attribute_type, may_have_attr, reduce_to_least_upper_bound, typecheck_literal,
+        typecheck_restricted_expr, typecheck_value,
+    };
+    pub use cedar_schema_sound::{
+        AllAttributes, AllKnownAttrs, SchemaAttributes, all_attributes, all_known_attrs,
+    };
+    pub use cedar_schema_types::{
+        AttributeType, Attributes, BoolType, EntityKind, EntityLUB, OpenTag, Type,
+    };
+}

@@ -4,17 +4,17 @@ use Rattle.std.specs.Prelude.{Contains}
 use Rattle.cedar_expr_model.specs.Name.{Name}
 use Rattle.cedar_expr_model.specs.Uid.{Uid}
 use Rattle.cedar_expr_model.proofs.Lists.{map_has, map_from}
-use Rattle.cedar_schema_kept_model.specs.Kept.{KeptType, KeptAction}
-use Rattle.cedar_schema_kept_model.specs.KeptOf.{IsSameType, IsSameAction}
+use Rattle.cedar_schema_model.specs.Kept.{KeptType, KeptAction}
+use Rattle.cedar_schema_model.specs.KeptOf.{IsSameType, IsSameAction}
 use Rattle.cedar_schema_model.specs.BagLaws.{HasTwice}
 use Rattle.cedar_schema_model.specs.Descent.{Chain, HasActionParent, Descends, ActionDescends}
 use Rattle.cedar_schema_model.specs.Schema.{Action}
-use Rattle.cedar_schema_nodes.specs.Descent.{AreDescendants}
-use Rattle.cedar_schema_nodes.specs.Laws.{TypesDescendSo, ActionsDescendSo}
-use Rattle.cedar_schema_nodes.proofs.Places.{at_in}
+use Rattle.cedar_schema_resolver.specs.Descent.{AreDescendants}
+use Rattle.cedar_schema_resolver.specs.HierarchyLaws.{TypesDescendSo, ActionsDescendSo}
+use Rattle.cedar_schema_resolver.proofs.Places.{at_in}
 use Rattle.cedar_schema_resolver.specs.Meanings.{Setting}
-use Rattle.cedar_schema_told_model.specs.Pieces.{AreTypesOf, AreActionsOf}
-use Rattle.cedar_schema_told_model.specs.Told.{schema_told, entity_told, action_told}
+use Rattle.cedar_schema_assembly.specs.Pieces.{AreTypesOf, AreActionsOf}
+use Rattle.cedar_schema_assembly.specs.Told.{schema_told, entity_told, action_told}
 use Rattle.cedar_schema_assembly.specs.Found.{AreTypesTold, AreActionsTold, AreTypesKnown, AreContextsKnown, AreContextsRecords, AreApart}
 use Rattle.cedar_schema_assembly.specs.Lists.{StandOnce}
 use Rattle.cedar_schema_assembly.specs.Made.{AreMade, IsTypeMade, IsActionMade}

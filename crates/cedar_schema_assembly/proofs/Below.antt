@@ -6,12 +6,12 @@ use Rattle.cedar_expr_model.specs.Name.{Name}
 use Rattle.cedar_expr_model.specs.Uid.{Uid}
 use Rattle.cedar_schema_fragments.specs.WrittenDeclarations.{parents_written, as_uid}
 use Rattle.cedar_schema_model.specs.Descent.{Reaches, type_names, action_uids, Descends, ActionDescends}
-use Rattle.cedar_schema_nodes.specs.Descent.{HasParentIn, nodes_in, AreDescendants}
-use Rattle.cedar_schema_nodes.specs.Laws.{types_with_parents, actions_with_parents, TypesDescendSo, ActionsDescendSo}
-use Rattle.cedar_schema_nodes.specs.Numbers.{IsAt}
-use Rattle.cedar_schema_nodes.proofs.Places.{at_map}
+use Rattle.cedar_schema_resolver.specs.Descent.{HasParentIn, nodes_in, AreDescendants}
+use Rattle.cedar_schema_resolver.specs.HierarchyLaws.{types_with_parents, actions_with_parents, TypesDescendSo, ActionsDescendSo}
+use Rattle.cedar_schema_resolver.specs.Numbers.{IsAt}
+use Rattle.cedar_schema_resolver.proofs.Places.{at_map}
 use Rattle.cedar_schema_resolver.specs.Meanings.{Setting}
-use Rattle.cedar_schema_told_model.specs.Told.{schema_told}
+use Rattle.cedar_schema_assembly.specs.Told.{schema_told}
 use Rattle.cedar_schema_assembly.specs.Seen.{WrittenType, WrittenAction, names_written, uids_written, types_above, actions_above}
 use Rattle.cedar_schema_assembly.proofs.Telling.{Within}
 

@@ -6,3 +6,4 @@ mod Below
 mod Assembling
 mod Standing
 mod Lines
+pub mod Pieces

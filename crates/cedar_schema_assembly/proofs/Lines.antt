@@ -13,7 +13,7 @@ use Rattle.cedar_schema_decl.specs.Definitions.{entity_form}
 use Rattle.cedar_schema_decl.specs.declared.definitions.EntityTypeFragment.{EntityTypeFragment}
 use Rattle.cedar_schema_fragments.specs.WrittenDeclarations.{parents_written, as_uid}
 use Rattle.cedar_schema_fragments.specs.declared.actions.ActionFragment.{ActionFragment}
-use Rattle.cedar_schema_nodes.specs.Numbers.{seen_nodes, names_in}
+use Rattle.cedar_schema_resolver.specs.Numbers.{seen_nodes, names_in}
 use Rattle.cedar_schema_assembly.specs.Seen.{types_seen, types_above, action_under_uid, actions_seen, actions_above, names_written, uids_written}
 use Rattle.cedar_schema_assembly.proofs.Putting.{next_of}
 

@@ -3,7 +3,7 @@ use Rattle.std.proofs.Common.{◌≡◌, ◌⊎◌, ℕ, suc, List, [], ◌∷�
 use Rattle.std.specs.Prelude.{Contains}
 use Rattle.std.proofs.lemmas.List.{append-nil}
 use Rattle.cedar_expr_model.proofs.Lists.{contains_head, contains_tail, contains_cases, contains_none}
-use Rattle.cedar_schema_nodes.specs.Numbers.{IsAt}
+use Rattle.cedar_schema_resolver.specs.Numbers.{IsAt}
 use Rattle.cedar_schema_assembly.specs.Made.{AreMade}
 
 -- What is made so far, and then what is made of the rest, is made of all.

@@ -13,8 +13,8 @@ use Rattle.std.proofs.lemmas.List.{take_more, map-append}
 use Rattle.std.proofs.lemmas.List.Elements.{Contains-append_left, Contains-push, Contains-push_cases}
 use Rattle.cedar_expr_model.proofs.Lists.{contains_head, contains_tail, contains_cases, contains_none}
 use Rattle.cedar_schema_assembly.specs.Lists.{IsSetOf, StandOnce}
-use Rattle.cedar_schema_nodes.specs.Numbers.{StandsTwice}
-use Rattle.cedar_schema_nodes.proofs.Places.{once_more}
+use Rattle.cedar_schema_resolver.specs.Numbers.{StandsTwice}
+use Rattle.cedar_schema_resolver.proofs.Places.{once_more}
 
 module _ {N S : Type 0} (seen : N → S) (cmp : N → N → Ordering) (told : (a b : N) → Decides (is_at (cmp a) b) (seen a ≡ seen b)) where
   put_kept : (ks : List N) (k : N) (s : S) → Contains (map seen ks) s → Contains (map seen (insert_key cmp ks k)) s

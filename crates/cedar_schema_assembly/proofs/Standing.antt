@@ -4,16 +4,16 @@ use Rattle.std.specs.Prelude.{Contains}
 use Rattle.cedar_expr_model.specs.Name.{Name, Text}
 use Rattle.cedar_expr_model.specs.Uid.{Uid}
 use Rattle.cedar_expr_model.proofs.Lists.{contains_none}
-use Rattle.cedar_schema_building_model.specs.Contexts.{is_record_type}
+use Rattle.cedar_schema_model.specs.Contexts.{is_record_type}
 use Rattle.cedar_schema_decl.specs.Forms.{record_form, no_field_forms, enumerated_form}
-use Rattle.cedar_schema_kept_model.specs.Kept.{KeptType, Applied, KeptAction}
-use Rattle.cedar_schema_kept_model.specs.KeptOf.{IsSameKind}
+use Rattle.cedar_schema_model.specs.Kept.{KeptType, Applied, KeptAction}
+use Rattle.cedar_schema_model.specs.KeptOf.{IsSameKind}
 use Rattle.cedar_schema_model.specs.Resolved.{attributes_of_record}
 use Rattle.cedar_schema_model.specs.Schema.{enumerated}
 use Rattle.cedar_schema_model.specs.Types.{Ty, record_type, no_attributes, is_closed}
 use Rattle.cedar_schema_resolver.specs.Meanings.{Setting, told}
 use Rattle.cedar_schema_resolver.specs.Refusals.{AreKnown}
-use Rattle.cedar_schema_told_model.specs.Told.{kind_told, types_in}
+use Rattle.cedar_schema_assembly.specs.Told.{kind_told, types_in}
 use Rattle.cedar_schema_assembly.specs.Lists.{IsSetOf}
 use Rattle.cedar_schema_assembly.specs.Made.{IsTypeMade, IsActionMade}
 use Rattle.cedar_schema_assembly.specs.Seen.{WrittenType, WrittenAction}

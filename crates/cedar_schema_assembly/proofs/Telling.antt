@@ -11,7 +11,7 @@ use Rattle.cedar_schema_resolver.specs.Meanings.{Setting}
 use Rattle.cedar_schema_resolver.specs.Refusals.{IsUnknownIn, IsReservedIn, TellsUntold}
 use Rattle.cedar_schema_resolver.specs.declared.err.ResolveError.{ResolveError}
 use Rattle.cedar_schema_resolver.specs.declared.err.ResolveError.TheVariants as resolve
-use Rattle.cedar_schema_told_model.specs.Told.{schema_told, types_in}
+use Rattle.cedar_schema_assembly.specs.Told.{schema_told, types_in}
 use Rattle.cedar_schema_assembly.specs.Refusals.{TellsReserved, TellsAmong, TellsTypes, TellsActions, TellsTypeTwice, TellsLines, TellsType, TellsContext, TellsAction, SaysSame}
 use Rattle.cedar_schema_assembly.specs.Seen.{WrittenType, WrittenAction, names_written, uids_written, parent_kinds}
 use Rattle.cedar_schema_assembly.specs.declared.err.AssemblyError.{AssemblyError}

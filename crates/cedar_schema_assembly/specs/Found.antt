@@ -3,14 +3,14 @@
 use Rattle.std.specs.Prelude.{◌≡◌, List, true, Contains}
 use Rattle.cedar_expr_model.specs.Name.{Name}
 use Rattle.cedar_expr_model.specs.Uid.{Uid}
-use Rattle.cedar_schema_building_model.specs.Contexts.{is_record_type}
+use Rattle.cedar_schema_model.specs.Contexts.{is_record_type}
 use Rattle.cedar_schema_decl.specs.Forms.{TypeForm}
-use Rattle.cedar_schema_kept_model.specs.Kept.{KeptType, KeptAction}
+use Rattle.cedar_schema_model.specs.Kept.{KeptType, KeptAction}
 use Rattle.cedar_schema_model.specs.Descent.{ActionDescends}
 use Rattle.cedar_schema_resolver.specs.Meanings.{Setting, told}
 use Rattle.cedar_schema_resolver.specs.Refusals.{AreKnown}
-use Rattle.cedar_schema_told_model.specs.Pieces.{AreTypesOf, AreActionsOf}
-use Rattle.cedar_schema_told_model.specs.Told.{schema_told, types_in}
+use Rattle.cedar_schema_assembly.specs.Pieces.{AreTypesOf, AreActionsOf}
+use Rattle.cedar_schema_assembly.specs.Told.{schema_told, types_in}
 use Rattle.cedar_schema_assembly.specs.Seen.{WrittenType, WrittenAction}
 
 -- They are the entity types of the schema that these tell, whatever its actions, and its actions, whatever its entity types.

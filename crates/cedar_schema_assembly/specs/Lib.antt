@@ -4,3 +4,5 @@ pub mod Seen
 pub mod Refusals
 pub mod Found
 pub mod Made
+pub mod Told
+pub mod Pieces

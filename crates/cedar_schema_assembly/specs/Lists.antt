@@ -3,7 +3,7 @@
 use Rattle.std.specs.Prelude.{List, map, Option, Some, None, Contains}
 use Rattle.std.specs.BTreeSet.{BTreeSet}
 use Rattle.cedar_schema_model.specs.BagLaws.{HasTwice}
-use Rattle.cedar_schema_nodes.specs.Numbers.{StandsTwice}
+use Rattle.cedar_schema_resolver.specs.Numbers.{StandsTwice}
 
 -- The set has these and no other.
 pub record IsSetOf {S : Type 0} (xs ks : List S) : Type 0 where

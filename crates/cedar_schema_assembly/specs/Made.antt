@@ -3,15 +3,15 @@
 use Rattle.std.specs.Prelude.{◌≡◌, List, [], ◌∷◌, true, false, Option, Some, None, Contains}
 use Rattle.cedar_expr_model.specs.Name.{Name}
 use Rattle.cedar_expr_model.specs.Uid.{Uid}
-use Rattle.cedar_schema_building_model.specs.Contexts.{is_record_type}
+use Rattle.cedar_schema_model.specs.Contexts.{is_record_type}
 use Rattle.cedar_schema_decl.specs.Forms.{TypeForm}
-use Rattle.cedar_schema_kept_model.specs.Kept.{KeptType, KeptAction}
-use Rattle.cedar_schema_kept_model.specs.KeptOf.{IsSameType, IsSameAction}
+use Rattle.cedar_schema_model.specs.Kept.{KeptType, KeptAction}
+use Rattle.cedar_schema_model.specs.KeptOf.{IsSameType, IsSameAction}
 use Rattle.cedar_schema_model.specs.Resolved.{attributes_of_record}
 use Rattle.cedar_schema_model.specs.Types.{Ty, record_type, is_closed}
 use Rattle.cedar_schema_resolver.specs.Meanings.{Setting, told}
 use Rattle.cedar_schema_resolver.specs.Refusals.{AreKnown}
-use Rattle.cedar_schema_told_model.specs.Told.{entity_told, action_told, types_in}
+use Rattle.cedar_schema_assembly.specs.Told.{entity_told, action_told, types_in}
 use Rattle.cedar_schema_assembly.specs.Lists.{IsSetOf}
 use Rattle.cedar_schema_assembly.specs.Seen.{WrittenType, WrittenAction}
 

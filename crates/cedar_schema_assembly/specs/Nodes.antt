@@ -14,7 +14,7 @@ use Rattle.std.specs.declared.rc.RcStr.{RcStr}
 use Rattle.cedar_expr_names.specs.Views.{plain_name_of, type_name_of}
 use Rattle.cedar_expr_names.specs.declared.entity.EntityType.{EntityType}
 use Rattle.cedar_expr_names.specs.declared.name.Name.{Name as CodeName}
-use Rattle.cedar_schema_nodes.specs.Told.{names_told}
+use Rattle.cedar_schema_resolver.specs.Told.{names_told}
 
 -- what `cmp` computes
 abbrev types_cmp : EntityType → EntityType → Ordering

@@ -2,15 +2,15 @@
 
 ghost use Rattle.std.specs.Prelude.{◌≡◌, [], ◌∷◌, map, option_map, true, IfOk, IfErr};
 ghost use Rattle.cedar_expr_names.specs.Views.{name_of, type_name_of, uid_of};
-ghost use Rattle.cedar_schema_building_model.specs.Contexts.{is_record_type};
+ghost use Rattle.cedar_schema_model.specs.Contexts.{is_record_type};
 ghost use Rattle.cedar_schema_decl.specs.Trees.{type_form};
 ghost use Rattle.cedar_schema_entries.specs.Views.{action_seen};
 ghost use Rattle.cedar_schema_fragments.specs.Actions.{parent_form};
 ghost use Rattle.cedar_schema_fragments.specs.WrittenDeclarations.{as_uid};
 ghost use Rattle.cedar_schema_model.specs.Resolved.{attributes_of_record};
 ghost use Rattle.cedar_schema_model.specs.Types.{record_type, is_closed};
-ghost use Rattle.cedar_schema_nodes.specs.Descent.{AreDescendants};
-ghost use Rattle.cedar_schema_nodes.specs.Numbers.{seen_nodes};
+ghost use Rattle.cedar_schema_resolver.specs.Descent.{AreDescendants};
+ghost use Rattle.cedar_schema_resolver.specs.Numbers.{seen_nodes};
 ghost use Rattle.cedar_schema_resolver.specs.Meanings.{extensions_seen, setting_of, told};
 ghost use Rattle.cedar_schema_resolver.specs.Refusals.{AreKnown};
 ghost use Rattle.cedar_schema_types.specs.Types.{type_of};
@@ -29,8 +29,8 @@ use cedar_schema_decl::json_schema;
 use cedar_schema_decl::json_schema::ActionEntityUID;
 use cedar_schema_entries::{AppliesTo, ValidatorActionId};
 use cedar_schema_fragments::{ActionFragment, ActionFragmentKind};
-use cedar_schema_nodes::laws::descent_is_the_schemas;
 use cedar_schema_resolver::TypeResolver;
+use cedar_schema_resolver::hierarchy_laws::descent_is_the_schemas;
 use cedar_schema_types::{OpenTag, Type};
 use std::alloc::Global;
 use std::collections::BTreeSet;

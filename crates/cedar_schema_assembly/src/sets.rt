@@ -6,13 +6,13 @@ ghost use Rattle.std.specs.BTreeMap.{is_at};
 ghost use Rattle.std.specs.Rc.{rc_str_bytes};
 ghost use Rattle.cedar_expr_model.specs.Name.{Name as ModelName, Text};
 ghost use Rattle.cedar_expr_names.specs.Views.{plain_name_of, type_name_of};
-ghost use Rattle.cedar_schema_nodes.specs.Descent.{AreDescendants};
-ghost use Rattle.cedar_schema_nodes.specs.Numbers.{names_in, seen_nodes};
+ghost use Rattle.cedar_schema_resolver.specs.Descent.{AreDescendants};
+ghost use Rattle.cedar_schema_resolver.specs.Numbers.{names_in, seen_nodes};
 ghost use Rattle.cedar_schema_assembly.specs.Lists.{IsSetOf, StandOnce, TellsRepeat, sets_seen};
 ghost use Rattle.cedar_schema_assembly.specs.Nodes.{types_told, plain_names_told, texts_told};
 
 use cedar_expr_names::{EntityType, Name};
-use cedar_schema_nodes::{Node, RepeatedError, descendants};
+use cedar_schema_resolver::{Node, RepeatedError, descendants};
 use std::alloc::{AllocError, Global};
 use std::collections::BTreeSet;
 use std::rc::RcStr;

@@ -1,18 +1,18 @@
 -- What is assembled of what is gathered is what is built.
 use Rattle.std.proofs.Common.{◌≡◌, List, [], ◌∷◌, map, refl, sym, subst}
 use Rattle.cedar_expr_model.specs.Name.{Name}
-use Rattle.cedar_expr_raw_names.specs.declared.conditional_name.ConditionalName.{ConditionalName}
+use Rattle.cedar_expr_leaves.specs.declared.conditional_name.ConditionalName.{ConditionalName}
 use Rattle.cedar_schema_model.specs.BagLaws.{HasTwice}
 use Rattle.cedar_schema_model.specs.Declarations.{Declarations}
-use Rattle.cedar_schema_kept_model.specs.Kept.{KeptType, KeptAction}
+use Rattle.cedar_schema_model.specs.Kept.{KeptType, KeptAction}
 use Rattle.cedar_schema_decl.specs.Defined.{Defined}
 use Rattle.cedar_schema_fragments.specs.WrittenDeclarations.{AreWritten}
 use Rattle.cedar_schema_fragments.specs.declared.namespace_def.ValidatorSchemaFragment.{ValidatorSchemaFragment}
 use Rattle.cedar_schema_resolver.specs.Meanings.{Setting, setting}
-use Rattle.cedar_schema_told_model.specs.Pieces.{AreTypesOf, AreActionsOf}
-use Rattle.cedar_schema_told_model.specs.Told.{entity_told, action_told}
-use Rattle.cedar_schema_builder_model.specs.Laws.{ResolvedDeclarationsTellTheSchema, BuiltAreWellFormed, AreTold, AreFaultless}
-use Rattle.cedar_schema_builder_model.specs.Writing.{CommonForms, EntityForms, ActionForms}
+use Rattle.cedar_schema_assembly.specs.Pieces.{AreTypesOf, AreActionsOf}
+use Rattle.cedar_schema_assembly.specs.Told.{entity_told, action_told}
+use Rattle.cedar_schema_builder.specs.ResolvedLaws.{ResolvedDeclarationsTellTheSchema, BuiltAreWellFormed, AreTold, AreFaultless}
+use Rattle.cedar_schema_builder.specs.Writing.{CommonForms, EntityForms, ActionForms}
 use Rattle.cedar_schema_builder.specs.Built.{AreBuiltOf}
 use Rattle.cedar_schema_builder.specs.Steps.{AreNamed, AreGathered, AreAssembled}
 

@@ -9,16 +9,16 @@ use Rattle.cedar_schema_model.specs.Declarations.{Declarations}
 use Rattle.cedar_schema_model.specs.WellFormed.{SchemaFault, duplicate_entity_type, duplicate_common_type, duplicate_action, undeclared_type, undeclared_action, cycle_of_common_types, cycle_of_actions, action_as_entity_type, context_not_record, reserved_name, shadowing, unknown_extension_type, unresolved_external, has_schema_fault, IsWellFormed}
 use Rattle.cedar_schema_model.proofs.Decls.Faults.{schema_fault-Decides}
 use Rattle.cedar_schema_model.specs.Types.{Ty}
-use Rattle.cedar_schema_kept_model.specs.Kept.{KeptType, KeptAction}
+use Rattle.cedar_schema_model.specs.Kept.{KeptType, KeptAction}
 use Rattle.cedar_schema_decl.specs.Defined.{Defined}
 use Rattle.cedar_schema_decl.specs.Forms.{EntityForm, standard_form, enumerated_form, external_form}
 use Rattle.cedar_schema_fragments.specs.WrittenDeclarations.{parents_written}
 use Rattle.cedar_schema_resolver.specs.Meanings.{setting}
 use Rattle.cedar_schema_resolver.specs.Solved.{IsSolved}
-use Rattle.cedar_schema_told_model.specs.Pieces.{AreTypesOf, AreActionsOf}
-use Rattle.cedar_schema_told_model.specs.Told.{kind_told, entity_told, action_told, schema_told}
+use Rattle.cedar_schema_assembly.specs.Pieces.{AreTypesOf, AreActionsOf}
+use Rattle.cedar_schema_assembly.specs.Told.{kind_told, entity_told, action_told, schema_told}
 use Rattle.cedar_schema_assembly.specs.Lists.{IsSetOf}
-use Rattle.cedar_schema_builder_model.specs.Writing.{CommonForms, EntityForms, ActionForms, commons_of, entities_of, actions_of}
+use Rattle.cedar_schema_builder.specs.Writing.{CommonForms, EntityForms, ActionForms, commons_of, entities_of, actions_of}
 use Rattle.cedar_schema_builder.specs.Extensions.{ExtensionTypesAreASet}
 use Rattle.cedar_schema_builder.specs.Named.{NamesFault}
 use Rattle.cedar_schema_builder.specs.OfFragments.{Fragments, sets_of, all_of, AreFormed, schema_formed, AreBuiltOfFormed, IsFaultInFragments}

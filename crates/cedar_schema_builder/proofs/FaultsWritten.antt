@@ -20,18 +20,18 @@ use Rattle.cedar_schema_fragments.specs.Qualified.{common_qualified, entity_qual
 use Rattle.cedar_schema_fragments.specs.Refusals.{no_type, no_action}
 use Rattle.cedar_schema_fragments.specs.Written.{WrittenNamespace}
 use Rattle.cedar_schema_fragments.specs.WrittenDeclarations.{common_declaration, entity_declaration, action_declaration, declared_in, all_forms, AreWritten}
-use Rattle.cedar_schema_gathered.specs.AllResolved.{all_resolved}
-use Rattle.cedar_schema_gathered.specs.Named.{RefusalsNameFaults, ReservedNamesAreThere, ActionTypesAreThere}
-use Rattle.cedar_schema_gathered.specs.WrittenNames.{entities_of as entities_in, entities_named}
-use Rattle.cedar_schema_nodes.specs.Numbers.{StandsTwice}
+use Rattle.cedar_schema_builder.specs.AllResolved.{all_resolved}
+use Rattle.cedar_schema_builder.specs.GatheredNamed.{RefusalsNameFaults, ReservedNamesAreThere, ActionTypesAreThere}
+use Rattle.cedar_schema_builder.specs.WrittenNames.{entities_of as entities_in, entities_named}
+use Rattle.cedar_schema_resolver.specs.Numbers.{StandsTwice}
 use Rattle.cedar_schema_resolver.specs.Commons.{no_commons}
 use Rattle.cedar_schema_resolver.specs.Meanings.{Setting, setting}
 use Rattle.cedar_schema_resolver.specs.Refusals.{extensions_of}
 use Rattle.cedar_schema_resolver.specs.declared.err.ResolveError.TheVariants as resolve
-use Rattle.cedar_schema_told_model.specs.Told.{types_in}
-use Rattle.cedar_schema_builder_model.specs.Laws.{ResolvedFragmentsAreWritten}
-use Rattle.cedar_schema_builder_model.specs.Named.{AreNamesOf, NamesAreDeclared, ContextsAreNamed}
-use Rattle.cedar_schema_builder_model.specs.Writing.{CommonForms, EntityForms, ActionForms, commons_of, entities_of, actions_of, WritesAll}
+use Rattle.cedar_schema_assembly.specs.Told.{types_in}
+use Rattle.cedar_schema_builder.specs.ResolvedLaws.{ResolvedFragmentsAreWritten}
+use Rattle.cedar_schema_builder.specs.ResolvedNamed.{AreNamesOf, NamesAreDeclared, ContextsAreNamed}
+use Rattle.cedar_schema_builder.specs.Writing.{CommonForms, EntityForms, ActionForms, commons_of, entities_of, actions_of, WritesAll}
 use Rattle.cedar_schema_builder.specs.FormLaws.{FaultsAreWritten}
 use Rattle.cedar_schema_builder.specs.Named.{NamesFault}
 use Rattle.cedar_schema_builder.specs.OfFragments.{Fragments, AsResolved, sets_of, commons_in, actions_in, commons_named, actions_named, all_of, extensions_named, IsFaultInFragments}

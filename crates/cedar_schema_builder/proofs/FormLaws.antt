@@ -11,23 +11,23 @@ use Rattle.cedar_expr_names.specs.Views.{name_of, plain_name_of, uid_of}
 use Rattle.cedar_schema_model.specs.BagLaws.{HasTwice}
 use Rattle.cedar_schema_model.specs.Declarations.{Declarations}
 use Rattle.cedar_schema_model.specs.Descent.{Reaches}
-use Rattle.cedar_schema_kept_model.specs.Kept.{KeptType, KeptAction}
-use Rattle.cedar_schema_building_model.specs.Contexts.{is_record_type}
+use Rattle.cedar_schema_model.specs.Kept.{KeptType, KeptAction}
+use Rattle.cedar_schema_model.specs.Contexts.{is_record_type}
 use Rattle.cedar_schema_decl.specs.Forms.{TypeForm, EntityForm, ActionForm}
 use Rattle.cedar_schema_decl.specs.Shadowing.{first_shadowing}
 use Rattle.cedar_schema_fragments.specs.WrittenDeclarations.{AreWritten}
-use Rattle.cedar_schema_gathered.specs.AllResolved.{all_resolved}
-use Rattle.cedar_schema_gathered.specs.Checked.{is_action_word}
-use Rattle.cedar_schema_gathered.specs.Laws.{ReservedNamesAreFound, ActionTypesAreFound}
-use Rattle.cedar_schema_gathered.specs.WrittenNames.{names_in, entities_named}
-use Rattle.cedar_schema_nodes.proofs.Places.{twice_of}
+use Rattle.cedar_schema_builder.specs.AllResolved.{all_resolved}
+use Rattle.cedar_schema_builder.specs.Checked.{is_action_word}
+use Rattle.cedar_schema_builder.specs.GatheredLaws.{ReservedNamesAreFound, ActionTypesAreFound}
+use Rattle.cedar_schema_builder.specs.WrittenNames.{names_in, entities_named}
+use Rattle.cedar_schema_resolver.proofs.Places.{twice_of}
 use Rattle.cedar_schema_resolver.specs.Meanings.{Setting, setting}
 use Rattle.cedar_schema_resolver.specs.Refusals.{extensions_of}
 use Rattle.cedar_schema_resolver.specs.Uses.{UsesIn}
-use Rattle.cedar_schema_told_model.specs.Pieces.{AreTypesOf, AreActionsOf}
-use Rattle.cedar_schema_told_model.specs.Told.{types_in}
-use Rattle.cedar_schema_builder_model.specs.Laws.{ResolvedFragmentsAreWritten, ResolvedDeclarationsTellTheSchema, BuiltAreWellFormed, AreTold, AreFaultless}
-use Rattle.cedar_schema_builder_model.specs.Writing.{CommonForms, EntityForms, ActionForms, commons_of, entities_of, actions_of}
+use Rattle.cedar_schema_assembly.specs.Pieces.{AreTypesOf, AreActionsOf}
+use Rattle.cedar_schema_assembly.specs.Told.{types_in}
+use Rattle.cedar_schema_builder.specs.ResolvedLaws.{ResolvedFragmentsAreWritten, ResolvedDeclarationsTellTheSchema, BuiltAreWellFormed, AreTold, AreFaultless}
+use Rattle.cedar_schema_builder.specs.Writing.{CommonForms, EntityForms, ActionForms, commons_of, entities_of, actions_of}
 use Rattle.cedar_schema_builder.specs.Built.{AreBuiltOf}
 use Rattle.cedar_schema_builder.specs.OfFragments.{Fragments, AsResolved, sets_of, all_of, extensions_named, commons_named, actions_named, HasParentIn, HasOtherContextIn, AreFormed, AreBuiltOfFormed, IsFaultInFragments}
 use Rattle.cedar_schema_builder.specs.declared.err.SchemaError.{SchemaError}

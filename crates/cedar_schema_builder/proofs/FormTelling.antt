@@ -16,17 +16,17 @@ use Rattle.cedar_schema_resolver.specs.Refusals.{extensions_of, IsReservedIn}
 use Rattle.cedar_schema_resolver.specs.Solved.{IsSolved, TellsUnsolved}
 use Rattle.cedar_schema_resolver.specs.declared.err.ResolveError.{ResolveError}
 use Rattle.cedar_schema_resolver.specs.declared.err.ResolveError.TheVariants as resolve
-use Rattle.cedar_schema_told_model.specs.Told.{types_in}
+use Rattle.cedar_schema_assembly.specs.Told.{types_in}
 use Rattle.cedar_schema_assembly.specs.Refusals.{TellsTypes, TellsActions}
 use Rattle.cedar_schema_assembly.specs.Seen.{parent_kinds}
 use Rattle.cedar_schema_assembly.specs.declared.err.AssemblyError.{AssemblyError}
 use Rattle.cedar_schema_assembly.specs.declared.err.AssemblyError.TheVariants.{OutOfMemory, DuplicateEntityType, DuplicateAction, CycleInActionHierarchy, ContextNotRecord, UnknownExtensionType, ReservedName}
-use Rattle.cedar_schema_builder_model.specs.Writing.{CommonForms, EntityForms, ActionForms}
+use Rattle.cedar_schema_builder.specs.Writing.{CommonForms, EntityForms, ActionForms}
 use Rattle.cedar_schema_builder.specs.Faults.{of_types, of_assembly}
 use Rattle.cedar_schema_builder.specs.FormSteps.{IsReservedOfForms, IsFaultOfForms}
 use Rattle.cedar_schema_builder.specs.OfFragments.{extensions_named}
 use Rattle.cedar_schema_builder.proofs.Forming.{descends_of_told}
-use Rattle.cedar_schema_builder.proofs.Reserved.{meant_is_defined}
+use Rattle.cedar_schema_builder.proofs.ReservedWritten.{meant_is_defined}
 
 module _ (s : Defined) (x : List Name) (cs : CommonForms) (es : EntityForms) (as_ : ActionForms) where
   -- extension types

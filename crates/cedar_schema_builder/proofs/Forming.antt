@@ -13,7 +13,7 @@ use Rattle.cedar_expr_names.specs.declared.internal_name.InternalName.{InternalN
 use Rattle.cedar_schema_model.specs.BagLaws.{HasTwice}
 use Rattle.cedar_schema_model.specs.Descent.{Reaches, HasActionParent, ActionDescends}
 use Rattle.cedar_schema_model.proofs.Decls.Reordered.{reaches_along}
-use Rattle.cedar_schema_kept_model.specs.Kept.{KeptType, KeptAction}
+use Rattle.cedar_schema_model.specs.Kept.{KeptType, KeptAction}
 use Rattle.cedar_schema_decl.specs.Conditional.{conditional_of}
 use Rattle.cedar_schema_decl.specs.Defined.{Defined}
 use Rattle.cedar_schema_decl.specs.Forms.{TypeForm, EntityForm, ActionForm}
@@ -26,14 +26,14 @@ use Rattle.cedar_schema_fragments.specs.Refusals.{no_type, no_action, reserved_t
 use Rattle.cedar_schema_fragments.specs.declared.err.FragmentError.{FragmentError}
 use Rattle.cedar_schema_fragments.specs.declared.err.FragmentError.TheVariants as fragment
 use Rattle.cedar_schema_fragments.specs.declared.namespace_def.ValidatorSchemaFragment.{ValidatorSchemaFragment}
-use Rattle.cedar_schema_gathered.specs.AllResolved.{all_resolved}
-use Rattle.cedar_schema_gathered.specs.Gathered.{resolved_forms}
-use Rattle.cedar_schema_gathered.specs.WrittenNames.{names_in, entities_named}
-use Rattle.cedar_schema_nodes.specs.Numbers.{StandsTwice}
+use Rattle.cedar_schema_builder.specs.AllResolved.{all_resolved}
+use Rattle.cedar_schema_builder.specs.Gathered.{resolved_forms}
+use Rattle.cedar_schema_builder.specs.WrittenNames.{names_in, entities_named}
+use Rattle.cedar_schema_resolver.specs.Numbers.{StandsTwice}
 use Rattle.cedar_schema_resolver.specs.Meanings.{Setting, setting}
 use Rattle.cedar_schema_resolver.specs.Refusals.{extensions_of}
-use Rattle.cedar_schema_told_model.specs.Told.{schema_told, entity_told, action_told, types_in}
-use Rattle.cedar_schema_builder_model.specs.Writing.{CommonForms, EntityForms, ActionForms, commons_of, entities_of, actions_of}
+use Rattle.cedar_schema_assembly.specs.Told.{schema_told, entity_told, action_told, types_in}
+use Rattle.cedar_schema_builder.specs.Writing.{CommonForms, EntityForms, ActionForms, commons_of, entities_of, actions_of}
 use Rattle.cedar_schema_builder.specs.Faults.{of_shadowing, of_fragments}
 use Rattle.cedar_schema_builder.specs.FormSteps.{AreNamesFormed, IsFaultOfSets, AreFormsOf, IsFaultOfForms}
 use Rattle.cedar_schema_builder.specs.OfFragments.{Fragments, AsResolved, sets_of, commons_named, actions_named, all_of, extensions_named, HasParentIn, AreFormed, AreBuiltOfFormed, IsFaultBy}
@@ -42,7 +42,7 @@ use Rattle.cedar_schema_builder.specs.declared.err.SchemaError.{SchemaError}
 use Rattle.cedar_schema_builder.specs.declared.err.SchemaError.TheVariants.{OutOfMemory, DuplicateEntityType, DuplicateCommonType, DuplicateAction, TypeNotDefined, ActionNotDefined, CycleInCommonTypeReferences, CycleInActionHierarchy, ActionEntityTypeDeclared, ContextNotRecord, ReservedName, TypeShadowing, ActionShadowing, UnknownExtensionType}
 use Rattle.cedar_schema_builder.proofs.Building.{same_mapped}
 use Rattle.cedar_schema_builder.proofs.Coming.{none_found, flat_seen}
-use Rattle.cedar_schema_builder.proofs.Reserved.{reserved_is_written, refused_is_written}
+use Rattle.cedar_schema_builder.proofs.ReservedWritten.{reserved_is_written, refused_is_written}
 use Rattle.cedar_schema_builder.proofs.Spaces.{commons_same, entities_same, actions_same}
 
 -- parents in what is resolved are those of the schema that is told

@@ -4,7 +4,7 @@ use Rattle.std.specs.Rc.{rc_str_bytes}
 use Rattle.cedar_expr_names.specs.Views.{name_of, refused_name_of, type_name_of, uid_of}
 use Rattle.cedar_expr_names.specs.declared.entity.EntityType.{EntityType}
 use Rattle.cedar_expr_names.specs.declared.internal_name.InternalName.{InternalName}
-use Rattle.cedar_expr_raw_names.specs.declared.conditional_name.ConditionalName.{ConditionalName}
+use Rattle.cedar_expr_leaves.specs.declared.conditional_name.ConditionalName.{ConditionalName}
 use Rattle.cedar_schema_decl.specs.Conditional.{conditional_of}
 use Rattle.cedar_schema_decl.specs.Defined.{Defined}
 use Rattle.cedar_schema_decl.specs.Shadowing.{first_shadowing, TellsShadowing}
@@ -17,11 +17,11 @@ use Rattle.cedar_schema_fragments.specs.Refusals.{no_type, no_action, reserved_t
 use Rattle.cedar_schema_fragments.specs.declared.err.FragmentError.{FragmentError}
 use Rattle.cedar_schema_fragments.specs.declared.err.FragmentError.TheVariants.{OutOfMemory, TypeNotDefined, ActionNotDefined, ReservedName}
 use Rattle.cedar_schema_fragments.specs.declared.namespace_def.ValidatorSchemaFragment.{ValidatorSchemaFragment}
-use Rattle.cedar_schema_gathered.specs.AllResolved.{all_resolved}
-use Rattle.cedar_schema_gathered.specs.Gathered.{resolved_forms}
-use Rattle.cedar_schema_gathered.specs.Named.{RefusalsNameFaults}
-use Rattle.cedar_schema_builder_model.specs.Laws.{ResolvedOneByOneAreWritten}
-use Rattle.cedar_schema_builder_model.specs.Writing.{CommonForms, EntityForms, ActionForms, WritesAll, commons_of, entities_of, actions_of}
+use Rattle.cedar_schema_builder.specs.AllResolved.{all_resolved}
+use Rattle.cedar_schema_builder.specs.Gathered.{resolved_forms}
+use Rattle.cedar_schema_builder.specs.GatheredNamed.{RefusalsNameFaults}
+use Rattle.cedar_schema_builder.specs.ResolvedLaws.{ResolvedOneByOneAreWritten}
+use Rattle.cedar_schema_builder.specs.Writing.{CommonForms, EntityForms, ActionForms, WritesAll, commons_of, entities_of, actions_of}
 use Rattle.cedar_schema_builder.specs.Faults.{of_shadowing, of_fragments}
 use Rattle.cedar_schema_builder.specs.Steps.{NamesFaultIn, AreGathered}
 use Rattle.cedar_schema_builder.proofs.Naming.{memory_named}

@@ -5,7 +5,7 @@ use Rattle.cedar_expr_names.specs.Views.{name_of, plain_name_of, refused_name_of
 use Rattle.cedar_schema_model.specs.BagLaws.{HasSchemaFault}
 use Rattle.cedar_schema_model.specs.Declarations.{Declarations, common_names, entity_names, action_uids}
 use Rattle.cedar_schema_model.specs.WellFormed.{SchemaFault, duplicate_entity_type, duplicate_common_type, duplicate_action, undeclared_type, undeclared_action, cycle_of_common_types, cycle_of_actions, action_as_entity_type, context_not_record, reserved_name, shadowing, unknown_extension_type}
-use Rattle.cedar_schema_nodes.proofs.Places.{twice_of}
+use Rattle.cedar_schema_resolver.proofs.Places.{twice_of}
 use Rattle.cedar_schema_builder.specs.Faults.{fault_told}
 use Rattle.cedar_schema_builder.specs.Named.{NamesFault}
 use Rattle.cedar_schema_builder.specs.declared.err.SchemaError.{SchemaError}

@@ -8,16 +8,16 @@ use Rattle.std.specs.declared.result.Result.{Result}
 use Rattle.cedar_expr_model.specs.Name.{Text, Name, is_reserved}
 use Rattle.cedar_expr_names.specs.Views.{name_of, refused_name_of}
 use Rattle.cedar_expr_names.specs.declared.internal_name.InternalName.{InternalName}
-use Rattle.cedar_expr_raw_names.specs.declared.conditional_name.ConditionalName.{ConditionalName}
+use Rattle.cedar_expr_leaves.specs.declared.conditional_name.ConditionalName.{ConditionalName}
 use Rattle.cedar_schema_decl.specs.Conditional.{Conditional, conditional_of}
 use Rattle.cedar_schema_fragments.specs.Refusals.{Refusal, no_type, no_action, reserved_type, Refuses}
 use Rattle.cedar_schema_fragments.specs.declared.err.FragmentError.{FragmentError}
 use Rattle.cedar_schema_fragments.specs.declared.err.FragmentError.TheVariants.{OutOfMemory, TypeNotDefined, ActionNotDefined, ReservedName}
 use Rattle.cedar_schema_fragments.specs.declared.namespace_def.ValidatorSchemaFragment.{ValidatorSchemaFragment}
-use Rattle.cedar_schema_gathered.specs.Checked.{reserved_checked, is_action_word}
-use Rattle.cedar_schema_gathered.specs.Laws.{ReservedNamesAreFound, ActionTypesAreFound}
-use Rattle.cedar_schema_gathered.specs.Named.{ReservedNamesAreThere, ActionTypesAreThere}
-use Rattle.cedar_schema_gathered.specs.WrittenNames.{names_in, entities_named}
+use Rattle.cedar_schema_builder.specs.Checked.{reserved_checked, is_action_word}
+use Rattle.cedar_schema_builder.specs.GatheredLaws.{ReservedNamesAreFound, ActionTypesAreFound}
+use Rattle.cedar_schema_builder.specs.GatheredNamed.{ReservedNamesAreThere, ActionTypesAreThere}
+use Rattle.cedar_schema_builder.specs.WrittenNames.{names_in, entities_named}
 use Rattle.cedar_schema_builder.specs.Faults.{of_fragments}
 use Rattle.cedar_schema_builder.specs.FormSteps.{AreNamesFormed, IsFaultOfNames}
 use Rattle.cedar_schema_builder.specs.Steps.{NamesFaultIn, AreNamed}

@@ -20,7 +20,7 @@ use Rattle.cedar_schema_decl.specs.Laws.{type_told, fields_told}
 use Rattle.cedar_schema_resolver.specs.Meanings.{setting, meant_in, meant_in_fields}
 use Rattle.cedar_schema_resolver.specs.Solved.{IsSolved, names_of}
 use Rattle.cedar_schema_resolver.specs.Uses.{UsesIn}
-use Rattle.cedar_schema_builder_model.specs.Writing.{CommonForms}
+use Rattle.cedar_schema_builder.specs.Writing.{CommonForms}
 
 -- names that are left when one is taken away
 abbrev others : Name → List Name → List Name

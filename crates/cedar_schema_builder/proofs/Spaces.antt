@@ -12,10 +12,10 @@ use Rattle.cedar_schema_decl.specs.Requalified.{and_then, requalified, requalifi
 use Rattle.cedar_schema_fragments.specs.Namespaces.{fragment_form}
 use Rattle.cedar_schema_fragments.specs.Resolved.{of_types, action_resolved, with_uid, commons_resolved, entities_resolved, namespace_resolved}
 use Rattle.cedar_schema_fragments.specs.WrittenDeclarations.{all_forms}
-use Rattle.cedar_schema_gathered.specs.AllResolved.{all_resolved}
-use Rattle.cedar_schema_gathered.specs.WrittenNames.{entities_of as entities_in, entities_named}
+use Rattle.cedar_schema_builder.specs.AllResolved.{all_resolved}
+use Rattle.cedar_schema_builder.specs.WrittenNames.{entities_of as entities_in, entities_named}
 use Rattle.cedar_schema_resolver.specs.Solved.{names_of}
-use Rattle.cedar_schema_builder_model.specs.Writing.{CommonForms, EntityForms, ActionForms, commons_of, entities_of, actions_of, names_of_entities, uids_of_actions}
+use Rattle.cedar_schema_builder.specs.Writing.{CommonForms, EntityForms, ActionForms, commons_of, entities_of, actions_of, names_of_entities, uids_of_actions}
 use Rattle.cedar_schema_builder.specs.OfFragments.{Fragments, AsDeclared, AsResolved, commons_in, actions_in, commons_named, actions_named, all_of}
 use Rattle.cedar_schema_builder.proofs.Coming.{ok_same, bind_made, each_from, each_same, each_alike, each_flat, map_flat}
 

@@ -16,12 +16,12 @@ use Rattle.cedar_schema_resolver.specs.Meanings.{Setting, setting}
 use Rattle.cedar_schema_resolver.specs.Solved.{IsSolved, TellsUnsolved, names_of}
 use Rattle.cedar_schema_resolver.specs.declared.err.ResolveError.{ResolveError}
 use Rattle.cedar_schema_resolver.specs.declared.err.ResolveError.TheVariants as resolve
-use Rattle.cedar_schema_nodes.specs.Numbers.{StandsTwice}
+use Rattle.cedar_schema_resolver.specs.Numbers.{StandsTwice}
 use Rattle.cedar_schema_assembly.specs.Refusals.{TellsTypes, TellsActions}
 use Rattle.cedar_schema_assembly.specs.declared.err.AssemblyError.{AssemblyError}
 use Rattle.cedar_schema_assembly.specs.declared.err.AssemblyError.TheVariants.{OutOfMemory, DuplicateEntityType, DuplicateAction, CycleInActionHierarchy, ContextNotRecord, UnknownExtensionType, ReservedName}
-use Rattle.cedar_schema_builder_model.specs.Named.{NamesThere, AreNamesOf, NamesAreDeclared, ContextsAreNamed}
-use Rattle.cedar_schema_builder_model.specs.Writing.{CommonForms, EntityForms, ActionForms, WritesAll, names_of_entities, names_declared, names_in_action}
+use Rattle.cedar_schema_builder.specs.ResolvedNamed.{NamesThere, AreNamesOf, NamesAreDeclared, ContextsAreNamed}
+use Rattle.cedar_schema_builder.specs.Writing.{CommonForms, EntityForms, ActionForms, WritesAll, names_of_entities, names_declared, names_in_action}
 use Rattle.cedar_schema_builder.specs.Faults.{of_types, of_assembly}
 use Rattle.cedar_schema_builder.specs.Named.{NamesFault}
 use Rattle.cedar_schema_builder.specs.Steps.{NamesFaultOfWritten}

@@ -2,18 +2,18 @@
 -- Rule: schemas; declarations; well-formed declarations (docs/RULES.md).
 use Rattle.std.specs.Prelude.{List, map}
 use Rattle.cedar_expr_model.specs.Name.{Name}
-use Rattle.cedar_expr_raw_names.specs.declared.conditional_name.ConditionalName.{ConditionalName}
+use Rattle.cedar_expr_leaves.specs.declared.conditional_name.ConditionalName.{ConditionalName}
 use Rattle.cedar_schema_model.specs.BagLaws.{HasSchemaFault}
 use Rattle.cedar_schema_model.specs.Declarations.{Declarations}
 use Rattle.cedar_schema_model.specs.Resolved.{schema_of}
 use Rattle.cedar_schema_model.specs.WellFormed.{SchemaFault, IsWellFormed}
-use Rattle.cedar_schema_kept_model.specs.Kept.{KeptType, KeptAction}
+use Rattle.cedar_schema_model.specs.Kept.{KeptType, KeptAction}
 use Rattle.cedar_schema_entries.specs.Views.{entity_type_seen, action_seen}
 use Rattle.cedar_schema_decl.specs.Defined.{Defined}
 use Rattle.cedar_schema_fragments.specs.WrittenDeclarations.{AreWritten}
 use Rattle.cedar_schema_fragments.specs.declared.namespace_def.ValidatorSchemaFragment.{ValidatorSchemaFragment}
-use Rattle.cedar_schema_told_model.specs.Pieces.{AreTypesOf, AreActionsOf}
-use Rattle.cedar_schema_builder_model.specs.Writing.{CommonForms, EntityForms, ActionForms}
+use Rattle.cedar_schema_assembly.specs.Pieces.{AreTypesOf, AreActionsOf}
+use Rattle.cedar_schema_builder.specs.Writing.{CommonForms, EntityForms, ActionForms}
 use Rattle.cedar_schema_builder.specs.Named.{NamesFault}
 use Rattle.cedar_schema_builder.specs.Steps.{NamesFaultIn, AreNamed, AreGathered, AreAssembled, NamesFaultOfWritten}
 use Rattle.cedar_schema_builder.specs.declared.build.SchemaParts.{SchemaParts}

@@ -6,9 +6,9 @@ use Rattle.cedar_expr_model.specs.Name.{Name}
 use Rattle.cedar_expr_functions.specs.Signatures.{given_type}
 use Rattle.cedar_expr_functions.specs.Tables.{functions_of}
 use Rattle.cedar_expr_functions.specs.declared.extensions.Extensions.{Extensions}
-use Rattle.cedar_expr_raw_names.specs.declared.conditional_name.ConditionalName.{ConditionalName}
+use Rattle.cedar_expr_leaves.specs.declared.conditional_name.ConditionalName.{ConditionalName}
 use Rattle.cedar_schema_model.specs.WellFormed.{SchemaFault}
-use Rattle.cedar_schema_kept_model.specs.Kept.{KeptType, KeptAction}
+use Rattle.cedar_schema_model.specs.Kept.{KeptType, KeptAction}
 use Rattle.cedar_schema_fragments.specs.declared.namespace_def.ValidatorSchemaFragment.{ValidatorSchemaFragment}
 use Rattle.cedar_schema_assembly.specs.Lists.{IsSetOf}
 use Rattle.cedar_schema_builder.specs.Built.{AreBuiltOf, IsFaultOf, NamesFaultOf}

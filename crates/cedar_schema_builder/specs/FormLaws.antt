@@ -2,7 +2,7 @@
 -- Rule: well-formed declarations; schemas (docs/RULES.md).
 use Rattle.std.specs.Prelude.{◌≡◌, List}
 use Rattle.cedar_expr_model.specs.Name.{Name}
-use Rattle.cedar_schema_kept_model.specs.Kept.{KeptType, KeptAction}
+use Rattle.cedar_schema_model.specs.Kept.{KeptType, KeptAction}
 use Rattle.cedar_schema_fragments.specs.Marked.{HasAll}
 use Rattle.cedar_schema_builder.specs.Built.{AreBuiltOf, NamesFaultOf}
 use Rattle.cedar_schema_builder.specs.OfFragments.{Fragments, sets_of, AreFormed, AreBuiltOfFormed, IsFaultInFragments}

@@ -8,14 +8,14 @@ use Rattle.cedar_schema_model.specs.Descent.{Reaches}
 use Rattle.cedar_schema_model.specs.Reference.{meant_entity}
 use Rattle.cedar_schema_decl.specs.Defined.{Defined, is_defined}
 use Rattle.cedar_schema_decl.specs.Shadowing.{first_shadowing}
-use Rattle.cedar_schema_gathered.specs.AllResolved.{all_resolved}
-use Rattle.cedar_schema_gathered.specs.Checked.{is_action_word}
-use Rattle.cedar_schema_gathered.specs.WrittenNames.{names_in, entities_named}
-use Rattle.cedar_schema_nodes.specs.Numbers.{StandsTwice}
+use Rattle.cedar_schema_builder.specs.AllResolved.{all_resolved}
+use Rattle.cedar_schema_builder.specs.Checked.{is_action_word}
+use Rattle.cedar_schema_builder.specs.WrittenNames.{names_in, entities_named}
+use Rattle.cedar_schema_resolver.specs.Numbers.{StandsTwice}
 use Rattle.cedar_schema_resolver.specs.Solved.{names_of}
 use Rattle.cedar_schema_resolver.specs.Uses.{UsesIn}
 use Rattle.cedar_schema_assembly.specs.Seen.{parent_kinds}
-use Rattle.cedar_schema_builder_model.specs.Writing.{CommonForms, EntityForms, ActionForms, commons_of, entities_of, actions_of, names_of_entities, uids_of_actions}
+use Rattle.cedar_schema_builder.specs.Writing.{CommonForms, EntityForms, ActionForms, commons_of, entities_of, actions_of, names_of_entities, uids_of_actions}
 use Rattle.std.specs.List.{flat_map}
 use Rattle.cedar_schema_builder.specs.OfFragments.{Fragments, AsResolved, all_of, extensions_named, HasParentIn, HasOtherContextIn, IsFaultBy}
 use Rattle.cedar_schema_builder.specs.declared.err.SchemaError.{SchemaError}

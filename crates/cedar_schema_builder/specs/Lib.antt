@@ -6,3 +6,14 @@ pub mod Steps
 pub mod Built
 pub mod FormLaws
 pub mod Extensions
+pub mod Looking
+pub mod WrittenNames
+pub mod Checked
+pub mod AllResolved
+pub mod Gathered
+pub mod GatheredLaws
+pub mod GatheredNamed
+pub mod Writing
+pub mod ResolvedLaws
+pub mod Alike
+pub mod ResolvedNamed

@@ -11,8 +11,8 @@ use Rattle.cedar_schema_model.specs.Declarations.{ActionDeclaration, Declaration
 use Rattle.cedar_schema_model.specs.Descent.{Reaches}
 use Rattle.cedar_schema_model.specs.WellFormed.{becomes_record, unqualified_uid, declared_types}
 use Rattle.cedar_schema_decl.specs.Conditional.{conditional_of}
-use Rattle.cedar_schema_gathered.specs.Named.{IsUndeclared, IsUndeclaredParent, IsReservedThere, IsActionType}
-use Rattle.cedar_schema_nodes.specs.Numbers.{StandsTwice}
+use Rattle.cedar_schema_builder.specs.GatheredNamed.{IsUndeclared, IsUndeclaredParent, IsReservedThere, IsActionType}
+use Rattle.cedar_schema_resolver.specs.Numbers.{StandsTwice}
 use Rattle.cedar_schema_builder.specs.Faults.{Tells}
 use Rattle.cedar_schema_builder.specs.declared.err.SchemaError.{SchemaError}
 use Rattle.cedar_schema_builder.specs.declared.err.SchemaError.TheVariants.{OutOfMemory, DuplicateEntityType, DuplicateCommonType, DuplicateAction, TypeNotDefined, ActionNotDefined, CycleInCommonTypeReferences, CycleInActionHierarchy, ActionEntityTypeDeclared, ContextNotRecord, ReservedName, TypeShadowing, ActionShadowing, UnknownExtensionType}

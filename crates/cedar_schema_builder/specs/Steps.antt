@@ -2,12 +2,12 @@
 -- Rule: schemas; declarations; well-formed declarations (docs/RULES.md).
 use Rattle.std.specs.Prelude.{◌≡◌, List, None}
 use Rattle.cedar_expr_model.specs.Name.{Name}
-use Rattle.cedar_expr_raw_names.specs.declared.conditional_name.ConditionalName.{ConditionalName}
+use Rattle.cedar_expr_leaves.specs.declared.conditional_name.ConditionalName.{ConditionalName}
 use Rattle.cedar_schema_model.specs.BagLaws.{HasSchemaFault}
 use Rattle.cedar_schema_model.specs.Declarations.{Declarations}
 use Rattle.cedar_schema_model.specs.Types.{Ty}
 use Rattle.cedar_schema_model.specs.WellFormed.{action_as_entity_type, reserved_name}
-use Rattle.cedar_schema_kept_model.specs.Kept.{KeptType, KeptAction}
+use Rattle.cedar_schema_model.specs.Kept.{KeptType, KeptAction}
 use Rattle.cedar_schema_decl.specs.Defined.{Defined}
 use Rattle.cedar_schema_decl.specs.Shadowing.{first_shadowing}
 use Rattle.cedar_schema_fragments.specs.WrittenDeclarations.{AreWritten}
@@ -15,7 +15,7 @@ use Rattle.cedar_schema_fragments.specs.declared.namespace_def.ValidatorSchemaFr
 use Rattle.cedar_schema_resolver.specs.Meanings.{setting}
 use Rattle.cedar_schema_resolver.specs.Solved.{IsSolved}
 use Rattle.cedar_schema_assembly.specs.Found.{AreTypesTold, AreActionsTold, AreTypesKnown, AreContextsKnown, AreContextsRecords, AreApart}
-use Rattle.cedar_schema_builder_model.specs.Writing.{CommonForms, EntityForms, ActionForms, WritesAll}
+use Rattle.cedar_schema_builder.specs.Writing.{CommonForms, EntityForms, ActionForms, WritesAll}
 use Rattle.cedar_schema_builder.specs.Named.{NamesFault}
 use Rattle.cedar_schema_builder.specs.declared.err.SchemaError.{SchemaError}
 

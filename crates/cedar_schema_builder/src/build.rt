@@ -3,7 +3,7 @@
 ghost use Rattle.std.specs.Prelude.{IfOk, IfErr};
 ghost use Rattle.cedar_schema_decl.specs.Defined.{defined_of};
 ghost use Rattle.cedar_schema_fragments.specs.Marked.{HasAll};
-ghost use Rattle.cedar_schema_gathered.specs.Gathered.{commons_gathered, entities_gathered, actions_gathered};
+ghost use Rattle.cedar_schema_builder.specs.Gathered.{commons_gathered, entities_gathered, actions_gathered};
 ghost use Rattle.cedar_schema_resolver.specs.Meanings.{extensions_seen};
 ghost use Rattle.cedar_schema_builder.specs.Built.{types_made, actions_made, AreBuiltOf, IsFaultOf, NamesFaultOf};
 ghost use Rattle.cedar_schema_builder.specs.Faults.{Tells};
@@ -12,21 +12,19 @@ ghost use Rattle.cedar_schema_builder.specs.OfFragments.{AreBuiltOfFormed, IsFau
 ghost use Rattle.cedar_schema_builder.specs.Steps.{AreNamed, AreGathered, AreAssembled, NamesFaultIn, NamesFaultOfWritten};
 
 use crate::err::SchemaError;
+use crate::gathered_laws::{
+    action_types_are_found, refusals_name_faults, reserved_names_are_written,
+};
 use crate::laws::{named_are_faults, refused_steps_name_faults, steps_build_the_schema};
+use crate::resolved_laws::{names_are_declared, resolved_fragments_are_written};
+use crate::{GatheredDefs, action_entity_type, check_reserved, gather, resolve_all};
+use cedar_expr_leaves::ConditionalName;
 use cedar_expr_names::Name;
-use cedar_expr_raw_names::ConditionalName;
 use cedar_schema_assembly::{actions, entity_types};
-use cedar_schema_builder_model::laws::{names_are_declared, resolved_fragments_are_written};
 use cedar_schema_decl::AllDefs;
 use cedar_schema_entries::{ValidatorActionId, ValidatorEntityType};
 use cedar_schema_fragments::laws::written_are_declared;
 use cedar_schema_fragments::{ValidatorSchemaFragment, all_defs};
-use cedar_schema_gathered::laws::{
-    action_types_are_found, refusals_name_faults, reserved_names_are_written,
-};
-use cedar_schema_gathered::{
-    GatheredDefs, action_entity_type, check_reserved, gather, resolve_all,
-};
 use cedar_schema_resolver::{TypeResolver, resolve_common_types};
 use std::alloc::Global;
 use std::collections::BTreeSet;

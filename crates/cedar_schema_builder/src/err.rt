@@ -3,8 +3,8 @@
 ghost use Rattle.std.specs.Prelude.{◌≡◌};
 ghost use Rattle.cedar_schema_builder.specs.Faults.{schema_error_number};
 
+use cedar_expr_leaves::ConditionalName;
 use cedar_expr_names::{EntityUID, InternalName, Name, ReservedNameError};
-use cedar_expr_raw_names::ConditionalName;
 use std::rc::RcStr;
 use thiserror::Error;
 

@@ -5,14 +5,14 @@ ghost use Rattle.cedar_schema_builder.specs.Extensions.{ExtensionTypesAreASet};
 ghost use Rattle.cedar_schema_builder.specs.FormLaws.{FormedAreBuilt, FaultsAreWritten, FormedAreFaultless};
 ghost use Rattle.cedar_schema_builder.specs.Named.{NamedAreFaults};
 
-use cedar_schema_builder_model::laws::{
+use crate::gathered_laws::{
+    action_types_are_found, refusals_name_faults, reserved_names_are_written,
+};
+use crate::resolved_laws::{
     built_are_well_formed, names_are_declared, resolved_declarations_tell_the_schema,
     resolved_fragments_are_written,
 };
 use cedar_schema_fragments::laws::written_are_declared;
-use cedar_schema_gathered::laws::{
-    action_types_are_found, refusals_name_faults, reserved_names_are_written,
-};
 
 /// Where names are as they have to be, and what is gathered could be assembled, the declarations are well-formed, and the entity
 /// types and actions that are made are those of their schema.

@@ -24,8 +24,8 @@ use Rattle.cedar_schema_fragments.proofs.Wholes.{whole, wholes_are}
 use Rattle.cedar_schema_fragments.specs.Qualified.{common_qualified, entity_qualified, action_qualified}
 use Rattle.cedar_schema_fragments.specs.Written.{WrittenNamespace}
 use Rattle.cedar_schema_fragments.specs.WrittenDeclarations.{common_declaration, entity_declaration, action_declaration, declared_in, declarations_of, all_forms, AreWritten}
-use Rattle.cedar_schema_located.specs.OfFragments.{common_in, commons_of_space, commons_of_fragment, commons_of_fragments, declares_any, space_at, space_in, spaces_of_fragment, spaces_of_fragments}
-use Rattle.cedar_schema_located.specs.Views.{ListedCommon, ListedSpace}
+use Rattle.cedar_schema_built.specs.OfFragments.{common_in, commons_of_space, commons_of_fragment, commons_of_fragments, declares_any, space_at, space_in, spaces_of_fragment, spaces_of_fragments}
+use Rattle.cedar_schema_built.specs.LocatedViews.{ListedCommon, ListedSpace}
 use Rattle.cedar_schema_built.proofs.Forms.{Fragment, Form, all_put_names, commons_named, any_in, space_found, spaces_named}
 use Rattle.cedar_schema_built.proofs.PutRises.{all_put_rises}
 use Rattle.cedar_schema_built.proofs.Rising.{name_total, same_rising}

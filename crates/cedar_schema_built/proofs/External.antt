@@ -3,14 +3,14 @@ use Rattle.std.proofs.Common.{◌≡◌, ◌↔◌, List, [], ◌∷◌, refl, s
 use Rattle.std.specs.Prelude.{Contains}
 use Rattle.cedar_expr_model.specs.Name.{Name}
 use Rattle.cedar_expr_model.proofs.Lists.{contains_head, contains_none}
-use Rattle.cedar_expr_raw_names.specs.declared.conditional_name.ConditionalName.{ConditionalName}
+use Rattle.cedar_expr_leaves.specs.declared.conditional_name.ConditionalName.{ConditionalName}
 use Rattle.cedar_schema_model.specs.BagLaws.{HasSchemaFault}
 use Rattle.cedar_schema_model.specs.Declarations.{Declarations}
 use Rattle.cedar_schema_model.specs.Resolved.{schema_of}
 use Rattle.cedar_schema_model.specs.WellFormed.{unresolved_external}
-use Rattle.cedar_schema_kept_model.specs.Kept.{Kept, Elsewhere, elsewhere, IsFirst}
-use Rattle.cedar_schema_kept_model.specs.KeptOf.{IsKeptOf}
-use Rattle.cedar_schema_kept_model.specs.Laws.{HasElsewhere, ElsewhereIsKept, ExternalIsFault}
+use Rattle.cedar_schema_model.specs.Kept.{Kept, Elsewhere, elsewhere, IsFirst}
+use Rattle.cedar_schema_model.specs.KeptOf.{IsKeptOf}
+use Rattle.cedar_schema_model.specs.KeptLaws.{HasElsewhere, ElsewhereIsKept, ExternalIsFault}
 use Rattle.cedar_schema_fragments.specs.WrittenDeclarations.{AreWritten}
 use Rattle.cedar_schema_fragments.specs.declared.namespace_def.ValidatorSchemaFragment.{ValidatorSchemaFragment}
 use Rattle.cedar_schema_built.specs.BuiltOf.{IsBuiltOf}

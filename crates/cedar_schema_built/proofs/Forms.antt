@@ -14,7 +14,7 @@ use Rattle.cedar_expr_model.specs.Lists.{is_nil}
 use Rattle.cedar_expr_names.specs.Views.{name_of}
 use Rattle.cedar_expr_names.specs.declared.internal_name.InternalName.{InternalName}
 use Rattle.cedar_expr_names.specs.declared.loc.Loc.{Loc}
-use Rattle.cedar_expr_raw_names.specs.declared.conditional_name.ConditionalName.{ConditionalName}
+use Rattle.cedar_expr_leaves.specs.declared.conditional_name.ConditionalName.{ConditionalName}
 use Rattle.cedar_schema_model.specs.Declarations.{common_name, common_names}
 use Rattle.cedar_schema_decl.specs.Conditional.{Conditional, conditional_of}
 use Rattle.cedar_schema_decl.specs.Definitions.{common_form, entity_form}
@@ -27,7 +27,7 @@ use Rattle.cedar_schema_fragments.specs.Written.{WrittenNamespace}
 use Rattle.cedar_schema_fragments.specs.WrittenDeclarations.{common_declaration, declared_in, declarations_of, all_forms}
 use Rattle.cedar_schema_fragments.specs.declared.namespace_def.ValidatorNamespaceDef.{ValidatorNamespaceDef}
 use Rattle.cedar_schema_fragments.specs.declared.namespace_def.ValidatorSchemaFragment.{ValidatorSchemaFragment}
-use Rattle.cedar_schema_located.specs.OfFragments.{common_in, commons_of_space, commons_of_fragments, declares_any, space_at, space_in, spaces_of_fragments}
+use Rattle.cedar_schema_built.specs.OfFragments.{common_in, commons_of_space, commons_of_fragments, declares_any, space_at, space_in, spaces_of_fragments}
 use Rattle.cedar_schema_built.specs.Put.{put, all_put}
 
 -- the names of what is put in order are put in order

@@ -15,7 +15,7 @@ use Rattle.cedar_expr_model.specs.Lists.{rises}
 use Rattle.cedar_expr_model.proofs.Lists.{all_each, both_hold, map_from, flat_from}
 use Rattle.cedar_expr_names.specs.Views.{type_name_of}
 use Rattle.cedar_schema_types.proofs.Unions.{types_by}
-use Rattle.cedar_schema_kept_model.specs.Kept.{KeptType, KeptAction, Kept, RequestKind, kinds_with, kinds_of, kept_environments}
+use Rattle.cedar_schema_model.specs.Kept.{KeptType, KeptAction, Kept, RequestKind, kinds_with, kinds_of, kept_environments}
 use Rattle.cedar_schema_entries.specs.InOrder.{type_in_order, action_in_order}
 use Rattle.cedar_schema_entries.specs.Views.{entity_type_seen}
 use Rattle.cedar_schema_entries.proofs.Among.{uids_by}

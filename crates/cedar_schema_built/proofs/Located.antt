@@ -12,9 +12,9 @@ use Rattle.cedar_expr_model.proofs.Equality.{name_eq-Decides}
 use Rattle.cedar_expr_names.specs.Views.{name_of}
 use Rattle.cedar_expr_names.specs.declared.internal_name.InternalName.{InternalName}
 use Rattle.cedar_expr_names.proofs.Equality.{names_eq_is, names_cmp_is}
-use Rattle.cedar_schema_located.specs.Views.{ListedCommon, ListedSpace, common_listed, space_listed}
-use Rattle.cedar_schema_located.specs.declared.common_type.LocatedCommonType.{LocatedCommonType}
-use Rattle.cedar_schema_located.specs.declared.namespace.LocatedNamespace.{LocatedNamespace}
+use Rattle.cedar_schema_built.specs.LocatedViews.{ListedCommon, ListedSpace, common_listed, space_listed}
+use Rattle.cedar_schema_built.specs.declared.common_type.LocatedCommonType.{LocatedCommonType}
+use Rattle.cedar_schema_built.specs.declared.namespace.LocatedNamespace.{LocatedNamespace}
 use Rattle.cedar_schema_built.specs.Listed.{commons_in, spaces_in}
 use Rattle.cedar_schema_built.specs.Put.{put, all_put}
 use Rattle.cedar_schema_built.proofs.Putting.{all_put_more, map_more, put_in, named_put}

@@ -9,7 +9,7 @@ use Rattle.cedar_expr_model.proofs.Equality.{uid_eq-Decides}
 use Rattle.cedar_expr_model.proofs.Lists.{contains_head, contains_tail, filter_only, map_from, map_has}
 use Rattle.cedar_schema_model.specs.BagLaws.{HasTwice}
 use Rattle.cedar_store_entities.specs.Recorded.{Kin, uids_of_kin, all_recorded, with_indirect, with_parents, with_indirects}
-use Rattle.cedar_schema_kept_model.specs.Kept.{KeptAction, Kept, kept_action_ancestors, kept_as_entity}
+use Rattle.cedar_schema_model.specs.Kept.{KeptAction, Kept, kept_action_ancestors, kept_as_entity}
 use Rattle.cedar_schema_built.specs.Entities.{recorded_entity, are_indirect}
 
 -- of names that stand once, those of some stand once

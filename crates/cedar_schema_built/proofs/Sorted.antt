@@ -15,12 +15,12 @@ use Rattle.cedar_expr_model.proofs.Lists.{contains_cases, contains_none, contain
 use Rattle.cedar_expr_names.proofs.Equality.{name_eq_is, well_formed}
 use Rattle.cedar_schema_model.specs.BagLaws.{HasTwice}
 use Rattle.cedar_schema_model.specs.Schema.{EntityType, Action, Schema}
-use Rattle.cedar_schema_kept_model.specs.Kept.{KeptType, KeptAction}
-use Rattle.cedar_schema_kept_model.specs.KeptOf.{IsSameType, IsSameAction, IsKeptOf}
+use Rattle.cedar_schema_model.specs.Kept.{KeptType, KeptAction}
+use Rattle.cedar_schema_model.specs.KeptOf.{IsSameType, IsSameAction, IsKeptOf}
 use Rattle.cedar_schema_entries.specs.Views.{entity_type_seen, action_seen}
 use Rattle.cedar_schema_entries.specs.declared.entity_type.ValidatorEntityType.{ValidatorEntityType}
 use Rattle.cedar_schema_entries.specs.declared.action.ValidatorActionId.{ValidatorActionId}
-use Rattle.cedar_schema_told_model.specs.Pieces.{AreTypesOf, AreActionsOf, PiecesAreKept}
+use Rattle.cedar_schema_assembly.specs.Pieces.{AreTypesOf, AreActionsOf, PiecesAreKept}
 use Rattle.cedar_schema_built.specs.Put.{put, all_put}
 
 -- each of them is such

@@ -12,7 +12,7 @@ use Rattle.cedar_expr_model.specs.Uid.{uid_eq}
 use Rattle.cedar_expr_names.specs.Views.{eid_text, type_name_of, uid_of}
 use Rattle.cedar_expr_names.specs.declared.entity.EntityType.{EntityType}
 use Rattle.cedar_expr_names.specs.declared.entity.EntityUID.{EntityUID}
-use Rattle.cedar_schema_kept_model.specs.Kept.{KeptType, KeptAction}
+use Rattle.cedar_schema_model.specs.Kept.{KeptType, KeptAction}
 use Rattle.cedar_schema_built.specs.Above.{IsAddedBelow, AreAbove}
 
 -- the order of entity types, and of uids, in a map

@@ -6,7 +6,7 @@ use Rattle.std.specs.Ordering.{ordering_then}
 use Rattle.std.specs.declared.cmp.Ordering.{Ordering}
 use Rattle.cedar_expr_model.specs.UidOrder.{name_cmp, uid_cmp}
 use Rattle.cedar_expr_model.specs.Lists.{rises}
-use Rattle.cedar_schema_kept_model.specs.Kept.{Kept, RequestKind}
+use Rattle.cedar_schema_model.specs.Kept.{Kept, RequestKind}
 use Rattle.cedar_schema_entries.specs.InOrder.{type_in_order, action_in_order}
 
 -- The entity types stand in the order of their names, and the actions in that of their uids; so does what each of them lists.

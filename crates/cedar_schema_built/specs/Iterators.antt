@@ -9,7 +9,7 @@ use Rattle.cedar_expr_model.specs.Uid.{Uid}
 use Rattle.cedar_expr_model.specs.Lists.{is_nil}
 use Rattle.cedar_expr_names.specs.Views.{type_name_of}
 use Rattle.cedar_schema_entries.specs.Views.{entity_type_seen, action_seen}
-use Rattle.cedar_schema_kept_model.specs.Kept.{applies_to, Elsewhere, types_elsewhere, actions_elsewhere}
+use Rattle.cedar_schema_model.specs.Kept.{applies_to, Elsewhere, types_elsewhere, actions_elsewhere}
 use Rattle.cedar_schema_built.specs.declared.iterators.Ancestors.{Ancestors}
 use Rattle.cedar_schema_built.specs.declared.iterators.ActionGroups.{ActionGroups}
 use Rattle.cedar_schema_built.specs.declared.iterators.ActionsFor.{ActionsFor}

@@ -9,3 +9,5 @@ pub mod Entities
 pub mod BuiltOf
 pub mod Listed
 pub mod InOrder
+pub mod LocatedViews
+pub mod OfFragments

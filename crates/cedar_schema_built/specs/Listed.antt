@@ -5,17 +5,17 @@ use Rattle.cedar_expr_model.specs.Name.{Name}
 use Rattle.cedar_expr_model.specs.UidOrder.{name_cmp}
 use Rattle.cedar_expr_model.specs.Lists.{is_nil}
 use Rattle.cedar_expr_names.specs.declared.internal_name.InternalName.{InternalName}
-use Rattle.cedar_expr_raw_names.specs.declared.conditional_name.ConditionalName.{ConditionalName}
+use Rattle.cedar_expr_leaves.specs.declared.conditional_name.ConditionalName.{ConditionalName}
 use Rattle.cedar_schema_model.specs.BagLaws.{IsReordered}
 use Rattle.cedar_schema_model.specs.Declarations.{Declarations, common_names}
 use Rattle.cedar_schema_model.specs.Reference.{Namespace}
 use Rattle.cedar_schema_decl.specs.Laws.{namespace_parts}
 use Rattle.cedar_schema_fragments.specs.WrittenDeclarations.{AreWritten}
 use Rattle.cedar_schema_fragments.specs.declared.namespace_def.ValidatorSchemaFragment.{ValidatorSchemaFragment}
-use Rattle.cedar_schema_located.specs.OfFragments.{commons_of_fragments, spaces_of_fragments}
-use Rattle.cedar_schema_located.specs.Views.{ListedCommon, ListedSpace, common_listed, space_listed}
-use Rattle.cedar_schema_located.specs.declared.common_type.LocatedCommonType.{LocatedCommonType}
-use Rattle.cedar_schema_located.specs.declared.namespace.LocatedNamespace.{LocatedNamespace}
+use Rattle.cedar_schema_built.specs.OfFragments.{commons_of_fragments, spaces_of_fragments}
+use Rattle.cedar_schema_built.specs.LocatedViews.{ListedCommon, ListedSpace, common_listed, space_listed}
+use Rattle.cedar_schema_built.specs.declared.common_type.LocatedCommonType.{LocatedCommonType}
+use Rattle.cedar_schema_built.specs.declared.namespace.LocatedNamespace.{LocatedNamespace}
 use Rattle.cedar_schema_built.specs.Put.{all_put}
 use Rattle.cedar_schema_built.specs.declared.names.SchemaNames.{SchemaNames}
 use Rattle.cedar_schema_built.specs.declared.schema.ValidatorSchema.{ValidatorSchema}

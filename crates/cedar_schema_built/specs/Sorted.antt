@@ -3,11 +3,11 @@
 use Rattle.std.specs.Prelude.{List, [], map}
 use Rattle.cedar_expr_model.specs.UidOrder.{name_cmp, uid_cmp}
 use Rattle.cedar_schema_model.specs.Schema.{Schema}
-use Rattle.cedar_schema_kept_model.specs.KeptOf.{IsKeptOf}
+use Rattle.cedar_schema_model.specs.KeptOf.{IsKeptOf}
 use Rattle.cedar_schema_entries.specs.Views.{entity_type_seen, action_seen}
 use Rattle.cedar_schema_entries.specs.declared.entity_type.ValidatorEntityType.{ValidatorEntityType}
 use Rattle.cedar_schema_entries.specs.declared.action.ValidatorActionId.{ValidatorActionId}
-use Rattle.cedar_schema_told_model.specs.Pieces.{AreTypesOf, AreActionsOf}
+use Rattle.cedar_schema_assembly.specs.Pieces.{AreTypesOf, AreActionsOf}
 use Rattle.cedar_schema_built.specs.Put.{all_put}
 
 -- The entity types and actions of a schema are what is kept of it, whatever order they stand in.

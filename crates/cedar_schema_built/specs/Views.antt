@@ -5,8 +5,8 @@ use Rattle.std.specs.Borrow.{Bor}
 use Rattle.cedar_expr_model.specs.Name.{Name}
 use Rattle.cedar_expr_names.specs.Views.{type_name_of, uid_of}
 use Rattle.cedar_expr_names.specs.declared.entity.EntityType.{EntityType as CodeType}
-use Rattle.cedar_store_records.specs.declared.request_type.RequestType.{RequestType}
-use Rattle.cedar_schema_kept_model.specs.Kept.{Kept, RequestKind, Elsewhere, type_elsewhere, action_elsewhere}
+use Rattle.cedar_store_parts.specs.declared.request_type.RequestType.{RequestType}
+use Rattle.cedar_schema_model.specs.Kept.{Kept, RequestKind, Elsewhere, type_elsewhere, action_elsewhere}
 use Rattle.cedar_schema_built.specs.Entries.{types_in, actions_in}
 use Rattle.cedar_schema_built.specs.declared.schema.ValidatorSchema.{ValidatorSchema}
 use Rattle.cedar_schema_built.specs.declared.unresolved.UnresolvedDeclaration.{UnresolvedDeclaration}

@@ -15,7 +15,7 @@ use crate::laws::{listed_are_declared, new_keeps_the_schema};
 use crate::names::SchemaNames;
 use crate::schema::ValidatorSchema;
 use cedar_expr_functions::Extensions;
-use cedar_expr_raw_names::ConditionalName;
+use cedar_expr_leaves::ConditionalName;
 use cedar_schema_builder::laws::extension_types_are_a_set;
 use cedar_schema_builder::{SchemaError, extension_types, schema_parts};
 use cedar_schema_fragments::ValidatorSchemaFragment;

@@ -5,7 +5,7 @@ ghost use Rattle.std.specs.List.{list_all};
 ghost use Rattle.std.specs.BTreeMap.{get};
 ghost use Rattle.cedar_expr_names.specs.Views.{uid_of};
 ghost use Rattle.cedar_store_entities.specs.Views.{entity_pair, kin_seen};
-ghost use Rattle.cedar_schema_kept_model.specs.Kept.{kept_action_entities};
+ghost use Rattle.cedar_schema_model.specs.Kept.{kept_action_entities};
 ghost use Rattle.cedar_schema_entries.specs.Views.{action_seen};
 ghost use Rattle.cedar_schema_built.specs.Above.{row_of, IsTaken};
 ghost use Rattle.cedar_schema_built.specs.Ancestors.{uids_by, ActionIsAddedBelow, ActionsAreAbove};

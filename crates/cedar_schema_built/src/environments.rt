@@ -4,13 +4,13 @@ ghost use Rattle.std.specs.Prelude.{◌≡◌, ◌++◌, ◌∷◌, [], map, IfO
 ghost use Rattle.std.specs.List.{flat_map};
 ghost use Rattle.cedar_expr_names.specs.Views.{type_name_of, uid_of};
 ghost use Rattle.cedar_schema_entries.specs.Views.{action_seen};
-ghost use Rattle.cedar_schema_kept_model.specs.Kept.{kinds_with, kinds_of, kept_environments};
+ghost use Rattle.cedar_schema_model.specs.Kept.{kinds_with, kinds_of, kept_environments};
 ghost use Rattle.cedar_schema_built.specs.Views.{schema_kept, request_kind};
 
 use crate::schema::ValidatorSchema;
 use cedar_expr_names::{EntityType, EntityUID};
 use cedar_schema_entries::ValidatorActionId;
-use cedar_store_records::RequestType;
+use cedar_store_parts::RequestType;
 use std::alloc::{AllocError, Global};
 
 impl ValidatorSchema {

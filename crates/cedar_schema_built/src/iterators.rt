@@ -64,7 +64,7 @@ impl<'a> ActionsFor<'a> {
     ghost use Rattle.std.specs.List.{filter};
     ghost use Rattle.cedar_expr_names.specs.Views.{type_name_of};
     ghost use Rattle.cedar_schema_entries.specs.Views.{action_seen};
-    ghost use Rattle.cedar_schema_kept_model.specs.Kept.{applies_to};
+    ghost use Rattle.cedar_schema_model.specs.Kept.{applies_to};
     ghost use Rattle.cedar_schema_built.specs.Iterators.{actions_left};
 
     // Those of these actions that apply to principals and resources of these types.
@@ -147,7 +147,7 @@ impl<'a> Iterator for ActionsFor<'a> {
 ghost use Rattle.std.specs.Prelude.{◌≡◌};
 ghost use Rattle.cedar_expr_names.specs.Views.{type_name_of};
 ghost use Rattle.cedar_schema_entries.specs.Views.{action_seen};
-ghost use Rattle.cedar_schema_kept_model.specs.Kept.{applies_to};
+ghost use Rattle.cedar_schema_model.specs.Kept.{applies_to};
 
 // Whether the action applies to principals and resources of these types.
 fn applies(action: &ValidatorActionId, principal: &EntityType, resource: &EntityType) -> bool

@@ -4,7 +4,7 @@
 ghost use Rattle.std.specs.Prelude.{◌≡◌, true};
 ghost use Rattle.std.specs.List.{list_all};
 ghost use Rattle.cedar_expr_model.specs.Lists.{rises};
-ghost use Rattle.cedar_schema_kept_model.specs.Kept.{kept_environments};
+ghost use Rattle.cedar_schema_model.specs.Kept.{kept_environments};
 ghost use Rattle.cedar_schema_entries.specs.InOrder.{type_in_order, action_in_order};
 ghost use Rattle.cedar_schema_built.specs.BuiltOf.{FirstElsewhereIsFault, CompleteIsFaultless};
 ghost use Rattle.cedar_schema_built.specs.InOrder.{IsInOrder, kind_cmp};
@@ -13,9 +13,9 @@ ghost use Rattle.cedar_schema_built.specs.Sorted.{NewKeepsTheSchema};
 ghost use Rattle.cedar_schema_built.specs.Views.{schema_kept};
 
 use crate::schema::ValidatorSchema;
+use cedar_schema_assembly::told_laws::pieces_are_kept;
 use cedar_schema_entries::laws::{actions_are_in_order, entity_types_are_in_order};
-use cedar_schema_kept_model::laws::external_declarations_are_kept;
-use cedar_schema_told_model::laws::pieces_are_kept;
+use cedar_schema_model::kept_laws::external_declarations_are_kept;
 
 /// What `ValidatorSchema::new` makes of the entity types and actions of a schema is what a built schema keeps of it.
 pub fn new_keeps_the_schema()

@@ -3,7 +3,7 @@
 ghost use Rattle.std.specs.Prelude.{◌≡◌, ◌++◌, map, IfOk, OnOk};
 ghost use Rattle.std.specs.Vec.Iter.{into_iter_items};
 ghost use Rattle.cedar_expr_names.specs.Views.{type_name_of};
-ghost use Rattle.cedar_schema_kept_model.specs.Kept.{kept_principals, kept_resources};
+ghost use Rattle.cedar_schema_model.specs.Kept.{kept_principals, kept_resources};
 ghost use Rattle.cedar_schema_built.specs.Views.{schema_kept, names_of_types};
 
 use crate::schema::ValidatorSchema;

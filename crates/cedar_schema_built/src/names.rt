@@ -2,16 +2,14 @@
 
 ghost use Rattle.std.specs.Prelude.{◌≡◌, [], map, IfOk};
 ghost use Rattle.cedar_expr_model.specs.UidOrder.{name_cmp};
-ghost use Rattle.cedar_schema_located.specs.OfFragments.{commons_of_fragments, spaces_of_fragments};
-ghost use Rattle.cedar_schema_located.specs.Views.{common_listed, space_listed};
+ghost use Rattle.cedar_schema_built.specs.OfFragments.{commons_of_fragments, spaces_of_fragments};
+ghost use Rattle.cedar_schema_built.specs.LocatedViews.{common_listed, space_listed};
 ghost use Rattle.cedar_schema_built.specs.Listed.{commons_in, spaces_in, names_listed, AreListed};
 ghost use Rattle.cedar_schema_built.specs.Put.{all_put};
 
+use crate::{LocatedCommonType, LocatedNamespace, located_common_types, located_namespaces};
 use cedar_expr_names::InternalName;
 use cedar_schema_fragments::ValidatorSchemaFragment;
-use cedar_schema_located::{
-    LocatedCommonType, LocatedNamespace, located_common_types, located_namespaces,
-};
 use std::alloc::{AllocError, Global};
 use std::collections::BTreeMap;
 

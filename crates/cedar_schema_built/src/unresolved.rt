@@ -56,7 +56,7 @@ pub struct UnresolvedDeclarations<'a> {
 impl<'a> UnresolvedDeclarations<'a> {
     ghost use Rattle.std.specs.Prelude.{◌≡◌, ◌++◌, map};
     ghost use Rattle.cedar_schema_entries.specs.Views.{entity_type_seen, action_seen};
-    ghost use Rattle.cedar_schema_kept_model.specs.Kept.{types_elsewhere, actions_elsewhere};
+    ghost use Rattle.cedar_schema_model.specs.Kept.{types_elsewhere, actions_elsewhere};
     ghost use Rattle.cedar_schema_built.specs.Iterators.{unresolved_left};
 
     // Those of these types and actions that are declared elsewhere.
@@ -98,7 +98,7 @@ impl<'a> Iterator for UnresolvedDeclarations<'a> {
 
 ghost use Rattle.std.specs.Prelude.{◌≡◌, [], ◌∷◌, List, IfOk, IfErr};
 ghost use Rattle.cedar_expr_model.specs.Lists.{is_nil};
-ghost use Rattle.cedar_schema_kept_model.specs.Kept.{Elsewhere, elsewhere, IsFirst};
+ghost use Rattle.cedar_schema_model.specs.Kept.{Elsewhere, elsewhere, IsFirst};
 ghost use Rattle.cedar_schema_built.specs.Views.{schema_kept, unresolved_seen};
 
 impl ValidatorSchema {

@@ -3,13 +3,13 @@
 use crate::desk::Desk;
 use crate::said::{add, pass, tell};
 use crate::written::Written;
+use cedar_expr_leaves::{ConditionalName, ReferenceType};
 use cedar_expr_names::InternalName;
-use cedar_expr_raw_names::{ConditionalName, ReferenceType};
+use cedar_schema_builder::{DefsOfFragments, check_reserved};
 use cedar_schema_decl::{AllDefs, EntityTypeFragment, resolve};
 use cedar_schema_examples::{WrittenName, listed};
 use cedar_schema_fragments::ValidatorNamespaceDef;
-use cedar_schema_gathered::{DefsOfFragments, check_reserved};
-use cedar_test_helpers::kept;
+use cedar_test_exprs::kept;
 use std::alloc::{AllocError, Global};
 
 // Answers a question. Fails where the fragments of the case are refused.

@@ -2,13 +2,12 @@
 
 use crate::places::places;
 use crate::said::{add, show, tell, tell_all};
-use cedar_schema_admission::{lookup_attribute_type, may_have_attr};
-use cedar_schema_attributes::{AllAttributes, AllKnownAttrs, SchemaAttributes};
 use cedar_schema_built::ValidatorSchema;
 use cedar_schema_examples::listed;
+use cedar_schema_joins::{lookup_attribute_type, may_have_attr};
+use cedar_schema_sound::{AllAttributes, AllKnownAttrs, SchemaAttributes};
 use cedar_schema_types::{AttributeType, Attributes, EntityKind, EntityLUB, OpenTag, Type};
-use cedar_test_exprs::{entity_type, uid};
-use cedar_test_helpers::{both, kept};
+use cedar_test_exprs::{both, entity_type, kept, uid};
 use std::alloc::{AllocError, Global};
 
 // Answers a question. Fails where it is none.

@@ -20,14 +20,13 @@
 ghost use Rattle.std.specs.Prelude.{◌≡◌, Err};
 ghost use Rattle.cedar_expr_functions.specs.declared.err.CallFault.TheVariants.{OutOfMemory};
 
-use crate::desk::wrong_row;
+use crate::desk;
 use cedar_expr_functions::{
     CallFault, CallStyle, Extension, ExtensionFunction, ExtensionOutputValue, Extensions, Func,
 };
 use cedar_expr_values::{ExtValue, Type, Value};
-use cedar_test_exprs::name;
-use std::alloc::Global;
-use std::test::Fail;
+use cedar_test_exprs::{made, name};
+use std::alloc::{AllocError, Global};
 
 // The extension type `rank` is known, and no other.
 const ROWS: &str = r#"## what fragments declare, and what names mean by it
@@ -506,11 +505,10 @@ fn exhausted(_alloc: Global, _args: &[Value<ExtValue>]) -> Result<ExtensionOutpu
     Err(CallFault::OutOfMemory)
 }
 
-/// What fragments declare, the schemas that are built of them, with an extension type that a function of the table gives, what is read
-/// from a built schema, and what is wrong with one.
-#[test]
-fn rows_hold(rt: HostRuntime) -> Result<(), Fail> {
-    let alloc = rt.alloc();
+// What fragments declare, the schemas that are built of them, with an extension type that a function of the table gives, what is read
+// from a built schema, and what is wrong with one.
+/// The first row that says something else, with what it says; nothing where all hold. Fails for want of memory.
+pub fn wrong_row(alloc: Global) -> Result<String, AllocError> {
     let func: Func = Box::new(
         alloc,
         |alloc: Global, args: &[Value<ExtValue>]| exhausted(alloc, args),
@@ -523,7 +521,6 @@ fn rows_hold(rt: HostRuntime) -> Result<(), Fail> {
     let mut functions = Vec::new(alloc);
     functions.push(ExtensionFunction::nullary(alloc, called, style, func, rank))?;
     let extensions = [Extension::new(name(alloc, "ranks")?, functions, Vec::new(alloc))];
-    let table = Extensions::specific_extensions(alloc, &extensions)?;
-    assert_eq!(rt; wrong_row(alloc, ROWS, &table)?.as_str(), "");
-    Ok(())
+    let table = made(Extensions::specific_extensions(alloc, &extensions))?;
+    desk::wrong_row(alloc, ROWS, &table)
 }

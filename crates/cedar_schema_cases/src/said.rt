@@ -4,7 +4,7 @@
 use cedar_schema_entries::{ValidatorActionId, ValidatorEntityType};
 use cedar_schema_examples::{action_text, entity_type_text, listed};
 use cedar_store_entities::Entity;
-use cedar_store_records::RequestType;
+use cedar_store_parts::RequestType;
 use std::alloc::{AllocError, Global};
 use std::fmt::Display;
 

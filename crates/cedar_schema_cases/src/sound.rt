@@ -8,8 +8,7 @@ use cedar_schema_built::ValidatorSchema;
 use cedar_schema_entries::{AppliesTo, ValidatorActionId, ValidatorEntityType};
 use cedar_schema_sound::TryValidate;
 use cedar_schema_types::Type;
-use cedar_test_exprs::{entity_type, uid};
-use cedar_test_helpers::both;
+use cedar_test_exprs::{both, entity_type, uid};
 use std::alloc::{AllocError, Global};
 use std::collections::BTreeSet;
 

@@ -4,13 +4,10 @@ use crate::desk::Desk;
 use crate::said::{made, show, tell_all};
 use cedar_expr_functions::Extensions;
 use cedar_schema_assembly::{actions, entity_types};
-use cedar_schema_builder::extension_types;
-use cedar_schema_closure::CycleError;
+use cedar_schema_builder::{DefsOfFragments, GatheredDefs, extension_types, gather, resolve_all};
 use cedar_schema_decl::AllDefs;
 use cedar_schema_fragments::FragmentError;
-use cedar_schema_gathered::{DefsOfFragments, GatheredDefs, gather, resolve_all};
-use cedar_schema_nodes::RepeatedError;
-use cedar_schema_resolver::{TypeResolver, resolve_common_types};
+use cedar_schema_resolver::{CycleError, RepeatedError, TypeResolver, resolve_common_types};
 use std::alloc::{AllocError, Global};
 
 // The names that fragments declare, and all declarations with each name resolved.

@@ -1,10 +1,10 @@
 //! Fragments from their lines.
 
-use cedar_expr_raw_names::ConditionalName;
+use cedar_expr_leaves::ConditionalName;
 use cedar_schema_decl::json_schema::CommonType;
 use cedar_schema_examples::{fragment, id, ty};
 use cedar_schema_fragments::{FragmentError, ValidatorNamespaceDef, ValidatorSchemaFragment};
-use cedar_test_helpers::both;
+use cedar_test_exprs::both;
 use std::alloc::{AllocError, Global};
 use std::collections::BTreeMap;
 

@@ -7,10 +7,10 @@ use Rattle.std.specs.declared.result.Result.TheVariants.{Ok}
 use Rattle.cedar_expr_model.specs.Name.{Name}
 use Rattle.cedar_expr_model.specs.Names.{possibilities}
 use Rattle.cedar_schema_model.specs.Reference.{ReferenceKind, to_entity, to_common, to_either, Meant, meant_at}
-use Rattle.cedar_expr_raw_names.specs.Views.{possible_names, written_name, referred}
-use Rattle.cedar_expr_raw_names.specs.declared.conditional_name.ConditionalName.{ConditionalName}
-use Rattle.cedar_expr_raw_names.specs.declared.conditional_name.ReferenceType.{ReferenceType}
-use Rattle.cedar_expr_raw_names.specs.declared.conditional_name.ReferenceType.TheVariants.{Common, Entity, CommonOrEntity}
+use Rattle.cedar_expr_leaves.specs.Views.{possible_names, written_name, referred}
+use Rattle.cedar_expr_leaves.specs.declared.conditional_name.ConditionalName.{ConditionalName}
+use Rattle.cedar_expr_leaves.specs.declared.conditional_name.ReferenceType.{ReferenceType}
+use Rattle.cedar_expr_leaves.specs.declared.conditional_name.ReferenceType.TheVariants.{Common, Entity, CommonOrEntity}
 
 -- A name as it is written, the names that it may stand for, in order, and what is due where it stands.
 pub record Conditional : Type 0 where

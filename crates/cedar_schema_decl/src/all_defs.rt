@@ -12,8 +12,8 @@ ghost use Rattle.cedar_schema_decl.specs.Shadowing.{is_type, type_shadows, actio
 ghost use Rattle.cedar_schema_decl.specs.Defined.{defined_of, nothing_defined, is_defined_action, tells, resolved, with_common, with_entity, with_action};
 
 use crate::err::{ShadowingError, TypeNotDefinedError};
+use cedar_expr_leaves::{ConditionalName, ReferenceType};
 use cedar_expr_names::{EntityType, EntityUID, InternalName, Name};
-use cedar_expr_raw_names::{ConditionalName, ReferenceType};
 use std::alloc::{AllocError, Global};
 use std::collections::BTreeSet;
 

@@ -14,9 +14,8 @@ use crate::all_defs::AllDefs;
 use crate::err::TypeNotDefinedError;
 use crate::json_schema::{CommonType, RecordType, Type};
 use crate::requalify::{Requalify, requalify_names, requalify_record, requalify_type};
-use cedar_expr_leaves::NonEmpty;
+use cedar_expr_leaves::{ConditionalName, NonEmpty, ReferenceType};
 use cedar_expr_names::InternalName;
-use cedar_expr_raw_names::{ConditionalName, ReferenceType};
 use std::alloc::{AllocError, Global};
 use std::rc::RcStr;
 

@@ -2,8 +2,8 @@
 
 ghost use Rattle.std.specs.Prelude.{◌≡◌};
 
+use cedar_expr_leaves::ConditionalName;
 use cedar_expr_names::{EntityUID, InternalName};
-use cedar_expr_raw_names::ConditionalName;
 use std::alloc::{AllocError, AllocFailed};
 use thiserror::Error;
 

@@ -5,7 +5,7 @@ ghost use Rattle.std.specs.declared.result.Result.TheVariants.{Ok};
 ghost use Rattle.cedar_expr_model.specs.Name.{Name};
 ghost use Rattle.cedar_expr_names.specs.Views.{name_of};
 ghost use Rattle.cedar_expr_names.specs.Namespaces.{space_of};
-ghost use Rattle.cedar_expr_raw_names.specs.Views.{raw_name_of};
+ghost use Rattle.cedar_expr_leaves.specs.Views.{raw_name_of};
 ghost use Rattle.cedar_schema_decl.specs.Conditional.{Conditional, conditional_of, qualifying};
 ghost use Rattle.cedar_schema_decl.specs.Defined.{defined_of, resolving};
 ghost use Rattle.cedar_schema_decl.specs.Refusals.{Refuses};
@@ -16,8 +16,8 @@ use crate::all_defs::{AllDefs, resolve};
 use crate::err::TypeNotDefinedError;
 use crate::json_schema::Type;
 use crate::requalify::{Requalify, requalify_type};
+use cedar_expr_leaves::{ConditionalName, RawName, ReferenceType};
 use cedar_expr_names::InternalName;
-use cedar_expr_raw_names::{ConditionalName, RawName, ReferenceType};
 use std::alloc::{AllocError, Global};
 
 /// A namespace in which names are written, or the empty one.

@@ -14,7 +14,7 @@ ghost use Rattle.cedar_schema_decl.specs.Trees.{type_form, variant_form, record_
 
 use crate::err::TypeNotDefinedError;
 use crate::json_schema::{RecordType, Type, TypeOfAttribute, TypeVariant};
-use cedar_expr_raw_names::ReferenceType;
+use cedar_expr_leaves::ReferenceType;
 use cedar_expr_values::fields::field_map;
 use std::alloc::{AllocError, Global};
 use std::rc::RcStr;

@@ -5,7 +5,7 @@ use Rattle.cedar_expr_model.specs.UidOrder.{name_cmp, uid_cmp}
 use Rattle.cedar_expr_model.specs.Lists.{rises}
 use Rattle.cedar_expr_model.specs.Order.{text_cmp}
 use Rattle.cedar_schema_model.specs.Schema.{EntityKind, standard, enumerated, external}
-use Rattle.cedar_schema_kept_model.specs.Kept.{KeptType, KeptAction}
+use Rattle.cedar_schema_model.specs.Kept.{KeptType, KeptAction}
 
 -- the members of an enumeration, in the order of their texts
 abbrev pub kind_in_order : EntityKind → Bool

@@ -4,7 +4,7 @@ use Rattle.std.specs.Prelude.{Option, map}
 use Rattle.cedar_expr_names.specs.Views.{type_name_of, uid_of}
 use Rattle.cedar_expr_names.specs.declared.loc.Loc.{Loc}
 use Rattle.cedar_schema_types.specs.Types.{type_of, attributes_of}
-use Rattle.cedar_schema_kept_model.specs.Kept.{KeptType, Applied, KeptAction}
+use Rattle.cedar_schema_model.specs.Kept.{KeptType, Applied, KeptAction}
 use Rattle.cedar_schema_entries.specs.Kinds.{kind_with}
 use Rattle.cedar_schema_entries.specs.declared.entity_type.ValidatorEntityType.{ValidatorEntityType}
 use Rattle.cedar_schema_entries.specs.declared.applies_to.AppliesTo.{AppliesTo}

@@ -47,7 +47,7 @@ impl ValidatorEntityType {
     ghost use Rattle.cedar_schema_model.specs.Conforming.{of_kind, attributes_at, tags_at};
     ghost use Rattle.cedar_schema_types.specs.Kinds.{openness_of};
     ghost use Rattle.cedar_schema_types.specs.Types.{type_of, attribute_of};
-    ghost use Rattle.cedar_schema_kept_model.specs.Kept.{is_elsewhere};
+    ghost use Rattle.cedar_schema_model.specs.Kept.{is_elsewhere};
     ghost use Rattle.cedar_schema_entries.specs.Kinds.{kind_with};
     ghost use Rattle.cedar_schema_entries.specs.Views.{entity_type_seen, entity_type_place};
 

@@ -1,7 +1,7 @@
 //! Names from their texts, and places.
 
+use cedar_expr_leaves::{ConditionalName, RawName, ReferenceType};
 use cedar_expr_names::{Id, InternalName, Loc};
-use cedar_expr_raw_names::{ConditionalName, RawName, ReferenceType};
 use std::alloc::{AllocError, Global};
 
 /// Names as they stand in declarations.

@@ -1,7 +1,7 @@
 //! Written types from their texts.
 
 use crate::naming::{WrittenName, name, placed};
-use cedar_expr_raw_names::ReferenceType;
+use cedar_expr_leaves::ReferenceType;
 use cedar_schema_decl::json_schema::{RecordType, Type, TypeOfAttribute, TypeVariant};
 use std::alloc::{AllocError, Global};
 use std::collections::BTreeMap;

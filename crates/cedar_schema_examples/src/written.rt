@@ -2,9 +2,8 @@
 
 use crate::naming::{WrittenName, id, name, names, placed, raw};
 use crate::types::{record, ty};
-use cedar_expr_leaves::NonEmpty;
+use cedar_expr_leaves::{NonEmpty, RawName, ReferenceType};
 use cedar_expr_names::{Id, InternalName, Loc};
-use cedar_expr_raw_names::{RawName, ReferenceType};
 use cedar_schema_decl::json_schema::{
     ActionEntityUID, ActionType, ActionTypeKind, ApplySpec, CommonType, EntityType, EntityTypeKind,
     Fragment, NamespaceDefinition, Type,

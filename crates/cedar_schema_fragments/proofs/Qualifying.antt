@@ -10,7 +10,7 @@ use Rattle.cedar_expr_model.specs.Uid.{Uid}
 use Rattle.cedar_expr_names.specs.Namespaces.{space_of}
 use Rattle.cedar_expr_names.specs.Views.{name_of}
 use Rattle.cedar_expr_names.specs.declared.internal_name.InternalName.{InternalName}
-use Rattle.cedar_expr_raw_names.specs.declared.raw_name.RawName.{RawName}
+use Rattle.cedar_expr_leaves.specs.declared.raw_name.RawName.{RawName}
 use Rattle.cedar_schema_model.specs.Reference.{to_entity, action_word}
 use Rattle.cedar_schema_decl.specs.Conditional.{Conditional, conditional_in, qualifying}
 use Rattle.cedar_schema_decl.specs.Forms.{TypeForm, bool_form, long_form, string_form, set_form, record_form, reference_form, extension_form, FieldForms, no_field_forms, field_form, EntityForm, standard_form, enumerated_form, external_form, ActionForm}

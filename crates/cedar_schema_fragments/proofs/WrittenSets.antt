@@ -4,7 +4,7 @@ use Rattle.std.specs.List.{list_any}
 use Rattle.cedar_expr_model.specs.Name.{Text, Name, name_eq}
 use Rattle.cedar_expr_model.specs.Uid.{Uid, uid_eq}
 use Rattle.cedar_expr_names.specs.Views.{name_of, uid_of}
-use Rattle.cedar_expr_raw_names.specs.declared.conditional_name.ConditionalName.{ConditionalName}
+use Rattle.cedar_expr_leaves.specs.declared.conditional_name.ConditionalName.{ConditionalName}
 use Rattle.cedar_schema_model.specs.Reference.{meant_common, meant_entity}
 use Rattle.cedar_schema_model.specs.Declarations.{Declarations, common_name, entity_name, action_uid, is_declared, is_declared_action}
 use Rattle.cedar_schema_decl.specs.Conditional.{Conditional, conditional_of}

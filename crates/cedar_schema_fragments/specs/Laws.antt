@@ -4,7 +4,7 @@ use Rattle.std.specs.Prelude.{◌≡◌, List, [], ◌∷◌, ◌++◌, true, Co
 use Rattle.std.specs.declared.result.Result.TheVariants.{Ok, Err}
 use Rattle.cedar_expr_model.specs.Name.{Text, Name, is_reserved}
 use Rattle.cedar_expr_model.specs.Uid.{Uid}
-use Rattle.cedar_expr_raw_names.specs.declared.conditional_name.ConditionalName.{ConditionalName}
+use Rattle.cedar_expr_leaves.specs.declared.conditional_name.ConditionalName.{ConditionalName}
 use Rattle.cedar_schema_model.specs.Declarations.{Declarations, bag, is_declared_action}
 use Rattle.cedar_schema_model.specs.WellFormed.{reserved_name, IsWellFormed, written_names, shadows}
 use Rattle.cedar_schema_model.specs.BagLaws.{HasSchemaFault}

@@ -9,9 +9,9 @@ use Rattle.cedar_expr_model.specs.Name.{Text, Name}
 use Rattle.cedar_expr_names.specs.Views.{id_text, name_of}
 use Rattle.cedar_expr_names.specs.declared.id.Id.{Id}
 use Rattle.cedar_expr_names.specs.declared.internal_name.InternalName.{InternalName}
-use Rattle.cedar_expr_raw_names.specs.Views.{raw_name_of}
-use Rattle.cedar_expr_raw_names.specs.declared.raw_name.RawName.{RawName}
-use Rattle.cedar_expr_raw_names.specs.declared.conditional_name.ConditionalName.{ConditionalName}
+use Rattle.cedar_expr_leaves.specs.Views.{raw_name_of}
+use Rattle.cedar_expr_leaves.specs.declared.raw_name.RawName.{RawName}
+use Rattle.cedar_expr_leaves.specs.declared.conditional_name.ConditionalName.{ConditionalName}
 use Rattle.cedar_schema_decl.specs.Conditional.{Conditional, conditional_of}
 use Rattle.cedar_schema_decl.specs.Forms.{TypeForm, record_form, no_field_forms, EntityForm, standard_form, enumerated_form, external_form, ActionForm}
 use Rattle.cedar_schema_decl.specs.Definitions.{common_form}

@@ -5,7 +5,7 @@ use Rattle.std.specs.List.{flat_map}
 use Rattle.std.specs.declared.result.Result.TheVariants.{Ok}
 use Rattle.cedar_expr_model.specs.Name.{Text, Name}
 use Rattle.cedar_expr_model.specs.Uid.{Uid}
-use Rattle.cedar_expr_raw_names.specs.declared.conditional_name.ConditionalName.{ConditionalName}
+use Rattle.cedar_expr_leaves.specs.declared.conditional_name.ConditionalName.{ConditionalName}
 use Rattle.cedar_schema_model.specs.Declarations.{CommonDeclaration, EntityDeclaration, ActionDeclaration, KindExpr, standard_expr, enumerated_expr, external_expr, Declarations, bag}
 use Rattle.cedar_schema_decl.specs.Conditional.{Conditional, conditional_of}
 use Rattle.cedar_schema_decl.specs.Forms.{TypeForm, EntityForm, standard_form, enumerated_form, external_form, ActionForm}

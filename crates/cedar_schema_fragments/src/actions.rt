@@ -20,8 +20,8 @@ ghost use Rattle.cedar_schema_fragments.specs.Resolved.{of_types, entity_resolve
 
 use crate::err::FragmentError;
 use crate::resolving::{Resolve, resolve_each};
+use cedar_expr_leaves::ConditionalName;
 use cedar_expr_names::{Eid, EntityType, EntityUID, InternalName, Name};
-use cedar_expr_raw_names::ConditionalName;
 use cedar_schema_decl::json_schema::{ActionEntityUID, Type};
 use cedar_schema_decl::{AllDefs, resolve};
 use std::alloc::{AllocError, Global};

@@ -1,7 +1,7 @@
 //! Why what fragments declare is refused.
 
+use cedar_expr_leaves::ConditionalName;
 use cedar_expr_names::ReservedNameError;
-use cedar_expr_raw_names::ConditionalName;
 use cedar_schema_decl::TypeNotDefinedError;
 use std::alloc::{AllocError, AllocFailed};
 use std::rc::RcStr;

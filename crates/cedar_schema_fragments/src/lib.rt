@@ -1,6 +1,6 @@
 //! Fragments under full names: actions, namespaces and what their names mean.
 //! Contract: each name becomes what it means by all that is declared, or the first that means nothing is refused.
-//! Used by `cedar_schema_gathered` and `cedar_schema_builder`; the first step from written trees to a schema.
+//! Used by `cedar_schema_builder` and `cedar_schema_builder`; the first step from written trees to a schema.
 #![tactic(auto)]
 
 pub mod actions;

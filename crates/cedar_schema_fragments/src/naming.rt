@@ -8,7 +8,7 @@ ghost use Rattle.cedar_expr_model.specs.Name.{Name, Text};
 ghost use Rattle.cedar_expr_model.specs.Uid.{Uid};
 ghost use Rattle.cedar_expr_names.specs.Namespaces.{space_of};
 ghost use Rattle.cedar_expr_names.specs.Views.{id_text, name_of, name_loc, type_name_of};
-ghost use Rattle.cedar_expr_raw_names.specs.Views.{raw_name_of};
+ghost use Rattle.cedar_expr_leaves.specs.Views.{raw_name_of};
 ghost use Rattle.cedar_schema_model.specs.Reference.{action_word, to_entity};
 ghost use Rattle.cedar_schema_decl.specs.Conditional.{Conditional, conditional_of, conditional_in};
 ghost use Rattle.cedar_schema_decl.specs.Definitions.{common_form, commons_form, entity_form, entities_form};
@@ -23,8 +23,8 @@ ghost use Rattle.cedar_schema_fragments.specs.Written.{kind_form, principals_wri
 use crate::actions::{ActionFragment, ActionFragmentKind, ActionsDef, ValidatorApplySpec};
 use crate::err::FragmentError;
 use crate::resolving::{Resolve, resolve_each};
+use cedar_expr_leaves::{ConditionalName, RawName, ReferenceType};
 use cedar_expr_names::{Eid, EntityType, EntityUID, Id, InternalName, Loc, Name};
-use cedar_expr_raw_names::{ConditionalName, RawName, ReferenceType};
 use cedar_schema_decl::definitions::requalify_entity;
 use cedar_schema_decl::json_schema::{
     ActionEntityUID, ActionType, ActionTypeKind, ApplySpec, CommonType,

@@ -1,3 +1,9 @@
 mod Below
 mod Joined
 mod Reduced
+mod Shared
+mod Smaller
+mod Fitting
+mod Asking
+mod Giving
+mod SmallerFields

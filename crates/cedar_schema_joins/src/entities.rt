@@ -9,7 +9,7 @@ ghost use Rattle.cedar_schema_joins.specs.Modes.{mode_of};
 
 use crate::mode::is_permissive;
 use cedar_schema_types::{EntityKind, EntityLUB};
-use cedar_store_records::ValidationMode;
+use cedar_store_parts::ValidationMode;
 use std::alloc::{AllocError, Global};
 
 // Whether the first type is below the second.

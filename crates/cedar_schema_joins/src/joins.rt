@@ -15,7 +15,7 @@ use crate::entities::join_kinds;
 use crate::mode::is_permissive;
 use cedar_expr_names::Name;
 use cedar_schema_types::{AttributeType, Attributes, BoolType, EntityKind, OpenTag, Type};
-use cedar_store_records::ValidationMode;
+use cedar_store_parts::ValidationMode;
 use std::alloc::{AllocError, Global};
 use std::rc::{Rc, RcStr};
 

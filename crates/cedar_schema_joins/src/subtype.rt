@@ -13,7 +13,7 @@ use crate::entities::is_kind_below;
 use crate::mode::is_permissive;
 use cedar_expr_names::Name;
 use cedar_schema_types::{AttributeType, Attributes, BoolType, EntityKind, OpenTag, Type};
-use cedar_store_records::ValidationMode;
+use cedar_store_parts::ValidationMode;
 
 /// Whether the first type is below the second in this mode.
 pub fn is_subtype(ty0: &Type, ty1: &Type, mode: ValidationMode) -> bool

@@ -18,3 +18,16 @@ pub mod Resolved
 pub mod BagLaws
 pub mod TypeWorked
 pub mod DeclWorked
+pub mod Restricted
+pub mod AdmissionLaws
+pub mod AdmissionWorked
+pub mod Contexts
+pub mod Solutions
+pub mod Texts
+pub mod TextsWorked
+pub mod Kept
+pub mod KeptOf
+pub mod KeptLaws
+pub mod Sound
+pub mod Unsound
+pub mod SoundLaws

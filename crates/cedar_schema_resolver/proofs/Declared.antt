@@ -25,7 +25,7 @@ use Rattle.cedar_schema_resolver.specs.Laws.{IsWrittenAs, AreWrittenAs, WritesCo
 use Rattle.cedar_schema_resolver.specs.Meanings.{Setting, told, meant_in}
 use Rattle.cedar_schema_resolver.specs.Refusals.{IsUnknownIn, IsReservedIn, TellsUntold}
 use Rattle.cedar_schema_resolver.specs.Solved.{names_of, IsSolved, TellsUnsolved}
-use Rattle.cedar_schema_nodes.proofs.Places.{twice_of}
+use Rattle.cedar_schema_resolver.proofs.Places.{twice_of}
 use Rattle.cedar_schema_resolver.specs.Uses.{UsesIn}
 use Rattle.cedar_schema_resolver.specs.declared.err.ResolveError.{ResolveError}
 use Rattle.cedar_schema_resolver.specs.declared.err.ResolveError.TheVariants.{OutOfMemory, UnknownExtensionType, ReservedName, DuplicateCommonType, CycleInCommonTypeReferences}

@@ -10,8 +10,8 @@ use Rattle.cedar_expr_model.proofs.Lists.{contains_none, map_has}
 use Rattle.cedar_schema_model.specs.Types.{Ty}
 use Rattle.cedar_schema_decl.specs.Defined.{Defined}
 use Rattle.cedar_schema_decl.specs.Forms.{TypeForm}
-use Rattle.cedar_schema_nodes.specs.Numbers.{IsAt}
-use Rattle.cedar_schema_nodes.proofs.Places.{at_in, in_at, at_one}
+use Rattle.cedar_schema_resolver.specs.Numbers.{IsAt}
+use Rattle.cedar_schema_resolver.proofs.Places.{at_in, in_at, at_one}
 use Rattle.cedar_schema_resolver.specs.Commons.{none_kept, kept_with}
 use Rattle.cedar_schema_resolver.specs.Solved.{names_of, AreKept, AreSorted}
 use Rattle.cedar_schema_resolver.proofs.Solving.{is_done}

@@ -8,3 +8,13 @@ mod Keeping
 mod Inside
 mod Unique
 mod Declared
+pub mod Places
+mod Numbering
+pub mod Graphing
+mod Gathering
+mod Chains
+mod Finding
+mod Searching
+mod Ranking
+mod Ordering
+mod Turning

@@ -10,15 +10,15 @@ use Rattle.cedar_expr_names.specs.Views.{name_of}
 use Rattle.cedar_expr_names.specs.declared.internal_name.InternalName.{InternalName}
 use Rattle.cedar_schema_model.specs.BagLaws.{HasTwice}
 use Rattle.cedar_schema_model.specs.Descent.{Chain, Reaches}
-use Rattle.cedar_schema_closure.specs.Graphs.{Graph, HasEdge, IsOrder}
+use Rattle.cedar_schema_resolver.specs.Graphs.{Graph, HasEdge, IsOrder}
 use Rattle.cedar_schema_decl.specs.Defined.{Defined}
 use Rattle.cedar_schema_decl.specs.Definitions.{common_form}
 use Rattle.cedar_schema_decl.specs.Forms.{TypeForm}
 use Rattle.cedar_schema_decl.specs.declared.json_schema.CommonType.{CommonType}
-use Rattle.cedar_schema_nodes.specs.Descent.{nodes_in, IsGraphOf}
-use Rattle.cedar_schema_nodes.specs.Numbers.{IsAt, AreOnce, StandsTwice, StoodBefore, names_in, seen_nodes}
-use Rattle.cedar_schema_nodes.proofs.Graphing.{names_chain}
-use Rattle.cedar_schema_nodes.proofs.Places.{again_at, at_map, at_one}
+use Rattle.cedar_schema_resolver.specs.Descent.{nodes_in, IsGraphOf}
+use Rattle.cedar_schema_resolver.specs.Numbers.{IsAt, AreOnce, StandsTwice, StoodBefore, names_in, seen_nodes}
+use Rattle.cedar_schema_resolver.proofs.Graphing.{names_chain}
+use Rattle.cedar_schema_resolver.proofs.Places.{again_at, at_map, at_one}
 use Rattle.cedar_schema_resolver.specs.Solved.{names_of, AreSorted}
 use Rattle.cedar_schema_resolver.specs.Uses.{UsesIn, common_forms, commons_in, with_uses}
 use Rattle.cedar_schema_resolver.proofs.Using.{reach_uses}

@@ -14,14 +14,14 @@ use Rattle.cedar_schema_model.specs.Types.{Ty, never, set_type, record_type, is_
 use Rattle.cedar_schema_model.specs.Descent.{Reaches}
 use Rattle.cedar_schema_model.specs.Reference.{Meant, meant_common, meant_entity, meant_at}
 use Rattle.cedar_schema_model.specs.Resolved.{with_attribute, type_meant}
-use Rattle.cedar_schema_closure.specs.Graphs.{HasEdge, IsOrder}
+use Rattle.cedar_schema_resolver.specs.Graphs.{HasEdge, IsOrder}
 use Rattle.cedar_schema_decl.specs.Defined.{Defined, is_defined}
 use Rattle.cedar_schema_decl.specs.Forms.{TypeForm, bool_form, long_form, string_form, set_form, record_form, reference_form, extension_form, FieldForms, no_field_forms, field_form}
 use Rattle.cedar_schema_decl.specs.Laws.{type_told, fields_told}
-use Rattle.cedar_schema_nodes.specs.Descent.{nodes_in}
-use Rattle.cedar_schema_nodes.specs.Numbers.{IsAt}
-use Rattle.cedar_schema_nodes.proofs.Graphing.{numbers_chain}
-use Rattle.cedar_schema_nodes.proofs.Places.{at_in, in_at, at_map, at_one, one_place}
+use Rattle.cedar_schema_resolver.specs.Descent.{nodes_in}
+use Rattle.cedar_schema_resolver.specs.Numbers.{IsAt}
+use Rattle.cedar_schema_resolver.proofs.Graphing.{numbers_chain}
+use Rattle.cedar_schema_resolver.proofs.Places.{at_in, in_at, at_map, at_one, one_place}
 use Rattle.cedar_schema_resolver.specs.Commons.{no_commons, commons_with}
 use Rattle.cedar_schema_resolver.specs.Meanings.{setting, told, meant_in, meant_in_fields}
 use Rattle.cedar_schema_resolver.specs.Refusals.{AreKnown, TellsUntold}

@@ -11,7 +11,7 @@ use Rattle.cedar_schema_model.specs.Descent.{Chain, Reaches}
 use Rattle.cedar_schema_decl.specs.Defined.{Defined, is_defined}
 use Rattle.cedar_schema_decl.specs.Forms.{TypeForm}
 use Rattle.cedar_schema_decl.specs.Trees.{Rows, in_a_row}
-use Rattle.cedar_schema_nodes.specs.Descent.{HasParentIn}
+use Rattle.cedar_schema_resolver.specs.Descent.{HasParentIn}
 use Rattle.cedar_schema_resolver.specs.Meanings.{meant_in, meant_in_fields}
 use Rattle.cedar_schema_resolver.specs.Uses.{UsesIn, commons_among, commons_in, common_named, with_uses}
 

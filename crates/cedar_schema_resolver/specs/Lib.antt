@@ -5,3 +5,11 @@ pub mod Refusals
 pub mod Uses
 pub mod Solved
 pub mod Laws
+pub mod Numbers
+pub mod Descent
+pub mod Told
+pub mod HierarchyLaws
+pub mod Graphs
+pub mod Found
+pub mod Ranks
+pub mod Rows

@@ -6,11 +6,11 @@ use Rattle.cedar_expr_names.specs.Views.{name_of, plain_name_of, refused_name_of
 use Rattle.cedar_schema_model.specs.Types.{Ty, never}
 use Rattle.cedar_schema_model.specs.BagLaws.{HasTwice}
 use Rattle.cedar_schema_model.specs.Descent.{Reaches}
-use Rattle.cedar_schema_closure.specs.Graphs.{Graph, IsOrder}
+use Rattle.cedar_schema_resolver.specs.Graphs.{Graph, IsOrder}
 use Rattle.cedar_schema_decl.specs.Defined.{Defined}
 use Rattle.cedar_schema_decl.specs.Forms.{TypeForm}
-use Rattle.cedar_schema_nodes.specs.Descent.{IsGraphOf}
-use Rattle.cedar_schema_nodes.specs.Numbers.{StandsTwice}
+use Rattle.cedar_schema_resolver.specs.Descent.{IsGraphOf}
+use Rattle.cedar_schema_resolver.specs.Numbers.{StandsTwice}
 use Rattle.cedar_schema_resolver.specs.Meanings.{Setting, told}
 use Rattle.cedar_schema_resolver.specs.Refusals.{AreKnown, IsUnknownIn, IsReservedIn}
 use Rattle.cedar_schema_resolver.specs.Uses.{UsesIn, with_uses}

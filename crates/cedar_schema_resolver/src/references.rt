@@ -4,7 +4,7 @@ ghost use Rattle.std.specs.Prelude.{◌≡◌, ◌++◌, map, IfOk};
 ghost use Rattle.cedar_expr_names.specs.Views.{name_of};
 ghost use Rattle.cedar_schema_decl.specs.Defined.{defined_of};
 ghost use Rattle.cedar_schema_decl.specs.Trees.{type_form, variant_form, record_fields, attribute_form};
-ghost use Rattle.cedar_schema_nodes.specs.Numbers.{seen_nodes};
+ghost use Rattle.cedar_schema_resolver.specs.Numbers.{seen_nodes};
 ghost use Rattle.cedar_schema_resolver.specs.Meanings.{meant_in_fields};
 ghost use Rattle.cedar_schema_resolver.specs.Uses.{common_forms, commons_among, commons_in, common_named, with_uses};
 

@@ -9,8 +9,8 @@ use Rattle.cedar_expr_model.proofs.Lists.{contains_head, contains_tail, contains
 use Rattle.cedar_expr_model.specs.Name.{Name, name_eq}
 use Rattle.cedar_expr_model.specs.Uid.{Uid, uid_eq}
 use Rattle.cedar_expr_model.proofs.Equality.{name_eq-Decides, uid_eq-Decides}
-use Rattle.cedar_schema_kept_model.specs.Kept.{KeptType, KeptAction, Kept, kept_type, kept_action}
-use Rattle.cedar_schema_sound_model.specs.Unsound.{Unsound, unless, undeclared_type, undeclared_action, type_left_out, action_left_out, type_among, type_below_fault, action_among, action_below_fault}
+use Rattle.cedar_schema_model.specs.Kept.{KeptType, KeptAction, Kept, kept_type, kept_action}
+use Rattle.cedar_schema_model.specs.Unsound.{Unsound, unless, undeclared_type, undeclared_action, type_left_out, action_left_out, type_among, type_below_fault, action_among, action_below_fault}
 use Rattle.cedar_schema_sound.specs.Closed.{is_type_closed, IsTypeBelow, IsTypeClosedAfter, is_action_closed, IsActionBelow, IsActionClosedAfter}
 
 pub none_is : {X : Type 0} (o : Option X) → is_none o ≡ true → o ≡ None

@@ -6,9 +6,9 @@ use Rattle.cedar_expr_model.specs.UidOrder.{name_cmp, uid_cmp}
 use Rattle.cedar_expr_model.specs.Lists.{rises}
 use Rattle.cedar_expr_model.proofs.Lists.{all_each, both_hold}
 use Rattle.cedar_schema_model.specs.Schema.{EntityKind, standard, enumerated, external}
-use Rattle.cedar_schema_kept_model.specs.Kept.{KeptType, KeptAction, Kept}
-use Rattle.cedar_schema_kept_model.specs.KeptOf.{IsSameKind}
-use Rattle.cedar_schema_builder_model.specs.Alike.{AreSameTypes, AreSameActions, IsWithin, AreAlike}
+use Rattle.cedar_schema_model.specs.Kept.{KeptType, KeptAction, Kept}
+use Rattle.cedar_schema_model.specs.KeptOf.{IsSameKind}
+use Rattle.cedar_schema_builder.specs.Alike.{AreSameTypes, AreSameActions, IsWithin, AreAlike}
 use Rattle.cedar_schema_entries.specs.InOrder.{kind_in_order, type_in_order, action_in_order}
 use Rattle.cedar_schema_built.specs.InOrder.{IsInOrder}
 use Rattle.cedar_schema_built.proofs.Rising.{name_total, uid_total, rises_seen, same_rising}

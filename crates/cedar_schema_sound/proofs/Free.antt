@@ -8,11 +8,11 @@ use Rattle.cedar_expr_names.specs.declared.entity.EntityType.{EntityType}
 use Rattle.cedar_expr_names.specs.declared.entity.EntityUID.{EntityUID}
 use Rattle.cedar_schema_entries.specs.declared.entity_type.ValidatorEntityType.{ValidatorEntityType}
 use Rattle.cedar_schema_entries.specs.declared.action.ValidatorActionId.{ValidatorActionId}
-use Rattle.cedar_schema_kept_model.specs.Kept.{KeptType, KeptAction}
+use Rattle.cedar_schema_model.specs.Kept.{KeptType, KeptAction}
 use Rattle.cedar_schema_built.specs.Entries.{types_in, actions_in}
 use Rattle.cedar_schema_built.specs.Views.{schema_kept}
 use Rattle.cedar_schema_built.specs.declared.schema.ValidatorSchema.{ValidatorSchema}
-use Rattle.cedar_schema_sound_model.specs.Unsound.{first_fault, names_are_free, is_sound}
+use Rattle.cedar_schema_model.specs.Unsound.{first_fault, names_are_free, is_sound}
 use Rattle.cedar_schema_sound.specs.Views.{fault_seen}
 use Rattle.cedar_schema_sound.specs.declared.unsound.Unsound.{Unsound}
 

@@ -5,3 +5,8 @@ mod MoreKnown
 mod Passing
 mod Equal
 mod Closing
+mod AmongAttributes
+mod Kept
+mod Same
+mod Plain
+mod WrittenNames

@@ -4,8 +4,8 @@ use Rattle.std.specs.Prelude.{Contains}
 use Rattle.cedar_expr_model.specs.Name.{Name}
 use Rattle.cedar_schema_model.specs.Types.{Ty, never, bool_type, long_type, string_type, entity_types, any_entity, any_set, set_type, record_type, extension_type, Attributes, no_attributes, attribute}
 use Rattle.cedar_schema_model.specs.Schema.{EntityKind, standard, enumerated, external}
-use Rattle.cedar_schema_kept_model.specs.Kept.{Kept}
-use Rattle.cedar_schema_sound_model.specs.Sound.{IsKnownType, AreKnownAttributes, IsKnownTag, IsKnownKind, IsSound}
+use Rattle.cedar_schema_model.specs.Kept.{Kept}
+use Rattle.cedar_schema_model.specs.Sound.{IsKnownType, AreKnownAttributes, IsKnownTag, IsKnownKind, IsSound}
 
 module _ (x y : List Name) (more : (n : Name) → Contains x n → Contains y n) (k : Kept) where
   mutual

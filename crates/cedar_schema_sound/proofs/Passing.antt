@@ -2,10 +2,10 @@
 use Rattle.std.proofs.Common.{◌≡◌, ◌&&◌, List, Bool, true, false, Option, Some, None, refl}
 use Rattle.std.specs.Prelude.{is_none}
 use Rattle.cedar_expr_model.specs.Name.{Name}
-use Rattle.cedar_schema_kept_model.specs.Kept.{Kept}
-use Rattle.cedar_schema_sound_model.specs.Laws.{SoundDecides}
-use Rattle.cedar_schema_sound_model.specs.Sound.{IsSound}
-use Rattle.cedar_schema_sound_model.specs.Unsound.{Unsound, first_fault, names_are_free}
+use Rattle.cedar_schema_model.specs.Kept.{Kept}
+use Rattle.cedar_schema_model.specs.SoundLaws.{SoundDecides}
+use Rattle.cedar_schema_model.specs.Sound.{IsSound}
+use Rattle.cedar_schema_model.specs.Unsound.{Unsound, first_fault, names_are_free}
 use Rattle.cedar_schema_sound.specs.Refusals.{refusal, RefusesBy}
 use Rattle.cedar_schema_sound.specs.declared.err.UnsoundSchemaError.{UnsoundSchemaError}
 use Rattle.cedar_schema_sound.proofs.MoreKnown.{sound_known}

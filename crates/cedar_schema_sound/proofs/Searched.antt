@@ -8,8 +8,8 @@ use Rattle.cedar_schema_types.specs.AttributeLists.{attributes_from, declared_pa
 use Rattle.cedar_schema_types.specs.declared.types.Attributes.{Attributes}
 use Rattle.cedar_schema_types.specs.declared.types.AttributeType.{AttributeType}
 use Rattle.cedar_schema_types.proofs.Entries.{attributes_are}
-use Rattle.cedar_schema_kept_model.specs.Kept.{Kept}
-use Rattle.cedar_schema_sound_model.specs.Unsound.{Unsound, attributes_fault}
+use Rattle.cedar_schema_model.specs.Kept.{Kept}
+use Rattle.cedar_schema_model.specs.Unsound.{Unsound, attributes_fault}
 
 -- what is found in the entries that are left
 abbrev left_to_search : List Name → Kept → List (RcStr Global × AttributeType) → Option Unsound

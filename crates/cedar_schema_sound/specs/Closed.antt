@@ -4,8 +4,8 @@ use Rattle.std.specs.Prelude.{◌≡◌, ◌<◌, Bool, true, is_none, length, C
 use Rattle.cedar_expr_model.specs.Name.{Name}
 use Rattle.cedar_expr_model.specs.Uid.{Uid}
 use Rattle.cedar_expr_model.specs.Lists.{first_found}
-use Rattle.cedar_schema_kept_model.specs.Kept.{KeptType, KeptAction, Kept, kept_type, kept_action}
-use Rattle.cedar_schema_sound_model.specs.Unsound.{type_below_fault, action_below_fault}
+use Rattle.cedar_schema_model.specs.Kept.{KeptType, KeptAction, Kept, kept_type, kept_action}
+use Rattle.cedar_schema_model.specs.Unsound.{type_below_fault, action_below_fault}
 
 -- Of an entity type: nothing is wrong with any that descends from it.
 abbrev pub is_type_closed : Kept → KeptType → Bool

@@ -2,17 +2,17 @@
 -- Rule: schemas; declarations; well-formed declarations (docs/RULES.md).
 use Rattle.std.specs.Prelude.{◌≡◌, List, true, None, Contains}
 use Rattle.cedar_expr_model.specs.Name.{Name}
-use Rattle.cedar_expr_raw_names.specs.declared.conditional_name.ConditionalName.{ConditionalName}
+use Rattle.cedar_expr_leaves.specs.declared.conditional_name.ConditionalName.{ConditionalName}
 use Rattle.cedar_schema_model.specs.BagLaws.{IsReordered}
 use Rattle.cedar_schema_model.specs.Declarations.{Declarations}
 use Rattle.cedar_schema_model.specs.WellFormed.{SchemaFault, ill_forms}
-use Rattle.cedar_schema_kept_model.specs.Kept.{Kept}
+use Rattle.cedar_schema_model.specs.Kept.{Kept}
 use Rattle.cedar_schema_fragments.specs.WrittenDeclarations.{AreWritten}
 use Rattle.cedar_schema_fragments.specs.declared.namespace_def.ValidatorSchemaFragment.{ValidatorSchemaFragment}
-use Rattle.cedar_schema_builder_model.specs.Alike.{AreAlike}
+use Rattle.cedar_schema_builder.specs.Alike.{AreAlike}
 use Rattle.cedar_schema_builder.specs.Built.{IsFaultOf}
 use Rattle.cedar_schema_built.specs.BuiltOf.{IsBuiltOf}
-use Rattle.cedar_schema_sound_model.specs.Unsound.{is_sound}
+use Rattle.cedar_schema_model.specs.Unsound.{is_sound}
 use Rattle.cedar_schema_sound.specs.Refusals.{refusal, RefusesBy}
 use Rattle.cedar_schema_sound.specs.declared.err.UnsoundSchemaError.{UnsoundSchemaError}
 

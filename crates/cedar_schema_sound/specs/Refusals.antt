@@ -3,9 +3,9 @@
 use Rattle.std.specs.Prelude.{◌≡◌, List, Option, Some, None}
 use Rattle.cedar_expr_model.specs.Name.{Name}
 use Rattle.cedar_expr_names.specs.Views.{plain_name_of, type_name_of, uid_of}
-use Rattle.cedar_schema_kept_model.specs.Kept.{Kept}
+use Rattle.cedar_schema_model.specs.Kept.{Kept}
 use Rattle.cedar_schema_assembly.specs.Lists.{IsSetOf}
-use Rattle.cedar_schema_sound_model.specs.Unsound.{first_fault, Unsound, undeclared_type, unknown_extension, type_as_action, type_left_out, undeclared_action, action_of_other_type, open_context, action_below_itself, action_left_out}
+use Rattle.cedar_schema_model.specs.Unsound.{first_fault, Unsound, undeclared_type, unknown_extension, type_as_action, type_left_out, undeclared_action, action_of_other_type, open_context, action_below_itself, action_left_out}
 use Rattle.cedar_schema_sound.specs.declared.err.UnsoundSchemaError.{UnsoundSchemaError}
 use Rattle.cedar_schema_sound.specs.declared.err.UnsoundSchemaError.TheVariants.{OutOfMemory, UndeclaredType, UnknownExtensionType, TypeNamedAction, TypeLeftOut, UndeclaredAction, ActionOfOtherType, ContextNotClosedRecord, ActionBelowItself, ActionLeftOut}
 

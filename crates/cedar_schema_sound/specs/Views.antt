@@ -6,8 +6,8 @@ use Rattle.std.specs.declared.collections.BTreeSet.{BTreeSet}
 use Rattle.cedar_expr_model.specs.Name.{Name}
 use Rattle.cedar_expr_names.specs.Views.{plain_name_of, type_name_of, uid_of}
 use Rattle.cedar_expr_names.specs.declared.name.Name.{Name as CodeName}
-use Rattle.cedar_schema_sound_model.specs.Unsound as model
-use Rattle.cedar_schema_sound_model.specs.Unsound.{undeclared_type, unknown_extension, type_as_action, type_left_out, undeclared_action, action_of_other_type, open_context, action_below_itself, action_left_out}
+use Rattle.cedar_schema_model.specs.Unsound as model
+use Rattle.cedar_schema_model.specs.Unsound.{undeclared_type, unknown_extension, type_as_action, type_left_out, undeclared_action, action_of_other_type, open_context, action_below_itself, action_left_out}
 use Rattle.cedar_schema_sound.specs.declared.unsound.Unsound.{Unsound}
 use Rattle.cedar_schema_sound.specs.declared.unsound.Unsound.TheVariants.{UndeclaredType, UnknownExtensionType, TypeNamedAction, TypeLeftOut, UndeclaredAction, ActionOfOtherType, ContextNotClosedRecord, ActionBelowItself, ActionLeftOut}
 

@@ -6,7 +6,7 @@ ghost use Rattle.cedar_expr_names.specs.Views.{type_name_of, uid_of};
 ghost use Rattle.cedar_expr_model.specs.Lists.{first_found};
 ghost use Rattle.cedar_schema_entries.specs.Views.{action_seen};
 ghost use Rattle.cedar_schema_built.specs.Views.{schema_kept};
-ghost use Rattle.cedar_schema_sound_model.specs.Unsound.{type_fault, applied_fault, context_fault, descendants_fault, action_among, action_below_fault, action_fault};
+ghost use Rattle.cedar_schema_model.specs.Unsound.{type_fault, applied_fault, context_fault, descendants_fault, action_among, action_below_fault, action_fault};
 ghost use Rattle.cedar_schema_sound.specs.Closed.{is_action_closed};
 ghost use Rattle.cedar_schema_sound.specs.Views.{fault_seen, names_known};
 

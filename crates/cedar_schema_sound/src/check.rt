@@ -3,7 +3,7 @@
 ghost use Rattle.std.specs.Prelude.{◌≡◌, Some, true, option_map, is_none, IfOk, IfErr};
 ghost use Rattle.cedar_expr_model.specs.Lists.{first_found};
 ghost use Rattle.cedar_schema_built.specs.Views.{schema_kept};
-ghost use Rattle.cedar_schema_sound_model.specs.Unsound.{entity_type_fault, action_fault, first_fault, is_sound};
+ghost use Rattle.cedar_schema_model.specs.Unsound.{entity_type_fault, action_fault, first_fault, is_sound};
 ghost use Rattle.cedar_schema_sound.specs.Views.{fault_seen, names_known};
 ghost use Rattle.cedar_schema_sound.specs.Refusals.{Refuses};
 

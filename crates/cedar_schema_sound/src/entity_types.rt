@@ -6,7 +6,7 @@ ghost use Rattle.cedar_expr_names.specs.Views.{type_name_of};
 ghost use Rattle.cedar_expr_model.specs.Lists.{first_found};
 ghost use Rattle.cedar_schema_entries.specs.Views.{entity_type_seen};
 ghost use Rattle.cedar_schema_built.specs.Views.{schema_kept};
-ghost use Rattle.cedar_schema_sound_model.specs.Unsound.{kind_fault, type_among, type_below_fault, entity_type_fault};
+ghost use Rattle.cedar_schema_model.specs.Unsound.{kind_fault, type_among, type_below_fault, entity_type_fault};
 ghost use Rattle.cedar_schema_sound.specs.Closed.{is_type_closed};
 ghost use Rattle.cedar_schema_sound.specs.Views.{fault_seen, names_known};
 

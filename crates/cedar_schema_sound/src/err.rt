@@ -2,7 +2,7 @@
 
 ghost use Rattle.std.specs.Prelude.{◌≡◌, Some, IfOk};
 ghost use Rattle.cedar_expr_names.specs.Views.{type_name_of, uid_of};
-ghost use Rattle.cedar_schema_sound_model.specs.Unsound.{type_left_out, action_left_out};
+ghost use Rattle.cedar_schema_model.specs.Unsound.{type_left_out, action_left_out};
 ghost use Rattle.cedar_schema_sound.specs.Refusals.{refusal};
 ghost use Rattle.cedar_schema_sound.specs.Views.{fault_seen};
 

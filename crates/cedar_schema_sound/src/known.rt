@@ -11,7 +11,7 @@ ghost use Rattle.cedar_schema_model.specs.Reference.{action_word};
 ghost use Rattle.cedar_schema_types.specs.Unions.{members_of, entities_of};
 ghost use Rattle.cedar_schema_types.specs.Types.{type_of, attributes_of};
 ghost use Rattle.cedar_schema_built.specs.Views.{schema_kept};
-ghost use Rattle.cedar_schema_sound_model.specs.Unsound.{type_fault, extension_fault, known_fault, attributes_fault};
+ghost use Rattle.cedar_schema_model.specs.Unsound.{type_fault, extension_fault, known_fault, attributes_fault};
 ghost use Rattle.cedar_schema_sound.specs.Views.{fault_seen, names_known};
 
 use crate::unsound::Unsound;

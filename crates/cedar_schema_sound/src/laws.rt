@@ -3,11 +3,11 @@
 ghost use Rattle.cedar_schema_built.specs.Views.{schema_kept};
 ghost use Rattle.cedar_schema_sound.specs.OfFragments.{BuiltAreNotRefused, BuiltAreSound, IsBuiltInEachOrder, OrderOfFragmentsIsFree, RefusedInEachOrder};
 
-use cedar_schema_builder_model::laws::built_is_the_schema;
+use cedar_schema_builder::resolved_laws::built_is_the_schema;
 use cedar_schema_built::ValidatorSchema;
 use cedar_schema_built::laws::schemas_are_in_order;
 use cedar_schema_model::decl_laws::{bags_have_no_order, declarations_are_decided};
-use cedar_schema_sound_model::laws::{kept_are_sound, sound_is_decided};
+use cedar_schema_model::sound_laws::{kept_are_sound, sound_is_decided};
 
 /// A schema that is built of fragments is what it has to be, with the same extension types.
 pub fn built_schemas_are_sound()

@@ -1,10 +1,10 @@
 //! Built schemas checked by the extension types of a table.
 
 ghost use Rattle.std.specs.Prelude.{◌≡◌, IfOk, IfErr};
-ghost use Rattle.cedar_schema_kept_model.specs.Kept.{Kept};
+ghost use Rattle.cedar_schema_model.specs.Kept.{Kept};
 ghost use Rattle.cedar_schema_builder.specs.Extensions.{types_given};
 ghost use Rattle.cedar_schema_built.specs.Views.{schema_kept};
-ghost use Rattle.cedar_schema_sound_model.specs.Sound.{IsSound};
+ghost use Rattle.cedar_schema_model.specs.Sound.{IsSound};
 ghost use Rattle.cedar_schema_sound.specs.Refusals.{RefusesBy};
 
 use crate::check::try_validate;
@@ -12,7 +12,7 @@ use crate::err::UnsoundSchemaError;
 use cedar_expr_functions::Extensions;
 use cedar_schema_builder::extension_types;
 use cedar_schema_built::ValidatorSchema;
-use cedar_schema_sound_model::laws::sound_is_decided;
+use cedar_schema_model::sound_laws::sound_is_decided;
 use std::alloc::Global;
 
 /// Gives back what is as it has to be, by the extension types of a table.

@@ -5,3 +5,5 @@ pub mod InUnions
 mod Named
 pub mod InOrder
 mod Shown
+mod OneByOne
+pub mod CoreEntries

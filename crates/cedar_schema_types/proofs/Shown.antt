@@ -9,7 +9,7 @@ use Rattle.std.specs.declared.rc.RcStr.{RcStr}
 use Rattle.cedar_expr_model.specs.Name.{Name, name_text}
 use Rattle.cedar_expr_names.specs.Views.{type_name_of}
 use Rattle.cedar_expr_names.specs.declared.entity.EntityType.{EntityType}
-use Rattle.cedar_schema_texts_model.specs.Texts.{between, names_text, union_text, attribute_text, type_text, attributes_text}
+use Rattle.cedar_schema_model.specs.Texts.{between, names_text, union_text, attribute_text, type_text, attributes_text}
 use Rattle.cedar_schema_types.specs.Types.{type_of}
 use Rattle.cedar_schema_types.specs.Unions.{only_member}
 use Rattle.cedar_schema_types.specs.AttributeLists.{attributes_from, declared_pairs}

@@ -4,7 +4,7 @@ ghost use Rattle.std.specs.Prelude.{◌≡◌, true, Some};
 ghost use Rattle.std.specs.Rc.{rc_str_bytes};
 ghost use Rattle.std.specs.Fmt.{WritesOnOk};
 ghost use Rattle.cedar_schema_model.specs.Types.{set_type, record_type};
-ghost use Rattle.cedar_schema_texts_model.specs.Texts.{bool_text, between, names_text, union_text, openness_text, required_text, attribute_text, type_text, attributes_text};
+ghost use Rattle.cedar_schema_model.specs.Texts.{bool_text, between, names_text, union_text, openness_text, required_text, attribute_text, type_text, attributes_text};
 ghost use Rattle.cedar_schema_types.specs.Kinds.{bool_type_of, openness_of};
 ghost use Rattle.cedar_schema_types.specs.Unions.{members_of, entities_of};
 ghost use Rattle.cedar_schema_types.specs.Types.{type_of, attributes_of};

@@ -33,27 +33,27 @@ pub mod meaning {
 /// Policies, templates, and what they are made of.
 pub mod policy {
     pub use cedar_store_parts::{
-        ActionConstraint, Effect, EntityReference, PolicyID, PrincipalConstraint,
+        ActionConstraint, Effect, EntityReference, LinkingError, PolicyID, PrincipalConstraint,
         PrincipalOrResource, PrincipalOrResourceConstraint, ResourceConstraint, SlotEnv,
+        UnexpectedSlotError,
     };
     pub use cedar_store_policies::{Policy, StaticPolicy, Template};
-    pub use cedar_store_refusals::{LinkingError, UnexpectedSlotError};
 }
 
 /// Sets of policies.
 pub mod policy_set {
+    pub use cedar_store_parts::PolicySetError;
     pub use cedar_store_policies::PolicySet;
-    pub use cedar_store_refusals::PolicySetError;
 }
 
 /// Types of requests.
 pub mod request {
-    pub use cedar_store_records::RequestType;
+    pub use cedar_store_parts::RequestType;
 }
 
 /// What validation finds, and its modes.
 pub mod validation {
-    pub use cedar_store_records::{
+    pub use cedar_store_parts::{
         ValidationError, ValidationErrorKind, ValidationMode, ValidationWarning,
     };
 }

@@ -1,8 +1,8 @@
 //! What entities and stores of them are.
 
 use cedar_expr_functions::Extensions;
-use cedar_test_store::hold;
-use std::test::Fail;
+use cedar_test_store::{Made, wrong_row};
+use std::alloc::Global;
 
 const ENTITIES: &str =
     r##"# an entity has what it was made of: of an attribute that is given twice the last, and its ancestors in the order given
@@ -60,8 +60,7 @@ find Team::a : unknown("Team::\"a\"") (entity of type `Team`)
 request_type User Action::view Doc : User Action::"view" Doc
 "##;
 
-#[test]
-fn entities_and_stores_are_what_they_were_made_of(rt: HostRuntime) -> Result<(), Fail> {
-    let alloc = rt.alloc();
-    Ok(hold(alloc, &Extensions::none(alloc), ENTITIES)?)
+/// The first row that says something else, with what it says; nothing where all hold. Fails for want of memory.
+pub fn wrong_entity_row(alloc: Global) -> Made<String> {
+    wrong_row(alloc, &Extensions::none(alloc), ENTITIES)
 }

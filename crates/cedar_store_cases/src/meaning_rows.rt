@@ -12,14 +12,13 @@ use cedar_expr_functions::{
 };
 use cedar_expr_leaves::Literal;
 use cedar_expr_values::{ExtValue, Type, Value};
-use cedar_test_exprs::name;
-use cedar_test_store::hold;
+use cedar_test_exprs::{made, name};
+use cedar_test_store::{Made, wrong_row};
 use std::alloc::Global;
-use std::test::Fail;
 
 type V = Value<ExtValue>;
 
-const EXPRESSIONS: &str = r##"# operators, choices, sets, records and texts
+const ROWS: &str = r##"# operators, choices, sets, records and texts
 attr boss User::a ; attr ok true ; entity User::a
 attr boss User::a ; attr ok true ; entity User::b
 attr owner User::b ; attr fork "spoon ; attr spoon 787 ; tag spoon -121 ; tag knife 5 ; above Folder::top ; parent Folder::f ; entity Doc::d
@@ -241,9 +240,7 @@ means User::u has=ok.boss : an unknown has no value
 means User::u has=boss.nick : false
 means User::u "spoon getTag : an unknown has no value
 means User::u "spoon hasTag : true
-"##;
-
-const POLICIES: &str = r##"# policies follow what the store says
+# policies follow what the store says
 attr boss User::a ; attr ok true ; entity User::a
 attr boss User::a ; attr ok true ; entity User::b
 attr owner User::b ; attr fork "spoon ; attr spoon 787 ; tag spoon -121 ; tag knife 5 ; above Folder::top ; parent Folder::f ; entity Doc::d
@@ -392,10 +389,9 @@ fn yes(_alloc: Global, _args: &[V]) -> Result<ExtensionOutputValue, CallFault>
     Ok(ExtensionOutputValue::Known(Value::from(Literal::from(true))))
 }
 
-// The table has the function `yes`, which is always true, and orders the values of the type rank.
-#[test]
-fn expressions_and_policies_have_meanings(rt: HostRuntime) -> Result<(), Fail> {
-    let alloc = rt.alloc();
+/// The first row that says something else, with what it says; nothing where all hold. The table has the function `yes`, which is always
+/// true, and orders the values of the type rank. Fails for want of memory.
+pub fn wrong_meaning_row(alloc: Global) -> Made<String> {
     let func: Func = Box::new(alloc, |alloc: Global, args: &[V]| yes(alloc, args))?;
     let style = CallStyle::FunctionStyle;
     let called = name(alloc, "yes")?;
@@ -403,7 +399,6 @@ fn expressions_and_policies_have_meanings(rt: HostRuntime) -> Result<(), Fail> {
     let functions = vec![in alloc; yes]?;
     let kinds = vec![in alloc; name(alloc, "rank")?]?;
     let extensions = [Extension::new(name(alloc, "rank")?, functions, kinds)];
-    let table = Extensions::specific_extensions(alloc, &extensions)?;
-    hold(alloc, &table, EXPRESSIONS)?;
-    Ok(hold(alloc, &table, POLICIES)?)
+    let table = made(Extensions::specific_extensions(alloc, &extensions))?;
+    wrong_row(alloc, &table, ROWS)
 }

@@ -2,10 +2,10 @@
 //! `cedar_test_exprs` reads them.
 
 use cedar_expr_functions::Extensions;
-use cedar_test_store::hold;
-use std::test::Fail;
+use cedar_test_store::{Made, wrong_row};
+use std::alloc::Global;
 
-const SETS: &str = r##"# a link is added at the end
+const ROWS: &str = r##"# a link is added at the end
 scope principal in ?principal ; template t ; add_template : done
 forbid ; static z ; add_static : done
 bind principal User::a ; link t l : done
@@ -60,9 +60,7 @@ static b ; whole ; static a ; whole ; static c ; whole ; static a ; whole ; stat
 listed : duplicate template or policy id `a`
 # what refusals say where memory is wanting, and what the failure of a function says
 texts : out of memory out of memory out of memory out of memory out of memory extension function of `rank` failed
-"##;
-
-const POLICIES: &str = r##"# a linked policy asks its slot, and names what that is bound to
+# a linked policy asks its slot, and names what that is bound to
 scope principal in ?principal ; template t ; bind principal User::a ; linked l ; policy : l of t permit ?principal a;
 condition : principal ?principal in true &&
 asked principal : principal User::a in
@@ -130,10 +128,7 @@ condition : principal User::a == action Action::view == resource Doc::d in true@
 body true@4 ; when p ; condition : true
 "##;
 
-#[test]
-fn policies_and_sets_are_what_they_were_made_of(rt: HostRuntime) -> Result<(), Fail> {
-    let alloc = rt.alloc();
-    let table = Extensions::none(alloc);
-    hold(alloc, &table, SETS)?;
-    Ok(hold(alloc, &table, POLICIES)?)
+/// The first row that says something else, with what it says; nothing where all hold. Fails for want of memory.
+pub fn wrong_policy_row(alloc: Global) -> Made<String> {
+    wrong_row(alloc, &Extensions::none(alloc), ROWS)
 }

@@ -25,9 +25,9 @@ use Rattle.cedar_store_model.specs.Reads.{attribute_read, attribute_tested}
 use Rattle.cedar_store_model.specs.Meaning.{variable, slot_value, truth_asked, picked, combined, path_tested, outcome_of, outcomes_of, field_outcomes_of}
 use Rattle.cedar_store_parts.specs.Parts.{bindings_of}
 use Rattle.cedar_store_entities.specs.Stores.{store_seen}
-use Rattle.cedar_store_worlds_model.specs.Rising.{Rises, WorldRises}
-use Rattle.cedar_store_worlds_model.specs.Alone.{store_alone}
-use Rattle.cedar_store_worlds_model.proofs.Rising.{value_rises}
+use Rattle.cedar_store_model.specs.Rising.{Rises, WorldRises}
+use Rattle.cedar_store_model.specs.Alone.{store_alone}
+use Rattle.cedar_store_model.proofs.Rising.{value_rises}
 use Rattle.cedar_store_meaning.specs.Outcomes.{IsSeen, IsMeaning, IsOutcome, unknowns_of}
 use Rattle.cedar_store_meaning.specs.Worlds.{table_with, world_seen, unanswered}
 use Rattle.cedar_store_meaning.specs.Meanings.{MeaningIn, MeaningsIn, FieldsIn, fields_seen}

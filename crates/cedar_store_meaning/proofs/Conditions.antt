@@ -17,7 +17,7 @@ use Rattle.cedar_store_model.specs.Policy.{Policy, condition}
 use Rattle.cedar_store_model.specs.World as model
 use Rattle.cedar_store_parts.specs.Parts.{bindings_of}
 use Rattle.cedar_store_parts.specs.declared.slot_env.SlotEnv.{SlotEnv}
-use Rattle.cedar_store_worlds_model.specs.Rising.{WorldRises}
+use Rattle.cedar_store_model.specs.Rising.{WorldRises}
 use Rattle.cedar_store_meaning.specs.Outcomes.{IsMeaning, IsOutcome}
 use Rattle.cedar_store_meaning.specs.Policies.{PolicyMeaningIn}
 use Rattle.cedar_store_meaning.specs.Worlds.{world_seen}

@@ -28,7 +28,7 @@ use Rattle.cedar_expr_values.specs.declared.extension.ExtValue.{ExtValue}
 use Rattle.cedar_store_model.specs.Outcome.{Res, val, err, bind}
 use Rattle.cedar_store_model.specs.World as model
 use Rattle.cedar_store_model.specs.Meaning.{outcome_of, outcomes_of, field_outcomes_of}
-use Rattle.cedar_store_worlds_model.specs.Rising.{WorldRises}
+use Rattle.cedar_store_model.specs.Rising.{WorldRises}
 use Rattle.cedar_store_meaning.specs.Outcomes.{IsSeen}
 use Rattle.cedar_store_meaning.specs.Worlds.{world_seen}
 use Rattle.cedar_store_meaning.specs.Meanings.{MeaningIn, MeaningsIn, FieldsIn, fields_seen}

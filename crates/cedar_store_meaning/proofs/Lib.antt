@@ -9,4 +9,7 @@ pub mod Walked
 mod Smaller
 pub mod Gathered
 pub mod ByKind
+mod Shapes
 pub mod Conditions
+mod Compared
+mod Related

@@ -24,9 +24,9 @@ use Rattle.cedar_store_model.specs.Outcome.{Res, val, err, bind}
 use Rattle.cedar_store_model.specs.World as model
 use Rattle.cedar_store_model.specs.Reads.{attribute_read, attribute_tested}
 use Rattle.cedar_store_model.specs.Meaning.{variable, combined, path_tested, outcome_of, outcomes_of, field_outcomes_of}
-use Rattle.cedar_store_worlds_model.specs.Rising.{WorldRises}
-use Rattle.cedar_store_worlds_model.specs.Alone.{store_alone}
-use Rattle.cedar_store_worlds_model.proofs.Alone.{reads_as_alone}
+use Rattle.cedar_store_model.specs.Rising.{WorldRises}
+use Rattle.cedar_store_model.specs.Alone.{store_alone}
+use Rattle.cedar_store_model.proofs.Alone.{reads_as_alone}
 use Rattle.cedar_store_entities.specs.Stores.{store_seen}
 use Rattle.cedar_store_meaning.specs.Outcomes.{IsSeen, IsMeaning}
 use Rattle.cedar_store_meaning.specs.Worlds.{world_seen, unanswered}

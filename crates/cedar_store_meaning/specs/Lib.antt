@@ -5,3 +5,4 @@ pub mod PathSteps
 pub mod Worlds
 pub mod Meanings
 pub mod Policies
+pub mod Laws

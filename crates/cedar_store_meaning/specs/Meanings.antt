@@ -17,7 +17,7 @@ use Rattle.cedar_expr_functions.specs.Signatures.{bare_values}
 use Rattle.cedar_store_model.specs.Outcome.{Res}
 use Rattle.cedar_store_model.specs.World as model
 use Rattle.cedar_store_model.specs.Meaning.{outcome_of, outcomes_of, field_outcomes_of}
-use Rattle.cedar_store_worlds_model.specs.Rising.{WorldRises}
+use Rattle.cedar_store_model.specs.Rising.{WorldRises}
 use Rattle.cedar_store_meaning.specs.Outcomes.{IsSeen}
 use Rattle.cedar_store_meaning.specs.Worlds.{world_seen}
 use Rattle.cedar_store_meaning.specs.declared.fault.MeaningFault.{MeaningFault}

@@ -11,7 +11,7 @@ use Rattle.cedar_expr_values.specs.declared.value.Value.{Value}
 use Rattle.cedar_expr_values.specs.declared.extension.ExtValue.{ExtValue}
 use Rattle.cedar_store_model.specs.Answer.{policy_outcome, satisfied}
 use Rattle.cedar_store_model.specs.Policy.{Policy}
-use Rattle.cedar_store_worlds_model.specs.Rising.{WorldRises}
+use Rattle.cedar_store_model.specs.Rising.{WorldRises}
 use Rattle.cedar_store_meaning.specs.Worlds.{world_seen}
 use Rattle.cedar_store_meaning.specs.Meanings.{InEach}
 use Rattle.cedar_store_meaning.specs.declared.fault.MeaningFault.{MeaningFault}

@@ -14,7 +14,7 @@ ghost use Rattle.cedar_expr_functions.specs.Tables.{table_of, ordered_of};
 ghost use Rattle.cedar_expr_values.specs.Extensions.{extension_of};
 ghost use Rattle.cedar_expr_values.specs.Values.{bare};
 ghost use Rattle.cedar_store_model.specs.Operators.{ordered, calculated, among_members, of_sets};
-ghost use Rattle.cedar_store_worlds_model.specs.Rising.{Rises};
+ghost use Rattle.cedar_store_model.specs.Rising.{Rises};
 ghost use Rattle.cedar_store_meaning.specs.Outcomes.{IsOutcome};
 ghost use Rattle.cedar_store_meaning.specs.Ordered.{order_of};
 

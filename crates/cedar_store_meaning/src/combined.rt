@@ -4,7 +4,7 @@ ghost use Rattle.cedar_expr_leaves.specs.Operators.{binary_op_of};
 ghost use Rattle.cedar_expr_values.specs.Extensions.{extension_of};
 ghost use Rattle.cedar_expr_values.specs.Values.{bare};
 ghost use Rattle.cedar_store_model.specs.Meaning.{combined as model_combined};
-ghost use Rattle.cedar_store_worlds_model.specs.Rising.{Rises};
+ghost use Rattle.cedar_store_model.specs.Rising.{Rises};
 ghost use Rattle.cedar_store_meaning.specs.Outcomes.{IsMeaning};
 ghost use Rattle.cedar_store_meaning.specs.Worlds.{unanswered};
 

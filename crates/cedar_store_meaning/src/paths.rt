@@ -6,7 +6,7 @@ ghost use Rattle.cedar_expr_values.specs.Extensions.{extension_of};
 ghost use Rattle.cedar_expr_values.specs.Values.{bare};
 ghost use Rattle.cedar_store_entities.specs.Stores.{store_seen};
 ghost use Rattle.cedar_store_model.specs.Meaning.{path_tested};
-ghost use Rattle.cedar_store_worlds_model.specs.Alone.{store_alone};
+ghost use Rattle.cedar_store_model.specs.Alone.{store_alone};
 ghost use Rattle.cedar_store_meaning.specs.Outcomes.{IsMeaning};
 ghost use Rattle.cedar_store_meaning.specs.PathSteps.{Steps};
 

@@ -16,7 +16,7 @@ ghost use Rattle.cedar_store_model.specs.Meaning.{combined};
 ghost use Rattle.cedar_store_model.specs.Outcome.{val, err, missing_entity, missing_field};
 ghost use Rattle.cedar_store_model.specs.Reads.{attribute_read, attribute_tested, part_value, part_read, part_tested, found_in, is_in_some, uids_in, uid_of as value_uid};
 ghost use Rattle.cedar_store_model.specs.Store.{look_up};
-ghost use Rattle.cedar_store_worlds_model.specs.Alone.{store_alone};
+ghost use Rattle.cedar_store_model.specs.Alone.{store_alone};
 ghost use Rattle.cedar_store_meaning.specs.Outcomes.{IsMeaning, IsOutcome};
 ghost use Rattle.cedar_store_meaning.specs.StoreParts.{found_part, fields_of, ancestors_of};
 

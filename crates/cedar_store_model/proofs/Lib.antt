@@ -16,3 +16,6 @@ pub mod Stores
 pub mod Computed
 pub mod Growing
 pub mod Instances
+pub mod Rising
+pub mod Alone
+pub mod Settled

@@ -1,2 +1,3 @@
 mod Annotated
 pub mod Compared
+mod RecordsCompared

@@ -12,8 +12,8 @@ use Rattle.cedar_store_model.specs.Policy.{Policy, SlotBindings, binding_of, has
 use Rattle.cedar_store_model.specs.PolicySet.{PolicySet, is_taken, template_of, linked, with_policy, link}
 use Rattle.cedar_store_policies.specs.TemplateParts.{slot_ids}
 use Rattle.cedar_store_policies.specs.SetRefusals.{FitsBindings, RefusesBindings, RefusesLink}
-use Rattle.cedar_store_refusals.specs.declared.err.LinkingError.{LinkingError}
-use Rattle.cedar_store_refusals.specs.declared.err.LinkingError.TheVariants.{OutOfMemory, PolicyIdConflict, UnboundSlot, ExtraSlot, NoSuchTemplate}
+use Rattle.cedar_store_parts.specs.declared.err.LinkingError.{LinkingError}
+use Rattle.cedar_store_parts.specs.declared.err.LinkingError.TheVariants.{OutOfMemory, PolicyIdConflict, UnboundSlot, ExtraSlot, NoSuchTemplate}
 
 any_slots : (s : SlotId) (ss : List Slot) → list_any (λ c. slot_rank s == slot_rank (slot_of c.id)) ss ≡ list_any (λ r. slot_rank s == slot_rank r) (slot_ids ss)
 any_slots s [] = refl

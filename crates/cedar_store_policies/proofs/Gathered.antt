@@ -14,8 +14,8 @@ use Rattle.cedar_store_model.proofs.Distinct.{distinct-Decides}
 use Rattle.cedar_store_policies.specs.Policies.{policy_of}
 use Rattle.cedar_store_policies.specs.SetParts.{ids_of}
 use Rattle.cedar_store_policies.specs.SetRefusals.{RefusesId, RefusesIds}
-use Rattle.cedar_store_refusals.specs.declared.err.PolicySetError.{PolicySetError}
-use Rattle.cedar_store_refusals.specs.declared.err.PolicySetError.TheVariants.{OutOfMemory, Occupied}
+use Rattle.cedar_store_parts.specs.declared.err.PolicySetError.{PolicySetError}
+use Rattle.cedar_store_parts.specs.declared.err.PolicySetError.TheVariants.{OutOfMemory, Occupied}
 use Rattle.cedar_store_policies.specs.declared.policy.Policy.{Policy}
 use Rattle.cedar_store_policies.proofs.Keyed.{any_ids}
 

@@ -8,8 +8,8 @@ use Rattle.cedar_expr_names.specs.declared.loc.Loc.{Loc}
 use Rattle.cedar_expr_trees.specs.Positions.{slot_placed}
 use Rattle.cedar_store_model.specs.Policy.{Policy, condition}
 use Rattle.cedar_store_policies.specs.Lists.{first_of}
-use Rattle.cedar_store_refusals.specs.declared.err.UnexpectedSlotError.{UnexpectedSlotError}
-use Rattle.cedar_store_refusals.specs.declared.err.UnexpectedSlotError.TheVariants.{OutOfMemory, FoundSlot}
+use Rattle.cedar_store_parts.specs.declared.err.UnexpectedSlotError.{UnexpectedSlotError}
+use Rattle.cedar_store_parts.specs.declared.err.UnexpectedSlotError.TheVariants.{OutOfMemory, FoundSlot}
 
 -- The fault is there where a policy should have no slots: it is the first slot of its condition. Want of memory says nothing.
 abbrev pub RefusesSlot : Policy → UnexpectedSlotError → Type 0

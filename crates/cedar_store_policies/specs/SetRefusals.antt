@@ -11,10 +11,10 @@ use Rattle.cedar_store_model.specs.Policy.{Policy, SlotBindings, binding_of, has
 use Rattle.cedar_store_model.specs.PolicySet as model
 use Rattle.cedar_store_model.specs.PolicySet.{id_present, slot_not_bound, slot_not_of_template, no_template, is_taken, template_of, has_link_fault}
 use Rattle.cedar_store_parts.specs.Parts.{id_text}
-use Rattle.cedar_store_refusals.specs.declared.err.PolicySetError.{PolicySetError}
-use Rattle.cedar_store_refusals.specs.declared.err.PolicySetError.TheVariants as adding
-use Rattle.cedar_store_refusals.specs.declared.err.LinkingError.{LinkingError}
-use Rattle.cedar_store_refusals.specs.declared.err.LinkingError.TheVariants as linking
+use Rattle.cedar_store_parts.specs.declared.err.PolicySetError.{PolicySetError}
+use Rattle.cedar_store_parts.specs.declared.err.PolicySetError.TheVariants as adding
+use Rattle.cedar_store_parts.specs.declared.err.LinkingError.{LinkingError}
+use Rattle.cedar_store_parts.specs.declared.err.LinkingError.TheVariants as linking
 
 -- The fault is there where a policy or a template of this id is added. Want of memory says nothing.
 abbrev pub RefusesId : model.PolicySet → Text → PolicySetError → Type 0

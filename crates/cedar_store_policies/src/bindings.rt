@@ -11,8 +11,7 @@ ghost use Rattle.cedar_store_policies.specs.SetRefusals.{FitsBindings, RefusesBi
 
 use crate::template::Template;
 use cedar_expr_leaves::{Slot, SlotId};
-use cedar_store_parts::SlotEnv;
-use cedar_store_refusals::LinkingError;
+use cedar_store_parts::{LinkingError, SlotEnv};
 
 impl Template {
     // Refuses a slot of the template that isn't bound, and a bound slot that isn't the template's.

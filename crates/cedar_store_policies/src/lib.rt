@@ -13,11 +13,10 @@ pub mod template;
 mod template_body;
 
 pub use cedar_store_parts::{
-    ActionConstraint, Annotation, Annotations, Effect, EntityReference, PolicyID,
-    PrincipalConstraint, PrincipalOrResource, PrincipalOrResourceConstraint, ResourceConstraint,
-    SlotEnv,
+    ActionConstraint, Annotation, Annotations, Effect, EntityReference, LinkingError, PolicyID,
+    PolicySetError, PrincipalConstraint, PrincipalOrResource, PrincipalOrResourceConstraint,
+    ResourceConstraint, SlotEnv, UnexpectedSlotError,
 };
-pub use cedar_store_refusals::{LinkingError, PolicySetError, UnexpectedSlotError};
 pub use policy::Policy;
 pub use policy_set::PolicySet;
 pub use static_policy::StaticPolicy;

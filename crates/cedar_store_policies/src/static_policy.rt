@@ -9,8 +9,8 @@ use cedar_expr_names::Loc;
 use cedar_expr_trees::Expr;
 use cedar_store_parts::{
     ActionConstraint, Annotations, Effect, PolicyID, PrincipalConstraint, ResourceConstraint,
+    UnexpectedSlotError,
 };
-use cedar_store_refusals::UnexpectedSlotError;
 use std::alloc::Global;
 
 /// A policy in which no slot stands.

@@ -1,7 +1,7 @@
 //! Names, types and uids of texts.
 
+use crate::made;
 use cedar_expr_names::{Eid, EntityType, EntityUID, Loc, Name};
-use cedar_test_helpers::made;
 use std::alloc::{AllocError, Global};
 use std::rc::RcStr;
 

@@ -2,9 +2,9 @@
 
 use crate::naming::{entity_type, name, word};
 use crate::stack::{named, several};
+use crate::{made, one};
 use cedar_expr_leaves::{Pattern, PatternElem};
 use cedar_expr_trees::{Expr, NonEmpty};
-use cedar_test_helpers::{made, one};
 use std::alloc::{AllocError, Global};
 
 // Whether attributes are there, one after the other, with points between their names.

@@ -3,9 +3,9 @@
 use crate::constants::{binary, constant, unary};
 use crate::naming::{placed, word};
 use crate::nodes::{call, has, is, like, record, set};
+use crate::one;
 use crate::stack::{the_one, two};
 use cedar_expr_trees::Expr;
-use cedar_test_helpers::one;
 use std::alloc::{AllocError, Global};
 
 /// The expression that the text writes: words with a space between two of them, the operands before their operator. `1 2 + 3 <` is

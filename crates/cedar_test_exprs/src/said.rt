@@ -1,9 +1,9 @@
 //! Expressions and places in rows of tests: what is read of a command, and what is said behind it.
 
 use crate::reading::expr;
+use crate::{kept, say};
 use cedar_expr_names::Loc;
 use cedar_expr_trees::Expr;
-use cedar_test_helpers::{kept, say};
 use std::alloc::{AllocError, Global};
 use std::rc::Rc;
 

@@ -1,7 +1,7 @@
 //! What was made so far, of any type: the last is taken first.
 
 use crate::naming::word;
-use cedar_test_helpers::one;
+use crate::one;
 use std::alloc::{AllocError, Global};
 use std::rc::RcStr;
 

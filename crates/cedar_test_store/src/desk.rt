@@ -21,6 +21,9 @@ pub type V = Value<ExtValue>;
 
 pub type Part = PartialValue<ExtValue>;
 
+/// A command: its verb, the rest of it, and what its row wants.
+pub type Command<'a> = (&'a str, &'a str, &'a str);
+
 /// Policies, a set of them, and what they are made of.
 pub struct Parts {
     pub alloc: Global,

@@ -1,53 +1,71 @@
 //! Commands that make entities and stores of them, and say what they are.
 
-use crate::desk::{Known, Made, Part, V};
-use crate::made::{all, put, say_place, say_placed, top, two};
+use crate::desk::{Known, Made, Part, Parts, V};
+use crate::made::{all, lay, put, say_place, say_placed, top, two};
 use crate::meaning;
+use cedar_expr_functions::Extensions;
 use cedar_expr_partial::PartialValue;
 use cedar_expr_trees::{Expr, ExprKind};
 use cedar_expr_values::ValueKind;
 use cedar_store_entities::{Dereference, Entities, Entity};
-use cedar_store_records::RequestType;
-use cedar_test_exprs::{entity_type, expr, uid, value, word};
-use cedar_test_helpers::{kept, refused, say, show};
+use cedar_store_parts::RequestType;
+use cedar_test_exprs::{entity_type, expr, kept, refused, say, show, uid, value, word};
 use std::alloc::{AllocError, Global};
 use std::rc::RcStr;
 
 // Does the command: what an entity is made of, as `attr age 40`, `tag spoon $t`, `above Team::all`, `parent Team::red`; `entity User::a`,
 // `copy`, `shown`; or one on stores, or on what is known.
-pub fn done(known: &mut Known, verb: &str, rest: &str, said: &mut String) -> Made<bool> {
+pub fn done(
+    parts: &mut Parts,
+    known: &mut Known,
+    table: &Extensions<'_>,
+    command: (&str, &str),
+    said: &mut String,
+) -> Made<()> {
+    let (verb, rest) = command;
     let alloc = known.alloc;
     match verb {
-        "attr" => known.attrs.push(part(alloc, rest)?)?,
-        "tag" => known.tags.push(part(alloc, rest)?)?,
-        "above" => known.above.push(uid(alloc, rest)?)?,
-        "parent" => known.parents.push(uid(alloc, rest)?)?,
-        "entity" => {
-            let made = entity(known, rest);
-            put(alloc, said, &mut known.entities, made)?;
-        }
-        "copy" => {
-            let made = top(known.entities.as_slice())?.clone()?;
-            known.entities.push(made)?;
-        }
-        "shown" => say_entity(alloc, said, top(known.entities.as_slice())?)?,
-        _ => return stored(known, verb, rest, said),
+        "attr" => lay(&mut known.attrs, part(alloc, rest)),
+        "tag" => lay(&mut known.tags, part(alloc, rest)),
+        "above" => lay(&mut known.above, uid(alloc, rest)),
+        "parent" => lay(&mut known.parents, uid(alloc, rest)),
+        "entity" => put_entity(known, rest, said),
+        "copy" => put_copy(known),
+        "shown" => say_entity(alloc, said, top(known.entities.as_slice())?),
+        _ => stored(parts, known, table, command, said),
     }
-    Ok(true)
+}
+
+fn put_entity(known: &mut Known, text: &str, said: &mut String) -> Made<()> {
+    let made = entity(known, text);
+    put(known.alloc, said, &mut known.entities, made)
+}
+
+// A copy of the last entity.
+fn put_copy(known: &mut Known) -> Made<()> {
+    let made = top(known.entities.as_slice())?.clone()?;
+    known.entities.push(made)?;
+    Ok(())
 }
 
 // Does the command: `add_parent Team::blue`, `add_above Team::top`, `store`, `partial`, `find User::a`, `request_type User Action::view Doc`;
 // or one on what is known.
-fn stored(known: &mut Known, verb: &str, rest: &str, said: &mut String) -> Made<bool> {
+fn stored(
+    parts: &mut Parts,
+    known: &mut Known,
+    table: &Extensions<'_>,
+    command: (&str, &str),
+    said: &mut String,
+) -> Made<()> {
+    let (verb, rest) = command;
     match verb {
-        "add_parent" | "add_above" => add(known, verb, rest, said)?,
-        "store" => store(known, said)?,
+        "add_parent" | "add_above" => add(known, verb, rest, said),
+        "store" => store(known, said),
         "partial" => partial(known),
-        "find" => find(known, rest, said)?,
-        "request_type" => request_type(known.alloc, rest, said)?,
-        _ => return meaning::done(known, verb, rest),
+        "find" => find(known, rest, said),
+        "request_type" => request_type(known.alloc, rest, said),
+        _ => meaning::done(parts, known, table, command, said),
     }
-    Ok(true)
 }
 
 // A name, and what the rest of the text writes: a value, or an unknown.
@@ -97,10 +115,11 @@ fn store(known: &mut Known, said: &mut String) -> Made<()> {
 }
 
 // Makes the store a partial one.
-fn partial(known: &mut Known) {
+fn partial(known: &mut Known) -> Made<()> {
     let mut store = Entities::new(known.alloc);
     std::mem::swap(&mut store, &mut known.store);
     known.store = store.partial();
+    Ok(())
 }
 
 // What the store answers for a uid.

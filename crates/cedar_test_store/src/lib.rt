@@ -13,5 +13,6 @@ mod rows;
 mod seen;
 mod sets;
 
+pub use desk::Made;
 pub use policies::template;
-pub use rows::hold;
+pub use rows::wrong_row;

@@ -2,8 +2,7 @@
 
 use crate::desk::Made;
 use cedar_expr_names::{EntityUID, Loc};
-use cedar_test_exprs::uid;
-use cedar_test_helpers::show;
+use cedar_test_exprs::{show, uid};
 use std::alloc::{AllocError, Global};
 use std::fmt::Display;
 use std::rc::Rc;
@@ -19,6 +18,11 @@ pub fn put<T: Drop, E: Display + Drop>(
         Ok(made) => Ok(pile.push(made)?),
         Err(e) => show(alloc, said, &e),
     }
+}
+
+// What was made, laid on the pile. Fails where it wasn't made.
+pub fn lay<T: Drop>(pile: &mut Vec<T>, made: Made<T>) -> Made<()> {
+    Ok(pile.push(made?)?)
 }
 
 // The last of the pile, left there.

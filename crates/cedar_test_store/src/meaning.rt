@@ -2,66 +2,75 @@
 
 use crate::desk::{Known, Made, Parts, V};
 use crate::entities::say_value;
-use crate::made::{shared, top, two};
+use crate::made::{lay, shared, top, two};
 use crate::parts::slot;
 use crate::policies::{of_body, of_scope};
 use cedar_expr_functions::Extensions;
 use cedar_store_meaning::{MeaningFault, World, evaluate, is_satisfied, policy_outcome};
-use cedar_test_exprs::{expr, value, word};
-use cedar_test_helpers::show;
+use cedar_test_exprs::{both, expr, show, value, word};
 use std::alloc::{AllocError, Global};
 
-// Does the command, where it is one of these: what is known, as `request User::a Action::view Doc::d`, `by User::b`,
-// `context 7 record=n`, `slot principal User::c`, `let t true`.
-pub fn done(known: &mut Known, verb: &str, rest: &str) -> Made<bool> {
-    let alloc = known.alloc;
-    match verb {
-        "request" => request(known, rest)?,
-        "by" => known.principals.push(shared(alloc, rest)?)?,
-        "context" => known.context = value(alloc, rest)?,
-        "slot" => {
-            let (variable, text) = two(rest);
-            known.slots.insert(slot(variable), shared(alloc, text)?);
-        }
-        "let" => {
-            let (unknown, text) = two(rest);
-            known
-                .unknowns
-                .insert(word(alloc, unknown)?, value(alloc, text)?)?;
-        }
-        _ => return Ok(false),
-    }
-    Ok(true)
-}
-
-// Does the command: `means 1 2 +`, `holds principal .ok`, `linked_by resource in ?resource`, `outcome`.
-pub fn asked(
+// Does the command: what is known, as `request User::a Action::view Doc::d`, `by User::b`, `context 7 record=n`,
+// `slot principal User::c`, `let t true`; or `means 1 2 +`, `holds principal .ok`, `linked_by resource in ?resource`, `outcome`.
+pub fn done(
     parts: &mut Parts,
-    known: &Known,
+    known: &mut Known,
     table: &Extensions<'_>,
     command: (&str, &str),
     said: &mut String,
 ) -> Made<()> {
     let (verb, rest) = command;
     match verb {
+        "request" => request(known, rest),
+        "by" => lay(&mut known.principals, shared(known.alloc, rest)),
+        "context" => context(known, rest),
+        "slot" => bind_slot(known, rest),
+        "let" => bind_unknown(known, rest),
         "means" => means(known, table, rest, said),
-        "holds" => {
-            of_body(parts, rest)?;
-            outcome(parts, known, table, said)
-        }
+        "holds" => holds(parts, known, table, rest, said),
         "linked_by" => of_scope(parts, rest),
         "outcome" => outcome(parts, known, table, said),
         _ => Err(AllocError),
     }
 }
 
+fn context(known: &mut Known, text: &str) -> Made<()> {
+    known.context = value(known.alloc, text)?;
+    Ok(())
+}
+
+fn bind_slot(known: &mut Known, rest: &str) -> Made<()> {
+    let (variable, text) = two(rest);
+    let uid = shared(known.alloc, text)?;
+    known.slots.insert(slot(variable), uid);
+    Ok(())
+}
+
+fn bind_unknown(known: &mut Known, rest: &str) -> Made<()> {
+    let (unknown, text) = two(rest);
+    let (unknown, value) = both(word(known.alloc, unknown), value(known.alloc, text))?;
+    known.unknowns.insert(unknown, value)?;
+    Ok(())
+}
+
+// What the policy of this body means, and whether it is satisfied.
+fn holds(
+    parts: &mut Parts,
+    known: &Known,
+    table: &Extensions<'_>,
+    text: &str,
+    said: &mut String,
+) -> Made<()> {
+    of_body(parts, text)?;
+    outcome(parts, known, table, said)
+}
+
 fn request(known: &mut Known, rest: &str) -> Made<()> {
     let (principal, rest) = two(rest);
     let (action, resource) = two(rest);
-    known.principals.push(shared(known.alloc, principal)?)?;
-    known.actions.push(shared(known.alloc, action)?)?;
-    known.resources.push(shared(known.alloc, resource)?)?;
-    Ok(())
+    lay(&mut known.principals, shared(known.alloc, principal))?;
+    lay(&mut known.actions, shared(known.alloc, action))?;
+    lay(&mut known.resources, shared(known.alloc, resource))
 }
 
 // What is known, with this table of functions.

@@ -7,8 +7,7 @@ use cedar_expr_names::{AnyId, EntityUID, Loc};
 use cedar_store_policies::{
     ActionConstraint, Annotation, Annotations, EntityReference, PrincipalOrResourceConstraint,
 };
-use cedar_test_exprs::{entity_type, expr, placed, word};
-use cedar_test_helpers::made;
+use cedar_test_exprs::{entity_type, expr, made, placed, word};
 use std::alloc::{AllocError, Global};
 use std::rc::Rc;
 

@@ -1,15 +1,16 @@
 //! Commands that make templates and policies of the parts at hand.
 
-use crate::desk::{Made, Parts};
-use crate::made::put;
+use crate::desk::{Command, Known, Made, Parts};
+use crate::made::{lay, put};
 use crate::parts::{bind, body, note, scope};
 use crate::sets;
+use cedar_expr_functions::Extensions;
 use cedar_store_policies::{
     ActionConstraint, Annotations, Effect, Policy, PolicyID, PrincipalConstraint,
     PrincipalOrResourceConstraint, ResourceConstraint, SlotEnv, StaticPolicy, Template,
     UnexpectedSlotError,
 };
-use cedar_test_helpers::one;
+use cedar_test_exprs::one;
 use std::alloc::{AllocError, Global};
 use std::rc::Rc;
 
@@ -17,48 +18,66 @@ use std::rc::Rc;
 // `bind principal User::a`, `template t`, `static z`, `whole`, `when p`, `linked l`, `get l`, or one on sets of policies.
 pub fn done(
     parts: &mut Parts,
-    verb: &str,
-    rest: &str,
-    wanted: &str,
+    known: &mut Known,
+    table: &Extensions<'_>,
+    command: Command<'_>,
     said: &mut String,
-) -> Made<bool> {
-    let alloc = parts.alloc;
+) -> Made<()> {
+    let (verb, rest, _) = command;
     match verb {
-        "forbid" => parts.effect = Effect::Forbid,
-        "scope" => scope(parts, rest)?,
-        "body" => body(parts, rest)?,
-        "note" => note(parts, rest)?,
-        "bind" => bind(parts, rest)?,
-        "template" => {
-            let made = made(parts, rest);
-            put(alloc, said, &mut parts.templates, made)?;
-        }
-        "static" => {
-            let made = bare(parts, rest);
-            put(alloc, said, &mut parts.bare, made)?;
-        }
-        _ => return policy_done(parts, verb, rest, wanted, said),
+        "forbid" => forbid(parts),
+        "scope" => scope(parts, rest),
+        "body" => body(parts, rest),
+        "note" => note(parts, rest),
+        "bind" => bind(parts, rest),
+        "template" => put_template(parts, rest, said),
+        "static" => put_static(parts, rest, said),
+        "whole" => put_whole(parts),
+        "when" => put_when(parts, rest),
+        "linked" => put_linked(parts, rest),
+        "get" => put_copy(parts, rest),
+        _ => sets::done(parts, known, table, command, said),
     }
-    Ok(true)
 }
 
-// Does the command that makes a policy, or one on sets of policies.
-fn policy_done(
-    parts: &mut Parts,
-    verb: &str,
-    rest: &str,
-    wanted: &str,
-    said: &mut String,
-) -> Made<bool> {
-    let made = match verb {
-        "whole" => whole(parts)?,
-        "when" => when(parts, rest)?,
-        "linked" => linked(parts, rest)?,
-        "get" => copied(parts, rest)?,
-        _ => return sets::done(parts, verb, rest, wanted, said),
-    };
-    parts.policies.push(made)?;
-    Ok(true)
+fn forbid(parts: &mut Parts) -> Made<()> {
+    parts.effect = Effect::Forbid;
+    Ok(())
+}
+
+fn put_template(parts: &mut Parts, id: &str, said: &mut String) -> Made<()> {
+    let made = made(parts, id);
+    put(parts.alloc, said, &mut parts.templates, made)
+}
+
+fn put_static(parts: &mut Parts, id: &str, said: &mut String) -> Made<()> {
+    let made = bare(parts, id);
+    put(parts.alloc, said, &mut parts.bare, made)
+}
+
+// The last static policy, as one that may stand among linked ones.
+fn put_whole(parts: &mut Parts) -> Made<()> {
+    let bare = one(&mut parts.bare)?;
+    lay(
+        &mut parts.policies,
+        Policy::from_static_policy(parts.alloc, bare),
+    )
+}
+
+// The policy of the last body.
+fn put_when(parts: &mut Parts, text: &str) -> Made<()> {
+    let made = when(parts, text);
+    lay(&mut parts.policies, made)
+}
+
+fn put_linked(parts: &mut Parts, text: &str) -> Made<()> {
+    let made = linked(parts, text);
+    lay(&mut parts.policies, made)
+}
+
+fn put_copy(parts: &mut Parts, text: &str) -> Made<()> {
+    let made = copied(parts, text);
+    lay(&mut parts.policies, made)
 }
 
 /// The template `p` of this scope, written as in the rows, and this body. Fails where they write none, and for want of memory.
@@ -127,12 +146,6 @@ fn bare(parts: &mut Parts, text: &str) -> Result<StaticPolicy, UnexpectedSlotErr
     )
 }
 
-// The last static policy, as one that may stand among linked ones.
-fn whole(parts: &mut Parts) -> Made<Policy> {
-    let bare = one(&mut parts.bare)?;
-    Policy::from_static_policy(parts.alloc, bare)
-}
-
 // The policy of the last body.
 fn when(parts: &mut Parts, text: &str) -> Made<Policy> {
     let id = PolicyID::from_string(parts.alloc, text)?;
@@ -143,19 +156,15 @@ fn when(parts: &mut Parts, text: &str) -> Made<Policy> {
 // The policy `p` of this body.
 pub fn of_body(parts: &mut Parts, text: &str) -> Made<()> {
     body(parts, text)?;
-    let made = when(parts, "p")?;
-    parts.policies.push(made)?;
-    Ok(())
+    put_when(parts, "p")
 }
 
 // The link `l` of a template of this scope with what the slots are bound to.
 pub fn of_scope(parts: &mut Parts, text: &str) -> Made<()> {
     scope(parts, text)?;
-    let template = made(parts, "t")?;
-    parts.templates.push(template)?;
-    let made = linked(parts, "l")?;
-    parts.policies.push(made)?;
-    Ok(())
+    let template = made(parts, "t");
+    lay(&mut parts.templates, template)?;
+    put_linked(parts, "l")
 }
 
 // What the slots are bound to. They aren't bound any more.

@@ -1,36 +1,53 @@
 //! Commands that say what the last policy is, and texts of refusals.
 
-use crate::desk::{Made, Parts};
+use crate::desk::{Command, Known, Made, Parts};
+use crate::entities;
 use crate::made::top;
 use crate::sets::say_policy;
+use cedar_expr_functions::Extensions;
 use cedar_expr_trees::Expr;
 use cedar_store_entities::EntitiesError;
 use cedar_store_meaning::MeaningFault;
 use cedar_store_policies::{
     LinkingError, Policy, PolicySetError, PrincipalOrResource, UnexpectedSlotError,
 };
-use cedar_test_exprs::{is, name};
-use cedar_test_helpers::show;
+use cedar_test_exprs::{is, name, show};
 use std::alloc::{AllocError, Global};
 
 // Does the command, where it is one of these. Of `policy` the answer is its text; of `condition`, `asked principal` and its like an
 // expression, with its places.
-pub fn done(parts: &Parts, verb: &str, rest: &str, wanted: &str, said: &mut String) -> Made<bool> {
-    let alloc = parts.alloc;
+pub fn done(
+    parts: &mut Parts,
+    known: &mut Known,
+    table: &Extensions<'_>,
+    command: Command<'_>,
+    said: &mut String,
+) -> Made<()> {
+    let (verb, rest, wanted) = command;
     match verb {
-        "policy" => say_policy(said, top(parts.policies.as_slice())?)?,
-        "condition" => {
-            let policy = top(parts.policies.as_slice())?;
-            is(alloc, said, policy.condition().clone(), wanted)?;
-        }
-        "asked" => {
-            let policy = top(parts.policies.as_slice())?;
-            is(alloc, said, asked(alloc, policy, rest), wanted)?;
-        }
-        "texts" => texts(alloc, said)?,
-        _ => return Ok(false),
+        "policy" => say_policy(said, top(parts.policies.as_slice())?),
+        "condition" => condition(parts, wanted, said),
+        "asked" => constraint(parts, rest, wanted, said),
+        "texts" => texts(parts.alloc, said),
+        _ => entities::done(parts, known, table, (verb, rest), said),
     }
-    Ok(true)
+}
+
+// The condition of the last policy.
+fn condition(parts: &Parts, wanted: &str, said: &mut String) -> Made<()> {
+    let policy = top(parts.policies.as_slice())?;
+    is(parts.alloc, said, policy.condition().clone(), wanted)
+}
+
+// What the last policy asks of the variable.
+fn constraint(parts: &Parts, variable: &str, wanted: &str, said: &mut String) -> Made<()> {
+    let policy = top(parts.policies.as_slice())?;
+    is(
+        parts.alloc,
+        said,
+        asked(parts.alloc, policy, variable),
+        wanted,
+    )
 }
 
 // What the policy asks of the variable.

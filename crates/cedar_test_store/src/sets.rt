@@ -1,31 +1,32 @@
 //! Commands on the set of policies.
 
-use crate::desk::{Made, Parts};
+use crate::desk::{Command, Known, Made, Parts};
 use crate::made::{all, two};
 use crate::policies::bound;
 use crate::seen;
+use cedar_expr_functions::Extensions;
 use cedar_expr_leaves::SlotId;
 use cedar_store_policies::{Effect, Policy, PolicyID, PolicySet, Template};
-use cedar_test_helpers::{one, refused, say, show};
+use cedar_test_exprs::{one, refused, say, show};
 
 // Does the command: `add_template`, `add_static`, `add`, `link t l`, `listed`, `set`, or one on a policy.
 pub fn done(
     parts: &mut Parts,
-    verb: &str,
-    rest: &str,
-    wanted: &str,
+    known: &mut Known,
+    table: &Extensions<'_>,
+    command: Command<'_>,
     said: &mut String,
-) -> Made<bool> {
+) -> Made<()> {
+    let (verb, rest, _) = command;
     match verb {
-        "add_template" => add_template(parts, said)?,
-        "add_static" => add_static(parts, said)?,
-        "add" => add(parts, said)?,
-        "link" => link(parts, rest, said)?,
-        "listed" => listed(parts, said)?,
-        "set" => say_set(&parts.set, said)?,
-        _ => return seen::done(parts, verb, rest, wanted, said),
+        "add_template" => add_template(parts, said),
+        "add_static" => add_static(parts, said),
+        "add" => add(parts, said),
+        "link" => link(parts, rest, said),
+        "listed" => listed(parts, said),
+        "set" => say_set(&parts.set, said),
+        _ => seen::done(parts, known, table, command, said),
     }
-    Ok(true)
 }
 
 fn add_template(parts: &mut Parts, said: &mut String) -> Made<()> {

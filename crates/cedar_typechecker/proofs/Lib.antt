@@ -1,0 +1,4 @@
+pub mod Once
+pub mod Given
+pub mod Putting
+pub mod Gathering

@@ -1,1 +1,5 @@
 pub mod Views
+pub mod SchemaViews
+pub mod Laws
+pub mod Pairs
+pub mod Types

@@ -10,8 +10,8 @@ use Rattle.cedar_typechecker.specs.declared.typechecker.Typechecker.{Typechecker
 use Rattle.cedar_typechecker.specs.declared.validator.Validator.{Validator}
 use Rattle.cedar_typechecker_policies.specs.Iterated.{environments_left, schema_checked, table_checked}
 use Rattle.cedar_typechecker_policies.specs.declared.checks.RequestEnvChecks.{RequestEnvChecks}
-use Rattle.cedar_typechecker_schemas.specs.Views.{schema_of, table_seen}
-use Rattle.cedar_typechecker_schemas.specs.declared.schema_and_functions.SchemaAndFunctions.{SchemaAndFunctions}
+use Rattle.cedar_typechecker.specs.SchemaViews.{schema_of, table_seen}
+use Rattle.cedar_typechecker.specs.declared.schema_and_functions.SchemaAndFunctions.{SchemaAndFunctions}
 
 abbrev pub schema_typed_by : {B : _} {F : _} {g : _} → Typechecker B F g → Schema
 schema_typed_by c = schema_of c.asked

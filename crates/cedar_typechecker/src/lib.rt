@@ -1,15 +1,31 @@
 //! Cedar's typechecker and validator, whole: over a built schema and a table of extension functions, and the items of the crates
 //! `cedar_typechecker_*` under one name. Contract: each call says exactly what the model's verdicts, scope rules and violations are, and
-//! where a policy passes what typing and slices promise of its meaning. Used by users of the library and by `cedar_typechecker_cases`.
+//! where a policy passes what typing and slices promise of its meaning. The answers of a built schema with a table are those of the declared
+//! schema by laws. Used by users of the library, by the gate and by `cedar_typechecker_cases`.
 #![tactic(auto)]
 
+mod action_types;
+mod environments;
+pub mod laws;
+mod schema_and_functions;
+mod scopes;
+mod type_pairs;
 mod typechecker;
+mod typing;
 mod validator;
+
+pub use asked::{SchemaAndFunctions, TypingSchema, World};
+pub use cedar_typechecker_environments::RequestEnv;
+pub use level::EntityDerefLevel;
+pub use policies::{PolicyCheck, RequestEnvChecks, Validated};
+pub use typecheck_answer::{Capability, CapabilitySet, TypecheckAnswer};
+pub use typechecker::Typechecker;
+pub use validator::Validator;
 
 /// What typing asks of a schema and of a table of extension functions, and a built schema with a table as that.
 pub mod asked {
+    pub use crate::schema_and_functions::SchemaAndFunctions;
     pub use cedar_typechecker_environments::{FunctionSignature, TypingSchema, World};
-    pub use cedar_typechecker_schemas::SchemaAndFunctions;
     pub use cedar_typechecker_scopes::{SchemaEnvironments, ScopeSchema, policy_environments};
 }
 
@@ -21,8 +37,8 @@ pub mod level {
 /// Answers of typing, and facts.
 pub mod typecheck_answer {
     pub use cedar_typechecker_answers::{Faults, TypeFault, TypecheckAnswer};
-    pub use cedar_typechecker_facts::{Capability, CapabilitySet};
-    pub use cedar_typechecker_typing::typecheck;
+    pub use cedar_typechecker_environments::{Capability, CapabilitySet};
+    pub use cedar_typechecker_operators::typecheck;
 }
 
 /// Policies over any schema that can be asked.
@@ -37,11 +53,3 @@ pub mod policies {
         validate_template_action_application,
     };
 }
-
-pub use asked::{SchemaAndFunctions, TypingSchema, World};
-pub use cedar_typechecker_environments::RequestEnv;
-pub use level::EntityDerefLevel;
-pub use policies::{PolicyCheck, RequestEnvChecks, Validated};
-pub use typecheck_answer::{Capability, CapabilitySet, TypecheckAnswer};
-pub use typechecker::Typechecker;
-pub use validator::Validator;

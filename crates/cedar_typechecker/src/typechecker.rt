@@ -1,13 +1,13 @@
 //! The typechecker of policies.
 
+use crate::SchemaAndFunctions;
 use cedar_expr_functions::Extensions;
 use cedar_schema_built::ValidatorSchema;
 use cedar_schema_joins::ValidationMode;
+use cedar_store_parts::{ValidationError, ValidationWarning};
 use cedar_store_policies::Template;
-use cedar_store_records::{ValidationError, ValidationWarning};
 use cedar_typechecker_environments::{RequestEnv, World};
 use cedar_typechecker_policies::{PolicyCheck, RequestEnvChecks, check_in, typecheck_policy};
-use cedar_typechecker_schemas::SchemaAndFunctions;
 use std::alloc::{AllocError, Global};
 use std::collections::HashSet;
 
@@ -35,11 +35,11 @@ impl<'s, 't, 'e> Typechecker<'s, 't, 'e> {
     ghost use Rattle.cedar_typechecker_policies.specs.Found.{GainsErrors, GainsWarnings};
     ghost use Rattle.cedar_typechecker_policies.specs.Iterated.{mode_checked, policy_checked};
     ghost use Rattle.cedar_typechecker_policies.specs.Sound.{ForAlike, MeansTruth, PolicyMeansTruth};
-    ghost use Rattle.cedar_typechecker_schemas.specs.Views.{silent};
-    ghost use Rattle.cedar_typechecker_seen_model.specs.Seen.{schema_seen, IsClosed};
+    ghost use Rattle.cedar_typechecker.specs.SchemaViews.{silent};
+    ghost use Rattle.cedar_typechecker_model.specs.Seen.{schema_seen, IsClosed};
 
     /// The typechecker of a schema, in a mode, with a table of extension functions. What the schema keeps has to be closed under descent:
-    /// a law of `cedar_typechecker_schemas` says that each schema that is built of fragments is.
+    /// a law (`laws`) says that each schema that is built of fragments is.
     pub fn new(
         alloc: Global,
         schema: &'s ValidatorSchema,

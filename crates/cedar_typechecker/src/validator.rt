@@ -1,14 +1,13 @@
 //! The validator of policies.
 
+use crate::SchemaAndFunctions;
 use cedar_expr_functions::Extensions;
 use cedar_schema_built::ValidatorSchema;
 use cedar_schema_joins::ValidationMode;
-use cedar_store_parts::{PolicyID, SlotEnv};
+use cedar_store_parts::{PolicyID, SlotEnv, ValidationError, ValidationWarning};
 use cedar_store_policies::{Policy, Template};
-use cedar_store_records::{ValidationError, ValidationWarning};
 use cedar_typechecker_levels::EntityDerefLevel;
 use cedar_typechecker_policies::{Validated, validate_policy_with_level};
-use cedar_typechecker_schemas::SchemaAndFunctions;
 use cedar_typechecker_scopes::{
     validate_action_ids, validate_entity_types, validate_entity_types_in_slots,
     validate_enum_entity, validate_linked_action_application, validate_template_action_application,
@@ -31,17 +30,17 @@ impl<'s, 't, 'e> Validator<'s, 't, 'e> {
     ghost use Rattle.cedar_store_parts.specs.Parts.{id_text, bindings_of, filled};
     ghost use Rattle.cedar_store_policies.specs.Policies.{policy_of, policy_loc};
     ghost use Rattle.cedar_store_policies.specs.Templates.{template_of, template_loc};
-    ghost use Rattle.cedar_store_records.specs.Views.{warning_of};
+    ghost use Rattle.cedar_store_parts.specs.Views.{warning_of};
     ghost use Rattle.cedar_typechecker.specs.Views.{schema_validated_by, table_validated_by};
     ghost use Rattle.cedar_typechecker_policies.specs.Found.{FindsErrors, FindsWarnings, asked_in};
     ghost use Rattle.cedar_typechecker_policies.specs.Sound.{ForAlike, PolicyMeansTruth, LooksInReach};
-    ghost use Rattle.cedar_typechecker_schemas.specs.Views.{silent};
+    ghost use Rattle.cedar_typechecker.specs.SchemaViews.{silent};
     ghost use Rattle.cedar_typechecker_scopes.specs.Applying.{application_warnings};
     ghost use Rattle.cedar_typechecker_scopes.specs.Faults.{known_types, known_actions, known_members, wrong_within, wrong_bound, blamed, blame_of};
-    ghost use Rattle.cedar_typechecker_seen_model.specs.Seen.{schema_seen, IsClosed};
+    ghost use Rattle.cedar_typechecker_model.specs.Seen.{schema_seen, IsClosed};
 
-    /// The validator of a schema with a table of extension functions. What the schema keeps has to be closed under descent: a law of
-    /// `cedar_typechecker_schemas` says that each schema that is built of fragments is.
+    /// The validator of a schema with a table of extension functions. What the schema keeps has to be closed under descent: a law (`laws`)
+    /// says that each schema that is built of fragments is.
     pub fn new(
         alloc: Global,
         schema: &'s ValidatorSchema,

@@ -1,1 +1,4 @@
 mod Sequenced
+pub mod RowMarks
+pub mod Fields
+pub mod Copied

@@ -7,8 +7,8 @@ use Rattle.std.specs.declared.alloc.Global.{Global}
 use Rattle.cedar_typechecker_answers.specs.Answers.{seen}
 use Rattle.cedar_typechecker_answers.specs.Surface.{held, has_type}
 use Rattle.cedar_typechecker_answers.specs.Sequences.{Handed, IsHanded, holds, ThenTypes, FailsAs, Sequences}
-use Rattle.cedar_typechecker_facts.specs.Facts.{facts_of}
-use Rattle.cedar_typechecker_facts.specs.declared.facts.CapabilitySet.{CapabilitySet}
+use Rattle.cedar_typechecker_environments.specs.Facts.{facts_of}
+use Rattle.cedar_typechecker_environments.specs.declared.facts.CapabilitySet.{CapabilitySet}
 use Rattle.cedar_typechecker_model.specs.Facts.{no_facts}
 use Rattle.cedar_expr_trees.specs.declared.expr.Expr.{Expr}
 use Rattle.cedar_schema_types.specs.declared.types.Type.{«Type» as CodeType}

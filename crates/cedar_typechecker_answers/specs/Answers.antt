@@ -5,11 +5,11 @@ use Rattle.cedar_expr_trees.specs.Trees.{tree_of}
 use Rattle.cedar_expr_trees.specs.declared.expr.Expr.{Expr}
 use Rattle.cedar_schema_types.specs.Types.{type_of}
 use Rattle.cedar_schema_types.specs.declared.types.Type.{«Type» as CodeType}
-use Rattle.cedar_typechecker_facts.specs.Facts.{facts_of}
+use Rattle.cedar_typechecker_environments.specs.Facts.{facts_of}
 use Rattle.cedar_typechecker_model.specs.Facts.{Facts, no_facts, union}
 use Rattle.cedar_typechecker_model.specs.Typing.{Judgement, judged}
-use Rattle.cedar_typechecker_typed_model.specs.Typed.{Typed, conjoined_by, disjoined_by}
-use Rattle.cedar_typechecker_nodes.specs.Marked.{kind_marks}
+use Rattle.cedar_typechecker_model.specs.Typed.{Typed, conjoined_by, disjoined_by}
+use Rattle.cedar_typechecker_answers.specs.Marked.{kind_marks}
 use Rattle.cedar_typechecker_answers.specs.declared.answer.TypecheckAnswer.{TypecheckAnswer}
 use Rattle.cedar_typechecker_answers.specs.declared.answer.TypecheckAnswer.TheVariants.{Success, Fail}
 use Rattle.cedar_typechecker_answers.specs.declared.answer.Judged.{Judged}

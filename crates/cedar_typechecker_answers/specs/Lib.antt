@@ -2,3 +2,4 @@ pub mod Answers
 pub mod Sequences
 pub mod Steps
 pub mod Surface
+pub mod Marked

@@ -11,8 +11,8 @@ use Rattle.cedar_typechecker_answers.specs.Answers.{seen}
 use Rattle.cedar_typechecker_answers.specs.Surface.{held, has_type}
 use Rattle.cedar_typechecker_answers.specs.declared.answer.TypecheckAnswer.{TypecheckAnswer}
 use Rattle.cedar_typechecker_answers.specs.declared.answer.TypecheckAnswer.TheVariants.{Success, Fail}
-use Rattle.cedar_typechecker_facts.specs.Facts.{facts_of}
-use Rattle.cedar_typechecker_facts.specs.declared.facts.CapabilitySet.{CapabilitySet}
+use Rattle.cedar_typechecker_environments.specs.Facts.{facts_of}
+use Rattle.cedar_typechecker_environments.specs.declared.facts.CapabilitySet.{CapabilitySet}
 use Rattle.cedar_typechecker_model.specs.Facts.{no_facts}
 
 -- an expression with the types of its parts, and facts

@@ -4,8 +4,8 @@ use Rattle.std.specs.Prelude.{◌≡◌, Bool, true, false, Option, Some, None, 
 use Rattle.cedar_expr_trees.specs.Trees.{data_of}
 use Rattle.cedar_expr_trees.specs.declared.expr.Expr.{Expr}
 use Rattle.cedar_schema_types.specs.declared.types.Type.{«Type» as CodeType}
-use Rattle.cedar_typechecker_facts.specs.Facts.{facts_of}
-use Rattle.cedar_typechecker_facts.specs.declared.facts.CapabilitySet.{CapabilitySet}
+use Rattle.cedar_typechecker_environments.specs.Facts.{facts_of}
+use Rattle.cedar_typechecker_environments.specs.declared.facts.CapabilitySet.{CapabilitySet}
 use Rattle.cedar_typechecker_answers.specs.Answers.{seen, typed_at}
 use Rattle.cedar_typechecker_answers.specs.declared.answer.TypecheckAnswer.{TypecheckAnswer}
 use Rattle.cedar_typechecker_answers.specs.declared.answer.TypecheckAnswer.TheVariants.{Success, Fail}

@@ -4,16 +4,16 @@ ghost use Rattle.std.specs.Prelude.{◌≡◌, None, option_map, IfOk};
 ghost use Rattle.cedar_expr_trees.specs.Trees.{kind_tree};
 ghost use Rattle.cedar_schema_types.specs.Types.{type_of};
 ghost use Rattle.cedar_typechecker_model.specs.Typing.{plain};
-ghost use Rattle.cedar_typechecker_typed_model.specs.Typed.{noted};
-ghost use Rattle.cedar_typechecker_nodes.specs.Marked.{kind_marks};
+ghost use Rattle.cedar_typechecker_model.specs.Typed.{noted};
+ghost use Rattle.cedar_typechecker_answers.specs.Marked.{kind_marks};
 ghost use Rattle.cedar_typechecker_answers.specs.Answers.{seen, judgement_seen};
 
 use crate::faults::{Faults, failed};
 use cedar_expr_names::Loc;
 use cedar_expr_trees::{Expr, ExprKind};
 use cedar_schema_types::Type;
-use cedar_store_records::ValidationErrorKind;
-use cedar_typechecker_facts::CapabilitySet;
+use cedar_store_parts::ValidationErrorKind;
+use cedar_typechecker_environments::CapabilitySet;
 use std::alloc::{AllocError, Global};
 
 /// What typing answers of an expression.

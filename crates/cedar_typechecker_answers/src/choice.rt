@@ -3,21 +3,21 @@
 ghost use Rattle.std.specs.Prelude.{◌≡◌, option_map, option_and_then, IfOk};
 ghost use Rattle.cedar_expr_model.specs.Tree.{choice};
 ghost use Rattle.cedar_expr_trees.specs.Trees.{tree_of, data_of};
-ghost use Rattle.cedar_typechecker_facts.specs.Facts.{facts_of};
-ghost use Rattle.cedar_typechecker_nodes.specs.Marked.{marks_of};
-ghost use Rattle.cedar_typechecker_typed_model.specs.Typed.{choice_step as model_choice_step, first_typed, second_typed, noted, three};
+ghost use Rattle.cedar_typechecker_environments.specs.Facts.{facts_of};
+ghost use Rattle.cedar_typechecker_answers.specs.Marked.{marks_of};
+ghost use Rattle.cedar_typechecker_model.specs.Typed.{choice_step as model_choice_step, first_typed, second_typed, noted, three};
 ghost use Rattle.cedar_typechecker_answers.specs.Answers.{seen, known_of_both, judgement_seen, branch_judged};
 ghost use Rattle.cedar_typechecker_answers.specs.Steps.{choice_step_seen};
 
 use crate::answer::{Judged, TypecheckAnswer, judged_node};
 use crate::faults::{Faults, failed, no_type};
 use crate::parts::shared_three;
+use crate::untyped;
 use cedar_expr_names::Loc;
 use cedar_expr_trees::{Expr, ExprKind};
 use cedar_schema_types::{BoolType, Type};
-use cedar_store_records::ValidationErrorKind;
-use cedar_typechecker_facts::CapabilitySet;
-use cedar_typechecker_nodes::untyped;
+use cedar_store_parts::ValidationErrorKind;
+use cedar_typechecker_environments::CapabilitySet;
 use std::alloc::{AllocError, Global};
 
 /// What follows the test of a choice: one of the branches, or both.

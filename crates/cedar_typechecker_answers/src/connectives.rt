@@ -6,23 +6,23 @@ ghost use Rattle.cedar_expr_trees.specs.Trees.{tree_of, data_of};
 ghost use Rattle.cedar_schema_model.specs.Types.{bool_type};
 ghost use Rattle.cedar_schema_types.specs.Types.{type_of};
 ghost use Rattle.cedar_schema_types.specs.Kinds.{bool_type_of};
-ghost use Rattle.cedar_typechecker_facts.specs.Facts.{facts_of};
+ghost use Rattle.cedar_typechecker_environments.specs.Facts.{facts_of};
 ghost use Rattle.cedar_typechecker_model.specs.Facts.{no_facts};
 ghost use Rattle.cedar_typechecker_model.specs.Typing.{conjoined, disjoined};
-ghost use Rattle.cedar_typechecker_nodes.specs.Marked.{marks_of};
-ghost use Rattle.cedar_typechecker_typed_model.specs.Typed.{and_step as model_and_step, or_step as model_or_step, and_typed, or_typed, conjoined_by, disjoined_by, noted, two, blank};
+ghost use Rattle.cedar_typechecker_answers.specs.Marked.{marks_of};
+ghost use Rattle.cedar_typechecker_model.specs.Typed.{and_step as model_and_step, or_step as model_or_step, and_typed, or_typed, conjoined_by, disjoined_by, noted, two, blank};
 ghost use Rattle.cedar_typechecker_answers.specs.Answers.{seen, typed_at, judgement_seen, and_judged, or_judged};
 ghost use Rattle.cedar_typechecker_answers.specs.Steps.{goes_on_with, step_seen, true_where_true};
 
 use crate::answer::{Judged, TypecheckAnswer, judged_node};
 use crate::faults::{Faults, failed, no_type};
 use crate::parts::shared_two;
+use crate::untyped;
 use cedar_expr_names::Loc;
 use cedar_expr_trees::{Expr, ExprKind};
 use cedar_schema_types::{BoolType, Type};
-use cedar_store_records::ValidationErrorKind;
-use cedar_typechecker_facts::CapabilitySet;
-use cedar_typechecker_nodes::untyped;
+use cedar_store_parts::ValidationErrorKind;
+use cedar_typechecker_environments::CapabilitySet;
 use std::alloc::{AllocError, Global};
 
 /// What follows the left side: an answer, or going on to the right side with it and with what is known then.

@@ -5,7 +5,7 @@ ghost use Rattle.cedar_typechecker_answers.specs.Answers.{seen};
 
 use crate::answer::TypecheckAnswer;
 use cedar_expr_names::Loc;
-use cedar_store_records::ValidationErrorKind;
+use cedar_store_parts::ValidationErrorKind;
 use std::alloc::AllocError;
 
 /// What is wrong with an expression, and where.

@@ -9,7 +9,7 @@ use crate::answer::TypecheckAnswer;
 use crate::faults::no_type;
 use cedar_expr_trees::Expr;
 use cedar_schema_types::Type;
-use cedar_typechecker_facts::CapabilitySet;
+use cedar_typechecker_environments::CapabilitySet;
 use std::alloc::{AllocError, Global};
 
 impl<'a> TypecheckAnswer<'a> {

@@ -3,7 +3,7 @@
 ghost use Rattle.std.specs.Prelude.{◌≡◌, false, None};
 ghost use Rattle.std.specs.Option.{option_map_or};
 ghost use Rattle.cedar_expr_trees.specs.Trees.{data_of};
-ghost use Rattle.cedar_typechecker_facts.specs.Facts.{facts_of};
+ghost use Rattle.cedar_typechecker_environments.specs.Facts.{facts_of};
 ghost use Rattle.cedar_typechecker_model.specs.Facts.{no_facts};
 ghost use Rattle.cedar_typechecker_answers.specs.Answers.{seen, typed_at};
 ghost use Rattle.cedar_typechecker_answers.specs.Surface.{has_type, held, root_type, MapsFacts};
@@ -12,7 +12,7 @@ use crate::answer::TypecheckAnswer;
 use crate::faults::no_type;
 use cedar_expr_trees::Expr;
 use cedar_schema_types::Type;
-use cedar_typechecker_facts::CapabilitySet;
+use cedar_typechecker_environments::CapabilitySet;
 use std::alloc::{AllocError, Global};
 
 impl<'a> TypecheckAnswer<'a> {

@@ -2,12 +2,11 @@
 
 use crate::types::{ty, types, union};
 use cedar_expr_functions::{ExtensionFunctionLookupError, Extensions};
-use cedar_schema_core_types::{CoreSchemaType, CoreTypeError, core_schema_type};
-use cedar_schema_joins::{ValidationMode, least_upper_bound, reduce_to_least_upper_bound};
-use cedar_schema_restricted::typecheck_restricted_expr;
-use cedar_schema_types::{OpenTag, Type};
-use cedar_test_exprs::{read, word};
-use cedar_test_helpers::{both, copied, kept, made, say, show, tell, told};
+use cedar_schema_joins::{
+    ValidationMode, least_upper_bound, reduce_to_least_upper_bound, typecheck_restricted_expr,
+};
+use cedar_schema_types::{CoreSchemaType, CoreTypeError, OpenTag, Type, core_schema_type};
+use cedar_test_exprs::{both, copied, kept, made, read, say, show, tell, told, word};
 use std::alloc::{AllocError, Global};
 
 // Does the command.

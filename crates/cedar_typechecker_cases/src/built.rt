@@ -2,15 +2,15 @@
 
 ghost use Rattle.std.specs.Prelude.{IfOk};
 ghost use Rattle.cedar_schema_built.specs.Views.{schema_kept};
-ghost use Rattle.cedar_typechecker_seen_model.specs.Seen.{IsClosed};
+ghost use Rattle.cedar_typechecker_model.specs.Seen.{IsClosed};
 
 use cedar_expr_functions::Extensions;
-use cedar_expr_raw_names::ConditionalName;
+use cedar_expr_leaves::ConditionalName;
 use cedar_schema_builder::SchemaError;
 use cedar_schema_built::ValidatorSchema;
 use cedar_schema_examples::fragment;
 use cedar_schema_fragments::{FragmentError, ValidatorSchemaFragment};
-use cedar_typechecker_schemas::laws::built_schemas_answer_alike;
+use cedar_typechecker::laws::built_schemas_answer_alike;
 use std::alloc::Global;
 
 // The schema of the fragment.

@@ -1,15 +1,15 @@
 //! Policies that are typed and validated.
 
 ghost use Rattle.cedar_schema_built.specs.Views.{schema_kept};
-ghost use Rattle.cedar_typechecker_seen_model.specs.Seen.{IsClosed};
+ghost use Rattle.cedar_typechecker_model.specs.Seen.{IsClosed};
 
 use crate::shown::{say_check, say_errors, say_warnings};
 use cedar_expr_functions::Extensions;
 use cedar_schema_built::ValidatorSchema;
 use cedar_schema_joins::ValidationMode;
+use cedar_store_parts::{ValidationError, ValidationWarning};
 use cedar_store_policies::Template;
-use cedar_store_records::{ValidationError, ValidationWarning};
-use cedar_test_helpers::{kept, say, show};
+use cedar_test_exprs::{kept, say, show};
 use cedar_test_store::template;
 use cedar_typechecker::{PolicyCheck, RequestEnv, Typechecker, Validator};
 use std::alloc::{AllocError, Global};

@@ -1,7 +1,7 @@
 //! Texts of what is found.
 
-use cedar_store_records::{ValidationError, ValidationErrorKind, ValidationWarning};
-use cedar_test_helpers::{say, show};
+use cedar_store_parts::{ValidationError, ValidationErrorKind, ValidationWarning};
+use cedar_test_exprs::{say, show};
 use cedar_typechecker::PolicyCheck;
 use std::alloc::{AllocError, Global};
 

@@ -1,8 +1,8 @@
 //! The rows on types.
 
 use crate::asked::done;
-use cedar_test_helpers::parted;
-use std::test::Fail;
+use cedar_test_exprs::parted;
+use std::alloc::{AllocError, Global};
 
 const ROWS: &str =
     r#"# copies of types as they are shown: as a schema writes them, and with names in a namespace of their own where it can't
@@ -140,15 +140,16 @@ asked {a: Bool, r: rank} | 1 call=other/0 record=a,r : no
 asked {..} | call=other/0 record=r : yes
 "#;
 
-#[test]
-fn rows_of_types_hold(rt: HostRuntime) -> Result<(), Fail> {
-    let alloc = rt.alloc();
+/// The first row on types that says something else, with what it says; nothing where all hold. Fails for want of memory.
+pub fn wrong_type_row(alloc: Global) -> Result<String, AllocError> {
     for row in ROWS.lines() {
         if let Some((verb, rest, wanted)) = parted(row) {
             let mut said = String::new(alloc);
             done(alloc, &mut said, verb, rest)?;
-            assert!(rt; said.as_str() == wanted, "{row}: {said}");
+            if said.as_str() != wanted {
+                return format!(in alloc; "{row}: {said}");
+            }
         }
     }
-    Ok(())
+    Ok(String::new(alloc))
 }

@@ -1,7 +1,7 @@
 //! Expressions that are typed, and environments.
 
 ghost use Rattle.cedar_schema_built.specs.Views.{schema_kept};
-ghost use Rattle.cedar_typechecker_seen_model.specs.Seen.{IsClosed};
+ghost use Rattle.cedar_typechecker_model.specs.Seen.{IsClosed};
 
 use cedar_expr_functions::Extensions;
 use cedar_expr_leaves::SlotId;
@@ -9,8 +9,7 @@ use cedar_expr_trees::Expr;
 use cedar_schema_built::ValidatorSchema;
 use cedar_schema_joins::ValidationMode;
 use cedar_store_parts::SlotEnv;
-use cedar_test_exprs::{read, uid};
-use cedar_test_helpers::{kept, say, show, told};
+use cedar_test_exprs::{kept, read, say, show, told, uid};
 use cedar_typechecker::asked::SchemaEnvironments;
 use cedar_typechecker::typecheck_answer::typecheck;
 use cedar_typechecker::{CapabilitySet, RequestEnv, SchemaAndFunctions, TypecheckAnswer, World};

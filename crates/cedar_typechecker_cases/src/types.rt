@@ -1,8 +1,7 @@
 //! The types that the rows name.
 
 use cedar_schema_types::{AttributeType, EntityKind, EntityLUB, OpenTag, Type};
-use cedar_test_exprs::{entity_type, name, word};
-use cedar_test_helpers::{kept, shared};
+use cedar_test_exprs::{entity_type, kept, name, shared, word};
 use std::alloc::{AllocError, Global};
 use std::rc::{Rc, RcStr};
 

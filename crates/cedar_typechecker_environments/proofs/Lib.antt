@@ -1,0 +1,5 @@
+mod Copies
+pub mod Members
+mod Merges
+mod Searched
+pub mod Told

@@ -1,2 +1,4 @@
 pub mod Settings
 pub mod Signatures
+pub mod Facts
+pub mod Merged

@@ -8,15 +8,14 @@ ghost use Rattle.cedar_schema_types.specs.Types.{type_of, attributes_of};
 ghost use Rattle.cedar_expr_leaves.specs.Slots.{slot_of};
 ghost use Rattle.cedar_store_model.specs.Policy.{binding_of};
 ghost use Rattle.cedar_store_parts.specs.Parts.{bindings_of};
-ghost use Rattle.cedar_store_records.specs.Views.{kind_of};
+ghost use Rattle.cedar_store_parts.specs.Views.{kind_of};
 ghost use Rattle.cedar_typechecker_environments.specs.Settings.{environment_of};
 
 use crate::setting::TypingSchema;
 use cedar_expr_leaves::SlotId;
 use cedar_expr_names::{EntityType, EntityUID};
 use cedar_schema_types::{Attributes, OpenTag, Type};
-use cedar_store_parts::SlotEnv;
-use cedar_store_records::RequestType;
+use cedar_store_parts::{RequestType, SlotEnv};
 use std::alloc::{AllocError, Global};
 
 /// The types of the parts of a request; those of the slots are none where there is no slot.

@@ -12,8 +12,7 @@ ghost use Rattle.cedar_typechecker_model.specs.Rules.{tags_of};
 use crate::request_env::RequestEnv;
 use cedar_expr_names::{EntityType, EntityUID, Name};
 use cedar_expr_values::Type as CoreType;
-use cedar_schema_admission::DeclaredAttributes;
-use cedar_schema_joins::ValidationMode;
+use cedar_schema_joins::{DeclaredAttributes, ValidationMode};
 use cedar_schema_types::Type;
 use std::alloc::AllocError;
 

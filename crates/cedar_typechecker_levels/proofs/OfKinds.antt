@@ -20,8 +20,8 @@ use Rattle.cedar_expr_trees.proofs.Trees.{call_tree, set_tree, record_tree}
 use Rattle.cedar_schema_types.specs.declared.types.Type.{«Type» as CodeType}
 use Rattle.cedar_typechecker_model.specs.Levels.{Violation}
 use Rattle.cedar_typechecker_model.specs.Rules.{Setting}
-use Rattle.cedar_typechecker_typed_model.specs.Typed.{mark, marks}
-use Rattle.cedar_typechecker_level_model.specs.Reported.{steps, reported, reached, reached_in_fields, steps_in_fields}
+use Rattle.cedar_typechecker_model.specs.Typed.{mark, marks}
+use Rattle.cedar_typechecker_model.specs.Reported.{steps, reported, reached, reached_in_fields, steps_in_fields}
 use Rattle.cedar_typechecker_levels.specs.InRows.{steps_of, reported_of, reached_of, steps_in, others_in, reached_in}
 use Rattle.cedar_typechecker_levels.specs.Marked.{type_in, kind_marks, row_marks, marks_of}
 use Rattle.cedar_typechecker_levels.specs.Paths.{first_apart}

@@ -11,8 +11,8 @@ use Rattle.cedar_schema_model.specs.Types.{Ty}
 use Rattle.cedar_typechecker_model.specs.Levels.{needed, is_entity, entity_steps, fields_before}
 use Rattle.cedar_typechecker_model.specs.Rules.{Setting}
 use Rattle.cedar_typechecker_model.specs.Typing.{step_type}
-use Rattle.cedar_typechecker_level_model.proofs.Numbers.{needed_again}
-use Rattle.cedar_typechecker_level_model.specs.Reported.{further_on}
+use Rattle.cedar_typechecker_model.proofs.Numbers.{needed_again}
+use Rattle.cedar_typechecker_model.specs.Reported.{further_on}
 use Rattle.cedar_typechecker_levels.specs.Along.{entity_steps_along, fields_along}
 
 module _ (s : Setting) where

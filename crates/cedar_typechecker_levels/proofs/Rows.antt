@@ -13,9 +13,9 @@ use Rattle.cedar_expr_trees.specs.declared.expr.Expr.{Expr}
 use Rattle.cedar_schema_types.specs.declared.types.Type.{«Type» as CodeType}
 use Rattle.cedar_typechecker_model.specs.Levels.{Violation}
 use Rattle.cedar_typechecker_model.specs.Rules.{Setting}
-use Rattle.cedar_typechecker_typed_model.specs.Typed.{Marks, MarkRow, no_marks, marks}
-use Rattle.cedar_typechecker_typed_model.specs.Counts.{head, rest}
-use Rattle.cedar_typechecker_level_model.specs.Reported.{steps_in_fields, reported, reported_in_row, reported_in_fields, reached_in_fields}
+use Rattle.cedar_typechecker_model.specs.Typed.{Marks, MarkRow, no_marks, marks}
+use Rattle.cedar_typechecker_model.specs.Counts.{head, rest}
+use Rattle.cedar_typechecker_model.specs.Reported.{steps_in_fields, reported, reported_in_row, reported_in_fields, reached_in_fields}
 use Rattle.cedar_typechecker_levels.specs.InRows.{Fields, steps_of, reported_of, reached_of, steps_in, others_in, reached_in}
 use Rattle.cedar_typechecker_levels.specs.Marked.{marks_of}
 

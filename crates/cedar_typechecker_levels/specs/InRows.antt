@@ -13,7 +13,7 @@ use Rattle.cedar_expr_trees.specs.declared.expr.Expr.{Expr}
 use Rattle.cedar_schema_types.specs.declared.types.Type.{«Type» as CodeType}
 use Rattle.cedar_typechecker_model.specs.Levels.{Violation}
 use Rattle.cedar_typechecker_model.specs.Rules.{Setting}
-use Rattle.cedar_typechecker_level_model.specs.Reported.{steps, reported, reached}
+use Rattle.cedar_typechecker_model.specs.Reported.{steps, reported, reached}
 use Rattle.cedar_typechecker_levels.specs.Marked.{marks_of}
 
 abbrev pub Fields : Type 0

@@ -6,7 +6,7 @@ use Rattle.cedar_expr_trees.specs.declared.expr.ExprKind.{ExprKind, Row_of-Expr,
 use Rattle.cedar_schema_model.specs.Types.{Ty}
 use Rattle.cedar_schema_types.specs.Types.{type_of}
 use Rattle.cedar_schema_types.specs.declared.types.Type.{«Type» as CodeType}
-use Rattle.cedar_typechecker_typed_model.specs.Typed.{Marks, mark, MarkRow, no_marks, marks, one, two, three}
+use Rattle.cedar_typechecker_model.specs.Typed.{Marks, mark, MarkRow, no_marks, marks, one, two, three}
 
 abbrev pub type_in : Option CodeType → Option Ty
 type_in d = option_map type_of d

@@ -13,7 +13,7 @@ ghost use Rattle.cedar_typechecker_levels.specs.Paths.{path_of};
 use crate::kinds::{further, is_entity_type};
 use crate::path::Path;
 use cedar_expr_leaves::NonEmpty;
-use cedar_schema_admission::lookup_attribute_type;
+use cedar_schema_joins::lookup_attribute_type;
 use cedar_schema_types::{AttributeType, Type};
 use cedar_typechecker_environments::{TypingSchema, World};
 use std::alloc::{AllocError, Global};

@@ -6,7 +6,7 @@ ghost use Rattle.cedar_schema_types.specs.Types.{type_of};
 ghost use Rattle.cedar_schema_types.specs.Unions.{entities_of};
 ghost use Rattle.cedar_store_model.specs.Looks.{looks_up};
 ghost use Rattle.cedar_typechecker_model.specs.Levels.{is_entity};
-ghost use Rattle.cedar_typechecker_level_model.specs.Reported.{may_be_true, may_be_false, is_get_tag, further_on};
+ghost use Rattle.cedar_typechecker_model.specs.Reported.{may_be_true, may_be_false, is_get_tag, further_on};
 ghost use Rattle.cedar_typechecker_levels.specs.Marked.{type_in};
 
 use cedar_expr_leaves::BinaryOp;

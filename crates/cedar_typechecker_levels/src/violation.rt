@@ -6,7 +6,7 @@ ghost use Rattle.cedar_expr_model.specs.Tree.{lit};
 ghost use Rattle.cedar_expr_trees.specs.Trees.{tree_of};
 ghost use Rattle.cedar_typechecker_environments.specs.Settings.{setting_of};
 ghost use Rattle.cedar_typechecker_model.specs.Levels.{literal_count};
-ghost use Rattle.cedar_typechecker_level_model.specs.Reported.{too_far};
+ghost use Rattle.cedar_typechecker_model.specs.Reported.{too_far};
 ghost use Rattle.cedar_typechecker_levels.specs.Views.{violation_of};
 
 use cedar_expr_leaves::Literal;

@@ -12,3 +12,12 @@ pub mod Levels
 pub mod Larger
 pub mod Sound
 pub mod Moved
+mod Held
+pub mod Judged
+pub mod Same
+pub mod Counted
+pub mod Numbers
+pub mod Choices
+pub mod SameCounts
+pub mod Alike
+pub mod Seen

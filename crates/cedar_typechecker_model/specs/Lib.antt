@@ -12,3 +12,14 @@ pub mod Laws
 pub mod LevelLaws
 pub mod OrderLaws
 pub mod Worked
+pub mod Typed
+pub mod Counts
+pub mod TypedLaws
+pub mod Reported
+pub mod ReportLaws
+pub mod Alike
+pub mod Seen
+pub mod Asked
+pub mod AlikeLaws
+pub mod SeenLaws
+pub mod AskedLaws

@@ -1,2 +1,5 @@
 pub mod TypedRows
 pub mod PathTests
+pub mod ByKind
+pub mod InRows
+pub mod Smaller

@@ -15,8 +15,8 @@ use Rattle.cedar_typechecker_answers.specs.declared.answer.Judged.{Judged}
 use Rattle.cedar_typechecker_model.specs.Facts.{Facts}
 use Rattle.cedar_typechecker_model.specs.Rules.{Setting}
 use Rattle.cedar_typechecker_model.specs.Typing.{Judgement, path_judged}
-use Rattle.cedar_typechecker_nodes.specs.Marked.{type_in, kind_marks}
-use Rattle.cedar_typechecker_typed_model.specs.Typed.{mark, one, noted, path_typed}
+use Rattle.cedar_typechecker_answers.specs.Marked.{type_in, kind_marks}
+use Rattle.cedar_typechecker_model.specs.Typed.{mark, one, noted, path_typed}
 
 pub judged_so : {E : Type 0} (r : Result (Option Judged) E) (o p : Option Judgement) → o ≡ p → IfOk r (λ j. option_map judgement_seen j ≡ o) → IfOk r (λ j. option_map judgement_seen j ≡ p)
 judged_so r o p e h = subst (λ q. IfOk r (λ j. option_map judgement_seen j ≡ q)) e h

@@ -30,8 +30,8 @@ use Rattle.cedar_schema_types.specs.declared.types.Type.{«Type» as CodeType}
 use Rattle.cedar_typechecker_model.specs.Facts.{no_facts}
 use Rattle.cedar_typechecker_model.specs.Rules.{has_names_once, record_literal_type}
 use Rattle.cedar_typechecker_model.specs.Typing.{plain}
-use Rattle.cedar_typechecker_typed_model.specs.Typed.{Typed, Row, no_row, row_with, FieldRow, no_field_row, field_row_with, record_typed, noted}
-use Rattle.cedar_typechecker_nodes.specs.Marked.{type_in, marks_of, rows}
+use Rattle.cedar_typechecker_model.specs.Typed.{Typed, Row, no_row, row_with, FieldRow, no_field_row, field_row_with, record_typed, noted}
+use Rattle.cedar_typechecker_answers.specs.Marked.{type_in, marks_of, rows}
 use Rattle.cedar_typechecker_answers.specs.Answers.{typed_at, seen}
 use Rattle.cedar_typechecker_answers.specs.declared.answer.TypecheckAnswer.{TypecheckAnswer}
 use Rattle.cedar_typechecker_operators.specs.Rows.{then_row, then_fields, type_at, required_at}

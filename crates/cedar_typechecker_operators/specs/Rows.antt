@@ -12,8 +12,8 @@ use Rattle.cedar_expr_trees.specs.declared.expr.Expr.{Expr}
 use Rattle.cedar_schema_model.specs.Types.{Ty, Declared}
 use Rattle.cedar_schema_types.specs.declared.types.Type.{«Type» as CodeType}
 use Rattle.cedar_typechecker_model.specs.Facts.{no_facts}
-use Rattle.cedar_typechecker_typed_model.specs.Typed.{Row, no_row, row_with, FieldRow, no_field_row, field_row_with}
-use Rattle.cedar_typechecker_nodes.specs.Marked.{type_in}
+use Rattle.cedar_typechecker_model.specs.Typed.{Row, no_row, row_with, FieldRow, no_field_row, field_row_with}
+use Rattle.cedar_typechecker_answers.specs.Marked.{type_in}
 use Rattle.cedar_typechecker_answers.specs.Answers.{typed_at}
 
 -- these, and then a row

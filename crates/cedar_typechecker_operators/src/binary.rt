@@ -5,13 +5,13 @@ ghost use Rattle.cedar_expr_model.specs.Tree.{binary};
 ghost use Rattle.cedar_expr_leaves.specs.Operators.{binary_op_of};
 ghost use Rattle.cedar_expr_trees.specs.Trees.{tree_of};
 ghost use Rattle.cedar_schema_types.specs.Types.{type_of};
-ghost use Rattle.cedar_typechecker_facts.specs.Facts.{facts_of};
+ghost use Rattle.cedar_typechecker_environments.specs.Facts.{facts_of};
 ghost use Rattle.cedar_typechecker_model.specs.Facts.{tag_part};
 ghost use Rattle.cedar_typechecker_model.specs.Rules.{get_tag_type as model_get_tag_type, has_tag_type as model_has_tag_type};
 ghost use Rattle.cedar_typechecker_model.specs.Typing.{binary_judged, plain, tested as model_tested};
 ghost use Rattle.cedar_typechecker_environments.specs.Settings.{setting_of};
-ghost use Rattle.cedar_typechecker_typed_model.specs.Typed.{binary_typed, noted, two};
-ghost use Rattle.cedar_typechecker_nodes.specs.Marked.{marks_of};
+ghost use Rattle.cedar_typechecker_model.specs.Typed.{binary_typed, noted, two};
+ghost use Rattle.cedar_typechecker_answers.specs.Marked.{marks_of};
 ghost use Rattle.cedar_typechecker_answers.specs.Answers.{seen, judgement_seen};
 
 use crate::operators::tested;
@@ -19,12 +19,11 @@ use cedar_expr_leaves::BinaryOp;
 use cedar_expr_names::Loc;
 use cedar_expr_trees::{Expr, ExprKind};
 use cedar_schema_types::Type;
-use cedar_store_records::ValidationErrorKind;
+use cedar_store_parts::ValidationErrorKind;
 use cedar_typechecker_answers::{
     Faults, Judged, TypecheckAnswer, judged_node, no_type, shared_two,
 };
-use cedar_typechecker_environments::{TypingSchema, World};
-use cedar_typechecker_facts::{Capability, CapabilitySet};
+use cedar_typechecker_environments::{Capability, CapabilitySet, TypingSchema, World};
 use cedar_typechecker_rules::{
     equal_type, get_tag_type, has_tag_type, in_type, member_type, number_type, order_type,
     sets_type,

@@ -2,19 +2,18 @@
 
 ghost use Rattle.std.specs.Prelude.{◌≡◌, option_map, option_and_then, IfOk};
 ghost use Rattle.cedar_schema_types.specs.Types.{type_of};
-ghost use Rattle.cedar_typechecker_facts.specs.Facts.{facts_of};
+ghost use Rattle.cedar_typechecker_environments.specs.Facts.{facts_of};
 ghost use Rattle.cedar_typechecker_model.specs.Typing.{chosen as model_chosen};
 ghost use Rattle.cedar_typechecker_environments.specs.Settings.{setting_of};
-ghost use Rattle.cedar_typechecker_typed_model.specs.Typed.{chosen_typed};
+ghost use Rattle.cedar_typechecker_model.specs.Typed.{chosen_typed};
 ghost use Rattle.cedar_typechecker_answers.specs.Answers.{seen, judgement_seen};
 
 use cedar_expr_names::Loc;
 use cedar_expr_trees::ExprKind;
 use cedar_schema_types::Type;
-use cedar_store_records::ValidationErrorKind;
+use cedar_store_parts::ValidationErrorKind;
 use cedar_typechecker_answers::{Faults, Judged, TypecheckAnswer, judged_node, no_type};
-use cedar_typechecker_environments::{TypingSchema, World};
-use cedar_typechecker_facts::CapabilitySet;
+use cedar_typechecker_environments::{CapabilitySet, TypingSchema, World};
 use cedar_typechecker_rules::chosen_type;
 use std::alloc::{AllocError, Global};
 use std::rc::Rc;

@@ -7,13 +7,13 @@ ghost use Rattle.cedar_expr_leaves.specs.Variables.{var_of};
 ghost use Rattle.cedar_expr_model.specs.Tree.{lit, var, slot};
 ghost use Rattle.cedar_typechecker_model.specs.Facts.{no_facts};
 ghost use Rattle.cedar_typechecker_environments.specs.Settings.{setting_of};
-ghost use Rattle.cedar_typechecker_typed_model.specs.Typed.{typed};
+ghost use Rattle.cedar_typechecker_model.specs.Typed.{typed};
 ghost use Rattle.cedar_typechecker_answers.specs.Answers.{seen};
 
 use cedar_expr_leaves::{Literal, SlotId, Var};
 use cedar_expr_names::Loc;
 use cedar_expr_trees::ExprKind;
-use cedar_store_records::ValidationErrorKind;
+use cedar_store_parts::ValidationErrorKind;
 use cedar_typechecker_answers::{Faults, TypecheckAnswer, plain_node};
 use cedar_typechecker_environments::{TypingSchema, World};
 use cedar_typechecker_rules::{literal_type, slot_type, var_type};

@@ -1,6 +1,7 @@
-//! The answers of typing for operators, attributes, tests, literals, calls, sets, records and choices, by those of their parts.
-//! Each is exact: `seen` of an answer is what the model's `typed` has for that kind.
-//! The typechecker's walk is made of these and of the answers of connectives.
+//! The answers of typing for operators, attributes, tests, literals, calls, sets, records and choices, and the one recursion over them.
+//! Contract: each answer is exact (`seen` of it is what the model's `typed` has for that kind), and `typecheck` gives exactly what `typed` has,
+//! which by `cedar_typechecker_model`'s laws is what the rules judge.
+//! Used by the typechecker, which types the condition of each policy by it, once for each environment.
 #![tactic(auto)]
 
 mod binary;
@@ -9,6 +10,7 @@ mod leaves;
 mod operators;
 mod paths;
 mod rows;
+mod walk;
 
 pub use binary::binary_answer;
 pub use choice::chosen_answer;
@@ -16,3 +18,4 @@ pub use leaves::{literal_answer, slot_answer, variable_answer};
 pub use operators::{get_answer, has_answer, is_answer, like_answer, unary_answer};
 pub use paths::path_answer;
 pub use rows::{call_answer, record_answer, set_answer};
+pub use walk::typecheck;

@@ -7,27 +7,26 @@ ghost use Rattle.cedar_expr_leaves.specs.Operators.{unary_op_of};
 ghost use Rattle.cedar_expr_leaves.specs.Patterns.{pattern_of};
 ghost use Rattle.cedar_expr_model.specs.Tree.{get_attr, has_attr, like, is_type};
 ghost use Rattle.cedar_expr_trees.specs.Trees.{tree_of, kind_tree};
-ghost use Rattle.cedar_typechecker_facts.specs.Facts.{capability_of, facts_of};
+ghost use Rattle.cedar_typechecker_environments.specs.Facts.{capability_of, facts_of};
 ghost use Rattle.cedar_typechecker_environments.specs.Settings.{setting_of};
-ghost use Rattle.cedar_typechecker_typed_model.specs.Typed.{unary_typed, like_typed, is_typed, get_typed, has_typed, noted, one};
+ghost use Rattle.cedar_typechecker_model.specs.Typed.{unary_typed, like_typed, is_typed, get_typed, has_typed, noted, one};
 ghost use Rattle.cedar_schema_types.specs.Kinds.{bool_type_of};
 ghost use Rattle.cedar_schema_types.specs.Types.{type_of};
 ghost use Rattle.cedar_typechecker_model.specs.Rules.{get_type as model_get_type, has_type as model_has_type};
 ghost use Rattle.cedar_typechecker_model.specs.Facts.{attribute_part};
 ghost use Rattle.cedar_typechecker_model.specs.Typing.{plain, tested as model_tested};
-ghost use Rattle.cedar_typechecker_nodes.specs.Marked.{marks_of, kind_marks};
+ghost use Rattle.cedar_typechecker_answers.specs.Marked.{marks_of, kind_marks};
 ghost use Rattle.cedar_typechecker_answers.specs.Answers.{seen, judgement_seen};
 
 use cedar_expr_leaves::{Pattern, UnaryOp};
 use cedar_expr_names::{EntityType, Loc};
 use cedar_expr_trees::{Expr, ExprKind};
 use cedar_schema_types::{BoolType, Type};
-use cedar_store_records::ValidationErrorKind;
+use cedar_store_parts::ValidationErrorKind;
 use cedar_typechecker_answers::{
     Faults, Judged, TypecheckAnswer, judged_node, no_type, plain_node,
 };
-use cedar_typechecker_environments::{TypingSchema, World};
-use cedar_typechecker_facts::{Capability, CapabilitySet};
+use cedar_typechecker_environments::{Capability, CapabilitySet, TypingSchema, World};
 use cedar_typechecker_rules::{get_type, has_type, is_type_type, like_type, unary_type};
 use std::alloc::{AllocError, Global};
 use std::rc::{Rc, RcStr};

@@ -6,11 +6,11 @@ ghost use Rattle.cedar_expr_model.specs.Tree.{get_attr};
 ghost use Rattle.cedar_expr_trees.specs.Trees.{tree_of};
 ghost use Rattle.cedar_schema_types.specs.Kinds.{bool_type_of};
 ghost use Rattle.cedar_schema_types.specs.Types.{type_of};
-ghost use Rattle.cedar_typechecker_facts.specs.Facts.{capability_of, facts_of};
+ghost use Rattle.cedar_typechecker_environments.specs.Facts.{capability_of, facts_of};
 ghost use Rattle.cedar_typechecker_model.specs.Facts.{fact as model_fact, attribute_part};
 ghost use Rattle.cedar_typechecker_model.specs.Typing.{path_judged, step_type as model_step_type, conjoined, tested as model_tested};
 ghost use Rattle.cedar_typechecker_environments.specs.Settings.{setting_of};
-ghost use Rattle.cedar_typechecker_typed_model.specs.Typed.{path_typed};
+ghost use Rattle.cedar_typechecker_model.specs.Typed.{path_typed};
 ghost use Rattle.cedar_typechecker_answers.specs.Answers.{seen, judgement_seen};
 
 use crate::operators::{attribute_there, tested};
@@ -18,12 +18,11 @@ use cedar_expr_leaves::NonEmpty;
 use cedar_expr_names::Loc;
 use cedar_expr_trees::{Expr, ExprKind};
 use cedar_schema_types::{BoolType, Type};
-use cedar_store_records::ValidationErrorKind;
+use cedar_store_parts::ValidationErrorKind;
 use cedar_typechecker_answers::{
     Faults, Judged, TypecheckAnswer, conjoined_bool, judged_node, no_type,
 };
-use cedar_typechecker_environments::{TypingSchema, World};
-use cedar_typechecker_facts::{Capability, CapabilitySet};
+use cedar_typechecker_environments::{Capability, CapabilitySet, TypingSchema, World};
 use cedar_typechecker_rules::step_type;
 use std::alloc::{AllocError, Global};
 use std::rc::{Rc, RcStr};

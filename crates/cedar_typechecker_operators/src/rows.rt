@@ -9,17 +9,18 @@ ghost use Rattle.cedar_schema_types.specs.AttributeLists.{required_pairs};
 ghost use Rattle.cedar_schema_types.specs.Types.{type_of};
 ghost use Rattle.cedar_typechecker_model.specs.Rules.{call_type as model_call_type, set_literal_type as model_set_type};
 ghost use Rattle.cedar_typechecker_environments.specs.Settings.{setting_of};
-ghost use Rattle.cedar_typechecker_typed_model.specs.Typed.{call_typed, set_typed, record_typed};
+ghost use Rattle.cedar_typechecker_model.specs.Typed.{call_typed, set_typed, record_typed};
 ghost use Rattle.cedar_typechecker_answers.specs.Answers.{seen};
 ghost use Rattle.cedar_typechecker_operators.specs.Rows.{type_at, row_found, required_at, fields_found, rising_found};
 
 use cedar_expr_names::{Loc, Name};
 use cedar_expr_trees::Expr;
 use cedar_schema_types::{OpenTag, Type};
-use cedar_store_records::ValidationErrorKind;
-use cedar_typechecker_answers::{Faults, TypecheckAnswer, no_type, plain_node};
+use cedar_store_parts::ValidationErrorKind;
+use cedar_typechecker_answers::{
+    Faults, TypecheckAnswer, call_kind, no_type, plain_node, record_kind, set_kind,
+};
 use cedar_typechecker_environments::{TypingSchema, World};
-use cedar_typechecker_nodes::{call_kind, record_kind, set_kind};
 use cedar_typechecker_rules::{call_type, set_literal_type};
 use std::alloc::{AllocError, Global};
 use std::rc::RcStr;

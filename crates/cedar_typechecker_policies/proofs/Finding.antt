@@ -6,7 +6,7 @@ use Rattle.cedar_expr_model.specs.Table.{Table}
 use Rattle.cedar_schema_model.specs.Schema.{Schema}
 use Rattle.cedar_schema_model.specs.Types.{Mode, strict}
 use Rattle.cedar_store_model.specs.Policy.{Policy}
-use Rattle.cedar_store_records.specs.declared.diagnostics.ValidationError.{ValidationError}
+use Rattle.cedar_store_parts.specs.declared.diagnostics.ValidationError.{ValidationError}
 use Rattle.cedar_typechecker_model.specs.Verdicts.{passes_in, policy_environments, policy_violations_in}
 use Rattle.cedar_typechecker_policies.specs.Findings.{LevelsOver, reached_by}
 use Rattle.cedar_typechecker_policies.specs.Found.{FindsErrors, scope_blames}

@@ -2,10 +2,10 @@
 use Rattle.std.proofs.Common.{◌≡◌, Option, refl}
 use Rattle.cedar_expr_trees.specs.declared.expr.ExprKind.{ExprKind, Row_of-Expr, end_of-Expr, more_of-Expr, Lit, Var, Slot, Unknown, If', And', Or', UnaryApp', BinaryApp', ExtensionFunctionApp', GetAttr', HasAttr', ExtHasAttr', Like', Is', Set', Record'}
 use Rattle.cedar_schema_types.specs.declared.types.Type.{«Type» as CodeType}
-use Rattle.cedar_typechecker_typed_model.specs.Typed.{mark, marks, one, two, three}
+use Rattle.cedar_typechecker_model.specs.Typed.{mark, marks, one, two, three}
 use Rattle.cedar_typechecker_levels.specs.Marked as levels
 use Rattle.cedar_typechecker_levels.specs.Marked.{type_in}
-use Rattle.cedar_typechecker_nodes.specs.Marked as nodes
+use Rattle.cedar_typechecker_answers.specs.Marked as nodes
 
 mutual
   pub same_kinds : (k : ExprKind (Option CodeType)) → nodes.kind_marks k ≡ levels.kind_marks k

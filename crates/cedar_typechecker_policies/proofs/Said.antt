@@ -20,9 +20,9 @@ use Rattle.cedar_typechecker_policies.specs.Checks.{IsChecked, CheckSays, is_pas
 use Rattle.cedar_typechecker_policies.specs.Findings.{violated}
 use Rattle.cedar_typechecker_policies.specs.declared.check.PolicyCheck.TheVariants.{Success, Irrelevant, Fail}
 use Rattle.cedar_typechecker_policies.specs.declared.checked.Checked.{Checked}
-use Rattle.cedar_typechecker_typed_model.specs.Counts.{violations_at}
-use Rattle.cedar_typechecker_typed_model.specs.Laws.{TypedAsJudged, SameTree, CountedOnMarks}
-use Rattle.cedar_typechecker_typed_model.specs.Typed.{typed}
+use Rattle.cedar_typechecker_model.specs.Counts.{violations_at}
+use Rattle.cedar_typechecker_model.specs.TypedLaws.{TypedAsJudged, SameTree, CountedOnMarks}
+use Rattle.cedar_typechecker_model.specs.Typed.{typed}
 
 fails : (o : Option Ty) → is_bool o ≡ false → verdict_of o ≡ fail
 fails (Some (bool_type b)) h = absurd (cc)

@@ -20,8 +20,8 @@ use Rattle.cedar_typechecker_model.proofs.Sound.Facts.{hold_none}
 use Rattle.cedar_typechecker_model.proofs.Sound.Policies.{conforming, passing_is_sound, types_are_sound}
 use Rattle.cedar_typechecker_model.proofs.Verdicts.{is_bool-Decides, passes-Decides}
 use Rattle.cedar_typechecker_policies.specs.Sound.{ForAlike, MeansTruth, PolicyMeansTruth, LooksInReach, with_bindings}
-use Rattle.cedar_typechecker_seen_model.specs.Alike.{AnswersAlike, HasSameSignatures}
-use Rattle.cedar_typechecker_seen_model.proofs.Alike.Policies.{types_alike, passing_alike, levels_alike}
+use Rattle.cedar_typechecker_model.specs.Alike.{AnswersAlike, HasSameSignatures}
+use Rattle.cedar_typechecker_model.proofs.Alike.Policies.{types_alike, passing_alike, levels_alike}
 
 any_good : (b : BoolType) (r : Res V) → IsGood (bool_type b) r → IsGood (bool_type any_bool) r
 any_good b (val v) h = in_any b v h

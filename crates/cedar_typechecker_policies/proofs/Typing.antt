@@ -17,10 +17,10 @@ use Rattle.cedar_typechecker_model.specs.Facts.{Facts, no_facts}
 use Rattle.cedar_typechecker_model.specs.Levels.{violations}
 use Rattle.cedar_typechecker_model.specs.Rules.{Setting}
 use Rattle.cedar_typechecker_model.specs.Typing.{type_of}
-use Rattle.cedar_typechecker_nodes.specs.Marked.{kind_marks}
-use Rattle.cedar_typechecker_typed_model.specs.Counts.{violations_at}
-use Rattle.cedar_typechecker_typed_model.specs.Laws.{TypedAsJudged, SameTree, CountedOnMarks, judgement_of}
-use Rattle.cedar_typechecker_typed_model.specs.Typed.{Typed, typed, mark, marked}
+use Rattle.cedar_typechecker_answers.specs.Marked.{kind_marks}
+use Rattle.cedar_typechecker_model.specs.Counts.{violations_at}
+use Rattle.cedar_typechecker_model.specs.TypedLaws.{TypedAsJudged, SameTree, CountedOnMarks, judgement_of}
+use Rattle.cedar_typechecker_model.specs.Typed.{Typed, typed, mark, marked}
 
 type_in_judged : (o : Option Typed) → option_map (λ j. j.type) (option_map judgement_of o) ≡ option_map (λ x. x.type) o
 type_in_judged None = refl

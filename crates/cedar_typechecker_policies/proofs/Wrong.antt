@@ -6,7 +6,7 @@ use Rattle.std.proofs.lemmas.Slice.Eq.{bytes_eq-Decides}
 use Rattle.cedar_expr_model.specs.Lists.{is_nil}
 use Rattle.cedar_expr_model.specs.Name.{Text}
 use Rattle.cedar_store_parts.specs.Parts.{id_text}
-use Rattle.cedar_store_records.specs.declared.diagnostics.ValidationError.{ValidationError}
+use Rattle.cedar_store_parts.specs.declared.diagnostics.ValidationError.{ValidationError}
 use Rattle.cedar_typechecker_policies.specs.Checks.{is_error_of}
 
 -- one more error of the policy

@@ -7,7 +7,7 @@ use Rattle.cedar_expr_model.specs.Lists.{is_nil}
 use Rattle.cedar_expr_model.specs.Name.{Text}
 use Rattle.cedar_expr_model.specs.Tree.{Tree}
 use Rattle.cedar_store_parts.specs.Parts.{id_text}
-use Rattle.cedar_store_records.specs.declared.diagnostics.ValidationError.{ValidationError}
+use Rattle.cedar_store_parts.specs.declared.diagnostics.ValidationError.{ValidationError}
 use Rattle.cedar_typechecker_policies.specs.Conditions.{IsTypedAs, IsVerdictOf}
 use Rattle.cedar_typechecker_model.specs.Facts.{no_facts}
 use Rattle.cedar_typechecker_model.specs.Rules.{Setting}
@@ -16,7 +16,7 @@ use Rattle.cedar_typechecker_model.specs.Verdicts.{Verdict, success, irrelevant,
 use Rattle.cedar_typechecker_policies.specs.declared.check.PolicyCheck.{PolicyCheck}
 use Rattle.cedar_typechecker_policies.specs.declared.check.PolicyCheck.TheVariants.{Success, Irrelevant, Fail}
 use Rattle.cedar_typechecker_policies.specs.declared.checked.Checked.{Checked}
-use Rattle.cedar_typechecker_typed_model.specs.Typed.{typed}
+use Rattle.cedar_typechecker_model.specs.Typed.{typed}
 
 -- whether the error is of the policy of this id
 abbrev pub is_error_of : Text → ValidationError → Bool

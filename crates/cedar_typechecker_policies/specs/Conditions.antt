@@ -11,8 +11,8 @@ use Rattle.cedar_typechecker_policies.specs.declared.verdict.Verdict.{Verdict}
 use Rattle.cedar_typechecker_model.specs.Facts.{Facts, no_facts}
 use Rattle.cedar_typechecker_model.specs.Rules.{Setting}
 use Rattle.cedar_typechecker_model.specs.Verdicts.{is_bool, is_false}
-use Rattle.cedar_typechecker_nodes.specs.Marked.{kind_marks}
-use Rattle.cedar_typechecker_typed_model.specs.Typed.{typed}
+use Rattle.cedar_typechecker_answers.specs.Marked.{kind_marks}
+use Rattle.cedar_typechecker_model.specs.Typed.{typed}
 
 -- The expression is the tree with the types of its parts, of which it has one itself.
 pub record IsTypedAs (s : Setting) (t : Tree) (e : Expr (Option CodeType)) : Type 0 where

@@ -12,7 +12,7 @@ use Rattle.cedar_schema_model.specs.Environment.{Environment}
 use Rattle.cedar_schema_model.specs.Schema.{Schema}
 use Rattle.cedar_schema_model.specs.Types.{Mode}
 use Rattle.cedar_store_model.specs.Policy.{Policy, condition}
-use Rattle.cedar_store_records.specs.Views.{too_deep, WarningSeen, impossible}
+use Rattle.cedar_store_parts.specs.Views.{too_deep, WarningSeen, impossible}
 use Rattle.cedar_typechecker_model.specs.Facts.{no_facts}
 use Rattle.cedar_typechecker_model.specs.Levels.{Violation, violations}
 use Rattle.cedar_typechecker_model.specs.Rules.{Setting}

@@ -11,9 +11,9 @@ use Rattle.cedar_expr_names.specs.declared.loc.Loc.{Loc}
 use Rattle.cedar_schema_model.specs.Schema.{Schema}
 use Rattle.cedar_schema_model.specs.Types.{Mode}
 use Rattle.cedar_store_model.specs.Policy.{Policy}
-use Rattle.cedar_store_records.specs.Views.{warning_of}
-use Rattle.cedar_store_records.specs.declared.diagnostics.ValidationError.{ValidationError}
-use Rattle.cedar_store_records.specs.declared.diagnostics.ValidationWarning.{ValidationWarning}
+use Rattle.cedar_store_parts.specs.Views.{warning_of}
+use Rattle.cedar_store_parts.specs.declared.diagnostics.ValidationError.{ValidationError}
+use Rattle.cedar_store_parts.specs.declared.diagnostics.ValidationWarning.{ValidationWarning}
 use Rattle.cedar_typechecker_model.specs.Verdicts.{passes_in, is_warned, policy_violations_in}
 use Rattle.cedar_typechecker_policies.specs.Checks.{is_error_of}
 use Rattle.cedar_typechecker_policies.specs.Findings.{reached_by, warned_as}

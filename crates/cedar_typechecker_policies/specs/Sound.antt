@@ -19,7 +19,7 @@ use Rattle.cedar_store_model.specs.World.{World}
 use Rattle.cedar_typechecker_model.specs.OfLaws.Simple.{IsOrderly}
 use Rattle.cedar_typechecker_model.specs.PolicySoundness.{IsConforming, IsBound, LookupsConform}
 use Rattle.cedar_typechecker_model.specs.Soundness.{IsGood, ConformsAt, Suits, SlotsAreBound}
-use Rattle.cedar_typechecker_seen_model.specs.Alike.{AnswersAlike, HasSameSignatures}
+use Rattle.cedar_typechecker_model.specs.Alike.{AnswersAlike, HasSameSignatures}
 
 -- of each schema and table that answer typing alike
 abbrev pub ForAlike : Schema → Table → (Schema → Table → Type 0) → Type 0

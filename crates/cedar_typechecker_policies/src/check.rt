@@ -16,10 +16,10 @@ ghost use Rattle.cedar_typechecker_policies.specs.Sound.{ForAlike, MeansTruth};
 use crate::checked::{Checked, check_condition};
 use cedar_expr_trees::Expr;
 use cedar_schema_types::Type;
+use cedar_store_parts::ValidationError;
 use cedar_store_policies::Template;
-use cedar_store_records::ValidationError;
 use cedar_typechecker_environments::{TypingSchema, World};
-use cedar_typechecker_typed_model::laws::typed_as_judged;
+use cedar_typechecker_model::typed_laws::typed_as_judged;
 use std::alloc::{AllocError, Global};
 
 /// What typing says of a policy in an environment.

@@ -13,19 +13,18 @@ ghost use Rattle.cedar_typechecker_model.specs.Facts.{no_facts};
 ghost use Rattle.cedar_typechecker_model.specs.Rules.{Setting};
 ghost use Rattle.cedar_typechecker_model.specs.Typing.{type_of};
 ghost use Rattle.cedar_typechecker_policies.specs.Checks.{IsChecked, is_error_of};
-ghost use Rattle.cedar_typechecker_typed_model.specs.Typed.{typed};
+ghost use Rattle.cedar_typechecker_model.specs.Typed.{typed};
 
 use crate::errors::errors_of;
 use crate::{Verdict, no_bool, typed_condition, verdict_of};
 use cedar_expr_names::Loc;
 use cedar_expr_trees::Expr;
 use cedar_schema_types::Type;
-use cedar_store_parts::PolicyID;
+use cedar_store_parts::{PolicyID, ValidationError};
 use cedar_store_policies::Template;
-use cedar_store_records::ValidationError;
 use cedar_typechecker_answers::Faults;
 use cedar_typechecker_environments::{TypingSchema, World};
-use cedar_typechecker_typed_model::laws::typed_as_judged;
+use cedar_typechecker_model::typed_laws::typed_as_judged;
 use std::alloc::{AllocError, Global};
 
 // A condition, typed in one environment.

@@ -5,14 +5,13 @@ ghost use Rattle.cedar_expr_trees.specs.Trees.{tree_of, data_of};
 ghost use Rattle.cedar_typechecker_policies.specs.Conditions.{IsTypedAs};
 ghost use Rattle.cedar_typechecker_environments.specs.Settings.{setting_of};
 ghost use Rattle.cedar_typechecker_model.specs.Facts.{no_facts};
-ghost use Rattle.cedar_typechecker_typed_model.specs.Typed.{typed};
+ghost use Rattle.cedar_typechecker_model.specs.Typed.{typed};
 
 use cedar_expr_trees::Expr;
 use cedar_schema_types::Type;
 use cedar_typechecker_answers::{Faults, TypecheckAnswer};
-use cedar_typechecker_environments::{TypingSchema, World};
-use cedar_typechecker_facts::CapabilitySet;
-use cedar_typechecker_typing::typecheck;
+use cedar_typechecker_environments::{CapabilitySet, TypingSchema, World};
+use cedar_typechecker_operators::typecheck;
 use std::alloc::{AllocError, Global};
 
 // The expression, if it has a type.

@@ -7,8 +7,7 @@ ghost use Rattle.cedar_store_parts.specs.Parts.{id_text};
 ghost use Rattle.cedar_typechecker_policies.specs.Checks.{is_error_of};
 
 use cedar_expr_names::Loc;
-use cedar_store_parts::PolicyID;
-use cedar_store_records::{ValidationError, ValidationErrorKind};
+use cedar_store_parts::{PolicyID, ValidationError, ValidationErrorKind};
 use cedar_typechecker_answers::{Faults, TypeFault};
 use std::alloc::{AllocError, Global};
 

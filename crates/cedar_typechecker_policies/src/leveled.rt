@@ -8,7 +8,7 @@ ghost use Rattle.cedar_schema_model.specs.Types.{strict};
 ghost use Rattle.cedar_store_model.specs.Policy.{condition};
 ghost use Rattle.cedar_store_parts.specs.Parts.{id_text};
 ghost use Rattle.cedar_store_policies.specs.Templates.{template_of, template_loc};
-ghost use Rattle.cedar_store_records.specs.Views.{warning_of};
+ghost use Rattle.cedar_store_parts.specs.Views.{warning_of};
 ghost use Rattle.cedar_typechecker_environments.specs.Settings.{environment_of, setting_of};
 ghost use Rattle.cedar_typechecker_levels.specs.Marked.{marks_of};
 ghost use Rattle.cedar_typechecker_levels.specs.Views.{violation_of};
@@ -19,7 +19,7 @@ ghost use Rattle.cedar_typechecker_policies.specs.Found.{FindsErrors, FindsWarni
 ghost use Rattle.cedar_typechecker_policies.specs.Sound.{ForAlike, PolicyMeansTruth, LooksInReach};
 ghost use Rattle.cedar_typechecker_scopes.specs.Applying.{application_warnings};
 ghost use Rattle.cedar_typechecker_scopes.specs.Faults.{blame_of};
-ghost use Rattle.cedar_typechecker_typed_model.specs.Counts.{violations_at};
+ghost use Rattle.cedar_typechecker_model.specs.Counts.{violations_at};
 
 use crate::checked::{Checked, check_condition};
 use crate::findings::{Findings, add_checked, add_errors, nothing_found};
@@ -27,16 +27,15 @@ use crate::policy::warning_for;
 use cedar_expr_trees::Expr;
 use cedar_schema_joins::ValidationMode;
 use cedar_schema_types::Type;
-use cedar_store_parts::PolicyID;
+use cedar_store_parts::{PolicyID, ValidationError, ValidationErrorKind, ValidationWarning};
 use cedar_store_policies::Template;
-use cedar_store_records::{ValidationError, ValidationErrorKind, ValidationWarning};
 use cedar_typechecker_environments::{RequestEnv, TypingSchema, World};
 use cedar_typechecker_levels::{EntityDerefLevel, LevelViolation, level_violations};
+use cedar_typechecker_model::typed_laws::{counted_on_marks, typed_as_judged};
 use cedar_typechecker_scopes::{
     SchemaEnvironments, ScopeSchema, policy_environments, validate_action_ids,
     validate_entity_types, validate_enum_entity, validate_template_action_application,
 };
-use cedar_typechecker_typed_model::laws::{counted_on_marks, typed_as_judged};
 use std::alloc::{AllocError, Global};
 
 // What typing and levels say of a policy.

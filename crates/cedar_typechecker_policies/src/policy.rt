@@ -6,7 +6,7 @@ ghost use Rattle.std.specs.Set.{IsUnion};
 ghost use Rattle.cedar_schema_joins.specs.Modes.{mode_of};
 ghost use Rattle.cedar_schema_model.specs.Types.{strict};
 ghost use Rattle.cedar_store_policies.specs.Templates.{template_of, template_loc};
-ghost use Rattle.cedar_store_records.specs.Views.{warning_of};
+ghost use Rattle.cedar_store_parts.specs.Views.{warning_of};
 ghost use Rattle.cedar_typechecker_model.specs.Verdicts.{passes_in, is_warned};
 ghost use Rattle.cedar_typechecker_policies.specs.Findings.{warned_as};
 ghost use Rattle.cedar_typechecker_policies.specs.Found.{GainsErrors, GainsWarnings};
@@ -15,8 +15,8 @@ ghost use Rattle.cedar_typechecker_policies.specs.Sound.{ForAlike, PolicyMeansTr
 use crate::findings::{Findings, typecheck_all};
 use crate::sets::add_all;
 use cedar_schema_joins::ValidationMode;
+use cedar_store_parts::{ValidationError, ValidationWarning};
 use cedar_store_policies::Template;
-use cedar_store_records::{ValidationError, ValidationWarning};
 use cedar_typechecker_scopes::SchemaEnvironments;
 use std::alloc::{AllocError, Global};
 use std::collections::HashSet;

@@ -8,7 +8,7 @@ ghost use Rattle.cedar_typechecker_model.specs.Rules.{has_type, has_field, attri
 ghost use Rattle.cedar_typechecker_model.specs.Typing.{step_type};
 ghost use Rattle.cedar_typechecker_environments.specs.Settings.{setting_of};
 
-use cedar_schema_admission::{lookup_attribute_type, may_have_attr};
+use cedar_schema_joins::{lookup_attribute_type, may_have_attr};
 use cedar_schema_types::{AttributeType, BoolType, OpenTag, Type};
 use cedar_typechecker_environments::{TypingSchema, World};
 use std::alloc::{AllocError, Global};

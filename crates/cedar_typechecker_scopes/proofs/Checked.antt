@@ -12,7 +12,7 @@ use Rattle.cedar_expr_model.specs.Value.{truth, long, text, entity}
 use Rattle.cedar_expr_model.specs.Tree.{Tree, lit, var, slot, unknown, choice, both, either, unary, binary, call, get_attr, has_attr, has_path, like, is_type, set_literal, record_literal}
 use Rattle.cedar_expr_model.specs.Parts.{subexpressions, uid_here}
 use Rattle.cedar_store_model.specs.Policy.{Policy, condition}
-use Rattle.cedar_store_records.specs.Views.{Wrong}
+use Rattle.cedar_store_parts.specs.Views.{Wrong}
 use Rattle.cedar_schema_model.specs.Schema.{Schema}
 use Rattle.cedar_typechecker_model.specs.ScopeRules.{kind_here, is_known_type, is_no_unknown_action, is_no_unknown_member, NamesKnownTypes, NamesKnownActions, NamesKnownMembers, names_known_types, names_known_actions, names_known_members}
 use Rattle.cedar_typechecker_model.proofs.Naming.{known_types-Decides, known_actions-Decides, known_members-Decides}

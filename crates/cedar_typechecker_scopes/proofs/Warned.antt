@@ -4,7 +4,7 @@ use Rattle.std.specs.Prelude.{if◌then◌else◌}
 use Rattle.std.specs.List.{list_any}
 use Rattle.cedar_expr_model.specs.Name.{Text}
 use Rattle.cedar_expr_names.specs.declared.loc.Loc.{Loc}
-use Rattle.cedar_store_records.specs.Views.{WarningSeen, fits_no_action}
+use Rattle.cedar_store_parts.specs.Views.{WarningSeen, fits_no_action}
 use Rattle.cedar_schema_model.specs.Schema.{Schema}
 use Rattle.cedar_schema_model.specs.Environment.{Environment, environments}
 use Rattle.cedar_typechecker_scopes.specs.Applying.{Asked, principal_fits, resource_fits, fits, would_mend, application_warnings}

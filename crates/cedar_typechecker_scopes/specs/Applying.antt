@@ -6,7 +6,7 @@ use Rattle.cedar_expr_model.specs.Name.{Text, Name, name_eq}
 use Rattle.cedar_expr_model.specs.Uid.{Uid, uid_eq}
 use Rattle.cedar_expr_names.specs.declared.loc.Loc.{Loc}
 use Rattle.cedar_store_model.specs.Policy.{Target, named, own_slot, Scope, any, exactly, inside, of_kind, of_kind_inside, ActionScope, any_action, exactly_action, inside_actions}
-use Rattle.cedar_store_records.specs.Views.{WarningSeen, fits_no_action}
+use Rattle.cedar_store_parts.specs.Views.{WarningSeen, fits_no_action}
 use Rattle.cedar_schema_model.specs.Schema.{Schema}
 use Rattle.cedar_schema_model.specs.Descent.{type_descends, action_descends}
 use Rattle.cedar_schema_model.specs.Environment.{Environment, environments}

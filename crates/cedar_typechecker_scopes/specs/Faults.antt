@@ -10,8 +10,8 @@ use Rattle.cedar_expr_model.specs.Tree.{Tree, lit, is_type}
 use Rattle.cedar_expr_model.specs.Parts.{subexpressions}
 use Rattle.cedar_store_model.specs.Policy.{Policy, SlotBindings, condition}
 use Rattle.cedar_store_parts.specs.Parts.{id_text}
-use Rattle.cedar_store_records.specs.Views.{Wrong, unknown_type, unknown_action, unknown_member, wrong_of}
-use Rattle.cedar_store_records.specs.declared.diagnostics.ValidationError.{ValidationError}
+use Rattle.cedar_store_parts.specs.Views.{Wrong, unknown_type, unknown_action, unknown_member, wrong_of}
+use Rattle.cedar_store_parts.specs.declared.diagnostics.ValidationError.{ValidationError}
 use Rattle.cedar_schema_model.specs.Schema.{Schema}
 use Rattle.cedar_typechecker_model.specs.ScopeRules.{is_known_type, is_no_unknown_action, is_no_unknown_member}
 

@@ -6,7 +6,7 @@ use Rattle.std.specs.Option.{option_map_or}
 use Rattle.cedar_store_model.specs.Policy.{Policy}
 use Rattle.cedar_schema_model.specs.Schema.{Schema}
 use Rattle.cedar_typechecker_model.specs.ScopeRules.{NamesKnownTypes, NamesKnownActions, NamesKnownMembers}
-use Rattle.cedar_store_records.specs.Views.{Wrong}
+use Rattle.cedar_store_parts.specs.Views.{Wrong}
 use Rattle.cedar_typechecker_scopes.specs.Faults.{ScopeRule, known_types, known_actions, known_members, wrong_uid, wrong_within, wrong_bound}
 
 -- what is wrong with a policy by one rule: in its scope and body, and with what its slots are bound to

@@ -7,7 +7,7 @@ ghost use Rattle.cedar_store_model.specs.Policy.{exactly};
 ghost use Rattle.cedar_store_parts.specs.Parts.{id_text, target_of, scope_of, action_scope_of, filled};
 ghost use Rattle.cedar_store_policies.specs.Policies.{policy_of, policy_loc};
 ghost use Rattle.cedar_store_policies.specs.Templates.{template_of, template_loc};
-ghost use Rattle.cedar_store_records.specs.Views.{fits_no_action, warning_of};
+ghost use Rattle.cedar_store_parts.specs.Views.{fits_no_action, warning_of};
 ghost use Rattle.cedar_typechecker_environments.specs.Settings.{environment_of};
 ghost use Rattle.cedar_typechecker_scopes.specs.Applying.{may_be_inside, may_meet, is_or_descends, action_meets, fits, would_mend, application_warnings};
 ghost use Rattle.cedar_typechecker_scopes.specs.Asking.{asked_of, part_asked, takes, perhaps_mended};
@@ -15,10 +15,10 @@ ghost use Rattle.cedar_typechecker_scopes.specs.Asking.{asked_of, part_asked, ta
 use crate::schema::ScopeSchema;
 use cedar_expr_names::{EntityType, EntityUID, Loc};
 use cedar_store_parts::{
-    ActionConstraint, EntityReference, PolicyID, PrincipalOrResource, PrincipalOrResourceConstraint,
+    ActionConstraint, EntityReference, PolicyID, PrincipalOrResource,
+    PrincipalOrResourceConstraint, ValidationWarning,
 };
 use cedar_store_policies::{Policy, Template};
-use cedar_store_records::ValidationWarning;
 use cedar_typechecker_environments::RequestEnv;
 use std::alloc::{AllocError, Global};
 use std::rc::Rc;

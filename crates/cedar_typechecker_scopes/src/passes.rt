@@ -11,9 +11,8 @@ use crate::schema::ScopeSchema;
 use crate::uids::{ScopeRule, add_expr, add_uid};
 use cedar_expr_leaves::SlotId;
 use cedar_expr_names::EntityUID;
-use cedar_store_parts::{PolicyID, SlotEnv};
+use cedar_store_parts::{PolicyID, SlotEnv, ValidationError};
 use cedar_store_policies::Template;
-use cedar_store_records::ValidationError;
 use std::alloc::{AllocError, Global};
 
 /// Reports each literal of an enumerated type that isn't a member of it, wherever it stands in the scope or the body.

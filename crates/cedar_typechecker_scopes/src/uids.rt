@@ -5,7 +5,7 @@ ghost use Rattle.cedar_expr_names.specs.Views.{type_name_of, uid_of};
 ghost use Rattle.cedar_expr_leaves.specs.Literals.{literal_of};
 ghost use Rattle.cedar_expr_trees.specs.Trees.{tree_of};
 ghost use Rattle.cedar_store_parts.specs.Parts.{id_text};
-ghost use Rattle.cedar_store_records.specs.Views.{wrong_of};
+ghost use Rattle.cedar_store_parts.specs.Views.{wrong_of};
 ghost use Rattle.cedar_typechecker_scopes.specs.Faults.{known_types, known_actions, known_members, wrong_type, wrong_uid, wrong_literal, wrong_here, blame, blamed, blame_of};
 ghost use Rattle.cedar_typechecker_scopes.specs.Rules.{rule_of};
 
@@ -13,8 +13,7 @@ use crate::schema::ScopeSchema;
 use cedar_expr_leaves::Literal;
 use cedar_expr_names::{EntityType, EntityUID, Loc};
 use cedar_expr_trees::{Expr, ExprKind};
-use cedar_store_parts::PolicyID;
-use cedar_store_records::{ValidationError, ValidationErrorKind};
+use cedar_store_parts::{PolicyID, ValidationError, ValidationErrorKind};
 use std::alloc::AllocError;
 
 // The scope rules.

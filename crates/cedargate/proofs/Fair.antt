@@ -20,16 +20,16 @@ use Rattle.cedar_expr_functions.specs.declared.err.CallFault.{CallFault}
 use Rattle.cedar_expr_functions.specs.declared.err.CallFault.TheVariants.{OutOfMemory, WrongNumArguments, ArgumentType, Fault}
 use Rattle.cedar_evaluator_model.specs.Scope.{MadeCalled, makes, faults, leaves_unknown}
 use Rattle.cedar_evaluator_operators.specs.Answers as operators
-use Rattle.cedar_evaluator_restricted.specs.Answers as restricted
-use Rattle.cedar_evaluator_restricted.proofs.Alike.{same_answer}
-use Rattle.cedar_evaluator_rising.specs.Rising.{MadeRises, CallsRise}
+use Rattle.cedar_evaluator_restricted_exprs.specs.Answers as restricted
+use Rattle.cedar_evaluator_restricted_exprs.proofs.Alike.{same_answer}
+use Rattle.cedar_evaluator_model.specs.Rising.{MadeRises, CallsRise}
 use Rattle.cedar_gate_ranks.specs.Ranks.{rank_name, rank_made, label_made, ranked, labelled, number_read, number_kept, rank_calls, rank_answers}
 use Rattle.cedar_gate_ranks.specs.Tables.{HoldsRanks}
 use Rattle.cedar_gate_ranks.proofs.Fair.{ranks_make_fairly}
 use Rattle.cedar_gate_service.specs.Runs.{AnswersFairly}
 use Rattle.cedar_gate_service.specs.Serving.{ServeGives}
 use Rattle.cedar_gate_service.specs.declared.faults.ServeFault.{ServeFault}
-use Rattle.cedar_gate_transcripts.specs.declared.status.Status.{Status}
+use Rattle.cedar_gate_runs.specs.declared.status.Status.{Status}
 use Rattle.cedar_gate_model.specs.Bundle.{Functions, Bundle}
 use Rattle.cedar_gate_model.specs.Lines as lines
 use Rattle.cedar_gate_model.specs.ReadingBundle.{input_read}

@@ -32,8 +32,8 @@ use Rattle.cedar_expr_functions.specs.declared.extension.ExtensionOutputValue.Th
 use Rattle.cedar_expr_functions.specs.declared.err.CallFault.{CallFault}
 use Rattle.cedar_expr_functions.specs.declared.err.CallFault.TheVariants.{OutOfMemory, WrongNumArguments, ArgumentType, Fault}
 use Rattle.cedar_evaluator_model.specs.Scope.{MadeCalled, makes, faults, leaves_unknown}
-use Rattle.cedar_evaluator_restricted.specs.Alike.{answers_alike}
-use Rattle.cedar_evaluator_restricted.specs.Answers.{is_answer, IsMadeBy, AnswersMade}
+use Rattle.cedar_evaluator_restricted_exprs.specs.Alike.{answers_alike}
+use Rattle.cedar_evaluator_restricted_exprs.specs.Answers.{is_answer, IsMadeBy, AnswersMade}
 use Rattle.cedar_gate_ranks.specs.Ranks.{rank_name, label_name, ranked, labelled, rank_calls, rank_answers}
 use Rattle.cedar_gate_ranks.specs.Outcomes.{ComesTo, made_values}
 use Rattle.cedar_gate_ranks.specs.Tables.{rank_signature, label_signature, HoldsRanks}

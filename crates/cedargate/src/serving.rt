@@ -1,7 +1,7 @@
 //! Serving by the program's functions.
 
 ghost use Rattle.std.specs.Prelude.{◌≡◌, List, ℕ, Some, IfErr};
-ghost use Rattle.cedar_evaluator_restricted.specs.Answers.{AnswersMade};
+ghost use Rattle.cedar_evaluator_restricted_exprs.specs.Answers.{AnswersMade};
 ghost use Rattle.cedar_expr_functions.specs.Tables.{table_of};
 ghost use Rattle.cedar_gate_model.specs.Headline.{Promises};
 ghost use Rattle.cedar_gate_model.specs.Lines.{Prints};

@@ -7,13 +7,13 @@ ghost use Rattle.cedar_expr_values.specs.Types.{core_of};
 ghost use Rattle.cedar_expr_functions.specs.Extended.{functions_in, ordered_in};
 ghost use Rattle.cedar_expr_functions.specs.Functions.{function_signature};
 ghost use Rattle.cedar_expr_functions.specs.Tables as tables;
-ghost use Rattle.cedar_evaluator_restricted.specs.Answers.{IsMadeBy, AnswersMade};
+ghost use Rattle.cedar_evaluator_restricted_exprs.specs.Answers.{IsMadeBy, AnswersMade};
 ghost use Rattle.cedar_gate_ranks.specs.Ranks.{rank_name, label_name, ranked, labelled, rank_calls, rank_answers};
 ghost use Rattle.cedar_gate_ranks.specs.Outcomes.{ComesTo, made_values};
 ghost use Rattle.cedar_gate_ranks.specs.Tables.{rank_signature, label_signature, HoldsRanks, rank_functions};
 ghost use Rattle.cedargate.specs.Stored.{AreRankFunctions};
 
-use cedar_evaluator_restricted::{FunctionCalls, Left, RestrictedFault, call_in};
+use cedar_evaluator_restricted_exprs::{FunctionCalls, Left, RestrictedFault, call_in};
 use cedar_expr_functions::{CallStyle, Extension, ExtensionFunction, Extensions, Func};
 use cedar_expr_names::Name;
 use cedar_expr_values::{ExtValue, Type, Value};

@@ -1,6 +1,6 @@
 use Rattle.std.proofs.Common.{◌≡◌, ◌++◌, map}
 use Rattle.std.specs.Vec.Iter.{into_iter_items}
-use Rattle.cedar_gate_typing.specs.Views.{reach_of}
+use Rattle.cedar_gate_accepted.specs.ViolationViews.{reach_of}
 use Rattle.cedar_gate_accepted.proofs.checked.add_violations.Given as goal
 
 abbrev pub invariant-loop-violation : goal.invariant-loop-violation

@@ -1,7 +1,7 @@
 use Rattle.std.proofs.Common.{◌≡◌, map, take}
 use Rattle.cedar_gate_accepted.specs.Checked.{relevant_ids}
 use Rattle.cedar_gate_rules.specs.Policies.{policies_of}
-use Rattle.cedar_gate_typing.specs.Checks.{kind_asked}
+use Rattle.cedar_gate_accepted.specs.Checks.{kind_asked}
 use Rattle.cedar_store_parts.specs.Parts.{id_text}
 use Rattle.cedar_gate_accepted.proofs.relevant.relevant.Given as goal
 

@@ -7,7 +7,7 @@ use Rattle.cedar_expr_model.specs.Tree.{record_literal}
 use Rattle.cedar_expr_trees.specs.Trees.{tree_of, named, field_trees}
 use Rattle.cedar_evaluator_model.specs.Reauthorize.{context_from}
 use Rattle.cedar_gate_model.specs.ReadingValue.{fields_context_read, left_of_restricted}
-use Rattle.cedar_gate_reading.specs.declared.fault.ReadFault.TheVariants.{Unreadable}
+use Rattle.cedar_gate_expressions.specs.declared.fault.ReadFault.TheVariants.{Unreadable}
 use Rattle.cedar_gate_bundles.specs.Requests.{context_of}
 use Rattle.cedar_gate_bundles.proofs.Parted.{stopped_context}
 use Rattle.cedar_gate_bundles.proofs.Unread.{context_of_record, handed_on}

@@ -4,7 +4,7 @@ use Rattle.cedar_store_entities.specs.Views.{entity_pair}
 use Rattle.cedar_gate_model.specs.Reading.{list_of}
 use Rattle.cedar_gate_model.specs.ReadingRequest.{entity_read}
 use Rattle.cedar_gate_model.specs.RunsAnswer.{MakeFairly}
-use Rattle.cedar_gate_reading.specs.declared.fault.ReadFault.TheVariants.{Unreadable}
+use Rattle.cedar_gate_expressions.specs.declared.fault.ReadFault.TheVariants.{Unreadable}
 use Rattle.cedar_gate_bundles.specs.Written.{entity_read_made, entity_pair_made, AreWritten}
 use Rattle.cedar_gate_bundles.proofs.Kept.{if_ok, if_err, listed, unlisted}
 use Rattle.cedar_gate_bundles.proofs.Written.{list_well}

@@ -1,6 +1,6 @@
 use Rattle.std.proofs.Common.{◌≡◌, map}
 use Rattle.cedar_expr_names.specs.Views.{uid_of}
-use Rattle.cedar_gate_conforming_model.specs.Asked.{has_wrong_ancestor}
+use Rattle.cedar_gate_model.specs.Asked.{has_wrong_ancestor}
 use Rattle.cedar_schema_built.specs.Views.{schema_kept}
 use Rattle.cedar_schema_model.specs.Conforming.{among_actions}
 use Rattle.cedar_store_entities.specs.Views.{entity_uid, entity_of}

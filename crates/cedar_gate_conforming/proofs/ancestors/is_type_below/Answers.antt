@@ -2,7 +2,7 @@ use Rattle.std.proofs.Common.{◌∙◌}
 use Rattle.cedar_expr_names.specs.Views.{type_name_of}
 use Rattle.cedar_schema_entries.specs.Views.{entity_type_seen}
 use Rattle.cedar_schema_built.specs.Views.{schema_kept}
-use Rattle.cedar_typechecker_seen_model.proofs.Seen.Told.{below_found, below_none}
+use Rattle.cedar_typechecker_model.proofs.Seen.Told.{below_found, below_none}
 use Rattle.cedar_gate_conforming.proofs.ancestors.is_type_below.Goals as goal
 
 pub returns-in-Some : goal.returns-in-Some

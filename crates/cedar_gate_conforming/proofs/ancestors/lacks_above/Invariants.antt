@@ -1,6 +1,6 @@
 use Rattle.std.proofs.Common.{◌≡◌, map}
 use Rattle.std.specs.List.{list_any}
-use Rattle.cedar_gate_conforming_model.specs.Asked.{is_lacking}
+use Rattle.cedar_gate_model.specs.Asked.{is_lacking}
 use Rattle.cedar_schema_built.specs.Views.{schema_kept}
 use Rattle.cedar_schema_entries.specs.Views.{action_seen}
 use Rattle.cedar_store_entities.specs.Views.{entity_uid, entity_of}

@@ -1,6 +1,6 @@
 use Rattle.std.proofs.Common.{Bool, refl, sym, ◌∙◌}
-use Rattle.cedar_gate_conforming_model.specs.Asked.{kept_fault_at}
-use Rattle.cedar_gate_conforming_model.proofs.First.{first_tag, first_ancestor, first_none}
+use Rattle.cedar_gate_model.specs.Asked.{kept_fault_at}
+use Rattle.cedar_gate_model.proofs.First.{first_tag, first_ancestor, first_none}
 use Rattle.cedar_schema_built.specs.Views.{schema_kept}
 use Rattle.cedar_schema_model.specs.Conforming.{ConformFault, among_actions}
 use Rattle.cedar_store_entities.specs.Views.{entity_uid, entity_of}

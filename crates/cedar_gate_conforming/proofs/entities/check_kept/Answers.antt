@@ -1,9 +1,9 @@
 use Rattle.std.proofs.Common.{◌≡◌, None, sym, subst, ap, ◌∙◌}
 use Rattle.std.specs.Prelude.{IfErr, OnOk}
-use Rattle.cedar_gate_conforming_model.specs.Asked.{kept_fault_at}
-use Rattle.cedar_gate_conforming_model.specs.First.{first_fault}
+use Rattle.cedar_gate_model.specs.Asked.{kept_fault_at}
+use Rattle.cedar_gate_model.specs.First.{first_fault}
 use Rattle.cedar_schema_built.specs.Views.{schema_kept}
-use Rattle.cedar_schema_kept_model.specs.Kept.{kept_action}
+use Rattle.cedar_schema_model.specs.Kept.{kept_action}
 use Rattle.cedar_schema_model.specs.Conforming.{Place}
 use Rattle.cedar_store_entities.specs.Views.{entity_uid, entity_of}
 use Rattle.cedar_gate_conforming.specs.Faults.{IsFirst}

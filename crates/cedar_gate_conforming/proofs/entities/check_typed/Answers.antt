@@ -1,11 +1,11 @@
 use Rattle.std.proofs.Common.{◌≡◌, Some, None, sym, subst, ap, refl, ◌∙◌}
 use Rattle.std.specs.Prelude.{IfErr, OnOk}
 use Rattle.cedar_expr_model.specs.Uid.{Uid}
-use Rattle.cedar_gate_conforming_model.specs.Asked.{kept_fault_at}
-use Rattle.cedar_gate_conforming_model.specs.First.{first_fault}
+use Rattle.cedar_gate_model.specs.Asked.{kept_fault_at}
+use Rattle.cedar_gate_model.specs.First.{first_fault}
 use Rattle.cedar_schema_built.specs.Views.{schema_kept}
 use Rattle.cedar_schema_entries.specs.Views.{entity_type_seen}
-use Rattle.cedar_schema_kept_model.specs.Kept.{kept_type}
+use Rattle.cedar_schema_model.specs.Kept.{kept_type}
 use Rattle.cedar_schema_model.specs.Conforming.{Place, undeclared}
 use Rattle.cedar_store_entities.specs.Views.{entity_uid, entity_of}
 use Rattle.cedar_gate_conforming.specs.Faults.{IsFirst}

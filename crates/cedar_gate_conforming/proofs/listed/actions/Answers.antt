@@ -4,9 +4,9 @@ use Rattle.std.specs.declared.vec.Vec.{Vec}
 use Rattle.std.proofs.lemmas.Result.{IfOk-weaker}
 use Rattle.cedar_expr_model.specs.Uid.{Uid}
 use Rattle.cedar_expr_model.specs.Value.{V}
-use Rattle.cedar_gate_conforming_model.specs.Alike.{AreActionEntities}
+use Rattle.cedar_gate_model.specs.Alike.{AreActionEntities}
 use Rattle.cedar_schema_built.specs.Views.{schema_kept}
-use Rattle.cedar_schema_kept_model.specs.Kept.{kept_action_entities}
+use Rattle.cedar_schema_model.specs.Kept.{kept_action_entities}
 use Rattle.cedar_store_entities.specs.Views.{entity_pair}
 use Rattle.cedar_store_entities.specs.declared.entity.Entity.{Entity}
 use Rattle.cedar_store_model.specs.World as model

@@ -2,7 +2,7 @@ use Rattle.std.proofs.Common.{sym, ap, ◌∙◌}
 use Rattle.cedar_expr_names.specs.Views.{uid_of}
 use Rattle.cedar_schema_built.specs.Views.{schema_kept}
 use Rattle.cedar_schema_entries.specs.Views.{entity_type_seen}
-use Rattle.cedar_schema_kept_model.specs.Kept.{kept_type}
+use Rattle.cedar_schema_model.specs.Kept.{kept_type}
 use Rattle.cedar_schema_model.specs.Conforming.{Place, is_no_member}
 use Rattle.cedar_gate_conforming.proofs.Placed.{place_found, place_none}
 use Rattle.cedar_gate_conforming.proofs.members.is_no_typed_member.Goals as goal

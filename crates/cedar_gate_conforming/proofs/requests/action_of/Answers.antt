@@ -2,7 +2,7 @@ use Rattle.std.proofs.Common.{ap, ◌∙◌}
 use Rattle.std.specs.Prelude.{option_and_then}
 use Rattle.cedar_evaluator_requests.specs.Views.{entry_uid, request_of}
 use Rattle.cedar_schema_built.specs.Views.{schema_kept}
-use Rattle.cedar_schema_kept_model.specs.Kept.{kept_action}
+use Rattle.cedar_schema_model.specs.Kept.{kept_action}
 use Rattle.cedar_gate_conforming.proofs.Placed.{known_is}
 use Rattle.cedar_gate_conforming.proofs.requests.action_of.Goals as goal
 

@@ -1,6 +1,6 @@
 use Rattle.std.proofs.Common.{◌∙◌}
 use Rattle.std.proofs.lemmas.Result.{on_ok_weaker, IfErr-weaker}
-use Rattle.cedar_gate_conforming_model.specs.Asked.{kept_request_fault}
+use Rattle.cedar_gate_model.specs.Asked.{kept_request_fault}
 use Rattle.cedar_schema_built.specs.Views.{schema_kept}
 use Rattle.cedar_schema_model.specs.Conforming.{has_request_fault}
 use Rattle.cedar_gate_conforming.specs.Views.{request_seen}

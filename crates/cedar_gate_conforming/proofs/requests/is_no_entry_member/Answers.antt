@@ -1,6 +1,6 @@
 use Rattle.std.proofs.Common.{ap, ◌∙◌}
 use Rattle.cedar_evaluator_requests.specs.Views.{entry_of}
-use Rattle.cedar_gate_conforming_model.specs.Asked.{is_no_kept_member}
+use Rattle.cedar_gate_model.specs.Asked.{is_no_kept_member}
 use Rattle.cedar_schema_built.specs.Views.{schema_kept}
 use Rattle.cedar_gate_conforming.proofs.Placed.{known_is}
 use Rattle.cedar_gate_conforming.proofs.requests.is_no_entry_member.Goals as goal

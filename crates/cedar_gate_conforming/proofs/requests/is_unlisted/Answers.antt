@@ -1,5 +1,5 @@
 use Rattle.std.proofs.Common.{ap, ◌∙◌}
-use Rattle.cedar_gate_conforming_model.specs.Asked.{is_unlisted}
+use Rattle.cedar_gate_model.specs.Asked.{is_unlisted}
 use Rattle.cedar_schema_built.specs.Views.{schema_kept}
 use Rattle.cedar_schema_model.specs.Conforming.{where_known}
 use Rattle.cedar_gate_conforming.specs.Views.{request_seen}

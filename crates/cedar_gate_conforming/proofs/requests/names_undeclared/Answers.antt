@@ -3,7 +3,7 @@ use Rattle.cedar_expr_model.specs.Uid.{Uid}
 use Rattle.std.specs.Prelude.{is_none}
 use Rattle.cedar_evaluator_requests.specs.Views.{entry_of}
 use Rattle.cedar_schema_built.specs.Views.{schema_kept}
-use Rattle.cedar_schema_kept_model.specs.Kept.{kept_action}
+use Rattle.cedar_schema_model.specs.Kept.{kept_action}
 use Rattle.cedar_schema_model.specs.Conforming.{where_known}
 use Rattle.cedar_gate_conforming.proofs.Placed.{known_is}
 use Rattle.cedar_gate_conforming.proofs.requests.names_undeclared.Goals as goal

@@ -1,5 +1,5 @@
 use Rattle.std.proofs.Common.{◌≡◌}
-use Rattle.cedar_gate_conforming_model.specs.Asked.{has_wrong_tag}
+use Rattle.cedar_gate_model.specs.Asked.{has_wrong_tag}
 use Rattle.cedar_store_entities.specs.Views.{entity_of}
 use Rattle.cedar_gate_conforming.specs.Parts.{parts_left}
 use Rattle.cedar_gate_conforming.specs.Views.{type_seen}

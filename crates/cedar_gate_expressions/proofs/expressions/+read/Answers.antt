@@ -8,7 +8,7 @@ use Rattle.serde_json.specs.declared.value.Value.{size-Value}
 use Rattle.serde_json.specs.View.{members_view}
 use Rattle.cedar_gate_model.specs.ReadingExpression.{fields_in}
 use Rattle.std.specs.Cmp.Lexicographic.{slice_cmp}
-use Rattle.cedar_gate_reading.proofs.Sorted.{insert_last, same_names_more}
+use Rattle.cedar_gate_expressions.proofs.Sorted.{insert_last, same_names_more}
 use Rattle.cedar_gate_expressions.proofs.Fields.{next_field, start, still_within, within_all}
 use Rattle.cedar_gate_expressions.proofs.Arguments.{next_at}
 use Rattle.cedar_gate_expressions.proofs.expressions.+read.Goals as goal

@@ -8,8 +8,8 @@ use Rattle.cedar_expr_model.specs.Lists.{all_given}
 use Rattle.cedar_expr_trees.specs.Trees.{tree_of, named, field_trees}
 use Rattle.cedar_gate_model.specs.ReadingExpression.{fields_in}
 use Rattle.cedar_gate_expressions.specs.Parts.{parts}
-use Rattle.cedar_gate_reading.proofs.Gathered.{then_rest}
-use Rattle.cedar_gate_reading.proofs.Sorted.{SameNames}
+use Rattle.cedar_gate_expressions.proofs.Gathered.{then_rest}
+use Rattle.cedar_gate_expressions.proofs.Sorted.{SameNames}
 use Rattle.cedar_gate_expressions.proofs.Fields.{then_fields}
 use Rattle.cedar_gate_expressions.proofs.expressions.+read.Given as goal
 

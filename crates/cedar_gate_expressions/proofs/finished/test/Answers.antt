@@ -5,7 +5,7 @@ use Rattle.serde_json.specs.declared.value.Value.{Value}
 use Rattle.cedar_expr_model.specs.Builder.{path_test}
 use Rattle.cedar_expr_trees.specs.Trees.{tree_of}
 use Rattle.cedar_gate_model.specs.Reading.{given, each}
-use Rattle.cedar_gate_reading.specs.declared.fault.ReadFault.TheVariants.{Unreadable}
+use Rattle.cedar_gate_expressions.specs.declared.fault.ReadFault.TheVariants.{Unreadable}
 use Rattle.cedar_gate_expressions.specs.declared.forms.Test.{Test}
 use Rattle.cedar_gate_expressions.specs.declared.forms.Test.TheVariants.{Has}
 use Rattle.cedar_gate_expressions.specs.Forms.{test_rest}

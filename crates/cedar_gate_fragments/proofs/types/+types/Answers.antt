@@ -8,7 +8,7 @@ use Rattle.serde_json.proofs.Views.{Entry}
 use Rattle.serde_json.specs.declared.value.Value.{size-Value}
 use Rattle.serde_json.specs.View.{members_view}
 use Rattle.cedar_gate_model.specs.ReadingSchema.{attributes_in}
-use Rattle.cedar_gate_reading.proofs.Sorted.{insert_last, same_names_more}
+use Rattle.cedar_gate_expressions.proofs.Sorted.{insert_last, same_names_more}
 use Rattle.cedar_gate_fragments.proofs.Attributes.{next_attribute, start, still_within, within_all}
 use Rattle.cedar_gate_fragments.proofs.types.+types.Goals as goal
 

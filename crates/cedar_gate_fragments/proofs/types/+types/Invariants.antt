@@ -4,10 +4,10 @@ use Rattle.std.specs.Rc.{rc_str_bytes}
 use Rattle.serde_json.specs.View.{members_view}
 use Rattle.serde_json.proofs.Views.{Entry}
 use Rattle.serde_json.specs.declared.value.Value.{size-Value}
-use Rattle.cedar_expr_raw_names.specs.Views.{raw_name_of}
+use Rattle.cedar_expr_leaves.specs.Views.{raw_name_of}
 use Rattle.cedar_schema_decl.specs.Trees.{attribute_rows}
 use Rattle.cedar_gate_model.specs.ReadingSchema.{attributes_in}
-use Rattle.cedar_gate_reading.proofs.Sorted.{SameNames}
+use Rattle.cedar_gate_expressions.proofs.Sorted.{SameNames}
 use Rattle.cedar_gate_fragments.proofs.Attributes.{then_rows}
 use Rattle.cedar_gate_fragments.proofs.types.+types.Given as goal
 

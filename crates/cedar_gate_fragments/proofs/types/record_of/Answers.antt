@@ -1,5 +1,5 @@
 use Rattle.std.proofs.Common.{ap}
-use Rattle.cedar_expr_raw_names.specs.Views.{raw_name_of}
+use Rattle.cedar_expr_leaves.specs.Views.{raw_name_of}
 use Rattle.cedar_schema_decl.specs.Laws.{as_exprs}
 use Rattle.cedar_schema_decl.specs.Trees.{in_a_row}
 use Rattle.cedar_gate_fragments.proofs.Attributes.{rolled}

@@ -2,7 +2,7 @@ use Rattle.std.proofs.Common.{◌≡◌, IfOk, subst}
 use Rattle.cedar_expr_model.specs.Substitution.{substituted}
 use Rattle.cedar_expr_trees.specs.Trees.{tree_of}
 use Rattle.cedar_evaluator_requests.specs.Views.{restricted_tree}
-use Rattle.cedar_gate_bindings.specs.Names.{bound_in}
+use Rattle.cedar_gate_openings.specs.Names.{bound_in}
 use Rattle.cedar_gate_openings.proofs.Records.{all_restricted, all_of_record}
 use Rattle.cedar_gate_openings.proofs.contexts.with_values.Goals as goal
 

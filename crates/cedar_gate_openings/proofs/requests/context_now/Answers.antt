@@ -2,7 +2,7 @@ use Rattle.std.proofs.Common.{◌≡◌, Some, option_map, rules, sym, ap, ◌�
 use Rattle.std.specs.Prelude.{is_none}
 use Rattle.cedar_evaluator_requests.specs.Views.{context_or_unknown}
 use Rattle.cedar_evaluator_requests.specs.declared.context.Context.TheVariants.{RestrictedResidual}
-use Rattle.cedar_gate_bindings.specs.Names.{bound_in}
+use Rattle.cedar_gate_openings.specs.Names.{bound_in}
 use Rattle.cedar_gate_openings.specs.Requests.{fails_by}
 use Rattle.cedar_gate_openings.proofs.requests.context_now.Goals as goal
 

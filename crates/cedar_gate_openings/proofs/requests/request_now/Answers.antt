@@ -1,5 +1,5 @@
 use Rattle.cedar_evaluator_requests.specs.Views.{request_of}
-use Rattle.cedar_gate_bindings.specs.Names.{bound_in}
+use Rattle.cedar_gate_openings.specs.Names.{bound_in}
 use Rattle.cedar_gate_openings.proofs.States.{at_states, all_fail, none_fails}
 use Rattle.cedar_gate_openings.proofs.requests.request_now.Goals as goal
 

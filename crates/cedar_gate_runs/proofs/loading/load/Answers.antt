@@ -9,7 +9,7 @@ use Rattle.cedar_gate_runs.proofs.Faulted.{round_stops}
 use Rattle.cedar_gate_runs.proofs.Looped.{not_none, round_done}
 use Rattle.cedar_gate_runs.proofs.Pushed.{handed, pushed_in_room, uids_none}
 use Rattle.cedar_gate_runs.specs.Running.{StopsSupply}
-use Rattle.cedar_gate_runs.specs.declared.stops.Stop.TheVariants.{Memory}
+use Rattle.cedar_gate_runs.specs.declared.stops_with.Stop.TheVariants.{Memory}
 use Rattle.cedar_gate_runs.proofs.loading.load.Goals as goal
 
 pub returns-in_err-take_in-clause-stopped : goal.returns-in_err-take_in-clause-stopped

@@ -4,7 +4,7 @@ use Rattle.cedar_gate_runs.proofs.Asked.{beyond_on}
 use Rattle.cedar_gate_runs.proofs.Looped.{loading_none, loading_more, loading_ends, loading_halts, loading_few}
 use Rattle.cedar_gate_runs.proofs.Pushed.{handed}
 use Rattle.cedar_gate_runs.specs.Running.{Went, DidLoad}
-use Rattle.cedar_gate_transcripts.specs.Transcripts.{entries_of}
+use Rattle.cedar_gate_runs.specs.Transcripts.{entries_of}
 use Rattle.cedar_gate_runs.proofs.loading.load_all.Goals as goal
 
 pub loop-round-init : goal.loop-round-init

@@ -6,7 +6,7 @@ use Rattle.cedar_gate_model.specs.Session.{State}
 use Rattle.cedar_gate_runs.specs.Asking.{AskedRounds}
 use Rattle.cedar_gate_runs.specs.Courses.{IsHost}
 use Rattle.cedar_gate_runs.proofs.Looped.{Loading}
-use Rattle.cedar_gate_transcripts.specs.Transcripts.{entries_of}
+use Rattle.cedar_gate_runs.specs.Transcripts.{entries_of}
 use Rattle.cedar_gate_runs.proofs.loading.load_all.Given as goal
 
 abbrev pub invariant-loop-round : goal.invariant-loop-round

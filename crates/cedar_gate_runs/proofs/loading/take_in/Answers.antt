@@ -11,7 +11,7 @@ use Rattle.std.proofs.lemmas.List.{append-nil}
 use Rattle.cedar_gate_runs.specs.Asking.{AskedBeyond}
 use Rattle.cedar_gate_runs.specs.Refusals.{IsSupplyRefusal}
 use Rattle.cedar_gate_runs.specs.Running.{StopsSupply}
-use Rattle.cedar_gate_runs.specs.Stops.{host_stop}
+use Rattle.cedar_gate_runs.specs.StopsWith.{host_stop}
 use Rattle.cedar_gate_runs.proofs.loading.take_in.Goals as goal
 
 pub returns-in_err-supplied-clause-host : goal.returns-in_err-supplied-clause-host

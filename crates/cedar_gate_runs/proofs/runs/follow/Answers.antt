@@ -5,7 +5,7 @@ use Rattle.cedar_gate_runs.proofs.Looped.{halts_after}
 use Rattle.cedar_gate_runs.proofs.Pushed.{handed, carried, carried_to}
 use Rattle.cedar_gate_runs.specs.Steps.{steps_of}
 use Rattle.cedar_evaluator_requests.specs.Views.{answer_of}
-use Rattle.cedar_gate_transcripts.specs.Transcripts.{entries_of}
+use Rattle.cedar_gate_runs.specs.Transcripts.{entries_of}
 use Rattle.cedar_gate_runs.proofs.runs.follow.Goals as goal
 
 pub returns-in_err-take_steps-clause-stopped : goal.returns-in_err-take_steps-clause-stopped

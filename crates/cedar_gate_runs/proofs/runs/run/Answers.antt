@@ -2,8 +2,8 @@ use Rattle.std.proofs.Common.{Some, refl, ap}
 use Rattle.cedar_gate_model.specs.Session.{at_start}
 use Rattle.cedar_gate_runs.proofs.Asked.{asked_first, keeps_answered, keeps_stopped}
 use Rattle.cedar_gate_runs.proofs.Ended.{steps_bind_well, run_answers, run_stops}
-use Rattle.cedar_gate_transcripts.specs.Transcripts.{entries_of}
-use Rattle.cedar_gate_transcripts.specs.declared.transcript.Transcript.{Transcript}
+use Rattle.cedar_gate_runs.specs.Transcripts.{entries_of}
+use Rattle.cedar_gate_runs.specs.declared.transcript.Transcript.{Transcript}
 use Rattle.cedar_gate_runs.proofs.runs.run.Goals as goal
 
 pub returns-in-Ok-clause-answered : goal.returns-in-Ok-clause-answered

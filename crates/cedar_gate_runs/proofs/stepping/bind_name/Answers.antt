@@ -8,7 +8,7 @@ use Rattle.cedar_gate_model.specs.Transcript.{bound}
 use Rattle.cedar_gate_runs.proofs.Asked.{memory_beyond, no_more}
 use Rattle.cedar_gate_runs.proofs.Pushed.{handed, pushed_in_room}
 use Rattle.cedar_gate_runs.proofs.Stepped.{binds}
-use Rattle.cedar_gate_runs.specs.declared.stops.Stop.TheVariants.{Memory}
+use Rattle.cedar_gate_runs.specs.declared.stops_with.Stop.TheVariants.{Memory}
 use Rattle.cedar_gate_runs.proofs.stepping.bind_name.Goals as goal
 
 pub returns-in_err-copy-clause-stopped : goal.returns-in_err-copy-clause-stopped

@@ -13,8 +13,8 @@ use Rattle.cedar_gate_runs.specs.Courses.{BindWell, DidSteps}
 use Rattle.cedar_gate_runs.specs.Running.{Went}
 use Rattle.cedar_gate_runs.specs.Steps.{step_of}
 use Rattle.cedar_gate_runs.specs.Stopping.{IsRefused}
-use Rattle.cedar_gate_runs.specs.declared.stops.Stop.TheVariants.{Memory}
-use Rattle.cedar_gate_transcripts.specs.Transcripts.{entries_of}
+use Rattle.cedar_gate_runs.specs.declared.stops_with.Stop.TheVariants.{Memory}
+use Rattle.cedar_gate_runs.specs.Transcripts.{entries_of}
 use Rattle.cedar_gate_runs.proofs.stepping.take_step.Goals as goal
 
 pub returns-in_err-load-in-Load-clause-stopped : goal.returns-in_err-load-in-Load-clause-stopped

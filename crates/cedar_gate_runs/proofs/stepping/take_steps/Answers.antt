@@ -9,7 +9,7 @@ use Rattle.cedar_gate_runs.proofs.Stepped.{went_more}
 use Rattle.cedar_gate_runs.specs.Courses.{BindWell, DidSteps}
 use Rattle.cedar_gate_runs.specs.Running.{Went}
 use Rattle.cedar_gate_runs.specs.Steps.{step_of, steps_of}
-use Rattle.cedar_gate_transcripts.specs.Transcripts.{entries_of}
+use Rattle.cedar_gate_runs.specs.Transcripts.{entries_of}
 use Rattle.cedar_gate_runs.proofs.stepping.take_steps.Goals as goal
 
 pub loop-step-init : goal.loop-step-init

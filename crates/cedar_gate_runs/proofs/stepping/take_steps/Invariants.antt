@@ -8,7 +8,7 @@ use Rattle.cedar_gate_runs.specs.Asking.{AskedRounds}
 use Rattle.cedar_gate_runs.specs.Courses.{IsHost, BindWell, DidSteps}
 use Rattle.cedar_gate_runs.specs.Running.{Went}
 use Rattle.cedar_gate_runs.specs.Steps.{steps_of}
-use Rattle.cedar_gate_transcripts.specs.Transcripts.{entries_of}
+use Rattle.cedar_gate_runs.specs.Transcripts.{entries_of}
 use Rattle.cedar_gate_runs.proofs.stepping.take_steps.Given as goal
 
 abbrev pub invariant-loop-step : goal.invariant-loop-step

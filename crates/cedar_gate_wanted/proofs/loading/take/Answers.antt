@@ -1,4 +1,4 @@
-use Rattle.cedar_gate_distances.specs.Rows.{found_at, uids, writes, row_of}
+use Rattle.cedar_gate_wanted.specs.Rows.{found_at, uids, writes, row_of}
 use Rattle.cedar_gate_wanted.proofs.Opening.{stays}
 use Rattle.cedar_gate_wanted.proofs.Taking.{after_supply, loaded_besides}
 use Rattle.cedar_gate_wanted.proofs.loading.take.Goals as goal

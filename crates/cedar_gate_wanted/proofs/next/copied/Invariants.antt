@@ -1,6 +1,6 @@
 -- The uids so far are copied.
 use Rattle.std.proofs.Common.{◌≡◌, take}
-use Rattle.cedar_gate_distances.specs.Rows.{uids}
+use Rattle.cedar_gate_wanted.specs.Rows.{uids}
 use Rattle.cedar_gate_wanted.proofs.next.copied.Given as goal
 
 abbrev pub invariant-loop-uid : goal.invariant-loop-uid

@@ -2,7 +2,7 @@
 use Rattle.std.proofs.Common.{◌≡◌, ◌⊎◌, true, Contains, take}
 use Rattle.std.specs.Prelude.{◌↔◌}
 use Rattle.cedar_expr_model.specs.Uid.{Uid}
-use Rattle.cedar_gate_distances.specs.Rows.{found_at, uids}
+use Rattle.cedar_gate_wanted.specs.Rows.{found_at, uids}
 use Rattle.cedar_gate_wanted.specs.Supplying.{keys_in}
 use Rattle.cedar_gate_wanted.specs.Wanting.{is_open}
 use Rattle.cedar_gate_wanted.proofs.next.gathered.Given as goal

@@ -1,7 +1,7 @@
 use Rattle.std.proofs.Common.{rules, ◌++◌, ◌∷◌, [], ap, sym, ◌∙◌, append_assoc, refl, subst}
 use Rattle.std.proofs.lemmas.List.{append-nil}
 use Rattle.std.specs.Vec.Iter.{into_iter_items}
-use Rattle.cedar_gate_distances.specs.Rows.{found_at}
+use Rattle.cedar_gate_wanted.specs.Rows.{found_at}
 use Rattle.cedar_gate_wanted.specs.Supplying.{rows_of, IsFilled}
 use Rattle.cedar_gate_wanted.proofs.Filling.{filled_none, filled_more, filled_others}
 use Rattle.cedar_gate_wanted.proofs.rows.put_rows.Goals as goal

@@ -1,7 +1,7 @@
 -- The rows so far are in.
 use Rattle.std.proofs.Common.{◌≡◌, ◌++◌}
 use Rattle.std.specs.Vec.Iter.{into_iter_items}
-use Rattle.cedar_gate_distances.specs.Rows.{found_at}
+use Rattle.cedar_gate_wanted.specs.Rows.{found_at}
 use Rattle.cedar_gate_wanted.specs.Supplying.{rows_of, IsFilled}
 use Rattle.cedar_gate_wanted.proofs.rows.put_rows.Given as goal
 

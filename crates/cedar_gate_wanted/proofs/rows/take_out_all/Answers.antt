@@ -1,7 +1,7 @@
 use Rattle.std.proofs.Common.{arith, ◌≡◌, inr, refl, take, subst}
 use Rattle.std.proofs.lemmas.List.{take_all}
 use Rattle.cedar_expr_model.proofs.Lists.{contains_none}
-use Rattle.cedar_gate_distances.specs.Rows.{found_at, uids}
+use Rattle.cedar_gate_wanted.specs.Rows.{found_at, uids}
 use Rattle.cedar_gate_wanted.proofs.Filling.{IsOut, out_more}
 use Rattle.cedar_gate_wanted.proofs.Going.{next_uid}
 use Rattle.cedar_gate_wanted.proofs.rows.take_out_all.Goals as goal

@@ -1,7 +1,7 @@
 -- The rows so far are out, and the others are as they were.
 use Rattle.std.proofs.Common.{take}
 use Rattle.cedar_expr_model.specs.Uid.{Uid}
-use Rattle.cedar_gate_distances.specs.Rows.{found_at, uids}
+use Rattle.cedar_gate_wanted.specs.Rows.{found_at, uids}
 use Rattle.cedar_gate_wanted.proofs.Filling.{IsOut}
 use Rattle.cedar_gate_wanted.proofs.rows.take_out_all.Given as goal
 

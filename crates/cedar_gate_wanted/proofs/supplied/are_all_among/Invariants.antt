@@ -2,7 +2,7 @@
 use Rattle.std.proofs.Common.{◌≡◌, true, take}
 use Rattle.std.specs.List.{list_all}
 use Rattle.std.specs.Prelude.{is_some}
-use Rattle.cedar_gate_distances.specs.Rows.{found_at, uids}
+use Rattle.cedar_gate_wanted.specs.Rows.{found_at, uids}
 use Rattle.cedar_gate_wanted.proofs.supplied.are_all_among.Given as goal
 
 abbrev pub invariant-loop-uid : goal.invariant-loop-uid

@@ -1,6 +1,6 @@
 use Rattle.std.proofs.Common.{rules, ◌≡◌, false, sym, ◌∙◌}
 use Rattle.cedar_expr_names.specs.Views.{uid_of}
-use Rattle.cedar_gate_distances.specs.Rows.{found_at}
+use Rattle.cedar_gate_wanted.specs.Rows.{found_at}
 use Rattle.cedar_gate_wanted.specs.Wanting.{is_open}
 use Rattle.cedar_gate_wanted.proofs.Testing.{all_stop}
 use Rattle.cedar_gate_wanted.proofs.supplied.are_open.Goals as goal

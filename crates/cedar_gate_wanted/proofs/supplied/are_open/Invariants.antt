@@ -1,7 +1,7 @@
 -- The uids so far are open.
 use Rattle.std.proofs.Common.{◌≡◌, true, take}
 use Rattle.std.specs.List.{list_all}
-use Rattle.cedar_gate_distances.specs.Rows.{found_at}
+use Rattle.cedar_gate_wanted.specs.Rows.{found_at}
 use Rattle.cedar_gate_wanted.specs.Supplying.{keys_in}
 use Rattle.cedar_gate_wanted.specs.Wanting.{is_open}
 use Rattle.cedar_gate_wanted.proofs.supplied.are_open.Given as goal

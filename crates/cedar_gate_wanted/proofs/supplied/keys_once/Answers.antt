@@ -2,7 +2,7 @@ use Rattle.std.proofs.Common.{◌≡◌, ◌⊎◌, ◌+◌, true, false, Some, 
 use Rattle.std.specs.Prelude.{is_some}
 use Rattle.cedar_expr_model.specs.Uid.{Uid}
 use Rattle.cedar_expr_names.specs.Views.{uid_of}
-use Rattle.cedar_gate_distances.specs.Rows.{found_at}
+use Rattle.cedar_gate_wanted.specs.Rows.{found_at}
 use Rattle.cedar_gate_wanted.specs.Supplying.{keys_in}
 use Rattle.cedar_gate_wanted.proofs.Testing.{next_key, all_keys, met_is, met_again, once_more, has_more}
 use Rattle.cedar_gate_wanted.proofs.supplied.keys_once.Goals as goal

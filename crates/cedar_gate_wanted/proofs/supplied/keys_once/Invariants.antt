@@ -3,7 +3,7 @@ use Rattle.std.proofs.Common.{◌≡◌, None, Contains, take}
 use Rattle.std.specs.Prelude.{◌↔◌, IsSome}
 use Rattle.cedar_expr_model.specs.Uid.{Uid, uid_eq}
 use Rattle.cedar_expr_model.specs.Repeats.{repeated}
-use Rattle.cedar_gate_distances.specs.Rows.{found_at}
+use Rattle.cedar_gate_wanted.specs.Rows.{found_at}
 use Rattle.cedar_gate_wanted.specs.Supplying.{keys_in}
 use Rattle.cedar_gate_wanted.proofs.supplied.keys_once.Given as goal
 

@@ -2,7 +2,7 @@ use Rattle.std.proofs.Common.{◌≡◌, true, false, map, sym, ap, ◌∙◌, s
 use Rattle.std.proofs.lemmas.Bool.{true≢false}
 use Rattle.std.specs.Prelude.{Contains}
 use Rattle.cedar_expr_names.specs.Views.{name_of, type_name_of, uid_of}
-use Rattle.cedar_schema_building_model.specs.Contexts.{is_record_type}
+use Rattle.cedar_schema_model.specs.Contexts.{is_record_type}
 use Rattle.cedar_schema_entries.specs.Views.{applied_seen, action_seen}
 use Rattle.cedar_schema_fragments.specs.Actions.{principals_form, resources_form, context_form, is_elsewhere}
 use Rattle.cedar_schema_fragments.specs.declared.actions.ActionFragmentKind.TheVariants.{Declared}

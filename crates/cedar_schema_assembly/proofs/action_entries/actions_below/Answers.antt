@@ -1,8 +1,8 @@
 use Rattle.std.proofs.Common.{option_map, sym, ap, ◌∙◌, subst}
 use Rattle.cedar_expr_names.specs.Views.{uid_of}
-use Rattle.cedar_schema_nodes.specs.Numbers.{names_in}
+use Rattle.cedar_schema_resolver.specs.Numbers.{names_in}
 use Rattle.cedar_schema_assembly.specs.Lists.{StandOnce, TellsRepeat}
-use Rattle.cedar_schema_nodes.specs.Numbers.{StandsTwice}
+use Rattle.cedar_schema_resolver.specs.Numbers.{StandsTwice}
 use Rattle.cedar_schema_assembly.proofs.Lines.{node_uids}
 use Rattle.cedar_schema_assembly.proofs.action_entries.actions_below.Goals as goal
 

@@ -6,7 +6,7 @@ use Rattle.std.specs.Vec.Iter.{into_iter_items, into_iter_len}
 use Rattle.cedar_expr_names.specs.Views.{uid_of}
 use Rattle.cedar_schema_decl.proofs.Gathered.{handed}
 use Rattle.cedar_schema_entries.specs.Views.{action_seen}
-use Rattle.cedar_schema_nodes.proofs.Places.{at_in}
+use Rattle.cedar_schema_resolver.proofs.Places.{at_in}
 use Rattle.cedar_schema_resolver.specs.Meanings.{setting_of}
 use Rattle.cedar_schema_assembly.specs.Lists.{sets_seen}
 use Rattle.cedar_schema_assembly.specs.Made.{IsActionMade}

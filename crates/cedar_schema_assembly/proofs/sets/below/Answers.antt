@@ -1,6 +1,6 @@
 use Rattle.std.proofs.Common.{subst}
-use Rattle.cedar_schema_nodes.specs.Numbers.{TellsRepeated, names_in}
-use Rattle.cedar_schema_nodes.proofs.Places.{stood_twice}
+use Rattle.cedar_schema_resolver.specs.Numbers.{TellsRepeated, names_in}
+use Rattle.cedar_schema_resolver.proofs.Places.{stood_twice}
 use Rattle.cedar_schema_assembly.proofs.sets.below.Goals as goal
 
 pub unreachable-requires : goal.unreachable-requires

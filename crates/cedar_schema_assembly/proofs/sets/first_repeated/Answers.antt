@@ -1,7 +1,7 @@
 use Rattle.std.proofs.Common.{map, take, sym, subst}
 use Rattle.std.specs.BTreeSet.{contains}
 use Rattle.std.specs.Prelude.{Contains}
-use Rattle.cedar_schema_nodes.specs.Numbers.{names_in}
+use Rattle.cedar_schema_resolver.specs.Numbers.{names_in}
 use Rattle.cedar_schema_assembly.specs.Lists.{IsSetOf, StandOnce}
 use Rattle.cedar_schema_assembly.proofs.Putting.{nothing_yet, stand_none, stand_more, set_more, next_of, found_there, twice_at, was_there, was_new}
 use Rattle.cedar_schema_assembly.proofs.sets.first_repeated.Goals as goal

@@ -1,5 +1,5 @@
 use Rattle.std.proofs.Common.{map, take}
-use Rattle.cedar_schema_nodes.specs.Numbers.{names_in}
+use Rattle.cedar_schema_resolver.specs.Numbers.{names_in}
 use Rattle.cedar_schema_assembly.specs.Lists.{IsSetOf, StandOnce}
 use Rattle.cedar_schema_assembly.proofs.sets.first_repeated.Given as goal
 

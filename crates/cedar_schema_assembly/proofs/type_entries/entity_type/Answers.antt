@@ -5,7 +5,7 @@ use Rattle.cedar_schema_decl.proofs.Gathered.{handed}
 use Rattle.cedar_schema_decl.specs.Definitions.{entity_form}
 use Rattle.cedar_schema_entries.specs.Views.{entity_type_seen}
 use Rattle.cedar_schema_resolver.specs.Meanings.{setting_of}
-use Rattle.cedar_schema_told_model.specs.Told.{types_in}
+use Rattle.cedar_schema_assembly.specs.Told.{types_in}
 use Rattle.cedar_schema_assembly.specs.Lists.{IsSetOf}
 use Rattle.cedar_schema_assembly.specs.Refusals.{TellsAmong, TellsType}
 use Rattle.cedar_schema_assembly.specs.Seen.{type_seen}

@@ -1,8 +1,8 @@
 use Rattle.std.proofs.Common.{option_map, sym, ap, ◌∙◌, subst}
 use Rattle.cedar_expr_names.specs.Views.{name_of}
-use Rattle.cedar_schema_nodes.specs.Numbers.{names_in}
+use Rattle.cedar_schema_resolver.specs.Numbers.{names_in}
 use Rattle.cedar_schema_assembly.specs.Lists.{StandOnce, TellsRepeat}
-use Rattle.cedar_schema_nodes.specs.Numbers.{StandsTwice}
+use Rattle.cedar_schema_resolver.specs.Numbers.{StandsTwice}
 use Rattle.cedar_schema_assembly.proofs.Lines.{node_names}
 use Rattle.cedar_schema_assembly.proofs.type_entries.types_below.Goals as goal
 

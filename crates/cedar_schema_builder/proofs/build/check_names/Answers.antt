@@ -1,7 +1,7 @@
 use Rattle.std.proofs.Common.{Some, sym, ap, ◌∙◌}
 use Rattle.std.specs.Prelude.{is_some}
 use Rattle.cedar_schema_decl.proofs.Gathered.{handed}
-use Rattle.cedar_schema_gathered.specs.Looking.{name_found}
+use Rattle.cedar_schema_builder.specs.Looking.{name_found}
 use Rattle.cedar_schema_builder.specs.Faults.{of_fragments}
 use Rattle.cedar_schema_builder.specs.FormSteps.{IsFaultOfNames}
 use Rattle.cedar_schema_builder.specs.Steps.{NamesFaultIn}

@@ -1,6 +1,6 @@
 use Rattle.cedar_schema_decl.proofs.Gathered.{handed}
 use Rattle.cedar_schema_decl.specs.Defined.{defined_of}
-use Rattle.cedar_schema_gathered.specs.Gathered.{commons_gathered, entities_gathered, actions_gathered}
+use Rattle.cedar_schema_builder.specs.Gathered.{commons_gathered, entities_gathered, actions_gathered}
 use Rattle.cedar_schema_builder.specs.Faults.{of_shadowing, of_fragments}
 use Rattle.cedar_schema_builder.specs.FormSteps.{IsFaultOfSets}
 use Rattle.cedar_schema_builder.specs.Steps.{NamesFaultIn}

@@ -1,7 +1,7 @@
 use Rattle.std.proofs.Common.{◌≡◌, ap, ◌∙◌, subst}
 use Rattle.cedar_schema_decl.proofs.Gathered.{handed}
 use Rattle.cedar_schema_decl.specs.Defined.{defined_of}
-use Rattle.cedar_schema_gathered.specs.Gathered.{commons_gathered, entities_gathered, actions_gathered}
+use Rattle.cedar_schema_builder.specs.Gathered.{commons_gathered, entities_gathered, actions_gathered}
 use Rattle.cedar_schema_resolver.specs.Meanings.{extensions_seen}
 use Rattle.cedar_schema_fragments.specs.Marked.{HasAll}
 use Rattle.cedar_schema_builder.specs.Built.{types_made, actions_made, NamesFaultOf}

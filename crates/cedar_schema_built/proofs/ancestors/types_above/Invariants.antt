@@ -3,7 +3,7 @@ use Rattle.std.specs.BTreeMap.{get}
 use Rattle.cedar_expr_model.specs.Name.{name_eq}
 use Rattle.cedar_expr_names.specs.Views.{type_name_of}
 use Rattle.cedar_expr_names.specs.declared.entity.EntityType.{EntityType}
-use Rattle.cedar_schema_kept_model.specs.Kept.{KeptType}
+use Rattle.cedar_schema_model.specs.Kept.{KeptType}
 use Rattle.cedar_schema_entries.specs.Views.{entity_type_seen}
 use Rattle.cedar_schema_built.specs.Above.{above_among}
 use Rattle.cedar_schema_built.specs.Ancestors.{types_by}

@@ -3,7 +3,7 @@ use Rattle.std.specs.BTreeMap.{get}
 use Rattle.cedar_expr_model.specs.Uid.{uid_eq}
 use Rattle.cedar_expr_names.specs.Views.{uid_of}
 use Rattle.cedar_expr_names.specs.declared.entity.EntityUID.{EntityUID}
-use Rattle.cedar_schema_kept_model.specs.Kept.{KeptAction}
+use Rattle.cedar_schema_model.specs.Kept.{KeptAction}
 use Rattle.cedar_schema_entries.specs.Views.{action_seen}
 use Rattle.cedar_schema_built.specs.Above.{above_among}
 use Rattle.cedar_schema_built.specs.Ancestors.{uids_by}

@@ -6,7 +6,7 @@ use Rattle.cedar_expr_model.proofs.Lists.{contains_head}
 use Rattle.cedar_expr_names.specs.Views.{uid_of}
 use Rattle.cedar_schema_model.specs.BagLaws.{HasTwice}
 use Rattle.cedar_store_entities.specs.Views.{entity_pair, kin_seen}
-use Rattle.cedar_schema_kept_model.specs.Kept.{KeptAction, kept_as_entity, kept_action_entities, kept_action_ancestors}
+use Rattle.cedar_schema_model.specs.Kept.{KeptAction, kept_as_entity, kept_action_entities, kept_action_ancestors}
 use Rattle.cedar_schema_built.specs.Ancestors.{uids_by}
 use Rattle.cedar_schema_built.specs.Entities.{recorded_entity, are_indirect}
 use Rattle.cedar_schema_built.specs.Views.{schema_kept}

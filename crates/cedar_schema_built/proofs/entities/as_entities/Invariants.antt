@@ -6,7 +6,7 @@ use Rattle.cedar_expr_names.specs.Views.{uid_of}
 use Rattle.cedar_expr_names.specs.declared.entity.EntityUID.{EntityUID}
 use Rattle.cedar_schema_model.specs.BagLaws.{HasTwice}
 use Rattle.cedar_store_entities.specs.Views.{entity_pair, kin_seen}
-use Rattle.cedar_schema_kept_model.specs.Kept.{kept_as_entity, kept_action_entities, kept_action_ancestors}
+use Rattle.cedar_schema_model.specs.Kept.{kept_as_entity, kept_action_entities, kept_action_ancestors}
 use Rattle.cedar_schema_built.specs.Above.{row_of}
 use Rattle.cedar_schema_built.specs.Ancestors.{uids_by}
 use Rattle.cedar_schema_built.specs.Entities.{are_indirect}

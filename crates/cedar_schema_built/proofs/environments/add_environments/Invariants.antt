@@ -2,7 +2,7 @@ use Rattle.std.proofs.Common.{◌≡◌, ◌++◌, map}
 use Rattle.std.specs.List.{flat_map}
 use Rattle.cedar_expr_names.specs.Views.{type_name_of}
 use Rattle.cedar_schema_entries.specs.Views.{action_seen}
-use Rattle.cedar_schema_kept_model.specs.Kept.{kinds_with, kinds_of}
+use Rattle.cedar_schema_model.specs.Kept.{kinds_with, kinds_of}
 use Rattle.cedar_schema_built.specs.Views.{request_kind}
 use Rattle.cedar_schema_built.proofs.environments.add_environments.Given as goal
 

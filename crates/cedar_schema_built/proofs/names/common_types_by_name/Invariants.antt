@@ -1,5 +1,5 @@
 use Rattle.std.proofs.Common.{◌≡◌}
-use Rattle.cedar_schema_located.specs.Views.{common_listed}
+use Rattle.cedar_schema_built.specs.LocatedViews.{common_listed}
 use Rattle.cedar_schema_built.specs.Listed.{commons_in}
 use Rattle.cedar_schema_built.proofs.Located.{keys, named, all_seen}
 use Rattle.cedar_schema_built.proofs.names.common_types_by_name.Given as goal

@@ -1,5 +1,5 @@
 use Rattle.std.proofs.Common.{◌∙◌}
-use Rattle.cedar_schema_located.specs.Views.{space_listed}
+use Rattle.cedar_schema_built.specs.LocatedViews.{space_listed}
 use Rattle.cedar_schema_built.proofs.Located.{one_more, one_named}
 use Rattle.cedar_schema_built.proofs.names.namespaces_by_name.Goals as goal
 

@@ -1,6 +1,6 @@
 use Rattle.std.proofs.Common.{map}
 use Rattle.cedar_expr_names.specs.Namespaces.{space_of}
-use Rattle.cedar_expr_raw_names.specs.Views.{raw_name_of}
+use Rattle.cedar_expr_leaves.specs.Views.{raw_name_of}
 use Rattle.cedar_schema_decl.specs.Conditional.{conditional_of}
 use Rattle.cedar_schema_fragments.specs.Actions.{parent_form}
 use Rattle.cedar_schema_fragments.proofs.Qualifying.{parents_are}

@@ -1,7 +1,7 @@
 use Rattle.std.proofs.Common.{◌≡◌, take}
 use Rattle.cedar_expr_names.specs.Views.{name_of}
 use Rattle.cedar_schema_decl.specs.Defined.{defined_of}
-use Rattle.cedar_schema_nodes.specs.Numbers.{seen_nodes}
+use Rattle.cedar_schema_resolver.specs.Numbers.{seen_nodes}
 use Rattle.cedar_schema_resolver.specs.Uses.{common_forms, with_uses}
 use Rattle.cedar_schema_resolver.proofs.references.with_references.Given as goal
 

@@ -1,10 +1,10 @@
 use Rattle.std.proofs.Common.{subst}
 use Rattle.cedar_expr_names.specs.Views.{name_of}
-use Rattle.cedar_schema_closure.specs.Graphs.{IsOrder, TellsCycle}
-use Rattle.cedar_schema_closure.specs.declared.err.CycleError.TheVariants.{Cycle}
+use Rattle.cedar_schema_resolver.specs.Graphs.{IsOrder, TellsCycle}
+use Rattle.cedar_schema_resolver.specs.declared.closure_err.CycleError.TheVariants.{Cycle}
 use Rattle.cedar_schema_decl.specs.Defined.{defined_of}
-use Rattle.cedar_schema_nodes.specs.Descent.{IsGraphOf}
-use Rattle.cedar_schema_nodes.specs.Numbers.{AreOnce, StoodBefore, TellsRepeated, names_in, seen_nodes}
+use Rattle.cedar_schema_resolver.specs.Descent.{IsGraphOf}
+use Rattle.cedar_schema_resolver.specs.Numbers.{AreOnce, StoodBefore, TellsRepeated, names_in, seen_nodes}
 use Rattle.cedar_schema_resolver.specs.Uses.{common_forms}
 use Rattle.cedar_schema_resolver.proofs.Nodes.{twice, stood_there, sorted, cycle, led_to, name_there}
 use Rattle.cedar_schema_resolver.proofs.resolve.in_order_of_use.Goals as goal

@@ -3,7 +3,7 @@ use Rattle.cedar_expr_names.specs.Views.{name_of}
 use Rattle.cedar_schema_decl.specs.Defined.{defined_of}
 use Rattle.cedar_schema_decl.specs.Definitions.{common_form}
 use Rattle.cedar_schema_decl.proofs.Gathered.{handed}
-use Rattle.cedar_schema_nodes.proofs.Places.{at_in}
+use Rattle.cedar_schema_resolver.proofs.Places.{at_in}
 use Rattle.cedar_schema_resolver.specs.Commons.{common_seen, common_kept}
 use Rattle.cedar_schema_resolver.specs.Meanings.{extensions_seen, setting, told}
 use Rattle.cedar_schema_resolver.specs.Solved.{TellsUnsolved}

@@ -2,7 +2,7 @@ use Rattle.std.proofs.Common.{◌≡◌, map}
 use Rattle.cedar_expr_model.specs.Lists.{first_found}
 use Rattle.cedar_expr_names.specs.Views.{uid_of}
 use Rattle.cedar_schema_entries.specs.Views.{action_seen}
-use Rattle.cedar_schema_sound_model.specs.Unsound.{action_among}
+use Rattle.cedar_schema_model.specs.Unsound.{action_among}
 use Rattle.cedar_schema_sound.proofs.actions.left_out.Given as goal
 
 abbrev pub invariant-loop-descendant : goal.invariant-loop-descendant

@@ -3,7 +3,7 @@ use Rattle.cedar_expr_model.specs.Lists.{first_found}
 use Rattle.cedar_expr_names.specs.Views.{uid_of}
 use Rattle.cedar_schema_entries.specs.Views.{action_seen}
 use Rattle.cedar_schema_built.specs.Views.{schema_kept}
-use Rattle.cedar_schema_sound_model.specs.Unsound.{action_below_fault}
+use Rattle.cedar_schema_model.specs.Unsound.{action_below_fault}
 use Rattle.cedar_schema_sound.proofs.actions.unsound_below.Given as goal
 
 abbrev pub invariant-loop-descendant : goal.invariant-loop-descendant

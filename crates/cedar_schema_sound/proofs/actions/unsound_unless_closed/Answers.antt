@@ -2,7 +2,7 @@ use Rattle.std.proofs.Common.{sym}
 use Rattle.cedar_expr_model.specs.Lists.{first_found}
 use Rattle.cedar_schema_entries.specs.Views.{action_seen}
 use Rattle.cedar_schema_built.specs.Views.{schema_kept}
-use Rattle.cedar_schema_sound_model.specs.Unsound.{action_below_fault}
+use Rattle.cedar_schema_model.specs.Unsound.{action_below_fault}
 use Rattle.cedar_schema_sound.proofs.Closing.{none_is}
 use Rattle.cedar_schema_sound.proofs.actions.unsound_unless_closed.Goals as goal
 

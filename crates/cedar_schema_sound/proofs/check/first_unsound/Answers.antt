@@ -2,7 +2,7 @@ use Rattle.std.proofs.Common.{option_map, sym, ap, ◌∙◌}
 use Rattle.std.specs.Option.{option_or}
 use Rattle.cedar_expr_model.specs.Lists.{first_found}
 use Rattle.cedar_schema_built.specs.Views.{schema_kept}
-use Rattle.cedar_schema_sound_model.specs.Unsound.{action_fault}
+use Rattle.cedar_schema_model.specs.Unsound.{action_fault}
 use Rattle.cedar_schema_sound.specs.Views.{fault_seen, names_known}
 use Rattle.cedar_schema_sound.proofs.Free.{none_is_sound}
 use Rattle.cedar_schema_sound.proofs.check.first_unsound.Goals as goal

@@ -3,7 +3,7 @@ use Rattle.std.specs.List.{list_all}
 use Rattle.cedar_expr_model.specs.Lists.{first_found}
 use Rattle.cedar_schema_entries.specs.Views.{entity_type_seen}
 use Rattle.cedar_schema_built.specs.Views.{schema_kept}
-use Rattle.cedar_schema_sound_model.specs.Unsound.{entity_type_fault}
+use Rattle.cedar_schema_model.specs.Unsound.{entity_type_fault}
 use Rattle.cedar_schema_sound.specs.Closed.{is_type_closed}
 use Rattle.cedar_schema_sound.specs.Views.{names_known}
 use Rattle.cedar_schema_sound.proofs.check.first_unsound_type.Given as goal

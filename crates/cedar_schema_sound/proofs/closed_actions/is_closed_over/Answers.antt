@@ -3,7 +3,7 @@ use Rattle.cedar_expr_model.specs.Lists.{first_found}
 use Rattle.cedar_expr_names.specs.Views.{uid_of}
 use Rattle.cedar_schema_entries.specs.Views.{action_seen}
 use Rattle.cedar_schema_built.specs.Views.{schema_kept}
-use Rattle.cedar_schema_sound_model.specs.Unsound.{action_among, action_below_fault}
+use Rattle.cedar_schema_model.specs.Unsound.{action_among, action_below_fault}
 use Rattle.cedar_schema_sound.specs.Views.{fault_seen}
 use Rattle.cedar_schema_sound.proofs.Closing.{this_one, rest_after, searched_on, some_is_some, none_is_none, action_kept_out, action_amiss_at, action_passed_over}
 use Rattle.cedar_schema_sound.proofs.closed_actions.is_closed_over.Goals as goal

@@ -5,7 +5,7 @@ use Rattle.cedar_expr_model.specs.Uid.{Uid}
 use Rattle.cedar_expr_names.specs.Views.{uid_of}
 use Rattle.cedar_schema_entries.specs.Views.{action_seen}
 use Rattle.cedar_schema_built.specs.Views.{schema_kept}
-use Rattle.cedar_schema_sound_model.specs.Unsound.{action_below_fault}
+use Rattle.cedar_schema_model.specs.Unsound.{action_below_fault}
 use Rattle.cedar_schema_sound.specs.Closed.{is_action_closed}
 use Rattle.cedar_schema_sound.proofs.closed_actions.is_closed_over.Given as goal
 

@@ -1,6 +1,6 @@
 use Rattle.std.proofs.Common.{map}
 use Rattle.std.specs.Prelude.{Contains}
-use Rattle.cedar_schema_kept_model.specs.Kept.{KeptType}
+use Rattle.cedar_schema_model.specs.Kept.{KeptType}
 use Rattle.cedar_schema_entries.specs.Views.{entity_type_seen}
 use Rattle.cedar_schema_built.specs.Views.{schema_kept}
 use Rattle.cedar_schema_sound.specs.Closed.{IsTypeClosedAfter}

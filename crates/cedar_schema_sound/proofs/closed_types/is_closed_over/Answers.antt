@@ -3,7 +3,7 @@ use Rattle.cedar_expr_model.specs.Lists.{first_found}
 use Rattle.cedar_expr_names.specs.Views.{type_name_of}
 use Rattle.cedar_schema_entries.specs.Views.{entity_type_seen}
 use Rattle.cedar_schema_built.specs.Views.{schema_kept}
-use Rattle.cedar_schema_sound_model.specs.Unsound.{type_among, type_below_fault}
+use Rattle.cedar_schema_model.specs.Unsound.{type_among, type_below_fault}
 use Rattle.cedar_schema_sound.specs.Views.{fault_seen}
 use Rattle.cedar_schema_sound.proofs.Closing.{this_one, rest_after, searched_on, some_is_some, none_is_none, type_kept_out, type_amiss_at, type_passed_over}
 use Rattle.cedar_schema_sound.proofs.closed_types.is_closed_over.Goals as goal

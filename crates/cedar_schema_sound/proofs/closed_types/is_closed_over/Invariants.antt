@@ -5,7 +5,7 @@ use Rattle.cedar_expr_model.specs.Name.{Name}
 use Rattle.cedar_expr_names.specs.Views.{type_name_of}
 use Rattle.cedar_schema_entries.specs.Views.{entity_type_seen}
 use Rattle.cedar_schema_built.specs.Views.{schema_kept}
-use Rattle.cedar_schema_sound_model.specs.Unsound.{type_below_fault}
+use Rattle.cedar_schema_model.specs.Unsound.{type_below_fault}
 use Rattle.cedar_schema_sound.specs.Closed.{is_type_closed}
 use Rattle.cedar_schema_sound.proofs.closed_types.is_closed_over.Given as goal
 

@@ -3,7 +3,7 @@ use Rattle.cedar_expr_model.specs.Lists.{first_found}
 use Rattle.cedar_expr_names.specs.Views.{type_name_of}
 use Rattle.cedar_schema_entries.specs.Views.{entity_type_seen}
 use Rattle.cedar_schema_built.specs.Views.{schema_kept}
-use Rattle.cedar_schema_sound_model.specs.Unsound.{type_below_fault}
+use Rattle.cedar_schema_model.specs.Unsound.{type_below_fault}
 use Rattle.cedar_schema_sound.proofs.entity_types.unsound_below.Given as goal
 
 abbrev pub invariant-loop-descendant : goal.invariant-loop-descendant

@@ -2,7 +2,7 @@ use Rattle.std.proofs.Common.{◌≡◌}
 use Rattle.cedar_schema_types.specs.Types.{attributes_of}
 use Rattle.cedar_schema_types.specs.AttributeLists.{attributes_from, declared_pairs}
 use Rattle.cedar_schema_built.specs.Views.{schema_kept}
-use Rattle.cedar_schema_sound_model.specs.Unsound.{attributes_fault}
+use Rattle.cedar_schema_model.specs.Unsound.{attributes_fault}
 use Rattle.cedar_schema_sound.specs.Views.{names_known}
 use Rattle.cedar_schema_sound.proofs.known.+known.Given as goal
 

@@ -3,7 +3,7 @@ use Rattle.cedar_expr_model.specs.Lists.{first_found}
 use Rattle.cedar_expr_names.specs.Views.{type_name_of}
 use Rattle.cedar_schema_types.specs.Unions.{members_of}
 use Rattle.cedar_schema_built.specs.Views.{schema_kept}
-use Rattle.cedar_schema_sound_model.specs.Unsound.{type_fault}
+use Rattle.cedar_schema_model.specs.Unsound.{type_fault}
 use Rattle.cedar_schema_sound.proofs.known.undeclared_in_union.Given as goal
 
 abbrev pub invariant-loop-ty : goal.invariant-loop-ty

@@ -1,6 +1,6 @@
 use Rattle.std.proofs.Common.{rules, sym, ap, ◌∙◌, true, []}
 use Rattle.std.proofs.Output.{has_written_of_eq, writes_in_calls_nil}
-use Rattle.cedar_schema_texts_model.specs.Texts.{attributes_text}
+use Rattle.cedar_schema_model.specs.Texts.{attributes_text}
 use Rattle.cedar_schema_types.proofs.Entries.{attributes_are}
 use Rattle.cedar_schema_types.proofs.Shown.{attributes_left, shown_first, attribute_shown, attributes_shown}
 use Rattle.cedar_schema_types.proofs.texts.+texts.Goals as goal

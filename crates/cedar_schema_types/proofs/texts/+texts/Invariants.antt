@@ -1,6 +1,6 @@
 use Rattle.std.proofs.Common.{true}
 use Rattle.std.specs.Fmt.{IsPlainFormatter}
-use Rattle.cedar_schema_texts_model.specs.Texts.{attributes_text}
+use Rattle.cedar_schema_model.specs.Texts.{attributes_text}
 use Rattle.cedar_schema_types.specs.Types.{attributes_of}
 use Rattle.cedar_schema_types.proofs.Shown.{Shown, attributes_left}
 use Rattle.cedar_schema_types.proofs.texts.+texts.Given as goal

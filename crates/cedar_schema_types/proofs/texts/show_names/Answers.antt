@@ -1,7 +1,7 @@
 use Rattle.std.proofs.Common.{rules, ap, ◌∙◌, map, true}
 use Rattle.std.proofs.Output.{has_written_of_eq, writes_in_calls_nil}
 use Rattle.cedar_expr_names.specs.Views.{type_name_of}
-use Rattle.cedar_schema_texts_model.specs.Texts.{names_text}
+use Rattle.cedar_schema_model.specs.Texts.{names_text}
 use Rattle.cedar_schema_types.proofs.Shown.{name_shown, names_shown, shown_first}
 use Rattle.cedar_schema_types.proofs.texts.show_names.Goals as goal
 

@@ -1,6 +1,6 @@
 use Rattle.std.proofs.Common.{true}
 use Rattle.std.specs.Fmt.{IsPlainFormatter}
-use Rattle.cedar_schema_texts_model.specs.Texts.{names_text}
+use Rattle.cedar_schema_model.specs.Texts.{names_text}
 use Rattle.cedar_schema_types.specs.Unions.{members_of}
 use Rattle.cedar_schema_types.proofs.Shown.{Shown, names_left}
 use Rattle.cedar_schema_types.proofs.texts.show_names.Given as goal

@@ -4,7 +4,7 @@ use Rattle.cedar_expr_values.specs.Extensions.{extension_of}
 use Rattle.cedar_expr_values.specs.Values.{bare}
 use Rattle.cedar_store_model.specs.Outcome.{val}
 use Rattle.cedar_store_model.specs.Meaning.{path_tested}
-use Rattle.cedar_store_worlds_model.specs.Alone.{store_alone}
+use Rattle.cedar_store_model.specs.Alone.{store_alone}
 use Rattle.cedar_store_entities.specs.Stores.{store_seen}
 use Rattle.cedar_store_meaning.specs.Outcomes.{IsMeaning}
 use Rattle.cedar_store_meaning.proofs.PathSteps.{path_on, path_false, path_stops, step_at}

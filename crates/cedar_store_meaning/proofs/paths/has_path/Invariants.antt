@@ -3,7 +3,7 @@ use Rattle.std.specs.Rc.{rc_str_bytes}
 use Rattle.cedar_expr_values.specs.Extensions.{extension_of}
 use Rattle.cedar_expr_values.specs.Values.{bare}
 use Rattle.cedar_store_model.specs.Meaning.{path_tested}
-use Rattle.cedar_store_worlds_model.specs.Alone.{store_alone}
+use Rattle.cedar_store_model.specs.Alone.{store_alone}
 use Rattle.cedar_store_entities.specs.Stores.{store_seen}
 use Rattle.cedar_store_meaning.proofs.paths.has_path.Given as goal
 

@@ -9,7 +9,7 @@ use Rattle.cedar_store_model.specs.Outcome.{val}
 use Rattle.cedar_store_model.specs.Operators.{says}
 use Rattle.cedar_store_model.specs.Reads.{attribute_read, attribute_tested}
 use Rattle.cedar_store_model.specs.Meaning.{combined}
-use Rattle.cedar_store_worlds_model.specs.Alone.{store_alone}
+use Rattle.cedar_store_model.specs.Alone.{store_alone}
 use Rattle.cedar_store_entities.specs.Stores.{store_seen}
 use Rattle.cedar_store_meaning.specs.Outcomes.{IsMeaning}
 use Rattle.cedar_store_meaning.specs.StoreParts.{fields_of}

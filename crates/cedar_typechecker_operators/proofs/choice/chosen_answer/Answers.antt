@@ -1,6 +1,6 @@
 use Rattle.std.proofs.Common.{◌≡◌, ◌∙◌, ap, rules, option_map}
 use Rattle.cedar_schema_types.specs.Types.{type_of}
-use Rattle.cedar_typechecker_facts.specs.Facts.{facts_of}
+use Rattle.cedar_typechecker_environments.specs.Facts.{facts_of}
 use Rattle.cedar_typechecker_model.specs.Facts.{union}
 use Rattle.cedar_typechecker_model.specs.Typing.{chosen}
 use Rattle.cedar_typechecker_environments.specs.Settings.{setting_of}

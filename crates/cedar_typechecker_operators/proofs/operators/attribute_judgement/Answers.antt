@@ -1,7 +1,7 @@
 use Rattle.std.proofs.Common.{◌≡◌, ◌∙◌, ap, rules, option_map}
 use Rattle.std.specs.Rc.{rc_str_bytes}
 use Rattle.cedar_expr_trees.specs.Trees.{tree_of}
-use Rattle.cedar_typechecker_facts.specs.Facts.{capability_of}
+use Rattle.cedar_typechecker_environments.specs.Facts.{capability_of}
 use Rattle.cedar_typechecker_model.specs.Facts.{attribute_part}
 use Rattle.cedar_typechecker_model.specs.Typing.{tested}
 use Rattle.cedar_typechecker_operators.proofs.PathTests.{judged_so}

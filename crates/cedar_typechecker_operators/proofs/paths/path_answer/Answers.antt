@@ -6,9 +6,9 @@ use Rattle.cedar_expr_leaves.specs.declared.non_empty.NonEmpty.{NonEmpty}
 use Rattle.cedar_expr_trees.specs.Trees.{tree_of}
 use Rattle.cedar_schema_types.specs.Types.{type_of}
 use Rattle.cedar_typechecker_environments.specs.Settings.{setting_of}
-use Rattle.cedar_typechecker_facts.specs.Facts.{facts_of}
+use Rattle.cedar_typechecker_environments.specs.Facts.{facts_of}
 use Rattle.cedar_typechecker_model.specs.Typing.{path_judged}
-use Rattle.cedar_typechecker_typed_model.specs.Typed.{path_typed}
+use Rattle.cedar_typechecker_model.specs.Typed.{path_typed}
 use Rattle.cedar_typechecker_answers.specs.Answers.{seen, judgement_seen}
 use Rattle.cedar_typechecker_operators.proofs.TypedRows.{answered}
 use Rattle.cedar_typechecker_operators.proofs.PathTests.{path_noted}

@@ -8,8 +8,8 @@ use Rattle.cedar_schema_types.specs.Types.{type_of}
 use Rattle.cedar_typechecker_environments.specs.Settings.{setting_of}
 use Rattle.cedar_typechecker_model.specs.Rules.{call_type}
 use Rattle.cedar_typechecker_model.specs.Typing.{plain}
-use Rattle.cedar_typechecker_nodes.specs.Marked.{kind_marks}
-use Rattle.cedar_typechecker_typed_model.specs.Typed.{call_typed, noted}
+use Rattle.cedar_typechecker_answers.specs.Marked.{kind_marks}
+use Rattle.cedar_typechecker_model.specs.Typed.{call_typed, noted}
 use Rattle.cedar_typechecker_operators.specs.Rows.{type_at, row_found}
 use Rattle.cedar_typechecker_operators.proofs.TypedRows.{row_lacks, row_has, answered}
 use Rattle.cedar_typechecker_operators.proofs.rows.call_answer.Goals as goal

@@ -1,7 +1,7 @@
 use Rattle.std.proofs.Common.{◌≡◌, ◌+◌, drop, Some, rules, ap, sym, ◌∙◌}
 use Rattle.std.proofs.lemmas.List.{map-append}
 use Rattle.cedar_schema_types.specs.AttributeLists.{required_pair, required_pairs}
-use Rattle.cedar_typechecker_nodes.proofs.Copied.{drop_here}
+use Rattle.cedar_typechecker_answers.proofs.Copied.{drop_here}
 use Rattle.cedar_typechecker_rules.proofs.Gathered.{left_to_give, gives_on}
 use Rattle.cedar_typechecker_operators.specs.Rows.{required_at}
 use Rattle.cedar_typechecker_operators.proofs.rows.field_types.Goals as goal

@@ -5,8 +5,8 @@ use Rattle.cedar_expr_trees.specs.Trees.{kind_tree, named}
 use Rattle.cedar_schema_types.specs.AttributeLists.{required_pairs}
 use Rattle.cedar_schema_types.specs.Types.{type_of}
 use Rattle.cedar_typechecker_model.specs.Typing.{plain}
-use Rattle.cedar_typechecker_nodes.specs.Marked.{kind_marks}
-use Rattle.cedar_typechecker_typed_model.specs.Typed.{record_typed, noted}
+use Rattle.cedar_typechecker_answers.specs.Marked.{kind_marks}
+use Rattle.cedar_typechecker_model.specs.Typed.{record_typed, noted}
 use Rattle.cedar_typechecker_operators.specs.Rows.{required_at, fields_found, rising_found}
 use Rattle.cedar_typechecker_operators.proofs.TypedRows.{fields_lack, fields_have, answered}
 use Rattle.cedar_typechecker_operators.proofs.rows.record_answer.Goals as goal

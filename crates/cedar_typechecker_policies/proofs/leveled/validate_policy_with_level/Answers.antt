@@ -1,7 +1,7 @@
 use Rattle.std.proofs.Common.{◌≡◌, [], ◌++◌, ap, ◌∙◌, map}
 use Rattle.cedar_schema_joins.specs.Modes.{mode_of}
 use Rattle.cedar_store_policies.specs.Templates.{template_of, template_loc}
-use Rattle.cedar_store_records.specs.Views.{warning_of}
+use Rattle.cedar_store_parts.specs.Views.{warning_of}
 use Rattle.cedar_typechecker_policies.specs.Findings.{warned_as}
 use Rattle.cedar_typechecker_policies.specs.Found.{FindsErrors, FindsWarnings, scope_blames, asked_in}
 use Rattle.cedar_typechecker_policies.specs.Sound.{ForAlike, PolicyMeansTruth, LooksInReach}

@@ -1,5 +1,5 @@
-use Rattle.cedar_store_records.specs.contracts.diagnostics.ValidationErrorPartialEq.TheImpl as errors
-use Rattle.cedar_store_records.specs.contracts.diagnostics.ValidationWarningPartialEq.TheImpl as warnings
+use Rattle.cedar_store_parts.specs.contracts.diagnostics.ValidationErrorPartialEq.TheImpl as errors
+use Rattle.cedar_store_parts.specs.contracts.diagnostics.ValidationWarningPartialEq.TheImpl as warnings
 use Rattle.cedar_typechecker_policies.proofs.Finding.{union_after}
 use Rattle.cedar_typechecker_policies.proofs.policy.put_findings.Goals as goal
 

@@ -2,8 +2,8 @@ use Rattle.std.proofs.Common.{◌≡◌, true, sym, subst, ◌∙◌}
 use Rattle.std.specs.Set.{IsUnion}
 use Rattle.cedar_schema_joins.specs.Modes.{mode_of}
 use Rattle.cedar_store_policies.specs.Templates.{template_of, template_loc}
-use Rattle.cedar_store_records.specs.contracts.diagnostics.ValidationErrorPartialEq.TheImpl as errors
-use Rattle.cedar_store_records.specs.contracts.diagnostics.ValidationWarningPartialEq.TheImpl as warnings
+use Rattle.cedar_store_parts.specs.contracts.diagnostics.ValidationErrorPartialEq.TheImpl as errors
+use Rattle.cedar_store_parts.specs.contracts.diagnostics.ValidationWarningPartialEq.TheImpl as warnings
 use Rattle.cedar_typechecker_model.specs.Verdicts.{passes_in, is_warned}
 use Rattle.cedar_typechecker_policies.specs.Found.{GainsErrors, GainsWarnings}
 use Rattle.cedar_typechecker_policies.specs.Sound.{ForAlike, PolicyMeansTruth}

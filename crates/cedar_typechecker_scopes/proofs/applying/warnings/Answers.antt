@@ -3,7 +3,7 @@ use Rattle.std.specs.Prelude.{IfOk}
 use Rattle.std.specs.List.{list_any}
 use Rattle.cedar_schema_model.specs.Environment.{environments}
 use Rattle.cedar_store_parts.specs.Parts.{id_text}
-use Rattle.cedar_store_records.specs.Views.{warning_of}
+use Rattle.cedar_store_parts.specs.Views.{warning_of}
 use Rattle.cedar_typechecker_environments.specs.Settings.{environment_of}
 use Rattle.cedar_typechecker_scopes.specs.Applying.{principal_fits, resource_fits, fits, would_mend}
 use Rattle.cedar_typechecker_scopes.specs.Asking.{asked_of}

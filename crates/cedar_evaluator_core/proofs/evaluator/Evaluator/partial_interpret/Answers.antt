@@ -6,7 +6,7 @@ use Rattle.cedar_evaluator_model.proofs.Owed as laws
 use Rattle.cedar_evaluator_model.proofs.Residuals.Node.{residuals_stand, residuals_fit}
 use Rattle.cedar_evaluator_operators.specs.Scopes.{scope_of}
 use Rattle.cedar_evaluator_reads.specs.Scopes.{scope_seen}
-use Rattle.cedar_evaluator_rising.proofs.Rising.{values_rise}
+use Rattle.cedar_evaluator_model.proofs.Rising.{values_rise}
 use Rattle.cedar_evaluator_core.specs.Evaluators.{limit_of, scope_in}
 use Rattle.cedar_evaluator_core.proofs.Concluded.{not_limit}
 use Rattle.cedar_evaluator_core.proofs.Stood.{stands_in, outcome_in}

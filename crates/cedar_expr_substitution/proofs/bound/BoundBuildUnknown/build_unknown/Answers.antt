@@ -7,7 +7,7 @@ use Rattle.cedar_expr_values.specs.Values.{made}
 use Rattle.cedar_expr_trees.specs.Unknowns.{unknown_of}
 use Rattle.cedar_expr_trees.specs.Trees.{tree_of}
 use Rattle.cedar_expr_builders.specs.Refusing.{built_or_refused}
-use Rattle.cedar_expr_rebuilding.specs.Outcome.{Refuses}
+use Rattle.cedar_expr_substitution.specs.Outcome.{Refuses}
 use Rattle.cedar_expr_substitution.specs.Bound.{bound_by, placed_by}
 use Rattle.cedar_expr_substitution.proofs.Placed.{bound_placed, free_placed}
 use Rattle.cedar_expr_substitution.proofs.bound.BoundBuildUnknown.build_unknown.Goals as goal

@@ -2,7 +2,7 @@ use Rattle.std.proofs.Common.{◌≡◌, IfOk, IfErr, Ok, subst, ap, ◌∙◌}
 use Rattle.cedar_expr_model.specs.Substitution.{built_under}
 use Rattle.cedar_expr_trees.specs.Trees.{tree_of}
 use Rattle.cedar_expr_builders.specs.Refusing.{refusing}
-use Rattle.cedar_expr_rebuilding.specs.Outcome.{Refuses}
+use Rattle.cedar_expr_substitution.specs.Outcome.{Refuses}
 use Rattle.cedar_expr_substitution.specs.Bound.{bound_by, bindings_of}
 use Rattle.cedar_expr_substitution.proofs.Placed.{placed_under, refusal_told}
 use Rattle.cedar_expr_substitution.proofs.substitute.ExprSubstitute.substitute_into_expr.Goals as goal

@@ -4,7 +4,7 @@ use Rattle.cedar_expr_names.specs.Views.{uid_of}
 use Rattle.cedar_schema_built.specs.Views.{schema_kept}
 use Rattle.cedar_schema_entries.specs.Views.{action_seen}
 use Rattle.cedar_schema_entries.specs.declared.action.ValidatorActionId.{ValidatorActionId}
-use Rattle.cedar_typechecker_seen_model.proofs.Seen.Told.{action_there}
+use Rattle.cedar_typechecker_model.proofs.Seen.Told.{action_there}
 use Rattle.cedar_gate_accepted.specs.Views.{declared_in}
 use Rattle.cedar_gate_accepted.proofs.Tested.{actions_alike}
 use Rattle.cedar_gate_accepted.proofs.actions.GateDeclaredActions.declares_action.Goals as goal

@@ -1,9 +1,9 @@
 use Rattle.std.proofs.Common.{List, sym, subst}
 use Rattle.cedar_expr_functions.specs.Tables.{functions_of, ordered_of, table_of}
-use Rattle.cedar_gate_acceptance.specs.Handed.{IsHandedIn}
+use Rattle.cedar_gate_accepted.specs.Handed.{IsHandedIn}
 use Rattle.cedar_gate_accepted.proofs.Tested.{kept_by_tests}
 use Rattle.cedar_gate_accepted.proofs.Together.{as_typed, all_accepted, schema_there}
-use Rattle.cedar_gate_faults.specs.Causes.{IsRefusedFor}
+use Rattle.cedar_gate_rules.specs.Causes.{IsRefusedFor}
 use Rattle.cedar_gate_fragments.specs.Written.{declared_by}
 use Rattle.cedar_gate_model.specs.Acceptance.{Submission}
 use Rattle.cedar_gate_rules.specs.Limit.{levels_of}
@@ -12,8 +12,8 @@ use Rattle.cedar_schema_built.specs.Views.{schema_kept}
 use Rattle.cedar_schema_decl.proofs.Gathered.{handed}
 use Rattle.cedar_schema_model.specs.Resolved.{schema_of}
 use Rattle.cedar_store_policies.specs.declared.policy.Policy.{Policy}
-use Rattle.cedar_typechecker_schemas.specs.Views.{silent}
-use Rattle.cedar_typechecker_seen_model.proofs.Seen.Tests.{closed_by_tests}
+use Rattle.cedar_typechecker.specs.SchemaViews.{silent}
+use Rattle.cedar_typechecker_model.proofs.Seen.Tests.{closed_by_tests}
 use Rattle.cedar_gate_accepted.proofs.gate.Gate.accept.Goals as goal
 
 pub invariant_of-result : goal.invariant_of-result

@@ -8,12 +8,12 @@ use Rattle.cedar_gate_accepted.specs.Views.{declared_in, policies_held, table_he
 use Rattle.cedar_gate_accepted.proofs.Together.{relevant_alike}
 use Rattle.cedar_gate_rules.specs.Limit.{levels_of}
 use Rattle.cedar_gate_rules.specs.Policies.{policies_of}
-use Rattle.cedar_gate_typing.specs.Checks.{kind_asked}
+use Rattle.cedar_gate_accepted.specs.Checks.{kind_asked}
 use Rattle.cedar_schema_built.specs.Views.{schema_kept}
 use Rattle.cedar_store_parts.specs.Parts.{id_text}
 use Rattle.cedar_store_parts.specs.declared.policy_id.PolicyID.{PolicyID}
-use Rattle.cedar_typechecker_schemas.specs.Views.{silent}
-use Rattle.cedar_typechecker_seen_model.proofs.Seen.Tests.{tests_closed}
+use Rattle.cedar_typechecker.specs.SchemaViews.{silent}
+use Rattle.cedar_typechecker_model.proofs.Seen.Tests.{tests_closed}
 use Rattle.cedar_gate_accepted.proofs.gate.Gate.policies_for.Goals as goal
 
 pub new-requires : goal.new-requires

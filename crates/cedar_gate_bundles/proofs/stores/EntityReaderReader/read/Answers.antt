@@ -6,7 +6,7 @@ use Rattle.cedar_expr_values.specs.Values.{made}
 use Rattle.cedar_store_entities.specs.Recorded.{all_recorded}
 use Rattle.cedar_gate_model.specs.Reading.{given, required, has_only}
 use Rattle.cedar_gate_model.specs.ReadingName.{uid_read}
-use Rattle.cedar_gate_reading.specs.Maps.{texts_seen}
+use Rattle.cedar_gate_expressions.specs.Maps.{texts_seen}
 use Rattle.cedar_gate_bundles.specs.Written.{entity_read_made}
 use Rattle.cedar_gate_bundles.proofs.Parted.{entity_made}
 use Rattle.cedar_gate_bundles.proofs.Unread.{handed_on, tags_unread, ancestors_unread}

@@ -3,9 +3,9 @@ use Rattle.std.specs.Rc.{rc_str_bytes}
 use Rattle.cedar_expr_values.specs.Extensions.{extension_of}
 use Rattle.cedar_expr_values.specs.Values.{made}
 use Rattle.cedar_evaluator_requests.specs.Views.{request_of}
-use Rattle.cedar_gate_bindings.specs.Faults.{IsValueFault}
-use Rattle.cedar_gate_bindings.specs.Names.{bound_in, is_open_by}
-use Rattle.cedar_gate_bindings.specs.Values.{takes}
+use Rattle.cedar_gate_openings.specs.Faults.{IsValueFault}
+use Rattle.cedar_gate_openings.specs.Names.{bound_in, is_open_by}
+use Rattle.cedar_gate_openings.specs.Values.{takes}
 use Rattle.cedar_gate_sessions.specs.Faults.{IsBindFault}
 use Rattle.cedar_gate_sessions.specs.Sessions.{IsAt}
 use Rattle.cedar_gate_sessions.proofs.Binding.{handed, handed_on, not_open_is, value_fault_is, context_fault_is, no_refusal, stands_bound, taken_back}

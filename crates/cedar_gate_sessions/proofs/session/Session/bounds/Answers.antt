@@ -1,7 +1,7 @@
 use Rattle.std.proofs.Common.{◌≡◌, option_map, ◌∙◌}
 use Rattle.cedar_evaluator_model.specs.Members.{bounds_in_session}
 use Rattle.cedar_evaluator_model.specs.Response.{response_of}
-use Rattle.cedar_gate_decisions.specs.Bounds.{bounds_of}
+use Rattle.cedar_gate_sessions.specs.Bounds.{bounds_of}
 use Rattle.cedar_gate_model.specs.Session.{scope_now}
 use Rattle.cedar_gate_sessions.specs.Sessions.{IsAt, policies_in, store_in}
 use Rattle.cedar_gate_sessions.proofs.Answered.{ok_each}

@@ -2,7 +2,7 @@ use Rattle.std.proofs.Common.{◌≡◌, true, false, sym, subst, ◌∙◌}
 use Rattle.cedar_expr_names.specs.Views.{uid_of}
 use Rattle.cedar_schema_model.specs.Conforming.{request_conforms}
 use Rattle.cedar_evaluator_requests.specs.Views.{request_of}
-use Rattle.cedar_gate_bindings.specs.Names.{bound_in}
+use Rattle.cedar_gate_openings.specs.Names.{bound_in}
 use Rattle.cedar_gate_model.specs.Session.{IsWantedList}
 use Rattle.cedar_gate_wanted.proofs.Slicing.{next_round}
 use Rattle.cedar_gate_sessions.specs.Requests.{known_request}

@@ -1,5 +1,5 @@
 use Rattle.std.proofs.Common.{[], ap, ◌∙◌}
-use Rattle.cedar_gate_distances.specs.Rows.{found_at}
+use Rattle.cedar_gate_wanted.specs.Rows.{found_at}
 use Rattle.cedar_gate_sessions.proofs.Starting.{none_bound, starts_at}
 use Rattle.cedar_gate_sessions.proofs.session.Session.open.Goals as goal
 

@@ -4,7 +4,7 @@ use Rattle.cedar_store_entities.specs.Views.{kept_pair}
 use Rattle.cedar_store_model.specs.Answer.{ids}
 use Rattle.cedar_store_model.specs.Store.{Store, whole}
 use Rattle.cedar_evaluator_requests.specs.Views.{answer_of}
-use Rattle.cedar_gate_decisions.specs.Answers.{answered}
+use Rattle.cedar_gate_sessions.specs.Answers.{answered}
 use Rattle.cedar_gate_model.specs.RunsAnswer.{session_of}
 use Rattle.cedar_gate_sessions.specs.Sessions.{policies_in}
 use Rattle.cedar_gate_sessions.proofs.Answered.{answer_told}

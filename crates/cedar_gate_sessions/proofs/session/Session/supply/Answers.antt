@@ -1,6 +1,6 @@
 use Rattle.std.proofs.Common.{rules, ◌≡◌, ◌++◌, true, false, sym, ap, ◌∙◌, subst, refl}
 use Rattle.std.specs.List.{list_all}
-use Rattle.cedar_gate_distances.specs.Kept.{IsKept}
+use Rattle.cedar_gate_wanted.specs.Kept.{IsKept}
 use Rattle.cedar_gate_wanted.specs.Supplying.{AreKeys, IsUnfit}
 use Rattle.cedar_gate_wanted.specs.Wanting.{IsWanting, near_in, mentions_of, wanted_in}
 use Rattle.cedar_gate_sessions.specs.Entities.{supplied_of}

@@ -1,7 +1,7 @@
 use Rattle.std.proofs.Common.{map, ap, ◌∙◌}
 use Rattle.cedar_store_entities.specs.Views.{kept_pair}
 use Rattle.cedar_store_model.specs.Store.{Store, partial}
-use Rattle.cedar_gate_decisions.specs.Verdicts.{verdicts_of}
+use Rattle.cedar_gate_sessions.specs.Verdicts.{verdicts_of}
 use Rattle.cedar_gate_sessions.specs.Sessions.{policies_in}
 use Rattle.cedar_gate_sessions.proofs.Knowing.{functions_at, says_same}
 use Rattle.cedar_gate_sessions.proofs.session.Session.verdicts.Goals as goal

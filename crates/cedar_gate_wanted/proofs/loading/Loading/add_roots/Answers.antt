@@ -1,5 +1,5 @@
 use Rattle.std.proofs.Common.{subst}
-use Rattle.cedar_gate_distances.specs.Rows.{found_at, uids, writes}
+use Rattle.cedar_gate_wanted.specs.Rows.{found_at, uids, writes}
 use Rattle.cedar_gate_wanted.specs.Supplying.{keys_in}
 use Rattle.cedar_gate_wanted.proofs.Opening.{stays}
 use Rattle.cedar_gate_wanted.proofs.Taking.{Next, after_roots}

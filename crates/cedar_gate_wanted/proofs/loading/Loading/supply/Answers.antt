@@ -1,6 +1,6 @@
 use Rattle.std.proofs.Common.{◌≡◌, ◌⊎◌, None, Contains, refl, sym, subst}
 use Rattle.cedar_expr_model.specs.Uid.{Uid}
-use Rattle.cedar_gate_distances.specs.Rows.{found_at, uids}
+use Rattle.cedar_gate_wanted.specs.Rows.{found_at, uids}
 use Rattle.cedar_gate_wanted.specs.Supplying.{keys_in, AreKeys, IsUnfit}
 use Rattle.cedar_gate_wanted.specs.Wanting.{Exact, IsWanting, wanted_in}
 use Rattle.cedar_gate_wanted.proofs.Checking.{handed}

@@ -1,6 +1,6 @@
 use Rattle.std.proofs.Common.{map, ap, ◌∙◌}
 use Rattle.cedar_expr_names.specs.Views.{uid_of}
-use Rattle.cedar_schema_kept_model.specs.Kept.{KeptAction}
+use Rattle.cedar_schema_model.specs.Kept.{KeptAction}
 use Rattle.cedar_schema_entries.specs.Views.{action_seen}
 use Rattle.cedar_schema_built.proofs.Putting.{of_keys, of_names}
 use Rattle.cedar_schema_built.proofs.schema.ValidatorSchema.actions.Goals as goal

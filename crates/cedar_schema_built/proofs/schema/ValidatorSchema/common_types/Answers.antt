@@ -1,5 +1,5 @@
 use Rattle.std.proofs.Common.{map, ap, ◌∙◌}
-use Rattle.cedar_schema_located.specs.Views.{common_listed}
+use Rattle.cedar_schema_built.specs.LocatedViews.{common_listed}
 use Rattle.cedar_schema_built.proofs.Putting.{of_values}
 use Rattle.cedar_schema_built.proofs.schema.ValidatorSchema.common_types.Goals as goal
 

@@ -1,6 +1,6 @@
 use Rattle.std.proofs.Common.{map, ap, ◌∙◌}
 use Rattle.cedar_expr_names.specs.Views.{type_name_of}
-use Rattle.cedar_schema_kept_model.specs.Kept.{KeptType}
+use Rattle.cedar_schema_model.specs.Kept.{KeptType}
 use Rattle.cedar_schema_entries.specs.Views.{entity_type_seen}
 use Rattle.cedar_schema_built.proofs.Putting.{of_keys, of_names}
 use Rattle.cedar_schema_built.proofs.schema.ValidatorSchema.entity_type_names.Goals as goal

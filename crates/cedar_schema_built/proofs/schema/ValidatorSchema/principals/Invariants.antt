@@ -1,6 +1,6 @@
 use Rattle.std.proofs.Common.{◌≡◌, ◌++◌, map}
 use Rattle.std.specs.List.{flat_map}
-use Rattle.cedar_schema_kept_model.specs.Kept.{KeptAction, kept_principals}
+use Rattle.cedar_schema_model.specs.Kept.{KeptAction, kept_principals}
 use Rattle.cedar_schema_entries.specs.Views.{action_seen}
 use Rattle.cedar_schema_built.specs.Views.{schema_kept, names_of_types}
 use Rattle.cedar_schema_built.proofs.schema.ValidatorSchema.principals.Given as goal

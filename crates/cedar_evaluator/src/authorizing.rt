@@ -1,0 +1,163 @@
+//! Authorizers.
+
+ghost use Rattle.std.specs.Prelude.{◌≡◌, IfOk};
+ghost use Rattle.cedar_store_model.specs.Answer as model;
+ghost use Rattle.cedar_store_model.specs.Policy.{no_bindings};
+ghost use Rattle.cedar_store_model.specs.World.{World};
+ghost use Rattle.cedar_store_policies.specs.PolicySets.{set_of};
+ghost use Rattle.cedar_evaluator_model.specs.Known.{known_world};
+ghost use Rattle.cedar_evaluator_model.specs.Laws.{as_concrete, IsReady};
+ghost use Rattle.cedar_evaluator_model.specs.Members.{concretize, decision};
+ghost use Rattle.cedar_evaluator_model.specs.Reauthorize.{request_bound};
+ghost use Rattle.cedar_evaluator_model.specs.Response.{PartialRequest, response_of};
+ghost use Rattle.cedar_evaluator_operators.specs.Calls.{Functions};
+ghost use Rattle.cedar_evaluator_reads.specs.Scopes.{values_in};
+ghost use Rattle.cedar_evaluator_core.specs.Evaluators.{asked_of, limit_of, scope_in, Serves};
+ghost use Rattle.cedar_evaluator_requests.specs.Views.{request_of, answer_of};
+ghost use Rattle.cedar_evaluator.specs.Responses.{response_seen};
+ghost use Rattle.cedar_evaluator.specs.Gathering.{gathered};
+ghost use Rattle.cedar_evaluator_contexts.specs.Refusals.{Takes};
+ghost use Rattle.cedar_evaluator_contexts.specs.Functions.{HasFunctionsOf};
+ghost use Rattle.cedar_evaluator_model.specs.Scope.{Scope};
+ghost use Rattle.cedar_evaluator.specs.Completed.{HoldsIn, IsCompletionFor, IsForced};
+ghost use Rattle.cedar_evaluator.specs.Decisions.{IsClosedFor};
+ghost use Rattle.cedar_evaluator.specs.Scopes.{Knows, KnowsUnder, scope_for};
+
+use crate::gathering::Gathering;
+use crate::partial_response::PartialResponse;
+use crate::verdicts::verdict_on;
+use cedar_evaluator_contexts::{ConcretizationError, concretized};
+use cedar_evaluator_core::Evaluator;
+use cedar_evaluator_operators::FunctionTable;
+use cedar_evaluator_reads::V;
+use cedar_evaluator_requests::{Request, Response};
+use cedar_store_entities::Entities;
+use cedar_store_policies::PolicySet;
+use cedar_store_policies::laws::ids_are_distinct;
+use std::alloc::{AllocError, Global};
+use std::collections::HashMap;
+use std::rc::{Rc, RcStr};
+
+/// Answers requests by policies, over a table of extension functions, within a limit on the depth of expressions.
+#[derive(Drop)]
+pub struct Authorizer<'a, T> {
+    table: &'a T,
+    limit: u32,
+}
+
+impl<T> Clone for Authorizer<'_, T> {
+    ghost is_clone = { λ a copy. (copy.table.now ≡ a.table.now) × (copy.limit ≡ a.limit) };
+
+    fn clone(&self) -> Result<Self, AllocError> {
+        Ok(Authorizer {
+            table: self.table,
+            limit: self.limit,
+        })
+    }
+}
+
+impl<'a, T: FunctionTable> Authorizer<'a, T> {
+    ghost use Rattle.cedar_evaluator.specs.Authorizers.{asks_table, keeps_limit};
+
+    /// The authorizer over this table and within this limit.
+    pub fn new(table: &'a T, limit: u32) -> Authorizer<'a, T>
+        ensures table { asks_table result ≡ table.now }
+        ensures limit { keeps_limit result ≡ limit }
+    {
+        Authorizer { table, limit }
+    }
+
+    /// The answer to the request by these policies, over these entities, where each residual counts as an error. Where nothing is unknown,
+    /// everything is loaded and the policies are within the limit, it is the answer by what the policies mean. Answers want of memory.
+    pub fn is_authorized(
+        &self,
+        alloc: Global,
+        q: Request,
+        policies: &PolicySet,
+        entities: &Entities,
+    ) -> Result<Response, AllocError>
+        ensures response { (fs : Functions) → Knows T.table T.answers_as (asks_table self.now) (request_of q) entities.now fs → IfOk result (λ a. answer_of a ≡ concretize (response_of (scope_for T.table (asks_table self.now) (request_of q) entities.now fs) (keeps_limit self.now) (set_of policies.now).policies)) }
+        ensures meaning { (fs : Functions) → Knows T.table T.answers_as (asks_table self.now) (request_of q) entities.now fs → IsClosedFor (scope_for T.table (asks_table self.now) (request_of q) entities.now fs) (keeps_limit self.now) (set_of policies.now).policies → IfOk result (λ a. answer_of a ≡ as_concrete (model.answer_of (known_world (scope_for T.table (asks_table self.now) (request_of q) entities.now fs)) (set_of policies.now).policies)) }
+    {
+        let response = self.is_authorized_core(alloc, q, policies, entities)?;
+        response.concretize(alloc)
+    }
+
+    /// What is left of these policies for the request, over these entities. It holds in every completion, and a decision is owed where what
+    /// is known forces it. Answers want of memory.
+    pub fn is_authorized_core(
+        &self,
+        alloc: Global,
+        q: Request,
+        policies: &PolicySet,
+        entities: &Entities,
+    ) -> Result<PartialResponse, AllocError>
+        ensures response { (fs : Functions) → Knows T.table T.answers_as (asks_table self.now) (request_of q) entities.now fs → IfOk result (λ r. response_seen r ≡ response_of (scope_for T.table (asks_table self.now) (request_of q) entities.now fs) (keeps_limit self.now) (set_of policies.now).policies) }
+        ensures completions { (fs : Functions) → Knows T.table T.answers_as (asks_table self.now) (request_of q) entities.now fs → (w : World) → IsCompletionFor w (scope_for T.table (asks_table self.now) (request_of q) entities.now fs) (set_of policies.now).policies → IfOk result (λ r. HoldsIn w (set_of policies.now).policies (response_seen r)) }
+        ensures owed { (fs : Functions) → Knows T.table T.answers_as (asks_table self.now) (request_of q) entities.now fs → IsReady (scope_for T.table (asks_table self.now) (request_of q) entities.now fs) (keeps_limit self.now) (set_of policies.now).policies → IfOk result (λ r. IsForced (known_world (scope_for T.table (asks_table self.now) (request_of q) entities.now fs)) (set_of policies.now).policies (decision (response_seen r))) }
+    {
+        ids_are_distinct();
+        let request = Rc::new(alloc, q.clone()?)?;
+        let evaluator = Evaluator::new(q, entities, self.table, self.limit);
+        respond(alloc, &evaluator, request, policies)
+    }
+
+    // The request with these values for what is unknown in it.
+    pub(crate) fn concretized(
+        &self,
+        alloc: Global,
+        request: &Request,
+        mapping: &HashMap<RcStr, V>,
+    ) -> Result<Request, ConcretizationError>
+        ensures { (s : Scope) → HasFunctionsOf T.table T.answers_as (asks_table self.now) s → Takes request_of (request_bound s (values_in mapping.now) (request_of request.now)) result }
+    {
+        concretized(alloc, self.table, request, mapping)
+    }
+
+    // What is left of these policies for the request, where these unknowns have values.
+    pub(crate) fn resume(
+        &self,
+        alloc: Global,
+        q: Request,
+        mapping: &HashMap<RcStr, V>,
+        policies: &PolicySet,
+        entities: &Entities,
+    ) -> Result<PartialResponse, AllocError>
+        ensures { (fs : Functions) → KnowsUnder T.table T.answers_as (asks_table self.now) (values_in mapping.now) (request_of q) entities.now fs → IfOk result (λ r. response_seen r ≡ response_of (record (scope_for T.table (asks_table self.now) (request_of q) entities.now fs) { values = values_in mapping.now }) (keeps_limit self.now) (set_of policies.now).policies) }
+    {
+        let request = Rc::new(alloc, q.clone()?)?;
+        let plain = Evaluator::new(q, entities, self.table, self.limit);
+        let evaluator = plain.with_unknowns(mapping);
+        respond(alloc, &evaluator, request, policies)
+    }
+}
+
+// The response to the evaluator's request by these policies; it keeps that request.
+pub(crate) fn respond<T: FunctionTable>(
+    alloc: Global,
+    evaluator: &Evaluator<'_, T>,
+    request: Rc<Request>,
+    policies: &PolicySet,
+) -> Result<PartialResponse, AllocError>
+    ensures { (fs : Functions) → request_of request.value ≡ asked_of evaluator.now → Serves T.table T.answers_as evaluator.now no_bindings fs → IfOk result (λ r. response_seen r ≡ response_of (scope_in T.table fs evaluator.now no_bindings) (limit_of evaluator.now) (set_of policies.now).policies) }
+{
+    ids_are_distinct();
+    let gathering = gather(alloc, evaluator, policies)?;
+    gathering.into_response(alloc, request)
+}
+
+// The groups of these policies, each by what is left of it.
+fn gather<T: FunctionTable>(
+    alloc: Global,
+    evaluator: &Evaluator<'_, T>,
+    policies: &PolicySet,
+) -> Result<Gathering, AllocError>
+    ensures { (fs : Functions) → Serves T.table T.answers_as evaluator.now no_bindings fs → IfOk result (λ g. gathered (asked_of evaluator.now) g ≡ response_of (scope_in T.table fs evaluator.now no_bindings) (limit_of evaluator.now) (set_of policies.now).policies) }
+{
+    let mut gathering = Gathering::new(alloc);
+    for policy in policies.policies() {
+        let left = verdict_on(alloc, evaluator, policy)?;
+        gathering.put(alloc, policy, left)?;
+    }
+    Ok(gathering)
+}

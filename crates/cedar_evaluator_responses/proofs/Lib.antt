@@ -1,4 +1,0 @@
-pub mod Found
-pub mod Identified
-pub mod Listed
-pub mod Once

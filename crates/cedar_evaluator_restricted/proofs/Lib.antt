@@ -1,6 +1,0 @@
-pub mod Alike
-pub mod Called
-pub mod Gathered
-pub mod Levels
-pub mod Named
-pub mod Restricted

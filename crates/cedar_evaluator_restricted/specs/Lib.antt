@@ -1,4 +1,0 @@
-pub mod Alike
-pub mod Answers
-pub mod Lefts
-pub mod Restricted

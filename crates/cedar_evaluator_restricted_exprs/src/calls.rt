@@ -1,0 +1,59 @@
+//! Calls of the functions of a table.
+
+ghost use Rattle.std.specs.Prelude.{◌≡◌, List, map};
+ghost use Rattle.cedar_expr_names.specs.Views.{plain_name_of};
+ghost use Rattle.cedar_expr_model.specs.Name.{Name as ModelName};
+ghost use Rattle.cedar_expr_model.specs.Table.{Called};
+ghost use Rattle.cedar_expr_model.specs.Value.{V as ModelValue};
+ghost use Rattle.cedar_expr_functions.specs.Functions.{function_signature};
+ghost use Rattle.cedar_expr_functions.specs.Tables.{table_of};
+ghost use Rattle.cedar_expr_values.specs.Extensions.{extension_of};
+ghost use Rattle.cedar_expr_values.specs.Values.{made};
+ghost use Rattle.cedar_evaluator_model.specs.Scope.{Scope};
+ghost use Rattle.cedar_evaluator_model.specs.Steps.{call_left, called_left};
+ghost use Rattle.cedar_gate_model.specs.Bundle.{Functions};
+ghost use Rattle.cedar_gate_model.specs.ReadingValue.{with_functions};
+ghost use Rattle.cedar_evaluator_restricted_exprs.specs.Answers.{IsMadeBy, AnswersMade};
+ghost use Rattle.cedar_evaluator_restricted_exprs.specs.Lefts.{Leaves};
+
+use crate::fault::RestrictedFault;
+use crate::table::{Left, V};
+use cedar_expr_functions::{
+    CallFault, ExtensionFunction, ExtensionFunctionLookupError, ExtensionOutputValue, Extensions,
+};
+use cedar_expr_names::Name;
+use cedar_expr_partial::PartialValue;
+use cedar_expr_trees::Expr;
+use std::alloc::Global;
+
+/// What a call of the function of this name in the table leaves at these arguments. The function is looked up; then the count of the
+/// arguments and their types are asked for. Errors: `Stopped` where there is no such function, where it doesn't take the arguments or
+/// fails, and `OutOfMemory`.
+pub fn call_in(
+    alloc: Global,
+    table: &Extensions<'_>,
+    name: &Name,
+    args: &[V],
+) -> Result<Left, RestrictedFault>
+    ensures { (x : Functions) (answers : ModelName → List ModelValue → Called) → x.table ≡ table_of table.now answers → AnswersMade table.now x.calls → Leaves (called_left (with_functions x) (plain_name_of name.now) (map (made extension_of) args.now)) result }
+{
+    match table.func(name) {
+        Ok(f) => ask(alloc, f, args),
+        Err(ExtensionFunctionLookupError::OutOfMemory) => Err(RestrictedFault::OutOfMemory),
+        Err(ExtensionFunctionLookupError::FuncDoesNotExist(_e)) => Err(RestrictedFault::Stopped),
+    }
+}
+
+// What a function answers at these arguments, which it may refuse.
+fn ask(alloc: Global, f: &ExtensionFunction, args: &[V]) -> Result<Left, RestrictedFault>
+    ensures { (s : Scope) (n : ModelName) → IsMadeBy f.now (s.calls n) → Leaves (call_left s n (map (made extension_of) args.now) (function_signature f.now)) result }
+{
+    match f.call(alloc, args) {
+        Ok(ExtensionOutputValue::Known(v)) => Ok(PartialValue::Value(v)),
+        Ok(ExtensionOutputValue::Unknown(u)) => Ok(PartialValue::Residual(Expr::unknown(u))),
+        Err(CallFault::OutOfMemory) => Err(RestrictedFault::OutOfMemory),
+        Err(CallFault::WrongNumArguments { .. }) => Err(RestrictedFault::Stopped),
+        Err(CallFault::ArgumentType { .. }) => Err(RestrictedFault::Stopped),
+        Err(CallFault::Fault { .. }) => Err(RestrictedFault::Stopped),
+    }
+}

@@ -1,0 +1,110 @@
+//! What is left where several parts are evaluated already.
+
+ghost use Rattle.std.specs.Prelude.{◌≡◌, map, IfOk};
+ghost use Rattle.std.specs.Map.{keys_of};
+ghost use Rattle.std.specs.Vec.Iter.{into_iter_items};
+ghost use Rattle.cedar_expr_names.specs.Views.{plain_name_of};
+ghost use Rattle.cedar_expr_model.specs.Made.{made_set};
+ghost use Rattle.cedar_expr_model.specs.Tree.{set_literal, call};
+ghost use Rattle.cedar_expr_values.specs.Extensions.{extension_of};
+ghost use Rattle.cedar_expr_values.specs.Values.{made};
+ghost use Rattle.cedar_evaluator_model.specs.Scope.{value_left};
+ghost use Rattle.cedar_evaluator_model.specs.Steps.{pieces, from_pieces, made_members, called_left, record_left};
+ghost use Rattle.cedar_expr_model.specs.Builder.{trees, tree_fields};
+ghost use Rattle.cedar_expr_model.specs.Parts.{listed_fields};
+ghost use Rattle.cedar_expr_trees.specs.Trees.{named, field_trees};
+ghost use Rattle.cedar_gate_model.specs.ReadingValue.{with_functions};
+ghost use Rattle.cedar_evaluator_restricted_exprs.specs.Lefts.{Leaves, parts_of, IsParted};
+
+use crate::fault::RestrictedFault;
+use crate::records::{record_expr, record_value};
+use crate::table::{FunctionCalls, Left, V};
+use cedar_expr_names::Name;
+use cedar_expr_partial::{PartialValue, split};
+use cedar_expr_trees::Expr;
+use cedar_expr_values::Value;
+use either::Either;
+use std::alloc::{AllocError, Global};
+use std::collections::BTreeMap;
+use std::rc::RcStr;
+use std::vec::IntoIter;
+
+/// Parts that all are values, or their expressions.
+#[derive(Drop)]
+pub enum Parted {
+    /// Each is a value.
+    Values(Vec<V>),
+    /// One is none.
+    Exprs(Vec<Expr>),
+}
+
+// All that an iterator has left.
+fn all_of<T: Drop>(alloc: Global, items: IntoIter<T>) -> Result<Vec<T>, AllocError>
+    ensures { IfOk result (λ v. v.items ≡ into_iter_items items) }
+{
+    let mut all = Vec::with_capacity(alloc, items.len())?;
+    for item in items {
+        all.push(item)?;
+    }
+    Ok(all)
+}
+
+/// The parts: values where each is one, else the expressions of all.
+pub fn part_up(alloc: Global, parts: Vec<Left>) -> Result<Parted, AllocError>
+    ensures { IfOk result (IsParted (parts_of parts.items)) }
+{
+    match split(alloc, parts)? {
+        Either::Left(values) => Ok(Parted::Values(all_of(alloc, values)?)),
+        Either::Right(exprs) => Ok(Parted::Exprs(all_of(alloc, exprs)?)),
+    }
+}
+
+/// The set of these: a value where each is one.
+pub fn set_left(alloc: Global, parts: Vec<Left>) -> Result<Left, RestrictedFault>
+    ensures { Leaves (from_pieces (λ ms. value_left (made_set (made_members ms))) (λ us. set_literal (trees us)) (pieces (parts_of parts.items))) result }
+{
+    match part_up(alloc, parts)? {
+        Parted::Values(values) => set_value(alloc, values),
+        Parted::Exprs(exprs) => Ok(PartialValue::Residual(Expr::set(alloc, exprs)?)),
+    }
+}
+
+// The set of these values.
+#[tactic(auto, using(crate::proofs::Gathered::members_made))]
+fn set_value(alloc: Global, values: Vec<V>) -> Result<Left, RestrictedFault>
+    ensures { Leaves (value_left (made_set (made_members (map (made extension_of) values.items)))) result }
+{
+    Ok(PartialValue::Value(Value::set(alloc, values, None)?))
+}
+
+/// What a call of the function of this name leaves at these arguments: where one is an expression the call stays.
+pub fn call_left<T: FunctionCalls>(
+    alloc: Global,
+    functions: &T,
+    name: &Name,
+    parts: Vec<Left>,
+) -> Result<Left, RestrictedFault>
+    ensures { Leaves (from_pieces (called_left (with_functions (T.functions functions.now)) (plain_name_of name.now)) (λ us. call (plain_name_of name.now) (trees us)) (pieces (parts_of parts.items))) result }
+{
+    match part_up(alloc, parts)? {
+        Parted::Values(values) => functions.call(alloc, name, values.as_slice()),
+        Parted::Exprs(exprs) => {
+            let name = name.clone()?;
+            Ok(PartialValue::Residual(Expr::call_extension_fn(alloc, name, exprs)?))
+        }
+    }
+}
+
+/// The record of these, under the names of these fields: a value where each is one.
+pub fn record_left(
+    alloc: Global,
+    fields: &BTreeMap<RcStr, Expr>,
+    parts: Vec<Left>,
+) -> Result<Left, RestrictedFault>
+    ensures { Leaves (record_left (keys_of (listed_fields (tree_fields (named (field_trees fields.now.entries))))) (pieces (parts_of parts.items))) result }
+{
+    match part_up(alloc, parts)? {
+        Parted::Values(values) => record_value(alloc, fields, values),
+        Parted::Exprs(exprs) => record_expr(alloc, fields, exprs),
+    }
+}

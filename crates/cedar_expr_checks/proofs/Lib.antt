@@ -1,2 +1,0 @@
-mod Wrong
-mod Shown

@@ -1,6 +1,0 @@
--- Names with one text are one name.
-use Rattle.cedar_expr_names.proofs.Equality.{names_eq_is}
-use Rattle.cedar_expr_raw_names.proofs.laws.raw_names_are_compared.Goals as goal
-
-pub returns-clause-equality : goal.returns-clause-equality
-returns-clause-equality c = λ m n. names_eq_is m.0 n.0

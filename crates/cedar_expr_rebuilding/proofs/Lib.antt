@@ -1,3 +1,0 @@
-mod Gathered
-mod Recorded
-mod Stepping

@@ -1,3 +1,0 @@
-pub mod Handed
-pub mod Untyped
-pub mod Refused

@@ -1,5 +1,0 @@
-pub mod Looked
-pub mod Descent
-pub mod Faults
-pub mod Actions
-pub mod First

@@ -1,4 +1,0 @@
-pub mod Asked
-pub mod Alike
-pub mod First
-pub mod Laws

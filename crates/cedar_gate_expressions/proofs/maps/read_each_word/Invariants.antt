@@ -1,0 +1,14 @@
+use Rattle.std.proofs.Common.{◌≡◌, List, ◌++◌}
+use Rattle.cedar_expr_names.specs.Views.{id_text}
+use Rattle.serde_json.specs.View.{members_view}
+use Rattle.serde_json.proofs.Views.{Entry}
+use Rattle.cedar_gate_model.specs.Reading.{each_member}
+use Rattle.cedar_gate_expressions.specs.Maps.{under_word, words_seen}
+use Rattle.cedar_gate_expressions.proofs.Gathered.{then_rest}
+use Rattle.cedar_gate_expressions.proofs.Sorted.{SameNames}
+use Rattle.cedar_gate_expressions.proofs.maps.read_each_word.Given as goal
+
+abbrev pub invariant-loop-key : goal.invariant-loop-key
+invariant-loop-key g l =
+    (done : List Entry) × (l.members.entries ≡ done ++ l.key-iterator) × SameNames id_text l.made.entries done
+    × (then_rest (words_seen g.R.Reader.seen l.made.entries) (each_member (under_word (g.R.Reader.reading l.reader)) (members_view l.key-iterator)) ≡ each_member (under_word (g.R.Reader.reading l.reader)) (members_view l.members.entries))

@@ -1,4 +1,0 @@
-pub mod Faults
-pub mod Alone
-pub mod Maps
-pub mod Json

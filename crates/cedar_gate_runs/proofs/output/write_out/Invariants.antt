@@ -1,0 +1,10 @@
+-- The bytes that are done are appended.
+use Rattle.std.proofs.Common.{◌≤◌, length, take}
+use Rattle.std.specs.Io.KnownBytes.{Appends}
+use Rattle.cedar_gate_runs.proofs.output.write_out.Given as goal
+
+abbrev pub invariant-loop-turn : goal.invariant-loop-turn
+invariant-loop-turn g l = record {
+  within : l.done ≤ length l.text;
+  written : Appends (g.W.Write.contents l.initial.writer) (g.W.Write.contents l.writer) (take l.done l.text);
+}

@@ -1,2 +1,0 @@
-pub mod Did
-pub mod Laws

@@ -1,4 +1,0 @@
-pub mod Printing
-pub mod Statuses
-pub mod Stops
-pub mod Transcripts

@@ -1,2 +1,0 @@
-pub mod Excused
-pub mod Loops

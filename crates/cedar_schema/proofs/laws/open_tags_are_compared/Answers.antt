@@ -1,0 +1,14 @@
+-- The laws of the derived order and hash, and the equality by the model.
+use Rattle.cedar_schema_types.specs.contracts.kinds.OpenTagOrd.TheImpl.Laws as order_laws
+use Rattle.cedar_schema_types.specs.contracts.kinds.OpenTagHash.TheImpl.Laws as hash_laws
+use Rattle.cedar_schema.proofs.Compared.{tags_decide}
+use Rattle.cedar_schema.proofs.laws.open_tags_are_compared.Goals as goal
+
+pub returns-clause-equality : goal.returns-clause-equality
+returns-clause-equality c = tags_decide
+
+pub returns-clause-order : goal.returns-clause-order
+returns-clause-order c = order_laws.matches_eq-law
+
+pub returns-clause-hash : goal.returns-clause-hash
+returns-clause-hash c = hash_laws.respects_eq-law

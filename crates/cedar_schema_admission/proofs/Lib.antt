@@ -1,3 +1,0 @@
-mod Shared
-mod Smaller
-mod Fitting

@@ -1,8 +1,0 @@
-use Rattle.cedar_schema_admission_model.proofs.Asked.{asked_decides, named_lacks}
-use Rattle.cedar_schema_admission_model.proofs.laws.asked_forms_decide.Goals as goal
-
-pub returns-clause-decides : goal.returns-clause-decides
-returns-clause-decides c = asked_decides
-
-pub returns-clause-named : goal.returns-clause-named
-returns-clause-named c = named_lacks

@@ -1,5 +1,0 @@
-use Rattle.cedar_schema_admission_model.proofs.Written.{written_asked}
-use Rattle.cedar_schema_admission_model.proofs.laws.written_values_are_asked.Goals as goal
-
-pub returns : goal.returns
-returns c = λ x m t fair. written_asked x fair m t

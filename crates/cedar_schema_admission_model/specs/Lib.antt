@@ -1,3 +1,0 @@
-pub mod Restricted
-pub mod Laws
-pub mod Worked

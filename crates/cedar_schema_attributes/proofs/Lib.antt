@@ -1,5 +1,0 @@
-mod Among
-mod Kept
-mod Same
-mod Plain
-mod WrittenNames

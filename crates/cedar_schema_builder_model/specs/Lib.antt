@@ -1,4 +1,0 @@
-pub mod Writing
-pub mod Laws
-pub mod Alike
-pub mod Named

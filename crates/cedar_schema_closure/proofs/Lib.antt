@@ -1,5 +1,0 @@
-mod Finding
-mod Searching
-mod Ranking
-mod Ordering
-mod Turning

@@ -1,4 +1,0 @@
-pub mod Graphs
-pub mod Found
-pub mod Ranks
-pub mod Rows

@@ -1,2 +1,0 @@
-mod OneByOne
-pub mod Entries

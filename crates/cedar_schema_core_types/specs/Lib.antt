@@ -1,3 +1,0 @@
-pub mod CoreTypes
-pub mod Views
-pub mod Refusals

@@ -1,7 +1,0 @@
-mod Found
-mod Above
-mod Applying
-mod Environs
-mod Entities
-mod External
-mod Faults

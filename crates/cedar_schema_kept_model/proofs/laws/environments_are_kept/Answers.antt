@@ -1,5 +1,0 @@
-use Rattle.cedar_schema_kept_model.proofs.Environs.{environments_kept}
-use Rattle.cedar_schema_kept_model.proofs.laws.environments_are_kept.Goals as goal
-
-pub returns : goal.returns
-returns c = environments_kept

@@ -1,8 +1,0 @@
-use Rattle.std.proofs.Common.{◌≡◌, ◌++◌, map, drop}
-use Rattle.std.specs.List.{flat_map}
-use Rattle.cedar_schema_located.specs.OfFragments.{spaces_of_fragment, spaces_of_fragments}
-use Rattle.cedar_schema_located.specs.Views.{space_listed}
-use Rattle.cedar_schema_located.proofs.of_fragments.located_namespaces.Given as goal
-
-abbrev pub invariant-loop-fragment : goal.invariant-loop-fragment
-invariant-loop-fragment g l = (map space_listed l.found.items ++ flat_map spaces_of_fragment (drop l.fragment-index l.fragments)) ≡ spaces_of_fragments l.fragments

@@ -1,5 +1,0 @@
-pub mod Places
-mod Numbering
-pub mod Graphing
-mod Gathering
-mod Chains

@@ -1,4 +1,0 @@
-pub mod Numbers
-pub mod Descent
-pub mod Told
-pub mod Laws

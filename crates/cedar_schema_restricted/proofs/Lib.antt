@@ -1,3 +1,0 @@
-mod Asking
-mod Giving
-mod Smaller

@@ -1,8 +1,0 @@
-use Rattle.cedar_schema_sound_model.proofs.Keeping.{kept_sound, kept_faultless}
-use Rattle.cedar_schema_sound_model.proofs.laws.kept_are_sound.Goals as goal
-
-pub returns-clause-sound : goal.returns-clause-sound
-returns-clause-sound c = kept_sound
-
-pub returns-clause-faultless : goal.returns-clause-faultless
-returns-clause-faultless c = kept_faultless

@@ -1,5 +1,0 @@
-use Rattle.cedar_schema_sound_model.proofs.Deciding.{sound-Decides}
-use Rattle.cedar_schema_sound_model.proofs.laws.sound_is_decided.Goals as goal
-
-pub returns : goal.returns
-returns c = sound-Decides

@@ -1,4 +1,0 @@
-pub mod Rising
-pub mod Alone
-pub mod Settled
-pub mod Laws

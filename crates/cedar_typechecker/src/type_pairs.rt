@@ -1,0 +1,58 @@
+//! Pairs of entity types.
+
+ghost use Rattle.std.specs.Prelude.{◌≡◌, ◌&&◌, ◌||◌, false, OnOk, OnErr};
+ghost use Rattle.cedar_expr_model.specs.Name.{name_eq};
+ghost use Rattle.cedar_expr_names.specs.Views.{type_name_of};
+ghost use Rattle.cedar_expr_names.specs.declared.entity.EntityType.{EntityType as CodeType};
+ghost use Rattle.cedar_typechecker.specs.Pairs.{has_pair};
+
+use cedar_expr_names::EntityType;
+use std::alloc::{AllocError, Global};
+use std::collections::{BTreeMap, BTreeSet};
+
+/// Pairs of entity types: under each first one, in the order of names, the second ones.
+#[derive(Drop)]
+pub struct TypePairs {
+    rows: BTreeMap<EntityType, BTreeSet<EntityType>>,
+}
+
+impl TypePairs {
+    /// No pairs.
+    pub fn new(alloc: Global) -> TypePairs
+        ensures { (q r : CodeType) → has_pair result q r ≡ false }
+    {
+        TypePairs {
+            rows: BTreeMap::new(alloc),
+        }
+    }
+
+    /// Whether the pair of these is among them.
+    pub fn contains(&self, first: &EntityType, second: &EntityType) -> bool
+        ensures { result ≡ has_pair self.now first.now second.now }
+    {
+        match self.rows.get(first) {
+            Some(row) => row.contains(second),
+            None => false,
+        }
+    }
+
+    /// Puts the pair of these among them. Answers want of memory, and then there are the pairs that there were.
+    pub fn insert(
+        &mut self,
+        alloc: Global,
+        first: EntityType,
+        second: EntityType,
+    ) -> Result<(), AllocError>
+        ensures added { OnOk result ((q r : CodeType) → has_pair self.new q r ≡ ((name_eq (type_name_of q) (type_name_of first) && name_eq (type_name_of r) (type_name_of second)) || has_pair self.old q r)) }
+        ensures kept { OnErr result ((q r : CodeType) → has_pair self.new q r ≡ has_pair self.old q r) }
+    {
+        if let Some(row) = self.rows.get_mut(&first) {
+            row.insert(second)?;
+            return Ok(());
+        }
+        let mut row = BTreeSet::new(alloc);
+        row.insert(second)?;
+        self.rows.insert(first, row)?;
+        Ok(())
+    }
+}

@@ -1,5 +1,0 @@
-mod Copies
-pub mod Members
-mod Merges
-mod Searched
-pub mod Told

@@ -1,6 +1,0 @@
-use Rattle.std.proofs.Common.{◌∙◌}
-use Rattle.cedar_typechecker_facts.proofs.Told.{found}
-use Rattle.cedar_typechecker_facts.proofs.facts.CapabilitySet.contains.Goals as goal
-
-pub returns : goal.returns
-returns c = c.contains.ensures ∙ found c.args.e.now c.args.self.now.capabilities

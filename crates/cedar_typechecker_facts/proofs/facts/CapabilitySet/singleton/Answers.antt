@@ -1,7 +1,0 @@
-use Rattle.std.proofs.Common.{ap, ◌∙◌}
-use Rattle.cedar_typechecker_facts.specs.Facts.{facts_among}
-use Rattle.cedar_typechecker_facts.proofs.Told.{alone}
-use Rattle.cedar_typechecker_facts.proofs.facts.CapabilitySet.singleton.Goals as goal
-
-pub returns : goal.returns
-returns c = ap facts_among c.in_ok-capabilities.ensures ∙ alone c.args.e

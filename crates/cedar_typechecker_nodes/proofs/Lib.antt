@@ -1,3 +1,0 @@
-pub mod RowMarks
-pub mod Fields
-pub mod Copied

@@ -1,7 +1,0 @@
-use Rattle.std.proofs.Common.{ap, ◌∙◌, map}
-use Rattle.cedar_typechecker_nodes.specs.Marked.{marks_of, rows}
-use Rattle.cedar_typechecker_nodes.proofs.RowMarks.{call_marks}
-use Rattle.cedar_typechecker_nodes.proofs.kinds.call_kind.Goals as goal
-
-pub returns-clause-marks : goal.returns-clause-marks
-returns-clause-marks c = call_marks c.args.fn_name c.in_ok-args.args ∙ ap (λ v. rows (map marks_of v.items)) c.in_ok-args.ensures.ok

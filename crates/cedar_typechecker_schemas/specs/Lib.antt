@@ -1,4 +1,0 @@
-pub mod Views
-pub mod Laws
-pub mod Pairs
-pub mod Types

@@ -1,4 +1,0 @@
-mod Held
-pub mod Judged
-pub mod Same
-pub mod Counted

@@ -1,3 +1,0 @@
-pub mod Typed
-pub mod Counts
-pub mod Laws
