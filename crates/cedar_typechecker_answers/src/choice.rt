@@ -167,7 +167,8 @@ fn first_node<'a>(
     ensures { IfOk result (λ a. seen a ≡ noted (choice (tree_of test) (tree_of first) (tree_of second)) (three (marks_of test) (marks_of first) (marks_of second)) (branch_judged (data_of test) (data_of first) (facts_of known.entry))) }
 {
     let judged = branch_judgement(&test, &first, known)?;
-    choice_node(alloc, faults, place, test, first, second, judged)
+    let wrong = ValidationErrorKind::UnexpectedType;
+    choice_node(alloc, faults, place, test, first, second, judged, wrong)
 }
 
 /// The answer of a choice by those of a test of type False and of the second branch.
@@ -210,7 +211,8 @@ fn second_node<'a>(
     ensures { IfOk result (λ a. seen a ≡ noted (choice (tree_of test) (tree_of first) (tree_of second)) (three (marks_of test) (marks_of first) (marks_of second)) (branch_judged (data_of test) (data_of second) (facts_of known.entry))) }
 {
     let judged = branch_judgement(&test, &second, known)?;
-    choice_node(alloc, faults, place, test, first, second, judged)
+    let wrong = ValidationErrorKind::UnexpectedType;
+    choice_node(alloc, faults, place, test, first, second, judged, wrong)
 }
 
 // The judgement of a choice by the branch that is taken, where the test and the branch have types.
@@ -230,8 +232,8 @@ fn branch_judgement<'a>(
     }
 }
 
-// The node of a choice of these parts, by its judgement.
-fn choice_node<'a>(
+/// The node of a choice of these parts, by its judgement. Where there is none, what is wrong is noted at its place.
+pub fn choice_node<'a>(
     alloc: Global,
     faults: &mut Faults,
     place: Option<Loc>,
@@ -239,6 +241,7 @@ fn choice_node<'a>(
     first: Expr<Option<Type>>,
     second: Expr<Option<Type>>,
     judged: Option<Judged<'a>>,
+    wrong: ValidationErrorKind,
 ) -> Result<TypecheckAnswer<'a>, AllocError>
     ensures { IfOk result (λ a. seen a ≡ noted (choice (tree_of test) (tree_of first) (tree_of second)) (three (marks_of test) (marks_of first) (marks_of second)) (option_map judgement_seen judged.entry)) }
 {
@@ -248,11 +251,5 @@ fn choice_node<'a>(
         then_expr,
         else_expr,
     };
-    judged_node(
-        faults,
-        kind,
-        place,
-        judged,
-        ValidationErrorKind::UnexpectedType,
-    )
+    judged_node(faults, kind, place, judged, wrong)
 }

@@ -1,3 +1,4 @@
+pub mod Choices
 pub mod TypedRows
 pub mod PathTests
 pub mod ByKind
