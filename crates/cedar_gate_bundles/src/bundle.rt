@@ -12,7 +12,7 @@ ghost use Rattle.cedar_gate_bundles.specs.Requests.{request_of};
 ghost use Rattle.cedar_gate_bundles.specs.Written.{IsStoreWritten};
 ghost use Rattle.cedar_gate_expressions.specs.declared.fault.ReadFault.TheVariants.{Unreadable};
 
-use crate::PolicyReader;
+use crate::policies::PolicyReader;
 use crate::requests::{RequestRead, read_request};
 use crate::steps::{Step, StepReader};
 use crate::stores::read_store;

@@ -15,7 +15,6 @@ mod values;
 
 pub use bundle::{Bundle, Submission, read_bundle, read_input};
 pub use cedar_gate_expressions::ReadFault;
-pub use policies::PolicyReader;
 pub use requests::{RequestContext, RequestEntry, RequestRead};
 pub use steps::Step;
 pub use values::Evaluate;

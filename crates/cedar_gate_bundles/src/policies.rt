@@ -21,16 +21,16 @@ use serde_json::Value;
 use std::alloc::{AllocError, Global};
 use std::rc::Rc;
 
-/// Reads policies. All share the annotations, of which there are none.
+// Reads policies. All share the annotations, of which there are none.
 #[derive(Drop)]
-pub struct PolicyReader {
+pub(crate) struct PolicyReader {
     annotations: Rc<Annotations>,
     ghost bare: { annotations_of annotations.value ≡ [] },
 }
 
 impl PolicyReader {
-    /// A reader of policies.
-    pub fn new(alloc: Global) -> Result<PolicyReader, AllocError> {
+    // A reader of policies.
+    pub(crate) fn new(alloc: Global) -> Result<PolicyReader, AllocError> {
         let annotations = Rc::new(alloc, Annotations::new(alloc))?;
         Ok(PolicyReader { annotations })
     }
