@@ -1,4 +1,5 @@
-use Rattle.std.proofs.Common.{map, ap, sym, ◌∙◌, rules, Some}
+use Rattle.std.proofs.lemmas.Grind.{common_steps}
+use Rattle.std.proofs.Common.{map, ap, sym, ◌∙◌, rules, Some, arith}
 use Rattle.cedar_expr_model.specs.Builder.{trees, tree_fields}
 use Rattle.cedar_expr_model.specs.Lists.{all_given}
 use Rattle.cedar_expr_model.specs.Tree.{set_literal, record_literal}
@@ -87,3 +88,6 @@ member_values-loop-e-preserved g t c =
       read = member_step {T = g.row.T.Denot} seen c.args.members.now c.loop-e.e-index c.e-item.result _ done more c.in_ok-expr_value.field-0 c.loop-e-test.true c.e-item.is was.read c.in_ok-expr_value.ensures.value c.in_ok-push.ensures.items;
       canonical = canonical_step seen done more c.in_ok-expr_value.field-0 was.canonical c.in_ok-expr_value.ensures.canonical c.in_ok-push.ensures.items;
     }
+
+pub member_values-returns-clause-value : goal.member_values-returns-clause-value
+member_values-returns-clause-value g t c = grind (arith, common_steps)

@@ -1,3 +1,4 @@
+use Rattle.std.proofs.lemmas.Grind.{common_steps}
 use Rattle.std.proofs.Common.{map, ap, sym, ◌∙◌, rules, arith}
 use Rattle.std.specs.Slice.Iter.{iter_rest}
 use Rattle.cedar_expr_model.specs.Builder.{tree_fields}
@@ -34,3 +35,9 @@ kind_expr-returns-in_ok-fields-in-Record-clause-tree g t c =
     ∙ sym (record_written seen c.in-Record.fields)
     ∙ ap (λ k. written (made_kind seen k)) (sym c.in-Record.is))
     c.record_expr.ensures.tree
+
+pub field_exprs-loop-name-preserved : goal.field_exprs-loop-name-preserved
+field_exprs-loop-name-preserved g t c = grind (arith, common_steps)
+
+pub member_exprs-loop-member-preserved : goal.member_exprs-loop-member-preserved
+member_exprs-loop-member-preserved g t c = grind (arith, common_steps)

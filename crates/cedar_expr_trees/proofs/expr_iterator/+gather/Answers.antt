@@ -1,3 +1,4 @@
+use Rattle.std.proofs.lemmas.Grind.{common_steps}
 use Rattle.std.proofs.Common.{◌≡◌, ap, sym, ⊎_elim, ◌∙◌, rules, arith}
 use Rattle.std.specs.BTreeMap.{values}
 use Rattle.std.specs.List.{flat_map}
@@ -44,3 +45,36 @@ gather-returns-in-GetAttr g t c =
     with_below {T = g.row.T.Denot} c.gather-in-GetAttr.result c.args.found.now.items c.push.new.self.items c.gather-in-GetAttr.new.found.items c.args.expr (positions {T = g.row.T.Denot} c.deref-in-GetAttr.result.now) c.in_ok-push.ensures.items
     (one ∙ ap (positions {T = g.row.T.Denot}) (sym c.deref-in-GetAttr.ensures))
     c.gather-in-GetAttr.ensures
+
+pub gather-returns-in_ok-gather-in-If-2 : goal.gather-returns-in_ok-gather-in-If-2
+gather-returns-in_ok-gather-in-If-2 g t c = grind (arith, common_steps)
+
+pub gather-returns-in_ok-gather-in-BinaryApp : goal.gather-returns-in_ok-gather-in-BinaryApp
+gather-returns-in_ok-gather-in-BinaryApp g t c = grind (arith, common_steps)
+
+pub gather-returns-in-UnaryApp : goal.gather-returns-in-UnaryApp
+gather-returns-in-UnaryApp g t c = grind (arith, common_steps)
+
+pub gather-returns-in-Lit : goal.gather-returns-in-Lit
+gather-returns-in-Lit g t c = grind (arith, common_steps)
+
+pub gather-returns-in-Lit-2 : goal.gather-returns-in-Lit-2
+gather-returns-in-Lit-2 g t c = grind (arith, common_steps)
+
+pub gather-returns-in-Lit-3 : goal.gather-returns-in-Lit-3
+gather-returns-in-Lit-3 g t c = grind (arith, common_steps)
+
+pub gather-returns-in-Lit-4 : goal.gather-returns-in-Lit-4
+gather-returns-in-Lit-4 g t c = grind (arith, common_steps)
+
+pub gather-returns-in_ok-gather-in-And : goal.gather-returns-in_ok-gather-in-And
+gather-returns-in_ok-gather-in-And g t c = grind (arith, common_steps)
+
+pub gather_all-loop-e-preserved : goal.gather_all-loop-e-preserved
+gather_all-loop-e-preserved g t c = grind (arith, common_steps)
+
+pub gather_all-returns : goal.gather_all-returns
+gather_all-returns g t c = grind (arith, common_steps)
+
+pub gather_fields-loop-e-preserved : goal.gather_fields-loop-e-preserved
+gather_fields-loop-e-preserved g t c = grind (arith, common_steps)

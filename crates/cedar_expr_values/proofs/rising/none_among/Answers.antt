@@ -1,4 +1,5 @@
-use Rattle.std.proofs.Common.{sym, ◌∙◌}
+use Rattle.std.proofs.lemmas.Grind.{common_steps}
+use Rattle.std.proofs.Common.{sym, ◌∙◌, arith}
 use Rattle.cedar_expr_values.proofs.Walked.{none_at_less, none_at_greater, none_in_nothing}
 use Rattle.cedar_expr_values.proofs.rising.none_among.Goals as goal
 
@@ -20,3 +21,6 @@ loop-first-preserved g c s =
 pub returns-in_default : goal.returns-in_default
 returns-in_default g c s =
     sym (none_in_nothing g.met.T.Ord.total c.loop-first.left.now c.loop-first.right.now c.in_default.ensures'.cases) ∙ (c.loop-first.invariant s).1
+
+pub returns-in_default-2 : goal.returns-in_default-2
+returns-in_default-2 g c = grind (arith, common_steps)

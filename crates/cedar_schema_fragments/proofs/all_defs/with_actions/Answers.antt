@@ -1,3 +1,4 @@
+use Rattle.std.proofs.lemmas.Grind.{common_steps}
 use Rattle.std.proofs.Common.{map, arith, refl, ap, ◌∙◌}
 use Rattle.cedar_expr_names.specs.Views.{uid_of}
 use Rattle.cedar_schema_decl.specs.Defined.{defined_of, with_action}
@@ -15,3 +16,6 @@ loop-action-preserved g c =
 
 pub returns : goal.returns
 returns g c = marks_all (λ es. all_with with_action (map (λ e. uid_of e.0) es)) (λ s. refl) _ c.loop-action.action-index _ _ (omega arith) c.loop-action.invariant
+
+pub loop-action-init : goal.loop-action-init
+loop-action-init g c = grind (arith, common_steps)

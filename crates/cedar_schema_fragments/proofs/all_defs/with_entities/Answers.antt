@@ -1,3 +1,4 @@
+use Rattle.std.proofs.lemmas.Grind.{common_steps}
 use Rattle.std.proofs.Common.{map, arith, refl, ap, ◌∙◌}
 use Rattle.cedar_expr_names.specs.Views.{name_of}
 use Rattle.cedar_schema_decl.specs.Defined.{defined_of, with_entity}
@@ -15,3 +16,6 @@ loop-entity-preserved g c =
 
 pub returns : goal.returns
 returns g c = marks_all (λ es. all_with with_entity (map (λ e. name_of e.0) es)) (λ s. refl) _ c.loop-entity.entity-index _ _ (omega arith) c.loop-entity.invariant
+
+pub loop-entity-init : goal.loop-entity-init
+loop-entity-init g c = grind (arith, common_steps)

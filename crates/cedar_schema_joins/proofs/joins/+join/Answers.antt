@@ -1,4 +1,5 @@
-use Rattle.std.proofs.Common.{sym, ap, ◌∙◌}
+use Rattle.std.proofs.lemmas.Grind.{common_steps}
+use Rattle.std.proofs.Common.{sym, ap, ◌∙◌, arith}
 use Rattle.cedar_expr_model.proofs.Ordering.{in_order_stays}
 use Rattle.cedar_schema_model.specs.Types.{record_type}
 use Rattle.cedar_schema_model.specs.Join.{join, attributes_join, record_join}
@@ -36,3 +37,6 @@ join_record-returns-in_ok-joined-in-Record-2 t c =
     c.record_joined.ensures
     ∙ ap (record_join m (attributes_of c.args.attrs.now) (openness_of c.args.open_attributes) _ _) is
     ∙ ap (λ t. join m (record_type (attributes_of c.args.attrs.now) (openness_of c.args.open_attributes)) (type_of t)) (sym whole.is)
+
+pub join_attributes-loop-name-preserved-in_ok-push : goal.join_attributes-loop-name-preserved-in_ok-push
+join_attributes-loop-name-preserved-in_ok-push t c = grind (arith, common_steps)

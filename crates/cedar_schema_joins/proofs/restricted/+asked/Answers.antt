@@ -1,3 +1,4 @@
+use Rattle.std.proofs.lemmas.Grind.{common_steps}
 use Rattle.std.proofs.Common.{map, sym, ap, ◌∙◌, subst, arith, rules}
 use Rattle.cedar_expr_model.specs.Builder.{trees, tree_fields}
 use Rattle.cedar_expr_model.specs.Tree.{set_literal, record_literal}
@@ -46,3 +47,12 @@ ask_fields-loop-name-preserved g t c =
           c.loop-name.invariant.asked c.in-Some.ensures c.declared_of.ensures c.in_ok-ask_field.ensures c.if-not-branch.false;
       within = fewer_are_smaller {T = g.row.T.Denot} c.args.pairs.now.entries c.loop-name.rest.left _ c.in-Some.name.now c.in-Some.expr.now c.loop-name.invariant.within c.in-Some.ensures;
     }
+
+pub ask_each-returns-then-not-branch : goal.ask_each-returns-then-not-branch
+ask_each-returns-then-not-branch g t c = grind (arith, common_steps)
+
+pub ask_each-loop-expr-preserved : goal.ask_each-loop-expr-preserved
+ask_each-loop-expr-preserved g t c = grind (arith, common_steps)
+
+pub ask_each-returns : goal.ask_each-returns
+ask_each-returns g t c = grind (arith, common_steps)

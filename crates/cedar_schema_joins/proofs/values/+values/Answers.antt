@@ -1,3 +1,4 @@
+use Rattle.std.proofs.lemmas.Grind.{common_steps}
 use Rattle.std.proofs.Common.{map, sym, ap, ◌∙◌, arith, rules}
 use Rattle.cedar_expr_model.specs.Made as model
 use Rattle.cedar_expr_model.specs.Records.{fields}
@@ -30,3 +31,9 @@ fields_fit-loop-name-preserved g t c =
           c.loop-name.invariant.fits c.in-Some.ensures c.declared_of.ensures c.field_fits.ensures c.if-not-field_fits.false;
       within = fewer_are_smaller {X = g.row.X.Denot} c.args.pairs.now.entries c.loop-name.rest.left _ c.in-Some.name.now c.in-Some.value.now c.loop-name.invariant.within c.in-Some.ensures;
     }
+
+pub fields_fit-loop-name-init : goal.fields_fit-loop-name-init
+fields_fit-loop-name-init g t c = grind (arith, common_steps)
+
+pub have_type-returns : goal.have_type-returns
+have_type-returns g t c = grind (arith, common_steps)

@@ -1,4 +1,5 @@
-use Rattle.std.proofs.Common.{sym, subst, rules}
+use Rattle.std.proofs.lemmas.Grind.{common_steps}
+use Rattle.std.proofs.Common.{sym, subst, rules, arith}
 use Rattle.cedar_schema_resolver.proofs.Searching.{AreRows, one_row}
 use Rattle.cedar_schema_resolver.proofs.closures.closure.Goals as goal
 
@@ -9,3 +10,6 @@ loop-start-preserved c = record {
   marks = c.in_ok-reached_from.ensures.marks;
   room = c.in_ok-reached_from.ensures.size;
 }
+
+pub loop-start-init : goal.loop-start-init
+loop-start-init c = grind (arith, common_steps)

@@ -1,3 +1,4 @@
+use Rattle.std.proofs.lemmas.Grind.{common_steps}
 use Rattle.std.proofs.Common.{sym, ◌∙◌, subst, take, arith}
 use Rattle.std.proofs.lemmas.List.Elements.{Contains-get_or}
 use Rattle.std.proofs.lemmas.List.{take_more}
@@ -15,3 +16,6 @@ loop-target-preserved c = record {
   size = c.in_ok-add_to_row.ensures.size ∙ c.loop-target.invariant.size;
   added = subst (λ is. HasAdded c.args.rows.now.items c.add_to_row.new.rows.items is c.args.node) (sym (take_more c.args.at.now c.loop-target.target-index 0 c.loop-target-test.true)) (then_added c.args.rows.now.items c.loop-target.rows.items c.add_to_row.new.rows.items (take c.loop-target.target-index c.args.at.now) _ c.args.node c.loop-target.invariant.added c.in_ok-add_to_row.ensures.added);
 }
+
+pub returns-clause-added : goal.returns-clause-added
+returns-clause-added c = grind (arith, common_steps)

@@ -1,4 +1,5 @@
-use Rattle.std.proofs.Common.{rules, sym, ap, ◌∙◌, true, []}
+use Rattle.std.proofs.lemmas.Grind.{common_steps}
+use Rattle.std.proofs.Common.{rules, sym, ap, ◌∙◌, true, [], arith}
 use Rattle.std.proofs.Output.{has_written_of_eq, writes_in_calls_nil}
 use Rattle.cedar_schema_model.specs.Texts.{attributes_text}
 use Rattle.cedar_schema_types.proofs.Entries.{attributes_are}
@@ -19,3 +20,12 @@ show_attributes-loop-name-preserved g t c = λ p.
 
 pub show_attributes-returns : goal.show_attributes-returns
 show_attributes-returns g t c = λ p ok. attributes_shown _ c.args.f.now c.loop-name.f c.loop-name.is_first c.loop-name.name-iterator _ (c.loop-name.invariant p) c.in-None.ensures.steps.0
+
+pub show_attribute-returns : goal.show_attribute-returns
+show_attribute-returns g t c = grind (arith, common_steps)
+
+pub show_record-returns : goal.show_record-returns
+show_record-returns g t c = grind (arith, common_steps)
+
+pub show_set-returns : goal.show_set-returns
+show_set-returns g t c = grind (arith, common_steps)

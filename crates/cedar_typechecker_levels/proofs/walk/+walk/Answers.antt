@@ -1,4 +1,5 @@
 use Rattle.std.proofs.Common.{rules, arith, Option, Some, None, map, sym, ap, ◌∙◌, ◌++◌, append-nil}
+use Rattle.std.proofs.lemmas.Grind.{common_steps}
 use Rattle.std.specs.BTreeMap.{values}
 use Rattle.std.specs.List.{flat_map}
 use Rattle.std.specs.Rc.{rc_str_bytes}
@@ -100,3 +101,48 @@ report_fields-returns g t c = fields_end c.args.level (setting_of g.S.DeclaredAt
 
 pub report_others-returns : goal.report_others-returns
 report_others-returns g t c = others_end c.args.level (setting_of g.S.DeclaredAttributes.schema g.S.TypingSchema.table c.args.world.now) (rc_str_bytes c.args.name.now) c.args.fields.now.entries c.loop-key.left.left (map violation_of c.args.found.now.items) (map violation_of c.loop-key.found.items) c.loop-key.is_past c.loop-key.invariant.0 c.in_default.ensures
+
+pub reach-returns-in_ok-reach-in-true-true : goal.reach-returns-in_ok-reach-in-true-true
+reach-returns-in_ok-reach-in-true-true g t c = grind (arith, common_steps)
+
+pub reach-returns-in-true-false : goal.reach-returns-in-true-false
+reach-returns-in-true-false g t c = grind (arith, common_steps)
+
+pub reach-returns-in-false-true : goal.reach-returns-in-false-true
+reach-returns-in-false-true g t c = grind (arith, common_steps)
+
+pub reach-returns-in-false-false : goal.reach-returns-in-false-false
+reach-returns-in-false-false g t c = grind (arith, common_steps)
+
+pub report-returns-in_ok-report-in-true-true : goal.report-returns-in_ok-report-in-true-true
+report-returns-in_ok-report-in-true-true g t c = grind (arith, common_steps)
+
+pub report-returns-in-true-false : goal.report-returns-in-true-false
+report-returns-in-true-false g t c = grind (arith, common_steps)
+
+pub report-returns-in-false-true : goal.report-returns-in-false-true
+report-returns-in-false-true g t c = grind (arith, common_steps)
+
+pub report-returns-in-false-false : goal.report-returns-in-false-false
+report-returns-in-false-false g t c = grind (arith, common_steps)
+
+pub report-returns-in_ok-report-in-BinaryApp : goal.report-returns-in_ok-report-in-BinaryApp
+report-returns-in_ok-report-in-BinaryApp g t c = let h = c.if-looks_up.ensures in grind (arith, common_steps)
+
+pub report-returns-in_ok-add_step-in-ExtHasAttr : goal.report-returns-in_ok-add_step-in-ExtHasAttr
+report-returns-in_ok-add_step-in-ExtHasAttr g t c = grind (arith, common_steps)
+
+pub report-returns-then-may_be_true-2 : goal.report-returns-then-may_be_true-2
+report-returns-then-may_be_true-2 g t c = let h = c.if-may_be_true-2.ensures in grind (arith, common_steps)
+
+pub report-returns-else-may_be_true-2 : goal.report-returns-else-may_be_true-2
+report-returns-else-may_be_true-2 g t c = let h = c.if-may_be_true-2.ensures in grind (arith, common_steps)
+
+pub report-returns-then-may_be_false-2 : goal.report-returns-then-may_be_false-2
+report-returns-then-may_be_false-2 g t c = let h = c.if-may_be_false-2.ensures in grind (arith, common_steps)
+
+pub report-returns-else-may_be_false-2 : goal.report-returns-else-may_be_false-2
+report-returns-else-may_be_false-2 g t c = let h = c.if-may_be_false-2.ensures in grind (arith, common_steps)
+
+pub report-returns-then-more-eq0 : goal.report-returns-then-more-eq0
+report-returns-then-more-eq0 g t c = grind (arith, common_steps)
