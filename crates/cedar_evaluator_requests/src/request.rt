@@ -17,12 +17,24 @@ use cedar_store_parts::RequestType;
 use std::alloc::{AllocError, Global};
 
 /// A request: who asks, what is to be done, with what, and what is known beside them. Each may be unknown.
-#[derive(Debug, Drop)]
+#[derive(Debug)]
 pub struct Request {
     principal: EntityUIDEntry,
     action: EntityUIDEntry,
     resource: EntityUIDEntry,
     context: Option<Context>,
+}
+
+// prover: see ARCHITECTURE
+impl Drop for Request {
+    fn drop(self) {
+        let Request {
+            principal: _,
+            action: _,
+            resource: _,
+            context: _,
+        } = self;
+    }
 }
 
 impl Request {

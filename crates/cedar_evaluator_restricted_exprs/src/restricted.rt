@@ -16,10 +16,17 @@ use std::ops::Deref;
 use std::rc::RcStr;
 
 /// A restricted expression: a literal, an unknown, or a call, a set or a record of such expressions.
-#[derive(Debug, PartialEq, Eq, Hash, Drop)]
+#[derive(Debug, PartialEq, Eq, Hash)]
 pub struct RestrictedExpr {
     expr: Expr,
     ghost restricted: { is_restricted (tree_of expr) ≡ true },
+}
+
+// prover: see ARCHITECTURE
+impl Drop for RestrictedExpr {
+    fn drop(self) {
+        let RestrictedExpr { expr: _ } = self;
+    }
 }
 
 impl RestrictedExpr {

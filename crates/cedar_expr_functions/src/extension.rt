@@ -37,7 +37,6 @@ pub type Func = Box<dyn Fn(Global, &[Value<ExtValue>]) -> Result<ExtensionOutput
 
 /// A function of an extension, with its signature. What is stored may be called on arguments that the signature takes; there
 /// it answers equal arguments alike, and gives a value of the result type, or where there is none an unknown, or fails.
-#[derive(Drop)]
 pub struct ExtensionFunction {
     name: Name,
     style: CallStyle,
@@ -47,6 +46,20 @@ pub struct ExtensionFunction {
     func: Func,
     ghost some_type: { variadic ≡ true → 0 < vec_len arg_types },
     ghost stored: { IsStored (signature (plain_name_of name) (style_of style) (map core_of arg_types.items) variadic (option_map core_of return_type)) (pre func) (post func) },
+}
+
+// prover: see ARCHITECTURE
+impl Drop for ExtensionFunction {
+    fn drop(self) {
+        let ExtensionFunction {
+            name: _,
+            style: _,
+            arg_types: _,
+            variadic: _,
+            return_type: _,
+            func: _,
+        } = self;
+    }
 }
 
 impl ExtensionFunction {
@@ -435,11 +448,21 @@ impl<'a> Iterator for ExtTypes<'a> {
 }
 
 /// An extension: its functions, and those of its types whose values `<` and `<=` take.
-#[derive(Drop)]
 pub struct Extension {
     name: Name,
     pub(crate) functions: Vec<ExtensionFunction>,
     pub(crate) ordered: Vec<Name>,
+}
+
+// prover: see ARCHITECTURE
+impl Drop for Extension {
+    fn drop(self) {
+        let Extension {
+            name: _,
+            functions: _,
+            ordered: _,
+        } = self;
+    }
 }
 
 impl Extension {

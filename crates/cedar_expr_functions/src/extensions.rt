@@ -20,12 +20,22 @@ use std::collections::btree_map::Values;
 use std::slice::Iter;
 
 /// A table of extension functions, by their names. It borrows the extensions that it is made of.
-#[derive(Drop)]
 pub struct Extensions<'a> {
     names: Vec<&'a Name>,
     functions: BTreeMap<Name, &'a ExtensionFunction>,
     ordered: Vec<&'a Name>,
     ghost named: { are_named functions.entries ≡ true },
+}
+
+// prover: see ARCHITECTURE
+impl<'a> Drop for Extensions<'a> {
+    fn drop(self) {
+        let Extensions {
+            names: _,
+            functions: _,
+            ordered: _,
+        } = self;
+    }
 }
 
 /// The table under its other name.

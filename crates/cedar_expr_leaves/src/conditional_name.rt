@@ -24,11 +24,22 @@ pub enum ReferenceType {
 }
 
 /// A name as it is written, with the names that it may stand for, of which the first that is declared is meant.
-#[derive(Debug, PartialEq, Eq, Hash, Drop)]
+#[derive(Debug, PartialEq, Eq, Hash)]
 pub struct ConditionalName {
     possibilities: Vec<InternalName>,
     reference_type: ReferenceType,
     raw: RawName,
+}
+
+// prover: see ARCHITECTURE
+impl Drop for ConditionalName {
+    fn drop(self) {
+        let ConditionalName {
+            possibilities: _,
+            reference_type: _,
+            raw: _,
+        } = self;
+    }
 }
 
 impl ConditionalName {

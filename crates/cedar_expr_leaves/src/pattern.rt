@@ -37,9 +37,16 @@ impl Display for PatternElem {
 }
 
 /// A pattern: characters and wildcards, one after another. Patterns are compared element by element.
-#[derive(Debug, PartialEq, Eq, PartialOrd, Ord, Hash, Drop)]
+#[derive(Debug, PartialEq, Eq, PartialOrd, Ord, Hash)]
 pub struct Pattern {
     elems: Rc<Vec<PatternElem>>,
+}
+
+// prover: see ARCHITECTURE
+impl Drop for Pattern {
+    fn drop(self) {
+        let Pattern { elems: _ } = self;
+    }
 }
 
 impl Pattern {

@@ -12,10 +12,17 @@ use std::fmt::{Display, Formatter, Write};
 use std::rc::RcStr;
 
 /// An identifier or a word of the expression language: an ASCII letter or underscore, then letters, digits and underscores.
-#[derive(Debug, PartialEq, Eq, PartialOrd, Ord, Hash, Drop)]
+#[derive(Debug, PartialEq, Eq, PartialOrd, Ord, Hash)]
 pub struct AnyId {
     text: RcStr,
     ghost is_a_word: { is_word (rc_str_bytes text) ≡ true },
+}
+
+// prover: see ARCHITECTURE
+impl Drop for AnyId {
+    fn drop(self) {
+        let AnyId { text: _ } = self;
+    }
 }
 
 impl AnyId {
@@ -47,7 +54,8 @@ impl AnyId {
     pub fn into_smolstr(self) -> RcStr
         ensures { rc_str_bytes result ≡ any_id_text self }
     {
-        self.text
+        let AnyId { text } = self;
+        text
     }
 }
 

@@ -17,8 +17,15 @@ use std::fmt::{Display, Formatter, Write};
 use std::rc::RcStr;
 
 /// The type of an entity: a name that is not reserved.
-#[derive(Debug, PartialEq, Eq, PartialOrd, Ord, Hash, Drop)]
+#[derive(Debug, PartialEq, Eq, PartialOrd, Ord, Hash)]
 pub struct EntityType(Name);
+
+// prover: see ARCHITECTURE
+impl Drop for EntityType {
+    fn drop(self) {
+        let EntityType(_) = self;
+    }
+}
 
 impl EntityType {
     /// The entity type of this name.
@@ -82,8 +89,15 @@ impl Display for EntityType {
 }
 
 /// The id of an entity: any text.
-#[derive(Debug, PartialEq, Eq, PartialOrd, Ord, Hash, Drop)]
+#[derive(Debug, PartialEq, Eq, PartialOrd, Ord, Hash)]
 pub struct Eid(RcStr);
+
+// prover: see ARCHITECTURE
+impl Drop for Eid {
+    fn drop(self) {
+        let Eid(_) = self;
+    }
+}
 
 impl Eid {
     /// The id of this text.
@@ -127,13 +141,24 @@ impl Clone for Eid {
 
 /// The uid of an entity: its type and its id. Uids are compared by the texts of their types and then by their ids, in byte
 /// order; places don't count.
-#[derive(Debug, Drop)]
+#[derive(Debug)]
 #[derive_where(PartialEq, Eq, PartialOrd, Ord, Hash)]
 pub struct EntityUID {
     entity_type: EntityType,
     eid: Eid,
     #[derive_where(skip(EqHashOrd))]
     loc: Option<Loc>,
+}
+
+// prover: see ARCHITECTURE
+impl Drop for EntityUID {
+    fn drop(self) {
+        let EntityUID {
+            entity_type: _,
+            eid: _,
+            loc: _,
+        } = self;
+    }
 }
 
 impl EntityUID {

@@ -7,10 +7,17 @@ use crate::InternalName;
 use thiserror::Error;
 
 /// A name with the reserved part `__cedar` stands where none may.
-#[derive(Debug, PartialEq, Eq, Drop, Error)]
+#[derive(Debug, PartialEq, Eq, Error)]
 #[error("the name `{name}` is reserved")]
 pub struct ReservedNameError {
     name: InternalName,
+}
+
+// prover: see ARCHITECTURE
+impl Drop for ReservedNameError {
+    fn drop(self) {
+        let ReservedNameError { name: _ } = self;
+    }
 }
 
 impl ReservedNameError {

@@ -13,10 +13,17 @@ use std::fmt::{Display, Formatter, Write};
 use std::rc::RcStr;
 
 /// One identifier: an ASCII letter or underscore, then letters, digits and underscores, and no word of the expression language.
-#[derive(Debug, PartialEq, Eq, PartialOrd, Ord, Hash, Drop)]
+#[derive(Debug, PartialEq, Eq, PartialOrd, Ord, Hash)]
 pub struct Id {
     text: RcStr,
     ghost identifies: { is_identifier (rc_str_bytes text) ≡ true },
+}
+
+// prover: see ARCHITECTURE
+impl Drop for Id {
+    fn drop(self) {
+        let Id { text: _ } = self;
+    }
 }
 
 impl Id {
@@ -63,7 +70,8 @@ impl Id {
     pub fn into_smolstr(self) -> RcStr
         ensures { rc_str_bytes result ≡ id_text self }
     {
-        self.text
+        let Id { text } = self;
+        text
     }
 
     /// Whether this is the reserved identifier `__cedar`.

@@ -16,7 +16,7 @@ use std::slice::Iter;
 
 /// A name of any kind: a path of identifiers and its base, joined by `::`. Names are compared by their texts, in byte
 /// order; places don't count.
-#[derive(Debug, Drop)]
+#[derive(Debug)]
 #[derive_where(PartialEq, Eq, PartialOrd, Ord, Hash)]
 pub struct InternalName {
     text: RcStr,
@@ -27,6 +27,18 @@ pub struct InternalName {
     #[derive_where(skip(EqHashOrd))]
     loc: Option<Loc>,
     ghost written: { rc_str_bytes text ≡ joined (map id_text path.value.items) (id_text id) },
+}
+
+// prover: see ARCHITECTURE
+impl Drop for InternalName {
+    fn drop(self) {
+        let InternalName {
+            text: _,
+            path: _,
+            id: _,
+            loc: _,
+        } = self;
+    }
 }
 
 impl InternalName {
@@ -225,6 +237,19 @@ impl InternalName {
     {
         InternalName::new(alloc, id, Vec::new(alloc), None)
     }
+
+    // The identifier at the end.
+    fn into_basename(self) -> Id
+        ensures { id_text result ≡ (name_of self).base }
+    {
+        let InternalName {
+            text: _,
+            path: _,
+            id,
+            loc: _,
+        } = self;
+        id
+    }
 }
 
 impl TryFrom<InternalName> for Id {
@@ -237,7 +262,7 @@ impl TryFrom<InternalName> for Id {
 
     fn try_from(value: InternalName) -> Result<Id, ()> {
         if value.is_unqualified() {
-            Ok(value.id)
+            Ok(value.into_basename())
         } else {
             Err(())
         }

@@ -10,10 +10,17 @@ use std::fmt;
 use std::fmt::{Display, Formatter, Write};
 
 /// A name without the reserved part `__cedar`.
-#[derive(Debug, PartialEq, Eq, PartialOrd, Ord, Hash, Drop)]
+#[derive(Debug, PartialEq, Eq, PartialOrd, Ord, Hash)]
 pub struct Name {
     internal: InternalName,
     ghost unreserved: { is_reserved (name_of internal) ≡ false },
+}
+
+// prover: see ARCHITECTURE
+impl Drop for Name {
+    fn drop(self) {
+        let Name { internal: _ } = self;
+    }
 }
 
 impl Name {
@@ -155,6 +162,15 @@ impl Name {
     {
         &self.internal
     }
+
+    // The name as one that may be reserved.
+    fn into_internal(self) -> InternalName
+        ensures value { name_of result ≡ plain_name_of self }
+        ensures place { name_loc result ≡ plain_name_loc self }
+    {
+        let Name { internal } = self;
+        internal
+    }
 }
 
 impl From<Name> for InternalName {
@@ -163,7 +179,7 @@ impl From<Name> for InternalName {
     ghost from_gives = { λ n i. (name_of i ≡ plain_name_of n) × (name_loc i ≡ plain_name_loc n) };
 
     fn from(value: Name) -> InternalName {
-        value.internal
+        value.into_internal()
     }
 }
 
@@ -176,7 +192,7 @@ impl TryFrom<Name> for UnreservedId {
     ghost try_from_gives = { λ n r. GivesBase unreserved_id_text (plain_name_of n) r };
 
     fn try_from(value: Name) -> Result<UnreservedId, ()> {
-        let id = Id::try_from(value.internal)?;
+        let id = Id::try_from(value.into_internal())?;
         Ok(UnreservedId::new_unchecked(id))
     }
 }

@@ -13,10 +13,17 @@ use std::fmt::{Display, Formatter, Write};
 use std::rc::RcStr;
 
 /// An identifier other than the reserved `__cedar`.
-#[derive(Debug, PartialEq, Eq, PartialOrd, Ord, Hash, Drop)]
+#[derive(Debug, PartialEq, Eq, PartialOrd, Ord, Hash)]
 pub struct UnreservedId {
     id: Id,
     ghost unreserved: { bytes_eq reserved (id_text id) ≡ false },
+}
+
+// prover: see ARCHITECTURE
+impl Drop for UnreservedId {
+    fn drop(self) {
+        let UnreservedId { id: _ } = self;
+    }
 }
 
 impl UnreservedId {
@@ -77,7 +84,15 @@ impl UnreservedId {
     pub fn into_smolstr(self) -> RcStr
         ensures { rc_str_bytes result ≡ unreserved_id_text self }
     {
-        self.id.into_smolstr()
+        self.into_id().into_smolstr()
+    }
+
+    // The identifier.
+    fn into_id(self) -> Id
+        ensures { id_text result ≡ unreserved_id_text self }
+    {
+        let UnreservedId { id } = self;
+        id
     }
 }
 
@@ -87,7 +102,7 @@ impl From<UnreservedId> for Id {
     ghost from_gives = { λ u i. id_text i ≡ unreserved_id_text u };
 
     fn from(value: UnreservedId) -> Id {
-        value.id
+        value.into_id()
     }
 }
 

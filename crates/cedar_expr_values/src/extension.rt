@@ -48,7 +48,7 @@ pub trait InternalExtensionValue: ExtensionValue {
 
 /// An extension value that a function of a table makes: the name of its type, its key, and the function and the literals of
 /// the call. Values are compared by the name of the type and then by the bytes of the key; the call doesn't count.
-#[derive(Debug, Drop)]
+#[derive(Debug)]
 #[derive_where(PartialEq, Eq, PartialOrd, Ord, Hash)]
 pub struct ExtValue {
     type_name: Name,
@@ -57,6 +57,18 @@ pub struct ExtValue {
     function: Name,
     #[derive_where(skip(EqHashOrd))]
     literals: Vec<Literal>,
+}
+
+// prover: see ARCHITECTURE
+impl Drop for ExtValue {
+    fn drop(self) {
+        let ExtValue {
+            type_name: _,
+            key: _,
+            function: _,
+            literals: _,
+        } = self;
+    }
 }
 
 impl ExtValue {
@@ -122,7 +134,6 @@ impl StaticallyTyped for ExtValue {
 }
 
 /// An extension value with the function and the literals of a call that makes it. It is compared by the value alone.
-#[derive(Drop)]
 #[derive_where(Debug, PartialEq, Eq, PartialOrd, Ord, Hash; X)]
 pub struct RepresentableExtensionValue<X> {
     value: Rc<X>,
@@ -130,6 +141,17 @@ pub struct RepresentableExtensionValue<X> {
     called: Name,
     #[derive_where(skip(EqHashOrd))]
     args: Vec<Literal>,
+}
+
+// prover: see ARCHITECTURE
+impl<X: Drop> Drop for RepresentableExtensionValue<X> {
+    fn drop(self) {
+        let RepresentableExtensionValue {
+            value: _,
+            called: _,
+            args: _,
+        } = self;
+    }
 }
 
 impl<X: ExtensionValue> RepresentableExtensionValue<X> {

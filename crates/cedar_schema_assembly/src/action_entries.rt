@@ -32,7 +32,7 @@ use cedar_schema_fragments::{ActionFragment, ActionFragmentKind};
 use cedar_schema_resolver::TypeResolver;
 use cedar_schema_resolver::hierarchy_laws::descent_is_the_schemas;
 use cedar_schema_types::{OpenTag, Type};
-use std::alloc::Global;
+use std::alloc::{AllocError, Global};
 use std::collections::BTreeSet;
 
 // The uid of a parent. Refuses a reserved name of its type, and answers want of memory.
@@ -105,19 +105,19 @@ fn actions_below(
     }
 }
 
-// The context as a closed record, if it is one.
-fn as_record(ty: Type) -> Option<Type>
-    ensures { AsRecord (type_of ty) (option_map type_of result) }
+// The context as a closed record, if it is one. Answers want of memory.
+fn as_record(ty: &Type) -> Result<Option<Type>, AllocError>
+    ensures { IfOk result (λ r. AsRecord (type_of ty.now) (option_map type_of r)) }
 {
     match ty {
         Type::Record {
             attrs,
             open_attributes: _,
-        } => Some(Type::Record {
-            attrs,
+        } => Ok(Some(Type::Record {
+            attrs: attrs.clone()?,
             open_attributes: OpenTag::ClosedAttributes,
-        }),
-        _ => None,
+        })),
+        _ => Ok(None),
     }
 }
 
@@ -135,7 +135,7 @@ fn context_type(
     ensures refused { IfErr result (TellsContext (setting_of resolver.now) (uid_of uid.now) (type_form name_of context.now)) }
 {
     match told_type(alloc, context, resolver) {
-        Ok(ty) => match as_record(ty) {
+        Ok(ty) => match as_record(&ty)? {
             Some(context) => Ok(context),
             None => {
                 let uid = uid.clone()?;

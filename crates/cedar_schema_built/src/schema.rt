@@ -17,7 +17,7 @@ use std::collections::BTreeMap;
 
 /// A built schema: its entity types by name, those that each descends from, its actions by uid, and the common types and the
 /// namespaces of the fragments that it is built of.
-#[derive(Debug, Drop)]
+#[derive(Debug)]
 pub struct ValidatorSchema {
     pub(crate) entity_types: BTreeMap<EntityType, ValidatorEntityType>,
     pub(crate) ancestors: BTreeMap<EntityType, Vec<EntityType>>,
@@ -26,6 +26,18 @@ pub struct ValidatorSchema {
     ghost types_named: { type_keys entity_types.entries ≡ type_names entity_types.entries },
     ghost ancestors_known: { TypesAreAbove (types_in entity_types.entries) (get types_by ancestors) },
     ghost actions_named: { action_keys action_ids.entries ≡ action_names action_ids.entries },
+}
+
+// prover: see ARCHITECTURE
+impl Drop for ValidatorSchema {
+    fn drop(self) {
+        let ValidatorSchema {
+            entity_types: _,
+            ancestors: _,
+            action_ids: _,
+            names: _,
+        } = self;
+    }
 }
 
 impl ValidatorSchema {
@@ -71,10 +83,16 @@ impl ValidatorSchema {
         ensures kept { schema_kept result ≡ schema_kept self }
         ensures listed { schema_listed result ≡ names_listed names }
     {
+        let ValidatorSchema {
+            entity_types,
+            ancestors,
+            action_ids,
+            names: _,
+        } = self;
         ValidatorSchema {
-            entity_types: self.entity_types,
-            ancestors: self.ancestors,
-            action_ids: self.action_ids,
+            entity_types,
+            ancestors,
+            action_ids,
             names,
         }
     }

@@ -18,11 +18,21 @@ use std::alloc::{AllocError, Global};
 use std::collections::BTreeSet;
 
 /// The names of all entity types and common types that are declared, and the uids of all actions.
-#[derive(Drop)]
 pub struct AllDefs {
     entity_defs: BTreeSet<InternalName>,
     common_defs: BTreeSet<InternalName>,
     action_defs: BTreeSet<EntityUID>,
+}
+
+// prover: see ARCHITECTURE
+impl Drop for AllDefs {
+    fn drop(self) {
+        let AllDefs {
+            entity_defs: _,
+            common_defs: _,
+            action_defs: _,
+        } = self;
+    }
 }
 
 impl AllDefs {

@@ -11,10 +11,20 @@ use std::collections::BTreeSet;
 use std::collections::btree_set::Iter;
 
 /// The types of principals and of resources that an action applies to, each once.
-#[derive(Debug, PartialEq, Eq, Drop)]
+#[derive(Debug, PartialEq, Eq)]
 pub struct AppliesTo {
     pub(crate) principals: BTreeSet<EntityType>,
     pub(crate) resources: BTreeSet<EntityType>,
+}
+
+// prover: see ARCHITECTURE
+impl Drop for AppliesTo {
+    fn drop(self) {
+        let AppliesTo {
+            principals: _,
+            resources: _,
+        } = self;
+    }
 }
 
 impl AppliesTo {

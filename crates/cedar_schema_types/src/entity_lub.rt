@@ -10,10 +10,17 @@ use std::collections::btree_set::Iter;
 use std::rc::Rc;
 
 /// Some entity types, at least one: the type of the entities of each of them. They are kept in the order of their names.
-#[derive(Debug, PartialEq, Eq, PartialOrd, Ord, Hash, Drop)]
+#[derive(Debug, PartialEq, Eq, PartialOrd, Ord, Hash)]
 pub struct EntityLUB {
     lub_elements: Rc<BTreeSet<EntityType>>,
     ghost inhabited: { is_nil lub_elements.value.keys ≡ false },
+}
+
+// prover: see ARCHITECTURE
+impl Drop for EntityLUB {
+    fn drop(self) {
+        let EntityLUB { lub_elements: _ } = self;
+    }
 }
 
 impl EntityLUB {

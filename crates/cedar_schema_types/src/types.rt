@@ -17,7 +17,7 @@ use std::collections::BTreeMap;
 use std::rc::{Rc, RcStr};
 
 /// A type.
-#[derive(Debug, PartialEq, Eq, PartialOrd, Ord, Hash, Drop)]
+#[derive(Debug, PartialEq, Eq, PartialOrd, Ord, Hash)]
 #[cycle(types)]
 pub enum Type {
     /// The type of no value.
@@ -47,6 +47,25 @@ pub enum Type {
         /// The name of their type.
         name: Name,
     },
+}
+
+// prover: see ARCHITECTURE
+impl Drop for Type {
+    fn drop(self) {
+        match self {
+            Type::Never => {}
+            Type::Bool(_) => {}
+            Type::Long => {}
+            Type::String => {}
+            Type::Entity(_) => {}
+            Type::Set { element_type: _ } => {}
+            Type::Record {
+                attrs: _,
+                open_attributes: _,
+            } => {}
+            Type::ExtensionType { name: _ } => {}
+        }
+    }
 }
 
 /// The attributes of a record or an entity, by their names.

@@ -14,12 +14,21 @@ use std::alloc::{AllocError, Global};
 use std::rc::RcStr;
 
 /// A store of entities by their uids: all that there are, or only some.
-#[derive(Drop)]
 pub struct Entities {
     entities: IndexMap<EntityUID, Entity>,
     mode: Mode,
     ghost named: { keys_in entities.entries ≡ uids_in entities.entries },
     ghost distinct: { are_apart entities.entries ≡ true },
+}
+
+// prover: see ARCHITECTURE
+impl Drop for Entities {
+    fn drop(self) {
+        let Entities {
+            entities: _,
+            mode: _,
+        } = self;
+    }
 }
 
 // Whether a store has all entities.
@@ -82,8 +91,9 @@ impl Entities {
         ensures seen { store_seen result ≡ record (store_seen self) { extent = partial } }
         ensures kept { store_made result ≡ store_made self }
     {
+        let Entities { entities, mode: _ } = self;
         Entities {
-            entities: self.entities,
+            entities,
             mode: Mode::Partial,
         }
     }

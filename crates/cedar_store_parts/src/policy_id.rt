@@ -11,8 +11,15 @@ use std::fmt::{Display, Formatter, Write};
 use std::rc::RcStr;
 
 /// The id of a policy: any text.
-#[derive(Debug, PartialEq, Eq, PartialOrd, Ord, Hash, Drop)]
+#[derive(Debug, PartialEq, Eq, PartialOrd, Ord, Hash)]
 pub struct PolicyID(RcStr);
+
+// prover: see ARCHITECTURE
+impl Drop for PolicyID {
+    fn drop(self) {
+        let PolicyID(_) = self;
+    }
+}
 
 impl PolicyID {
     /// The id of a copy of this text. Answers want of memory.

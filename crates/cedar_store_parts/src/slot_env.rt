@@ -12,10 +12,20 @@ use std::alloc::AllocError;
 use std::rc::Rc;
 
 /// What the slots of a policy are bound to: uids by slots.
-#[derive(Debug, PartialEq, Eq, Drop)]
+#[derive(Debug, PartialEq, Eq)]
 pub struct SlotEnv {
     principal: Option<Rc<EntityUID>>,
     resource: Option<Rc<EntityUID>>,
+}
+
+// prover: see ARCHITECTURE
+impl Drop for SlotEnv {
+    fn drop(self) {
+        let SlotEnv {
+            principal: _,
+            resource: _,
+        } = self;
+    }
 }
 
 impl SlotEnv {

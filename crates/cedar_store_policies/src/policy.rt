@@ -26,11 +26,21 @@ use std::rc::Rc;
 
 /// A policy: a template, what its slots are bound to, and the id under which it is linked. A policy that isn't linked has
 /// its template's id.
-#[derive(Drop)]
 pub struct Policy {
     template: Rc<Template>,
     link: Option<PolicyID>,
     values: SlotEnv,
+}
+
+// prover: see ARCHITECTURE
+impl Drop for Policy {
+    fn drop(self) {
+        let Policy {
+            template: _,
+            link: _,
+            values: _,
+        } = self;
+    }
 }
 
 impl Policy {

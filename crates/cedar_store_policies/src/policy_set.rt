@@ -16,13 +16,22 @@ use std::rc::Rc;
 
 /// A set of templates and policies, in the order in which they were put in. No id stands twice in it, be it a template's or a
 /// policy's.
-#[derive(Drop)]
 pub struct PolicySet {
     templates: IndexMap<PolicyID, Rc<Template>>,
     links: IndexMap<PolicyID, Policy>,
     ghost templates_named: { keys_in templates.entries ≡ ids_of (templates_in templates.entries) },
     ghost links_named: { keys_in links.entries ≡ ids_of (policies_in links.entries) },
     ghost distinct: { has_distinct_ids (set_made templates.entries links.entries) ≡ true },
+}
+
+// prover: see ARCHITECTURE
+impl Drop for PolicySet {
+    fn drop(self) {
+        let PolicySet {
+            templates: _,
+            links: _,
+        } = self;
+    }
 }
 
 impl PolicySet {

@@ -14,10 +14,16 @@ use cedar_store_parts::{
 use std::alloc::Global;
 
 /// A policy in which no slot stands.
-#[derive(Drop)]
 pub struct StaticPolicy {
     template: Template,
     ghost has_no_slots: { is_static (template_of template) ≡ true },
+}
+
+// prover: see ARCHITECTURE
+impl Drop for StaticPolicy {
+    fn drop(self) {
+        let StaticPolicy { template: _ } = self;
+    }
 }
 
 impl StaticPolicy {
@@ -79,6 +85,7 @@ impl StaticPolicy {
         ensures place { template_loc result ≡ static_loc self }
         ensures places { places_of result ≡ static_places self }
     {
-        self.template
+        let StaticPolicy { template } = self;
+        template
     }
 }

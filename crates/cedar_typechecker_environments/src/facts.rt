@@ -93,9 +93,15 @@ impl<'a> Clone for Capability<'a> {
 }
 
 /// A set of facts, kept in the order of facts.
-#[derive(Drop)]
 pub struct CapabilitySet<'a> {
     capabilities: SortedKeys<Capability<'a>>,
+}
+
+// prover: see ARCHITECTURE
+impl<'a> Drop for CapabilitySet<'a> {
+    fn drop(self) {
+        let CapabilitySet { capabilities: _ } = self;
+    }
 }
 
 impl<'a> CapabilitySet<'a> {
