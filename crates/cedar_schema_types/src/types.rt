@@ -51,6 +51,7 @@ pub enum Type {
 
 // prover: see ARCHITECTURE
 impl Drop for Type {
+    #[cycle(dropped)]
     fn drop(self) {
         match self {
             Type::Never => {}
