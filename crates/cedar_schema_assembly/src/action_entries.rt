@@ -106,10 +106,10 @@ fn actions_below(
 }
 
 // The context as a closed record, if it is one. Answers want of memory.
-fn as_record(ty: &Type) -> Result<Option<Type>, AllocError>
-    ensures { IfOk result (λ r. AsRecord (type_of ty.now) (option_map type_of r)) }
+fn as_record(ty: Type) -> Result<Option<Type>, AllocError>
+    ensures { IfOk result (λ r. AsRecord (type_of ty) (option_map type_of r)) }
 {
-    match ty {
+    match &ty {
         Type::Record {
             attrs,
             open_attributes: _,
@@ -135,7 +135,7 @@ fn context_type(
     ensures refused { IfErr result (TellsContext (setting_of resolver.now) (uid_of uid.now) (type_form name_of context.now)) }
 {
     match told_type(alloc, context, resolver) {
-        Ok(ty) => match as_record(&ty)? {
+        Ok(ty) => match as_record(ty)? {
             Some(context) => Ok(context),
             None => {
                 let uid = uid.clone()?;
