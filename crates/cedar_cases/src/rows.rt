@@ -29,7 +29,6 @@ fn stores(rt: HostRuntime) -> Result<(), Fail> {
     let alloc = rt.alloc();
     assert_eq!(rt; cedar_store_cases::wrong_entity_row(alloc)?.as_str(), "");
     assert_eq!(rt; cedar_store_cases::wrong_policy_row(alloc)?.as_str(), "");
-    assert_eq!(rt; cedar_store_cases::wrong_meaning_row(alloc)?.as_str(), "");
     Ok(())
 }
 

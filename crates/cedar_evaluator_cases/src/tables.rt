@@ -11,6 +11,7 @@ use crate::desk::Made;
 use crate::kinds::KINDS;
 use crate::rows::first_wrong;
 use crate::stores::STORES;
+use crate::world::WORLD;
 use cedar_expr_functions::{
     CallFault, CallStyle, Extension, ExtensionFunction, ExtensionOutputValue, Extensions, Func,
 };
@@ -180,6 +181,6 @@ pub fn wrong_row(alloc: Global) -> Made<String> {
     let ordered = vec![in alloc; name(alloc, "rank")?]?;
     let extensions = [Extension::new(name(alloc, "rank")?, functions, ordered)];
     let table = made(Extensions::specific_extensions(alloc, &extensions))?;
-    let texts = [RESTRICTED, CONTEXTS, REQUESTS, KINDS, STORES];
+    let texts = [RESTRICTED, CONTEXTS, REQUESTS, KINDS, STORES, WORLD];
     first_wrong(alloc, &table, &texts)
 }

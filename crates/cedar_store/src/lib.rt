@@ -1,7 +1,9 @@
 //! Cedar's policies and stores, whole: the items of the crates `cedar_store_*` under one name.
-//! Contract: that of the items; this crate has no code of its own.
+//! Contract: that of the items. Its own code is laws: how effects, parts of scopes and refusals are compared and hashed.
 //! Used by users of the library and by `cedar_bench`; crates of this repository name the crates below.
 #![tactic(auto)]
+
+pub mod laws;
 
 /// Annotations of policies.
 pub mod annotation {
@@ -21,13 +23,6 @@ pub mod entities {
 /// Entities.
 pub mod entity {
     pub use cedar_store_entities::Entity;
-}
-
-/// A plain evaluator of the meaning, what it stands on, and what it refuses.
-pub mod meaning {
-    pub use cedar_store_meaning::{
-        FunctionTable, MeaningFault, World, evaluate, is_satisfied, policy_outcome,
-    };
 }
 
 /// Policies, templates, and what they are made of.
@@ -62,7 +57,6 @@ pub use annotation::{Annotation, Annotations};
 pub use entities::err::EntitiesError;
 pub use entities::{Dereference, Entities};
 pub use entity::Entity;
-pub use meaning::{FunctionTable, MeaningFault, World, evaluate, is_satisfied, policy_outcome};
 pub use policy::{
     ActionConstraint, Effect, EntityReference, LinkingError, Policy, PolicyID, PrincipalConstraint,
     PrincipalOrResource, PrincipalOrResourceConstraint, ResourceConstraint, SlotEnv, StaticPolicy,

@@ -1,7 +1,7 @@
 //! What entities and stores of them are.
 
-use cedar_expr_functions::Extensions;
-use cedar_test_store::{Made, wrong_row};
+use crate::desk::Made;
+use crate::rows::wrong_row;
 use std::alloc::Global;
 
 const ENTITIES: &str =
@@ -62,5 +62,5 @@ request_type User Action::view Doc : User Action::"view" Doc
 
 /// The first row that says something else, with what it says; nothing where all hold. Fails for want of memory.
 pub fn wrong_entity_row(alloc: Global) -> Made<String> {
-    wrong_row(alloc, &Extensions::none(alloc), ENTITIES)
+    wrong_row(alloc, ENTITIES)
 }

@@ -1,8 +1,8 @@
 //! What policies are, and what sets take and refuse. Conditions are written with their operands before their operator, as
 //! `cedar_test_exprs` reads them.
 
-use cedar_expr_functions::Extensions;
-use cedar_test_store::{Made, wrong_row};
+use crate::desk::Made;
+use crate::rows::wrong_row;
 use std::alloc::Global;
 
 const ROWS: &str = r##"# a link is added at the end
@@ -58,8 +58,8 @@ set : b of b permit; a of a permit; l of t permit ?principal a; c of c permit;
 # lists in which an id stands twice don't: the first that is met again is told
 static b ; whole ; static a ; whole ; static c ; whole ; static a ; whole ; static b ; whole
 listed : duplicate template or policy id `a`
-# what refusals say where memory is wanting, and what the failure of a function says
-texts : out of memory out of memory out of memory out of memory out of memory extension function of `rank` failed
+# what refusals say where memory is wanting
+texts : out of memory out of memory out of memory out of memory
 # a linked policy asks its slot, and names what that is bound to
 scope principal in ?principal ; template t ; bind principal User::a ; linked l ; policy : l of t permit ?principal a;
 condition : principal ?principal in true &&
@@ -130,5 +130,5 @@ body true@4 ; when p ; condition : true
 
 /// The first row that says something else, with what it says; nothing where all hold. Fails for want of memory.
 pub fn wrong_policy_row(alloc: Global) -> Made<String> {
-    wrong_row(alloc, &Extensions::none(alloc), ROWS)
+    wrong_row(alloc, ROWS)
 }

@@ -1,6 +1,6 @@
 //! Templates, policies and sets of policies.
 //! Contract: `condition` is exactly the condition of the rules; a set lists distinct ids as inserted, and refuses one that is present.
-//! Used by the plain evaluator and by the gate.
+//! Used by the scope rules, the evaluator and the gate.
 #![tactic(auto)]
 
 mod bindings;
