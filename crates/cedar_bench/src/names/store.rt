@@ -17,12 +17,6 @@ mod entity {
     use cedar_store::entity::Entity;
 }
 
-mod meaning {
-    use cedar_store::meaning::{
-        FunctionTable, MeaningFault, World, evaluate, is_satisfied, policy_outcome,
-    };
-}
-
 mod policy {
     use cedar_store::policy::{
         ActionConstraint, Effect, EntityReference, LinkingError, Policy, PolicyID,
@@ -48,10 +42,9 @@ mod validation {
 mod all {
     use cedar_store::{
         ActionConstraint, Annotation, Annotations, Dereference, Effect, Entities, EntitiesError,
-        Entity, EntityReference, FunctionTable, LinkingError, MeaningFault, Policy, PolicyID,
-        PolicySet, PolicySetError, PrincipalConstraint, PrincipalOrResource,
-        PrincipalOrResourceConstraint, RequestType, ResourceConstraint, SlotEnv, StaticPolicy,
-        Template, UnexpectedSlotError, ValidationError, ValidationErrorKind, ValidationMode,
-        ValidationWarning, World, evaluate, is_satisfied, policy_outcome,
+        Entity, EntityReference, LinkingError, Policy, PolicyID, PolicySet, PolicySetError,
+        PrincipalConstraint, PrincipalOrResource, PrincipalOrResourceConstraint, RequestType,
+        ResourceConstraint, SlotEnv, StaticPolicy, Template, UnexpectedSlotError, ValidationError,
+        ValidationErrorKind, ValidationMode, ValidationWarning,
     };
 }
