@@ -1,4 +1,5 @@
-//! How effects, parts of scopes and refusals are compared and hashed. Each function's contract is the theorem; its body does nothing.
+//! How effects and parts of scopes are compared and hashed, and which refusals are equal. Each function's contract is the theorem; its
+//! body does nothing.
 
 ghost use Rattle.std.specs.Prelude.{◌≡◌, true, false};
 ghost use Rattle.std.specs.Bool.{Decides};

@@ -1,5 +1,5 @@
 //! Cedar's policies and stores, whole: the items of the crates `cedar_store_*` under one name.
-//! Contract: that of the items. Its own code is laws: how effects, parts of scopes and refusals are compared and hashed.
+//! Contract: that of the items. Its own code is laws: how effects and parts of scopes are compared and hashed, and which refusals are equal.
 //! Used by users of the library and by `cedar_bench`; crates of this repository name the crates below.
 #![tactic(auto)]
 
