@@ -9,6 +9,7 @@ pub mod authorizing;
 pub mod err;
 mod gathering;
 pub mod partial_response;
+mod slots;
 mod verdicts;
 
 pub use authorizer::err::{AuthorizationError, ConcretizationError, ReauthorizationError};

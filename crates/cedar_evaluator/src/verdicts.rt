@@ -13,10 +13,10 @@ ghost use Rattle.cedar_evaluator_operators.specs.Calls.{Functions};
 ghost use Rattle.cedar_evaluator_core.specs.Evaluators.{limit_of, scope_in, Serves, IsVerdict};
 ghost use Rattle.cedar_evaluator.specs.Verdicts.{with_residual, IsLeft};
 
+use crate::slots::bind_slots;
 use cedar_evaluator_core::Evaluator;
 use cedar_evaluator_errors::EvaluationError;
 use cedar_evaluator_operators::FunctionTable;
-use cedar_evaluator_requests::bind_slots;
 use cedar_expr_trees::Expr;
 use cedar_store_parts::SlotEnv;
 use cedar_store_policies::Policy;

@@ -5,4 +5,3 @@ pub mod Kinds
 pub mod Schemas
 pub mod Views
 pub mod Groups
-pub mod Binding

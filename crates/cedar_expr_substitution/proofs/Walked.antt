@@ -31,6 +31,11 @@ value_written env n a m (Err x) h k = tt
 pub unknown_stays : (env : Bindings) (n : Text) (a : Option CoreType) (t : Tree) → env n ≡ None → t ≡ unknown n a → t ≡ substituted env (unknown n a)
 unknown_stays env n a t h e = e ∙ ap (bound_or tree_builder n a) (sym h)
 
+-- what is made is the other of two trees that are the same
+pub onto : {E : Type 0} (r : Result (Expr Unit) E) (t u : Tree) → t ≡ u → IfOk r (λ e. tree_of e ≡ t) → IfOk r (λ e. tree_of e ≡ u)
+onto (Ok e) t u same h = h ∙ same
+onto (Err x) t u same h = tt
+
 -- a walk along fields: those made so far, and then those that are left, are those of all
 module _ (b : Builder Tree) (all rest : List (RcStr Global × Expr Unit)) where
   abbrev pub of_fields : List (RcStr Global × Expr Unit) → List (Text × Tree)

@@ -2,3 +2,4 @@ pub mod Bound
 pub mod SubstitutionLaws
 pub mod Outcome
 pub mod Steps
+pub mod Replacing

@@ -11,13 +11,16 @@ mod gathering;
 pub mod laws;
 mod making;
 pub mod rebuilding;
+pub mod replace;
 pub mod substitute;
 pub mod unknowns;
-mod walk;
+pub mod walk;
 
 pub use bound::Bound;
 pub use build::build_with;
 pub use err::SubstitutionError;
 pub use rebuilding::Rebuild;
+pub use replace::Replace;
 pub use substitute::Substitute;
 pub use unknowns::{BuildUnknown, KeepUnknowns};
+pub use walk::replaced;

@@ -12,7 +12,7 @@ ghost use Rattle.cedar_expr_substitution.specs.Bound.{bindings_of, IsMismatch};
 use crate::bound::Bound;
 use crate::build_with;
 use crate::err::SubstitutionError;
-use crate::walk::put_in;
+use crate::walk::replaced;
 use cedar_expr_builders::BuildFault;
 use cedar_expr_builders::expr_builder::ExprBuilder;
 use cedar_expr_partial::ExtensionCall;
@@ -67,7 +67,7 @@ impl Substitute for Expr {
         alloc: Global,
         bindings: &HashMap<RcStr, Value<X>>,
     ) -> Result<Expr, AllocError> {
-        put_in(alloc, self, bindings)
+        replaced(alloc, self, &Bound::new(bindings))
     }
 
     fn substitute_typed<X: ExtensionCall>(

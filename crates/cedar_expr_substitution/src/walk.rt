@@ -1,104 +1,84 @@
-//! The walk that puts values in the place of unknowns.
+//! The walk that puts expressions in the place of unknowns and of slots.
 
 ghost use Rattle.std.specs.Prelude.{◌≡◌, true, map, IfOk};
 ghost use Rattle.std.specs.Rc.{rc_str_bytes};
 ghost use Rattle.cedar_expr_names.specs.Views.{plain_name_of};
-ghost use Rattle.cedar_expr_model.specs.Tree.{unknown, call, set_literal, record_literal};
-ghost use Rattle.cedar_expr_model.specs.Builder.{built_list, built_fields, path_test, trees, tree_fields};
-ghost use Rattle.cedar_expr_model.specs.Substitution.{substituted};
+ghost use Rattle.cedar_expr_model.specs.Tree.{call, set_literal, record_literal};
+ghost use Rattle.cedar_expr_model.specs.Builder.{built, built_list, built_fields, path_test, trees, tree_fields};
 ghost use Rattle.cedar_expr_model.specs.Records.{names_rise};
-ghost use Rattle.cedar_expr_trees.specs.Unknowns.{unknown_of};
 ghost use Rattle.cedar_expr_trees.specs.Trees.{tree_of, named, field_trees};
-ghost use Rattle.cedar_expr_substitution.specs.Bound.{bindings_of, substituting};
+ghost use Rattle.cedar_expr_substitution.specs.Replacing.{replacing};
 
-use cedar_expr_partial::{ExtensionCall, FromValue};
-use cedar_expr_trees::{Expr, ExprKind, Name, NonEmpty, Unknown};
-use cedar_expr_values::Value;
+use crate::replace::Replace;
+use cedar_expr_trees::{Expr, ExprKind, Name, NonEmpty};
 use cedar_expr_values::fields::field_map;
 use std::alloc::{AllocError, Global};
-use std::collections::{BTreeMap, HashMap};
+use std::collections::BTreeMap;
 use std::rc::{Rc, RcStr};
 
-// The expression with the values of these bindings in the place of the unknowns that they bind.
+/// The expression with what is given in the place of unknowns and of slots.
 #[cycle(walk)]
-pub fn put_in<X: ExtensionCall>(
-    alloc: Global,
-    e: &Expr,
-    bindings: &HashMap<RcStr, Value<X>>,
-) -> Result<Expr, AllocError>
-    ensures { IfOk result (λ r. tree_of r ≡ substituted (bindings_of X.seen bindings.now) (tree_of e.now)) }
+pub fn replaced<R: Replace>(alloc: Global, e: &Expr, by: &R) -> Result<Expr, AllocError>
+    ensures { IfOk result (λ r. tree_of r ≡ built (replacing (R.placed by.now) (R.slotted by.now)) (tree_of e.now)) }
 {
     match e.expr_kind() {
-        ExprKind::Lit(_) | ExprKind::Var(_) | ExprKind::Slot(_) => e.clone(),
-        ExprKind::Unknown(u) => value_of(alloc, u, bindings),
+        ExprKind::Lit(_) | ExprKind::Var(_) => e.clone(),
+        ExprKind::Slot(s) => by.slot(*s),
+        ExprKind::Unknown(u) => by.unknown(alloc, u),
         ExprKind::If {
             test_expr,
             then_expr,
             else_expr,
         } => {
-            let test_expr = put_in(alloc, test_expr, bindings)?;
-            let then_expr = put_in(alloc, then_expr, bindings)?;
-            let else_expr = put_in(alloc, else_expr, bindings)?;
+            let test_expr = replaced(alloc, test_expr, by)?;
+            let then_expr = replaced(alloc, then_expr, by)?;
+            let else_expr = replaced(alloc, else_expr, by)?;
             Expr::ite(alloc, test_expr, then_expr, else_expr)
         }
         ExprKind::And { left, right } => {
-            let left = put_in(alloc, left, bindings)?;
-            let right = put_in(alloc, right, bindings)?;
+            let left = replaced(alloc, left, by)?;
+            let right = replaced(alloc, right, by)?;
             Expr::and(alloc, left, right)
         }
         ExprKind::Or { left, right } => {
-            let left = put_in(alloc, left, bindings)?;
-            let right = put_in(alloc, right, bindings)?;
+            let left = replaced(alloc, left, by)?;
+            let right = replaced(alloc, right, by)?;
             Expr::or(alloc, left, right)
         }
         ExprKind::UnaryApp { op, arg } => {
-            let arg = put_in(alloc, arg, bindings)?;
+            let arg = replaced(alloc, arg, by)?;
             Expr::unary_app(alloc, *op, arg)
         }
         ExprKind::BinaryApp { op, arg1, arg2 } => {
-            let arg1 = put_in(alloc, arg1, bindings)?;
-            let arg2 = put_in(alloc, arg2, bindings)?;
+            let arg1 = replaced(alloc, arg1, by)?;
+            let arg2 = replaced(alloc, arg2, by)?;
             Expr::binary_app(alloc, *op, arg1, arg2)
         }
         ExprKind::ExtensionFunctionApp { fn_name, args } => {
-            put_in_call(alloc, args.as_slice(), fn_name, bindings)
+            call_replaced(alloc, args.as_slice(), fn_name, by)
         }
         ExprKind::GetAttr { expr, attr } => {
-            let expr = put_in(alloc, expr, bindings)?;
+            let expr = replaced(alloc, expr, by)?;
             Expr::get_attr(alloc, expr, attr.clone()?)
         }
         ExprKind::HasAttr { expr, attr } => {
-            let expr = put_in(alloc, expr, bindings)?;
+            let expr = replaced(alloc, expr, by)?;
             Expr::has_attr(alloc, expr, attr.clone()?)
         }
         ExprKind::ExtHasAttr { expr, attrs } => {
-            let expr = put_in(alloc, expr, bindings)?;
+            let expr = replaced(alloc, expr, by)?;
             path_expr(alloc, expr, attrs)
         }
         ExprKind::Like { expr, pattern } => {
-            let expr = put_in(alloc, expr, bindings)?;
+            let expr = replaced(alloc, expr, by)?;
             Expr::like(alloc, expr, pattern.clone()?)
         }
         ExprKind::Is { expr, entity_type } => {
-            let expr = put_in(alloc, expr, bindings)?;
+            let expr = replaced(alloc, expr, by)?;
             Expr::is_entity_type(alloc, expr, entity_type.clone()?)
         }
-        ExprKind::Set(members) => put_in_set(alloc, members.as_slice(), bindings),
-        ExprKind::Record(fields) => put_in_record(alloc, fields, bindings),
-    }
-}
-
-// The expression of the value that the unknown is bound to, or the unknown.
-fn value_of<X: ExtensionCall>(
-    alloc: Global,
-    u: &Unknown,
-    bindings: &HashMap<RcStr, Value<X>>,
-) -> Result<Expr, AllocError>
-    ensures { IfOk result (λ r. tree_of r ≡ substituted (bindings_of X.seen bindings.now) (unknown (unknown_of u.now).name (unknown_of u.now).annotation)) }
-{
-    match bindings.get(u.name.as_str()) {
-        Some(value) => Expr::from_value(alloc, value),
-        None => Ok(Expr::unknown(u.clone()?)),
+        ExprKind::Set(members) => set_replaced(alloc, members.as_slice(), by),
+        ExprKind::Record(fields) => record_replaced(alloc, fields, by),
     }
 }
 
@@ -114,75 +94,67 @@ fn path_expr(alloc: Global, expr: Expr, attrs: &Rc<NonEmpty<RcStr>>) -> Result<E
     Ok(Expr::new(ExprKind::ExtHasAttr { expr, attrs }, None, ()))
 }
 
-// The call of this function on these arguments, with the values of these bindings in the place of the unknowns that they bind.
+// The call of this function on these arguments, with what is given in the place of unknowns and of slots.
 #[cycle(walk)]
-fn put_in_call<X: ExtensionCall>(
+fn call_replaced<R: Replace>(
     alloc: Global,
     args: &[Expr],
     fn_name: &Name,
-    bindings: &HashMap<RcStr, Value<X>>,
+    by: &R,
 ) -> Result<Expr, AllocError>
-    ensures { IfOk result (λ r. tree_of r ≡ substituted (bindings_of X.seen bindings.now) (call (plain_name_of fn_name.now) (trees (map tree_of args.now)))) }
+    ensures { IfOk result (λ r. tree_of r ≡ built (replacing (R.placed by.now) (R.slotted by.now)) (call (plain_name_of fn_name.now) (trees (map tree_of args.now)))) }
 {
-    let args = put_in_all(alloc, args, bindings)?;
+    let args = all_replaced(alloc, args, by)?;
     Expr::call_extension_fn(alloc, fn_name.clone()?, args)
 }
 
-// The set of these members, with the values of these bindings in the place of the unknowns that they bind.
+// The set of these members, with what is given in the place of unknowns and of slots.
 #[cycle(walk)]
-fn put_in_set<X: ExtensionCall>(
-    alloc: Global,
-    members: &[Expr],
-    bindings: &HashMap<RcStr, Value<X>>,
-) -> Result<Expr, AllocError>
-    ensures { IfOk result (λ r. tree_of r ≡ substituted (bindings_of X.seen bindings.now) (set_literal (trees (map tree_of members.now)))) }
+fn set_replaced<R: Replace>(alloc: Global, members: &[Expr], by: &R) -> Result<Expr, AllocError>
+    ensures { IfOk result (λ r. tree_of r ≡ built (replacing (R.placed by.now) (R.slotted by.now)) (set_literal (trees (map tree_of members.now)))) }
 {
-    let members = put_in_all(alloc, members, bindings)?;
+    let members = all_replaced(alloc, members, by)?;
     Expr::set(alloc, members)
 }
 
-// The record of these fields, with the values of these bindings in the place of the unknowns that they bind.
+// The record of these fields, with what is given in the place of unknowns and of slots.
 #[cycle(walk)]
-fn put_in_record<X: ExtensionCall>(
+fn record_replaced<R: Replace>(
     alloc: Global,
     fields: &BTreeMap<RcStr, Expr>,
-    bindings: &HashMap<RcStr, Value<X>>,
+    by: &R,
 ) -> Result<Expr, AllocError>
-    ensures { IfOk result (λ r. tree_of r ≡ substituted (bindings_of X.seen bindings.now) (record_literal (tree_fields (named (field_trees fields.now.entries))))) }
+    ensures { IfOk result (λ r. tree_of r ≡ built (replacing (R.placed by.now) (R.slotted by.now)) (record_literal (tree_fields (named (field_trees fields.now.entries))))) }
 {
-    let fields = put_in_fields(alloc, fields, bindings)?;
+    let fields = fields_replaced(alloc, fields, by)?;
     record_expr(alloc, fields)
 }
 
-// Each of these expressions, with the values of these bindings in the place of the unknowns that they bind.
+// Each of these expressions, with what is given in the place of unknowns and of slots.
 #[cycle(walk)]
-fn put_in_all<X: ExtensionCall>(
-    alloc: Global,
-    exprs: &[Expr],
-    bindings: &HashMap<RcStr, Value<X>>,
-) -> Result<Vec<Expr>, AllocError>
-    ensures { IfOk result (λ rs. map tree_of rs.items ≡ built_list (substituting (bindings_of X.seen bindings.now)) (trees (map tree_of exprs.now))) }
+fn all_replaced<R: Replace>(alloc: Global, exprs: &[Expr], by: &R) -> Result<Vec<Expr>, AllocError>
+    ensures { IfOk result (λ rs. map tree_of rs.items ≡ built_list (replacing (R.placed by.now) (R.slotted by.now)) (trees (map tree_of exprs.now))) }
 {
     let mut made = Vec::with_capacity(alloc, exprs.len())?;
     for e in exprs {
-        made.push(put_in(alloc, e, bindings)?)?;
+        made.push(replaced(alloc, e, by)?)?;
     }
     Ok(made)
 }
 
-// The expression of each of these fields, by their names, with the values of these bindings in the place of the unknowns that they bind.
+// The expression of each of these fields, by their names, with what is given in the place of unknowns and of slots.
 #[cycle(walk)]
-fn put_in_fields<X: ExtensionCall>(
+fn fields_replaced<R: Replace>(
     alloc: Global,
     fields: &BTreeMap<RcStr, Expr>,
-    bindings: &HashMap<RcStr, Value<X>>,
+    by: &R,
 ) -> Result<Vec<(RcStr, Expr)>, AllocError>
-    ensures made { IfOk result (λ rs. named (field_trees rs.items) ≡ built_fields (substituting (bindings_of X.seen bindings.now)) (tree_fields (named (field_trees fields.now.entries)))) }
+    ensures made { IfOk result (λ rs. named (field_trees rs.items) ≡ built_fields (replacing (R.placed by.now) (R.slotted by.now)) (tree_fields (named (field_trees fields.now.entries)))) }
     ensures rising { IfOk result (λ rs. names_rise (named rs.items) ≡ true) }
 {
     let mut made = Vec::with_capacity(alloc, fields.len())?;
     for (name, e) in fields {
-        made.push((name.clone()?, put_in(alloc, e, bindings)?))?;
+        made.push((name.clone()?, replaced(alloc, e, by)?))?;
     }
     Ok(made)
 }

@@ -69,49 +69,26 @@ pub fn kind<N: WrittenName>(
     }
 }
 
-// The common types that the lines declare.
-fn common_types(
-    alloc: Global,
-    lines: &str,
-) -> Result<BTreeMap<Id, CommonType<RawName>>, AllocError> {
-    let mut commons = BTreeMap::new(alloc);
-    for line in lines.lines() {
-        if let Some(line) = line.strip_prefix("type ") {
-            let (word, text) = parts(line);
-            let (word, loc, of_type) = placed(word);
-            let mut ty = ty(alloc, text)?;
-            ty.loc = of_type;
-            commons.insert(id(alloc, word)?, CommonType { ty, loc })?;
-        }
-    }
-    Ok(commons)
+// The common type of this line, behind `type`.
+fn common_type(alloc: Global, line: &str) -> Result<(Id, CommonType<RawName>), AllocError> {
+    let (word, text) = parts(line);
+    let (word, loc, of_type) = placed(word);
+    let mut ty = ty(alloc, text)?;
+    ty.loc = of_type;
+    Ok((id(alloc, word)?, CommonType { ty, loc }))
 }
 
-// The entity type that the line declares, if it does.
-fn entity_type(alloc: Global, line: &str) -> Result<Option<(Id, EntityType<RawName>)>, AllocError> {
-    let (word, line) = line.split_once(' ').unwrap_or(("", line));
-    if word != "entity" && word != "enum" && word != "extern" {
-        return Ok(None);
-    }
+// The entity type of this kind and line.
+fn entity_type(
+    alloc: Global,
+    word: &str,
+    line: &str,
+) -> Result<(Id, EntityType<RawName>), AllocError> {
     let (name, line) = parts(line);
     let (name, loc, _) = placed(name);
     let name = id(alloc, name)?;
     let kind = kind(alloc, word, line)?;
-    Ok(Some((name, EntityType { kind, loc })))
-}
-
-// The entity types that the lines declare.
-fn entity_types(
-    alloc: Global,
-    lines: &str,
-) -> Result<BTreeMap<Id, EntityType<RawName>>, AllocError> {
-    let mut entities = BTreeMap::new(alloc);
-    for line in lines.lines() {
-        if let Some((name, entity)) = entity_type(alloc, line)? {
-            entities.insert(name, entity)?;
-        }
-    }
-    Ok(entities)
+    Ok((name, EntityType { kind, loc }))
 }
 
 // The actions that are named as parents, each by its type and its id.
@@ -160,37 +137,53 @@ fn action_kind(
     }
 }
 
-// The action that the line declares, if it does.
-fn action(alloc: Global, line: &str) -> Result<Option<(RcStr, ActionType<RawName>)>, AllocError> {
-    let (word, line) = line.split_once(' ').unwrap_or(("", line));
-    if word != "action" && word != "outside" {
-        return Ok(None);
-    }
+// The action of this kind and line.
+fn action(
+    alloc: Global,
+    word: &str,
+    line: &str,
+) -> Result<(RcStr, ActionType<RawName>), AllocError> {
     let (id, line) = parts(line);
     let (above, line) = parts(line);
     let (id, loc, _) = placed(id);
     let id = RcStr::from_str(alloc, id)?;
     let member_of = parents(alloc, above)?;
     let kind = action_kind(alloc, word, line)?;
-    Ok(Some((
+    Ok((
         id,
         ActionType {
             member_of,
             kind,
             loc,
         },
-    )))
+    ))
 }
 
-// The actions that the lines declare.
-fn actions(alloc: Global, lines: &str) -> Result<BTreeMap<RcStr, ActionType<RawName>>, AllocError> {
-    let mut actions = BTreeMap::new(alloc);
-    for line in lines.lines() {
-        if let Some((id, action)) = action(alloc, line)? {
-            actions.insert(id, action)?;
+// Puts what the line declares into the namespace.
+fn declare(
+    alloc: Global,
+    line: &str,
+    space: &mut NamespaceDefinition<RawName>,
+) -> Result<(), AllocError> {
+    let (word, line) = line.split_once(' ').unwrap_or(("", line));
+    match word {
+        "type" => put(&mut space.common_types, common_type(alloc, line)),
+        "entity" | "enum" | "extern" => {
+            put(&mut space.entity_types, entity_type(alloc, word, line))
         }
+        "action" | "outside" => put(&mut space.actions, action(alloc, word, line)),
+        _ => Ok(()),
     }
-    Ok(actions)
+}
+
+// Puts what was made into the map. Fails where it wasn't made.
+fn put<K: Ord + Drop, V: Drop>(
+    map: &mut BTreeMap<K, V>,
+    made: Result<(K, V), AllocError>,
+) -> Result<(), AllocError> {
+    let (key, value) = made?;
+    map.insert(key, value)?;
+    Ok(())
 }
 
 /// What the lines declare in a namespace, one declaration a line: common types, as `type Name | Set of Long`; entity types with their
@@ -201,15 +194,16 @@ fn actions(alloc: Global, lines: &str) -> Result<BTreeMap<RcStr, ActionType<RawN
 /// that is declared may have its place behind it, and that of a common type its type's too. Fails where a line isn't such a
 /// declaration, and for want of memory.
 pub fn definition(alloc: Global, lines: &str) -> Result<NamespaceDefinition<RawName>, AllocError> {
-    let common_types = common_types(alloc, lines)?;
-    let entity_types = entity_types(alloc, lines)?;
-    let actions = actions(alloc, lines)?;
-    Ok(NamespaceDefinition {
-        common_types,
-        entity_types,
-        actions,
+    let mut space = NamespaceDefinition {
+        common_types: BTreeMap::new(alloc),
+        entity_types: BTreeMap::new(alloc),
+        actions: BTreeMap::new(alloc),
         loc: None,
-    })
+    };
+    for line in lines.lines() {
+        declare(alloc, line, &mut space)?;
+    }
+    Ok(space)
 }
 
 // The namespace of this text, at this place.
@@ -225,6 +219,18 @@ fn namespace(
     }
 }
 
+// The namespace of this text, and what its lines declare in it.
+fn spaced(
+    alloc: Global,
+    part: &str,
+) -> Result<(Option<InternalName>, NamespaceDefinition<RawName>), AllocError> {
+    let (space, lines) = part.split_once('\n').unwrap_or((part, ""));
+    let (space, loc, of_definition) = placed(space);
+    let mut definition = definition(alloc, lines)?;
+    definition.loc = of_definition;
+    Ok((namespace(alloc, space, loc)?, definition))
+}
+
 /// The fragment that the lines declare: those of the empty namespace, and behind each line `namespace N` those of the namespace `N`. The
 /// name of a namespace may have its place behind it, and that of its definition. Fails where a declaration isn't whole, where the name
 /// of a namespace with a place has more than one part, and for want of memory.
@@ -236,11 +242,7 @@ pub fn fragment(alloc: Global, text: &str) -> Result<Fragment<RawName>, AllocErr
         namespaces.insert(None, definition(alloc, first)?)?;
     }
     for part in parts {
-        let (space, lines) = part.split_once('\n').unwrap_or((part, ""));
-        let (space, loc, of_definition) = placed(space);
-        let mut definition = definition(alloc, lines)?;
-        definition.loc = of_definition;
-        namespaces.insert(namespace(alloc, space, loc)?, definition)?;
+        put(&mut namespaces, spaced(alloc, part))?;
     }
     Ok(Fragment(namespaces))
 }

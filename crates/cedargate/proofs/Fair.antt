@@ -23,9 +23,9 @@ use Rattle.cedar_evaluator_operators.specs.Answers as operators
 use Rattle.cedar_evaluator_restricted_exprs.specs.Answers as restricted
 use Rattle.cedar_evaluator_restricted_exprs.proofs.Alike.{same_answer}
 use Rattle.cedar_evaluator_model.specs.Rising.{MadeRises, CallsRise}
-use Rattle.cedar_gate_ranks.specs.Ranks.{rank_name, rank_made, label_made, ranked, labelled, number_read, number_kept, rank_calls, rank_answers}
-use Rattle.cedar_gate_ranks.specs.Tables.{HoldsRanks}
-use Rattle.cedar_gate_ranks.proofs.Fair.{ranks_make_fairly}
+use Rattle.cedargate.specs.Ranks.{rank_name, rank_made, label_made, ranked, labelled, number_read, number_kept, rank_calls, rank_answers}
+use Rattle.cedargate.specs.Tables.{HoldsRanks}
+use Rattle.cedargate.proofs.Ranked.{ranks_make_fairly}
 use Rattle.cedar_gate_service.specs.Runs.{AnswersFairly}
 use Rattle.cedar_gate_service.specs.Serving.{ServeGives}
 use Rattle.cedar_gate_service.specs.declared.faults.ServeFault.{ServeFault}

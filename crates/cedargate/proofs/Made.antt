@@ -34,10 +34,10 @@ use Rattle.cedar_expr_functions.specs.declared.err.CallFault.TheVariants.{OutOfM
 use Rattle.cedar_evaluator_model.specs.Scope.{MadeCalled, makes, faults, leaves_unknown}
 use Rattle.cedar_evaluator_restricted_exprs.specs.Alike.{answers_alike}
 use Rattle.cedar_evaluator_restricted_exprs.specs.Answers.{is_answer, IsMadeBy, AnswersMade}
-use Rattle.cedar_gate_ranks.specs.Ranks.{rank_name, label_name, ranked, labelled, rank_calls, rank_answers}
-use Rattle.cedar_gate_ranks.specs.Outcomes.{ComesTo, made_values}
-use Rattle.cedar_gate_ranks.specs.Tables.{rank_signature, label_signature, HoldsRanks}
-use Rattle.cedar_gate_ranks.proofs.Fair.{ranks_make_fairly}
+use Rattle.cedargate.specs.Ranks.{rank_name, label_name, ranked, labelled, rank_calls, rank_answers}
+use Rattle.cedargate.specs.Outcomes.{ComesTo, made_values}
+use Rattle.cedargate.specs.Tables.{rank_signature, label_signature, HoldsRanks}
+use Rattle.cedargate.proofs.Ranked.{ranks_make_fairly}
 use Rattle.cedargate.specs.Stored.{AreRankFunctions}
 
 -- an answer is alike to itself

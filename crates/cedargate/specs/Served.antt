@@ -5,8 +5,8 @@ use Rattle.cedar_expr_functions.specs.Tables.{table_of}
 use Rattle.cedar_expr_functions.specs.declared.extensions.Extensions.{Extensions}
 use Rattle.cedar_gate_model.specs.Bundle.{Functions, Bundle}
 use Rattle.cedar_gate_model.specs.ReadingBundle.{input_read}
-use Rattle.cedar_gate_ranks.specs.Ranks.{rank_answers}
-use Rattle.cedar_gate_ranks.specs.Tables.{rank_functions}
+use Rattle.cedargate.specs.Ranks.{rank_answers}
+use Rattle.cedargate.specs.Tables.{rank_functions}
 use Rattle.cedargate.specs.declared.table.RankCalls.{RankCalls}
 
 -- those of a table, with the calls that make their values

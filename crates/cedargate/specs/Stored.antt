@@ -4,8 +4,8 @@ use Rattle.std.specs.Prelude.{◌≡◌, List, [], ◌∷◌, map, Contains}
 use Rattle.cedar_expr_functions.specs.Functions.{function_name, function_signature}
 use Rattle.cedar_expr_functions.specs.declared.extension.ExtensionFunction.{ExtensionFunction}
 use Rattle.cedar_evaluator_restricted_exprs.specs.Answers.{IsMadeBy}
-use Rattle.cedar_gate_ranks.specs.Ranks.{rank_calls}
-use Rattle.cedar_gate_ranks.specs.Tables.{rank_signature, label_signature}
+use Rattle.cedargate.specs.Ranks.{rank_calls}
+use Rattle.cedargate.specs.Tables.{rank_signature, label_signature}
 
 -- the two, which answer as they are to
 pub record AreRankFunctions {B : _} {F : _} {g : _} (fs : List (ExtensionFunction B F g)) : Type 0 where

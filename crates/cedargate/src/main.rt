@@ -4,13 +4,15 @@
 //! the session was stopped, and 4 where memory, reading or writing failed. Arguments are ignored, and nothing goes to standard error.
 #![tactic(auto)]
 
+mod functions;
+mod numbers;
 mod serving;
 mod table;
 
+use crate::functions::{V, label, rank};
 use crate::serving::serve_ranks;
-use crate::table::{V, label_function, rank_function, ranks, table_of};
+use crate::table::{label_function, rank_function, ranks, table_of};
 use cedar_expr_functions::Func;
-use cedar_gate_ranks::{label, rank};
 use std::alloc::{AllocError, Global};
 use std::process::ExitCode;
 

@@ -5,8 +5,8 @@ ghost use Rattle.cedar_evaluator_restricted_exprs.specs.Answers.{AnswersMade};
 ghost use Rattle.cedar_expr_functions.specs.Tables.{table_of};
 ghost use Rattle.cedar_gate_model.specs.Headline.{Promises};
 ghost use Rattle.cedar_gate_model.specs.Lines.{Prints};
-ghost use Rattle.cedar_gate_ranks.specs.Ranks.{rank_calls, rank_answers};
-ghost use Rattle.cedar_gate_ranks.specs.Tables.{HoldsRanks};
+ghost use Rattle.cedargate.specs.Ranks.{rank_calls, rank_answers};
+ghost use Rattle.cedargate.specs.Tables.{HoldsRanks};
 ghost use Rattle.cedar_gate_service.specs.Serving.{ServeGives, LeavesAlone};
 ghost use Rattle.cedargate.specs.Served.{served_by, read_by};
 

@@ -8,20 +8,17 @@ ghost use Rattle.cedar_expr_functions.specs.Extended.{functions_in, ordered_in};
 ghost use Rattle.cedar_expr_functions.specs.Functions.{function_signature};
 ghost use Rattle.cedar_expr_functions.specs.Tables as tables;
 ghost use Rattle.cedar_evaluator_restricted_exprs.specs.Answers.{IsMadeBy, AnswersMade};
-ghost use Rattle.cedar_gate_ranks.specs.Ranks.{rank_name, label_name, ranked, labelled, rank_calls, rank_answers};
-ghost use Rattle.cedar_gate_ranks.specs.Outcomes.{ComesTo, made_values};
-ghost use Rattle.cedar_gate_ranks.specs.Tables.{rank_signature, label_signature, HoldsRanks, rank_functions};
+ghost use Rattle.cedargate.specs.Ranks.{rank_name, label_name, ranked, labelled, rank_calls, rank_answers};
+ghost use Rattle.cedargate.specs.Outcomes.{ComesTo, made_values};
+ghost use Rattle.cedargate.specs.Tables.{rank_signature, label_signature, HoldsRanks, rank_functions};
 ghost use Rattle.cedargate.specs.Stored.{AreRankFunctions};
 
+use crate::functions::{V, name};
 use cedar_evaluator_restricted_exprs::{FunctionCalls, Left, RestrictedFault, call_in};
 use cedar_expr_functions::{CallStyle, Extension, ExtensionFunction, Extensions, Func};
 use cedar_expr_names::Name;
-use cedar_expr_values::{ExtValue, Type, Value};
-use cedar_gate_ranks::name;
+use cedar_expr_values::Type;
 use std::alloc::{AllocError, Global};
-
-/// A value.
-pub type V = Value<ExtValue>;
 
 /// The function `rank`, which makes ranks of texts. What is stored comes to what `rank` answers. Answers want of memory.
 pub fn rank_function(alloc: Global, func: Func) -> Result<ExtensionFunction, AllocError>

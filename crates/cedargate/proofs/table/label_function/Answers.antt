@@ -1,5 +1,5 @@
 use Rattle.std.proofs.Common.{refl}
-use Rattle.cedar_gate_ranks.proofs.Answered.{label_stored}
+use Rattle.cedargate.proofs.Answered.{label_stored}
 use Rattle.cedargate.proofs.Made.{label_if_made}
 use Rattle.cedargate.proofs.table.label_function.Goals as goal
 

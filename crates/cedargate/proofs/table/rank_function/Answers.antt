@@ -1,5 +1,5 @@
 use Rattle.std.proofs.Common.{Some, ap}
-use Rattle.cedar_gate_ranks.proofs.Answered.{rank_stored}
+use Rattle.cedargate.proofs.Answered.{rank_stored}
 use Rattle.cedargate.proofs.Made.{rank_if_made}
 use Rattle.cedargate.proofs.table.rank_function.Goals as goal
 

@@ -2,7 +2,7 @@ use Rattle.std.proofs.Common.{subst, ap, ◌∙◌}
 use Rattle.std.specs.Prelude.{IsPermutation}
 use Rattle.cedar_expr_functions.specs.Named.{all_functions, all_signatures, all_ordered}
 use Rattle.cedar_expr_functions.specs.Tables.{table_of, functions_of, stored_in}
-use Rattle.cedar_gate_ranks.specs.Ranks.{rank_answers}
+use Rattle.cedargate.specs.Ranks.{rank_answers}
 use Rattle.cedargate.proofs.Made.{table_made, table_holds, table_typed}
 use Rattle.cedargate.proofs.table.table_of.Goals as goal
 

@@ -1,5 +1,5 @@
 use Rattle.std.proofs.Common.{refl}
-use Rattle.cedar_gate_ranks.specs.Ranks.{rank_answers}
+use Rattle.cedargate.specs.Ranks.{rank_answers}
 use Rattle.cedargate.specs.Served.{functions_served}
 use Rattle.cedargate.proofs.table.RankCallsFunctionCalls.call.Goals as goal
 

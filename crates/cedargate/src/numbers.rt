@@ -3,8 +3,8 @@
 ghost use Rattle.std.specs.Prelude.{◌≡◌};
 ghost use Rattle.std.specs.Char.{is_ascii_digit};
 ghost use Rattle.std.specs.List.{list_all};
-ghost use Rattle.cedar_gate_ranks.specs.Ranks.{writes_rank, rank_read, number_read, number_kept, kept_in};
-ghost use Rattle.cedar_gate_ranks.specs.Outcomes.{made_values};
+ghost use Rattle.cedargate.specs.Ranks.{writes_rank, rank_read, number_read, number_kept, kept_in};
+ghost use Rattle.cedargate.specs.Outcomes.{made_values};
 
 use crate::functions::V;
 use cedar_expr_values::{ExtValue, Literal, ValueKind};

@@ -8,7 +8,7 @@ use Rattle.cedar_expr_trees.specs.Unknowns.{unknown_of}
 use Rattle.cedar_expr_trees.specs.Trees.{tree_of}
 use Rattle.cedar_expr_substitution.specs.Bound.{bindings_of}
 use Rattle.cedar_expr_substitution.proofs.Walked.{value_written}
-use Rattle.cedar_expr_substitution.proofs.walk.value_of.Goals as goal
+use Rattle.cedar_expr_substitution.proofs.bound.value_of.Goals as goal
 
 pub returns-in-Some : goal.returns-in-Some
 returns-in-Some g c =

@@ -9,8 +9,8 @@ ghost use Rattle.cedar_expr_leaves.specs.Literals.{literal_of};
 ghost use Rattle.cedar_expr_values.specs.Extensions.{extension_of};
 ghost use Rattle.cedar_expr_values.specs.Values.{made};
 ghost use Rattle.cedar_evaluator_model.specs.Scope.{faults};
-ghost use Rattle.cedar_gate_ranks.specs.Ranks.{ranked, labelled, rank_made, label_made, rank_name};
-ghost use Rattle.cedar_gate_ranks.specs.Outcomes.{ComesTo, made_values};
+ghost use Rattle.cedargate.specs.Ranks.{ranked, labelled, rank_made, label_made, rank_name};
+ghost use Rattle.cedargate.specs.Outcomes.{ComesTo, made_values};
 
 use crate::numbers::{number_kept, number_read};
 use cedar_expr_functions::{CallFault, ExtensionOutputValue};

@@ -18,10 +18,10 @@ use Rattle.cedar_evaluator_model.specs.Scope.{MadeCalled, makes, faults}
 use Rattle.cedar_evaluator_model.specs.OfLaws.Calls.{bare_called}
 use Rattle.cedar_evaluator_model.specs.OfLaws.WellMade.{IsWellMade}
 use Rattle.cedar_gate_model.specs.RunsAnswer.{MakeFairly}
-use Rattle.cedar_gate_ranks.specs.Ranks.{rank_name, label_name, rank_read, rank_key, rank_made, label_made, number_read, number_kept, ranked, labelled, rank_calls, bare_number_read, bare_number_kept, rank_answers}
-use Rattle.cedar_gate_ranks.specs.Tables.{rank_signature, label_signature, HoldsRanks, rank_functions}
-use Rattle.cedar_gate_ranks.proofs.Answered.{calls_agree}
-use Rattle.cedar_gate_ranks.proofs.Digits.{read_below, decimal_read}
+use Rattle.cedargate.specs.Ranks.{rank_name, label_name, rank_read, rank_key, rank_made, label_made, number_read, number_kept, ranked, labelled, rank_calls, bare_number_read, bare_number_kept, rank_answers}
+use Rattle.cedargate.specs.Tables.{rank_signature, label_signature, HoldsRanks, rank_functions}
+use Rattle.cedargate.proofs.Answered.{calls_agree}
+use Rattle.cedargate.proofs.Digits.{read_below, decimal_read}
 
 -- what is found by its name is among those that are left, and has the name
 found_case : (b : Bool) (f : Name) (z s : Signature) (zs : List Signature) (o : Option Signature) → name_eq f z.name ≡ b → cond b (Some z) o ≡ Some s → (o ≡ Some s → (f ≡ s.name) × Contains zs s) → (f ≡ s.name) × Contains (z ∷ zs) s

@@ -6,7 +6,7 @@ use Rattle.cedar_expr_model.specs.Table.{Signature, Table, function_style, metho
 use Rattle.cedar_expr_model.specs.Tree.{string_core, extension_core}
 use Rattle.cedar_expr_model.specs.Value.{V}
 use Rattle.cedar_gate_model.specs.Bundle.{Functions}
-use Rattle.cedar_gate_ranks.specs.Ranks.{rank_name, label_name, rank_answers, rank_calls}
+use Rattle.cedargate.specs.Ranks.{rank_name, label_name, rank_answers, rank_calls}
 
 -- `rank` is a constructor, `label` a method
 abbrev pub rank_signature : Signature

@@ -27,8 +27,8 @@ use Rattle.cedar_expr_functions.specs.declared.err.CallFault.{CallFault}
 use Rattle.cedar_expr_functions.specs.declared.err.CallFault.TheVariants.{OutOfMemory, WrongNumArguments, ArgumentType, Fault}
 use Rattle.cedar_evaluator_model.specs.Scope.{MadeCalled, makes, faults, leaves_unknown}
 use Rattle.cedar_evaluator_model.specs.OfLaws.Calls.{bare_called}
-use Rattle.cedar_gate_ranks.specs.Ranks.{rank_name, rank_made, label_made, number_read, number_kept, ranked, labelled, rank_calls, bare_number_read, bare_number_kept, rank_answers}
-use Rattle.cedar_gate_ranks.specs.Outcomes.{ComesTo, made_values}
+use Rattle.cedargate.specs.Ranks.{rank_name, rank_made, label_made, number_read, number_kept, ranked, labelled, rank_calls, bare_number_read, bare_number_kept, rank_answers}
+use Rattle.cedargate.specs.Outcomes.{ComesTo, made_values}
 
 -- the numbers are those of the values alone
 same_read : (ms : List Made) → bare_number_read (map model.bare ms) ≡ number_read ms

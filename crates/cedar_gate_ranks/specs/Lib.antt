@@ -1,3 +1,0 @@
-pub mod Ranks
-pub mod Outcomes
-pub mod Tables
