@@ -1,7 +1,8 @@
 //! Values put in the place of unknowns, and an expression built anew through any builder.
 //! Contract: `substitute` is the expression under the bindings; `substitute_typed` refuses exactly a value against its unknown's annotation;
 //! what `try_into_expr` makes means the fold of the builder's steps over the expression, or is the first refusal of that fold.
-//! Used by callers of `cedar_expr`, through the traits `Substitute` and `Rebuild`.
+//! `replaced` is the tree with what is given in the place of unknowns and slots.
+//! Used by callers of `cedar_expr`, through the traits `Substitute` and `Rebuild`; the evaluator binds slots by `replaced`.
 #![tactic(auto)]
 
 pub mod bound;

@@ -13,9 +13,10 @@ use std::alloc::{AllocError, Global};
 
 /// Puts expressions in the place of unknowns and of slots.
 pub trait Replace {
-    /// The expression in the place of the unknown of this name and annotation, and that in the place of a slot.
+    /// The tree in the place of the unknown of this name and annotation.
     ghost placed: { Self → Text → Option CoreType → Tree };
 
+    /// The tree in the place of the slot.
     ghost slotted: { Self → BareSlot → Tree };
 
     /// The expression in the place of the unknown. Answers want of memory.

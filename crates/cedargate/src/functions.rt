@@ -1,4 +1,5 @@
-//! The functions.
+//! The program's extension functions: `rank` makes ranks of texts of one to four digits, `label` gives their texts.
+//! They come to what the definitions `ranked` and `labelled` say of the arguments as they are made.
 
 ghost use Rattle.std.specs.Prelude.{◌≡◌, IfOk};
 ghost use Rattle.cedar_expr_model.specs.Names.{unqualified};
