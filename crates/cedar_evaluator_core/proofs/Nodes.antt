@@ -66,6 +66,15 @@ Stopped part e = (l : Left) → Leaves l part → (x y : Left) (other : Tree →
 pub says_nothing : (l : Left) (e : EvaluationError) → is_memory e ≡ true → Leaves l (Err e)
 says_nothing l e h = λ other m. absurd (cc)
 
+-- a truth value that is wanted is itself
+wanted_truth : (join : Tree → Tree → Tree) (x b : Bool) → right_left join x (truth_left b) ≡ truth_left b
+wanted_truth join x true = refl
+wanted_truth join x false = refl
+
+-- the right side of `and` and `or` is a truth value
+pub right_known : (join : Tree → Tree → Tree) (x b : Bool) (l : Left) (r : Answer) → l ≡ truth_left b → Leaves (truth_left b) r → Leaves (right_left join x l) r
+right_known join x b l r e h = subst (λ m. Leaves m r) (sym (ap (right_left join x) e ∙ wanted_truth join x b)) h
+
 module _ {T : Type 0} (table : T → (Name → List V → Called) → Table) (answers_as : T → (Name → List Made → MadeCalled) → Type 0) (k : Knowledge T) (n : ℕ) where
   abbrev pub Part : Tree → Answer → Type 0
   Part t r = LeavesWithin table answers_as k n t r
@@ -142,11 +151,8 @@ module _ {T : Type 0} (table : T → (Name → List V → Called) → Table) (an
       both_of : (l : Left) → IsLeft part l → ((fs : Functions) → Suits table answers_as k fs → Leaves (both_step fs l) r) → Says (both a b) r
       both_of l t f = record { leaves = λ fs s. subst (λ m. Leaves (both_step fs m) r) (sym (t (go fs a) (h.leaves fs s))) (f fs s) }
 
-      pub both_right_stops : IsLeft part (truth_left true) → (e : EvaluationError) → Part b (Err e) → IsErrAnd r (λ y. y ≡ e) → Says (both a b) r
-      both_right_stops t e w i = both_of (truth_left true) t (λ fs s. stops (right_left conjunction true) (go fs b) e r (λ z. refl) i (w.leaves fs s))
-
-      pub both_holds : IsLeft part (truth_left true) → (p : PartialValue ExtValue) → Part b (Ok p) → Leaves (right_left conjunction true (left_seen p)) r → Says (both a b) r
-      both_holds t p w l = both_of (truth_left true) t (λ fs s. after (right_left conjunction true) (go fs b) (left_seen p) r (w.leaves fs s) l)
+      pub both_holds : IsLeft part (truth_left true) → (q : Answer) → Part b q → ((l : Left) → Leaves l q → Leaves (right_left conjunction true l) r) → Says (both a b) r
+      both_holds t q w l = both_of (truth_left true) t (λ fs s. l (go fs b) (w.leaves fs s))
 
       pub both_fails : IsLeft part (truth_left false) → Leaves (truth_left false) r → Says (both a b) r
       both_fails t w = both_of (truth_left false) t (λ fs s. w)
@@ -160,11 +166,8 @@ module _ {T : Type 0} (table : T → (Name → List V → Called) → Table) (an
       pub either_holds : IsLeft part (truth_left true) → Leaves (truth_left true) r → Says (either a b) r
       either_holds t w = either_of (truth_left true) t (λ fs s. w)
 
-      pub either_right_stops : IsLeft part (truth_left false) → (e : EvaluationError) → Part b (Err e) → IsErrAnd r (λ y. y ≡ e) → Says (either a b) r
-      either_right_stops t e w i = either_of (truth_left false) t (λ fs s. stops (right_left disjunction false) (go fs b) e r (λ z. refl) i (w.leaves fs s))
-
-      pub either_fails : IsLeft part (truth_left false) → (p : PartialValue ExtValue) → Part b (Ok p) → Leaves (right_left disjunction false (left_seen p)) r → Says (either a b) r
-      either_fails t p w l = either_of (truth_left false) t (λ fs s. after (right_left disjunction false) (go fs b) (left_seen p) r (w.leaves fs s) l)
+      pub either_fails : IsLeft part (truth_left false) → (q : Answer) → Part b q → ((l : Left) → Leaves l q → Leaves (right_left disjunction false l) r) → Says (either a b) r
+      either_fails t q w l = either_of (truth_left false) t (λ fs s. l (go fs b) (w.leaves fs s))
 
       pub either_open : (t : Expr Unit) → IsLeft part (residual (tree_of {T = Unit} t)) → (q : Result (Expr Unit) EvaluationError) → BestWithin table answers_as k n b q → ((u : Tree) → IsTree u q → Leaves (residual (disjunction (tree_of {T = Unit} t) u)) r) → Says (either a b) r
       either_open t o q l w = either_of (residual (tree_of {T = Unit} t)) o (λ fs s. w (best b (go fs b)) (l.leaves fs s))

@@ -12,14 +12,14 @@ ghost use Rattle.cedar_expr_names.specs.Views.{plain_name_of, type_name_of};
 ghost use Rattle.cedar_expr_trees.specs.Trees.{tree_of, kind_tree, named, field_trees};
 ghost use Rattle.cedar_evaluator_core.specs.Walked.{LeavesWithin, LeavesLevel, LeavesField, BestWithin, PiecesWithin};
 
-use crate::after::{Truth, and_stays, choice_stays, or_stays, settled, truth_after};
+use crate::after::{
+    Truth, and_after, and_stays, choice_stays, or_after, or_stays, placed, settled, truth_after,
+};
 use crate::calls::call_left;
 use crate::fields::{fields_of, next_field};
 use crate::gathering::{members_of, room, room_for_fields, with_next};
 use crate::parts::{record_left, set_left};
-use crate::rebuilt::{
-    and_right, expr_of, get_of, given_up, is_left, like_left, or_right, unary_left,
-};
+use crate::rebuilt::{expr_of, get_of, given_up, is_left, like_left, unary_left};
 use crate::tested::tested;
 use cedar_evaluator_errors::EvaluationError;
 use cedar_evaluator_errors::evaluation_errors::RecursionLimitError;
@@ -52,10 +52,10 @@ pub fn walk<T: FunctionTable>(
     if limit == 0 {
         return Err(EvaluationError::RecursionLimit(RecursionLimitError { source_loc }));
     }
-    match level(alloc, known, limit - 1, e.expr_kind(), source_loc) {
-        Ok(left) => Ok(left.with_maybe_source_loc(source_loc)),
-        Err(error) => Err(error.or_at(source_loc)),
-    }
+    placed(
+        level(alloc, known, limit - 1, e.expr_kind(), source_loc),
+        source_loc,
+    )
 }
 
 // One level.
@@ -241,10 +241,7 @@ fn both<T: FunctionTable>(
     ensures { LeavesLevel T.table T.answers_as known.now deeper (both (tree_of left.now) (tree_of right.now)) result }
 {
     match truth_after(alloc, walk(alloc, known, deeper, left)) {
-        Truth::Holds => match walk(alloc, known, deeper, right) {
-            Ok(second) => and_right(alloc, second),
-            Err(error) => Err(error),
-        },
+        Truth::Holds => and_after(alloc, walk(alloc, known, deeper, right)),
         Truth::Fails => settled(false),
         Truth::Open(r) => and_stays(alloc, r, attempt(alloc, known, deeper, right)),
         Truth::Stops(error) => Err(error),
@@ -264,10 +261,7 @@ fn either<T: FunctionTable>(
 {
     match truth_after(alloc, walk(alloc, known, deeper, left)) {
         Truth::Holds => settled(true),
-        Truth::Fails => match walk(alloc, known, deeper, right) {
-            Ok(second) => or_right(alloc, second),
-            Err(error) => Err(error),
-        },
+        Truth::Fails => or_after(alloc, walk(alloc, known, deeper, right)),
         Truth::Open(r) => or_stays(alloc, r, attempt(alloc, known, deeper, right)),
         Truth::Stops(error) => Err(error),
     }

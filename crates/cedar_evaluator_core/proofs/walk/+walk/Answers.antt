@@ -12,26 +12,22 @@ use Rattle.cedar_expr_model.specs.Tree.{choice, both, either, unary, binary, cal
 use Rattle.cedar_expr_trees.specs.Trees.{tree_of, kind_tree, named, field_trees}
 use Rattle.cedar_expr_trees.specs.Unknowns.{unknown_of}
 use Rattle.cedar_expr_trees.proofs.Trees.{call_tree, set_tree, record_tree}
-use Rattle.cedar_evaluator_model.specs.Scope.{stopped}
-use Rattle.cedar_evaluator_model.specs.Steps.{tag_left, best}
-use Rattle.cedar_evaluator_errors.specs.Outcomes.{IsTree}
+use Rattle.cedar_evaluator_model.specs.Steps.{best}
+use Rattle.cedar_evaluator_errors.specs.Outcomes.{IsTree, Leaves}
 use Rattle.cedar_evaluator_model.specs.Evaluation.{evaluated, node}
 use Rattle.cedar_evaluator_operators.specs.Scopes.{scope_of}
 use Rattle.cedar_evaluator_core.specs.Walked.{LeavesLevel}
 use Rattle.cedar_evaluator_core.proofs.Levels.{one_level, at_zero}
 use Rattle.cedar_evaluator_core.proofs.Gathered.{SoFar, trees_in, starts, says_nothing, on, off, all, field_on, field_off, fields_all, fewer}
-use Rattle.cedar_evaluator_core.proofs.Nodes.{in_tree, literal_says, variable_says, slot_says, unknown_says, choice_stops, choice_holds, choice_fails, choice_open, choice_given_up, both_stops, both_right_stops, both_holds, both_fails, both_open, either_stops, either_holds, either_right_stops, either_fails, either_open}
+use Rattle.cedar_evaluator_core.proofs.Nodes.{in_tree, literal_says, variable_says, slot_says, unknown_says, choice_stops, choice_holds, choice_fails, choice_open, choice_given_up, both_stops, both_holds, both_fails, both_open, either_stops, either_holds, either_fails, either_open}
 use Rattle.cedar_evaluator_core.proofs.OneLevel.{unary_stops, unary_goes, like_stops, like_goes, type_stops, type_goes, test_stops, test_goes, path_stops, path_goes, get_stops, get_value, get_residual, field_stays, field_missing, field_again, field_kept, binary_stops, binary_right_stops, binary_goes, call_stops, call_goes, set_stops, set_goes, record_stops, record_goes}
 use Rattle.cedar_evaluator_core.proofs.walk.+walk.Goals as goal
 
 pub walk-returns-then-limit-eq0 : goal.walk-returns-then-limit-eq0
 walk-returns-then-limit-eq0 g t c = record { leaves = λ fs s other m. at_zero (scope_of g.T.FunctionTable.table fs c.args.known.now) c.args.limit (tree_of {T = Unit} c.args.e.now) c.if-limit-eq0.true }
 
-pub walk-returns-in-Ok : goal.walk-returns-in-Ok
-walk-returns-in-Ok g t c = record { leaves = λ fs s. one_level (scope_of g.T.FunctionTable.table fs c.args.known.now) _ _ _ (omega arith) c.expr_kind.ensures.tree ∙ c.in-Ok.ensures.leaves fs s ∙ ap tag_left (sym c.with_maybe_source_loc.ensures.part) }
-
-pub walk-returns-in-Err : goal.walk-returns-in-Err
-walk-returns-in-Err g t c = record { leaves = λ fs s other m. one_level (scope_of g.T.FunctionTable.table fs c.args.known.now) _ _ _ (omega arith) c.expr_kind.ensures.tree ∙ c.in-Err.ensures.leaves fs s other (sym c.or_at.ensures.memory ∙ m) ∙ ap stopped (sym (c.or_at.ensures.stop other)) }
+pub walk-returns : goal.walk-returns
+walk-returns g t c = record { leaves = λ fs s. c.placed.ensures _ (subst (λ l. Leaves l c.level.result) (sym (one_level (scope_of g.T.FunctionTable.table fs c.args.known.now) _ _ _ (omega arith) c.expr_kind.ensures.tree)) (c.level.ensures.leaves fs s)) }
 
 pub level-returns-in-Lit : goal.level-returns-in-Lit
 level-returns-in-Lit g t c = in_tree g.T.FunctionTable.table g.T.FunctionTable.answers_as c.args.known.now c.args.deeper _ _ _ (ap (kind_tree {T = Unit}) c.in-Lit.is) (literal_says g.T.FunctionTable.table g.T.FunctionTable.answers_as c.args.known.now c.args.deeper _ (literal_of c.in-Lit.literal) c.literal_value.ensures)
@@ -186,11 +182,8 @@ both-returns-in-Open g t c = both_open g.T.FunctionTable.table g.T.FunctionTable
 pub both-returns-in-Stops : goal.both-returns-in-Stops
 both-returns-in-Stops g t c = both_stops g.T.FunctionTable.table g.T.FunctionTable.answers_as c.args.known.now c.args.deeper (tree_of {T = Unit} c.args.left.now) (tree_of {T = Unit} c.args.right.now) _ c.walk.ensures _ c.in-Stops.ensures
 
-pub both-returns-in-Err : goal.both-returns-in-Err
-both-returns-in-Err g t c = both_right_stops g.T.FunctionTable.table g.T.FunctionTable.answers_as c.args.known.now c.args.deeper (tree_of {T = Unit} c.args.left.now) (tree_of {T = Unit} c.args.right.now) _ c.walk.ensures _ c.in-Holds.ensures _ c.in-Err.ensures refl
-
-pub both-returns-in-Ok : goal.both-returns-in-Ok
-both-returns-in-Ok g t c = both_holds g.T.FunctionTable.table g.T.FunctionTable.answers_as c.args.known.now c.args.deeper (tree_of {T = Unit} c.args.left.now) (tree_of {T = Unit} c.args.right.now) _ c.walk.ensures _ c.in-Holds.ensures _ c.in-Ok.ensures c.and_right.ensures
+pub both-returns-in-Holds : goal.both-returns-in-Holds
+both-returns-in-Holds g t c = both_holds g.T.FunctionTable.table g.T.FunctionTable.answers_as c.args.known.now c.args.deeper (tree_of {T = Unit} c.args.left.now) (tree_of {T = Unit} c.args.right.now) _ c.walk.ensures _ c.in-Holds.ensures _ c.walk-in-Holds.ensures c.and_after.ensures
 
 pub either-returns-in-Holds : goal.either-returns-in-Holds
 either-returns-in-Holds g t c = either_holds g.T.FunctionTable.table g.T.FunctionTable.answers_as c.args.known.now c.args.deeper (tree_of {T = Unit} c.args.left.now) (tree_of {T = Unit} c.args.right.now) _ c.walk.ensures _ c.in-Holds.ensures c.settled.ensures
@@ -201,11 +194,8 @@ either-returns-in-Open g t c = either_open g.T.FunctionTable.table g.T.FunctionT
 pub either-returns-in-Stops : goal.either-returns-in-Stops
 either-returns-in-Stops g t c = either_stops g.T.FunctionTable.table g.T.FunctionTable.answers_as c.args.known.now c.args.deeper (tree_of {T = Unit} c.args.left.now) (tree_of {T = Unit} c.args.right.now) _ c.walk.ensures _ c.in-Stops.ensures
 
-pub either-returns-in-Err : goal.either-returns-in-Err
-either-returns-in-Err g t c = either_right_stops g.T.FunctionTable.table g.T.FunctionTable.answers_as c.args.known.now c.args.deeper (tree_of {T = Unit} c.args.left.now) (tree_of {T = Unit} c.args.right.now) _ c.walk.ensures _ c.in-Fails.ensures _ c.in-Err.ensures refl
-
-pub either-returns-in-Ok : goal.either-returns-in-Ok
-either-returns-in-Ok g t c = either_fails g.T.FunctionTable.table g.T.FunctionTable.answers_as c.args.known.now c.args.deeper (tree_of {T = Unit} c.args.left.now) (tree_of {T = Unit} c.args.right.now) _ c.walk.ensures _ c.in-Fails.ensures _ c.in-Ok.ensures c.or_right.ensures
+pub either-returns-in-Fails : goal.either-returns-in-Fails
+either-returns-in-Fails g t c = either_fails g.T.FunctionTable.table g.T.FunctionTable.answers_as c.args.known.now c.args.deeper (tree_of {T = Unit} c.args.left.now) (tree_of {T = Unit} c.args.right.now) _ c.walk.ensures _ c.in-Fails.ensures _ c.walk-in-Fails.ensures c.or_after.ensures
 
 pub called-returns-in-Err : goal.called-returns-in-Err
 called-returns-in-Err g t c = call_stops g.T.FunctionTable.table g.T.FunctionTable.answers_as c.args.known.now c.args.deeper _ _ _ _ c.in-Err.ensures refl
