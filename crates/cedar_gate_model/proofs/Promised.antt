@@ -10,14 +10,16 @@ use Rattle.cedar_gate_model.specs.Acceptance.{IsAccepted}
 use Rattle.cedar_gate_model.specs.Bundle.{Functions, Bundle}
 use Rattle.cedar_gate_model.specs.Lines.{Status, is_answered, is_refused, is_unreadable, is_stopped, PrintsRun, Prints}
 use Rattle.cedar_gate_model.specs.ReadingBundle.{input_read, bundle_read}
-use Rattle.cedar_gate_model.specs.Runs.{answered}
-use Rattle.cedar_gate_model.specs.RunsAnswer.{Course, session_of, course_of, IsProper, MayRun, RunsMayBe, MakeFairly, BundlesAreProper, GivenDecisionsAreTheAnswers, AnswersAreTheWholeStores, ErrorsAreExpected, ReadyDecisionsAreOwed}
+use Rattle.cedar_gate_model.specs.Runs.{End, answered, opening_refused, supply_refused, binding_refused, answer_refused}
+use Rattle.cedar_gate_model.specs.RunsAnswer.{Course, session_of, course_of, IsProper, MayRun, RunsMayBe, MakeFairly, BundlesAreProper, GivenDecisionsAreTheAnswers, AnswersAreTheWholeStores, ErrorsAreExpected, ReadyDecisionsAreOwed, ProperRunsAreLegal}
 use Rattle.cedar_gate_model.specs.RunsAsk.{RunsAskOnce, RunsAskInTheSlice, RunsAskTheSlice, RunsHaveFewRounds}
 use Rattle.cedar_gate_model.specs.Transcript.{Entry}
 use Rattle.cedar_gate_model.proofs.Reading.Steps.{given_some, if_some_of}
-use Rattle.cedar_gate_model.specs.Headline.{AnsweredWell, Headline, PromisesRun, Promises}
+use Rattle.cedar_gate_model.specs.DoneBy.{AnsweredRunsAreLegal}
+use Rattle.cedar_gate_model.specs.Headline.{IsLegalSoFar, AnsweredWell, KeepsPromises, answer_in, Headline, PromisesRun, Promises}
 
-module _ (may : RunsMayBe) (once : RunsAskOnce) (within : RunsAskInTheSlice) (exact : RunsAskTheSlice) (few : RunsHaveFewRounds) (early : GivenDecisionsAreTheAnswers) (owed : ReadyDecisionsAreOwed) (whole : AnswersAreTheWholeStores) (errors : ErrorsAreExpected) where
+module _ (may : RunsMayBe) (once : RunsAskOnce) (within : RunsAskInTheSlice) (exact : RunsAskTheSlice) (few : RunsHaveFewRounds) (early : GivenDecisionsAreTheAnswers) (owed : ReadyDecisionsAreOwed) (whole : AnswersAreTheWholeStores) (errors : ErrorsAreExpected)
+    (legal : ProperRunsAreLegal) (answered_legal : AnsweredRunsAreLegal) where
   answered_well : (c : Course) (es : List Entry) (a : Answer) → IsProper c → MayRun c es (answered a) → AnsweredWell c es a
   answered_well c es a proper run = record {
     asked = exact (session_of c) c.submission.policies c.steps es a proper.context run;
@@ -25,6 +27,25 @@ module _ (may : RunsMayBe) (once : RunsAskOnce) (within : RunsAskInTheSlice) (ex
     early = λ d k. early c es a d proper run k;
     errors = λ e k. errors c es a e proper run k;
   }
+
+  -- without an answer
+  unanswered : (c : Course) (es : List Entry) (end : End) → IsProper c → MayRun c es end → IsLegalSoFar c es None
+  unanswered c es end proper run w complete = record { entries = legal c es end proper run w complete; answer = tt }
+
+  legal_run : (c : Course) (es : List Entry) (end : End) → IsProper c → MayRun c es end → IsLegalSoFar c es (answer_in end)
+  legal_run c es (answered a) proper run = answered_legal c es a proper run
+  legal_run c es (opening_refused f) proper run = unanswered c es (opening_refused f) proper run
+  legal_run c es (supply_refused f) proper run = unanswered c es (supply_refused f) proper run
+  legal_run c es (binding_refused f) proper run = unanswered c es (binding_refused f) proper run
+  legal_run c es (answer_refused f) proper run = unanswered c es (answer_refused f) proper run
+
+  -- an answer is that of the run
+  answered_by : (c : Course) (es : List Entry) (end : End) → IsProper c → MayRun c es end → (a : Answer) → answer_in end ≡ Some a → AnsweredWell c es a
+  answered_by c es (answered b) proper run a is = answered_well c es a proper (let q : b ≡ a = cc in subst (λ (z : Answer). MayRun c es (answered z)) q run)
+  answered_by c es (opening_refused f) proper run a is = cc
+  answered_by c es (supply_refused f) proper run a is = cc
+  answered_by c es (binding_refused f) proper run a is = cc
+  answered_by c es (answer_refused f) proper run a is = cc
 
   pub runs_keep : Headline
   runs_keep c es end proper fair exact =
@@ -35,7 +56,8 @@ module _ (may : RunsMayBe) (once : RunsAskOnce) (within : RunsAskInTheSlice) (ex
         near = within (session_of c) c.submission.policies c.steps es end proper.context run;
         few = few (session_of c) c.submission.policies c.steps es end run;
         owed = λ before after d is ready. owed c before after d end proper (subst (λ xs. MayRun c xs end) is run) ready;
-        whole = λ a is. answered_well c es a proper (subst (λ e. MayRun c es e) is run);
+        legal = legal_run c es end proper run;
+        whole = answered_by c es end proper run;
       }
 
 -- a bundle that an input reads as

@@ -23,3 +23,7 @@ pub mod Scoped
 pub mod Existing
 pub mod Opened
 pub mod InPart
+pub mod Bounding
+pub mod Knowing
+pub mod Moments
+pub mod Early

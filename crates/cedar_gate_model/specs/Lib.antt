@@ -32,3 +32,6 @@ pub mod Asked
 pub mod Alike
 pub mod First
 pub mod ConformingLaws
+pub mod Early
+pub mod Knowing
+pub mod DoneBy

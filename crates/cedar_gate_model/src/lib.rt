@@ -6,8 +6,10 @@
 
 pub mod conforming_laws;
 pub mod did_laws;
+pub mod early_laws;
 pub mod headline;
 pub mod laws;
+pub mod moment_laws;
 pub mod reading_declared;
 pub mod reading_laws;
 pub mod reading_started;

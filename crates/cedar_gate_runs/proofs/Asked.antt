@@ -1,22 +1,23 @@
 -- What the host was asked for, an entry more.
 use Rattle.std.proofs.Common.{◌≡◌, List, [], ◌∷◌, ◌++◌, refl, sym, ap, ◌∙◌, append_assoc, arith}
 use Rattle.std.proofs.lemmas.List.{append-nil}
+use Rattle.std.specs.Prelude.{Ok}
 use Rattle.cedar_expr_model.specs.Uid.{Uid}
 use Rattle.cedar_gate_runs.specs.declared.host.HostFault.{HostFault}
 use Rattle.cedar_gate_runs.specs.declared.host.HostFault.TheVariants as host
 use Rattle.cedar_gate_model.specs.Headline.{Headline}
 use Rattle.cedar_gate_model.specs.RunsAnswer.{Course, IsProper, MakeFairly}
+use Rattle.cedar_gate_model.specs.Runs.{answered}
 use Rattle.cedar_gate_model.specs.Transcript.{Entry, round, bound, decided}
 use Rattle.cedar_gate_runs.specs.Asking.{rounds_of, AskedRounds, IsBeyond, AskedBeyond}
-use Rattle.cedar_gate_runs.specs.Ends.{IsAnswered, IsStopped}
-use Rattle.cedar_gate_runs.specs.Promised.{KeepsAnswered, KeepsStopped}
+use Rattle.cedar_gate_runs.specs.Ends.{IsAnswered}
+use Rattle.cedar_gate_runs.specs.Promised.{KeepsRun}
+use Rattle.cedar_gate_runs.specs.Transcripts.{entries_of}
 use Rattle.cedar_gate_runs.specs.StopsWith.{host_stop, supply_stop, bind_stop, answer_stop}
 use Rattle.cedar_gate_runs.specs.declared.sessions.Refusal.{Refusal}
 use Rattle.cedar_gate_runs.specs.declared.sessions.Refusal.TheVariants.{OutOfMemory, Numbered}
 use Rattle.cedar_gate_runs.specs.declared.stops_with.Stop.{Stop}
 use Rattle.cedar_gate_runs.specs.declared.stops_with.Stop.TheVariants as stop
-use Rattle.cedar_gate_runs.specs.declared.stops.RunFault.{RunFault}
-use Rattle.cedar_gate_runs.specs.declared.stops.RunFault.TheVariants.{Memory, Host, Opening, Supplying, Binding, Answering}
 use Rattle.cedar_gate_runs.specs.declared.transcript.Transcript.{Transcript}
 
 -- the rounds of entries and of those after them
@@ -75,14 +76,6 @@ asked_alone first asked es fs same h = h ∙ ap (λ z. first ++ z) (sym same)
 pub asked_first : (first : List (List Uid)) (es : List Entry) → es ≡ [] → AskedRounds first first es
 asked_first first es none = sym (append-nil first) ∙ ap (λ z. first ++ rounds_of z) (sym none)
 
--- what a run that was answered promises, and one that stopped
-pub keeps_answered : Headline → (c : Course) → IsProper c → MakeFairly c.functions → (t : Transcript) → IsAnswered c t → KeepsAnswered c t
-keeps_answered h c proper fair t a = (a.0, a.1, h c _ _ proper fair a.2)
-
-pub keeps_stopped : Headline → (c : Course) → IsProper c → MakeFairly c.functions → (f : RunFault) → IsStopped c f → KeepsStopped c f
-keeps_stopped h c proper fair (Memory t) s = s
-keeps_stopped h c proper fair (Host t) s = s
-keeps_stopped h c proper fair (Opening n t) s = (s.0, s.1, h c _ _ proper fair s.2)
-keeps_stopped h c proper fair (Supplying n t) s = (s.0, s.1, h c _ _ proper fair s.2)
-keeps_stopped h c proper fair (Binding n t) s = (s.0, s.1, h c _ _ proper fair s.2)
-keeps_stopped h c proper fair (Answering n t) s = (s.0, s.1, h c _ _ proper fair s.2)
+-- what a run that was answered promises
+pub keeps_answered : Headline → (c : Course) → IsProper c → MakeFairly c.functions → (t : Transcript) → IsAnswered c t → KeepsRun c (Ok t)
+keeps_answered h c proper fair t a = (a.0, a.1, h c (entries_of t.entries.items) (answered a.0) proper fair a.2)

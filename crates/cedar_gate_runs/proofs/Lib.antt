@@ -2,6 +2,7 @@ pub mod Ended
 pub mod Faulted
 pub mod Hosted
 pub mod Looped
+pub mod Losing
 pub mod Pushed
 pub mod Rounds
 pub mod Stepped

@@ -1,6 +1,6 @@
 -- Which lists of uids a run asks its host for: those of its rounds, and one more where what was answered to it was refused.
 -- Rule: runs (docs/RULES.md).
-use Rattle.std.specs.Prelude.{◌≡◌, ◌≤◌, ◌++◌, ◌∷◌, [], List, length}
+use Rattle.std.specs.Prelude.{◌≡◌, ◌≤◌, ◌++◌, ◌∷◌, [], List, length, Result, Ok, Err}
 use Rattle.cedar_expr_model.specs.Uid.{Uid}
 use Rattle.cedar_gate_model.specs.Transcript.{Entry, round, bound, decided}
 use Rattle.cedar_gate_runs.specs.declared.stops_with.Stop.{Stop}
@@ -8,6 +8,7 @@ use Rattle.cedar_gate_runs.specs.declared.stops_with.Stop.TheVariants as stop
 use Rattle.cedar_gate_runs.specs.Transcripts.{entries_of}
 use Rattle.cedar_gate_runs.specs.declared.stops.RunFault.{RunFault}
 use Rattle.cedar_gate_runs.specs.declared.stops.RunFault.TheVariants.{Memory, Host, Opening, Supplying, Binding, Answering}
+use Rattle.cedar_gate_runs.specs.declared.transcript.Transcript.{Transcript}
 
 -- the lists of the rounds among these entries, in their order
 abbrev pub rounds_of : List Entry → List (List Uid)
@@ -53,3 +54,8 @@ IsLost (Answering n t) more = more ≡ []
 -- A run that stopped asked the host for its rounds, and beyond them for a list whose answer was refused, if for any.
 abbrev pub AskedBy : List (List Uid) → List (List Uid) → RunFault → Type 0
 AskedBy first asked f = (more : List (List Uid)) × IsLost f more × (asked ≡ (first ++ rounds_of (entries_done f)) ++ more)
+
+-- A run that was answered asked the host for its rounds; one that stopped perhaps for one list more.
+abbrev pub AskedIn : List (List Uid) → List (List Uid) → Result Transcript RunFault → Type 0
+AskedIn first asked (Ok t) = AskedRounds first asked (entries_of t.entries.items)
+AskedIn first asked (Err f) = AskedBy first asked f

@@ -38,3 +38,8 @@ pub record IsOf {E : Type 0} (Stands : Course → State → E → Type 0) (c : C
   pub stands : Stands c at_start e
   pub steps : steps_of given ≡ c.steps
   pub bound : BindWell c c.steps
+
+-- The session and the steps are those of the course, and the host answers for it.
+pub record IsRunBy {E : Type 0} {H : Type 0} (Stands : Course → State → E → Type 0) (e : E) (given : List code.Step) (IsHonest : H → Type 0) (answers : H → Answers) (h : H) (c : Course) : Type 0 where
+  pub session : IsOf Stands c e given
+  pub host : IsHost IsHonest answers c h

@@ -1,6 +1,6 @@
 -- What runs of the code come to.
 -- Rule: runs; statuses and refusal numbers (docs/RULES.md).
-use Rattle.std.specs.Prelude.{◌≡◌, Some, option_map}
+use Rattle.std.specs.Prelude.{◌≡◌, Some, option_map, Result, Ok, Err}
 use Rattle.cedar_store_model.specs.Answer.{Answer}
 use Rattle.cedar_evaluator_model.specs.Laws.{as_concrete}
 use Rattle.cedar_evaluator_requests.specs.Views.{answer_of}
@@ -26,3 +26,8 @@ IsStopped c (Opening n t) = (f : OpenRefusal) × (n ≡ open_number f) × IsRun 
 IsStopped c (Supplying n t) = (f : SupplyRefusal) × (n ≡ supply_number f) × IsRun c (entries_of t.entries.items) (supply_refused f)
 IsStopped c (Binding n t) = (f : BindRefusal) × (n ≡ bind_number f) × IsRun c (entries_of t.entries.items) (binding_refused f)
 IsStopped c (Answering n t) = (f : AnswerRefusal) × (n ≡ answer_number f) × IsRun c (entries_of t.entries.items) (answer_refused f)
+
+-- What a run hands out is that of a run of the course.
+abbrev pub IsRunOf : Course → Result Transcript RunFault → Type 0
+IsRunOf c (Ok t) = IsAnswered c t
+IsRunOf c (Err f) = IsStopped c f

@@ -7,6 +7,8 @@ pub mod Running
 pub mod Courses
 pub mod Ends
 pub mod Asking
+pub mod Counting
+pub mod Lost
 pub mod Promised
 pub mod Hosts
 pub mod Stores

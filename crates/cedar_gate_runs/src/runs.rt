@@ -1,18 +1,21 @@
 //! Runs: steps over a session and a host, up to the answer.
 
-ghost use Rattle.std.specs.Prelude.{◌≡◌, ◌<◌, ◌++◌, [], List, IfOk, IfErr, OnOk};
+ghost use Rattle.std.specs.Prelude.{◌≡◌, ◌<◌, ◌++◌, [], ℕ, List, None, IfOk, IfErr, OnOk, OnErr};
 ghost use Rattle.cedar_evaluator_requests.specs.Views.{answer_of};
 ghost use Rattle.cedar_expr_model.specs.Uid.{Uid};
 ghost use Rattle.cedar_gate_model.specs.RunsAnswer.{Course, session_of, IsProper, MakeFairly};
 ghost use Rattle.cedar_gate_model.specs.Session.{State, at_start, NothingIsWanted, OpenRefusal, OpenFault};
 ghost use Rattle.cedar_gate_runs.specs.Transcripts.{entries_of};
-ghost use Rattle.cedar_gate_runs.specs.Asking.{rounds_of, AskedRounds, IsBeyond, AskedBeyond, AskedBy};
-ghost use Rattle.cedar_gate_runs.specs.Courses.{IsHost, BindWell, IsOf};
-ghost use Rattle.cedar_gate_runs.specs.Ends.{IsAnswered, IsStopped};
-ghost use Rattle.cedar_gate_runs.specs.Promised.{KeepsAnswered, KeepsStopped};
+ghost use Rattle.cedar_gate_runs.specs.Asking.{rounds_of, AskedRounds, IsBeyond, AskedBeyond, AskedBy, entries_done};
+ghost use Rattle.cedar_gate_runs.specs.Counting.{count_after, KeepsCount, run_count, HostSaw};
+ghost use Rattle.cedar_gate_runs.specs.Courses.{IsHost, BindWell, IsRunBy};
+ghost use Rattle.cedar_gate_runs.specs.Ends.{IsStopped, IsRunOf};
+ghost use Rattle.cedar_gate_runs.specs.Lost.{StopsAt, AsksWell};
+ghost use Rattle.cedar_gate_runs.specs.Promised.{KeepsRun};
 ghost use Rattle.cedar_gate_runs.specs.Refusals.{IsOpenRefusal};
 ghost use Rattle.cedar_gate_runs.specs.Steps.{steps_of};
 ghost use Rattle.cedar_gate_runs.specs.Stopping.{Finished, IsRefused, HasStopped, Halts, ComesTo};
+ghost use Rattle.cedar_gate_runs.specs.Stops.{run_fault_transcript};
 
 use crate::loading::load_all;
 use crate::sessions::{Refusal, SessionCalls};
@@ -22,6 +25,7 @@ use crate::stops_with::Stop;
 use crate::{Entry, Host, RunFault, Transcript};
 use cedar_evaluator_requests::Response;
 use cedar_gate_model::headline::runs_keep_the_headline;
+use cedar_gate_model::moment_laws::moments_keep;
 use std::alloc::Global;
 
 // The answer of a session, of which nothing is wanted.
@@ -29,6 +33,7 @@ fn finish<E: SessionCalls>(alloc: Global, session: &E) -> Result<Response, Stop>
     ensures answered { IfOk result (λ r. (c : Course) (s : State) → E.stands c s session.now → NothingIsWanted (session_of c) s → Finished c s (answer_of r)) }
     ensures stopped { IfErr result (λ stop. (c : Course) (s : State) → E.stands c s session.now → NothingIsWanted (session_of c) s → IsRefused (session_of c) c.submission.policies s [] [] stop) }
     ensures alone { IfErr result (λ stop. IsBeyond stop []) }
+    ensures counted { IfErr result KeepsCount }
 {
     match session.answer(alloc) {
         Ok(response) => Ok(response),
@@ -49,6 +54,9 @@ fn follow<E: SessionCalls, H: Host>(
     ensures stopped { IfErr result (λ stop. (c : Course) (s : State) → E.stands c s session.old → IsHost H.honest H.store c host.old → BindWell c (steps_of steps.items) → Halts (session_of c) c.submission.policies s (steps_of steps.items) (entries_of entries.old.items) (entries_of entries.new.items) stop) }
     ensures asked { OnOk result ((first : List (List Uid)) → AskedRounds first (H.asked host.old) (entries_of entries.old.items) → AskedRounds first (H.asked host.new) (entries_of entries.new.items)) }
     ensures beyond { IfErr result (λ stop. (first : List (List Uid)) → AskedRounds first (H.asked host.old) (entries_of entries.old.items) → AskedBeyond (first ++ rounds_of (entries_of entries.new.items)) (H.asked host.new) stop) }
+    ensures faults { OnOk result (H.faults host.new ≡ H.faults host.old) }
+    ensures counted { IfErr result (λ stop. H.faults host.new ≡ count_after stop (H.faults host.old)) }
+    ensures last { OnErr result ((c : Course) (s : State) (first : List (List Uid)) → E.stands c s session.old → IsHost H.honest H.store c host.old → BindWell c (steps_of steps.items) → AskedRounds first (H.asked host.old) (entries_of entries.old.items) → StopsAt c s (steps_of steps.items) (entries_of entries.old.items) (entries_of entries.new.items) first (H.asked host.new)) }
 {
     take_steps(alloc, session, steps, host, entries)?;
     load_all(alloc, session, host, entries)?;
@@ -59,6 +67,9 @@ fn follow<E: SessionCalls, H: Host>(
 fn stopped(stop: Stop, entries: Vec<Entry>) -> RunFault
     ensures asked { (first asked : List (List Uid)) → AskedBeyond (first ++ rounds_of (entries_of entries.items)) asked stop → AskedBy first asked result }
     ensures stopped { (c : Course) → ((f : OpenRefusal) → OpenFault c.start f → ⊥) → HasStopped (session_of c) c.submission.policies at_start c.steps (entries_of entries.items) stop → IsStopped c result }
+    ensures entries { entries_done result ≡ entries_of entries.items }
+    ensures no_answer { (run_fault_transcript result).answer ≡ None }
+    ensures counted { (n : ℕ) → run_count result n ≡ count_after stop n }
 {
     let transcript = Transcript {
         entries,
@@ -75,7 +86,9 @@ fn stopped(stop: Stop, entries: Vec<Entry>) -> RunFault
 
 /// A run whose session isn't opened.
 pub fn not_opened(alloc: Global, refusal: Refusal) -> RunFault
-    ensures { (c : Course) → IsOpenRefusal c.start refusal → IsStopped c result }
+    ensures stopped { (c : Course) → IsOpenRefusal c.start refusal → IsStopped c result }
+    ensures nothing { entries_done result ≡ [] }
+    ensures no_answer { (run_fault_transcript result).answer ≡ None }
 {
     let transcript = Transcript {
         entries: Vec::new(alloc),
@@ -87,14 +100,17 @@ pub fn not_opened(alloc: Global, refusal: Refusal) -> RunFault
     }
 }
 
-/// Runs a session that was opened: does the steps in their order, loads until nothing is wanted, and answers. The host is asked for the
-/// rounds of the transcript; beyond them for one list at most, whose answer was refused. What is done of a proper course keeps the
-/// promises of the headline, where the functions make their values as they are written.
+/// Runs a session that was opened: does the steps in their order, loads until nothing is wanted, and answers.
+///
+/// What it hands out is a run of the definitions. Of a proper course it keeps the promises of the headline, answered or stopped: no uid is asked
+/// for twice, only what is near is, few rounds follow the last binding, each decision that is owed is given, and the transcript is legal in
+/// every world that completes what was bound and answered. The host was asked for the rounds, and where the run stopped for one list more at
+/// most: what was wanted then, if the session refused what was answered to it.
 ///
 /// # Errors
 ///
-/// Want of memory, the host's too; a fault of the host; and what a call of the session refuses, by its number. Each has what was done so
-/// far.
+/// Out of memory, the host's too; a fault of the host, exactly where its count of failures rose; and what a call of the session refuses, by
+/// its number. Each has what was done so far, and no answer.
 pub fn run<E: SessionCalls + Drop, H: Host>(
     alloc: Global,
     mut session: E,
@@ -102,14 +118,14 @@ pub fn run<E: SessionCalls + Drop, H: Host>(
     host: &mut H,
 ) -> Result<Transcript, RunFault>
     requires { H.faults host.old < u64.MAX }
-    ensures answered { IfOk result (λ t. (c : Course) → IsOf E.stands c session steps.items → IsHost H.honest H.store c host.old → IsAnswered c t) }
-    ensures stopped { IfErr result (λ f. (c : Course) → IsOf E.stands c session steps.items → IsHost H.honest H.store c host.old → IsStopped c f) }
-    ensures asked { IfOk result (λ t. AskedRounds (H.asked host.old) (H.asked host.new) (entries_of t.entries.items)) }
-    ensures beyond { IfErr result (AskedBy (H.asked host.old) (H.asked host.new)) }
-    ensures headline { IfOk result (λ t. (c : Course) → IsOf E.stands c session steps.items → IsHost H.honest H.store c host.old → IsProper c → MakeFairly c.functions → KeepsAnswered c t) }
-    ensures promises { IfErr result (λ f. (c : Course) → IsOf E.stands c session steps.items → IsHost H.honest H.store c host.old → IsProper c → MakeFairly c.functions → KeepsStopped c f) }
+    ensures run { (c : Course) → IsRunBy E.stands session steps.items H.honest H.store host.old c → IsRunOf c result }
+    ensures promises { (c : Course) → IsRunBy E.stands session steps.items H.honest H.store host.old c → IsProper c → MakeFairly c.functions → KeepsRun c result }
+    ensures host { HostSaw (H.asked host.old) (H.asked host.new) (H.faults host.old) (H.faults host.new) result }
+    ensures asked { (c : Course) → IsRunBy E.stands session steps.items H.honest H.store host.old c → AsksWell c (H.asked host.old) (H.asked host.new) result }
+    ensures no_answer { IfErr result (λ f. (run_fault_transcript f).answer ≡ None) }
 {
     runs_keep_the_headline();
+    moments_keep();
     let mut entries = Vec::new(alloc);
     match follow(alloc, &mut session, steps, host, &mut entries) {
         Ok(response) => Ok(Transcript {

@@ -11,7 +11,9 @@ ghost use Rattle.cedar_gate_model.specs.Session.{State, with_bound, BindRefusal,
 ghost use Rattle.cedar_gate_model.specs.Transcript as model;
 ghost use Rattle.cedar_gate_runs.specs.Transcripts.{entries_of};
 ghost use Rattle.cedar_gate_runs.specs.Asking.{rounds_of, AskedRounds, IsBeyond, AskedBeyond};
+ghost use Rattle.cedar_gate_runs.specs.Counting.{count_after, KeepsCount};
 ghost use Rattle.cedar_gate_runs.specs.Courses.{IsHost, BindWell, DidSteps};
+ghost use Rattle.cedar_gate_runs.specs.Lost.{AskedLast, StopsAt};
 ghost use Rattle.cedar_gate_runs.specs.Running.{Went};
 ghost use Rattle.cedar_gate_runs.specs.Steps.{step_of, steps_of};
 ghost use Rattle.cedar_gate_runs.specs.Stopping.{IsRefused, Halts};
@@ -37,6 +39,7 @@ fn bind_in<E: SessionCalls>(
     ensures taken { OnOk result ((c : Course) (s : State) → E.stands c s session.old → (f : BindRefusal) → BindFault (session_of c) s (rc_str_bytes name) (made extension_of value) f → ⊥) }
     ensures stopped { IfErr result (λ stop. (c : Course) (s : State) (rest : List model.Step) → E.stands c s session.old → IsRefused (session_of c) c.submission.policies s (model.bind_name (rc_str_bytes name) (made extension_of value) ∷ rest) [] stop) }
     ensures alone { IfErr result (λ stop. IsBeyond stop []) }
+    ensures counted { IfErr result KeepsCount }
 {
     match session.bind(alloc, name, value) {
         Ok(()) => Ok(()),
@@ -57,6 +60,7 @@ fn bind_name<E: SessionCalls>(
     ensures unchanged { OnErr result (entries_of entries.new.items ≡ entries_of entries.old.items) }
     ensures rounds { OnOk result (rounds_of (entries_of entries.new.items) ≡ rounds_of (entries_of entries.old.items)) }
     ensures alone { IfErr result (λ stop. IsBeyond stop []) }
+    ensures counted { IfErr result KeepsCount }
 {
     let copy = name.clone()?;
     entries.reserve(1)?;
@@ -89,8 +93,10 @@ fn take_step<E: SessionCalls, H: Host>(
     requires { H.faults host.old < u64.MAX }
     ensures host { (c : Course) → IsHost H.honest H.store c host.old → IsHost H.honest H.store c host.new }
     ensures faults { OnOk result (H.faults host.new ≡ H.faults host.old) }
+    ensures counted { IfErr result (λ stop. H.faults host.new ≡ count_after stop (H.faults host.old)) }
     ensures asked { OnOk result ((first : List (List Uid)) → AskedRounds first (H.asked host.old) (entries_of entries.old.items) → AskedRounds first (H.asked host.new) (entries_of entries.new.items)) }
     ensures beyond { IfErr result (AskedBeyond (H.asked host.old) (H.asked host.new)) }
+    ensures last { OnErr result ((c : Course) (s : State) → E.stands c s session.old → AskedLast (session_of c) s (H.asked host.old) (H.asked host.new)) }
     ensures did { OnOk result ((c : Course) (s : State) → E.stands c s session.old → IsHost H.honest H.store c host.old → BindWell c (step_of step ∷ []) → Went (E.stands c) (DidSteps c s (step_of step ∷ [])) (entries_of entries.old.items) (entries_of entries.new.items) session.new) }
     ensures stopped { IfErr result (λ stop. (c : Course) (s : State) (rest : List model.Step) → E.stands c s session.old → IsHost H.honest H.store c host.old → IsRefused (session_of c) c.submission.policies s (step_of step ∷ rest) [] stop) }
     ensures unchanged { OnErr result (entries_of entries.new.items ≡ entries_of entries.old.items) }
@@ -116,8 +122,10 @@ pub(crate) fn take_steps<E: SessionCalls, H: Host>(
     requires { H.faults host.old < u64.MAX }
     ensures host { (c : Course) → IsHost H.honest H.store c host.old → IsHost H.honest H.store c host.new }
     ensures faults { OnOk result (H.faults host.new ≡ H.faults host.old) }
+    ensures counted { IfErr result (λ stop. H.faults host.new ≡ count_after stop (H.faults host.old)) }
     ensures asked { OnOk result ((first : List (List Uid)) → AskedRounds first (H.asked host.old) (entries_of entries.old.items) → AskedRounds first (H.asked host.new) (entries_of entries.new.items)) }
     ensures beyond { IfErr result (λ stop. (first : List (List Uid)) → AskedRounds first (H.asked host.old) (entries_of entries.old.items) → AskedBeyond (first ++ rounds_of (entries_of entries.new.items)) (H.asked host.new) stop) }
+    ensures last { OnErr result ((c : Course) (s : State) (first : List (List Uid)) → E.stands c s session.old → IsHost H.honest H.store c host.old → BindWell c (steps_of steps.items) → AskedRounds first (H.asked host.old) (entries_of entries.old.items) → StopsAt c s (steps_of steps.items) (entries_of entries.old.items) (entries_of entries.new.items) first (H.asked host.new)) }
     ensures did { OnOk result ((c : Course) (s : State) → E.stands c s session.old → IsHost H.honest H.store c host.old → BindWell c (steps_of steps.items) → Went (E.stands c) (DidSteps c s (steps_of steps.items)) (entries_of entries.old.items) (entries_of entries.new.items) session.new) }
     ensures stopped { IfErr result (λ stop. (c : Course) (s : State) → E.stands c s session.old → IsHost H.honest H.store c host.old → BindWell c (steps_of steps.items) → Halts (session_of c) c.submission.policies s (steps_of steps.items) (entries_of entries.old.items) (entries_of entries.new.items) stop) }
 {

@@ -18,7 +18,8 @@ ghost use Rattle.cedar_gate_sessions.specs.Bounds.{bounds_of};
 ghost use Rattle.cedar_gate_sessions.specs.Verdicts.{verdicts_of};
 ghost use Rattle.cedar_gate_wanted.specs.Rows.{uids};
 ghost use Rattle.cedar_gate_model.specs.Runs.{DecidesInPart, with_asked};
-ghost use Rattle.cedar_gate_model.specs.RunsAnswer.{Course, session_of, IsProper};
+ghost use Rattle.cedar_gate_model.specs.RunsAnswer.{Course, session_of, IsProper, MakeFairly};
+ghost use Rattle.cedar_gate_model.specs.Early.{KeepsDecision, KeepsBounds};
 ghost use Rattle.cedar_gate_model.specs.Session.{Setup, State, at_start, with_bound, scope_now, world_now, IsWantedList, NothingIsWanted, SupplyRefusal, BindRefusal, AnswerRefusal, SupplyFault as SupplyIsRefused, BindFault as BindIsRefused, AnswerFault as AnswerIsRefused};
 ghost use Rattle.cedar_gate_sessions.specs.Entities.{supplied_of};
 ghost use Rattle.cedar_gate_sessions.specs.Faults.{IsSupplyFault, IsBindFault, IsAnswerFault};
@@ -36,6 +37,7 @@ use cedar_evaluator_requests::{Decision, Request, Response};
 use cedar_evaluator_restricted_exprs::FunctionCalls;
 use cedar_expr_functions::Extensions;
 use cedar_expr_names::EntityUID;
+use cedar_gate_model::early_laws::{bounds_are_kept, decisions_are_kept};
 use cedar_gate_openings::laws::{a_binding_is_more, roots_are_known};
 use cedar_gate_openings::{
     BindFault, OpenFault, V, check_names, check_value, context_is_made, has_open, is_open,
@@ -190,20 +192,28 @@ impl<'g, 'e, S: Schema, T: FunctionCalls> Session<'g, 'e, S, T> {
         Ok(verdicts)
     }
 
-    /// The decision of evaluating the policies in part over what is known by now, if that decides. Answers want of memory.
+    /// The decision of evaluating the policies in part over what is known by now, if that decides. One that is given is that of every
+    /// completion; one is given where what is known forces it, and once all is bound and loaded and nothing that was asked for was absent.
+    /// Fails only out of memory.
     pub fn decision(&self, alloc: Global) -> Result<Option<Decision>, AllocError>
         ensures exact { IfOk result (λ d. (x : Setup) (s : State) → IsAt S.schema T.functions x s self.entry.now → option_map decision_of d ≡ decision_in_session (response_of (scope_now x s (store_in self.entry.now)) x.limit (policies_in self.entry.now))) }
         ensures in_part { IfOk result (λ d. (c : Course) (s : State) → IsAt S.schema T.functions (session_of c) s self.entry.now → policies_in self.entry.now ≡ c.submission.policies → DecidesInPart (session_of c) c.submission.policies s (option_map decision_of d)) }
+        ensures kept { IfOk result (λ d. (c : Course) (s : State) → IsAt S.schema T.functions (session_of c) s self.entry.now → policies_in self.entry.now ≡ c.submission.policies → IsProper c → MakeFairly c.functions → KeepsDecision c s (option_map decision_of d)) }
     {
         uids_are_uids();
+        decisions_are_kept();
         let verdicts = self.verdicts(alloc)?;
         Ok(decided(self.basis.policies, verdicts.as_slice()))
     }
 
-    /// What must and what may determine the decision, by what is known. Answers want of memory.
+    /// What must and what may determine the decision, by what is known: bounds that are given hold in every completion, they are given where all
+    /// is bound, and are the reasons of the answer where all that is looked up is loaded and there. Fails only out of memory.
     pub fn bounds(&self, alloc: Global) -> Result<Option<Bounds>, AllocError>
-        ensures { IfOk result (λ b. (x : Setup) (s : State) → IsAt S.schema T.functions x s self.entry.now → AreDistinct (ids (policies_in self.entry.now)) → option_map bounds_of b ≡ bounds_in_session (policies_in self.entry.now) (response_of (scope_now x s (store_in self.entry.now)) x.limit (policies_in self.entry.now))) }
+        ensures exact { IfOk result (λ b. (x : Setup) (s : State) → IsAt S.schema T.functions x s self.entry.now → AreDistinct (ids (policies_in self.entry.now)) → option_map bounds_of b ≡ bounds_in_session (policies_in self.entry.now) (response_of (scope_now x s (store_in self.entry.now)) x.limit (policies_in self.entry.now))) }
+        ensures kept { IfOk result (λ b. (c : Course) (s : State) → IsAt S.schema T.functions (session_of c) s self.entry.now → policies_in self.entry.now ≡ c.submission.policies → IsProper c → MakeFairly c.functions → KeepsBounds c s (option_map bounds_of b)) }
     {
+        uids_are_uids();
+        bounds_are_kept();
         let verdicts = self.verdicts(alloc)?;
         bounded(alloc, self.basis.policies, verdicts.as_slice())
     }

@@ -27,11 +27,11 @@ use Rattle.cedar_gate_model.proofs.Runs.Contexts as contexts
 use Rattle.cedar_gate_model.proofs.Runs.Contexts.{Grows, was_open, binding_grows, entry_kept}
 
 module _ (may : State → Option Decision → Type 0) (x : Setup) where
-  abbrev Done : State → List (Text × Made) → List Entry → Type 0
+  abbrev pub Done : State → List (Text × Made) → List Entry → Type 0
   Done s bs es = Did may x [] s bs es
 
   -- the moment of a state asked for the same
-  asked_last : (m : Moment) (s : State) (bs : List (Text × Made)) (es : List Entry) → m.asked ≡ s.asked → Done s bs es → (moment_after m es).asked ≡ (last_state s bs es).asked
+  pub asked_last : (m : Moment) (s : State) (bs : List (Text × Made)) (es : List Entry) → m.asked ≡ s.asked → Done s bs es → (moment_after m es).asked ≡ (last_state s bs es).asked
   asked_last m s bs [] e d = e
   asked_last m s bs (round uids ∷ es) e d = asked_last (after m (round uids)) (with_asked s uids) bs es (ap (λ l. l ++ uids) e) d.1
   asked_last m s [] (bound k ∷ es) e d = absurd d
@@ -39,7 +39,7 @@ module _ (may : State → Option Decision → Type 0) (x : Setup) where
   asked_last m s bs (decided o ∷ es) e d = asked_last m s bs es e d.1
 
   -- nothing is asked for twice
-  once : (s : State) (bs : List (Text × Made)) (es : List Entry) → (HasTwice s.asked → ⊥) → Done s bs es → HasTwice (last_state s bs es).asked → ⊥
+  pub once : (s : State) (bs : List (Text × Made)) (es : List Entry) → (HasTwice s.asked → ⊥) → Done s bs es → HasTwice (last_state s bs es).asked → ⊥
   once s bs [] a d h = a h
   once s bs (round uids ∷ es) a d h =
       let w = (d.0).wanted in
@@ -63,11 +63,11 @@ module _ (may : State → Option Decision → Type 0) (x : Setup) where
       (⊎_elim (λ k. inl (known_kept _ _ u (entry_kept s t grows (codes "principal") x.start.principal) k))
       (λ k. inr (⊎_elim (λ q. inl (known_kept _ _ u (entry_kept s t grows (codes "resource") x.start.resource) q)) (λ q. inr (context_kept _ _ u (contexts.context_kept x s t grows x.start.context made) q)) k)) (root_cases (world_now x s) u h))
 
-  wanted_in_slice : IsMadeContext x.start.context → (s t : State) → Grows (value_of s) (value_of t) → (u : Uid) → IsWantedNow x s u → InSlice x.schema x.level (world_now x t) u
+  pub wanted_in_slice : IsMadeContext x.start.context → (s t : State) → Grows (value_of s) (value_of t) → (u : Uid) → IsWantedNow x s u → InSlice x.schema x.level (world_now x t) u
   wanted_in_slice made s t grows u h =
       (near_kept (world_now x s) (world_now x t) (root_stays made s t grows) (λ v y k. k) x.level u (near_of_loaded x.schema (world_now x s) s.asked x.level u (h.0).0), (h.0).1)
 
-  within : IsMadeContext x.start.context → (s : State) (bs : List (Text × Made)) (es : List Entry) → Done s bs es → (u : Uid) → Contains (last_state s bs es).asked u → Contains s.asked u ⊎ InSlice x.schema x.level (world_now x (last_state s bs es)) u
+  pub within : IsMadeContext x.start.context → (s : State) (bs : List (Text × Made)) (es : List Entry) → Done s bs es → (u : Uid) → Contains (last_state s bs es).asked u → Contains s.asked u ⊎ InSlice x.schema x.level (world_now x (last_state s bs es)) u
   within made s bs [] d u k = inl k
   within made s bs (round uids ∷ es) d u k =
       let t = last_state (with_asked s uids) bs es in
@@ -83,7 +83,7 @@ module _ (may : State → Option Decision → Type 0) (x : Setup) where
   length_more : (found : List (List Uid)) (uids : List Uid) → length (found ++ uids ∷ []) ≡ suc (length found)
   length_more found uids = let e = length-append found (uids ∷ []) in omega (arith, e)
 
-  few : (s : State) (bs : List (Text × Made)) (es : List Entry) (found : List (List Uid)) → Done s bs es → Settled x.schema (world_now x s) s.asked (length found) → length found ≤ x.level → length (rounds_after es found) ≤ x.level
+  pub few : (s : State) (bs : List (Text × Made)) (es : List Entry) (found : List (List Uid)) → Done s bs es → Settled x.schema (world_now x s) s.asked (length found) → length found ≤ x.level → length (rounds_after es found) ≤ x.level
   few s bs [] found d settled l = l
   few s bs (round uids ∷ es) found d settled l =
       let r = d.0 in

@@ -32,16 +32,16 @@ is_unsatisfied : (k : World) (p : Policy) → IsForcedFalse k p → IsUnsatisfie
 is_unsatisfied k p h = (h.0, (policies_mean_truth k p h.0).0 h.1, h.2)
 
 module _ (c : Course) (s : State) (store : Uid → Found Made) (proper : IsProper c) (same : (u : Uid) → known_found (store u) ≡ (known_now (session_of c) s).store u) where
-  abbrev scope : Scope
+  abbrev pub scope : Scope
   scope = scope_now (session_of c) s store
 
-  abbrev ps : List Policy
+  abbrev pub ps : List Policy
   ps = c.submission.policies
 
-  known_same : known_now (session_of c) s ≡ known_world scope
+  pub known_same : known_now (session_of c) s ≡ known_world scope
   known_same = λ i. record (known_now (session_of c) s) { store = λ u. sym (same u) i }
 
-  ready : met_limit (response_of scope c.submission.limit ps) ≡ false → IsReady scope c.submission.limit ps
+  pub ready : met_limit (response_of scope c.submission.limit ps) ≡ false → IsReady scope c.submission.limit ps
   ready none = record {
     agrees = (proper.fair).agrees;
     unbound = leaves_unbound scope (proper.fair).agrees (leaves_nothing c proper);

@@ -52,24 +52,24 @@ use Rattle.cedar_gate_model.proofs.Runs.Did.{Did, run_did}
 use Rattle.cedar_gate_model.proofs.Runs.Restricted.{value_is_meant}
 
 -- an expression that has an unknown has one
-some_unknown_of : (t : Tree) → has_unknown t ≡ true → (u : Unknown) × Contains (unknowns t) u
+pub some_unknown_of : (t : Tree) → has_unknown t ≡ true → (u : Unknown) × Contains (unknowns t) u
 some_unknown_of t e =
     let r = any_from (λ s. is_some (unknown_here s)) (subexpressions t) e in
     let u = what_is_there (unknown_here r.0) r.2 in
     (u.0, kept_has unknown_here (subexpressions t) r.0 u.0 r.1 u.1)
 
 module _ (c : Course) (proper : IsProper c) where
-  abbrev x : Setup
+  abbrev pub x : Setup
   x = session_of c
 
-  abbrev ps : List Policy
+  abbrev pub ps : List Policy
   ps = c.submission.policies
 
-  calls_leave_nothing : (f : Name) (ms : List Made) (n : Text) → IsTaken x.functions.table f (map bare ms) → x.functions.calls f ms ≡ leaves_unknown n → ⊥
+  pub calls_leave_nothing : (f : Name) (ms : List Made) (n : Text) → IsTaken x.functions.table f (map bare ms) → x.functions.calls f ms ≡ leaves_unknown n → ⊥
   calls_leave_nothing f ms n t e = leaves_nothing c proper f (map bare ms) n t (sym ((proper.fair).agrees f ms t) ∙ ap bare_called e)
 
   -- nothing is bound yet, or the context doesn't fail
-  abbrev Sound : State → Type 0
+  abbrev pub Sound : State → Type 0
   Sound s = (s.bound ≡ []) ⊎ (ContextFails x.functions s c.start.context → ⊥)
 
   failing_same : (s t : State) → s.bound ≡ t.bound → (k : Context) → ContextFails x.functions t k → ContextFails x.functions s k
@@ -163,7 +163,7 @@ module _ (c : Course) (proper : IsProper c) where
       exact = λ u. let e = r.wanted.exact u in let q = slice_same x.level u in (λ k. let i = e.0 k in (q.1 i.0, i.1), λ k. e.1 (q.0 k.0, k.1));
     }
 
-  legal : (w : World) (s : State) (bs : List (Text × Made)) (es : List transcript.Entry) → ((b : Text × Made) → Contains bs b → IsWellMade x.functions.table b.1) → Did (MayDecide x ps) x ps s bs es → Stands x s → Sound s → CompletesNow x (last_state s bs es) w
+  pub legal : (w : World) (s : State) (bs : List (Text × Made)) (es : List transcript.Entry) → ((b : Text × Made) → Contains bs b → IsWellMade x.functions.table b.1) → Did (MayDecide x ps) x ps s bs es → Stands x s → Sound s → CompletesNow x (last_state s bs es) w
       → AreLegal (case_of x ps) w (moment_of s) es
   legal w s bs [] well d stands sound done = tt
   legal w s bs (round uids ∷ es) well d stands sound done = (

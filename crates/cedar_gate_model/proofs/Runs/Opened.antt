@@ -31,7 +31,7 @@ module _ (x : Setup) where
   fault_same s n m no_entity_or_record h = h
   fault_same s n m context_fails h = fails_same s n m x.start.context h
 
-  bound_after : (may : State → Option Decision → Type 0) (ps : List Policy) (s : State) (bs : List (Text × Made)) (es : List transcript.Entry) → ((b : Text × Made) → Contains bs b → IsWellMade x.functions.table b.1) → Did may x ps s bs es → AreBound x s.bound
+  pub bound_after : (may : State → Option Decision → Type 0) (ps : List Policy) (s : State) (bs : List (Text × Made)) (es : List transcript.Entry) → ((b : Text × Made) → Contains bs b → IsWellMade x.functions.table b.1) → Did may x ps s bs es → AreBound x s.bound
       → AreBound x (last_state s bs es).bound
   bound_after may ps s bs [] well d h = h
   bound_after may ps s bs (round uids ∷ es) well d h = bound_after may ps (with_asked s uids) bs es well d.1 h

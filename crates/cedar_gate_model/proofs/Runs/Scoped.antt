@@ -71,7 +71,7 @@ module _ (u : Uid) where
   told_if i f = by_found held (unloaded_if i) (unloaded_if i) f
 
   -- an entity that is known is there
-  held_there : (i b : Bool) (f : Found V) (e : Entity V) → cond b (told_if i f) (unloaded_if i) ≡ held e → (b ≡ true) × (f ≡ held e)
+  pub held_there : (i b : Bool) (f : Found V) (e : Entity V) → cond b (told_if i f) (unloaded_if i) ≡ held e → (b ≡ true) × (f ≡ held e)
   held_there i true (held d) e q = (refl, q)
   held_there true true missing e q = cc
   held_there false true missing e q = cc
@@ -81,7 +81,7 @@ module _ (u : Uid) where
   held_there false false f e q = cc
 
   -- what is known to be missing is no uid
-  missing_there : (i b : Bool) (f : Found V) → cond b (told_if i f) (unloaded_if i) ≡ missing → (i ≡ false) × (b ≡ true → (e : Entity V) → f ≡ held e → ⊥)
+  pub missing_there : (i b : Bool) (f : Found V) → cond b (told_if i f) (unloaded_if i) ≡ missing → (i ≡ false) × (b ≡ true → (e : Entity V) → f ≡ held e → ⊥)
   missing_there i true (held d) q = cc
   missing_there true true missing q = cc
   missing_there false true missing q = (refl, λ k e r. cc)
@@ -98,11 +98,11 @@ module _ (u : Uid) where
   open_there false true not_loaded q = cc
   open_there false false f q = cc
 
-either_is : (a b : Bool) → (a || b) ≡ true → (a ≡ false → b ≡ true)
+pub either_is : (a b : Bool) → (a || b) ≡ true → (a ≡ false → b ≡ true)
 either_is true b e f = cc
 either_is false b e f = e
 
-false_of : (b : Bool) → (b ≡ true → ⊥) → b ≡ false
+pub false_of : (b : Bool) → (b ≡ true → ⊥) → b ≡ false
 false_of true h = absurd (h refl)
 false_of false h = refl
 
@@ -110,7 +110,7 @@ module _ (c : Course) (proper : IsProper c) (makes_fairly : MakeFairly c.functio
   abbrev x : Setup
   x = session_of c
 
-  abbrev scope : Scope
+  abbrev pub scope : Scope
   scope = scope_now x s store
 
   abbrev mine : State
@@ -308,7 +308,7 @@ module _ (c : Course) (proper : IsProper c) (makes_fairly : MakeFairly c.functio
   value_well n None e = tt
   value_well n (Some m) e = (taken_value x mine taken n m e).1
 
-  all_well : AllMadeWell scope
+  pub all_well : AllMadeWell scope
   all_well = record { context = context_well x.start.context refl proper.context; values = λ n. value_well n (env n) refl; store = stands_on.well; calls = makes_fairly.well }
 
   pub decision_holds : (d : Decision) → decision_in_session (response_of scope c.submission.limit c.submission.policies) ≡ Some d → d ≡ decision_of w c.submission.policies

@@ -1,4 +1,4 @@
-use Rattle.std.proofs.Common.{◌≡◌, [], ◌∷◌, ◌++◌, map, length, refl, sym, ap, ◌∙◌, subst}
+use Rattle.std.proofs.Common.{inr, ◌≡◌, [], ◌∷◌, ◌++◌, map, length, refl, sym, ap, ◌∙◌, subst}
 use Rattle.cedar_expr_names.specs.Views.{uid_of}
 use Rattle.cedar_gate_model.specs.Runs.{supplied_by, with_asked}
 use Rattle.cedar_gate_model.specs.RunsAnswer.{session_of}
@@ -10,6 +10,7 @@ use Rattle.cedar_gate_runs.proofs.Looped.{not_none, round_done}
 use Rattle.cedar_gate_runs.proofs.Pushed.{handed, pushed_in_room, uids_none}
 use Rattle.cedar_gate_runs.specs.Running.{StopsSupply}
 use Rattle.cedar_gate_runs.specs.declared.stops_with.Stop.TheVariants.{Memory}
+use Rattle.cedar_gate_runs.proofs.Losing.{on_err, none_last, wanted_last, kept_count, memory_counts}
 use Rattle.cedar_gate_runs.proofs.loading.load.Goals as goal
 
 pub returns-in_err-take_in-clause-stopped : goal.returns-in_err-take_in-clause-stopped
@@ -57,3 +58,37 @@ returns-in_err-take_in-clause-beyond g c = handed _ c.in_err-take_in.field-0.0 c
 
 pub returns-in_err-push-clause-beyond : goal.returns-in_err-push-clause-beyond
 returns-in_err-push-clause-beyond g c = handed _ Memory c.from_residual-in_err-push.result c.from_residual-in_err-push.ensures.1 (map uid_of c.as_slice.result.now ∷ [], memory_beyond_one (map uid_of c.as_slice.result.now), c.in_ok-take_in.ensures.asked)
+
+pub returns-in_err-wanted-clause-counted : goal.returns-in_err-wanted-clause-counted
+returns-in_err-wanted-clause-counted g c = handed _ Memory c.from_residual.result c.from_residual.ensures.1 refl
+
+pub returns-in_err-reserve-clause-counted : goal.returns-in_err-reserve-clause-counted
+returns-in_err-reserve-clause-counted g c = handed _ Memory c.from_residual-in_err-reserve.result c.from_residual-in_err-reserve.ensures.1 refl
+
+pub returns-in_err-take_in-clause-counted : goal.returns-in_err-take_in-clause-counted
+returns-in_err-take_in-clause-counted g c = handed _ c.in_err-take_in.field-0.0 c.from_residual-in_err-take_in.result c.from_residual-in_err-take_in.ensures.1 c.in_err-take_in.ensures.counted
+
+pub returns-in_err-push-clause-counted : goal.returns-in_err-push-clause-counted
+returns-in_err-push-clause-counted g c = handed _ Memory c.from_residual-in_err-push.result c.from_residual-in_err-push.ensures.1 (kept_count Memory _ _ memory_counts c.in_ok-take_in.ensures.faults)
+
+pub returns-in_err-wanted-clause-last : goal.returns-in_err-wanted-clause-last
+returns-in_err-wanted-clause-last g c = on_err _ c.from_residual.result (λ d s h. none_last (session_of d) s _)
+
+pub returns-in_err-reserve-clause-last : goal.returns-in_err-reserve-clause-last
+returns-in_err-reserve-clause-last g c = on_err _ c.from_residual-in_err-reserve.result (λ d s h. none_last (session_of d) s _)
+
+pub returns-in_err-take_in-clause-last : goal.returns-in_err-take_in-clause-last
+returns-in_err-take_in-clause-last g c =
+    let items = c.in_ok-wanted.wanted.items in
+    let us = map uid_of items in
+    let some = not_none items _ c.is_empty.result (sym c.as_slice.ensures.len ∙ ap length c.as_slice.ensures.value) c.is_empty.ensures c.if-is_empty.false in
+    on_err _ c.from_residual-in_err-take_in.result
+    (λ d s h. wanted_last (session_of d) s _ _ us (map uid_of c.as_slice.result.now) (ap (map uid_of) c.as_slice.ensures.value) (λ k. some (uids_none items k)) (c.in_ok-wanted.ensures.exact d s h) c.in_err-take_in.ensures.last)
+
+pub returns-in_err-push-clause-last : goal.returns-in_err-push-clause-last
+returns-in_err-push-clause-last g c =
+    let items = c.in_ok-wanted.wanted.items in
+    let us = map uid_of items in
+    let some = not_none items _ c.is_empty.result (sym c.as_slice.ensures.len ∙ ap length c.as_slice.ensures.value) c.is_empty.ensures c.if-is_empty.false in
+    on_err _ c.from_residual-in_err-push.result
+    (λ d s h. wanted_last (session_of d) s _ _ us (map uid_of c.as_slice.result.now) (ap (map uid_of) c.as_slice.ensures.value) (λ k. some (uids_none items k)) (c.in_ok-wanted.ensures.exact d s h) (inr c.in_ok-take_in.ensures.asked))

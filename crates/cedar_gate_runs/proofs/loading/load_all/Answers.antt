@@ -1,10 +1,12 @@
-use Rattle.std.proofs.Common.{rules, ◌≡◌, ◌<◌, true, false, refl, ◌∙◌, subst, arith}
+use Rattle.std.proofs.Common.{rules, ◌≡◌, ◌<◌, true, false, ap, refl, ◌∙◌, subst, arith}
 use Rattle.cedar_gate_model.specs.RunsAnswer.{session_of}
 use Rattle.cedar_gate_runs.proofs.Asked.{beyond_on}
 use Rattle.cedar_gate_runs.proofs.Looped.{loading_none, loading_more, loading_ends, loading_halts, loading_few}
 use Rattle.cedar_gate_runs.proofs.Pushed.{handed}
 use Rattle.cedar_gate_runs.specs.Running.{Went, DidLoad}
 use Rattle.cedar_gate_runs.specs.Transcripts.{entries_of}
+use Rattle.cedar_gate_runs.proofs.Losing.{on_err, loading_last}
+use Rattle.cedar_gate_runs.specs.Counting.{count_after}
 use Rattle.cedar_gate_runs.proofs.loading.load_all.Goals as goal
 
 pub loop-round-init : goal.loop-round-init
@@ -78,3 +80,15 @@ returns-then-not-branch-clause-asked g c = λ first h. c.in_ok-load.ensures.aske
 
 pub returns-clause-asked : goal.returns-clause-asked
 returns-clause-asked g c = c.loop-round.invariant.asked
+
+pub returns-in_err-load-clause-counted : goal.returns-in_err-load-clause-counted
+returns-in_err-load-clause-counted g c =
+    let stop = c.in_err-load.field-0.0 in
+    handed _ stop c.from_residual.result c.from_residual.ensures.1 (c.in_err-load.ensures.counted ∙ ap (count_after stop) c.loop-round.invariant.faults)
+
+pub returns-in_err-load-clause-last : goal.returns-in_err-load-clause-last
+returns-in_err-load-clause-last g c = on_err _ c.from_residual.result
+    (λ d s first h k a.
+    let i = c.loop-round.invariant in
+    let l = i.loading d s h k in
+    loading_last (g.E.SessionCalls.stands d) (session_of d) s c.loop-round._round _ _ _ _ first _ _ l c.in_err-load.ensures.unchanged (i.asked first a) (c.in_err-load.ensures.last d l.went.state l.went.at))

@@ -1,4 +1,4 @@
-use Rattle.std.proofs.Common.{[], ◌∷◌, map, sym, subst, ◌∙◌}
+use Rattle.std.proofs.Common.{[], ◌∷◌, map, inl, inr, sym, subst, ◌∙◌}
 use Rattle.cedar_expr_names.specs.Views.{uid_of}
 use Rattle.cedar_gate_model.specs.Runs.{supplied_by, with_asked}
 use Rattle.cedar_gate_model.specs.RunsAnswer.{session_of}
@@ -12,6 +12,8 @@ use Rattle.cedar_gate_runs.specs.Asking.{AskedBeyond}
 use Rattle.cedar_gate_runs.specs.Refusals.{IsSupplyRefusal}
 use Rattle.cedar_gate_runs.specs.Running.{StopsSupply}
 use Rattle.cedar_gate_runs.specs.StopsWith.{host_stop}
+use Rattle.cedar_gate_runs.proofs.Losing.{on_err, host_counts, supply_counts, kept_count}
+use Rattle.cedar_gate_runs.specs.Counting.{KeepsCount}
 use Rattle.cedar_gate_runs.proofs.loading.take_in.Goals as goal
 
 pub returns-in_err-supplied-clause-host : goal.returns-in_err-supplied-clause-host
@@ -52,3 +54,15 @@ returns-in_err-supplied-clause-beyond g c =
 pub returns-in-Err-clause-beyond : goal.returns-in-Err-clause-beyond
 returns-in-Err-clause-beyond g c =
     subst (AskedBeyond (g.H.Host.asked c.args.host.now) (g.H.Host.asked c.fetch.new.self)) (sym c.supplying.ensures) (map uid_of c.args.wanted.now ∷ [], supply_beyond c.in-Err.refusal _, c.in_ok-supplied.ensures.asked)
+
+pub returns-in_err-supplied-clause-counted : goal.returns-in_err-supplied-clause-counted
+returns-in_err-supplied-clause-counted g c = handed _ (host_stop c.in_err-supplied.field-0.0) c.from_residual.result c.from_residual.ensures.1 (host_counts (Unit {0}) c.in_err-supplied.field-0.0 _ _ c.in_err-supplied.ensures.faults)
+
+pub returns-in_err-supplied-clause-last : goal.returns-in_err-supplied-clause-last
+returns-in_err-supplied-clause-last g c = on_err _ c.from_residual.result (inl c.in_err-supplied.ensures.asked)
+
+pub returns-in-Err-clause-counted : goal.returns-in-Err-clause-counted
+returns-in-Err-clause-counted g c = kept_count c.supplying.result _ _ (subst KeepsCount (sym c.supplying.ensures) (supply_counts c.in-Err.refusal)) c.in_ok-supplied.ensures.faults
+
+pub returns-in-Err-clause-last : goal.returns-in-Err-clause-last
+returns-in-Err-clause-last g c = inr c.in_ok-supplied.ensures.asked

@@ -6,6 +6,8 @@ use Rattle.cedar_gate_runs.proofs.Asked.{answer_beyond}
 use Rattle.cedar_gate_runs.proofs.Faulted.{answer_stops}
 use Rattle.cedar_gate_runs.specs.Asking.{IsBeyond}
 use Rattle.cedar_gate_runs.specs.Stopping.{IsRefused}
+use Rattle.cedar_gate_runs.proofs.Losing.{answer_counts}
+use Rattle.cedar_gate_runs.specs.Counting.{KeepsCount}
 use Rattle.cedar_gate_runs.proofs.runs.finish.Goals as goal
 
 pub returns-in-Ok-clause-answered : goal.returns-in-Ok-clause-answered
@@ -18,3 +20,6 @@ returns-in-Err-clause-stopped g c = λ d s h none.
 
 pub returns-in-Err-clause-alone : goal.returns-in-Err-clause-alone
 returns-in-Err-clause-alone g c = subst (λ s. IsBeyond s []) (sym c.answering.ensures) (answer_beyond c.in-Err.refusal)
+
+pub returns-in-Err-clause-counted : goal.returns-in-Err-clause-counted
+returns-in-Err-clause-counted g c = subst KeepsCount (sym c.answering.ensures) (answer_counts c.in-Err.refusal)

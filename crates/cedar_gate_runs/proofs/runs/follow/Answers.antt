@@ -1,4 +1,4 @@
-use Rattle.std.proofs.Common.{refl}
+use Rattle.std.proofs.Common.{refl, ap, ◌∙◌}
 use Rattle.cedar_gate_runs.proofs.Asked.{alone_beyond, beyond_on}
 use Rattle.cedar_gate_runs.proofs.Ended.{carried_err, comes_to, halts_last}
 use Rattle.cedar_gate_runs.proofs.Looped.{halts_after}
@@ -6,6 +6,8 @@ use Rattle.cedar_gate_runs.proofs.Pushed.{handed, carried, carried_to}
 use Rattle.cedar_gate_runs.specs.Steps.{steps_of}
 use Rattle.cedar_evaluator_requests.specs.Views.{answer_of}
 use Rattle.cedar_gate_runs.specs.Transcripts.{entries_of}
+use Rattle.cedar_gate_runs.proofs.Losing.{on_err, kept_count, rounds_last, answer_last}
+use Rattle.cedar_gate_runs.specs.Counting.{count_after}
 use Rattle.cedar_gate_runs.proofs.runs.follow.Goals as goal
 
 pub returns-in_err-take_steps-clause-stopped : goal.returns-in_err-take_steps-clause-stopped
@@ -47,3 +49,33 @@ returns-clause-beyond g c = carried_err _ _ c.finish.result
     let es = entries_of c.load_all.new.entries.items in
     let asked = g.H.Host.asked c.load_all.new.host in
     beyond_on first asked asked es es stop (c.in_ok-load_all.ensures.asked first (c.in_ok-take_steps.ensures.asked first h)) refl (alone_beyond asked stop p)) c.finish.ensures.alone
+
+pub returns-clause-faults : goal.returns-clause-faults
+returns-clause-faults g c = carried_to _ c.finish.result (c.in_ok-load_all.ensures.faults ∙ c.in_ok-take_steps.ensures.faults)
+
+pub returns-in_err-take_steps-clause-counted : goal.returns-in_err-take_steps-clause-counted
+returns-in_err-take_steps-clause-counted g c = handed _ c.in_err-take_steps.field-0.0 c.from_residual.result c.from_residual.ensures.1 c.in_err-take_steps.ensures.counted
+
+pub returns-in_err-load_all-clause-counted : goal.returns-in_err-load_all-clause-counted
+returns-in_err-load_all-clause-counted g c =
+    let stop = c.in_err-load_all.field-0.0 in
+    handed _ stop c.from_residual-in_err-load_all.result c.from_residual-in_err-load_all.ensures.1 (c.in_err-load_all.ensures.counted ∙ ap (count_after stop) c.in_ok-take_steps.ensures.faults)
+
+pub returns-clause-counted : goal.returns-clause-counted
+returns-clause-counted g c = carried_err _ _ c.finish.result (λ stop p. kept_count stop _ _ p (c.in_ok-load_all.ensures.faults ∙ c.in_ok-take_steps.ensures.faults)) c.finish.ensures.counted
+
+pub returns-in_err-take_steps-clause-last : goal.returns-in_err-take_steps-clause-last
+returns-in_err-take_steps-clause-last g c = on_err _ c.from_residual.result c.in_err-take_steps.ensures.last
+
+pub returns-in_err-load_all-clause-last : goal.returns-in_err-load_all-clause-last
+returns-in_err-load_all-clause-last g c = on_err _ c.from_residual-in_err-load_all.result
+    (λ d s first h i b a.
+    let w = c.in_ok-take_steps.ensures.did d s h i b in
+    rounds_last (g.E.SessionCalls.stands d) d s (steps_of c.args.steps.items) _ _ _ _ first _ w (c.in_err-load_all.ensures.last d w.state first w.at (c.in_ok-take_steps.ensures.host d i) (c.in_ok-take_steps.ensures.asked first a)))
+
+pub returns-clause-last : goal.returns-clause-last
+returns-clause-last g c = on_err _ c.finish.result
+    (λ d s first h i b a.
+    let w = c.in_ok-take_steps.ensures.did d s h i b in
+    let v = c.in_ok-load_all.ensures.did d w.state w.at (c.in_ok-take_steps.ensures.host d i) in
+    answer_last (g.E.SessionCalls.stands d) d s (steps_of c.args.steps.items) _ _ _ _ _ first _ w v (c.in_ok-load_all.ensures.asked first (c.in_ok-take_steps.ensures.asked first a)))

@@ -8,6 +8,8 @@ use Rattle.cedar_gate_runs.proofs.Asked.{bind_beyond}
 use Rattle.cedar_gate_runs.proofs.Faulted.{bind_stops}
 use Rattle.cedar_gate_runs.specs.Asking.{IsBeyond}
 use Rattle.cedar_gate_runs.specs.Stopping.{IsRefused}
+use Rattle.cedar_gate_runs.proofs.Losing.{bind_counts}
+use Rattle.cedar_gate_runs.specs.Counting.{KeepsCount}
 use Rattle.cedar_gate_runs.proofs.stepping.bind_in.Goals as goal
 
 pub returns-in-Err-clause-stopped : goal.returns-in-Err-clause-stopped
@@ -18,3 +20,6 @@ returns-in-Err-clause-stopped g c = λ d s rest h.
 
 pub returns-in-Err-clause-alone : goal.returns-in-Err-clause-alone
 returns-in-Err-clause-alone g c = subst (λ s. IsBeyond s []) (sym c.binding.ensures) (bind_beyond c.in-Err.refusal)
+
+pub returns-in-Err-clause-counted : goal.returns-in-Err-clause-counted
+returns-in-Err-clause-counted g c = subst KeepsCount (sym c.binding.ensures) (bind_counts c.in-Err.refusal)

@@ -9,6 +9,7 @@ use Rattle.cedar_gate_runs.proofs.Asked.{memory_beyond, no_more}
 use Rattle.cedar_gate_runs.proofs.Pushed.{handed, pushed_in_room}
 use Rattle.cedar_gate_runs.proofs.Stepped.{binds}
 use Rattle.cedar_gate_runs.specs.declared.stops_with.Stop.TheVariants.{Memory}
+use Rattle.cedar_gate_runs.proofs.Losing.{memory_counts}
 use Rattle.cedar_gate_runs.proofs.stepping.bind_name.Goals as goal
 
 pub returns-in_err-copy-clause-stopped : goal.returns-in_err-copy-clause-stopped
@@ -52,3 +53,15 @@ returns-in_err-bind_in-clause-alone g c = handed _ c.in_err-bind_in.field-0.0 c.
 
 pub returns-in_err-push-clause-alone : goal.returns-in_err-push-clause-alone
 returns-in_err-push-clause-alone g c = handed _ Memory c.from_residual-in_err-push.result c.from_residual-in_err-push.ensures.1 memory_beyond
+
+pub returns-in_err-copy-clause-counted : goal.returns-in_err-copy-clause-counted
+returns-in_err-copy-clause-counted g c = handed _ Memory c.from_residual.result c.from_residual.ensures.1 memory_counts
+
+pub returns-in_err-reserve-clause-counted : goal.returns-in_err-reserve-clause-counted
+returns-in_err-reserve-clause-counted g c = handed _ Memory c.from_residual-in_err-reserve.result c.from_residual-in_err-reserve.ensures.1 memory_counts
+
+pub returns-in_err-bind_in-clause-counted : goal.returns-in_err-bind_in-clause-counted
+returns-in_err-bind_in-clause-counted g c = handed _ c.in_err-bind_in.field-0.0 c.from_residual-in_err-bind_in.result c.from_residual-in_err-bind_in.ensures.1 c.in_err-bind_in.ensures.counted
+
+pub returns-in_err-push-clause-counted : goal.returns-in_err-push-clause-counted
+returns-in_err-push-clause-counted g c = handed _ Memory c.from_residual-in_err-push.result c.from_residual-in_err-push.ensures.1 memory_counts

@@ -1,4 +1,4 @@
-use Rattle.std.proofs.Common.{[], ◌∷◌, sym, subst}
+use Rattle.std.proofs.Common.{[], ◌∷◌, refl, sym, subst}
 use Rattle.std.specs.Rc.{rc_str_bytes}
 use Rattle.cedar_expr_values.specs.Extensions.{extension_of}
 use Rattle.cedar_expr_values.specs.Values.{made}
@@ -15,6 +15,8 @@ use Rattle.cedar_gate_runs.specs.Steps.{step_of}
 use Rattle.cedar_gate_runs.specs.Stopping.{IsRefused}
 use Rattle.cedar_gate_runs.specs.declared.stops_with.Stop.TheVariants.{Memory}
 use Rattle.cedar_gate_runs.specs.Transcripts.{entries_of}
+use Rattle.cedar_gate_runs.proofs.Losing.{on_err, none_last, kept_count, memory_counts}
+use Rattle.cedar_gate_runs.specs.Counting.{KeepsCount}
 use Rattle.cedar_gate_runs.proofs.stepping.take_step.Goals as goal
 
 pub returns-in_err-load-in-Load-clause-stopped : goal.returns-in_err-load-in-Load-clause-stopped
@@ -56,3 +58,21 @@ returns-in-Decide-clause-asked g c = carried_ok _ _ c.decide.result (λ p first 
 pub returns-in-Decide-clause-beyond : goal.returns-in-Decide-clause-beyond
 returns-in-Decide-clause-beyond g c =
     carried_err _ _ c.decide.result (λ stop p. subst (AskedBeyond (g.H.Host.asked c.args.host.now) (g.H.Host.asked c.args.host.now)) (sym p) (alone_beyond (g.H.Host.asked c.args.host.now) Memory memory_beyond)) c.decide.ensures.stopped
+
+pub returns-in_err-load-in-Load-clause-counted : goal.returns-in_err-load-in-Load-clause-counted
+returns-in_err-load-in-Load-clause-counted g c = handed _ c.in_err-load-in-Load.field-0.0 c.from_residual.result c.from_residual.ensures.1 c.in_err-load-in-Load.ensures.counted
+
+pub returns-in-Bind-clause-counted : goal.returns-in-Bind-clause-counted
+returns-in-Bind-clause-counted g c = carried_err _ _ c.bind_name.result (λ stop p. kept_count stop _ _ p refl) c.bind_name.ensures.counted
+
+pub returns-in-Decide-clause-counted : goal.returns-in-Decide-clause-counted
+returns-in-Decide-clause-counted g c = carried_err _ _ c.decide.result (λ stop p. kept_count stop _ _ (subst KeepsCount (sym p) memory_counts) refl) c.decide.ensures.stopped
+
+pub returns-in_err-load-in-Load-clause-last : goal.returns-in_err-load-in-Load-clause-last
+returns-in_err-load-in-Load-clause-last g c = on_err _ c.from_residual.result c.in_err-load-in-Load.ensures.last
+
+pub returns-in-Bind-clause-last : goal.returns-in-Bind-clause-last
+returns-in-Bind-clause-last g c = on_err _ c.bind_name.result (λ d s h. none_last (session_of d) s _)
+
+pub returns-in-Decide-clause-last : goal.returns-in-Decide-clause-last
+returns-in-Decide-clause-last g c = on_err _ c.decide.result (λ d s h. none_last (session_of d) s _)

@@ -10,6 +10,8 @@ use Rattle.cedar_gate_runs.specs.Courses.{BindWell, DidSteps}
 use Rattle.cedar_gate_runs.specs.Running.{Went}
 use Rattle.cedar_gate_runs.specs.Steps.{step_of, steps_of}
 use Rattle.cedar_gate_runs.specs.Transcripts.{entries_of}
+use Rattle.cedar_gate_runs.proofs.Losing.{on_err, step_last}
+use Rattle.cedar_gate_runs.specs.Counting.{count_after}
 use Rattle.cedar_gate_runs.proofs.stepping.take_steps.Goals as goal
 
 pub loop-step-init : goal.loop-step-init
@@ -72,3 +74,22 @@ returns-in_err-take_step-clause-beyond g c = handed _ c.in_err-take_step.field-0
 
 pub returns-clause-asked : goal.returns-clause-asked
 returns-clause-asked g c = c.loop-step.invariant.asked
+
+pub returns-in_err-take_step-clause-counted : goal.returns-in_err-take_step-clause-counted
+returns-in_err-take_step-clause-counted g c =
+    let stop = c.in_err-take_step.field-0.0 in
+    handed _ stop c.from_residual.result c.from_residual.ensures.1 (c.in_err-take_step.ensures.counted ∙ ap (count_after stop) c.loop-step.invariant.faults)
+
+pub returns-in_err-take_step-clause-last : goal.returns-in_err-take_step-clause-last
+returns-in_err-take_step-clause-last g c =
+    let i = c.loop-step.invariant in
+    let ys = c.loop-step.yielded in
+    let step = c.in-Some.step in
+    let rest = into_iter_items c.next.new.self in
+    let all = i.goes ∙ ap (λ zs. ys ++ zs) c.in-Some.ensures.steps.0 in
+    on_err _ c.from_residual.result
+    (λ d s first h k b a.
+    let w = i.went d s h k b in
+    let each = ap steps_of all ∙ map-append step_of ys (step ∷ rest) in
+    step_last (g.E.SessionCalls.stands d) d s (steps_of c.args.steps.items) (steps_of ys) (step_of step ∷ steps_of rest) _ _ _ _ first _ _ (sym each) c.in_err-take_step.ensures.unchanged w (i.asked first a)
+    (c.in_err-take_step.ensures.last d w.state w.at))

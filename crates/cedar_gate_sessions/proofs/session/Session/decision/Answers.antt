@@ -21,3 +21,7 @@ returns-clause-in_part g c = λ r s at is.
     decision_in_part r s (store_in d) (steady x.schema (store_in d)) (λ u. made_alike x s d.loaded.items at.loaded u c.uids_are_uids.ensures partial) (policies_in d) is
     (known_store g.S.DeclaredActions.schema g.T.FunctionCalls.functions r s d at) (option_map decision_of c.decided.result)
     (c.decided.ensures (scope_now x s (store_in d)) x.limit (c.as_slice.ensures.value ∙ c.in_ok-verdicts.ensures x s at))
+
+pub returns-clause-kept : goal.returns-clause-kept
+returns-clause-kept g c = λ r s at is proper fair.
+    c.decisions_are_kept.ensures r s (option_map decision_of c.decided.result) proper fair at.opened (at.loaded).conform (returns-clause-in_part g c r s at is)
