@@ -1,6 +1,7 @@
-//! Wide and deep expressions, values in the place of unknowns, and tables of functions.
+//! Wide and deep expressions, values in the place of unknowns, tables of functions, and sets.
 
 mod bindings;
+mod sets;
 mod tables;
 mod trees;
 
@@ -16,6 +17,8 @@ pub fn run(alloc: Global, path: &str, size: u32) -> Result<usize, Fault> {
         "substituted" => bindings::wide(alloc, size),
         "substituted_deep" => bindings::deep(alloc, size),
         "built" => bindings::built(alloc, size),
+        "sets_hashed" => sets::hashed(alloc, size),
+        "sets_ordered" => sets::ordered(alloc, size),
         _ => return Err(Fault::Unnamed),
     };
     Ok(counted?)

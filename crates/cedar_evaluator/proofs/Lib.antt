@@ -5,6 +5,5 @@ pub mod Kept
 pub mod Pushed
 pub mod Put
 pub mod Repeated
-pub mod RisesAgain
 pub mod Scoped
 pub mod Told

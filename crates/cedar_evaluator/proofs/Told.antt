@@ -1,20 +1,14 @@
 -- What is left of a policy, as it is told.
-use Rattle.std.proofs.Common.{◌≡◌, Bool, true, false, List, refl, sym, ap, ◌∙◌}
+use Rattle.std.proofs.Common.{◌≡◌, Bool, true, false, refl, sym, ap, ◌∙◌}
 use Rattle.cedar_expr_model.specs.Made.{Made, made_prim, made_set, made_record, made_extension}
-use Rattle.cedar_expr_model.specs.Name.{Name}
-use Rattle.cedar_expr_model.specs.Table.{Table, Called}
 use Rattle.cedar_expr_model.specs.Tree.{Tree}
-use Rattle.cedar_expr_model.specs.Value.{V, truth, long, text, entity}
+use Rattle.cedar_expr_model.specs.Value.{truth, long, text, entity}
 use Rattle.cedar_store_model.specs.Outcome.{overflow}
-use Rattle.cedar_store_model.specs.Policy.{SlotBindings}
-use Rattle.cedar_evaluator_model.specs.Scope.{MadeCalled, Stop, fault, limit, Left, value_left, residual, stopped}
+use Rattle.cedar_evaluator_model.specs.Scope.{Stop, fault, limit, Left, value_left, residual, stopped}
 use Rattle.cedar_evaluator_model.specs.Steps.{on_value, truth_wanted, truth_left}
 use Rattle.cedar_evaluator_model.specs.Response.{stops}
-use Rattle.cedar_evaluator_operators.specs.Calls.{Functions}
-use Rattle.cedar_evaluator_core.specs.Evaluators.{Serves}
 use Rattle.cedar_evaluator.specs.Verdicts.{with_residual, IsLeft}
 use Rattle.cedar_evaluator.specs.declared.verdicts.Verdict.TheVariants.{True, False, Residual, Erred}
-use Rattle.cedar_evaluator_core.specs.declared.evaluator.Evaluator.{Evaluator}
 use Rattle.cedar_expr_trees.specs.Trees.{tree_of}
 use Rattle.cedar_expr_trees.specs.declared.expr.Expr.{Expr}
 use Rattle.cedar_evaluator_errors.specs.Outcomes.{is_memory, stop_or, cause_of}

@@ -12,7 +12,7 @@ ghost use Rattle.cedar_evaluator_model.specs.Reauthorize.{request_bound};
 ghost use Rattle.cedar_evaluator_model.specs.Response.{PartialRequest, response_of};
 ghost use Rattle.cedar_evaluator_operators.specs.Calls.{Functions};
 ghost use Rattle.cedar_evaluator_reads.specs.Scopes.{values_in};
-ghost use Rattle.cedar_evaluator_core.specs.Evaluators.{asked_of, limit_of, scope_in, Serves};
+ghost use Rattle.cedar_evaluator_core.specs.Evaluators.{asked_of, table_in, limit_of, scope_in};
 ghost use Rattle.cedar_evaluator_requests.specs.Views.{request_of, answer_of};
 ghost use Rattle.cedar_evaluator.specs.Responses.{response_seen};
 ghost use Rattle.cedar_evaluator.specs.Gathering.{gathered};
@@ -21,7 +21,7 @@ ghost use Rattle.cedar_evaluator_contexts.specs.Functions.{HasFunctionsOf};
 ghost use Rattle.cedar_evaluator_model.specs.Scope.{Scope};
 ghost use Rattle.cedar_evaluator.specs.Completed.{HoldsIn, IsCompletionFor, IsForced};
 ghost use Rattle.cedar_evaluator.specs.Decisions.{IsClosedFor};
-ghost use Rattle.cedar_evaluator.specs.Scopes.{Knows, KnowsUnder, scope_for};
+ghost use Rattle.cedar_evaluator.specs.Scopes.{scope_for};
 
 use crate::gathering::Gathering;
 use crate::partial_response::PartialResponse;
@@ -76,8 +76,8 @@ impl<'a, T: FunctionTable> Authorizer<'a, T> {
         policies: &PolicySet,
         entities: &Entities,
     ) -> Result<Response, AllocError>
-        ensures response { (fs : Functions) → Knows T.table T.answers_as (asks_table self.now) (request_of q) entities.now fs → IfOk result (λ a. answer_of a ≡ concretize (response_of (scope_for T.table (asks_table self.now) (request_of q) entities.now fs) (keeps_limit self.now) (set_of policies.now).policies)) }
-        ensures meaning { (fs : Functions) → Knows T.table T.answers_as (asks_table self.now) (request_of q) entities.now fs → IsClosedFor (scope_for T.table (asks_table self.now) (request_of q) entities.now fs) (keeps_limit self.now) (set_of policies.now).policies → IfOk result (λ a. answer_of a ≡ as_concrete (model.answer_of (known_world (scope_for T.table (asks_table self.now) (request_of q) entities.now fs)) (set_of policies.now).policies)) }
+        ensures response { (fs : Functions) → T.answers_as (asks_table self.now) fs.calls → IfOk result (λ a. answer_of a ≡ concretize (response_of (scope_for T.table (asks_table self.now) (request_of q) entities.now fs) (keeps_limit self.now) (set_of policies.now).policies)) }
+        ensures meaning { (fs : Functions) → T.answers_as (asks_table self.now) fs.calls → IsClosedFor (scope_for T.table (asks_table self.now) (request_of q) entities.now fs) (keeps_limit self.now) (set_of policies.now).policies → IfOk result (λ a. answer_of a ≡ as_concrete (model.answer_of (known_world (scope_for T.table (asks_table self.now) (request_of q) entities.now fs)) (set_of policies.now).policies)) }
     {
         let response = self.is_authorized_core(alloc, q, policies, entities)?;
         response.concretize(alloc)
@@ -92,9 +92,9 @@ impl<'a, T: FunctionTable> Authorizer<'a, T> {
         policies: &PolicySet,
         entities: &Entities,
     ) -> Result<PartialResponse, AllocError>
-        ensures response { (fs : Functions) → Knows T.table T.answers_as (asks_table self.now) (request_of q) entities.now fs → IfOk result (λ r. response_seen r ≡ response_of (scope_for T.table (asks_table self.now) (request_of q) entities.now fs) (keeps_limit self.now) (set_of policies.now).policies) }
-        ensures completions { (fs : Functions) → Knows T.table T.answers_as (asks_table self.now) (request_of q) entities.now fs → (w : World) → IsCompletionFor w (scope_for T.table (asks_table self.now) (request_of q) entities.now fs) (set_of policies.now).policies → IfOk result (λ r. HoldsIn w (set_of policies.now).policies (response_seen r)) }
-        ensures owed { (fs : Functions) → Knows T.table T.answers_as (asks_table self.now) (request_of q) entities.now fs → IsReady (scope_for T.table (asks_table self.now) (request_of q) entities.now fs) (keeps_limit self.now) (set_of policies.now).policies → IfOk result (λ r. IsForced (known_world (scope_for T.table (asks_table self.now) (request_of q) entities.now fs)) (set_of policies.now).policies (decision (response_seen r))) }
+        ensures response { (fs : Functions) → T.answers_as (asks_table self.now) fs.calls → IfOk result (λ r. response_seen r ≡ response_of (scope_for T.table (asks_table self.now) (request_of q) entities.now fs) (keeps_limit self.now) (set_of policies.now).policies) }
+        ensures completions { (fs : Functions) → T.answers_as (asks_table self.now) fs.calls → (w : World) → IsCompletionFor w (scope_for T.table (asks_table self.now) (request_of q) entities.now fs) (set_of policies.now).policies → IfOk result (λ r. HoldsIn w (set_of policies.now).policies (response_seen r)) }
+        ensures owed { (fs : Functions) → T.answers_as (asks_table self.now) fs.calls → IsReady (scope_for T.table (asks_table self.now) (request_of q) entities.now fs) (keeps_limit self.now) (set_of policies.now).policies → IfOk result (λ r. IsForced (known_world (scope_for T.table (asks_table self.now) (request_of q) entities.now fs)) (set_of policies.now).policies (decision (response_seen r))) }
     {
         ids_are_distinct();
         let request = Rc::new(alloc, q.clone()?)?;
@@ -123,7 +123,7 @@ impl<'a, T: FunctionTable> Authorizer<'a, T> {
         policies: &PolicySet,
         entities: &Entities,
     ) -> Result<PartialResponse, AllocError>
-        ensures { (fs : Functions) → KnowsUnder T.table T.answers_as (asks_table self.now) (values_in mapping.now) (request_of q) entities.now fs → IfOk result (λ r. response_seen r ≡ response_of (record (scope_for T.table (asks_table self.now) (request_of q) entities.now fs) { values = values_in mapping.now }) (keeps_limit self.now) (set_of policies.now).policies) }
+        ensures { (fs : Functions) → T.answers_as (asks_table self.now) fs.calls → IfOk result (λ r. response_seen r ≡ response_of (record (scope_for T.table (asks_table self.now) (request_of q) entities.now fs) { values = values_in mapping.now }) (keeps_limit self.now) (set_of policies.now).policies) }
     {
         let request = Rc::new(alloc, q.clone()?)?;
         let plain = Evaluator::new(q, entities, self.table, self.limit);
@@ -139,7 +139,7 @@ pub(crate) fn respond<T: FunctionTable>(
     request: Rc<Request>,
     policies: &PolicySet,
 ) -> Result<PartialResponse, AllocError>
-    ensures { (fs : Functions) → request_of request.value ≡ asked_of evaluator.now → Serves T.table T.answers_as evaluator.now no_bindings fs → IfOk result (λ r. response_seen r ≡ response_of (scope_in T.table fs evaluator.now no_bindings) (limit_of evaluator.now) (set_of policies.now).policies) }
+    ensures { (fs : Functions) → request_of request.value ≡ asked_of evaluator.now → T.answers_as (table_in evaluator.now) fs.calls → IfOk result (λ r. response_seen r ≡ response_of (scope_in T.table fs evaluator.now no_bindings) (limit_of evaluator.now) (set_of policies.now).policies) }
 {
     ids_are_distinct();
     let gathering = gather(alloc, evaluator, policies)?;
@@ -152,7 +152,7 @@ fn gather<T: FunctionTable>(
     evaluator: &Evaluator<'_, T>,
     policies: &PolicySet,
 ) -> Result<Gathering, AllocError>
-    ensures { (fs : Functions) → Serves T.table T.answers_as evaluator.now no_bindings fs → IfOk result (λ g. gathered (asked_of evaluator.now) g ≡ response_of (scope_in T.table fs evaluator.now no_bindings) (limit_of evaluator.now) (set_of policies.now).policies) }
+    ensures { (fs : Functions) → T.answers_as (table_in evaluator.now) fs.calls → IfOk result (λ g. gathered (asked_of evaluator.now) g ≡ response_of (scope_in T.table fs evaluator.now no_bindings) (limit_of evaluator.now) (set_of policies.now).policies) }
 {
     let mut gathering = Gathering::new(alloc);
     for policy in policies.policies() {

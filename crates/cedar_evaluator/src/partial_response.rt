@@ -101,7 +101,7 @@ impl PartialResponse {
     ghost use Rattle.cedar_evaluator.specs.Decisions.{IsDecision};
     ghost use Rattle.cedar_evaluator.specs.Refusals.{Reauthorizes};
     ghost use Rattle.cedar_evaluator.specs.Responses.{response_seen};
-    ghost use Rattle.cedar_evaluator.specs.Scopes.{scope_for, KnowsUnder};
+    ghost use Rattle.cedar_evaluator.specs.Scopes.{scope_for};
 
     /// The response of these groups, errors and request. An id that is repeated in a group keeps its place, with what stands last under
     /// it. Answers want of memory.
@@ -421,8 +421,8 @@ impl PartialResponse {
         auth: &Authorizer<'_, T>,
         es: &Entities,
     ) -> Result<PartialResponse, ReauthorizationError>
-        ensures response { (fs : Functions) → KnowsUnder T.table T.answers_as (asks_table auth.now) (values_in mapping.now) (response_seen self.now).request es.now fs → Reauthorizes (reauthorized (scope_for T.table (asks_table auth.now) (response_seen self.now).request es.now fs) (keeps_limit auth.now) (values_in mapping.now) (response_seen self.now)) result }
-        ensures laws { (fs : Functions) → KnowsUnder T.table T.answers_as (asks_table auth.now) (values_in mapping.now) (response_seen self.now).request es.now fs → IfOk result (λ r. IsAgain (record { scope = scope_for T.table (asks_table auth.now) (response_seen self.now).request es.now fs; depth = keeps_limit auth.now; values = values_in mapping.now }) (response_seen self.now) (response_seen r)) }
+        ensures response { (fs : Functions) → T.answers_as (asks_table auth.now) fs.calls → Reauthorizes (reauthorized (scope_for T.table (asks_table auth.now) (response_seen self.now).request es.now fs) (keeps_limit auth.now) (values_in mapping.now) (response_seen self.now)) result }
+        ensures laws { (fs : Functions) → T.answers_as (asks_table auth.now) fs.calls → IfOk result (λ r. IsAgain (record { scope = scope_for T.table (asks_table auth.now) (response_seen self.now).request es.now fs; depth = keeps_limit auth.now; values = values_in mapping.now }) (response_seen self.now) (response_seen r)) }
     {
         self.resumed(alloc, mapping, auth, es)
     }
@@ -435,7 +435,7 @@ impl PartialResponse {
         auth: &Authorizer<'_, T>,
         es: &Entities,
     ) -> Result<PartialResponse, ReauthorizationError>
-        ensures { (fs : Functions) → KnowsUnder T.table T.answers_as (asks_table auth.now) (values_in mapping.now) (response_seen self.now).request es.now fs → Reauthorizes (reauthorized (scope_for T.table (asks_table auth.now) (response_seen self.now).request es.now fs) (keeps_limit auth.now) (values_in mapping.now) (response_seen self.now)) result }
+        ensures { (fs : Functions) → T.answers_as (asks_table auth.now) fs.calls → Reauthorizes (reauthorized (scope_for T.table (asks_table auth.now) (response_seen self.now).request es.now fs) (keeps_limit auth.now) (values_in mapping.now) (response_seen self.now)) result }
     {
         let left = self.all_residuals(alloc)?;
         let policies = PolicySet::try_from_iter(alloc, left)?;

@@ -10,7 +10,7 @@ ghost use Rattle.cedar_evaluator_model.specs.Scope.{Left as ModelLeft};
 ghost use Rattle.cedar_evaluator_model.specs.Steps.{truth_left};
 ghost use Rattle.cedar_evaluator_model.specs.Response.{verdict as verdict_of, slots_bound};
 ghost use Rattle.cedar_evaluator_operators.specs.Calls.{Functions};
-ghost use Rattle.cedar_evaluator_core.specs.Evaluators.{limit_of, scope_in, Serves, IsVerdict};
+ghost use Rattle.cedar_evaluator_core.specs.Evaluators.{table_in, limit_of, scope_in, IsVerdict};
 ghost use Rattle.cedar_evaluator.specs.Verdicts.{with_residual, IsLeft};
 
 use crate::slots::bind_slots;
@@ -42,7 +42,7 @@ pub(crate) fn verdict_on<T: FunctionTable>(
     evaluator: &Evaluator<'_, T>,
     policy: &Policy,
 ) -> Result<Verdict, AllocError>
-    ensures { (fs : Functions) → Serves T.table T.answers_as evaluator.now no_bindings fs → IfOk result (IsLeft (verdict_of (scope_in T.table fs evaluator.now no_bindings) (limit_of evaluator.now) (policy_of policy.now))) }
+    ensures { (fs : Functions) → T.answers_as (table_in evaluator.now) fs.calls → IfOk result (IsLeft (verdict_of (scope_in T.table fs evaluator.now no_bindings) (limit_of evaluator.now) (policy_of policy.now))) }
 {
     match evaluator.partial_evaluate(alloc, policy) {
         Ok(left) => kept(alloc, left, policy.env()),

@@ -158,23 +158,3 @@ module _ (s : Scope) (env : Bindings) (q : PartialRequest) where
       → and_next (context_bound q.context (env (codes "context"))) (context_substituted s env) ≡ o
       → request_bound s env q ≡ and_next o (λ c. makes_it (record { principal = p; action = a; resource = r; context = c }))
   after_context p a r o h k l m = after_resource p a (makes_it r) h k l ∙ ap (λ x. and_next x (λ c. makes_it (record { principal = p; action = a; resource = r; context = c }))) m
-
--- a request that is bound has the context that is
-step_made : {A B : Type 0} (o : Outcome A) (next : A → Outcome B) (b : B) → and_next o next ≡ makes_it b → (a : A) × (next a ≡ makes_it b)
-step_made (makes_it a) next b e = (a, e)
-step_made (refuses r) next b e = cc
-
-made_same : {A : Type 0} (a b : A) → makes_it a ≡ makes_it b → a ≡ b
-made_same a b e = cc
-
-last_made : {A B : Type 0} (o : Outcome A) (next : A → B) (b : B) → and_next o (λ a. makes_it (next a)) ≡ makes_it b → (a : A) × (o ≡ makes_it a) × (next a ≡ b)
-last_made (makes_it a) next b e = (a, refl, made_same (next a) b e)
-last_made (refuses r) next b e = cc
-
-pub context_there : (s : Scope) (env : Bindings) (q b : PartialRequest) → request_bound s env q ≡ makes_it b → and_next (context_bound q.context (env (codes "context"))) (context_substituted s env) ≡ makes_it b.context
-context_there s env q b e =
-    let p = step_made (entry_bound principal q.principal (env (codes "principal"))) (with_action s env q) b e in
-    let a = step_made (entry_bound action q.action (env (codes "action"))) (with_resource s env q p.0) b p.1 in
-    let r = step_made (entry_bound resource q.resource (env (codes "resource"))) (with_context s env q p.0 a.0) b a.1 in
-    let c = last_made (and_next (context_bound q.context (env (codes "context"))) (context_substituted s env)) (λ k. record { principal = p.0; action = a.0; resource = r.0; context = k }) b r.1 in
-    c.1 ∙ ap (λ (x : PartialRequest). makes_it x.context) c.2

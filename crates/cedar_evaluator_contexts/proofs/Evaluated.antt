@@ -1,5 +1,5 @@
 -- What an evaluator that knows nothing but functions leaves of a restricted expression.
-use Rattle.std.proofs.Common.{◌≡◌, ◌∙◌, List, [], None, true, refl, sym, ap, subst}
+use Rattle.std.proofs.Common.{◌≡◌, ◌∙◌, List, None, true, refl, sym, ap, subst}
 use Rattle.std.specs.Prelude.{Result}
 use Rattle.cedar_expr_model.specs.Name.{Name}
 use Rattle.cedar_expr_model.specs.Made.{Made}
@@ -10,36 +10,32 @@ use Rattle.cedar_expr_model.specs.Value.{V}
 use Rattle.cedar_expr_partial.specs.declared.partial_value.PartialValue.{PartialValue}
 use Rattle.cedar_expr_values.specs.declared.extension.ExtValue.{ExtValue}
 use Rattle.cedar_store_model.specs.Policy.{SlotBindings}
-use Rattle.cedar_store_entities.specs.Stores.{store_made}
-use Rattle.cedar_evaluator_model.specs.Scope.{Scope, MadeCalled, unknown_context}
+use Rattle.cedar_evaluator_model.specs.Scope.{Scope, MadeCalled}
 use Rattle.cedar_evaluator_model.specs.Evaluation.{evaluated}
 use Rattle.cedar_evaluator_model.specs.Reauthorize.{restricted_left}
 use Rattle.cedar_evaluator_errors.specs.Outcomes.{Leaves}
 use Rattle.cedar_evaluator_errors.specs.declared.err.EvaluationError.{EvaluationError}
 use Rattle.cedar_evaluator_operators.specs.Calls.{Functions}
-use Rattle.cedar_evaluator_core.specs.Evaluators.{asked_of, bound_in, entities_in, table_in, limit_of, scope_in, Serves}
+use Rattle.cedar_evaluator_core.specs.Evaluators.{bound_in, table_in, limit_of, scope_in}
 use Rattle.cedar_evaluator_core.specs.declared.evaluator.Evaluator.{Evaluator}
 use Rattle.cedar_evaluator_contexts.specs.Functions.{HasFunctionsOf}
 use Rattle.cedar_evaluator_contexts.proofs.Alike.{left_same}
-use Rattle.cedar_evaluator_contexts.proofs.Known.{none_stored, knows_nothing}
 
 -- The evaluator knows this.
 pub record KnowsNothing {T : Type 0} (e : Evaluator T) (t : T) : Type 0 where
   pub tabled : table_in e ≡ t
   pub unbound : bound_in e ≡ (λ n. None)
-  pub open_context : (asked_of e).context ≡ unknown_context
-  pub unstored : store_made (entities_in e) ≡ []
   pub deep : limit_of e ≡ 512
 
 pub restricted_by : {T : Type 0} (table : T → (Name → List V → Called) → Table) (answers_as : T → (Name → List Made → MadeCalled) → Type 0) (e : Evaluator T) (t : T) (b : SlotBindings) (x y : Tree) (r : Result (PartialValue ExtValue) EvaluationError) (s : Scope)
     → KnowsNothing e t → x ≡ y → is_restricted x ≡ true
-    → ((fs : Functions) → Serves table answers_as e b fs → Leaves (evaluated (scope_in table fs e b) (limit_of e) x) r)
+    → ((fs : Functions) → answers_as (table_in e) fs.calls → Leaves (evaluated (scope_in table fs e b) (limit_of e) x) r)
     → HasFunctionsOf table answers_as t s → Leaves (restricted_left s y) r
 restricted_by {T} table answers_as e t b x y r s k d i all h =
     let fs : Functions = record { answers = h.answers; calls = s.calls } in
-    let serves : Serves table answers_as e b fs = record { answered = subst (λ (u : T). answers_as u s.calls) (sym k.tabled) h.answered; rises = knows_nothing _ k.open_context (λ n. ap (λ w. w n) k.unbound) (none_stored (entities_in e) k.unstored) h.rises } in
+    let answered = subst (λ (u : T). answers_as u s.calls) (sym k.tabled) h.answered in
     let same : evaluated (scope_in table fs e b) 512 x ≡ restricted_left s x = left_same s (scope_in table fs e b) x (ap (λ (u : T). table u h.answers) k.tabled ∙ h.tabled) refl (λ n. ap (λ w. w n) k.unbound) i in
-    subst (λ u. Leaves (restricted_left s u) r) d (subst (λ l. Leaves l r) same (subst (λ n. Leaves (evaluated (scope_in table fs e b) n x) r) k.deep (all fs serves)))
+    subst (λ u. Leaves (restricted_left s u) r) d (subst (λ l. Leaves l r) same (subst (λ n. Leaves (evaluated (scope_in table fs e b) n x) r) k.deep (all fs answered)))
 
 -- a scope has the functions of whatever is the same table
 pub over_same : {T : Type 0} (table : T → (Name → List V → Called) → Table) (answers_as : T → (Name → List Made → MadeCalled) → Type 0) (t u : T) (s : Scope) → t ≡ u → HasFunctionsOf table answers_as u s → HasFunctionsOf table answers_as t s

@@ -1,5 +1,4 @@
 mod Alike
 mod Evaluated
-mod Known
 mod Records
 pub mod Bound

@@ -6,11 +6,9 @@ use Rattle.cedar_expr_model.specs.Made.{Made}
 use Rattle.cedar_expr_model.specs.Table.{Table, Called}
 use Rattle.cedar_expr_model.specs.Value.{V}
 use Rattle.cedar_evaluator_model.specs.Scope.{Scope, MadeCalled}
-use Rattle.cedar_evaluator_model.specs.Rising.{CallsRise}
 
--- The scope has the functions of the table, which answer as it says; the members of each set that they answer rise.
+-- The scope has the functions of the table, which answer as it says.
 pub record HasFunctionsOf {T : Type 0} (table : T → (Name → List V → Called) → Table) (answers_as : T → (Name → List Made → MadeCalled) → Type 0) (t : T) (s : Scope) : Type 0 where
   pub answers : Name → List V → Called
   pub tabled : table t answers ≡ s.table
   pub answered : answers_as t s.calls
-  pub rises : CallsRise s.calls

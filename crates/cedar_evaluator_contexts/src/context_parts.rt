@@ -1,10 +1,10 @@
 //! Contexts with values for what is unknown in them.
 
-ghost use Rattle.std.specs.Prelude.{◌≡◌, map, option_map, IfOk, codes, Some};
+ghost use Rattle.std.specs.Prelude.{◌≡◌, option_map, IfOk, codes, Some};
 ghost use Rattle.cedar_expr_model.specs.Made.{made_record};
 ghost use Rattle.cedar_expr_model.specs.Tree.{context};
 ghost use Rattle.cedar_expr_values.specs.Extensions.{extension_of};
-ghost use Rattle.cedar_expr_values.specs.Values.{made, made_fields, made_pair};
+ghost use Rattle.cedar_expr_values.specs.Values.{made, fields_made};
 ghost use Rattle.cedar_evaluator_model.specs.Reauthorize.{Refusal, and_next, context_bound, context_substituted, known_already, wrong_value};
 ghost use Rattle.cedar_evaluator_model.specs.Scope.{Scope};
 ghost use Rattle.cedar_evaluator_contexts.specs.Functions.{HasFunctionsOf};
@@ -18,10 +18,10 @@ use crate::err::ConcretizationError;
 use cedar_evaluator_operators::FunctionTable;
 use cedar_evaluator_reads::V;
 use cedar_evaluator_requests::{Context, Request};
-use cedar_expr_values::ValueKind;
+use cedar_expr_values::{ExtValue, Record, ValueKind};
 use std::alloc::{AllocError, Global};
-use std::collections::{BTreeMap, HashMap};
-use std::rc::{Rc, RcStr};
+use std::collections::HashMap;
+use std::rc::RcStr;
 
 // The context of a request with these values for what is unknown in it.
 pub(crate) fn context_now<T: FunctionTable>(
@@ -105,10 +105,10 @@ fn context_given(
 fn context_as(
     alloc: Global,
     context: Option<&Context>,
-    fields: &Rc<BTreeMap<RcStr, V>>,
+    fields: &Record<ExtValue>,
     value: &V,
 ) -> Result<Option<Context>, ConcretizationError>
-    ensures { Takes context_or_unknown (context_bound (context_or_unknown (option_map (λ c. c.now) context.entry)) (Some (made_record (made_fields (map (made_pair extension_of) fields.now.value.entries))))) result }
+    ensures { Takes context_or_unknown (context_bound (context_or_unknown (option_map (λ c. c.now) context.entry)) (Some (made_record (fields_made extension_of fields.now)))) result }
 {
     match context {
         None => Ok(Some(Context::Value(fields.clone()?))),
@@ -117,8 +117,8 @@ fn context_as(
 }
 
 // The fields of a record.
-fn record_in(v: &V) -> Option<&Rc<BTreeMap<RcStr, V>>>
-    ensures { option_map (λ r. made_fields (map (made_pair extension_of) r.now.value.entries)) result ≡ fields_in_value (made extension_of v.now) }
+fn record_in(v: &V) -> Option<&Record<ExtValue>>
+    ensures { option_map (λ r. fields_made extension_of r.now) result ≡ fields_in_value (made extension_of v.now) }
 {
     match v.value_kind() {
         ValueKind::Record(fields) => Some(fields),

@@ -1,42 +1,30 @@
 -- One level of an expression, by what is left of its parts.
-use Rattle.std.proofs.Common.{◌≡◌, ◌<◌, ◌-◌, ℕ, suc, Bool, true, false, List, map, refl, sym, ap, ◌∙◌, subst}
-use Rattle.std.specs.Prelude.{Result, Ok, Err, Option, Some, None}
+use Rattle.std.proofs.Common.{◌≡◌, ◌<◌, ◌-◌, ℕ, Bool, true, false, List, refl, sym, ap, ◌∙◌, subst}
+use Rattle.std.specs.Prelude.{Result, Ok, Err, Option}
 use Rattle.std.specs.Result.{IsErrAnd}
 use Rattle.std.specs.Option.{option_map_or}
-use Rattle.std.specs.Map.{keys_of, values_of}
-use Rattle.std.specs.declared.alloc.Global.{Global}
-use Rattle.std.specs.declared.vec.Vec.{Vec}
-use Rattle.cedar_expr_model.specs.Name.{Text, Name, name_eq}
-use Rattle.cedar_expr_model.specs.Builder.{conjunction, disjunction, path_test, trees}
-use Rattle.cedar_expr_model.specs.Made.{Made, made_prim, made_set, bare}
-use Rattle.cedar_expr_model.specs.Parts.{is_projectable, listed, listed_fields}
-use Rattle.cedar_expr_model.specs.Pattern.{Pattern}
+use Rattle.cedar_expr_model.specs.Name.{Text, Name}
+use Rattle.cedar_expr_model.specs.Builder.{conjunction, disjunction}
+use Rattle.cedar_expr_model.specs.Made.{Made, made_prim}
 use Rattle.cedar_expr_model.specs.Table.{Table, Called}
-use Rattle.cedar_expr_model.specs.Tree.{Var, SlotId, CoreType, UnaryOp, BinaryOp, Tree, Trees, TreeFields, lit, var, slot, unknown, choice, both, either, unary, binary, call, get_attr, has_attr, has_path, like, is_type, set_literal, record_literal}
+use Rattle.cedar_expr_model.specs.Tree.{Var, SlotId, CoreType, Tree, lit, var, slot, unknown, choice, both, either}
 use Rattle.cedar_expr_model.specs.Value.{Literal, truth, entity, V}
-use Rattle.cedar_expr_values.specs.Extensions.{extension_of}
-use Rattle.cedar_expr_values.specs.Values.{made}
-use Rattle.cedar_expr_values.specs.declared.value.Value.{Value}
 use Rattle.cedar_expr_values.specs.declared.extension.ExtValue.{ExtValue}
 use Rattle.cedar_expr_trees.specs.Trees.{tree_of}
 use Rattle.cedar_expr_trees.specs.declared.expr.Expr.{Expr}
 use Rattle.cedar_expr_partial.specs.declared.partial_value.PartialValue.{PartialValue}
 use Rattle.cedar_expr_partial.specs.declared.partial_value.PartialValue.TheVariants as partial
-use Rattle.cedar_store_model.specs.Operators.{applied, like_pattern, of_type}
-use Rattle.cedar_store_model.specs.Outcome.{missing_field, unlinked_slot}
+use Rattle.cedar_store_model.specs.Outcome.{unlinked_slot}
 use Rattle.cedar_evaluator_model.specs.Scope.{Scope, MadeCalled, Stop, Left, value_left, residual, stopped}
-use Rattle.cedar_evaluator_model.specs.Steps.{errs, truth_left, on_value, best, left_of, picks, mapped, attribute_of, test_of, path_of, kind_of_unknown, called_left, Pieces, pieces, halted, from_pieces, made_members, record_left}
-use Rattle.cedar_evaluator_model.specs.Evaluation.{evaluated, node, variable_left, right_left, binary_left, get_of_residual, has_of_residual, tree_named, pieces_of}
-use Rattle.cedar_evaluator_errors.specs.Outcomes.{Leaves, IsTree, left_seen, is_memory, stop_or}
+use Rattle.cedar_evaluator_model.specs.Steps.{errs, truth_left, on_value, best, picks, mapped}
+use Rattle.cedar_evaluator_model.specs.Evaluation.{evaluated, variable_left, right_left}
+use Rattle.cedar_evaluator_errors.specs.Outcomes.{Leaves, IsTree, is_memory, stop_or}
 use Rattle.cedar_evaluator_errors.specs.declared.err.EvaluationError.{EvaluationError}
-use Rattle.cedar_evaluator_model.specs.Rising.{LeftRises}
 use Rattle.cedar_evaluator_reads.specs.Scopes.{scope_seen}
 use Rattle.cedar_evaluator_reads.specs.declared.knowledge.Knowledge.{Knowledge}
 use Rattle.cedar_evaluator_operators.specs.Calls.{Functions}
-use Rattle.cedar_evaluator_operators.specs.Scopes.{scope_of, scope_ordering}
-use Rattle.cedar_evaluator_operators.specs.Truths.{IsTruth}
-use Rattle.cedar_evaluator_operators.proofs.Alike.{binary_alike}
-use Rattle.cedar_evaluator_core.specs.Walked.{Suits, LeavesWithin, LeavesLevel, LeavesField, BestWithin, PiecesWithin}
+use Rattle.cedar_evaluator_operators.specs.Scopes.{scope_of}
+use Rattle.cedar_evaluator_core.specs.Walked.{LeavesWithin, LeavesLevel, BestWithin}
 
 abbrev pub Answer : Type 0
 Answer = Result (PartialValue ExtValue) EvaluationError
@@ -118,7 +106,7 @@ module _ {T : Type 0} (table : T → (Name → List V → Called) → Table) (an
     choice_stops e t = record { leaves = λ fs s. t (go fs x) (h.leaves fs s) (go fs a) (go fs b) (λ u. residual (choice u (best a (go fs a)) (best b (go fs b)))) }
 
     module _ (r : Answer) where
-      choice_of : (l : Left) → IsLeft part l → ((fs : Functions) → Suits table answers_as k fs → Leaves (choice_step fs l) r) → Says (choice x a b) r
+      choice_of : (l : Left) → IsLeft part l → ((fs : Functions) → answers_as k.table.now fs.calls → Leaves (choice_step fs l) r) → Says (choice x a b) r
       choice_of l t f = record { leaves = λ fs s. subst (λ m. Leaves (choice_step fs m) r) (sym (t (go fs x) (h.leaves fs s))) (f fs s) }
 
       pub choice_holds : IsLeft part (truth_left true) → Part a r → Says (choice x a b) r
@@ -148,7 +136,7 @@ module _ {T : Type 0} (table : T → (Name → List V → Called) → Table) (an
     either_stops e t = record { leaves = λ fs s. t (go fs a) (h.leaves fs s) (truth_left true) (right_left disjunction false (go fs b)) (λ u. residual (disjunction u (best b (go fs b)))) }
 
     module _ (r : Answer) where
-      both_of : (l : Left) → IsLeft part l → ((fs : Functions) → Suits table answers_as k fs → Leaves (both_step fs l) r) → Says (both a b) r
+      both_of : (l : Left) → IsLeft part l → ((fs : Functions) → answers_as k.table.now fs.calls → Leaves (both_step fs l) r) → Says (both a b) r
       both_of l t f = record { leaves = λ fs s. subst (λ m. Leaves (both_step fs m) r) (sym (t (go fs a) (h.leaves fs s))) (f fs s) }
 
       pub both_holds : IsLeft part (truth_left true) → (q : Answer) → Part b q → ((l : Left) → Leaves l q → Leaves (right_left conjunction true l) r) → Says (both a b) r
@@ -160,7 +148,7 @@ module _ {T : Type 0} (table : T → (Name → List V → Called) → Table) (an
       pub both_open : (t : Expr Unit) → IsLeft part (residual (tree_of {T = Unit} t)) → (q : Result (Expr Unit) EvaluationError) → BestWithin table answers_as k n b q → ((u : Tree) → IsTree u q → Leaves (residual (conjunction (tree_of {T = Unit} t) u)) r) → Says (both a b) r
       both_open t o q l w = both_of (residual (tree_of {T = Unit} t)) o (λ fs s. w (best b (go fs b)) (l.leaves fs s))
 
-      either_of : (l : Left) → IsLeft part l → ((fs : Functions) → Suits table answers_as k fs → Leaves (either_step fs l) r) → Says (either a b) r
+      either_of : (l : Left) → IsLeft part l → ((fs : Functions) → answers_as k.table.now fs.calls → Leaves (either_step fs l) r) → Says (either a b) r
       either_of l t f = record { leaves = λ fs s. subst (λ m. Leaves (either_step fs m) r) (sym (t (go fs a) (h.leaves fs s))) (f fs s) }
 
       pub either_holds : IsLeft part (truth_left true) → Leaves (truth_left true) r → Says (either a b) r

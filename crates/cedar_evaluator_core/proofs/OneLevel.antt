@@ -1,19 +1,19 @@
 -- One level of an expression with one part, with two or with several, by what is left of them.
-use Rattle.std.proofs.Common.{◌≡◌, ◌<◌, ◌-◌, ℕ, suc, Bool, true, false, List, [], map, refl, sym, ap, ◌∙◌, subst}
-use Rattle.std.specs.Prelude.{Result, Ok, Err, Option, Some, None, if◌then◌else◌}
+use Rattle.std.proofs.Common.{◌≡◌, ◌<◌, ◌-◌, ℕ, true, false, List, [], refl, sym, ap, ◌∙◌, subst}
+use Rattle.std.specs.Prelude.{Ok, Err, Some, None, if◌then◌else◌}
 use Rattle.std.specs.Result.{IsErrAnd}
 use Rattle.std.specs.Option.{option_map_or}
 use Rattle.std.specs.Map.{keys_of, values_of}
 use Rattle.std.specs.declared.alloc.Global.{Global}
 use Rattle.std.specs.declared.vec.Vec.{Vec}
 use Rattle.cedar_expr_model.specs.Name.{Text, Name, name_eq}
-use Rattle.cedar_expr_model.specs.Builder.{conjunction, disjunction, path_test, trees}
-use Rattle.cedar_expr_model.specs.Made.{Made, made_prim, made_set, bare}
+use Rattle.cedar_expr_model.specs.Builder.{path_test, trees}
+use Rattle.cedar_expr_model.specs.Made.{Made, made_set, bare}
 use Rattle.cedar_expr_model.specs.Parts.{is_projectable, listed, listed_fields}
 use Rattle.cedar_expr_model.specs.Pattern.{Pattern}
 use Rattle.cedar_expr_model.specs.Table.{Table, Called}
-use Rattle.cedar_expr_model.specs.Tree.{Var, SlotId, CoreType, UnaryOp, BinaryOp, Tree, Trees, TreeFields, lit, var, slot, unknown, choice, both, either, unary, binary, call, get_attr, has_attr, has_path, like, is_type, set_literal, record_literal}
-use Rattle.cedar_expr_model.specs.Value.{Literal, truth, entity, V}
+use Rattle.cedar_expr_model.specs.Tree.{UnaryOp, BinaryOp, Tree, Trees, TreeFields, unary, binary, call, get_attr, has_attr, has_path, like, is_type, set_literal, record_literal}
+use Rattle.cedar_expr_model.specs.Value.{V}
 use Rattle.cedar_expr_values.specs.Extensions.{extension_of}
 use Rattle.cedar_expr_values.specs.Values.{made}
 use Rattle.cedar_expr_values.specs.declared.value.Value.{Value}
@@ -23,21 +23,19 @@ use Rattle.cedar_expr_trees.specs.declared.expr.Expr.{Expr}
 use Rattle.cedar_expr_partial.specs.declared.partial_value.PartialValue.{PartialValue}
 use Rattle.cedar_expr_partial.specs.declared.partial_value.PartialValue.TheVariants as partial
 use Rattle.cedar_store_model.specs.Operators.{applied, like_pattern, of_type}
-use Rattle.cedar_store_model.specs.Outcome.{missing_field, unlinked_slot}
+use Rattle.cedar_store_model.specs.Outcome.{missing_field}
 use Rattle.cedar_evaluator_model.specs.Scope.{Scope, MadeCalled, Stop, Left, value_left, residual, stopped}
-use Rattle.cedar_evaluator_model.specs.Steps.{errs, truth_left, on_value, best, left_of, picks, mapped, attribute_of, test_of, path_of, kind_of_unknown, called_left, Pieces, pieces, halted, from_pieces, made_members, record_left}
-use Rattle.cedar_evaluator_model.specs.Evaluation.{evaluated, node, variable_left, right_left, binary_left, get_of_residual, has_of_residual, tree_named, pieces_of}
-use Rattle.cedar_evaluator_errors.specs.Outcomes.{Leaves, IsTree, left_seen, is_memory, stop_or}
+use Rattle.cedar_evaluator_model.specs.Steps.{errs, truth_left, on_value, left_of, attribute_of, test_of, path_of, kind_of_unknown, called_left, Pieces, pieces, halted, from_pieces, made_members, record_left}
+use Rattle.cedar_evaluator_model.specs.Evaluation.{evaluated, binary_left, get_of_residual, has_of_residual, tree_named, pieces_of}
+use Rattle.cedar_evaluator_errors.specs.Outcomes.{Leaves, left_seen, is_memory, stop_or}
 use Rattle.cedar_evaluator_errors.specs.declared.err.EvaluationError.{EvaluationError}
-use Rattle.cedar_evaluator_model.specs.Rising.{LeftRises}
 use Rattle.cedar_evaluator_reads.specs.Scopes.{scope_seen}
 use Rattle.cedar_evaluator_reads.specs.declared.knowledge.Knowledge.{Knowledge}
 use Rattle.cedar_evaluator_operators.specs.Calls.{Functions}
 use Rattle.cedar_evaluator_operators.specs.Scopes.{scope_of, scope_ordering}
-use Rattle.cedar_evaluator_operators.specs.Truths.{IsTruth}
 use Rattle.cedar_evaluator_operators.proofs.Alike.{attribute_alike, test_alike, path_alike, binary_alike}
 use Rattle.cedar_evaluator_core.specs.Gathered.{parts_of}
-use Rattle.cedar_evaluator_core.specs.Walked.{Suits, LeavesWithin, LeavesLevel, LeavesField, BestWithin, PiecesWithin}
+use Rattle.cedar_evaluator_core.specs.Walked.{LeavesWithin, LeavesLevel, LeavesField, PiecesWithin}
 use Rattle.cedar_evaluator_core.proofs.Nodes.{Answer, stops, after}
 
 -- something is left
@@ -106,7 +104,7 @@ module _ {T : Type 0} (table : T → (Name → List V → Called) → Table) (an
     get_stops b e h i = record { leaves = λ fs s. stops (λ l. on_value l (attribute_of (scope fs) b) (get_of_residual (go fs) b)) (go fs a) e r (λ z. refl) i (h.leaves fs s) }
 
     module _ (b : Text) (p : PartialValue ExtValue) (h : Part a (Ok p)) where
-      get_goes : ((fs : Functions) → Suits table answers_as k fs → Leaves (on_value (left_seen p) (attribute_of (scope fs) b) (get_of_residual (go fs) b)) r) → Says (get_attr a b) r
+      get_goes : ((fs : Functions) → answers_as k.table.now fs.calls → Leaves (on_value (left_seen p) (attribute_of (scope fs) b) (get_of_residual (go fs) b)) r) → Says (get_attr a b) r
       get_goes f = record { leaves = λ fs s. after (λ l. on_value l (attribute_of (scope fs) b) (get_of_residual (go fs) b)) (go fs a) (left_seen p) r (h.leaves fs s) (f fs s) }
 
       pub get_value : (v : Value ExtValue) → p ≡ partial.Value v → Leaves (attribute_of (scope_seen k) b (made extension_of v)) r → Says (get_attr a b) r
@@ -121,14 +119,14 @@ module _ {T : Type 0} (table : T → (Name → List V → Called) → Table) (an
     field_stays h w = record { leaves = λ fs s. subst (λ l. Leaves l r) (sym (h (go fs) b)) w }
 
     module _ (m : TreeFields) (is : t ≡ record_literal m) where
-      in_record : ((fs : Functions) → Suits table answers_as k fs → Leaves (get_of_residual (go fs) b (record_literal m)) r) → LeavesField table answers_as k n b t r
+      in_record : ((fs : Functions) → answers_as k.table.now fs.calls → Leaves (get_of_residual (go fs) b (record_literal m)) r) → LeavesField table answers_as k n b t r
       in_record f = record { leaves = λ fs s. subst (λ u. Leaves (get_of_residual (go fs) b u) r) (sym is) (f fs s) }
 
       pub field_missing : tree_named b m ≡ None → Leaves (errs missing_field) r → LeavesField table answers_as k n b t r
       field_missing q w = in_record (λ fs s. subst (λ o. Leaves (option_map_or (λ u. if is_projectable (record_literal m) then go fs u else residual (get_attr (record_literal m) b)) o (errs missing_field)) r) (sym q) w)
 
       module _ (u : Tree) (q : tree_named b m ≡ Some u) where
-        asked : ((fs : Functions) → Suits table answers_as k fs → Leaves (if is_projectable (record_literal m) then go fs u else residual (get_attr (record_literal m) b)) r) → LeavesField table answers_as k n b t r
+        asked : ((fs : Functions) → answers_as k.table.now fs.calls → Leaves (if is_projectable (record_literal m) then go fs u else residual (get_attr (record_literal m) b)) r) → LeavesField table answers_as k n b t r
         asked f = in_record (λ fs s. subst (λ o. Leaves (option_map_or (λ u. if is_projectable (record_literal m) then go fs u else residual (get_attr (record_literal m) b)) o (errs missing_field)) r) (sym q) (f fs s))
 
         pub field_again : is_projectable t ≡ true → Part u r → LeavesField table answers_as k n b t r
@@ -157,14 +155,13 @@ module _ {T : Type 0} (table : T → (Name → List V → Called) → Table) (an
     pub binary_right_stops : (p : PartialValue ExtValue) → Part a (Ok p) → (e : EvaluationError) → Part b (Err e) → IsErrAnd r (λ y. y ≡ e) → Says (binary o a b) r
     binary_right_stops p h e w i = record { leaves = λ fs s. stops (λ l. binary_left (scope fs) o (go fs a) l) (go fs b) e r (right_halts (scope fs) (go fs a) p (h.leaves fs s)) i (w.leaves fs s) }
 
-    pub binary_goes : (names : T → List Name) → ((fs : Functions) → (table k.table.now fs.answers).ordered ≡ names k.table.now) → (p q : PartialValue ExtValue) → Part a (Ok p) → Part b (Ok q) → (LeftRises (left_seen p) → LeftRises (left_seen q) → Leaves (binary_left (scope_ordering names k) o (left_seen p) (left_seen q)) r) → Says (binary o a b) r
+    pub binary_goes : (names : T → List Name) → ((fs : Functions) → (table k.table.now fs.answers).ordered ≡ names k.table.now) → (p q : PartialValue ExtValue) → Part a (Ok p) → Part b (Ok q) → Leaves (binary_left (scope_ordering names k) o (left_seen p) (left_seen q)) r → Says (binary o a b) r
     binary_goes names same p q h w f =
         record {
           leaves = λ fs s.
               subst (λ l. Leaves (binary_left (scope fs) o l (go fs b)) r) (sym (h.leaves fs s))
               (subst (λ l. Leaves (binary_left (scope fs) o (left_seen p) l) r) (sym (w.leaves fs s))
-              (subst (λ l. Leaves l r) (sym (binary_alike table names fs k (same fs) o (left_seen p) (left_seen q)))
-              (f (subst LeftRises (h.leaves fs s) (s.rise.each n a)) (subst LeftRises (w.leaves fs s) (s.rise.each n b)))));
+              (subst (λ l. Leaves l r) (sym (binary_alike table names fs k (same fs) o (left_seen p) (left_seen q))) f));
         }
 
   -- calls, sets and records
@@ -181,7 +178,7 @@ module _ {T : Type 0} (table : T → (Name → List V → Called) → Table) (an
     call_stops j us e h i = record { leaves = λ fs s. pieces_stop (from_pieces (called_left (scope fs) j) (λ ts. call j (trees ts))) (λ z. refl) r (pieces_of (go fs) (listed us)) e (h.leaves fs s) i }
 
     pub call_goes : (j : Name) (us : Trees) (vs : Vec (PartialValue ExtValue) Global) → PiecesWithin table answers_as k n (listed us) (Ok vs) → ((fs : Functions) → answers_as k.table.now fs.calls → Leaves (from_pieces (called_left (scope fs) j) (λ ts. call j (trees ts)) (pieces (parts_of vs.items))) r) → Says (call j us) r
-    call_goes j us vs h w = record { leaves = λ fs s. subst (λ p. Leaves (from_pieces (called_left (scope fs) j) (λ ts. call j (trees ts)) p) r) (sym (h.leaves fs s)) (w fs s.answered) }
+    call_goes j us vs h w = record { leaves = λ fs s. subst (λ p. Leaves (from_pieces (called_left (scope fs) j) (λ ts. call j (trees ts)) p) r) (sym (h.leaves fs s)) (w fs s) }
 
     pub set_stops : (us : Trees) (e : EvaluationError) → PiecesWithin table answers_as k n (listed us) (Err e) → IsErrAnd r (λ y. y ≡ e) → Says (set_literal us) r
     set_stops us e h i = record { leaves = λ fs s. pieces_stop (from_pieces (λ ms. value_left (made_set (made_members ms))) (λ ts. set_literal (trees ts))) (λ z. refl) r (pieces_of (go fs) (listed us)) e (h.leaves fs s) i }

@@ -17,18 +17,17 @@ use Rattle.cedar_expr_trees.specs.declared.expr.Expr.{Expr}
 use Rattle.cedar_store_model.specs.Outcome.{Res, val, err}
 use Rattle.cedar_store_model.specs.Policy.{SlotBindings, binding_of}
 use Rattle.cedar_store_entities.specs.declared.entities.Entities.{Entities}
-use Rattle.cedar_evaluator_model.specs.Scope.{Scope, MadeCalled, Stop, fault, Left, value_left, residual, stopped}
+use Rattle.cedar_evaluator_model.specs.Scope.{Scope, Stop, fault, Left, value_left, residual, stopped}
 use Rattle.cedar_evaluator_model.specs.Steps.{truth_left}
 use Rattle.cedar_evaluator_model.specs.Response.{PartialRequest}
 use Rattle.cedar_evaluator_model.specs.OfLaws.Calls.{Agrees}
-use Rattle.cedar_evaluator_model.specs.OfLaws.Whole.{NothingUnknown, AllLoaded, AllBoundTo}
+use Rattle.cedar_evaluator_model.specs.OfLaws.Whole.{NothingUnknown, AllBoundTo}
 use Rattle.cedar_evaluator_errors.specs.Outcomes.{is_memory, stop_or}
 use Rattle.cedar_evaluator_errors.specs.declared.err.EvaluationError.{EvaluationError}
 use Rattle.cedar_evaluator_errors.specs.declared.err.EvaluationError.TheVariants.{NonValue, RecursionLimit}
 use Rattle.cedar_evaluator_requests.specs.Views.{request_of}
 use Rattle.cedar_evaluator_operators.specs.Calls.{Functions}
 use Rattle.cedar_evaluator_reads.specs.Scopes.{values_bound, store_of}
-use Rattle.cedar_evaluator_model.specs.Rising.{ScopeRises}
 use Rattle.cedar_evaluator_core.specs.declared.evaluator.Evaluator.{Evaluator}
 
 -- the request, the values of unknowns, the entities, the table and the limit
@@ -61,11 +60,6 @@ scope_in table fs e b =
       calls = fs.calls;
       store = store_of (entities_in e);
     }
-
--- The functions of the table answer so, and the members of each set in what is known rise.
-pub record Serves {T : Type 0} (table : T → (Name → List V → Called) → Table) (answers_as : T → (Name → List Made → MadeCalled) → Type 0) (e : Evaluator T) (b : SlotBindings) (fs : Functions) : Type 0 where
-  pub answered : answers_as (table_in e) fs.calls
-  pub rises : ScopeRises (scope_in table fs e b)
 
 -- why no value is left: it stopped, or a residual is left
 abbrev pub left_by : Stop → EvaluationError → Left

@@ -19,23 +19,17 @@ use Rattle.cedar_evaluator_errors.specs.declared.err.EvaluationError.{Evaluation
 use Rattle.cedar_evaluator_operators.specs.Calls.{Functions}
 use Rattle.cedar_evaluator_operators.specs.Scopes.{scope_of}
 use Rattle.cedar_evaluator_reads.specs.declared.knowledge.Knowledge.{Knowledge}
-use Rattle.cedar_evaluator_model.specs.Rising.{ValuesRise}
 use Rattle.cedar_evaluator_core.specs.Gathered.{ArePieces}
 
--- The functions of the table answer so, and then the members of each set that is left rise.
-pub record Suits {T : Type 0} (table : T → (Name → List V → Called) → Table) (answers_as : T → (Name → List Made → MadeCalled) → Type 0) (k : Knowledge T) (fs : Functions) : Type 0 where
-  pub answered : answers_as k.table.now fs.calls
-  pub rise : ValuesRise (scope_of table fs k)
-
--- in each scope that suits what is known this is left, the expression is this tree, or these are the pieces
+-- in each scope whose functions answer as the table's do this is left, the expression is this tree, or these are the pieces
 abbrev pub LeavesIn : {T : Type 0} → (T → (Name → List V → Called) → Table) → (T → (Name → List Made → MadeCalled) → Type 0) → Knowledge T → (Scope → Left) → Result (PartialValue ExtValue) EvaluationError → Type 0
-LeavesIn table answers_as k l r = (fs : Functions) → Suits table answers_as k fs → Leaves (l (scope_of table fs k)) r
+LeavesIn table answers_as k l r = (fs : Functions) → answers_as k.table.now fs.calls → Leaves (l (scope_of table fs k)) r
 
 abbrev pub IsTreeIn : {T : Type 0} → (T → (Name → List V → Called) → Table) → (T → (Name → List Made → MadeCalled) → Type 0) → Knowledge T → (Scope → Tree) → Result (Expr Unit) EvaluationError → Type 0
-IsTreeIn table answers_as k t r = (fs : Functions) → Suits table answers_as k fs → IsTree (t (scope_of table fs k)) r
+IsTreeIn table answers_as k t r = (fs : Functions) → answers_as k.table.now fs.calls → IsTree (t (scope_of table fs k)) r
 
 abbrev pub ArePiecesIn : {T : Type 0} → (T → (Name → List V → Called) → Table) → (T → (Name → List Made → MadeCalled) → Type 0) → Knowledge T → (Scope → Pieces) → Result (Vec (PartialValue ExtValue) Global) EvaluationError → Type 0
-ArePiecesIn table answers_as k p r = (fs : Functions) → Suits table answers_as k fs → ArePieces (p (scope_of table fs k)) r
+ArePiecesIn table answers_as k p r = (fs : Functions) → answers_as k.table.now fs.calls → ArePieces (p (scope_of table fs k)) r
 
 -- This is left of the expression within the limit.
 pub record LeavesWithin {T : Type 0} (table : T → (Name → List V → Called) → Table) (answers_as : T → (Name → List Made → MadeCalled) → Type 0) (k : Knowledge T) (n : ℕ) (t : Tree) (r : Result (PartialValue ExtValue) EvaluationError) : Type 0 where

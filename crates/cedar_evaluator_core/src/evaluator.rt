@@ -19,7 +19,7 @@ ghost use Rattle.cedar_evaluator_operators.specs.Calls.{Functions};
 ghost use Rattle.cedar_evaluator_reads.specs.Scopes.{values_in};
 ghost use Rattle.cedar_store_model.specs.World.{World};
 ghost use Rattle.cedar_evaluator_core.specs.Completed.{IsCompletion, StandsIn, IsWithin, IsOutcomeIn};
-ghost use Rattle.cedar_evaluator_core.specs.Evaluators.{asked_of, bound_in, entities_in, table_in, limit_of, scope_in, Serves, IsValueOf, IsTruthOf, IsVerdict, IsMeaningOf, IsClosed, is_limit_error};
+ghost use Rattle.cedar_evaluator_core.specs.Evaluators.{asked_of, bound_in, entities_in, table_in, limit_of, scope_in, IsValueOf, IsTruthOf, IsVerdict, IsMeaningOf, IsClosed, is_limit_error};
 
 use crate::outcomes::{truth_of, value_of, verdict_of};
 use crate::walk::walk;
@@ -93,10 +93,10 @@ impl<'a, T: FunctionTable> Evaluator<'a, T> {
         e: &Expr,
         slots: &'a SlotEnv,
     ) -> Result<Left, EvaluationError>
-        ensures left { (fs : Functions) → Serves T.table T.answers_as self.now (bindings_of slots.now) fs → Leaves (evaluated (scope_in T.table fs self.now (bindings_of slots.now)) (limit_of self.now) (tree_of e.now)) result }
-        ensures no_limit { (fs : Functions) → Serves T.table T.answers_as self.now (bindings_of slots.now) fs → IsClosed (scope_in T.table fs self.now (bindings_of slots.now)) (limit_of self.now) (tree_of e.now) → IfErr result (λ x. is_limit_error x ≡ false) }
-        ensures stands { (fs : Functions) → Serves T.table T.answers_as self.now (bindings_of slots.now) fs → (w : World) → IsCompletion w (scope_in T.table fs self.now (bindings_of slots.now)) (tree_of e.now) → StandsIn w (tree_of e.now) result }
-        ensures owed { (fs : Functions) → Serves T.table T.answers_as self.now (bindings_of slots.now) fs → IsWithin (scope_in T.table fs self.now (bindings_of slots.now)) (limit_of self.now) (tree_of e.now) → (r : Res ModelValue) → Means (known_world (scope_in T.table fs self.now (bindings_of slots.now))) (tree_of e.now) r → IsOutcomeIn r result }
+        ensures left { (fs : Functions) → T.answers_as (table_in self.now) fs.calls → Leaves (evaluated (scope_in T.table fs self.now (bindings_of slots.now)) (limit_of self.now) (tree_of e.now)) result }
+        ensures no_limit { (fs : Functions) → T.answers_as (table_in self.now) fs.calls → IsClosed (scope_in T.table fs self.now (bindings_of slots.now)) (limit_of self.now) (tree_of e.now) → IfErr result (λ x. is_limit_error x ≡ false) }
+        ensures stands { (fs : Functions) → T.answers_as (table_in self.now) fs.calls → (w : World) → IsCompletion w (scope_in T.table fs self.now (bindings_of slots.now)) (tree_of e.now) → StandsIn w (tree_of e.now) result }
+        ensures owed { (fs : Functions) → T.answers_as (table_in self.now) fs.calls → IsWithin (scope_in T.table fs self.now (bindings_of slots.now)) (limit_of self.now) (tree_of e.now) → (r : Res ModelValue) → Means (known_world (scope_in T.table fs self.now (bindings_of slots.now))) (tree_of e.now) r → IsOutcomeIn r result }
     {
         let known = Knowledge {
             request: &self.request,
@@ -116,15 +116,15 @@ impl<'a, T: FunctionTable> Evaluator<'a, T> {
         e: &Expr,
         slots: &'a SlotEnv,
     ) -> Result<V, EvaluationError>
-        ensures value { (fs : Functions) → Serves T.table T.answers_as self.now (bindings_of slots.now) fs → IsValueOf (evaluated (scope_in T.table fs self.now (bindings_of slots.now)) (limit_of self.now) (tree_of e.now)) result }
-        ensures meaning { (fs : Functions) → Serves T.table T.answers_as self.now (bindings_of slots.now) fs → IsClosed (scope_in T.table fs self.now (bindings_of slots.now)) (limit_of self.now) (tree_of e.now) → AllLoaded (scope_in T.table fs self.now (bindings_of slots.now)) → (r : Res ModelValue) → Means (known_world (scope_in T.table fs self.now (bindings_of slots.now))) (tree_of e.now) r → IsMeaningOf r result }
+        ensures value { (fs : Functions) → T.answers_as (table_in self.now) fs.calls → IsValueOf (evaluated (scope_in T.table fs self.now (bindings_of slots.now)) (limit_of self.now) (tree_of e.now)) result }
+        ensures meaning { (fs : Functions) → T.answers_as (table_in self.now) fs.calls → IsClosed (scope_in T.table fs self.now (bindings_of slots.now)) (limit_of self.now) (tree_of e.now) → AllLoaded (scope_in T.table fs self.now (bindings_of slots.now)) → (r : Res ModelValue) → Means (known_world (scope_in T.table fs self.now (bindings_of slots.now))) (tree_of e.now) r → IsMeaningOf r result }
     {
         self.value(alloc, e, slots)
     }
 
     // The value of the expression.
     fn value(&'a self, alloc: Global, e: &Expr, slots: &'a SlotEnv) -> Result<V, EvaluationError>
-        ensures { (fs : Functions) → Serves T.table T.answers_as self.now (bindings_of slots.now) fs → IsValueOf (evaluated (scope_in T.table fs self.now (bindings_of slots.now)) (limit_of self.now) (tree_of e.now)) result }
+        ensures { (fs : Functions) → T.answers_as (table_in self.now) fs.calls → IsValueOf (evaluated (scope_in T.table fs self.now (bindings_of slots.now)) (limit_of self.now) (tree_of e.now)) result }
     {
         match self.partial_interpret(alloc, e, slots) {
             Ok(left) => value_of(left),
@@ -139,7 +139,7 @@ impl<'a, T: FunctionTable> Evaluator<'a, T> {
         alloc: Global,
         policy: &'a Policy,
     ) -> Result<Either<bool, Expr>, EvaluationError>
-        ensures { (fs : Functions) → Serves T.table T.answers_as self.now (policy_of policy.now).bindings fs → IsVerdict (on_value (evaluated (scope_in T.table fs self.now (policy_of policy.now).bindings) (limit_of self.now) (condition (policy_of policy.now))) truth_wanted residual) result }
+        ensures { (fs : Functions) → T.answers_as (table_in self.now) fs.calls → IsVerdict (on_value (evaluated (scope_in T.table fs self.now (policy_of policy.now).bindings) (limit_of self.now) (condition (policy_of policy.now))) truth_wanted residual) result }
     {
         self.verdict(alloc, policy.condition(), policy.env())
     }
@@ -151,7 +151,7 @@ impl<'a, T: FunctionTable> Evaluator<'a, T> {
         e: &Expr,
         slots: &'a SlotEnv,
     ) -> Result<Either<bool, Expr>, EvaluationError>
-        ensures { (fs : Functions) → Serves T.table T.answers_as self.now (bindings_of slots.now) fs → IsVerdict (on_value (evaluated (scope_in T.table fs self.now (bindings_of slots.now)) (limit_of self.now) (tree_of e.now)) truth_wanted residual) result }
+        ensures { (fs : Functions) → T.answers_as (table_in self.now) fs.calls → IsVerdict (on_value (evaluated (scope_in T.table fs self.now (bindings_of slots.now)) (limit_of self.now) (tree_of e.now)) truth_wanted residual) result }
     {
         match self.partial_interpret(alloc, e, slots) {
             Ok(left) => verdict_of(alloc, left),
@@ -161,14 +161,14 @@ impl<'a, T: FunctionTable> Evaluator<'a, T> {
 
     /// Whether the policy's condition is true. Errors: those of `interpret`, and `TypeError` where the condition is no truth value.
     pub fn evaluate(&'a self, alloc: Global, policy: &'a Policy) -> Result<bool, EvaluationError>
-        ensures { (fs : Functions) → Serves T.table T.answers_as self.now (policy_of policy.now).bindings fs → IsTruthOf (on_value (evaluated (scope_in T.table fs self.now (policy_of policy.now).bindings) (limit_of self.now) (condition (policy_of policy.now))) truth_wanted residual) result }
+        ensures { (fs : Functions) → T.answers_as (table_in self.now) fs.calls → IsTruthOf (on_value (evaluated (scope_in T.table fs self.now (policy_of policy.now).bindings) (limit_of self.now) (condition (policy_of policy.now))) truth_wanted residual) result }
     {
         self.truth(alloc, policy.condition(), policy.env())
     }
 
     // Whether the expression is true.
     fn truth(&'a self, alloc: Global, e: &Expr, slots: &'a SlotEnv) -> Result<bool, EvaluationError>
-        ensures { (fs : Functions) → Serves T.table T.answers_as self.now (bindings_of slots.now) fs → IsTruthOf (on_value (evaluated (scope_in T.table fs self.now (bindings_of slots.now)) (limit_of self.now) (tree_of e.now)) truth_wanted residual) result }
+        ensures { (fs : Functions) → T.answers_as (table_in self.now) fs.calls → IsTruthOf (on_value (evaluated (scope_in T.table fs self.now (bindings_of slots.now)) (limit_of self.now) (tree_of e.now)) truth_wanted residual) result }
     {
         match self.verdict(alloc, e, slots) {
             Ok(verdict) => truth_of(verdict),

@@ -19,4 +19,3 @@ pub mod Forced
 pub mod Written
 pub mod Again
 pub mod Residuals
-pub mod Rising

@@ -14,4 +14,3 @@ pub mod Worked
 pub mod WorkedResponses
 pub mod WorkedCompletions
 pub mod WorkedResiduals
-pub mod Rising

@@ -11,12 +11,10 @@ ghost use Rattle.cedar_expr_trees.specs.Trees.{tree_of};
 ghost use Rattle.cedar_expr_values.specs.Extensions.{extension_of};
 ghost use Rattle.cedar_expr_values.specs.Values.{bare, made};
 ghost use Rattle.cedar_store_model.specs.Operators.{among_members, of_sets};
-ghost use Rattle.cedar_store_model.specs.Rising.{Rises};
 ghost use Rattle.cedar_evaluator_model.specs.Scope.{residual};
 ghost use Rattle.cedar_evaluator_model.specs.Steps.{left_of, kind_of_value, kind_of_unknown, differ as model_differ, with_residual, combined_left};
 ghost use Rattle.cedar_evaluator_model.specs.Evaluation.{binary_left};
 ghost use Rattle.cedar_evaluator_errors.specs.Outcomes.{Leaves, Gives, left_seen};
-ghost use Rattle.cedar_evaluator_model.specs.Rising.{LeftRises};
 ghost use Rattle.cedar_evaluator_operators.specs.Scopes.{scope_ordering};
 
 use crate::arithmetic::binary_arith;
@@ -103,9 +101,9 @@ fn no_value(alloc: Global, op: BinaryOp, a: Expr, b: Expr) -> Result<Left, Evalu
     decided_or_stays(alloc, op, differs, a, b)
 }
 
-// Whether the value is a member of the set, whose members rise.
+// Whether the value is a member of the set.
 fn contains(alloc: Global, set: &V, v: &V) -> Result<V, EvaluationError>
-    ensures { Rises (bare extension_of set.now) → Gives (left_of (among_members (bare extension_of set.now) (bare extension_of v.now))) result }
+    ensures { Gives (left_of (among_members (bare extension_of set.now) (bare extension_of v.now))) result }
 {
     match set.value_kind() {
         ValueKind::Set(members) => Ok(truth(members.contains(v))),
@@ -115,7 +113,7 @@ fn contains(alloc: Global, set: &V, v: &V) -> Result<V, EvaluationError>
 
 // Whether each member of the second set is one of the first.
 fn contains_all(alloc: Global, v: &V, w: &V) -> Result<V, EvaluationError>
-    ensures { Rises (bare extension_of w.now) → Gives (left_of (of_sets (λ vs ws. is_subset ws vs) (bare extension_of v.now) (bare extension_of w.now))) result }
+    ensures { Gives (left_of (of_sets (λ vs ws. is_subset ws vs) (bare extension_of v.now) (bare extension_of w.now))) result }
 {
     match (v.value_kind(), w.value_kind()) {
         (ValueKind::Set(members), ValueKind::Set(others)) => Ok(truth(others.is_subset(members))),
@@ -126,7 +124,7 @@ fn contains_all(alloc: Global, v: &V, w: &V) -> Result<V, EvaluationError>
 
 // Whether some member of the second set is one of the first.
 fn contains_any(alloc: Global, v: &V, w: &V) -> Result<V, EvaluationError>
-    ensures { Rises (bare extension_of v.now) → Gives (left_of (of_sets (λ vs ws. not (is_disjoint vs ws)) (bare extension_of v.now) (bare extension_of w.now))) result }
+    ensures { Gives (left_of (of_sets (λ vs ws. not (is_disjoint vs ws)) (bare extension_of v.now) (bare extension_of w.now))) result }
 {
     match (v.value_kind(), w.value_kind()) {
         (ValueKind::Set(members), ValueKind::Set(others)) => Ok(truth(!members.is_disjoint(
@@ -148,7 +146,7 @@ fn compared<T: FunctionTable>(
     loc: Option<Loc>,
 ) -> Result<V, EvaluationError>
     requires { asks_no_store (binary_op_of op) ≡ true }
-    ensures { Rises (bare extension_of v.now) → Rises (bare extension_of w.now) → Gives (combined_left (scope_ordering T.ordered_types_in known.now) (binary_op_of op) (made extension_of v.now) (made extension_of w.now)) result }
+    ensures { Gives (combined_left (scope_ordering T.ordered_types_in known.now) (binary_op_of op) (made extension_of v.now) (made extension_of w.now)) result }
 {
     match op {
         BinaryOp::Eq | BinaryOp::Less | BinaryOp::LessEq => {
@@ -171,7 +169,7 @@ fn combined<T: FunctionTable>(
     w: &V,
     loc: Option<Loc>,
 ) -> Result<Left, EvaluationError>
-    ensures { Rises (bare extension_of v.now) → Rises (bare extension_of w.now) → Leaves (combined_left (scope_ordering T.ordered_types_in known.now) (binary_op_of op) (made extension_of v.now) (made extension_of w.now)) result }
+    ensures { Leaves (combined_left (scope_ordering T.ordered_types_in known.now) (binary_op_of op) (made extension_of v.now) (made extension_of w.now)) result }
 {
     match op {
         BinaryOp::In => known.within(alloc, v, w),
@@ -187,7 +185,7 @@ fn combined<T: FunctionTable>(
 }
 
 /// An operator of two operands that are evaluated; an overflow has this place. Where one is a residual the operator stays, but
-/// entities of two types are not equal. The members of sets rise.
+/// entities of two types are not equal.
 pub fn binary_left<T: FunctionTable>(
     alloc: Global,
     known: &Knowledge<'_, T>,
@@ -196,7 +194,7 @@ pub fn binary_left<T: FunctionTable>(
     second: Left,
     loc: Option<Loc>,
 ) -> Result<Left, EvaluationError>
-    ensures { LeftRises (left_seen first) → LeftRises (left_seen second) → Leaves (binary_left (scope_ordering T.ordered_types_in known.now) (binary_op_of op) (left_seen first) (left_seen second)) result }
+    ensures { Leaves (binary_left (scope_ordering T.ordered_types_in known.now) (binary_op_of op) (left_seen first) (left_seen second)) result }
 {
     match (first, second) {
         (PartialValue::Value(v), PartialValue::Value(w)) => {

@@ -44,6 +44,7 @@ pub fn binary_relation<T: FunctionTable>(
 }
 
 // Whether the first value is below the second.
+#[tactic(auto, using(crate::proofs::Ordered::ordered_by_order))]
 fn less<T: FunctionTable>(alloc: Global, table: &T, v: &V, w: &V) -> Result<V, EvaluationError>
     ensures { Gives (left_of (ordered (table_ordering (T.ordered_types_in table.now)) is_lt (bare extension_of v.now) (bare extension_of w.now))) result }
 {
@@ -54,6 +55,7 @@ fn less<T: FunctionTable>(alloc: Global, table: &T, v: &V, w: &V) -> Result<V, E
 }
 
 // Whether the first value is below the second or equal to it.
+#[tactic(auto, using(crate::proofs::Ordered::ordered_by_order))]
 fn less_or_equal<T: FunctionTable>(
     alloc: Global,
     table: &T,

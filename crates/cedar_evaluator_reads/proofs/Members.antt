@@ -1,31 +1,20 @@
 -- The members of a set of entities, and whether one is above a uid.
-use Rattle.std.proofs.Common.{◌≡◌, Bool, true, false, cond, ◌&&◌, ◌||◌, List, [], ◌∷◌, map, Option, Some, None, option_map, refl, sym, ap, ◌∙◌}
+use Rattle.std.proofs.Common.{◌≡◌, Bool, true, false, ◌&&◌, ◌||◌, List, [], ◌∷◌, map, Option, Some, None, option_map, refl, sym, ap, ◌∙◌}
 use Rattle.std.specs.Prelude.{is_some, option_and_then}
-use Rattle.std.proofs.lemmas.Map.Text.{is_eq-slice_cmp}
-use Rattle.std.specs.Borrow.{Bor}
-use Rattle.std.specs.BTreeMap.{is_at}
 use Rattle.std.specs.List.{list_all, list_any}
-use Rattle.std.specs.Map.{lookup}
-use Rattle.std.specs.Option.{option_copied, option_map_or}
-use Rattle.std.specs.Ordering.{is_eq}
-use Rattle.std.specs.Rc.{rc_str_bytes}
-use Rattle.std.specs.Str.{bytes_eq}
-use Rattle.std.specs.declared.alloc.Global.{Global}
-use Rattle.std.specs.declared.rc.RcStr.{RcStr}
-use Rattle.cedar_expr_model.specs.Name.{Text}
+use Rattle.std.specs.Option.{option_map_or}
 use Rattle.cedar_expr_model.specs.Uid.{Uid, uid_eq}
 use Rattle.cedar_expr_model.specs.Lists.{all_given}
 use Rattle.cedar_expr_model.specs.Made as model
 use Rattle.cedar_expr_model.specs.Made.{Made, Mades, made_set, bare_fields}
-use Rattle.cedar_expr_model.specs.Order.{text_cmp}
-use Rattle.cedar_expr_model.specs.Value.{V, Vs, values_list, field_of}
+use Rattle.cedar_expr_model.specs.Value.{values_list}
 use Rattle.cedar_expr_values.specs.Extension.{Extension}
-use Rattle.cedar_expr_values.specs.Values.{bare, made, made_kind, mades, made_list, made_fields, made_pair, kind_step, set_step, value_step}
-use Rattle.cedar_expr_values.specs.declared.value.ValueKind.{ValueKind, ValueKind-F, fold-roll-ValueKind}
-use Rattle.cedar_expr_values.specs.declared.value.ValueKind.TheVariants.{Set as SetKind, rolls-Set}
+use Rattle.cedar_expr_values.specs.Values.{bare, made, made_kind, mades, made_list}
+use Rattle.cedar_expr_values.specs.declared.value.ValueKind.{ValueKind}
+use Rattle.cedar_expr_values.specs.declared.value.ValueKind.TheVariants.{Set as SetKind}
 use Rattle.cedar_expr_values.specs.declared.value.Set.{Set}
 use Rattle.cedar_expr_values.specs.declared.value.Value.{Value}
-use Rattle.cedar_store_model.specs.Outcome.{Res, err, wrong_type}
+use Rattle.cedar_store_model.specs.Outcome.{err, wrong_type}
 use Rattle.cedar_store_model.specs.Operators.{says}
 use Rattle.cedar_store_model.specs.Reads.{uid_of, uids_in, is_in_some}
 
@@ -36,9 +25,7 @@ module _ {X : Type 0} (seen : X → Extension) where
   members_are (v ∷ vs) = ap (λ ws. bare seen v ∷ ws) (members_are vs)
 
   pub set_uids : (k : ValueKind X) (s : Set X) (v : Made) (vs : List (Value X)) → made_kind seen k ≡ v → k ≡ SetKind s → mades seen s ≡ made_list (map (made seen) vs) → uids_in (model.bare v) ≡ all_given uid_of (map (bare seen) vs)
-  set_uids k s v vs h is m =
-      let kind = ap (made_kind seen) (sym (rolls-Set s)) ∙ fold-roll-ValueKind X Made Mades Made (kind_step seen) set_step value_step (ValueKind-F.Set s) in
-      ap (λ d. uids_in (model.bare d)) (sym h ∙ ap (made_kind seen) is ∙ kind ∙ ap made_set m) ∙ ap (all_given uid_of) (members_are vs)
+  set_uids k s v vs h is m = ap (λ d. uids_in (model.bare d)) (sym h ∙ ap (made_kind seen) is ∙ ap made_set m) ∙ ap (all_given uid_of) (members_are vs)
 
   -- whether all of a list are entities, and whether one is among them or below them
   module _ (ancestors : List Uid) (u : Uid) where

@@ -40,7 +40,7 @@ pub fn seen_as(v: &V) -> Seen<'_>
 {
     match v.value_kind() {
         ValueKind::Lit(Literal::EntityUID(uid)) => Seen::Entity(uid),
-        ValueKind::Record(fields) => Seen::Record(fields),
+        ValueKind::Record(fields) => Seen::Record(fields.as_map()),
         _ => Seen::Neither,
     }
 }

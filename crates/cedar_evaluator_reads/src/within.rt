@@ -70,6 +70,7 @@ fn found_within(
     match w.value_kind() {
         ValueKind::Lit(Literal::EntityUID(other)) => Ok(truth(is_below(uid, entity, other))),
         ValueKind::Set(members) => {
+            let members = members.authoritative();
             if are_entities(members.iter()) {
                 Ok(truth(is_below_some(uid, entity, members.iter())))
             } else {

@@ -1,4 +1,5 @@
 pub mod Found
 pub mod Identified
 pub mod Listed
+pub mod Named
 pub mod Once

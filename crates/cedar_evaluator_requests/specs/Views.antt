@@ -1,6 +1,6 @@
 -- What requests and their answers are in the model.
 -- Rule: partial evaluation; partial responses (docs/RULES.md).
-use Rattle.std.specs.Prelude.{List, map, Option, Some, None, codes}
+use Rattle.std.specs.Prelude.{List, [], ◌∷◌, map, Option, Some, None, codes}
 use Rattle.std.specs.Map.{keys_of}
 use Rattle.std.specs.Rc.{rc_str_bytes}
 use Rattle.std.specs.declared.alloc.Global.{Global}
@@ -9,9 +9,10 @@ use Rattle.cedar_expr_names.specs.Views.{uid_of, type_name_of}
 use Rattle.cedar_expr_names.specs.declared.loc.Loc.{Loc}
 use Rattle.cedar_expr_model.specs.Name.{Text, Name}
 use Rattle.cedar_expr_model.specs.Uid.{Uid}
+use Rattle.cedar_expr_model.specs.Made.{MadeFields, no_made_fields, made_field}
 use Rattle.cedar_expr_model.specs.Tree.{Tree, Var, principal, action, resource, context}
 use Rattle.cedar_expr_values.specs.Extensions.{extension_of}
-use Rattle.cedar_expr_values.specs.Values.{made_fields, made_pair}
+use Rattle.cedar_expr_values.specs.Values.{fields_made}
 use Rattle.cedar_expr_trees.specs.Trees.{tree_of}
 use Rattle.std.specs.Prelude.{option_map}
 use Rattle.cedar_store_parts.specs.Parts.{id_text}
@@ -65,12 +66,17 @@ abbrev pub restricted_tree : RestrictedFields → Tree
 restricted_tree r = fields_tree r.fields.value.entries
 
 abbrev pub context_of : Context → scope.Context
-context_of (known.Value fs) = scope.closed (made_fields (map (made_pair extension_of) fs.value.entries))
+context_of (known.Value fs) = scope.closed (fields_made extension_of fs)
 context_of (known.RestrictedResidual r) = scope.residual_fields (fields_in r.fields.value.entries)
+
+-- the names of fields, in order
+abbrev pub names_made : MadeFields → List Text
+names_made no_made_fields = []
+names_made (made_field a m fs) = a ∷ names_made fs
 
 -- the names of a context's fields, in order
 abbrev pub keys_of_context : Context → List Text
-keys_of_context (known.Value fs) = map (λ e. rc_str_bytes e.0) fs.value.entries
+keys_of_context (known.Value fs) = names_made (fields_made extension_of fs)
 keys_of_context (known.RestrictedResidual r) = map (λ e. rc_str_bytes e.0) r.fields.value.entries
 
 -- a context, where there is one

@@ -7,7 +7,7 @@ ghost use Rattle.cedar_evaluator_requests.specs.Fields.{fields_tree};
 
 use cedar_expr_partial::PartialValue;
 use cedar_expr_trees::Expr;
-use cedar_expr_values::{ExtValue, Value};
+use cedar_expr_values::{ExtValue, Record, Value};
 use std::alloc::{AllocError, Global};
 use std::collections::BTreeMap;
 use std::rc::{Rc, RcStr};
@@ -16,7 +16,7 @@ use std::rc::{Rc, RcStr};
 #[derive(Debug, PartialEq, Eq, Drop)]
 pub enum Context {
     /// The fields, each a value.
-    Value(Rc<BTreeMap<RcStr, Value<ExtValue>>>),
+    Value(Record<ExtValue>),
     /// The fields, of which at least one has an unknown.
     RestrictedResidual(RestrictedFields),
 }
@@ -88,7 +88,7 @@ impl Context {
     pub fn empty(alloc: Global) -> Result<Context, AllocError>
         ensures { IfOk result (λ c. context_of c ≡ closed no_made_fields) }
     {
-        Ok(Context::Value(Rc::new(alloc, BTreeMap::new(alloc))?))
+        Ok(Context::Value(Record::empty(alloc)?))
     }
 
     /// How many fields there are.
@@ -96,7 +96,7 @@ impl Context {
         ensures { result ≡ length (keys_of_context self.now) }
     {
         match self {
-            Context::Value(fields) => fields.len(),
+            Context::Value(fields) => fields.as_map().len(),
             Context::RestrictedResidual(fields) => fields.fields.len(),
         }
     }

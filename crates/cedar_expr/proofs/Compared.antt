@@ -8,7 +8,7 @@ use Rattle.std.specs.Rc.{rc_str_bytes}
 use Rattle.std.specs.Str.{bytes_eq}
 use Rattle.cedar_expr_model.specs.Order.{text_cmp, core_cmp}
 use Rattle.cedar_expr_model.proofs.Equality.{name_eq-Decides}
-use Rattle.cedar_expr_names.specs.Views.{name_of}
+use Rattle.cedar_expr_names.specs.Views.{name_of, name_bytes}
 use Rattle.cedar_expr_names.specs.declared.internal_name.InternalName.{InternalName}
 use Rattle.cedar_expr_names.proofs.Equality.{names_eq_is}
 use Rattle.cedar_expr_leaves.specs.Views.{possible_names, referred, written_name}
@@ -27,7 +27,7 @@ use Rattle.cedar_expr_trees.specs.declared.expr.Unknown.{Unknown}
 
 -- names, and lists of them
 abbrev names_eq : InternalName → InternalName → Bool
-names_eq m n = bytes_eq (rc_str_bytes m.text) (rc_str_bytes n.text)
+names_eq m n = bytes_eq (name_bytes m) (name_bytes n)
 
 names_decide : (m n : InternalName) → Decides (names_eq m n) (name_of m ≡ name_of n)
 names_decide m n = subst (λ b. Decides b (name_of m ≡ name_of n)) (sym (names_eq_is m n)) (name_eq-Decides (name_of m) (name_of n))

@@ -32,11 +32,29 @@ ghost use Rattle.cedar_expr_functions.specs.declared.extension.CallStyle.{CallSt
 ghost use Rattle.cedar_expr_functions.specs.declared.extension.CallStyle.TheVariants.{FunctionStyle, MethodStyle};
 ghost use Rattle.cedar_expr_functions.specs.declared.extension.ExtensionOutputValue.TheVariants as given;
 
+pub use cedar_expr_builders::laws::{
+    rebuilding_twice_is_once, refusals_agree, refusing_builders_are_lawful,
+};
+pub use cedar_expr_functions::laws::wrong_calls_decide;
 use cedar_expr_functions::{CallStyle, ExtensionOutputValue};
+pub use cedar_expr_leaves::laws::{
+    elements_are_compared, literals_are_compared, patterns_are_compared, slots_are_compared,
+    variables_are_compared,
+};
 use cedar_expr_leaves::{ConditionalName, NonEmpty, ReferenceType, Slot};
 use cedar_expr_names::Loc;
 use cedar_expr_partial::PartialValue;
+pub use cedar_expr_partial::laws::{split_keeps_order, there_and_back};
+pub use cedar_expr_shapes::laws::{
+    expressions_are_their_trees, expressions_are_their_trees_and_data, shapes_agree,
+};
+pub use cedar_expr_substitution::laws::substituting_twice_is_once;
+pub use cedar_expr_trees::laws::expressions_are_compared;
 use cedar_expr_trees::{Expr, Unknown};
+pub use cedar_expr_values::laws::{
+    core_types_are_compared, extension_values_are_compared, sets_are_their_members,
+    values_are_canonical, values_are_compared, values_are_hashed,
+};
 use cedar_expr_values::{ExtValue, ExtensionValue, RepresentableExtensionValue, Value};
 use std::hash::Hash;
 

@@ -33,7 +33,7 @@ pub use partial_value::{ContainsUnknown, PartialValue, PartialValueToValueError,
 pub use pattern::{Pattern, PatternElem};
 pub use types::{StaticallyTyped, Type};
 pub use util::{CollectError, collect_no_duplicates};
-pub use value::{FromValue, NotValue, Set, TryFromExpr, Value, ValueKind};
+pub use value::{FromValue, Keyed, NotValue, Record, Set, TryFromExpr, Value, ValueKind};
 
 /// Expressions and their leaves, their own builder, their shapes, substitution and checks.
 pub mod expr {
@@ -133,5 +133,5 @@ pub mod types {
 /// Values and sets, written as expressions and read from them.
 pub mod value {
     pub use cedar_expr_partial::{FromValue, NotValue, TryFromExpr};
-    pub use cedar_expr_values::{Set, Value, ValueKind};
+    pub use cedar_expr_values::{Keyed, Record, Set, Value, ValueKind};
 }

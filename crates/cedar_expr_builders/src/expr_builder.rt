@@ -205,7 +205,8 @@ pub trait ExprBuilder: Clone + Drop {
 
     /// The builder that gives default data and no place.
     fn new() -> Self
-        ensures { placed result ≡ None }
+        ensures place { placed result ≡ None }
+        ensures data { Self.Data.is_default (held result) }
     {
         Self::with_data(Self::Data::default())
     }

@@ -84,6 +84,37 @@ same 1@4 set=1@3 | 1 1 set=2@3 : yes yes yes yes yes
 same ext=decimal/"1.0/1 | ext=decimal/"1.00/1 : yes yes yes yes yes
 same ext=decimal/"1.0/1 | ext=decimal/"2.0/2 : no no no no no
 same 1 | true : no no no no no
+same 1 set=1 2 set=1 set=2 | 2 set=1 1 set=1 2 set=1 set=3 : yes yes yes yes yes
+same 1 set=1 2 set=1 set=2 | 1 set=1 3 set=1 set=2 : no no no no no
+same 1 record=a 2 record=a set=2 | 2 record=a 1 record=a set=2 : yes yes yes yes yes
+same 1 record=a 2 record=a set=2 | 1 record=a 2 record=b set=2 : no no no no no
+same ext=decimal/"1.0/1 set=1 record=a | ext=decimal/"1.00/1 set=1 record=a : yes yes yes yes yes
+same ext=decimal/"1.0/1 set=1 record=a | ext=decimal/"1.0/2 set=1 record=a : no no no no no
+# how many members a set has, how many of them are hashed as literals (`none` where one is no literal), and whether it has a value
+asked 1 2 1 set=3 | 2 : 2 2 yes
+asked 1 2 1 set=3 | 3 : 2 2 no
+asked 1 2 1 set=3 | 1 set=1 : 2 2 no
+asked true 1 "a User::a set=4 | "a : 4 4 yes
+asked true 1 "a User::a set=4 | User::a : 4 4 yes
+asked 1 1 record=a set=2 | 1 record=a : 2 none yes
+asked 1 1 record=a set=2 | 1 : 2 none yes
+asked 1 1 record=a set=2 | 2 : 2 none no
+asked 1 set=1 2 set=1 set=2 | 2 set=1 : 2 none yes
+asked ext=decimal/"1.0/1 set=1 | ext=decimal/"1.00/1 : 1 none yes
+asked set=0 | 1 : 0 0 no
+# whether the one set is a subset of the other, the other of the one, and whether they are disjoint, asked of each; also where one has many
+# more members
+sides 1 2 set=2 | 3 2 1 set=3 : yes no no no
+sides 1 2 set=2 | 2 1 set=2 : yes yes no no
+sides 1 2 set=2 | 3 4 set=2 : no no yes yes
+sides 1 1 set=1 set=2 | 1 set=1 2 1 set=3 : yes no no no
+sides set=0 | 1 set=1 : yes no yes yes
+sides set=0 | set=0 : yes yes yes yes
+sides 7 set=1 | 1 2 3 4 5 6 7 8 9 10 11 12 13 14 15 16 17 18 19 20 21 22 23 24 25 26 27 28 29 30 31 32 33 34 35 36 37 38 39 40 set=40 : yes no no no
+sides 41 set=1 | 1 2 3 4 5 6 7 8 9 10 11 12 13 14 15 16 17 18 19 20 21 22 23 24 25 26 27 28 29 30 31 32 33 34 35 36 37 38 39 40 set=40 : no no yes yes
+sides 7 set=1 set=1 | 1 2 3 4 5 6 7 8 9 10 11 12 13 14 15 16 17 18 19 20 21 22 23 24 25 26 27 28 29 30 31 32 33 34 35 36 37 38 39 40 set=40 : no no yes yes
+sides 7 set=1 | 1 2 3 4 5 6 7 8 9 10 11 12 13 14 15 16 17 18 19 20 21 22 23 24 25 26 27 28 29 30 31 32 33 34 35 36 37 38 39 40 true record=a set=41 : yes no no no
+sides 41 7 set=2 | 1 2 3 4 5 6 7 8 9 10 11 12 13 14 15 16 17 18 19 20 21 22 23 24 25 26 27 28 29 30 31 32 33 34 35 36 37 38 39 40 set=40 : no no no no
 # the type that a value shows, and a copy of that of its kind
 type true : bool bool
 type 7 : long long
@@ -107,7 +138,7 @@ made record b=1 a=2 b=3 : a 2 b 3 @3
 made shared b=1 a=2 b=3 : a 2 b 3 @3
 "#;
 
-/// The first row on leaves that says something else, with what it says; nothing where all hold. Fails for want of memory.
+/// The first row on leaves that says something else, with what it says; nothing where all hold. Fails out of memory.
 pub fn wrong_leaf_row(alloc: Global) -> Result<String, AllocError> {
     for row in ROWS.lines() {
         if let Some((verb, rest, wanted)) = parted(row) {

@@ -4,7 +4,7 @@ use cedar_expr_names::Loc;
 use cedar_expr_values::*;
 use cedar_test_exprs::{at, copied, kept, literal, made, name, say, show, tell, value, word};
 use std::alloc::{AllocError, Global};
-use std::collections::{BTreeMap, HashSet};
+use std::collections::HashSet;
 use std::rc::{Rc, RcStr};
 
 type V = Value<ExtValue>;
@@ -19,6 +19,8 @@ pub fn done(alloc: Global, said: &mut String, verb: &str, rest: &str) -> Result<
         "given" => given(alloc, said, rest),
         "uids" => uids(alloc, said, rest),
         "made" => copy(alloc, said, rest),
+        "asked" => asked(alloc, said, rest),
+        "sides" => sides(alloc, said, rest),
         _ => Err(AllocError),
     }
 }
@@ -113,14 +115,6 @@ fn pairs(alloc: Global, text: &str) -> Result<Vec<(RcStr, V)>, AllocError> {
     Ok(pairs)
 }
 
-fn shared_fields(alloc: Global, text: &str) -> Result<Rc<BTreeMap<RcStr, V>>, AllocError> {
-    let mut fields = BTreeMap::new(alloc);
-    for (name, value) in pairs(alloc, text)? {
-        fields.insert(name, value)?;
-    }
-    Ok(Rc::new(alloc, fields)?)
-}
-
 // The value that a maker makes of a text, at a place. Each is made by the like-named maker of its kind, and that by that of its set.
 fn value_of(alloc: Global, text: &str) -> Result<V, AllocError> {
     let (maker, text) = text.split_once(' ').unwrap_or((text, ""));
@@ -131,7 +125,7 @@ fn value_of(alloc: Global, text: &str) -> Result<V, AllocError> {
         "set" => Value::set(alloc, values(alloc, text)?, place),
         "literals" => Value::set_of_lits(alloc, literals(alloc, text)?, place),
         "record" => Value::record(alloc, pairs(alloc, text)?, place),
-        _ => Ok(Value::record_arc(shared_fields(alloc, text)?, place)),
+        _ => Ok(Value::record_arc(Record::new(alloc, pairs(alloc, text)?)?, place)),
     }
 }
 
@@ -140,6 +134,36 @@ fn copy(alloc: Global, said: &mut String, text: &str) -> Result<(), AllocError> 
     let copy = kept(alloc, V::clone(&value))?;
     contents(alloc, said, copy.value_kind())?;
     at(alloc, said, copy.source_loc())
+}
+
+// The set that the value is.
+fn set_in(value: &V) -> Result<&Set<ExtValue>, AllocError> {
+    match value.value_kind() {
+        ValueKind::Set(set) => Ok(set),
+        _ => Err(AllocError),
+    }
+}
+
+fn asked(alloc: Global, said: &mut String, text: &str) -> Result<(), AllocError> {
+    let (held, member) = text.split_once(" | ").ok_or(AllocError)?;
+    let (held, member) = (value(alloc, held)?, value(alloc, member)?);
+    let set = set_in(&held)?;
+    show(alloc, said, &set.len())?;
+    match set.fast() {
+        Some(literals) => show(alloc, said, &literals.len())?,
+        None => say(said, "none")?,
+    }
+    tell(said, set.contains(&member))
+}
+
+fn sides(alloc: Global, said: &mut String, text: &str) -> Result<(), AllocError> {
+    let (first, second) = text.split_once(" | ").ok_or(AllocError)?;
+    let (first, second) = (value(alloc, first)?, value(alloc, second)?);
+    let (first, second) = (set_in(&first)?, set_in(&second)?);
+    tell(said, first.is_subset(second))?;
+    tell(said, second.is_subset(first))?;
+    tell(said, first.is_disjoint(second))?;
+    tell(said, second.is_disjoint(first))
 }
 
 // Says the members of a set, or the fields of a record.
@@ -155,7 +179,7 @@ fn contents(
             }
         }
         ValueKind::Record(fields) => {
-            for (name, value) in fields.iter() {
+            for (name, value) in fields.as_map().iter() {
                 say(said, name.as_str())?;
                 literal_shown(alloc, said, value)?;
             }

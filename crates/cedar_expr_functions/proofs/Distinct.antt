@@ -8,13 +8,12 @@ use Rattle.std.specs.Borrow.{Bor}
 use Rattle.std.specs.List.{list_any, list_all}
 use Rattle.std.specs.Map.{keys_of, values_of}
 use Rattle.std.specs.Ordering.{eq_by_cmp, is_eq}
-use Rattle.std.specs.Rc.{rc_str_bytes}
 use Rattle.cedar_expr_model.specs.Name as model
 use Rattle.cedar_expr_model.specs.Name.{name_eq}
 use Rattle.cedar_expr_model.specs.Order.{core_eq}
 use Rattle.cedar_expr_model.specs.Repeats.{first_again, repeated}
 use Rattle.cedar_expr_model.proofs.Equality.{name_eq-Decides}
-use Rattle.cedar_expr_names.specs.Views.{plain_name_of}
+use Rattle.cedar_expr_names.specs.Views.{name_bytes, plain_name_of}
 use Rattle.cedar_expr_names.specs.contracts.name.NameOrd.TheImpl as name_order
 use Rattle.cedar_expr_names.specs.declared.name.Name.{Name}
 use Rattle.cedar_expr_names.proofs.Equality.{names_eq_is}
@@ -54,7 +53,7 @@ map_map f h (x ∷ xs) = ap (λ ys. h (f x) ∷ ys) (map_map f h xs)
 
 -- equal keys are equal names
 pub names_alike : (m n : Name) → eq_by_cmp (name_order.ghosts).cmp m n ≡ name_eq (plain_name_of m) (plain_name_of n)
-names_alike m n = is_eq-slice_cmp (rc_str_bytes m.internal.text) (rc_str_bytes n.internal.text) ∙ names_eq_is m.internal n.internal
+names_alike m n = is_eq-slice_cmp (name_bytes m.internal) (name_bytes n.internal) ∙ names_eq_is m.internal n.internal
 
 types_alike : (a b : CoreKind) → eq_by_cmp (type_order.ghosts).cmp a b ≡ core_eq (core_of a) (core_of b)
 types_alike a b = ap is_eq (types_cmp_is a b)

@@ -1,13 +1,15 @@
 -- The text of a name's namespace, and namespaces that are handed in.
 -- Rule: identifiers and names (docs/RULES.md).
-use Rattle.std.specs.Prelude.{◌≡◌, true, false, [], Option, Some, None, Result, MatchResult}
+use Rattle.std.specs.Prelude.{◌≡◌, true, [], Option, Some, None, Result, MatchResult}
 use Rattle.std.specs.Borrow.{Bor}
 use Rattle.cedar_expr_model.specs.Name as model
 use Rattle.cedar_expr_model.specs.Name.{Text, name_text}
 use Rattle.cedar_expr_model.specs.Names.{is_unqualified, namespace_of}
 use Rattle.cedar_expr_names.specs.declared.internal_name.InternalName.{InternalName}
 use Rattle.cedar_expr_names.specs.declared.name.Name.{Name}
+use Rattle.cedar_expr_names.specs.declared.err.NameError.{NameError}
 use Rattle.cedar_expr_names.specs.Views.{name_of, plain_name_of}
+use Rattle.cedar_expr_names.specs.Refusals.{RefusesNamespace}
 
 -- the text of a name, and nothing where there is none
 abbrev pub optional_text : Option model.Name → Text
@@ -27,6 +29,6 @@ abbrev pub plain_space_of : Option (Bor Name) → Option model.Name
 plain_space_of None = None
 plain_space_of (Some n) = Some (plain_name_of n.now)
 
--- A name without a namespace gives its base, and one that has a namespace gives nothing.
-abbrev pub GivesBase : {I : Type 0} → (I → Text) → model.Name → Result I (Unit {0}) → Type 0
-GivesBase text n r = MatchResult r (λ i. (is_unqualified n ≡ true) × (text i ≡ n.base)) (λ e. is_unqualified n ≡ false)
+-- A name without a namespace gives its base, and one that has a namespace is refused.
+abbrev pub GivesBase : {I : Type 0} → (I → Text) → model.Name → Result I NameError → Type 0
+GivesBase text n r = MatchResult r (λ i. (is_unqualified n ≡ true) × (text i ≡ n.base)) (RefusesNamespace n)

@@ -1,12 +1,12 @@
 -- What a refusal of a text or a name says.
 use Rattle.std.specs.Prelude.{◌≡◌, true, false, Some, None}
 use Rattle.cedar_expr_model.specs.Name.{Text, Name, name_read, is_word, is_identifier, reserved, is_reserved}
-use Rattle.cedar_expr_model.specs.Names.{cedar_name}
+use Rattle.cedar_expr_model.specs.Names.{cedar_name, is_unqualified}
 use Rattle.cedar_expr_names.specs.declared.err.NameError.{NameError}
 use Rattle.cedar_expr_names.specs.declared.err.NameError.TheVariants.{OutOfMemory, NotNormalized, Reserved}
 use Rattle.cedar_expr_names.specs.Views.{refused_name_of}
 
--- The fault is there where the text is read as an identifier. Want of memory says nothing.
+-- The fault is there where the text is read as an identifier. Out of memory says nothing.
 abbrev pub RefusesIdentifier : Text → NameError → Type 0
 RefusesIdentifier text OutOfMemory = Unit {0}
 RefusesIdentifier text NotNormalized = is_identifier text ≡ false
@@ -41,3 +41,9 @@ abbrev pub RefusesReserved : Name → NameError → Type 0
 RefusesReserved n OutOfMemory = Unit {0}
 RefusesReserved n NotNormalized = ⊥
 RefusesReserved n (Reserved e) = (is_reserved n ≡ true) × (refused_name_of e ≡ n)
+
+-- The fault is there where the name may have no namespace.
+abbrev pub RefusesNamespace : Name → NameError → Type 0
+RefusesNamespace n OutOfMemory = Unit {0}
+RefusesNamespace n NotNormalized = is_unqualified n ≡ false
+RefusesNamespace n (Reserved e) = ⊥

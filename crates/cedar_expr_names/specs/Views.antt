@@ -1,5 +1,5 @@
 -- What the types of this crate hold, as the model's texts, names and uids.
-pub use Rattle.cedar_expr_names.specs.Parts.{id_text, name_of, name_loc}
+pub use Rattle.cedar_expr_names.specs.Parts.{id_text, name_of, name_bytes, name_loc}
 use Rattle.std.specs.Prelude.{ℕ, Option}
 use Rattle.std.specs.Rc.{rc_str_bytes}
 use Rattle.cedar_expr_model.specs.Name as model

@@ -10,7 +10,8 @@ use thiserror::Error;
 #[derive(Debug, PartialEq, Eq, Error)]
 #[error("the name `{name}` is reserved")]
 pub struct ReservedNameError {
-    name: InternalName,
+    /// The name that was refused.
+    pub name: InternalName,
 }
 
 // prover: see ARCHITECTURE

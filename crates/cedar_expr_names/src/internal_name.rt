@@ -14,30 +14,43 @@ use std::fmt::{Display, Formatter, Write};
 use std::rc::{Rc, RcStr};
 use std::slice::Iter;
 
-/// A name of any kind: a path of identifiers and its base, joined by `::`. Names are compared by their texts, in byte
-/// order; places don't count.
+// What a name is. Texts are compared, in byte order; places don't count.
 #[derive(Debug)]
 #[derive_where(PartialEq, Eq, PartialOrd, Ord, Hash)]
-pub struct InternalName {
+struct NameParts {
     text: RcStr,
     #[derive_where(skip(EqHashOrd))]
-    path: Rc<Vec<Id>>,
+    path: Vec<Id>,
     #[derive_where(skip(EqHashOrd))]
     id: Id,
     #[derive_where(skip(EqHashOrd))]
     loc: Option<Loc>,
-    ghost written: { rc_str_bytes text ≡ joined (map id_text path.value.items) (id_text id) },
+    ghost written: { rc_str_bytes text ≡ joined (map id_text path.items) (id_text id) },
 }
 
 // prover: see ARCHITECTURE
-impl Drop for InternalName {
+impl Drop for NameParts {
     fn drop(self) {
-        let InternalName {
+        let NameParts {
             text: _,
             path: _,
             id: _,
             loc: _,
         } = self;
+    }
+}
+
+/// A name of any kind: a path of identifiers and its base, joined by `::`. Names are compared by their texts, in byte
+/// order; places don't count. A clone shares what the name holds.
+#[derive(Debug, PartialEq, Eq, PartialOrd, Ord, Hash)]
+pub struct InternalName {
+    content: Rc<NameParts>,
+}
+
+// prover: see ARCHITECTURE
+impl Drop for InternalName {
+    fn drop(self) {
+        let InternalName { content: _ } = self;
     }
 }
 
@@ -51,7 +64,7 @@ impl InternalName {
     ghost use Rattle.cedar_expr_model.specs.UidOrder.{name_cmp};
     ghost use Rattle.cedar_expr_names.specs.Refusals.{RefusesIdentifier, RefusesText};
 
-    /// The name of a base under a path, at a place. Answers want of memory.
+    /// The name of a base under a path, at a place. Answers out of memory.
     pub fn new(
         alloc: Global,
         basename: Id,
@@ -64,16 +77,17 @@ impl InternalName {
     {
         let text = joined_text(alloc, path.as_slice(), &basename)?;
         let text = RcStr::from_string(text)?;
-        let path = Rc::new(alloc, path)?;
-        Ok(InternalName {
+        let parts = NameParts {
             text,
             path,
             id: basename,
             loc,
-        })
+        };
+        let content = Rc::new(alloc, parts)?;
+        Ok(InternalName { content })
     }
 
-    /// Reads a name, which has to be the whole text. Refuses any other text, and answers want of memory.
+    /// Reads a name, which has to be the whole text. Refuses any other text, and answers out of memory.
     pub fn from_normalized_str(alloc: Global, text: &str) -> Result<InternalName, NameError>
         ensures read { IfOk result (λ n. name_read text.now ≡ Some (name_of n)) }
         ensures shown { IfOk result (λ n. name_text (name_of n) ≡ text.now) }
@@ -90,7 +104,7 @@ impl InternalName {
         InternalName::new(alloc, base, path, None).map_err(|_| NameError::OutOfMemory)
     }
 
-    /// Reads a name of one identifier, which has to be the whole text. Refuses any other text, and answers want of memory.
+    /// Reads a name of one identifier, which has to be the whole text. Refuses any other text, and answers out of memory.
     pub fn parse_unqualified_name(alloc: Global, text: &str) -> Result<InternalName, NameError>
         ensures read { IfOk result (λ n. name_of n ≡ unqualified text.now) }
         ensures identifies { IfOk result (λ n. is_identifier text.now ≡ true) }
@@ -101,7 +115,7 @@ impl InternalName {
         InternalName::unqualified_name(alloc, id).map_err(|_| NameError::OutOfMemory)
     }
 
-    /// The reserved name `__cedar`. Answers want of memory.
+    /// The reserved name `__cedar`. Answers out of memory.
     pub fn cedar(alloc: Global) -> Result<InternalName, AllocError>
         ensures value { IfOk result (λ n. name_of n ≡ cedar_name) }
         ensures place { IfOk result (λ n. name_loc n ≡ None) }
@@ -110,7 +124,7 @@ impl InternalName {
         InternalName::unqualified_name(alloc, id)
     }
 
-    /// The name of this base in a namespace, at a place. Answers want of memory.
+    /// The name of this base in a namespace, at a place. Answers out of memory.
     pub fn type_in_namespace(
         alloc: Global,
         basename: Id,
@@ -120,7 +134,11 @@ impl InternalName {
         ensures value { IfOk result (λ n. name_of n ≡ within (name_of namespace) (id_text basename)) }
         ensures place { IfOk result (λ n. name_loc n ≡ loc) }
     {
-        let path = copied_parts(alloc, namespace.path.as_slice(), &namespace.id)?;
+        let path = copied_parts(
+            alloc,
+            namespace.content.path.as_slice(),
+            &namespace.content.id,
+        )?;
         InternalName::new(alloc, basename, path, loc)
     }
 
@@ -129,41 +147,41 @@ impl InternalName {
         ensures value { result.now ≡ name_text (name_of self.now) }
         ensures reads_back { name_read result.now ≡ Some (name_of self.now) }
     {
-        self.text.as_str()
+        self.content.text.as_str()
     }
 
     /// The name's last identifier.
     pub fn basename(&self) -> &Id
         ensures { id_text result.now ≡ (name_of self.now).base }
     {
-        &self.id
+        &self.content.id
     }
 
     /// Whether the name has no path.
     pub fn is_unqualified(&self) -> bool
         ensures { result ≡ is_unqualified (name_of self.now) }
     {
-        self.path.is_empty()
+        self.content.path.is_empty()
     }
 
     /// Goes over the identifiers of the name's path, in order.
     pub fn namespace_components(&self) -> Iter<'_, Id>
         ensures { map id_text (iter_rest result) ≡ (name_of self.now).path }
     {
-        self.path.iter()
+        self.content.path.iter()
     }
 
-    /// The text of the name's namespace: empty where it has none. Answers want of memory.
+    /// The text of the name's namespace: empty where it has none. Answers out of memory.
     pub fn namespace(&self, alloc: Global) -> Result<String, AllocError>
         ensures { IfOk result (λ t. string_bytes t ≡ namespace_text (name_of self.now)) }
     {
-        match self.path.as_slice() {
+        match self.content.path.as_slice() {
             [] => Ok(String::new(alloc)),
             [path @ .., base] => joined_text(alloc, path, base),
         }
     }
 
-    /// The name in a namespace, if there is one; a name that has a namespace stays as it is. Answers want of memory.
+    /// The name in a namespace, if there is one; a name that has a namespace stays as it is. Answers out of memory.
     pub fn qualify_with(
         &self,
         alloc: Global,
@@ -178,15 +196,15 @@ impl InternalName {
         match namespace {
             None => self.clone(),
             Some(space) => {
-                let path = copied_parts(alloc, space.path.as_slice(), &space.id)?;
-                let base = self.id.clone()?;
-                InternalName::new(alloc, base, path, self.loc)
+                let path = copied_parts(alloc, space.content.path.as_slice(), &space.content.id)?;
+                let base = self.content.id.clone()?;
+                InternalName::new(alloc, base, path, self.content.loc)
             }
         }
     }
 
     /// The name in a namespace that is not reserved, if there is one; a name that has a namespace stays as it is. Answers
-    /// want of memory.
+    /// out of memory.
     pub fn qualify_with_name(
         &self,
         alloc: Global,
@@ -205,7 +223,7 @@ impl InternalName {
     pub fn is_reserved(&self) -> bool
         ensures { result ≡ is_reserved (name_of self.now) }
     {
-        any_reserved(self.path.as_slice()) || self.id.is_reserved()
+        any_reserved(self.content.path.as_slice()) || self.content.id.is_reserved()
     }
 
     /// Whether this is the same name as the other: what `==` answers, which doesn't look at places.
@@ -226,10 +244,10 @@ impl InternalName {
     pub fn loc(&self) -> Option<Loc>
         ensures { result ≡ name_loc self.now }
     {
-        self.loc
+        self.content.loc
     }
 
-    /// The name of one identifier, without a path or a place. Answers want of memory.
+    /// The name of one identifier, without a path or a place. Answers out of memory.
     pub fn unqualified_name(alloc: Global, id: Id) -> Result<InternalName, AllocError>
         ensures base { IfOk result (λ n. (name_of n).base ≡ id_text id) }
         ensures path { IfOk result (λ n. (name_of n).path ≡ []) }
@@ -237,35 +255,21 @@ impl InternalName {
     {
         InternalName::new(alloc, id, Vec::new(alloc), None)
     }
-
-    // The identifier at the end.
-    fn into_basename(self) -> Id
-        ensures { id_text result ≡ (name_of self).base }
-    {
-        let InternalName {
-            text: _,
-            path: _,
-            id,
-            loc: _,
-        } = self;
-        id
-    }
 }
 
 impl TryFrom<InternalName> for Id {
-    type Error = ();
+    type Error = NameError;
 
     ghost use Rattle.cedar_expr_names.specs.Parts.{name_of};
     ghost use Rattle.cedar_expr_names.specs.Namespaces.{GivesBase};
 
     ghost try_from_gives = { λ n r. GivesBase id_text (name_of n) r };
 
-    fn try_from(value: InternalName) -> Result<Id, ()> {
-        if value.is_unqualified() {
-            Ok(value.into_basename())
-        } else {
-            Err(())
+    fn try_from(value: InternalName) -> Result<Id, NameError> {
+        if !value.is_unqualified() {
+            return Err(NameError::NotNormalized);
         }
+        value.basename().clone().map_err(|_| NameError::OutOfMemory)
     }
 }
 
@@ -275,15 +279,8 @@ impl Clone for InternalName {
     ghost is_clone = { λ n copy. (name_of copy ≡ name_of n) × (name_loc copy ≡ name_loc n) };
 
     fn clone(&self) -> Result<InternalName, AllocError> {
-        let text = self.text.clone()?;
-        let path = self.path.clone()?;
-        let id = self.id.clone()?;
-        Ok(InternalName {
-            text,
-            path,
-            id,
-            loc: self.loc,
-        })
+        let content = self.content.clone()?;
+        Ok(InternalName { content })
     }
 }
 
@@ -295,6 +292,6 @@ impl Display for InternalName {
     ghost output = { λ n. Some (name_text (name_of n)) };
 
     fn fmt<W: Write>(&self, f: &mut Formatter<W>) -> fmt::Result {
-        Display::fmt(&self.text, f)
+        Display::fmt(&self.content.text, f)
     }
 }

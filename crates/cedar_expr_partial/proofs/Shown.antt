@@ -18,7 +18,7 @@ use Rattle.cedar_expr_model.specs.Records.{fields, names_rise, record_made}
 use Rattle.cedar_expr_model.specs.Canonical.{set_made, is_canonical}
 use Rattle.cedar_expr_model.proofs.Lists.{both_hold, hold_both}
 use Rattle.cedar_expr_values.specs.Extension.{Extension}
-use Rattle.cedar_expr_values.specs.Values.{bare, bare_pair, all_canonical, values_of}
+use Rattle.cedar_expr_values.specs.Values.{bare, bare_pair}
 use Rattle.cedar_expr_values.specs.declared.value.Value.{Value}
 use Rattle.cedar_expr_model.specs.Builder.{trees, tree_fields}
 use Rattle.cedar_expr_model.specs.Tree.{set_literal, record_literal}
@@ -160,18 +160,6 @@ module _ {X T : Type 0} (seen : X → Extension) where
       go : (ds : List (RcStr Global × Value X)) → map (λ p. p.0) (map (bare_pair seen) (ds ++ (n, v) ∷ [])) ++ map (λ d. rc_str_bytes d.0) later ≡ map (λ p. p.0) (map (bare_pair seen) ds) ++ (rc_str_bytes n ∷ map (λ d. rc_str_bytes d.0) later)
       go [] = refl
       go (d ∷ ds) = ap (λ ns. rc_str_bytes d.0 ∷ ns) (go ds)
-
-canonical_behind : {X : Type 0} (seen : X → Extension) (vs : List (Value X)) (v : Value X) → all_canonical seen vs ≡ true → is_canonical (bare seen v) ≡ true → all_canonical seen (vs ++ v ∷ []) ≡ true
-canonical_behind seen [] v h k = hold_both (is_canonical (bare seen v)) true k refl
-canonical_behind seen (w ∷ vs) v h k =
-    let p = both_hold (is_canonical (bare seen w)) (all_canonical seen vs) h in
-    hold_both (is_canonical (bare seen w)) (all_canonical seen (vs ++ v ∷ [])) p.0 (canonical_behind seen vs v p.1 k)
-
-pub canonical_step : {X : Type 0} (seen : X → Extension) (done more : List (Value X)) (v : Value X) → all_canonical seen done ≡ true → is_canonical (bare seen v) ≡ true → more ≡ done ++ v ∷ [] → all_canonical seen more ≡ true
-canonical_step seen done more v h k m = ap (all_canonical seen) m ∙ canonical_behind seen done v h k
-
-pub canonical_fields_step : {X : Type 0} (seen : X → Extension) (done more : List (RcStr Global × Value X)) (n : RcStr Global) (v : Value X) → all_canonical seen (values_of done) ≡ true → is_canonical (bare seen v) ≡ true → more ≡ done ++ (n, v) ∷ [] → all_canonical seen (values_of more) ≡ true
-canonical_fields_step seen done more n v h k m = ap (λ ps. all_canonical seen (values_of ps)) m ∙ ap (all_canonical seen) (map-append (λ p. p.1) done ((n, v) ∷ [])) ∙ canonical_behind seen (values_of done) v h k
 
 -- the names of what is read, where nothing is left
 pub names_end : {X T : Type 0} (seen : X → Extension) (es rest : List (RcStr Global × Expr T)) (done : List (RcStr Global × Value X)) → map (λ p. p.0) (map (bare_pair seen) done) ++ map (λ d. rc_str_bytes d.0) rest ≡ map (λ d. rc_str_bytes d.0) es → rest ≡ [] → IsStrictlySortedBy (λ a b. text_cmp (rc_str_bytes a) (rc_str_bytes b)) (keys_of es) → names_rise (map (bare_pair seen) done) ≡ true

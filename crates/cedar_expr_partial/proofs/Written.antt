@@ -20,34 +20,19 @@ use Rattle.cedar_expr_leaves.specs.Literals.{literal_of}
 use Rattle.cedar_expr_leaves.specs.declared.literal.Literal.{Literal}
 use Rattle.cedar_expr_values.specs.Extension.{Extension}
 use Rattle.cedar_expr_values.specs.Fields.{by_text}
-use Rattle.cedar_expr_values.specs.Values.{made, made_kind, mades, made_list, made_fields, made_pair, kind_step, set_step, value_step}
+use Rattle.cedar_expr_values.specs.Values.{made, mades, made_list, made_fields, made_pair}
 use Rattle.cedar_expr_values.specs.declared.value.Value.{Value}
-use Rattle.cedar_expr_values.specs.declared.value.ValueKind.{ValueKind-F, fold-roll-ValueKind}
-use Rattle.cedar_expr_values.specs.declared.value.ValueKind.TheVariants.{Lit, Set as SetKind, Record, ExtensionValue, rolls-Lit, rolls-Set, rolls-ExtensionValue}
-use Rattle.cedar_expr_values.specs.declared.value.Set.{Set}
 use Rattle.cedar_expr_values.proofs.Ascending.{names_ascend}
-use Rattle.cedar_expr_values.proofs.Recorded.{record_kind, under, in_order_under}
+use Rattle.cedar_expr_values.specs.Members.{under, in_order_under}
 use Rattle.cedar_expr_trees.specs.Trees.{tree_of, named, field_trees}
 use Rattle.cedar_expr_trees.specs.declared.expr.Expr.{Expr}
 use Rattle.cedar_expr_partial.specs.Parts.{written_pair}
 
 module _ {X : Type 0} (seen : X → Extension) where
-  -- a literal, a set, a record and an extension value
-  pub literal_written : (l : Literal) → written (made_kind seen (Lit l)) ≡ lit (literal_of l)
-  literal_written l = ap written (ap (made_kind seen) (sym (rolls-Lit l)) ∙ fold-roll-ValueKind X Made Mades Made (kind_step seen) set_step value_step (ValueKind-F.Lit l))
-
-  pub set_written : (s : Set X) → written (made_kind seen (SetKind s)) ≡ set_literal (writtens (mades seen s))
-  set_written s = ap written (ap (made_kind seen) (sym (rolls-Set s)) ∙ fold-roll-ValueKind X Made Mades Made (kind_step seen) set_step value_step (ValueKind-F.Set s))
-
-  fields_written : (es : List (RcStr Global × Value X)) → written_fields (made_fields (map (made_pair seen) es)) ≡ tree_fields (map (written_pair seen) es)
+  -- the fields of a record
+  pub fields_written : (es : List (RcStr Global × Value X)) → written_fields (made_fields (map (made_pair seen) es)) ≡ tree_fields (map (written_pair seen) es)
   fields_written [] = refl
   fields_written (e ∷ es) = ap (λ fs. tree_field (rc_str_bytes e.0) (written (made seen e.1)) fs) (fields_written es)
-
-  pub record_written : (m : Rc (BTreeMap (RcStr Global) (Value X) Global) Global) → written (made_kind seen (Record m)) ≡ record_literal (tree_fields (map (written_pair seen) m.value.entries))
-  record_written m = ap written (record_kind seen m) ∙ ap record_literal (fields_written m.value.entries)
-
-  pub extension_written : (x : Rc X Global) → written (made_kind seen (ExtensionValue x)) ≡ call (seen x.value).function (trees (map lit (seen x.value).arguments))
-  extension_written x = ap written (ap (made_kind seen) (sym (rolls-ExtensionValue x)) ∙ fold-roll-ValueKind X Made Mades Made (kind_step seen) set_step value_step (ValueKind-F.ExtensionValue x))
 
   -- the members of a set
   pub members_written : (vs : List (Value X)) → trees (map (λ v. written (made seen v)) vs) ≡ writtens (made_list (map (made seen) vs))

@@ -1,12 +1,11 @@
 //! What turns values into expressions and back.
 
-ghost use Rattle.std.specs.Prelude.{◌≡◌, true, IfOk, IfErr, None, Some};
+ghost use Rattle.std.specs.Prelude.{◌≡◌, IfOk, IfErr, None, Some};
 ghost use Rattle.std.specs.declared.option.Option.{Option};
 ghost use Rattle.cedar_expr_names.specs.declared.loc.Loc.{Loc};
 ghost use Rattle.cedar_expr_model.specs.Tree.{Tree};
 ghost use Rattle.cedar_expr_model.specs.Value.{V};
 ghost use Rattle.cedar_expr_model.specs.Made.{written};
-ghost use Rattle.cedar_expr_model.specs.Canonical.{is_canonical};
 ghost use Rattle.cedar_expr_model.specs.ValueParts.{value_of_tree, part_tree};
 ghost use Rattle.cedar_expr_trees.specs.Trees.{tree_of, place_of};
 ghost use Rattle.cedar_expr_values.specs.Values.{made, made_kind, bare, bare_kind, place_of as value_place};
@@ -88,7 +87,6 @@ pub trait TryFromExpr: Sized {
     /// expression with a part of another kind, and answers want of memory.
     fn try_from_expr<T>(alloc: Global, expr: &Expr<T>) -> Result<Self, NotValue>
         ensures value { IfOk result (λ v. value_of_tree (tree_of expr.now) ≡ Some (value v)) }
-        ensures canonical { IfOk result (λ v. is_canonical (value v) ≡ true) }
         ensures refused { IfErr result (IsNoValue (value_of_tree (tree_of expr.now))) };
 }
 
@@ -98,7 +96,6 @@ impl<X: ExtensionValue> TryFromExpr for Value<X> {
     /// The value stands at the expression's place.
     fn try_from_expr<T>(alloc: Global, expr: &Expr<T>) -> Result<Value<X>, NotValue>
         ensures value { IfOk result (λ v. value_of_tree (tree_of expr.now) ≡ Some (bare X.seen v)) }
-        ensures canonical { IfOk result (λ v. is_canonical (bare X.seen v) ≡ true) }
         ensures place { IfOk result (λ v. value_place v ≡ place_of expr.now) }
         ensures refused { IfErr result (IsNoValue (value_of_tree (tree_of expr.now))) }
     {

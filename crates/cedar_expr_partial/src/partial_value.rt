@@ -23,7 +23,7 @@ use std::vec::IntoIter;
 /// A value, or an expression that isn't one yet.
 #[derive(Drop)]
 #[derive_where(Debug, PartialEq, Eq; X)]
-pub enum PartialValue<X> {
+pub enum PartialValue<X: ExtensionValue> {
     /// A value.
     Value(Value<X>),
     /// What is left of an expression.
@@ -73,7 +73,7 @@ impl<X: ExtensionValue> PartialValue<X> {
     }
 }
 
-impl<X: Drop> Clone for PartialValue<X> {
+impl<X: ExtensionValue> Clone for PartialValue<X> {
     ghost use Rattle.cedar_expr_values.specs.Extension.{Extension};
 
     ghost is_clone = { λ p copy. ((seen : X → Extension) → part_of seen copy ≡ part_of seen p) × (part_place copy ≡ part_place p) };

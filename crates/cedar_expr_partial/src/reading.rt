@@ -1,12 +1,11 @@
 //! Values read from expressions.
 
 ghost use Rattle.std.specs.Prelude.{◌≡◌, true, map, IfOk, IfErr, Err, Some};
-ghost use Rattle.cedar_expr_model.specs.Canonical.{is_canonical};
 ghost use Rattle.cedar_expr_model.specs.Lists.{all_given};
 ghost use Rattle.cedar_expr_model.specs.Records.{names_rise};
 ghost use Rattle.cedar_expr_model.specs.ValueParts.{value_of_tree};
 ghost use Rattle.cedar_expr_trees.specs.Trees.{tree_of, place_of};
-ghost use Rattle.cedar_expr_values.specs.Values.{bare, bare_kind, bare_pair, all_canonical, values_of, place_of as value_place};
+ghost use Rattle.cedar_expr_values.specs.Values.{bare, bare_kind, bare_pair, place_of as value_place};
 ghost use Rattle.cedar_expr_partial.specs.Parts.{value_shown, field_shown, IsNoValue};
 ghost use Rattle.cedar_expr_partial.specs.declared.err.NotValue.TheVariants as fault;
 
@@ -21,7 +20,6 @@ use std::rc::RcStr;
 #[cycle(valued)]
 pub fn expr_value<X: ExtensionValue, T>(alloc: Global, expr: &Expr<T>) -> Result<Value<X>, NotValue>
     ensures value { IfOk result (λ v. value_of_tree (tree_of expr.now) ≡ Some (bare X.seen v)) }
-    ensures canonical { IfOk result (λ v. is_canonical (bare X.seen v) ≡ true) }
     ensures place { IfOk result (λ v. value_place v ≡ place_of expr.now) }
     ensures refused { IfErr result (IsNoValue (value_of_tree (tree_of expr.now))) }
 {
@@ -36,7 +34,6 @@ pub fn expr_kind<X: ExtensionValue, T>(
     expr: &Expr<T>,
 ) -> Result<ValueKind<X>, NotValue>
     ensures value { IfOk result (λ k. value_of_tree (tree_of expr.now) ≡ Some (bare_kind X.seen k)) }
-    ensures canonical { IfOk result (λ k. is_canonical (bare_kind X.seen k) ≡ true) }
     ensures refused { IfErr result (IsNoValue (value_of_tree (tree_of expr.now))) }
 {
     match expr.expr_kind() {
@@ -59,7 +56,7 @@ pub fn expr_kind<X: ExtensionValue, T>(
 }
 
 // The refusal of an expression that is no value by itself.
-fn no_value<X, T>(expr: &Expr<T>) -> Result<ValueKind<X>, NotValue>
+fn no_value<X: ExtensionValue, T>(expr: &Expr<T>) -> Result<ValueKind<X>, NotValue>
     ensures { result ≡ Err (fault.NotValue (place_of expr.now)) }
 {
     Err(NotValue::NotValue {
@@ -74,7 +71,6 @@ fn member_values<X: ExtensionValue, T>(
     members: &[Expr<T>],
 ) -> Result<Vec<Value<X>>, NotValue>
     ensures value { IfOk result (λ vs. all_given value_shown members.now ≡ Some (map (bare X.seen) vs.items)) }
-    ensures canonical { IfOk result (λ vs. all_canonical X.seen vs.items ≡ true) }
     ensures refused { IfErr result (IsNoValue (all_given value_shown members.now)) }
 {
     let mut values = Vec::with_capacity(alloc, members.len())?;
@@ -92,7 +88,6 @@ fn field_values<X: ExtensionValue, T>(
 ) -> Result<Vec<(RcStr, Value<X>)>, NotValue>
     ensures value { IfOk result (λ vs. all_given field_shown fields.now.entries ≡ Some (map (bare_pair X.seen) vs.items)) }
     ensures rising { IfOk result (λ vs. names_rise (map (bare_pair X.seen) vs.items) ≡ true) }
-    ensures canonical { IfOk result (λ vs. all_canonical X.seen (values_of vs.items) ≡ true) }
     ensures refused { IfErr result (IsNoValue (all_given field_shown fields.now.entries)) }
 {
     let mut values = Vec::with_capacity(alloc, fields.len())?;

@@ -42,7 +42,7 @@ pub fn kind_expr<X: ExtensionCall>(alloc: Global, kind: &ValueKind<X>) -> Result
             Expr::set(alloc, members)
         }
         ValueKind::Record(fields) => {
-            let fields = field_exprs(alloc, fields)?;
+            let fields = field_exprs(alloc, fields.as_map())?;
             record_expr(alloc, fields)
         }
         ValueKind::ExtensionValue(value) => {

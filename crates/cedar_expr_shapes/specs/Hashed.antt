@@ -1,30 +1,16 @@
 -- What the shape of an expression feeds a hasher: the place of its kind, and then its parts in order. What varies in number
 -- is fed after its number.
 -- Rule: shapes (docs/RULES.md).
-use Rattle.std.specs.Prelude.{◌++◌, ℕ, ◌+◌, [], pos}
+use Rattle.std.specs.Prelude.{◌++◌, ℕ, ◌+◌, []}
 use Rattle.std.specs.Hash as fed
 use Rattle.std.specs.Hash.{HashWrites}
-use Rattle.cedar_expr_model.specs.Name.{Name, name_text}
-use Rattle.cedar_expr_model.specs.Value.{Literal, truth, long, text, entity}
 use Rattle.cedar_expr_model.specs.Pattern.{Element, character, wildcard}
 use Rattle.cedar_expr_model.specs.Order.{core_rank}
 use Rattle.cedar_expr_model.specs.Shape.{var_rank, slot_rank, unary_rank, binary_rank}
 use Rattle.cedar_expr_model.specs.Tree.{CoreType, entity_core, extension_core, Tree, lit, var, slot, unknown, choice, both, either, unary, binary, call, get_attr, has_attr, has_path, like, is_type, set_literal, record_literal, Trees, no_trees, tree, TreeFields, no_tree_fields, tree_field}
+use Rattle.cedar_expr_values.specs.Inputs.{place_input, name_input, literal_input}
 
--- the place of a case among those of its type
-abbrev pub place_input : ℕ → HashWrites
-place_input n = fed.isize (pos n)
-
--- names by their texts
-abbrev pub name_input : Name → HashWrites
-name_input n = fed.str (name_text n)
-
-abbrev pub literal_input : Literal → HashWrites
-literal_input (truth b) = place_input 0 ++ fed.bool b
-literal_input (long n) = place_input 1 ++ fed.i64 n
-literal_input (text s) = place_input 2 ++ fed.str s
-literal_input (entity u) = place_input 3 ++ (name_input u.kind ++ fed.str u.id)
-
+-- what a core type feeds
 abbrev pub core_input : CoreType → HashWrites
 core_input (entity_core n) = place_input 5 ++ name_input n
 core_input (extension_core n) = place_input 6 ++ name_input n

@@ -12,7 +12,8 @@ ghost use Rattle.cedar_expr_leaves.specs.Variables.{var_of};
 ghost use Rattle.cedar_expr_model.specs.Shape.{tree_rank, var_rank, slot_rank, unary_rank, binary_rank};
 ghost use Rattle.cedar_expr_trees.specs.Trees.{kind_tree};
 ghost use Rattle.cedar_expr_trees.specs.Unknowns.{unknown_of};
-ghost use Rattle.cedar_expr_shapes.specs.Hashed.{literal_input, core_input, element_input, name_input, place_input};
+ghost use Rattle.cedar_expr_values.specs.Inputs.{literal_input, name_input, place_input};
+ghost use Rattle.cedar_expr_shapes.specs.Hashed.{core_input, element_input};
 
 use crate::ranks::rank;
 use cedar_expr_trees::{

@@ -3,3 +3,4 @@ pub mod SubstitutionLaws
 pub mod Outcome
 pub mod Steps
 pub mod Replacing
+pub mod Numbers

@@ -15,7 +15,7 @@ use cedar_expr_builders::expr_builder::ExprBuilder;
 use cedar_expr_leaves::SlotId;
 use cedar_expr_partial::{ExtensionCall, FromValue};
 use cedar_expr_trees::{Expr, Unknown};
-use cedar_expr_values::Value;
+use cedar_expr_values::{ExtensionValue, Value};
 use std::alloc::{AllocError, Global};
 use std::collections::HashMap;
 use std::rc::RcStr;
@@ -23,7 +23,7 @@ use std::rc::RcStr;
 /// The values of unknowns, by their names. It puts the expression that a value is written as in the place of each unknown that is
 /// bound, and leaves the others.
 #[derive(Drop)]
-pub struct Bound<'a, X> {
+pub struct Bound<'a, X: ExtensionValue> {
     bindings: &'a HashMap<RcStr, Value<X>>,
 }
 

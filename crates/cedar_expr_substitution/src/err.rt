@@ -24,6 +24,21 @@ pub enum SubstitutionError {
     },
 }
 
+impl SubstitutionError {
+    ghost use Rattle.std.specs.Prelude.{◌≡◌};
+    ghost use Rattle.cedar_expr_substitution.specs.Numbers.{substitution_error_number};
+
+    /// The number of the refusal: 0 for memory.
+    pub fn number(&self) -> u32
+        ensures { result ≡ substitution_error_number self.now }
+    {
+        match self {
+            SubstitutionError::OutOfMemory => 0,
+            SubstitutionError::TypeError { .. } => 1,
+        }
+    }
+}
+
 impl From<AllocError> for SubstitutionError {
     ghost use Rattle.std.specs.Prelude.{◌≡◌};
     ghost use Rattle.cedar_expr_substitution.specs.declared.err.SubstitutionError.TheVariants.{OutOfMemory};

@@ -13,8 +13,10 @@ use thiserror::Error;
 #[derive(Debug, PartialEq, Eq, Drop, Error)]
 #[error("duplicate key `{key}` {context}")]
 pub struct DuplicateKeyError {
-    key: RcStr,
-    context: &'static str,
+    /// The key that stands twice.
+    pub key: RcStr,
+    /// Where it does.
+    pub context: &'static str,
 }
 
 impl DuplicateKeyError {

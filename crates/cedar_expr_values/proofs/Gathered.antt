@@ -2,7 +2,6 @@
 use Rattle.std.proofs.Common.{◌≡◌, ℕ, ◌+◌, ◌<◌, ◌≤◌, Bool, ◌||◌, List, [], ◌∷◌, map, length, take, get_or, refl, sym, ap, ◌∙◌}
 use Rattle.std.specs.Ordering.{nat_cmp, match_ordering, ordering_then}
 use Rattle.std.specs.Cmp.Lexicographic.{slice_cmp}
-use Rattle.std.specs.Rc.{rc_str_bytes}
 use Rattle.std.specs.List.{list_any}
 use Rattle.std.specs.Map.{values_of}
 use Rattle.std.specs.BTreeSet.{BTreeSet, insert_key}
@@ -10,51 +9,33 @@ use Rattle.std.proofs.Math.Bool.{or_assoc, or_comm, or_self, or-false}
 use Rattle.std.proofs.lemmas.List.{take_all}
 use Rattle.std.proofs.lemmas.List.Folds.{list_any_more}
 use Rattle.std.specs.declared.alloc.Global.{Global}
-use Rattle.std.specs.declared.collections.BTreeMap.{BTreeMap}
-use Rattle.std.specs.declared.rc.Rc.{Rc}
 use Rattle.std.specs.declared.rc.RcStr.{RcStr}
 use Rattle.std.specs.declared.cmp.Ordering.{Ordering}
 use Rattle.std.specs.declared.cmp.Ordering.TheVariants.{Less, Equal, Greater}
 use Rattle.cedar_expr_model.specs.Uid.{Uid, uid_eq}
 use Rattle.cedar_expr_model.specs.Made as model
 use Rattle.cedar_expr_model.specs.Made.{Made}
-use Rattle.cedar_expr_names.specs.Views.{eid_text, uid_of}
+use Rattle.cedar_expr_names.specs.Views.{name_bytes, eid_text, uid_of}
 use Rattle.cedar_expr_names.specs.declared.entity.EntityUID.{EntityUID}
-use Rattle.cedar_expr_leaves.specs.declared.literal.Literal.{Literal}
-use Rattle.cedar_expr_leaves.specs.Literals.{literal_of}
 use Rattle.cedar_expr_names.proofs.Equality.{uids_order_is}
 use Rattle.cedar_expr_model.proofs.Linear.{uid_exact}
 use Rattle.cedar_expr_values.specs.Extension.{Extension}
-use Rattle.cedar_expr_values.specs.Values.{made, bare, bare_kind, made_list, made_fields, made_pair}
-use Rattle.cedar_expr_values.specs.Uids.{has_uid, is_that_uid, holds_uid, member_holds_uid, field_holds_uid}
+use Rattle.cedar_expr_values.specs.Values.{made, bare, made_list, made_fields, made_pair}
+use Rattle.cedar_expr_values.specs.Uids.{has_uid, holds_uid, member_holds_uid, field_holds_uid}
 use Rattle.cedar_expr_values.specs.declared.value.Value.{Value}
-use Rattle.cedar_expr_values.specs.declared.value.ValueKind.TheVariants.{Lit, Set as SetKind, Record}
-use Rattle.cedar_expr_values.specs.declared.value.Set.{Set, out-Set}
-use Rattle.cedar_expr_values.proofs.Layers.{literal_kind, set_kind, set_seen}
-use Rattle.cedar_expr_values.proofs.Recorded.{record_kind}
 
 module _ {X : Type 0} (seen : X → Extension) (u : Uid) where
   -- whether the uid stands in one of these
   abbrev pub among : List (Value X) → Bool
   among vs = list_any (λ v. holds_uid (bare seen v) u) vs
 
-  members_hold : (vs : List (Value X)) → member_holds_uid (model.bares (made_list (map (made seen) vs))) u ≡ among vs
+  pub members_hold : (vs : List (Value X)) → member_holds_uid (model.bares (made_list (map (made seen) vs))) u ≡ among vs
   members_hold [] = refl
   members_hold (v ∷ vs) = ap (λ t. holds_uid (bare seen v) u || t) (members_hold vs)
 
-  fields_hold : (es : List (RcStr Global × Value X)) → field_holds_uid (model.bare_fields (made_fields (map (made_pair seen) es))) u ≡ among (values_of es)
+  pub fields_hold : (es : List (RcStr Global × Value X)) → field_holds_uid (model.bare_fields (made_fields (map (made_pair seen) es))) u ≡ among (values_of es)
   fields_hold [] = refl
   fields_hold (e ∷ es) = ap (λ t. holds_uid (bare seen e.1) u || t) (fields_hold es)
-
-  pub literal_holds : (l : Literal) → holds_uid (bare_kind seen (Lit l)) u ≡ is_that_uid (literal_of l) u
-  literal_holds l = ap (λ m. holds_uid (model.bare m) u) (literal_kind seen l)
-
-  pub set_holds : (s : Set X) → holds_uid (bare_kind seen (SetKind s)) u ≡ among (out-Set X s).members.value.items
-  set_holds s =
-      ap (λ m. holds_uid (model.bare m) u) (set_kind seen s) ∙ ap (λ vs. member_holds_uid vs u) (set_seen seen s) ∙ members_hold (out-Set X s).members.value.items
-
-  pub record_holds : (m : Rc (BTreeMap (RcStr Global) (Value X) Global) Global) → holds_uid (bare_kind seen (Record m)) u ≡ among (values_of m.value.entries)
-  record_holds m = ap (λ r. holds_uid (model.bare r) u) (record_kind seen m) ∙ fields_hold m.value.entries
 
 -- one more of a list by its place, and all of it
 pub one_more : {A : Type 0} (p : A → Bool) (xs : List A) (i : ℕ) (x d : A) (a b e : Bool) → i < length xs → x ≡ get_or xs i d → b ≡ (a || list_any p (take i xs)) → e ≡ (b || p x)
@@ -71,7 +52,7 @@ one_less p x xs ys b e r h f g = ap (λ t. t || list_any p xs) g ∙ or_assoc b 
 
 -- what `cmp` computes of two uids
 abbrev pub uids_by : EntityUID → EntityUID → Ordering
-uids_by u v = ordering_then (slice_cmp nat_cmp (rc_str_bytes u.entity_type.0.internal.text) (rc_str_bytes v.entity_type.0.internal.text)) (slice_cmp nat_cmp (eid_text u.eid) (eid_text v.eid))
+uids_by u v = ordering_then (slice_cmp nat_cmp (name_bytes u.entity_type.0.internal) (name_bytes v.entity_type.0.internal)) (slice_cmp nat_cmp (eid_text u.eid) (eid_text v.eid))
 
 -- a uid that is put in
 placed_any : {K : Type 0} (p : K → Bool) (k x : K) (xs ys : List K) (o : Ordering) → (o ≡ Equal → p k ≡ p x) → list_any p ys ≡ (list_any p xs || p k)

@@ -1,12 +1,15 @@
 pub mod CoreTypes
-mod Layers
+mod Measured
+mod Fed
 mod Derived
-mod Compared
+mod Agreed
 mod Places
 mod Deduplicated
 mod Searched
 mod Walked
 mod Members
+mod Hashing
+mod Looked
 pub mod Pairs
 pub mod Recorded
 mod Located

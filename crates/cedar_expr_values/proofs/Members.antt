@@ -1,23 +1,25 @@
 -- The members of a code set are those of the model's: what is asked of rising members, and the set that is made.
 use Rattle.std.proofs.Common.{◌≡◌, suc, Bool, true, false, not, ◌&&◌, List, [], ◌∷◌, map, length, Result, Ok, Err, IfOk, refl, sym, ap, ◌∙◌}
 use Rattle.std.specs.Ordering.{match_ordering}
-use Rattle.std.specs.List.{AllByRecursion, list_all}
+use Rattle.std.specs.List.{AllByRecursion}
 use Rattle.std.specs.List.Sorted.{IsStrictlySortedBy}
 use Rattle.std.specs.declared.cmp.Ordering.{Ordering}
 use Rattle.std.specs.declared.cmp.Ordering.TheVariants.{Less, Equal, Greater}
-use Rattle.cedar_expr_model.specs.Value.{Vs, prim, set_of, value, values_list}
+use Rattle.cedar_expr_model.specs.Value.{Vs, prim, values_list}
 use Rattle.cedar_expr_model.specs.Order.{value_cmp}
-use Rattle.cedar_expr_model.specs.Canonical.{are_rising, is_canonical, inserted, members_made, is_member, is_subset, is_disjoint}
+use Rattle.cedar_expr_model.specs.Canonical.{are_rising, are_canonical, members_made, is_member, is_subset, is_disjoint}
 use Rattle.cedar_expr_model.specs.Made as model
 use Rattle.cedar_expr_model.specs.Made.{Made, made_prim, Mades}
-use Rattle.cedar_expr_model.proofs.ValueOrder.{value_exact}
+use Rattle.cedar_expr_model.proofs.Lists.{both_hold}
 use Rattle.cedar_expr_model.proofs.Rising.{is_below, rising_parts, less_is, below_next}
-use Rattle.cedar_expr_model.proofs.Sets.{made_canonical}
+use Rattle.cedar_expr_model.proofs.Sets.{made_rises}
 use Rattle.cedar_expr_leaves.specs.declared.literal.Literal.{Literal}
 use Rattle.cedar_expr_leaves.specs.Literals.{literal_of}
 use Rattle.cedar_expr_values.specs.Extension.{Extension}
 use Rattle.cedar_expr_values.specs.Rising.{placed, in_rising, is_among, all_among, none_among}
-use Rattle.cedar_expr_values.specs.Values.{made, bare, mades, bares, made_list, made_cmp, members_as_made, all_canonical}
+use Rattle.cedar_expr_values.specs.Kept.{KeptSet}
+use Rattle.cedar_expr_values.specs.Members.{bare_members}
+use Rattle.cedar_expr_values.specs.Values.{made, bare, mades, bares, made_list, made_cmp, members_as_made}
 use Rattle.cedar_expr_values.specs.declared.value.Value.{Value}
 use Rattle.cedar_expr_values.specs.declared.value.Set.{Set}
 
@@ -35,7 +37,7 @@ module _ {X : Type 0} (seen : X → Extension) where
     member_is v [] = refl
     member_is v (w ∷ ws) = ap (λ r. match_ordering r false true (is_among R v ws)) (agree v w) ∙ ap (match_ordering (value_cmp (bare seen v) (bare seen w)) false true) (member_is v ws)
 
-    subset_is : (vs ws : List (Value X)) → all_among R vs ws ≡ is_subset (listed vs) (listed ws)
+    pub subset_is : (vs ws : List (Value X)) → all_among R vs ws ≡ is_subset (listed vs) (listed ws)
     subset_is [] ws = refl
     subset_is (v ∷ vs) ws = ap (λ t. t && all_among R vs ws) (member_is v ws) ∙ ap (λ t. is_member (bare seen v) (listed ws) && t) (subset_is vs ws)
 
@@ -55,7 +57,7 @@ module _ {X : Type 0} (seen : X → Extension) where
         above u w [] e b = refl
         above u w (x ∷ ws) e b = let f = below_next (bare seen u) (bare seen w) (bare seen x) e (less_is (value_cmp (bare seen w) (bare seen x)) b) in rw f refl
 
-    rises : (ws : List (Value X)) → are_rising (listed ws) ≡ true → IsStrictlySortedBy R ws
+    pub rises : (ws : List (Value X)) → are_rising (listed ws) ≡ true → IsStrictlySortedBy R ws
     unfolding IsStrictlySortedBy
     rises [] r = tt
     rises (w ∷ ws) r =
@@ -95,42 +97,25 @@ module _ {X : Type 0} (seen : X → Extension) where
     as_made [] = refl
     as_made (v ∷ vs) = as_placed v (in_rising R vs) ∙ ap (placed made_cmp (made seen v)) (as_made vs)
 
+    -- what is made of the values in rising order rises
+    pub new_rises : (vs ws : List (Value X)) → ws ≡ in_rising R vs → are_rising (model.bares (made_list (map (made seen) ws))) ≡ true
+    new_rises vs ws e =
+        ap (λ us. are_rising (model.bares (made_list us))) (ap (map (made seen)) e ∙ as_made vs) ∙ ap are_rising (bare_members (made seen) vs) ∙ made_rises (map (bare seen) vs)
+
     -- what is made of the values in rising order is the set of the values as they were made
     pub new_as_made : {E : Type 0} (vs ws : List (Value X)) (r : Result (Set X) E) → ws ≡ in_rising R vs → IfOk r (λ s. mades seen s ≡ made_list (map (made seen) ws))
         → IfOk r (λ s. mades seen s ≡ members_as_made (map (made seen) vs))
     new_as_made vs ws (Ok s) e f = f ∙ ap (λ us. made_list (map (made seen) us)) e ∙ ap made_list (as_made vs)
     new_as_made vs ws (Err x) e f = f
 
--- the set that is made, without the calls
-bare_placed : (m : Made) (ms : List Made) → model.bares (made_list (placed made_cmp m ms)) ≡ inserted (model.bare m) (model.bares (made_list ms))
-bare_placed m [] = refl
-bare_placed m (n ∷ ms) = go (made_cmp m n) refl (bare_placed m ms)
-  where
-    go : (r : Ordering) → made_cmp m n ≡ r → model.bares (made_list (placed made_cmp m ms)) ≡ inserted (model.bare m) (model.bares (made_list ms))
-        → model.bares (made_list (match_ordering r (m ∷ n ∷ ms) (m ∷ ms) (n ∷ placed made_cmp m ms)))
-        ≡ match_ordering r (value (model.bare m) (value (model.bare n) (model.bares (made_list ms)))) (value (model.bare n) (model.bares (made_list ms)))
-        (value (model.bare n) (inserted (model.bare m) (model.bares (made_list ms))))
-    go Less e h = refl
-    go Equal e h = ap (λ v. value v (model.bares (made_list ms))) (value_exact (model.bare m) (model.bare n) e)
-    go Greater e h = ap (value (model.bare n)) h
-
-bare_members : {A : Type 0} (f : A → Made) (xs : List A) → model.bares (members_as_made (map f xs)) ≡ members_made (map (λ x. model.bare (f x)) xs)
-bare_members f [] = refl
-bare_members f (x ∷ xs) = bare_placed (f x) (in_rising made_cmp (map f xs)) ∙ ap (inserted (model.bare (f x))) (bare_members f xs)
-
-literals_canonical : (ls : List Literal) → list_all is_canonical (map (λ l. prim (literal_of l)) ls) ≡ true
-literals_canonical [] = refl
-literals_canonical (l ∷ ls) = literals_canonical ls
+-- the members of a set rise: its type says so
+pub kept_rises : (s : KeptSet) → are_rising (model.bares s.0) ≡ true
+kept_rises s = (both_hold (are_rising (model.bares s.0)) (are_canonical (model.bares s.0)) s.1).0
 
 module _ {X E : Type 0} (seen : X → Extension) where
   pub new_members : (vs : List (Value X)) (r : Result (Set X) E) → IfOk r (λ s. mades seen s ≡ members_as_made (map (made seen) vs)) → IfOk r (λ s. bares seen s ≡ members_made (map (bare seen) vs))
   new_members vs (Ok s) f = ap model.bares f ∙ bare_members (made seen) vs
   new_members vs (Err x) f = f
-
-  pub new_canonical : (vs : List (Value X)) (r : Result (Set X) E) → IfOk r (λ s. mades seen s ≡ members_as_made (map (made seen) vs))
-      → IfOk r (λ s. all_canonical seen vs ≡ true → is_canonical (set_of (bares seen s)) ≡ true)
-  new_canonical vs (Ok s) f = λ h. ap (λ vs. is_canonical (set_of vs)) (ap model.bares f ∙ bare_members (made seen) vs) ∙ made_canonical (map (bare seen) vs) h
-  new_canonical vs (Err x) f = tt
 
   -- the set of values that are literals
   pub literal_members : (ls : List Literal) (vs : List (Value X)) (r : Result (Set X) E) → map (made seen) vs ≡ map (λ l. made_prim (literal_of l)) ls
@@ -142,7 +127,3 @@ module _ {X E : Type 0} (seen : X → Extension) where
       → IfOk r (λ s. bares seen s ≡ members_made (map (λ l. prim (literal_of l)) ls))
   literals_are ls (Ok s) f = ap model.bares f ∙ bare_members (λ l. made_prim (literal_of l)) ls
   literals_are ls (Err x) f = f
-
-  pub literals_rise : (ls : List Literal) (r : Result (Set X) E) → IfOk r (λ s. bares seen s ≡ members_made (map (λ l. prim (literal_of l)) ls)) → IfOk r (λ s. is_canonical (set_of (bares seen s)) ≡ true)
-  literals_rise ls (Ok s) f = ap (λ vs. is_canonical (set_of vs)) f ∙ made_canonical (map (λ l. prim (literal_of l)) ls) (literals_canonical ls)
-  literals_rise ls (Err x) f = f

@@ -1,5 +1,5 @@
 -- Two rising lists walked side by side.
-use Rattle.std.proofs.Common.{◌≡◌, true, not, ◌&&◌, List, [], ◌∷◌, length, refl, sym, ap, ◌∙◌, subst, arith}
+use Rattle.std.proofs.Common.{◌≡◌, ◌≤◌, true, false, not, ◌&&◌, List, [], ◌∷◌, length, refl, sym, ap, ◌∙◌, subst, arith}
 use Rattle.std.specs.Ordering.{ordering_reverse}
 use Rattle.std.specs.Cmp.{IsTotalOrder}
 use Rattle.std.specs.List.{AllByRecursion}
@@ -64,3 +64,15 @@ module _ {A : Type 0} {R : A → A → Ordering} (o : IsTotalOrder R) where
   none_in_nothing xs (y ∷ ys) e = absurd (omega arith)
   none_in_nothing [] [] e = refl
   none_in_nothing (x ∷ xs) [] e = none_in_nothing xs [] e
+
+  -- where each of rising elements stands among others, these are not fewer
+  pub not_fewer : (xs ys : List A) → IsStrictlySortedBy R xs → all_among R xs ys ≡ true → length xs ≤ length ys
+  unfolding IsStrictlySortedBy
+  not_fewer [] ys s h = omega arith
+  not_fewer (x ∷ xs) [] s h = cc
+  not_fewer (x ∷ xs) (y ∷ ys) s h = go (R x y) refl (not_fewer xs ys s.1) (not_fewer (x ∷ xs) ys s)
+    where
+      go : (r : Ordering) → R x y ≡ r → (all_among R xs ys ≡ true → length xs ≤ length ys) → (all_among R (x ∷ xs) ys ≡ true → length (x ∷ xs) ≤ length ys) → length (x ∷ xs) ≤ length (y ∷ ys)
+      go Less e f k = let n : all_among R (x ∷ xs) (y ∷ ys) ≡ false = rw e refl in cc
+      go Equal e f k = let n = f ((all_at_equal (x ∷ xs) (y ∷ ys) x y xs ys refl refl (sym e) s).1 ∙ h) in omega (arith, n)
+      go Greater e f k = let n = k ((all_at_greater (x ∷ xs) (y ∷ ys) x y xs ys refl refl (sym e) s).1 ∙ h) in omega (arith, n)

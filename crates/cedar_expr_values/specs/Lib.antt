@@ -2,7 +2,15 @@ pub mod Types
 pub mod Extension
 pub mod Extensions
 pub mod Fields
+pub mod Inputs
+pub mod Codes
+pub mod Kept
+pub mod KeptOrder
 pub mod Values
+pub mod Members
+pub mod Inside
+pub mod Hashed
+pub mod Falls
 pub mod Uids
 pub mod Rising
 pub mod ValueLaws

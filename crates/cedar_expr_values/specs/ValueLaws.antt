@@ -4,7 +4,7 @@ use Rattle.std.specs.Prelude.{◌≡◌, ℕ, Bool, true, List}
 use Rattle.std.specs.declared.cmp.Ordering.{Ordering}
 use Rattle.cedar_expr_model.specs.Value.{V}
 use Rattle.cedar_expr_model.specs.Order.{value_cmp, value_eq}
-use Rattle.cedar_expr_model.specs.Canonical.{are_rising, is_member}
+use Rattle.cedar_expr_model.specs.Canonical.{is_member, is_canonical}
 use Rattle.cedar_expr_values.specs.Extension.{Extension}
 use Rattle.cedar_expr_values.specs.Values.{bare, bares}
 use Rattle.cedar_expr_values.specs.declared.value.Value.{Value}
@@ -27,7 +27,11 @@ module _ {X : Type 0} (seen : X → Extension) where
   abbrev pub HashedAsSeen : (X → List (List ℕ)) → Type 0
   HashedAsSeen input = (x y : X) → (seen x).kind ≡ (seen y).kind → (seen x).key ≡ (seen y).key → input x ≡ input y
 
-  -- sets whose members rise are the same where they have the same members
+  -- sets are the same where they have the same members
   abbrev pub SetsAreTheirMembers : Type 0
   SetsAreTheirMembers =
-      (s t : Set X) → are_rising (bares seen s) ≡ true → are_rising (bares seen t) ≡ true → ((v : V) → is_member v (bares seen s) ≡ is_member v (bares seen t)) → bares seen s ≡ bares seen t
+      (s t : Set X) → ((v : V) → is_member v (bares seen s) ≡ is_member v (bares seen t)) → bares seen s ≡ bares seen t
+
+  -- each value is canonical
+  abbrev pub ValuesAreCanonical : Type 0
+  ValuesAreCanonical = (v : Value X) → is_canonical (bare seen v) ≡ true

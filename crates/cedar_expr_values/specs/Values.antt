@@ -17,10 +17,11 @@ use Rattle.cedar_expr_leaves.specs.Literals.{literal_of}
 use Rattle.cedar_expr_names.specs.declared.loc.Loc.{Loc}
 use Rattle.cedar_expr_values.specs.Extension.{Extension, made_of_extension}
 use Rattle.cedar_expr_values.specs.Rising.{in_rising}
-use Rattle.cedar_expr_values.specs.Fields.{by_text}
-use Rattle.cedar_expr_values.specs.declared.value.Value.{Value, Value-F, fold-Value}
-use Rattle.cedar_expr_values.specs.declared.value.ValueKind.{ValueKind, ValueKind-F, fold-ValueKind}
-use Rattle.cedar_expr_values.specs.declared.value.Set.{Set, Set-F, fold-Set, out-Set}
+use Rattle.cedar_expr_values.specs.declared.value.Value.{Value}
+use Rattle.cedar_expr_values.specs.declared.value.ValueKind.{ValueKind}
+use Rattle.cedar_expr_values.specs.declared.value.ValueKind.TheVariants.{Lit, Set as SetKind, Record as RecordKind, ExtensionValue}
+use Rattle.cedar_expr_values.specs.declared.value.Set.{Set}
+use Rattle.cedar_expr_values.specs.declared.value.Record.{Record}
 
 -- members and fields in a row
 abbrev pub made_list : List Made → Mades
@@ -43,28 +44,21 @@ members_as_made ms = made_list (in_rising made_cmp ms)
 abbrev pub record_as_made : List (Text × Made) → Made
 record_as_made ps = made_record (made_fields (in_order ps))
 
--- one level, with what stands inside already seen as it was made
-abbrev pub kind_step : {X : Type 0} → (X → Extension) → ValueKind-F X Made Mades Made → Made
-kind_step seen (ValueKind-F.Lit l) = made_prim (literal_of l)
-kind_step seen (ValueKind-F.Set ms) = made_set ms
-kind_step seen (ValueKind-F.Record m) = made_record (made_fields (map by_text m.value.entries))
-kind_step seen (ValueKind-F.ExtensionValue x) = made_of_extension (seen x.value)
+-- A value, a kind, a set and a record as they were made.
+abbrev pub mades : {X : Type 0} → (X → Extension) → Set X → Mades
+mades seen s = s.0
 
-abbrev pub set_step : {X : Type 0} → Set-F X Made Mades Made → Mades
-set_step s = made_list s.members.value.items
-
-abbrev pub value_step : {X : Type 0} → Value-F X Made Mades Made → Made
-value_step v = v.kind
-
--- A value, a kind and a set as they were made.
-abbrev pub made : {X : Type 0} → (X → Extension) → Value X → Made
-made {X} seen = fold-Value X Made Mades Made (kind_step seen) set_step value_step
+abbrev pub fields_made : {X : Type 0} → (X → Extension) → Record X → MadeFields
+fields_made seen r = r.0
 
 abbrev pub made_kind : {X : Type 0} → (X → Extension) → ValueKind X → Made
-made_kind {X} seen = fold-ValueKind X Made Mades Made (kind_step seen) set_step value_step
+made_kind seen (Lit l) = made_prim (literal_of l)
+made_kind seen (SetKind s) = made_set s.0
+made_kind seen (RecordKind r) = made_record r.0
+made_kind seen (ExtensionValue x) = made_of_extension (seen x.value)
 
-abbrev pub mades : {X : Type 0} → (X → Extension) → Set X → Mades
-mades {X} seen = fold-Set X Made Mades Made (kind_step seen) set_step value_step
+abbrev pub made : {X : Type 0} → (X → Extension) → Value X → Made
+made seen v = made_kind seen v.kind
 
 -- A value, a kind and a set without the calls that make extension values.
 abbrev pub bare : {X : Type 0} → (X → Extension) → Value X → V
@@ -95,9 +89,6 @@ all_canonical seen vs = list_all is_canonical (map (bare seen) vs)
 abbrev pub place_of : {X : Type 0} → Value X → Option Loc
 place_of v = v.loc
 
--- what a value is, and the members of a set, in rising order
+-- what a value is
 abbrev pub kind_of : {X : Type 0} → Value X → ValueKind X
 kind_of v = v.kind
-
-abbrev pub members_of : {X : Type 0} → Set X → List (Value X)
-members_of {X} s = (out-Set X s).members.value.items

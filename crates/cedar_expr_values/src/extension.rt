@@ -25,6 +25,10 @@ pub trait ExtensionValue: Ord + Drop {
     fn typename(&self) -> &Name
         ensures { plain_name_of result.now ≡ (seen self.now).kind };
 
+    /// The bytes of the value's key.
+    fn key_bytes(&self) -> &[u8]
+        ensures { result.now ≡ (seen self.now).key };
+
     /// The order is that of the types and then of the keys.
     ghost ordered: { (x y : Self) → Self.Ord.cmp x y ≡ extension_cmp (seen x) (seen y) };
 }
@@ -119,6 +123,10 @@ impl ExtensionValue for ExtValue {
     fn typename(&self) -> &Name {
         &self.type_name
     }
+
+    fn key_bytes(&self) -> &[u8] {
+        self.key()
+    }
 }
 
 impl InternalExtensionValue for ExtValue {}
@@ -155,10 +163,11 @@ impl<X: Drop> Drop for RepresentableExtensionValue<X> {
 }
 
 impl<X: ExtensionValue> RepresentableExtensionValue<X> {
-    ghost use Rattle.cedar_expr_values.specs.Extensions.{with_call};
+    ghost use Rattle.cedar_expr_values.specs.Extensions.{with_call, value_held};
 
     /// The value with the call of this function on these literals.
     pub fn new(value: Rc<X>, func: Name, args: Vec<Literal>) -> RepresentableExtensionValue<X>
+        ensures value { value_held result ≡ value.value }
         ensures kind { (with_call X.seen result).kind ≡ (X.seen value.value).kind }
         ensures key { (with_call X.seen result).key ≡ (X.seen value.value).key }
         ensures function { (with_call X.seen result).function ≡ plain_name_of func }
@@ -173,6 +182,7 @@ impl<X: ExtensionValue> RepresentableExtensionValue<X> {
 
     /// The value without the call.
     pub fn value(&self) -> &X
+        ensures value { result.now ≡ value_held self.now }
         ensures kind { (X.seen result.now).kind ≡ (with_call X.seen self.now).kind }
         ensures key { (X.seen result.now).key ≡ (with_call X.seen self.now).key }
     {
@@ -218,6 +228,10 @@ impl<X: ExtensionValue> ExtensionValue for RepresentableExtensionValue<X> {
 
     fn typename(&self) -> &Name {
         self.value.typename()
+    }
+
+    fn key_bytes(&self) -> &[u8] {
+        self.value.key_bytes()
     }
 }
 

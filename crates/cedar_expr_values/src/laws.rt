@@ -6,7 +6,7 @@ ghost use Rattle.cedar_expr_model.specs.Order.{core_cmp, core_eq};
 ghost use Rattle.cedar_expr_values.specs.Extension.{extension_cmp};
 ghost use Rattle.cedar_expr_values.specs.Extensions.{extension_of};
 ghost use Rattle.cedar_expr_values.specs.Types.{core_of};
-ghost use Rattle.cedar_expr_values.specs.ValueLaws.{OrderedAsBare, EqualAsBare, HashedAsBare, HashedAsSeen, SetsAreTheirMembers};
+ghost use Rattle.cedar_expr_values.specs.ValueLaws.{OrderedAsBare, EqualAsBare, HashedAsBare, HashedAsSeen, SetsAreTheirMembers, ValuesAreCanonical};
 ghost use Rattle.cedar_expr_values.specs.declared.extension.ExtValue.{ExtValue};
 ghost use Rattle.cedar_expr_values.specs.declared.types.Type.{«Type» as CoreKind};
 
@@ -41,7 +41,12 @@ pub fn core_types_are_compared()
     ensures hash { (a b : CoreKind) → core_of a ≡ core_of b → ⟦<Type as Hash>⟧.hash_input a ≡ ⟦<Type as Hash>⟧.hash_input b }
 {}
 
-/// Two sets whose members rise are the same where the same values are their members.
+/// Two sets are the same where the same values are their members.
 pub fn sets_are_their_members<X: ExtensionValue>()
     ensures { SetsAreTheirMembers X.seen }
+{}
+
+/// Every value is canonical: the members of its sets and the names of its records rise, at every nesting.
+pub fn values_are_canonical<X: ExtensionValue>()
+    ensures { ValuesAreCanonical X.seen }
 {}

@@ -1,6 +1,6 @@
 //! Values with places: core types, sets, records and extension values.
-//! Contract: what is made is the value of the definitions as it was made (`made`), canonical where its parts are.
-//! Used by expressions, entities, the plain evaluator and schemas.
+//! Contract: what is made is the value of the definitions as it was made (`made`); every value is canonical, at every nesting.
+//! Used by expressions, entities, the evaluator and schemas.
 #![tactic(auto)]
 
 pub mod extension;
@@ -19,4 +19,4 @@ pub use extension::{
     ExtValue, ExtensionValue, InternalExtensionValue, RepresentableExtensionValue,
 };
 pub use types::{StaticallyTyped, Type};
-pub use value::{Set, Value, ValueKind};
+pub use value::{Keyed, Record, Set, Value, ValueKind};

@@ -1,12 +1,12 @@
 -- What the code's requests and steps are as the model's.
 -- Rule: what a bundle reads as (docs/RULES.md).
-use Rattle.std.specs.Prelude.{map, option_map}
+use Rattle.std.specs.Prelude.{option_map}
 use Rattle.std.specs.Rc.{rc_str_bytes}
 use Rattle.cedar_expr_names.specs.Views.{type_name_of, uid_of}
 use Rattle.cedar_expr_model.specs.Builder.{tree_fields}
 use Rattle.cedar_expr_trees.specs.Trees.{named, field_trees}
 use Rattle.cedar_expr_values.specs.Extensions.{extension_of}
-use Rattle.cedar_expr_values.specs.Values.{made, made_fields, made_pair}
+use Rattle.cedar_expr_values.specs.Values.{made, fields_made}
 use Rattle.cedar_evaluator_model.specs.Response.{PartialRequest}
 use Rattle.cedar_evaluator_model.specs.Scope as scope
 use Rattle.cedar_gate_model.specs.Transcript as run
@@ -23,7 +23,7 @@ entry_of (entry.Known u) = scope.uid (uid_of u.value)
 entry_of (entry.Unknown k) = scope.unknown_uid (option_map type_name_of k)
 
 abbrev pub context_of : RequestContext → scope.Context
-context_of (context.Values fs) = scope.closed (made_fields (map (made_pair extension_of) fs.value.entries))
+context_of (context.Values fs) = scope.closed (fields_made extension_of fs)
 context_of (context.Residuals fs) = scope.residual_fields (tree_fields (named (field_trees fs.value.entries)))
 context_of context.Unknown = scope.unknown_context
 

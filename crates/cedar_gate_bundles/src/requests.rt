@@ -16,7 +16,7 @@ use crate::values::{Evaluate, is_restricted};
 use cedar_expr_names::{EntityType, EntityUID};
 use cedar_expr_partial::PartialValue;
 use cedar_expr_trees::{Expr, ExprKind};
-use cedar_expr_values::{ExtValue, Value as CedarValue, ValueKind};
+use cedar_expr_values::{ExtValue, Record, ValueKind};
 use cedar_gate_expressions::{
     ReadFault, Reader, SharedUids, has_only, read_fields, read_type, required,
 };
@@ -38,7 +38,7 @@ pub enum RequestEntry {
 #[derive(Drop)]
 pub enum RequestContext {
     /// Fields with values.
-    Values(Rc<BTreeMap<RcStr, CedarValue<ExtValue>>>),
+    Values(Record<ExtValue>),
     /// Fields with expressions, of which at least one has an unknown.
     Residuals(Rc<BTreeMap<RcStr, Expr>>),
     /// Nothing of it is known.
@@ -114,7 +114,7 @@ fn optional_context<E: Evaluate>(
     ensures unreadable { IfErr result (λ f. f ≡ Unreadable → optional (codes "context") (context_read (E.functions functions.now)) (closed no_made_fields) (view value.now) ≡ None) }
 {
     match value.get("context") {
-        None => Ok(RequestContext::Values(Rc::new(alloc, BTreeMap::new(alloc))?)),
+        None => Ok(RequestContext::Values(Record::empty(alloc)?)),
         Some(member) => read_context(alloc, functions, member),
     }
 }

@@ -1,22 +1,20 @@
 //! The context of a request against its type.
 
-ghost use Rattle.std.specs.Prelude.{◌≡◌, not, map, IfOk, is_none};
+ghost use Rattle.std.specs.Prelude.{◌≡◌, not, IfOk, is_none};
 ghost use Rattle.cedar_expr_model.specs.Made.{bare_fields};
 ghost use Rattle.cedar_expr_model.specs.Value.{record_of};
 ghost use Rattle.cedar_expr_values.specs.Extensions.{extension_of};
-ghost use Rattle.cedar_expr_values.specs.Values.{made_fields, made_pair};
+ghost use Rattle.cedar_expr_values.specs.Values.{fields_made};
 ghost use Rattle.cedar_schema_model.specs.Conforming.{where_known};
 ghost use Rattle.cedar_schema_model.specs.HasType.{has_type};
 ghost use Rattle.cedar_schema_types.specs.Types.{type_of};
 ghost use Rattle.cedar_gate_conforming.specs.Views.{context_seen};
 
 use cedar_evaluator_requests::Context;
-use cedar_expr_values::{ExtValue, Value};
+use cedar_expr_values::{ExtValue, Record, Value};
 use cedar_schema_joins::typecheck_value;
 use cedar_schema_types::Type;
 use std::alloc::AllocError;
-use std::collections::BTreeMap;
-use std::rc::{Rc, RcStr};
 
 // Whether the context is a value that isn't of the type. Answers want of memory.
 pub(crate) fn is_wrong_context(ty: &Type, context: Option<&Context>) -> Result<bool, AllocError>
@@ -29,11 +27,8 @@ pub(crate) fn is_wrong_context(ty: &Type, context: Option<&Context>) -> Result<b
 }
 
 // Whether the record of these fields isn't of the type. Answers want of memory.
-fn is_wrong_record(
-    ty: &Type,
-    fields: &Rc<BTreeMap<RcStr, Value<ExtValue>>>,
-) -> Result<bool, AllocError>
-    ensures { IfOk result (λ b. b ≡ not (has_type (record_of (bare_fields (made_fields (map (made_pair extension_of) fields.now.value.entries)))) (type_of ty.now))) }
+fn is_wrong_record(ty: &Type, fields: &Record<ExtValue>) -> Result<bool, AllocError>
+    ensures { IfOk result (λ b. b ≡ not (has_type (record_of (bare_fields (fields_made extension_of fields.now))) (type_of ty.now))) }
 {
     let record: Value<ExtValue> = Value::record_arc(fields.clone()?, None);
     Ok(!typecheck_value(ty, &record))

@@ -8,7 +8,7 @@ use Rattle.cedar_expr_model.specs.Records.{fields}
 use Rattle.cedar_expr_names.specs.Views.{uid_of}
 use Rattle.cedar_expr_names.specs.declared.entity.EntityUID.{EntityUID}
 use Rattle.cedar_expr_partial.specs.declared.partial_value.PartialValue.{PartialValue}
-use Rattle.cedar_expr_values.specs.Extensions.{extension_of}
+use Rattle.cedar_expr_values.specs.Extension.{Extension}
 use Rattle.cedar_expr_values.specs.Values.{bare_pair}
 use Rattle.cedar_expr_values.specs.declared.extension.ExtValue.{ExtValue}
 use Rattle.cedar_expr_values.specs.declared.value.Value.{Value}
@@ -20,8 +20,8 @@ abbrev pub uids : List EntityUID → List Uid
 uids us = map uid_of us
 
 -- what fields mention
-abbrev pub mentioned_in : List (RcStr Global × Value ExtValue) → List Uid
-mentioned_in es = mentioned_in_fields (fields (map (bare_pair extension_of) es))
+abbrev pub mentioned_in : {X : Type 0} → (X → Extension) → List (RcStr Global × Value X) → List Uid
+mentioned_in seen es = mentioned_in_fields (fields (map (bare_pair seen) es))
 
 -- what attributes or tags mention
 abbrev pub mentioned_by_these : List (RcStr Global × PartialValue ExtValue) → List Uid

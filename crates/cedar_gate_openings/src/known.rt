@@ -37,12 +37,11 @@ fn add_entry(entry: &EntityUIDEntry, to: &mut Vec<EntityUID>) -> Result<(), Allo
 }
 
 // Adds what the context mentions, where it is known.
-#[tactic(auto, using(crate::proofs::Rooted::context_adds))]
 fn add_by_context(context: Option<&Context>, to: &mut Vec<EntityUID>) -> Result<(), AllocError>
     ensures { OnOk result (uids to.new.items ≡ uids to.old.items ++ mentioned_by_context (context_or_unknown (option_map (λ c. c.now) context.entry))) }
 {
     match context {
-        Some(Context::Value(fields)) => add_mentioned_in(fields, to),
+        Some(Context::Value(fields)) => add_mentioned_in(fields.as_map(), to),
         Some(Context::RestrictedResidual(_)) => Ok(()),
         None => Ok(()),
     }

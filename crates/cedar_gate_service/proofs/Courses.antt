@@ -114,7 +114,6 @@ module _ {S : Type 0} {T : Type 0} {B : _} {F : _} {γ : _} (schema : S → mode
           functions = ef ∙ at.functions;
           table = answers.table;
           answered = answers.answered;
-          rise = answers.rise;
         };
         start = er ∙ start.start;
         written = start.written;

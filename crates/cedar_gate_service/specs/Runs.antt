@@ -3,7 +3,6 @@
 use Rattle.std.specs.Prelude.{◌≡◌, List, map}
 use Rattle.cedar_evaluator_operators.specs.Answers.{AnswersMade}
 use Rattle.cedar_evaluator_model.specs.OfLaws.WellMade.{IsContextMadeWell}
-use Rattle.cedar_evaluator_model.specs.Rising.{CallsRise}
 use Rattle.cedar_expr_functions.specs.Tables.{table_of}
 use Rattle.cedar_expr_functions.specs.declared.extensions.Extensions.{Extensions}
 use Rattle.cedar_gate_accepted.specs.Views.{IsOf, table_held, warned_of}
@@ -21,11 +20,10 @@ use Rattle.cedar_gate_service.specs.Printed.{IsStore}
 use Rattle.cedar_store_entities.specs.declared.entities.Entities.{Entities}
 use Rattle.cedar_store_parts.specs.Parts.{id_text}
 
--- The functions make their values fairly, and answer arguments that rise with values that rise. The table has them, and answers as they do.
+-- The functions make their values fairly. The table has them, and answers as they do.
 pub record AnswersFairly {B : _} {F : _} {g : _} (x : Functions) (t : Extensions B F g) : Type 0 where
   pub fair : MakeFairly x
   pub answered : AnswersMade t x.calls
-  pub rise : CallsRise x.calls
   pub table : table_of t x.table.answers ≡ x.table
 
 -- The course is a proper one of what the gate holds, by these functions.

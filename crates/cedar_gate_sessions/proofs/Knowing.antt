@@ -21,11 +21,11 @@ use Rattle.cedar_store_entities.specs.declared.entity.Entity.{Entity}
 use Rattle.cedar_store_model.specs.Policy.{no_bindings}
 use Rattle.cedar_store_model.specs.Store.{Extent, if_uid, whole, partial}
 use Rattle.cedar_store_model.specs.World as world
-use Rattle.cedar_store_model.specs.World.{Found, held, missing}
+use Rattle.cedar_store_model.specs.World.{Found, held}
 use Rattle.cedar_schema_model.specs.Schema as model
 use Rattle.cedar_evaluator_model.specs.Known.{known_found, known_entity, known_parts, known_part}
 use Rattle.cedar_evaluator_model.specs.OfLaws.WellMade.{IsFoundMadeWell}
-use Rattle.cedar_evaluator_core.specs.Evaluators.{asked_of, table_in, entities_in, scope_in, limit_of, Serves}
+use Rattle.cedar_evaluator_core.specs.Evaluators.{asked_of, table_in, entities_in, scope_in, limit_of}
 use Rattle.cedar_evaluator_core.specs.Evaluators as evaluator
 use Rattle.cedar_evaluator_core.specs.declared.evaluator.Evaluator.{Evaluator}
 use Rattle.cedar_evaluator_model.specs.Scope.{Scope}
@@ -33,7 +33,6 @@ use Rattle.cedar_evaluator_operators.specs.Answers.{AnswersMade}
 use Rattle.cedar_evaluator_operators.specs.Calls as operators
 use Rattle.cedar_evaluator_reads.specs.Scopes.{found_kept, values_in, store_of}
 use Rattle.cedar_evaluator_requests.specs.Views.{request_of}
-use Rattle.cedar_evaluator_model.specs.Rising.{ScopeRises}
 use Rattle.cedar_gate_sessions.specs.Laws.{loaded_store}
 use Rattle.cedar_gate_model.specs.Bundle.{Functions}
 use Rattle.cedar_gate_model.specs.RunsAnswer.{Course, session_of, IsKnownStore}
@@ -42,7 +41,7 @@ use Rattle.cedar_gate_sessions.specs.Loaded.{loaded_at}
 use Rattle.cedar_gate_sessions.specs.Sessions.{IsAt, AreLoaded, stored_in, store_in}
 use Rattle.cedar_gate_sessions.specs.declared.session.Session.{Session}
 use Rattle.cedar_gate_sessions.proofs.Lookups.{lookup_seen}
-use Rattle.cedar_gate_sessions.proofs.Scopes.{scope_by, scope_is, scope_rises}
+use Rattle.cedar_gate_sessions.proofs.Scopes.{scope_by, scope_is}
 use Rattle.cedar_gate_sessions.proofs.Steady.{IsAlike}
 use Rattle.cedar_gate_sessions.proofs.Stores.{found_made, action_made, steady, store_alike, known_partly, known_wholly}
 
@@ -133,15 +132,6 @@ module _ (x : Setup) (s : State) (es : List Entity) (loaded : AreLoaded x s es) 
   pub steady_written : IsFoundMadeWell x.functions.table (steady x.schema (stored_in es) u)
   steady_written = action_written x.functions.table x.schema u (model.declares_action x.schema u) (stored_in es u) (loaded.written u)
 
-  whole_case : (b : Bool) (o : Option Kept) → IsFoundMadeWell x.functions.table (cond b (found_kept partial o) missing) → IsFoundMadeWell x.functions.table (cond b (found_kept whole o) missing)
-  whole_case true None h = tt
-  whole_case true (Some k) h = h
-  whole_case false o h = tt
-
-  pub made_written : (t : Extent) → IsFoundMadeWell x.functions.table (made_store t es u)
-  made_written partial = loaded.written u
-  made_written whole = whole_case (is_uid u) found (loaded.written u)
-
 module _ {S : Type 0} {T : Type 0} {B : _} {F : _} {g : _} (schema_of : S → model.Schema) (functions_of : T → Functions) where
   -- the steady store is what is known of the store
   pub known_store : (c : Course) (s : State) (d : Session S T B F g) → IsAt schema_of functions_of (session_of c) s d → IsKnownStore c s (steady (session_of c).schema (store_in d))
@@ -171,12 +161,9 @@ module _ {S : Type 0} {T : Type 0} {B : _} {F : _} {g : _} (schema_of : S → mo
           ∙ scope_is x s (asked_of e) (evaluator.bound_in e) (table_of (table_in e) x.functions.table.answers) store (asked ∙ at.now) (λ n. ap (λ f. f n) bound ∙ at.bound n)
           (ap (λ y. table_of y x.functions.table.answers) table ∙ ((at.setup).over).table)
 
-      pub serves : Serves table_of AnswersMade e no_bindings functions_at
-      serves = record {
-        answered = subst (λ y. AnswersMade y x.functions.calls) (sym table) ((at.setup).over).answered;
-        rises = subst ScopeRises (sym scope_same) (scope_rises x s at.opened (at.loaded).conform ((at.setup).over).rise (at.setup).written store (λ u. made_written x s d.loaded.items at.loaded u t));
-      }
+      answers_so : AnswersMade (table_in e) x.functions.calls
+      answers_so = subst (λ y. AnswersMade y x.functions.calls) (sym table) ((at.setup).over).answered
 
       -- so what it says of a scope and a limit it says of those of the state
-      pub says_same : {A : Type 0} (r : A) (said : Scope → ℕ → A) → (Serves table_of AnswersMade e no_bindings functions_at → r ≡ said (scope_in table_of functions_at e no_bindings) (limit_of e)) → r ≡ said (scope_now x s store) x.limit
-      says_same r said h = h serves ∙ (λ i. said (scope_same i) ((limit ∙ ((at.setup).over).limit) i))
+      pub says_same : {A : Type 0} (r : A) (said : Scope → ℕ → A) → (AnswersMade (table_in e) x.functions.calls → r ≡ said (scope_in table_of functions_at e no_bindings) (limit_of e)) → r ≡ said (scope_now x s store) x.limit
+      says_same r said h = h answers_so ∙ (λ i. said (scope_same i) ((limit ∙ ((at.setup).over).limit) i))

@@ -2,7 +2,6 @@ pub mod Answerable
 pub mod Answered
 pub mod Binding
 pub mod Knowing
-pub mod Lifting
 pub mod Loadings
 pub mod Lookups
 pub mod Opened

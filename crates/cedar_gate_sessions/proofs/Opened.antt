@@ -1,17 +1,11 @@
--- Sessions that opened stay so, and what stands in them.
-use Rattle.std.specs.Prelude.{◌≡◌, [], Contains, Some}
+-- Sessions that opened stay so.
+use Rattle.std.specs.Prelude.{[]}
 use Rattle.cedar_expr_model.specs.Name.{Text}
-use Rattle.cedar_expr_model.specs.Uid.{Uid}
 use Rattle.cedar_expr_model.specs.Made.{Made}
-use Rattle.cedar_expr_model.specs.Value.{V}
-use Rattle.cedar_store_model.specs.World.{Entity}
-use Rattle.cedar_schema_model.specs.Conforming.{EntityConforms}
 use Rattle.cedar_evaluator_model.specs.OfLaws.WellMade.{IsWellMade}
 use Rattle.cedar_evaluator_model.specs.Scope.{Context, closed, residual_fields, unknown_context}
 use Rattle.cedar_gate_model.specs.Session.{Setup, State, at_start, ContextFails, with_bound, OpenRefusal, OpenFault, BindRefusal, BindFault, not_open, against_annotation, no_entity_or_record, context_fails}
 use Rattle.cedar_gate_model.specs.RunsAnswer.{IsOpened}
-use Rattle.cedar_gate_model.proofs.Runs.Completing.{Stands}
-use Rattle.cedar_gate_model.proofs.Runs.Names.{stands_of}
 
 module _ (x : Setup) where
   pub opened_at_start : ((f : OpenRefusal) → OpenFault x.start f → ⊥) → IsOpened x at_start
@@ -31,7 +25,3 @@ module _ (x : Setup) where
 
   pub opened_with : (s : State) (n : Text) (m : Made) → IsOpened x s → ((f : BindRefusal) → BindFault x s n m f → ⊥) → IsWellMade x.functions.table m → IsOpened x (with_bound s n m)
   opened_with s n m h ok well = record { opened = h.opened; bound = (h.bound, (λ f q. ok f (fault_same s n m f q)), well) }
-
-  -- what stands in it
-  pub stands_in : (s : State) → IsOpened x s → ((u : Uid) (e : Entity V) → Contains s.asked u → x.store u ≡ Some e → EntityConforms x.schema u e) → Stands x s
-  stands_in s h conform = let bare = stands_of x h.opened s.bound h.bound in record { values = bare.values; each = bare.each; conform = conform }

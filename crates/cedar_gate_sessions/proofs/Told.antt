@@ -2,34 +2,23 @@
 use Rattle.std.proofs.Common.{◌≡◌, Bool, true, false, List, [], ◌∷◌, ◌++◌, map, Some, refl, sym, ap, ◌∙◌}
 use Rattle.std.proofs.lemmas.List.{map-append, append-nil}
 use Rattle.std.specs.List.{cons_option}
-use Rattle.cedar_expr_model.specs.Name.{Name}
-use Rattle.cedar_expr_model.specs.Made.{Made}
-use Rattle.cedar_expr_model.specs.Table.{Table, Called}
 use Rattle.cedar_expr_model.specs.Tree.{Tree}
-use Rattle.cedar_expr_model.specs.Value.{V}
 use Rattle.cedar_store_model.specs.Policy as model
-use Rattle.cedar_store_model.specs.Policy.{SlotBindings}
 use Rattle.cedar_store_parts.specs.Parts.{id_text}
 use Rattle.cedar_store_parts.specs.declared.policy_id.PolicyID.{PolicyID}
-use Rattle.cedar_evaluator_model.specs.Scope.{MadeCalled, Stop, limit, Left, value_left, residual, stopped}
+use Rattle.cedar_evaluator_model.specs.Scope.{Stop, limit, Left, value_left, residual, stopped}
 use Rattle.cedar_evaluator_model.specs.Steps.{on_value, truth_wanted, truth_left}
 use Rattle.cedar_evaluator_model.specs.Response.{ResponseError}
 use Rattle.cedar_evaluator_errors.specs.Outcomes.{is_memory, cause_of}
 use Rattle.cedar_evaluator_errors.specs.declared.err.EvaluationError.{EvaluationError}
 use Rattle.cedar_evaluator_errors.specs.declared.err.EvaluationError.TheVariants.{OutOfMemory, EntityDoesNotExist, EntityAttrDoesNotExist, RecordAttrDoesNotExist, FailedExtensionFunctionLookup, TypeError, WrongNumArguments, IntegerOverflow, UnlinkedSlot, FailedExtensionFunctionExecution, NonValue, RecursionLimit}
-use Rattle.cedar_evaluator_operators.specs.Calls.{Functions}
-use Rattle.cedar_evaluator_core.specs.Evaluators.{Serves, left_by}
-use Rattle.cedar_evaluator_core.specs.declared.evaluator.Evaluator.{Evaluator}
+use Rattle.cedar_evaluator_core.specs.Evaluators.{left_by}
 use Rattle.cedar_evaluator_requests.specs.Views.{error_of}
 use Rattle.cedar_evaluator_requests.specs.declared.response.AuthorizationError.TheVariants.{PolicyEvaluationError}
 use Rattle.cedar_gate_sessions.specs.Answers.{if_erring}
 use Rattle.cedar_gate_sessions.specs.Outcomes.{error_kind}
 use Rattle.cedar_gate_sessions.specs.Verdicts.{kind_of}
 use Rattle.cedar_gate_sessions.specs.declared.kinds.Verdict.TheVariants.{Satisfied, Not}
-
--- What serves an evaluator serves it whatever slots are bound to.
-pub serves_any : {T : Type 0} (table : T → (Name → List V → Called) → Table) (answers_as : T → (Name → List Made → MadeCalled) → Type 0) (e : Evaluator T) (a b : SlotBindings) (fs : Functions) → Serves table answers_as e a fs → Serves table answers_as e b fs
-serves_any table answers_as e a b fs s = record { answered = s.answered; rises = record { known_context = s.rises.known_context; bound = s.rises.bound; stored = s.rises.stored; answered = s.rises.answered } }
 
 -- a residual with its slots bound is a verdict of the same kind
 pub kind_same : (f : Tree → Tree) (l : Left) → kind_of (on_value l truth_wanted residual) ≡ kind_of (on_value l truth_wanted (λ r. residual (f r)))

@@ -22,7 +22,6 @@ use Rattle.cedar_evaluator_operators.specs.Answers.{AnswersMade}
 use Rattle.cedar_evaluator_reads.specs.Scopes.{found_kept}
 use Rattle.cedar_evaluator_requests.specs.Views.{request_of}
 use Rattle.cedar_evaluator_requests.specs.declared.request.Request.{Request}
-use Rattle.cedar_evaluator_model.specs.Rising.{CallsRise}
 use Rattle.cedar_gate_openings.specs.Names.{bound_in}
 use Rattle.cedar_gate_model.specs.Bundle.{Functions}
 use Rattle.cedar_gate_model.specs.Runs.{supplied_by}
@@ -42,7 +41,7 @@ pub record AreFromStore (x : Setup) (ps : List (EntityUID × Option Entity)) : T
   pub answered : supplied_of ps ≡ supplied_by x (supplied_uids ps)
   pub written : (p : EntityUID × Option Entity) → Contains ps p → IfSome p.1 (λ e. IsFoundMadeWell x.functions.table (held (entity_seen e)))
 
--- The setup's schema, level and limit, and its functions; the table's answer so, and rising arguments with values that rise.
+-- The setup's schema, level and limit, and its functions; the table's answer so.
 pub record StandsOn {S : Type 0} {T : Type 0} {B : _} {F : _} {g : _} (schema_of : S → model.Schema) (functions_of : T → Functions) (x : Setup) (on : Basis S T B F g) : Type 0 where
   pub schema : schema_of on.schema.now ≡ x.schema
   pub level : on.level ≡ x.level
@@ -50,7 +49,6 @@ pub record StandsOn {S : Type 0} {T : Type 0} {B : _} {F : _} {g : _} (schema_of
   pub functions : functions_of on.functions.now ≡ x.functions
   pub table : table_of on.table.now x.functions.table.answers ≡ x.functions.table
   pub answered : AnswersMade on.table.now x.functions.calls
-  pub rise : CallsRise x.functions.calls
 
 -- The setup is that of a session over this with this request, whose context is as it is written.
 pub record IsSetup {S : Type 0} {T : Type 0} {B : _} {F : _} {g : _} (schema_of : S → model.Schema) (functions_of : T → Functions) (x : Setup) (on : Basis S T B F g) (q : Request) : Type 0 where

@@ -13,7 +13,7 @@ ghost use Rattle.cedar_evaluator_model.specs.OfLaws.Whole.{NothingUnknown, AllLo
 ghost use Rattle.cedar_evaluator_model.specs.Response.{verdict as verdict_of};
 ghost use Rattle.cedar_evaluator_model.specs.Scope.{Scope, Left};
 ghost use Rattle.cedar_evaluator_operators.specs.Calls.{Functions};
-ghost use Rattle.cedar_evaluator_core.specs.Evaluators.{limit_of, scope_in, Serves, IsTruthOf};
+ghost use Rattle.cedar_evaluator_core.specs.Evaluators.{limit_of, scope_in, table_in, IsTruthOf};
 ghost use Rattle.cedar_evaluator_requests.specs.Views.{error_of, answer_of, decision_of};
 ghost use Rattle.cedar_store_parts.specs.Parts.{id_text};
 ghost use Rattle.cedar_store_policies.specs.Policies.{policy_of};
@@ -40,8 +40,8 @@ pub fn respond<T: FunctionTable>(
     evaluator: &Evaluator<'_, T>,
     policies: &[Policy],
 ) -> Result<Response, AllocError>
-    ensures left { (fs : Functions) → Serves T.table T.answers_as evaluator.now no_bindings fs → AreDistinct (ids (map policy_of policies.now)) → IfOk result (λ r. answer_of r ≡ answered (scope_in T.table fs evaluator.now no_bindings) (limit_of evaluator.now) (map policy_of policies.now)) }
-    ensures meaning { (fs : Functions) → Serves T.table T.answers_as evaluator.now no_bindings fs → AreDistinct (ids (map policy_of policies.now)) → Agrees (scope_in T.table fs evaluator.now no_bindings) → NothingUnknown (scope_in T.table fs evaluator.now no_bindings) → AllLoaded (scope_in T.table fs evaluator.now no_bindings) → All (WithinLimit (scope_in T.table fs evaluator.now no_bindings) (limit_of evaluator.now)) (map policy_of policies.now) → IfOk result (λ r. answer_of r ≡ as_concrete (model.answer_of (known_world (scope_in T.table fs evaluator.now no_bindings)) (map policy_of policies.now))) }
+    ensures left { (fs : Functions) → T.answers_as (table_in evaluator.now) fs.calls → AreDistinct (ids (map policy_of policies.now)) → IfOk result (λ r. answer_of r ≡ answered (scope_in T.table fs evaluator.now no_bindings) (limit_of evaluator.now) (map policy_of policies.now)) }
+    ensures meaning { (fs : Functions) → T.answers_as (table_in evaluator.now) fs.calls → AreDistinct (ids (map policy_of policies.now)) → Agrees (scope_in T.table fs evaluator.now no_bindings) → NothingUnknown (scope_in T.table fs evaluator.now no_bindings) → AllLoaded (scope_in T.table fs evaluator.now no_bindings) → All (WithinLimit (scope_in T.table fs evaluator.now no_bindings) (limit_of evaluator.now)) (map policy_of policies.now) → IfOk result (λ r. answer_of r ≡ as_concrete (model.answer_of (known_world (scope_in T.table fs evaluator.now no_bindings)) (map policy_of policies.now))) }
 {
     let (verdicts, errors) = evaluate(alloc, evaluator, policies)?;
     response(alloc, policies, verdicts.as_slice(), errors)
@@ -53,8 +53,8 @@ fn evaluate<T: FunctionTable>(
     evaluator: &Evaluator<'_, T>,
     policies: &[Policy],
 ) -> Result<(Vec<Verdict>, Vec<AuthorizationError>), AllocError>
-    ensures verdicts { (fs : Functions) → Serves T.table T.answers_as evaluator.now no_bindings fs → IfOk result (λ r. r.0.items ≡ verdicts_of (scope_in T.table fs evaluator.now no_bindings) (limit_of evaluator.now) (map policy_of policies.now)) }
-    ensures errors { (fs : Functions) → Serves T.table T.answers_as evaluator.now no_bindings fs → IfOk result (λ r. map error_of r.1.items ≡ errors_left (scope_in T.table fs evaluator.now no_bindings) (limit_of evaluator.now) (map policy_of policies.now)) }
+    ensures verdicts { (fs : Functions) → T.answers_as (table_in evaluator.now) fs.calls → IfOk result (λ r. r.0.items ≡ verdicts_of (scope_in T.table fs evaluator.now no_bindings) (limit_of evaluator.now) (map policy_of policies.now)) }
+    ensures errors { (fs : Functions) → T.answers_as (table_in evaluator.now) fs.calls → IfOk result (λ r. map error_of r.1.items ≡ errors_left (scope_in T.table fs evaluator.now no_bindings) (limit_of evaluator.now) (map policy_of policies.now)) }
 {
     let mut verdicts = Vec::new(alloc);
     let mut errors = Vec::new(alloc);
@@ -71,8 +71,8 @@ fn add<T: FunctionTable>(
     policy: &Policy,
     errors: &mut Vec<AuthorizationError>,
 ) -> Result<Verdict, AllocError>
-    ensures verdict { (fs : Functions) → Serves T.table T.answers_as evaluator.now no_bindings fs → IfOk result (λ v. v ≡ kind_of (verdict_of (scope_in T.table fs evaluator.now no_bindings) (limit_of evaluator.now) (policy_of policy.now))) }
-    ensures errors { (fs : Functions) → Serves T.table T.answers_as evaluator.now no_bindings fs → OnOk result (map error_of errors.new.items ≡ map error_of errors.old.items ++ cons_option (if_erring (policy_of policy.now) (asked (scope_in T.table fs evaluator.now no_bindings) (limit_of evaluator.now) (policy_of policy.now))) []) }
+    ensures verdict { (fs : Functions) → T.answers_as (table_in evaluator.now) fs.calls → IfOk result (λ v. v ≡ kind_of (verdict_of (scope_in T.table fs evaluator.now no_bindings) (limit_of evaluator.now) (policy_of policy.now))) }
+    ensures errors { (fs : Functions) → T.answers_as (table_in evaluator.now) fs.calls → OnOk result (map error_of errors.new.items ≡ map error_of errors.old.items ++ cons_option (if_erring (policy_of policy.now) (asked (scope_in T.table fs evaluator.now no_bindings) (limit_of evaluator.now) (policy_of policy.now))) []) }
 {
     let outcome = evaluator.evaluate(alloc, policy);
     let verdict = kind(&outcome)?;

@@ -7,7 +7,7 @@ ghost use Rattle.cedar_evaluator_model.specs.Response.{verdict as verdict_of};
 ghost use Rattle.cedar_evaluator_model.specs.Scope.{Left};
 ghost use Rattle.cedar_evaluator_model.specs.Steps.{truth_left};
 ghost use Rattle.cedar_evaluator_operators.specs.Calls.{Functions};
-ghost use Rattle.cedar_evaluator_core.specs.Evaluators.{limit_of, scope_in, Serves, IsTruthOf};
+ghost use Rattle.cedar_evaluator_core.specs.Evaluators.{limit_of, scope_in, table_in, IsTruthOf};
 ghost use Rattle.cedar_gate_sessions.specs.Outcomes.{error_kind};
 ghost use Rattle.cedar_gate_sessions.specs.Verdicts.{kind_of, verdicts_of};
 
@@ -24,7 +24,7 @@ pub fn verdicts<T: FunctionTable>(
     evaluator: &Evaluator<'_, T>,
     policies: &[Policy],
 ) -> Result<Vec<Verdict>, AllocError>
-    ensures { (fs : Functions) → Serves T.table T.answers_as evaluator.now no_bindings fs → IfOk result (λ vs. vs.items ≡ verdicts_of (scope_in T.table fs evaluator.now no_bindings) (limit_of evaluator.now) (map policy_of policies.now)) }
+    ensures { (fs : Functions) → T.answers_as (table_in evaluator.now) fs.calls → IfOk result (λ vs. vs.items ≡ verdicts_of (scope_in T.table fs evaluator.now no_bindings) (limit_of evaluator.now) (map policy_of policies.now)) }
 {
     let mut all = Vec::new(alloc);
     for policy in policies {
@@ -39,7 +39,7 @@ pub fn verdict<T: FunctionTable>(
     evaluator: &Evaluator<'_, T>,
     policy: &Policy,
 ) -> Result<Verdict, AllocError>
-    ensures { (fs : Functions) → Serves T.table T.answers_as evaluator.now no_bindings fs → IfOk result (λ v. v ≡ kind_of (verdict_of (scope_in T.table fs evaluator.now no_bindings) (limit_of evaluator.now) (policy_of policy.now))) }
+    ensures { (fs : Functions) → T.answers_as (table_in evaluator.now) fs.calls → IfOk result (λ v. v ≡ kind_of (verdict_of (scope_in T.table fs evaluator.now no_bindings) (limit_of evaluator.now) (policy_of policy.now))) }
 {
     let outcome = evaluator.evaluate(alloc, policy);
     kind(&outcome)

@@ -6,7 +6,6 @@ use Rattle.std.specs.Cmp.Lexicographic.{slice_cmp}
 use Rattle.std.specs.List.{dedup}
 use Rattle.std.specs.List.Sorted.{IsSorted, IsStrictlySortedBy, IsPermutation}
 use Rattle.std.specs.Ordering.{is_eq, is_lt, eq_by_cmp, nat_cmp}
-use Rattle.std.specs.Rc.{rc_str_bytes}
 use Rattle.std.specs.Str.{bytes_eq}
 use Rattle.std.proofs.lemmas.Bool.Decides.{same_from_decides}
 use Rattle.std.proofs.lemmas.Cmp.{nat_list_cmp_total, on_total, then_total}
@@ -18,17 +17,17 @@ use Rattle.cedar_expr_model.specs.Uid.{Uid, uid_eq}
 use Rattle.cedar_expr_model.proofs.Equality.{uid_eq-Decides}
 use Rattle.cedar_expr_model.proofs.Lists.{hold_both, map_has, map_from}
 use Rattle.cedar_expr_names.proofs.Equality.{uids_cmp_is, uids_eq_is}
-use Rattle.cedar_expr_names.specs.Views.{eid_text, uid_of}
+use Rattle.cedar_expr_names.specs.Views.{name_bytes, eid_text, uid_of}
 use Rattle.cedar_expr_names.specs.declared.entity.EntityUID.{EntityUID}
 use Rattle.cedar_gate_wanted.specs.Rows.{uids}
 use Rattle.cedar_gate_wanted.proofs.ByUid.{uids_by, same_uid}
 
 -- what `==` computes of two uids
 abbrev pub uids_eq : EntityUID → EntityUID → Bool
-uids_eq u v = bytes_eq (rc_str_bytes u.entity_type.0.internal.text) (rc_str_bytes v.entity_type.0.internal.text) && bytes_eq (eid_text u.eid) (eid_text v.eid)
+uids_eq u v = bytes_eq (name_bytes u.entity_type.0.internal) (name_bytes v.entity_type.0.internal) && bytes_eq (eid_text u.eid) (eid_text v.eid)
 
 uids_total : IsTotalOrder uids_by
-uids_total = then_total (on_total (λ (u : EntityUID). rc_str_bytes u.entity_type.0.internal.text) nat_list_cmp_total) (on_total (λ (u : EntityUID). eid_text u.eid) nat_list_cmp_total)
+uids_total = then_total (on_total (λ (u : EntityUID). name_bytes u.entity_type.0.internal) nat_list_cmp_total) (on_total (λ (u : EntityUID). eid_text u.eid) nat_list_cmp_total)
 
 ties : (u v : EntityUID) → uids_eq u v ≡ eq_by_cmp uids_by u v
 ties u v = uids_eq_is u v ∙ sym (same_uid u v)

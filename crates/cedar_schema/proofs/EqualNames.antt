@@ -2,10 +2,9 @@
 use Rattle.std.proofs.Common.{◌≡◌, Bool, List, [], ◌∷◌, map, refl, sym, ap, subst, Decides}
 use Rattle.std.proofs.lemmas.Bool.Decides.{Decides-and, Decides-like}
 use Rattle.std.specs.Cmp.Lexicographic.{pointwise}
-use Rattle.std.specs.Rc.{rc_str_bytes}
 use Rattle.std.specs.Str.{bytes_eq}
 use Rattle.cedar_expr_model.proofs.Equality.{name_eq-Decides}
-use Rattle.cedar_expr_names.specs.Views.{plain_name_of, type_name_of}
+use Rattle.cedar_expr_names.specs.Views.{name_bytes, plain_name_of, type_name_of}
 use Rattle.cedar_expr_names.specs.declared.name.Name.{Name}
 use Rattle.cedar_expr_names.specs.declared.entity.EntityType.{EntityType}
 use Rattle.cedar_expr_names.proofs.Equality.{names_eq_is}
@@ -15,7 +14,7 @@ use Rattle.cedar_schema_entries.specs.declared.applies_to.AppliesTo.{AppliesTo}
 
 -- what `==` computes of names and types
 abbrev names_eq : Name → Name → Bool
-names_eq m n = bytes_eq (rc_str_bytes m.internal.text) (rc_str_bytes n.internal.text)
+names_eq m n = bytes_eq (name_bytes m.internal) (name_bytes n.internal)
 
 abbrev types_eq : EntityType → EntityType → Bool
 types_eq s t = names_eq s.0 t.0

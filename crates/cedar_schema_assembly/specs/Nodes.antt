@@ -11,17 +11,17 @@ use Rattle.std.specs.Cmp.Lexicographic.{slice_cmp}
 use Rattle.std.specs.declared.alloc.Global.{Global}
 use Rattle.std.specs.declared.cmp.Ordering.{Ordering}
 use Rattle.std.specs.declared.rc.RcStr.{RcStr}
-use Rattle.cedar_expr_names.specs.Views.{plain_name_of, type_name_of}
+use Rattle.cedar_expr_names.specs.Views.{name_bytes, plain_name_of, type_name_of}
 use Rattle.cedar_expr_names.specs.declared.entity.EntityType.{EntityType}
 use Rattle.cedar_expr_names.specs.declared.name.Name.{Name as CodeName}
 use Rattle.cedar_schema_resolver.specs.Told.{names_told}
 
 -- what `cmp` computes
 abbrev types_cmp : EntityType → EntityType → Ordering
-types_cmp m n = slice_cmp nat_cmp (rc_str_bytes m.0.internal.text) (rc_str_bytes n.0.internal.text)
+types_cmp m n = slice_cmp nat_cmp (name_bytes m.0.internal) (name_bytes n.0.internal)
 
 abbrev plain_names_cmp : CodeName → CodeName → Ordering
-plain_names_cmp m n = slice_cmp nat_cmp (rc_str_bytes m.internal.text) (rc_str_bytes n.internal.text)
+plain_names_cmp m n = slice_cmp nat_cmp (name_bytes m.internal) (name_bytes n.internal)
 
 abbrev pub texts_cmp : RcStr Global → RcStr Global → Ordering
 texts_cmp m n = slice_cmp nat_cmp (rc_str_bytes m) (rc_str_bytes n)

@@ -5,11 +5,10 @@ use Rattle.std.specs.BTreeMap.{insert_entry}
 use Rattle.std.specs.Cmp.Lexicographic.{slice_cmp}
 use Rattle.std.specs.Ordering.{is_eq, nat_cmp}
 use Rattle.std.specs.declared.cmp.Ordering.{Ordering}
-use Rattle.std.specs.Rc.{rc_str_bytes}
 use Rattle.cedar_expr_model.specs.Name.{Name, name_eq}
 use Rattle.cedar_expr_model.specs.UidOrder.{name_cmp}
 use Rattle.cedar_expr_model.proofs.Equality.{name_eq-Decides}
-use Rattle.cedar_expr_names.specs.Views.{name_of}
+use Rattle.cedar_expr_names.specs.Views.{name_of, name_bytes}
 use Rattle.cedar_expr_names.specs.declared.internal_name.InternalName.{InternalName}
 use Rattle.cedar_expr_names.proofs.Equality.{names_eq_is, names_cmp_is}
 use Rattle.cedar_schema_built.specs.LocatedViews.{ListedCommon, ListedSpace, common_listed, space_listed}
@@ -20,10 +19,10 @@ use Rattle.cedar_schema_built.specs.Put.{put, all_put}
 use Rattle.cedar_schema_built.proofs.Putting.{all_put_more, map_more, put_in, named_put}
 
 abbrev pub names_by : InternalName → InternalName → Ordering
-names_by m n = slice_cmp nat_cmp (rc_str_bytes m.text) (rc_str_bytes n.text)
+names_by m n = slice_cmp nat_cmp (name_bytes m) (name_bytes n)
 
 names_told : (m n : InternalName) → is_eq (names_by m n) ≡ name_eq (name_of m) (name_of n)
-names_told m n = is_eq-slice_cmp (rc_str_bytes m.text) (rc_str_bytes n.text) ∙ names_eq_is m n
+names_told m n = is_eq-slice_cmp (name_bytes m) (name_bytes n) ∙ names_eq_is m n
 
 -- the names under which they stand, and their own
 module _ {V A : Type 0} (seen : V → A) (name : A → Name) where

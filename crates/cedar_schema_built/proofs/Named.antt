@@ -6,13 +6,12 @@ use Rattle.std.specs.BTreeMap.{is_at, insert_entry}
 use Rattle.std.specs.List.{find}
 use Rattle.std.specs.Map.{lookup}
 use Rattle.std.specs.Option.{option_copied}
-use Rattle.std.specs.Rc.{rc_str_bytes}
 use Rattle.std.specs.Ordering.{is_eq}
 use Rattle.cedar_expr_model.specs.Name.{name_eq}
 use Rattle.cedar_expr_model.specs.Uid.{uid_eq}
 use Rattle.cedar_expr_model.specs.UidOrder.{name_cmp, uid_cmp}
 use Rattle.cedar_expr_model.proofs.Equality.{name_eq-Decides, uid_eq-Decides}
-use Rattle.cedar_expr_names.specs.Views.{type_name_of, uid_of}
+use Rattle.cedar_expr_names.specs.Views.{name_bytes, type_name_of, uid_of}
 use Rattle.cedar_expr_names.specs.declared.entity.EntityType.{EntityType}
 use Rattle.cedar_expr_names.specs.declared.entity.EntityUID.{EntityUID}
 use Rattle.cedar_expr_names.proofs.Equality.{names_eq_is, names_cmp_is, uids_cmp_is}
@@ -31,7 +30,7 @@ types_same s t = names_cmp_is s.0.internal t.0.internal
 
 -- the order of entity types tells those of one name
 pub types_told : (s t : EntityType) → is_eq (types_by s t) ≡ name_eq (type_name_of s) (type_name_of t)
-types_told s t = is_eq-slice_cmp (rc_str_bytes s.0.internal.text) (rc_str_bytes t.0.internal.text) ∙ names_eq_is s.0.internal t.0.internal
+types_told s t = is_eq-slice_cmp (name_bytes s.0.internal) (name_bytes t.0.internal) ∙ names_eq_is s.0.internal t.0.internal
 
 abbrev pub all_types : List ValidatorEntityType → List KeptType
 all_types ts = all_put name_cmp (λ t. t.name) [] (map entity_type_seen ts)

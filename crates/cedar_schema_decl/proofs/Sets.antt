@@ -4,7 +4,6 @@ use Rattle.std.proofs.lemmas.Map.Text.{is_eq-slice_cmp}
 use Rattle.std.specs.BTreeMap.{is_at}
 use Rattle.std.specs.BTreeSet.{insert_key}
 use Rattle.std.specs.List.{list_any}
-use Rattle.std.specs.Rc.{rc_str_bytes}
 use Rattle.std.specs.Ordering.{match_ordering, is_eq, nat_cmp, ordering_then}
 use Rattle.std.specs.Cmp.Lexicographic.{slice_cmp}
 use Rattle.std.specs.declared.cmp.Ordering.{Ordering}
@@ -12,7 +11,7 @@ use Rattle.std.specs.declared.cmp.Ordering.TheVariants.{Less, Equal, Greater}
 use Rattle.cedar_expr_model.specs.Name.{Name, name_eq, name_text, is_well_formed}
 use Rattle.cedar_expr_model.specs.UidOrder.{name_cmp, uid_cmp}
 use Rattle.cedar_expr_model.specs.Uid.{Uid, uid_eq}
-use Rattle.cedar_expr_names.specs.Views.{name_of, eid_text, uid_of}
+use Rattle.cedar_expr_names.specs.Views.{name_of, name_bytes, eid_text, uid_of}
 use Rattle.cedar_expr_names.specs.declared.internal_name.InternalName.{InternalName}
 use Rattle.cedar_expr_names.specs.declared.entity.EntityUID.{EntityUID}
 use Rattle.cedar_expr_names.proofs.Equality.{name_eq_is, well_formed, names_cmp_is, uids_cmp_is}
@@ -32,10 +31,10 @@ chosen f Greater p a b c l m n e h j k = k ∙ ap (λ q. match_ordering q l m n)
 
 -- what `cmp` computes
 abbrev cmp : InternalName → InternalName → Ordering
-cmp m n = slice_cmp nat_cmp (rc_str_bytes m.text) (rc_str_bytes n.text)
+cmp m n = slice_cmp nat_cmp (name_bytes m) (name_bytes n)
 
 abbrev uids : EntityUID → EntityUID → Ordering
-uids u v = ordering_then (slice_cmp nat_cmp (rc_str_bytes u.entity_type.0.internal.text) (rc_str_bytes v.entity_type.0.internal.text)) (slice_cmp nat_cmp (eid_text u.eid) (eid_text v.eid))
+uids u v = ordering_then (slice_cmp nat_cmp (name_bytes u.entity_type.0.internal) (name_bytes v.entity_type.0.internal)) (slice_cmp nat_cmp (eid_text u.eid) (eid_text v.eid))
 
 found : (n k : InternalName) → is_at (cmp n) k ≡ name_eq (name_of n) (name_of k)
 found n k = ap is_eq (names_cmp_is n k) ∙ is_eq-slice_cmp (name_text (name_of n)) (name_text (name_of k)) ∙ name_eq_is (name_of n) (name_of k) (well_formed n) (well_formed k)

@@ -8,24 +8,15 @@ use Rattle.std.specs.Ordering.{is_eq}
 use Rattle.std.specs.Rc.{rc_str_bytes}
 use Rattle.std.specs.Str.{bytes_eq}
 use Rattle.std.specs.declared.alloc.Global.{Global}
-use Rattle.std.specs.declared.collections.BTreeMap.{BTreeMap}
-use Rattle.std.specs.declared.rc.Rc.{Rc}
 use Rattle.std.specs.declared.rc.RcStr.{RcStr}
 use Rattle.cedar_expr_model.specs.Name.{Text}
 use Rattle.cedar_expr_model.specs.Order.{text_cmp}
 use Rattle.cedar_expr_model.specs.Records.{fields}
 use Rattle.cedar_expr_model.specs.Made as model
-use Rattle.cedar_expr_model.specs.Made.{Made, Mades}
-use Rattle.cedar_expr_model.specs.Value.{prim, set_of, record_of, extension, field, field_of}
-use Rattle.cedar_expr_leaves.specs.Literals.{literal_of}
-use Rattle.cedar_expr_leaves.specs.declared.literal.Literal.{Literal}
+use Rattle.cedar_expr_model.specs.Value.{field, field_of}
 use Rattle.cedar_expr_values.specs.Extension.{Extension}
-use Rattle.cedar_expr_values.specs.Values.{made, made_kind, bare, bare_kind, bares, bare_pair, made_list, made_fields, made_pair, kind_step, set_step, value_step}
+use Rattle.cedar_expr_values.specs.Values.{made, bare, bare_pair, made_list, made_fields, made_pair}
 use Rattle.cedar_expr_values.specs.declared.value.Value.{Value}
-use Rattle.cedar_expr_values.specs.declared.value.ValueKind.{ValueKind-F, fold-roll-ValueKind}
-use Rattle.cedar_expr_values.specs.declared.value.ValueKind.TheVariants.{Lit, Set as SetKind, Record, ExtensionValue, rolls-Lit, rolls-Set, rolls-ExtensionValue}
-use Rattle.cedar_expr_values.specs.declared.value.Set.{Set}
-use Rattle.cedar_expr_values.proofs.Recorded.{record_kind}
 use Rattle.cedar_schema_model.specs.Types.{Ty, Openness, Attributes, attribute_named}
 use Rattle.cedar_schema_model.specs.HasType.{has_type, have_type, field_fits, fields_fit, has_required}
 use Rattle.cedar_schema_types.specs.Types.{attribute_of}
@@ -33,22 +24,10 @@ use Rattle.cedar_schema_types.specs.AttributeLists.{attributes_from, declared_pa
 use Rattle.cedar_schema_types.specs.declared.types.AttributeType.{AttributeType}
 
 module _ {X : Type 0} (seen : X → Extension) where
-  -- a literal, a set, a record and an extension value
-  pub literal_is : (l : Literal) → bare_kind seen (Lit l) ≡ prim (literal_of l)
-  literal_is l = ap model.bare (ap (made_kind seen) (sym (rolls-Lit l)) ∙ fold-roll-ValueKind X Made Mades Made (kind_step seen) set_step value_step (ValueKind-F.Lit l))
-
-  pub set_is : (s : Set X) → bare_kind seen (SetKind s) ≡ set_of (bares seen s)
-  set_is s = ap model.bare (ap (made_kind seen) (sym (rolls-Set s)) ∙ fold-roll-ValueKind X Made Mades Made (kind_step seen) set_step value_step (ValueKind-F.Set s))
-
-  bare_fields_are : (es : List (RcStr Global × Value X)) → model.bare_fields (made_fields (map (made_pair seen) es)) ≡ fields (map (bare_pair seen) es)
+  -- the fields of a record
+  pub bare_fields_are : (es : List (RcStr Global × Value X)) → model.bare_fields (made_fields (map (made_pair seen) es)) ≡ fields (map (bare_pair seen) es)
   bare_fields_are [] = refl
   bare_fields_are (e ∷ es) = ap (field (rc_str_bytes e.0) (bare seen e.1)) (bare_fields_are es)
-
-  pub record_is : (m : Rc (BTreeMap (RcStr Global) (Value X) Global) Global) → bare_kind seen (Record m) ≡ record_of (fields (map (bare_pair seen) m.value.entries))
-  record_is m = ap model.bare (record_kind seen m) ∙ ap record_of (bare_fields_are m.value.entries)
-
-  pub extension_is : (x : Rc X Global) → bare_kind seen (ExtensionValue x) ≡ extension (seen x.value).kind (seen x.value).key
-  extension_is x = ap model.bare (ap (made_kind seen) (sym (rolls-ExtensionValue x)) ∙ fold-roll-ValueKind X Made Mades Made (kind_step seen) set_step value_step (ValueKind-F.ExtensionValue x))
 
   -- members that are left, and the next of them
   abbrev pub all_have : Ty → List (Value X) → Bool

@@ -18,11 +18,11 @@ use std::collections::{BTreeMap, btree_map};
 use std::rc::{Rc, RcStr};
 
 // The fields that are left.
-struct Fields<'a, X> {
+struct Fields<'a, X: ExtensionValue> {
     left: btree_map::Iter<'a, RcStr, Value<X>>,
 }
 
-impl<'a, X> Drop for Fields<'a, X> {
+impl<'a, X: ExtensionValue> Drop for Fields<'a, X> {
     fn drop(self) {
         let Fields { left: _ } = self;
     }
@@ -50,7 +50,7 @@ fn has_type<X: ExtensionValue>(value: &Value<X>, ty: &Type) -> bool
     match value.value_kind() {
         ValueKind::Lit(literal) => is_literal_of(literal, ty),
         ValueKind::Set(members) => is_set_of(members, ty),
-        ValueKind::Record(pairs) => is_record_of(pairs, ty),
+        ValueKind::Record(pairs) => is_record_of(pairs.as_map(), ty),
         ValueKind::ExtensionValue(value) => is_extension_of(value, ty),
     }
 }

@@ -9,12 +9,11 @@ use Rattle.std.specs.List.{list_any}
 use Rattle.std.specs.Map.{lookup}
 use Rattle.std.specs.Option.{option_map_or, option_copied}
 use Rattle.std.specs.Ordering.{is_eq, nat_cmp, match_ordering}
-use Rattle.std.specs.Rc.{rc_str_bytes}
 use Rattle.std.specs.declared.cmp.Ordering.{Ordering}
 use Rattle.std.specs.declared.cmp.Ordering.TheVariants.{Less, Equal, Greater}
 use Rattle.cedar_expr_model.specs.Name.{Name, name_eq}
 use Rattle.cedar_expr_model.proofs.Equality.{name_eq-Decides}
-use Rattle.cedar_expr_names.specs.Views.{name_of, plain_name_of}
+use Rattle.cedar_expr_names.specs.Views.{name_of, name_bytes, plain_name_of}
 use Rattle.cedar_expr_names.specs.declared.internal_name.InternalName.{InternalName}
 use Rattle.cedar_expr_names.specs.declared.name.Name.{Name as CodeName}
 use Rattle.cedar_expr_names.proofs.Equality.{names_eq_is}
@@ -25,16 +24,16 @@ use Rattle.cedar_schema_resolver.specs.Commons.{commons_with, kept_with}
 
 -- what `cmp` computes
 abbrev pub by_text : InternalName → InternalName → Ordering
-by_text m n = slice_cmp nat_cmp (rc_str_bytes m.text) (rc_str_bytes n.text)
+by_text m n = slice_cmp nat_cmp (name_bytes m) (name_bytes n)
 
 abbrev pub plain_by_text : CodeName → CodeName → Ordering
-plain_by_text m n = slice_cmp nat_cmp (rc_str_bytes m.internal.text) (rc_str_bytes n.internal.text)
+plain_by_text m n = slice_cmp nat_cmp (name_bytes m.internal) (name_bytes n.internal)
 
 met : (n k : InternalName) → is_at (by_text n) k ≡ name_eq (name_of n) (name_of k)
-met n k = is_eq-slice_cmp (rc_str_bytes n.text) (rc_str_bytes k.text) ∙ names_eq_is n k
+met n k = is_eq-slice_cmp (name_bytes n) (name_bytes k) ∙ names_eq_is n k
 
 plain_met : (n k : CodeName) → is_at (plain_by_text n) k ≡ name_eq (plain_name_of n) (plain_name_of k)
-plain_met n k = is_eq-slice_cmp (rc_str_bytes n.internal.text) (rc_str_bytes k.internal.text) ∙ names_eq_is n.internal k.internal
+plain_met n k = is_eq-slice_cmp (name_bytes n.internal) (name_bytes k.internal) ∙ names_eq_is n.internal k.internal
 
 -- whether a name is one of these
 pub name_among : (n : CodeName) (ks : List CodeName) → list_any (is_at (plain_by_text n)) ks ≡ list_any (name_eq (plain_name_of n)) (map plain_name_of ks)

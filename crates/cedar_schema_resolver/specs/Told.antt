@@ -4,7 +4,6 @@ use Rattle.std.proofs.Common.{◌≡◌, ◌&&◌, refl, ap, ◌∙◌, sym}
 use Rattle.std.proofs.lemmas.Map.Text.{is_eq-slice_cmp}
 use Rattle.std.specs.BTreeMap.{is_at}
 use Rattle.std.specs.Bool.{Decides}
-use Rattle.std.specs.Rc.{rc_str_bytes}
 use Rattle.std.specs.Ordering.{is_eq, nat_cmp, ordering_then}
 use Rattle.std.specs.Cmp.Lexicographic.{slice_cmp}
 use Rattle.std.specs.declared.cmp.Ordering.{Ordering}
@@ -13,17 +12,17 @@ use Rattle.cedar_expr_model.specs.Name.{name_eq, name_text}
 use Rattle.cedar_expr_model.specs.UidOrder.{name_cmp}
 use Rattle.cedar_expr_model.specs.Uid.{uid_eq}
 use Rattle.cedar_expr_model.proofs.Equality.{name_eq-Decides, uid_eq-Decides}
-use Rattle.cedar_expr_names.specs.Views.{name_of, eid_text, uid_of}
+use Rattle.cedar_expr_names.specs.Views.{name_of, name_bytes, eid_text, uid_of}
 use Rattle.cedar_expr_names.specs.declared.internal_name.InternalName.{InternalName}
 use Rattle.cedar_expr_names.specs.declared.entity.EntityUID.{EntityUID}
 use Rattle.cedar_expr_names.proofs.Equality.{name_eq_is, well_formed, names_cmp_is, uids_cmp_is}
 
 -- what `cmp` computes
 abbrev names_cmp : InternalName → InternalName → Ordering
-names_cmp m n = slice_cmp nat_cmp (rc_str_bytes m.text) (rc_str_bytes n.text)
+names_cmp m n = slice_cmp nat_cmp (name_bytes m) (name_bytes n)
 
 abbrev uids_cmp : EntityUID → EntityUID → Ordering
-uids_cmp u v = ordering_then (slice_cmp nat_cmp (rc_str_bytes u.entity_type.0.internal.text) (rc_str_bytes v.entity_type.0.internal.text)) (slice_cmp nat_cmp (eid_text u.eid) (eid_text v.eid))
+uids_cmp u v = ordering_then (slice_cmp nat_cmp (name_bytes u.entity_type.0.internal) (name_bytes v.entity_type.0.internal)) (slice_cmp nat_cmp (eid_text u.eid) (eid_text v.eid))
 
 name_met : (m n : InternalName) → is_at (names_cmp m) n ≡ name_eq (name_of m) (name_of n)
 name_met m n = ap is_eq (names_cmp_is m n) ∙ is_eq-slice_cmp (name_text (name_of m)) (name_text (name_of n)) ∙ name_eq_is (name_of m) (name_of n) (well_formed m) (well_formed n)

@@ -7,13 +7,12 @@ use Rattle.std.specs.BTreeSet.{insert_key}
 use Rattle.std.specs.Cmp.Lexicographic.{slice_cmp}
 use Rattle.std.specs.List.{list_any, slice_get, AllZip}
 use Rattle.std.specs.Ordering.{is_eq, nat_cmp, match_ordering}
-use Rattle.std.specs.Rc.{rc_str_bytes}
 use Rattle.std.specs.declared.cmp.Ordering.{Ordering}
 use Rattle.std.specs.declared.cmp.Ordering.TheVariants.{Less, Equal, Greater}
 use Rattle.cedar_expr_model.specs.Name.{Name, name_eq}
 use Rattle.cedar_expr_model.specs.UidOrder.{name_cmp}
 use Rattle.cedar_expr_model.specs.Lists.{is_nil}
-use Rattle.cedar_expr_names.specs.Views.{type_name_of, type_loc}
+use Rattle.cedar_expr_names.specs.Views.{name_bytes, type_name_of, type_loc}
 use Rattle.cedar_expr_names.specs.declared.entity.EntityType.{EntityType}
 use Rattle.cedar_expr_names.proofs.Equality.{names_eq_is, names_cmp_is}
 use Rattle.cedar_schema_model.specs.Subtype.{are_among}
@@ -22,11 +21,11 @@ use Rattle.cedar_schema_types.specs.Unions.{only_member}
 
 -- what `cmp` computes of two entity types
 abbrev pub types_by : EntityType → EntityType → Ordering
-types_by s t = slice_cmp nat_cmp (rc_str_bytes s.0.internal.text) (rc_str_bytes t.0.internal.text)
+types_by s t = slice_cmp nat_cmp (name_bytes s.0.internal) (name_bytes t.0.internal)
 
 -- whether one is among them
 same_type : (s t : EntityType) → is_eq (types_by s t) ≡ name_eq (type_name_of s) (type_name_of t)
-same_type s t = is_eq-slice_cmp (rc_str_bytes s.0.internal.text) (rc_str_bytes t.0.internal.text) ∙ names_eq_is s.0.internal t.0.internal
+same_type s t = is_eq-slice_cmp (name_bytes s.0.internal) (name_bytes t.0.internal) ∙ names_eq_is s.0.internal t.0.internal
 
 pub name_among : (t : EntityType) (ks : List EntityType) → list_any (is_at (types_by t)) ks ≡ list_any (name_eq (type_name_of t)) (map type_name_of ks)
 name_among t [] = refl

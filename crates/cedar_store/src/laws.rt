@@ -14,7 +14,13 @@ ghost use Rattle.cedar_store_parts.specs.declared.constraint.PrincipalOrResource
 ghost use Rattle.cedar_store_parts.specs.declared.err.UnexpectedSlotError.TheVariants.{OutOfMemory, FoundSlot};
 
 use cedar_expr_leaves::Slot;
+pub use cedar_store_entities::laws::{stores_are_maps, uids_are_uids};
+pub use cedar_store_parts::laws::{
+    annotations_are_compared, bindings_are_compared, policy_ids_agree, references_are_compared,
+    scopes_are_compared, sets_of_annotations_are_compared,
+};
 use cedar_store_parts::{Effect, PrincipalOrResource, UnexpectedSlotError};
+pub use cedar_store_policies::laws::{ids_are_distinct, policies_are_linked_templates};
 use std::hash::Hash;
 
 /// Effects are equal exactly where they are the same, which is where their order finds no difference, and are then hashed alike.

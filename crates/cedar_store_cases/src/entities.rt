@@ -134,7 +134,7 @@ fn say_value(alloc: Global, said: &mut String, v: &V) -> Made<()> {
     let (kind, count) = match v.value_kind() {
         ValueKind::Lit(literal) => return show(alloc, said, literal),
         ValueKind::Set(members) => ("set of", members.len()),
-        ValueKind::Record(fields) => ("record of", fields.len()),
+        ValueKind::Record(fields) => ("record of", fields.as_map().len()),
         ValueKind::ExtensionValue(_) => return say(said, "extension value"),
     };
     say(said, kind)?;

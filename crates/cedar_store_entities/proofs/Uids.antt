@@ -3,17 +3,16 @@ use Rattle.std.proofs.Common.{◌≡◌, Bool, true, false, ◌||◌, ◌&&◌, 
 use Rattle.std.proofs.lemmas.Str.{IsUtf8-string_bytes, is_utf8-from_IsUtf8}
 use Rattle.std.specs.List.{list_all}
 use Rattle.std.specs.Char.{is_ascii}
-use Rattle.std.specs.Rc.{rc_str_bytes}
 use Rattle.std.specs.Str.{bytes_eq, is_utf8}
 use Rattle.cedar_expr_model.specs.Uids.{is_text, is_uid}
 use Rattle.cedar_expr_model.proofs.Lists.{hold_both}
-use Rattle.cedar_expr_names.specs.Views.{eid_text, uid_of}
+use Rattle.cedar_expr_names.specs.Views.{name_bytes, eid_text, uid_of}
 use Rattle.cedar_expr_names.specs.declared.entity.EntityUID.{EntityUID}
 use Rattle.cedar_expr_names.proofs.Equality.{well_formed}
 
 -- what `==` computes of two uids
 abbrev pub same_uid : EntityUID → EntityUID → Bool
-same_uid u v = bytes_eq (rc_str_bytes u.entity_type.0.internal.text) (rc_str_bytes v.entity_type.0.internal.text) && bytes_eq (eid_text u.eid) (eid_text v.eid)
+same_uid u v = bytes_eq (name_bytes u.entity_type.0.internal) (name_bytes v.entity_type.0.internal) && bytes_eq (eid_text u.eid) (eid_text v.eid)
 
 either_true : (a b : Bool) → b ≡ true → (a || b) ≡ true
 either_true true b h = refl

@@ -16,6 +16,5 @@ pub mod Stores
 pub mod Computed
 pub mod Growing
 pub mod Instances
-pub mod Rising
 pub mod Alone
 pub mod Settled

@@ -15,7 +15,6 @@ pub mod StoreLaws
 pub mod Store
 pub mod Worked
 pub mod WorkedPolicies
-pub mod Rising
 pub mod Alone
 pub mod Settled
 pub mod WorldLaws

@@ -1,31 +1,21 @@
 -- What the laws of these worlds say.
--- Rule: values and equality; the meaning; the store; what is known (docs/RULES.md).
+-- Rule: the meaning; the store; what is known (docs/RULES.md).
 use Rattle.std.specs.Prelude.{◌≡◌, List, true}
 use Rattle.std.specs.List.{list_all}
 use Rattle.cedar_expr_model.specs.Name.{Text}
 use Rattle.cedar_expr_model.specs.Uid.{Uid}
 use Rattle.cedar_expr_model.specs.Value.{V}
-use Rattle.cedar_expr_model.specs.Canonical.{is_canonical}
 use Rattle.cedar_expr_model.specs.Tree.{Tree, is_in, get_tag, has_tag}
 use Rattle.cedar_expr_model.specs.Table.{Table, all_typed}
 use Rattle.cedar_expr_model.specs.OfLaws.Fair.{IsFair}
-use Rattle.cedar_store_model.specs.Outcome.{Res, val}
+use Rattle.cedar_store_model.specs.Outcome.{Res}
 use Rattle.cedar_store_model.specs.World.{World}
 use Rattle.cedar_store_model.specs.Store.{Store, whole, look_up}
 use Rattle.cedar_store_model.specs.Knowledge.{holds_values, IsSettled}
 use Rattle.cedar_store_model.specs.Reads.{attribute_read, attribute_tested}
 use Rattle.cedar_store_model.specs.Meaning.{Means, combined, path_tested}
-use Rattle.cedar_store_model.specs.Rising.{Rises, WorldRises}
 use Rattle.cedar_store_model.specs.Alone.{store_alone}
 use Rattle.cedar_store_model.specs.Settled.{CallsLeaveNone, IsSettledWorld, BindsUnknowns}
-
--- canonical values rise
-abbrev pub CanonicalValuesRise : Type 0
-CanonicalValuesRise = (v : V) → is_canonical v ≡ true → Rises v
-
--- what an expression means in a world that rises does
-abbrev pub MeaningsRise : Type 0
-MeaningsRise = (w : World) → WorldRises w → (t : Tree) (v : V) → Means w t (val v) → Rises v
 
 -- What is read in a world with this store is what is read where the store alone is known.
 pub record ReadsAsAlone (w : World) (s : Store) : Type 0 where

@@ -1,5 +1,5 @@
 //! Definitions of worlds, of what expressions mean in them, of policies and their conditions, and of answers.
-//! Contract: the law functions: one outcome at most, more knowledge keeps it, sets rise where the world's do, answers by satisfied policies.
+//! Contract: the law functions: one outcome at most, more knowledge keeps it, answers by satisfied policies.
 //! Used by all layers above: the one meaning by which typing, evaluation and the gate are stated.
 #![tactic(auto)]
 

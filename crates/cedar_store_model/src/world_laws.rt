@@ -1,16 +1,6 @@
 //! Laws of these worlds. Each function's contract is the theorem; its body does nothing.
 
-ghost use Rattle.cedar_store_model.specs.WorldLaws.{CanonicalValuesRise, MeaningsRise, ReadsAskTheStore, SettledWorldsAnswer, WholeStoresAreSettled, TypedTablesLeaveNone};
-
-/// The members of each set in a canonical value rise.
-pub fn canonical_values_rise()
-    ensures { CanonicalValuesRise }
-{}
-
-/// In a world whose values rise, what an expression means rises.
-pub fn meanings_rise()
-    ensures { MeaningsRise }
-{}
+ghost use Rattle.cedar_store_model.specs.WorldLaws.{ReadsAskTheStore, SettledWorldsAnswer, WholeStoresAreSettled, TypedTablesLeaveNone};
 
 /// What is read at values depends on the store alone.
 pub fn reads_ask_the_store()

@@ -4,13 +4,12 @@ use Rattle.std.proofs.lemmas.Bool.Decides.{Decides-and, Decides-like}
 use Rattle.std.proofs.lemmas.Slice.Eq.{bytes_eq-Decides}
 use Rattle.std.specs.Cmp.Lexicographic.{pointwise}
 use Rattle.std.specs.Option.{option_eq}
-use Rattle.std.specs.Rc.{rc_str_bytes}
 use Rattle.std.specs.Str.{bytes_eq}
 use Rattle.std.specs.declared.alloc.Global.{Global}
 use Rattle.std.specs.declared.rc.Rc.{Rc}
 use Rattle.cedar_expr_model.proofs.Equality.{name_eq-Decides, uid_eq-Decides}
 use Rattle.cedar_expr_names.proofs.Equality.{names_eq_is, uids_eq_is}
-use Rattle.cedar_expr_names.specs.Views.{any_id_text, plain_name_of, type_name_of, eid_text, uid_of}
+use Rattle.cedar_expr_names.specs.Views.{name_bytes, any_id_text, plain_name_of, type_name_of, eid_text, uid_of}
 use Rattle.cedar_expr_names.specs.declared.any_id.AnyId.{AnyId}
 use Rattle.cedar_expr_names.specs.declared.name.Name.{Name}
 use Rattle.cedar_expr_names.specs.declared.entity.EntityType.{EntityType}
@@ -32,7 +31,7 @@ use Rattle.cedar_store_parts.specs.contracts.slot_env.SlotEnvPartialEq.TheImpl a
 
 -- what `==` computes of names, types and uids
 abbrev names_eq : Name → Name → Bool
-names_eq m n = bytes_eq (rc_str_bytes m.internal.text) (rc_str_bytes n.internal.text)
+names_eq m n = bytes_eq (name_bytes m.internal) (name_bytes n.internal)
 
 abbrev types_eq : EntityType → EntityType → Bool
 types_eq s t = names_eq s.0 t.0

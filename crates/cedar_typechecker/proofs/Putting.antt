@@ -6,20 +6,19 @@ use Rattle.std.specs.Cmp.Lexicographic.{slice_cmp}
 use Rattle.std.specs.Map.{lookup}
 use Rattle.std.specs.Option.{option_map_or}
 use Rattle.std.specs.Ordering.{is_eq, nat_cmp}
-use Rattle.std.specs.Rc.{rc_str_bytes}
 use Rattle.std.specs.Str.{bytes_eq}
 use Rattle.std.proofs.lemmas.Map.Text.{is_eq-slice_cmp}
 use Rattle.std.proofs.lemmas.Slice.Eq.{bytes_eq-Decides}
 use Rattle.std.specs.Bool.{one_answer}
 use Rattle.cedar_expr_model.specs.Name.{Name, name_eq}
 use Rattle.cedar_expr_model.proofs.Equality.{name_eq-Decides}
-use Rattle.cedar_expr_names.specs.Views.{type_name_of}
+use Rattle.cedar_expr_names.specs.Views.{name_bytes, type_name_of}
 use Rattle.cedar_expr_names.specs.declared.entity.EntityType.{EntityType}
 use Rattle.cedar_expr_names.proofs.Equality.{names_eq_is}
 use Rattle.cedar_typechecker.specs.Pairs.{types_by}
 
-same_bytes : (s t : EntityType) → is_at (types_by s) t ≡ bytes_eq (rc_str_bytes s.0.internal.text) (rc_str_bytes t.0.internal.text)
-same_bytes s t = is_eq-slice_cmp (rc_str_bytes s.0.internal.text) (rc_str_bytes t.0.internal.text)
+same_bytes : (s t : EntityType) → is_at (types_by s) t ≡ bytes_eq (name_bytes s.0.internal) (name_bytes t.0.internal)
+same_bytes s t = is_eq-slice_cmp (name_bytes s.0.internal) (name_bytes t.0.internal)
 
 swapped : (m n : Name) → name_eq m n ≡ name_eq n m
 swapped m n = one_answer _ _ (λ e. sym ((name_eq-Decides m n).0 e), λ e. (name_eq-Decides m n).1 (sym e)) (name_eq-Decides n m)
@@ -33,8 +32,8 @@ Row = BTreeSet EntityType
 -- what is found under one type is what is found under the same type
 found_same : (m : BTreeMap EntityType Row) (s t : EntityType) → is_at (types_by s) t ≡ true → get types_by m s ≡ get types_by m t
 found_same m s t h =
-    let e = (bytes_eq-Decides (rc_str_bytes s.0.internal.text) (rc_str_bytes t.0.internal.text)).0 (sym (same_bytes s t) ∙ h) in
-    ap (λ b. lookup (λ (k : EntityType). is_eq (slice_cmp nat_cmp b (rc_str_bytes k.0.internal.text))) m.entries) e
+    let e = (bytes_eq-Decides (name_bytes s.0.internal) (name_bytes t.0.internal)).0 (sym (same_bytes s t) ∙ h) in
+    ap (λ b. lookup (λ (k : EntityType). is_eq (slice_cmp nat_cmp b (name_bytes k.0.internal))) m.entries) e
 
 abbrev pub row_has : Option Row → EntityType → Bool
 row_has o r = option_map_or (λ row. contains types_by row r) o false

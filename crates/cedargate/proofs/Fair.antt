@@ -1,10 +1,9 @@
 -- The program's functions meet what serving asks of them.
-use Rattle.std.proofs.Common.{◌≡◌, Bool, true, false, cond, List, [], ◌∷◌, Option, Some, None, Result, Ok, Err, Contains, refl, sym, subst}
+use Rattle.std.proofs.Common.{◌≡◌, true, List, [], ◌∷◌, Option, Result, Ok, Err, Contains, refl, sym, subst}
 use Rattle.std.specs.List.{AllByRecursion}
 use Rattle.std.proofs.lemmas.List.Elements.{All-from_recursion}
-use Rattle.std.specs.Option.{option_map_or}
 use Rattle.std.specs.Prelude.{ℕ, All}
-use Rattle.cedar_expr_model.specs.Name.{Text, Name, name_eq}
+use Rattle.cedar_expr_model.specs.Name.{Text, Name}
 use Rattle.cedar_expr_model.specs.Made.{Made}
 use Rattle.cedar_expr_model.proofs.Lists.{contains_head, contains_tail}
 use Rattle.cedar_expr_names.specs.Views.{plain_name_of}
@@ -22,8 +21,7 @@ use Rattle.cedar_evaluator_model.specs.Scope.{MadeCalled, makes, faults, leaves_
 use Rattle.cedar_evaluator_operators.specs.Answers as operators
 use Rattle.cedar_evaluator_restricted_exprs.specs.Answers as restricted
 use Rattle.cedar_evaluator_restricted_exprs.proofs.Alike.{same_answer}
-use Rattle.cedar_evaluator_model.specs.Rising.{MadeRises, CallsRise}
-use Rattle.cedargate.specs.Ranks.{rank_name, rank_made, label_made, ranked, labelled, number_read, number_kept, rank_calls, rank_answers}
+use Rattle.cedargate.specs.Ranks.{rank_calls, rank_answers}
 use Rattle.cedargate.specs.Tables.{HoldsRanks}
 use Rattle.cedargate.proofs.Ranked.{ranks_make_fairly}
 use Rattle.cedar_gate_service.specs.Runs.{AnswersFairly}
@@ -56,28 +54,11 @@ pub answers_made : {B : _} {F : _} {g : _} (t : Extensions B F g) (calls : Name 
 answers_made t calls h =
     record { each = all_by (λ f. operators.IsMadeBy f (calls (function_name f))) (stored_in t) (λ f k. record { agreeing = λ a xs r takes may. is_the_answer _ r ((h.each f k).agreeing a xs r takes may) }) }
 
-ranked_rises : (m : Made) (o : Option ℕ) → option_map_or (λ n. makes (rank_made n)) o (faults rank_name) ≡ makes m → MadeRises m
-ranked_rises m None k = absurd (cc)
-ranked_rises m (Some n) k = let same : rank_made n ≡ m = cc in subst MadeRises same tt
-
-labelled_rises : (m : Made) (o : Option ℕ) → option_map_or (λ n. makes (label_made n)) o (faults rank_name) ≡ makes m → MadeRises m
-labelled_rises m None k = absurd (cc)
-labelled_rises m (Some n) k = let same : label_made n ≡ m = cc in subst MadeRises same tt
-
-rises_case : (b : Bool) (ms : List Made) (m : Made) → cond b (ranked ms) (labelled ms) ≡ makes m → MadeRises m
-rises_case true ms m k = ranked_rises m (number_read ms) k
-rises_case false ms m k = labelled_rises m (number_kept ms) k
-
--- What they answer rises.
-pub ranks_rise : CallsRise rank_calls
-ranks_rise f ms m rise k = rises_case (name_eq f rank_name) ms m k
-
 -- The functions of a table that holds them, and answers as they do, answer fairly.
 pub fair_answers : {B : _} {F : _} {g : _} (t : Extensions B F g) → restricted.AnswersMade t rank_calls → HoldsRanks (table_of t rank_answers) → AnswersFairly (served_by t) t
 fair_answers t made holds = record {
   fair = ranks_make_fairly (table_of t rank_answers) holds;
   answered = answers_made t rank_calls made;
-  rise = ranks_rise;
   table = refl;
 }
 

@@ -1,6 +1,5 @@
-use Rattle.std.proofs.Common.{◌≡◌, map, option_map, rules, sym, ap, ◌∙◌}
+use Rattle.std.proofs.Common.{◌≡◌, option_map, rules, sym, ap, ◌∙◌}
 use Rattle.cedar_expr_values.specs.Extensions.{extension_of}
-use Rattle.cedar_expr_values.specs.Values.{made_fields, made_pair}
 use Rattle.cedar_evaluator_model.specs.Reauthorize.{refuses}
 use Rattle.cedar_evaluator_model.specs.Scope.{unknown_context}
 use Rattle.cedar_evaluator_requests.specs.Views.{context_of, context_or_unknown}
@@ -10,7 +9,7 @@ use Rattle.cedar_evaluator_contexts.proofs.context_parts.context_as.Goals as goa
 pub returns-in_ok-clone-in-None : goal.returns-in_ok-clone-in-None
 returns-in_ok-clone-in-None c =
     let none : context_or_unknown (option_map (λ k. k.now) c.args.context) ≡ unknown_context = search rules in
-    record_for_unknown _ _ _ none (sym (ap (λ m. made_fields (map (made_pair extension_of) m.entries)) c.in_ok-clone-in-None.ensures.cases))
+    record_for_unknown _ _ _ none (sym (c.in_ok-clone-in-None.ensures.cases extension_of))
 
 pub returns-in_ok-known_context-in-Some : goal.returns-in_ok-known_context-in-Some
 returns-in_ok-known_context-in-Some c =

@@ -3,7 +3,6 @@ use Rattle.std.specs.BTreeMap.{values}
 use Rattle.cedar_evaluator_model.specs.Evaluation.{evaluated}
 use Rattle.cedar_evaluator_operators.specs.Calls.{Functions}
 use Rattle.cedar_evaluator_operators.specs.Scopes.{scope_of}
-use Rattle.cedar_evaluator_core.specs.Walked.{Suits}
 use Rattle.cedar_evaluator_core.proofs.Gathered.{SoFar, trees_in}
 use Rattle.cedar_evaluator_core.proofs.walk.+walk.Given as goal
 
@@ -65,10 +64,10 @@ abbrev pub decreases-field_pieces : goal.decreases-field_pieces
 decreases-field_pieces g l = 5 * l.deeper + 1
 
 abbrev pub invariant-pieces-loop-e : goal.invariant-pieces-loop-e
-invariant-pieces-loop-e g l = (fs : Functions) → Suits g.T.FunctionTable.table g.T.FunctionTable.answers_as l.known fs → SoFar (evaluated (scope_of g.T.FunctionTable.table fs l.known) l.deeper) (trees_in l.exprs) l.parts.items (trees_in (drop l.e-index l.exprs))
+invariant-pieces-loop-e g l = (fs : Functions) → g.T.FunctionTable.answers_as l.known.table.now fs.calls → SoFar (evaluated (scope_of g.T.FunctionTable.table fs l.known) l.deeper) (trees_in l.exprs) l.parts.items (trees_in (drop l.e-index l.exprs))
 
 abbrev pub invariant-field_pieces-loop-e : goal.invariant-field_pieces-loop-e
-invariant-field_pieces-loop-e g l = (fs : Functions) → Suits g.T.FunctionTable.table g.T.FunctionTable.answers_as l.known fs → SoFar (evaluated (scope_of g.T.FunctionTable.table fs l.known) l.deeper) (trees_in (values l.fields)) l.parts.items (trees_in l.left.left)
+invariant-field_pieces-loop-e g l = (fs : Functions) → g.T.FunctionTable.answers_as l.known.table.now fs.calls → SoFar (evaluated (scope_of g.T.FunctionTable.table fs l.known) l.deeper) (trees_in (values l.fields)) l.parts.items (trees_in l.left.left)
 
 abbrev pub decreases-field_pieces-loop-e : goal.decreases-field_pieces-loop-e
 decreases-field_pieces-loop-e g l = length l.left.left

@@ -8,7 +8,7 @@ use Rattle.cedar_expr_values.specs.Values.{bare, bare_pair}
 use Rattle.cedar_expr_trees.specs.Trees.{tree_of, kind_tree, named, field_trees}
 use Rattle.cedar_expr_trees.proofs.Trees.{set_tree, record_tree}
 use Rattle.cedar_expr_partial.specs.Parts.{value_shown, field_shown}
-use Rattle.cedar_expr_partial.proofs.Shown.{set_shown, set_not_shown, record_shown, record_not_shown, still_none, goes_wrong, member_step, field_step, names_step, canonical_step, canonical_fields_step, names_end}
+use Rattle.cedar_expr_partial.proofs.Shown.{set_shown, set_not_shown, record_shown, record_not_shown, still_none, goes_wrong, member_step, field_step, names_step, names_end}
 use Rattle.cedar_expr_partial.proofs.reading.+valued.Goals as goal
 
 pub expr_kind-returns-in_err-members-in-Set-clause-refused : goal.expr_kind-returns-in_err-members-in-Set-clause-refused
@@ -67,7 +67,6 @@ field_values-loop-name-preserved g t c =
     record {
       read = field_step {T = g.row.T.Denot} seen all rest later done more c.in-Some.name.now c.in_ok-clone.field-0 c.in-Some.e.now c.in_ok-expr_value.field-0 was.read c.in-Some.ensures.steps c.in_ok-push.ensures.items (search rules) c.in_ok-expr_value.ensures.value;
       names = names_step {T = g.row.T.Denot} seen all rest later done more c.in-Some.name.now c.in_ok-clone.field-0 c.in-Some.e.now c.in_ok-expr_value.field-0 was.names c.in-Some.ensures.steps c.in_ok-push.ensures.items (search rules);
-      canonical = canonical_fields_step seen done more c.in_ok-clone.field-0 c.in_ok-expr_value.field-0 was.canonical c.in_ok-expr_value.ensures.canonical c.in_ok-push.ensures.items;
     }
 
 pub field_values-returns-clause-rising : goal.field_values-returns-clause-rising
@@ -84,10 +83,7 @@ member_values-loop-e-preserved g t c =
     let was = c.loop-e.invariant in
     let done = c.loop-e.values.items in
     let more = c.push.new.self.items in
-    record {
-      read = member_step {T = g.row.T.Denot} seen c.args.members.now c.loop-e.e-index c.e-item.result _ done more c.in_ok-expr_value.field-0 c.loop-e-test.true c.e-item.is was.read c.in_ok-expr_value.ensures.value c.in_ok-push.ensures.items;
-      canonical = canonical_step seen done more c.in_ok-expr_value.field-0 was.canonical c.in_ok-expr_value.ensures.canonical c.in_ok-push.ensures.items;
-    }
+    member_step {T = g.row.T.Denot} seen c.args.members.now c.loop-e.e-index c.e-item.result _ done more c.in_ok-expr_value.field-0 c.loop-e-test.true c.e-item.is was c.in_ok-expr_value.ensures.value c.in_ok-push.ensures.items
 
 pub member_values-returns-clause-value : goal.member_values-returns-clause-value
 member_values-returns-clause-value g t c = grind (arith, common_steps)

@@ -9,7 +9,8 @@ use Rattle.cedar_expr_model.specs.Tree.{call, has_path, like, set_literal, recor
 use Rattle.cedar_expr_trees.specs.Trees.{tree_of, kind_tree, named, field_trees}
 use Rattle.cedar_expr_trees.proofs.Sizes.{arguments_are_smaller}
 use Rattle.cedar_expr_trees.proofs.Trees.{call_tree, set_tree, record_tree}
-use Rattle.cedar_expr_shapes.specs.Hashed.{tree_input, trees_input, count, tree_fields_input, field_count, name_input, element_input}
+use Rattle.cedar_expr_values.specs.Inputs.{name_input}
+use Rattle.cedar_expr_shapes.specs.Hashed.{tree_input, trees_input, count, tree_fields_input, field_count, element_input}
 use Rattle.std.proofs.lemmas.List.{drop_all}
 use Rattle.cedar_expr_trees.specs.declared.expr.Expr.{size-Expr}
 use Rattle.cedar_expr_shapes.proofs.Smaller.{next_is_within, later_are_within, fewer}

@@ -14,11 +14,11 @@ returns g c v w e =
     let x = g.X in
     let m = g.met.X in
     let seen = x.ExtensionValue.seen in
-    hash_laws.respects_eq-law g.row.X x.Hash x.Hash-dict x.Eq x.Eq-dict x.PartialEq x.PartialEq-dict
-    record { respects_eq = m.Hash.respects_eq } record { laws = m.Eq.laws } record { laws = m.PartialEq.laws } v w
-    (equal_is g.row.X x.Ord x.Ord-dict x.Eq x.Eq-dict x.PartialEq x.PartialEq-dict x.PartialOrd x.PartialOrd-dict
-    record { total = m.Ord.total; matches_partial_cmp = m.Ord.matches_partial_cmp; matches_eq = m.Ord.matches_eq }
-    record { laws = m.Eq.laws } record { laws = m.PartialEq.laws } record { laws = m.PartialOrd.laws }
-    seen m.ExtensionValue.ordered v w
+    hash_laws.respects_eq-law g.row.X x.ExtensionValue x.ExtensionValue-dict x.Ord x.Ord-dict x.Eq x.Eq-dict x.PartialEq x.PartialEq-dict x.PartialOrd x.PartialOrd-dict x.Hash x.Hash-dict
+    x.Destruct-dict record { ordered = m.ExtensionValue.ordered }
+    record { total = m.Ord.total; matches_partial_cmp = m.Ord.matches_partial_cmp; matches_eq = m.Ord.matches_eq } record { laws = m.Eq.laws } record { laws = m.PartialEq.laws }
+    record { laws = m.PartialOrd.laws } record { respects_eq = m.Hash.respects_eq } v w
+    (equal_is g.row.X x.ExtensionValue x.ExtensionValue-dict x.Ord x.Ord-dict x.Eq x.Eq-dict x.PartialEq x.PartialEq-dict x.PartialOrd x.PartialOrd-dict x.Destruct-dict
+    (λ a b. m.Ord.matches_eq a b ∙ ap is_eq (m.ExtensionValue.ordered a b)) v w
     ∙ ap (λ u. value_eq u (bare seen w)) e
     ∙ ap is_eq (tied_itself value_linear.total (bare seen w)))

@@ -1,4 +1,4 @@
-use Rattle.std.proofs.Common.{◌≡◌, rules, refl, ap, sym, ◌∙◌}
+use Rattle.std.proofs.Common.{◌≡◌, None, rules, refl, ap, sym, subst, ◌∙◌}
 use Rattle.std.proofs.lemmas.Result.{IfOk-weaker}
 use Rattle.cedar_store_policies.specs.PolicySets.{set_of}
 use Rattle.cedar_evaluator_model.specs.Members.{decision}
@@ -9,22 +9,21 @@ use Rattle.cedar_evaluator.specs.Responses.{response_seen}
 use Rattle.cedar_evaluator.specs.Scopes.{scope_for}
 use Rattle.cedar_evaluator.proofs.Decided.{holds_in, is_forced}
 use Rattle.cedar_evaluator.proofs.Kept.{policies_apart}
-use Rattle.cedar_evaluator.proofs.Scoped.{same_scope, served}
+use Rattle.cedar_evaluator.proofs.Scoped.{scope_under}
 use Rattle.cedar_evaluator.proofs.authorizing.Authorizer.is_authorized_core.Goals as goal
 
 pub returns-clause-response : goal.returns-clause-response
 returns-clause-response g c = λ fs k.
     let table = g.T.FunctionTable.table in
-    let answers_as = g.T.FunctionTable.answers_as in
     let cloned : request_of c.in_ok-clone.field-0 ≡ request_of c.args.q = search rules in
     let e = c.new-evaluator.result in
     let made = c.new-evaluator.ensures in
     let t = asks_table c.args.self.now in
     let q = request_of c.args.q in
     let es = c.args.entities.now in
-    let scope = same_scope table answers_as e t q es made.request made.unknowns made.entities made.table fs in
-    let serves = served table answers_as e t q es made.request made.unknowns made.entities made.table fs k in
-    IfOk-weaker c.respond.result _ _ (λ r h. h ∙ (λ i. response_of (scope i) (made.limit i) (set_of c.args.policies.now).policies)) (c.respond.ensures fs (ap request_of c.in_ok-request.ensures.ok ∙ cloned ∙ sym made.request) serves)
+    let scope = scope_under table e t (λ n. None) q es made.request made.unknowns made.entities made.table fs in
+    let served = subst (λ u. g.T.FunctionTable.answers_as u fs.calls) (sym made.table) k in
+    IfOk-weaker c.respond.result _ _ (λ r h. h ∙ (λ i. response_of (scope i) (made.limit i) (set_of c.args.policies.now).policies)) (c.respond.ensures fs (ap request_of c.in_ok-request.ensures.ok ∙ cloned ∙ sym made.request) served)
 
 pub returns-clause-completions : goal.returns-clause-completions
 returns-clause-completions g c = λ fs k w h.

@@ -16,10 +16,8 @@ use Rattle.cedar_evaluator.specs.Authorizers.{asks_table, keeps_limit}
 use Rattle.cedar_evaluator_contexts.specs.Refusals.{refusal_or}
 use Rattle.cedar_evaluator_contexts.specs.Functions.{HasFunctionsOf}
 use Rattle.cedar_evaluator.specs.Responses.{response_seen}
-use Rattle.cedar_evaluator.specs.Scopes.{scope_for, KnowsUnder}
-use Rattle.cedar_evaluator_contexts.proofs.Bound.{context_there}
+use Rattle.cedar_evaluator.specs.Scopes.{scope_for}
 use Rattle.cedar_evaluator.proofs.Repeated.{are_distinct, memory_passed, request_passed, second_step, set_passed}
-use Rattle.cedar_evaluator.proofs.RisesAgain.{resumed_rises}
 use Rattle.cedar_evaluator.proofs.partial_response.PartialResponse.resumed.Goals as goal
 
 pub returns-in_err-left : goal.returns-in_err-left
@@ -44,7 +42,7 @@ returns-in_err-request g c = λ fs k.
     are_distinct (all_residuals r) (subst (λ ps. is_none (repeated bytes_eq (ids ps)) ≡ true) c.in_ok-left.ensures (subst (λ x. has_distinct_ids x ≡ true) c.in_ok-policies.ensures.made c.in_ok-policies.ensures.distinct)) in
     let s = scope_for table t r.request es fs in
     let same : request_of c.deref.result.now ≡ r.request = ap request_of c.deref.ensures in
-    let has : HasFunctionsOf table g.T.FunctionTable.answers_as t s = record { answers = fs.answers; tabled = refl; answered = k.answered; rises = k.rises.answered } in
+    let has : HasFunctionsOf table g.T.FunctionTable.answers_as t s = record { answers = fs.answers; tabled = refl; answered = k } in
     request_passed s n env r c.in_err-request.field-0.0 c.from_residual-in_err-request.result c.from_residual-in_err-request.ensures.1 d
     (λ other m. subst (λ q. request_bound s env q ≡ refuses (refusal_or other c.in_err-request.field-0.0)) same (c.in_err-request.ensures s has other m))
 
@@ -65,8 +63,7 @@ returns g c = λ fs k.
     let d : distinct (all_residuals r) ≡ makes_it (all_residuals r) =
     are_distinct (all_residuals r) (subst (λ ps. is_none (repeated bytes_eq (ids ps)) ≡ true) c.in_ok-left.ensures (subst (λ x. has_distinct_ids x ≡ true) c.in_ok-policies.ensures.made c.in_ok-policies.ensures.distinct)) in
     let same : request_of c.deref.result.now ≡ r.request = ap request_of c.deref.ensures in
-    let has : HasFunctionsOf table answers_as t s = record { answers = fs.answers; tabled = refl; answered = k.answered; rises = k.rises.answered } in
+    let has : HasFunctionsOf table answers_as t s = record { answers = fs.answers; tabled = refl; answered = k } in
     let bound : request_bound s env r.request ≡ makes_it b = subst (λ q. request_bound s env q ≡ makes_it b) same (c.in_ok-request.ensures s has) in
-    let knows : KnowsUnder table answers_as t env b es fs = record { answered = k.answered; rises = resumed_rises s env k.rises b (context_there s env r.request b bound) } in
     let policies : (set_of c.in_ok-policies.policies).policies ≡ all_residuals r = ap (λ x. x.policies) c.in_ok-policies.ensures.made ∙ c.in_ok-left.ensures in
-    second_step s n env r (makes_it b) d bound ∙ ap makes_it (sym (c.in_ok-resume.ensures fs knows ∙ ap (response_of (resumed s env b) n) policies))
+    second_step s n env r (makes_it b) d bound ∙ ap makes_it (sym (c.in_ok-resume.ensures fs k ∙ ap (response_of (resumed s env b) n) policies))

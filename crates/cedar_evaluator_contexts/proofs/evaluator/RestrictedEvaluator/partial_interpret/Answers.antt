@@ -1,7 +1,5 @@
-use Rattle.std.proofs.Common.{◌∙◌, ap}
 use Rattle.cedar_expr_trees.specs.Trees.{tree_of}
 use Rattle.cedar_store_parts.specs.Parts.{bindings_of}
-use Rattle.cedar_store_entities.specs.Stores.{store_made}
 use Rattle.cedar_evaluator_restricted_exprs.specs.Views.{borrowed_of}
 use Rattle.cedar_evaluator_contexts.proofs.Evaluated.{restricted_by}
 use Rattle.cedar_evaluator_contexts.proofs.evaluator.RestrictedEvaluator.partial_interpret.Goals as goal
@@ -12,8 +10,6 @@ returns g c = λ s h.
     (record {
       tabled = c.new-evaluator.ensures.table;
       unbound = c.new-evaluator.ensures.unknowns;
-      open_context = ap (λ q. q.context) (c.new-evaluator.ensures.request ∙ c.new_unchecked-request.ensures.request);
-      unstored = ap store_made c.new-evaluator.ensures.entities ∙ c.new-entities.ensures.kept;
       deep = c.new-evaluator.ensures.limit;
     })
     c.expr.ensures.tree c.expr.ensures.restricted c.partial_interpret.ensures.left h

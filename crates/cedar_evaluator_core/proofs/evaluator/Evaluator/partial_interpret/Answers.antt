@@ -6,7 +6,6 @@ use Rattle.cedar_evaluator_model.proofs.Owed as laws
 use Rattle.cedar_evaluator_model.proofs.Residuals.Node.{residuals_stand, residuals_fit}
 use Rattle.cedar_evaluator_operators.specs.Scopes.{scope_of}
 use Rattle.cedar_evaluator_reads.specs.Scopes.{scope_seen}
-use Rattle.cedar_evaluator_model.proofs.Rising.{values_rise}
 use Rattle.cedar_evaluator_core.specs.Evaluators.{limit_of, scope_in}
 use Rattle.cedar_evaluator_core.proofs.Concluded.{not_limit}
 use Rattle.cedar_evaluator_core.proofs.Stood.{stands_in, outcome_in}
@@ -14,7 +13,7 @@ use Rattle.cedar_evaluator_core.proofs.evaluator.Evaluator.partial_interpret.Goa
 
 pub returns-clause-left : goal.returns-clause-left
 unfolding scope_of scope_seen
-returns-clause-left g c = λ fs h. c.walk.ensures.leaves fs (record { answered = h.answered; rise = values_rise _ h.rises })
+returns-clause-left g c = λ fs h. c.walk.ensures.leaves fs h
 
 pub returns-clause-no_limit : goal.returns-clause-no_limit
 returns-clause-no_limit g c = λ fs h k. not_limit _ c.walk.result (returns-clause-left g c fs h) (no_limit _ k.agrees k.known _ _ k.bound k.within)

@@ -24,6 +24,6 @@ namespace_is ids x h e =
 pub returns-in-len1-up : goal.returns-in-len1-up
 returns-in-len1-up c =
     let ids = c.as_slice.result.now in
-    let same : ids ≡ c.args.self.now.path.value.items = search rules in
+    let same : ids ≡ c.args.self.now.content.value.path.items = search rules in
     let is = namespace_is ids c.base-item.result c.in-len1-up.len_at_least c.base-item.is ∙ ap (λ is. optional_text (name_of_parts [] (map id_text is))) same in
     search (rules, is)

@@ -1,4 +1,4 @@
-use Rattle.cedar_expr_values.proofs.Members.{literal_members, literals_are, literals_rise}
+use Rattle.cedar_expr_values.proofs.Members.{literal_members, literals_are}
 use Rattle.cedar_expr_values.proofs.value.Set.from_lits.Goals as goal
 
 pub returns-clause-as_made : goal.returns-clause-as_made
@@ -6,6 +6,3 @@ returns-clause-as_made g c = literal_members g.X.ExtensionValue.seen c.args.lite
 
 pub returns-clause-members : goal.returns-clause-members
 returns-clause-members g c = literals_are g.X.ExtensionValue.seen c.args.literals.items c.new.result (returns-clause-as_made g c)
-
-pub returns-clause-canonical : goal.returns-clause-canonical
-returns-clause-canonical g c = literals_rise g.X.ExtensionValue.seen c.args.literals.items c.new.result (returns-clause-members g c)

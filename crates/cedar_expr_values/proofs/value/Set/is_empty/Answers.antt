@@ -6,4 +6,4 @@ use Rattle.cedar_expr_values.proofs.value.Set.is_empty.Goals as goal
 
 pub returns : goal.returns
 returns g c =
-    c.is_empty.ensures ∙ ap (λ n. eqb n 0) (length_is g.X.ExtensionValue.seen c.as_slice.result.now ∙ ap (λ ms. length (values_list (bares ms))) (sym c.as_slice.ensures.as_made))
+    c.is_empty.ensures ∙ ap (λ n. eqb n 0) (length_is g.X.ExtensionValue.seen c.authoritative.result.now ∙ ap (λ ms. length (values_list (bares ms))) (sym c.authoritative.ensures))

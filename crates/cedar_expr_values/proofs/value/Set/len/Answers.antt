@@ -5,4 +5,4 @@ use Rattle.cedar_expr_values.proofs.Members.{length_is}
 use Rattle.cedar_expr_values.proofs.value.Set.len.Goals as goal
 
 pub returns : goal.returns
-returns g c = length_is g.X.ExtensionValue.seen c.as_slice.result.now ∙ ap (λ ms. length (values_list (bares ms))) (sym c.as_slice.ensures.as_made)
+returns g c = length_is g.X.ExtensionValue.seen c.authoritative.result.now ∙ ap (λ ms. length (values_list (bares ms))) (sym c.authoritative.ensures)

@@ -7,7 +7,5 @@ returns g c =
     let x = g.X in
     let m = g.met.X in
     c.cmp.ensures
-    ∙ compared_is g.row.X x.Ord x.Ord-dict x.Eq x.Eq-dict x.PartialEq x.PartialEq-dict x.PartialOrd x.PartialOrd-dict
-    record { total = m.Ord.total; matches_partial_cmp = m.Ord.matches_partial_cmp; matches_eq = m.Ord.matches_eq }
-    record { laws = m.Eq.laws } record { laws = m.PartialEq.laws } record { laws = m.PartialOrd.laws }
-    x.ExtensionValue.seen m.ExtensionValue.ordered c.args.self.now c.args.other.now
+    ∙ compared_is g.row.X x.ExtensionValue x.ExtensionValue-dict x.Ord x.Ord-dict x.Eq x.Eq-dict x.PartialEq x.PartialEq-dict x.PartialOrd x.PartialOrd-dict x.Destruct-dict
+    m.ExtensionValue.ordered c.args.self.now c.args.other.now

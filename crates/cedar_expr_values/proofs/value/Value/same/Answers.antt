@@ -1,4 +1,5 @@
-use Rattle.std.proofs.Common.{◌∙◌}
+use Rattle.std.proofs.Common.{ap, ◌∙◌}
+use Rattle.std.specs.Ordering.{is_eq}
 use Rattle.cedar_expr_values.proofs.Derived.{equal_is}
 use Rattle.cedar_expr_values.proofs.value.Value.same.Goals as goal
 
@@ -7,7 +8,5 @@ returns g c =
     let x = g.X in
     let m = g.met.X in
     c.eq.ensures
-    ∙ equal_is g.row.X x.Ord x.Ord-dict x.Eq x.Eq-dict x.PartialEq x.PartialEq-dict x.PartialOrd x.PartialOrd-dict
-    record { total = m.Ord.total; matches_partial_cmp = m.Ord.matches_partial_cmp; matches_eq = m.Ord.matches_eq }
-    record { laws = m.Eq.laws } record { laws = m.PartialEq.laws } record { laws = m.PartialOrd.laws }
-    x.ExtensionValue.seen m.ExtensionValue.ordered c.args.self.now c.args.other.now
+    ∙ equal_is g.row.X x.ExtensionValue x.ExtensionValue-dict x.Ord x.Ord-dict x.Eq x.Eq-dict x.PartialEq x.PartialEq-dict x.PartialOrd x.PartialOrd-dict x.Destruct-dict
+    (λ a b. m.Ord.matches_eq a b ∙ ap is_eq (m.ExtensionValue.ordered a b)) c.args.self.now c.args.other.now
