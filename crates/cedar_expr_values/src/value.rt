@@ -325,14 +325,6 @@ impl<X: ExtensionValue> Record<X> {
         Ok(Record { fields })
     }
 
-    /// These fields, whose names rise.
-    pub fn of_map(fields: Rc<BTreeMap<RcStr, Value<X>>>) -> Record<X>
-        requires { IsOrdered ⟦<RcStr as Ord>⟧.cmp fields.value }
-        ensures { fields_made X.seen result ≡ made_fields (map (made_pair X.seen) fields.value.entries) }
-    {
-        Record { fields }
-    }
-
     /// The values by name.
     pub fn as_map(&self) -> &BTreeMap<RcStr, Value<X>>
         ensures as_made { fields_made X.seen self.now ≡ made_fields (map (made_pair X.seen) result.now.entries) }
