@@ -13,7 +13,7 @@ use Rattle.cedar_expr_trees.specs.Trees.{tree_of}
 use Rattle.cedar_expr_trees.specs.declared.expr.Expr.{Expr}
 use Rattle.cedar_evaluator_errors.specs.Outcomes.{is_memory, stop_or, cause_of}
 use Rattle.cedar_evaluator_errors.specs.declared.err.EvaluationError.{EvaluationError}
-use Rattle.cedar_evaluator_errors.specs.declared.err.EvaluationError.TheVariants.{OutOfMemory, EntityDoesNotExist, EntityAttrDoesNotExist, RecordAttrDoesNotExist, FailedExtensionFunctionLookup, TypeError, WrongNumArguments, IntegerOverflow, UnlinkedSlot, FailedExtensionFunctionExecution, NonValue, RecursionLimit}
+use Rattle.cedar_evaluator_errors.specs.declared.err.EvaluationError.TheVariants.{OutOfMemory, EntityDoesNotExist, EntityAttrDoesNotExist, RecordAttrDoesNotExist, FailedExtensionFunctionLookup, TypeError, WrongNumArguments, IntegerOverflow, ZeroDivisor, UnlinkedSlot, FailedExtensionFunctionExecution, NonValue, RecursionLimit}
 
 -- a truth value stays so
 truth_stays : (f : Tree → Tree) (m : Made) → truth_wanted m ≡ with_residual f (truth_wanted m)
@@ -44,6 +44,7 @@ told_stop l (FailedExtensionFunctionLookup x) m h = refl
 told_stop l (TypeError x) m h = refl
 told_stop l (WrongNumArguments x) m h = refl
 told_stop l (IntegerOverflow x) m h = refl
+told_stop l (ZeroDivisor x) m h = refl
 told_stop l (UnlinkedSlot x) m h = refl
 told_stop l (FailedExtensionFunctionExecution x) m h = refl
 told_stop l (NonValue x) m h = absurd (apart l (h limit m) (h (fault overflow) m))

@@ -20,7 +20,7 @@ pub use evaluator::err::{
     BinaryOpOverflowError, EntityAttrDoesNotExistError, EntityDoesNotExistError, EvaluationError,
     ExtensionFunctionExecutionError, IntegerOverflowError, NonValueError,
     RecordAttrDoesNotExistError, RecursionLimitError, TypeError, UnaryOpOverflowError,
-    UnlinkedSlotError, WrongNumArgumentsError,
+    UnlinkedSlotError, WrongNumArgumentsError, ZeroDivisorError,
 };
 pub use evaluator::{
     Evaluator, FunctionTable, RestrictedEvaluator, any_entity_type, binary_arith, binary_relation,
@@ -68,7 +68,7 @@ pub mod evaluator {
             BinaryOpOverflowError, EntityAttrDoesNotExistError, EntityDoesNotExistError,
             ExtensionFunctionExecutionError, NonValueError, RecordAttrDoesNotExistError,
             RecursionLimitError, TypeError, UnaryOpOverflowError, UnlinkedSlotError,
-            WrongNumArgumentsError,
+            WrongNumArgumentsError, ZeroDivisorError,
         };
         pub use cedar_evaluator_errors::{EvaluationError, IntegerOverflowError};
     }

@@ -1,16 +1,18 @@
 //! Commands on the evaluator of a request.
 
 use crate::desk::{Desk, Made, Part};
-use crate::said::{found_value, left};
+use crate::said::{found_value, left, two};
 use cedar_evaluator_core::Evaluator;
 use cedar_evaluator_errors::EvaluationError;
+use cedar_evaluator_operators::binary_arith;
 use cedar_expr_functions::Extensions;
+use cedar_expr_leaves::BinaryOp;
 use cedar_expr_trees::{Expr, ExprKind};
-use cedar_test_exprs::{at, both, expr, made, say, show, tell};
+use cedar_test_exprs::{at, both, expr, made, say, show, tell, value};
 use std::alloc::{AllocError, Global};
 use std::rc::RcStr;
 
-// Does the command, which is one of these: `limit 3`, `left E`, `value E`, `unknowns E`, `at E`, `error E`.
+// Does the command, which is one of these: `limit 3`, `left E`, `value E`, `unknowns E`, `at E`, `error E`, `arith % 7 3`.
 pub fn done(
     desk: &mut Desk,
     table: &Extensions<'_>,
@@ -26,6 +28,7 @@ pub fn done(
         "unknowns" => open(desk, table, rest, said),
         "at" => placed(desk, table, rest, said),
         "error" => refused(desk, table, rest, said),
+        "arith" => arithmetic(desk.alloc, rest, wanted, said),
         _ => Err(AllocError),
     }
 }
@@ -130,4 +133,19 @@ fn unknowns(alloc: Global, said: &mut String, e: &Expr) -> Made<()> {
         }
     }
     Ok(())
+}
+
+// Says what the operator gives of two values, by its own call.
+fn arithmetic(alloc: Global, text: &str, wanted: &str, said: &mut String) -> Made<()> {
+    let (op, values) = two(text);
+    let (arg1, arg2) = two(values);
+    let (arg1, arg2) = both(value(alloc, arg1), value(alloc, arg2))?;
+    let found = match op {
+        "+" => binary_arith(alloc, BinaryOp::Add, &arg1, &arg2, None),
+        "-" => binary_arith(alloc, BinaryOp::Sub, &arg1, &arg2, None),
+        "*" => binary_arith(alloc, BinaryOp::Mul, &arg1, &arg2, None),
+        "%" => binary_arith(alloc, BinaryOp::Rem, &arg1, &arg2, None),
+        _ => return Err(AllocError),
+    };
+    found_value(alloc, said, found, wanted)
 }

@@ -165,7 +165,33 @@ left "a 1 * : type error: expected long, got string
 left 9223372036854775807 1 + : integer overflow while attempting to add the values `x` and `y`
 left -9223372036854775808 1 - : integer overflow while attempting to subtract the values `x` and `y`
 left 9223372036854775807 2 * : integer overflow while attempting to multiply the values `x` and `y`
+left 7 3 % : value 1
+left -7 3 % : value -1
+left 7 -3 % : value 1
+left -7 -3 % : value -1
+left 6 3 % : value 0
+left 2 3 % : value 2
+left -9223372036854775808 -1 % : value 0
+left -9223372036854775808 3 % : value -2
+left 9223372036854775807 -9223372036854775808 % : value 9223372036854775807
+left 5 0 % : remainder by zero
+left 0 0 % : remainder by zero
+left "a 0 % : type error: expected long, got string
+left 5 true % : type error: expected long, got bool
+left $u 0 % : residual $u 0 %
+left 5 0 % true + : remainder by zero
 left $u 9223372036854775807 1 + + : integer overflow while attempting to add the values `x` and `y`
+# arithmetic by its own call
+arith + 1 2 : 3
+arith - 1 2 : -1
+arith * 3 2 : 6
+arith % -7 3 : -1
+arith % 7 -3 : 1
+arith % -9223372036854775808 -1 : 0
+arith % 5 0 : remainder by zero
+arith % 1 true : type error: expected long, got bool
+arith % "a 0 : type error: expected long, got string
+arith + 9223372036854775807 1 : integer overflow while attempting to add the values `x` and `y`
 # sets
 left 8 2 101 set=3 : value 8 2 101 set=3
 left set=0 : value set=0

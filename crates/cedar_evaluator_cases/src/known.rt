@@ -13,7 +13,7 @@ use std::alloc::Global;
 use std::rc::RcStr;
 
 // Does the command, where it is one of these: `attr age 40`, `tag spoon $t`, `above Team::all`, `entity User::a`, `store`, `partial`,
-// `slot User::a`, the uid that the principal's slot is bound to; or one that `evaluations` does.
+// `absent User::a`, `slot User::a`, the uid that the principal's slot is bound to; or one that `evaluations` does.
 pub fn done(
     desk: &mut Desk,
     table: &Extensions<'_>,
@@ -44,8 +44,14 @@ pub fn done(
             known.store = store.partial();
             Ok(())
         }
+        "absent" => absent(alloc, known, rest),
         _ => evaluations::done(desk, table, verb, rest, wanted, said),
     }
+}
+
+// Records in the store that there is no entity of the uid.
+fn absent(alloc: Global, known: &mut Known, rest: &str) -> Made<()> {
+    made(known.store.add_absent(uid(alloc, rest)?))
 }
 
 // Makes the whole store of the entities at hand.

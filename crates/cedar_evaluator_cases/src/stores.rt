@@ -87,4 +87,14 @@ unknowns E::x .spoon : unknown("E::\"x\"") (entity of type `E`)
 unknowns E::x has=spoon : unknown("E::\"x\"") (entity of type `E`)
 unknowns E::x "spoon getTag : unknown("E::\"x\"") (entity of type `E`)
 unknowns E::x "spoon hasTag : unknown("E::\"x\"") (entity of type `E`)
+# a recorded absence in a partial store
+entity E::child ; store ; partial ; absent E::x
+left E::x has=ok : value false
+left E::x .ok : entity `E::"x"` does not exist
+left E::x E::x in : value true
+left E::x E::child in : value false
+left E::x "ok hasTag : value false
+left E::x "ok getTag : entity `E::"x"` does not exist
+left E::x has=ok.more : value false
+unknowns E::y .ok : unknown("E::\"y\"") (entity of type `E`)
 "##;

@@ -18,7 +18,7 @@ use Rattle.cedar_evaluator_model.specs.Steps.{on_value, truth_left, truth_wanted
 use Rattle.cedar_evaluator_model.specs.OfLaws.Standing.{IsOutcome}
 use Rattle.cedar_evaluator_errors.specs.Outcomes.{Leaves, left_seen, is_memory, stop_or}
 use Rattle.cedar_evaluator_errors.specs.declared.err.EvaluationError.{EvaluationError}
-use Rattle.cedar_evaluator_errors.specs.declared.err.EvaluationError.TheVariants.{OutOfMemory, EntityDoesNotExist, EntityAttrDoesNotExist, RecordAttrDoesNotExist, FailedExtensionFunctionLookup, TypeError, WrongNumArguments, IntegerOverflow, UnlinkedSlot, FailedExtensionFunctionExecution, NonValue, RecursionLimit}
+use Rattle.cedar_evaluator_errors.specs.declared.err.EvaluationError.TheVariants.{OutOfMemory, EntityDoesNotExist, EntityAttrDoesNotExist, RecordAttrDoesNotExist, FailedExtensionFunctionLookup, TypeError, WrongNumArguments, IntegerOverflow, ZeroDivisor, UnlinkedSlot, FailedExtensionFunctionExecution, NonValue, RecursionLimit}
 use Rattle.cedar_evaluator_operators.specs.Truths.{IsTruth}
 use Rattle.cedar_evaluator_core.specs.Evaluators.{left_by, IsValueOf, IsMeaningOf, is_limit_error}
 
@@ -32,6 +32,7 @@ by_kind other (FailedExtensionFunctionLookup x) = inl refl
 by_kind other (TypeError x) = inl refl
 by_kind other (WrongNumArguments x) = inl refl
 by_kind other (IntegerOverflow x) = inl refl
+by_kind other (ZeroDivisor x) = inl refl
 by_kind other (UnlinkedSlot x) = inl refl
 by_kind other (FailedExtensionFunctionExecution x) = inl refl
 by_kind other (NonValue x) = inr (tree_of x.expr, refl)
@@ -50,6 +51,7 @@ passed_on l (FailedExtensionFunctionLookup x) h other m = h other m
 passed_on l (TypeError x) h other m = h other m
 passed_on l (WrongNumArguments x) h other m = h other m
 passed_on l (IntegerOverflow x) h other m = h other m
+passed_on l (ZeroDivisor x) h other m = h other m
 passed_on l (UnlinkedSlot x) h other m = h other m
 passed_on l (FailedExtensionFunctionExecution x) h other m = h other m
 passed_on l (NonValue x) h other m = absurd (apart (sym (h limit m) ∙ h (fault overflow) m))
@@ -91,6 +93,7 @@ not_limit l (Err (FailedExtensionFunctionLookup x)) h n = refl
 not_limit l (Err (TypeError x)) h n = refl
 not_limit l (Err (WrongNumArguments x)) h n = refl
 not_limit l (Err (IntegerOverflow x)) h n = refl
+not_limit l (Err (ZeroDivisor x)) h n = refl
 not_limit l (Err (UnlinkedSlot x)) h n = refl
 not_limit l (Err (FailedExtensionFunctionExecution x)) h n = refl
 not_limit l (Err (NonValue x)) h n = refl

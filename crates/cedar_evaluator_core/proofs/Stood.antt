@@ -18,7 +18,7 @@ use Rattle.cedar_evaluator_model.specs.OfLaws.Standing.{IsOutcome, StandsFor}
 use Rattle.cedar_evaluator_model.specs.Scope.{fault, limit, Left, value_left, residual, stopped}
 use Rattle.cedar_evaluator_errors.specs.Outcomes.{Leaves, is_memory, stop_or}
 use Rattle.cedar_evaluator_errors.specs.declared.err.EvaluationError.{EvaluationError}
-use Rattle.cedar_evaluator_errors.specs.declared.err.EvaluationError.TheVariants.{OutOfMemory, EntityDoesNotExist, EntityAttrDoesNotExist, RecordAttrDoesNotExist, FailedExtensionFunctionLookup, TypeError, WrongNumArguments, IntegerOverflow, UnlinkedSlot, FailedExtensionFunctionExecution, NonValue, RecursionLimit}
+use Rattle.cedar_evaluator_errors.specs.declared.err.EvaluationError.TheVariants.{OutOfMemory, EntityDoesNotExist, EntityAttrDoesNotExist, RecordAttrDoesNotExist, FailedExtensionFunctionLookup, TypeError, WrongNumArguments, IntegerOverflow, ZeroDivisor, UnlinkedSlot, FailedExtensionFunctionExecution, NonValue, RecursionLimit}
 use Rattle.cedar_evaluator_core.specs.Completed.{StandsIn, IsOutcomeIn}
 
 pub stands_in : (w : World) (t : Tree) (l : Left) (a : Result (PartialValue ExtValue) EvaluationError) → Leaves l a → StandsFor w t l → ((r : Tree) → l ≡ residual r → FitsAnnotations w r) → StandsIn w t a
@@ -32,6 +32,7 @@ stands_in w t l (Err (FailedExtensionFunctionLookup x)) h k f = λ m n. subst (S
 stands_in w t l (Err (TypeError x)) h k f = λ m n. subst (StandsFor w t) (h limit m) k
 stands_in w t l (Err (WrongNumArguments x)) h k f = λ m n. subst (StandsFor w t) (h limit m) k
 stands_in w t l (Err (IntegerOverflow x)) h k f = λ m n. subst (StandsFor w t) (h limit m) k
+stands_in w t l (Err (ZeroDivisor x)) h k f = λ m n. subst (StandsFor w t) (h limit m) k
 stands_in w t l (Err (UnlinkedSlot x)) h k f = λ m n. subst (StandsFor w t) (h limit m) k
 stands_in w t l (Err (FailedExtensionFunctionExecution x)) h k f = λ m n. subst (StandsFor w t) (h limit m) k
 stands_in w t l (Err (NonValue x)) h k f = λ m n. let e : stopped limit ≡ stopped (fault overflow) = sym (h limit m) ∙ h (fault overflow) m in absurd (cc)

@@ -6,12 +6,12 @@ use Rattle.cedar_evaluator_model.specs.Scope as model
 use Rattle.cedar_evaluator_model.specs.Scope.{Stop}
 use Rattle.cedar_evaluator_model.specs.Response as response
 use Rattle.cedar_evaluator_model.specs.Response.{Cause}
-use Rattle.cedar_evaluator_errors.specs.Contents.{Told, no_memory, no_memory_to_look_up, too_deep, no_entity, no_attribute_or_tag, no_field, no_function, other_type, other_count, binary_overflow, unary_overflow, no_binding, failure, no_value, told_of, IsSameError}
+use Rattle.cedar_evaluator_errors.specs.Contents.{Told, no_memory, no_memory_to_look_up, too_deep, no_entity, no_attribute_or_tag, no_field, no_function, other_type, other_count, binary_overflow, unary_overflow, divided_by_zero, no_binding, failure, no_value, told_of, IsSameError}
 use Rattle.cedar_evaluator_errors.specs.Outcomes.{is_memory, stop_or, cause_of}
 use Rattle.cedar_evaluator_errors.specs.Places.{error_place}
 use Rattle.cedar_evaluator_errors.specs.declared.evaluation_errors.IntegerOverflowError.TheVariants as overflow
 use Rattle.cedar_evaluator_errors.specs.declared.err.EvaluationError.{EvaluationError}
-use Rattle.cedar_evaluator_errors.specs.declared.err.EvaluationError.TheVariants.{OutOfMemory, EntityDoesNotExist, EntityAttrDoesNotExist, RecordAttrDoesNotExist, FailedExtensionFunctionLookup, TypeError, WrongNumArguments, IntegerOverflow, UnlinkedSlot, FailedExtensionFunctionExecution, NonValue, RecursionLimit}
+use Rattle.cedar_evaluator_errors.specs.declared.err.EvaluationError.TheVariants.{OutOfMemory, EntityDoesNotExist, EntityAttrDoesNotExist, RecordAttrDoesNotExist, FailedExtensionFunctionLookup, TypeError, WrongNumArguments, IntegerOverflow, ZeroDivisor, UnlinkedSlot, FailedExtensionFunctionExecution, NonValue, RecursionLimit}
 
 -- what errors are, by what they tell
 abbrev memory_by : Told → Bool
@@ -31,6 +31,7 @@ stop_by other (other_type ts t a) = model.fault fault.wrong_type
 stop_by other (other_count f m n) = model.fault fault.wrong_count
 stop_by other (binary_overflow o m n) = model.fault fault.overflow
 stop_by other (unary_overflow o m) = model.fault fault.overflow
+stop_by other divided_by_zero = model.fault fault.zero_divisor
 stop_by other (no_binding s) = model.fault fault.unlinked_slot
 stop_by other (failure e m a) = model.fault (fault.extension_failed e)
 stop_by other (no_value t) = other
@@ -50,6 +51,7 @@ memory_is (TypeError e) = refl
 memory_is (WrongNumArguments e) = refl
 memory_is (IntegerOverflow (overflow.BinaryOp e)) = refl
 memory_is (IntegerOverflow (overflow.UnaryOp e)) = refl
+memory_is (ZeroDivisor e) = refl
 memory_is (UnlinkedSlot e) = refl
 memory_is (FailedExtensionFunctionExecution e) = refl
 memory_is (NonValue e) = refl
@@ -66,6 +68,7 @@ stop_is other (TypeError e) = refl
 stop_is other (WrongNumArguments e) = refl
 stop_is other (IntegerOverflow (overflow.BinaryOp e)) = refl
 stop_is other (IntegerOverflow (overflow.UnaryOp e)) = refl
+stop_is other (ZeroDivisor e) = refl
 stop_is other (UnlinkedSlot e) = refl
 stop_is other (FailedExtensionFunctionExecution e) = refl
 stop_is other (NonValue e) = refl
@@ -82,6 +85,7 @@ cause_is (TypeError e) = refl
 cause_is (WrongNumArguments e) = refl
 cause_is (IntegerOverflow (overflow.BinaryOp e)) = refl
 cause_is (IntegerOverflow (overflow.UnaryOp e)) = refl
+cause_is (ZeroDivisor e) = refl
 cause_is (UnlinkedSlot e) = refl
 cause_is (FailedExtensionFunctionExecution e) = refl
 cause_is (NonValue e) = refl

@@ -39,6 +39,7 @@ pub data Told : Type 0 where
   other_count : Name → ℕ → ℕ → Told
   binary_overflow : BinaryOp → Made → Made → Told
   unary_overflow : UnaryOp → Made → Told
+  divided_by_zero : Told
   no_binding : SlotId → Told
   failure : Name → Text → Option Text → Told
   no_value : Tree → Told
@@ -72,6 +73,7 @@ told_of (error.FailedExtensionFunctionLookup e) = told_of_lookup e
 told_of (error.TypeError e) = told_of_type e
 told_of (error.WrongNumArguments e) = other_count (plain_name_of e.function_name) e.expected e.actual
 told_of (error.IntegerOverflow e) = told_of_overflow e
+told_of (error.ZeroDivisor e) = divided_by_zero
 told_of (error.UnlinkedSlot e) = no_binding (slot_of e.slot)
 told_of (error.FailedExtensionFunctionExecution e) = told_of_failure e
 told_of (error.NonValue e) = no_value (tree_of e.expr)

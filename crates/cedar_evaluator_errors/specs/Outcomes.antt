@@ -13,12 +13,12 @@ use Rattle.cedar_expr_partial.specs.Parts.{part_of}
 use Rattle.cedar_expr_partial.specs.declared.partial_value.PartialValue.{PartialValue}
 use Rattle.cedar_expr_functions.specs.declared.err.ExtensionFunctionLookupError.{ExtensionFunctionLookupError}
 use Rattle.cedar_expr_functions.specs.declared.err.ExtensionFunctionLookupError.TheVariants as lookup
-use Rattle.cedar_store_model.specs.Outcome.{missing_entity, missing_attribute_or_tag, missing_field, wrong_type, overflow, no_function, wrong_count, unlinked_slot, extension_failed}
+use Rattle.cedar_store_model.specs.Outcome.{missing_entity, missing_attribute_or_tag, missing_field, wrong_type, overflow, zero_divisor, no_function, wrong_count, unlinked_slot, extension_failed}
 use Rattle.cedar_evaluator_model.specs.Scope.{Stop, fault, limit, Left, value_left, stopped}
 use Rattle.cedar_evaluator_model.specs.Steps.{tag_left}
 use Rattle.cedar_evaluator_model.specs.Response.{Cause, stops, no_value}
 use Rattle.cedar_evaluator_errors.specs.declared.err.EvaluationError.{EvaluationError}
-use Rattle.cedar_evaluator_errors.specs.declared.err.EvaluationError.TheVariants.{OutOfMemory, EntityDoesNotExist, EntityAttrDoesNotExist, RecordAttrDoesNotExist, FailedExtensionFunctionLookup, TypeError, WrongNumArguments, IntegerOverflow, UnlinkedSlot, FailedExtensionFunctionExecution, NonValue, RecursionLimit}
+use Rattle.cedar_evaluator_errors.specs.declared.err.EvaluationError.TheVariants.{OutOfMemory, EntityDoesNotExist, EntityAttrDoesNotExist, RecordAttrDoesNotExist, FailedExtensionFunctionLookup, TypeError, WrongNumArguments, IntegerOverflow, ZeroDivisor, UnlinkedSlot, FailedExtensionFunctionExecution, NonValue, RecursionLimit}
 
 abbrev pub is_lookup_memory : ExtensionFunctionLookupError → Bool
 is_lookup_memory lookup.OutOfMemory = true
@@ -40,6 +40,7 @@ stop_or other (EntityAttrDoesNotExist e) = fault missing_attribute_or_tag
 stop_or other (RecordAttrDoesNotExist e) = fault missing_field
 stop_or other (TypeError e) = fault wrong_type
 stop_or other (IntegerOverflow e) = fault overflow
+stop_or other (ZeroDivisor e) = fault zero_divisor
 stop_or other (FailedExtensionFunctionLookup e) = fault no_function
 stop_or other (WrongNumArguments e) = fault wrong_count
 stop_or other (UnlinkedSlot e) = fault unlinked_slot

@@ -27,6 +27,7 @@ error_place (error.FailedExtensionFunctionLookup e) = lookup_place e
 error_place (error.TypeError e) = e.source_loc
 error_place (error.WrongNumArguments e) = e.source_loc
 error_place (error.IntegerOverflow e) = overflow_place e
+error_place (error.ZeroDivisor e) = e.source_loc
 error_place (error.UnlinkedSlot e) = e.source_loc
 error_place (error.FailedExtensionFunctionExecution e) = e.source_loc
 error_place (error.NonValue e) = e.source_loc
@@ -50,6 +51,7 @@ error_moved l (error.FailedExtensionFunctionLookup e) = error.FailedExtensionFun
 error_moved l (error.TypeError e) = error.TypeError (record e { source_loc = l })
 error_moved l (error.WrongNumArguments e) = error.WrongNumArguments (record e { source_loc = l })
 error_moved l (error.IntegerOverflow e) = error.IntegerOverflow (overflow_moved l e)
+error_moved l (error.ZeroDivisor e) = error.ZeroDivisor (record e { source_loc = l })
 error_moved l (error.UnlinkedSlot e) = error.UnlinkedSlot (record e { source_loc = l })
 error_moved l (error.FailedExtensionFunctionExecution e) = error.FailedExtensionFunctionExecution (record e { source_loc = l })
 error_moved l (error.NonValue e) = error.NonValue (record e { source_loc = l })

@@ -10,7 +10,8 @@ ghost use Rattle.cedar_evaluator_errors.specs.declared.err.EvaluationError.TheVa
 use crate::evaluation_errors::{
     EntityAttrDoesNotExistError, EntityDoesNotExistError, ExtensionFunctionExecutionError,
     IntegerOverflowError, NonValueError, RecordAttrDoesNotExistError, RecursionLimitError,
-    TypeError, UnlinkedSlotError, WrongNumArgumentsError, is_lookup_memory, lookup_at, lookup_loc,
+    TypeError, UnlinkedSlotError, WrongNumArgumentsError, ZeroDivisorError, is_lookup_memory,
+    lookup_at, lookup_loc,
 };
 use cedar_expr_functions::ExtensionFunctionLookupError;
 use cedar_expr_names::Loc;
@@ -51,6 +52,10 @@ pub enum EvaluationError {
     /// A whole number isn't of 64 bits.
     #[error(transparent)]
     IntegerOverflow(IntegerOverflowError),
+
+    /// The divisor of a remainder is zero.
+    #[error(transparent)]
+    ZeroDivisor(ZeroDivisorError),
 
     /// The slot isn't bound.
     #[error(transparent)]
@@ -93,6 +98,7 @@ impl Clone for EvaluationError {
                 e.clone()?,
             )),
             EvaluationError::IntegerOverflow(e) => Ok(EvaluationError::IntegerOverflow(e.clone()?)),
+            EvaluationError::ZeroDivisor(e) => Ok(EvaluationError::ZeroDivisor(e.clone()?)),
             EvaluationError::UnlinkedSlot(e) => Ok(EvaluationError::UnlinkedSlot(e.clone()?)),
             EvaluationError::FailedExtensionFunctionExecution(e) => Ok(
                 EvaluationError::FailedExtensionFunctionExecution(e.clone()?),
@@ -115,6 +121,7 @@ impl Drop for EvaluationError {
             EvaluationError::TypeError(_) => {}
             EvaluationError::WrongNumArguments(_) => {}
             EvaluationError::IntegerOverflow(_) => {}
+            EvaluationError::ZeroDivisor(_) => {}
             EvaluationError::UnlinkedSlot(_) => {}
             EvaluationError::FailedExtensionFunctionExecution(_) => {}
             EvaluationError::NonValue(_) => {}
@@ -209,6 +216,16 @@ impl From<IntegerOverflowError> for EvaluationError {
     }
 }
 
+impl From<ZeroDivisorError> for EvaluationError {
+    ghost use Rattle.cedar_evaluator_errors.specs.declared.err.EvaluationError.TheVariants as evaluation;
+
+    ghost from_gives = { λ x e. e ≡ evaluation.ZeroDivisor x };
+
+    fn from(error: ZeroDivisorError) -> EvaluationError {
+        EvaluationError::ZeroDivisor(error)
+    }
+}
+
 impl From<UnlinkedSlotError> for EvaluationError {
     ghost use Rattle.cedar_evaluator_errors.specs.declared.err.EvaluationError.TheVariants as evaluation;
 
@@ -274,6 +291,7 @@ impl EvaluationError {
             EvaluationError::RecordAttrDoesNotExist(e) => e.source_loc,
             EvaluationError::TypeError(e) => e.source_loc,
             EvaluationError::WrongNumArguments(e) => e.source_loc,
+            EvaluationError::ZeroDivisor(e) => e.source_loc,
             EvaluationError::UnlinkedSlot(e) => e.source_loc,
             EvaluationError::FailedExtensionFunctionExecution(e) => e.source_loc,
             EvaluationError::NonValue(e) => e.source_loc,
@@ -310,6 +328,9 @@ impl EvaluationError {
             EvaluationError::IntegerOverflow(e) => EvaluationError::IntegerOverflow(
                 e.with_maybe_source_loc(source_loc),
             ),
+            EvaluationError::ZeroDivisor(_) => EvaluationError::ZeroDivisor(ZeroDivisorError {
+                source_loc,
+            }),
             EvaluationError::UnlinkedSlot(e) => EvaluationError::UnlinkedSlot(UnlinkedSlotError {
                 source_loc,
                 ..e

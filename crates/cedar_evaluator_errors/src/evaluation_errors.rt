@@ -251,6 +251,14 @@ impl IntegerOverflowError {
     }
 }
 
+/// The divisor of a remainder is zero.
+#[derive(Debug, Clone, PartialEq, Eq, Drop, Error)]
+#[error("remainder by zero")]
+pub struct ZeroDivisorError {
+    /// The place of the error.
+    pub source_loc: Option<Loc>,
+}
+
 /// A slot isn't bound.
 #[derive(Debug, Clone, PartialEq, Eq, Drop, Error)]
 #[error("template slot `{slot}` was not linked")]

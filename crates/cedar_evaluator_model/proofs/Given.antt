@@ -1,6 +1,7 @@
 -- What is left beside the outcome that what is known gives, through each combinator.
 use Rattle.std.proofs.Common.{ℤ, Bool, true, false, cond, ◌&&◌, refl, sym, ap, subst}
-use Rattle.std.specs.Prelude.{List, Option, Some, None, neg_ℤ}
+use Rattle.std.specs.Prelude.{List, Option, Some, None, neg_ℤ, pos, int_rem}
+use Rattle.std.specs.Ordering.{int_eq}
 use Rattle.std.specs.declared.cmp.Ordering.{Ordering}
 use Rattle.cedar_expr_model.specs.Name.{Name, name_eq}
 use Rattle.cedar_expr_model.specs.Uid.{Uid}
@@ -10,8 +11,8 @@ use Rattle.cedar_expr_model.specs.Pattern.{Pattern}
 use Rattle.cedar_expr_model.specs.Tree.{Tree, UnaryOp, negation, minus, is_empty}
 use Rattle.cedar_expr_model.specs.Made.{Made, made_prim, bare}
 use Rattle.cedar_expr_model.specs.Table.{Table, is_ordered}
-use Rattle.cedar_store_model.specs.Outcome.{Res, val, err, wrong_type, overflow, bind}
-use Rattle.cedar_store_model.specs.Operators.{is_long, in_range, says, applied, ordered, calculated, among_members, of_sets, like_pattern, of_type}
+use Rattle.cedar_store_model.specs.Outcome.{Res, val, err, wrong_type, overflow, zero_divisor, bind}
+use Rattle.cedar_store_model.specs.Operators.{is_long, in_range, says, applied, ordered, calculated, remains, among_members, of_sets, like_pattern, of_type}
 use Rattle.cedar_store_model.specs.Reads.{is_in_some}
 use Rattle.cedar_store_model.specs.Meaning.{picked, truth_asked}
 use Rattle.cedar_evaluator_model.specs.Scope.{Left, value_left}
@@ -67,7 +68,7 @@ literal_if : (b : Bool) (r q : Res V) → GivesLiteral r → GivesLiteral q → 
 literal_if true r q h k = h
 literal_if false r q h k = k
 
-literal_range : (n : ℤ) → GivesLiteral (in_range n)
+pub literal_range : (n : ℤ) → GivesLiteral (in_range n)
 literal_range n = literal_if (is_long n) (val (prim (long n))) (err overflow) tt tt
 
 pub literal_applied : (o : UnaryOp) (v : V) → GivesLiteral (applied o v)
@@ -81,9 +82,12 @@ literal_ordered x test (prim (long m)) (prim (long n)) = tt
 literal_ordered x test (extension m j) (extension n k) = literal_if (name_eq m n && is_ordered x m) (says (test (text_cmp j k))) (err wrong_type) tt tt
 literal_ordered x test v w = tt
 
-pub literal_calculated : (f : ℤ → ℤ → ℤ) (v w : V) → GivesLiteral (calculated f v w)
-literal_calculated f (prim (long m)) (prim (long n)) = literal_range (f m n)
-literal_calculated f v w = tt
+pub literal_remains : (m n : ℤ) → GivesLiteral (remains m n)
+literal_remains m n = literal_if (int_eq n (pos 0)) (err zero_divisor) (val (prim (long (int_rem m n)))) tt tt
+
+pub literal_calculated : (f : ℤ → ℤ → Res V) → ((m n : ℤ) → GivesLiteral (f m n)) → (v w : V) → GivesLiteral (calculated f v w)
+literal_calculated f gives (prim (long m)) (prim (long n)) = gives m n
+literal_calculated f gives v w = tt
 
 pub literal_among : (v w : V) → GivesLiteral (among_members v w)
 literal_among (set_of vs) w = tt

@@ -7,7 +7,7 @@ use Rattle.cedar_expr_model.specs.Name.{Text, Name}
 use Rattle.cedar_expr_model.specs.Uid.{Uid}
 use Rattle.cedar_expr_model.specs.Value.{truth, text, entity, V, field_of, truth_value}
 use Rattle.cedar_expr_model.specs.Order.{value_eq}
-use Rattle.cedar_expr_model.specs.Tree.{CoreType, unknown, BinaryOp, equal, less, less_or_equal, plus, difference, times, is_in, contains, contains_all, contains_any, get_tag, has_tag}
+use Rattle.cedar_expr_model.specs.Tree.{CoreType, unknown, BinaryOp, equal, less, less_or_equal, plus, difference, times, remainder, is_in, contains, contains_all, contains_any, get_tag, has_tag}
 use Rattle.cedar_expr_model.specs.Made.{Made, made_prim, made_record, MadeFields, no_made_fields, made_field, bare, bare_fields}
 use Rattle.cedar_expr_model.specs.Table.{Signature, signature_of, takes_count, are_of_types}
 use Rattle.cedar_expr_model.specs.OfLaws.Fair.{IsTaken}
@@ -16,7 +16,7 @@ use Rattle.cedar_expr_model.specs.Canonical.{is_subset, is_disjoint}
 use Rattle.cedar_store_model.specs.Outcome.{Res, val, err, wrong_type, wrong_count, bind, missing_attribute_or_tag, missing_field}
 use Rattle.cedar_expr_model.specs.ValueParts.{Part, known, left}
 use Rattle.cedar_store_model.specs.World.{Found, held, missing, not_loaded}
-use Rattle.cedar_store_model.specs.Operators.{says, answered}
+use Rattle.cedar_store_model.specs.Operators.{in_range, remains, says, answered}
 use Rattle.cedar_store_model.proofs.Named.{attributes_of, tags_of, tag_read, tag_tested, bound_value, called_of}
 use Rattle.cedar_store_model.specs.Reads.{part_value, part_read, part_tested, attribute_read, attribute_tested, uids_in, is_in_some, found_in, within}
 use Rattle.cedar_store_model.specs.Meaning.{combined, path_tested, picked}
@@ -26,7 +26,7 @@ use Rattle.cedar_evaluator_model.specs.Steps.{errs, truth_left, mapped, part_lef
 use Rattle.cedar_evaluator_model.specs.Known.{known_part, known_parts, known_found, known_world}
 use Rattle.cedar_evaluator_model.specs.Completion.{Fits}
 use Rattle.cedar_evaluator_model.specs.OfLaws.Standing.{LeavesUnbound}
-use Rattle.cedar_evaluator_model.proofs.Given.{Given, given_value, given_literal, literal_ordered, literal_calculated, literal_among, literal_sets, literal_in}
+use Rattle.cedar_evaluator_model.proofs.Given.{Given, given_value, given_literal, literal_ordered, literal_range, literal_remains, literal_calculated, literal_among, literal_sets, literal_in}
 use Rattle.std.specs.Map.{lookup}
 use Rattle.cedar_evaluator_model.proofs.Named.{attribute_found, test_found, path_found, call_of}
 use Rattle.std.specs.Option.{option_map_or}
@@ -149,9 +149,10 @@ pub given_combined : (s : Scope) (o : BinaryOp) (m n : Made) → Given (combined
 given_combined s equal m n = given_value (made_prim (truth (value_eq (bare m) (bare n))))
 given_combined s less m n = given_literal _ (literal_ordered s.table is_lt (bare m) (bare n))
 given_combined s less_or_equal m n = given_literal _ (literal_ordered s.table is_le (bare m) (bare n))
-given_combined s plus m n = given_literal _ (literal_calculated (λ i j. i +ℤ j) (bare m) (bare n))
-given_combined s difference m n = given_literal _ (literal_calculated (λ i j. i -ℤ j) (bare m) (bare n))
-given_combined s times m n = given_literal _ (literal_calculated (λ i j. i *ℤ j) (bare m) (bare n))
+given_combined s plus m n = given_literal _ (literal_calculated (λ i j. in_range (i +ℤ j)) (λ i j. literal_range (i +ℤ j)) (bare m) (bare n))
+given_combined s difference m n = given_literal _ (literal_calculated (λ i j. in_range (i -ℤ j)) (λ i j. literal_range (i -ℤ j)) (bare m) (bare n))
+given_combined s times m n = given_literal _ (literal_calculated (λ i j. in_range (i *ℤ j)) (λ i j. literal_range (i *ℤ j)) (bare m) (bare n))
+given_combined s remainder m n = given_literal _ (literal_calculated remains literal_remains (bare m) (bare n))
 given_combined s is_in m n = given_within s m n
 given_combined s contains m n = given_literal _ (literal_among (bare m) (bare n))
 given_combined s contains_all m n = given_literal _ (literal_sets (λ vs ws. is_subset ws vs) (bare m) (bare n))

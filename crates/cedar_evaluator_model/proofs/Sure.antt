@@ -7,7 +7,7 @@ use Rattle.std.specs.Str.{bytes_eq}
 use Rattle.cedar_expr_model.specs.Name.{Text, Name}
 use Rattle.cedar_expr_model.specs.Uid.{Uid}
 use Rattle.cedar_expr_model.specs.Value.{truth, text, entity, V, prim}
-use Rattle.cedar_expr_model.specs.Tree.{entity_core, BinaryOp, equal, less, less_or_equal, plus, difference, times, is_in, contains, contains_all, contains_any, get_tag, has_tag, Tree, lit, unknown, binary, has_attr, record_literal, TreeFields, get_attr}
+use Rattle.cedar_expr_model.specs.Tree.{entity_core, BinaryOp, equal, less, less_or_equal, plus, difference, times, remainder, is_in, contains, contains_all, contains_any, get_tag, has_tag, Tree, lit, unknown, binary, has_attr, record_literal, TreeFields, get_attr}
 use Rattle.cedar_expr_model.specs.Builder.{conjunction, disjunction, path_test}
 use Rattle.cedar_expr_model.specs.Parts.{is_projectable}
 use Rattle.cedar_expr_model.specs.Made.{Made, made_prim, made_record, bare}
@@ -197,6 +197,7 @@ module _ (s : Scope) (holds : (u : Uid) → ValuesHeld (s.store u)) where
   sure_combined plus m n = sure_left _
   sure_combined difference m n = sure_left _
   sure_combined times m n = sure_left _
+  sure_combined remainder m n = sure_left _
   sure_combined contains m n = sure_left _
   sure_combined contains_all m n = sure_left _
   sure_combined contains_any m n = sure_left _

@@ -2,10 +2,10 @@
 
 ghost use Rattle.std.specs.Prelude.{◌≡◌, Bool, true, false, Some, None, codes, [], ◌∷◌};
 ghost use Rattle.cedar_expr_model.specs.Value.{long, truth, text, entity};
-ghost use Rattle.cedar_expr_model.specs.Tree.{bool_core, long_core, entity_core, principal, action, resource, context, principal_slot, resource_slot, lit, var, slot, unknown, choice, both, either, unary, binary, call, get_attr, has_attr, has_path, like, is_type, set_literal, record_literal, no_trees, tree, no_tree_fields, tree_field, negation, minus, is_empty, equal, less, less_or_equal, plus, times, is_in, contains, contains_all, get_tag, has_tag};
+ghost use Rattle.cedar_expr_model.specs.Tree.{bool_core, long_core, entity_core, principal, action, resource, context, principal_slot, resource_slot, lit, var, slot, unknown, choice, both, either, unary, binary, call, get_attr, has_attr, has_path, like, is_type, set_literal, record_literal, no_trees, tree, no_tree_fields, tree_field, negation, minus, is_empty, equal, less, less_or_equal, plus, times, remainder, is_in, contains, contains_all, get_tag, has_tag};
 ghost use Rattle.cedar_expr_model.specs.Made.{made_prim, made_set, made_record, made_extension, no_mades, made, no_made_fields, made_field};
 ghost use Rattle.cedar_expr_model.specs.Pattern.{character, wildcard};
-ghost use Rattle.cedar_store_model.specs.Outcome.{missing_entity, missing_attribute_or_tag, missing_field, wrong_type, overflow, extension_failed, no_function, wrong_count, unlinked_slot};
+ghost use Rattle.cedar_store_model.specs.Outcome.{missing_entity, missing_attribute_or_tag, missing_field, wrong_type, overflow, zero_divisor, extension_failed, no_function, wrong_count, unlinked_slot};
 ghost use Rattle.cedar_evaluator_model.specs.Scope.{uid, unknown_uid, closed, residual_fields, unknown_context, limit, fault, value_left, residual, stopped};
 ghost use Rattle.cedar_evaluator_model.specs.Steps.{errs, truth_left, made_members};
 ghost use Rattle.cedar_evaluator_model.specs.Evaluation.{evaluated};
@@ -73,6 +73,8 @@ pub fn worked_types()
 /// Of two operands the first error is the error; with a residual the operator stays.
 pub fn worked_operators()
     ensures adds { evaluated scope 2 (binary plus (number 1) (number 2)) ≡ value_left (made_number 3) }
+    ensures remains { evaluated scope 2 (binary remainder (number 7) (number 3)) ≡ value_left (made_number 1) }
+    ensures divides_by_zero { evaluated scope 2 (binary remainder (number 5) (number 0)) ≡ errs zero_divisor }
     ensures overflows { evaluated scope 2 (binary plus (number 9223372036854775807) (number 1)) ≡ errs overflow }
     ensures first { evaluated scope 3 (binary plus (unary negation (number 1)) (slot principal_slot)) ≡ errs wrong_type }
     ensures second { evaluated scope 3 (binary plus unknown_u (slot principal_slot)) ≡ errs unlinked_slot }

@@ -9,7 +9,7 @@ use Rattle.std.specs.Prelude.{Bool}
 use Rattle.cedar_expr_model.specs.Name.{Text, Name}
 use Rattle.cedar_expr_model.specs.Made.{Made, made_prim, made_set, made_record, made_extension, bare}
 use Rattle.cedar_expr_model.specs.Table.{Table, Called}
-use Rattle.cedar_expr_model.specs.Tree.{has_path, Var, BinaryOp, equal, less, less_or_equal, plus, difference, times, is_in, contains, contains_all, contains_any, get_tag, has_tag}
+use Rattle.cedar_expr_model.specs.Tree.{has_path, Var, BinaryOp, equal, less, less_or_equal, plus, difference, times, remainder, is_in, contains, contains_all, contains_any, get_tag, has_tag}
 use Rattle.cedar_expr_model.specs.Value.{V, truth, long, text, entity}
 use Rattle.cedar_store_model.specs.Operators.{says, ordered}
 use Rattle.cedar_store_model.specs.Outcome.{err, wrong_type}
@@ -63,6 +63,7 @@ module _ {T : Type 0} (table : T → (Name → List V → Called) → Table) (na
   combined_alike h plus m n = refl
   combined_alike h difference m n = refl
   combined_alike h times m n = refl
+  combined_alike h remainder m n = refl
   combined_alike h is_in m n = refl
   combined_alike h contains m n = refl
   combined_alike h contains_all m n = refl

@@ -1,37 +1,42 @@
 -- Operators of two whole numbers, and the order of two values.
 -- Rule: the meaning (docs/RULES.md).
-use Rattle.std.specs.Prelude.{◌&&◌, ℤ, ◌+ℤ◌, ◌-ℤ◌, ◌*ℤ◌, Bool, true, false, List, [], Option, Some, None, if◌then◌else◌}
+use Rattle.std.specs.Prelude.{◌&&◌, ℤ, ◌+ℤ◌, ◌-ℤ◌, ◌*ℤ◌, Bool, true, false, List, [], Option, Some, None, Result, Ok, Err, if◌then◌else◌}
 use Rattle.std.specs.List.{list_any}
 use Rattle.std.specs.Ordering.{int_cmp, is_lt, is_le}
 use Rattle.std.specs.declared.cmp.Ordering.{Ordering}
 use Rattle.cedar_expr_model.specs.Name.{Name, name_eq}
 use Rattle.cedar_expr_model.specs.Order.{text_cmp, value_eq}
 use Rattle.cedar_expr_model.specs.Table.{Table, fails}
-use Rattle.cedar_expr_model.specs.Tree.{BinaryOp, equal, less, less_or_equal, plus, difference, times, is_in, get_tag, has_tag}
+use Rattle.cedar_expr_model.specs.Tree.{BinaryOp, equal, less, less_or_equal, plus, difference, times, remainder, is_in, get_tag, has_tag}
 use Rattle.cedar_expr_model.specs.Value.{V, prim, long, extension}
-use Rattle.cedar_store_model.specs.Operators.{says, ordered, calculated}
-use Rattle.cedar_store_model.specs.Outcome.{Res, val, err, overflow, wrong_type}
+use Rattle.cedar_store_model.specs.Operators.{in_range, remains, says, ordered, calculated}
+use Rattle.cedar_store_model.specs.Outcome.{Res, val, err, overflow, zero_divisor, wrong_type}
+use Rattle.cedar_evaluator_operators.specs.declared.arithmetic.NoNumber.{NoNumber}
+use Rattle.cedar_evaluator_operators.specs.declared.arithmetic.NoNumber.TheVariants.{Overflow, ZeroDivisor}
 
 -- the operators of two whole numbers
 abbrev pub is_arithmetic : BinaryOp → Bool
 is_arithmetic plus = true
 is_arithmetic difference = true
 is_arithmetic times = true
+is_arithmetic remainder = true
 is_arithmetic o = false
 
--- their results, of any size; of another operator nothing is said
-abbrev pub result_of : BinaryOp → ℤ → ℤ → ℤ
-result_of plus m n = m +ℤ n
-result_of difference m n = m -ℤ n
-result_of o m n = m *ℤ n
+-- what they give; of another operator nothing is said
+abbrev pub at_numbers : BinaryOp → ℤ → ℤ → Res V
+at_numbers plus m n = in_range (m +ℤ n)
+at_numbers difference m n = in_range (m -ℤ n)
+at_numbers remainder m n = remains m n
+at_numbers o m n = in_range (m *ℤ n)
 
 abbrev pub arithmetic : BinaryOp → V → V → Res V
-arithmetic o v w = calculated (result_of o) v w
+arithmetic o v w = calculated (at_numbers o) v w
 
--- a whole number of 64 bits, or an overflow
-abbrev pub long_result : Option ℤ → Res V
-long_result (Some n) = val (prim (long n))
-long_result None = err overflow
+-- a whole number of 64 bits, or why there is none
+abbrev pub number_result : Result ℤ NoNumber → Res V
+number_result (Ok n) = val (prim (long n))
+number_result (Err Overflow) = err overflow
+number_result (Err ZeroDivisor) = err zero_divisor
 
 -- the operators that compare
 abbrev pub is_relation : BinaryOp → Bool

@@ -68,7 +68,7 @@ fn decided_or_stays(
             }
         }
         BinaryOp::Less | BinaryOp::LessEq => stays(alloc, op, a, b),
-        BinaryOp::Add | BinaryOp::Sub | BinaryOp::Mul => stays(alloc, op, a, b),
+        BinaryOp::Add | BinaryOp::Sub | BinaryOp::Mul | BinaryOp::Rem => stays(alloc, op, a, b),
         BinaryOp::In | BinaryOp::GetTag | BinaryOp::HasTag => stays(alloc, op, a, b),
         BinaryOp::Contains | BinaryOp::ContainsAll => stays(alloc, op, a, b),
         BinaryOp::ContainsAny => stays(alloc, op, a, b),
@@ -152,7 +152,9 @@ fn compared<T: FunctionTable>(
         BinaryOp::Eq | BinaryOp::Less | BinaryOp::LessEq => {
             binary_relation(alloc, op, v, w, known.table)
         }
-        BinaryOp::Add | BinaryOp::Sub | BinaryOp::Mul => binary_arith(alloc, op, v, w, loc),
+        BinaryOp::Add | BinaryOp::Sub | BinaryOp::Mul | BinaryOp::Rem => {
+            binary_arith(alloc, op, v, w, loc)
+        }
         BinaryOp::Contains => contains(alloc, v, w),
         BinaryOp::ContainsAll => contains_all(alloc, v, w),
         _ => contains_any(alloc, v, w),
@@ -178,13 +180,16 @@ fn combined<T: FunctionTable>(
         BinaryOp::Eq | BinaryOp::Less | BinaryOp::LessEq | BinaryOp::Add | BinaryOp::Sub => {
             Ok(PartialValue::Value(compared(alloc, known, op, v, w, loc)?))
         }
-        BinaryOp::Mul | BinaryOp::Contains | BinaryOp::ContainsAll | BinaryOp::ContainsAny => {
+        BinaryOp::Mul | BinaryOp::Rem | BinaryOp::Contains => {
+            Ok(PartialValue::Value(compared(alloc, known, op, v, w, loc)?))
+        }
+        BinaryOp::ContainsAll | BinaryOp::ContainsAny => {
             Ok(PartialValue::Value(compared(alloc, known, op, v, w, loc)?))
         }
     }
 }
 
-/// An operator of two operands that are evaluated; an overflow has this place. Where one is a residual the operator stays, but
+/// An operator of two operands that are evaluated; an overflow and a zero divisor have this place. Where one is a residual the operator stays, but
 /// entities of two types are not equal.
 pub fn binary_left<T: FunctionTable>(
     alloc: Global,

@@ -26,10 +26,10 @@ use Rattle.cedar_expr_values.specs.Values.{made, made_fields, made_pair}
 use Rattle.cedar_expr_values.specs.declared.value.Value.{Value}
 use Rattle.cedar_expr_trees.specs.Trees.{tree_of, named, field_trees}
 use Rattle.cedar_expr_trees.specs.declared.expr.Expr.{Expr}
-use Rattle.cedar_store_model.specs.Store.{Extent, whole, partial, found_as, look_up}
+use Rattle.cedar_store_model.specs.Store.{Extent, whole, partial, found_as, extent_for, look_up}
 use Rattle.cedar_store_model.specs.World as model
 use Rattle.cedar_store_model.specs.World.{Found, held, missing, not_loaded}
-use Rattle.cedar_store_entities.specs.Stores.{store_seen, store_made, extent_of, Dereferences}
+use Rattle.cedar_store_entities.specs.Stores.{store_seen, store_made, Dereferences}
 use Rattle.cedar_store_entities.specs.StoreParts.{entities_in, kept_in}
 use Rattle.cedar_store_entities.specs.Views.{Kept, entity_uid, entity_seen, entity_kept, bare_entity}
 use Rattle.cedar_store_entities.specs.declared.entity.Entity.{Entity}
@@ -105,11 +105,11 @@ is_held : (b : Bool) (x : Extent) (o : Option Kept) (e : model.Entity V) (k : Ke
 is_held false x o e k h p = absurd (cc)
 is_held true x o e k h p = ap (found_kept x) p
 
-looked : (s : Entities) (u : Uid) (f : Found V) → look_up (store_seen s) u ≡ f → cond (is_uid u) (found_as (extent_of s.mode) (option_map bare_kept (lookup (uid_eq u) (store_made s)))) missing ≡ f
-looked s u f h = ap (λ o. cond (is_uid u) (found_as (extent_of s.mode) o) missing) (sym (among u s.entities.entries)) ∙ h
+looked : (s : Entities) (u : Uid) (f : Found V) → look_up (store_seen s) u ≡ f → cond (is_uid u) (found_as (extent_for (store_seen s) u) (option_map bare_kept (lookup (uid_eq u) (store_made s)))) missing ≡ f
+looked s u f h = ap (λ o. cond (is_uid u) (found_as (extent_for (store_seen s) u) o) missing) (sym (among u s.entities.entries)) ∙ h
 
 -- what the store answers
 pub is_found : (s : Entities) (u : Uid) (d : Dereference Entity) → Dereferences s u d → IsFound (store_of s u) u d
-is_found s u found.NoSuchEntity h = is_missing (is_uid u) (extent_of s.mode) (lookup (uid_eq u) (store_made s)) (looked s u _ h)
-is_found s u (found.Residual e) h = (is_not_loaded (is_uid u) (extent_of s.mode) (lookup (uid_eq u) (store_made s)) (looked s u _ h.0), h.1)
-is_found s u (found.Data e) h = is_held (is_uid u) (extent_of s.mode) (lookup (uid_eq u) (store_made s)) _ (entity_kept e.now) (looked s u _ h.0) h.1
+is_found s u found.NoSuchEntity h = is_missing (is_uid u) (extent_for (store_seen s) u) (lookup (uid_eq u) (store_made s)) (looked s u _ h)
+is_found s u (found.Residual e) h = (is_not_loaded (is_uid u) (extent_for (store_seen s) u) (lookup (uid_eq u) (store_made s)) (looked s u _ h.0), h.1)
+is_found s u (found.Data e) h = is_held (is_uid u) (extent_for (store_seen s) u) (lookup (uid_eq u) (store_made s)) _ (entity_kept e.now) (looked s u _ h.0) h.1

@@ -17,9 +17,9 @@ use Rattle.cedar_expr_values.specs.Extensions.{extension_of}
 use Rattle.cedar_expr_values.specs.declared.value.Value.{Value}
 use Rattle.cedar_expr_values.specs.declared.extension.ExtValue.{ExtValue}
 use Rattle.cedar_store_model.specs.Policy.{binding_of}
-use Rattle.cedar_store_model.specs.Store.{Extent, whole, partial, if_uid}
+use Rattle.cedar_store_model.specs.Store.{Extent, whole, partial, if_uid, extent_for}
 use Rattle.cedar_store_model.specs.World.{Found, held, missing, not_loaded}
-use Rattle.cedar_store_entities.specs.Stores.{extent_of, store_made}
+use Rattle.cedar_store_entities.specs.Stores.{store_seen, store_made}
 use Rattle.cedar_store_entities.specs.Views.{Kept}
 use Rattle.cedar_store_entities.specs.declared.entities.Entities.{Entities}
 use Rattle.cedar_store_parts.specs.Parts.{bindings_of}
@@ -43,7 +43,7 @@ found_kept partial None = not_loaded
 
 -- what the store answers
 abbrev pub store_of : Entities → Uid → Found Made
-store_of s u = if_uid u (found_kept (extent_of s.mode) (lookup (uid_eq u) (store_made s)))
+store_of s u = if_uid u (found_kept (extent_for (store_seen s) u) (lookup (uid_eq u) (store_made s)))
 
 -- functions of which nothing is known: there are none, and what a call answers is never asked
 abbrev pub no_table : Table

@@ -66,6 +66,7 @@ fn is_of_limit(error: &AuthorizationError) -> bool
             | EvaluationError::TypeError(_)
             | EvaluationError::WrongNumArguments(_)
             | EvaluationError::IntegerOverflow(_)
+            | EvaluationError::ZeroDivisor(_)
             | EvaluationError::UnlinkedSlot(_)
             | EvaluationError::FailedExtensionFunctionExecution(_)
             | EvaluationError::NonValue(_) => false,

@@ -81,6 +81,7 @@ fn binary(op: BinaryOp) -> &'static str
         BinaryOp::Add => "+",
         BinaryOp::Sub => "-",
         BinaryOp::Mul => "*",
+        BinaryOp::Rem => "%",
         BinaryOp::In => "in",
         BinaryOp::Contains => "contains",
         BinaryOp::ContainsAll => "containsAll",

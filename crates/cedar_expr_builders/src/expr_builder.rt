@@ -13,7 +13,7 @@ ghost use Rattle.cedar_expr_model.specs.Builder.{Builder};
 ghost use Rattle.cedar_expr_model.specs.BuilderForm.{IsLawful};
 ghost use Rattle.cedar_expr_model.specs.Records.{in_order};
 ghost use Rattle.cedar_expr_model.specs.Repeats.{repeated_name};
-ghost use Rattle.cedar_expr_model.specs.Tree.{negation, minus, is_empty, equal, less, less_or_equal, plus, difference, times, is_in, contains, contains_all, contains_any, get_tag, has_tag};
+ghost use Rattle.cedar_expr_model.specs.Tree.{negation, minus, is_empty, equal, less, less_or_equal, plus, difference, times, remainder, is_in, contains, contains_all, contains_any, get_tag, has_tag};
 ghost use Rattle.cedar_expr_leaves.specs.Operators.{unary_op_of, binary_op_of};
 ghost use Rattle.cedar_expr_trees.specs.Unknowns.{unknown_of};
 ghost use Rattle.cedar_expr_trees.specs.Trees.{named};
@@ -332,6 +332,13 @@ pub trait ExprBuilder: Clone + Drop {
         ensures { IfOk result (λ r. means r ≡ steps.of_binary times (means e1) (means e2)) }
     {
         self.binary_app(alloc, BinaryOp::Mul, e1, e2)
+    }
+
+    /// What the division of two whole numbers leaves, with the sign of the first. Answers out of memory.
+    fn rem(self, alloc: Global, e1: Self::Expr, e2: Self::Expr) -> Result<Self::Expr, AllocError>
+        ensures { IfOk result (λ r. means r ≡ steps.of_binary remainder (means e1) (means e2)) }
+    {
+        self.binary_app(alloc, BinaryOp::Rem, e1, e2)
     }
 
     /// The negation of a whole number. Answers want of memory.

@@ -26,6 +26,7 @@ pub fn sums(alloc: Global, said: &mut String) -> Result<(), AllocError> {
     is(alloc, said, Expr::add(alloc, n(1), n(2)), "1 2 +")?;
     is(alloc, said, Expr::sub(alloc, n(1), n(2)), "1 2 -")?;
     is(alloc, said, Expr::mul(alloc, n(1), n(2)), "1 2 *")?;
+    is(alloc, said, Expr::rem(alloc, n(1), n(2)), "1 2 %")?;
     is(alloc, said, Expr::neg(alloc, n(1)), "1 neg")?;
     is(alloc, said, Expr::not(alloc, n(1)), "1 !")?;
     is(alloc, said, Expr::is_empty(alloc, n(1)), "1 isEmpty")?;
@@ -94,6 +95,7 @@ pub fn built_sums(alloc: Global, said: &mut String) -> Result<(), AllocError> {
     is(alloc, said, plain().add(alloc, n(1), n(2)), "1 2 +@3")?;
     is(alloc, said, plain().sub(alloc, n(1), n(2)), "1 2 -@3")?;
     is(alloc, said, plain().mul(alloc, n(1), n(2)), "1 2 *@3")?;
+    is(alloc, said, plain().rem(alloc, n(1), n(2)), "1 2 %@3")?;
     is(alloc, said, plain().neg(alloc, n(1)), "1 neg@3")?;
     is(alloc, said, plain().not(alloc, n(1)), "1 !@3")?;
     is(alloc, said, plain().is_empty(alloc, n(1)), "1 isEmpty@3")?;

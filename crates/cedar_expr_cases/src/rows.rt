@@ -47,7 +47,7 @@ root 1 set=1 : set
 root 1 record=a : record
 # the constructors by name, of the numbers 1 and 2
 relations : 1 2 == 1 2 == ! 1 2 < 1 2 <= 1 2 <= ! 1 2 < !
-sums : 1 2 + 1 2 - 1 2 * 1 neg 1 ! 1 isEmpty 1 has=x
+sums : 1 2 + 1 2 - 1 2 * 1 2 % 1 neg 1 ! 1 isEmpty 1 has=x
 members : 1 2 in 1 2 contains 1 2 containsAll 1 2 containsAny 1 2 getTag 1 2 hasTag
 # of the names of a record that stand twice the first that is met again is named, whatever stands under it
 record b=1 a=2 b=1 : duplicate key `b` in record literal
@@ -111,7 +111,7 @@ again principal $u:Bool record=b,a : principal $u:Bool record=b,a
 again record= : record=
 # what the plain builder makes at the place 3 by the methods that each builder has, of the numbers 1 and 2
 built_relations : 1 2 ==@3 1 2 ==@3 !@3 1 2 <@3 1 2 <=@3 1 2 <=@3 !@3 1 2 <@3 !@3
-built_sums : 1 2 +@3 1 2 -@3 1 2 *@3 1 neg@3 1 !@3 1 isEmpty@3 1 2 1 if@3
+built_sums : 1 2 +@3 1 2 -@3 1 2 *@3 1 2 %@3 1 neg@3 1 !@3 1 isEmpty@3 1 2 1 if@3
 built_members : 1 2 in@3 1 2 contains@3 1 2 containsAll@3 1 2 containsAny@3 1 2 getTag@3 1 2 hasTag@3
 built_record b=1 a=1 : done
 built_record a=1 a=1 : duplicate key `a` in record literal

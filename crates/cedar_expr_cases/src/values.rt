@@ -147,7 +147,7 @@ fn set_in(value: &V) -> Result<&Set<ExtValue>, AllocError> {
 fn asked(alloc: Global, said: &mut String, text: &str) -> Result<(), AllocError> {
     let (held, member) = text.split_once(" | ").ok_or(AllocError)?;
     let (held, member) = (value(alloc, held)?, value(alloc, member)?);
-    let set = set_in(&held)?;
+    let set = Set::clone(set_in(&held)?)?;
     show(alloc, said, &set.len())?;
     match set.fast() {
         Some(literals) => show(alloc, said, &literals.len())?,

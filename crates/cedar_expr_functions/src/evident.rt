@@ -71,7 +71,7 @@ fn binary_type(op: BinaryOp) -> Option<Type>
     ensures { option_map core_of result ≡ binary_core (binary_op_of op) }
 {
     match op {
-        BinaryOp::Add | BinaryOp::Sub | BinaryOp::Mul => Some(Type::Long),
+        BinaryOp::Add | BinaryOp::Sub | BinaryOp::Mul | BinaryOp::Rem => Some(Type::Long),
         BinaryOp::GetTag => None,
         BinaryOp::Eq | BinaryOp::Less | BinaryOp::LessEq | BinaryOp::In => Some(Type::Bool),
         BinaryOp::Contains | BinaryOp::ContainsAll | BinaryOp::ContainsAny => Some(Type::Bool),

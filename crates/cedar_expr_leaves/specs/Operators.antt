@@ -1,11 +1,11 @@
 -- What operators are, as the model's.
 -- Rule: expressions (docs/RULES.md).
 use Rattle.cedar_expr_model.specs.Tree as model
-use Rattle.cedar_expr_model.specs.Tree.{negation, minus, is_empty, equal, less, less_or_equal, plus, difference, times, is_in, contains, contains_all, contains_any, get_tag, has_tag}
+use Rattle.cedar_expr_model.specs.Tree.{negation, minus, is_empty, equal, less, less_or_equal, plus, difference, times, remainder, is_in, contains, contains_all, contains_any, get_tag, has_tag}
 use Rattle.cedar_expr_leaves.specs.declared.ops.UnaryOp.{UnaryOp}
 use Rattle.cedar_expr_leaves.specs.declared.ops.UnaryOp.TheVariants.{Not, Neg, IsEmpty}
 use Rattle.cedar_expr_leaves.specs.declared.ops.BinaryOp.{BinaryOp}
-use Rattle.cedar_expr_leaves.specs.declared.ops.BinaryOp.TheVariants.{Eq, Less, LessEq, Add, Sub, Mul, In, Contains, ContainsAll, ContainsAny, GetTag, HasTag}
+use Rattle.cedar_expr_leaves.specs.declared.ops.BinaryOp.TheVariants.{Eq, Less, LessEq, Add, Sub, Mul, Rem, In, Contains, ContainsAll, ContainsAny, GetTag, HasTag}
 
 -- the operator of one operand that a code operator is
 abbrev pub unary_op_of : UnaryOp → model.UnaryOp
@@ -21,6 +21,7 @@ binary_op_of LessEq = less_or_equal
 binary_op_of Add = plus
 binary_op_of Sub = difference
 binary_op_of Mul = times
+binary_op_of Rem = remainder
 binary_op_of In = is_in
 binary_op_of Contains = contains
 binary_op_of ContainsAll = contains_all

@@ -33,6 +33,8 @@ pub enum BinaryOp {
     Sub,
     /// Their product.
     Mul,
+    /// What their division leaves, with the sign of the first.
+    Rem,
     /// Whether an entity is another, or one of a set, or below it.
     In,
     /// Whether a set has a member.
@@ -78,6 +80,7 @@ fn binary_text(op: BinaryOp) -> &'static str
         BinaryOp::Add => "+",
         BinaryOp::Sub => "-",
         BinaryOp::Mul => "*",
+        BinaryOp::Rem => "%",
         BinaryOp::In => "in",
         BinaryOp::Contains => "contains",
         BinaryOp::ContainsAll => "containsAll",

@@ -10,7 +10,7 @@ use Rattle.std.specs.declared.cmp.Ordering.{Ordering}
 use Rattle.std.specs.declared.cmp.Ordering.TheVariants.{Less}
 use Rattle.cedar_expr_model.specs.Name.{Text}
 use Rattle.cedar_expr_model.specs.Pattern.{Pattern, Element, character, wildcard}
-use Rattle.cedar_expr_model.specs.Tree.{Var, principal, action, resource, context, SlotId, principal_slot, resource_slot, CoreType, bool_core, long_core, string_core, set_core, record_core, entity_core, extension_core, UnaryOp, negation, minus, is_empty, BinaryOp, equal, less, less_or_equal, plus, difference, times, is_in, contains, contains_all, contains_any, get_tag, has_tag}
+use Rattle.cedar_expr_model.specs.Tree.{Var, principal, action, resource, context, SlotId, principal_slot, resource_slot, CoreType, bool_core, long_core, string_core, set_core, record_core, entity_core, extension_core, UnaryOp, negation, minus, is_empty, BinaryOp, equal, less, less_or_equal, plus, difference, times, remainder, is_in, contains, contains_all, contains_any, get_tag, has_tag}
 use Rattle.cedar_expr_model.specs.Order.{text_cmp, core_rank, core_cmp}
 use Rattle.cedar_expr_model.specs.Shape.{var_rank, slot_rank, unary_rank, binary_rank, element_cmp}
 use Rattle.cedar_expr_model.specs.Laws.{IsLinear}
@@ -91,11 +91,12 @@ binary_at (suc (suc zero)) = less_or_equal
 binary_at (suc (suc (suc zero))) = plus
 binary_at (suc (suc (suc (suc zero)))) = difference
 binary_at (suc (suc (suc (suc (suc zero))))) = times
-binary_at (suc (suc (suc (suc (suc (suc zero)))))) = is_in
-binary_at (suc (suc (suc (suc (suc (suc (suc zero))))))) = contains
-binary_at (suc (suc (suc (suc (suc (suc (suc (suc zero)))))))) = contains_all
-binary_at (suc (suc (suc (suc (suc (suc (suc (suc (suc zero))))))))) = contains_any
-binary_at (suc (suc (suc (suc (suc (suc (suc (suc (suc (suc zero)))))))))) = get_tag
+binary_at (suc (suc (suc (suc (suc (suc zero)))))) = remainder
+binary_at (suc (suc (suc (suc (suc (suc (suc zero))))))) = is_in
+binary_at (suc (suc (suc (suc (suc (suc (suc (suc zero)))))))) = contains
+binary_at (suc (suc (suc (suc (suc (suc (suc (suc (suc zero))))))))) = contains_all
+binary_at (suc (suc (suc (suc (suc (suc (suc (suc (suc (suc zero)))))))))) = contains_any
+binary_at (suc (suc (suc (suc (suc (suc (suc (suc (suc (suc (suc zero))))))))))) = get_tag
 binary_at n = has_tag
 
 binary_again : (x : BinaryOp) → binary_at (binary_rank x) ≡ x
@@ -105,6 +106,7 @@ binary_again less_or_equal = refl
 binary_again plus = refl
 binary_again difference = refl
 binary_again times = refl
+binary_again remainder = refl
 binary_again is_in = refl
 binary_again contains = refl
 binary_again contains_all = refl

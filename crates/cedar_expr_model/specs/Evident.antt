@@ -5,7 +5,7 @@ use Rattle.std.specs.Option.{option_map_or}
 use Rattle.std.specs.List.{list_all}
 use Rattle.cedar_expr_model.specs.Value.{prim}
 use Rattle.cedar_expr_model.specs.Order.{core_eq}
-use Rattle.cedar_expr_model.specs.Tree.{CoreType, bool_core, long_core, set_core, record_core, UnaryOp, minus, BinaryOp, plus, difference, times, get_tag, Tree, lit, var, slot, unknown, choice, unary, binary, call, get_attr, set_literal, record_literal}
+use Rattle.cedar_expr_model.specs.Tree.{CoreType, bool_core, long_core, set_core, record_core, UnaryOp, minus, BinaryOp, plus, difference, times, remainder, get_tag, Tree, lit, var, slot, unknown, choice, unary, binary, call, get_attr, set_literal, record_literal}
 use Rattle.cedar_expr_model.specs.Parts.{subexpressions, listed}
 use Rattle.cedar_expr_model.specs.Substitution.{core_type_of}
 use Rattle.cedar_expr_model.specs.Table.{Table, signature_of, takes_count}
@@ -20,6 +20,7 @@ abbrev pub binary_core : BinaryOp → Option CoreType
 binary_core plus = Some long_core
 binary_core difference = Some long_core
 binary_core times = Some long_core
+binary_core remainder = Some long_core
 binary_core get_tag = None
 binary_core o = Some bool_core
 

@@ -8,7 +8,7 @@ use Rattle.std.specs.declared.cmp.Ordering.{Ordering}
 use Rattle.std.specs.declared.cmp.Ordering.TheVariants.{Less, Equal, Greater}
 use Rattle.cedar_expr_model.specs.Order.{text_cmp, name_order, literal_cmp, core_cmp}
 use Rattle.cedar_expr_model.specs.Pattern.{Pattern, Element, character, wildcard}
-use Rattle.cedar_expr_model.specs.Tree.{Var, principal, action, resource, context, SlotId, principal_slot, resource_slot, UnaryOp, negation, minus, is_empty, BinaryOp, equal, less, less_or_equal, plus, difference, times, is_in, contains, contains_all, contains_any, get_tag, has_tag, Tree, lit, var, slot, unknown, choice, both, either, unary, binary, call, get_attr, has_attr, has_path, like, is_type, set_literal, record_literal, Trees, no_trees, tree, TreeFields, no_tree_fields, tree_field}
+use Rattle.cedar_expr_model.specs.Tree.{Var, principal, action, resource, context, SlotId, principal_slot, resource_slot, UnaryOp, negation, minus, is_empty, BinaryOp, equal, less, less_or_equal, plus, difference, times, remainder, is_in, contains, contains_all, contains_any, get_tag, has_tag, Tree, lit, var, slot, unknown, choice, both, either, unary, binary, call, get_attr, has_attr, has_path, like, is_type, set_literal, record_literal, Trees, no_trees, tree, TreeFields, no_tree_fields, tree_field}
 
 -- variables, slots and operators in the order of their lists
 abbrev pub var_rank : Var → ℕ
@@ -33,12 +33,13 @@ binary_rank less_or_equal = 2
 binary_rank plus = 3
 binary_rank difference = 4
 binary_rank times = 5
-binary_rank is_in = 6
-binary_rank contains = 7
-binary_rank contains_all = 8
-binary_rank contains_any = 9
-binary_rank get_tag = 10
-binary_rank has_tag = 11
+binary_rank remainder = 6
+binary_rank is_in = 7
+binary_rank contains = 8
+binary_rank contains_all = 9
+binary_rank contains_any = 10
+binary_rank get_tag = 11
+binary_rank has_tag = 12
 
 -- the orders of variables, slots and operators, by their ranks
 abbrev pub var_cmp : Var → Var → Ordering

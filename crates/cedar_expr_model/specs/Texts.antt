@@ -6,7 +6,7 @@ use Rattle.cedar_expr_model.specs.Name.{Text, name_text}
 use Rattle.cedar_expr_model.specs.Uid.{escaped}
 use Rattle.cedar_expr_model.specs.Pattern.{Pattern, Element, character, wildcard}
 use Rattle.cedar_expr_model.specs.Restricted.{Feature, variables, template_slots, if_then_else, and_operator, or_operator, unary_operator, binary_operator, attribute_accesses, has_test, like_test, is_test}
-use Rattle.cedar_expr_model.specs.Tree.{Var, principal, action, resource, context, CoreType, bool_core, long_core, string_core, set_core, record_core, entity_core, extension_core, UnaryOp, negation, minus, is_empty, BinaryOp, equal, less, less_or_equal, plus, difference, times, is_in, contains, contains_all, contains_any, get_tag, has_tag}
+use Rattle.cedar_expr_model.specs.Tree.{Var, principal, action, resource, context, CoreType, bool_core, long_core, string_core, set_core, record_core, entity_core, extension_core, UnaryOp, negation, minus, is_empty, BinaryOp, equal, less, less_or_equal, plus, difference, times, remainder, is_in, contains, contains_all, contains_any, get_tag, has_tag}
 
 -- a variable is its name
 abbrev pub var_text : Var → Text
@@ -28,6 +28,7 @@ binary_text less_or_equal = codes "<="
 binary_text plus = codes "+"
 binary_text difference = codes "-"
 binary_text times = codes "*"
+binary_text remainder = codes "%"
 binary_text is_in = codes "in"
 binary_text contains = codes "contains"
 binary_text contains_all = codes "containsAll"

@@ -24,7 +24,7 @@ pub data UnaryOp : Type 0 where
   deriving IsSet as UnaryOp-set
 
 pub data BinaryOp : Type 0 where
-  equal less less_or_equal plus difference times is_in contains contains_all contains_any get_tag has_tag : BinaryOp
+  equal less less_or_equal plus difference times remainder is_in contains contains_all contains_any get_tag has_tag : BinaryOp
   deriving IsSet as BinaryOp-set
 
 -- Expressions. `has_path` asks for two or more attributes, one after the other.

@@ -12,7 +12,7 @@ ghost use Rattle.cedar_expr_model.specs.ListLaws.{last_of};
 ghost use Rattle.cedar_expr_model.specs.Repeats.{repeated_name};
 ghost use Rattle.cedar_expr_model.specs.Pattern.{character, wildcard, matches, matches_text};
 ghost use Rattle.cedar_expr_model.specs.Name.{is_word, is_identifier};
-ghost use Rattle.cedar_expr_model.specs.Tree.{contains_any, times, principal, action, resource, context, principal_slot, resource_slot, bool_core, long_core, string_core, set_core, record_core, entity_core, extension_core, negation, minus, is_empty, equal, less, plus, is_in, get_tag, has_tag, lit, var, slot, unknown, choice, both, either, unary, binary, call, get_attr, has_attr, has_path, like, is_type, set_literal, record_literal, no_trees, tree, no_tree_fields, tree_field, nesting};
+ghost use Rattle.cedar_expr_model.specs.Tree.{contains_any, times, remainder, principal, action, resource, context, principal_slot, resource_slot, bool_core, long_core, string_core, set_core, record_core, entity_core, extension_core, negation, minus, is_empty, equal, less, plus, is_in, get_tag, has_tag, lit, var, slot, unknown, choice, both, either, unary, binary, call, get_attr, has_attr, has_path, like, is_type, set_literal, record_literal, no_trees, tree, no_tree_fields, tree_field, nesting};
 ghost use Rattle.cedar_expr_model.specs.Builder.{built, tree_builder, conjunction, disjunction, path_test};
 ghost use Rattle.cedar_expr_model.specs.BuilderForm.{IsLawful};
 ghost use Rattle.cedar_expr_model.specs.OfLaws.Built.{is_built};
@@ -440,6 +440,7 @@ pub fn worked_texts()
     ensures not { unary_text negation ≡ codes "!" }
     ensures empty { unary_text is_empty ≡ codes "isEmpty" }
     ensures product { binary_text times ≡ codes "*" }
+    ensures remainder { binary_text remainder ≡ codes "%" }
     ensures any { binary_text contains_any ≡ codes "containsAny" }
     ensures set { core_text set_core ≡ codes "set" }
     ensures an_entity { core_text (entity_core deep_name) ≡ codes "(entity of type `a::b`)" }

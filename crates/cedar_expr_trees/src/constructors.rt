@@ -8,7 +8,7 @@ ghost use Rattle.cedar_expr_leaves.specs.Patterns.{pattern_of};
 ghost use Rattle.cedar_expr_leaves.specs.Slots.{slot_of};
 ghost use Rattle.cedar_expr_leaves.specs.Variables.{var_of};
 ghost use Rattle.cedar_expr_model.specs.Builder.{trees, tree_fields, written_truth, conjunction, disjunction, path_test};
-ghost use Rattle.cedar_expr_model.specs.Tree.{lit, var, slot, unknown, choice, unary, binary, call, get_attr, has_attr, like, is_type, set_literal, record_literal, negation, minus, is_empty, equal, less, less_or_equal, plus, difference, times, is_in, contains, contains_all, contains_any, get_tag, has_tag};
+ghost use Rattle.cedar_expr_model.specs.Tree.{lit, var, slot, unknown, choice, unary, binary, call, get_attr, has_attr, like, is_type, set_literal, record_literal, negation, minus, is_empty, equal, less, less_or_equal, plus, difference, times, remainder, is_in, contains, contains_all, contains_any, get_tag, has_tag};
 ghost use Rattle.cedar_expr_leaves.specs.Operators.{unary_op_of, binary_op_of};
 ghost use Rattle.cedar_expr_trees.specs.Unknowns.{unknown_of};
 ghost use Rattle.cedar_expr_trees.specs.Trees.{tree_of, kind_tree, place_of, named, field_trees};
@@ -191,6 +191,14 @@ impl Expr {
         ensures place { IfOk result (λ r. place_of r ≡ None) }
     {
         Expr::binary_app(alloc, BinaryOp::Mul, e1, e2)
+    }
+
+    /// What the division of two whole numbers leaves, with the sign of the first. Answers out of memory.
+    pub fn rem(alloc: Global, e1: Expr, e2: Expr) -> Result<Expr, AllocError>
+        ensures tree { IfOk result (λ r. tree_of r ≡ binary remainder (tree_of e1) (tree_of e2)) }
+        ensures place { IfOk result (λ r. place_of r ≡ None) }
+    {
+        Expr::binary_app(alloc, BinaryOp::Rem, e1, e2)
     }
 
     /// The negation of a whole number. Answers want of memory.

@@ -59,11 +59,18 @@ pub enum ValueKind<X: ExtensionValue> {
 }
 
 /// A finite set of values. Its members rise, so none stands twice.
-#[derive(Drop)]
 #[derive_where(Debug; X)]
 #[cycle(value)]
 pub struct Set<X: ExtensionValue> {
     members: Rc<Members<X>>,
+}
+
+// A drop of its own, so that who owns a set needn't prove what a set keeps.
+impl<X: ExtensionValue> Drop for Set<X> {
+    #[cycle(drop)]
+    fn drop(self) {
+        let Set { members: _ } = self;
+    }
 }
 
 // The members of a set in rising order, and the literals that they are, hashed, where each is one.
@@ -97,11 +104,18 @@ impl<X: ExtensionValue> Model for Set<X> {
 }
 
 /// The fields of a record: values by the names of their fields, which rise.
-#[derive(Drop)]
 #[derive_where(Debug; X)]
 #[cycle(value)]
 pub struct Record<X: ExtensionValue> {
     fields: Rc<BTreeMap<RcStr, Value<X>>>,
+}
+
+// As that of a set.
+impl<X: ExtensionValue> Drop for Record<X> {
+    #[cycle(drop)]
+    fn drop(self) {
+        let Record { fields: _ } = self;
+    }
 }
 
 impl<X: ExtensionValue> Model for Record<X> {

@@ -22,7 +22,7 @@ use Rattle.cedar_expr_values.specs.Extensions.{extension_of}
 use Rattle.cedar_expr_values.specs.Values.{made}
 use Rattle.cedar_expr_values.specs.declared.extension.ExtValue.{ExtValue}
 use Rattle.cedar_expr_values.specs.declared.value.Value.{Value}
-use Rattle.cedar_store_model.specs.Store.{Store, whole, store_of, are_distinct}
+use Rattle.cedar_store_model.specs.Store.{Store, whole, all_of, store_of, are_distinct}
 use Rattle.cedar_store_model.specs.World as world
 use Rattle.cedar_store_entities.specs.Recorded.{all_recorded}
 use Rattle.cedar_store_entities.specs.Views.{entity_uid, entity_seen, entity_pair, value_pair}
@@ -138,7 +138,7 @@ uids_kept (e ∷ es) = ap (λ us. entity_uid e ∷ us) (uids_kept es)
 -- a store is what is listed, where no uid is repeated
 pub store_kept : (es : List (Uid × world.Entity V)) (s : Store) → store_of whole es ≡ Some s → if_passing are_distinct es ≡ Some s.entities
 store_kept es s h =
-    elim (are_distinct es) as (λ b. (if b then Some (record { extent = whole; entities = es }) else None) ≡ Some s → when b (Some es) ≡ Some s.entities)
+    elim (are_distinct es) as (λ b. (if b then Some (all_of es) else None) ≡ Some s → when b (Some es) ≡ Some s.entities)
     [ true ↦ λ e. ap (λ (o : Option Store). option_map (λ t. t.entities) o) e | false ↦ λ e. absurd (cc) ] h
 
 pub store_repeats : (es : List Entity) (u : Uid) → repeated uid_eq (map entity_uid es) ≡ Some u → if_passing are_distinct (map entity_pair es) ≡ None

@@ -21,7 +21,7 @@ use Rattle.cedar_gate_model.specs.Reading.{given, required, optional, has_only, 
 use Rattle.cedar_gate_model.specs.Acceptance.{Submission}
 use Rattle.cedar_gate_model.specs.Bundle.{Functions}
 use Rattle.cedar_gate_model.specs.ReadingBundle.{is_bundle, submission_read, bundle_read}
-use Rattle.cedar_gate_model.specs.ReadingExpression.{fields_in}
+use Rattle.cedar_gate_model.specs.ReadingExpression.{second, fields_in}
 use Rattle.cedar_gate_model.specs.ReadingForms.{if_passing}
 use Rattle.cedar_gate_model.specs.ReadingName.{uid_read}
 use Rattle.cedar_gate_model.specs.ReadingRequest.{entity_read, store_read, request_read, steps_read}
@@ -38,7 +38,7 @@ handed_on P e (Ok a) h k = absurd h
 handed_on P e (Err f) h k = λ q. k (sym h ∙ q)
 
 -- a context whose fields are read is what their record evaluates to
-module _ (x : Functions) (ms : Members) (fs : TreeFields) (t : Tree) (h : fields_in ms ≡ Some fs) (e : t ≡ record_literal fs) (r : is_restricted t ≡ true) where
+module _ (x : Functions) (ms : Members) (fs : TreeFields) (t : Tree) (h : fields_in second ms ≡ Some fs) (e : t ≡ record_literal fs) (r : is_restricted t ≡ true) where
   pub context_of_record : fields_context_read x (object ms) ≡ context_from (left_of_restricted x t)
   context_of_record =
       ap (λ o. given (given o (λ gs. if_passing is_restricted (record_literal gs))) (λ u. context_from (left_of_restricted x u))) h

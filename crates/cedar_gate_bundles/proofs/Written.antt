@@ -19,7 +19,7 @@ use Rattle.cedar_evaluator_model.specs.Scope.{Context, closed, residual_fields, 
 use Rattle.cedar_evaluator_model.specs.OfLaws.WellMade.{IsWellMade, IsPartMadeWell, IsFoundMadeWell, IsContextMadeWell}
 use Rattle.cedar_gate_model.specs.Reading.{given, required, optional, has_only, each, list_of, each_member, members_of}
 use Rattle.cedar_gate_model.specs.Bundle.{Functions}
-use Rattle.cedar_gate_model.specs.ReadingExpression.{expression_read, fields_read}
+use Rattle.cedar_gate_model.specs.ReadingExpression.{second, expression_read, fields_read}
 use Rattle.cedar_gate_model.specs.ReadingForms.{if_passing, word_of}
 use Rattle.cedar_gate_model.specs.ReadingName.{uid_read}
 use Rattle.cedar_gate_model.specs.ReadingRequest.{entry_read, request_read}
@@ -41,8 +41,8 @@ module _ (x : Functions) (fair : MakeFairly x) where
 
   value_well : (d : Data) (m : Made) → value_read x d ≡ Some m → IsWellMade x.table m
   value_well d m e =
-      let p = given_some (given (expression_read d) (if_passing is_restricted)) (λ t. if_value (left_of_restricted x t)) m e in
-      let q = given_some (expression_read d) (if_passing is_restricted) p.0 p.1 in
+      let p = given_some (given (expression_read second d) (if_passing is_restricted)) (λ t. if_value (left_of_restricted x t)) m e in
+      let q = given_some (expression_read second d) (if_passing is_restricted) p.0 p.1 in
       let r = passing_some is_restricted q.0 p.0 q.2 in
       evaluated_well (with_functions x) (λ n. refl) fair.well 512 p.0 (none_is (offence p.0) (ap is_restricted r.1 ∙ r.0)) m (value_left_is (left_of_restricted x p.0) m p.2)
 
@@ -54,8 +54,8 @@ module _ (x : Functions) (fair : MakeFairly x) where
 
   fields_well : (d : Data) (c : Context) → fields_context_read x d ≡ Some c → IsContextMadeWell x.table c
   fields_well d c e =
-      let p = given_some (given (fields_read d) (λ gs. if_passing is_restricted (record_literal gs))) (λ t. context_from (left_of_restricted x t)) c e in
-      let q = given_some (fields_read d) (λ gs. if_passing is_restricted (record_literal gs)) p.0 p.1 in
+      let p = given_some (given (fields_read second d) (λ gs. if_passing is_restricted (record_literal gs))) (λ t. context_from (left_of_restricted x t)) c e in
+      let q = given_some (fields_read second d) (λ gs. if_passing is_restricted (record_literal gs)) p.0 p.1 in
       let r = passing_some is_restricted (record_literal q.0) p.0 q.2 in
       context_left_well (left_of_restricted x p.0) (evaluated_well (with_functions x) (λ n. refl) fair.well 512 p.0 (none_is (offence p.0) (ap is_restricted r.1 ∙ r.0))) c p.2
 

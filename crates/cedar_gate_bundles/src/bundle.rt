@@ -1,15 +1,15 @@
 //! Bundles: what is handed to the gate, the request, the whole store and the steps.
-ghost use Rattle.std.specs.Prelude.{◌≡◌, Some, None, IfOk, IfErr, codes};
+ghost use Rattle.std.specs.Prelude.{◌≡◌, Some, None, IfOk, IfErr};
 ghost use Rattle.serde_json.specs.View.{view};
-ghost use Rattle.cedar_gate_model.specs.Reading.{has_at};
-ghost use Rattle.cedar_gate_model.specs.ReadingForms.{number_between, is_number};
-ghost use Rattle.cedar_gate_model.specs.ReadingBundle.{is_bundle, submission_read, bundle_read, input_read};
+ghost use Rattle.cedar_gate_model.specs.ReadingForms.{number_between};
+ghost use Rattle.cedar_gate_model.specs.ReadingBundle.{is_bundle, version_read, submission_read, bundle_read, input_read};
 ghost use Rattle.cedar_gate_model.specs.Bundle.{Functions};
 ghost use Rattle.cedar_gate_model.specs.RunsAnswer.{MakeFairly};
 ghost use Rattle.cedar_evaluator_model.specs.OfLaws.WellMade.{IsContextMadeWell};
 ghost use Rattle.cedar_gate_bundles.specs.Bundles.{submission_of, bundle_of};
 ghost use Rattle.cedar_gate_bundles.specs.Requests.{request_of};
 ghost use Rattle.cedar_gate_bundles.specs.Written.{IsStoreWritten};
+ghost use Rattle.cedar_gate_expressions.specs.Forms.{version_of};
 ghost use Rattle.cedar_gate_expressions.specs.declared.fault.ReadFault.TheVariants.{Unreadable};
 
 use crate::policies::PolicyReader;
@@ -18,7 +18,9 @@ use crate::steps::{Step, StepReader};
 use crate::stores::read_store;
 use crate::values::Evaluate;
 use cedar_expr_leaves::RawName;
-use cedar_gate_expressions::{ReadFault, has_only, optional_list, read_json, read_list, required};
+use cedar_gate_expressions::{
+    ReadFault, Version, has_only, optional_list, read_json, read_list, required,
+};
 use cedar_gate_fragments::read_schema;
 use cedar_schema_decl::json_schema::Fragment;
 use cedar_store_entities::Entities;
@@ -55,7 +57,7 @@ pub struct Bundle {
 /// Reads a bundle from a whole input, which has to be JSON in UTF-8. Values in it are evaluated by these functions.
 ///
 /// # Errors
-/// The input is no bundle of this version, or memory is wanting.
+/// The input is no bundle of version 1 or 2, or memory is wanting.
 #[tactic(auto, using(crate::proofs::Parted::of_input))]
 pub fn read_input<E: Evaluate>(
     alloc: Global,
@@ -74,7 +76,7 @@ pub fn read_input<E: Evaluate>(
 /// Reads a bundle from its JSON value. Values in it are evaluated by these functions.
 ///
 /// # Errors
-/// The value is no bundle of this version, or memory is wanting.
+/// The value is no bundle of version 1 or 2, or memory is wanting.
 pub fn read_bundle<E: Evaluate>(
     alloc: Global,
     functions: &E,
@@ -105,10 +107,11 @@ fn read_submission(alloc: Global, value: &Value) -> Result<Submission, ReadFault
     ensures ok { IfOk result (λ s. (x : Functions) → submission_read x (view value.now) ≡ Some (submission_of x s)) }
     ensures unreadable { IfErr result (λ f. f ≡ Unreadable → (x : Functions) → submission_read x (view value.now) ≡ None) }
 {
+    let version = read_version(required(value, "version")?)?;
     let level = read_number(required(value, "level")?, 0, 4294967295)?;
     let limit = read_number(required(value, "limit")?, 1, 512)?;
     let fragments = read_schema(alloc, required(value, "schema")?)?;
-    let reader = PolicyReader::new(alloc)?;
+    let reader = PolicyReader::new(alloc, version)?;
     let policies = read_list(alloc, &reader, required(value, "policies")?)?;
     Ok(Submission {
         fragments,
@@ -118,23 +121,25 @@ fn read_submission(alloc: Global, value: &Value) -> Result<Submission, ReadFault
     })
 }
 
-// Whether the value has the keys of a bundle alone, and this version.
+// Whether the value has the keys of a bundle alone.
 fn is_bundle(value: &Value) -> bool
     ensures { result ≡ is_bundle (view value.now) }
 {
     let keys = [
         "version", "level", "limit", "schema", "policies", "request", "store", "steps",
     ];
-    has_only(value, &keys) && has_version(value)
+    has_only(value, &keys)
 }
 
-// Whether the version is the one that is read.
-fn has_version(value: &Value) -> bool
-    ensures { result ≡ has_at (codes "version") (is_number 1) (view value.now) }
+// Reads a version.
+fn read_version(value: &Value) -> Result<Version, ReadFault>
+    ensures ok { IfOk result (λ v. version_read (view value.now) ≡ Some (version_of v)) }
+    ensures unreadable { IfErr result (λ f. (f ≡ Unreadable) × (version_read (view value.now) ≡ None)) }
 {
-    match value.get("version") {
-        None => false,
-        Some(version) => matches!(version.as_u64(), Some(1)),
+    match value.as_u64() {
+        Some(1) => Ok(Version::First),
+        Some(2) => Ok(Version::Second),
+        _ => Err(ReadFault::Unreadable),
     }
 }
 

@@ -9,11 +9,12 @@ ghost use Rattle.cedar_gate_model.specs.Reading.{has_only};
 ghost use Rattle.cedar_gate_model.specs.ReadingForms.{word_of};
 ghost use Rattle.cedar_gate_model.specs.ReadingPolicy.{policy_read};
 ghost use Rattle.cedar_gate_bundles.specs.Policies.{effect_words};
+ghost use Rattle.cedar_gate_expressions.specs.Forms.{version_of};
 ghost use Rattle.cedar_gate_expressions.specs.declared.fault.ReadFault.TheVariants.{Unreadable};
 
 use crate::scopes::{optional_action, optional_bindings, optional_scope};
 use cedar_gate_expressions::{
-    ExpressionReader, ReadFault, Reader, has_only, optional, required, text,
+    ExpressionReader, ReadFault, Reader, Version, has_only, optional, required, text,
 };
 use cedar_store_parts::{Annotations, Effect, PolicyID, PrincipalConstraint, ResourceConstraint};
 use cedar_store_policies::{Policy, Template};
@@ -21,18 +22,24 @@ use serde_json::Value;
 use std::alloc::{AllocError, Global};
 use std::rc::Rc;
 
-// Reads policies. All share the annotations, of which there are none.
+// Reads policies of a bundle of a version. All share the annotations, of which there are none.
 #[derive(Drop)]
 pub(crate) struct PolicyReader {
+    version: Version,
     annotations: Rc<Annotations>,
     ghost bare: { annotations_of annotations.value ≡ [] },
 }
 
 impl PolicyReader {
-    // A reader of policies.
-    pub(crate) fn new(alloc: Global) -> Result<PolicyReader, AllocError> {
+    // A reader of policies of this version.
+    pub(crate) fn new(alloc: Global, version: Version) -> Result<PolicyReader, AllocError>
+        ensures { IfOk result (λ r. r.version ≡ version) }
+    {
         let annotations = Rc::new(alloc, Annotations::new(alloc))?;
-        Ok(PolicyReader { annotations })
+        Ok(PolicyReader {
+            version,
+            annotations,
+        })
     }
 }
 
@@ -41,7 +48,7 @@ impl Reader for PolicyReader {
 
     ghost Meaning = { model.Policy };
 
-    ghost reading = { λ _. policy_read };
+    ghost reading = { λ r. policy_read (version_of r.version) };
 
     ghost seen = { policy_of };
 
@@ -59,7 +66,10 @@ impl Reader for PolicyReader {
         let resource = ResourceConstraint {
             constraint: optional_scope(alloc, value, "resource")?,
         };
-        let body = match optional(alloc, &ExpressionReader, value, "when")? {
+        let reader = ExpressionReader {
+            version: self.version,
+        };
+        let body = match optional(alloc, &reader, value, "when")? {
             None => None,
             Some(body) => Some(Rc::new(alloc, body)?),
         };

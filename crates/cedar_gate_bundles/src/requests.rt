@@ -18,7 +18,7 @@ use cedar_expr_partial::PartialValue;
 use cedar_expr_trees::{Expr, ExprKind};
 use cedar_expr_values::{ExtValue, Record, ValueKind};
 use cedar_gate_expressions::{
-    ReadFault, Reader, SharedUids, has_only, read_fields, read_type, required,
+    ReadFault, Reader, SharedUids, Version, has_only, read_fields, read_type, required,
 };
 use serde_json::{Map, Value};
 use std::alloc::Global;
@@ -151,7 +151,7 @@ fn context_in<E: Evaluate>(
     ensures ok { IfOk result (λ c. fields_context_read (E.functions functions.now) (object (members_view members.now.entries)) ≡ Some (context_of c)) }
     ensures unreadable { IfErr result (λ f. f ≡ Unreadable → fields_context_read (E.functions functions.now) (object (members_view members.now.entries)) ≡ None) }
 {
-    let fields = read_fields(alloc, members)?;
+    let fields = read_fields(alloc, Version::Second, members)?;
     let record = Expr::record_arc(Rc::new(alloc, fields)?);
     if !is_restricted(alloc, &record)? {
         return Err(ReadFault::Unreadable);

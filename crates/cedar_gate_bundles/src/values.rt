@@ -14,7 +14,7 @@ ghost use Rattle.cedar_gate_expressions.specs.declared.fault.ReadFault.TheVarian
 use cedar_expr_partial::PartialValue;
 use cedar_expr_trees::{Expr, ExprKind};
 use cedar_expr_values::{ExtValue, Value as CedarValue};
-use cedar_gate_expressions::{ReadFault, Reader, read_expression};
+use cedar_gate_expressions::{ReadFault, Reader, Version, read_expression};
 use serde_json::Value;
 use std::alloc::{AllocError, Global};
 
@@ -78,7 +78,7 @@ pub(crate) fn read_value<E: Evaluate>(
     ensures ok { IfOk result (λ v. value_read (E.functions functions.now) (view value.now) ≡ Some (made extension_of v)) }
     ensures unreadable { IfErr result (λ f. f ≡ Unreadable → value_read (E.functions functions.now) (view value.now) ≡ None) }
 {
-    let e = read_expression(alloc, value)?;
+    let e = read_expression(alloc, Version::Second, value)?;
     if !is_restricted(alloc, &e)? {
         return Err(ReadFault::Unreadable);
     }

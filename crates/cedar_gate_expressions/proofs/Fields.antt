@@ -5,7 +5,7 @@ use Rattle.std.specs.Rc.{rc_str_bytes}
 use Rattle.std.specs.declared.rc.RcStr.{RcStr}
 use Rattle.serde_json.proofs.Views.{Entry}
 use Rattle.serde_json.specs.View.{view, members_view}
-use Rattle.cedar_gate_model.specs.ReadingExpression.{expression_read, fields_in}
+use Rattle.cedar_gate_model.specs.ReadingExpression.{Version, expression_read, fields_in}
 use Rattle.cedar_expr_model.specs.Name.{Text}
 use Rattle.cedar_expr_model.specs.Tree.{Tree, TreeFields, no_tree_fields, tree_field}
 use Rattle.cedar_expr_model.specs.Builder.{tree_fields}
@@ -43,10 +43,10 @@ pub named_more : {T : Type 0} (es : List (RcStr Global × Expr T)) (k : RcStr Gl
 named_more [] k x = refl
 named_more (y ∷ es) k x = ap (λ zs. (rc_str_bytes y.0, tree_of y.1) ∷ zs) (named_more es k x)
 
-pub next_field : {T : Type 0} (es : List (RcStr Global × Expr T)) (k : RcStr Global) (x : Expr T) (e : Entry) (left rest : List Entry) → rest ≡ e ∷ left → rc_str_bytes k ≡ string_bytes e.0 → expression_read (view e.1) ≡ Some (tree_of x)
-    → then_fields (named (field_trees (es ++ (k, x) ∷ []))) (fields_in (members_view left)) ≡ then_fields (named (field_trees es)) (fields_in (members_view rest))
-next_field es k x e left rest is h r =
-    ap (λ ps. then_fields ps (fields_in (members_view left))) (named_more es k x) ∙ one_more_field (named (field_trees es)) (rc_str_bytes k) (tree_of x) (fields_in (members_view left)) ∙ rw (is, r, h)
+pub next_field : {T : Type 0} (v : Version) (es : List (RcStr Global × Expr T)) (k : RcStr Global) (x : Expr T) (e : Entry) (left rest : List Entry) → rest ≡ e ∷ left → rc_str_bytes k ≡ string_bytes e.0 → expression_read v (view e.1) ≡ Some (tree_of x)
+    → then_fields (named (field_trees (es ++ (k, x) ∷ []))) (fields_in v (members_view left)) ≡ then_fields (named (field_trees es)) (fields_in v (members_view rest))
+next_field v es k x e left rest is h r =
+    ap (λ ps. then_fields ps (fields_in v (members_view left))) (named_more es k x) ∙ one_more_field (named (field_trees es)) (rc_str_bytes k) (tree_of x) (fields_in v (members_view left)) ∙ rw (is, r, h)
 
 -- what is left of a list weighs no more than the whole
 pub within_all : {A : Type 0} (f : A → ℕ) (left whole : List A) → left ≡ whole → most f left ≤ most f whole

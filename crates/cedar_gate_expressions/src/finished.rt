@@ -11,7 +11,7 @@ ghost use Rattle.cedar_expr_model.specs.Builder.{path_test};
 ghost use Rattle.cedar_expr_leaves.specs.Patterns.{pattern_of, elements_of};
 ghost use Rattle.cedar_expr_trees.specs.Trees.{tree_of};
 ghost use Rattle.cedar_gate_model.specs.Reading.{given, each};
-ghost use Rattle.cedar_gate_model.specs.ReadingExpression.{pattern_read, elements_read};
+ghost use Rattle.cedar_gate_model.specs.ReadingExpression.{Version, pattern_read, elements_read};
 ghost use Rattle.cedar_gate_expressions.specs.Forms.{joint_of, test_rest};
 ghost use Rattle.cedar_gate_expressions.specs.Parts.{parts};
 ghost use Rattle.cedar_gate_expressions.specs.declared.fault.ReadFault.TheVariants.{Unreadable};
@@ -36,7 +36,7 @@ pub(crate) fn join(joint: Joint, alloc: Global, left: Expr, right: Expr) -> Resu
     }
 }
 
-/// What a form makes of an expression that is read, and of what else it takes.
+/// What a form makes of an expression that is read, and of what else it takes: the same in each version.
 #[tactic(auto, using(crate::proofs::Heads::path_is))]
 pub(crate) fn test(
     alloc: Global,
@@ -44,8 +44,8 @@ pub(crate) fn test(
     head: Expr,
     items: &[Value],
 ) -> Result<Expr, ReadFault>
-    ensures ok { IfOk result (λ e. test_rest kind (tree_of head) (parts items.now) ≡ Some (tree_of e)) }
-    ensures unreadable { IfErr result (λ f. f ≡ Unreadable → test_rest kind (tree_of head) (parts items.now) ≡ None) }
+    ensures ok { IfOk result (λ e. (v : Version) → test_rest kind (tree_of head) (parts v items.now) ≡ Some (tree_of e)) }
+    ensures unreadable { IfErr result (λ f. f ≡ Unreadable → (v : Version) → test_rest kind (tree_of head) (parts v items.now) ≡ None) }
 {
     match first_of(items) {
         None => test_alone(alloc, kind, head),
@@ -64,8 +64,8 @@ pub(crate) fn test(
 
 // What a form makes of an expression alone.
 fn test_alone(alloc: Global, kind: Test, head: Expr) -> Result<Expr, ReadFault>
-    ensures ok { IfOk result (λ e. test_rest kind (tree_of head) (parts []) ≡ Some (tree_of e)) }
-    ensures unreadable { IfErr result (λ f. f ≡ Unreadable → test_rest kind (tree_of head) (parts []) ≡ None) }
+    ensures ok { IfOk result (λ e. test_rest kind (tree_of head) [] ≡ Some (tree_of e)) }
+    ensures unreadable { IfErr result (λ f. f ≡ Unreadable → test_rest kind (tree_of head) [] ≡ None) }
 {
     match kind {
         Test::Unary(op) => Ok(Expr::unary_app(alloc, op, head)?),
@@ -75,8 +75,8 @@ fn test_alone(alloc: Global, kind: Test, head: Expr) -> Result<Expr, ReadFault>
 
 // What a form makes of an expression and of this one item.
 fn test_of_one(alloc: Global, kind: Test, head: Expr, x: &Value) -> Result<Expr, ReadFault>
-    ensures ok { IfOk result (λ e. test_rest kind (tree_of head) (parts (x.now ∷ [])) ≡ Some (tree_of e)) }
-    ensures unreadable { IfErr result (λ f. f ≡ Unreadable → test_rest kind (tree_of head) (parts (x.now ∷ [])) ≡ None) }
+    ensures ok { IfOk result (λ e. (v : Version) → test_rest kind (tree_of head) (parts v (x.now ∷ [])) ≡ Some (tree_of e)) }
+    ensures unreadable { IfErr result (λ f. f ≡ Unreadable → (v : Version) → test_rest kind (tree_of head) (parts v (x.now ∷ [])) ≡ None) }
 {
     match kind {
         Test::Unary(_) => Err(ReadFault::Unreadable),

@@ -11,12 +11,12 @@ ghost use Rattle.cedar_expr_trees.specs.Trees.{tree_of};
 ghost use Rattle.cedar_gate_model.specs.Reading.{given};
 ghost use Rattle.cedar_gate_model.specs.ReadingForms.{word_of, alone, read_as};
 ghost use Rattle.cedar_gate_model.specs.ReadingName.{plain_name_read, uid_from, annotation_read, core_words};
-ghost use Rattle.cedar_gate_model.specs.ReadingExpression.{var_words, slot_words, forms};
-ghost use Rattle.cedar_gate_expressions.specs.Forms.{leaf_form, form_of};
+ghost use Rattle.cedar_gate_model.specs.ReadingExpression.{Version as Read, var_words, slot_words, forms};
+ghost use Rattle.cedar_gate_expressions.specs.Forms.{version_of, leaf_form, form_of};
 ghost use Rattle.cedar_gate_expressions.specs.Parts.{parts};
 ghost use Rattle.cedar_gate_expressions.specs.declared.fault.ReadFault.TheVariants.{Unreadable};
 
-use crate::forms::{Form, Leaf, form_named};
+use crate::forms::{Form, Leaf, Version, form_named};
 use crate::shapes::first_of;
 use crate::{ReadFault, read_annotation, read_text, read_uid_from, text};
 use cedar_expr_leaves::{Literal, SlotId, Var};
@@ -43,19 +43,19 @@ pub(crate) fn read_string(alloc: Global, word: &str) -> Result<Expr, AllocError>
     Ok(Expr::val(Literal::String(RcStr::from_str(alloc, word)?)))
 }
 
-/// The form that a word names.
-pub(crate) fn form_of_word(word: &Value) -> Result<Form, ReadFault>
-    ensures ok { IfOk result (λ f. word_of forms (view word.now) ≡ Some (form_of f)) }
-    ensures unreadable { IfErr result (λ f. (f ≡ Unreadable) × (word_of forms (view word.now) ≡ None)) }
+/// The form that a word names in this version.
+pub(crate) fn form_of_word(version: Version, word: &Value) -> Result<Form, ReadFault>
+    ensures ok { IfOk result (λ f. word_of (forms (version_of version)) (view word.now) ≡ Some (form_of f)) }
+    ensures unreadable { IfErr result (λ f. (f ≡ Unreadable) × (word_of (forms (version_of version)) (view word.now) ≡ None)) }
 {
-    form_named(text(word)?).ok_or(ReadFault::Unreadable)
+    form_named(version, text(word)?).ok_or(ReadFault::Unreadable)
 }
 
-/// Reads a form without expressions in it, of what follows its word.
+/// Reads a form without expressions in it, of what follows its word: the same in each version.
 #[tactic(auto, using(crate::proofs::Short::no_leaf_of_none, crate::proofs::Short::no_leaf_of_three))]
 pub(crate) fn read_leaf(alloc: Global, leaf: Leaf, items: &[Value]) -> Result<Expr, ReadFault>
-    ensures ok { IfOk result (λ e. leaf_form leaf (parts items.now) ≡ Some (tree_of e)) }
-    ensures unreadable { IfErr result (λ f. f ≡ Unreadable → leaf_form leaf (parts items.now) ≡ None) }
+    ensures ok { IfOk result (λ e. (v : Read) → leaf_form leaf (parts v items.now) ≡ Some (tree_of e)) }
+    ensures unreadable { IfErr result (λ f. f ≡ Unreadable → (v : Read) → leaf_form leaf (parts v items.now) ≡ None) }
 {
     match first_of(items) {
         None => Err(ReadFault::Unreadable),
@@ -71,8 +71,8 @@ pub(crate) fn read_leaf(alloc: Global, leaf: Leaf, items: &[Value]) -> Result<Ex
 
 // Reads a form of this one item.
 fn read_leaf_of_one(alloc: Global, leaf: Leaf, x: &Value) -> Result<Expr, ReadFault>
-    ensures ok { IfOk result (λ e. leaf_form leaf (parts (x.now ∷ [])) ≡ Some (tree_of e)) }
-    ensures unreadable { IfErr result (λ f. f ≡ Unreadable → leaf_form leaf (parts (x.now ∷ [])) ≡ None) }
+    ensures ok { IfOk result (λ e. (v : Read) → leaf_form leaf (parts v (x.now ∷ [])) ≡ Some (tree_of e)) }
+    ensures unreadable { IfErr result (λ f. f ≡ Unreadable → (v : Read) → leaf_form leaf (parts v (x.now ∷ [])) ≡ None) }
 {
     match leaf {
         Leaf::Uid => Err(ReadFault::Unreadable),
@@ -84,8 +84,8 @@ fn read_leaf_of_one(alloc: Global, leaf: Leaf, x: &Value) -> Result<Expr, ReadFa
 
 // Reads a form of these two items.
 fn read_leaf_of_two(alloc: Global, leaf: Leaf, x: &Value, y: &Value) -> Result<Expr, ReadFault>
-    ensures ok { IfOk result (λ e. leaf_form leaf (parts (x.now ∷ y.now ∷ [])) ≡ Some (tree_of e)) }
-    ensures unreadable { IfErr result (λ f. f ≡ Unreadable → leaf_form leaf (parts (x.now ∷ y.now ∷ [])) ≡ None) }
+    ensures ok { IfOk result (λ e. (v : Read) → leaf_form leaf (parts v (x.now ∷ y.now ∷ [])) ≡ Some (tree_of e)) }
+    ensures unreadable { IfErr result (λ f. f ≡ Unreadable → (v : Read) → leaf_form leaf (parts v (x.now ∷ y.now ∷ [])) ≡ None) }
 {
     match leaf {
         Leaf::Uid => read_entity(alloc, x, y),

@@ -24,6 +24,7 @@ mod shapes;
 pub use annotations::read_annotation;
 pub use expressions::{read_expression, read_fields};
 pub use fault::ReadFault;
+pub use forms::Version;
 pub use inputs::read_json;
 pub use lists::{Reader, read_each, read_list};
 pub use maps::{optional_texts, optional_words};

@@ -3,7 +3,7 @@
 
 ghost use Rattle.std.specs.Prelude.{◌≡◌, [], ◌∷◌, None, IfSome, IfNone};
 ghost use Rattle.cedar_expr_model.specs.Tree.{Tree, record_literal};
-ghost use Rattle.cedar_gate_model.specs.ReadingExpression.{of_two, of_three, of_part};
+ghost use Rattle.cedar_gate_model.specs.ReadingExpression.{Version, of_two, of_three, of_part};
 ghost use Rattle.cedar_gate_expressions.specs.Parts.{parts};
 
 use serde_json::Value;
@@ -24,7 +24,7 @@ pub(crate) fn first_of<'a>(items: &'a [Value]) -> Option<(&'a Value, &'a [Value]
 #[tactic(auto, using(crate::proofs::FewItems::one, crate::proofs::Short::no_record))]
 pub(crate) fn one_of<'a>(items: &'a [Value]) -> Option<&'a Value>
     ensures one { IfSome result (λ x. items.entry.now ≡ x.now ∷ []) }
-    ensures nothing { IfNone result (of_part record_literal (λ x. x.fields) (parts items.entry.now) ≡ None) }
+    ensures nothing { IfNone result ((v : Version) → of_part record_literal (λ x. x.fields) (parts v items.entry.now) ≡ None) }
 {
     match items {
         [x] => Some(x),
@@ -37,7 +37,7 @@ pub(crate) fn one_of<'a>(items: &'a [Value]) -> Option<&'a Value>
 #[tactic(auto, using(crate::proofs::FewItems::two, crate::proofs::Short::too_few_for_two, crate::proofs::Short::too_many_for_two))]
 pub(crate) fn two_of<'a>(items: &'a [Value]) -> Option<(&'a Value, &'a Value)>
     ensures two { IfSome result (λ p. items.entry.now ≡ p.0.now ∷ p.1.now ∷ []) }
-    ensures nothing { IfNone result ((f : Tree → Tree → Tree) → of_two f (parts items.entry.now) ≡ None) }
+    ensures nothing { IfNone result ((v : Version) (f : Tree → Tree → Tree) → of_two f (parts v items.entry.now) ≡ None) }
 {
     match items {
         [x, y] => Some((x, y)),
@@ -51,7 +51,7 @@ pub(crate) fn two_of<'a>(items: &'a [Value]) -> Option<(&'a Value, &'a Value)>
 #[tactic(auto, using(crate::proofs::FewItems::three, crate::proofs::Short::too_few_for_three, crate::proofs::Short::too_many_for_three))]
 pub(crate) fn three_of<'a>(items: &'a [Value]) -> Option<(&'a Value, &'a Value, &'a Value)>
     ensures three { IfSome result (λ p. items.entry.now ≡ p.0.now ∷ p.1.now ∷ p.2.now ∷ []) }
-    ensures nothing { IfNone result ((f : Tree → Tree → Tree → Tree) → of_three f (parts items.entry.now) ≡ None) }
+    ensures nothing { IfNone result ((v : Version) (f : Tree → Tree → Tree → Tree) → of_three f (parts v items.entry.now) ≡ None) }
 {
     match items {
         [x, y, z] => Some((x, y, z)),

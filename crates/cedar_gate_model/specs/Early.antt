@@ -7,7 +7,7 @@ use Rattle.cedar_expr_model.specs.Value.{V}
 use Rattle.cedar_store_model.specs.Answer.{Decision, with_slots, reasons_of, decision_of}
 use Rattle.cedar_store_model.specs.Looks.{Looks}
 use Rattle.cedar_store_model.specs.Policy.{Policy, condition}
-use Rattle.cedar_store_model.specs.World.{World, Entity, Found, held}
+use Rattle.cedar_store_model.specs.World.{World, Entity, Found, not_loaded}
 use Rattle.cedar_evaluator_model.specs.Members.{Bounds, bounds_in_session}
 use Rattle.cedar_evaluator_model.specs.Response.{response_of}
 use Rattle.cedar_schema_model.specs.Conforming.{EntityConforms}
@@ -21,8 +21,8 @@ use Rattle.cedar_gate_model.specs.Session.{Setup, State, scope_now, known_now, w
 abbrev pub AnsweredConform : Setup → State → Type 0
 AnsweredConform x s = (u : Uid) (e : Entity V) → Contains s.asked u → x.store u ≡ Some e → EntityConforms x.schema u e
 
--- What a session's decision keeps: one that is given is that of every completion; one is given where what is known forces it, unless a policy
--- meets the limit; and so it is once all is bound and loaded and nothing that was asked for was absent.
+-- What a session's decision keeps: one that is given is that of every completion; one is given where what is known forces it, unless a
+-- policy meets the limit; and so it is once all is bound and loaded.
 pub record KeepsDecision (c : Course) (s : State) (d : Option Decision) : Type 0 where
   pub hold : (given : Decision) → d ≡ Some given → (w : World) → CompletesNow (session_of c) s w → given ≡ decision_of w c.submission.policies
   pub forced : (given : Decision) → IsForced (known_now (session_of c) s) c.submission.policies given → (MeetsLimit (session_of c) c.submission.policies s → ⊥) → IsSome d
@@ -51,10 +51,10 @@ AllIsBound c s = HasOpenName c.start s → ⊥
 abbrev pub BoundsAreOwed : Type 0
 BoundsAreOwed = (c : Course) (s : State) (store : Uid → Found Made) → IsProper c → IsOpened (session_of c) s → IsKnownStore c s store → AllIsBound c s → IsSome (bounds_now c s store)
 
--- What is loaded and the declared actions hold each uid that a policy looks up over the whole store.
+-- Each uid that a policy looks up over the whole store is known: a declared action, an entity that was answered, or missing.
 abbrev pub HoldsLookups : Course → State → Type 0
 HoldsLookups c s = (p : Policy) (u : Uid) → Contains c.submission.policies p → Looks (with_slots (world_now (session_of c) s) p.bindings) (condition p) u
-    → (e : Entity V) × ((known_now (session_of c) s).store u ≡ held e)
+    → (known_now (session_of c) s).store u ≡ not_loaded → ⊥
 
 -- then both bounds are the reasons of the answer, in policy order
 abbrev pub BoundsAreTheReasons : Type 0
@@ -66,7 +66,7 @@ abbrev pub BoundsInPart : Course → State → Option Bounds → Type 0
 BoundsInPart c s b = (store : Uid → Found Made) × IsKnownBy (session_of c) s store × (b ≡ bounds_now c s store)
 
 -- What such bounds keep: those that are given hold in every completion, they are given where all is bound, and both are the reasons of the
--- answer where all that is looked up is held too.
+-- answer where all that is looked up is known too.
 pub record KeepsBounds (c : Course) (s : State) (b : Option Bounds) : Type 0 where
   pub hold : (given : Bounds) → b ≡ Some given → (w : World) → CompletesNow (session_of c) s w → Holds (record { must = given.must; may = given.may }) w c.submission.policies
   pub owed : AllIsBound c s → IsSome b

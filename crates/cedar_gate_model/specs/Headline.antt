@@ -25,7 +25,7 @@ abbrev pub IsNear : Course → List Entry → Uid → Type 0
 IsNear c es u = InSlice (session_of c).schema c.submission.level (world_now (session_of c) (end_state c.steps es)) u
 
 -- What an answered run promises. It asked for exactly what is near. The answer is that of the whole store, each earlier decision is that
--- one, and each error is a missing entity, an overflow or an extension's.
+-- one, and each error is a missing entity, an overflow, a zero divisor or an extension's.
 pub record AnsweredWell (c : Course) (es : List Entry) (a : Answer) : Type 0 where
   pub asked : (u : Uid) → Contains (asked_in es) u ↔ IsNear c es u
   pub answer : a ≡ answer_of (end_world c es) c.submission.policies
@@ -38,8 +38,8 @@ IsLegalSoFar c es a =
     (w : World) → CompletesNow (session_of c) (end_state c.steps es) w → IsLegal (case_of (session_of c) c.submission.policies) w (record { entries = es; answer = a })
 
 -- What each run promises, with the answer that it came to or, where it stopped, without one. What is handed in is accepted. No uid is asked
--- for twice, only what is near is, and few rounds follow the last binding. A decision is owed once all is bound and loaded and nothing that
--- was asked for was absent. The transcript is legal.
+-- for twice, only what is near is, and few rounds follow the last binding. A decision is owed once all is bound and loaded. The transcript
+-- is legal.
 pub record KeepsPromises (c : Course) (es : List Entry) (answer : Option Answer) : Type 0 where
   pub admitted : IsAccepted c.submission
   pub once : HasTwice (asked_in es) → ⊥

@@ -7,8 +7,8 @@ use Rattle.cedar_store_model.specs.World.{World}
 use Rattle.cedar_gate_model.specs.RunsAnswer.{Course, session_of, IsProper, IsOpened}
 use Rattle.cedar_gate_model.specs.Session.{Setup, State, known_now, CompletesNow}
 
--- The loaded entities beside the declared actions are a partial store, which every completion of the state extends: what is held is held
--- there as it is, and what is known to be missing is missing there.
+-- The declared actions, the loaded entities and the known absences are a partial store, which every completion of the state extends: what
+-- is held is held there as it is, and what is known to be missing is missing there.
 abbrev pub CompletionsKeepTheStore : Type 0
 CompletionsKeepTheStore = (x : Setup) (s : State) (w : World) → CompletesNow x s w → (u : Uid) → KeepsFound ((known_now x s).store u) (w.store u)
 

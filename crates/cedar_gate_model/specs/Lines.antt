@@ -5,7 +5,7 @@ use Rattle.std.specs.List.{flat_map}
 use Rattle.std.specs.Fmt.{decimal}
 use Rattle.cedar_expr_model.specs.Name.{Text, name_text}
 use Rattle.cedar_expr_model.specs.Uid.{uid_text, quoted, uid_eq}
-use Rattle.cedar_store_model.specs.Outcome.{Fault, missing_entity, overflow, extension_failed}
+use Rattle.cedar_store_model.specs.Outcome.{Fault, missing_entity, overflow, zero_divisor, extension_failed}
 use Rattle.cedar_store_model.specs.Answer.{Decision, allow, deny, PolicyError, Answer}
 use Rattle.cedar_gate_model.specs.Acceptance.{Submission, Cause, HasFault, IsAccepted, number_of, warnings_of, schema_in}
 use Rattle.cedar_gate_model.specs.Session.{Setup, open_number, bind_number, supply_number, answer_number}
@@ -32,6 +32,7 @@ warning_lines s = flat_map (λ id. line (codes "impossible " ++ quoted id)) (war
 abbrev pub fault_words : Fault → Text
 fault_words (missing_entity u) = codes " missing " ++ uid_text u
 fault_words overflow = codes " overflow"
+fault_words zero_divisor = codes " zero"
 fault_words (extension_failed e) = codes " extension " ++ name_text e
 fault_words f = []
 

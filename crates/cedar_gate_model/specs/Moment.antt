@@ -11,7 +11,7 @@ use Rattle.cedar_expr_model.specs.Tree.{record_literal}
 use Rattle.cedar_expr_model.specs.Made.{bare_fields}
 use Rattle.cedar_expr_model.specs.Parts.{unknowns}
 use Rattle.cedar_expr_model.specs.Table.{Table}
-use Rattle.cedar_store_model.specs.World.{World, Entity, Found, held, missing, by_found}
+use Rattle.cedar_store_model.specs.World.{World, Entity, held, missing}
 use Rattle.cedar_store_model.specs.Knowledge.{IsWhole}
 use Rattle.cedar_schema_model.specs.Schema.{Schema, declares_action}
 use Rattle.cedar_schema_model.specs.ActionEntities.{as_entity}
@@ -75,11 +75,8 @@ context_known m (closed fs) = true
 context_known m (residual_fields fs) = list_all (λ u. is_bound m u.name) (unknowns (record_literal fs))
 context_known m unknown_context = is_bound m (codes "context")
 
--- What an answer tells: an entity. That there is none counts for nothing before the end.
-abbrev pub told : Uid → Found V → Found V
-told u found = by_found held (unloaded u) (unloaded u) found
-
--- what is known of a world at a moment: what was given or bound, and the declared actions and the answers
+-- What is known of a world at a moment: what was given or bound, and the declared actions and the answers. An answer that there is no
+-- entity is known too: the uid is missing from then on.
 abbrev pub known_at : Schema → PartialRequest → World → Moment → World
 known_at s start w m = record w {
   principal = when (entry_known m (codes "principal") start.principal) w.principal;
@@ -87,5 +84,5 @@ known_at s start w m = record w {
   resource = when (entry_known m (codes "resource") start.resource) w.resource;
   context = when (context_known m start.context) w.context;
   unknowns = λ n. when (is_bound m n) (w.unknowns n);
-  store = λ u. if declares_action s u || list_any (uid_eq u) m.asked then told u (w.store u) else unloaded u;
+  store = λ u. if declares_action s u || list_any (uid_eq u) m.asked then w.store u else unloaded u;
 }

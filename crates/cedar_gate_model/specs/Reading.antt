@@ -25,10 +25,6 @@ if_there read lacking (Some d) = read d
 abbrev pub optional : {A : Type 0} → Text → (Data → Option A) → A → Data → Option A
 optional key read lacking d = if_there read lacking (get key d)
 
--- The value at a key is there and passes the test.
-abbrev pub has_at : Text → (Data → Bool) → Data → Bool
-has_at key test d = unwrap_or (option_map test (get key d)) false
-
 -- The value at a key passes the test, or the key lacks.
 abbrev pub may_be : Text → (Data → Bool) → Data → Bool
 may_be key test d = unwrap_or (option_map test (get key d)) true

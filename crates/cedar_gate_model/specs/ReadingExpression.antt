@@ -8,12 +8,16 @@ use Rattle.serde_json.specs.Find.{as_str, as_i64}
 use Rattle.cedar_expr_model.specs.Name.{Text}
 use Rattle.cedar_expr_model.specs.Value.{truth, long, text, entity}
 use Rattle.cedar_expr_model.specs.Pattern.{Pattern, Element, character, wildcard}
-use Rattle.cedar_expr_model.specs.Tree.{Var, principal, action, resource, context, SlotId, principal_slot, resource_slot, negation, minus, is_empty, equal, less, less_or_equal, plus, difference, times, is_in, contains, contains_all, contains_any, get_tag, has_tag, Tree, lit, var, slot, unknown, choice, unary, binary, call, get_attr, like, is_type, set_literal, record_literal, Trees, TreeFields, no_tree_fields, tree_field}
+use Rattle.cedar_expr_model.specs.Tree.{Var, principal, action, resource, context, SlotId, principal_slot, resource_slot, negation, minus, is_empty, equal, less, less_or_equal, plus, difference, times, remainder, is_in, contains, contains_all, contains_any, get_tag, has_tag, Tree, lit, var, slot, unknown, choice, unary, binary, call, get_attr, like, is_type, set_literal, record_literal, Trees, TreeFields, no_tree_fields, tree_field}
 use Rattle.cedar_expr_model.specs.Builder.{conjunction, disjunction, path_test, trees}
 use Rattle.cedar_gate_model.specs.Reading.{given, list_of}
 use Rattle.cedar_gate_model.specs.ReadingForms.{word_of}
 use Rattle.cedar_gate_model.specs.ReadingName.{plain_name_read, uid_from, annotation_read}
 use Rattle.cedar_expr_model.specs.Lists.{all_given}
+
+-- The version of a bundle. The second adds the operator `rem`.
+pub data Version : Type 0 where
+  first second : Version
 
 -- A part of a list: its JSON; the expression that it is read as, if it is one; and, if it is an object of expressions, its fields.
 pub record Part : Type 0 where
@@ -87,9 +91,9 @@ abbrev pub has_form : List Part → Option Tree
 has_form (x ∷ y ∷ more) = given x.tree (λ t. given (as_str y.json) (λ a. option_map (path_test t a) (all_given (λ z. as_str z.json) more)))
 has_form xs = None
 
--- The words that a list may begin with, and what follows each.
-abbrev pub forms : List (Text × (List Part → Option Tree))
-forms = (codes "uid", uid_form) ∷ (codes "var", of_word var var_words) ∷ (codes "slot", of_word slot slot_words) ∷ (codes "unknown", unknown_form)
+-- The words that a list may begin with in both versions, and what follows each.
+abbrev pub common_forms : List (Text × (List Part → Option Tree))
+common_forms = (codes "uid", uid_form) ∷ (codes "var", of_word var var_words) ∷ (codes "slot", of_word slot slot_words) ∷ (codes "unknown", unknown_form)
     ∷ (codes "if", of_three choice) ∷ (codes "and", of_two conjunction) ∷ (codes "or", of_two disjunction)
     ∷ (codes "not", of_one (unary negation)) ∷ (codes "neg", of_one (unary minus)) ∷ (codes "isEmpty", of_one (unary is_empty))
     ∷ (codes "eq", of_two (binary equal)) ∷ (codes "less", of_two (binary less)) ∷ (codes "lesseq", of_two (binary less_or_equal))
@@ -100,30 +104,35 @@ forms = (codes "uid", uid_form) ∷ (codes "var", of_word var var_words) ∷ (co
     ∷ (codes "get", of_tree_and get_attr as_str) ∷ (codes "has", has_form) ∷ (codes "like", of_tree_and like pattern_read)
     ∷ (codes "is", of_tree_and is_type plain_name_read) ∷ (codes "set", λ xs. option_map set_literal (trees_in xs)) ∷ (codes "record", of_part record_literal (λ x. x.fields)) ∷ []
 
+-- the words of a version
+abbrev pub forms : Version → List (Text × (List Part → Option Tree))
+forms first = common_forms
+forms second = (codes "rem", of_two (binary remainder)) ∷ common_forms
+
 -- a list that begins with one of them
-abbrev pub form_read : List Part → Option Tree
-form_read [] = None
-form_read (w ∷ xs) = given (word_of forms w.json) (λ form. form xs)
+abbrev pub form_read : Version → List Part → Option Tree
+form_read v [] = None
+form_read v (w ∷ xs) = given (word_of (forms v) w.json) (λ form. form xs)
 
 -- An expression: a truth value, a whole number, a text, or a list that begins with a word.
 abbrev mutual
-  pub expression_read : Data → Option Tree
-  expression_read null = None
-  expression_read (boolean b) = Some (lit (truth b))
-  expression_read (number n) = option_map (λ z. lit (long z)) (as_i64 n)
-  expression_read (string s) = Some (lit (text s))
-  expression_read (array ds) = form_read (parts_in ds)
-  expression_read (object ms) = None
+  pub expression_read : Version → Data → Option Tree
+  expression_read v null = None
+  expression_read v (boolean b) = Some (lit (truth b))
+  expression_read v (number n) = option_map (λ z. lit (long z)) (as_i64 n)
+  expression_read v (string s) = Some (lit (text s))
+  expression_read v (array ds) = form_read v (parts_in v ds)
+  expression_read v (object ms) = None
 
-  pub parts_in : Items → List Part
-  parts_in no_items = []
-  parts_in (item d ds) = record { json = d; tree = expression_read d; fields = fields_read d } ∷ parts_in ds
+  pub parts_in : Version → Items → List Part
+  parts_in v no_items = []
+  parts_in v (item d ds) = record { json = d; tree = expression_read v d; fields = fields_read v d } ∷ parts_in v ds
 
   -- an object of expressions, in the order of its keys
-  pub fields_read : Data → Option TreeFields
-  fields_read (object ms) = fields_in ms
-  fields_read d = None
+  pub fields_read : Version → Data → Option TreeFields
+  fields_read v (object ms) = fields_in v ms
+  fields_read v d = None
 
-  pub fields_in : Members → Option TreeFields
-  fields_in no_members = Some no_tree_fields
-  fields_in (member k d ms) = given (expression_read d) (λ t. option_map (tree_field k t) (fields_in ms))
+  pub fields_in : Version → Members → Option TreeFields
+  fields_in v no_members = Some no_tree_fields
+  fields_in v (member k d ms) = given (expression_read v d) (λ t. option_map (tree_field k t) (fields_in v ms))

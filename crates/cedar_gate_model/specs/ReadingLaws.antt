@@ -17,7 +17,7 @@ use Rattle.cedar_store_model.specs.Policy.{tree_uses}
 use Rattle.cedar_schema_model.specs.BagLaws.{HasTwice}
 use Rattle.cedar_evaluator_model.specs.Scope.{residual_fields}
 use Rattle.cedar_gate_model.specs.Bundle.{Functions, Bundle}
-use Rattle.cedar_gate_model.specs.ReadingExpression.{expression_read}
+use Rattle.cedar_gate_model.specs.ReadingExpression.{Version, second, expression_read}
 use Rattle.cedar_gate_model.specs.ReadingValue.{value_read, context_read}
 use Rattle.cedar_gate_model.specs.ReadingBundle.{bundle_read}
 use Rattle.std.specs.Map.{keys_of}
@@ -25,7 +25,7 @@ use Rattle.cedar_expr_model.specs.Restricted.{is_restricted}
 
 -- what is read as an expression has the form that builders make
 abbrev pub ReadIsBuilt : Type 0
-ReadIsBuilt = (d : Data) (t : Tree) → expression_read d ≡ Some t → is_built t ≡ true
+ReadIsBuilt = (v : Version) (d : Data) (t : Tree) → expression_read v d ≡ Some t → is_built t ≡ true
 
 -- how a slot is written
 abbrev pub slot_text : SlotId → Text
@@ -54,7 +54,7 @@ abbrev mutual
 
 -- an expression has no slot but those that are written
 abbrev pub ReadSlotsAreWritten : Type 0
-ReadSlotsAreWritten = (s : SlotId) (d : Data) (t : Tree) → writes_slot s d ≡ false → expression_read d ≡ Some t → tree_uses t s ≡ false
+ReadSlotsAreWritten = (v : Version) (s : SlotId) (d : Data) (t : Tree) → writes_slot s d ≡ false → expression_read v d ≡ Some t → tree_uses t s ≡ false
 
 -- the level and the limit of a bundle are in their ranges
 abbrev pub NumbersAreInRange : Type 0
@@ -80,7 +80,7 @@ StoreHoldsValues = (x : Functions) (d : Data) (b : Bundle) → bundle_read x d �
 -- a value is read of a restricted expression that has no unknown
 abbrev pub ValuesAreRestricted : Type 0
 ValuesAreRestricted = (x : Functions) (d : Data) (m : Made) → value_read x d ≡ Some m
-    → (t : Tree) × (expression_read d ≡ Some t) × (is_restricted t ≡ true) × (has_unknown t ≡ false)
+    → (t : Tree) × (expression_read second d ≡ Some t) × (is_restricted t ≡ true) × (has_unknown t ≡ false)
 
 -- a context that isn't a value has an unknown, and its fields are restricted
 abbrev pub OpenContextsHaveUnknowns : Type 0

@@ -7,7 +7,7 @@ use Rattle.cedar_store_model.specs.Policy.{Policy, permit, forbid, Target, named
 use Rattle.cedar_gate_model.specs.Reading.{given, required, optional, has_only, list_of}
 use Rattle.cedar_gate_model.specs.ReadingForms.{word_of, first_form, alone, read_as}
 use Rattle.cedar_gate_model.specs.ReadingName.{plain_name_read, uid_read}
-use Rattle.cedar_gate_model.specs.ReadingExpression.{expression_read}
+use Rattle.cedar_gate_model.specs.ReadingExpression.{Version, expression_read}
 use Rattle.cedar_expr_model.specs.Lists.{when}
 
 -- a target: a uid, or the slot of its own variable
@@ -35,14 +35,14 @@ bindings_read d =
     option_map (λ resource. record { principal = principal; resource = resource }) (optional (codes "?resource") (read_as Some uid_read) None d)))
 
 -- A policy, without annotations. A part of the scope that lacks is any.
-abbrev pub policy_read : Data → Option Policy
-policy_read d =
+abbrev pub policy_read : Version → Data → Option Policy
+policy_read v d =
     when (has_only (codes "id" ∷ codes "effect" ∷ codes "principal" ∷ codes "action" ∷ codes "resource" ∷ codes "when" ∷ codes "link" ∷ []) d)
     (given (required (codes "id") as_str d) (λ id.
     given (required (codes "effect") (word_of ((codes "permit", permit) ∷ (codes "forbid", forbid) ∷ [])) d) (λ effect.
     given (optional (codes "principal") scope_read any d) (λ principal.
     given (optional (codes "action") action_scope_read any_action d) (λ action.
     given (optional (codes "resource") scope_read any d) (λ resource.
-    given (optional (codes "when") (read_as Some expression_read) None d) (λ body.
+    given (optional (codes "when") (read_as Some (expression_read v)) None d) (λ body.
     option_map (λ bindings. record { id = id; effect = effect; annotations = []; principal = principal; action = action; resource = resource; body = body; bindings = bindings })
     (optional (codes "link") bindings_read no_bindings d))))))))

@@ -1,4 +1,5 @@
--- Reading values and contexts: restricted expressions, evaluated when they are read.
+-- Reading values and contexts: restricted expressions, evaluated when they are read. They are read in the second version of bundles. In the
+-- first the same is read: the operator that the second adds stands in no restricted expression.
 -- Rule: what a bundle reads as; restricted expressions (docs/RULES.md).
 use Rattle.std.specs.Prelude.{[], ◌∷◌, codes, Option, Some, None}
 use Rattle.serde_json.specs.Data.{Data}
@@ -10,7 +11,7 @@ use Rattle.cedar_evaluator_model.specs.Scope.{unknown_uid, Context, unknown_cont
 use Rattle.cedar_gate_model.specs.Reading.{given}
 use Rattle.cedar_gate_model.specs.Bundle.{Functions}
 use Rattle.cedar_gate_model.specs.ReadingForms.{word_of, first_form, if_passing}
-use Rattle.cedar_gate_model.specs.ReadingExpression.{expression_read, fields_read}
+use Rattle.cedar_gate_model.specs.ReadingExpression.{second, expression_read, fields_read}
 use Rattle.cedar_evaluator_model.specs.Reauthorize.{restricted_left, context_from}
 
 -- a scope that knows nothing but the functions
@@ -37,11 +38,11 @@ if_value l = None
 
 -- A value: a restricted expression that has no unknown and doesn't fail.
 abbrev pub value_read : Functions → Data → Option Made
-value_read x d = given (given (expression_read d) (if_passing is_restricted)) (λ t. if_value (left_of_restricted x t))
+value_read x d = given (given (expression_read second d) (if_passing is_restricted)) (λ t. if_value (left_of_restricted x t))
 
 -- the record of an object of restricted expressions, evaluated
 abbrev pub fields_context_read : Functions → Data → Option Context
-fields_context_read x d = given (given (fields_read d) (λ fs. if_passing is_restricted (record_literal fs))) (λ t. context_from (left_of_restricted x t))
+fields_context_read x d = given (given (fields_read second d) (λ fs. if_passing is_restricted (record_literal fs))) (λ t. context_from (left_of_restricted x t))
 
 -- A context: unknown, or an object of restricted expressions, whose evaluation doesn't fail.
 abbrev pub context_read : Functions → Data → Option Context

@@ -108,16 +108,15 @@ AnswersAreTheWholeStores = (c : Course) (es : List Entry) (a : Answer) → MayRu
 abbrev pub AnswersNeedTheLoadedAlone : Type 0
 AnswersNeedTheLoadedAlone = (c : Course) (es : List Entry) (a : Answer) → IsProper c → MayRun c es (answered a) → a ≡ answer_of (loaded_world c es) c.submission.policies
 
--- its errors are missing entities, overflows and failures of extensions
+-- its errors are missing entities, overflows, zero divisors and failures of extensions
 abbrev pub ErrorsAreExpected : Type 0
 ErrorsAreExpected = (c : Course) (es : List Entry) (a : Answer) (e : PolicyError) → IsProper c → MayRun c es (answered a) → Contains a.errors e → IsExpected e.fault
 
--- All is bound and loaded: the request conforms, nothing is wanted, and each uid that was asked for has an entity.
+-- All is bound and loaded: the request conforms, and nothing is wanted.
 pub record IsReady (c : Course) (s : State) : Type 0 where
   pub bound : HasOpenName c.start s → ⊥
   pub loaded : NothingIsWanted (session_of c) s
   pub conforms : RequestConforms (schema_in c.submission) (request_of (world_now (session_of c) s))
-  pub there : (u : Uid) → Contains s.asked u → IsSome (c.store u)
 
 -- then a decision that is asked for is given
 abbrev pub ReadyDecisionsAreOwed : Type 0

@@ -27,7 +27,7 @@ use Rattle.cedar_gate_model.specs.Bundle.{Functions}
 use Rattle.cedar_gate_model.specs.Slice.{InSlice}
 use Rattle.cedar_evaluator_model.specs.Reauthorize.{context_from}
 use Rattle.cedar_gate_model.specs.ReadingValue.{with_functions, left_of_restricted}
-use Rattle.cedar_gate_model.specs.Moment.{Completes, told, request_of}
+use Rattle.cedar_gate_model.specs.Moment.{Completes, request_of}
 use Rattle.std.specs.Map.{lookup, keys_of}
 use Rattle.std.specs.Option.{option_map_or}
 use Rattle.cedar_store_model.specs.Reads.{uid_of}
@@ -86,10 +86,12 @@ scope_now x s store = record (with_functions x.functions) {
 abbrev pub whole_store : Setup → Uid → Found V
 whole_store x u = if declares_action x.schema u then held (as_entity x.schema u) else if_uid u (found_as whole (x.store u))
 
--- what is known by now
+-- What is known by now: of the store the declared actions, the entities that were answered, and which of the uids that were asked for
+-- have none.
 abbrev pub known_now : Setup → State → World
-known_now x s =
-    record (known_world (scope_now x s (λ u. unloaded u))) { store = λ u. if declares_action x.schema u || list_any (uid_eq u) s.asked then told u (whole_store x u) else unloaded u }
+known_now x s = record (known_world (scope_now x s (λ u. unloaded u))) {
+  store = λ u. if declares_action x.schema u || list_any (uid_eq u) s.asked then whole_store x u else unloaded u;
+}
 
 -- what is known by now, over the whole store, which the answer stands on
 abbrev pub world_now : Setup → State → World

@@ -5,7 +5,7 @@ use Rattle.std.specs.List.{flat_map}
 use Rattle.cedar_expr_model.specs.Name.{Text, Name}
 use Rattle.cedar_expr_model.specs.Uid.{Uid, uid_eq}
 use Rattle.cedar_expr_model.specs.Value.{truth, long, text, entity, V, prim, record_of, extension, no_fields}
-use Rattle.cedar_expr_model.specs.Tree.{principal, action, context, Tree, lit, var, slot, unknown, both, binary, equal, less, plus, call, get_attr, is_type, principal_slot, string_core, extension_core, no_trees, tree, record_literal, no_tree_fields, tree_field}
+use Rattle.cedar_expr_model.specs.Tree.{principal, action, context, Tree, lit, var, slot, unknown, both, binary, equal, less, plus, remainder, call, get_attr, is_type, principal_slot, string_core, extension_core, no_trees, tree, record_literal, no_tree_fields, tree_field}
 use Rattle.cedar_expr_model.specs.Made.{Made, made_prim, made_extension, no_made_fields}
 use Rattle.cedar_expr_model.specs.Table.{Table, function_style, Called, gives, fails}
 use Rattle.cedar_expr_model.specs.ValueParts.{known}
@@ -212,9 +212,12 @@ after bs us = record { bound = bs; asked = us }
 abbrev pub lines : List Text → Text
 lines ts = flat_map line ts
 
--- a policy that overflows, and one whose function fails
+-- a policy that overflows, one whose divisor is zero, and one whose function fails
 abbrev pub p4 : Policy
 p4 = policy (codes "p4") permit (binary equal (binary plus (lit (long (pos 9223372036854775807))) (lit (long (pos 1)))) (lit (long (pos 0))))
+
+abbrev pub by_zero : Policy
+by_zero = policy (codes "p") permit (binary equal (binary remainder (lit (long (pos 7))) (lit (long (pos 0)))) (lit (long (pos 0))))
 
 abbrev pub rank_tree : Text → Tree
 rank_tree s = call rank (tree (lit (text s)) no_trees)
@@ -265,6 +268,11 @@ not_ok = (user_a, person user_a false) ∷ (doc_d, document user_b) ∷ []
 
 abbrev pub after_a_round : World
 after_a_round = known_now (setup_with 2 no_functions by_a not_ok) (after [] (doc_d ∷ user_a ∷ []))
+
+-- What is known of a store that lacks the owner of the document, after rounds in which the document, the principal and the owner were
+-- asked for.
+abbrev pub after_an_absence : World
+after_an_absence = known_now (setup_with 2 no_functions by_a without_b) (after [] (doc_d ∷ user_a ∷ user_b ∷ []))
 
 -- a whole store in which the principal isn't ok
 abbrev pub reviewed : World

@@ -148,6 +148,10 @@ with_part key value = object_text ((key, value) ∷ without key usual_parts)
 abbrev pub with_id : Text → Text
 with_id id = with_part (codes "policies") (codes "[{'id':'" ++ (id ++ codes "','effect':'permit'}]"))
 
+-- the usual bundle in this version, with a policy that has the operator `rem`
+abbrev pub with_rem : Text → Text
+with_rem version = object_text ((codes "version", version) ∷ (codes "policies", codes "[{'id':'p','effect':'permit','when':['eq',['rem',7,2],1]}]") ∷ without (codes "version") (without (codes "policies") usual_parts))
+
 -- the bundle is read with each of these values, or with none of them
 abbrev pub takes_part : Text → List Text → Bool
 takes_part key values = takes (bundle_read ranks) (map (with_part key) values)

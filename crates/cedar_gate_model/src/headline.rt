@@ -11,8 +11,8 @@ use crate::run_laws::{
 /// Each run of an accepted submission, with functions that are fair and make their values as they are written, keeps the promises: no uid is
 /// asked for twice, only those are that lie fewer steps away than the level says, at the end of an answered run exactly these, in at most as
 /// many rounds as the level after the last binding; the answer is that of the whole store, and each earlier decision is that one; one is owed
-/// once all is bound and loaded and nothing that was asked for was absent; each error is a missing entity, an overflow or an extension's; and
-/// the transcript is legal in each world that completes what was bound and answered.
+/// once all is bound and loaded; each error is a missing entity, an overflow, a zero divisor or an extension's; and the transcript is legal
+/// in each world that completes what was bound and answered.
 pub fn runs_keep_the_headline()
     ensures { Headline }
 {

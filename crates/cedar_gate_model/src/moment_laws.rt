@@ -4,8 +4,8 @@
 ghost use Rattle.cedar_gate_model.specs.DoneBy.{MomentsAreStates, MomentsKeep, WantedIsNew, AnsweredRunsAreLegal};
 ghost use Rattle.cedar_gate_model.specs.Knowing.{CompletionsKeepTheStore, CompletionsKnowMore};
 
-/// The loaded entities beside the declared actions are a partial store, which every completion of a session's state extends; and in the
-/// session of a course every completion knows all that is known.
+/// The declared actions, the loaded entities and the known absences are a partial store, which every completion of a session's state
+/// extends; and in the session of a course every completion knows all that is known.
 pub fn completions_know_what_is_known()
     ensures store { CompletionsKeepTheStore }
     ensures more { CompletionsKnowMore }

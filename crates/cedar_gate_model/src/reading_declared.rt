@@ -3,11 +3,12 @@
 
 ghost use Rattle.std.specs.Prelude.{◌≡◌, true, false, Some, None, codes, [], ◌∷◌, pos};
 ghost use Rattle.cedar_expr_model.specs.Value.{truth, long};
-ghost use Rattle.cedar_expr_model.specs.Tree.{less, lit, binary};
+ghost use Rattle.cedar_expr_model.specs.Tree.{less, remainder, lit, binary};
 ghost use Rattle.cedar_schema_model.specs.Reference.{to_entity, to_common};
 ghost use Rattle.cedar_schema_model.specs.Declarations.{bool_expr, long_expr, string_expr, set_expr, record_expr, reference, extension_expr, no_field_exprs, field_expr, standard_expr, enumerated_expr, external_expr};
 ghost use Rattle.cedar_store_model.specs.Policy.{permit, forbid, named, own_slot, any, exactly, inside, of_kind, of_kind_inside, any_action, exactly_action, inside_actions, no_bindings};
 ghost use Rattle.cedar_gate_model.specs.ReadingSchema.{type_read, attributes_read, common_read, kind_read, entity_type_read, action_read, namespace_named, namespace_read, fragment_read, schema_read};
+ghost use Rattle.cedar_gate_model.specs.ReadingExpression.{first, second};
 ghost use Rattle.cedar_gate_model.specs.ReadingPolicy.{target_read, scope_read, action_scope_read, bindings_read, policy_read};
 ghost use Rattle.cedar_gate_model.specs.WorkedReading.{reads_as, takes, refuses, name, name_under, user_a, view, plain_policy, plain_action, declaring};
 
@@ -88,14 +89,16 @@ pub fn worked_scopes()
 
 /// Policies. What lacks is any, `true` or unbound.
 pub fn worked_policies()
-    ensures least { reads_as policy_read (codes "{'id':'p','effect':'permit'}") ≡ Some plain_policy }
-    ensures forbids { reads_as policy_read (codes "{'id':'p','effect':'forbid'}") ≡ Some (record plain_policy { effect = forbid }) }
-    ensures parts { reads_as policy_read (codes "{'id':'p','effect':'permit','principal':{'in':'?'},'action':{'in':[]},'resource':{'is':'Doc'}}") ≡ Some (record plain_policy { principal = inside own_slot; action = inside_actions []; resource = of_kind (name (codes "Doc")) }) }
-    ensures body { reads_as policy_read (codes "{'id':'p','effect':'permit','when':['less',1,2]}") ≡ Some (record plain_policy { body = Some (binary less (lit (long (pos 1))) (lit (long (pos 2)))) }) }
-    ensures written_body { reads_as policy_read (codes "{'id':'p','effect':'permit','when':true}") ≡ Some (record plain_policy { body = Some (lit (truth true)) }) }
-    ensures link { reads_as policy_read (codes "{'id':'p','effect':'permit','link':{'?principal':['User','a']}}") ≡ Some (record plain_policy { bindings = record no_bindings { principal = Some user_a } }) }
+    ensures least { reads_as (policy_read first) (codes "{'id':'p','effect':'permit'}") ≡ Some plain_policy }
+    ensures forbids { reads_as (policy_read first) (codes "{'id':'p','effect':'forbid'}") ≡ Some (record plain_policy { effect = forbid }) }
+    ensures parts { reads_as (policy_read first) (codes "{'id':'p','effect':'permit','principal':{'in':'?'},'action':{'in':[]},'resource':{'is':'Doc'}}") ≡ Some (record plain_policy { principal = inside own_slot; action = inside_actions []; resource = of_kind (name (codes "Doc")) }) }
+    ensures body { reads_as (policy_read first) (codes "{'id':'p','effect':'permit','when':['less',1,2]}") ≡ Some (record plain_policy { body = Some (binary less (lit (long (pos 1))) (lit (long (pos 2)))) }) }
+    ensures rem_body { reads_as (policy_read second) (codes "{'id':'p','effect':'permit','when':['rem',1,2]}") ≡ Some (record plain_policy { body = Some (binary remainder (lit (long (pos 1))) (lit (long (pos 2)))) }) }
+    ensures no_rem_body { refuses (policy_read first) (codes "{'id':'p','effect':'permit','when':['rem',1,2]}" ∷ []) ≡ true }
+    ensures written_body { reads_as (policy_read first) (codes "{'id':'p','effect':'permit','when':true}") ≡ Some (record plain_policy { body = Some (lit (truth true)) }) }
+    ensures link { reads_as (policy_read first) (codes "{'id':'p','effect':'permit','link':{'?principal':['User','a']}}") ≡ Some (record plain_policy { bindings = record no_bindings { principal = Some user_a } }) }
     ensures resource_link { reads_as bindings_read (codes "{'?resource':['User','a']}") ≡ Some (record no_bindings { resource = Some user_a }) }
     ensures no_link { reads_as bindings_read (codes "{}") ≡ Some no_bindings }
     ensures no_links { refuses bindings_read (codes "{'?principal':null}" ∷ codes "{'principal':['User','a']}" ∷ codes "{'?action':['Action','view']}" ∷ codes "[]" ∷ codes "{'?principal':'?'}" ∷ []) ≡ true }
-    ensures no_policies { refuses policy_read (codes "{'id':'p'}" ∷ codes "{'effect':'permit'}" ∷ codes "{'id':1,'effect':'permit'}" ∷ codes "{'id':'p','effect':'allow'}" ∷ codes "{'id':'p','effect':'permit','more':1}" ∷ codes "{'id':'p','effect':'permit','principal':{}}" ∷ codes "{'id':'p','effect':'permit','principal':null}" ∷ codes "{'id':'p','effect':'permit','action':{'eq':'?'}}" ∷ codes "{'id':'p','effect':'permit','resource':{'eq':['Doc','d'],'in':'?'}}" ∷ codes "{'id':'p','effect':'permit','when':null}" ∷ codes "{'id':'p','effect':'permit','when':['has',['var','context']]}" ∷ codes "{'id':'p','effect':'permit','link':null}" ∷ codes "[]" ∷ []) ≡ true }
+    ensures no_policies { refuses (policy_read first) (codes "{'id':'p'}" ∷ codes "{'effect':'permit'}" ∷ codes "{'id':1,'effect':'permit'}" ∷ codes "{'id':'p','effect':'allow'}" ∷ codes "{'id':'p','effect':'permit','more':1}" ∷ codes "{'id':'p','effect':'permit','principal':{}}" ∷ codes "{'id':'p','effect':'permit','principal':null}" ∷ codes "{'id':'p','effect':'permit','action':{'eq':'?'}}" ∷ codes "{'id':'p','effect':'permit','resource':{'eq':['Doc','d'],'in':'?'}}" ∷ codes "{'id':'p','effect':'permit','when':null}" ∷ codes "{'id':'p','effect':'permit','when':['has',['var','context']]}" ∷ codes "{'id':'p','effect':'permit','link':null}" ∷ codes "[]" ∷ []) ≡ true }
 {}

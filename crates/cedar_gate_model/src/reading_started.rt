@@ -9,10 +9,11 @@ ghost use Rattle.cedar_expr_model.specs.Made.{made_prim, made_set, made_record, 
 ghost use Rattle.cedar_expr_model.specs.ValueParts.{known};
 ghost use Rattle.cedar_evaluator_model.specs.Scope.{uid, unknown_uid, closed, residual_fields, unknown_context};
 ghost use Rattle.cedar_gate_model.specs.Transcript.{load, bind_name, decide};
+ghost use Rattle.cedar_gate_model.specs.ReadingExpression.{first, second};
 ghost use Rattle.cedar_gate_model.specs.ReadingValue.{value_read, context_read};
 ghost use Rattle.cedar_gate_model.specs.ReadingRequest.{entry_read, request_read, parts_read, entity_read, store_read, step_read, steps_read};
-ghost use Rattle.cedar_gate_model.specs.ReadingBundle.{bundle_read, input_read};
-ghost use Rattle.cedar_gate_model.specs.WorkedReading.{reads_as, takes, refuses, with_quotes, name, user_a, view, ranks, rank, rank_of, nested, only_member, plain_start, plain_entity, usual_text, usual_bundle, lacking, with_id, takes_part, refuses_part, but_last, tail, brackets};
+ghost use Rattle.cedar_gate_model.specs.ReadingBundle.{version_read, bundle_read, input_read};
+ghost use Rattle.cedar_gate_model.specs.WorkedReading.{reads_as, takes, refuses, with_quotes, name, user_a, view, ranks, rank, rank_of, nested, only_member, plain_start, plain_entity, usual_text, usual_bundle, lacking, with_part, with_rem, with_id, takes_part, refuses_part, but_last, tail, brackets};
 ghost use Rattle.cedar_gate_model.specs.ReadingForms.{number_between};
 
 /// Values: restricted expressions, evaluated when they are read.
@@ -23,7 +24,7 @@ pub fn worked_values()
     ensures record { reads_as (value_read ranks) (codes "['record',{'b':1,'a':'x'}]") ≡ Some (made_record (made_field (codes "a") (made_prim (text (codes "x"))) (made_field (codes "b") (made_prim (long (pos 1))) no_made_fields))) }
     ensures extension { reads_as (value_read ranks) (codes "['call','rank','7']") ≡ Some (rank_of (codes "7")) }
     ensures fails { refuses (value_read ranks) (codes "['call','rank','x']" ∷ codes "['call','rank']" ∷ codes "['call','rank',7]" ∷ codes "['call','rank','7','7']" ∷ codes "['call','other','7']" ∷ codes "['set',['call','rank','x']]" ∷ []) ≡ true }
-    ensures not_restricted { refuses (value_read ranks) (codes "['not',true]" ∷ codes "['and',true,['eq',1,1]]" ∷ codes "['var','principal']" ∷ codes "['slot','?principal']" ∷ codes "['get',['record',{'a':1}],'a']" ∷ codes "['set',['add',1,2]]" ∷ []) ≡ true }
+    ensures not_restricted { refuses (value_read ranks) (codes "['not',true]" ∷ codes "['and',true,['eq',1,1]]" ∷ codes "['var','principal']" ∷ codes "['slot','?principal']" ∷ codes "['get',['record',{'a':1}],'a']" ∷ codes "['set',['add',1,2]]" ∷ codes "['rem',1,2]" ∷ []) ≡ true }
     ensures unknown { refuses (value_read ranks) (codes "['unknown','u']" ∷ codes "['set',['unknown','u']]" ∷ codes "['call','rank',['unknown','u']]" ∷ codes "['record',{'a':1,'b':['unknown','u']}]" ∷ []) ≡ true }
     ensures unread { refuses (value_read ranks) (codes "null" ∷ codes "{}" ∷ codes "1.0" ∷ codes "[]" ∷ []) ≡ true }
     ensures deepest { is_some (value_read ranks (nested 511)) ≡ true }
@@ -39,7 +40,7 @@ pub fn worked_contexts()
     ensures not_looked_up { takes (context_read ranks) (codes "{'r':['call','other',['unknown','t'],1]}" ∷ []) ≡ true }
     ensures unknown { reads_as (context_read ranks) (codes "'unknown'") ≡ Some unknown_context }
     ensures fails { refuses (context_read ranks) (codes "{'r':['call','rank','x']}" ∷ codes "{'a':['unknown','u'],'r':['call','other','7']}" ∷ []) ≡ true }
-    ensures not_restricted { refuses (context_read ranks) (codes "{'a':['var','context']}" ∷ codes "{'a':['not',true]}" ∷ codes "{'a':['set',['neg',1]]}" ∷ []) ≡ true }
+    ensures not_restricted { refuses (context_read ranks) (codes "{'a':['var','context']}" ∷ codes "{'a':['not',true]}" ∷ codes "{'a':['set',['neg',1]]}" ∷ codes "{'a':['rem',1,2]}" ∷ []) ≡ true }
     ensures unread { refuses (context_read ranks) (codes "null" ∷ codes "[]" ∷ codes "'Unknown'" ∷ codes "['record',{}]" ∷ codes "{'a':null}" ∷ []) ≡ true }
     ensures deepest { is_some (context_read ranks (only_member (codes "a") (nested 510))) ≡ true }
     ensures too_deep { context_read ranks (only_member (codes "a") (nested 511)) ≡ None }
@@ -87,7 +88,13 @@ pub fn worked_bundles()
     ensures no_levels { refuses (number_between 0 4294967295) (codes "4294967296" ∷ codes "-1" ∷ codes "1.5" ∷ []) ≡ true }
     ensures limit { reads_as (number_between 1 512) (codes "512") ≡ Some 512 }
     ensures no_limits { refuses (number_between 1 512) (codes "0" ∷ codes "513" ∷ codes "16.0" ∷ codes "null" ∷ []) ≡ true }
-    ensures no_versions { refuses_part (codes "version") (codes "2" ∷ codes "0" ∷ codes "1.0" ∷ codes "'1'" ∷ codes "null" ∷ []) ≡ true }
+    ensures first_version { reads_as version_read (codes "1") ≡ Some first }
+    ensures second_version { reads_as version_read (codes "2") ≡ Some second }
+    ensures no_versions { refuses version_read (codes "0" ∷ codes "3" ∷ codes "-1" ∷ codes "1.0" ∷ codes "2e0" ∷ codes "'1'" ∷ codes "null" ∷ codes "[2]" ∷ []) ≡ true }
+    ensures another_version { reads_as (bundle_read ranks) (with_part (codes "version") (codes "2")) ≡ Some usual_bundle }
+    ensures no_other_versions { refuses_part (codes "version") (codes "3" ∷ codes "0" ∷ codes "1.0" ∷ codes "'1'" ∷ codes "null" ∷ []) ≡ true }
+    ensures rem_in_second { takes (bundle_read ranks) (with_rem (codes "2") ∷ []) ≡ true }
+    ensures no_rem_in_first { refuses (bundle_read ranks) (with_rem (codes "1") ∷ []) ≡ true }
     ensures levels { takes_part (codes "level") (codes "1" ∷ codes "4294967295" ∷ []) ≡ true }
     ensures other_levels { refuses_part (codes "level") (codes "1.5" ∷ codes "4294967296" ∷ []) ≡ true }
     ensures parts { refuses_part (codes "schema") (codes "{}" ∷ []) ≡ true }
@@ -115,5 +122,5 @@ pub fn worked_inputs()
     ensures brackets { input_read ranks (brackets 128 []) ≡ None }
     ensures brackets_of_json { is_some (read (brackets 127 [])) ≡ true }
     ensures too_many_brackets { read (brackets 128 []) ≡ None }
-    ensures last_of_repeated_keys { input_read ranks (with_quotes (codes "{'version':2," ++ tail usual_text)) ≡ Some usual_bundle }
+    ensures last_of_repeated_keys { input_read ranks (with_quotes (codes "{'version':3," ++ tail usual_text)) ≡ Some usual_bundle }
 {}

@@ -39,9 +39,9 @@ pub fn runs_are_legal()
 {}
 
 /// Each decision that is given on the way of an answered run is that of its answer. One that is asked for is given where all is bound,
-/// the request conforms, nothing is wanted and each uid that was asked for has an entity. Evaluating the policies over what is known
-/// gives each decision that is owed, and a decision that it gives is that of every completion: of each session that opened and bound
-/// its names, as it is at each decision of a run, where the functions make their values as they are written.
+/// the request conforms and nothing is wanted. Evaluating the policies over what is known gives each decision that is owed, and a
+/// decision that it gives is that of every completion: of each session that opened and bound its names, as it is at each decision of a
+/// run, where the functions make their values as they are written.
 pub fn decisions_are_the_answers()
     ensures given { GivenDecisionsAreTheAnswers }
     ensures owed { ReadyDecisionsAreOwed }
@@ -59,7 +59,7 @@ pub fn runs_may_be()
 }
 
 /// The answer of a run is that of the whole store, whatever stands in it outside the slice, and so that of the loaded entities and the
-/// declared actions alone. Its errors are missing entities, overflows and failures of extensions.
+/// declared actions alone. Its errors are missing entities, overflows, zero divisors and failures of extensions.
 pub fn answers_need_the_slice_alone()
     ensures whole { AnswersAreTheWholeStores }
     ensures loaded { AnswersNeedTheLoadedAlone }

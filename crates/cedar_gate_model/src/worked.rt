@@ -17,7 +17,7 @@ ghost use Rattle.cedar_gate_model.specs.GateLaws.{policy_causes, admits, asked_i
 ghost use Rattle.cedar_gate_model.specs.Acceptance.{schema, external, repeated_policy, unlinked_slot, slot_outside_scope, unknown_in_policy, nests_too_deep, unknown_entity_type, unknown_action, no_member, ill_typed, reaches_too_far, is_clear_of, is_linked, keeps_slots_in_scope, asks_schema, has_schema, number_of, warnings_of, policies_for, schema_in, extension_types};
 ghost use Rattle.cedar_gate_model.specs.Slice.{mentioned, mentioned_by_found, near, slice, roots};
 ghost use Rattle.cedar_expr_model.specs.Lists.{when};
-ghost use Rattle.cedar_gate_model.specs.Moment.{Completes, told, at_first, is_bound, entry_known, context_known, known_at};
+ghost use Rattle.cedar_gate_model.specs.Moment.{Completes, at_first, is_bound, entry_known, context_known, known_at};
 ghost use Rattle.cedar_gate_model.specs.Transcript.{round, bound, decided};
 ghost use Rattle.cedar_gate_model.specs.Session.{at_start, value_of, uid_in, entry_now, context_now, whole_store, known_now, world_now, is_open_name, with_bound, OpenFault, BindFault, not_open, against_annotation, no_entity_or_record, context_fails, open_number, quote_in_name, name_of_variable, bind_number, supply_number, SupplyFault, not_wanted, lacking, wrong_entity, answer_number, not_bound, still_wanted, not_conforming, repeated};
 ghost use Rattle.cedar_gate_model.specs.Runs.{supplied_by, opening_refused, supply_refused, binding_refused, answer_refused};
@@ -25,7 +25,7 @@ ghost use Rattle.cedar_gate_model.specs.Owed.{IsForced};
 ghost use Rattle.cedar_evaluator_model.specs.Members.{met_limit};
 ghost use Rattle.cedar_gate_model.specs.Lines.{is_answered, is_refused, is_unreadable, is_stopped, warning_lines, entry_lines, answer_lines, end_lines, end_status, refused_line, unreadable_line, Prints};
 ghost use Rattle.cedar_store_model.specs.Answer.{allow, deny, reasons_of};
-ghost use Rattle.cedar_gate_model.specs.WorkedGate.{user_b, user_z, no_uid, alice, p0, p1, p2, p3, p5, p6, p7, submitted, within, twice_users, slot_in_body, and_unknown, and_edit, and_blue, robot, robots, viewing_by, person, document, staff, without_b, below_z, world_of, by_a, by_some_user, by_anyone, asking, no_context, rank, open_rank, open_named, with_ranks, no_functions, setup_with, text_made, uid_made, number_made, after, lines, p4, ranking, answer_with, in_quotes, user_text, good_bundle, far_bundle, open_bundle, nothing_known, nobody_known, after_a_round, nested_with, reviewed, bounds, by_a_on_b, nobody_there, ordinary, right_supply, with_z, only_d, twice_d, b_for_a, lacks_ok};
+ghost use Rattle.cedar_gate_model.specs.WorkedGate.{user_b, user_z, no_uid, alice, p0, p1, p2, p3, p5, p6, p7, submitted, within, twice_users, slot_in_body, and_unknown, and_edit, and_blue, robot, robots, viewing_by, person, document, staff, without_b, below_z, world_of, by_a, by_some_user, by_anyone, asking, no_context, rank, open_rank, open_named, with_ranks, no_functions, setup_with, text_made, uid_made, number_made, after, lines, p4, by_zero, ranking, answer_with, in_quotes, user_text, good_bundle, far_bundle, open_bundle, nothing_known, nobody_known, after_a_round, after_an_absence, nested_with, reviewed, bounds, by_a_on_b, nobody_there, ordinary, right_supply, with_z, only_d, twice_d, b_for_a, lacks_ok};
 ghost use Rattle.cedar_evaluator_model.specs.Known.{known_entry, known_context};
 
 /// Submissions that are accepted, and one that isn't for each fault.
@@ -117,15 +117,12 @@ pub fn worked_knowledge()
     ensures after_binding { slice small 2 (known_now (setup_with 2 no_functions by_some_user staff) (after ((codes "principal", uid_made user_b) ∷ []) (doc_d ∷ user_b ∷ []))) ≡ user_b ∷ doc_d ∷ user_a ∷ user_b ∷ [] }
     ensures held_now { (known_now (setup_with 2 no_functions by_a staff) (after [] (user_b ∷ []))).store user_b ≡ held (person user_a true) }
     ensures not_asked { (known_now (setup_with 2 no_functions by_a staff) at_start).store user_b ≡ not_loaded }
-    ensures absent_now { (known_now (setup_with 2 no_functions by_a without_b) (after [] (user_b ∷ []))).store user_b ≡ not_loaded }
+    ensures absent_now { (known_now (setup_with 2 no_functions by_a without_b) (after [] (user_b ∷ []))).store user_b ≡ missing }
     ensures absent_at_last { (world_now (setup_with 2 no_functions by_a without_b) (after [] (user_b ∷ []))).store user_b ≡ missing }
     ensures an_action { (known_now (setup_with 2 no_functions by_a ((view, document user_b) ∷ [])) at_start).store view ≡ held (record { attributes = []; tags = []; ancestors = [] }) }
     ensures order { are_rising (doc_d ∷ user_a ∷ user_b ∷ []) ≡ true }
     ensures no_order { are_rising (user_a ∷ doc_d ∷ []) ≡ false }
     ensures no_repeat { are_rising (doc_d ∷ doc_d ∷ []) ≡ false }
-    ensures answer { told user_a (held (person user_a true)) ≡ held (person user_a true) }
-    ensures absence { told user_a missing ≡ not_loaded }
-    ensures no_uid { told no_uid missing ≡ missing }
     ensures no_uid_now { (known_now (setup_with 2 no_functions by_a staff) at_start).store no_uid ≡ missing }
     ensures no_uid_there { (world_now (setup_with 2 no_functions by_a ((no_uid, person user_a true) ∷ [])) at_start).store no_uid ≡ missing }
 {}
@@ -185,22 +182,25 @@ pub fn worked_openings()
     ensures nothing_open { OpenFault by_a quote_in_name → ⊥ }
 {}
 
-/// Decisions that what is known forces: a forbid of all; a permit of the principal; and none, where the only permit isn't known yet.
+/// Decisions that what is known forces: a forbid of all; a permit of the principal; a permit that needs an entity which was asked for and
+/// isn't there; and none, where the only permit isn't known yet.
 pub fn worked_owed()
     ensures forbidden { IsForced nobody_known (p3 ∷ []) deny }
     ensures permitted { IsForced nothing_known (p0 ∷ p1 ∷ []) allow }
     ensures permitted_later { IsForced after_a_round (p0 ∷ p1 ∷ p2 ∷ []) allow }
+    ensures denied_by_absence { IsForced after_an_absence (p0 ∷ []) deny }
     ensures not_denied { IsForced nothing_known (p0 ∷ []) deny → ⊥ }
     ensures not_allowed { IsForced nothing_known (p0 ∷ []) allow → ⊥ }
     ensures not_yet { IsForced nothing_known (p0 ∷ p1 ∷ p2 ∷ []) allow → ⊥ }
 {}
 
-/// The lines of runs: two rounds and an answer; an entity that is missing; an overflow; a function that fails; decisions; refusals.
+/// The lines of runs: two rounds and an answer; an entity that is missing; an overflow; a zero divisor; a function that fails; decisions; refusals.
 pub fn worked_lines()
     ensures rounds { entry_lines 1 (round (doc_d ∷ user_a ∷ []) ∷ bound (codes "x") ∷ round (user_b ∷ []) ∷ []) ≡ lines ((codes "round 1 Doc::" ++ (in_quotes (codes "d") ++ (codes " " ++ user_text (codes "a")))) ∷ (codes "round 2 " ++ user_text (codes "b")) ∷ []) }
     ensures allowed { answer_lines (answer_with no_functions staff (doc_d ∷ user_a ∷ user_b ∷ []) (p0 ∷ [])) ≡ lines (codes "answer Allow" ∷ (codes "reason " ++ in_quotes (codes "p0")) ∷ []) }
     ensures missing_user { answer_lines (answer_with no_functions without_b (doc_d ∷ user_a ∷ user_b ∷ []) (p0 ∷ [])) ≡ lines (codes "answer Deny" ∷ (codes "error " ++ (in_quotes (codes "p0") ++ (codes " missing " ++ user_text (codes "b")))) ∷ []) }
     ensures overflowed { answer_lines (answer_with no_functions staff [] (p4 ∷ [])) ≡ lines (codes "answer Deny" ∷ (codes "error " ++ (in_quotes (codes "p4") ++ codes " overflow")) ∷ []) }
+    ensures no_divisor { answer_lines (answer_with no_functions staff [] (by_zero ∷ [])) ≡ lines (codes "answer Deny" ∷ (codes "error " ++ (in_quotes (codes "p") ++ codes " zero")) ∷ []) }
     ensures failed { answer_lines (answer_with with_ranks staff [] (ranking ∷ [])) ≡ lines (codes "answer Deny" ∷ (codes "error " ++ (in_quotes (codes "p") ++ codes " extension rank")) ∷ []) }
     ensures decisions { entry_lines 1 (decided None ∷ round (user_a ∷ []) ∷ decided (Some allow) ∷ decided (Some deny) ∷ []) ≡ lines (codes "decision None" ∷ (codes "round 1 " ++ user_text (codes "a")) ∷ codes "decision Allow" ∷ codes "decision Deny" ∷ []) }
     ensures warning { warning_lines (submitted m 0 (p5 ∷ [])) ≡ lines ((codes "impossible " ++ in_quotes (codes "p5")) ∷ []) }

@@ -10,7 +10,7 @@ use Rattle.cedar_expr_model.specs.Made.{Made}
 use Rattle.cedar_expr_model.specs.Value.{V}
 use Rattle.cedar_store_model.specs.World as world
 use Rattle.cedar_store_model.specs.World.{Found, missing, not_loaded}
-use Rattle.cedar_store_model.specs.Store.{Extent, whole, partial, found_as, look_up}
+use Rattle.cedar_store_model.specs.Store.{Extent, whole, partial, found_as, extent_for, look_up}
 use Rattle.cedar_store_entities.specs.StoreParts.{entities_in, kept_in}
 use Rattle.cedar_store_entities.specs.Stores.{store_seen, store_made}
 use Rattle.cedar_store_entities.specs.Views.{Kept, bare_entity, entity_uid, entity_kept, kept_pair}
@@ -65,7 +65,7 @@ module _ (s : Entities) (u : Uid) (v : EntityUID) (uid : is_uid u ≡ true) (sam
 
   -- nothing is answered where nothing is held
   pub by_none : look_up (store_seen s) u ≡ missing → answered_of (v, None) ≡ answer_from (stored (store_made s)) u
-  by_none h = by_nothing (is_missing (store_seen s).extent _ (of_uid (is_uid u) (found_as (store_seen s).extent (lookup (uid_eq u) (entities_in s.entities.entries))) missing missing uid h))
+  by_none h = by_nothing (is_missing (extent_for (store_seen s) u) _ (of_uid (is_uid u) (found_as (extent_for (store_seen s) u) (lookup (uid_eq u) (entities_in s.entities.entries))) missing missing uid h))
 
   pub by_unloaded : look_up (store_seen s) u ≡ not_loaded → answered_of (v, None) ≡ answer_from (stored (store_made s)) u
-  by_unloaded h = by_nothing (is_unloaded (store_seen s).extent _ (of_uid (is_uid u) (found_as (store_seen s).extent (lookup (uid_eq u) (entities_in s.entities.entries))) missing not_loaded uid h))
+  by_unloaded h = by_nothing (is_unloaded (extent_for (store_seen s) u) _ (of_uid (is_uid u) (found_as (extent_for (store_seen s) u) (lookup (uid_eq u) (entities_in s.entities.entries))) missing not_loaded uid h))

@@ -72,6 +72,7 @@ fn push_fault(out: &mut String, error: &EvaluationError) -> Result<(), AllocErro
             write!(out, " missing {uid}")
         }
         EvaluationError::IntegerOverflow(_) => out.push_str(" overflow"),
+        EvaluationError::ZeroDivisor(_) => out.push_str(" zero"),
         EvaluationError::FailedExtensionFunctionExecution(e) => {
             let name = &e.extension_name;
             write!(out, " extension {name}")

@@ -1,5 +1,5 @@
 -- What the evaluators of a session know.
-use Rattle.std.proofs.Common.{◌≡◌, ◌∙◌, ℕ, Bool, true, false, cond, List, [], ◌∷◌, map, Option, Some, None, option_map, refl, sym, ap, subst, if◌then◌else◌}
+use Rattle.std.proofs.Common.{◌≡◌, ◌∙◌, ◌||◌, ℕ, Bool, true, false, cond, List, [], ◌∷◌, map, Option, Some, None, option_map, refl, sym, ap, subst, if◌then◌else◌}
 use Rattle.std.specs.List.{list_any}
 use Rattle.std.specs.Map.{lookup}
 use Rattle.cedar_expr_functions.specs.Tables.{table_of}
@@ -14,12 +14,13 @@ use Rattle.cedar_expr_model.specs.ValueParts.{Part, known, left}
 use Rattle.cedar_expr_model.proofs.Equality.{uid_eq-Decides}
 use Rattle.cedar_expr_names.specs.Views.{uid_of}
 use Rattle.cedar_expr_names.specs.declared.entity.EntityUID.{EntityUID}
+use Rattle.cedar_store_entities.specs.Refusals.{is_present}
 use Rattle.cedar_store_entities.specs.Stores.{store_seen, store_made}
 use Rattle.cedar_store_entities.specs.Views.{Kept, entity_uid, entity_kept, entity_pair, kept_pair, bare_part, bare_entity}
 use Rattle.cedar_store_entities.specs.declared.entities.Entities.{Entities}
 use Rattle.cedar_store_entities.specs.declared.entity.Entity.{Entity}
 use Rattle.cedar_store_model.specs.Policy.{no_bindings}
-use Rattle.cedar_store_model.specs.Store.{Extent, if_uid, whole, partial}
+use Rattle.cedar_store_model.specs.Store.{Extent, all_of, some_of, extent_for, if_uid, whole, partial}
 use Rattle.cedar_store_model.specs.World as world
 use Rattle.cedar_store_model.specs.World.{Found, held}
 use Rattle.cedar_schema_model.specs.Schema as model
@@ -37,8 +38,9 @@ use Rattle.cedar_gate_sessions.specs.Laws.{loaded_store}
 use Rattle.cedar_gate_model.specs.Bundle.{Functions}
 use Rattle.cedar_gate_model.specs.RunsAnswer.{Course, session_of, IsKnownStore}
 use Rattle.cedar_gate_model.specs.Session.{Setup, State, scope_now, known_now}
+use Rattle.cedar_gate_sessions.specs.Entities.{RecordsAbsences}
 use Rattle.cedar_gate_sessions.specs.Loaded.{loaded_at}
-use Rattle.cedar_gate_sessions.specs.Sessions.{IsAt, AreLoaded, stored_in, store_in}
+use Rattle.cedar_gate_sessions.specs.Sessions.{IsAt, AreLoaded, extent_at, stored_in, store_in, was_asked}
 use Rattle.cedar_gate_sessions.specs.declared.session.Session.{Session}
 use Rattle.cedar_gate_sessions.proofs.Lookups.{lookup_seen}
 use Rattle.cedar_gate_sessions.proofs.Scopes.{scope_by, scope_is}
@@ -88,13 +90,28 @@ uid_of_found uids (e ∷ es) u k h = go (uid_eq u (entity_uid e)) refl h (uid_of
     go true q f later = subst (λ v. is_uid v ≡ true) (sym ((uid_eq-Decides u (entity_uid e)).0 q)) (uids e.uid)
     go false q f later = later f
 
--- the store of these entities, of which the others aren't known, or as all that there are
-abbrev pub made_store : Extent → List Entity → Uid → Found Made
-made_store t es u = if_uid u (found_kept t (lookup (uid_eq u) (map kept_pair es)))
+-- what isn't found isn't there
+none_present : (es : List Entity) (u : Uid) → lookup (uid_eq u) (map kept_pair es) ≡ None → is_present (all_of (map entity_pair es)) u ≡ false
+none_present [] u h = refl
+none_present (e ∷ es) u h = go (uid_eq u (entity_uid e)) h (none_present es u)
+  where
+    go : (b : Bool) → cond b (Some (entity_kept e)) (lookup (uid_eq u) (map kept_pair es)) ≡ None → (lookup (uid_eq u) (map kept_pair es) ≡ None → is_present (all_of (map entity_pair es)) u ≡ false) → (b || is_present (all_of (map entity_pair es)) u) ≡ false
+    go true f later = absurd (cc)
+    go false f later = later f
 
--- the store of the code is that
-pub store_is_made : (t : Extent) (z : Entities) (es : List Entity) → (store_seen z).extent ≡ t → store_made z ≡ map kept_pair es → (u : Uid) → store_of z u ≡ made_store t es u
-store_is_made t z es extent made u = ap (λ a. if_uid u (found_kept a (lookup (uid_eq u) (store_made z)))) extent ∙ ap (λ l. if_uid u (found_kept t (lookup (uid_eq u) l))) made
+-- the store of the code is that of these entities
+module _ (z : Entities) (es : List Entity) (made : store_made z ≡ map kept_pair es) (u : Uid) where
+  -- as all that there are
+  pub whole_is_made : store_seen z ≡ all_of (map entity_pair es) → store_of z u ≡ stored_in (λ v. true) es u
+  whole_is_made seen = λ i. if_uid u (found_kept (extent_for (seen i) u) (lookup (uid_eq u) (made i)))
+
+  -- and where the others that were asked for are recorded as absent
+  pub part_is_made : (asked : Uid → Bool) → RecordsAbsences asked (some_of (map entity_pair es) []) (store_seen z) → store_of z u ≡ stored_in asked es u
+  part_is_made asked recorded = (λ i. if_uid u (found_kept (extent_for (store_seen z) u) (lookup (uid_eq u) (made i)))) ∙ ap (if_uid u) (go (lookup (uid_eq u) (map kept_pair es)) refl)
+    where
+      go : (o : Option Kept) → lookup (uid_eq u) (map kept_pair es) ≡ o → found_kept (extent_for (store_seen z) u) o ≡ found_kept (extent_at (asked u)) o
+      go (Some k) e = refl
+      go None e = λ i. found_kept (if recorded.absent u (none_present es u e) i then whole else recorded.extent i) None
 
 action_written : (t : Table) (s : model.Schema) (u : Uid) (d : Bool) (f : Found Made) → IsFoundMadeWell t f → IsFoundMadeWell t (if d then held (action_made s u) else f)
 action_written t s u true f h = λ a. (tt, tt)
@@ -118,26 +135,33 @@ module _ (x : Setup) (s : State) (es : List Entity) (loaded : AreLoaded x s es) 
   steadied f = if model.declares_action x.schema u then held (action_made x.schema u) else f
 
   -- the steady store is alike
-  pub made_alike : AreUids → (t : Extent) → IsAlike (made_store t es u) (steady x.schema (made_store t es) u)
-  made_alike uids t = subst (λ f. IsAlike (if_uid u f) (steadied (if_uid u f))) (sym (made_is t found)) (store_alike x s loaded.acts loaded.same u (option_map seen found) found_is t (action_is_uid uids))
+  pub made_alike : AreUids → (asked : Uid → Bool) → IsAlike (stored_in asked es u) (steady x.schema (stored_in asked es) u)
+  made_alike uids asked =
+      subst (λ f. IsAlike (if_uid u f) (steadied (if_uid u f))) (sym (made_is (extent_at (asked u)) found)) (store_alike x s loaded.acts loaded.same u (option_map seen found) found_is (extent_at (asked u)) (action_is_uid uids))
 
-  -- it is what is known, where the rest isn't
-  pub steady_known : known_found (steady x.schema (stored_in es) u) ≡ (known_now x s).store u
-  steady_known = ap (λ f. known_found (steadied (if_uid u f))) (made_is partial found) ∙ known_partly x s loaded.acts loaded.same u (option_map seen found) found_is
+  -- it is what is known, where what was asked for is what the state asked for
+  module _ (asked : Uid → Bool) (is : asked u ≡ list_any (uid_eq u) s.asked) where
+    pub steady_known : known_found (steady x.schema (stored_in asked es) u) ≡ (known_now x s).store u
+    steady_known =
+        ap (λ a. known_found (steadied (if_uid u (found_kept (extent_at a) found)))) is
+        ∙ ap (λ f. known_found (steadied (if_uid u f))) (made_is (extent_at (list_any (uid_eq u) s.asked)) found)
+        ∙ known_partly x s loaded.acts loaded.same u (option_map seen found) found_is
+
+    pub steady_written : IsFoundMadeWell x.functions.table (steady x.schema (stored_in asked es) u)
+    steady_written =
+        action_written x.functions.table x.schema u (model.declares_action x.schema u) (stored_in asked es u)
+        (subst (λ a. IsFoundMadeWell x.functions.table (if_uid u (found_kept (extent_at a) found))) (sym is) (loaded.written u))
 
   -- and as a whole store it is what was loaded
-  pub steady_whole : known_found (steady x.schema (made_store whole es) u) ≡ loaded_store x s u
+  pub steady_whole : known_found (steady x.schema (stored_in (λ v. true) es) u) ≡ loaded_store x s u
   steady_whole = ap (λ f. known_found (steadied (if_uid u f))) (made_is whole found) ∙ known_wholly x s loaded.acts loaded.same u (option_map seen found) found_is
-
-  pub steady_written : IsFoundMadeWell x.functions.table (steady x.schema (stored_in es) u)
-  steady_written = action_written x.functions.table x.schema u (model.declares_action x.schema u) (stored_in es u) (loaded.written u)
 
 module _ {S : Type 0} {T : Type 0} {B : _} {F : _} {g : _} (schema_of : S → model.Schema) (functions_of : T → Functions) where
   -- the steady store is what is known of the store
   pub known_store : (c : Course) (s : State) (d : Session S T B F g) → IsAt schema_of functions_of (session_of c) s d → IsKnownStore c s (steady (session_of c).schema (store_in d))
   known_store c s d at = record {
-    known = λ u. steady_known (session_of c) s d.loaded.items at.loaded u;
-    well = λ u. steady_written (session_of c) s d.loaded.items at.loaded u;
+    known = λ u. steady_known (session_of c) s d.loaded.items at.loaded u (was_asked d) ((at.near).asked u);
+    well = λ u. steady_written (session_of c) s d.loaded.items at.loaded u (was_asked d) ((at.near).asked u);
     context = (at.setup).written;
   }
 
@@ -146,13 +170,10 @@ module _ {S : Type 0} {T : Type 0} {B : _} {F : _} {g : _} (schema_of : S → mo
     abbrev pub functions_at : operators.Functions
     functions_at = record { answers = x.functions.table.answers; calls = x.functions.calls }
 
-    module _ (e : Evaluator (Extensions B F g)) (t : Extent) (z : Entities) (extent : (store_seen z).extent ≡ t) (kept : store_made z ≡ map kept_pair d.loaded.items)
+    module _ (e : Evaluator (Extensions B F g)) (store : Uid → Found Made) (z : Entities) (made : (u : Uid) → store_of z u ≡ store u)
         (asked : asked_of e ≡ request_of d.now) (bound : evaluator.bound_in e ≡ values_in d.bound) (entities : entities_in e ≡ z) (table : table_in e ≡ (d.basis).table.now) (limit : limit_of e ≡ (d.basis).limit) where
-      abbrev store : Uid → Found Made
-      store = made_store t d.loaded.items
-
       stored : (u : Uid) → store_of (entities_in e) u ≡ store u
-      stored u = ap (λ y. store_of y u) entities ∙ store_is_made t z d.loaded.items extent kept u
+      stored u = ap (λ y. store_of y u) entities ∙ made u
 
       -- what the evaluator knows is what is known at the state
       pub scope_same : scope_in table_of functions_at e no_bindings ≡ scope_now x s store

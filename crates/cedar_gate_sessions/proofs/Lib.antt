@@ -1,3 +1,4 @@
+pub mod Absences
 pub mod Answerable
 pub mod Answered
 pub mod Binding

@@ -14,7 +14,6 @@ use Rattle.cedar_schema_model.specs.ActionEntities.{as_entity}
 use Rattle.cedar_schema_model.specs.Schema.{Schema, declares_action}
 use Rattle.cedar_gate_wanted.specs.Kept.{IsKept}
 use Rattle.cedar_gate_wanted.specs.Rows.{row_of, uids}
-use Rattle.cedar_gate_model.specs.Moment.{told}
 use Rattle.cedar_gate_model.specs.Session.{Setup, State, at_start, known_now}
 use Rattle.cedar_gate_model.specs.Slice.{roots, mentioned_by_found}
 use Rattle.cedar_gate_wanted.specs.Laws.{IsLoadedAt}
@@ -44,9 +43,9 @@ module _ (l m : Loading) (same : IsSameLoading l m) where
     kept = subst (λ f. IsKept (roots (known_now x s)) (mentions_of m) x.level f) (sym near_same) (subst (λ a. IsKept (roots (known_now x s)) (row_of a) x.level (near_in l)) (sym rows_same) at.kept);
   }
 
-told_action : (u : Uid) (x : Setup) (d : Bool) → [] ≡ mentioned_by_found (if d || false then told u (if d then held (as_entity x.schema u) else if_uid u (found_as whole (x.store u))) else unloaded u)
-told_action u x true = refl
-told_action u x false = no_mentions (is_uid u)
+known_action : (u : Uid) (x : Setup) (d : Bool) → [] ≡ mentioned_by_found (if d || false then (if d then held (as_entity x.schema u) else if_uid u (found_as whole (x.store u))) else unloaded u)
+known_action u x true = refl
+known_action u x false = no_mentions (is_uid u)
   where
     no_mentions : (b : Bool) → [] ≡ mentioned_by_found (cond b not_loaded missing)
     no_mentions true = refl
@@ -56,6 +55,6 @@ told_action u x false = no_mentions (is_uid u)
 pub loaded_at_start : (x : Setup) (l : Loading) (us : List Uid) → ((u : Uid) → rows_in l u ≡ None) → us ≡ roots (known_now x at_start) → IsKept us (mentions_of l) x.level (near_in l) → IsLoadedAt x at_start l
 loaded_at_start x l us none is kept = record {
   asked = λ u. ap is_some (none u);
-  mentions = λ u. ap (λ (o : Option (Vec EntityUID Global)). option_map_or (λ r. uids r.items) o []) (none u) ∙ told_action u x (declares_action x.schema u);
+  mentions = λ u. ap (λ (o : Option (Vec EntityUID Global)). option_map_or (λ r. uids r.items) o []) (none u) ∙ known_action u x (declares_action x.schema u);
   kept = subst (λ rs. IsKept rs (mentions_of l) x.level (near_in l)) is kept;
 }

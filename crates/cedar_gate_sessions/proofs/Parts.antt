@@ -20,7 +20,7 @@ use Rattle.cedar_gate_wanted.specs.Laws.{AreAnswers}
 use Rattle.cedar_gate_wanted.specs.Supplying.{rows_of, keys_in}
 use Rattle.cedar_gate_sessions.specs.Entities.{supplied_pair, supplied_of, supplied_uids, supplied_entities, mentioned_by_this, row_pair, mentions_pair}
 use Rattle.cedar_gate_sessions.specs.Loaded.{mentioned_there}
-use Rattle.cedar_gate_sessions.proofs.Stores.{mentions_told}
+use Rattle.cedar_gate_sessions.proofs.Stores.{mentions_stored}
 use Rattle.cedar_gate_sessions.proofs.Supplying.{entities_of}
 
 -- the entities of what is supplied
@@ -77,7 +77,7 @@ module _ (x : Setup) (ps : List (EntityUID × Option Entity)) (answered : suppli
         let uid : uid_of p.0 ≡ u = ap (λ (z : Uid × List Uid). z.0) at ∙ ap (λ (z : Uid × Vec EntityUID Global). z.0) is in
         let row : mentioned_by_this p.1 ≡ uids r.items = ap (λ (z : Uid × List Uid). z.1) at ∙ ap (λ (z : Uid × Vec EntityUID Global). uids z.1.items) is in
         let a = apart u (subst (Contains (supplied_uids ps)) uid (map_has (λ (z : EntityUID × Option Entity). uid_of z.0) ps p d)) in
-        sym row ∙ ap mentioned_there (answer_is p d ∙ ap x.store uid) ∙ mentions_told x u a.0 a.1;
+        sym row ∙ ap mentioned_there (answer_is p d ∙ ap x.store uid) ∙ mentions_stored x u a.0 a.1;
   }
 
 -- an entity that is kept was supplied

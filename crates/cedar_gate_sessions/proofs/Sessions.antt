@@ -1,6 +1,6 @@
 -- What sessions decide and answer by evaluations.
 use Rattle.std.proofs.Common.{◌≡◌, ◌∙◌, ◌||◌, Bool, true, false, cond, sym, ap, subst}
-use Rattle.std.specs.Prelude.{Option, Some, None, All}
+use Rattle.std.specs.Prelude.{All}
 use Rattle.std.specs.List.{list_any}
 use Rattle.std.specs.Str.{bytes_eq}
 use Rattle.std.proofs.lemmas.Slice.Eq.{bytes_eq-Decides}
@@ -11,19 +11,16 @@ use Rattle.cedar_expr_model.specs.Value.{V}
 use Rattle.cedar_expr_model.proofs.Gathering.{each_in}
 use Rattle.cedar_store_model.specs.Knowledge.{IsSettled}
 use Rattle.cedar_store_model.specs.Policy.{condition}
-use Rattle.cedar_store_model.specs.Answer.{Decision, ids, answer_of}
+use Rattle.cedar_store_model.specs.Answer.{ids, answer_of}
 use Rattle.cedar_store_model.specs.World.{Found, held, missing, not_loaded}
 use Rattle.cedar_store_model.proofs.Distinct.{distinct-Decides}
 use Rattle.cedar_schema_model.specs.Schema.{declares_action}
 use Rattle.cedar_evaluator_model.specs.Known.{known_found, known_world}
 use Rattle.cedar_evaluator_model.specs.Laws.{WithinLimit, as_concrete}
-use Rattle.cedar_evaluator_model.specs.Members.{decision_in_session}
 use Rattle.cedar_evaluator_model.specs.OfLaws.Whole.{NothingUnknown, HoldsValues}
-use Rattle.cedar_evaluator_model.specs.Response.{response_of}
 use Rattle.cedar_evaluator_model.specs.Scope.{Scope}
 use Rattle.cedar_gate_model.specs.Acceptance.{Submission, IsAccepted, repeated_policy}
-use Rattle.cedar_gate_model.specs.Runs.{MayDecide}
-use Rattle.cedar_gate_model.specs.RunsAnswer.{Course, session_of, IsProper, MakeFairly, IsOpened, IsKnownStore, ForcedDecisionsAreGiven, EvaluatedDecisionsHold}
+use Rattle.cedar_gate_model.specs.RunsAnswer.{Course, session_of, IsProper, IsOpened}
 use Rattle.cedar_gate_model.specs.Session.{Setup, State, scope_now, world_now, whole_store, NothingIsWanted, AnswerRefusal, AnswerFault}
 use Rattle.cedar_gate_model.proofs.Gate.Accepting.{acceptance_reads}
 use Rattle.cedar_gate_model.proofs.Runs.Answering.{loaded_answers}

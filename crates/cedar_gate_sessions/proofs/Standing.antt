@@ -19,7 +19,7 @@ use Rattle.cedar_expr_names.specs.Views.{uid_of}
 use Rattle.cedar_expr_names.specs.declared.entity.EntityUID.{EntityUID}
 use Rattle.cedar_store_entities.specs.Views.{Kept, entity_seen, entity_pair, kept_pair}
 use Rattle.cedar_store_entities.specs.declared.entity.Entity.{Entity}
-use Rattle.cedar_store_model.specs.Store.{are_distinct, if_uid, partial}
+use Rattle.cedar_store_model.specs.Store.{Extent, are_distinct, if_uid, whole, partial}
 use Rattle.cedar_store_model.specs.World as world
 use Rattle.cedar_store_model.specs.World.{Found, held, missing}
 use Rattle.cedar_schema_model.specs.Schema as model
@@ -41,7 +41,7 @@ use Rattle.cedar_gate_wanted.proofs.Rounds.{supply_is_round, roots_bound}
 use Rattle.cedar_gate_wanted.proofs.Slicing.{next_round}
 use Rattle.cedar_gate_sessions.specs.Entities.{supplied_of, supplied_uids, supplied_entities, row_pair, mentions_pair}
 use Rattle.cedar_gate_sessions.specs.Loaded.{loaded_at, is_right}
-use Rattle.cedar_gate_sessions.specs.Sessions.{IsAt, IsSetup, AreFromStore, AreLoaded, stored_in}
+use Rattle.cedar_gate_sessions.specs.Sessions.{IsAt, IsSetup, AreFromStore, AreLoaded, extent_at, stored_in}
 use Rattle.cedar_gate_sessions.specs.declared.session.Session.{Session}
 use Rattle.cedar_gate_sessions.proofs.Loadings.{wanting_same, loaded_same}
 use Rattle.cedar_gate_sessions.proofs.Lookups.{lookup_both}
@@ -87,28 +87,30 @@ module _ (x : Setup) (s : State) (es : List Entity) (ps : List (EntityUID × Opt
       ∙ ap (λ o. option_or o (lookup (uid_eq u) (entities_of (supplied_by x us)))) (loaded.each u)
       ∙ loaded_more x loaded.acts s us ws u there back
 
-  not_there : (b : Bool) → IsFoundMadeWell x.functions.table (cond b (found_kept partial None) missing)
-  not_there true = tt
-  not_there false = tt
+  not_there : (t : Extent) (b : Bool) → IsFoundMadeWell x.functions.table (cond b (found_kept t None) missing)
+  not_there whole true = tt
+  not_there partial true = tt
+  not_there t false = tt
 
-  held_there : (b : Bool) (k : Kept) → IsFoundMadeWell x.functions.table (held k.0) → IsFoundMadeWell x.functions.table (cond b (found_kept partial (Some k)) missing)
+  held_there : (b : Bool) (k : Kept) → IsFoundMadeWell x.functions.table (held k.0) → IsFoundMadeWell x.functions.table (cond b (held k.0) missing)
   held_there true k h = h
   held_there false k h = tt
 
   written_of : (p : EntityUID × Option Entity) (e : Entity) → Contains ps p → p.1 ≡ Some e → IsFoundMadeWell x.functions.table (held (entity_seen e))
   written_of p e c is = subst (λ o. IfSome o (λ e. IsFoundMadeWell x.functions.table (held (entity_seen e)))) is (from.written p c)
 
-  written_more : (u : Uid) (o n : Option Kept) → lookup (uid_eq u) (map kept_pair es) ≡ o → lookup (uid_eq u) (map kept_pair (supplied_entities ps)) ≡ n → IsFoundMadeWell x.functions.table (if_uid u (found_kept partial (option_or o n)))
-  written_more u (Some k) n e f = subst (λ z. IsFoundMadeWell x.functions.table (if_uid u (found_kept partial z))) e (loaded.written u)
-  written_more u None None e f = not_there (is_uid u)
-  written_more u None (Some k) e f =
+  -- whatever was asked for
+  written_more : (t : Extent) (u : Uid) (o n : Option Kept) → lookup (uid_eq u) (map kept_pair es) ≡ o → lookup (uid_eq u) (map kept_pair (supplied_entities ps)) ≡ n → IsFoundMadeWell x.functions.table (if_uid u (found_kept t (option_or o n)))
+  written_more t u (Some k) n e f = subst (λ z. IsFoundMadeWell x.functions.table (if_uid u (found_kept (extent_at (list_any (uid_eq u) s.asked)) z))) e (loaded.written u)
+  written_more t u None None e f = not_there t (is_uid u)
+  written_more t u None (Some k) e f =
       let (p, d, c, is, at) = kept_from ps u k f in
       held_there (is_uid u) k (subst (λ (z : Kept). IsFoundMadeWell x.functions.table (held z.0)) at (written_of p d c is))
 
-  written_now : (u : Uid) → IsFoundMadeWell x.functions.table (stored_in (es ++ supplied_entities ps) u)
-  written_now u = subst (λ o. IsFoundMadeWell x.functions.table (if_uid u (found_kept partial o)))
+  written_now : (asked : Uid → Bool) (u : Uid) → IsFoundMadeWell x.functions.table (stored_in asked (es ++ supplied_entities ps) u)
+  written_now asked u = subst (λ o. IsFoundMadeWell x.functions.table (if_uid u (found_kept (extent_at (asked u)) o)))
       (sym (ap (lookup (uid_eq u)) (map_both kept_pair es (supplied_entities ps)) ∙ lookup_both (uid_eq u) (map kept_pair es) (map kept_pair (supplied_entities ps))))
-      (written_more u (lookup (uid_eq u) (map kept_pair es)) (lookup (uid_eq u) (map kept_pair (supplied_entities ps))) refl refl)
+      (written_more (extent_at (asked u)) u (lookup (uid_eq u) (map kept_pair es)) (lookup (uid_eq u) (map kept_pair (supplied_entities ps))) refl refl)
 
   pub more_is_loaded : are_distinct (map entity_pair (es ++ supplied_entities ps)) ≡ true → AreLoaded x (with_asked s ws) (es ++ supplied_entities ps)
   more_is_loaded once = record {
@@ -116,7 +118,7 @@ module _ (x : Setup) (s : State) (es : List Entity) (ps : List (EntityUID × Opt
     same = loaded.same;
     each = each_now;
     distinct = once;
-    written = written_now;
+    written = written_now (λ v. list_any (uid_eq v) (with_asked s ws).asked);
     conform = conform_more x s us ws back (subst (λ qs. list_all (is_right x.schema) qs ≡ true) from.answered right) loaded.conform;
   }
 
@@ -163,7 +165,7 @@ module _ {S : Type 0} {T : Type 0} {B : _} {F : _} {g : _} (schema_of : S → mo
     level = level ∙ at.level;
     wanting = wanting;
     near = roots_bound x s (with_bound s n m) d.loading e.loading rs at.near more rows (λ u. ((λ k. subst (λ us. Contains us u) listed k), (λ k. subst (λ us. Contains us u) (sym listed) k))) keeps;
-    loaded = record { acts = (at.loaded).acts; same = (at.loaded).same; each = λ u. ap (λ es. lookup (uid_eq u) (map entity_pair es)) loaded ∙ (at.loaded).each u; distinct = subst (λ es. are_distinct (map entity_pair es) ≡ true) (sym loaded) (at.loaded).distinct; written = λ u. subst (λ es. IsFoundMadeWell x.functions.table (stored_in es u)) (sym loaded) ((at.loaded).written u); conform = (at.loaded).conform };
+    loaded = record { acts = (at.loaded).acts; same = (at.loaded).same; each = λ u. ap (λ es. lookup (uid_eq u) (map entity_pair es)) loaded ∙ (at.loaded).each u; distinct = subst (λ es. are_distinct (map entity_pair es) ≡ true) (sym loaded) (at.loaded).distinct; written = λ u. subst (λ es. IsFoundMadeWell x.functions.table (stored_in (λ v. list_any (uid_eq v) s.asked) es u)) (sym loaded) ((at.loaded).written u); conform = (at.loaded).conform };
   }
     where
       lie : {P : Type 0} → true ≡ false → P

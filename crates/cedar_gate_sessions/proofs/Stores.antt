@@ -11,14 +11,14 @@ use Rattle.cedar_expr_model.specs.ValueParts.{Part}
 use Rattle.cedar_expr_model.proofs.Equality.{uid_eq-Decides}
 use Rattle.cedar_expr_model.proofs.Lists.{found-Decides}
 use Rattle.cedar_store_model.specs.Store.{Extent, if_uid, found_as, whole, partial}
-use Rattle.cedar_store_model.specs.World.{Entity, Found, held, missing, not_loaded, by_found}
+use Rattle.cedar_store_model.specs.World.{Entity, Found, held, missing, not_loaded}
 use Rattle.cedar_schema_model.specs.ActionEntities.{action_ancestors}
 use Rattle.cedar_schema_model.specs.Schema.{Schema, declares_action}
 use Rattle.cedar_evaluator_model.specs.Known.{known_found, known_entity, known_parts}
-use Rattle.cedar_gate_model.specs.Moment.{told}
 use Rattle.cedar_gate_model.specs.Session.{Setup, State, known_now, whole_store}
 use Rattle.cedar_gate_model.specs.Slice.{mentioned_by_found}
 use Rattle.cedar_gate_sessions.specs.Loaded.{AreActions, loaded_at, mentioned_there}
+use Rattle.cedar_gate_sessions.specs.Sessions.{extent_at}
 use Rattle.cedar_gate_sessions.proofs.Steady.{AreAlike, IsAlike, alike_self}
 
 -- an entity that is there, or none in a partial or in a whole store
@@ -41,7 +41,7 @@ abbrev Loads : Bool → Option (Entity V) → Option (Entity Made) → Type 0
 Loads a st o = option_map known_entity o ≡ (if a then st else None)
 
 partly : (i a : Bool) (st : Option (Entity V)) (o : Option (Entity Made)) → Loads a st o
-    → known_found (cond i (found_made partial o) missing) ≡ (if a then by_found held (unloaded_if i) (unloaded_if i) (cond i (found_as whole st) missing) else unloaded_if i)
+    → known_found (cond i (found_made (extent_at a) o) missing) ≡ (if a then cond i (found_as whole st) missing else unloaded_if i)
 partly true true (Some f) (Some e) h = let q : known_entity e ≡ f = cc in ap held q
 partly true true (Some f) None h = absurd (cc)
 partly true true None (Some e) h = absurd (cc)
@@ -103,7 +103,7 @@ module _ (x : Setup) (s : State) (acts : Uid → Entity V) (same : AreActions x.
   store_alike t uid = alike_if t uid (declares_action x.schema u) (is_uid u) refl refl
 
   partly_if : (d : Bool) → declares_action x.schema u ≡ d
-      → known_found (if d then held (action_made x.schema u) else if_uid u (found_made partial o)) ≡ (if d || list_any (uid_eq u) s.asked then told u (if d then held (known_entity (action_made x.schema u)) else if_uid u (found_as whole (x.store u))) else unloaded_if (is_uid u))
+      → known_found (if d then held (action_made x.schema u) else if_uid u (found_made (extent_at (list_any (uid_eq u) s.asked)) o)) ≡ (if d || list_any (uid_eq u) s.asked then (if d then held (known_entity (action_made x.schema u)) else if_uid u (found_as whole (x.store u))) else unloaded_if (is_uid u))
   partly_if true e = refl
   partly_if false e = partly (is_uid u) (list_any (uid_eq u) s.asked) (x.store u) o (loaded_if false e)
 
@@ -112,17 +112,17 @@ module _ (x : Setup) (s : State) (acts : Uid → Entity V) (same : AreActions x.
   wholly_if true e = refl
   wholly_if false e = wholly (is_uid u) (list_any (uid_eq u) s.asked) (x.store u) o (loaded_if false e)
 
-  -- what is known of what is loaded, in a store of which the rest isn't known, and in a whole one
-  pub known_partly : known_found (if declares_action x.schema u then held (action_made x.schema u) else if_uid u (found_made partial o)) ≡ (known_now x s).store u
+  -- what is known of what is loaded, in a store of which what wasn't asked for isn't known, and in a whole one
+  pub known_partly : known_found (if declares_action x.schema u then held (action_made x.schema u) else if_uid u (found_made (extent_at (list_any (uid_eq u) s.asked)) o)) ≡ (known_now x s).store u
   known_partly = partly_if (declares_action x.schema u) refl
 
   pub known_wholly : known_found (if declares_action x.schema u then held (action_made x.schema u) else if_uid u (found_made whole o)) ≡ (if declares_action x.schema u || list_any (uid_eq u) s.asked then whole_store x u else missing)
   known_wholly = wholly_if (declares_action x.schema u) refl
 
-told_mentions : (o : Option (Entity V)) → mentioned_there o ≡ mentioned_by_found (by_found held (unloaded_if true) (unloaded_if true) (found_as whole o))
-told_mentions (Some e) = refl
-told_mentions None = refl
+whole_mentions : (o : Option (Entity V)) → mentioned_there o ≡ mentioned_by_found (found_as whole o)
+whole_mentions (Some e) = refl
+whole_mentions None = refl
 
 -- what the store answers for a uid that is no declared action's mentions the same
-pub mentions_told : (x : Setup) (u : Uid) → declares_action x.schema u ≡ false → is_uid u ≡ true → mentioned_there (x.store u) ≡ mentioned_by_found (told u (whole_store x u))
-mentions_told x u d i = rw (d, i) (told_mentions (x.store u))
+pub mentions_stored : (x : Setup) (u : Uid) → declares_action x.schema u ≡ false → is_uid u ≡ true → mentioned_there (x.store u) ≡ mentioned_by_found (whole_store x u)
+mentions_stored x u d i = rw (d, i) (whole_mentions (x.store u))

@@ -2,7 +2,7 @@
 use Rattle.std.proofs.Common.{◌≡◌, ◌∙◌, ◌∷◌, [], List, map, Some, None, refl, sym, ap}
 use Rattle.cedar_store_entities.specs.Views.{Kept, entity_pair, kept_pair, bare_entity}
 use Rattle.cedar_store_entities.specs.declared.entity.Entity.{Entity}
-use Rattle.cedar_store_model.specs.Store.{Store, store_of, are_distinct, whole}
+use Rattle.cedar_store_model.specs.Store.{Store, all_of, store_of, are_distinct, whole}
 use Rattle.cedar_store_model.specs.World as world
 use Rattle.cedar_expr_model.specs.Uid.{Uid}
 use Rattle.cedar_expr_model.specs.Value.{V}
@@ -24,5 +24,5 @@ made_case true t s e = cc
 made_case false t s e = absurd (cc)
 
 -- the store that is made has the entities
-pub store_is : (es : List (Uid × world.Entity V)) (s : Store) → store_of whole es ≡ Some s → s ≡ record { extent = whole; entities = es }
-store_is es s e = made_case (are_distinct es) (record { extent = whole; entities = es }) s e
+pub store_is : (es : List (Uid × world.Entity V)) (s : Store) → store_of whole es ≡ Some s → s ≡ all_of es
+store_is es s e = made_case (are_distinct es) (all_of es) s e

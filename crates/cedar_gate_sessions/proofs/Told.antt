@@ -11,7 +11,7 @@ use Rattle.cedar_evaluator_model.specs.Steps.{on_value, truth_wanted, truth_left
 use Rattle.cedar_evaluator_model.specs.Response.{ResponseError}
 use Rattle.cedar_evaluator_errors.specs.Outcomes.{is_memory, cause_of}
 use Rattle.cedar_evaluator_errors.specs.declared.err.EvaluationError.{EvaluationError}
-use Rattle.cedar_evaluator_errors.specs.declared.err.EvaluationError.TheVariants.{OutOfMemory, EntityDoesNotExist, EntityAttrDoesNotExist, RecordAttrDoesNotExist, FailedExtensionFunctionLookup, TypeError, WrongNumArguments, IntegerOverflow, UnlinkedSlot, FailedExtensionFunctionExecution, NonValue, RecursionLimit}
+use Rattle.cedar_evaluator_errors.specs.declared.err.EvaluationError.TheVariants.{OutOfMemory, EntityDoesNotExist, EntityAttrDoesNotExist, RecordAttrDoesNotExist, FailedExtensionFunctionLookup, TypeError, WrongNumArguments, IntegerOverflow, ZeroDivisor, UnlinkedSlot, FailedExtensionFunctionExecution, NonValue, RecursionLimit}
 use Rattle.cedar_evaluator_core.specs.Evaluators.{left_by}
 use Rattle.cedar_evaluator_requests.specs.Views.{error_of}
 use Rattle.cedar_evaluator_requests.specs.declared.response.AuthorizationError.TheVariants.{PolicyEvaluationError}
@@ -42,6 +42,7 @@ kind_told l (FailedExtensionFunctionLookup x) m h = sym (ap kind_of (h limit m))
 kind_told l (TypeError x) m h = sym (ap kind_of (h limit m))
 kind_told l (WrongNumArguments x) m h = sym (ap kind_of (h limit m))
 kind_told l (IntegerOverflow x) m h = sym (ap kind_of (h limit m))
+kind_told l (ZeroDivisor x) m h = sym (ap kind_of (h limit m))
 kind_told l (UnlinkedSlot x) m h = sym (ap kind_of (h limit m))
 kind_told l (FailedExtensionFunctionExecution x) m h = sym (ap kind_of (h limit m))
 kind_told l (NonValue x) m h = sym (ap kind_of (h limit m))
@@ -57,6 +58,7 @@ error_told p l (FailedExtensionFunctionLookup x) m h = sym (ap (if_erring p) (h 
 error_told p l (TypeError x) m h = sym (ap (if_erring p) (h limit m))
 error_told p l (WrongNumArguments x) m h = sym (ap (if_erring p) (h limit m))
 error_told p l (IntegerOverflow x) m h = sym (ap (if_erring p) (h limit m))
+error_told p l (ZeroDivisor x) m h = sym (ap (if_erring p) (h limit m))
 error_told p l (UnlinkedSlot x) m h = sym (ap (if_erring p) (h limit m))
 error_told p l (FailedExtensionFunctionExecution x) m h = sym (ap (if_erring p) (h limit m))
 error_told p l (NonValue x) m h = sym (ap (if_erring p) (h limit m))

@@ -1,6 +1,6 @@
 -- The entities that a session loads, and what is supplied of them.
 -- Rule: sessions; the store (docs/RULES.md).
-use Rattle.std.specs.Prelude.{List, map, Option, option_map, option_to_list}
+use Rattle.std.specs.Prelude.{◌≡◌, ◌||◌, Bool, false, List, map, Option, option_map, option_to_list}
 use Rattle.std.specs.List.{flat_map}
 use Rattle.std.specs.declared.alloc.Global.{Global}
 use Rattle.std.specs.declared.vec.Vec.{Vec}
@@ -8,8 +8,10 @@ use Rattle.cedar_expr_model.specs.Uid.{Uid}
 use Rattle.cedar_expr_model.specs.Value.{V}
 use Rattle.cedar_expr_names.specs.Views.{uid_of}
 use Rattle.cedar_expr_names.specs.declared.entity.EntityUID.{EntityUID}
+use Rattle.cedar_store_entities.specs.Refusals.{is_absent, is_present}
 use Rattle.cedar_store_entities.specs.Views.{entity_of, entity_pair}
 use Rattle.cedar_store_entities.specs.declared.entity.Entity.{Entity}
+use Rattle.cedar_store_model.specs.Store.{Store}
 use Rattle.cedar_store_model.specs.World as world
 use Rattle.cedar_gate_wanted.specs.Rows.{uids}
 use Rattle.cedar_gate_model.specs.Session.{Supplied}
@@ -39,3 +41,9 @@ row_pair p = (uid_of p.0, uids p.1.items)
 
 abbrev pub mentions_pair : EntityUID × Option Entity → Uid × List Uid
 mentions_pair p = (uid_of p.0, mentioned_by_this p.1)
+
+-- One store is the other with absences recorded: of the uids for which the test holds, where there is no entity.
+pub record RecordsAbsences (lacks : Uid → Bool) (old new : Store) : Type 0 where
+  pub extent : new.extent ≡ old.extent
+  pub entities : new.entities ≡ old.entities
+  pub absent : (u : Uid) → is_present old u ≡ false → is_absent new u ≡ (is_absent old u || lacks u)

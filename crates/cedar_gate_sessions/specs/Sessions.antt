@@ -1,6 +1,7 @@
 -- What a session of the code stands at.
 -- Rule: sessions; refusals of a session (docs/RULES.md).
-use Rattle.std.specs.Prelude.{◌≡◌, true, List, Contains, map, Option, Some, IfSome}
+use Rattle.std.specs.Prelude.{◌≡◌, Bool, true, List, Contains, map, Option, Some, IfSome, is_some, if◌then◌else◌}
+use Rattle.std.specs.List.{list_any}
 use Rattle.std.specs.Map.{lookup}
 use Rattle.cedar_expr_functions.specs.Tables.{table_of}
 use Rattle.cedar_expr_model.specs.Name.{Text}
@@ -11,7 +12,7 @@ use Rattle.cedar_expr_names.specs.declared.entity.EntityUID.{EntityUID}
 use Rattle.cedar_store_entities.specs.Views.{entity_pair, entity_seen, kept_pair}
 use Rattle.cedar_store_entities.specs.declared.entity.Entity.{Entity}
 use Rattle.cedar_store_model.specs.Policy.{Policy}
-use Rattle.cedar_store_model.specs.Store.{are_distinct, if_uid, partial}
+use Rattle.cedar_store_model.specs.Store.{Extent, are_distinct, if_uid, whole, partial}
 use Rattle.cedar_store_model.specs.World as world
 use Rattle.cedar_store_model.specs.World.{Found, held}
 use Rattle.cedar_store_policies.specs.Policies.{policy_of}
@@ -29,7 +30,7 @@ use Rattle.cedar_gate_model.specs.RunsAnswer.{IsOpened}
 use Rattle.cedar_gate_model.specs.RunsAsk.{IsMadeContext}
 use Rattle.cedar_gate_model.specs.Session.{Setup, State, value_of}
 use Rattle.cedar_gate_wanted.specs.Laws.{IsLoadedAt}
-use Rattle.cedar_gate_wanted.specs.Wanting.{IsWanting, level_of, wanted_in}
+use Rattle.cedar_gate_wanted.specs.Wanting.{IsWanting, level_of, rows_in, wanted_in}
 use Rattle.cedar_gate_openings.specs.Requests.{request_at}
 use Rattle.cedar_gate_sessions.specs.Entities.{supplied_of, supplied_uids}
 use Rattle.cedar_gate_sessions.specs.Loaded.{AreActions, loaded_at}
@@ -63,12 +64,20 @@ wanted_of e = wanted_in e.loading
 abbrev pub policies_in : {S : Type 0} {T : Type 0} {B : _} {F : _} {g : _} → Session S T B F g → List Policy
 policies_in e = map policy_of e.basis.policies.now
 
--- the store of the entities that are loaded, as they were made
-abbrev pub stored_in : List Entity → Uid → Found Made
-stored_in es u = if_uid u (found_kept partial (lookup (uid_eq u) (map kept_pair es)))
+-- of what was asked for all is known, and of the rest nothing
+abbrev pub extent_at : Bool → Extent
+extent_at asked = if asked then whole else partial
+
+-- the store of the entities that are loaded, as they were made: what was asked for and isn't there is missing
+abbrev pub stored_in : (Uid → Bool) → List Entity → Uid → Found Made
+stored_in asked es u = if_uid u (found_kept (extent_at (asked u)) (lookup (uid_eq u) (map kept_pair es)))
+
+-- whether a uid was asked for, and the store of what is loaded
+abbrev pub was_asked : {S : Type 0} {T : Type 0} {B : _} {F : _} {g : _} → Session S T B F g → Uid → Bool
+was_asked e u = is_some (rows_in e.loading u)
 
 abbrev pub store_in : {S : Type 0} {T : Type 0} {B : _} {F : _} {g : _} → Session S T B F g → Uid → Found Made
-store_in e = stored_in e.loaded.items
+store_in e = stored_in (was_asked e) e.loaded.items
 
 -- These entities are loaded: the declared actions and what the store answered, each once, with values as they are written; what was
 -- answered conforms.
@@ -77,7 +86,7 @@ pub record AreLoaded (x : Setup) (s : State) (es : List Entity) : Type 0 where
   pub same : AreActions x.schema acts
   pub each : (u : Uid) → lookup (uid_eq u) (map entity_pair es) ≡ loaded_at acts x s u
   pub distinct : are_distinct (map entity_pair es) ≡ true
-  pub written : (u : Uid) → IsFoundMadeWell x.functions.table (stored_in es u)
+  pub written : (u : Uid) → IsFoundMadeWell x.functions.table (stored_in (λ v. list_any (uid_eq v) s.asked) es u)
   pub conform : (u : Uid) (e : world.Entity V) → Contains s.asked u → x.store u ≡ Some e → EntityConforms x.schema u e
 
 -- The session is at this state, over what it stands on.

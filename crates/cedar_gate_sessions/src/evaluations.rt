@@ -88,6 +88,7 @@ fn named_kind(error: &EvaluationError) -> Verdict
         | EvaluationError::TypeError(_)
         | EvaluationError::WrongNumArguments(_)
         | EvaluationError::IntegerOverflow(_)
+        | EvaluationError::ZeroDivisor(_)
         | EvaluationError::UnlinkedSlot(_)
         | EvaluationError::FailedExtensionFunctionExecution(_) => Verdict::Not,
     }

@@ -27,7 +27,7 @@ ghost use Rattle.cedar_gate_sessions.specs.Sessions.{IsSetup, IsAt, AreFromStore
 
 use crate::basis::{Basis, Schema};
 use crate::bound::{add_known_roots, put_value, request_bound, take_value};
-use crate::entities::store_of;
+use crate::entities::{known_store_of, store_of};
 use crate::faults::{AnswerFault, SupplyFault};
 use crate::laws::{accepted_policies_are_fit, answers_are_the_meaning, decisions_may_be_given};
 use crate::supplied::{are_right, parted, take_in};
@@ -180,7 +180,7 @@ impl<'g, 'e, S: Schema, T: FunctionCalls> Session<'g, 'e, S, T> {
     fn verdicts(&self, alloc: Global) -> Result<Vec<Verdict>, AllocError>
         ensures { IfOk result (λ vs. (x : Setup) (s : State) → IsAt S.schema T.functions x s self.entry.now → vs.items ≡ verdicts_of (scope_now x s (store_in self.entry.now)) x.limit (policies_in self.entry.now)) }
     {
-        let entities = store_of(alloc, self.loaded.as_slice())?.partial();
+        let entities = known_store_of(alloc, self.loaded.as_slice(), &self.loading)?;
         let evaluator: Evaluator<'_, Extensions<'_>> = Evaluator::new(
             self.now.clone()?,
             &entities,
@@ -193,8 +193,7 @@ impl<'g, 'e, S: Schema, T: FunctionCalls> Session<'g, 'e, S, T> {
     }
 
     /// The decision of evaluating the policies in part over what is known by now, if that decides. One that is given is that of every
-    /// completion; one is given where what is known forces it, and once all is bound and loaded and nothing that was asked for was absent.
-    /// Fails only out of memory.
+    /// completion; one is given where what is known forces it, and once all is bound and loaded. Fails only out of memory.
     pub fn decision(&self, alloc: Global) -> Result<Option<Decision>, AllocError>
         ensures exact { IfOk result (λ d. (x : Setup) (s : State) → IsAt S.schema T.functions x s self.entry.now → option_map decision_of d ≡ decision_in_session (response_of (scope_now x s (store_in self.entry.now)) x.limit (policies_in self.entry.now))) }
         ensures in_part { IfOk result (λ d. (c : Course) (s : State) → IsAt S.schema T.functions (session_of c) s self.entry.now → policies_in self.entry.now ≡ c.submission.policies → DecidesInPart (session_of c) c.submission.policies s (option_map decision_of d)) }
@@ -207,7 +206,7 @@ impl<'g, 'e, S: Schema, T: FunctionCalls> Session<'g, 'e, S, T> {
     }
 
     /// What must and what may determine the decision, by what is known: bounds that are given hold in every completion, they are given where all
-    /// is bound, and are the reasons of the answer where all that is looked up is loaded and there. Fails only out of memory.
+    /// is bound, and are the reasons of the answer where all that is looked up is known too. Fails only out of memory.
     pub fn bounds(&self, alloc: Global) -> Result<Option<Bounds>, AllocError>
         ensures exact { IfOk result (λ b. (x : Setup) (s : State) → IsAt S.schema T.functions x s self.entry.now → AreDistinct (ids (policies_in self.entry.now)) → option_map bounds_of b ≡ bounds_in_session (policies_in self.entry.now) (response_of (scope_now x s (store_in self.entry.now)) x.limit (policies_in self.entry.now))) }
         ensures kept { IfOk result (λ b. (c : Course) (s : State) → IsAt S.schema T.functions (session_of c) s self.entry.now → policies_in self.entry.now ≡ c.submission.policies → IsProper c → MakeFairly c.functions → KeepsBounds c s (option_map bounds_of b)) }

@@ -1,9 +1,10 @@
 -- Maps with uids as keys, by the uids that their keys hold.
-use Rattle.std.proofs.Common.{◌≡◌, ◌⊎◌, ◌&&◌, inl, inr, Bool, true, false, cond, List, [], ◌∷◌, Option, Some, None, refl, sym, ap, ◌∙◌, subst}
+use Rattle.std.proofs.Common.{◌≡◌, ◌⊎◌, ◌&&◌, ◌||◌, inl, inr, Bool, true, false, cond, List, [], ◌∷◌, map, Option, Some, None, is_some, refl, sym, ap, ◌∙◌, subst}
 use Rattle.std.proofs.lemmas.Map.Text.{is_eq-slice_cmp}
 use Rattle.std.specs.BTreeMap.{is_at}
 use Rattle.std.specs.Cmp.Lexicographic.{slice_cmp}
-use Rattle.std.specs.Map.{lookup}
+use Rattle.std.specs.List.{list_any}
+use Rattle.std.specs.Map.{lookup, keys_of}
 use Rattle.std.specs.Ordering.{is_eq, nat_cmp, ordering_then}
 use Rattle.std.specs.declared.cmp.Ordering.{Ordering}
 use Rattle.std.specs.declared.cmp.Ordering.TheVariants.{Less, Equal, Greater}
@@ -32,6 +33,15 @@ same_uid u v =
 pub by_its_uid : {X : Type 0} (es : List (EntityUID × X)) (k : EntityUID) → lookup (is_at (uids_by k)) es ≡ lookup (λ q. uid_eq (uid_of k) (uid_of q)) es
 by_its_uid [] k = refl
 by_its_uid (e ∷ es) k = λ i. cond (same_uid k e.0 i) (Some e.1) (by_its_uid es k i)
+
+-- a uid is that of a key where something is found at it
+pub among_keys : {X : Type 0} (u : Uid) (es : List (EntityUID × X)) → list_any (uid_eq u) (map uid_of (keys_of es)) ≡ is_some (lookup (λ q. uid_eq u (uid_of q)) es)
+among_keys u [] = refl
+among_keys {X} u (e ∷ es) = go (uid_eq u (uid_of e.0)) (among_keys u es)
+  where
+    go : (b : Bool) → list_any (uid_eq u) (map uid_of (keys_of es)) ≡ is_some (lookup (λ q. uid_eq u (uid_of q)) es) → (b || list_any (uid_eq u) (map uid_of (keys_of es))) ≡ is_some (cond b (Some e.1) (lookup (λ q. uid_eq u (uid_of q)) es))
+    go true h = refl
+    go false h = h
 
 -- a uid at which something is found is that of a key
 found_by_key : {X : Type 0} (es : List (EntityUID × X)) (u : Uid) (v : X) → lookup (λ q. uid_eq u (uid_of q)) es ≡ Some v → (k : EntityUID) × (uid_of k ≡ u)

@@ -15,7 +15,6 @@ use Rattle.cedar_store_model.specs.World.{Found}
 use Rattle.cedar_store_model.specs.Store.{unloaded}
 use Rattle.cedar_expr_model.specs.Value.{V}
 use Rattle.cedar_schema_model.specs.Schema.{declares_action}
-use Rattle.cedar_gate_model.specs.Moment.{told}
 use Rattle.cedar_gate_model.specs.Runs.{with_asked}
 use Rattle.cedar_gate_model.specs.Session.{Setup, State, known_now, whole_store}
 use Rattle.cedar_gate_model.specs.Slice.{roots, mentioned_by_found}
@@ -44,10 +43,10 @@ or_false false = refl
 
 -- what is known of a store at a uid, by whether it was asked for
 abbrev known_at : Setup → Uid → Bool → Found V
-known_at x u asked = if declares_action x.schema u || asked then told u (whole_store x u) else unloaded u
+known_at x u asked = if declares_action x.schema u || asked then whole_store x u else unloaded u
 
-told_there : (x : Setup) (u : Uid) → known_at x u true ≡ told u (whole_store x u)
-told_there x u = ap (λ (b : Bool). if b then told u (whole_store x u) else unloaded u) (hold_right (declares_action x.schema u) true refl)
+whole_there : (x : Setup) (u : Uid) → known_at x u true ≡ whole_store x u
+whole_there x u = ap (λ (b : Bool). if b then whole_store x u else unloaded u) (hold_right (declares_action x.schema u) true refl)
 
 row_there : (a : Uid → Option Row) (u : Uid) (r : Row) → a u ≡ Some r → row_of a u ≡ uids r.items
 row_there a u r e = ap (λ (o : Option Row). option_map_or (λ r. uids r.items) o []) e
@@ -63,7 +62,7 @@ supply_is_round x s l m ps at filled keys answers keeps = record {
   mentions = λ u. elim (filled.filled u) [
     | inl had ↦ (let there : list_any (uid_eq u) (s.asked ++ wanted_in l) ≡ true = list_any-append (uid_eq u) s.asked (wanted_in l)
         ∙ hold_right (list_any (uid_eq u) s.asked) (list_any (uid_eq u) (wanted_in l)) ((found-Decides uid_eq uid_eq-Decides u (wanted_in l)).1 (keys.each u (filled_has ps u had.0 had.1))) in
-        row_there (rows_in m) u had.0 had.2 ∙ answers.each u had.0 had.1 ∙ ap mentioned_by_found (sym (ap (known_at x u) there ∙ told_there x u)))
+        row_there (rows_in m) u had.0 had.2 ∙ answers.each u had.0 had.1 ∙ ap mentioned_by_found (sym (ap (known_at x u) there ∙ whole_there x u)))
     | inr out ↦ ap (λ (o : Option Row). option_map_or (λ r. uids r.items) o []) out.1 ∙ at.mentions u ∙ ap (λ b. mentioned_by_found (known_at x u b)) (sym (apart u (not_wanted u out.0)))
   ];
   kept = keeps (roots (known_now x s)) at.kept;

@@ -6,7 +6,6 @@ use Rattle.cedar_expr_model.specs.Uid.{Uid, uid_eq}
 use Rattle.cedar_gate_wanted.specs.Kept.{IsKept}
 use Rattle.cedar_expr_names.specs.declared.entity.EntityUID.{EntityUID}
 use Rattle.cedar_gate_wanted.specs.Rows.{uids}
-use Rattle.cedar_gate_model.specs.Moment.{told}
 use Rattle.cedar_gate_model.specs.Runs.{with_asked}
 use Rattle.cedar_gate_model.specs.Session.{Setup, State, known_now, whole_store, IsWantedList}
 use Rattle.cedar_gate_model.specs.Slice.{roots, mentioned_by_found}
@@ -29,7 +28,7 @@ WantedIsNext = (x : Setup) (s : State) (l : Loading) → IsWanting x.schema l �
 
 -- the rows have what the store's answers mention
 pub record AreAnswers (x : Setup) (ps : List (Uid × Vec EntityUID Global)) : Type 0 where
-  pub each : (u : Uid) (r : Vec EntityUID Global) → Contains ps (u, r) → uids r.items ≡ mentioned_by_found (told u (whole_store x u))
+  pub each : (u : Uid) (r : Vec EntityUID Global) → Contains ps (u, r) → uids r.items ≡ mentioned_by_found (whole_store x u)
 
 -- distances are kept from the same roots
 abbrev pub KeepsFrom : Setup → List Uid → List Uid → Loading → Loading → Type 0

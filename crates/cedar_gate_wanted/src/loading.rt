@@ -1,7 +1,8 @@
 //! What is loaded by now, and what is wanted next.
 
-ghost use Rattle.std.specs.Prelude.{◌≡◌, ◌++◌, ◌⊎◌, ℕ, List, [], None, Contains, IfOk, IfErr, OnOk, OnErr};
-ghost use Rattle.cedar_expr_model.specs.Uid.{Uid};
+ghost use Rattle.std.specs.Prelude.{◌≡◌, ◌++◌, ◌⊎◌, ℕ, List, [], None, Contains, IfOk, IfErr, OnOk, OnErr, is_some};
+ghost use Rattle.std.specs.List.{list_any};
+ghost use Rattle.cedar_expr_model.specs.Uid.{Uid, uid_eq};
 ghost use Rattle.cedar_expr_names.specs.Views.{uid_of};
 ghost use Rattle.cedar_gate_wanted.specs.Kept.{IsKept};
 ghost use Rattle.cedar_gate_wanted.specs.Rows.{found_at, mentions_in, uids};
@@ -15,6 +16,7 @@ use crate::{Loaded, Near, add, supply, undo};
 use cedar_expr_names::EntityUID;
 use std::alloc::{AllocError, Global};
 use std::collections::BTreeMap;
+use std::collections::btree_map::Keys;
 
 /// What is loaded by now, as far as it leads to further uids: the distances of uids from the roots, what each uid that was asked for
 /// mentions, and what is wanted next.
@@ -49,6 +51,13 @@ impl Loading {
         ensures { uids result.now ≡ wanted_in self.now }
     {
         self.wanted.as_slice()
+    }
+
+    /// Goes over the uids that were asked for, in their order.
+    pub fn asked(&self) -> Keys<'_, EntityUID, Vec<EntityUID>>
+        ensures { (u : Uid) → list_any (uid_eq u) (uids result) ≡ is_some (rows_in self.now u) }
+    {
+        self.rows.keys()
     }
 
     /// Adds roots. Errors: for want of memory all is as before.

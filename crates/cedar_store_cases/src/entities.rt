@@ -40,13 +40,15 @@ fn put_copy(known: &mut Known) -> Made<()> {
     Ok(())
 }
 
-// Does the command: `add_parent Team::blue`, `add_above Team::top`, `store`, `partial`, `find User::a`, `request_type User Action::view Doc`.
+// Does the command: `add_parent Team::blue`, `add_above Team::top`, `store`, `partial`, `absent User::a`, `find User::a`,
+// `request_type User Action::view Doc`.
 fn stored(known: &mut Known, command: (&str, &str), said: &mut String) -> Made<()> {
     let (verb, rest) = command;
     match verb {
         "add_parent" | "add_above" => add(known, verb, rest, said),
         "store" => store(known, said),
         "partial" => partial(known),
+        "absent" => absent(known, rest, said),
         "find" => find(known, rest, said),
         "request_type" => request_type(known.alloc, rest, said),
         _ => Err(AllocError),
@@ -105,6 +107,13 @@ fn partial(known: &mut Known) -> Made<()> {
     std::mem::swap(&mut store, &mut known.store);
     known.store = store.partial();
     Ok(())
+}
+
+// Records that there is no entity of a uid.
+fn absent(known: &mut Known, text: &str, said: &mut String) -> Made<()> {
+    let uid = uid(known.alloc, text)?;
+    let recorded = known.store.add_absent(uid);
+    refused(known.alloc, said, recorded)
 }
 
 // What the store answers for a uid.

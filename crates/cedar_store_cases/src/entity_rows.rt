@@ -56,6 +56,25 @@ find User::b : User::"b"
 find User::missing@7 : unknown("User::\"missing\"") (entity of type `User`)
 find User::" : unknown("User::\"\\\"\"") (entity of type `User`)
 find Team::a : unknown("Team::\"a\"") (entity of type `Team`)
+# a recorded absence answers so in a partial store, and changes nothing in a whole one; what is recorded or there already is refused
+entity User::a
+store : done
+absent User::b : done
+absent User::b : entity `User::"b"` is recorded as absent already
+absent User::a : entity `User::"a"` is in the store
+find User::a : User::"a"
+find User::b : none
+find User::c : none
+partial
+find User::a : User::"a"
+find User::b : none
+find User::c : unknown("User::\"c\"") (entity of type `User`)
+absent User::c : done
+absent User::b : entity `User::"b"` is recorded as absent already
+absent User::a : entity `User::"a"` is in the store
+find User::c : none
+find User::a : User::"a"
+find User::d : unknown("User::\"d\"") (entity of type `User`)
 # the types and the action of a request
 request_type User Action::view Doc : User Action::"view" Doc
 "##;

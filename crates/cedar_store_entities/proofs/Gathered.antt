@@ -12,7 +12,7 @@ use Rattle.cedar_expr_model.specs.ListLaws.{AreDistinct}
 use Rattle.cedar_expr_model.proofs.Lists.{found-Decides}
 use Rattle.cedar_expr_model.proofs.Equality.{uid_eq-Decides}
 use Rattle.cedar_expr_model.proofs.Repeating.{repeat_is_first, distinct_last}
-use Rattle.cedar_store_model.specs.Store.{Entities, are_distinct, Store, whole, store_of}
+use Rattle.cedar_store_model.specs.Store.{Entities, all_of, are_distinct, Store, whole, store_of}
 use Rattle.cedar_store_model.proofs.Distinct.{distinct-Decides}
 use Rattle.cedar_store_entities.specs.Refusals.{RefusesUid, RefusesUids}
 use Rattle.cedar_store_entities.specs.StoreParts.{keys_in, uids_in, entities_in, are_apart}
@@ -30,6 +30,10 @@ handed P e (Err y) same h = subst P (sym same) h
 own_uids : (es : List (EntityUID × Entity)) → map (λ e. e.0) (entities_in es) ≡ uids_in es
 own_uids [] = refl
 own_uids (e ∷ es) = ap (λ us. entity_uid e.1 ∷ us) (own_uids es)
+
+-- an entity of a uid is there where the uid is a key
+pub present_is : (es : List (EntityUID × Entity)) (u : Uid) → keys_in es ≡ uids_in es → list_any (uid_eq u) (map (λ e. e.0) (entities_in es)) ≡ list_any (uid_eq u) (keys_in es)
+present_is es u n = ap (list_any (uid_eq u)) (own_uids es ∙ sym n)
 
 pub listed_uids : (es : List Entity) → map (λ e. e.0) (map entity_pair es) ≡ map entity_uid es
 listed_uids [] = refl
@@ -56,9 +60,9 @@ enters es more u x (Ok y) e n d f h i = (more_keys es more u x h ∙ (λ j. n j 
 enters es more u x (Err y) e n d f h i = (ap keys_in i ∙ n ∙ ap uids_in (sym i), ap are_apart i ∙ d)
 
 -- the store of entities that were put in, one after the other
-pub made_store : (es : List (EntityUID × Entity)) (xs : List Entity) → entities_in es ≡ map entity_pair xs → are_apart es ≡ true → store_of whole (map entity_pair xs) ≡ Some (record { extent = whole; entities = entities_in es })
+pub made_store : (es : List (EntityUID × Entity)) (xs : List Entity) → entities_in es ≡ map entity_pair xs → are_apart es ≡ true → store_of whole (map entity_pair xs) ≡ Some (all_of (entities_in es))
 made_store es xs m d =
-    ap (store_of whole) (sym m) ∙ ap (λ b. cond b (Some (record { extent = whole; entities = entities_in es })) None) d
+    ap (store_of whole) (sym m) ∙ ap (λ b. cond b (Some (all_of (entities_in es))) None) d
 
 -- a uid that is there is the first that stands twice
 met_again : (es : List (EntityUID × Entity)) (xs rest : List Entity) (x : Entity) → keys_in es ≡ uids_in es → entities_in es ≡ map entity_pair xs → are_apart es ≡ true → list_any (uid_eq (entity_uid x)) (keys_in es) ≡ true → repeated uid_eq (map entity_uid (xs ++ x ∷ rest)) ≡ Some (entity_uid x)

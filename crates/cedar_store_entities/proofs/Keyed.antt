@@ -14,7 +14,7 @@ use Rattle.cedar_expr_model.specs.Value.{V}
 use Rattle.cedar_expr_model.proofs.Equality.{uid_eq-Decides}
 use Rattle.cedar_store_model.specs.World as model
 use Rattle.cedar_store_model.specs.World.{Found, held, missing, not_loaded}
-use Rattle.cedar_store_model.specs.Store.{Extent, whole, partial, Store, found_as, if_uid, look_up}
+use Rattle.cedar_store_model.specs.Store.{Extent, whole, partial, Store, found_as, extent_for, look_up}
 use Rattle.cedar_store_entities.specs.Views.{entity_uid, entity_of, entity_pair, entity_kept, kept_pair}
 use Rattle.cedar_store_entities.specs.StoreParts.{keys_in, uids_in, entities_in, kept_in}
 use Rattle.cedar_store_entities.specs.declared.entity.Entity.{Entity}
@@ -96,17 +96,24 @@ own_uid u (e ∷ es) y n h =
     (own_uid u es y (tails _ _ (keys_in es) (uids_in es) n)) h
 
 -- what a store answers
-pub answered : (x : Extent) (es : List (EntityUID × Entity)) (u : EntityUID) (o : Option (model.Entity V)) → lookup (uid_eq (uid_of u)) (entities_in es) ≡ o → look_up (record { extent = x; entities = entities_in es }) (uid_of u) ≡ found_as x o
-answered x es u o h = ap (λ b. cond b (found_as x (lookup (uid_eq (uid_of u)) (entities_in es))) missing) (each_is_uid u) ∙ ap (found_as x) h
+abbrev store_with : Extent → List (EntityUID × Entity) → List Uid → Store
+store_with x es us = record { extent = x; entities = entities_in es; absent = us }
+
+pub answered : (x : Extent) (es : List (EntityUID × Entity)) (us : List Uid) (u : EntityUID) (o : Option (model.Entity V)) → lookup (uid_eq (uid_of u)) (entities_in es) ≡ o
+    → look_up (store_with x es us) (uid_of u) ≡ found_as (extent_for (store_with x es us) (uid_of u)) o
+answered x es us u o h =
+    let y = extent_for (store_with x es us) (uid_of u) in
+    ap (λ b. cond b (found_as y (lookup (uid_eq (uid_of u)) (entities_in es))) missing) (each_is_uid u) ∙ ap (found_as y) h
 
 -- what it answers where an entity is found, and where none is
-pub stored : (x : Extent) (es : List (EntityUID × Entity)) (u : EntityUID) (r : Option (Bor Entity)) (e : Bor Entity) → keys_in es ≡ uids_in es → option_copied r ≡ lookup (same_uid u) es → r ≡ Some e
-    → (look_up (record { extent = x; entities = entities_in es }) (uid_of u) ≡ held (entity_of e.now)) × (lookup (uid_eq (uid_of u)) (kept_in es) ≡ Some (entity_kept e.now)) × (entity_uid e.now ≡ uid_of u)
-stored x es u r e n h k = (
-  answered x es u (Some (entity_of e.now)) (found_is entity_of u es r n h ∙ ap (λ (o : Option (Bor Entity)). option_map entity_of (option_copied o)) k),
+pub stored : (x : Extent) (es : List (EntityUID × Entity)) (us : List Uid) (u : EntityUID) (r : Option (Bor Entity)) (e : Bor Entity) → keys_in es ≡ uids_in es → option_copied r ≡ lookup (same_uid u) es → r ≡ Some e
+    → (look_up (store_with x es us) (uid_of u) ≡ held (entity_of e.now)) × (lookup (uid_eq (uid_of u)) (kept_in es) ≡ Some (entity_kept e.now)) × (entity_uid e.now ≡ uid_of u)
+stored x es us u r e n h k = (
+  answered x es us u (Some (entity_of e.now)) (found_is entity_of u es r n h ∙ ap (λ (o : Option (Bor Entity)). option_map entity_of (option_copied o)) k),
   found_is entity_kept u es r n h ∙ ap (λ (o : Option (Bor Entity)). option_map entity_kept (option_copied o)) k,
   own_uid u es e.now n (sym h ∙ ap (λ (o : Option (Bor Entity)). option_copied o) k),
 )
 
-pub not_stored : (x : Extent) (es : List (EntityUID × Entity)) (u : EntityUID) (r : Option (Bor Entity)) → keys_in es ≡ uids_in es → option_copied r ≡ lookup (same_uid u) es → r ≡ None → look_up (record { extent = x; entities = entities_in es }) (uid_of u) ≡ found_as x None
-not_stored x es u r n h k = answered x es u None (found_is entity_of u es r n h ∙ ap (λ (o : Option (Bor Entity)). option_map entity_of (option_copied o)) k)
+pub not_stored : (x : Extent) (es : List (EntityUID × Entity)) (us : List Uid) (u : EntityUID) (r : Option (Bor Entity)) → keys_in es ≡ uids_in es → option_copied r ≡ lookup (same_uid u) es → r ≡ None
+    → look_up (store_with x es us) (uid_of u) ≡ found_as (extent_for (store_with x es us) (uid_of u)) None
+not_stored x es us u r n h k = answered x es us u None (found_is entity_of u es r n h ∙ ap (λ (o : Option (Bor Entity)). option_map entity_of (option_copied o)) k)

@@ -7,7 +7,7 @@ use Rattle.cedar_expr_trees.specs.Trees.{tree_of}
 use Rattle.cedar_store_model.specs.World.{held, missing, not_loaded}
 use Rattle.cedar_store_model.specs.Store.{Extent, whole, partial, Store, look_up, stand_in}
 use Rattle.cedar_store_entities.specs.Views.{Kept, entity_uid, entity_of, entity_kept}
-use Rattle.cedar_store_entities.specs.StoreParts.{entities_in, kept_in}
+use Rattle.cedar_store_entities.specs.StoreParts.{keys_in, entities_in, kept_in}
 use Rattle.cedar_store_entities.specs.declared.entity.Entity.{Entity}
 use Rattle.cedar_store_entities.specs.declared.entities.Entities.{Entities}
 use Rattle.cedar_store_entities.specs.declared.entities.Mode.{Mode}
@@ -21,7 +21,7 @@ extent_of Partial = partial
 
 -- the store
 abbrev pub store_seen : Entities → Store
-store_seen s = record { extent = extent_of s.mode; entities = entities_in s.entities.entries }
+store_seen s = record { extent = extent_of s.mode; entities = entities_in s.entities.entries; absent = keys_in s.absent.entries }
 
 -- all that is kept of each of its entities, by its uid, in their order
 abbrev pub store_made : Entities → List (Uid × Kept)

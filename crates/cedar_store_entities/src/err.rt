@@ -1,7 +1,7 @@
-//! Why entities make no store.
+//! Why entities make no store, and why an absence isn't recorded.
 
 ghost use Rattle.std.specs.Prelude.{◌≡◌};
-ghost use Rattle.cedar_store_entities.specs.Refusals.{error_number};
+ghost use Rattle.cedar_store_entities.specs.Refusals.{error_number, absence_number};
 
 use cedar_expr_names::EntityUID;
 use std::alloc::{AllocError, AllocFailed};
@@ -51,5 +51,50 @@ impl<T: Drop> From<AllocFailed<T>> for EntitiesError {
 
     fn from(_error: AllocFailed<T>) -> EntitiesError {
         EntitiesError::OutOfMemory
+    }
+}
+
+/// Why an absence isn't recorded.
+#[derive(Debug, Drop, Error)]
+pub enum AbsenceError {
+    /// There is no memory to record it.
+    #[error("out of memory")]
+    OutOfMemory,
+
+    /// The absence is recorded already.
+    #[error("entity `{uid}` is recorded as absent already")]
+    Absent {
+        /// The uid.
+        uid: EntityUID,
+    },
+
+    /// The entity is in the store.
+    #[error("entity `{uid}` is in the store")]
+    Present {
+        /// The uid.
+        uid: EntityUID,
+    },
+}
+
+impl AbsenceError {
+    /// The number of the refusal: 0 for memory.
+    pub fn number(&self) -> u32
+        ensures { result ≡ absence_number self.now }
+    {
+        match self {
+            AbsenceError::OutOfMemory => 0,
+            AbsenceError::Absent { .. } => 1,
+            AbsenceError::Present { .. } => 2,
+        }
+    }
+}
+
+impl From<AllocError> for AbsenceError {
+    ghost use Rattle.cedar_store_entities.specs.declared.err.AbsenceError.TheVariants.{OutOfMemory};
+
+    ghost from_gives = { λ _ e. e ≡ OutOfMemory };
+
+    fn from(_error: AllocError) -> AbsenceError {
+        AbsenceError::OutOfMemory
     }
 }

@@ -1,5 +1,6 @@
 //! Entities, and stores of them, whole or partial.
-//! Contract: a store is a map by uid that refuses a repeated one; a look-up says data, missing, or the unknown that stands for what isn't loaded.
+//! Contract: a store is a map by uid that refuses a repeated one; a look-up says data, missing, or the unknown that stands for what isn't loaded
+//! and isn't recorded as absent.
 //! Used by the plain evaluator, built schemas (`action_entities`) and the gate's hosts.
 #![tactic(auto)]
 
@@ -12,4 +13,4 @@ mod recorded;
 
 pub use entities::{Dereference, Entities};
 pub use entity::Entity;
-pub use err::EntitiesError;
+pub use err::{AbsenceError, EntitiesError};

@@ -8,7 +8,7 @@ use Rattle.cedar_store_model.specs.World.{Entity}
 use Rattle.cedar_store_model.specs.Looks.{Looks}
 use Rattle.cedar_store_model.specs.Knowledge.{IsWhole}
 use Rattle.cedar_store_model.specs.OfLaws.Extends.{Extends}
-use Rattle.cedar_store_model.specs.Store.{whole, as_open, world_of}
+use Rattle.cedar_store_model.specs.Store.{all_of, as_open, world_of}
 use Rattle.cedar_store_model.specs.Worked.{user_a, user_b, team, ok_of, boss_of, uid, says_true, says_false, no_unknowns, request, entities, table, number_value, world, world_without_b, nothing_loaded, a_loaded, principal_open}
 use Rattle.cedar_expr_model.proofs.Lists.{contains_none}
 use Rattle.cedar_store_model.proofs.Stores.{whole_extends_partial, whole_stores_are_whole}
@@ -36,7 +36,7 @@ not_after_false (inl h) = absurd h
 not_after_false (inr h) = let k = h.0 in cc
 
 pub from_nothing : Extends nothing_loaded world
-from_nothing = whole_extends_partial table no_unknowns no_unknowns (as_open request) (as_open request) [] entities (λ n. keeps_same (no_unknowns n) (no_unknowns n) refl) (record { principal = refl; action = refl; resource = refl; context = refl }) (λ e h. absurd (nothing e h)) refl
+from_nothing = whole_extends_partial table no_unknowns no_unknowns (as_open request) (as_open request) [] entities [] (λ n. keeps_same (no_unknowns n) (no_unknowns n) refl) (record { principal = refl; action = refl; resource = refl; context = refl }) (λ e h. absurd (nothing e h)) (λ u e h. absurd (contains_none u h)) refl
   where
     nothing : (e : Uid × Entity V) → Contains {X = Uid × Entity V} [] e → ⊥
     nothing e h = contains_none e h
@@ -47,7 +47,7 @@ not_back h = let k = (h.store user_a).1 in cc
 pub absence_is_known : Extends world_without_b world → ⊥
 absence_is_known h = let k = h.store user_b in cc
 
-pub whole_world : IsWhole (world_of table (λ n. Some (number_value 5)) (as_open request) (record { extent = whole; entities = entities }))
+pub whole_world : IsWhole (world_of table (λ n. Some (number_value 5)) (as_open request) (all_of entities))
 whole_world = whole_stores_are_whole table (λ n. Some (number_value 5)) request entities (λ n. refl) refl
 
 pub not_whole : IsWhole a_loaded → ⊥

@@ -1,10 +1,12 @@
 -- Where everything is known but unknowns, an expression whose unknowns are bound has an outcome.
 use Rattle.std.proofs.Common.{◌≡◌, Bool, true, false, cond, List, [], ◌∷◌, refl, sym, ap, subst}
 use Rattle.std.specs.Prelude.{Option, Some, None, length, IsSome, is_some, unwrap_or, find}
-use Rattle.std.specs.List.{list_all}
+use Rattle.std.specs.List.{list_all, list_any}
+use Rattle.std.specs.Map.{lookup}
 use Rattle.cedar_expr_model.specs.Name.{Text, Name, name_eq}
-use Rattle.cedar_expr_model.specs.Uid.{Uid}
-use Rattle.cedar_expr_model.specs.Value.{text, entity, V, prim, record_of, no_fields, field, truth_value}
+use Rattle.cedar_expr_model.specs.Uid.{Uid, uid_eq}
+use Rattle.cedar_expr_model.specs.Uids.{is_uid}
+use Rattle.cedar_expr_model.specs.Value.{text, entity, V, prim, record_of, field, truth_value}
 use Rattle.cedar_expr_model.specs.Canonical.{set_made}
 use Rattle.cedar_expr_model.specs.Tree.{CoreType, Tree, lit, var, slot, unknown, choice, both, either, unary, binary, call, get_attr, has_attr, has_path, like, is_type, set_literal, record_literal, Trees, no_trees, tree, TreeFields, no_tree_fields, tree_field, Var, principal, action, resource, context, BinaryOp, is_in, get_tag, has_tag}
 use Rattle.cedar_expr_model.specs.Table.{Table, Signature, Called, gives, fails, leaves, signature_of, takes_count, are_of_types, all_typed}
@@ -12,17 +14,16 @@ use Rattle.cedar_expr_model.specs.OfLaws.Fair.{IsTaken, IsAnswer, IsFair}
 use Rattle.cedar_expr_model.proofs.Lists.{both_hold}
 use Rattle.cedar_expr_model.proofs.Gathering.{EachIn, each_in, EachAmong, EachInFields}
 use Rattle.cedar_store_model.specs.Outcome.{Res, val, bind, wrong_type, wrong_count, err}
-use Rattle.cedar_store_model.specs.World.{World, Request}
+use Rattle.cedar_store_model.specs.World.{World, Found}
 use Rattle.cedar_store_model.specs.Operators.{says, applied, like_pattern, of_type, answered}
 use Rattle.cedar_store_model.specs.Reads.{attribute_read, attribute_tested, within}
 use Rattle.cedar_store_model.specs.Meaning.{Means, variable, combined, picked, truth_asked, outcome_of, outcomes_of, field_outcomes_of, path_tested}
 use Rattle.cedar_store_model.specs.Knowledge.{holds_values, IsSettled, IsWhole}
-use Rattle.cedar_store_model.specs.Store.{Store, Extent, whole, look_up}
+use Rattle.cedar_store_model.specs.Store.{Store, Extent, whole, if_uid, found_as, look_up}
 use Rattle.cedar_store_model.proofs.Named.{bound_value, called_of, tag_read, tag_tested}
 use Rattle.cedar_store_model.proofs.Known.{an_outcome}
 use Rattle.cedar_store_model.proofs.Meaning.{outcome_means, means_outcome, one_outcome}
-use Rattle.cedar_store_model.proofs.Stores.{whole_stores_are_whole}
-use Rattle.cedar_store_model.specs.Alone.{no_functions}
+use Rattle.cedar_store_model.proofs.Stores.{settled, settled_if_uid}
 use Rattle.cedar_store_model.specs.Settled.{CallsLeaveNone, IsSettledWorld, BindsUnknowns}
 
 -- what is read doesn't ask for unknowns
@@ -138,13 +139,15 @@ settled_worlds_answer w s t h =
     (k.0, m, λ r n. one_outcome w t r k.0 n m)
 
 -- whole stores of values
-some_request : Uid → Request
-some_request u = record { principal = u; action = u; resource = u; context = no_fields }
+settled_either : (b : Bool) (f : Extent → Found V) → IsSettled (f whole) → IsSettled (f (cond b whole whole))
+settled_either true f h = h
+settled_either false f h = h
 
 pub whole_stores_are_settled : (s : Store) → s.extent ≡ whole → list_all (λ (e : Uid × _). holds_values e.1) s.entities ≡ true → (u : Uid) → IsSettled (look_up s u)
 whole_stores_are_settled s x h u =
-    subst (λ (y : Extent). IsSettled (look_up (record { extent = y; entities = s.entities }) u)) (sym x)
-    ((whole_stores_are_whole no_functions (λ n. Some (truth_value false)) (some_request u) s.entities (λ n. refl) h).store u)
+    let at : Extent → Found V = λ y. if_uid u (found_as y (lookup (uid_eq u) s.entities)) in
+    subst (λ (y : Extent). IsSettled (at (cond (list_any (uid_eq u) s.absent) whole y))) (sym x)
+    (settled_either (list_any (uid_eq u) s.absent) at (settled_if_uid (is_uid u) (found_as whole (lookup (uid_eq u) s.entities)) (settled s.entities h u)))
 
 -- fair tables
 typed_case : (b : Bool) (s g : Signature) (o : Option Signature) → cond b (Some s) o ≡ Some g → is_some s.result ≡ true → (o ≡ Some g → is_some g.result ≡ true) → is_some g.result ≡ true

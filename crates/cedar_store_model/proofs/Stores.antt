@@ -1,7 +1,7 @@
 -- Stores as maps, and what is known by a part of one.
 use Rattle.std.proofs.Common.{◌≡◌, List, [], ◌∷◌, map, Bool, true, false, cond, not, ◌&&◌, ◌++◌, refl, sym, ap, ◌∙◌, subst}
 use Rattle.std.specs.Prelude.{Option, Some, None, Contains, IsSome}
-use Rattle.std.specs.List.{list_all, filter, flat_map}
+use Rattle.std.specs.List.{list_all, list_any, filter, flat_map}
 use Rattle.std.proofs.lemmas.List.Concat.{flat_map-cons}
 use Rattle.std.specs.Map.{lookup}
 use Rattle.std.specs.Str.{bytes_eq}
@@ -11,7 +11,7 @@ use Rattle.cedar_expr_model.specs.Value.{V}
 use Rattle.cedar_expr_model.specs.Table.{Table}
 use Rattle.cedar_expr_model.specs.Uids.{is_uid}
 use Rattle.cedar_expr_model.proofs.Equality.{uid_eq-Decides}
-use Rattle.cedar_expr_model.proofs.Lists.{both_hold, contains_head, contains_tail, contains_cases, contains_none, map_has}
+use Rattle.cedar_expr_model.proofs.Lists.{both_hold, contains_head, contains_tail, contains_cases, contains_none, map_has, found-Decides}
 use Rattle.cedar_expr_model.specs.ValueParts.{Part, known, left}
 use Rattle.cedar_store_model.specs.World.{World, Request, Entity, Found, missing}
 use Rattle.cedar_store_model.specs.Looks.{Looks}
@@ -19,12 +19,12 @@ use Rattle.cedar_store_model.specs.Knowledge.{holds_values, IsSettled, IsWhole}
 use Rattle.cedar_store_model.specs.OfLaws.Extends.{Keeps, KeepsPart, KeepsEntity, KeepsFound, Extends}
 use Rattle.cedar_store_model.specs.Policy.{Policy, condition}
 use Rattle.cedar_store_model.specs.Answer.{with_slots, policy_outcome, is_true, permits, ids, decided, determining, error_of, answer_of, PolicyError}
-use Rattle.cedar_store_model.specs.Store.{Entities, whole, partial, found_as, are_distinct, OpenRequest, as_open, world_of}
+use Rattle.cedar_store_model.specs.Store.{Entities, whole, partial, all_of, some_of, found_as, are_distinct, OpenRequest, as_open, world_of}
 use Rattle.cedar_store_model.proofs.Distinct.{distinct-Decides}
 use Rattle.cedar_store_model.proofs.Slices.{same}
 use Rattle.cedar_store_model.proofs.Conditions.{condition_asked}
 use Rattle.cedar_store_model.specs.Laws.{with_store}
-use Rattle.cedar_store_model.specs.StoreLaws.{KeepsRequest, ArePartOf}
+use Rattle.cedar_store_model.specs.StoreLaws.{KeepsRequest, ArePartOf, NoneStands}
 use Rattle.cedar_expr_model.specs.ListLaws.{AreDistinct}
 
 -- look-ups
@@ -73,18 +73,27 @@ keeps_itself (Some (left t)) = refl
 entity_keeps : (e : Entity V) → KeepsEntity e e
 entity_keeps e = record { attributes = λ a. keeps_itself (lookup (bytes_eq a) e.attributes); tags = λ a. keeps_itself (lookup (bytes_eq a) e.tags); ancestors = refl }
 
-keeps_found : (o p : Option (Entity V)) → ((e : Entity V) → o ≡ Some e → p ≡ Some e) → KeepsFound (found_as partial o) (found_as whole p)
-keeps_found None p h = tt
-keeps_found (Some e) p h = (e, ap (found_as whole) (h e refl), entity_keeps e)
+keeps_found : (a : Bool) (o p : Option (Entity V)) → ((e : Entity V) → o ≡ Some e → p ≡ Some e) → (a ≡ true → p ≡ None) → KeepsFound (found_as (cond a whole partial) o) (found_as whole p)
+keeps_found true None p h k = ap (found_as whole) (k refl)
+keeps_found false None p h k = tt
+keeps_found a (Some e) p h k = (e, ap (found_as whole) (h e refl), entity_keeps e)
+
+none_there : (o : Option (Entity V)) → ((e : Entity V) → o ≡ Some e → ⊥) → o ≡ None
+none_there None h = refl
+none_there (Some e) h = absurd (h e refl)
 
 keeps_if_uid : (b : Bool) (f g : Found V) → KeepsFound f g → KeepsFound (cond b f missing) (cond b g missing)
 keeps_if_uid true f g h = h
 keeps_if_uid false f g h = refl
 
-pub whole_extends_partial : (table : Table) (some_unknowns unknowns : Text → Option V) (q r : OpenRequest) (loaded all : Entities)
-    → ((n : Text) → Keeps (some_unknowns n) (unknowns n)) → KeepsRequest q r → ArePartOf loaded all → are_distinct all ≡ true
-    → Extends (world_of table some_unknowns q (record { extent = partial; entities = loaded })) (world_of table unknowns r (record { extent = whole; entities = all }))
-whole_extends_partial table m n q r loaded all hn hr part distinct = record {
+-- a uid of a recorded absence isn't found
+pub lacked : (absent : List Uid) (all : Entities) → NoneStands absent all → (u : Uid) → list_any (uid_eq u) absent ≡ true → lookup (uid_eq u) all ≡ None
+lacked absent all none u a = none_there (lookup (uid_eq u) all) (λ e h. none u e ((found-Decides uid_eq uid_eq-Decides u absent).0 a) (found_stands all u e h))
+
+pub whole_extends_partial : (table : Table) (some_unknowns unknowns : Text → Option V) (q r : OpenRequest) (loaded all : Entities) (absent : List Uid)
+    → ((n : Text) → Keeps (some_unknowns n) (unknowns n)) → KeepsRequest q r → ArePartOf loaded all → NoneStands absent all → are_distinct all ≡ true
+    → Extends (world_of table some_unknowns q (some_of loaded absent)) (world_of table unknowns r (all_of all))
+whole_extends_partial table m n q r loaded all absent hn hr part none distinct = record {
   principal = hr.principal;
   action = hr.action;
   resource = hr.resource;
@@ -92,24 +101,31 @@ whole_extends_partial table m n q r loaded all hn hr part distinct = record {
   slots = λ s. refl;
   unknowns = hn;
   table = refl;
-  store = λ u. keeps_if_uid (is_uid u) (found_as partial (lookup (uid_eq u) loaded)) (found_as whole (lookup (uid_eq u) all)) (keeps_found (lookup (uid_eq u) loaded) (lookup (uid_eq u) all) (λ e h. stands_found all distinct u e (part (u, e) (found_stands loaded u e h))));
+  store = λ u.
+      let among = lookup (uid_eq u) loaded in
+      let there = lookup (uid_eq u) all in
+      let is_absent = list_any (uid_eq u) absent in
+      keeps_if_uid (is_uid u) (found_as (cond is_absent whole partial) among) (found_as whole there)
+      (keeps_found is_absent among there
+      (λ e h. stands_found all distinct u e (part (u, e) (found_stands loaded u e h)))
+      (lacked absent all none u));
 }
 
 settled_here : (b : Bool) (d : Entity V) (o : Option (Entity V)) → holds_values d ≡ true → IsSettled (found_as whole o) → IsSettled (found_as whole (cond b (Some d) o))
 settled_here true d o h k = h
 settled_here false d o h k = k
 
-settled : (es : Entities) → list_all (λ (e : Uid × Entity V). holds_values e.1) es ≡ true → (u : Uid) → IsSettled (found_as whole (lookup (uid_eq u) es))
+pub settled : (es : Entities) → list_all (λ (e : Uid × Entity V). holds_values e.1) es ≡ true → (u : Uid) → IsSettled (found_as whole (lookup (uid_eq u) es))
 settled [] h u = tt
 settled (e ∷ es) h u = let k = both_hold (holds_values e.1) (list_all (λ (d : Uid × Entity V). holds_values d.1) es) h in settled_here (uid_eq u e.0) e.1 (lookup (uid_eq u) es) k.0 (settled es k.1 u)
 
-settled_if_uid : (b : Bool) (f : Found V) → IsSettled f → IsSettled (cond b f missing)
+pub settled_if_uid : (b : Bool) (f : Found V) → IsSettled f → IsSettled (cond b f missing)
 settled_if_uid true f h = h
 settled_if_uid false f h = tt
 
 pub whole_stores_are_whole : (table : Table) (unknowns : Text → Option V) (r : Request) (es : Entities)
     → ((n : Text) → IsSome (unknowns n)) → list_all (λ (e : Uid × Entity V). holds_values e.1) es ≡ true
-    → IsWhole (world_of table unknowns (as_open r) (record { extent = whole; entities = es }))
+    → IsWhole (world_of table unknowns (as_open r) (all_of es))
 whole_stores_are_whole table unknowns r es hn hs = record { principal = refl; action = refl; resource = refl; context = refl; unknowns = hn; store = λ u. settled_if_uid (is_uid u) (found_as whole (lookup (uid_eq u) es)) (settled es hs u) }
 
 -- answers by the outcomes of the policies

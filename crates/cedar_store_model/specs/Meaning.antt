@@ -10,10 +10,10 @@ use Rattle.cedar_expr_model.specs.Uid.{Uid}
 use Rattle.cedar_expr_model.specs.Value.{truth, entity, V, prim, record_of, Fields, no_fields, field, truth_value}
 use Rattle.cedar_expr_model.specs.Order.{value_eq}
 use Rattle.cedar_expr_model.specs.Canonical.{set_made, is_subset, is_disjoint}
-use Rattle.cedar_expr_model.specs.Tree.{Var, principal, action, resource, context, BinaryOp, equal, less, less_or_equal, plus, difference, times, is_in, contains, contains_all, contains_any, get_tag, has_tag, Tree, lit, var, slot, unknown, choice, both, either, unary, binary, call, get_attr, has_attr, has_path, like, is_type, set_literal, record_literal, Trees, no_trees, tree, TreeFields, no_tree_fields, tree_field}
+use Rattle.cedar_expr_model.specs.Tree.{Var, principal, action, resource, context, BinaryOp, equal, less, less_or_equal, plus, difference, times, remainder, is_in, contains, contains_all, contains_any, get_tag, has_tag, Tree, lit, var, slot, unknown, choice, both, either, unary, binary, call, get_attr, has_attr, has_path, like, is_type, set_literal, record_literal, Trees, no_trees, tree, TreeFields, no_tree_fields, tree_field}
 use Rattle.cedar_store_model.specs.Outcome.{Res, val, err, wrong_type, unlinked_slot, Then, Is, Gives, bind}
 use Rattle.cedar_store_model.specs.World.{World}
-use Rattle.cedar_store_model.specs.Operators.{says, applied, ordered, calculated, of_sets, among_members, like_pattern, of_type, called}
+use Rattle.cedar_store_model.specs.Operators.{in_range, says, applied, ordered, calculated, remains, of_sets, among_members, like_pattern, of_type, called}
 use Rattle.cedar_store_model.specs.Reads.{part_read, part_tested, attribute_read, attribute_tested, tag_asked, within}
 
 -- what a variable of the request means
@@ -32,9 +32,10 @@ abbrev pub combined : World → BinaryOp → V → V → Option (Res V)
 combined w equal v v' = Some (says (value_eq v v'))
 combined w less v v' = Some (ordered w.table is_lt v v')
 combined w less_or_equal v v' = Some (ordered w.table is_le v v')
-combined w plus v v' = Some (calculated (λ m n. m +ℤ n) v v')
-combined w difference v v' = Some (calculated (λ m n. m -ℤ n) v v')
-combined w times v v' = Some (calculated (λ m n. m *ℤ n) v v')
+combined w plus v v' = Some (calculated (λ m n. in_range (m +ℤ n)) v v')
+combined w difference v v' = Some (calculated (λ m n. in_range (m -ℤ n)) v v')
+combined w times v v' = Some (calculated (λ m n. in_range (m *ℤ n)) v v')
+combined w remainder v v' = Some (calculated remains v v')
 combined w is_in v v' = within w v v'
 combined w contains v v' = Some (among_members v v')
 combined w contains_all v v' = Some (of_sets (λ vs ws. is_subset ws vs) v v')

@@ -1,8 +1,8 @@
 -- Operators at the values of their operands. Where no clause says otherwise the operands have a wrong type.
 -- Rule: the meaning (docs/RULES.md).
-use Rattle.std.specs.Prelude.{◌&&◌, ℤ, pos, neg_ℤ, int_le, List, length, Bool, not, Option, Some, option_map, if◌then◌else◌}
+use Rattle.std.specs.Prelude.{◌&&◌, ℤ, pos, neg_ℤ, int_le, int_rem, List, length, Bool, not, Option, Some, option_map, if◌then◌else◌}
 use Rattle.std.specs.Option.{option_map_or}
-use Rattle.std.specs.Ordering.{int_cmp}
+use Rattle.std.specs.Ordering.{int_cmp, int_eq}
 use Rattle.std.specs.declared.cmp.Ordering.{Ordering}
 use Rattle.cedar_expr_model.specs.Name.{Text, Name, name_eq}
 use Rattle.cedar_expr_model.specs.Value.{truth, long, text, entity, V, prim, set_of, extension, Vs, values_list, truth_value}
@@ -12,7 +12,7 @@ use Rattle.cedar_expr_model.specs.Canonical.{is_member}
 use Rattle.cedar_expr_model.specs.Pattern.{Pattern, matches_text}
 use Rattle.cedar_expr_model.specs.Tree.{UnaryOp, negation, minus, is_empty}
 use Rattle.cedar_expr_model.specs.Table.{Table, Signature, signature_of, is_ordered, takes_count, are_of_types, Called, gives, fails, leaves}
-use Rattle.cedar_store_model.specs.Outcome.{Res, val, err, wrong_type, overflow, extension_failed, no_function, wrong_count}
+use Rattle.cedar_store_model.specs.Outcome.{Res, val, err, wrong_type, overflow, zero_divisor, extension_failed, no_function, wrong_count}
 
 -- whole numbers of 64 bits
 abbrev pub is_long : ℤ → Bool
@@ -38,8 +38,14 @@ ordered x test (prim (long m)) (prim (long n)) = says (test (int_cmp m n))
 ordered x test (extension m j) (extension n k) = if name_eq m n && is_ordered x m then says (test (text_cmp j k)) else err wrong_type
 ordered x test v w = err wrong_type
 
-abbrev pub calculated : (ℤ → ℤ → ℤ) → V → V → Res V
-calculated f (prim (long m)) (prim (long n)) = in_range (f m n)
+-- What the division of two whole numbers leaves: the quotient is rounded toward zero, so it has the sign of the dividend. The divisor
+-- isn't zero.
+abbrev pub remains : ℤ → ℤ → Res V
+remains m n = if int_eq n (pos 0) then err zero_divisor else val (prim (long (int_rem m n)))
+
+-- an operator of two whole numbers
+abbrev pub calculated : (ℤ → ℤ → Res V) → V → V → Res V
+calculated f (prim (long m)) (prim (long n)) = f m n
 calculated f v w = err wrong_type
 
 abbrev pub among_members : V → V → Res V

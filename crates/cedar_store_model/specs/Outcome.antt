@@ -8,7 +8,7 @@ use Rattle.cedar_expr_model.specs.Uid.{Uid}
 -- The kinds of errors. That of a missing entity keeps its uid, and that of an extension its name.
 pub data Fault : Type 0 where
   missing_entity : Uid → Fault
-  missing_attribute_or_tag missing_field wrong_type overflow no_function wrong_count unlinked_slot : Fault
+  missing_attribute_or_tag missing_field wrong_type overflow zero_divisor no_function wrong_count unlinked_slot : Fault
   extension_failed : Name → Fault
 
 pub data Res (A : Type 0) : Type 0 where

@@ -1,5 +1,6 @@
 -- Stores as finite maps of entities, whole or partial, and the worlds of requests over them.
 -- Rule: the store (docs/RULES.md).
+use Rattle.std.specs.List.{list_any}
 use Rattle.std.specs.Prelude.{List, [], ◌∷◌, ◌++◌, map, Bool, Option, Some, None, is_none, if◌then◌else◌}
 use Rattle.std.specs.Map.{lookup}
 use Rattle.cedar_expr_model.specs.Name.{Text}
@@ -19,9 +20,18 @@ Entities = List (Uid × Entity V)
 pub data Extent : Type 0 where
   whole partial : Extent
 
+-- The entities of a store, and the uids of which it is recorded that they are absent.
 pub record Store : Type 0 where
   pub extent : Extent
   pub entities : Entities
+  pub absent : List Uid
+
+-- all entities that there are; and some of them, with absences
+abbrev pub all_of : Entities → Store
+all_of es = record { extent = whole; entities = es; absent = [] }
+
+abbrev pub some_of : Entities → List Uid → Store
+some_of es us = record { extent = partial; entities = es; absent = us }
 
 -- An entity that isn't in a whole store is missing; in a partial one it isn't loaded.
 abbrev pub found_as : Extent → Option (Entity V) → Found V
@@ -37,12 +47,20 @@ if_uid u found = if is_uid u then found else missing
 abbrev pub unloaded : {A : Type 0} → Uid → Found A
 unloaded u = if_uid u not_loaded
 
+-- of a recorded absence a partial store answers as a whole one
+abbrev pub extent_for : Store → Uid → Extent
+extent_for s u = if list_any (uid_eq u) s.absent then whole else s.extent
+
 abbrev pub look_up : Store → Uid → Found V
-look_up s u = if_uid u (found_as s.extent (lookup (uid_eq u) s.entities))
+look_up s u = if_uid u (found_as (extent_for s u) (lookup (uid_eq u) s.entities))
 
 -- what stands for an entity that isn't loaded: the unknown named by the text of its uid, annotated with its type
 abbrev pub stand_in : Uid → Tree
 stand_in u = unknown (uid_text u) (Some (entity_core u.kind))
+
+-- the store with one more absence recorded
+abbrev pub with_absence : Store → Uid → Store
+with_absence s u = record s { absent = s.absent ++ u ∷ [] }
 
 -- no uid stands twice
 abbrev pub are_distinct : Entities → Bool
@@ -50,7 +68,7 @@ are_distinct es = is_none (repeated uid_eq (map (λ e. e.0) es))
 
 -- the store of these entities, where no uid is repeated
 abbrev pub store_of : Extent → Entities → Option Store
-store_of x es = if are_distinct es then Some (record { extent = x; entities = es }) else None
+store_of x es = if are_distinct es then Some (record { extent = x; entities = es; absent = [] }) else None
 
 -- an entity with one recorded ancestor more
 abbrev pub with_ancestor : Uid → Entity V → Entity V

@@ -1,6 +1,6 @@
 -- What the laws of stores, and of scopes that match a request, say.
 -- Rule: the store; what is known; conditions (docs/RULES.md).
-use Rattle.std.specs.Prelude.{◌≡◌, ◌↔◌, Contains, true, Option, Some, IsSome}
+use Rattle.std.specs.Prelude.{◌≡◌, ◌↔◌, List, Contains, true, Option, Some, IsSome}
 use Rattle.std.specs.List.{list_all}
 use Rattle.std.specs.Map.{lookup}
 use Rattle.std.proofs.Common.{◌⊎◌}
@@ -11,7 +11,7 @@ use Rattle.cedar_expr_model.specs.Table.{Table}
 use Rattle.cedar_store_model.specs.World.{World, Request, Entity, held}
 use Rattle.cedar_store_model.specs.Knowledge.{holds_values, IsWhole}
 use Rattle.cedar_store_model.specs.OfLaws.Extends.{Keeps, Extends}
-use Rattle.cedar_store_model.specs.Store.{Entities, whole, partial, are_distinct, OpenRequest, as_open, world_of}
+use Rattle.cedar_store_model.specs.Store.{Entities, all_of, some_of, are_distinct, OpenRequest, as_open, world_of}
 use Rattle.cedar_store_model.specs.Policy.{Policy, Target, named, own_slot, Scope, any, exactly, inside, of_kind, of_kind_inside, ActionScope, any_action, exactly_action, inside_actions, body_tree}
 use Rattle.cedar_store_model.specs.Answer.{with_slots, IsSatisfied}
 use Rattle.cedar_store_model.specs.AnswerLaws.{Holds}
@@ -27,21 +27,25 @@ pub record KeepsRequest (q r : OpenRequest) : Type 0 where
 abbrev pub ArePartOf : Entities → Entities → Type 0
 ArePartOf es ds = (e : Uid × Entity V) → Contains es e → Contains ds e
 
+-- none of the uids stands among those
+abbrev pub NoneStands : List Uid → Entities → Type 0
+NoneStands us ds = (u : Uid) (e : Entity V) → Contains us u → Contains ds (u, e) → ⊥
+
 -- the look-up finds exactly the entity that stands under the uid
 abbrev pub LookupIsExact : Type 0
 LookupIsExact = (es : Entities) → are_distinct es ≡ true → (u : Uid) (e : Entity V) → (lookup (uid_eq u) es ≡ Some e → Contains es (u, e)) × (Contains es (u, e) → lookup (uid_eq u) es ≡ Some e)
 
--- what is known of a request and of a store is extended by the whole store
+-- what is known of a request and of a store is extended by the whole store, which lacks each recorded absence
 abbrev pub WholeExtendsPartial : Type 0
-WholeExtendsPartial = (table : Table) (some_unknowns unknowns : Text → Option V) (q r : OpenRequest) (loaded all : Entities)
-    → ((n : Text) → Keeps (some_unknowns n) (unknowns n)) → KeepsRequest q r → ArePartOf loaded all → are_distinct all ≡ true
-    → Extends (world_of table some_unknowns q (record { extent = partial; entities = loaded })) (world_of table unknowns r (record { extent = whole; entities = all }))
+WholeExtendsPartial = (table : Table) (some_unknowns unknowns : Text → Option V) (q r : OpenRequest) (loaded all : Entities) (absent : List Uid)
+    → ((n : Text) → Keeps (some_unknowns n) (unknowns n)) → KeepsRequest q r → ArePartOf loaded all → NoneStands absent all → are_distinct all ≡ true
+    → Extends (world_of table some_unknowns q (some_of loaded absent)) (world_of table unknowns r (all_of all))
 
 -- the world of a request over a whole store of values, with each unknown bound, is whole
 abbrev pub WholeStoresAreWhole : Type 0
 WholeStoresAreWhole = (table : Table) (unknowns : Text → Option V) (r : Request) (es : Entities)
     → ((n : Text) → IsSome (unknowns n)) → list_all (λ e. holds_values e.1) es ≡ true
-    → IsWhole (world_of table unknowns (as_open r) (record { extent = whole; entities = es }))
+    → IsWhole (world_of table unknowns (as_open r) (all_of es))
 
 -- one uid is the other, or has it as a recorded ancestor
 abbrev pub IsIn : World → Uid → Uid → Type 0

@@ -9,7 +9,7 @@ use Rattle.cedar_expr_model.specs.Tree.{context, string_core, extension_core, Tr
 use Rattle.cedar_expr_model.specs.Table.{Table, Signature, Called, gives, fails, leaves, function_style, method_style}
 use Rattle.cedar_expr_model.specs.ValueParts.{known, left}
 use Rattle.cedar_store_model.specs.World.{World, Entity, Request}
-use Rattle.cedar_store_model.specs.Store.{Entities, whole, partial, as_open, world_of}
+use Rattle.cedar_store_model.specs.Store.{Entities, all_of, some_of, as_open, world_of}
 
 -- names and uids
 abbrev pub plain : Text → Name
@@ -157,27 +157,27 @@ abbrev pub u_bound : Text → Option V
 u_bound n = if bytes_eq n (codes "u") then Some (number_value 5) else None
 
 abbrev pub world : World
-world = world_of table no_unknowns (as_open request) (record { extent = whole; entities = entities })
+world = world_of table no_unknowns (as_open request) (all_of entities)
 
 abbrev pub bound_world : World
-bound_world = world_of table u_bound (as_open request) (record { extent = whole; entities = entities })
+bound_world = world_of table u_bound (as_open request) (all_of entities)
 
 abbrev pub world_without_b : World
-world_without_b = world_of table no_unknowns (as_open request) (record { extent = whole; entities = without_b })
+world_without_b = world_of table no_unknowns (as_open request) (all_of without_b)
 
 -- the worlds of the request: where nothing is loaded, where `User::"a"` is, and where the principal is open
 abbrev pub nothing_loaded : World
-nothing_loaded = world_of table no_unknowns (as_open request) (record { extent = partial; entities = [] })
+nothing_loaded = world_of table no_unknowns (as_open request) (some_of [] [])
 
 abbrev pub a_loaded : World
-a_loaded = world_of table no_unknowns (as_open request) (record { extent = partial; entities = (user_a, person user_a true) ∷ [] })
+a_loaded = world_of table no_unknowns (as_open request) (some_of ((user_a, person user_a true) ∷ []) [])
 
 abbrev pub principal_open : World
-principal_open = world_of table no_unknowns (record { principal = None; action = Some view; resource = Some doc_d; context = None }) (record { extent = partial; entities = [] })
+principal_open = world_of table no_unknowns (record { principal = None; action = Some view; resource = Some doc_d; context = None }) (some_of [] [])
 
 -- `User::"a"` with an attribute `ok` that isn't a value yet
 abbrev pub unfinished : Entity V
 unfinished = record { attributes = (codes "ok", left (unknown (codes "u") None)) ∷ []; tags = (codes "size", left (unknown (codes "u") None)) ∷ []; ancestors = [] }
 
 abbrev pub a_unfinished : World
-a_unfinished = world_of table no_unknowns (as_open request) (record { extent = partial; entities = (user_a, unfinished) ∷ [] })
+a_unfinished = world_of table no_unknowns (as_open request) (some_of ((user_a, unfinished) ∷ []) [])

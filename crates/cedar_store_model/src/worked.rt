@@ -3,8 +3,8 @@
 ghost use Rattle.std.specs.Prelude.{◌≡◌, Bool, true, false, Option, Some, None, ℤ, pos, neg_ℤ, codes, [], ◌∷◌};
 ghost use Rattle.cedar_expr_model.specs.Value.{Literal, truth, long, text, entity, V, prim, set_of, record_of, extension, no_values, value, no_fields, field, truth_value};
 ghost use Rattle.cedar_expr_model.specs.Pattern.{character, wildcard};
-ghost use Rattle.cedar_expr_model.specs.Tree.{Tree, lit, var, slot, unknown, choice, both, either, unary, binary, call, get_attr, has_attr, has_path, like, is_type, set_literal, record_literal, no_trees, tree, no_tree_fields, tree_field, principal, action, resource, context, principal_slot, resource_slot, negation, minus, is_empty, equal, less, less_or_equal, plus, difference, times, is_in, contains, contains_all, contains_any, get_tag, has_tag, entity_core, nesting};
-ghost use Rattle.cedar_store_model.specs.Outcome.{Res, val, err, missing_entity, missing_attribute_or_tag, missing_field, wrong_type, overflow, extension_failed, no_function, wrong_count, unlinked_slot};
+ghost use Rattle.cedar_expr_model.specs.Tree.{Tree, lit, var, slot, unknown, choice, both, either, unary, binary, call, get_attr, has_attr, has_path, like, is_type, set_literal, record_literal, no_trees, tree, no_tree_fields, tree_field, principal, action, resource, context, principal_slot, resource_slot, negation, minus, is_empty, equal, less, less_or_equal, plus, difference, times, remainder, is_in, contains, contains_all, contains_any, get_tag, has_tag, entity_core, nesting};
+ghost use Rattle.cedar_store_model.specs.Outcome.{Res, val, err, missing_entity, missing_attribute_or_tag, missing_field, wrong_type, overflow, zero_divisor, extension_failed, no_function, wrong_count, unlinked_slot};
 ghost use Rattle.cedar_expr_model.specs.ValueParts.{Part, known, left};
 ghost use Rattle.cedar_store_model.specs.World.{Found, held, missing, not_loaded};
 ghost use Rattle.cedar_store_model.specs.Operators.{says};
@@ -13,10 +13,11 @@ ghost use Rattle.cedar_store_model.specs.Looks.{Looks};
 ghost use Rattle.cedar_store_model.specs.Laws.{has_dereference};
 ghost use Rattle.cedar_store_model.specs.Knowledge.{holds_values, IsWhole};
 ghost use Rattle.cedar_store_model.specs.OfLaws.Extends.{KeepsPart, Extends};
-ghost use Rattle.cedar_store_model.specs.Store.{are_distinct, store_of, look_up, stand_in, with_ancestor, whole, partial, as_open, world_of};
+ghost use Rattle.cedar_store_model.specs.Store.{are_distinct, store_of, look_up, stand_in, with_ancestor, with_absence, whole, partial, all_of, some_of, as_open, world_of};
 ghost use Rattle.cedar_store_model.specs.Worked.{user, doc, user_a, user_b, user_z, ghost_g, team, no_uid, doc_d, view, edit, number, below_zero, word, uid, says_true, says_false, one_tree, two_trees, uid_value, number_value, ok_of, boss_of, no_field, no_entity, rank, blob, later, pair, plain, rank_of, blob_of, person, unfinished, table, request, entities, without_b, world, world_without_b, bound_world, nothing_loaded, a_loaded, principal_open, a_unfinished};
 
-/// Arithmetic: a result of more than 64 bits is an overflow, and operands must be whole numbers.
+/// Arithmetic: a result of more than 64 bits is an overflow, and operands must be whole numbers. What a division leaves has the sign of
+/// the dividend, and a divisor of zero is an error of its own.
 pub fn worked_arithmetic()
     ensures past_the_end { outcome_of world (binary plus (number 9223372036854775807) (number 1)) ≡ Some (err overflow) }
     ensures at_the_end { outcome_of world (binary plus (number 9223372036854775806) (number 1)) ≡ Some (val (number_value 9223372036854775807)) }
@@ -26,6 +27,11 @@ pub fn worked_arithmetic()
     ensures at_the_least { outcome_of world (binary difference (below_zero 9223372036854775807) (number 1)) ≡ Some (val (prim (long (neg_ℤ (pos 9223372036854775808))))) }
     ensures product { outcome_of world (binary times (below_zero 3) (number 4)) ≡ Some (val (prim (long (neg_ℤ (pos 12))))) }
     ensures large_product { outcome_of world (binary times (number 4294967296) (number 2147483648)) ≡ Some (err overflow) }
+    ensures left_below_zero { outcome_of world (binary remainder (below_zero 7) (number 3)) ≡ Some (val (prim (long (neg_ℤ (pos 1))))) }
+    ensures left_above_zero { outcome_of world (binary remainder (number 7) (below_zero 3)) ≡ Some (val (number_value 1)) }
+    ensures least_divided { outcome_of world (binary remainder (below_zero 9223372036854775808) (below_zero 1)) ≡ Some (val (number_value 0)) }
+    ensures divided_by_zero { outcome_of world (binary remainder (number 5) (number 0)) ≡ Some (err zero_divisor) }
+    ensures text_divided { outcome_of world (binary remainder (word (codes "a")) (number 0)) ≡ Some (err wrong_type) }
     ensures text_added { outcome_of world (binary plus (word (codes "a")) (number 1)) ≡ Some (err wrong_type) }
     ensures text_negated { outcome_of world (unary minus (word (codes "a"))) ≡ Some (err wrong_type) }
 {}
@@ -212,19 +218,23 @@ pub fn worked_dereferences()
     ensures no_lookup { has_dereference (binary contains (set_literal no_trees) (var principal)) ≡ false }
 {}
 
-/// Stores: an absent entity is missing in a whole store and not loaded in a partial one. What is no uid is missing in both, whatever
-/// stands under it.
+/// Stores: an absent entity is missing in a whole store and not loaded in a partial one, unless its absence is recorded. What is no uid is
+/// missing in both, whatever stands under it.
 pub fn worked_stores()
-    ensures there { look_up (record { extent = partial; entities = entities }) user_a ≡ held (person user_a true) }
-    ensures absent { look_up (record { extent = whole; entities = entities }) ghost_g ≡ missing }
-    ensures unloaded { look_up (record { extent = partial; entities = without_b }) user_b ≡ not_loaded }
-    ensures no_uid { look_up (record { extent = partial; entities = without_b }) no_uid ≡ missing }
-    ensures no_uid_held { look_up (record { extent = whole; entities = (no_uid, person user_a true) ∷ [] }) no_uid ≡ missing }
+    ensures there { look_up (some_of entities []) user_a ≡ held (person user_a true) }
+    ensures absent { look_up (all_of entities) ghost_g ≡ missing }
+    ensures unloaded { look_up (some_of without_b []) user_b ≡ not_loaded }
+    ensures recorded { look_up (some_of without_b (user_b ∷ [])) user_b ≡ missing }
+    ensures recorded_for_one { look_up (some_of [] (user_b ∷ [])) user_a ≡ not_loaded }
+    ensures recorded_in_a_whole_store { look_up (record (all_of entities) { absent = user_a ∷ [] }) user_a ≡ held (person user_a true) }
+    ensures recorded_last { look_up (with_absence (some_of [] (user_a ∷ [])) user_b) user_b ≡ missing }
+    ensures no_uid { look_up (some_of without_b []) no_uid ≡ missing }
+    ensures no_uid_held { look_up (all_of ((no_uid, person user_a true) ∷ [])) no_uid ≡ missing }
     ensures distinct { are_distinct entities ≡ true }
     ensures repeated { are_distinct ((user_a, person user_a true) ∷ (doc_d, unfinished) ∷ (user_a, unfinished) ∷ []) ≡ false }
     ensures refused { store_of whole ((user_a, person user_a true) ∷ (user_a, person user_a true) ∷ []) ≡ None }
-    ensures made { store_of partial without_b ≡ Some (record { extent = partial; entities = without_b }) }
-    ensures empty { store_of whole [] ≡ Some (record { extent = whole; entities = [] }) }
+    ensures made { store_of partial without_b ≡ Some (some_of without_b []) }
+    ensures empty { store_of whole [] ≡ Some (all_of []) }
     ensures stands_in { stand_in (record { kind = plain (codes "test_entity_type"); id = codes "missing" }) ≡ unknown (codes "test_entity_type::\"missing\"") (Some (entity_core (plain (codes "test_entity_type")))) }
     ensures ancestors { (with_ancestor user_b (person user_a true)).ancestors ≡ team ∷ user_b ∷ [] }
     ensures values { holds_values (person user_a true) ≡ true }
@@ -250,7 +260,7 @@ pub fn worked_knowledge()
     ensures new_part { KeepsPart None (Some (known (number_value 1))) → ⊥ }
     ensures finished_part { KeepsPart (Some (left (number 1))) (Some (known (number_value 2))) }
     ensures unfinished_stays { KeepsPart (Some (left (number 1))) None → ⊥ }
-    ensures whole_world { IsWhole (world_of table (λ n. Some (number_value 5)) (as_open request) (record { extent = whole; entities = entities })) }
+    ensures whole_world { IsWhole (world_of table (λ n. Some (number_value 5)) (as_open request) (all_of entities)) }
     ensures not_whole { IsWhole a_loaded → ⊥ }
     ensures open_is_not_whole { IsWhole principal_open → ⊥ }
 {}

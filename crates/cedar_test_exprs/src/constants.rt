@@ -25,6 +25,7 @@ pub fn binary(word: &str) -> Option<BinaryOp> {
         "+" => Some(BinaryOp::Add),
         "-" => Some(BinaryOp::Sub),
         "*" => Some(BinaryOp::Mul),
+        "%" => Some(BinaryOp::Rem),
         "in" => Some(BinaryOp::In),
         "contains" => Some(BinaryOp::Contains),
         "containsAll" => Some(BinaryOp::ContainsAll),

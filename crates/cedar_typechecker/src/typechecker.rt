@@ -58,7 +58,7 @@ impl<'s, 't, 'e> Typechecker<'s, 't, 'e> {
     /// Whether the policy passes: its condition is True, False or Bool in each of its environments. What is wrong with one that doesn't
     /// pass is put to the errors. Where the condition is False in each environment a warning is put to the warnings. Want of memory leaves
     /// both sets as they were. One that passes in the strict mode means a truth value in every conforming request and store, or errs by a
-    /// missing entity, an overflow or a failed extension function.
+    /// missing entity, an overflow, a zero divisor or a failed extension function.
     pub fn typecheck_policy(
         &self,
         t: &Template,
@@ -92,7 +92,7 @@ impl<'s, 't, 'e> Typechecker<'s, 't, 'e> {
 
     /// What typing says of the policy in the environment: that it passes, that it passes and is irrelevant for requests of the
     /// environment's types, or that it fails, and why. One that passes in the strict mode means a truth value in a request and a store that
-    /// conform to the environment, or errs by a missing entity, an overflow or a failed extension function.
+    /// conform to the environment, or errs by a missing entity, an overflow, a zero divisor or a failed extension function.
     pub fn typecheck_by_single_request_env(
         &self,
         t: &Template,

@@ -121,8 +121,8 @@ impl<'s, 't, 'e> Validator<'s, 't, 'e> {
     /// What is wrong with the policy in a mode and at a level, and what is odd about it: what the scope passes report; what typing says; and
     /// each violation of the rules of levels, in each environment in which its condition has a type, with the level that it needs. Where
     /// nothing is wrong in the strict mode the condition means a truth value in every conforming request and store, or errs by a missing
-    /// entity, an overflow or a failed extension function, and every uid that is looked up then lies in the slice at the level or is a
-    /// declared action.
+    /// entity, an overflow, a zero divisor or a failed extension function, and every uid that is looked up then lies in the slice at the
+    /// level or is a declared action.
     pub fn validate_policy_with_level(
         &self,
         p: &Template,

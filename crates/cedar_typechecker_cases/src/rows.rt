@@ -64,6 +64,9 @@ type true neg : none
 type 1 2 < : Bool
 type 1 2 + : Long
 type 1 true + : none
+type 1 2 % : Long
+type 1 0 % : Long
+type 1 true % : none
 type 1 1 == : Bool
 type 1 true == : none
 loose_type 1 true == : Bool

@@ -82,7 +82,7 @@ pub(crate) fn looks_up(op: BinaryOp) -> bool
     match op {
         BinaryOp::In | BinaryOp::GetTag | BinaryOp::HasTag => true,
         BinaryOp::Eq | BinaryOp::Less | BinaryOp::LessEq => false,
-        BinaryOp::Add | BinaryOp::Sub | BinaryOp::Mul => false,
+        BinaryOp::Add | BinaryOp::Sub | BinaryOp::Mul | BinaryOp::Rem => false,
         BinaryOp::Contains | BinaryOp::ContainsAll | BinaryOp::ContainsAny => false,
     }
 }
@@ -95,7 +95,7 @@ pub(crate) fn is_get_tag(op: BinaryOp) -> bool
         BinaryOp::GetTag => true,
         BinaryOp::In | BinaryOp::HasTag => false,
         BinaryOp::Eq | BinaryOp::Less | BinaryOp::LessEq => false,
-        BinaryOp::Add | BinaryOp::Sub | BinaryOp::Mul => false,
+        BinaryOp::Add | BinaryOp::Sub | BinaryOp::Mul | BinaryOp::Rem => false,
         BinaryOp::Contains | BinaryOp::ContainsAll | BinaryOp::ContainsAny => false,
     }
 }

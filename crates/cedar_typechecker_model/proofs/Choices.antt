@@ -1,11 +1,11 @@
 -- What a walk meets behind a part, and at a step, is what the counts say.
-use Rattle.std.proofs.Common.{◌≡◌, ℕ, zero, suc, ◌<◌, ◌≤◌, ◌+◌, Bool, true, false, List, [], ◌∷◌, ◌++◌, Option, Some, None, refl, sym, ap, ◌∙◌, append-nil, arith}
+use Rattle.std.proofs.Common.{◌≡◌, ℕ, zero, suc, ◌<◌, ◌≤◌, ◌+◌, Bool, true, false, List, [], ◌∷◌, ◌++◌, Option, Some, None, refl, ap, ◌∙◌, append-nil, arith}
 use Rattle.std.proofs.Math.Dec.{eqb-suc-zero}
 use Rattle.std.proofs.lemmas.Bool.Decides.{leb_tells}
-use Rattle.std.specs.Prelude.{◌==◌, max, nat_le, if◌then◌else◌}
+use Rattle.std.specs.Prelude.{max, nat_le, if◌then◌else◌}
 use Rattle.cedar_expr_model.specs.Tree.{Tree}
 use Rattle.cedar_schema_model.specs.Types.{any_bool, only_true, only_false, Ty, never, bool_type, long_type, string_type, any_entity, entity_types, any_set, set_type, record_type, extension_type}
-use Rattle.cedar_typechecker_model.specs.Levels.{Violation, Count, count, further, needed, stepped, path_violations, unless_false, unless_true}
+use Rattle.cedar_typechecker_model.specs.Levels.{Violation, Count, further, needed, stepped, path_violations, unless_false, unless_true}
 use Rattle.cedar_typechecker_model.specs.Counts.{behind, behind_test, target_behind_test}
 use Rattle.cedar_typechecker_model.specs.Reported.{further_on, may_be_true, may_be_false, taken, taken_steps, too_far, path_reported}
 use Rattle.cedar_typechecker_model.proofs.Numbers.{needed_again, needed_twice, needed_max, max_none, none_max}

@@ -1,17 +1,17 @@
 -- A walk along a typed expression meets the violations that the counts list, and counts the same steps.
-use Rattle.std.proofs.Common.{◌≡◌, ℕ, ◌<◌, Bool, true, false, List, [], ◌∷◌, ◌++◌, None, refl, sym, ap, ◌∙◌}
+use Rattle.std.proofs.Common.{◌≡◌, ℕ, ◌<◌, Bool, true, false, List, [], ◌∷◌, ◌++◌, None, refl, ap, ◌∙◌}
 use Rattle.std.specs.Prelude.{max, if◌then◌else◌}
 use Rattle.std.specs.Str.{bytes_eq}
 use Rattle.cedar_expr_model.specs.Name.{Text}
 use Rattle.cedar_expr_model.specs.Value.{truth, long, text, entity}
-use Rattle.cedar_expr_model.specs.Tree.{BinaryOp, equal, less, less_or_equal, plus, difference, times, is_in, contains, contains_all, contains_any, get_tag, has_tag, Tree, lit, var, slot, unknown, choice, both, either, unary, binary, call, get_attr, has_attr, has_path, like, is_type, set_literal, record_literal, Trees, no_trees, tree, TreeFields, no_tree_fields, tree_field}
-use Rattle.cedar_expr_model.specs.Uid.{Uid, uid_eq}
+use Rattle.cedar_expr_model.specs.Tree.{BinaryOp, equal, less, less_or_equal, plus, difference, times, remainder, is_in, contains, contains_all, contains_any, get_tag, has_tag, Tree, lit, var, slot, unknown, choice, both, either, unary, binary, call, get_attr, has_attr, has_path, like, is_type, set_literal, record_literal, Trees, no_trees, tree, TreeFields, no_tree_fields, tree_field}
+use Rattle.cedar_expr_model.specs.Uid.{uid_eq}
 use Rattle.cedar_store_model.specs.Looks.{looks_up}
 use Rattle.cedar_typechecker_model.specs.Rules.{Setting}
 use Rattle.cedar_typechecker_model.specs.Levels.{Violation, Count, count, joined, further, needed, stepped, is_entity, literal_count, entity_steps, fields_before}
 use Rattle.cedar_typechecker_model.specs.Typed.{Marks, MarkRow}
 use Rattle.cedar_typechecker_model.specs.Counts.{top, parts, head, rest, first, second, third, violations_at, violations_in_row, violations_in_field_row, target_at, target_in_field_row}
-use Rattle.cedar_typechecker_model.specs.Reported.{further_on, may_be_true, may_be_false, taken, taken_steps, too_far, is_get_tag, steps, steps_in_fields, reported, reported_in_row, reported_in_fields, reached, reached_in_fields}
+use Rattle.cedar_typechecker_model.specs.Reported.{further_on, may_be_true, may_be_false, taken, taken_steps, too_far, steps, steps_in_fields, reported, reported_in_row, reported_in_fields, reached, reached_in_fields}
 use Rattle.cedar_typechecker_model.proofs.Numbers.{needed_again}
 use Rattle.cedar_typechecker_model.proofs.Choices.{and_is, or_is, choice_is, target_found_is, target_steps_is, step_is, path_is}
 
@@ -89,6 +89,7 @@ module _ (n : ℕ) (small : n < 4294967296) (s : Setting) where
   tag_far plus a b m x y path = nothing
   tag_far difference a b m x y path = nothing
   tag_far times a b m x y path = nothing
+  tag_far remainder a b m x y path = nothing
   tag_far is_in a b m x y path = nothing
   tag_far contains a b m x y path = nothing
   tag_far contains_all a b m x y path = nothing

@@ -6,7 +6,7 @@ use Rattle.std.specs.List.{list_all, list_any}
 use Rattle.cedar_expr_model.specs.Name.{Text, Name, name_eq}
 use Rattle.cedar_expr_model.specs.Uid.{Uid, uid_eq}
 use Rattle.cedar_expr_model.specs.Value.{Literal, truth, long, text, entity}
-use Rattle.cedar_expr_model.specs.Tree.{Var, principal, action, resource, context, SlotId, principal_slot, resource_slot, CoreType, bool_core, long_core, string_core, extension_core, UnaryOp, negation, minus, is_empty, BinaryOp, equal, less, less_or_equal, plus, difference, times, is_in, contains, contains_all, contains_any, Tree, lit, var, set_literal, Trees, no_trees, tree}
+use Rattle.cedar_expr_model.specs.Tree.{Var, principal, action, resource, context, SlotId, principal_slot, resource_slot, CoreType, bool_core, long_core, string_core, extension_core, UnaryOp, negation, minus, is_empty, BinaryOp, equal, less, less_or_equal, plus, difference, times, remainder, is_in, contains, contains_all, contains_any, Tree, lit, var, set_literal, Trees, no_trees, tree}
 use Rattle.cedar_expr_model.specs.Lists.{all_given}
 use Rattle.cedar_expr_model.specs.Parts.{uid_here, listed}
 use Rattle.cedar_expr_model.specs.Table.{Table, Signature, signature_of, is_ordered, takes_count, is_constructor}
@@ -153,6 +153,7 @@ binary_type s less_or_equal a b t u = order_type s t u
 binary_type s plus a b t u = number_type t u
 binary_type s difference a b t u = number_type t u
 binary_type s times a b t u = number_type t u
+binary_type s remainder a b t u = number_type t u
 binary_type s is_in a b t u = in_type s a b t u
 binary_type s contains a b t u = member_type s t u
 binary_type s contains_all a b t u = sets_type s t u

@@ -1,4 +1,4 @@
--- What typing promises of the meaning: an expression with a type means a value of it, or errs in one of three ways.
+-- What typing promises of the meaning: an expression with a type means a value of it, or errs in one of four ways.
 -- Rule: typing (docs/RULES.md).
 use Rattle.std.specs.Prelude.{◌≡◌, true, Some, Contains, IsSome}
 use Rattle.cedar_expr_model.specs.Uid.{Uid}
@@ -6,7 +6,7 @@ use Rattle.cedar_expr_model.specs.Value.{entity, V, prim, truth_value}
 use Rattle.cedar_expr_model.specs.Tree.{SlotId, has_tag, Tree, binary, has_attr}
 use Rattle.cedar_expr_model.specs.Table.{Table}
 use Rattle.cedar_expr_model.specs.OfLaws.Fair.{IsFair}
-use Rattle.cedar_store_model.specs.Outcome.{Fault, missing_entity, overflow, extension_failed, Res, val, err}
+use Rattle.cedar_store_model.specs.Outcome.{Fault, missing_entity, overflow, zero_divisor, extension_failed, Res, val, err}
 use Rattle.cedar_store_model.specs.World.{World, Entity, held}
 use Rattle.cedar_store_model.specs.Meaning.{Means}
 use Rattle.cedar_store_model.specs.Looks.{Looks}
@@ -27,6 +27,7 @@ use Rattle.cedar_typechecker_model.specs.Verdicts.{strictly}
 abbrev pub IsExpected : Fault → Type 0
 IsExpected (missing_entity u) = Unit {0}
 IsExpected overflow = Unit {0}
+IsExpected zero_divisor = Unit {0}
 IsExpected (extension_failed n) = Unit {0}
 IsExpected f = ⊥
 

@@ -11,8 +11,8 @@ pub fn types_are_simple()
     ensures types { TypesAreSimple }
 {}
 
-/// An expression that has a type in Strict means a value of it, or errs by a missing entity, an overflow or a failed extension
-/// function; and where it means true, its facts hold.
+/// An expression that has a type in Strict means a value of it, or errs by a missing entity, an overflow, a zero divisor or a failed
+/// extension function; and where it means true, its facts hold.
 pub fn types_are_sound()
     ensures { TypesAreSound }
 {}
@@ -22,7 +22,7 @@ pub fn environments_cover()
     ensures { EnvironmentsCover }
 {}
 
-/// The condition of a policy that passes means a truth value, or errs in one of those three ways.
+/// The condition of a policy that passes means a truth value, or errs in one of those four ways.
 pub fn passing_policies_err_as_expected()
     ensures { PassingIsSound }
 {}

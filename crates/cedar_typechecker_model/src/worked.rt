@@ -2,7 +2,7 @@
 
 ghost use Rattle.std.specs.Prelude.{◌≡◌, true, false, Some, None, [], ◌∷◌, pos, codes};
 ghost use Rattle.cedar_expr_model.specs.Value.{truth, long, text, entity};
-ghost use Rattle.cedar_expr_model.specs.Tree.{principal, action, resource, context, principal_slot, resource_slot, bool_core, set_core, string_core, lit, var, slot, unknown, choice, both, either, unary, binary, negation, minus, is_empty, equal, less, less_or_equal, plus, difference, times, is_in, contains, contains_all, contains_any, get_tag, has_tag, call, get_attr, has_attr, has_path, like, is_type, set_literal, record_literal, no_trees, tree, no_tree_fields, tree_field, nesting};
+ghost use Rattle.cedar_expr_model.specs.Tree.{principal, action, resource, context, principal_slot, resource_slot, bool_core, set_core, string_core, lit, var, slot, unknown, choice, both, either, unary, binary, negation, minus, is_empty, equal, less, less_or_equal, plus, difference, times, remainder, is_in, contains, contains_all, contains_any, get_tag, has_tag, call, get_attr, has_attr, has_path, like, is_type, set_literal, record_literal, no_trees, tree, no_tree_fields, tree_field, nesting};
 ghost use Rattle.cedar_store_model.specs.Policy.{condition};
 ghost use Rattle.cedar_schema_model.specs.Types.{any_bool, only_true, only_false, is_open, is_closed, never, bool_type, long_type, string_type, any_entity, entity_types, entity_type, any_set, set_type, record_type, extension_type, no_attributes, attribute, strict, permissive};
 ghost use Rattle.cedar_typechecker_model.specs.Facts.{no_facts, fact, union, intersection, attribute_part, tag_part, part_eq};
@@ -121,6 +121,7 @@ pub fn worked_numbers()
     ensures rank_and_number { type_of there (binary less (rank_of (codes "1")) (lit (long (pos 1)))) ≡ None }
     ensures sum { type_of here (binary plus (lit (long (pos 9223372036854775807))) (lit (long (pos 1)))) ≡ Some long_type }
     ensures product { type_of here (binary times (lit (long (pos 1))) (lit (text (codes "x")))) ≡ None }
+    ensures remains { type_of here (binary remainder (lit (long (pos 5))) (lit (long (pos 0)))) ≡ Some long_type }
     ensures gap { type_of here (binary difference (lit (long (pos 1))) (lit (long (pos 1)))) ≡ Some long_type }
     ensures pattern { type_of here (like (lit (text (codes "x"))) []) ≡ Some (bool_type any_bool) }
     ensures no_pattern { type_of here (like (lit (long (pos 1))) []) ≡ None }

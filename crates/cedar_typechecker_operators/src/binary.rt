@@ -116,7 +116,8 @@ fn wrong(op: BinaryOp) -> ValidationErrorKind {
         BinaryOp::ContainsAll | BinaryOp::ContainsAny => ValidationErrorKind::IncompatibleTypes,
         BinaryOp::GetTag => ValidationErrorKind::UnsafeTagAccess,
         BinaryOp::Less | BinaryOp::LessEq => ValidationErrorKind::UnexpectedType,
-        BinaryOp::Add | BinaryOp::Sub | BinaryOp::Mul => ValidationErrorKind::UnexpectedType,
+        BinaryOp::Add | BinaryOp::Sub | BinaryOp::Mul | BinaryOp::Rem =>
+            ValidationErrorKind::UnexpectedType,
         BinaryOp::In | BinaryOp::HasTag => ValidationErrorKind::UnexpectedType,
     }
 }
@@ -142,7 +143,10 @@ fn binary_judgement<'a, S: TypingSchema>(
         BinaryOp::HasTag => tag_judgement(alloc, world, a, b, t, u),
         BinaryOp::Eq => Ok(plain(alloc, equal_type(alloc, world, a, b, t, u)?)),
         BinaryOp::Less | BinaryOp::LessEq => Ok(plain(alloc, order_type(world, t, u))),
-        BinaryOp::Add | BinaryOp::Sub | BinaryOp::Mul => Ok(plain(alloc, number_type(t, u))),
+        BinaryOp::Add | BinaryOp::Sub | BinaryOp::Mul | BinaryOp::Rem => Ok(plain(
+            alloc,
+            number_type(t, u),
+        )),
         BinaryOp::In => Ok(plain(alloc, in_type(world, a, b, t, u))),
         BinaryOp::Contains => Ok(plain(alloc, member_type(alloc, world, t, u)?)),
         BinaryOp::ContainsAll | BinaryOp::ContainsAny => {

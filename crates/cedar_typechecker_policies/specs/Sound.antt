@@ -25,8 +25,8 @@ use Rattle.cedar_typechecker_model.specs.Alike.{AnswersAlike, HasSameSignatures}
 abbrev pub ForAlike : Schema → Table → (Schema → Table → Type 0) → Type 0
 ForAlike s x P = (d : Schema) (y : Table) → AnswersAlike s d → HasSameSignatures x y → P d y
 
--- In a world that suits the environment the expression means a truth value, or errs by a missing entity, an overflow or a failed
--- extension function.
+-- In a world that suits the environment the expression means a truth value, or errs by a missing entity, an overflow, a zero
+-- divisor or a failed extension function.
 abbrev pub MeansTruth : Environment → Tree → Schema → Table → Type 0
 MeansTruth e t d y = (w : World) → Suits d y e w → SlotsAreBound w t → ((u : Uid) → Looks w t u → ConformsAt d w u) → (r : Res V) → Means w t r → IsGood (bool_type any_bool) r
 

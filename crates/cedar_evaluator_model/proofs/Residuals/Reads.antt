@@ -9,7 +9,7 @@ use Rattle.cedar_expr_model.specs.Name.{Text}
 use Rattle.cedar_expr_model.specs.Uid.{Uid, uid_text}
 use Rattle.cedar_expr_model.specs.Value.{text, entity, V, prim, field_of, truth_value}
 use Rattle.cedar_expr_model.specs.Canonical.{is_subset, is_disjoint}
-use Rattle.cedar_expr_model.specs.Tree.{CoreType, entity_core, Tree, unknown, binary, has_path, BinaryOp, equal, less, less_or_equal, plus, difference, times, is_in, contains, contains_all, contains_any, get_tag, has_tag}
+use Rattle.cedar_expr_model.specs.Tree.{CoreType, entity_core, Tree, unknown, binary, has_path, BinaryOp, equal, less, less_or_equal, plus, difference, times, remainder, is_in, contains, contains_all, contains_any, get_tag, has_tag}
 use Rattle.cedar_expr_model.specs.Builder.{path_test}
 use Rattle.cedar_expr_model.proofs.Gathering.{EachIn}
 use Rattle.cedar_expr_model.specs.Made.{Made, made_prim, made_record, MadeFields, no_made_fields, made_field, bare, bare_fields, written}
@@ -19,7 +19,7 @@ use Rattle.cedar_expr_model.specs.OfLaws.Represented.{HaveMade}
 use Rattle.cedar_expr_model.proofs.CoreTypes.{fits-Decides}
 use Rattle.cedar_store_model.specs.Outcome.{Res, val, err, wrong_type, missing_attribute_or_tag, missing_field, bind}
 use Rattle.cedar_store_model.specs.World.{World, Found, held, missing, not_loaded}
-use Rattle.cedar_store_model.specs.Operators.{says, ordered}
+use Rattle.cedar_store_model.specs.Operators.{in_range, remains, says, ordered}
 use Rattle.cedar_store_model.proofs.Named.{bound_value, attributes_of, tags_of, tag_read, tag_tested}
 use Rattle.cedar_store_model.specs.Reads.{part_value, part_read, part_tested, attribute_read, attribute_tested, uids_in, is_in_some, found_in, within}
 use Rattle.cedar_store_model.specs.Meaning.{combined, outcome_of, path_tested, picked}
@@ -31,7 +31,7 @@ use Rattle.cedar_evaluator_model.specs.Steps.{errs, truth_left, mapped, part_lef
 use Rattle.cedar_evaluator_model.specs.OfLaws.WellMade.{IsWellMade, IsMadeWell, IsPartMadeWell, IsFoundMadeWell, AllMadeWell}
 use Rattle.cedar_evaluator_model.specs.Completion.{Fits, PartIs}
 use Rattle.cedar_evaluator_model.specs.OfLaws.Completing.{NameMeans, PartMeans, FoundMeans, Completes}
-use Rattle.cedar_evaluator_model.proofs.Given.{literal_ordered, literal_calculated, literal_among, literal_sets, literal_in}
+use Rattle.cedar_evaluator_model.proofs.Given.{literal_ordered, literal_range, literal_remains, literal_calculated, literal_among, literal_sets, literal_in}
 use Rattle.cedar_evaluator_model.proofs.Named.{attribute_found, test_found, path_found, FitsIn, fits_in}
 use Rattle.cedar_evaluator_model.proofs.GivenReads.{field_known}
 use Rattle.cedar_evaluator_model.proofs.Written.{Rise}
@@ -246,9 +246,10 @@ module _ (w : World) (s : Scope) (complete : Completes w s) (well : AllMadeWell 
   stands_combined less_or_equal m n g =
       subst (λ x. Stands w (combined w less_or_equal (bare m) (bare n)) (left_of (ordered x is_le (bare m) (bare n)))) complete.table
       (stands_literal w (ordered w.table is_le (bare m) (bare n)) (literal_ordered w.table is_le (bare m) (bare n)))
-  stands_combined plus m n g = stands_literal w _ (literal_calculated (λ i j. i +ℤ j) (bare m) (bare n))
-  stands_combined difference m n g = stands_literal w _ (literal_calculated (λ i j. i -ℤ j) (bare m) (bare n))
-  stands_combined times m n g = stands_literal w _ (literal_calculated (λ i j. i *ℤ j) (bare m) (bare n))
+  stands_combined plus m n g = stands_literal w _ (literal_calculated (λ i j. in_range (i +ℤ j)) (λ i j. literal_range (i +ℤ j)) (bare m) (bare n))
+  stands_combined difference m n g = stands_literal w _ (literal_calculated (λ i j. in_range (i -ℤ j)) (λ i j. literal_range (i -ℤ j)) (bare m) (bare n))
+  stands_combined times m n g = stands_literal w _ (literal_calculated (λ i j. in_range (i *ℤ j)) (λ i j. literal_range (i *ℤ j)) (bare m) (bare n))
+  stands_combined remainder m n g = stands_literal w _ (literal_calculated remains literal_remains (bare m) (bare n))
   stands_combined is_in m n g = stands_within m n g
   stands_combined contains m n g = stands_literal w _ (literal_among (bare m) (bare n))
   stands_combined contains_all m n g = stands_literal w _ (literal_sets (λ vs ws. is_subset ws vs) (bare m) (bare n))

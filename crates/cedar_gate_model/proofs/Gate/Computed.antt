@@ -1,5 +1,5 @@
 -- The worked examples that aren't equations which compute by themselves.
-use Rattle.std.proofs.Common.{◌≡◌, ◌∙◌, Bool, true, false, cond, not, ◌&&◌, ◌||◌, [], ◌∷◌, ◌++◌, Option, Some, None, codes, inl, ⊎_elim, refl, sym, ap, subst, arith}
+use Rattle.std.proofs.Common.{◌≡◌, ◌∙◌, Bool, true, false, cond, not, ◌&&◌, ◌||◌, [], ◌∷◌, ◌++◌, Option, Some, None, codes, inl, inr, ⊎_elim, refl, sym, ap, subst, arith}
 use Rattle.std.specs.Prelude.{Contains}
 use Rattle.std.specs.Str.{bytes_eq, chars}
 use Rattle.std.specs.Fmt.{digits}
@@ -10,7 +10,7 @@ use Rattle.cedar_expr_model.specs.Value.{truth_value}
 use Rattle.std.proofs.lemmas.Slice.Eq.{bytes_eq-Decides}
 use Rattle.cedar_expr_model.proofs.Equality.{name_eq-Decides, uid_eq-Decides}
 use Rattle.cedar_expr_model.proofs.Lists.{any_has, contains_cases, contains_none, contains_head, contains_tail}
-use Rattle.cedar_store_model.specs.Outcome.{val}
+use Rattle.cedar_store_model.specs.Outcome.{Fault, missing_entity, val, err}
 use Rattle.cedar_store_model.specs.World.{World, held, missing}
 use Rattle.cedar_store_model.specs.Knowledge.{IsSettled, IsWhole}
 use Rattle.cedar_schema_model.specs.Schema.{Schema, declares_action}
@@ -28,7 +28,7 @@ use Rattle.cedar_gate_model.specs.Owed.{IsForcedFalse, IsForced}
 use Rattle.cedar_gate_model.specs.Session.{Setup, at_start, OpenFault, quote_in_name, name_of_variable, AnswerFault, AnswerRefusal, not_bound, still_wanted, not_conforming, OpenRefusal, HasOpenName, is_open_entry, world_now}
 use Rattle.cedar_gate_model.specs.Runs.{answered, answer_refused}
 use Rattle.cedar_gate_model.specs.Lines.{is_answered, is_refused, is_stopped, setup_of, Prints}
-use Rattle.cedar_gate_model.specs.WorkedGate.{p0, p1, p2, p3, by_a, asking, open_named, user_text, no_functions, lines, in_quotes, good_bundle, far_bundle, open_bundle, nothing_known, nobody_known, after_a_round, reviewed, bounds, by_a_on_b, nobody_there, user_b}
+use Rattle.cedar_gate_model.specs.WorkedGate.{p0, p1, p2, p3, by_a, asking, open_named, user_text, no_functions, lines, in_quotes, good_bundle, far_bundle, open_bundle, nothing_known, nobody_known, after_a_round, after_an_absence, reviewed, bounds, by_a_on_b, nobody_there, user_b}
 use Rattle.cedar_gate_model.proofs.Gate.Accepting.{admitted_accepted, faults_exclude}
 use Rattle.cedar_gate_model.proofs.Named.{IsForcedTrue}
 
@@ -49,6 +49,9 @@ forced_true k p e = (policy_meaning_is_a_function k p (val (truth_value true))).
 
 forced_false : (k : World) (p : Policy) → policy_outcome k p ≡ Some (val (truth_value false)) → IsForcedFalse k p
 forced_false k p e = (val (truth_value false), (policy_meaning_is_a_function k p (val (truth_value false))).1 e, λ q. cc)
+
+forced_error : (k : World) (p : Policy) (f : Fault) → policy_outcome k p ≡ Some (err f) → IsForcedFalse k p
+forced_error k p f e = (err f, (policy_meaning_is_a_function k p (err f)).1 e, λ q. cc)
 
 not_known : (k : World) (p : Policy) → policy_outcome k p ≡ None → IsForcedFalse k p → ⊥
 not_known k p e h = let q = (policy_meaning_is_a_function k p h.0).0 h.1 in cc
@@ -80,6 +83,9 @@ permitted_later = (
 
 p0_alone : (p : Policy) → Contains (p0 ∷ []) p → p0 ≡ p
 p0_alone p k = contains_cases (p0 ≡ p) p0 [] p k (λ q. q) (λ n. absurd (contains_none p n))
+
+pub denied_by_absence : IsForced after_an_absence (p0 ∷ []) deny
+denied_by_absence = inr (λ p k e. subst (IsForcedFalse after_an_absence) (p0_alone p k) (forced_error after_an_absence p0 (missing_entity user_b) refl))
 
 pub not_denied : IsForced nothing_known (p0 ∷ []) deny → ⊥
 not_denied h =

@@ -21,7 +21,7 @@ use Rattle.cedar_evaluator_model.specs.Scope.{Entry, uid, unknown_uid, Context, 
 use Rattle.cedar_gate_model.specs.Slice.{IsNear, InSlice}
 use Rattle.cedar_evaluator_model.specs.Response.{PartialRequest}
 use Rattle.cedar_expr_model.specs.Lists.{when}
-use Rattle.cedar_gate_model.specs.Moment.{EntryCompleted, ContextCompleted, Moment, at_first, entry_known, context_known, told, known_at}
+use Rattle.cedar_gate_model.specs.Moment.{EntryCompleted, ContextCompleted, Moment, at_first, entry_known, context_known, known_at}
 use Rattle.cedar_gate_model.specs.Transcript.{Step, load, bind_name, decide, round, bound, decided, Case, after, IsWanted, IsRound, IsLegalEntry, AreLegal}
 use Rattle.cedar_gate_model.specs.Session.{Setup, State, at_start, uid_in, whole_store, known_now, NothingIsWanted, is_open_entry, is_open_context, entry_named, HasOpenName, with_bound, not_bound, MeansBound, CompletesNow, entry_now, context_now, value_of}
 use Rattle.cedar_gate_model.specs.Runs.{End, answered, opening_refused, supply_refused, binding_refused, answer_refused, IsRoundNow, with_asked, Finishes, Loads, Binds, DecidesNow, Follows, MayDecide, Runs}
@@ -106,14 +106,14 @@ roots_same x s w h c = record {
   context = context_same x s w x.start.context h (bound_or_open w (codes "context") s.bound c.bound) c.request.context;
 }
 
-same_told : (u : Uid) (t r : Bool) (f g : Found V) → (t ≡ true → f ≡ g) → (r ≡ true → f ≡ g) → cond (t || r) (told u f) (unloaded u) ≡ cond (t || r) (told u g) (unloaded u)
-same_told u true r f g a b = ap (told u) (a refl)
-same_told u false true f g a b = ap (told u) (b refl)
-same_told u false false f g a b = refl
+same_loaded : (u : Uid) (t r : Bool) (f g : Found V) → (t ≡ true → f ≡ g) → (r ≡ true → f ≡ g) → cond (t || r) f (unloaded u) ≡ cond (t || r) g (unloaded u)
+same_loaded u true r f g a b = a refl
+same_loaded u false true f g a b = b refl
+same_loaded u false false f g a b = refl
 
 pub store_same : (x : Setup) (s : State) (w : World) → CompletesNow x s w → (u : Uid) → (known_now x s).store u ≡ (seen x w s).store u
 store_same x s w c u =
-    same_told u (declares_action x.schema u) (list_any (uid_eq u) s.asked) (whole_store x u) (w.store u)
+    same_loaded u (declares_action x.schema u) (list_any (uid_eq u) s.asked) (whole_store x u) (w.store u)
     (λ e. ap (λ t. cond t (held (as_entity x.schema u)) (if_uid u (found_as whole (x.store u)))) e ∙ sym (c.request.actions u e))
     (λ e. sym (c.asked u ((found-Decides uid_eq uid_eq-Decides u s.asked).0 e)))
 

@@ -23,7 +23,7 @@ use Rattle.cedar_gate_model.specs.ReadingSchema.{schema_read}
 use Rattle.cedar_gate_model.specs.ReadingPolicy.{policy_read}
 use Rattle.cedar_gate_model.specs.ReadingValue.{value_read}
 use Rattle.cedar_gate_model.specs.ReadingRequest.{request_read, parts_read, entity_read, store_read, step_read, steps_read}
-use Rattle.cedar_gate_model.specs.ReadingBundle.{submission_read, is_bundle, bundle_read}
+use Rattle.cedar_gate_model.specs.ReadingBundle.{version_read, submission_read, is_bundle, bundle_read}
 use Rattle.cedar_gate_model.proofs.Reading.Steps.{given_some, map_some, passing_some, given_gives, map_gives, if_gives}
 use Rattle.std.specs.Map.{keys_of}
 use Rattle.cedar_store_model.specs.Store.{are_distinct}
@@ -48,15 +48,16 @@ pub record Numbers (x : Functions) (s : Submission) : Type 0 where
   pub table : s.table ≡ x.table
 
 pub submission_numbers : (x : Functions) (d : Data) (s : Submission) → submission_read x d ≡ Some s → Numbers x s
-submission_numbers x d = given_gives (Numbers x) (required (codes "level") (number_between 0 4294967295) d) _ (λ level p.
+submission_numbers x d = given_gives (Numbers x) (required (codes "version") version_read d) _ (λ version u.
+    given_gives (Numbers x) (required (codes "level") (number_between 0 4294967295) d) _ (λ level p.
     given_gives (Numbers x) (required (codes "limit") (number_between 1 512) d) _ (λ limit q.
     given_gives (Numbers x) (required (codes "schema") schema_read d) _ (λ declarations r.
-    map_gives (Numbers x) _ (required (codes "policies") (list_of policy_read) d) (λ policies t.
+    map_gives (Numbers x) _ (required (codes "policies") (list_of (policy_read version)) d) (λ policies t.
     let m = given_some (get (codes "level") d) (number_between 0 4294967295) level p in
     let n = given_some (get (codes "limit") d) (number_between 1 512) limit q in
     let j = in_range 0 4294967295 m.0 level m.2 in
     let k = in_range 1 512 n.0 limit n.2 in
-    record { level = j.1; low = k.0; high = k.1; table = refl }))))
+    record { level = j.1; low = k.0; high = k.1; table = refl })))))
 
 -- the parts of a bundle are read from its keys
 pub record PartsOf (x : Functions) (d : Data) (b : Bundle) : Type 0 where

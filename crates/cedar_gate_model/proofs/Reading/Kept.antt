@@ -5,12 +5,12 @@ use Rattle.serde_json.specs.Find.{as_str, as_i64}
 use Rattle.cedar_expr_model.specs.Name.{Text, Name}
 use Rattle.cedar_expr_model.specs.Value.{Literal, truth, long, text, entity}
 use Rattle.cedar_expr_model.specs.Pattern.{Pattern}
-use Rattle.cedar_expr_model.specs.Tree.{Var, CoreType, UnaryOp, negation, minus, is_empty, BinaryOp, equal, less, less_or_equal, plus, difference, times, is_in, contains, contains_all, contains_any, get_tag, has_tag, Tree, lit, var, slot, unknown, choice, unary, binary, call, get_attr, like, is_type, set_literal, record_literal, Trees, no_trees, tree, TreeFields, no_tree_fields, tree_field}
+use Rattle.cedar_expr_model.specs.Tree.{Var, CoreType, UnaryOp, negation, minus, is_empty, BinaryOp, equal, less, less_or_equal, plus, difference, times, remainder, is_in, contains, contains_all, contains_any, get_tag, has_tag, Tree, lit, var, slot, unknown, choice, unary, binary, call, get_attr, like, is_type, set_literal, record_literal, Trees, no_trees, tree, TreeFields, no_tree_fields, tree_field}
 use Rattle.cedar_expr_model.specs.Builder.{conjunction, disjunction, path_test, trees}
 use Rattle.cedar_gate_model.specs.Reading.{given}
 use Rattle.cedar_gate_model.specs.ReadingForms.{word_of}
 use Rattle.cedar_gate_model.specs.ReadingName.{plain_name_read, uid_from, annotation_read}
-use Rattle.cedar_gate_model.specs.ReadingExpression.{Part, var_words, slot_words, pattern_read, trees_in, of_one, of_two, of_three, of_tree_and, of_word, uid_form, unknown_form, call_form, has_form, forms, form_read, expression_read, parts_in, fields_read, fields_in}
+use Rattle.cedar_gate_model.specs.ReadingExpression.{Version, first, second, Part, var_words, slot_words, pattern_read, trees_in, of_one, of_two, of_three, of_tree_and, of_word, uid_form, unknown_form, call_form, has_form, common_forms, forms, form_read, expression_read, parts_in, fields_read, fields_in}
 use Rattle.cedar_gate_model.proofs.Reading.Steps.{given_some, map_some, AllBeside, beside_all, and_then_some}
 use Rattle.cedar_expr_model.specs.Lists.{all_given}
 use Rattle.std.specs.Map.{lookup}
@@ -54,23 +54,23 @@ AreGood P [] = Unit {0}
 AreGood P (x ∷ xs) = (Reads P x.tree × FieldsRead P x.fields) × AreGood P xs
 
 -- The slots that are written in the JSON have it.
-abbrev pub SlotHas : (Tree → Type 0) → Items → Type 0
-SlotHas P (item (string w) ds) = bytes_eq w (codes "slot") ≡ true → Reads P (of_word slot slot_words (parts_in ds))
-SlotHas P ds = Unit {0}
+abbrev pub SlotHas : Version → (Tree → Type 0) → Items → Type 0
+SlotHas v P (item (string w) ds) = bytes_eq w (codes "slot") ≡ true → Reads P (of_word slot slot_words (parts_in v ds))
+SlotHas v P ds = Unit {0}
 
 abbrev mutual
-  pub SlotsHave : (Tree → Type 0) → Data → Type 0
-  SlotsHave P (array ds) = SlotHas P ds × SlotsOfItems P ds
-  SlotsHave P (object ms) = SlotsOfMembers P ms
-  SlotsHave P d = Unit {0}
+  pub SlotsHave : Version → (Tree → Type 0) → Data → Type 0
+  SlotsHave v P (array ds) = SlotHas v P ds × SlotsOfItems v P ds
+  SlotsHave v P (object ms) = SlotsOfMembers v P ms
+  SlotsHave v P d = Unit {0}
 
-  pub SlotsOfItems : (Tree → Type 0) → Items → Type 0
-  SlotsOfItems P no_items = Unit {0}
-  SlotsOfItems P (item d ds) = SlotsHave P d × SlotsOfItems P ds
+  pub SlotsOfItems : Version → (Tree → Type 0) → Items → Type 0
+  SlotsOfItems v P no_items = Unit {0}
+  SlotsOfItems v P (item d ds) = SlotsHave v P d × SlotsOfItems v P ds
 
-  pub SlotsOfMembers : (Tree → Type 0) → Members → Type 0
-  SlotsOfMembers P no_members = Unit {0}
-  SlotsOfMembers P (member k d ms) = SlotsHave P d × SlotsOfMembers P ms
+  pub SlotsOfMembers : Version → (Tree → Type 0) → Members → Type 0
+  SlotsOfMembers v P no_members = Unit {0}
+  SlotsOfMembers v P (member k d ms) = SlotsHave v P d × SlotsOfMembers v P ms
 
 module _ (P : Tree → Type 0) (kept : Kept P) where
   map_reads : {A : Type 0} (make : A → Tree) (o : Option A) → ((a : A) → o ≡ Some a → P (make a)) → Reads P (option_map make o)
@@ -151,9 +151,9 @@ module _ (P : Tree → Type 0) (kept : Kept P) where
   joins : (o : BinaryOp) (xs : List Part) → AreGood P xs → Reads P (of_two (binary o) xs)
   joins o xs g = two_reads (binary o) (kept.of_binary o) xs g
 
-  -- each form of the table
-  forms_read : (word : Text) (xs : List Part) → AreGood P xs → (bytes_eq word (codes "slot") ≡ true → Reads P (of_word slot slot_words xs)) → AllBeside (λ form. Reads P (form xs)) word forms
-  forms_read word xs g s = (
+  -- each form of the table of both versions
+  common_read : (word : Text) (xs : List Part) → AreGood P xs → (bytes_eq word (codes "slot") ≡ true → Reads P (of_word slot slot_words xs)) → AllBeside (λ form. Reads P (form xs)) word common_forms
+  common_read word xs g s = (
     λ _. uid_reads xs,
     (
       λ _. var_reads xs,
@@ -242,42 +242,46 @@ module _ (P : Tree → Type 0) (kept : Kept P) where
     ),
   )
 
-  word_reads : (word : Text) (xs : List Part) → AreGood P xs → (bytes_eq word (codes "slot") ≡ true → Reads P (of_word slot slot_words xs)) → Reads P (given (lookup (bytes_eq word) forms) (λ form. form xs))
-  word_reads word xs g s = given_reads (lookup (bytes_eq word) forms) _ (λ form e. beside_all (λ f. Reads P (f xs)) word forms (forms_read word xs g s) form e)
+  forms_read : (v : Version) (word : Text) (xs : List Part) → AreGood P xs → (bytes_eq word (codes "slot") ≡ true → Reads P (of_word slot slot_words xs)) → AllBeside (λ form. Reads P (form xs)) word (forms v)
+  forms_read first word xs g s = common_read word xs g s
+  forms_read second word xs g s = (λ _. joins remainder xs g, common_read word xs g s)
 
-  list_reads : (ds : Items) → SlotHas P ds → AreGood P (parts_in ds) → Reads P (form_read (parts_in ds))
-  list_reads no_items s g = λ t e. cc
-  list_reads (item (string w) ds) s g = word_reads w (parts_in ds) g.1 s
-  list_reads (item null ds) s g = λ t e. cc
-  list_reads (item (boolean b) ds) s g = λ t e. cc
-  list_reads (item (number n) ds) s g = λ t e. cc
-  list_reads (item (array es) ds) s g = λ t e. cc
-  list_reads (item (object ms) ds) s g = λ t e. cc
+  word_reads : (v : Version) (word : Text) (xs : List Part) → AreGood P xs → (bytes_eq word (codes "slot") ≡ true → Reads P (of_word slot slot_words xs)) → Reads P (given (lookup (bytes_eq word) (forms v)) (λ form. form xs))
+  word_reads v word xs g s = given_reads (lookup (bytes_eq word) (forms v)) _ (λ form e. beside_all (λ f. Reads P (f xs)) word (forms v) (forms_read v word xs g s) form e)
+
+  list_reads : (v : Version) (ds : Items) → SlotHas v P ds → AreGood P (parts_in v ds) → Reads P (form_read v (parts_in v ds))
+  list_reads v no_items s g = λ t e. cc
+  list_reads v (item (string w) ds) s g = word_reads v w (parts_in v ds) g.1 s
+  list_reads v (item null ds) s g = λ t e. cc
+  list_reads v (item (boolean b) ds) s g = λ t e. cc
+  list_reads v (item (number n) ds) s g = λ t e. cc
+  list_reads v (item (array es) ds) s g = λ t e. cc
+  list_reads v (item (object ms) ds) s g = λ t e. cc
 
   mutual
-    pub expression_has : (d : Data) → SlotsHave P d → Reads P (expression_read d)
-    expression_has null s = λ t e. cc
-    expression_has (boolean b) s = λ t e. let q : lit (truth b) ≡ t = cc in subst P q (kept.of_lit (truth b))
-    expression_has (number n) s = map_reads (λ z. lit (long z)) (as_i64 n) (λ z e. kept.of_lit (long z))
-    expression_has (string w) s = λ t e. let q : lit (text w) ≡ t = cc in subst P q (kept.of_lit (text w))
-    expression_has (array ds) s = list_reads ds s.0 (parts_have ds s.1)
-    expression_has (object ms) s = λ t e. cc
+    pub expression_has : (v : Version) (d : Data) → SlotsHave v P d → Reads P (expression_read v d)
+    expression_has v null s = λ t e. cc
+    expression_has v (boolean b) s = λ t e. let q : lit (truth b) ≡ t = cc in subst P q (kept.of_lit (truth b))
+    expression_has v (number n) s = map_reads (λ z. lit (long z)) (as_i64 n) (λ z e. kept.of_lit (long z))
+    expression_has v (string w) s = λ t e. let q : lit (text w) ≡ t = cc in subst P q (kept.of_lit (text w))
+    expression_has v (array ds) s = list_reads v ds s.0 (parts_have v ds s.1)
+    expression_has v (object ms) s = λ t e. cc
 
-    parts_have : (ds : Items) → SlotsOfItems P ds → AreGood P (parts_in ds)
-    parts_have no_items s = tt
-    parts_have (item d ds) s = ((expression_has d s.0, fields_have d s.0), parts_have ds s.1)
+    parts_have : (v : Version) (ds : Items) → SlotsOfItems v P ds → AreGood P (parts_in v ds)
+    parts_have v no_items s = tt
+    parts_have v (item d ds) s = ((expression_has v d s.0, fields_have v d s.0), parts_have v ds s.1)
 
-    pub fields_have : (d : Data) → SlotsHave P d → FieldsRead P (fields_read d)
-    fields_have (object ms) s = members_have ms s
-    fields_have null s = λ fs e. cc
-    fields_have (boolean b) s = λ fs e. cc
-    fields_have (number n) s = λ fs e. cc
-    fields_have (string w) s = λ fs e. cc
-    fields_have (array ds) s = λ fs e. cc
+    pub fields_have : (v : Version) (d : Data) → SlotsHave v P d → FieldsRead P (fields_read v d)
+    fields_have v (object ms) s = members_have v ms s
+    fields_have v null s = λ fs e. cc
+    fields_have v (boolean b) s = λ fs e. cc
+    fields_have v (number n) s = λ fs e. cc
+    fields_have v (string w) s = λ fs e. cc
+    fields_have v (array ds) s = λ fs e. cc
 
-    members_have : (ms : Members) → SlotsOfMembers P ms → FieldsRead P (fields_in ms)
-    members_have no_members s = λ fs e. let q : no_tree_fields ≡ fs = cc in subst (EachField P) q tt
-    members_have (member k d ms) s = λ fs e.
-        let p = given_some (expression_read d) _ fs e in
-        let q = map_some (tree_field k p.0) (fields_in ms) fs p.2 in
-        subst (EachField P) (sym q.2) (expression_has d s.0 p.0 p.1, members_have ms s.1 q.0 q.1)
+    members_have : (v : Version) (ms : Members) → SlotsOfMembers v P ms → FieldsRead P (fields_in v ms)
+    members_have v no_members s = λ fs e. let q : no_tree_fields ≡ fs = cc in subst (EachField P) q tt
+    members_have v (member k d ms) s = λ fs e.
+        let p = given_some (expression_read v d) _ fs e in
+        let q = map_some (tree_field k p.0) (fields_in v ms) fs p.2 in
+        subst (EachField P) (sym q.2) (expression_has v d s.0 p.0 p.1, members_have v ms s.1 q.0 q.1)

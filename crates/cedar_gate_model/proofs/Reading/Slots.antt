@@ -14,7 +14,7 @@ use Rattle.cedar_expr_model.specs.Parts.{subexpressions, subexpressions_among, s
 use Rattle.cedar_store_model.proofs.Named.{slot_eq}
 use Rattle.cedar_store_model.specs.Policy.{tree_uses}
 use Rattle.cedar_gate_model.specs.ReadingForms.{word_of}
-use Rattle.cedar_gate_model.specs.ReadingExpression.{Part, slot_words, of_word, expression_read, parts_in}
+use Rattle.cedar_gate_model.specs.ReadingExpression.{Version, Part, slot_words, of_word, expression_read, parts_in}
 use Rattle.cedar_gate_model.specs.ReadingLaws.{slot_text, is_slot_form, writes_slot, some_writes_slot, member_writes_slot}
 use Rattle.cedar_gate_model.proofs.Reading.Steps.{map_some, AllBeside, beside_all}
 use Rattle.cedar_gate_model.proofs.Reading.Kept.{EachTree, EachField, Kept, Reads, SlotHas, SlotsHave, SlotsOfItems, SlotsOfMembers, expression_has}
@@ -22,15 +22,15 @@ use Rattle.cedar_expr_model.proofs.Gathering.{all_join}
 use Rattle.std.specs.Map.{lookup}
 
 -- a property of every slot is one of those that are written
-module _ (P : Tree → Type 0) where
+module _ (v : Version) (P : Tree → Type 0) where
   slot_read : (xs : List Part) → ((s : SlotId) → P (slot s)) → Reads P (of_word slot slot_words xs)
   slot_read [] h = λ t e. cc
   slot_read (x ∷ []) h = λ t e. let p = map_some slot (word_of slot_words x.json) t e in subst P (sym p.2) (h p.0)
   slot_read (x ∷ y ∷ xs) h = λ t e. cc
 
-  slot_has : ((s : SlotId) → P (slot s)) → (ds : Items) → SlotHas P ds
+  slot_has : ((s : SlotId) → P (slot s)) → (ds : Items) → SlotHas v P ds
   slot_has h no_items = tt
-  slot_has h (item (string w) ds) = λ _. slot_read (parts_in ds) h
+  slot_has h (item (string w) ds) = λ _. slot_read (parts_in v ds) h
   slot_has h (item null ds) = tt
   slot_has h (item (boolean b) ds) = tt
   slot_has h (item (number n) ds) = tt
@@ -38,7 +38,7 @@ module _ (P : Tree → Type 0) where
   slot_has h (item (object ms) ds) = tt
 
   mutual
-    pub all_slots_have : ((s : SlotId) → P (slot s)) → (d : Data) → SlotsHave P d
+    pub all_slots_have : ((s : SlotId) → P (slot s)) → (d : Data) → SlotsHave v P d
     all_slots_have h null = tt
     all_slots_have h (boolean b) = tt
     all_slots_have h (number n) = tt
@@ -46,11 +46,11 @@ module _ (P : Tree → Type 0) where
     all_slots_have h (array ds) = (slot_has h ds, items_have h ds)
     all_slots_have h (object ms) = members_have h ms
 
-    items_have : ((s : SlotId) → P (slot s)) → (ds : Items) → SlotsOfItems P ds
+    items_have : ((s : SlotId) → P (slot s)) → (ds : Items) → SlotsOfItems v P ds
     items_have h no_items = tt
     items_have h (item d ds) = (all_slots_have h d, items_have h ds)
 
-    members_have : ((s : SlotId) → P (slot s)) → (ms : Members) → SlotsOfMembers P ms
+    members_have : ((s : SlotId) → P (slot s)) → (ms : Members) → SlotsOfMembers v P ms
     members_have h no_members = tt
     members_have h (member k d ms) = (all_slots_have h d, members_have h ms)
 
@@ -89,8 +89,8 @@ form_kept = record {
   of_record = each_field_built;
 }
 
-pub read_is_built : (d : Data) (t : Tree) → expression_read d ≡ Some t → is_built t ≡ true
-read_is_built d = expression_has HasForm form_kept d (all_slots_have HasForm (λ s. refl) d)
+pub read_is_built : (v : Version) (d : Data) (t : Tree) → expression_read v d ≡ Some t → is_built t ≡ true
+read_is_built v d = expression_has HasForm form_kept v d (all_slots_have v HasForm (λ s. refl) d)
 
 -- the slots that aren't written
 module _ (s : SlotId) where
@@ -147,50 +147,50 @@ other_slot principal_slot v h = ((λ k. cc), ((λ k. refl), tt))
 other_slot resource_slot v h = ((λ k. refl), ((λ k. cc), tt))
 
 -- the one part after the word
-after_word : (s : SlotId) (v : Text) → bytes_eq v (slot_text s) ≡ false → Reads (Lacks s) (of_word slot slot_words (parts_in (item (string v) no_items)))
-after_word s v h t e =
-    let p = map_some slot (lookup (bytes_eq v) slot_words) t e in
-    subst (Lacks s) (sym p.2) (beside_all (λ r. (slot_eq s r || false) ≡ false) v slot_words (other_slot s v h) p.0 p.1)
+after_word : (v : Version) (s : SlotId) (r : Text) → bytes_eq r (slot_text s) ≡ false → Reads (Lacks s) (of_word slot slot_words (parts_in v (item (string r) no_items)))
+after_word v s r h t e =
+    let p = map_some slot (lookup (bytes_eq r) slot_words) t e in
+    subst (Lacks s) (sym p.2) (beside_all (λ i. (slot_eq s i || false) ≡ false) r slot_words (other_slot s r h) p.0 p.1)
 
 second_false : (a b : Bool) → (a && b) ≡ false → a ≡ true → b ≡ false
 second_false true b e h = e
 second_false false b e h = cc
 
-unwritten : (s : SlotId) (w : Text) (ds : Items) → is_slot_form s (item (string w) ds) ≡ false → bytes_eq w (codes "slot") ≡ true → Reads (Lacks s) (of_word slot slot_words (parts_in ds))
-unwritten s w no_items h k = λ t e. cc
-unwritten s w (item (string v) no_items) h k = after_word s v (second_false (bytes_eq w (codes "slot")) (bytes_eq v (slot_text s)) h k)
-unwritten s w (item null no_items) h k = λ t e. cc
-unwritten s w (item (boolean b) no_items) h k = λ t e. cc
-unwritten s w (item (number n) no_items) h k = λ t e. cc
-unwritten s w (item (array es) no_items) h k = λ t e. cc
-unwritten s w (item (object ms) no_items) h k = λ t e. cc
-unwritten s w (item d (item c ds)) h k = λ t e. cc
+unwritten : (v : Version) (s : SlotId) (w : Text) (ds : Items) → is_slot_form s (item (string w) ds) ≡ false → bytes_eq w (codes "slot") ≡ true → Reads (Lacks s) (of_word slot slot_words (parts_in v ds))
+unwritten v s w no_items h k = λ t e. cc
+unwritten v s w (item (string r) no_items) h k = after_word v s r (second_false (bytes_eq w (codes "slot")) (bytes_eq r (slot_text s)) h k)
+unwritten v s w (item null no_items) h k = λ t e. cc
+unwritten v s w (item (boolean b) no_items) h k = λ t e. cc
+unwritten v s w (item (number n) no_items) h k = λ t e. cc
+unwritten v s w (item (array es) no_items) h k = λ t e. cc
+unwritten v s w (item (object ms) no_items) h k = λ t e. cc
+unwritten v s w (item d (item c ds)) h k = λ t e. cc
 
-slot_lacks : (s : SlotId) (ds : Items) → is_slot_form s ds ≡ false → SlotHas (Lacks s) ds
-slot_lacks s no_items h = tt
-slot_lacks s (item (string w) ds) h = unwritten s w ds h
-slot_lacks s (item null ds) h = tt
-slot_lacks s (item (boolean b) ds) h = tt
-slot_lacks s (item (number n) ds) h = tt
-slot_lacks s (item (array es) ds) h = tt
-slot_lacks s (item (object ms) ds) h = tt
+slot_lacks : (v : Version) (s : SlotId) (ds : Items) → is_slot_form s ds ≡ false → SlotHas v (Lacks s) ds
+slot_lacks v s no_items h = tt
+slot_lacks v s (item (string w) ds) h = unwritten v s w ds h
+slot_lacks v s (item null ds) h = tt
+slot_lacks v s (item (boolean b) ds) h = tt
+slot_lacks v s (item (number n) ds) h = tt
+slot_lacks v s (item (array es) ds) h = tt
+slot_lacks v s (item (object ms) ds) h = tt
 
 mutual
-  slots_lack : (s : SlotId) (d : Data) → writes_slot s d ≡ false → SlotsHave (Lacks s) d
-  slots_lack s null h = tt
-  slots_lack s (boolean b) h = tt
-  slots_lack s (number n) h = tt
-  slots_lack s (string w) h = tt
-  slots_lack s (array ds) h = let p = or_parts (is_slot_form s ds) (some_writes_slot s ds) h in (slot_lacks s ds p.0, items_lack s ds p.1)
-  slots_lack s (object ms) h = members_lack s ms h
+  slots_lack : (v : Version) (s : SlotId) (d : Data) → writes_slot s d ≡ false → SlotsHave v (Lacks s) d
+  slots_lack v s null h = tt
+  slots_lack v s (boolean b) h = tt
+  slots_lack v s (number n) h = tt
+  slots_lack v s (string w) h = tt
+  slots_lack v s (array ds) h = let p = or_parts (is_slot_form s ds) (some_writes_slot s ds) h in (slot_lacks v s ds p.0, items_lack v s ds p.1)
+  slots_lack v s (object ms) h = members_lack v s ms h
 
-  items_lack : (s : SlotId) (ds : Items) → some_writes_slot s ds ≡ false → SlotsOfItems (Lacks s) ds
-  items_lack s no_items h = tt
-  items_lack s (item d ds) h = let p = or_parts (writes_slot s d) (some_writes_slot s ds) h in (slots_lack s d p.0, items_lack s ds p.1)
+  items_lack : (v : Version) (s : SlotId) (ds : Items) → some_writes_slot s ds ≡ false → SlotsOfItems v (Lacks s) ds
+  items_lack v s no_items h = tt
+  items_lack v s (item d ds) h = let p = or_parts (writes_slot s d) (some_writes_slot s ds) h in (slots_lack v s d p.0, items_lack v s ds p.1)
 
-  members_lack : (s : SlotId) (ms : Members) → member_writes_slot s ms ≡ false → SlotsOfMembers (Lacks s) ms
-  members_lack s no_members h = tt
-  members_lack s (member k d ms) h = let p = or_parts (writes_slot s d) (member_writes_slot s ms) h in (slots_lack s d p.0, members_lack s ms p.1)
+  members_lack : (v : Version) (s : SlotId) (ms : Members) → member_writes_slot s ms ≡ false → SlotsOfMembers v (Lacks s) ms
+  members_lack v s no_members h = tt
+  members_lack v s (member k d ms) h = let p = or_parts (writes_slot s d) (member_writes_slot s ms) h in (slots_lack v s d p.0, members_lack v s ms p.1)
 
-pub read_slots_are_written : (s : SlotId) (d : Data) (t : Tree) → writes_slot s d ≡ false → expression_read d ≡ Some t → tree_uses t s ≡ false
-read_slots_are_written s d t h = expression_has (Lacks s) (lacks_kept s) d (slots_lack s d h) t
+pub read_slots_are_written : (v : Version) (s : SlotId) (d : Data) (t : Tree) → writes_slot s d ≡ false → expression_read v d ≡ Some t → tree_uses t s ≡ false
+read_slots_are_written v s d t h = expression_has (Lacks s) (lacks_kept s) v d (slots_lack v s d h) t

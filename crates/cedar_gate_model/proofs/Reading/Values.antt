@@ -17,7 +17,7 @@ use Rattle.cedar_evaluator_model.specs.Evaluation.{pieces_of, node, evaluated}
 use Rattle.cedar_gate_model.specs.Reading.{given}
 use Rattle.cedar_gate_model.specs.Bundle.{Functions}
 use Rattle.cedar_gate_model.specs.ReadingForms.{if_passing, word_of}
-use Rattle.cedar_gate_model.specs.ReadingExpression.{expression_read, fields_read}
+use Rattle.cedar_gate_model.specs.ReadingExpression.{second, expression_read, fields_read}
 use Rattle.cedar_evaluator_model.specs.Reauthorize.{context_from}
 use Rattle.cedar_gate_model.specs.ReadingValue.{with_functions, left_of_restricted, if_value, value_read, fields_context_read, context_read}
 use Rattle.cedar_gate_model.proofs.Reading.Steps.{given_some, map_some, passing_some, beside_all}
@@ -221,10 +221,10 @@ value_clean t (value_left n) m e h = h
 value_clean t (residual r) m e h = cc
 value_clean t (stopped s) m e h = cc
 
-pub values_are_restricted : (x : Functions) (d : Data) (m : Made) → value_read x d ≡ Some m → (t : Tree) × (expression_read d ≡ Some t) × (is_restricted t ≡ true) × (has_unknown t ≡ false)
+pub values_are_restricted : (x : Functions) (d : Data) (m : Made) → value_read x d ≡ Some m → (t : Tree) × (expression_read second d ≡ Some t) × (is_restricted t ≡ true) × (has_unknown t ≡ false)
 values_are_restricted x d m e =
-    let p = given_some (given (expression_read d) (if_passing is_restricted)) (λ t. if_value (left_of_restricted x t)) m e in
-    let q = given_some (expression_read d) (if_passing is_restricted) p.0 p.1 in
+    let p = given_some (given (expression_read second d) (if_passing is_restricted)) (λ t. if_value (left_of_restricted x t)) m e in
+    let q = given_some (expression_read second d) (if_passing is_restricted) p.0 p.1 in
     let r = passing_some is_restricted q.0 p.0 q.2 in
     let s : is_restricted p.0 ≡ true = ap is_restricted r.1 ∙ r.0 in
     (p.0, q.1 ∙ ap Some (sym r.1), s, value_clean p.0 (left_of_restricted x p.0) m p.2 (left_clean x p.0 s))
@@ -249,8 +249,8 @@ is_unknown d c e =
 
 fields_open : (x : Functions) (d : Data) (fs : TreeFields) → fields_context_read x d ≡ Some (residual_fields fs) → IsOpen (record_literal fs)
 fields_open x d fs e =
-    let p = given_some (given (fields_read d) (λ gs. if_passing is_restricted (record_literal gs))) (λ t. context_from (left_of_restricted x t)) (residual_fields fs) e in
-    let q = given_some (fields_read d) (λ gs. if_passing is_restricted (record_literal gs)) p.0 p.1 in
+    let p = given_some (given (fields_read second d) (λ gs. if_passing is_restricted (record_literal gs))) (λ t. context_from (left_of_restricted x t)) (residual_fields fs) e in
+    let q = given_some (fields_read second d) (λ gs. if_passing is_restricted (record_literal gs)) p.0 p.1 in
     let r = passing_some is_restricted (record_literal q.0) p.0 q.2 in
     context_clean p.0 (left_of_restricted x p.0) fs p.2 (left_clean x p.0 (ap is_restricted r.1 ∙ r.0))
 

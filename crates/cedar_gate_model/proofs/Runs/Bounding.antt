@@ -13,8 +13,7 @@ use Rattle.cedar_expr_model.specs.Parts.{Unknown, unknowns}
 use Rattle.cedar_expr_model.specs.Restricted.{is_restricted}
 use Rattle.cedar_expr_model.specs.Substitution.{substituted}
 use Rattle.cedar_expr_model.specs.Tree.{Tree, record_literal, TreeFields}
-use Rattle.cedar_expr_model.specs.Uid.{Uid, uid_eq}
-use Rattle.cedar_expr_model.specs.Uids.{is_uid}
+use Rattle.cedar_expr_model.specs.Uid.{Uid}
 use Rattle.cedar_expr_model.specs.Unknowns.{has_unknown}
 use Rattle.cedar_expr_model.proofs.Gathering.{each_in}
 use Rattle.cedar_expr_model.proofs.Lists.{contains_head, contains_tail, contains_cases, contains_none, any_has, any_from, filter_has, filter_only, hold_left, hold_right, map_has, map_from}
@@ -30,9 +29,7 @@ use Rattle.cedar_store_model.proofs.Known.{what_is_there}
 use Rattle.cedar_store_model.proofs.Meaning.{means_outcome, outcome_means}
 use Rattle.cedar_store_model.proofs.Slices.{same_means}
 use Rattle.cedar_store_model.proofs.Stores.{same_answers}
-use Rattle.cedar_schema_model.specs.ActionEntities.{as_entity}
 use Rattle.cedar_schema_model.specs.BagLaws.{HasTwice}
-use Rattle.cedar_schema_model.specs.Schema.{declares_action}
 use Rattle.cedar_evaluator_model.specs.Completion.{Fits, FitsAnnotations}
 use Rattle.cedar_evaluator_model.specs.Evaluation.{evaluated}
 use Rattle.cedar_evaluator_model.specs.Known.{known_entry, known_context, known_found, known_world}
@@ -54,7 +51,7 @@ use Rattle.cedar_gate_model.specs.ReadingValue.{with_functions}
 use Rattle.cedar_gate_model.specs.RunsAnswer.{Course, session_of, IsProper, MakeFairly, IsOpened, IsKnownStore}
 use Rattle.cedar_gate_model.specs.RunsAsk.{IsMadeContext}
 use Rattle.cedar_gate_model.specs.Early.{bounds_now, HoldsLookups, BoundsInPart, KeepsBounds}
-use Rattle.cedar_gate_model.specs.Session.{Setup, State, value_of, uid_in, context_left, entry_now, context_now, scope_now, whole_store, known_now, world_now, HasOpenName, entry_named, is_open_entry, is_open_context, ContextFails, CompletesNow}
+use Rattle.cedar_gate_model.specs.Session.{Setup, State, value_of, uid_in, context_left, entry_now, context_now, scope_now, known_now, world_now, HasOpenName, entry_named, is_open_entry, is_open_context, ContextFails, CompletesNow}
 use Rattle.cedar_gate_model.proofs.Gate.Accepting.{accepted_good, acceptance_reads}
 use Rattle.cedar_gate_model.proofs.Reading.Values.{none_is}
 use Rattle.cedar_gate_model.proofs.Runs.Closing.{IsShut, evaluated_shut, record_evaluated}
@@ -64,8 +61,9 @@ use Rattle.cedar_gate_model.proofs.Runs.Deciding.{none_unknown, none_has_unknown
 use Rattle.cedar_gate_model.proofs.Runs.Forcing.{known_same, ready}
 use Rattle.cedar_gate_model.proofs.Runs.Legal.{some_unknown_of, calls_leave_nothing}
 use Rattle.cedar_gate_model.proofs.Runs.Names.{bare_state, stands, sound_of, there}
-use Rattle.cedar_gate_model.proofs.Runs.Owing.{each_all, told_values}
-use Rattle.cedar_gate_model.proofs.Runs.Scoped.{held_there, righted, completes_now, answers_alike, all_well}
+use Rattle.cedar_gate_model.proofs.Runs.Knowing.{known_whole, known_values}
+use Rattle.cedar_gate_model.proofs.Runs.Owing.{each_all}
+use Rattle.cedar_gate_model.proofs.Runs.Scoped.{righted, completes_now, answers_alike, all_well}
 
 -- bounds that are given hold in every completion
 pub given_bounds_hold : (c : Course) (s : State) (store : Uid → Found Made) → IsProper c → MakeFairly c.functions → IsOpened (session_of c) s → IsKnownStore c s store
@@ -246,7 +244,7 @@ module _ (c : Course) (proper : IsProper c) (s : State) (start : IsOpened (sessi
       action = action_there;
       resource = resource_there;
       context = request_there;
-      store = λ u. subst HoldsValues (sym (same u)) (told_values (is_uid u) (declares_action x.schema u) (declares_action x.schema u || list_any (uid_eq u) s.asked) (as_entity x.schema u) (c.store u) refl (λ f e. proper.store u f e));
+      store = λ u. subst HoldsValues (sym (same u)) (known_values x s u (proper.store u));
       calls = leaves_nothing c proper;
     }
 
@@ -263,15 +261,13 @@ module _ (c : Course) (proper : IsProper c) (s : State) (start : IsOpened (sessi
         let given : Bounds = record { must = in_order ps (ids (must_be_determining r)); may = in_order ps (ids (may_be_determining r)) } in
         subst (λ b. IsSome (cond b None (Some given))) (sym none_limited) refl
 
-    -- where what is looked up is held, what a policy means is known
-    module _ (holds : HoldsLookups c s) where
+    -- where what is looked up is known, so is what a policy means
+    module _ (lookups : HoldsLookups c s) where
       abbrev kw : World
       kw = known_world scope
 
       looked_up : (p : Policy) → Contains ps p → (u : Uid) → Looks (with_slots now p.bindings) (condition p) u → known.store u ≡ now.store u
-      looked_up p k u l =
-          let h = holds p u k l in
-          h.1 ∙ sym (held_there u (is_uid u) (declares_action x.schema u || list_any (uid_eq u) s.asked) (whole_store x u) h.0 h.1).1
+      looked_up p k u l = known_whole x s u (lookups p u k l)
 
       pub record MeansBoth (p : Policy) : Type 0 where
         pub outcome : Res _
@@ -325,5 +321,5 @@ pub bounds_kept : (c : Course) (s : State) (b : Option Bounds) → IsProper c �
 bounds_kept c s b proper fair start (store, known, e) = record {
   hold = λ given is w complete. given_bounds_hold c s store proper fair start known given (sym e ∙ is) w complete;
   owed = λ all. subst (λ (o : Option Bounds). IsSome o) (sym e) (bounds_owed c proper s start all store known);
-  reasons = λ all holds. e ∙ bounds_are_reasons c proper s start all store known holds;
+  reasons = λ all lookups. e ∙ bounds_are_reasons c proper s start all store known lookups;
 }

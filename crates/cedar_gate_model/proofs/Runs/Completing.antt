@@ -70,7 +70,7 @@ held_true : {P : Type 0} (b : Bool) → (b ≡ true → P) → (P → b ≡ true
 held_true true f g h = f refl
 held_true false f g h = absurd (h (λ p. let k = g p in cc))
 
-neither : (a b : Bool) → (a || b) ≡ false → (a ≡ false) × (b ≡ false)
+pub neither : (a b : Bool) → (a || b) ≡ false → (a ≡ false) × (b ≡ false)
 neither true b e = cc
 neither false b e = (refl, e)
 

@@ -1,36 +1,31 @@
 -- The scope of a session has a completion, whatever was bound and asked for by then.
 use Rattle.std.proofs.Common.{◌≡◌, ◌∙◌, ◌||◌, true, false, Option, Some, None, codes, option_map, inl, inr, refl, sym, ap, subst}
 use Rattle.std.specs.Prelude.{Contains, is_some}
-use Rattle.std.specs.List.{list_any}
 use Rattle.std.specs.Option.{option_map_or}
 use Rattle.std.specs.Str.{bytes_eq}
 use Rattle.std.proofs.lemmas.Slice.Eq.{bytes_eq-Decides}
 use Rattle.cedar_expr_model.specs.Parts.{Unknown, unknowns}
 use Rattle.cedar_expr_model.proofs.Lists.{any_from}
 use Rattle.cedar_expr_model.specs.Name.{Text}
-use Rattle.cedar_expr_model.specs.Uid.{Uid, uid_eq}
-use Rattle.cedar_expr_model.specs.Uids.{is_uid}
+use Rattle.cedar_expr_model.specs.Uid.{Uid}
 use Rattle.cedar_expr_model.specs.Value.{V, prim, entity, record_of}
 use Rattle.cedar_expr_model.specs.Tree.{record_literal, TreeFields}
 use Rattle.cedar_expr_model.specs.Made.{Made, made_prim, made_set, made_record, made_extension, bare, bare_fields}
 use Rattle.cedar_store_model.specs.World.{World, Found}
 use Rattle.cedar_store_model.specs.OfLaws.Extends.{Keeps}
 use Rattle.cedar_store_model.specs.Reads.{uid_of}
-use Rattle.cedar_schema_model.specs.Schema.{declares_action}
-use Rattle.cedar_schema_model.specs.ActionEntities.{as_entity}
 use Rattle.cedar_evaluator_model.specs.OfLaws.Completable.{is_free_name, EntryAgrees, ContextAgrees, Agree}
 use Rattle.cedar_evaluator_model.specs.OfLaws.Completing as evaluator
 use Rattle.cedar_evaluator_model.specs.Known.{known_found}
 use Rattle.cedar_evaluator_model.specs.Scope.{Scope, Entry, uid, unknown_uid, Context, closed, residual_fields, unknown_context, Left, value_left, residual, stopped}
 use Rattle.cedar_evaluator_model.specs.OfLaws.Whole.{HoldsValues}
 use Rattle.cedar_evaluator_model.proofs.Completable.{completions_exist}
-use Rattle.cedar_gate_model.specs.Session.{Setup, State, value_of, uid_in, context_left, entry_now, context_now, scope_now, whole_store, variable_names, context_unknowns, name_of_variable, entry_named, is_open_entry, is_open_context}
+use Rattle.cedar_gate_model.specs.Session.{Setup, State, value_of, uid_in, context_left, entry_now, context_now, scope_now, variable_names, context_unknowns, name_of_variable, entry_named, is_open_entry, is_open_context}
 use Rattle.cedar_gate_model.specs.RunsAnswer.{Course, session_of, IsProper, IsOpened, IsKnownStore, ContextIsPossible}
 use Rattle.cedar_gate_model.proofs.Runs.Completing.{IsTaken, taken_value, any_name, no_name_of_variable}
 use Rattle.cedar_gate_model.proofs.Runs.Contexts.{bound_context, left_context}
 use Rattle.cedar_gate_model.proofs.Runs.Names.{is_entity, bare_state, stands, quote_free, no_lie}
-use Rattle.cedar_gate_model.proofs.Runs.Owing.{told_values}
-use Rattle.cedar_gate_model.proofs.Runs.Scoped.{open_there}
+use Rattle.cedar_gate_model.proofs.Runs.Knowing.{open_is_uid, known_values}
 
 module _ (c : Course) (proper : IsProper c) (s : State) (store : Uid → Found Made) (start : IsOpened (session_of c) s) (stands_on : IsKnownStore c s store) (given : Text → V) where
   abbrev x : Setup
@@ -104,14 +99,14 @@ module _ (c : Course) (proper : IsProper c) (s : State) (store : Uid → Found M
 
     pub parts_agree : ((n : Text) → is_free_name n ≡ true → Keeps (option_map bare (value_of s n)) (Some (given n))) → Agree scope given
     parts_agree free = record {
-      uids = λ u q. open_there u (is_uid u) (declares_action x.schema u || list_any (uid_eq u) s.asked) (whole_store x u) (sym (stands_on.known u) ∙ ap known_found q);
+      uids = λ u q. open_is_uid x s u (sym (stands_on.known u) ∙ ap known_found q);
       names = quote_free x start.opened s start.bound;
       free = free;
       principal = entry_agrees (codes "principal") x.start.principal refl (no_variable (codes "principal") (any_name (codes "principal") refl) refl);
       action = entry_agrees (codes "action") x.start.action refl (no_variable (codes "action") (any_name (codes "action") refl) refl);
       resource = entry_agrees (codes "resource") x.start.resource refl (no_variable (codes "resource") (any_name (codes "resource") refl) refl);
       context = context_agrees x.start.context refl;
-      store = λ u. subst HoldsValues (sym (stands_on.known u)) (told_values (is_uid u) (declares_action x.schema u) (declares_action x.schema u || list_any (uid_eq u) s.asked) (as_entity x.schema u) (c.store u) refl (λ f e. proper.store u f e));
+      store = λ u. subst HoldsValues (sym (stands_on.known u)) (known_values x s u (proper.store u));
     }
 
 pub sessions_have_completions : (c : Course) (s : State) (store : Uid → Found Made) (given : Text → V) → IsProper c → IsOpened (session_of c) s → IsKnownStore c s store

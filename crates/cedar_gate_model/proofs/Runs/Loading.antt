@@ -9,17 +9,16 @@ use Rattle.cedar_expr_model.specs.Uids.{is_uid}
 use Rattle.cedar_expr_model.specs.Value.{V}
 use Rattle.cedar_expr_model.proofs.Lists.{contains_head, contains_none, found-Decides}
 use Rattle.cedar_expr_model.proofs.Equality.{uid_eq-Decides}
-use Rattle.cedar_store_model.specs.World.{World, Found, held, missing, not_loaded}
+use Rattle.cedar_store_model.specs.World.{World, Found, missing, not_loaded}
 use Rattle.cedar_store_model.specs.Store.{unloaded}
 use Rattle.cedar_schema_model.specs.Schema.{Schema, declares_action}
 use Rattle.cedar_gate_model.specs.Slice.{IsNear, InSlice}
-use Rattle.cedar_gate_model.specs.Moment.{told}
 use Rattle.cedar_gate_model.proofs.Gate.Slices.{near_within, near_kept}
 use Rattle.cedar_gate_model.proofs.Gate.Mentions.{FoundMentions}
 
 -- the world with the declared actions and the answers alone
 abbrev pub loading : Schema → World → List Uid → World
-loading s w asked = record w { store = λ u. if declares_action s u || list_any (uid_eq u) asked then told u (w.store u) else unloaded u }
+loading s w asked = record w { store = λ u. if declares_action s u || list_any (uid_eq u) asked then w.store u else unloaded u }
 
 -- a declared action, or a uid that was asked for
 abbrev pub IsLoaded : Schema → List Uid → Uid → Type 0
@@ -45,28 +44,18 @@ none_mentioned : (b : Bool) (u : Uid) → FoundMentions (cond b not_loaded missi
 none_mentioned true u h = contains_none u h
 none_mentioned false u h = contains_none u h
 
-told_only : (v : Uid) (f : Found V) (u : Uid) → FoundMentions (told v f) u → FoundMentions f u
-told_only v (held e) u h = h
-told_only v missing u h = absurd (none_mentioned (is_uid v) u h)
-told_only v not_loaded u h = absurd (none_mentioned (is_uid v) u h)
-
-told_all : (v : Uid) (f : Found V) (u : Uid) → FoundMentions f u → FoundMentions (told v f) u
-told_all v (held e) u h = h
-told_all v missing u h = absurd (contains_none u h)
-told_all v not_loaded u h = absurd (contains_none u h)
-
 pub some_item : (uids : List Uid) → uids ≢ [] → (u : Uid) × Contains uids u
 some_item [] n = absurd (n refl)
 some_item (u ∷ us) n = (u, contains_head u us)
 
-loaded_only : (v : Uid) (t : Bool) (f : Found V) (u : Uid) → FoundMentions (cond t (told v f) (unloaded v)) u → FoundMentions f u
-loaded_only v true f u h = told_only v f u h
+loaded_only : (v : Uid) (t : Bool) (f : Found V) (u : Uid) → FoundMentions (cond t f (unloaded v)) u → FoundMentions f u
+loaded_only v true f u h = h
 loaded_only v false f u h = absurd (none_mentioned (is_uid v) u h)
 
 module _ (s : Schema) (w : World) where
-  loaded_is_told : (asked : List Uid) (u : Uid) → IsLoaded s asked u → (loading s w asked).store u ≡ told u (w.store u)
-  loaded_is_told asked u h =
-      ap (λ t. cond t (told u (w.store u)) (unloaded u))
+  loaded_is_there : (asked : List Uid) (u : Uid) → IsLoaded s asked u → (loading s w asked).store u ≡ w.store u
+  loaded_is_there asked u h =
+      ap (λ t. cond t (w.store u) (unloaded u))
       (either_true (declares_action s u) (list_any (uid_eq u) asked) (λ e. (found-Decides uid_eq uid_eq-Decides u asked).1 (h e)))
 
   -- what is near by what is loaded is near
@@ -86,8 +75,8 @@ module _ (s : Schema) (w : World) where
       let v = k.0 in
       let near = nearer asked uids r settled j (omega (arith, l)) v k.1 in
       let loaded = settled v (near_within (suc j) r (loading s w asked) v l near) in
-      let now = loaded_is_told asked v loaded in
-      let later = loaded_is_told (asked ++ uids) v (λ e. Contains-append_left asked uids v (loaded e)) in
+      let now = loaded_is_there asked v loaded in
+      let later = loaded_is_there (asked ++ uids) v (λ e. Contains-append_left asked uids v (loaded e)) in
       inr (v, near, subst (λ f. FoundMentions f u) (later ∙ sym now) k.2))
       h
 
@@ -121,7 +110,7 @@ module _ (s : Schema) (w : World) where
         let v = k.0 in
         let near = near_loaded asked settled m (omega (arith, l)) v k.1 in
         let loaded = settled v (near_within m n (loading s w asked) v (omega (arith, l)) near) in
-        inr (v, near, subst (λ f. FoundMentions f u) (sym (loaded_is_told asked v loaded)) (told_all v (w.store v) u k.2)))
+        inr (v, near, subst (λ f. FoundMentions f u) (sym (loaded_is_there asked v loaded)) k.2))
         h
 
     pub slice_is_loaded : (asked : List Uid) → ((u : Uid) → IsNext s n w asked u → ⊥) → (u : Uid) → InSlice s n w u → Contains asked u

@@ -1,29 +1,24 @@
 -- Where all is bound and loaded a decision is owed.
-use Rattle.std.proofs.Common.{◌≡◌, ◌∙◌, Bool, true, false, ◌||◌, ◌&&◌, not, cond, List, [], ◌∷◌, ◌++◌, Option, Some, None, inl, inr, ⊎_elim, refl, sym, ap, subst}
+use Rattle.std.proofs.Common.{◌≡◌, ◌∙◌, Bool, true, false, ◌&&◌, not, cond, List, [], ◌∷◌, ◌++◌, Option, Some, None, inl, inr, ⊎_elim, refl, sym, ap, subst}
 use Rattle.std.specs.Prelude.{Contains, IsSome, All, slice_index_or}
 use Rattle.std.specs.List.{list_any}
 use Rattle.std.proofs.lemmas.List.Elements.{All-contains_itself}
 use Rattle.cedar_expr_model.specs.Name.{Text}
-use Rattle.cedar_expr_model.specs.Uid.{Uid, uid_eq}
-use Rattle.cedar_expr_model.specs.Uids.{is_uid}
+use Rattle.cedar_expr_model.specs.Uid.{Uid}
 use Rattle.cedar_expr_model.specs.Made.{Made}
 use Rattle.cedar_expr_model.specs.Value.{V, truth_value}
-use Rattle.cedar_expr_model.proofs.Lists.{any_from, any_has, both_hold, hold_both, found-Decides}
-use Rattle.cedar_expr_model.proofs.Equality.{uid_eq-Decides}
+use Rattle.cedar_expr_model.proofs.Lists.{any_from, any_has, both_hold, hold_both}
 use Rattle.cedar_expr_model.proofs.Gathering.{each_in}
 use Rattle.cedar_store_model.specs.Outcome.{Res, val}
-use Rattle.cedar_store_model.specs.World.{World, Entity, Found, held, missing, not_loaded, by_found}
-use Rattle.cedar_store_model.specs.Knowledge.{holds_values}
+use Rattle.cedar_store_model.specs.World.{World, Found}
 use Rattle.cedar_store_model.specs.Looks.{Looks}
-use Rattle.cedar_store_model.specs.Store.{found_as, whole}
+use Rattle.cedar_store_model.specs.Store.{unloaded}
 use Rattle.cedar_store_model.specs.Policy.{Policy, Effect, permit, forbid, condition}
 use Rattle.cedar_store_model.specs.Answer.{Decision, allow, deny, with_slots, PolicyMeans, satisfied, permits}
 use Rattle.cedar_store_model.proofs.Answers.{is_permit, is_forbid}
 use Rattle.cedar_store_model.proofs.Conditions.{policies_mean_truth, satisfied-Decides}
 use Rattle.cedar_store_model.proofs.Meaning.{means_outcome, outcome_means}
 use Rattle.cedar_store_model.proofs.Slices.{same_means}
-use Rattle.cedar_schema_model.specs.Schema.{declares_action}
-use Rattle.cedar_schema_model.specs.ActionEntities.{as_entity}
 use Rattle.cedar_evaluator_model.specs.Known.{known_found}
 use Rattle.cedar_evaluator_model.specs.OfLaws.Whole.{NothingUnknown, HoldsValues}
 use Rattle.cedar_evaluator_model.specs.Laws.{WithinLimit}
@@ -43,6 +38,7 @@ use Rattle.cedar_gate_model.proofs.Runs.Answering.{fit, is_loaded, good}
 use Rattle.cedar_gate_model.proofs.Runs.Completing.{Stands, stands_at_start, stands_after, parts_there}
 use Rattle.cedar_gate_model.proofs.Runs.Deciding.{none_unknown, none_has_unknowns, leaves_nothing}
 use Rattle.cedar_gate_model.proofs.Runs.Did.{Did, run_did}
+use Rattle.cedar_gate_model.proofs.Runs.Knowing.{known_values}
 use Rattle.cedar_gate_model.proofs.Named.{IsForcedTrue}
 
 -- policies that each mean something force a decision
@@ -85,36 +81,6 @@ module _ (k : World) (ps : List Policy) (means : (p : Policy) → Contains ps p 
   pub forced : (d : Decision) × IsForced k ps d
   forced = by_forbid some_forbid refl
 
--- what is loaded is told
--- what is told of what may be no uid
-abbrev pub told_if : Bool → Found V → Found V
-told_if i f = by_found held (cond i not_loaded missing) (cond i not_loaded missing) f
-
-told_held : (i : Bool) (o : Option (Entity V)) → IsSome o → told_if i (cond i (found_as whole o) missing) ≡ cond i (found_as whole o) missing
-told_held i None h = cc
-told_held true (Some e) h = refl
-told_held false (Some e) h = refl
-
-told_loaded : (i d a : Bool) (e : Entity V) (o : Option (Entity V)) → (d || a) ≡ true → (d ≡ false → IsSome o)
-    → cond (d || a) (told_if i (cond d (held e) (cond i (found_as whole o) missing))) (cond i not_loaded missing) ≡ cond d (held e) (cond i (found_as whole o) missing)
-told_loaded i true a e o t h = refl
-told_loaded i false true e o t h = told_held i o (h refl)
-told_loaded i false false e o t h = cc
-
-pub told_values : (i d b : Bool) (e : Entity V) (o : Option (Entity V)) → holds_values e ≡ true → ((f : Entity V) → o ≡ Some f → holds_values f ≡ true)
-    → HoldsValues (cond b (told_if i (cond d (held e) (cond i (found_as whole o) missing))) (cond i not_loaded missing))
-told_values true d false e o h k = tt
-told_values false d false e o h k = tt
-told_values i true true e o h k = h
-told_values true false true e None h k = tt
-told_values false false true e None h k = tt
-told_values true false true e (Some f) h k = k f refl
-told_values false false true e (Some f) h k = tt
-
-asked_of : (d a : Bool) → (d || a) ≡ true → d ≡ false → a ≡ true
-asked_of true a e f = cc
-asked_of false a e f = e
-
 pub each_all : (P : Policy → Type 0) (ps : List Policy) → ((p : Policy) → Contains ps p → P p) → All P ps
 each_all P ps h = λ k d l. h (slice_index_or ps k d) (All-contains_itself ps k d l)
 
@@ -130,14 +96,11 @@ module _ (c : Course) (proper : IsProper c) (s : State) (stands : Stands (sessio
   fine still_wanted h = ready.loaded h.0 h.1
   fine not_conforming h = h.1 ready.conforms
 
-  -- what a policy looks up was loaded, and is told
+  -- what a policy looks up was loaded
   looked_up : (p : Policy) → Contains c.submission.policies p → (u : Uid) → Looks (with_slots (with_unknowns now) p.bindings) (condition p) u → known.store u ≡ now.store u
   looked_up p k u l =
       let reach = accepted_in_reach c.submission (with_unknowns now) proper.accepted (fit c proper s stands opened ready.loaded fine) p k u l in
-      let d = declares_action (session_of c).schema u in
-      let a = list_any (uid_eq u) s.asked in
-      let loaded = is_loaded c proper s stands opened ready.loaded fine u reach in
-      told_loaded (is_uid u) d a (as_entity (session_of c).schema u) (c.store u) loaded (λ e. ready.there u ((found-Decides uid_eq uid_eq-Decides u s.asked).0 (asked_of d a loaded e)))
+      ap (λ b. cond b (now.store u) (unloaded u)) (is_loaded c proper s stands opened ready.loaded fine u reach)
 
   known_means : (p : Policy) → Contains c.submission.policies p → (r : Res V) × PolicyMeans known p r
   known_means p k =
@@ -158,7 +121,7 @@ module _ (c : Course) (proper : IsProper c) (s : State) (stands : Stands (sessio
         action = p.1;
         resource = p.2;
         context = p.3;
-        store = λ u. subst HoldsValues (sym (same u)) (told_values (is_uid u) (declares_action (session_of c).schema u) (declares_action (session_of c).schema u || list_any (uid_eq u) s.asked) (as_entity (session_of c).schema u) (c.store u) refl (λ f e. proper.store u f e));
+        store = λ u. subst HoldsValues (sym (same u)) (known_values (session_of c) s u (proper.store u));
         calls = leaves_nothing c proper;
       }
 

@@ -20,7 +20,7 @@ use Rattle.cedar_gate_model.specs.Reading.{given, required, optional, has_only, 
 use Rattle.cedar_gate_model.specs.Acceptance.{IsAccepted}
 use Rattle.cedar_gate_model.specs.Bundle.{Functions, Bundle}
 use Rattle.cedar_gate_model.specs.ReadingBundle.{submission_read, is_bundle, bundle_read}
-use Rattle.cedar_gate_model.specs.ReadingExpression.{expression_read}
+use Rattle.cedar_gate_model.specs.ReadingExpression.{second, expression_read}
 use Rattle.cedar_gate_model.specs.ReadingForms.{if_passing, word_of}
 use Rattle.cedar_gate_model.specs.ReadingRequest.{entry_read, request_read, store_read, binding_read, step_read, steps_read}
 use Rattle.cedar_gate_model.specs.ReadingValue.{with_functions, left_of_restricted, if_value, value_read, context_read}
@@ -65,8 +65,8 @@ module _ (x : Functions) (fair : MakeFairly x) where
 
   value_well : (d : Data) (m : Made) → value_read x d ≡ Some m → IsWellMade x.table m
   value_well d m e =
-      let p = given_some (given (expression_read d) (if_passing is_restricted)) (λ t. if_value (left_of_restricted x t)) m e in
-      let q = given_some (expression_read d) (if_passing is_restricted) p.0 p.1 in
+      let p = given_some (given (expression_read second d) (if_passing is_restricted)) (λ t. if_value (left_of_restricted x t)) m e in
+      let q = given_some (expression_read second d) (if_passing is_restricted) p.0 p.1 in
       let r = passing_some is_restricted q.0 p.0 q.2 in
       evaluated_well (with_functions x) (λ n. refl) fair.well 512 p.0 (none_is (offence p.0) (ap is_restricted r.1 ∙ r.0)) m (value_left_is (left_of_restricted x p.0) m p.2)
 

@@ -1,9 +1,8 @@
 -- A world that completes a state of a session, with its names put right, completes what an evaluation knows there.
-use Rattle.std.proofs.Common.{◌≡◌, ◌∙◌, ◌||◌, Bool, true, false, cond, Option, Some, None, codes, refl, sym, ap, subst}
+use Rattle.std.proofs.Common.{◌≡◌, ◌∙◌, Bool, true, false, cond, Option, Some, None, codes, ⊎_elim, refl, sym, ap, subst}
 use Rattle.std.specs.Prelude.{Contains, IsSome}
-use Rattle.std.specs.List.{list_any}
 use Rattle.cedar_expr_model.specs.Name.{Text}
-use Rattle.cedar_expr_model.specs.Uid.{Uid, uid_eq}
+use Rattle.cedar_expr_model.specs.Uid.{Uid}
 use Rattle.cedar_expr_model.specs.Uids.{is_uid}
 use Rattle.cedar_expr_model.specs.Value.{V, record_of}
 use Rattle.cedar_expr_model.specs.Tree.{CoreType, Tree, record_literal, TreeFields}
@@ -12,28 +11,22 @@ use Rattle.cedar_expr_model.specs.Parts.{Unknown, unknowns}
 use Rattle.cedar_expr_model.specs.Restricted.{is_restricted, offence}
 use Rattle.cedar_expr_model.specs.Substitution.{substituted}
 use Rattle.cedar_expr_model.specs.Unknowns.{has_unknown}
-use Rattle.cedar_expr_model.proofs.Lists.{found-Decides}
-use Rattle.cedar_expr_model.proofs.Equality.{uid_eq-Decides}
 use Rattle.cedar_expr_model.proofs.Gathering.{each_in}
 use Rattle.cedar_store_model.specs.Outcome.{val}
-use Rattle.cedar_store_model.specs.World.{World, Entity, Found, held, missing, not_loaded, by_found}
+use Rattle.cedar_store_model.specs.World.{World, Found, held, missing, not_loaded}
 use Rattle.cedar_store_model.specs.Meaning.{Means, outcome_of}
 use Rattle.cedar_store_model.specs.Knowledge.{IsSettled}
-use Rattle.cedar_store_model.specs.Store.{found_as, if_uid}
-use Rattle.cedar_store_model.specs.Store as stores
 use Rattle.cedar_store_model.specs.Policy.{condition}
 use Rattle.cedar_store_model.specs.Answer.{Decision, with_slots, answer_of, decision_of}
 use Rattle.cedar_store_model.proofs.Conditions.{condition_asked}
 use Rattle.cedar_store_model.proofs.Meaning.{means_outcome, outcome_means}
 use Rattle.cedar_store_model.proofs.Named.{bound_value}
 use Rattle.cedar_store_model.proofs.Stores.{same_answers}
-use Rattle.cedar_schema_model.specs.Schema.{declares_action}
-use Rattle.cedar_schema_model.specs.ActionEntities.{as_entity}
 use Rattle.cedar_evaluator_model.specs.OfLaws.Completable.{is_free_name}
 use Rattle.cedar_evaluator_model.specs.Completion.{Fits, PartIs, FitsAnnotations}
 use Rattle.cedar_evaluator_model.specs.OfLaws.Completing.{EntryMeans, ContextMeans, FoundMeans}
 use Rattle.cedar_evaluator_model.specs.OfLaws.Completing as evaluator
-use Rattle.cedar_evaluator_model.specs.Known.{known_entity, known_found, known_context}
+use Rattle.cedar_evaluator_model.specs.Known.{known_found, known_context}
 use Rattle.cedar_evaluator_model.specs.Response.{response_of}
 use Rattle.cedar_evaluator_model.specs.Members.{decision_in_session}
 use Rattle.cedar_evaluator_model.specs.Scope.{Scope, unknown_uid, Context, closed, residual_fields, unknown_context, Left, value_left, residual, stopped}
@@ -48,7 +41,7 @@ use Rattle.cedar_evaluator_model.proofs.Residuals.Node as stood
 use Rattle.cedar_evaluator_model.proofs.Residuals.Slots.{substituted_outcome, substituted_fits, value_with_slots}
 use Rattle.cedar_gate_model.specs.Moment.{ContextCompleted, context_known}
 use Rattle.cedar_gate_model.specs.ReadingValue.{with_functions}
-use Rattle.cedar_gate_model.specs.Session.{Setup, State, value_of, context_left, context_now, scope_now, whole_store, CompletesNow}
+use Rattle.cedar_gate_model.specs.Session.{Setup, State, value_of, context_left, context_now, scope_now, CompletesNow}
 use Rattle.cedar_gate_model.specs.Runs.{MayDecide}
 use Rattle.cedar_gate_model.specs.RunsAsk.{IsMadeContext}
 use Rattle.cedar_gate_model.specs.RunsAnswer.{Course, session_of, IsProper, MakeFairly, IsOpened, IsKnownStore}
@@ -57,54 +50,11 @@ use Rattle.cedar_gate_model.proofs.Reading.Values.{evaluated_clean, Clean, none_
 use Rattle.cedar_gate_model.proofs.Runs.Completing.{Stands, taken_value}
 use Rattle.cedar_gate_model.proofs.Runs.Contexts.{bound_context, left_context, substituted_restricted}
 use Rattle.cedar_gate_model.proofs.Runs.Deciding.{none_unknown, none_has_unknowns, leaves_nothing}
+use Rattle.cedar_gate_model.proofs.Runs.Knowing.{known_there, open_is_uid}
 use Rattle.cedar_gate_model.proofs.Runs.Legal as legal
 use Rattle.cedar_gate_model.proofs.Runs.Owing.{each_all}
 use Rattle.cedar_gate_model.proofs.Runs.WellMade.{evaluated_well}
 use Rattle.cedar_gate_model.proofs.Runs.Names.{no_store, there, when_is, bare_state, stands, sound_of, free_in_context, completes_bare, means_bound, kept, entry_means, context_record, bare_means}
-
--- What is known of a store, by what was asked for and what there is, and the world's.
-module _ (u : Uid) where
-  abbrev unloaded_if : Bool → Found V
-  unloaded_if i = cond i not_loaded missing
-
-  abbrev told_if : Bool → Found V → Found V
-  told_if i f = by_found held (unloaded_if i) (unloaded_if i) f
-
-  -- an entity that is known is there
-  pub held_there : (i b : Bool) (f : Found V) (e : Entity V) → cond b (told_if i f) (unloaded_if i) ≡ held e → (b ≡ true) × (f ≡ held e)
-  held_there i true (held d) e q = (refl, q)
-  held_there true true missing e q = cc
-  held_there false true missing e q = cc
-  held_there true true not_loaded e q = cc
-  held_there false true not_loaded e q = cc
-  held_there true false f e q = cc
-  held_there false false f e q = cc
-
-  -- what is known to be missing is no uid
-  pub missing_there : (i b : Bool) (f : Found V) → cond b (told_if i f) (unloaded_if i) ≡ missing → (i ≡ false) × (b ≡ true → (e : Entity V) → f ≡ held e → ⊥)
-  missing_there i true (held d) q = cc
-  missing_there true true missing q = cc
-  missing_there false true missing q = (refl, λ k e r. cc)
-  missing_there true true not_loaded q = cc
-  missing_there false true not_loaded q = (refl, λ k e r. cc)
-  missing_there true false f q = cc
-  missing_there false false f q = (refl, λ k. cc)
-
-  -- and what isn't loaded is one
-  pub open_there : (i b : Bool) (f : Found V) → cond b (told_if i f) (unloaded_if i) ≡ not_loaded → i ≡ true
-  open_there true b f q = refl
-  open_there false true (held d) q = cc
-  open_there false true missing q = cc
-  open_there false true not_loaded q = cc
-  open_there false false f q = cc
-
-pub either_is : (a b : Bool) → (a || b) ≡ true → (a ≡ false → b ≡ true)
-either_is true b e f = cc
-either_is false b e f = e
-
-pub false_of : (b : Bool) → (b ≡ true → ⊥) → b ≡ false
-false_of true h = absurd (h refl)
-false_of false h = refl
 
 module _ (c : Course) (proper : IsProper c) (makes_fairly : MakeFairly c.functions) (s : State) (store : Uid → Found Made) (start : IsOpened (session_of c) s) (stands_on : IsKnownStore c s store) (w : World) (complete : CompletesNow (session_of c) s w) where
   abbrev x : Setup
@@ -117,31 +67,18 @@ module _ (c : Course) (proper : IsProper c) (makes_fairly : MakeFairly c.functio
   mine = bare_state x start.opened s start.bound
 
   -- the store
-  same_there : (u : Uid) → (declares_action x.schema u || list_any (uid_eq u) s.asked) ≡ true → w.store u ≡ whole_store x u
-  same_there u e = by_test (declares_action x.schema u) refl
-    where
-      by_test : (b : Bool) → declares_action x.schema u ≡ b → w.store u ≡ whole_store x u
-      by_test true q = (complete.request).actions u q ∙ sym (ap (λ b. cond b (held (as_entity x.schema u)) (if_uid u (found_as stores.whole (x.store u)))) q)
-      by_test false q = complete.asked u ((found-Decides uid_eq uid_eq-Decides u s.asked).0 (either_is _ _ e q))
-
-  abbrev loaded_at : Uid → Bool
-  loaded_at u = declares_action x.schema u || list_any (uid_eq u) s.asked
-
   found_now : (u : Uid) → FoundMeans (named w) u (store u) (w.store u)
-  found_now u = by_found_there (store u) refl
+  found_now u = ⊎_elim (λ q. there (store u) (stands_on.known u ∙ q)) (λ q. open_there (store u) (stands_on.known u ∙ q) (open_is_uid x s u q)) (known_there x s w complete u)
     where
-      by_found_there : (f : Found Made) → store u ≡ f → FoundMeans (named w) u f (w.store u)
-      by_found_there (held e) q =
-          let k = held_there u (is_uid u) (loaded_at u) (whole_store x u) (known_entity e) (sym (stands_on.known u) ∙ ap known_found q) in
-          let there = same_there u k.0 ∙ k.1 in
-          found_means w u (held e) (w.store u) (subst IsSettled there ((complete.request).whole.store u)) (λ z. cc) there
-      by_found_there missing q =
-          let k = missing_there u (is_uid u) (loaded_at u) (whole_store x u) (sym (stands_on.known u) ∙ ap known_found q) in
-          let none = false_of (declares_action x.schema u) (λ d. k.1 (ap (λ b. b || list_any (uid_eq u) s.asked) d) (as_entity x.schema u) (ap (λ b. cond b (held (as_entity x.schema u)) (if_uid u (found_as stores.whole (x.store u)))) d)) in
-          found_means w u missing (w.store u) tt (λ z. cc) ((complete.request).uids u none k.0)
-      by_found_there not_loaded q =
-          let k = open_there u (is_uid u) (loaded_at u) (whole_store x u) (sym (stands_on.known u) ∙ ap known_found q) in
-          found_means w u not_loaded (w.store u) tt (λ z. k) tt
+      there : (f : Found Made) → known_found f ≡ w.store u → FoundMeans (named w) u f (w.store u)
+      there (held e) q = found_means w u (held e) (w.store u) (subst IsSettled (sym q) ((complete.request).whole.store u)) (λ z. cc) (sym q)
+      there missing q = found_means w u missing (w.store u) tt (λ z. cc) (sym q)
+      there not_loaded q = absurd (subst IsSettled (sym q) ((complete.request).whole.store u))
+
+      open_there : (f : Found Made) → known_found f ≡ not_loaded → is_uid u ≡ true → FoundMeans (named w) u f (w.store u)
+      open_there (held e) q i = cc
+      open_there missing q i = cc
+      open_there not_loaded q i = found_means w u not_loaded (w.store u) tt (λ z. i) tt
 
   -- the context
   abbrev env : Text → Option Made

@@ -4,7 +4,7 @@ use Rattle.cedar_expr_model.specs.Uid.{Uid}
 use Rattle.cedar_expr_model.specs.Value.{V}
 use Rattle.cedar_expr_model.proofs.Lists.{all_each, contains_none}
 use Rattle.cedar_store_model.specs.Knowledge.{holds_values}
-use Rattle.cedar_store_model.specs.World.{Entity, Found, held, missing, not_loaded, by_found}
+use Rattle.cedar_store_model.specs.World.{Entity, Found, held, missing, not_loaded}
 use Rattle.cedar_store_model.specs.Store.{found_as, if_uid, whole}
 use Rattle.cedar_schema_model.specs.Schema.{declares_action}
 use Rattle.cedar_schema_model.specs.ActionEntities.{as_entity}
@@ -65,7 +65,7 @@ loaded_opened = record { opened = no_fault; bound = tt }
     no_fault name_of_variable h = contains_none h.0 h.1
 
 found_same : (d i : Bool) (e : Entity Made) (o : Found V)
-    → known_found (cond d (held e) (cond i not_loaded missing)) ≡ cond (d || false) (by_found held (cond i not_loaded missing) (cond i not_loaded missing) (cond d (held (known_entity e)) o)) (cond i not_loaded missing)
+    → known_found (cond d (held e) (cond i not_loaded missing)) ≡ cond (d || false) (cond d (held (known_entity e)) o) (cond i not_loaded missing)
 found_same true i e o = refl
 found_same false true e o = refl
 found_same false false e o = refl

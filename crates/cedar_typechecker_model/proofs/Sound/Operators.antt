@@ -1,7 +1,8 @@
--- Operators at values of their types give a value of theirs, or overflow.
+-- Operators at values of their types give a value of theirs, or err by an overflow or a zero divisor.
 use Rattle.std.proofs.Common.{◌≡◌, ◌&&◌, Bool, true, false, not, List, Option, Some, None, refl, sym, ap, ◌∙◌, subst}
-use Rattle.std.specs.Prelude.{if◌then◌else◌, ℤ, neg_ℤ, Contains}
+use Rattle.std.specs.Prelude.{if◌then◌else◌, ℤ, pos, neg_ℤ, int_rem, Contains}
 use Rattle.std.specs.List.{list_all, list_any}
+use Rattle.std.specs.Ordering.{int_eq}
 use Rattle.std.specs.declared.cmp.Ordering.{Ordering}
 use Rattle.cedar_expr_model.specs.Name.{Name, name_eq}
 use Rattle.cedar_expr_model.specs.Uid.{Uid, uid_eq}
@@ -13,8 +14,8 @@ use Rattle.cedar_expr_model.specs.Table.{is_ordered}
 use Rattle.cedar_expr_model.proofs.Equality.{name_eq-Decides, uid_eq-Decides}
 use Rattle.cedar_expr_model.proofs.Lists.{all_each, any_has}
 use Rattle.cedar_expr_model.proofs.ValueOrder.{values_decide}
-use Rattle.cedar_store_model.specs.Outcome.{Res, val, err, wrong_type, overflow}
-use Rattle.cedar_store_model.specs.Operators.{is_long, in_range, says, applied, ordered, calculated, among_members, of_sets, like_pattern, of_type}
+use Rattle.cedar_store_model.specs.Outcome.{Res, val, err, wrong_type, overflow, zero_divisor}
+use Rattle.cedar_store_model.specs.Operators.{is_long, in_range, says, applied, ordered, calculated, remains, among_members, of_sets, like_pattern, of_type}
 use Rattle.cedar_schema_model.specs.Types.{BoolType, any_bool, only_true, only_false, Ty, bool_type, long_type, string_type, any_entity, entity_types, any_set, set_type, extension_type, strict}
 use Rattle.cedar_schema_model.specs.HasType.{is_of_bool, HasType}
 use Rattle.cedar_schema_model.specs.Join.{join, are_disjoint}
@@ -37,10 +38,17 @@ there_good : {A : Type 0} (o : Option A) (b : Bool) (ty : Ty) → if_there o ≡
 there_good None b ty e = cc
 there_good (Some a) b ty e = says_good b ty e
 
-range_good : (n : ℤ) → IsGood long_type (in_range n)
+pub range_good : (n : ℤ) → IsGood long_type (in_range n)
 range_good n = by (is_long n)
   where
     by : (b : Bool) → IsGood long_type (if b then val (prim (long n)) else err overflow)
+    by true = tt
+    by false = tt
+
+pub remains_good : (m n : ℤ) → IsGood long_type (remains m n)
+remains_good m n = by (int_eq n (pos 0))
+  where
+    by : (b : Bool) → IsGood long_type (if b then err zero_divisor else val (prim (long (int_rem m n))))
     by true = tt
     by false = tt
 
@@ -85,12 +93,12 @@ order_good s test (extension_type m) (extension_type n) ty v v' e h k =
     by false c q = cc
 order_good s test t u ty v v' e h k = cc
 
-pub number_good : (f : ℤ → ℤ → ℤ) (t u ty : Ty) (v v' : V) → number_type t u ≡ Some ty → HasType v t → HasType v' u → IsGood ty (calculated f v v')
-number_good f long_type long_type ty v v' e h k =
+pub number_good : (f : ℤ → ℤ → Res V) → ((m n : ℤ) → IsGood long_type (f m n)) → (t u ty : Ty) (v v' : V) → number_type t u ≡ Some ty → HasType v t → HasType v' u → IsGood ty (calculated f v v')
+number_good f good long_type long_type ty v v' e h k =
     let m = long_value v h in
     let n = long_value v' k in
-    subst (λ z. IsGood ty (calculated f z v')) (sym m.1) (subst (λ z. IsGood ty (calculated f (prim (long m.0)) z)) (sym n.1) (given_good long_type ty (in_range (f m.0 n.0)) e (range_good (f m.0 n.0))))
-number_good f t u ty v v' e h k = cc
+    subst (λ z. IsGood ty (calculated f z v')) (sym m.1) (subst (λ z. IsGood ty (calculated f (prim (long m.0)) z)) (sym n.1) (given_good long_type ty (f m.0 n.0) e (good m.0 n.0)))
+number_good f good t u ty v v' e h k = cc
 
 member_of : (vs : Vs) (v v' : V) (ty : Ty) → v ≡ set_of vs → ((b : Bool) → IsGood ty (says b)) → IsGood ty (among_members v v')
 member_of vs v v' ty q f = subst (λ z. IsGood ty (among_members z v')) (sym q) (f _)

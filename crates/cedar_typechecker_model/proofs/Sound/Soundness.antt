@@ -9,11 +9,11 @@ use Rattle.cedar_expr_model.specs.Value.{V, prim, record_of, no_fields, field, t
 use Rattle.cedar_expr_model.specs.Canonical.{set_made, is_subset, is_disjoint}
 use Rattle.cedar_expr_model.specs.Parts.{subexpressions, subexpressions_among, subexpressions_in_fields}
 use Rattle.cedar_expr_model.specs.Table.{Table}
-use Rattle.cedar_expr_model.specs.Tree.{SlotId, BinaryOp, equal, less, less_or_equal, plus, difference, times, is_in, contains, contains_all, contains_any, get_tag, has_tag, Tree, lit, var, slot, unknown, choice, both, either, unary, binary, call, get_attr, has_attr, has_path, like, is_type, set_literal, record_literal, Trees, no_trees, tree, TreeFields, no_tree_fields, tree_field}
+use Rattle.cedar_expr_model.specs.Tree.{SlotId, BinaryOp, equal, less, less_or_equal, plus, difference, times, remainder, is_in, contains, contains_all, contains_any, get_tag, has_tag, Tree, lit, var, slot, unknown, choice, both, either, unary, binary, call, get_attr, has_attr, has_path, like, is_type, set_literal, record_literal, Trees, no_trees, tree, TreeFields, no_tree_fields, tree_field}
 use Rattle.cedar_expr_model.proofs.Lists.{contains_head, contains_tail}
 use Rattle.cedar_store_model.specs.Outcome.{val, bind}
 use Rattle.cedar_store_model.specs.World.{World}
-use Rattle.cedar_store_model.specs.Operators.{applied, ordered, like_pattern, of_type, called}
+use Rattle.cedar_store_model.specs.Operators.{in_range, remains, applied, ordered, like_pattern, of_type, called}
 use Rattle.cedar_store_model.specs.Reads.{attribute_read, attribute_tested}
 use Rattle.cedar_store_model.proofs.Named.{tag_read, tag_tested}
 use Rattle.cedar_store_model.specs.Meaning.{Means, variable, slot_value, combined, truth_asked, outcome_of, outcomes_of, field_outcomes_of, path_tested}
@@ -32,7 +32,7 @@ use Rattle.cedar_typechecker_model.specs.Verdicts.{strictly}
 use Rattle.cedar_typechecker_model.specs.Soundness.{Hold, ConformsAt, Suits}
 use Rattle.cedar_typechecker_model.proofs.Bare.{facts_are_of_bool}
 use Rattle.cedar_typechecker_model.proofs.Sound.Typed.{types_are_simple, each_typed_simple}
-use Rattle.cedar_typechecker_model.proofs.Sound.Operators.{unary_good, order_good, number_good, member_good, sets_good, like_good, is_good, equal_good}
+use Rattle.cedar_typechecker_model.proofs.Sound.Operators.{unary_good, order_good, range_good, remains_good, number_good, member_good, sets_good, like_good, is_good, equal_good}
 use Rattle.cedar_typechecker_model.proofs.Sound.Attributes.{Fine, fine_as, get_fine, has_fine}
 use Rattle.cedar_typechecker_model.proofs.Sound.Tags.{tag_fine, has_tag_fine}
 use Rattle.cedar_typechecker_model.proofs.Sound.Membership.{in_fine}
@@ -75,9 +75,10 @@ module _ (s : Schema) (x : Table) (e : Environment) (w : World) (suits : Suits s
   binary_fine equal a b t u ty v v' p q h k c r = equal_good (strictly s x e) a b t u ty v v' refl (writes_uid s x e w suits a v p) (writes_uid s x e w suits b v' q) h k r
   binary_fine less a b t u ty v v' p q h k c r = subst (λ z. Fine ty (Some (ordered z is_lt v v'))) (sym suits.table) (order_good (strictly s x e) is_lt t u ty v v' r h k)
   binary_fine less_or_equal a b t u ty v v' p q h k c r = subst (λ z. Fine ty (Some (ordered z is_le v v'))) (sym suits.table) (order_good (strictly s x e) is_le t u ty v v' r h k)
-  binary_fine plus a b t u ty v v' p q h k c r = number_good (λ m n. m +ℤ n) t u ty v v' r h k
-  binary_fine difference a b t u ty v v' p q h k c r = number_good (λ m n. m -ℤ n) t u ty v v' r h k
-  binary_fine times a b t u ty v v' p q h k c r = number_good (λ m n. m *ℤ n) t u ty v v' r h k
+  binary_fine plus a b t u ty v v' p q h k c r = number_good (λ m n. in_range (m +ℤ n)) (λ m n. range_good (m +ℤ n)) t u ty v v' r h k
+  binary_fine difference a b t u ty v v' p q h k c r = number_good (λ m n. in_range (m -ℤ n)) (λ m n. range_good (m -ℤ n)) t u ty v v' r h k
+  binary_fine times a b t u ty v v' p q h k c r = number_good (λ m n. in_range (m *ℤ n)) (λ m n. range_good (m *ℤ n)) t u ty v v' r h k
+  binary_fine remainder a b t u ty v v' p q h k c r = number_good remains remains_good t u ty v v' r h k
   binary_fine is_in a b t u ty v v' p q h k c r =
       in_fine s w suits.actions (strictly s x e) refl a b t u ty v v' (writes_action s x e w suits a v p) (writes_actions s x e w suits b v' q) h k r c
   binary_fine contains a b t u ty v v' p q h k c r = member_good (strictly s x e) t u ty v v' r h

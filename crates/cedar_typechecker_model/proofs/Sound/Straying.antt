@@ -4,7 +4,7 @@ use Rattle.std.specs.Prelude.{option_map, option_and_then, if◌then◌else◌}
 use Rattle.cedar_expr_model.specs.Name.{Name, Text, name_eq}
 use Rattle.cedar_expr_model.specs.Uid.{Uid}
 use Rattle.cedar_expr_model.specs.Table.{Signature, is_ordered, takes_count}
-use Rattle.cedar_expr_model.specs.Tree.{CoreType, bool_core, long_core, string_core, extension_core, UnaryOp, negation, minus, is_empty, BinaryOp, equal, less, less_or_equal, plus, difference, times, is_in, contains, contains_all, contains_any, get_tag, has_tag, Tree, Trees}
+use Rattle.cedar_expr_model.specs.Tree.{CoreType, bool_core, long_core, string_core, extension_core, UnaryOp, negation, minus, is_empty, BinaryOp, equal, less, less_or_equal, plus, difference, times, remainder, is_in, contains, contains_all, contains_any, get_tag, has_tag, Tree, Trees}
 use Rattle.cedar_schema_model.specs.Types.{BoolType, any_bool, only_true, only_false, Ty, bool_type, long_type, string_type, any_entity, entity_types, any_set, set_type, extension_type, strict}
 use Rattle.cedar_schema_model.specs.Join.{join, are_disjoint, reduce_to_join}
 use Rattle.cedar_typechecker_model.specs.Facts.{Facts, Part, attribute_part, tag_part}
@@ -140,6 +140,7 @@ binary_strays s less_or_equal a b t u e = order_strays s t u
 binary_strays s plus a b t u e = number_strays t u
 binary_strays s difference a b t u e = number_strays t u
 binary_strays s times a b t u e = number_strays t u
+binary_strays s remainder a b t u e = number_strays t u
 binary_strays s is_in a b t u e = in_strays s a b (entity_kinds t) (entity_or_set_kinds u)
 binary_strays s contains a b t u e = member_strays s t u
 binary_strays s contains_all a b t u e = strays_if (is_set_type t && is_set_type u) _ None (strays_there (join s.mode t u)) strays_none

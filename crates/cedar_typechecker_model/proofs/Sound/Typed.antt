@@ -4,7 +4,7 @@ use Rattle.std.specs.Prelude.{option_map, option_and_then, if◌then◌else◌, 
 use Rattle.cedar_expr_model.specs.Name.{Text, Name, name_eq}
 use Rattle.cedar_expr_model.specs.Uid.{Uid}
 use Rattle.cedar_expr_model.specs.Value.{Literal, truth, long, text, entity}
-use Rattle.cedar_expr_model.specs.Tree.{Var, principal, action, resource, context, SlotId, principal_slot, resource_slot, CoreType, bool_core, long_core, string_core, extension_core, UnaryOp, negation, minus, is_empty, BinaryOp, equal, less, less_or_equal, plus, difference, times, is_in, contains, contains_all, contains_any, get_tag, has_tag, Tree, lit, var, slot, unknown, choice, both, either, unary, binary, call, get_attr, has_attr, has_path, like, is_type, set_literal, record_literal, Trees, no_trees, tree, TreeFields, no_tree_fields, tree_field}
+use Rattle.cedar_expr_model.specs.Tree.{Var, principal, action, resource, context, SlotId, principal_slot, resource_slot, CoreType, bool_core, long_core, string_core, extension_core, UnaryOp, negation, minus, is_empty, BinaryOp, equal, less, less_or_equal, plus, difference, times, remainder, is_in, contains, contains_all, contains_any, get_tag, has_tag, Tree, lit, var, slot, unknown, choice, both, either, unary, binary, call, get_attr, has_attr, has_path, like, is_type, set_literal, record_literal, Trees, no_trees, tree, TreeFields, no_tree_fields, tree_field}
 use Rattle.cedar_expr_model.specs.Table.{Table, Signature, signature_of, is_ordered, takes_count}
 use Rattle.cedar_expr_model.proofs.Lists.{both_hold, hold_both, contains_none, contains_cases}
 use Rattle.cedar_schema_model.specs.Types.{BoolType, any_bool, only_true, only_false, Ty, bool_type, long_type, string_type, any_entity, entity_types, any_set, set_type, record_type, extension_type, Attributes, no_attributes, attribute, Declared, attribute_named, is_closed, strict, permissive}
@@ -116,6 +116,7 @@ simple_binary s less_or_equal a b t u e = simple_order s t u
 simple_binary s plus a b t u e = simple_number t u
 simple_binary s difference a b t u e = simple_number t u
 simple_binary s times a b t u e = simple_number t u
+simple_binary s remainder a b t u e = simple_number t u
 simple_binary s is_in a b t u e = simple_in s a b (entity_kinds t) (entity_or_set_kinds u)
 simple_binary s contains a b t u e = simple_member s t u
 simple_binary s contains_all a b t u e = simple_sets s t u

@@ -8,6 +8,7 @@ use Rattle.serde_json.specs.declared.value.Value.{size-Value}
 use Rattle.serde_json.specs.View.{members_view}
 use Rattle.cedar_gate_model.specs.ReadingExpression.{fields_in}
 use Rattle.std.specs.Cmp.Lexicographic.{slice_cmp}
+use Rattle.cedar_gate_expressions.specs.Forms.{version_of}
 use Rattle.cedar_gate_expressions.proofs.Sorted.{insert_last, same_names_more}
 use Rattle.cedar_gate_expressions.proofs.Fields.{next_field, start, still_within, within_all}
 use Rattle.cedar_gate_expressions.proofs.Arguments.{next_at}
@@ -28,7 +29,7 @@ read_fields-loop-key-preserved t c =
       done ++ e ∷ [],
       all ∙ sym (append_assoc done (e ∷ []) left),
       rw put (same_names_more rc_str_bytes l.fields.entries k c.in_ok-field.field done e l.invariant.2 h),
-      rw put (next_field l.fields.entries k c.in_ok-field.field e left l.left.left steps h c.in_ok-field.ensures.ok) ∙ l.invariant.3,
+      rw put (next_field (version_of c.args.version) l.fields.entries k c.in_ok-field.field e left l.left.left steps h c.in_ok-field.ensures.ok) ∙ l.invariant.3,
       still_within (λ (x : Entry). size-Value x.1) e left l.left.left c.args.members.now.entries steps l.invariant.4,
     )
 
@@ -39,10 +40,10 @@ read_fields-loop-key-init t c =
       [],
       sym h,
       search rules,
-      start c.new-fields.result.entries (fields_in (members_view c.members_of-left.result.left)) n ∙ ap (λ es. fields_in (members_view es)) h,
+      start c.new-fields.result.entries (fields_in (version_of c.args.version) (members_view c.members_of-left.result.left)) n ∙ ap (λ es. fields_in (version_of c.args.version) (members_view es)) h,
       within_all (λ (x : Entry). size-Value x.1) c.members_of-left.result.left c.args.members.now.entries h,
     )
 
 pub read_each_expression-loop-i-preserved : goal.read_each_expression-loop-i-preserved
 read_each_expression-loop-i-preserved t c =
-    rw c.in_ok-push.ensures.items (next_at c.loop-i.list.items c.in_ok-e.e c.index-items-i.result c.args.items.now c.loop-i.i (omega arith) c.index-items-i.is c.in_ok-e.ensures.ok ∙ c.loop-i.invariant)
+    rw c.in_ok-push.ensures.items (next_at (version_of c.args.version) c.loop-i.list.items c.in_ok-e.e c.index-items-i.result c.args.items.now c.loop-i.i (omega arith) c.index-items-i.is c.in_ok-e.ensures.ok ∙ c.loop-i.invariant)

@@ -18,6 +18,14 @@ pub returns-clause-body : goal.returns-clause-body
 unfolding serde_json_on_literals
 returns-clause-body c = refl
 
+pub returns-clause-rem_body : goal.returns-clause-rem_body
+unfolding serde_json_on_literals
+returns-clause-rem_body c = refl
+
+pub returns-clause-no_rem_body : goal.returns-clause-no_rem_body
+unfolding serde_json_on_literals
+returns-clause-no_rem_body c = refl
+
 pub returns-clause-written_body : goal.returns-clause-written_body
 unfolding serde_json_on_literals
 returns-clause-written_body c = refl

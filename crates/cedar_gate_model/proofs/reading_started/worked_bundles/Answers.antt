@@ -26,9 +26,33 @@ pub returns-clause-no_limits : goal.returns-clause-no_limits
 unfolding serde_json_on_literals
 returns-clause-no_limits c = refl
 
+pub returns-clause-first_version : goal.returns-clause-first_version
+unfolding serde_json_on_literals
+returns-clause-first_version c = refl
+
+pub returns-clause-second_version : goal.returns-clause-second_version
+unfolding serde_json_on_literals
+returns-clause-second_version c = refl
+
 pub returns-clause-no_versions : goal.returns-clause-no_versions
 unfolding serde_json_on_literals
 returns-clause-no_versions c = refl
+
+pub returns-clause-another_version : goal.returns-clause-another_version
+unfolding serde_json_on_literals
+returns-clause-another_version c = refl
+
+pub returns-clause-no_other_versions : goal.returns-clause-no_other_versions
+unfolding serde_json_on_literals
+returns-clause-no_other_versions c = refl
+
+pub returns-clause-rem_in_second : goal.returns-clause-rem_in_second
+unfolding serde_json_on_literals
+returns-clause-rem_in_second c = refl
+
+pub returns-clause-no_rem_in_first : goal.returns-clause-no_rem_in_first
+unfolding serde_json_on_literals
+returns-clause-no_rem_in_first c = refl
 
 pub returns-clause-levels : goal.returns-clause-levels
 unfolding serde_json_on_literals

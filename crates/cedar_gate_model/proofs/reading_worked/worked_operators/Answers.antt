@@ -58,6 +58,26 @@ pub returns-clause-mul : goal.returns-clause-mul
 unfolding serde_json_on_literals
 returns-clause-mul c = refl
 
+pub returns-clause-rem : goal.returns-clause-rem
+unfolding serde_json_on_literals
+returns-clause-rem c = refl
+
+pub returns-clause-rem_in_others : goal.returns-clause-rem_in_others
+unfolding serde_json_on_literals
+returns-clause-rem_in_others c = refl
+
+pub returns-clause-no_rem : goal.returns-clause-no_rem
+unfolding serde_json_on_literals
+returns-clause-no_rem c = refl
+
+pub returns-clause-no_rem_either : goal.returns-clause-no_rem_either
+unfolding serde_json_on_literals
+returns-clause-no_rem_either c = refl
+
+pub returns-clause-others_in_second : goal.returns-clause-others_in_second
+unfolding serde_json_on_literals
+returns-clause-others_in_second c = refl
+
 pub returns-clause-is_in : goal.returns-clause-is_in
 unfolding serde_json_on_literals
 returns-clause-is_in c = refl

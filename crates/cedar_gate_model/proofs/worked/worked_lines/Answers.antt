@@ -19,6 +19,10 @@ pub returns-clause-overflowed : goal.returns-clause-overflowed
 unfolding chars digits
 returns-clause-overflowed c = refl
 
+pub returns-clause-no_divisor : goal.returns-clause-no_divisor
+unfolding chars digits
+returns-clause-no_divisor c = refl
+
 pub returns-clause-failed : goal.returns-clause-failed
 unfolding chars digits
 returns-clause-failed c = refl

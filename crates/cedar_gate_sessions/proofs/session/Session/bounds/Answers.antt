@@ -1,7 +1,6 @@
 use Rattle.std.proofs.Common.{◌≡◌, option_map, sym, subst, ◌∙◌}
 use Rattle.cedar_expr_model.specs.ListLaws.{AreDistinct}
 use Rattle.cedar_store_model.specs.Answer.{ids}
-use Rattle.cedar_store_model.specs.Store.{partial}
 use Rattle.cedar_evaluator_model.specs.Members.{bounds_in_session}
 use Rattle.cedar_evaluator_model.specs.Response.{response_of}
 use Rattle.cedar_gate_sessions.specs.Bounds.{bounds_of}
@@ -9,7 +8,7 @@ use Rattle.cedar_gate_model.specs.RunsAnswer.{session_of, IsProper, MakeFairly}
 use Rattle.cedar_gate_model.specs.Early.{KeepsBounds}
 use Rattle.cedar_gate_model.specs.Session.{scope_now}
 use Rattle.cedar_gate_model.proofs.Gate.Accepting.{accepted_good}
-use Rattle.cedar_gate_sessions.specs.Sessions.{IsAt, policies_in, store_in}
+use Rattle.cedar_gate_sessions.specs.Sessions.{IsAt, policies_in, store_in, was_asked}
 use Rattle.cedar_gate_sessions.proofs.Answered.{ok_each, bounds_in_part, distinct_of, ok_in_course}
 use Rattle.cedar_gate_sessions.proofs.Knowing.{known_store, made_alike}
 use Rattle.cedar_gate_sessions.proofs.Stores.{steady}
@@ -33,5 +32,5 @@ returns-clause-kept g c =
     (λ r s b at is proper fair e.
     let x = session_of r in
     c.bounds_are_kept.ensures.kept r s (option_map bounds_of b) proper fair at.opened
-    (bounds_in_part r s (store_in d) (steady x.schema (store_in d)) (λ u. made_alike x s d.loaded.items at.loaded u c.uids_are_uids.ensures partial) (policies_in d) is
+    (bounds_in_part r s (store_in d) (steady x.schema (store_in d)) (λ u. made_alike x s d.loaded.items at.loaded u c.uids_are_uids.ensures (was_asked d)) (policies_in d) is
     (known_store g.S.DeclaredActions.schema g.T.FunctionCalls.functions r s d at) (option_map bounds_of b) e))

@@ -1,11 +1,8 @@
-use Rattle.std.proofs.Common.{◌≡◌, option_map, ◌∙◌}
-use Rattle.cedar_store_model.specs.Store.{partial}
-use Rattle.cedar_evaluator_model.specs.Members.{decision_in_session}
-use Rattle.cedar_evaluator_model.specs.Response.{response_of}
+use Rattle.std.proofs.Common.{option_map, ◌∙◌}
 use Rattle.cedar_evaluator_requests.specs.Views.{decision_of}
 use Rattle.cedar_gate_model.specs.RunsAnswer.{session_of}
 use Rattle.cedar_gate_model.specs.Session.{scope_now}
-use Rattle.cedar_gate_sessions.specs.Sessions.{policies_in, store_in}
+use Rattle.cedar_gate_sessions.specs.Sessions.{policies_in, store_in, was_asked}
 use Rattle.cedar_gate_sessions.proofs.Answered.{decision_in_part}
 use Rattle.cedar_gate_sessions.proofs.Knowing.{known_store, made_alike}
 use Rattle.cedar_gate_sessions.proofs.Stores.{steady}
@@ -18,7 +15,7 @@ pub returns-clause-in_part : goal.returns-clause-in_part
 returns-clause-in_part g c = λ r s at is.
     let d = c.args.self.now in
     let x = session_of r in
-    decision_in_part r s (store_in d) (steady x.schema (store_in d)) (λ u. made_alike x s d.loaded.items at.loaded u c.uids_are_uids.ensures partial) (policies_in d) is
+    decision_in_part r s (store_in d) (steady x.schema (store_in d)) (λ u. made_alike x s d.loaded.items at.loaded u c.uids_are_uids.ensures (was_asked d)) (policies_in d) is
     (known_store g.S.DeclaredActions.schema g.T.FunctionCalls.functions r s d at) (option_map decision_of c.decided.result)
     (c.decided.ensures (scope_now x s (store_in d)) x.limit (c.as_slice.ensures.value ∙ c.in_ok-verdicts.ensures x s at))
 

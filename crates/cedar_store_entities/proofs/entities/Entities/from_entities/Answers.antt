@@ -2,6 +2,7 @@ use Rattle.std.proofs.Common.{◌++◌, ◌∷◌, [], map, ap, sym, ◌∙◌, 
 use Rattle.std.proofs.lemmas.List.{map-append}
 use Rattle.std.specs.Vec.Iter.{into_iter_items}
 use Rattle.cedar_store_entities.specs.Views.{entity_uid, entity_pair, kept_pair}
+use Rattle.cedar_store_entities.specs.StoreParts.{keys_in}
 use Rattle.cedar_store_entities.specs.Stores.{extent_of}
 use Rattle.cedar_store_entities.specs.Refusals.{RefusesUids}
 use Rattle.cedar_store_entities.proofs.Gathered.{handed, refused_all}
@@ -16,6 +17,7 @@ loop-entity-preserved c =
       made = c.in_ok-add.ensures.added ∙ ap (λ es. es ++ entity_pair c.in-Some.entity ∷ []) seen.made ∙ sym (map-append entity_pair xs (c.in-Some.entity ∷ []));
       kept = c.in_ok-add.ensures.kept ∙ ap (λ es. es ++ kept_pair c.in-Some.entity ∷ []) seen.kept ∙ sym (map-append kept_pair xs (c.in-Some.entity ∷ []));
       extent = ap extent_of c.in_ok-add.ensures.mode ∙ seen.extent;
+      none = ap (λ m. keys_in m.entries) c.in_ok-add.ensures.absent ∙ seen.none;
     }
 
 pub returns-in_err-add-clause-refused : goal.returns-in_err-add-clause-refused
