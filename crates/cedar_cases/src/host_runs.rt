@@ -3,35 +3,13 @@
 ghost use Rattle.std.specs.Prelude.{◌<◌};
 
 use crate::hosts::{FailingHost, ForgetfulHost};
-use crate::opened::{NoFunctions, handed, request, store_host};
-use cedar_evaluator_restricted_exprs::FunctionCalls;
+use crate::opened::{handed, request, store_host};
 use cedar_expr_functions::Extensions;
-use cedar_gate_accepted::Gate;
+use cedar_gate::{Gate, Host, RunFault, Step, StoreHost, Transcript, run};
 use cedar_gate_bundles::Submission;
 use cedar_gate_runs::lines::push_entries;
-use cedar_gate_runs::{Host, RunFault, Step, StoreHost, Transcript, run};
-use cedar_gate_service::GateSchema;
-use cedar_gate_sessions::{Basis, CourseSession, Schema};
 use cedar_test_exprs::{both, made, say, show};
 use std::alloc::{AllocError, Global};
-
-// What a run over the host comes to: its entries, and the decision or why it stopped.
-fn told<S: Schema, T: FunctionCalls, H: Host>(
-    alloc: Global,
-    basis: Basis<'_, '_, S, T>,
-    host: &mut H,
-) -> Result<String, AllocError>
-    requires { H.faults host.old < u64.MAX }
-{
-    let (steps, request) = both(steps(alloc), request(alloc, "User::a"))?;
-    match CourseSession::open(alloc, basis, request) {
-        Ok(session) => told_run(alloc, run(alloc, session, steps, host)),
-        Err(_) => {
-            drop(steps);
-            Err(AllocError)
-        }
-    }
-}
 
 // One step: the early decision is asked for.
 fn steps(alloc: Global) -> Result<Vec<Step>, AllocError> {
@@ -109,28 +87,26 @@ fn told_lists(alloc: Global, host: &StoreHost) -> Result<String, AllocError> {
 fn over_bundle<H: Host + Drop>(alloc: Global, host: &mut H) -> Result<String, AllocError>
     requires { H.faults host.old < u64.MAX }
 {
-    let (submission, limit) = handed(alloc)?;
     let Submission {
         fragments,
         policies,
         level,
-        limit: _,
-    } = submission;
+        limit,
+    } = handed(alloc)?;
     let table = Extensions::none(alloc);
     let gate = Gate::accept(alloc, fragments.as_slice(), policies, &table, level, limit);
     let gate = made(gate)?;
-    let schema = GateSchema { gate: &gate };
-    let basis = Basis {
-        schema: &schema,
-        policies: gate.policies(),
-        functions: &NoFunctions,
-        table: gate.table(),
-        level: gate.level(),
-        limit: gate.limit().levels(),
-    };
-    let said = told(alloc, basis, host);
+    let said = told(alloc, &gate, host);
     drop(gate);
     said
+}
+
+// What a run over the host comes to: its entries, and the decision or why it stopped.
+fn told<H: Host>(alloc: Global, gate: &Gate<'_, '_, '_>, host: &mut H) -> Result<String, AllocError>
+    requires { H.faults host.old < u64.MAX }
+{
+    let (steps, request) = both(steps(alloc), request(alloc, "User::a"))?;
+    told_run(alloc, run(alloc, gate, request, steps, host))
 }
 
 // What is told of a run, and behind it the lists of uids that were asked for.
@@ -141,7 +117,7 @@ fn with_lists(told: Result<(String, String), AllocError>) -> Result<String, Allo
     Ok(said)
 }
 
-/// What a run over the store of the bundle comes to, and the lists of uids that were asked for. Fails for want of memory.
+/// What a run over the store of the bundle comes to, and the lists of uids that were asked for. Fails out of memory.
 pub fn over_store(alloc: Global) -> Result<String, AllocError> {
     let mut host = store_host(alloc)?;
     let told = both(over_bundle(alloc, &mut host), told_lists(alloc, &host));

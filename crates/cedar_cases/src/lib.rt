@@ -14,4 +14,6 @@ mod rows;
 #[cfg(test)]
 mod runs;
 #[cfg(test)]
+mod service;
+#[cfg(test)]
 mod session_rows;

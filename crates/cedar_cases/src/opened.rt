@@ -1,11 +1,9 @@
 //! The bundle that the tests stand on, and what they need of it.
 
 use cedar_evaluator_requests::{Context, EntityUIDEntry, Request};
-use cedar_evaluator_restricted_exprs::{FunctionCalls, Left, RestrictedFault, V};
-use cedar_expr_names::Name;
+use cedar_expr_functions::Extensions;
+use cedar_gate::StoreHost;
 use cedar_gate_bundles::{Bundle, Submission, read_input};
-use cedar_gate_rules::NestLimit;
-use cedar_gate_runs::StoreHost;
 use cedar_test_exprs::{both, kept, made, uid};
 use std::alloc::{AllocError, Global};
 
@@ -25,11 +23,14 @@ const BUNDLE: &str = r#"{"version": 1, "level": 2, "limit": 16,
 
 // The bundle, read.
 pub(crate) fn bundle(alloc: Global) -> Result<Bundle, AllocError> {
-    made(read_input(alloc, &NoFunctions, BUNDLE.as_bytes()))
+    let table = Extensions::none(alloc);
+    let bundle = made(read_input(alloc, &table, BUNDLE.as_bytes()));
+    drop(table);
+    bundle
 }
 
-// What the bundle hands to the gate, and its limit.
-pub(crate) fn handed(alloc: Global) -> Result<(Submission, NestLimit), AllocError> {
+// What the bundle hands to the gate.
+pub(crate) fn handed(alloc: Global) -> Result<Submission, AllocError> {
     let Bundle {
         submission,
         request,
@@ -38,13 +39,7 @@ pub(crate) fn handed(alloc: Global) -> Result<(Submission, NestLimit), AllocErro
     } = bundle(alloc)?;
     drop(request);
     drop(store);
-    match NestLimit::new(submission.limit) {
-        Some(limit) => Ok((submission, limit)),
-        None => {
-            drop(submission);
-            Err(AllocError)
-        }
-    }
+    Ok(submission)
 }
 
 // A host over the store of the bundle.
@@ -58,19 +53,6 @@ pub(crate) fn store_host(alloc: Global) -> Result<StoreHost, AllocError> {
     drop(submission);
     drop(request);
     Ok(StoreHost::new(alloc, store))
-}
-
-// No functions.
-pub(crate) struct NoFunctions;
-
-impl FunctionCalls for NoFunctions {
-    ghost use Rattle.cedar_gate_model.specs.WorkedGate.{no_functions};
-
-    ghost functions = { λ _. no_functions };
-
-    fn call(&self, _alloc: Global, _name: &Name, _args: &[V]) -> Result<Left, RestrictedFault> {
-        Err(RestrictedFault::Stopped)
-    }
 }
 
 // A part of a request: this uid, or, of an empty text, an unknown one.

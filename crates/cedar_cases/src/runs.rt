@@ -1,6 +1,7 @@
 //! What runs over several hosts come to, and which lists of uids they asked for.
 
 use crate::host_runs::{over_failing, over_forgetful, over_store};
+use crate::service::told;
 use std::test::Fail;
 
 #[test]
@@ -26,5 +27,12 @@ fn what_a_forgetful_host_answers_is_refused(rt: HostRuntime) -> Result<(), Fail>
     let wanted =
         "decision None\n what is supplied is refused, by refusal 2 lists: round Doc::\"d\" User::\"a\"";
     assert_eq!(rt; over_forgetful(rt.alloc())?.as_str(), wanted);
+    Ok(())
+}
+
+#[test]
+fn a_service_loads_by_hand_and_by_run(rt: HostRuntime) -> Result<(), Fail> {
+    let wanted = "Film::\"m\" User::\"ann\" Allow Allow";
+    assert_eq!(rt; told(rt.alloc())?.as_str(), wanted);
     Ok(())
 }

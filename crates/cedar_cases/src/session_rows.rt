@@ -1,17 +1,13 @@
 //! What calls of a session say, row by row.
 
-use crate::opened::{NoFunctions, handed, request, store_host};
+use crate::opened::{handed, request, store_host};
 use cedar_evaluator_requests::{Decision, Response};
-use cedar_evaluator_restricted_exprs::FunctionCalls;
 use cedar_expr_functions::Extensions;
 use cedar_expr_leaves::Literal;
 use cedar_expr_names::EntityUID;
 use cedar_expr_values::{ExtValue, Value};
-use cedar_gate_accepted::Gate;
+use cedar_gate::{Bounds, Gate, GateCalls, Host, SessionAt, StoreHost};
 use cedar_gate_bundles::Submission;
-use cedar_gate_runs::{Host, StoreHost};
-use cedar_gate_service::GateSchema;
-use cedar_gate_sessions::{Basis, Bounds, Schema, Session};
 use cedar_store_entities::Entity;
 use cedar_store_parts::PolicyID;
 use cedar_test_exprs::{both, made, say, shared, show, uid, word};
@@ -63,8 +59,6 @@ supply User::a : done
 decision : Deny
 answer : Deny p2
 "#;
-
-type Opened<'g, 'e, S, T> = Session<'g, 'e, S, T>;
 
 // The uids, or that there are none.
 fn say_uids(alloc: Global, said: &mut String, uids: &[EntityUID]) -> Result<(), AllocError> {
@@ -127,9 +121,9 @@ fn given(
 }
 
 // Supplies what is given for these uids.
-fn supply<S: Schema, T: FunctionCalls>(
+fn supply<G: GateCalls>(
     alloc: Global,
-    session: &mut Opened<'_, '_, S, T>,
+    session: &mut SessionAt<'_, G>,
     host: &mut StoreHost,
     rest: &str,
     said: &mut String,
@@ -154,9 +148,9 @@ fn literal(alloc: Global, text: &str) -> Result<Literal, AllocError> {
 }
 
 // Binds a name to a uid, or to a whole number.
-fn bind<S: Schema, T: FunctionCalls>(
+fn bind<G: GateCalls>(
     alloc: Global,
-    session: &mut Opened<'_, '_, S, T>,
+    session: &mut SessionAt<'_, G>,
     rest: &str,
     said: &mut String,
 ) -> Result<(), AllocError> {
@@ -171,9 +165,9 @@ fn bind<S: Schema, T: FunctionCalls>(
 }
 
 // What is said of the answer: the decision, the reasons, and how many errors there are.
-fn say_answer<S: Schema, T: FunctionCalls>(
+fn say_answer<G: GateCalls>(
     alloc: Global,
-    session: &Opened<'_, '_, S, T>,
+    session: &SessionAt<'_, G>,
     said: &mut String,
 ) -> Result<(), AllocError> {
     match session.answer(alloc) {
@@ -197,9 +191,9 @@ fn say_response(alloc: Global, said: &mut String, response: &Response) -> Result
 }
 
 // What is said of the bounds.
-fn say_bounds<S: Schema, T: FunctionCalls>(
+fn say_bounds<G: GateCalls>(
     alloc: Global,
-    session: &Opened<'_, '_, S, T>,
+    session: &SessionAt<'_, G>,
     said: &mut String,
 ) -> Result<(), AllocError> {
     match session.bounds(alloc)? {
@@ -216,9 +210,9 @@ fn say_both(said: &mut String, bounds: &Bounds) -> Result<(), AllocError> {
 }
 
 // Does one command, and says what it comes to.
-fn answer<S: Schema, T: FunctionCalls>(
+fn answer<G: GateCalls>(
     alloc: Global,
-    session: &mut Opened<'_, '_, S, T>,
+    session: &mut SessionAt<'_, G>,
     host: &mut StoreHost,
     command: &str,
     said: &mut String,
@@ -236,9 +230,9 @@ fn answer<S: Schema, T: FunctionCalls>(
 }
 
 // The first row that says something else, with what it says; nothing where all hold.
-fn first_wrong<S: Schema, T: FunctionCalls>(
+fn first_wrong<G: GateCalls>(
     alloc: Global,
-    session: &mut Opened<'_, '_, S, T>,
+    session: &mut SessionAt<'_, G>,
     host: &mut StoreHost,
     rows: &str,
 ) -> Result<String, AllocError> {
@@ -253,16 +247,6 @@ fn first_wrong<S: Schema, T: FunctionCalls>(
     Ok(String::new(alloc))
 }
 
-// A session of this principal's request.
-fn opened<'g, 'e, S: Schema, T: FunctionCalls>(
-    alloc: Global,
-    basis: Basis<'g, 'e, S, T>,
-    principal: &str,
-) -> Result<Opened<'g, 'e, S, T>, AllocError> {
-    let request = request(alloc, principal)?;
-    made(Session::open(alloc, basis, request))
-}
-
 // Opens a session of this principal's request on the bundle, and goes over the rows.
 fn goes_wrong(
     alloc: Global,
@@ -270,38 +254,28 @@ fn goes_wrong(
     principal: &str,
     rows: &str,
 ) -> Result<String, AllocError> {
-    let (submission, limit) = handed(alloc)?;
     let Submission {
         fragments,
         policies,
         level,
-        limit: _,
-    } = submission;
+        limit,
+    } = handed(alloc)?;
     let table = Extensions::none(alloc);
     let gate = Gate::accept(alloc, fragments.as_slice(), policies, &table, level, limit);
     let gate = made(gate)?;
-    let schema = GateSchema { gate: &gate };
-    let basis = Basis {
-        schema: &schema,
-        policies: gate.policies(),
-        functions: &NoFunctions,
-        table: gate.table(),
-        level: gate.level(),
-        limit: gate.limit().levels(),
-    };
-    let wrong = match opened(alloc, basis, principal) {
+    let wrong = match SessionAt::open(alloc, &gate, request(alloc, principal)?) {
         Ok(mut session) => {
             let wrong = first_wrong(alloc, &mut session, host, rows);
             drop(session);
             wrong
         }
-        Err(fault) => Err(fault),
+        Err(_) => Err(AllocError),
     };
     drop(gate);
     wrong
 }
 
-/// The first row that says something else, with what it says; nothing where all hold. Fails for want of memory.
+/// The first row that says something else, with what it says; nothing where all hold. Fails out of memory.
 pub fn wrong_row(alloc: Global) -> Result<String, AllocError> {
     for (principal, rows) in [("User::a", KNOWN), ("User::a", ABSENT), ("", OPEN)] {
         let mut host = store_host(alloc)?;

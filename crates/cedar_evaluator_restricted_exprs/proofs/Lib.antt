@@ -7,3 +7,4 @@ pub mod Gathered
 pub mod Levels
 pub mod Named
 pub mod RestrictedWalk
+pub mod OfRecord

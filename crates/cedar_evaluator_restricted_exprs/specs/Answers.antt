@@ -14,7 +14,7 @@ use Rattle.cedar_expr_values.specs.declared.extension.ExtValue.{ExtValue}
 use Rattle.cedar_expr_trees.specs.Unknowns.{unknown_of}
 use Rattle.cedar_expr_functions.specs.Signatures.{takes, bare_values}
 use Rattle.cedar_expr_functions.specs.Functions.{function_name, function_signature, MayAnswer}
-use Rattle.cedar_expr_functions.specs.Tables.{stored_in}
+use Rattle.cedar_expr_functions.specs.Tables.{stored_in, table_of}
 use Rattle.cedar_expr_functions.specs.declared.extension.ExtensionFunction.{ExtensionFunction}
 use Rattle.cedar_expr_functions.specs.declared.extension.ExtensionOutputValue.{ExtensionOutputValue}
 use Rattle.cedar_expr_functions.specs.declared.extension.ExtensionOutputValue.TheVariants.{Known, Unknown}
@@ -22,6 +22,7 @@ use Rattle.cedar_expr_functions.specs.declared.err.CallFault.{CallFault}
 use Rattle.cedar_expr_functions.specs.declared.err.CallFault.TheVariants.{OutOfMemory, WrongNumArguments, ArgumentType, Fault}
 use Rattle.cedar_expr_functions.specs.declared.extensions.Extensions.{Extensions}
 use Rattle.cedar_evaluator_model.specs.Scope.{MadeCalled, makes, faults, leaves_unknown}
+use Rattle.cedar_gate_model.specs.Bundle.{Functions}
 use Rattle.cedar_evaluator_restricted_exprs.specs.Alike.{answers_alike}
 
 -- The answer of a call, its value with the call that makes it. Want of memory is none, nor is a refusal of the arguments.
@@ -44,3 +45,8 @@ pub record IsMadeBy {B : _} {F : _} {g : _} (f : ExtensionFunction B F g) (answe
 -- Each function of the table does.
 pub record AnswersMade {B : _} {F : _} {g : _} (t : Extensions B F g) (calls : Name → List Made → MadeCalled) : Type 0 where
   pub each : (f : ExtensionFunction B F g) → Contains (stored_in t) f → IsMadeBy f (calls (function_name f))
+
+-- These functions of the model are those of the table: the table has them, and its functions answer as they do.
+pub record AgreesWith {B : _} {F : _} {g : _} (t : Extensions B F g) (x : Functions) : Type 0 where
+  pub table : x.table ≡ table_of t x.table.answers
+  pub answered : AnswersMade t x.calls

@@ -6,3 +6,4 @@ pub mod Alike
 pub mod Answers
 pub mod Lefts
 pub mod Restricted
+pub mod Contexts

@@ -13,11 +13,11 @@ ghost use Rattle.cedar_evaluator_model.specs.Scope.{Scope};
 ghost use Rattle.cedar_evaluator_model.specs.Steps.{call_left, called_left};
 ghost use Rattle.cedar_gate_model.specs.Bundle.{Functions};
 ghost use Rattle.cedar_gate_model.specs.ReadingValue.{with_functions};
-ghost use Rattle.cedar_evaluator_restricted_exprs.specs.Answers.{IsMadeBy, AnswersMade};
+ghost use Rattle.cedar_evaluator_restricted_exprs.specs.Answers.{IsMadeBy, AnswersMade, AgreesWith};
 ghost use Rattle.cedar_evaluator_restricted_exprs.specs.Lefts.{Leaves};
 
 use crate::fault::RestrictedFault;
-use crate::table::{Left, V};
+use crate::table::{FunctionCalls, Left, V};
 use cedar_expr_functions::{
     CallFault, ExtensionFunction, ExtensionFunctionLookupError, ExtensionOutputValue, Extensions,
 };
@@ -55,5 +55,28 @@ fn ask(alloc: Global, f: &ExtensionFunction, args: &[V]) -> Result<Left, Restric
         Err(CallFault::WrongNumArguments { .. }) => Err(RestrictedFault::Stopped),
         Err(CallFault::ArgumentType { .. }) => Err(RestrictedFault::Stopped),
         Err(CallFault::Fault { .. }) => Err(RestrictedFault::Stopped),
+    }
+}
+
+impl FunctionCalls for Extensions<'_> {
+    ghost agrees = { AgreesWith };
+
+    fn call(&self, alloc: Global, name: &Name, args: &[V]) -> Result<Left, RestrictedFault> {
+        call_agreeing(alloc, self, name, args)
+    }
+}
+
+// What a call in the table leaves, by any functions with which the table agrees.
+fn call_agreeing(
+    alloc: Global,
+    table: &Extensions<'_>,
+    name: &Name,
+    args: &[V],
+) -> Result<Left, RestrictedFault>
+    ensures { (x : Functions) → AgreesWith table.now x → Leaves (called_left (with_functions x) (plain_name_of name.now) (map (made extension_of) args.now)) result }
+{
+    match call_in(alloc, table, name, args) {
+        Ok(left) => Ok(left),
+        Err(fault) => Err(fault),
     }
 }

@@ -7,6 +7,7 @@
 mod borrowed;
 mod calls;
 mod check;
+mod contexts;
 mod fault;
 mod fields;
 mod made;
@@ -23,6 +24,7 @@ pub use calls::call_in;
 pub use cedar_evaluator_errors::{
     InvalidRestrictedExpressionError, PartialValueToRestrictedExprError, RestrictedExpressionError,
 };
+pub use contexts::context_left;
 pub use fault::RestrictedFault;
 pub use parts::{RestrictedElements, RestrictedPairs};
 pub use restricted::RestrictedExpr;

@@ -23,12 +23,12 @@ pub type Left = PartialValue<ExtValue>;
 
 /// What calls of functions are asked of.
 pub trait FunctionCalls {
-    /// The functions.
-    ghost functions: { Self → Functions };
+    /// The functions of the model with which these agree.
+    ghost agrees: { Self → Functions → Type 0 };
 
     /// What a call of the function of this name leaves at these arguments. The function is looked up; then the count of the arguments
     /// and their types are asked for. Errors: `Stopped` where there is no such function, where it doesn't take the arguments or fails,
     /// and `OutOfMemory`.
     fn call(&self, alloc: Global, name: &Name, args: &[V]) -> Result<Left, RestrictedFault>
-        ensures { Leaves (called_left (with_functions (functions self.now)) (plain_name_of name.now) (map (made extension_of) args.now)) result };
+        ensures { (x : Functions) → agrees self.now x → Leaves (called_left (with_functions x) (plain_name_of name.now) (map (made extension_of) args.now)) result };
 }

@@ -13,6 +13,7 @@ ghost use Rattle.cedar_evaluator_model.specs.Steps.{pieces, from_pieces, made_me
 ghost use Rattle.cedar_expr_model.specs.Builder.{trees, tree_fields};
 ghost use Rattle.cedar_expr_model.specs.Parts.{listed_fields};
 ghost use Rattle.cedar_expr_trees.specs.Trees.{named, field_trees};
+ghost use Rattle.cedar_gate_model.specs.Bundle.{Functions};
 ghost use Rattle.cedar_gate_model.specs.ReadingValue.{with_functions};
 ghost use Rattle.cedar_evaluator_restricted_exprs.specs.Lefts.{Leaves, parts_of, IsParted};
 
@@ -84,7 +85,7 @@ pub fn call_left<T: FunctionCalls>(
     name: &Name,
     parts: Vec<Left>,
 ) -> Result<Left, RestrictedFault>
-    ensures { Leaves (from_pieces (called_left (with_functions (T.functions functions.now)) (plain_name_of name.now)) (λ us. call (plain_name_of name.now) (trees us)) (pieces (parts_of parts.items))) result }
+    ensures { (x : Functions) → T.agrees functions.now x → Leaves (from_pieces (called_left (with_functions x) (plain_name_of name.now)) (λ us. call (plain_name_of name.now) (trees us)) (pieces (parts_of parts.items))) result }
 {
     match part_up(alloc, parts)? {
         Parted::Values(values) => functions.call(alloc, name, values.as_slice()),

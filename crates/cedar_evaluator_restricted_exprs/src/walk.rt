@@ -12,6 +12,7 @@ ghost use Rattle.cedar_expr_names.specs.Views.{plain_name_of};
 ghost use Rattle.cedar_expr_trees.specs.Trees.{tree_of, named, field_trees};
 ghost use Rattle.cedar_evaluator_model.specs.Scope.{value_left};
 ghost use Rattle.cedar_evaluator_model.specs.Evaluation.{evaluated, node, pieces_of};
+ghost use Rattle.cedar_gate_model.specs.Bundle.{Functions};
 ghost use Rattle.cedar_gate_model.specs.ReadingValue.{with_functions, left_of_restricted};
 ghost use Rattle.cedar_evaluator_restricted_exprs.specs.Lefts.{Leaves, ArePieces};
 ghost use Rattle.cedar_evaluator_restricted_exprs.specs.Restricted.{are_restricted, have_restricted};
@@ -40,7 +41,7 @@ pub fn evaluate<T: FunctionCalls>(
     e: &Expr,
 ) -> Result<Left, RestrictedFault>
     requires { is_restricted (tree_of e.now) ≡ true }
-    ensures { Leaves (left_of_restricted (T.functions functions.now) (tree_of e.now)) result }
+    ensures { (x : Functions) → T.agrees functions.now x → Leaves (left_of_restricted x (tree_of e.now)) result }
 {
     walk(alloc, functions, DEPTH, e)
 }
@@ -53,7 +54,7 @@ fn walk<T: FunctionCalls>(
     limit: u32,
     e: &Expr,
 ) -> Result<Left, RestrictedFault>
-    ensures { is_restricted (tree_of e.now) ≡ true → Leaves (evaluated (with_functions (T.functions functions.now)) limit (tree_of e.now)) result }
+    ensures { (x : Functions) → T.agrees functions.now x → is_restricted (tree_of e.now) ≡ true → Leaves (evaluated (with_functions x) limit (tree_of e.now)) result }
 {
     if limit == 0 {
         return Err(RestrictedFault::Stopped);
@@ -69,7 +70,7 @@ fn level<T: FunctionCalls>(
     deeper: u32,
     e: &Expr,
 ) -> Result<Left, RestrictedFault>
-    ensures { is_restricted (tree_of e.now) ≡ true → Leaves (node (with_functions (T.functions functions.now)) (evaluated (with_functions (T.functions functions.now)) deeper) (tree_of e.now)) result }
+    ensures { (x : Functions) → T.agrees functions.now x → is_restricted (tree_of e.now) ≡ true → Leaves (node (with_functions x) (evaluated (with_functions x) deeper) (tree_of e.now)) result }
 {
     match e.expr_kind() {
         ExprKind::Lit(literal) => literal_value(literal),
@@ -110,7 +111,7 @@ fn called<T: FunctionCalls>(
     name: &Name,
     args: &[Expr],
 ) -> Result<Left, RestrictedFault>
-    ensures { are_restricted (map tree_of args.now) ≡ true → Leaves (node (with_functions (T.functions functions.now)) (evaluated (with_functions (T.functions functions.now)) deeper) (call (plain_name_of name.now) (trees (map tree_of args.now)))) result }
+    ensures { (x : Functions) → T.agrees functions.now x → are_restricted (map tree_of args.now) ≡ true → Leaves (node (with_functions x) (evaluated (with_functions x) deeper) (call (plain_name_of name.now) (trees (map tree_of args.now)))) result }
 {
     let parts = pieces(alloc, functions, deeper, args)?;
     call_left(alloc, functions, name, parts)
@@ -124,7 +125,7 @@ fn set<T: FunctionCalls>(
     deeper: u32,
     members: &[Expr],
 ) -> Result<Left, RestrictedFault>
-    ensures { are_restricted (map tree_of members.now) ≡ true → Leaves (node (with_functions (T.functions functions.now)) (evaluated (with_functions (T.functions functions.now)) deeper) (set_literal (trees (map tree_of members.now)))) result }
+    ensures { (x : Functions) → T.agrees functions.now x → are_restricted (map tree_of members.now) ≡ true → Leaves (node (with_functions x) (evaluated (with_functions x) deeper) (set_literal (trees (map tree_of members.now)))) result }
 {
     let parts = pieces(alloc, functions, deeper, members)?;
     set_left(alloc, parts)
@@ -138,7 +139,7 @@ fn pieces<T: FunctionCalls>(
     deeper: u32,
     exprs: &[Expr],
 ) -> Result<Vec<Left>, RestrictedFault>
-    ensures { are_restricted (map tree_of exprs.now) ≡ true → ArePieces (pieces_of (evaluated (with_functions (T.functions functions.now)) deeper) (listed (trees (map tree_of exprs.now)))) result }
+    ensures { (x : Functions) → T.agrees functions.now x → are_restricted (map tree_of exprs.now) ≡ true → ArePieces (pieces_of (evaluated (with_functions x) deeper) (listed (trees (map tree_of exprs.now)))) result }
 {
     let mut values = Vec::with_capacity(alloc, exprs.len())?;
     for e in exprs {
@@ -155,7 +156,7 @@ fn record<T: FunctionCalls>(
     deeper: u32,
     fields: &BTreeMap<RcStr, Expr>,
 ) -> Result<Left, RestrictedFault>
-    ensures { have_restricted fields.now.entries ≡ true → Leaves (node (with_functions (T.functions functions.now)) (evaluated (with_functions (T.functions functions.now)) deeper) (record_literal (tree_fields (named (field_trees fields.now.entries))))) result }
+    ensures { (x : Functions) → T.agrees functions.now x → have_restricted fields.now.entries ≡ true → Leaves (node (with_functions x) (evaluated (with_functions x) deeper) (record_literal (tree_fields (named (field_trees fields.now.entries))))) result }
 {
     let parts = field_pieces(alloc, functions, deeper, fields)?;
     record_left(alloc, fields, parts)
@@ -169,7 +170,7 @@ fn field_pieces<T: FunctionCalls>(
     deeper: u32,
     fields: &BTreeMap<RcStr, Expr>,
 ) -> Result<Vec<Left>, RestrictedFault>
-    ensures { have_restricted fields.now.entries ≡ true → ArePieces (pieces_of (evaluated (with_functions (T.functions functions.now)) deeper) (values_of (listed_fields (tree_fields (named (field_trees fields.now.entries)))))) result }
+    ensures { (x : Functions) → T.agrees functions.now x → have_restricted fields.now.entries ≡ true → ArePieces (pieces_of (evaluated (with_functions x) deeper) (values_of (listed_fields (tree_fields (named (field_trees fields.now.entries)))))) result }
 {
     let mut values = Vec::with_capacity(alloc, fields.len())?;
     let mut left = fields_of(fields);

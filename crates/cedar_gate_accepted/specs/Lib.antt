@@ -1,6 +1,5 @@
 pub mod Alike
 pub mod Checked
-pub mod Views
 pub mod Handed
 pub mod Untyped
 pub mod Refused

@@ -57,9 +57,9 @@ fn judge_by<S: SchemaEnvironments>(
     judged(checked)
 }
 
-// Checks by a built schema and a table that each of these policies passes, and then that none reaches further than the level. Answers the
-// ids to warn of.
-pub(crate) fn judge(
+/// Checks by a built schema and a table that each of these policies passes, and then that none reaches further than the level. Answers the
+/// ids to warn of.
+pub fn judge(
     alloc: Global,
     schema: &ValidatorSchema,
     table: &Extensions<'_>,

@@ -4,3 +4,4 @@ pub mod Unread
 pub mod Written
 pub mod Kept
 pub mod ScopeForms
+pub mod ByTable

@@ -1,5 +1,5 @@
 -- What isn't read, by the first part that isn't.
-use Rattle.std.proofs.Common.{◌≡◌, [], ◌∷◌, List, map, true, codes, Some, None, refl, ap, sym, ◌∙◌}
+use Rattle.std.proofs.Common.{◌≡◌, [], ◌∷◌, List, map, true, codes, Some, None, refl, ap, sym, subst, ◌∙◌}
 use Rattle.std.specs.Prelude.{Result, Ok, Err, IfErr}
 use Rattle.std.specs.Result.{IsErrAnd}
 use Rattle.serde_json.specs.Data.{Data, object, Members}
@@ -12,6 +12,11 @@ use Rattle.cedar_expr_model.specs.Restricted.{is_restricted}
 use Rattle.cedar_expr_model.specs.Tree.{Tree, TreeFields, record_literal}
 use Rattle.cedar_expr_model.specs.Value.{V}
 use Rattle.cedar_store_model.specs.Store.{are_distinct}
+use Rattle.cedar_expr_partial.specs.declared.partial_value.PartialValue.{PartialValue}
+use Rattle.cedar_expr_values.specs.declared.extension.ExtValue.{ExtValue}
+use Rattle.cedar_evaluator_restricted_exprs.proofs.OfRecord.{left_is_of_record}
+use Rattle.cedar_evaluator_restricted_exprs.specs.Contexts.{IsOfRecord}
+use Rattle.cedar_evaluator_restricted_exprs.specs.Lefts.{left_seen}
 use Rattle.cedar_store_model.specs.World as world
 use Rattle.cedar_store_entities.specs.Views.{entity_uid, entity_pair}
 use Rattle.cedar_store_entities.specs.declared.entity.Entity.{Entity}
@@ -44,6 +49,10 @@ module _ (x : Functions) (ms : Members) (fs : TreeFields) (t : Tree) (h : fields
       ap (λ o. given (given o (λ gs. if_passing is_restricted (record_literal gs))) (λ u. context_from (left_of_restricted x u))) h
       ∙ ap (λ u. given (if_passing is_restricted u) (λ v. context_from (left_of_restricted x v))) (sym e)
       ∙ ap (λ b. given (when b (Some t)) (λ v. context_from (left_of_restricted x v))) r
+
+-- what is left of it is left of a record
+pub is_left_of_record : (x : Functions) (fs : TreeFields) (t : Tree) (p : PartialValue ExtValue) → t ≡ record_literal fs → is_restricted t ≡ true → left_of_restricted x t ≡ left_seen p → IsOfRecord (left_seen p)
+is_left_of_record x fs t p e r h = subst IsOfRecord h (subst (λ (u : Tree). IsOfRecord (left_of_restricted x u)) (sym e) (left_is_of_record x fs (ap is_restricted (sym e) ∙ r)))
 
 -- an entity whose tags, or whose ancestors, aren't read
 module _ (x : Functions) (d : Data) (u : Uid) (ps : List (Text × Made)) (h : has_only (codes "uid" ∷ codes "attrs" ∷ codes "tags" ∷ codes "ancestors" ∷ []) d ≡ true) (hu : required (codes "uid") uid_read d ≡ Some u) (ha : optional (codes "attrs") (members_of (under_text (value_read x))) [] d ≡ Some ps) where

@@ -7,7 +7,9 @@ use Rattle.cedar_gate_fragments.specs.Written.{declared_by}
 use Rattle.cedar_gate_model.specs.Acceptance as gate
 use Rattle.cedar_gate_model.specs.Bundle as model
 use Rattle.cedar_gate_model.specs.Bundle.{Functions}
-use Rattle.cedar_gate_bundles.specs.Requests.{request_of, step_of}
+use Rattle.cedar_evaluator_requests.specs.Views.{request_of}
+use Rattle.cedar_gate_rules.specs.Limit.{levels_of}
+use Rattle.cedar_gate_runs.specs.Steps.{steps_of}
 use Rattle.cedar_gate_bundles.specs.declared.bundle.Bundle.{Bundle}
 use Rattle.cedar_gate_bundles.specs.declared.bundle.Submission.{Submission}
 
@@ -18,7 +20,7 @@ submission_of x s = record {
   policies = map policy_of s.policies.items;
   table = x.table;
   level = s.level;
-  limit = s.limit;
+  limit = levels_of s.limit;
 }
 
 abbrev pub bundle_of : Functions → Bundle → model.Bundle
@@ -26,5 +28,5 @@ bundle_of x b = record {
   submission = submission_of x b.submission;
   start = request_of b.request;
   store = (store_seen b.store).entities;
-  steps = map step_of b.steps.items;
+  steps = steps_of b.steps.items;
 }

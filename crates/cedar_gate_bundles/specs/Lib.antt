@@ -1,5 +1,4 @@
 pub mod Values
-pub mod Requests
 pub mod Written
 pub mod Bundles
 pub mod Policies

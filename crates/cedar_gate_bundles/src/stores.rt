@@ -6,32 +6,34 @@ ghost use Rattle.cedar_expr_model.specs.Made.{Made};
 ghost use Rattle.cedar_store_model.specs.World as world;
 ghost use Rattle.cedar_store_entities.specs.Stores.{store_seen};
 ghost use Rattle.cedar_store_entities.specs.Views.{entity_pair};
+ghost use Rattle.cedar_evaluator_restricted_exprs.specs.Answers.{AgreesWith};
+ghost use Rattle.cedar_gate_model.specs.Bundle.{Functions};
 ghost use Rattle.cedar_gate_model.specs.Reading.{list_of};
 ghost use Rattle.cedar_gate_model.specs.ReadingRequest.{entity_read, store_read};
 ghost use Rattle.cedar_gate_model.specs.RunsAnswer.{MakeFairly};
 ghost use Rattle.cedar_gate_bundles.specs.Written.{entity_read_made, entity_pair_made, AreWritten, IsStoreWritten};
 ghost use Rattle.cedar_gate_expressions.specs.declared.fault.ReadFault.TheVariants.{Unreadable};
 
-use crate::values::{Evaluate, ValueReader};
-use cedar_gate_expressions::{
-    ReadFault, Reader, Uids, has_only, optional_list, optional_pairs, read_list, read_uid, required,
-};
+use crate::lists::{ReaderByTable, optional_pairs, read_list};
+use crate::values::Values;
+use cedar_expr_functions::Extensions;
+use cedar_gate_expressions::{ReadFault, Uids, has_only, optional_list, read_uid, required};
 use cedar_store_entities::{Entities, EntitiesError, Entity};
 use serde_json::Value;
 use std::alloc::Global;
 
 /// Reads a store, in which no uid is repeated.
 #[tactic(auto, using(crate::proofs::Parted::store_kept, crate::proofs::Parted::store_repeats))]
-pub(crate) fn read_store<E: Evaluate>(
+pub(crate) fn read_store(
     alloc: Global,
-    functions: &E,
+    table: &Extensions<'_>,
     value: &Value,
 ) -> Result<Entities, ReadFault>
-    ensures ok { IfOk result (λ s. store_read (E.functions functions.now) (view value.now) ≡ Some (store_seen s).entities) }
-    ensures unreadable { IfErr result (λ f. f ≡ Unreadable → store_read (E.functions functions.now) (view value.now) ≡ None) }
-    ensures store_written { IfOk result (λ s. MakeFairly (E.functions functions.now) → IsStoreWritten (E.functions functions.now).table s) }
+    ensures ok { IfOk result (λ s. (x : Functions) → AgreesWith table.now x → store_read x (view value.now) ≡ Some (store_seen s).entities) }
+    ensures unreadable { IfErr result (λ f. f ≡ Unreadable → (x : Functions) → AgreesWith table.now x → store_read x (view value.now) ≡ None) }
+    ensures store_written { IfOk result (λ s. (x : Functions) → AgreesWith table.now x → MakeFairly x → IsStoreWritten x.table s) }
 {
-    let entities = read_entities(alloc, functions, value)?;
+    let entities = read_entities(alloc, table, value)?;
     match Entities::from_entities(alloc, entities) {
         Ok(store) => Ok(store),
         Err(EntitiesError::OutOfMemory) => Err(ReadFault::OutOfMemory),
@@ -40,45 +42,43 @@ pub(crate) fn read_store<E: Evaluate>(
 }
 
 // Reads the entities of a store.
-fn read_entities<E: Evaluate>(
+fn read_entities(
     alloc: Global,
-    functions: &E,
+    table: &Extensions<'_>,
     value: &Value,
 ) -> Result<Vec<Entity>, ReadFault>
-    ensures ok { IfOk result (λ es. list_of (entity_read (E.functions functions.now)) (view value.now) ≡ Some (map entity_pair es.items)) }
-    ensures unreadable { IfErr result (λ f. f ≡ Unreadable → list_of (entity_read (E.functions functions.now)) (view value.now) ≡ None) }
-    ensures written { IfOk result (λ es. MakeFairly (E.functions functions.now) → AreWritten (E.functions functions.now).table (map entity_pair_made es.items)) }
+    ensures ok { IfOk result (λ es. (x : Functions) → AgreesWith table.now x → list_of (entity_read x) (view value.now) ≡ Some (map entity_pair es.items)) }
+    ensures unreadable { IfErr result (λ f. f ≡ Unreadable → (x : Functions) → AgreesWith table.now x → list_of (entity_read x) (view value.now) ≡ None) }
+    ensures written { IfOk result (λ es. (x : Functions) → AgreesWith table.now x → MakeFairly x → AreWritten x.table (map entity_pair_made es.items)) }
 {
-    let reader = EntityReader { functions };
-    read_list(alloc, &reader, value)
+    read_list(alloc, &StoredEntities, table, value)
 }
 
 // Reads entities.
-#[derive(Drop)]
-struct EntityReader<'a, E> {
-    functions: &'a E,
-}
+struct StoredEntities;
 
-impl<'a, E: Evaluate> Reader for EntityReader<'a, E> {
+impl ReaderByTable for StoredEntities {
     type Item = Entity;
 
     ghost Meaning = { Uid × world.Entity Made };
 
-    ghost reading = { λ r. entity_read_made (E.functions r.functions.now) };
+    ghost reading = { entity_read_made };
 
     ghost seen = { entity_pair_made };
 
     #[tactic(auto, using(crate::proofs::Parted::entity_made))]
-    fn read(&self, alloc: Global, value: &Value) -> Result<Entity, ReadFault> {
+    fn read(
+        &self,
+        alloc: Global,
+        table: &Extensions<'_>,
+        value: &Value,
+    ) -> Result<Entity, ReadFault> {
         if !has_only(value, &["uid", "attrs", "tags", "ancestors"]) {
             return Err(ReadFault::Unreadable);
         }
-        let reader = ValueReader {
-            functions: self.functions,
-        };
         let uid = read_uid(alloc, required(value, "uid")?)?;
-        let attrs = optional_pairs(alloc, &reader, value, "attrs")?;
-        let tags = optional_pairs(alloc, &reader, value, "tags")?;
+        let attrs = optional_pairs(alloc, &Values, table, value, "attrs")?;
+        let tags = optional_pairs(alloc, &Values, table, value, "tags")?;
         let ancestors = optional_list(alloc, &Uids, value, "ancestors")?;
         Ok(Entity::new(alloc, uid, attrs, ancestors, Vec::new(alloc), tags)?)
     }

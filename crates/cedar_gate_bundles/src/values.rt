@@ -1,6 +1,7 @@
 //! Values and contexts: restricted expressions, evaluated where they are read.
 ghost use Rattle.std.specs.Prelude.{◌≡◌, true, Some, None, IfOk, IfErr, is_none};
 ghost use Rattle.serde_json.specs.View.{view};
+ghost use Rattle.cedar_evaluator_restricted_exprs.specs.Answers.{AgreesWith};
 ghost use Rattle.cedar_expr_model.specs.Made.{Made};
 ghost use Rattle.cedar_expr_model.specs.Restricted.{is_restricted, feature_here};
 ghost use Rattle.cedar_expr_trees.specs.Trees.{tree_of};
@@ -8,27 +9,36 @@ ghost use Rattle.cedar_expr_values.specs.Extensions.{extension_of};
 ghost use Rattle.cedar_expr_values.specs.Values.{made};
 ghost use Rattle.cedar_gate_model.specs.Bundle.{Functions};
 ghost use Rattle.cedar_gate_model.specs.ReadingValue.{left_of_restricted, value_read};
-ghost use Rattle.cedar_gate_bundles.specs.Values.{left_of_part, IsStopped};
+ghost use Rattle.cedar_evaluator_restricted_exprs.specs.Lefts.{left_seen};
+ghost use Rattle.cedar_gate_bundles.specs.Values.{IsStopped};
 ghost use Rattle.cedar_gate_expressions.specs.declared.fault.ReadFault.TheVariants.{Unreadable};
 
+use crate::lists::ReaderByTable;
+use cedar_evaluator_restricted_exprs::{RestrictedFault, evaluate};
+use cedar_expr_functions::Extensions;
 use cedar_expr_partial::PartialValue;
 use cedar_expr_trees::{Expr, ExprKind};
 use cedar_expr_values::{ExtValue, Value as CedarValue};
-use cedar_gate_expressions::{ReadFault, Reader, Version, read_expression};
+use cedar_gate_expressions::{ReadFault, Version, read_expression};
 use serde_json::Value;
 use std::alloc::{AllocError, Global};
 
-/// Evaluates restricted expressions, by the functions of a table.
-pub trait Evaluate {
-    // The functions.
-    ghost functions: { Self → Functions };
-
-    /// What is left of a restricted expression: a value, or an expression where an unknown stands in it. Refuses one whose
-    /// evaluation stops.
-    fn evaluate(&self, alloc: Global, e: &Expr) -> Result<PartialValue<ExtValue>, ReadFault>
-        requires { is_restricted (tree_of e.now) ≡ true }
-        ensures left { IfOk result (λ p. left_of_restricted (functions self.now) (tree_of e.now) ≡ left_of_part p) }
-        ensures stopped { IfErr result (λ f. f ≡ Unreadable → IsStopped (left_of_restricted (functions self.now) (tree_of e.now))) };
+/// What is left of a restricted expression, evaluated by the functions of the table: a value, or an expression where an unknown
+/// stands in it. Refuses one whose evaluation stops.
+pub(crate) fn evaluated(
+    alloc: Global,
+    table: &Extensions<'_>,
+    e: &Expr,
+) -> Result<PartialValue<ExtValue>, ReadFault>
+    requires { is_restricted (tree_of e.now) ≡ true }
+    ensures left { IfOk result (λ p. (x : Functions) → AgreesWith table.now x → left_of_restricted x (tree_of e.now) ≡ left_seen p) }
+    ensures stopped { IfErr result (λ f. f ≡ Unreadable → (x : Functions) → AgreesWith table.now x → IsStopped (left_of_restricted x (tree_of e.now))) }
+{
+    match evaluate(alloc, table, e) {
+        Ok(left) => Ok(left),
+        Err(RestrictedFault::Stopped) => Err(ReadFault::Unreadable),
+        Err(RestrictedFault::OutOfMemory) => Err(ReadFault::OutOfMemory),
+    }
 }
 
 /// Whether the expression is restricted: whether it has literals, unknowns, calls, sets and records alone.
@@ -70,41 +80,42 @@ fn may_stand(e: &Expr) -> bool
 
 /// Reads a value.
 #[tactic(auto, using(crate::proofs::Parted::stopped_value))]
-pub(crate) fn read_value<E: Evaluate>(
+pub(crate) fn read_value(
     alloc: Global,
-    functions: &E,
+    table: &Extensions<'_>,
     value: &Value,
 ) -> Result<CedarValue<ExtValue>, ReadFault>
-    ensures ok { IfOk result (λ v. value_read (E.functions functions.now) (view value.now) ≡ Some (made extension_of v)) }
-    ensures unreadable { IfErr result (λ f. f ≡ Unreadable → value_read (E.functions functions.now) (view value.now) ≡ None) }
+    ensures ok { IfOk result (λ v. (x : Functions) → AgreesWith table.now x → value_read x (view value.now) ≡ Some (made extension_of v)) }
+    ensures unreadable { IfErr result (λ f. f ≡ Unreadable → (x : Functions) → AgreesWith table.now x → value_read x (view value.now) ≡ None) }
 {
     let e = read_expression(alloc, Version::Second, value)?;
     if !is_restricted(alloc, &e)? {
         return Err(ReadFault::Unreadable);
     }
-    match functions.evaluate(alloc, &e)? {
+    match evaluated(alloc, table, &e)? {
         PartialValue::Value(v) => Ok(v),
         PartialValue::Residual(_) => Err(ReadFault::Unreadable),
     }
 }
 
 /// Reads values.
-#[derive(Drop)]
-pub(crate) struct ValueReader<'a, E> {
-    /// What evaluates them.
-    pub(crate) functions: &'a E,
-}
+pub(crate) struct Values;
 
-impl<'a, E: Evaluate> Reader for ValueReader<'a, E> {
+impl ReaderByTable for Values {
     type Item = CedarValue<ExtValue>;
 
     ghost Meaning = { Made };
 
-    ghost reading = { λ r. value_read (E.functions r.functions.now) };
+    ghost reading = { value_read };
 
     ghost seen = { made extension_of };
 
-    fn read(&self, alloc: Global, value: &Value) -> Result<CedarValue<ExtValue>, ReadFault> {
-        read_value(alloc, self.functions, value)
+    fn read(
+        &self,
+        alloc: Global,
+        table: &Extensions<'_>,
+        value: &Value,
+    ) -> Result<CedarValue<ExtValue>, ReadFault> {
+        read_value(alloc, table, value)
     }
 }

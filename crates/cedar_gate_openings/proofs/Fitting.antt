@@ -1,5 +1,5 @@
 -- Contexts of requests are made as the definitions say.
-use Rattle.std.proofs.Common.{◌≡◌, Option, Some, None}
+use Rattle.std.proofs.Common.{Option, Some, None}
 use Rattle.cedar_evaluator_requests.specs.Views.{context_or_unknown, request_of}
 use Rattle.cedar_evaluator_requests.specs.declared.context.Context.{Context}
 use Rattle.cedar_evaluator_requests.specs.declared.context.Context.TheVariants as known

@@ -1,6 +1,6 @@
 -- What is left of the record of a context, with values in the place of its unknowns.
 use Rattle.std.proofs.Common.{◌≡◌, ℕ, zero, suc, true, false, List, map, Option, Some, None, IsSome, Result, Ok, Err, IfOk, refl, sym, ap, ◌∙◌, subst}
-use Rattle.std.specs.Prelude.{is_none, zip, Bool, option_map, unwrap_or}
+use Rattle.std.specs.Prelude.{is_none, zip, option_map, unwrap_or}
 use Rattle.std.specs.Map.{keys_of, values_of}
 use Rattle.std.specs.Option.{option_map_or}
 use Rattle.cedar_expr_model.specs.Builder.{built_fields, tree_fields}
@@ -13,7 +13,7 @@ use Rattle.cedar_expr_model.specs.ValueParts.{all_known, part_tree}
 use Rattle.cedar_evaluator_model.specs.Evaluation.{pieces_of, evaluated}
 use Rattle.cedar_evaluator_model.specs.Reauthorize.{context_from}
 use Rattle.cedar_evaluator_model.specs.Scope.{Context, unknown_context, Left, value_left, residual, stopped}
-use Rattle.cedar_evaluator_model.specs.Steps.{Pieces, pieces, halted, from_pieces, record_left}
+use Rattle.cedar_evaluator_model.specs.Steps.{Pieces, pieces, halted, record_left}
 use Rattle.cedar_evaluator_requests.specs.Views.{context_of, context_or_unknown, restricted_tree}
 use Rattle.cedar_evaluator_requests.specs.Fields.{fields_in}
 use Rattle.cedar_evaluator_requests.specs.declared.context.RestrictedFields.{RestrictedFields}
@@ -25,39 +25,17 @@ use Rattle.cedar_gate_model.specs.Bundle.{Functions}
 use Rattle.cedar_gate_model.specs.ReadingValue.{with_functions, left_of_restricted}
 use Rattle.cedar_gate_model.proofs.Reading.Values.{Clean, evaluated_clean, none_is}
 use Rattle.cedar_gate_model.proofs.Runs.Contexts.{puts, substituted_restricted}
-use Rattle.cedar_gate_openings.specs.Requests.{fields_left, left_context, IsOfRecord, IsRecordTree}
-
--- a context is made of what is left, or nothing is left
-abbrev pub MakesContext : Left → Type 0
-MakesContext (stopped s) = Unit {0}
-MakesContext l = IsSome (context_from l)
-
-by_known : (o : Option (List Made)) (next : List Made → Left) (r : Tree) → ((ms : List Made) → MakesContext (next ms)) → MakesContext (residual r) → MakesContext (option_map_or next o (residual r))
-by_known None next r h k = k
-by_known (Some ms) next r h k = h ms
-
-of_pieces : (names : _) (ps : Pieces) → MakesContext (record_left names ps)
-of_pieces names (halted s) = tt
-of_pieces names (pieces qs) = by_known (all_known qs) _ (record_literal (tree_fields (zip names (map part_tree qs)))) (λ ms. refl) refl
-
-of_record : (f : Functions) (n : ℕ) (fs : TreeFields) → MakesContext (evaluated (with_functions f) n (record_literal fs))
-of_record f zero fs = tt
-of_record f (suc n) fs = of_pieces (keys_of (listed_fields fs)) (pieces_of (evaluated (with_functions f) n) (values_of (listed_fields fs)))
-
-both : (t : Tree) (l : Left) → Clean t l → MakesContext l → IsOfRecord l
-both t (value_left m) c k = k
-both t (residual r) c k = (k, c.0, ap is_none c.1)
-both t (stopped s) c k = tt
+use Rattle.cedar_gate_openings.specs.Requests.{fields_left, left_context, IsRecordTree}
+use Rattle.cedar_evaluator_restricted_exprs.proofs.OfRecord.{left_is_of_record}
+use Rattle.cedar_evaluator_restricted_exprs.specs.Contexts.{IsOfRecord}
 
 module _ (f : Functions) (values : Bindings) (fs : TreeFields) (r : is_restricted (record_literal fs) ≡ true) where
   -- the fields with their values are restricted
   pub stays_restricted : is_restricted (substituted values (record_literal fs)) ≡ true
   stays_restricted = ap is_none (substituted_restricted values (record_literal fs) (none_is (offence (record_literal fs)) r))
 
-  pub left_is_of_record : IsOfRecord (fields_left f values (record_literal fs))
-  left_is_of_record =
-      let t = substituted values (record_literal fs) in
-      both t (fields_left f values (record_literal fs)) (evaluated_clean f 512 t (none_is (offence t) stays_restricted)) (of_record f 512 (tree_fields (built_fields (puts values) fs)))
+  pub fields_left_of_record : IsOfRecord (fields_left f values (record_literal fs))
+  fields_left_of_record = left_is_of_record f (tree_fields (built_fields (puts values) fs)) stays_restricted
 
 some_is : {A : Type 0} (o : Option A) → IsSome o → is_none o ≡ false
 some_is None h = cc
@@ -81,13 +59,33 @@ restricted_with : (values : Bindings) (t e : Tree) → is_restricted t ≡ true 
 restricted_with values t e r q = ap is_restricted q ∙ ap is_none (substituted_restricted values t (none_is (offence t) r))
 
 record_with : (values : Bindings) (fs : TreeFields) (e : Tree) → is_restricted (record_literal fs) ≡ true → e ≡ substituted values (record_literal fs) → (f : Functions) → IsOfRecord (left_of_restricted f e)
-record_with values fs e r q f = subst (λ t. IsOfRecord (left_of_restricted f t)) (sym q) (left_is_of_record f values fs r)
+record_with values fs e r q f = subst (λ t. IsOfRecord (left_of_restricted f t)) (sym q) (fields_left_of_record f values fs r)
+
+ok_each : {A E : Type 0} {P Q : A → Type 0} (q : Result A E) → ((a : A) → P a → Q a) → IfOk q P → IfOk q Q
+ok_each (Ok a) f h = f a h
+ok_each (Err e) f h = tt
 
 -- what stopped is no context
 pub no_context : (l : Left) → is_stopped l ≡ true → context_from l ≡ None
 no_context (stopped s) e = refl
 no_context (value_left m) e = cc
 no_context (residual r) e = cc
+
+-- What a call answers of what is left of a record, whichever functions these are of which it is left.
+module _ {E : Type 0} (q : Result (Option code.Context) E) (Are : Functions → Type 0) (t : Tree) (l : Left) (fits : IsRecordTree t) (is : (f : Functions) → Are f → left_of_restricted f t ≡ l) where
+  pub context_made : IfOk q (λ c. IsOfRecord l → option_map context_of c ≡ context_from l) → IfOk q (λ c. (f : Functions) → Are f → option_map context_of c ≡ context_from (left_of_restricted f t))
+  context_made h = ok_each q (λ c made f a. made (subst IsOfRecord (is f a) (fits.each f)) ∙ ap context_from (sym (is f a))) h
+
+  pub context_fails : IfOk q (λ c. IsOfRecord l → option_map context_of c ≡ context_from l) → IfOk q (λ c. (f : Functions) → Are f → is_none c ≡ is_stopped (left_of_restricted f t))
+  context_fails h = ok_each q (λ c made f a. none_made context_of c (left_of_restricted f t) (fits.each f) (made (subst IsOfRecord (is f a) (fits.each f)) ∙ ap context_from (sym (is f a)))) h
+
+-- What a call answers of what is left of an expression it answers of what is left of one that is the same.
+module _ {E : Type 0} (q : Result (Option code.Context) E) (Are : Functions → Type 0) (t u : Tree) (same : t ≡ u) where
+  pub made_as : IfOk q (λ c. (f : Functions) → Are f → option_map context_of c ≡ context_from (left_of_restricted f t)) → IfOk q (λ c. (f : Functions) → Are f → option_map context_of c ≡ context_from (left_of_restricted f u))
+  made_as h = subst (λ z. IfOk q (λ c. (f : Functions) → Are f → option_map context_of c ≡ context_from (left_of_restricted f z))) same h
+
+  pub fails_as : IfOk q (λ c. (f : Functions) → Are f → is_none c ≡ is_stopped (left_of_restricted f t)) → IfOk q (λ c. (f : Functions) → Are f → is_none c ≡ is_stopped (left_of_restricted f u))
+  fails_as h = subst (λ z. IfOk q (λ c. (f : Functions) → Are f → is_none c ≡ is_stopped (left_of_restricted f z))) same h
 
 -- the context that is left, or an unknown one
 pub left_as_context : (c : Option code.Context) (l : Left) → option_map context_of c ≡ context_from l → context_or_unknown c ≡ left_context l

@@ -1,8 +1,7 @@
 -- Requests and their roots at a state of a session.
-use Rattle.std.proofs.Common.{◌≡◌, ◌↔◌, true, false, Bool, List, Option, Some, None, Result, Ok, Err, IfOk, Contains, codes, not, is_some, inl, inr, ⊎_elim, refl, sym, ap, ◌∙◌, subst}
+use Rattle.std.proofs.Common.{◌≡◌, true, false, Bool, Option, Some, None, Result, Ok, Err, IfOk, Contains, codes, not, is_some, inl, inr, ⊎_elim, refl, sym, ap, ◌∙◌, subst}
 use Rattle.std.specs.Prelude.{◌&&◌}
 use Rattle.cedar_expr_model.specs.Name.{Text}
-use Rattle.cedar_expr_model.specs.Uid.{Uid}
 use Rattle.cedar_expr_model.specs.Made.{Made}
 use Rattle.cedar_expr_model.specs.Substitution.{Bindings}
 use Rattle.cedar_evaluator_model.specs.Response.{PartialRequest}
@@ -12,10 +11,9 @@ use Rattle.cedar_evaluator_restricted_exprs.specs.Lefts.{is_stopped}
 use Rattle.cedar_evaluator_requests.specs.Views.{request_of}
 use Rattle.cedar_evaluator_requests.specs.declared.request.Request.{Request}
 use Rattle.cedar_gate_model.specs.Bundle.{Functions}
-use Rattle.cedar_gate_model.specs.RunsAsk.{IsMadeContext}
-use Rattle.cedar_gate_model.specs.Session.{Setup, State, value_of, known_now, entry_now, context_now, is_open_name, with_bound, ContextFails}
+use Rattle.cedar_gate_model.specs.Session.{State, value_of, known_now, entry_now, context_now, with_bound, ContextFails}
 use Rattle.cedar_gate_model.specs.Slice.{roots}
-use Rattle.cedar_gate_model.proofs.Gate.Mentions.{IsRoot, root_cases, root_from}
+use Rattle.cedar_gate_model.proofs.Gate.Mentions.{root_cases, root_from}
 use Rattle.cedar_gate_model.proofs.Gate.Slices.{known_kept}
 use Rattle.cedar_gate_model.proofs.Gate.Slices as slices
 use Rattle.cedar_gate_model.proofs.Runs.Contexts.{binding_grows, entry_kept, context_kept}
@@ -82,16 +80,17 @@ pub request_made : (f : Functions) (values : Bindings) (r q : PartialRequest) (p
     → q ≡ request_by f values r
 request_made f values r q p a o c e ep ea eo ec = e ∙ (λ i. record { principal = ep i; action = ea i; resource = eo i; context = ec i })
 
--- What a call answers of a request, and of whether its context fails, by values, holds at each state that has these values.
-module _ {E : Type 0} (f : Functions) (values : Bindings) (r : PartialRequest) (q : Result (Request × Bool) E) where
-  pub at_states : IfOk q (λ p. request_of p.0 ≡ request_by f values r) → IfOk q (λ p. (s : State) → AreValuesOf s values → request_of p.0 ≡ request_at f s r)
-  at_states h = ok_maps q (λ p e. request_is f values r (request_of p.0) e) h
+-- What a call answers of a request, and of whether its context fails, by values and whichever of these functions, holds at each state that
+-- has these values.
+module _ {E : Type 0} (Are : Functions → Type 0) (values : Bindings) (r : PartialRequest) (q : Result (Request × Bool) E) where
+  pub at_states : IfOk q (λ p. (f : Functions) → Are f → request_of p.0 ≡ request_by f values r) → IfOk q (λ p. (f : Functions) → Are f → (s : State) → AreValuesOf s values → request_of p.0 ≡ request_at f s r)
+  at_states h = ok_maps q (λ p e f a. request_is f values r (request_of p.0) (e f a)) h
 
-  pub all_fail : IfOk q (λ p. p.1 ≡ fails_by f values r.context) → IfOk q (λ p. p.1 ≡ true → (s : State) → AreValuesOf s values → ContextFails f s r.context)
-  all_fail h = ok_maps q (λ p e. it_fails f values r.context p.1 e) h
+  pub all_fail : IfOk q (λ p. (f : Functions) → Are f → p.1 ≡ fails_by f values r.context) → IfOk q (λ p. (f : Functions) → Are f → p.1 ≡ true → (s : State) → AreValuesOf s values → ContextFails f s r.context)
+  all_fail h = ok_maps q (λ p e f a. it_fails f values r.context p.1 (e f a)) h
 
-  pub none_fails : IfOk q (λ p. p.1 ≡ fails_by f values r.context) → IfOk q (λ p. p.1 ≡ false → (s : State) → AreValuesOf s values → ContextFails f s r.context → ⊥)
-  none_fails h = ok_maps q (λ p e. it_evaluates f values r.context p.1 e) h
+  pub none_fails : IfOk q (λ p. (f : Functions) → Are f → p.1 ≡ fails_by f values r.context) → IfOk q (λ p. (f : Functions) → Are f → p.1 ≡ false → (s : State) → AreValuesOf s values → ContextFails f s r.context → ⊥)
+  none_fails h = ok_maps q (λ p e f a. it_evaluates f values r.context p.1 (e f a)) h
 
 -- roots
 pub roots_known : RootsAreKnown

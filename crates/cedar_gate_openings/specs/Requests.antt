@@ -1,17 +1,18 @@
 -- Requests with what is bound to their names.
 -- Rule: sessions; refusals of a session (docs/RULES.md).
-use Rattle.std.specs.Prelude.{◌≡◌, Bool, true, false, Option, Some, None, IsSome, option_and_then, unwrap_or, codes}
+use Rattle.std.specs.Prelude.{◌≡◌, Bool, true, false, Option, IsSome, option_and_then, unwrap_or, codes}
 use Rattle.std.specs.Option.{option_map_or}
 use Rattle.cedar_expr_model.specs.Name.{Text}
 use Rattle.cedar_expr_model.specs.Made.{Made}
 use Rattle.cedar_expr_model.specs.Restricted.{is_restricted}
 use Rattle.cedar_expr_model.specs.Substitution.{Bindings, substituted}
-use Rattle.cedar_expr_model.specs.Tree.{Tree, TreeFields, record_literal}
+use Rattle.cedar_expr_model.specs.Tree.{Tree, record_literal}
 use Rattle.cedar_expr_model.specs.Unknowns.{has_unknown}
 use Rattle.cedar_evaluator_model.specs.Reauthorize.{context_from}
 use Rattle.cedar_evaluator_model.specs.Response.{PartialRequest}
 use Rattle.cedar_evaluator_model.specs.Scope.{Entry, uid, unknown_uid, Context, closed, residual_fields, unknown_context, Left, value_left, residual, stopped}
 use Rattle.cedar_evaluator_restricted_exprs.specs.Lefts.{is_stopped}
+use Rattle.cedar_evaluator_restricted_exprs.specs.Contexts.{IsOfRecord}
 use Rattle.cedar_gate_model.specs.Bundle.{Functions}
 use Rattle.cedar_gate_model.specs.ReadingValue.{left_of_restricted}
 use Rattle.cedar_gate_model.specs.Session.{State, value_of, uid_in, entry_now, context_now}
@@ -64,12 +65,6 @@ request_at f s r = record {
 -- these are the values that are bound in the state
 abbrev pub AreValuesOf : State → Bindings → Type 0
 AreValuesOf s values = (n : Text) → values n ≡ value_of s n
-
--- what is left of a record: one of values; or one of restricted expressions in which an unknown stands; or nothing
-abbrev pub IsOfRecord : Left → Type 0
-IsOfRecord (value_left m) = IsSome (context_from (value_left m))
-IsOfRecord (residual r) = IsSome (context_from (residual r)) × (has_unknown r ≡ true) × (is_restricted r ≡ true)
-IsOfRecord (stopped s) = Unit {0}
 
 -- Whatever the functions, what is left of the expression is left of a record.
 pub record IsRecordTree (t : Tree) : Type 0 where

@@ -4,6 +4,8 @@ ghost use Rattle.std.specs.Prelude.{◌≡◌, true, false, codes, IfOk, option_
 ghost use Rattle.cedar_expr_values.specs.Extensions.{extension_of};
 ghost use Rattle.cedar_expr_values.specs.Values.{made};
 ghost use Rattle.cedar_evaluator_requests.specs.Views.{entry_of, context_or_unknown, request_of};
+ghost use Rattle.cedar_evaluator_restricted_exprs.specs.Answers.{AgreesWith};
+ghost use Rattle.cedar_gate_model.specs.Bundle.{Functions};
 ghost use Rattle.cedar_gate_openings.specs.Names.{bound_in};
 ghost use Rattle.cedar_gate_model.specs.RunsAsk.{IsMadeContext};
 ghost use Rattle.cedar_gate_model.specs.Session.{State, ContextFails};
@@ -12,40 +14,41 @@ ghost use Rattle.cedar_gate_openings.specs.Requests.{entry_with, bound_context, 
 use crate::contexts::bound_context;
 use crate::{V, uid_in};
 use cedar_evaluator_requests::{Context, EntityUIDEntry, Request};
-use cedar_evaluator_restricted_exprs::FunctionCalls;
+use cedar_expr_functions::Extensions;
 use cedar_expr_values::ValueKind;
 use std::alloc::{AllocError, Global};
 use std::collections::HashMap;
 use std::rc::RcStr;
 
-/// The request with what is bound to its names, and whether its context fails to evaluate with that. Answers want of memory.
-pub fn request_now<T: FunctionCalls>(
+/// The request with what is bound to its names, and whether its context fails to evaluate with that. Errors: out of
+/// memory.
+pub fn request_now(
     alloc: Global,
-    functions: &T,
+    table: &Extensions<'_>,
     start: &Request,
     bound: &HashMap<RcStr, V>,
 ) -> Result<(Request, bool), AllocError>
-    ensures request { IfOk result (λ r. request_of r.0 ≡ request_by (T.functions functions.now) (bound_in bound.now) (request_of start.now)) }
-    ensures failing { IfOk result (λ r. r.1 ≡ fails_by (T.functions functions.now) (bound_in bound.now) (request_of start.now).context) }
-    ensures at_state { IfOk result (λ r. (s : State) → AreValuesOf s (bound_in bound.now) → request_of r.0 ≡ request_at (T.functions functions.now) s (request_of start.now)) }
-    ensures fails { IfOk result (λ r. r.1 ≡ true → (s : State) → AreValuesOf s (bound_in bound.now) → ContextFails (T.functions functions.now) s (request_of start.now).context) }
-    ensures evaluates { IfOk result (λ r. r.1 ≡ false → (s : State) → AreValuesOf s (bound_in bound.now) → ContextFails (T.functions functions.now) s (request_of start.now).context → ⊥) }
+    ensures request { IfOk result (λ r. (x : Functions) → AgreesWith table.now x → request_of r.0 ≡ request_by x (bound_in bound.now) (request_of start.now)) }
+    ensures failing { IfOk result (λ r. (x : Functions) → AgreesWith table.now x → r.1 ≡ fails_by x (bound_in bound.now) (request_of start.now).context) }
+    ensures at_state { IfOk result (λ r. (x : Functions) → AgreesWith table.now x → (s : State) → AreValuesOf s (bound_in bound.now) → request_of r.0 ≡ request_at x s (request_of start.now)) }
+    ensures fails { IfOk result (λ r. (x : Functions) → AgreesWith table.now x → r.1 ≡ true → (s : State) → AreValuesOf s (bound_in bound.now) → ContextFails x s (request_of start.now).context) }
+    ensures evaluates { IfOk result (λ r. (x : Functions) → AgreesWith table.now x → r.1 ≡ false → (s : State) → AreValuesOf s (bound_in bound.now) → ContextFails x s (request_of start.now).context → ⊥) }
 {
-    request_with(alloc, functions, start, bound)
+    request_with(alloc, table, start, bound)
 }
 
 // The request with these values, and whether its context fails to evaluate with them.
 #[tactic(auto, using(crate::proofs::States::request_made))]
-fn request_with<T: FunctionCalls>(
+fn request_with(
     alloc: Global,
-    functions: &T,
+    table: &Extensions<'_>,
     start: &Request,
     bound: &HashMap<RcStr, V>,
 ) -> Result<(Request, bool), AllocError>
-    ensures request { IfOk result (λ r. request_of r.0 ≡ request_by (T.functions functions.now) (bound_in bound.now) (request_of start.now)) }
-    ensures failing { IfOk result (λ r. r.1 ≡ fails_by (T.functions functions.now) (bound_in bound.now) (request_of start.now).context) }
+    ensures request { IfOk result (λ r. (x : Functions) → AgreesWith table.now x → request_of r.0 ≡ request_by x (bound_in bound.now) (request_of start.now)) }
+    ensures failing { IfOk result (λ r. (x : Functions) → AgreesWith table.now x → r.1 ≡ fails_by x (bound_in bound.now) (request_of start.now).context) }
 {
-    let (context, fails) = context_now(alloc, functions, start.context(), bound)?;
+    let (context, fails) = context_now(alloc, table, start.context(), bound)?;
     let principal = entry_now(start.principal(), bound_to(bound, "principal"))?;
     let action = entry_now(start.action(), bound_to(bound, "action"))?;
     let resource = entry_now(start.resource(), bound_to(bound, "resource"))?;
@@ -99,18 +102,18 @@ fn record_bound(value: Option<&V>) -> Result<Option<Context>, AllocError>
 
 // The context with what is bound, and whether it fails to evaluate.
 #[tactic(auto, using(crate::proofs::Records::left_as_context))]
-fn context_now<T: FunctionCalls>(
+fn context_now(
     alloc: Global,
-    functions: &T,
+    table: &Extensions<'_>,
     start: Option<&Context>,
     bound: &HashMap<RcStr, V>,
 ) -> Result<(Option<Context>, bool), AllocError>
-    ensures context { IfOk result (λ r. context_or_unknown r.0 ≡ context_by (T.functions functions.now) (bound_in bound.now) (context_or_unknown (option_map (λ c. c.now) start.entry))) }
-    ensures fails { IfOk result (λ r. r.1 ≡ fails_by (T.functions functions.now) (bound_in bound.now) (context_or_unknown (option_map (λ c. c.now) start.entry))) }
+    ensures context { IfOk result (λ r. (x : Functions) → AgreesWith table.now x → context_or_unknown r.0 ≡ context_by x (bound_in bound.now) (context_or_unknown (option_map (λ c. c.now) start.entry))) }
+    ensures fails { IfOk result (λ r. (x : Functions) → AgreesWith table.now x → r.1 ≡ fails_by x (bound_in bound.now) (context_or_unknown (option_map (λ c. c.now) start.entry))) }
 {
     match start {
         Some(Context::RestrictedResidual(fields)) => {
-            let context = bound_context(alloc, functions, fields, bound)?;
+            let context = bound_context(alloc, table, fields, bound)?;
             let fails = context.is_none();
             Ok((context, fails))
         }

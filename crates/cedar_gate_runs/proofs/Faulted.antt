@@ -1,5 +1,5 @@
 -- What the refusals of a session and the faults of a host stop a run with.
-use Rattle.std.proofs.Common.{◌≡◌, ℕ, List, [], ◌∷◌, refl, inl}
+use Rattle.std.proofs.Common.{◌≡◌, ℕ, List, [], ◌∷◌}
 use Rattle.cedar_expr_model.specs.Name.{Text}
 use Rattle.cedar_expr_model.specs.Uid.{Uid}
 use Rattle.cedar_expr_model.specs.Made.{Made}
@@ -11,7 +11,7 @@ use Rattle.cedar_gate_model.specs.RunsAnswer.{Course, session_of}
 use Rattle.cedar_gate_model.specs.Session.{Setup, State, Supplied, IsWantedList, NothingIsWanted, at_start, OpenRefusal, OpenFault}
 use Rattle.cedar_gate_model.specs.Transcript.{Step, bind_name}
 use Rattle.cedar_gate_runs.specs.Ends.{IsStopped}
-use Rattle.cedar_gate_runs.specs.Refusals.{IsOpenRefusal, IsSupplyRefusal, IsBindRefusal, IsAnswerRefusal}
+use Rattle.cedar_gate_runs.specs.Refusals.{IsSupplyRefusal, IsBindRefusal, IsAnswerRefusal}
 use Rattle.cedar_gate_runs.specs.Running.{StopsSupply, StopsLoad}
 use Rattle.cedar_gate_runs.specs.Stopping.{IsRefused, HasStopped}
 use Rattle.cedar_gate_runs.specs.StopsWith.{host_stop, supply_stop, bind_stop, answer_stop}
@@ -47,13 +47,6 @@ module _ (x : Setup) (ps : List Policy) (s : State) where
   pub answer_stops : (r : Refusal) → NothingIsWanted x s → IsAnswerRefusal x s r → IsRefused x ps s [] [] (answer_stop r)
   answer_stops OutOfMemory none h = tt
   answer_stops (Numbered n) none (f, e, h) = (f, e, (none, h))
-
--- a run that isn't opened
-pub unopened : (c : Course) (t : Transcript) (n : ℕ) → entries_of t.entries.items ≡ [] → IsOpenRefusal c.start (Numbered n) → IsStopped c (fault.Opening n t)
-unopened c t n none (f, e, h) = (f, e, (none, h))
-
-pub nothing_done : (c : Course) (t : Transcript) → entries_of t.entries.items ≡ [] → IsStopped c (fault.Memory t)
-nothing_done c t none = inl (record { done = []; rest = c.steps; state = at_start; each = refl; did = (none, refl) })
 
 -- a run that stopped
 module _ (c : Course) (opens : (f : OpenRefusal) → OpenFault c.start f → ⊥) (t : Transcript) where

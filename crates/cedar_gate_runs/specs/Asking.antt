@@ -21,7 +21,7 @@ rounds_of (decided d ∷ es) = rounds_of es
 abbrev pub AskedRounds : List (List Uid) → List (List Uid) → List Entry → Type 0
 AskedRounds first asked es = asked ≡ first ++ rounds_of es
 
--- What a stop leaves asked for beyond the rounds: one list where what was answered to it is refused, one at most where memory is wanting.
+-- What a stop leaves asked for beyond the rounds: one list where what was answered to it is refused, and at most one where it stopped out of memory.
 abbrev pub IsBeyond : Stop → List (List Uid) → Type 0
 IsBeyond stop.Memory more = length more ≤ 1
 IsBeyond stop.Host more = more ≡ []

@@ -17,7 +17,7 @@ use Rattle.cedar_gate_runs.specs.declared.stops.RunFault.TheVariants.{Memory, Ho
 abbrev pub IsAnswered : Course → Transcript → Type 0
 IsAnswered c t = (a : Answer) × (option_map answer_of t.answer ≡ Some (as_concrete a)) × IsRun c (entries_of t.entries.items) (answered a)
 
--- The entries are those of a run of the course that ends with the refusal of this number. For want of memory and after a fault of the
+-- The entries are those of a run of the course that ends with the refusal of this number. Out of memory and after a fault of the
 -- host they are what was done by then.
 abbrev pub IsStopped : Course → RunFault → Type 0
 IsStopped c (Memory t) = WasDone (session_of c) c.submission.policies at_start c.steps (entries_of t.entries.items)

@@ -1,16 +1,11 @@
--- Refusals of a session by their numbers. Want of memory says nothing.
+-- Refusals of a session by their numbers. Out of memory says nothing.
 -- Rule: refusals of a session (docs/RULES.md).
 use Rattle.std.specs.Prelude.{◌≡◌}
 use Rattle.cedar_expr_model.specs.Name.{Text}
 use Rattle.cedar_expr_model.specs.Made.{Made}
-use Rattle.cedar_evaluator_model.specs.Response.{PartialRequest}
-use Rattle.cedar_gate_model.specs.Session.{Setup, State, Supplied, OpenRefusal, open_number, OpenFault, SupplyRefusal, supply_number, SupplyFault, BindRefusal, bind_number, BindFault, AnswerRefusal, answer_number, AnswerFault}
+use Rattle.cedar_gate_model.specs.Session.{Setup, State, Supplied, SupplyRefusal, supply_number, SupplyFault, BindRefusal, bind_number, BindFault, AnswerRefusal, answer_number, AnswerFault}
 use Rattle.cedar_gate_runs.specs.declared.sessions.Refusal.{Refusal}
 use Rattle.cedar_gate_runs.specs.declared.sessions.Refusal.TheVariants.{OutOfMemory, Numbered}
-
-abbrev pub IsOpenRefusal : PartialRequest → Refusal → Type 0
-IsOpenRefusal r OutOfMemory = Unit {0}
-IsOpenRefusal r (Numbered n) = (f : OpenRefusal) × (n ≡ open_number f) × OpenFault r f
 
 abbrev pub IsSupplyRefusal : Setup → State → Supplied → Refusal → Type 0
 IsSupplyRefusal x s ps OutOfMemory = Unit {0}

@@ -35,7 +35,7 @@ pub record DidAll (x : Setup) (ps : List Policy) (s : State) (steps : List Step)
 abbrev pub WasDone : Setup → List Policy → State → List Step → List Entry → Type 0
 WasDone x ps s steps es = DidSome x ps s steps es ⊎ DidAll x ps s steps es
 
--- The stop is there, where these entries are what the steps make. Want of memory and a fault of the host say nothing of it.
+-- The stop is there, where these entries are what the steps make. Out of memory and a fault of the host say nothing of it.
 abbrev pub IsRefused : Setup → List Policy → State → List Step → List Entry → Stop → Type 0
 IsRefused x ps s steps es Memory = Unit {0}
 IsRefused x ps s steps es Host = Unit {0}

@@ -13,7 +13,7 @@ use thiserror::Error;
 /// Why a host doesn't answer.
 #[derive(Clone, Copy, Debug, PartialEq, Eq, Error)]
 pub enum HostFault {
-    /// Want of memory.
+    /// Out of memory.
     #[error("out of memory")]
     Memory,
     /// A fault of the host's own.
@@ -40,7 +40,7 @@ pub trait Host {
     ///
     /// # Errors
     ///
-    /// `Device` exactly where the count of failures rose; else want of memory. The list then isn't among those asked.
+    /// `Device` exactly where the count of failures rose; else out of memory. The list then isn't among those asked.
     fn fetch(
         &mut self,
         alloc: Global,

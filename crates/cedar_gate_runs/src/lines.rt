@@ -1,4 +1,4 @@
-//! The lines that are printed. Each function appends its lines to a text, and fails only for want of memory.
+//! The lines that are printed. Each function appends its lines to a text, and fails only out of memory.
 
 ghost use Rattle.std.specs.Prelude.{◌≡◌, ◌++◌, OnOk, Some, map, option_map, string_bytes, codes};
 ghost use Rattle.std.specs.List.{flat_map};
@@ -195,7 +195,7 @@ pub fn push_answered(
     push_answer(out, response)
 }
 
-// The word of a refusal and its number. None where memory was wanting or the host failed.
+// The word of a refusal and its number. None where it ran out of memory or the host failed.
 fn refusal(fault: &RunFault) -> Option<(&'static str, u32)>
     ensures { option_map (λ r. lines.numbered r.0.now r.1) result ≡ refusal_line fault.now }
 {
@@ -208,7 +208,7 @@ fn refusal(fault: &RunFault) -> Option<(&'static str, u32)>
     }
 }
 
-/// The lines of a run that was refused. Errors: want of memory, with which the run may have ended, or with a fault of its host.
+/// The lines of a run that was refused. Fails out of memory, and where the run ended so or with a fault of its host.
 pub fn push_stopped(out: &mut String, fault: &RunFault) -> Result<(), AllocError>
     ensures { OnOk result (Some (string_bytes out.new) ≡ option_map (λ end. string_bytes out.old ++ (lines.entry_lines 1 (entries_of (run_fault_transcript fault.now).entries.items) ++ end)) (refusal_line fault.now)) }
 {

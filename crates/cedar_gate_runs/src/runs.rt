@@ -1,6 +1,6 @@
 //! Runs: steps over a session and a host, up to the answer.
 
-ghost use Rattle.std.specs.Prelude.{◌≡◌, ◌<◌, ◌++◌, [], ℕ, List, None, IfOk, IfErr, OnOk, OnErr};
+ghost use Rattle.std.specs.Prelude.{◌≡◌, ◌<◌, ◌++◌, true, [], ℕ, List, None, is_some, IfOk, IfErr, OnOk, OnErr};
 ghost use Rattle.cedar_evaluator_requests.specs.Views.{answer_of};
 ghost use Rattle.cedar_expr_model.specs.Uid.{Uid};
 ghost use Rattle.cedar_gate_model.specs.RunsAnswer.{Course, session_of, IsProper, MakeFairly};
@@ -12,13 +12,12 @@ ghost use Rattle.cedar_gate_runs.specs.Courses.{IsHost, BindWell, IsRunBy};
 ghost use Rattle.cedar_gate_runs.specs.Ends.{IsStopped, IsRunOf};
 ghost use Rattle.cedar_gate_runs.specs.Lost.{StopsAt, AsksWell};
 ghost use Rattle.cedar_gate_runs.specs.Promised.{KeepsRun};
-ghost use Rattle.cedar_gate_runs.specs.Refusals.{IsOpenRefusal};
 ghost use Rattle.cedar_gate_runs.specs.Steps.{steps_of};
 ghost use Rattle.cedar_gate_runs.specs.Stopping.{Finished, IsRefused, HasStopped, Halts, ComesTo};
 ghost use Rattle.cedar_gate_runs.specs.Stops.{run_fault_transcript};
 
 use crate::loading::load_all;
-use crate::sessions::{Refusal, SessionCalls};
+use crate::sessions::SessionCalls;
 use crate::stepping::take_steps;
 use crate::steps::Step;
 use crate::stops_with::Stop;
@@ -84,22 +83,6 @@ fn stopped(stop: Stop, entries: Vec<Entry>) -> RunFault
     }
 }
 
-/// A run whose session isn't opened.
-pub fn not_opened(alloc: Global, refusal: Refusal) -> RunFault
-    ensures stopped { (c : Course) → IsOpenRefusal c.start refusal → IsStopped c result }
-    ensures nothing { entries_done result ≡ [] }
-    ensures no_answer { (run_fault_transcript result).answer ≡ None }
-{
-    let transcript = Transcript {
-        entries: Vec::new(alloc),
-        answer: None,
-    };
-    match refusal {
-        Refusal::OutOfMemory => RunFault::Memory { transcript },
-        Refusal::Numbered(number) => RunFault::Opening { number, transcript },
-    }
-}
-
 /// Runs a session that was opened: does the steps in their order, loads until nothing is wanted, and answers.
 ///
 /// What it hands out is a run of the definitions. Of a proper course it keeps the promises of the headline, answered or stopped: no uid is asked
@@ -111,7 +94,7 @@ pub fn not_opened(alloc: Global, refusal: Refusal) -> RunFault
 ///
 /// Out of memory, the host's too; a fault of the host, exactly where its count of failures rose; and what a call of the session refuses, by
 /// its number. Each has what was done so far, and no answer.
-pub fn run<E: SessionCalls + Drop, H: Host>(
+pub fn run_session<E: SessionCalls + Drop, H: Host>(
     alloc: Global,
     mut session: E,
     steps: Vec<Step>,
@@ -122,6 +105,7 @@ pub fn run<E: SessionCalls + Drop, H: Host>(
     ensures promises { (c : Course) → IsRunBy E.stands session steps.items H.honest H.store host.old c → IsProper c → MakeFairly c.functions → KeepsRun c result }
     ensures host { HostSaw (H.asked host.old) (H.asked host.new) (H.faults host.old) (H.faults host.new) result }
     ensures asked { (c : Course) → IsRunBy E.stands session steps.items H.honest H.store host.old c → AsksWell c (H.asked host.old) (H.asked host.new) result }
+    ensures answered { IfOk result (λ t. is_some t.answer ≡ true) }
     ensures no_answer { IfErr result (λ f. (run_fault_transcript f).answer ≡ None) }
 {
     runs_keep_the_headline();

@@ -26,7 +26,7 @@ use std::rc::RcStr;
 /// Why a call of a session is refused.
 #[derive(Clone, Copy, Debug, PartialEq, Eq)]
 pub enum Refusal {
-    /// Want of memory.
+    /// Out of memory.
     OutOfMemory,
     /// A refusal, by its number.
     Numbered(u32),
@@ -52,7 +52,7 @@ pub trait SessionCalls {
     ///
     /// # Errors
     ///
-    /// The refusal, by its number; or want of memory.
+    /// The refusal, by its number; or out of memory.
     fn supply(
         &mut self,
         alloc: Global,
@@ -66,13 +66,13 @@ pub trait SessionCalls {
     ///
     /// # Errors
     ///
-    /// The refusal, by its number; or want of memory.
+    /// The refusal, by its number; or out of memory.
     fn bind(&mut self, alloc: Global, name: RcStr, value: Value<ExtValue>) -> Result<(), Refusal>
         ensures at { OnOk result ((c : Course) (s : State) → stands c s self.old → IsWellMade c.functions.table (made extension_of value) → stands c (with_bound s (rc_str_bytes name) (made extension_of value)) self.new) }
         ensures taken { OnOk result ((c : Course) (s : State) → stands c s self.old → (f : BindRefusal) → BindFault (session_of c) s (rc_str_bytes name) (made extension_of value) f → ⊥) }
         ensures refused { IfErr result (λ r. (c : Course) (s : State) → stands c s self.old → IsBindRefusal (session_of c) s (rc_str_bytes name) (made extension_of value) r) };
 
-    /// The decision that is known by now, if one is. Answers want of memory.
+    /// The decision that is known by now, if one is. Fails only out of memory.
     fn decision(&self, alloc: Global) -> Result<Option<Decision>, AllocError>
         ensures { IfOk result (λ d. (c : Course) (s : State) → stands c s self.now → DecidesInPart (session_of c) c.submission.policies s (option_map decision_of d)) };
 
@@ -80,7 +80,7 @@ pub trait SessionCalls {
     ///
     /// # Errors
     ///
-    /// The refusal, by its number; or want of memory.
+    /// The refusal, by its number; or out of memory.
     fn answer(&self, alloc: Global) -> Result<Response, Refusal>
         ensures answer { IfOk result (λ r. (c : Course) (s : State) → stands c s self.now → answer_of r ≡ as_concrete (answer_meant (world_now (session_of c) s) c.submission.policies)) }
         ensures given { OnOk result ((c : Course) (s : State) → stands c s self.now → (f : AnswerRefusal) → AnswerFault (session_of c) s f → ⊥) }

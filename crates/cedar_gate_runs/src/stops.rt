@@ -6,7 +6,7 @@ use thiserror::Error;
 /// Why a run comes to no answer, with what it did so far.
 #[derive(Debug, Drop, Error)]
 pub enum RunFault {
-    /// Want of memory.
+    /// Out of memory.
     #[error("out of memory")]
     Memory {
         /// What was done so far.

@@ -9,7 +9,7 @@ use std::alloc::{AllocError, AllocFailed};
 /// Why a run stops; a refusal has its number.
 #[derive(Clone, Copy)]
 pub(crate) enum Stop {
-    /// Want of memory.
+    /// Out of memory.
     Memory,
     /// A fault of the host.
     Host,

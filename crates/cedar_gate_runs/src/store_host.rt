@@ -71,7 +71,7 @@ fn answer_all(
     Ok(answers)
 }
 
-/// A copy of uids. Answers want of memory.
+/// A copy of uids. Fails only out of memory.
 pub fn copied(alloc: Global, uids: &[EntityUID]) -> Result<Vec<EntityUID>, AllocError>
     ensures { IfOk result (λ copy. map uid_of copy.items ≡ map uid_of uids.now) }
 {
@@ -95,7 +95,7 @@ impl Host for StoreHost {
         0
     }
 
-    /// Answers with copies of its entities, and keeps its own. Its errors are want of memory.
+    /// Answers with copies of its entities, and keeps its own. Its errors are out of memory.
     fn fetch(
         &mut self,
         alloc: Global,

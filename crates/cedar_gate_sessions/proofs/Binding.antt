@@ -17,7 +17,6 @@ use Rattle.cedar_gate_openings.specs.Values.{takes}
 use Rattle.cedar_gate_openings.specs.declared.faults.BindFault.{BindFault}
 use Rattle.cedar_gate_openings.specs.declared.faults.BindFault.TheVariants as binding
 use Rattle.cedar_gate_wanted.specs.Kept.{IsKept}
-use Rattle.cedar_gate_model.specs.Bundle.{Functions}
 use Rattle.cedar_gate_model.specs.Session as session
 use Rattle.cedar_gate_model.specs.Session.{Setup, State, value_of, with_bound, is_open_name, is_open_entry, is_open_context, entry_named, ContextFails, BindRefusal, not_open, against_annotation, no_entity_or_record, context_fails}
 use Rattle.cedar_gate_openings.specs.Laws.{RootsAreKnown, BindingIsMore}
@@ -26,7 +25,7 @@ use Rattle.cedar_gate_openings.specs.Roots.{known_roots}
 use Rattle.cedar_gate_wanted.specs.Wanting.{IsWanting, near_in, mentions_of, level_of}
 use Rattle.cedar_gate_sessions.specs.Faults.{IsBindFault, IsContextFault}
 use Rattle.cedar_gate_sessions.specs.Sessions.{IsAt}
-use Rattle.cedar_gate_sessions.specs.declared.session.Session.{Session}
+use Rattle.cedar_gate_sessions.specs.declared.session.SessionAt.{SessionAt}
 use Rattle.cedar_gate_sessions.proofs.Standing.{after_bind}
 
 lie : {P : Type 0} → true ≡ false → P
@@ -95,21 +94,12 @@ module _ (x : Setup) (s : State) (n : Text) (m : Made) where
   none_refused free fits fine no_entity_or_record h = fits.1 h
   none_refused free fits fine context_fails h = fine h
 
-module _ {S : Type 0} {T : Type 0} {B : _} {F : _} {g : _} (schema_of : S → model.Schema) (functions_of : T → Functions) (x : Setup) (s : State) (d : Session S T B F g) (at : IsAt schema_of functions_of x s d) (n : Text) (m : Made) where
+module _ {G : Type 0} (suits : G → Setup → Type 0) (x : Setup) (s : State) (d : SessionAt G) (at : IsAt suits x s d) (n : Text) (m : Made) where
   abbrev start : PartialRequest
   start = request_of d.start
 
-  abbrev functions : Functions
-  functions = functions_of (d.basis).functions.now
-
   start_is : start ≡ x.start
   start_is = (at.setup).start
-
-  functions_are : functions ≡ x.functions
-  functions_are = ((at.setup).over).functions
-
-  schema_is : schema_of (d.basis).schema.now ≡ x.schema
-  schema_is = ((at.setup).over).schema
 
   -- refusals
   pub not_open_is : is_open_by start (bound_in d.bound) n ≡ false → IsBindFault x s n m binding.NotOpen
@@ -121,36 +111,35 @@ module _ {S : Type 0} {T : Type 0} {B : _} {F : _} {g : _} (schema_of : S → mo
   abbrev PutBy : Bindings → Type 0
   PutBy bound = (k : Text) → bound k ≡ (if bytes_eq n k then Some m else bound_in d.bound k)
 
-  pub context_fault_is : (bound : Bindings) → PutBy bound → (f : BindFault) → ((t : State) → AreValuesOf t bound → IsContextFault functions t start.context f) → IsBindFault x s n m f
+  pub context_fault_is : (bound : Bindings) → PutBy bound → (f : BindFault) → ((t : State) → AreValuesOf t bound → IsContextFault x.functions t start.context f) → IsBindFault x s n m f
   context_fault_is bound put f h = context_fault x s n m f
-      (subst (λ z. IsContextFault z (with_bound s n m) x.start.context f) functions_are (subst (λ r. IsContextFault functions (with_bound s n m) r.context f) start_is (h (with_bound s n m) (values_with x s n m (bound_in d.bound) bound at.bound put))))
+      (subst (λ r. IsContextFault x.functions (with_bound s n m) r.context f) start_is (h (with_bound s n m) (values_with x s n m (bound_in d.bound) bound at.bound put)))
 
   -- what is taken
-  module _ (bound : Bindings) (put : PutBy bound) (free : is_open_by start (bound_in d.bound) n ≡ true) (fits : takes start n m) (evaluates : (t : State) → AreValuesOf t bound → ContextFails functions t start.context → ⊥) where
+  module _ (bound : Bindings) (put : PutBy bound) (free : is_open_by start (bound_in d.bound) n ≡ true) (fits : takes start n m) (evaluates : (t : State) → AreValuesOf t bound → ContextFails x.functions t start.context → ⊥) where
     open_now : is_open_name x.start s n ≡ true
     open_now = sym (open_same x s n m start (bound_in d.bound) start_is at.bound) ∙ free
 
     fine : ContextFails x.functions (with_bound s n m) x.start.context → ⊥
-    fine = subst (λ z. ContextFails z (with_bound s n m) x.start.context → ⊥) functions_are
-        (subst (λ r. ContextFails functions (with_bound s n m) r.context → ⊥) start_is (evaluates (with_bound s n m) (values_with x s n m (bound_in d.bound) bound at.bound put)))
+    fine = subst (λ r. ContextFails x.functions (with_bound s n m) r.context → ⊥) start_is (evaluates (with_bound s n m) (values_with x s n m (bound_in d.bound) bound at.bound put))
 
     pub no_refusal : (f : BindRefusal) → session.BindFault x s n m f → ⊥
     no_refusal = none_refused x s n m open_now (subst (λ r. takes r n m) start_is fits) fine
 
   -- after it
-  pub stands_bound : (e : Session S T B F g) → RootsAreKnown → BindingIsMore
-      → e.basis ≡ d.basis → e.start ≡ d.start → e.loaded.items ≡ d.loaded.items
+  pub stands_bound : (e : SessionAt G) → RootsAreKnown → BindingIsMore → (z : model.Schema) → z ≡ x.schema
+      → e.gate ≡ d.gate → e.start ≡ d.start → e.loaded.items ≡ d.loaded.items
       → is_open_by start (bound_in d.bound) n ≡ true → takes start n m → PutBy (bound_in e.bound)
-      → ((t : State) → AreValuesOf t (bound_in e.bound) → request_of e.now ≡ request_at functions t start)
-      → ((t : State) → AreValuesOf t (bound_in e.bound) → ContextFails functions t start.context → ⊥)
+      → ((t : State) → AreValuesOf t (bound_in e.bound) → request_of e.now ≡ request_at x.functions t start)
+      → ((t : State) → AreValuesOf t (bound_in e.bound) → ContextFails x.functions t start.context → ⊥)
       → level_of e.loading ≡ level_of d.loading → (e.loading).rows ≡ (d.loading).rows
-      → (IsWanting (schema_of (d.basis).schema.now) d.loading → IsWanting (schema_of (d.basis).schema.now) e.loading)
+      → (IsWanting z d.loading → IsWanting z e.loading)
       → ((r : List Uid) → IsKept r (mentions_of d.loading) (level_of d.loading) (near_in d.loading) → IsKept (r ++ known_roots (request_of e.now)) (mentions_of e.loading) (level_of e.loading) (near_in e.loading))
-      → IsWellMade x.functions.table m → IsAt schema_of functions_of x (with_bound s n m) e
-  stands_bound e roots more basis begun loaded free fits put now evaluates level rows wanting keeps well =
+      → IsWellMade x.functions.table m → IsAt suits x (with_bound s n m) e
+  stands_bound e roots more z schema_is gate begun loaded free fits put now evaluates level rows wanting keeps well =
       let t = with_bound s n m in
-      let now_is : request_of e.now ≡ request_at x.functions t x.start = now t (values_with x s n m (bound_in d.bound) (bound_in e.bound) at.bound put) ∙ ap (λ z. request_at z t start) functions_are ∙ ap (request_at x.functions t) start_is in
-      after_bind schema_of functions_of x s d at e n m (known_roots (request_of e.now)) (more x s n m at.context (open_now (bound_in e.bound) put free fits evaluates))
-      basis begun put now_is loaded level rows (subst (λ z. IsWanting z e.loading) schema_is (wanting (subst (λ z. IsWanting z d.loading) (sym schema_is) at.wanting)))
+      let now_is : request_of e.now ≡ request_at x.functions t x.start = now t (values_with x s n m (bound_in d.bound) (bound_in e.bound) at.bound put) ∙ ap (request_at x.functions t) start_is in
+      after_bind suits x s d at e n m (known_roots (request_of e.now)) (more x s n m at.context (open_now (bound_in e.bound) put free fits evaluates))
+      gate begun put now_is loaded level rows (subst (λ y. IsWanting y e.loading) schema_is (wanting (subst (λ y. IsWanting y d.loading) (sym schema_is) at.wanting)))
       (λ r k. subst (λ l. IsKept (r ++ known_roots (request_of e.now)) (mentions_of e.loading) l (near_in e.loading)) (level ∙ at.level) (keeps r (subst (λ l. IsKept r (mentions_of d.loading) l (near_in d.loading)) (sym at.level) k)))
       (roots x t (request_of e.now) now_is) (no_refusal (bound_in e.bound) put free fits evaluates) well

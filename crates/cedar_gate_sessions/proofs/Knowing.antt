@@ -2,8 +2,6 @@
 use Rattle.std.proofs.Common.{◌≡◌, ◌∙◌, ◌||◌, ℕ, Bool, true, false, cond, List, [], ◌∷◌, map, Option, Some, None, option_map, refl, sym, ap, subst, if◌then◌else◌}
 use Rattle.std.specs.List.{list_any}
 use Rattle.std.specs.Map.{lookup}
-use Rattle.cedar_expr_functions.specs.Tables.{table_of}
-use Rattle.cedar_expr_functions.specs.declared.extensions.Extensions.{Extensions}
 use Rattle.cedar_expr_model.specs.Name.{Text}
 use Rattle.cedar_expr_model.specs.Uid.{Uid, uid_eq}
 use Rattle.cedar_expr_model.specs.Made.{Made}
@@ -19,31 +17,21 @@ use Rattle.cedar_store_entities.specs.Stores.{store_seen, store_made}
 use Rattle.cedar_store_entities.specs.Views.{Kept, entity_uid, entity_kept, entity_pair, kept_pair, bare_part, bare_entity}
 use Rattle.cedar_store_entities.specs.declared.entities.Entities.{Entities}
 use Rattle.cedar_store_entities.specs.declared.entity.Entity.{Entity}
-use Rattle.cedar_store_model.specs.Policy.{no_bindings}
 use Rattle.cedar_store_model.specs.Store.{Extent, all_of, some_of, extent_for, if_uid, whole, partial}
 use Rattle.cedar_store_model.specs.World as world
 use Rattle.cedar_store_model.specs.World.{Found, held}
 use Rattle.cedar_schema_model.specs.Schema as model
 use Rattle.cedar_evaluator_model.specs.Known.{known_found, known_entity, known_parts, known_part}
 use Rattle.cedar_evaluator_model.specs.OfLaws.WellMade.{IsFoundMadeWell}
-use Rattle.cedar_evaluator_core.specs.Evaluators.{asked_of, table_in, entities_in, scope_in, limit_of}
-use Rattle.cedar_evaluator_core.specs.Evaluators as evaluator
-use Rattle.cedar_evaluator_core.specs.declared.evaluator.Evaluator.{Evaluator}
-use Rattle.cedar_evaluator_model.specs.Scope.{Scope}
-use Rattle.cedar_evaluator_operators.specs.Answers.{AnswersMade}
-use Rattle.cedar_evaluator_operators.specs.Calls as operators
-use Rattle.cedar_evaluator_reads.specs.Scopes.{found_kept, values_in, store_of}
-use Rattle.cedar_evaluator_requests.specs.Views.{request_of}
+use Rattle.cedar_evaluator_reads.specs.Scopes.{found_kept, store_of}
 use Rattle.cedar_gate_sessions.specs.Laws.{loaded_store}
-use Rattle.cedar_gate_model.specs.Bundle.{Functions}
 use Rattle.cedar_gate_model.specs.RunsAnswer.{Course, session_of, IsKnownStore}
-use Rattle.cedar_gate_model.specs.Session.{Setup, State, scope_now, known_now}
+use Rattle.cedar_gate_model.specs.Session.{Setup, State, known_now}
 use Rattle.cedar_gate_sessions.specs.Entities.{RecordsAbsences}
 use Rattle.cedar_gate_sessions.specs.Loaded.{loaded_at}
 use Rattle.cedar_gate_sessions.specs.Sessions.{IsAt, AreLoaded, extent_at, stored_in, store_in, was_asked}
-use Rattle.cedar_gate_sessions.specs.declared.session.Session.{Session}
+use Rattle.cedar_gate_sessions.specs.declared.session.SessionAt.{SessionAt}
 use Rattle.cedar_gate_sessions.proofs.Lookups.{lookup_seen}
-use Rattle.cedar_gate_sessions.proofs.Scopes.{scope_by, scope_is}
 use Rattle.cedar_gate_sessions.proofs.Steady.{IsAlike}
 use Rattle.cedar_gate_sessions.proofs.Stores.{found_made, action_made, steady, store_alike, known_partly, known_wholly}
 
@@ -156,35 +144,10 @@ module _ (x : Setup) (s : State) (es : List Entity) (loaded : AreLoaded x s es) 
   pub steady_whole : known_found (steady x.schema (stored_in (λ v. true) es) u) ≡ loaded_store x s u
   steady_whole = ap (λ f. known_found (steadied (if_uid u f))) (made_is whole found) ∙ known_wholly x s loaded.acts loaded.same u (option_map seen found) found_is
 
-module _ {S : Type 0} {T : Type 0} {B : _} {F : _} {g : _} (schema_of : S → model.Schema) (functions_of : T → Functions) where
-  -- the steady store is what is known of the store
-  pub known_store : (c : Course) (s : State) (d : Session S T B F g) → IsAt schema_of functions_of (session_of c) s d → IsKnownStore c s (steady (session_of c).schema (store_in d))
-  known_store c s d at = record {
-    known = λ u. steady_known (session_of c) s d.loaded.items at.loaded u (was_asked d) ((at.near).asked u);
-    well = λ u. steady_written (session_of c) s d.loaded.items at.loaded u (was_asked d) ((at.near).asked u);
-    context = (at.setup).written;
-  }
-
-  module _ (x : Setup) (s : State) (d : Session S T B F g) (at : IsAt schema_of functions_of x s d) where
-    -- how the table's functions answer
-    abbrev pub functions_at : operators.Functions
-    functions_at = record { answers = x.functions.table.answers; calls = x.functions.calls }
-
-    module _ (e : Evaluator (Extensions B F g)) (store : Uid → Found Made) (z : Entities) (made : (u : Uid) → store_of z u ≡ store u)
-        (asked : asked_of e ≡ request_of d.now) (bound : evaluator.bound_in e ≡ values_in d.bound) (entities : entities_in e ≡ z) (table : table_in e ≡ (d.basis).table.now) (limit : limit_of e ≡ (d.basis).limit) where
-      stored : (u : Uid) → store_of (entities_in e) u ≡ store u
-      stored u = ap (λ y. store_of y u) entities ∙ made u
-
-      -- what the evaluator knows is what is known at the state
-      pub scope_same : scope_in table_of functions_at e no_bindings ≡ scope_now x s store
-      scope_same =
-          ap (λ st. scope_by (asked_of e) (evaluator.bound_in e) (table_of (table_in e) x.functions.table.answers) x.functions.calls st) (λ i u. stored u i)
-          ∙ scope_is x s (asked_of e) (evaluator.bound_in e) (table_of (table_in e) x.functions.table.answers) store (asked ∙ at.now) (λ n. ap (λ f. f n) bound ∙ at.bound n)
-          (ap (λ y. table_of y x.functions.table.answers) table ∙ ((at.setup).over).table)
-
-      answers_so : AnswersMade (table_in e) x.functions.calls
-      answers_so = subst (λ y. AnswersMade y x.functions.calls) (sym table) ((at.setup).over).answered
-
-      -- so what it says of a scope and a limit it says of those of the state
-      pub says_same : {A : Type 0} (r : A) (said : Scope → ℕ → A) → (AnswersMade (table_in e) x.functions.calls → r ≡ said (scope_in table_of functions_at e no_bindings) (limit_of e)) → r ≡ said (scope_now x s store) x.limit
-      says_same r said h = h answers_so ∙ (λ i. said (scope_same i) ((limit ∙ ((at.setup).over).limit) i))
+-- the steady store is what is known of the store
+pub known_store : {G : Type 0} (suits : G → Setup → Type 0) (c : Course) (s : State) (d : SessionAt G) → IsAt suits (session_of c) s d → IsKnownStore c s (steady (session_of c).schema (store_in d))
+known_store suits c s d at = record {
+  known = λ u. steady_known (session_of c) s d.loaded.items at.loaded u (was_asked d) ((at.near).asked u);
+  well = λ u. steady_written (session_of c) s d.loaded.items at.loaded u (was_asked d) ((at.near).asked u);
+  context = (at.setup).written;
+}

@@ -1,7 +1,9 @@
 pub mod Absences
+pub mod Agreeing
 pub mod Answerable
 pub mod Answered
 pub mod Binding
+pub mod Evaluating
 pub mod Knowing
 pub mod Loadings
 pub mod Lookups

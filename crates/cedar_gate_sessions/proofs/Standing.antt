@@ -28,7 +28,6 @@ use Rattle.cedar_evaluator_reads.specs.Scopes.{found_kept}
 use Rattle.cedar_evaluator_requests.specs.Views.{request_of}
 use Rattle.cedar_gate_openings.specs.Names.{bound_in}
 use Rattle.cedar_gate_wanted.specs.Kept.{IsKept}
-use Rattle.cedar_gate_model.specs.Bundle.{Functions}
 use Rattle.cedar_gate_model.specs.Runs.{with_asked, supplied_by}
 use Rattle.cedar_gate_model.specs.Session.{Setup, State, with_bound, IsWantedList, BindRefusal, BindFault, known_now}
 use Rattle.cedar_gate_model.specs.Slice.{roots}
@@ -41,8 +40,8 @@ use Rattle.cedar_gate_wanted.proofs.Rounds.{supply_is_round, roots_bound}
 use Rattle.cedar_gate_wanted.proofs.Slicing.{next_round}
 use Rattle.cedar_gate_sessions.specs.Entities.{supplied_of, supplied_uids, supplied_entities, row_pair, mentions_pair}
 use Rattle.cedar_gate_sessions.specs.Loaded.{loaded_at, is_right}
-use Rattle.cedar_gate_sessions.specs.Sessions.{IsAt, IsSetup, AreFromStore, AreLoaded, extent_at, stored_in}
-use Rattle.cedar_gate_sessions.specs.declared.session.Session.{Session}
+use Rattle.cedar_gate_sessions.specs.Sessions.{IsAt, IsSetup, gate_of, AreFromStore, AreLoaded, extent_at, stored_in}
+use Rattle.cedar_gate_sessions.specs.declared.session.SessionAt.{SessionAt}
 use Rattle.cedar_gate_sessions.proofs.Loadings.{wanting_same, loaded_same}
 use Rattle.cedar_gate_sessions.proofs.Lookups.{lookup_both}
 use Rattle.cedar_gate_sessions.proofs.Opened.{opened_with}
@@ -125,20 +124,20 @@ module _ (x : Setup) (s : State) (es : List Entity) (ps : List (EntityUID × Opt
   pub more_is_distinct : ((u : Uid) → Contains us u → loaded_at loaded.acts x s u ≡ None) → AreKeys ws us → are_distinct (map entity_pair (es ++ supplied_entities ps)) ≡ true
   more_is_distinct fresh keys = subst (λ zs. are_distinct zs ≡ true) (sym all_pairs) (distinct_more x (map entity_pair es) us loaded.distinct keys.once (λ u k. loaded.each u ∙ fresh u k))
 
-module _ {S : Type 0} {T : Type 0} {B : _} {F : _} {g : _} (schema_of : S → model.Schema) (functions_of : T → Functions) (x : Setup) (s : State) (d : Session S T B F g) (at : IsAt schema_of functions_of x s d) where
+module _ {G : Type 0} (suits : G → Setup → Type 0) (x : Setup) (s : State) (d : SessionAt G) (at : IsAt suits x s d) where
   -- after a supply
-  pub after_supply : (e : Session S T B F g) (ps : List (EntityUID × Option Entity)) (rs : List (EntityUID × Vec EntityUID Global)) → AreUids
-      → e.basis ≡ d.basis → e.start ≡ d.start → e.now ≡ d.now → e.bound ≡ d.bound → e.loaded.items ≡ d.loaded.items ++ supplied_entities ps → level_of e.loading ≡ level_of d.loading
+  pub after_supply : (e : SessionAt G) (ps : List (EntityUID × Option Entity)) (rs : List (EntityUID × Vec EntityUID Global)) → AreUids
+      → e.gate ≡ d.gate → e.start ≡ d.start → e.now ≡ d.now → e.bound ≡ d.bound → e.loaded.items ≡ d.loaded.items ++ supplied_entities ps → level_of e.loading ≡ level_of d.loading
       → map row_pair rs ≡ map mentions_pair ps → list_all (is_right x.schema) (supplied_of ps) ≡ true
       → IsFilled (rows_of rs) (rows_in d.loading) (rows_in e.loading) → AreKeys (wanted_in d.loading) (keys_in rs) → IsWanting x.schema e.loading
       → ((r : List Uid) → IsKept r (mentions_of d.loading) x.level (near_in d.loading) → IsKept r (mentions_of e.loading) x.level (near_in e.loading))
-      → AreFromStore x ps → IsAt schema_of functions_of x (with_asked s (wanted_in d.loading)) e
-  after_supply e ps rs uids basis start now bound loaded level rows right filled keys wanting keeps from =
+      → AreFromStore x ps → IsAt suits x (with_asked s (wanted_in d.loading)) e
+  after_supply e ps rs uids gate start now bound loaded level rows right filled keys wanting keeps from =
       let same : keys_in rs ≡ supplied_uids ps = keys_same rs ps rows in
       let of_us : AreKeys (wanted_in d.loading) (supplied_uids ps) = subst (AreKeys (wanted_in d.loading)) same keys in
       let once = more_is_distinct x s d.loaded.items ps (wanted_in d.loading) at.loaded from right of_us.each of_us.all (λ u k. none_loaded x s d.loading at.wanting at.near (at.loaded).acts u (of_us.each u k)) of_us in
       record {
-        setup = subst (λ q. IsSetup schema_of functions_of x e.basis q) (sym start) (subst (λ b. IsSetup schema_of functions_of x b d.start) (sym basis) at.setup);
+        setup = subst (λ q. IsSetup suits x (gate_of e) q) (sym start) (subst (λ b. IsSetup suits x b.now d.start) (sym gate) at.setup);
         context = at.context;
         opened = record { opened = (at.opened).opened; bound = (at.opened).bound };
         bound = λ n. ap (λ b. bound_in b n) bound ∙ at.bound n;
@@ -151,13 +150,13 @@ module _ {S : Type 0} {T : Type 0} {B : _} {F : _} {g : _} (schema_of : S → mo
       }
 
   -- after a binding
-  pub after_bind : (e : Session S T B F g) (n : Text) (m : Made) (rs : List Uid) → IsBoundMore x s (with_bound s n m)
-      → e.basis ≡ d.basis → e.start ≡ d.start → ((k : Text) → bound_in e.bound k ≡ (if bytes_eq n k then Some m else bound_in d.bound k)) → request_of e.now ≡ request_at x.functions (with_bound s n m) x.start → e.loaded.items ≡ d.loaded.items
+  pub after_bind : (e : SessionAt G) (n : Text) (m : Made) (rs : List Uid) → IsBoundMore x s (with_bound s n m)
+      → e.gate ≡ d.gate → e.start ≡ d.start → ((k : Text) → bound_in e.bound k ≡ (if bytes_eq n k then Some m else bound_in d.bound k)) → request_of e.now ≡ request_at x.functions (with_bound s n m) x.start → e.loaded.items ≡ d.loaded.items
       → level_of e.loading ≡ level_of d.loading → (e.loading).rows ≡ (d.loading).rows → IsWanting x.schema e.loading
       → ((r : List Uid) → IsKept r (mentions_of d.loading) x.level (near_in d.loading) → IsKept (r ++ rs) (mentions_of e.loading) x.level (near_in e.loading))
-      → rs ≡ roots (known_now x (with_bound s n m)) → ((f : BindRefusal) → BindFault x s n m f → ⊥) → IsWellMade x.functions.table m → IsAt schema_of functions_of x (with_bound s n m) e
-  after_bind e n m rs more basis start bound now loaded level rows wanting keeps listed ok well = record {
-    setup = subst (λ q. IsSetup schema_of functions_of x e.basis q) (sym start) (subst (λ b. IsSetup schema_of functions_of x b d.start) (sym basis) at.setup);
+      → rs ≡ roots (known_now x (with_bound s n m)) → ((f : BindRefusal) → BindFault x s n m f → ⊥) → IsWellMade x.functions.table m → IsAt suits x (with_bound s n m) e
+  after_bind e n m rs more gate start bound now loaded level rows wanting keeps listed ok well = record {
+    setup = subst (λ q. IsSetup suits x (gate_of e) q) (sym start) (subst (λ b. IsSetup suits x b.now d.start) (sym gate) at.setup);
     context = at.context;
     opened = opened_with x s n m at.opened ok well;
     bound = λ k. bound k ∙ value_with k (bytes_eq n k) (bytes_eq k n) refl refl ∙ ap (λ o. cond (bytes_eq k n) (Some m) o) (at.bound k);
@@ -178,10 +177,10 @@ module _ {S : Type 0} {T : Type 0} {B : _} {F : _} {g : _} (schema_of : S → mo
       value_with k false true e f = lie (sym ((bytes_eq-Decides n k).1 (sym ((bytes_eq-Decides k n).0 f))) ∙ e)
 
   -- where all says the same
-  pub at_same : (e : Session S T B F g) → e.basis ≡ d.basis → e.start ≡ d.start → ((k : Text) → bound_in e.bound k ≡ bound_in d.bound k) → e.now ≡ d.now → e.loaded.items ≡ d.loaded.items → IsSameLoading d.loading e.loading
-      → IsAt schema_of functions_of x s e
-  at_same e basis start bound now loaded same = record {
-    setup = subst (λ q. IsSetup schema_of functions_of x e.basis q) (sym start) (subst (λ b. IsSetup schema_of functions_of x b d.start) (sym basis) at.setup);
+  pub at_same : (e : SessionAt G) → e.gate ≡ d.gate → e.start ≡ d.start → ((k : Text) → bound_in e.bound k ≡ bound_in d.bound k) → e.now ≡ d.now → e.loaded.items ≡ d.loaded.items → IsSameLoading d.loading e.loading
+      → IsAt suits x s e
+  at_same e gate start bound now loaded same = record {
+    setup = subst (λ q. IsSetup suits x (gate_of e) q) (sym start) (subst (λ b. IsSetup suits x b.now d.start) (sym gate) at.setup);
     context = at.context;
     opened = at.opened;
     bound = λ k. bound k ∙ at.bound k;
@@ -191,7 +190,3 @@ module _ {S : Type 0} {T : Type 0} {B : _} {F : _} {g : _} (schema_of : S → mo
     near = loaded_same d.loading e.loading same x s at.near;
     loaded = subst (AreLoaded x s) (sym loaded) at.loaded;
   }
-
-  -- the schema's own words
-  pub schema_is : schema_of (d.basis).schema.now ≡ x.schema
-  schema_is = ((at.setup).over).schema

@@ -30,7 +30,6 @@ use Rattle.cedar_evaluator_requests.specs.Views.{request_of}
 use Rattle.cedar_gate_openings.specs.Faults.{opens}
 use Rattle.cedar_gate_openings.specs.Names.{bound_in}
 use Rattle.cedar_gate_wanted.specs.Kept.{IsKept}
-use Rattle.cedar_gate_model.specs.Bundle.{Functions}
 use Rattle.cedar_gate_model.specs.RunsAsk.{IsMadeContext}
 use Rattle.cedar_gate_model.specs.Session.{Setup, State, at_start}
 use Rattle.cedar_gate_openings.specs.Laws.{RootsAreKnown}
@@ -38,8 +37,8 @@ use Rattle.cedar_gate_openings.specs.Requests.{request_at, AreValuesOf}
 use Rattle.cedar_gate_openings.specs.Roots.{known_roots}
 use Rattle.cedar_gate_wanted.specs.Wanting.{IsWanting, near_in, rows_in, mentions_of, level_of}
 use Rattle.cedar_gate_sessions.specs.Loaded.{HasActions}
-use Rattle.cedar_gate_sessions.specs.Sessions.{IsAt, IsSetup, AreLoaded}
-use Rattle.cedar_gate_sessions.specs.declared.session.Session.{Session}
+use Rattle.cedar_gate_sessions.specs.Sessions.{IsAt, IsSetup, gate_of, AreLoaded}
+use Rattle.cedar_gate_sessions.specs.declared.session.SessionAt.{SessionAt}
 use Rattle.cedar_gate_sessions.proofs.Loadings.{loaded_at_start}
 use Rattle.cedar_gate_sessions.proofs.Lookups.{lookup_seen}
 use Rattle.cedar_gate_sessions.proofs.Opened.{opened_at_start}
@@ -89,17 +88,17 @@ module _ (x : Setup) (es : List Entity) (has : HasActions x.schema (map entity_p
     conform = λ u e k. absurd (contains_none u k);
   }
 
-module _ {S : Type 0} {T : Type 0} {B : _} {F : _} {g : _} (schema_of : S → model.Schema) (functions_of : T → Functions) where
-  pub starts_at : RootsAreKnown → (e : Session S T B F g) → IsMadeContext (request_of e.start).context → opens (request_of e.start) → ((n : Text) → bound_in e.bound n ≡ None)
-      → ((s : State) → AreValuesOf s (bound_in e.bound) → request_of e.now ≡ request_at (functions_of (e.basis).functions.now) s (request_of e.start))
-      → level_of e.loading ≡ (e.basis).level → IsWanting (schema_of (e.basis).schema.now) e.loading → ((u : Uid) → rows_in e.loading u ≡ None)
-      → IsKept (known_roots (request_of e.now)) (mentions_of e.loading) (level_of e.loading) (near_in e.loading) → HasActions (schema_of (e.basis).schema.now) (map entity_pair e.loaded.items)
-      → (x : Setup) → IsSetup schema_of functions_of x e.basis e.start → IsAt schema_of functions_of x at_start e
-  starts_at roots e made opened bound now level wanting rows kept has x setup =
+module _ {G : Type 0} (suits : G → Setup → Type 0) where
+  pub starts_at : RootsAreKnown → (e : SessionAt G) → IsMadeContext (request_of e.start).context → opens (request_of e.start) → ((n : Text) → bound_in e.bound n ≡ None)
+      → ((x : Setup) → suits (gate_of e) x → (s : State) → AreValuesOf s (bound_in e.bound) → request_of e.now ≡ request_at x.functions s (request_of e.start))
+      → ((x : Setup) → suits (gate_of e) x → level_of e.loading ≡ x.level) → (z : model.Schema) → ((x : Setup) → suits (gate_of e) x → z ≡ x.schema) → IsWanting z e.loading → ((u : Uid) → rows_in e.loading u ≡ None)
+      → IsKept (known_roots (request_of e.now)) (mentions_of e.loading) (level_of e.loading) (near_in e.loading) → HasActions z (map entity_pair e.loaded.items)
+      → (x : Setup) → IsSetup suits x (gate_of e) e.start → IsAt suits x at_start e
+  starts_at roots e made opened bound now level z schema_is wanting rows kept has x setup =
       let start = setup.start in
-      let schema = (setup.over).schema in
-      let here : request_of e.now ≡ request_at x.functions at_start x.start = now at_start bound ∙ ap (λ f. request_at f at_start (request_of e.start)) (setup.over).functions ∙ ap (request_at x.functions at_start) start in
-      let deep : level_of e.loading ≡ x.level = level ∙ (setup.over).level in
+      let schema = schema_is x setup.gate in
+      let here : request_of e.now ≡ request_at x.functions at_start x.start = now x setup.gate at_start bound ∙ ap (request_at x.functions at_start) start in
+      let deep : level_of e.loading ≡ x.level = level x setup.gate in
       record {
         setup = setup;
         context = subst (λ r. IsMadeContext r.context) start made;
@@ -107,7 +106,7 @@ module _ {S : Type 0} {T : Type 0} {B : _} {F : _} {g : _} (schema_of : S → mo
         bound = bound;
         now = here;
         level = deep;
-        wanting = subst (λ z. IsWanting z e.loading) schema wanting;
+        wanting = subst (λ y. IsWanting y e.loading) schema wanting;
         near = loaded_at_start x e.loading (known_roots (request_of e.now)) rows (roots x at_start (request_of e.now) here) (subst (λ n. IsKept (known_roots (request_of e.now)) (mentions_of e.loading) n (near_in e.loading)) deep kept);
-        loaded = actions_loaded x e.loaded.items (subst (λ z. HasActions z (map entity_pair e.loaded.items)) schema has);
+        loaded = actions_loaded x e.loaded.items (subst (λ y. HasActions y (map entity_pair e.loaded.items)) schema has);
       }

@@ -19,7 +19,7 @@ use Rattle.cedar_gate_sessions.specs.declared.faults.SupplyFault.TheVariants as 
 use Rattle.cedar_gate_sessions.specs.declared.faults.AnswerFault.{AnswerFault}
 use Rattle.cedar_gate_sessions.specs.declared.faults.AnswerFault.TheVariants as answering
 
--- the refusal that a fault is; want of memory is none
+-- the refusal that a fault is; out of memory is none
 abbrev pub supply_refusal : SupplyFault → Option SupplyRefusal
 supply_refusal supplying.OutOfMemory = None
 supply_refusal supplying.NotWanted = Some session.not_wanted
@@ -40,14 +40,14 @@ answer_refusal answering.NotBound = Some session.not_bound
 answer_refusal answering.StillWanted = Some session.still_wanted
 answer_refusal answering.NotConforming = Some session.not_conforming
 
--- the number of a fault; that of want of memory is 0
+-- the number of a fault; that of out of memory is 0
 abbrev pub supply_fault_number : SupplyFault → ℕ
 supply_fault_number f = option_map_or supply_number (supply_refusal f) 0
 
 abbrev pub answer_fault_number : AnswerFault → ℕ
 answer_fault_number f = option_map_or answer_number (answer_refusal f) 0
 
--- The fault is there. Want of memory says nothing.
+-- The fault is there. Out of memory says nothing.
 abbrev pub IsSupplyFault : Setup → State → Supplied → SupplyFault → Type 0
 IsSupplyFault x s ps f = IfSome (supply_refusal f) (session.SupplyFault x s ps)
 
@@ -68,7 +68,7 @@ unfit_fault unfit.Repeated = supplying.Repeated
 abbrev pub IsTakingFault : List Uid → List Uid → SupplyFault → Type 0
 IsTakingFault wanted keys f = (u : Unfit) × (f ≡ unfit_fault u) × IsUnfit wanted keys u
 
--- The context fails to evaluate. Want of memory says nothing.
+-- The context fails to evaluate. Out of memory says nothing.
 abbrev pub IsContextFault : Functions → State → Context → BindFault → Type 0
 IsContextFault x s c binding.OutOfMemory = Unit {0}
 IsContextFault x s c binding.ContextFails = session.ContextFails x s c

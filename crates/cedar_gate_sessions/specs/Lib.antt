@@ -1,6 +1,7 @@
 pub mod Courses
 pub mod Entities
 pub mod Faults
+pub mod Gates
 pub mod Loaded
 pub mod Requests
 pub mod Sessions

@@ -3,7 +3,6 @@
 use Rattle.std.specs.Prelude.{◌≡◌, Bool, true, List, Contains, map, Option, Some, IfSome, is_some, if◌then◌else◌}
 use Rattle.std.specs.List.{list_any}
 use Rattle.std.specs.Map.{lookup}
-use Rattle.cedar_expr_functions.specs.Tables.{table_of}
 use Rattle.cedar_expr_model.specs.Name.{Text}
 use Rattle.cedar_expr_model.specs.Uid.{Uid, uid_eq}
 use Rattle.cedar_expr_model.specs.Made.{Made}
@@ -15,16 +14,12 @@ use Rattle.cedar_store_model.specs.Policy.{Policy}
 use Rattle.cedar_store_model.specs.Store.{Extent, are_distinct, if_uid, whole, partial}
 use Rattle.cedar_store_model.specs.World as world
 use Rattle.cedar_store_model.specs.World.{Found, held}
-use Rattle.cedar_store_policies.specs.Policies.{policy_of}
 use Rattle.cedar_schema_model.specs.Conforming.{EntityConforms}
-use Rattle.cedar_schema_model.specs.Schema as model
 use Rattle.cedar_evaluator_model.specs.OfLaws.WellMade.{IsFoundMadeWell, IsContextMadeWell}
-use Rattle.cedar_evaluator_operators.specs.Answers.{AnswersMade}
 use Rattle.cedar_evaluator_reads.specs.Scopes.{found_kept}
 use Rattle.cedar_evaluator_requests.specs.Views.{request_of}
 use Rattle.cedar_evaluator_requests.specs.declared.request.Request.{Request}
 use Rattle.cedar_gate_openings.specs.Names.{bound_in}
-use Rattle.cedar_gate_model.specs.Bundle.{Functions}
 use Rattle.cedar_gate_model.specs.Runs.{supplied_by}
 use Rattle.cedar_gate_model.specs.RunsAnswer.{IsOpened}
 use Rattle.cedar_gate_model.specs.RunsAsk.{IsMadeContext}
@@ -34,35 +29,28 @@ use Rattle.cedar_gate_wanted.specs.Wanting.{IsWanting, level_of, rows_in, wanted
 use Rattle.cedar_gate_openings.specs.Requests.{request_at}
 use Rattle.cedar_gate_sessions.specs.Entities.{supplied_of, supplied_uids}
 use Rattle.cedar_gate_sessions.specs.Loaded.{AreActions, loaded_at}
-use Rattle.cedar_gate_sessions.specs.declared.basis.Basis.{Basis}
-use Rattle.cedar_gate_sessions.specs.declared.session.Session.{Session}
+use Rattle.cedar_gate_sessions.specs.declared.session.SessionAt.{SessionAt}
 
 -- What is supplied is what the store answers, and its values are as they are written.
 pub record AreFromStore (x : Setup) (ps : List (EntityUID × Option Entity)) : Type 0 where
   pub answered : supplied_of ps ≡ supplied_by x (supplied_uids ps)
   pub written : (p : EntityUID × Option Entity) → Contains ps p → IfSome p.1 (λ e. IsFoundMadeWell x.functions.table (held (entity_seen e)))
 
--- The setup's schema, level and limit, and its functions; the table's answer so.
-pub record StandsOn {S : Type 0} {T : Type 0} {B : _} {F : _} {g : _} (schema_of : S → model.Schema) (functions_of : T → Functions) (x : Setup) (on : Basis S T B F g) : Type 0 where
-  pub schema : schema_of on.schema.now ≡ x.schema
-  pub level : on.level ≡ x.level
-  pub limit : on.limit ≡ x.limit
-  pub functions : functions_of on.functions.now ≡ x.functions
-  pub table : table_of on.table.now x.functions.table.answers ≡ x.functions.table
-  pub answered : AnswersMade on.table.now x.functions.calls
-
--- The setup is that of a session over this with this request, whose context is as it is written.
-pub record IsSetup {S : Type 0} {T : Type 0} {B : _} {F : _} {g : _} (schema_of : S → model.Schema) (functions_of : T → Functions) (x : Setup) (on : Basis S T B F g) (q : Request) : Type 0 where
-  pub over : StandsOn schema_of functions_of x on
+-- The setup is one of the gate with this request, whose context is as it is written.
+pub record IsSetup {G : Type 0} (suits : G → Setup → Type 0) (x : Setup) (g : G) (q : Request) : Type 0 where
+  pub gate : suits g x
   pub start : request_of q ≡ x.start
   pub written : IsContextMadeWell x.functions.table x.start.context
 
--- the uids that are wanted, and the policies
-abbrev pub wanted_of : {S : Type 0} {T : Type 0} {B : _} {F : _} {g : _} → Session S T B F g → List Uid
+-- the gate of a session, the uids that are wanted, and the policies
+abbrev pub gate_of : {G : Type 0} → SessionAt G → G
+gate_of e = e.gate.now
+
+abbrev pub wanted_of : {G : Type 0} → SessionAt G → List Uid
 wanted_of e = wanted_in e.loading
 
-abbrev pub policies_in : {S : Type 0} {T : Type 0} {B : _} {F : _} {g : _} → Session S T B F g → List Policy
-policies_in e = map policy_of e.basis.policies.now
+abbrev pub policies_in : {G : Type 0} → (G → List Policy) → SessionAt G → List Policy
+policies_in accepted e = accepted (gate_of e)
 
 -- of what was asked for all is known, and of the rest nothing
 abbrev pub extent_at : Bool → Extent
@@ -73,10 +61,10 @@ abbrev pub stored_in : (Uid → Bool) → List Entity → Uid → Found Made
 stored_in asked es u = if_uid u (found_kept (extent_at (asked u)) (lookup (uid_eq u) (map kept_pair es)))
 
 -- whether a uid was asked for, and the store of what is loaded
-abbrev pub was_asked : {S : Type 0} {T : Type 0} {B : _} {F : _} {g : _} → Session S T B F g → Uid → Bool
+abbrev pub was_asked : {G : Type 0} → SessionAt G → Uid → Bool
 was_asked e u = is_some (rows_in e.loading u)
 
-abbrev pub store_in : {S : Type 0} {T : Type 0} {B : _} {F : _} {g : _} → Session S T B F g → Uid → Found Made
+abbrev pub store_in : {G : Type 0} → SessionAt G → Uid → Found Made
 store_in e = stored_in (was_asked e) e.loaded.items
 
 -- These entities are loaded: the declared actions and what the store answered, each once, with values as they are written; what was
@@ -89,9 +77,9 @@ pub record AreLoaded (x : Setup) (s : State) (es : List Entity) : Type 0 where
   pub written : (u : Uid) → IsFoundMadeWell x.functions.table (stored_in (λ v. list_any (uid_eq v) s.asked) es u)
   pub conform : (u : Uid) (e : world.Entity V) → Contains s.asked u → x.store u ≡ Some e → EntityConforms x.schema u e
 
--- The session is at this state, over what it stands on.
-pub record IsAt {S : Type 0} {T : Type 0} {B : _} {F : _} {g : _} (schema_of : S → model.Schema) (functions_of : T → Functions) (x : Setup) (s : State) (e : Session S T B F g) : Type 0 where
-  pub setup : IsSetup schema_of functions_of x e.basis e.start
+-- The session is at this state, at its gate.
+pub record IsAt {G : Type 0} (suits : G → Setup → Type 0) (x : Setup) (s : State) (e : SessionAt G) : Type 0 where
+  pub setup : IsSetup suits x (gate_of e) e.start
   pub context : IsMadeContext x.start.context
   pub opened : IsOpened x s
   pub bound : (n : Text) → bound_in e.bound n ≡ value_of s n

@@ -10,22 +10,21 @@ ghost use Rattle.cedar_expr_values.specs.Values.{made};
 ghost use Rattle.cedar_evaluator_requests.specs.Views.{request_of};
 ghost use Rattle.cedar_gate_openings.specs.Names.{bound_in};
 ghost use Rattle.cedar_gate_wanted.specs.Kept.{IsKept};
-ghost use Rattle.cedar_gate_model.specs.Session.{State, ContextFails};
+ghost use Rattle.cedar_gate_model.specs.Session.{Setup, State, ContextFails};
 ghost use Rattle.cedar_gate_openings.specs.Requests.{request_at, AreValuesOf};
 ghost use Rattle.cedar_gate_openings.specs.Roots.{known_roots};
 ghost use Rattle.cedar_gate_wanted.specs.Wanting.{IsWanting, IsSameLoading, near_in, mentions_of, level_of};
 ghost use Rattle.cedar_gate_sessions.specs.Faults.{IsContextFault};
 
-use crate::basis::{Basis, Schema};
+use crate::gates::{GateCalls, Schema};
 use cedar_evaluator_requests::Request;
-use cedar_evaluator_restricted_exprs::FunctionCalls;
-use cedar_gate_openings::{BindFault, V, request_now, roots};
+use cedar_gate_openings::{BindFault, V, roots};
 use cedar_gate_wanted::Loading;
 use std::alloc::{AllocError, Global};
 use std::collections::HashMap;
 use std::rc::RcStr;
 
-/// Binds the name to the value. Answers want of memory, and then all is as before.
+/// Binds the name to the value. Fails only out of memory, and then all is as before.
 pub(crate) fn put_value(
     bound: &mut HashMap<RcStr, V>,
     name: RcStr,
@@ -45,7 +44,7 @@ pub(crate) fn take_value(bound: &mut HashMap<RcStr, V>, name: &str)
     bound.remove(name);
 }
 
-/// Adds the roots of the request, as far as they are known. Answers want of memory, and then all is as before.
+/// Adds the roots of the request, as far as they are known. Fails only out of memory, and then all is as before.
 pub(crate) fn add_known_roots<S: Schema>(
     alloc: Global,
     schema: &S,
@@ -66,27 +65,27 @@ pub(crate) fn add_known_roots<S: Schema>(
 ///
 /// # Errors
 ///
-/// 4 the context fails to evaluate; or want of memory. All is as before then.
-pub(crate) fn request_bound<S: Schema, T: FunctionCalls>(
+/// 4 the context fails to evaluate; or out of memory. All is as before then.
+pub(crate) fn request_bound<G: GateCalls>(
     alloc: Global,
-    basis: &Basis<'_, '_, S, T>,
+    gate: &G,
     start: &Request,
     bound: &HashMap<RcStr, V>,
     loading: &mut Loading,
 ) -> Result<Request, BindFault>
-    ensures now { IfOk result (λ q. (s : State) → AreValuesOf s (bound_in bound.now) → request_of q ≡ request_at (T.functions basis.now.functions.now) s (request_of start.now)) }
-    ensures evaluates { OnOk result ((s : State) → AreValuesOf s (bound_in bound.now) → ContextFails (T.functions basis.now.functions.now) s (request_of start.now).context → ⊥) }
-    ensures wanting { OnOk result (IsWanting (S.schema basis.now.schema.now) loading.old → IsWanting (S.schema basis.now.schema.now) loading.new) }
+    ensures now { IfOk result (λ q. (x : Setup) → G.suits gate.now x → (s : State) → AreValuesOf s (bound_in bound.now) → request_of q ≡ request_at x.functions s (request_of start.now)) }
+    ensures evaluates { OnOk result ((x : Setup) → G.suits gate.now x → (s : State) → AreValuesOf s (bound_in bound.now) → ContextFails x.functions s (request_of start.now).context → ⊥) }
+    ensures wanting { OnOk result (IsWanting (G.schema gate.now) loading.old → IsWanting (G.schema gate.now) loading.new) }
     ensures kept { IfOk result (λ q. (r : List Uid) → IsKept r (mentions_of loading.old) (level_of loading.old) (near_in loading.old) → IsKept (r ++ known_roots (request_of q)) (mentions_of loading.new) (level_of loading.new) (near_in loading.new)) }
     ensures rows { loading.new.rows ≡ loading.old.rows }
     ensures level { level_of loading.new ≡ level_of loading.old }
-    ensures refused { IfErr result (λ f. (s : State) → AreValuesOf s (bound_in bound.now) → IsContextFault (T.functions basis.now.functions.now) s (request_of start.now).context f) }
+    ensures refused { IfErr result (λ f. (x : Setup) → G.suits gate.now x → (s : State) → AreValuesOf s (bound_in bound.now) → IsContextFault x.functions s (request_of start.now).context f) }
     ensures unchanged { OnErr result (IsSameLoading loading.old loading.new) }
 {
-    let made = request_now(alloc, basis.functions, start, bound)?;
+    let made = gate.request_now(alloc, start, bound)?;
     if made.1 {
         return Err(BindFault::ContextFails);
     }
-    add_known_roots(alloc, basis.schema, &made.0, loading)?;
+    add_known_roots(alloc, gate, &made.0, loading)?;
     Ok(made.0)
 }

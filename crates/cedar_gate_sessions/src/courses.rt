@@ -1,19 +1,12 @@
-//! Sessions as runs call them: each stands at a state of a course.
+//! Sessions as runs call them: each is at a state of a course.
 
-ghost use Rattle.std.specs.Prelude.{◌≡◌, IfOk, IfErr, map};
-ghost use Rattle.cedar_evaluator_requests.specs.Views.{request_of};
-ghost use Rattle.cedar_gate_sessions.specs.Courses.{Stands, wanted_in};
-ghost use Rattle.cedar_gate_model.specs.RunsAnswer.{Course, session_of, IsProper, MakeFairly};
-ghost use Rattle.cedar_gate_model.specs.Session.{at_start};
-ghost use Rattle.cedar_gate_runs.specs.Refusals.{IsOpenRefusal};
-ghost use Rattle.cedar_gate_sessions.specs.Sessions.{IsSetup};
-ghost use Rattle.cedar_store_policies.specs.Policies.{policy_of};
+ghost use Rattle.cedar_gate_sessions.specs.Courses.{Stands};
+ghost use Rattle.cedar_gate_sessions.specs.Sessions.{wanted_of};
 
-use crate::basis::{Basis, Schema};
-use crate::refusals::{refused_answer, refused_binding, refused_opening, refused_supply};
-use crate::session::Session;
-use cedar_evaluator_requests::{Decision, Request, Response};
-use cedar_evaluator_restricted_exprs::FunctionCalls;
+use crate::gates::GateCalls;
+use crate::refusals::{refused_answer, refused_binding, refused_supply};
+use crate::session::SessionAt;
+use cedar_evaluator_requests::{Decision, Response};
 use cedar_expr_names::EntityUID;
 use cedar_expr_values::{ExtValue, Value};
 use cedar_gate_runs::{Refusal, SessionCalls};
@@ -21,46 +14,17 @@ use cedar_store_entities::Entity;
 use std::alloc::{AllocError, Global};
 use std::rc::RcStr;
 
-/// A session, as runs call it.
-#[derive(Drop)]
-pub struct CourseSession<'g, 'e, S, T> {
-    session: Session<'g, 'e, S, T>,
-    level: u32,
-}
+impl<'g, G: GateCalls> SessionCalls for SessionAt<'g, G> {
+    ghost stands = { Stands G.suits G.accepted };
 
-impl<'g, 'e, S: Schema, T: FunctionCalls> CourseSession<'g, 'e, S, T> {
-    /// A session of this request. It stands at the start of each course that has this basis and this request.
-    ///
-    /// # Errors
-    ///
-    /// The refusal, by its number; or want of memory.
-    pub fn open(
-        alloc: Global,
-        basis: Basis<'g, 'e, S, T>,
-        request: Request,
-    ) -> Result<CourseSession<'g, 'e, S, T>, Refusal>
-        ensures stands { IfOk result (λ e. (c : Course) → IsSetup S.schema T.functions (session_of c) basis.entry request → IsProper c → MakeFairly c.functions → map policy_of basis.entry.policies.now ≡ c.submission.policies → Stands S.schema T.functions c at_start e) }
-        ensures refused { IfErr result (IsOpenRefusal (request_of request)) }
-    {
-        let level = basis.level;
-        match Session::open(alloc, basis, request) {
-            Ok(session) => Ok(CourseSession { session, level }),
-            Err(fault) => Err(refused_opening(fault)),
-        }
-    }
-}
-
-impl<'g, 'e, S: Schema, T: FunctionCalls> SessionCalls for CourseSession<'g, 'e, S, T> {
-    ghost stands = { Stands S.schema T.functions };
-
-    ghost wants = { wanted_in };
+    ghost wants = { wanted_of };
 
     fn level(&self) -> u32 {
-        self.level
+        self.gate.level()
     }
 
     fn wanted(&self) -> &[EntityUID] {
-        self.session.wanted()
+        SessionAt::wanted(self)
     }
 
     fn supply(
@@ -68,25 +32,25 @@ impl<'g, 'e, S: Schema, T: FunctionCalls> SessionCalls for CourseSession<'g, 'e,
         alloc: Global,
         supplied: Vec<(EntityUID, Option<Entity>)>,
     ) -> Result<(), Refusal> {
-        match self.session.supply(alloc, supplied) {
+        match SessionAt::supply(self, alloc, supplied) {
             Ok(()) => Ok(()),
             Err(fault) => Err(refused_supply(fault)),
         }
     }
 
     fn bind(&mut self, alloc: Global, name: RcStr, value: Value<ExtValue>) -> Result<(), Refusal> {
-        match self.session.bind(alloc, name, value) {
+        match SessionAt::bind(self, alloc, name, value) {
             Ok(()) => Ok(()),
             Err(fault) => Err(refused_binding(fault)),
         }
     }
 
     fn decision(&self, alloc: Global) -> Result<Option<Decision>, AllocError> {
-        self.session.decision(alloc)
+        SessionAt::decision(self, alloc)
     }
 
     fn answer(&self, alloc: Global) -> Result<Response, Refusal> {
-        match self.session.answer(alloc) {
+        match SessionAt::answer(self, alloc) {
             Ok(response) => Ok(response),
             Err(fault) => Err(refused_answer(fault)),
         }

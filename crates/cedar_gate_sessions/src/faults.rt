@@ -11,7 +11,7 @@ use std::fmt::{Display, Formatter, Write};
 /// Why what is supplied is refused.
 #[derive(Clone, Copy, Debug, PartialEq, Eq)]
 pub enum SupplyFault {
-    /// Want of memory.
+    /// Out of memory.
     OutOfMemory,
     /// A uid isn't wanted.
     NotWanted,
@@ -26,7 +26,7 @@ pub enum SupplyFault {
 /// Why no answer is given.
 #[derive(Clone, Copy, Debug, PartialEq, Eq)]
 pub enum AnswerFault {
-    /// Want of memory.
+    /// Out of memory.
     OutOfMemory,
     /// Something isn't bound.
     NotBound,

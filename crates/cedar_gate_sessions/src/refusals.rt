@@ -2,26 +2,13 @@
 
 ghost use Rattle.cedar_expr_model.specs.Name.{Text};
 ghost use Rattle.cedar_expr_model.specs.Made.{Made};
-ghost use Rattle.cedar_evaluator_model.specs.Response.{PartialRequest};
-ghost use Rattle.cedar_gate_openings.specs.Faults.{IsOpenFault};
 ghost use Rattle.cedar_gate_model.specs.Session.{Setup, State, Supplied};
-ghost use Rattle.cedar_gate_runs.specs.Refusals.{IsOpenRefusal, IsSupplyRefusal, IsBindRefusal, IsAnswerRefusal};
+ghost use Rattle.cedar_gate_runs.specs.Refusals.{IsSupplyRefusal, IsBindRefusal, IsAnswerRefusal};
 ghost use Rattle.cedar_gate_sessions.specs.Faults.{IsSupplyFault, IsBindFault, IsAnswerFault};
 
 use crate::faults::{AnswerFault, SupplyFault};
-use cedar_gate_openings::{BindFault, OpenFault};
+use cedar_gate_openings::BindFault;
 use cedar_gate_runs::Refusal;
-
-/// The refusal to open.
-pub(crate) fn refused_opening(fault: OpenFault) -> Refusal
-    ensures { (r : PartialRequest) → IsOpenFault r fault → IsOpenRefusal r result }
-{
-    match fault {
-        OpenFault::OutOfMemory => Refusal::OutOfMemory,
-        OpenFault::QuoteInName => Refusal::Numbered(1),
-        OpenFault::NameOfVariable => Refusal::Numbered(2),
-    }
-}
 
 /// The refusal of a supply.
 pub(crate) fn refused_supply(fault: SupplyFault) -> Refusal

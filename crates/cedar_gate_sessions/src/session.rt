@@ -21,27 +21,24 @@ ghost use Rattle.cedar_gate_model.specs.Runs.{DecidesInPart, with_asked};
 ghost use Rattle.cedar_gate_model.specs.RunsAnswer.{Course, session_of, IsProper, MakeFairly};
 ghost use Rattle.cedar_gate_model.specs.Early.{KeepsDecision, KeepsBounds};
 ghost use Rattle.cedar_gate_model.specs.Session.{Setup, State, at_start, with_bound, scope_now, world_now, IsWantedList, NothingIsWanted, SupplyRefusal, BindRefusal, AnswerRefusal, SupplyFault as SupplyIsRefused, BindFault as BindIsRefused, AnswerFault as AnswerIsRefused};
+ghost use Rattle.cedar_gate_sessions.specs.Courses.{Stands};
 ghost use Rattle.cedar_gate_sessions.specs.Entities.{supplied_of};
 ghost use Rattle.cedar_gate_sessions.specs.Faults.{IsSupplyFault, IsBindFault, IsAnswerFault};
-ghost use Rattle.cedar_gate_sessions.specs.Sessions.{IsSetup, IsAt, AreFromStore, wanted_of, policies_in, store_in};
+ghost use Rattle.cedar_gate_sessions.specs.Sessions.{IsSetup, IsAt, AreFromStore, gate_of, wanted_of, policies_in, store_in};
 
-use crate::basis::{Basis, Schema};
 use crate::bound::{add_known_roots, put_value, request_bound, take_value};
 use crate::entities::{known_store_of, store_of};
 use crate::faults::{AnswerFault, SupplyFault};
+use crate::gates::GateCalls;
 use crate::laws::{accepted_policies_are_fit, answers_are_the_meaning, decisions_may_be_given};
 use crate::supplied::{are_right, parted, take_in};
-use crate::{Bounds, Verdict, bounded, decided, respond, verdicts};
-use cedar_evaluator_core::Evaluator;
+use crate::{Bounds, Verdict, bounded, decided};
 use cedar_evaluator_requests::{Decision, Request, Response};
-use cedar_evaluator_restricted_exprs::FunctionCalls;
-use cedar_expr_functions::Extensions;
 use cedar_expr_names::EntityUID;
 use cedar_gate_model::early_laws::{bounds_are_kept, decisions_are_kept};
 use cedar_gate_openings::laws::{a_binding_is_more, roots_are_known};
 use cedar_gate_openings::{
     BindFault, OpenFault, V, check_names, check_value, context_is_made, has_open, is_open,
-    request_now,
 };
 use cedar_gate_wanted::Loading;
 use cedar_store_entities::Entity;
@@ -50,10 +47,10 @@ use std::alloc::{AllocError, Global};
 use std::collections::HashMap;
 use std::rc::RcStr;
 
-/// One request at a gate, over a store that is loaded round by round.
+/// One request at a gate, which it borrows, over a store that is loaded round by round.
 #[derive(Drop)]
-pub struct Session<'g, 'e, S, T> {
-    basis: Basis<'g, 'e, S, T>,
+pub struct SessionAt<'g, G> {
+    pub(crate) gate: &'g G,
     start: Request,
     now: Request,
     bound: HashMap<RcStr, V>,
@@ -61,32 +58,30 @@ pub struct Session<'g, 'e, S, T> {
     loaded: Vec<Entity>,
 }
 
-impl<'g, 'e, S: Schema, T: FunctionCalls> Session<'g, 'e, S, T> {
-    /// A session of this request.
+impl<'g, G: GateCalls> SessionAt<'g, G> {
+    /// A session of this request at the gate. It is at the start of each course of this request there.
     ///
     /// # Errors
     ///
-    /// 1 the name of an unknown in the context holds a double quote, 2 it is that of a variable; or want of memory.
-    pub fn open(
-        alloc: Global,
-        basis: Basis<'g, 'e, S, T>,
-        request: Request,
-    ) -> Result<Session<'g, 'e, S, T>, OpenFault>
-        ensures at { IfOk result (λ e. (x : Setup) → IsSetup S.schema T.functions x basis.entry request → IsAt S.schema T.functions x at_start e) }
-        ensures policies { IfOk result (λ e. policies_in e ≡ map policy_of basis.entry.policies.now) }
+    /// 1 the name of an unknown in the context holds a double quote, 2 it is that of a variable; or out of memory.
+    pub fn open(alloc: Global, gate: &'g G, request: Request) -> Result<SessionAt<'g, G>, OpenFault>
+        ensures gate { IfOk result (λ e. gate_of e ≡ gate.entry.now) }
+        ensures at { IfOk result (λ e. (x : Setup) → IsSetup G.suits x gate.entry.now request → IsAt G.suits x at_start e) }
+        ensures stands { IfOk result (λ e. (c : Course) → IsSetup G.suits (session_of c) gate.entry.now request → IsProper c → MakeFairly c.functions → G.accepted gate.entry.now ≡ c.submission.policies → Stands G.suits G.accepted c at_start e) }
         ensures opens { OnOk result (opens (request_of request)) }
         ensures refused { IfErr result (IsOpenFault (request_of request)) }
     {
         check_names(alloc, &request)?;
         context_is_made(&request);
         roots_are_known();
+        gate.schema_is();
         let bound = HashMap::new(alloc);
-        let (now, _) = request_now(alloc, basis.functions, &request, &bound)?;
-        let mut loading = Loading::new(alloc, basis.level);
-        add_known_roots(alloc, basis.schema, &now, &mut loading)?;
-        let loaded = basis.schema.actions(alloc)?;
-        Ok(Session {
-            basis,
+        let (now, _) = gate.request_now(alloc, &request, &bound)?;
+        let mut loading = Loading::new(alloc, gate.level());
+        add_known_roots(alloc, gate, &now, &mut loading)?;
+        let loaded = gate.actions(alloc)?;
+        Ok(SessionAt {
+            gate,
             start: request,
             now,
             bound,
@@ -98,7 +93,7 @@ impl<'g, 'e, S: Schema, T: FunctionCalls> Session<'g, 'e, S, T> {
     /// The uids that are wanted now, in their order.
     pub fn wanted(&self) -> &[EntityUID]
         ensures wanted { uids result.now ≡ wanted_of self.entry.now }
-        ensures exact { (x : Setup) (s : State) → IsAt S.schema T.functions x s self.entry.now → IsWantedList x s (wanted_of self.entry.now) }
+        ensures exact { (x : Setup) (s : State) → IsAt G.suits x s self.entry.now → IsWantedList x s (wanted_of self.entry.now) }
     {
         self.loading.wanted()
     }
@@ -107,26 +102,27 @@ impl<'g, 'e, S: Schema, T: FunctionCalls> Session<'g, 'e, S, T> {
     ///
     /// # Errors
     ///
-    /// 1 a uid isn't wanted, 2 a wanted one lacks, 3 one stands twice, 4 an entity has another uid or doesn't conform; or want of memory.
+    /// 1 a uid isn't wanted, 2 a wanted one lacks, 3 one stands twice, 4 an entity has another uid or doesn't conform; or out of memory.
     pub fn supply(
         &mut self,
         alloc: Global,
         supplied: Vec<(EntityUID, Option<Entity>)>,
     ) -> Result<(), SupplyFault>
-        ensures at { OnOk result ((x : Setup) (s : State) → IsAt S.schema T.functions x s self.old → AreFromStore x supplied.items → IsAt S.schema T.functions x (with_asked s (wanted_of self.old)) self.new) }
-        ensures taken { OnOk result ((x : Setup) (s : State) → IsAt S.schema T.functions x s self.old → (f : SupplyRefusal) → SupplyIsRefused x s (supplied_of supplied.items) f → ⊥) }
-        ensures refused { IfErr result (λ f. (x : Setup) (s : State) → IsAt S.schema T.functions x s self.old → IsSupplyFault x s (supplied_of supplied.items) f) }
-        ensures unchanged { OnErr result ((x : Setup) (s : State) → IsAt S.schema T.functions x s self.old → IsAt S.schema T.functions x s self.new) }
-        ensures policies { policies_in self.new ≡ policies_in self.old }
+        ensures at { OnOk result ((x : Setup) (s : State) → IsAt G.suits x s self.old → AreFromStore x supplied.items → IsAt G.suits x (with_asked s (wanted_of self.old)) self.new) }
+        ensures taken { OnOk result ((x : Setup) (s : State) → IsAt G.suits x s self.old → (f : SupplyRefusal) → SupplyIsRefused x s (supplied_of supplied.items) f → ⊥) }
+        ensures refused { IfErr result (λ f. (x : Setup) (s : State) → IsAt G.suits x s self.old → IsSupplyFault x s (supplied_of supplied.items) f) }
+        ensures unchanged { OnErr result ((x : Setup) (s : State) → IsAt G.suits x s self.old → IsAt G.suits x s self.new) }
+        ensures gate { gate_of self.new ≡ gate_of self.old }
     {
-        if !are_right(alloc, self.basis.schema, supplied.as_slice())? {
+        self.gate.schema_is();
+        if !are_right(alloc, self.gate, supplied.as_slice())? {
             return Err(SupplyFault::WrongEntity);
         }
         uids_are_uids();
         let parts = parted(alloc, supplied)?;
         match take_in(
             alloc,
-            self.basis.schema,
+            self.gate,
             &mut self.loading,
             &mut self.loaded,
             parts.0,
@@ -142,13 +138,13 @@ impl<'g, 'e, S: Schema, T: FunctionCalls> Session<'g, 'e, S, T> {
     /// # Errors
     ///
     /// 1 the name isn't open, 2 the value is against the annotation, 3 a variable gets no entity or `context` no record, 4 the context
-    /// fails to evaluate with it; or want of memory.
+    /// fails to evaluate with it; or out of memory.
     pub fn bind(&mut self, alloc: Global, name: RcStr, value: V) -> Result<(), BindFault>
-        ensures at { OnOk result ((x : Setup) (s : State) → IsAt S.schema T.functions x s self.old → IsWellMade x.functions.table (made extension_of value) → IsAt S.schema T.functions x (with_bound s (rc_str_bytes name) (made extension_of value)) self.new) }
-        ensures taken { OnOk result ((x : Setup) (s : State) → IsAt S.schema T.functions x s self.old → (f : BindRefusal) → BindIsRefused x s (rc_str_bytes name) (made extension_of value) f → ⊥) }
-        ensures refused { IfErr result (λ f. (x : Setup) (s : State) → IsAt S.schema T.functions x s self.old → IsBindFault x s (rc_str_bytes name) (made extension_of value) f) }
-        ensures unchanged { OnErr result ((x : Setup) (s : State) → IsAt S.schema T.functions x s self.old → IsAt S.schema T.functions x s self.new) }
-        ensures policies { policies_in self.new ≡ policies_in self.old }
+        ensures at { OnOk result ((x : Setup) (s : State) → IsAt G.suits x s self.old → IsWellMade x.functions.table (made extension_of value) → IsAt G.suits x (with_bound s (rc_str_bytes name) (made extension_of value)) self.new) }
+        ensures taken { OnOk result ((x : Setup) (s : State) → IsAt G.suits x s self.old → (f : BindRefusal) → BindIsRefused x s (rc_str_bytes name) (made extension_of value) f → ⊥) }
+        ensures refused { IfErr result (λ f. (x : Setup) (s : State) → IsAt G.suits x s self.old → IsBindFault x s (rc_str_bytes name) (made extension_of value) f) }
+        ensures unchanged { OnErr result ((x : Setup) (s : State) → IsAt G.suits x s self.old → IsAt G.suits x s self.new) }
+        ensures gate { gate_of self.new ≡ gate_of self.old }
     {
         if !is_open(alloc, &self.start, &self.bound, name.as_str())? {
             return Err(BindFault::NotOpen);
@@ -156,11 +152,12 @@ impl<'g, 'e, S: Schema, T: FunctionCalls> Session<'g, 'e, S, T> {
         check_value(alloc, &self.start, name.as_str(), &value)?;
         a_binding_is_more();
         roots_are_known();
+        self.gate.schema_is();
         let key = name.clone()?;
         put_value(&mut self.bound, name, value)?;
         match request_bound(
             alloc,
-            &self.basis,
+            self.gate,
             &self.start,
             &self.bound,
             &mut self.loading,
@@ -178,54 +175,47 @@ impl<'g, 'e, S: Schema, T: FunctionCalls> Session<'g, 'e, S, T> {
 
     // What is left of each policy by what is known.
     fn verdicts(&self, alloc: Global) -> Result<Vec<Verdict>, AllocError>
-        ensures { IfOk result (λ vs. (x : Setup) (s : State) → IsAt S.schema T.functions x s self.entry.now → vs.items ≡ verdicts_of (scope_now x s (store_in self.entry.now)) x.limit (policies_in self.entry.now)) }
+        ensures { IfOk result (λ vs. (x : Setup) (s : State) → IsAt G.suits x s self.entry.now → vs.items ≡ verdicts_of (scope_now x s (store_in self.entry.now)) x.limit (policies_in G.accepted self.entry.now)) }
     {
         let entities = known_store_of(alloc, self.loaded.as_slice(), &self.loading)?;
-        let evaluator: Evaluator<'_, Extensions<'_>> = Evaluator::new(
-            self.now.clone()?,
-            &entities,
-            self.basis.table,
-            self.basis.limit,
-        )
-        .with_unknowns(&self.bound);
-        let verdicts = verdicts(alloc, &evaluator, self.basis.policies)?;
-        Ok(verdicts)
+        self.gate
+            .verdicts(alloc, self.now.clone()?, &entities, &self.bound)
     }
 
     /// The decision of evaluating the policies in part over what is known by now, if that decides. One that is given is that of every
     /// completion; one is given where what is known forces it, and once all is bound and loaded. Fails only out of memory.
     pub fn decision(&self, alloc: Global) -> Result<Option<Decision>, AllocError>
-        ensures exact { IfOk result (λ d. (x : Setup) (s : State) → IsAt S.schema T.functions x s self.entry.now → option_map decision_of d ≡ decision_in_session (response_of (scope_now x s (store_in self.entry.now)) x.limit (policies_in self.entry.now))) }
-        ensures in_part { IfOk result (λ d. (c : Course) (s : State) → IsAt S.schema T.functions (session_of c) s self.entry.now → policies_in self.entry.now ≡ c.submission.policies → DecidesInPart (session_of c) c.submission.policies s (option_map decision_of d)) }
-        ensures kept { IfOk result (λ d. (c : Course) (s : State) → IsAt S.schema T.functions (session_of c) s self.entry.now → policies_in self.entry.now ≡ c.submission.policies → IsProper c → MakeFairly c.functions → KeepsDecision c s (option_map decision_of d)) }
+        ensures exact { IfOk result (λ d. (x : Setup) (s : State) → IsAt G.suits x s self.entry.now → option_map decision_of d ≡ decision_in_session (response_of (scope_now x s (store_in self.entry.now)) x.limit (policies_in G.accepted self.entry.now))) }
+        ensures in_part { IfOk result (λ d. (c : Course) (s : State) → IsAt G.suits (session_of c) s self.entry.now → policies_in G.accepted self.entry.now ≡ c.submission.policies → DecidesInPart (session_of c) c.submission.policies s (option_map decision_of d)) }
+        ensures kept { IfOk result (λ d. (c : Course) (s : State) → IsAt G.suits (session_of c) s self.entry.now → policies_in G.accepted self.entry.now ≡ c.submission.policies → IsProper c → MakeFairly c.functions → KeepsDecision c s (option_map decision_of d)) }
     {
         uids_are_uids();
         decisions_are_kept();
         let verdicts = self.verdicts(alloc)?;
-        Ok(decided(self.basis.policies, verdicts.as_slice()))
+        Ok(decided(self.gate.policies(), verdicts.as_slice()))
     }
 
     /// What must and what may determine the decision, by what is known: bounds that are given hold in every completion, they are given where all
     /// is bound, and are the reasons of the answer where all that is looked up is known too. Fails only out of memory.
     pub fn bounds(&self, alloc: Global) -> Result<Option<Bounds>, AllocError>
-        ensures exact { IfOk result (λ b. (x : Setup) (s : State) → IsAt S.schema T.functions x s self.entry.now → AreDistinct (ids (policies_in self.entry.now)) → option_map bounds_of b ≡ bounds_in_session (policies_in self.entry.now) (response_of (scope_now x s (store_in self.entry.now)) x.limit (policies_in self.entry.now))) }
-        ensures kept { IfOk result (λ b. (c : Course) (s : State) → IsAt S.schema T.functions (session_of c) s self.entry.now → policies_in self.entry.now ≡ c.submission.policies → IsProper c → MakeFairly c.functions → KeepsBounds c s (option_map bounds_of b)) }
+        ensures exact { IfOk result (λ b. (x : Setup) (s : State) → IsAt G.suits x s self.entry.now → AreDistinct (ids (policies_in G.accepted self.entry.now)) → option_map bounds_of b ≡ bounds_in_session (policies_in G.accepted self.entry.now) (response_of (scope_now x s (store_in self.entry.now)) x.limit (policies_in G.accepted self.entry.now))) }
+        ensures kept { IfOk result (λ b. (c : Course) (s : State) → IsAt G.suits (session_of c) s self.entry.now → policies_in G.accepted self.entry.now ≡ c.submission.policies → IsProper c → MakeFairly c.functions → KeepsBounds c s (option_map bounds_of b)) }
     {
         uids_are_uids();
         bounds_are_kept();
         let verdicts = self.verdicts(alloc)?;
-        bounded(alloc, self.basis.policies, verdicts.as_slice())
+        bounded(alloc, self.gate.policies(), verdicts.as_slice())
     }
 
     /// The answer over the whole store.
     ///
     /// # Errors
     ///
-    /// 1 something isn't bound, 2 something is wanted, 3 all is bound and the request doesn't conform; or want of memory.
+    /// 1 something isn't bound, 2 something is wanted, 3 all is bound and the request doesn't conform; or out of memory.
     pub fn answer(&self, alloc: Global) -> Result<Response, AnswerFault>
-        ensures answer { IfOk result (λ r. (c : Course) (s : State) → IsProper c → IsAt S.schema T.functions (session_of c) s self.entry.now → policies_in self.entry.now ≡ c.submission.policies → answer_of r ≡ as_concrete (answer_meant (world_now (session_of c) s) c.submission.policies)) }
-        ensures given { OnOk result ((x : Setup) (s : State) → IsAt S.schema T.functions x s self.entry.now → (f : AnswerRefusal) → AnswerIsRefused x s f → ⊥) }
-        ensures refused { IfErr result (λ f. (x : Setup) (s : State) → IsAt S.schema T.functions x s self.entry.now → IsAnswerFault x s f) }
+        ensures answer { IfOk result (λ r. (c : Course) (s : State) → IsProper c → IsAt G.suits (session_of c) s self.entry.now → policies_in G.accepted self.entry.now ≡ c.submission.policies → answer_of r ≡ as_concrete (answer_meant (world_now (session_of c) s) c.submission.policies)) }
+        ensures given { OnOk result ((x : Setup) (s : State) → IsAt G.suits x s self.entry.now → (f : AnswerRefusal) → AnswerIsRefused x s f → ⊥) }
+        ensures refused { IfErr result (λ f. (x : Setup) (s : State) → IsAt G.suits x s self.entry.now → IsAnswerFault x s f) }
     {
         self.check_answer(alloc)?;
         Ok(self.respond(alloc)?)
@@ -233,8 +223,8 @@ impl<'g, 'e, S: Schema, T: FunctionCalls> Session<'g, 'e, S, T> {
 
     // Whether there is an answer.
     fn check_answer(&self, alloc: Global) -> Result<(), AnswerFault>
-        ensures given { OnOk result ((x : Setup) (s : State) → IsAt S.schema T.functions x s self.entry.now → (f : AnswerRefusal) → AnswerIsRefused x s f → ⊥) }
-        ensures refused { IfErr result (λ f. (x : Setup) (s : State) → IsAt S.schema T.functions x s self.entry.now → IsAnswerFault x s f) }
+        ensures given { OnOk result ((x : Setup) (s : State) → IsAt G.suits x s self.entry.now → (f : AnswerRefusal) → AnswerIsRefused x s f → ⊥) }
+        ensures refused { IfErr result (λ f. (x : Setup) (s : State) → IsAt G.suits x s self.entry.now → IsAnswerFault x s f) }
     {
         if has_open(alloc, &self.start, &self.bound)? {
             return Err(AnswerFault::NotBound);
@@ -242,7 +232,8 @@ impl<'g, 'e, S: Schema, T: FunctionCalls> Session<'g, 'e, S, T> {
         if !self.loading.wanted().is_empty() {
             return Err(AnswerFault::StillWanted);
         }
-        if !self.basis.schema.request_conforms(alloc, &self.now)? {
+        self.gate.schema_is();
+        if !self.gate.request_conforms(alloc, &self.now)? {
             return Err(AnswerFault::NotConforming);
         }
         Ok(())
@@ -250,20 +241,13 @@ impl<'g, 'e, S: Schema, T: FunctionCalls> Session<'g, 'e, S, T> {
 
     // The answer over what is loaded.
     fn respond(&self, alloc: Global) -> Result<Response, AllocError>
-        ensures { IfOk result (λ r. (c : Course) (s : State) → IsProper c → IsAt S.schema T.functions (session_of c) s self.entry.now → policies_in self.entry.now ≡ c.submission.policies → NothingIsWanted (session_of c) s → ((f : AnswerRefusal) → AnswerIsRefused (session_of c) s f → ⊥) → answer_of r ≡ as_concrete (answer_meant (world_now (session_of c) s) c.submission.policies)) }
+        ensures { IfOk result (λ r. (c : Course) (s : State) → IsProper c → IsAt G.suits (session_of c) s self.entry.now → policies_in G.accepted self.entry.now ≡ c.submission.policies → NothingIsWanted (session_of c) s → ((f : AnswerRefusal) → AnswerIsRefused (session_of c) s f → ⊥) → answer_of r ≡ as_concrete (answer_meant (world_now (session_of c) s) c.submission.policies)) }
     {
         uids_are_uids();
         accepted_policies_are_fit();
         answers_are_the_meaning();
         let entities = store_of(alloc, self.loaded.as_slice())?;
-        let evaluator: Evaluator<'_, Extensions<'_>> = Evaluator::new(
-            self.now.clone()?,
-            &entities,
-            self.basis.table,
-            self.basis.limit,
-        )
-        .with_unknowns(&self.bound);
-        let response = respond(alloc, &evaluator, self.basis.policies)?;
-        Ok(response)
+        self.gate
+            .respond(alloc, self.now.clone()?, &entities, &self.bound)
     }
 }

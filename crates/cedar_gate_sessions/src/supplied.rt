@@ -6,15 +6,15 @@ ghost use Rattle.cedar_gate_wanted.specs.Rows.{uids};
 ghost use Rattle.cedar_gate_sessions.specs.Entities.{supplied_pair, supplied_of, supplied_entities, mentioned_by_this, row_pair, mentions_pair};
 ghost use Rattle.cedar_gate_sessions.specs.Loaded.{is_right};
 
-use crate::basis::Schema;
 use crate::faults::SupplyFault;
+use crate::gates::Schema;
 use cedar_expr_names::EntityUID;
 use cedar_gate_openings::mentioned_by;
 use cedar_gate_wanted::Loading;
 use cedar_store_entities::Entity;
 use std::alloc::{AllocError, Global};
 
-/// Whether each entity is under its uid and conforms. Answers want of memory.
+/// Whether each entity is under its uid and conforms. Fails only out of memory.
 pub(crate) fn are_right<S: Schema>(
     alloc: Global,
     schema: &S,
@@ -49,7 +49,7 @@ fn is_right<S: Schema>(
     }
 }
 
-/// What each uid mentions, and the entities. Answers want of memory.
+/// What each uid mentions, and the entities. Fails only out of memory.
 pub(crate) fn parted(
     alloc: Global,
     supplied: Vec<(EntityUID, Option<Entity>)>,
@@ -115,7 +115,7 @@ ghost use Rattle.cedar_gate_sessions.specs.Faults.{IsTakingFault};
 ///
 /// # Errors
 ///
-/// 1 a uid isn't wanted, 2 a wanted one lacks, 3 one stands twice; or want of memory. All is as before then.
+/// 1 a uid isn't wanted, 2 a wanted one lacks, 3 one stands twice; or out of memory. All is as before then.
 pub(crate) fn take_in<S: Schema>(
     alloc: Global,
     schema: &S,

@@ -7,7 +7,6 @@ use Rattle.cedar_gate_model.specs.Bundle.{Functions, Bundle}
 use Rattle.cedar_gate_model.specs.ReadingBundle.{input_read}
 use Rattle.cedargate.specs.Ranks.{rank_answers}
 use Rattle.cedargate.specs.Tables.{rank_functions}
-use Rattle.cedargate.specs.declared.table.RankCalls.{RankCalls}
 
 -- those of a table, with the calls that make their values
 abbrev pub served_by : {B : _} {F : _} {g : _} → Extensions B F g → Functions
@@ -16,6 +15,3 @@ served_by t = rank_functions (table_of t rank_answers)
 -- what an input reads as by them
 abbrev pub read_by : {B : _} {F : _} {g : _} → Extensions B F g → List ℕ → Option Bundle
 read_by t bytes = input_read (served_by t) bytes
-
-abbrev pub functions_served : {B : _} {F : _} {g : _} → RankCalls B F g → Functions
-functions_served c = served_by c.table.now

@@ -45,7 +45,7 @@ pub fn label(alloc: Global, args: &[V]) -> Result<ExtensionOutputValue, CallFaul
     }
 }
 
-/// The name of one identifier. Answers want of memory, also where the text is no identifier.
+/// The name of one identifier. Answers out of memory also where the text is no identifier.
 pub fn name(alloc: Global, text: &str) -> Result<Name, AllocError>
     ensures { IfOk result (λ n. plain_name_of n ≡ unqualified text.now) }
 {

@@ -3,25 +3,24 @@
 ghost use Rattle.std.specs.Prelude.{◌≡◌, List, ℕ, Some, IfErr};
 ghost use Rattle.cedar_evaluator_restricted_exprs.specs.Answers.{AnswersMade};
 ghost use Rattle.cedar_expr_functions.specs.Tables.{table_of};
+ghost use Rattle.cedar_gate.specs.Serving.{ServeGives, LeavesAlone};
 ghost use Rattle.cedar_gate_model.specs.Headline.{Promises};
 ghost use Rattle.cedar_gate_model.specs.Lines.{Prints};
 ghost use Rattle.cedargate.specs.Ranks.{rank_calls, rank_answers};
-ghost use Rattle.cedargate.specs.Tables.{HoldsRanks};
-ghost use Rattle.cedar_gate_service.specs.Serving.{ServeGives, LeavesAlone};
 ghost use Rattle.cedargate.specs.Served.{served_by, read_by};
+ghost use Rattle.cedargate.specs.Tables.{HoldsRanks};
 
-use crate::table::RankCalls;
 use cedar_expr_functions::Extensions;
-use cedar_gate_service::{ServeFault, Status, serve};
+use cedar_gate::{ServeFault, Status, serve};
 use std::alloc::Global;
 use std::io::{Read, Write};
 
-/// Reads a bundle and writes the lines that are printed for it, by the functions `rank` and `label` of this table, which answer fairly. The
-/// lines of a run keep the promises of the headline.
+/// Reads a bundle and writes the lines that are printed for it, by the functions `rank` and `label` of this table, which is fair. The lines
+/// of a run keep the promises of the headline.
 ///
 /// # Errors
 ///
-/// Want of memory or a fault of the reader, and nothing is written; or a fault of the writer, which then holds a beginning
+/// Out of memory or a fault of the reader, and nothing is written; or a fault of the writer, which then holds a beginning
 /// of the lines.
 pub fn serve_ranks<R: Read + Drop, W: Write + Drop>(
     alloc: Global,
@@ -37,6 +36,5 @@ pub fn serve_ranks<R: Read + Drop, W: Write + Drop>(
         → ServeGives (Promises (served_by table.now) (read_by table.now bytes)) (W.contents writer.old) (W.contents writer.new) result }
     ensures unchanged { IfErr result (λ e. LeavesAlone e (writer.new ≡ writer.old)) }
 {
-    let calls = RankCalls::new(table);
-    serve(alloc, reader, writer, &calls, table)
+    serve(alloc, reader, writer, table)
 }

@@ -13,14 +13,12 @@ ghost use Rattle.cedargate.specs.Outcomes.{ComesTo, made_values};
 ghost use Rattle.cedargate.specs.Tables.{rank_signature, label_signature, HoldsRanks, rank_functions};
 ghost use Rattle.cedargate.specs.Stored.{AreRankFunctions};
 
-use crate::functions::{V, name};
-use cedar_evaluator_restricted_exprs::{FunctionCalls, Left, RestrictedFault, call_in};
+use crate::functions::name;
 use cedar_expr_functions::{CallStyle, Extension, ExtensionFunction, Extensions, Func};
-use cedar_expr_names::Name;
 use cedar_expr_values::Type;
 use std::alloc::{AllocError, Global};
 
-/// The function `rank`, which makes ranks of texts. What is stored comes to what `rank` answers. Answers want of memory.
+/// The function `rank`, which makes ranks of texts. What is stored comes to what `rank` answers. Fails only out of memory.
 pub fn rank_function(alloc: Global, func: Func) -> Result<ExtensionFunction, AllocError>
     requires callable { (a : _) (xs : _) → pre func a xs }
     requires answers { (a : _) (xs : _) (r : _) → post func a xs r → ComesTo (ranked (made_values xs.now)) r }
@@ -67,7 +65,7 @@ fn rank_type(alloc: Global) -> Result<Type, AllocError>
     Ok(Type::Extension { name })
 }
 
-/// The extension of these two functions, in which ranks are ordered. Answers want of memory.
+/// The extension of these two functions, in which ranks are ordered. Fails only out of memory.
 pub fn ranks(
     alloc: Global,
     rank: ExtensionFunction,
@@ -85,7 +83,7 @@ pub fn ranks(
     Ok(Extension::new(name(alloc, "rank")?, functions, ordered))
 }
 
-/// The table of the extension, which has these two functions. Answers want of memory.
+/// The table of the extension, which has these two functions. Fails only out of memory.
 pub fn table_of<'a>(alloc: Global, extension: &'a Extension) -> Result<Extensions<'a>, AllocError>
     requires functions { AreRankFunctions (functions_in extension.now) }
     requires ordered { ordered_in extension.now ≡ rank_name ∷ [] }
@@ -96,34 +94,5 @@ pub fn table_of<'a>(alloc: Global, extension: &'a Extension) -> Result<Extension
     match Extensions::specific_extensions(alloc, std::slice::from_ref(extension)) {
         Ok(table) => Ok(table),
         Err(_) => Err(AllocError),
-    }
-}
-
-/// The functions `rank` and `label` of a table.
-#[derive(Drop)]
-pub struct RankCalls<'t, 'a> {
-    table: &'t Extensions<'a>,
-    ghost made: { AnswersMade table.now rank_calls },
-}
-
-impl<'t, 'a> RankCalls<'t, 'a> {
-    ghost use Rattle.cedargate.specs.Served.{functions_served};
-
-    /// The functions of this table, which answer as these do.
-    pub fn new(table: &'t Extensions<'a>) -> RankCalls<'t, 'a>
-        requires { AnswersMade table.now rank_calls }
-        ensures { functions_served result ≡ rank_functions (tables.table_of table.now rank_answers) }
-    {
-        RankCalls { table }
-    }
-}
-
-impl<'t, 'a> FunctionCalls for RankCalls<'t, 'a> {
-    ghost use Rattle.cedargate.specs.Served.{functions_served};
-
-    ghost functions = { functions_served };
-
-    fn call(&self, alloc: Global, name: &Name, args: &[V]) -> Result<Left, RestrictedFault> {
-        call_in(alloc, self.table, name, args)
     }
 }

@@ -1,6 +1,7 @@
 use Rattle.std.proofs.Common.{◌≡◌, ◌+◌, ◌*◌, true, drop, length}
 use Rattle.std.specs.BTreeMap.{values}
 use Rattle.cedar_evaluator_model.specs.Evaluation.{evaluated}
+use Rattle.cedar_gate_model.specs.Bundle.{Functions}
 use Rattle.cedar_gate_model.specs.ReadingValue.{with_functions}
 use Rattle.cedar_evaluator_restricted_exprs.specs.Restricted.{are_restricted, have_restricted}
 use Rattle.cedar_evaluator_restricted_exprs.proofs.Gathered.{SoFar, trees_in}
@@ -28,10 +29,10 @@ abbrev pub decreases-field_pieces : goal.decreases-field_pieces
 decreases-field_pieces g l = 4 * l.deeper + 1
 
 abbrev pub invariant-pieces-loop-e : goal.invariant-pieces-loop-e
-invariant-pieces-loop-e g l = are_restricted (trees_in l.exprs) ≡ true → SoFar (evaluated (with_functions (g.T.FunctionCalls.functions l.functions)) l.deeper) (trees_in l.exprs) l.values.items (trees_in (drop l.e-index l.exprs))
+invariant-pieces-loop-e g l = (x : Functions) → g.T.FunctionCalls.agrees l.functions x → are_restricted (trees_in l.exprs) ≡ true → SoFar (evaluated (with_functions x) l.deeper) (trees_in l.exprs) l.values.items (trees_in (drop l.e-index l.exprs))
 
 abbrev pub invariant-field_pieces-loop-e : goal.invariant-field_pieces-loop-e
-invariant-field_pieces-loop-e g l = have_restricted l.fields.entries ≡ true → SoFar (evaluated (with_functions (g.T.FunctionCalls.functions l.functions)) l.deeper) (trees_in (values l.fields)) l.values.items (trees_in l.left.left)
+invariant-field_pieces-loop-e g l = (x : Functions) → g.T.FunctionCalls.agrees l.functions x → have_restricted l.fields.entries ≡ true → SoFar (evaluated (with_functions x) l.deeper) (trees_in (values l.fields)) l.values.items (trees_in l.left.left)
 
 abbrev pub decreases-field_pieces-loop-e : goal.decreases-field_pieces-loop-e
 decreases-field_pieces-loop-e g l = length l.left.left

@@ -1,0 +1,13 @@
+-- What is left of a record, as a context.
+-- Rule: requests and contexts; restricted expressions (docs/RULES.md).
+use Rattle.std.specs.Prelude.{◌≡◌, true, IsSome}
+use Rattle.cedar_expr_model.specs.Restricted.{is_restricted}
+use Rattle.cedar_expr_model.specs.Unknowns.{has_unknown}
+use Rattle.cedar_evaluator_model.specs.Reauthorize.{context_from}
+use Rattle.cedar_evaluator_model.specs.Scope.{Left, value_left, residual, stopped}
+
+-- what is left of a record: one of values; or one of restricted expressions in which an unknown stands; or nothing
+abbrev pub IsOfRecord : Left → Type 0
+IsOfRecord (value_left m) = IsSome (context_from (value_left m))
+IsOfRecord (residual r) = IsSome (context_from (residual r)) × (has_unknown r ≡ true) × (is_restricted r ≡ true)
+IsOfRecord (stopped s) = Unit {0}

@@ -1,0 +1,40 @@
+//! Sessions of a gate.
+
+ghost use Rattle.std.specs.Prelude.{◌≡◌, List, IfOk, IfErr, OnOk};
+ghost use Rattle.cedar_evaluator_requests.specs.Views.{request_of};
+ghost use Rattle.cedar_gate.specs.Courses.{IsCourseOf};
+ghost use Rattle.cedar_gate.specs.Gates.{IsSetupOf, accepted_in};
+ghost use Rattle.cedar_gate_model.specs.RunsAnswer.{Course};
+ghost use Rattle.cedar_gate_model.specs.Session.{Setup, at_start};
+ghost use Rattle.cedar_gate_openings.specs.Faults.{opens, IsOpenFault};
+ghost use Rattle.cedar_gate_runs.specs.declared.steps.Step.{Step};
+ghost use Rattle.cedar_gate_sessions.specs.Courses.{Stands};
+ghost use Rattle.cedar_gate_sessions.specs.Sessions.{IsAt, IsSetup, gate_of};
+
+use crate::gate::Gate;
+use cedar_evaluator_requests::Request;
+use cedar_gate_openings::{OpenFault, context_is_made};
+use cedar_gate_sessions::SessionAt;
+use std::alloc::Global;
+
+/// A session of one request at a gate that is borrowed for as long as the functions of its table are.
+pub type Session<'g> = SessionAt<'g, Gate<'g, 'g, 'g>>;
+
+impl<'g> Gate<'g, 'g, 'g> {
+    /// Opens a session of this request, of which parts may be unknown. The gate is borrowed for as long as the functions of its table are;
+    /// `SessionAt::open` asks for less.
+    ///
+    /// # Errors
+    ///
+    /// 1 the name of an unknown in the context holds a double quote, 2 it is that of a variable; or out of memory.
+    pub fn open(&'g self, alloc: Global, request: Request) -> Result<Session<'g>, OpenFault>
+        ensures gate { IfOk result (λ e. gate_of e ≡ self.entry.now) }
+        ensures at { IfOk result (λ e. (x : Setup) → IsSetup IsSetupOf x self.entry.now request → IsAt IsSetupOf x at_start e) }
+        ensures stands { IfOk result (λ e. (c : Course) (steps : List Step) → IsCourseOf self.entry.now request steps c → Stands IsSetupOf accepted_in c at_start e) }
+        ensures opens { OnOk result (opens (request_of request)) }
+        ensures refused { IfErr result (IsOpenFault (request_of request)) }
+    {
+        context_is_made(&request);
+        SessionAt::open(alloc, self, request)
+    }
+}

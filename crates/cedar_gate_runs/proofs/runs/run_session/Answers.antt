@@ -1,0 +1,64 @@
+use Rattle.std.proofs.Common.{Some, refl, sym, ap, ◌∙◌, subst}
+use Rattle.cedar_gate_model.specs.Session.{at_start}
+use Rattle.cedar_gate_runs.proofs.Asked.{asked_first, keeps_answered}
+use Rattle.cedar_gate_runs.proofs.Ended.{steps_bind_well, run_answers, run_stops}
+use Rattle.cedar_gate_runs.proofs.Losing.{so_far, rounds_once, stopped_once}
+use Rattle.cedar_gate_runs.specs.Lost.{AskedSoFar}
+use Rattle.cedar_gate_runs.specs.Transcripts.{entries_of}
+use Rattle.cedar_gate_runs.specs.declared.transcript.Transcript.{Transcript}
+use Rattle.cedar_gate_runs.proofs.runs.run_session.Goals as goal
+
+-- a run that came to its answer
+pub returns-in-Ok-clause-run : goal.returns-in-Ok-clause-run
+returns-in-Ok-clause-run g c = λ d by.
+    let stands = g.E.SessionCalls.stands in
+    let t : Transcript = record { entries = c.follow.new.entries; answer = Some c.in-Ok.response } in
+    run_answers stands d c.args.session c.args.steps.items by.session t c.in-Ok.response _ refl (ap entries_of c.new-entries.ensures.items)
+    (c.in-Ok.ensures.answered d at_start by.session.stands by.host (steps_bind_well stands d c.args.session c.args.steps.items by.session))
+
+pub returns-in-Ok-clause-promises : goal.returns-in-Ok-clause-promises
+returns-in-Ok-clause-promises g c = λ d by proper fair.
+    let t : Transcript = record { entries = c.follow.new.entries; answer = Some c.in-Ok.response } in
+    keeps_answered c.runs_keep_the_headline.ensures d proper fair t (returns-in-Ok-clause-run g c d by)
+
+pub returns-in-Ok-clause-host : goal.returns-in-Ok-clause-host
+returns-in-Ok-clause-host g c = record {
+  lists = c.in-Ok.ensures.asked (g.H.Host.asked c.args.host.now) (asked_first _ _ (ap entries_of c.new-entries.ensures.items));
+  counted = c.in-Ok.ensures.faults;
+}
+
+pub returns-in-Ok-clause-asked : goal.returns-in-Ok-clause-asked
+returns-in-Ok-clause-asked g c = λ d by. record {
+  last = tt;
+  once = λ proper fair.
+      let k = returns-in-Ok-clause-promises g c d by proper fair in
+      rounds_once d (g.H.Host.asked c.args.host.now) _ (entries_of c.follow.new.entries.items) _ k.2 (returns-in-Ok-clause-host g c).lists;
+}
+
+-- a run that stopped
+pub returns-clause-run : goal.returns-clause-run
+returns-clause-run g c = λ d by.
+    let stands = g.E.SessionCalls.stands in
+    c.stopped.ensures.stopped d by.session.opens
+    (run_stops stands d c.args.session c.args.steps.items by.session _ _ c.in-Err.stop (ap entries_of c.new-entries.ensures.items)
+    (c.in-Err.ensures.stopped d at_start by.session.stands by.host (steps_bind_well stands d c.args.session c.args.steps.items by.session)))
+
+pub returns-clause-host : goal.returns-clause-host
+returns-clause-host g c = record {
+  lists = c.stopped.ensures.asked (g.H.Host.asked c.args.host.now) _ (c.in-Err.ensures.beyond (g.H.Host.asked c.args.host.now) (asked_first _ _ (ap entries_of c.new-entries.ensures.items)));
+  counted = c.in-Err.ensures.counted ∙ sym (c.stopped.ensures.counted (g.H.Host.faults c.args.host.now));
+}
+
+pub returns-clause-asked : goal.returns-clause-asked
+returns-clause-asked g c = λ d by.
+    let stands = g.E.SessionCalls.stands in
+    let last = subst (λ es. AskedSoFar d (g.H.Host.asked c.args.host.now) (g.H.Host.asked c.follow.new.host) es) (sym c.stopped.ensures.entries)
+    (so_far stands d c.args.session c.args.steps.items by.session _ _ _ _ (ap entries_of c.new-entries.ensures.items)
+    (c.in-Err.ensures.last d at_start (g.H.Host.asked c.args.host.now) by.session.stands by.host (steps_bind_well stands d c.args.session c.args.steps.items by.session) (asked_first _ _ (ap entries_of c.new-entries.ensures.items)))) in
+    record { last = last; once = λ proper fair. stopped_once c.moments_keep.ensures.keep c.moments_keep.ensures.wanted d _ _ _ proper fair last }
+
+pub returns-clause-promises : goal.returns-clause-promises
+returns-clause-promises g c = λ d by proper fair. let h = (returns-clause-asked g c d by).last in c.moments_keep.ensures.keep d _ h.state proper fair h.came
+
+pub returns-clause-no_answer : goal.returns-clause-no_answer
+returns-clause-no_answer g c = c.stopped.ensures.no_answer

@@ -1,4 +1,0 @@
-pub mod Runs
-pub mod Serving
-pub mod Printed
-pub mod Checks

@@ -1,0 +1,15 @@
+use Rattle.std.proofs.Common.{ap, ◌∙◌}
+use Rattle.cedar_gate_model.specs.RunsAnswer.{session_of}
+use Rattle.cedar_gate_sessions.specs.Entities.{supplied_of}
+use Rattle.cedar_gate_sessions.proofs.courses.SessionAtSessionCalls.supply.Goals as goal
+
+pub returns-in-Ok-clause-at : goal.returns-in-Ok-clause-at
+returns-in-Ok-clause-at g c = λ d s h a. record {
+  proper = h.proper;
+  fair = h.fair;
+  at = c.in-Ok.ensures.at (session_of d) s h.at (record { answered = a.answered; written = a.written });
+  policies = ap g.G.GateCalls.accepted c.in-Ok.ensures.gate ∙ h.policies;
+}
+
+pub returns-in-Err-clause-refused : goal.returns-in-Err-clause-refused
+returns-in-Err-clause-refused g c = λ d s h. c.refused_supply.ensures (session_of d) s (supplied_of c.args.supplied.items) (c.in-Err.ensures.refused (session_of d) s h.at)
