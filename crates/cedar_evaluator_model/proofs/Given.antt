@@ -6,13 +6,14 @@ use Rattle.std.specs.declared.cmp.Ordering.{Ordering}
 use Rattle.cedar_expr_model.specs.Name.{Name, name_eq}
 use Rattle.cedar_expr_model.specs.Uid.{Uid}
 use Rattle.cedar_expr_model.specs.Value.{truth, long, text, entity, V, prim, set_of, record_of, extension, Vs}
+use Rattle.cedar_expr_model.specs.Ranges.{is_long}
 use Rattle.cedar_expr_model.specs.Order.{text_cmp}
 use Rattle.cedar_expr_model.specs.Pattern.{Pattern}
 use Rattle.cedar_expr_model.specs.Tree.{Tree, UnaryOp, negation, minus, is_empty}
 use Rattle.cedar_expr_model.specs.Made.{Made, made_prim, bare}
 use Rattle.cedar_expr_model.specs.Table.{Table, is_ordered}
 use Rattle.cedar_store_model.specs.Outcome.{Res, val, err, wrong_type, overflow, zero_divisor, bind}
-use Rattle.cedar_store_model.specs.Operators.{is_long, in_range, says, applied, ordered, calculated, remains, among_members, of_sets, like_pattern, of_type}
+use Rattle.cedar_store_model.specs.Operators.{in_range, says, applied, ordered, calculated, remains, among_members, of_sets, like_pattern, of_type}
 use Rattle.cedar_store_model.specs.Reads.{is_in_some}
 use Rattle.cedar_store_model.specs.Meaning.{picked, truth_asked}
 use Rattle.cedar_evaluator_model.specs.Scope.{Left, value_left}

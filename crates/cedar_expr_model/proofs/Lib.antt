@@ -5,6 +5,7 @@ pub mod UidComputed
 pub mod Escapes
 pub mod UidText
 pub mod UidRead
+pub mod Ranges
 pub mod Linear
 pub mod ValueOrder
 pub mod Rising

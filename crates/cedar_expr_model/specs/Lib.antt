@@ -22,6 +22,7 @@ pub mod Repeats
 pub mod Records
 pub mod Names
 pub mod Uids
+pub mod Ranges
 pub mod ValueParts
 pub mod Shape
 pub mod Texts

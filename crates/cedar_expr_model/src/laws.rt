@@ -1,6 +1,6 @@
 //! Laws of the definitions for every kind. Each function's contract is the theorem; its body does nothing.
 
-ghost use Rattle.cedar_expr_model.specs.TextLaws.{UidsAreReadable, UidsHoldQuotes};
+ghost use Rattle.cedar_expr_model.specs.TextLaws.{TextsAreOfCharacters, UidsAreReadable, UidsHoldQuotes};
 ghost use Rattle.cedar_expr_model.specs.Order.{text_cmp, name_order, uid_order, literal_cmp, value_cmp};
 ghost use Rattle.cedar_expr_model.specs.Shape.{tree_cmp};
 ghost use Rattle.cedar_expr_model.specs.Laws.{IsLinear, NamesByText, UidsByText, ValuesDecide, CanonicalSame, SetsAreCanonical, SetsRise, MembersAreListed, MembersDecide, SetsAreSame, SetsAreMade, FieldsAreFound, PatternsDecide, CoreTypesDecide, AnnotationsDecide};
@@ -142,6 +142,11 @@ pub fn shapes_tell_apart()
 pub fn represented_values_are_right()
     ensures result { RepresentedHasResult }
     ensures calls { RepresentedIsValid }
+{}
+
+/// The test of a text is true exactly where the text is the UTF-8 of characters.
+pub fn texts_are_of_characters()
+    ensures { TextsAreOfCharacters }
 {}
 
 /// Each uid can be read again from its text.

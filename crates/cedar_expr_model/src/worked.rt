@@ -31,6 +31,7 @@ ghost use Rattle.cedar_expr_model.specs.OfLaws.Represented.{IsRepresented};
 ghost use Rattle.cedar_expr_model.specs.Names.{is_unqualified, namespace_of, within, qualified, possibilities, cedar_name, unreserved_read, name_given, reserved_given, nothing_given};
 ghost use Rattle.cedar_expr_model.specs.TreeLaws.{is_plain};
 ghost use Rattle.cedar_expr_model.specs.Uids.{is_uid};
+ghost use Rattle.cedar_expr_model.specs.Ranges.{least_long, greatest_long, is_long, is_character, is_byte, is_in_range};
 ghost use Rattle.cedar_expr_model.specs.NameWorked.{awkward_uid};
 ghost use Rattle.cedar_expr_model.specs.ValueParts.{value_of_tree, known, left, split, values_alone, with_residuals};
 ghost use Rattle.cedar_expr_model.specs.Worked.{plain, user, doc, rank_name, label_name, deep_name, false_name, alice, bob, number, word, flag, one_two, two_one_one, falling, rising, a_then_b, b_then_a, f_to_r, f_and_more, truth_lit, number_lit, named, named_as, two_unknowns, unrestricted, with_principal, rank_of, rank_of_two, lost_call, made_number, made_truth, made_rank, only_x, x_and_y, nothing_bound, number_for_truth, unknown_as, rank_function, label_function, join_function, unknown_function, other_rank_function, other_label_function, worked_table, typed_table, unfair_table, variable_builder, true_rank, feigned_rank};
@@ -459,4 +460,30 @@ pub fn worked_uids()
     ensures awkward { is_uid awkward_uid ≡ true }
     ensures no_name { is_uid (record { kind = record { path = []; base = codes "a::b" }; id = [] }) ≡ false }
     ensures no_text { is_uid (record { kind = user; id = 255 ∷ [] }) ≡ false }
+{}
+
+/// The ranges at their bounds: of whole numbers, of characters, which leave out the surrogates, and of bytes.
+pub fn worked_ranges()
+    ensures least { is_long least_long ≡ true }
+    ensures below { is_long (negsuc 9223372036854775808) ≡ false }
+    ensures greatest { is_long greatest_long ≡ true }
+    ensures above { is_long (pos 9223372036854775808) ≡ false }
+    ensures before_surrogates { is_character 0xD7FF ≡ true }
+    ensures first_surrogate { is_character 0xD800 ≡ false }
+    ensures last_surrogate { is_character 0xDFFF ≡ false }
+    ensures after_surrogates { is_character 0xE000 ≡ true }
+    ensures last_character { is_character 0x10_FFFF ≡ true }
+    ensures no_character { is_character 0x11_0000 ≡ false }
+    ensures bytes { is_byte 255 ≡ true }
+    ensures no_byte { is_byte 256 ≡ false }
+{}
+
+/// Which values are in range, and which aren't: for a number that is too large, bytes that are no text, and a key of more than bytes.
+pub fn worked_values_in_range()
+    ensures number { is_in_range (set_of (value (prim (long least_long)) no_values)) ≡ true }
+    ensures too_large { is_in_range (set_of (value (prim (long (pos 9223372036854775808))) no_values)) ≡ false }
+    ensures texts { is_in_range (record_of (field (codes "a") (prim (text (codes "b"))) no_fields)) ≡ true }
+    ensures no_text { is_in_range (record_of (field (codes "a") (prim (entity (record { kind = user; id = 255 ∷ [] }))) no_fields)) ≡ false }
+    ensures key { is_in_range (extension rank_name (255 ∷ [])) ≡ true }
+    ensures no_key { is_in_range (extension rank_name (256 ∷ [])) ≡ false }
 {}

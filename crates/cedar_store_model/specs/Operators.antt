@@ -1,11 +1,12 @@
 -- Operators at the values of their operands. Where no clause says otherwise the operands have a wrong type.
 -- Rule: the meaning (docs/RULES.md).
-use Rattle.std.specs.Prelude.{◌&&◌, ℤ, pos, neg_ℤ, int_le, int_rem, List, length, Bool, not, Option, Some, option_map, if◌then◌else◌}
+use Rattle.std.specs.Prelude.{◌&&◌, ℤ, pos, neg_ℤ, int_rem, List, length, Bool, not, Option, Some, option_map, if◌then◌else◌}
 use Rattle.std.specs.Option.{option_map_or}
 use Rattle.std.specs.Ordering.{int_cmp, int_eq}
 use Rattle.std.specs.declared.cmp.Ordering.{Ordering}
 use Rattle.cedar_expr_model.specs.Name.{Text, Name, name_eq}
 use Rattle.cedar_expr_model.specs.Value.{truth, long, text, entity, V, prim, set_of, extension, Vs, values_list, truth_value}
+use Rattle.cedar_expr_model.specs.Ranges.{is_long}
 use Rattle.cedar_expr_model.specs.Lists.{is_nil}
 use Rattle.cedar_expr_model.specs.Order.{text_cmp}
 use Rattle.cedar_expr_model.specs.Canonical.{is_member}
@@ -13,10 +14,6 @@ use Rattle.cedar_expr_model.specs.Pattern.{Pattern, matches_text}
 use Rattle.cedar_expr_model.specs.Tree.{UnaryOp, negation, minus, is_empty}
 use Rattle.cedar_expr_model.specs.Table.{Table, Signature, signature_of, is_ordered, takes_count, are_of_types, Called, gives, fails, leaves}
 use Rattle.cedar_store_model.specs.Outcome.{Res, val, err, wrong_type, overflow, zero_divisor, extension_failed, no_function, wrong_count}
-
--- whole numbers of 64 bits
-abbrev pub is_long : ℤ → Bool
-is_long n = int_le (neg_ℤ (pos 9223372036854775808)) n && int_le n (pos 9223372036854775807)
 
 -- the number, or an overflow
 abbrev pub in_range : ℤ → Res V

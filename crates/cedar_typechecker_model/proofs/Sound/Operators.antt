@@ -7,6 +7,7 @@ use Rattle.std.specs.declared.cmp.Ordering.{Ordering}
 use Rattle.cedar_expr_model.specs.Name.{Name, name_eq}
 use Rattle.cedar_expr_model.specs.Uid.{Uid, uid_eq}
 use Rattle.cedar_expr_model.specs.Value.{truth, long, text, entity, V, prim, set_of, extension, Vs}
+use Rattle.cedar_expr_model.specs.Ranges.{is_long}
 use Rattle.cedar_expr_model.specs.Order.{value_eq}
 use Rattle.cedar_expr_model.specs.Pattern.{Pattern}
 use Rattle.cedar_expr_model.specs.Tree.{UnaryOp, negation, minus, is_empty, Tree}
@@ -15,7 +16,7 @@ use Rattle.cedar_expr_model.proofs.Equality.{name_eq-Decides, uid_eq-Decides}
 use Rattle.cedar_expr_model.proofs.Lists.{all_each, any_has}
 use Rattle.cedar_expr_model.proofs.ValueOrder.{values_decide}
 use Rattle.cedar_store_model.specs.Outcome.{Res, val, err, wrong_type, overflow, zero_divisor}
-use Rattle.cedar_store_model.specs.Operators.{is_long, in_range, says, applied, ordered, calculated, remains, among_members, of_sets, like_pattern, of_type}
+use Rattle.cedar_store_model.specs.Operators.{in_range, says, applied, ordered, calculated, remains, among_members, of_sets, like_pattern, of_type}
 use Rattle.cedar_schema_model.specs.Types.{BoolType, any_bool, only_true, only_false, Ty, bool_type, long_type, string_type, any_entity, entity_types, any_set, set_type, extension_type, strict}
 use Rattle.cedar_schema_model.specs.HasType.{is_of_bool, HasType}
 use Rattle.cedar_schema_model.specs.Join.{join, are_disjoint}
