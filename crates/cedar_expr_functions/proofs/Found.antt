@@ -1,39 +1,45 @@
 -- What a table finds under a name, and how it answers there.
-use Rattle.std.proofs.Common.{◌≡◌, ◌<◌, List, [], ◌∷◌, map, length, Bool, true, false, cond, ◌&&◌, Option, Some, None, option_map, IfSome, find, refl, sym, ap, ◌∙◌, subst}
+use Rattle.std.proofs.Common.{◌≡◌, ◌<◌, ℕ, zero, suc, get_or, Result, Ok, Err, List, [], ◌∷◌, map, length, Bool, true, false, cond, Option, Some, None, option_map, IfSome, find, refl, sym, ap, ◌∙◌, subst, arith}
 use Rattle.std.specs.Prelude.{IsPermutation, All, Contains}
 use Rattle.std.proofs.lemmas.List.Sorted.{IsPermutation-map}
 use Rattle.std.proofs.lemmas.List.{length-map, get_or-map}
 use Rattle.std.proofs.lemmas.List.Elements.{All-contains_itself}
-use Rattle.std.proofs.lemmas.Map.Views.{All-map-IsPermutation, IfSome-lookup_from_All}
-use Rattle.std.specs.BTreeMap.{is_at, values}
+use Rattle.std.proofs.lemmas.Map.Views.{All-map-IsPermutation}
+use Rattle.std.proofs.lemmas.Cmp.{tied_back, alike_right, on_total, nat_list_cmp_total}
+use Rattle.std.specs.Cmp.{IsTotalOrder}
+use Rattle.std.specs.Ordering.{is_eq}
+use Rattle.std.specs.Result.{MatchResult}
+use Rattle.std.specs.List.Sorted.{IsStrictlySortedBy, IsSearchInRange, IsBinarySearchResult}
+use Rattle.std.specs.declared.cmp.Ordering.{Ordering}
+use Rattle.std.specs.declared.cmp.Ordering.TheVariants.{Less, Equal, Greater}
 use Rattle.std.specs.Borrow.{Bor}
 use Rattle.std.specs.List.{filter_map, cons_option}
-use Rattle.std.specs.Map.{lookup, values_of}
+use Rattle.cedar_expr_model.specs.Name as model
 use Rattle.cedar_expr_model.specs.Name.{name_eq}
 use Rattle.cedar_expr_model.specs.Table.{Signature}
 use Rattle.cedar_expr_model.proofs.Equality.{name_eq-Decides}
-use Rattle.cedar_expr_names.specs.Views.{plain_name_of}
-use Rattle.cedar_expr_names.specs.contracts.name.NameOrd.TheImpl as name_order
+use Rattle.cedar_expr_names.specs.Views.{plain_name_of, name_bytes}
 use Rattle.cedar_expr_names.specs.declared.name.Name.{Name}
 use Rattle.cedar_expr_functions.specs.Signatures.{given_type}
 use Rattle.cedar_expr_functions.specs.Functions.{function_name, function_signature, IsAnsweredBy}
-use Rattle.cedar_expr_functions.specs.Named.{are_named, all_functions, all_signatures}
+use Rattle.cedar_expr_functions.specs.Named.{NamesRise, names_compared, all_functions, all_signatures}
 use Rattle.cedar_expr_functions.specs.Tables.{AnswersInTable, AnswersAsExtensions, AnswersAs, IsNamedIn, stored_in}
 use Rattle.cedar_expr_functions.specs.declared.extension.Extension.{Extension}
 use Rattle.cedar_expr_functions.specs.declared.extension.ExtensionFunction.{ExtensionFunction}
 use Rattle.cedar_expr_functions.specs.declared.extensions.Extensions.{Extensions}
+use Rattle.cedar_expr_values.proofs.Searched.{at_each, halved}
 use Rattle.cedar_expr_functions.proofs.Distinct.{names_alike}
-
-both_left : (a b : Bool) → (a && b) ≡ true → a ≡ true
-both_left true b h = refl
-both_left false b h = h
-
-both_right : (a b : Bool) → (a && b) ≡ true → b ≡ true
-both_right true b h = h
-both_right false b h = absurd (cc)
 
 all_before : {A B : Type 0} (P : B → Type 0) (f : A → B) (xs : List A) → All P (map f xs) → All (λ x. P (f x)) xs
 all_before P f xs h = λ k d below. subst P (get_or-map f xs k d (f d) below) (h k (f d) (subst (λ n. k < n) (sym (length-map xs f)) below))
+
+names_total : IsTotalOrder names_compared
+names_total = on_total (λ (n : Name). name_bytes n.internal) nat_list_cmp_total
+
+-- no names rise
+pub none_rise : IsStrictlySortedBy names_compared []
+unfolding IsStrictlySortedBy
+none_rise = tt
 
 module _ {B : _} {F : _} {g : _} where
   -- the types that these functions give
@@ -44,50 +50,95 @@ module _ {B : _} {F : _} {g : _} where
       go [] = refl
       go (w ∷ ws) = ap (cons_option (given_type (function_signature w.now))) (go ws)
 
-  -- a look-up by a key finds what stands under its name
-  pub found_by : (k : Name) (es : List (Name × Bor (ExtensionFunction B F g))) → are_named es ≡ true
-      → option_map (λ f. function_signature f.now) (lookup (is_at ((name_order.ghosts).cmp k)) es) ≡ find (λ s. name_eq (plain_name_of k) s.name) (map (λ f. function_signature f.now) (values_of es))
-  found_by k [] h = refl
-  found_by k (e ∷ es) h = go (is_at ((name_order.ghosts).cmp k) e.0) (name_eq (plain_name_of k) (function_name e.1.now)) (names_alike k e.0 ∙ ap (name_eq (plain_name_of k)) same) (found_by k es (both_right (name_eq (plain_name_of e.0) (function_name e.1.now)) (are_named es) h))
+  -- the function of this name
+  abbrev pub found_in : model.Name → List (Bor (ExtensionFunction B F g)) → Option (Bor (ExtensionFunction B F g))
+  found_in n fs = find (λ f. name_eq n (function_name f.now)) fs
+
+  -- by the order of names: whether two are the same
+  named : (k : Name) (f : Bor (ExtensionFunction B F g)) → names_compared f.now.name k ≡ Equal → name_eq (plain_name_of k) (function_name f.now) ≡ true
+  named k f e = sym (names_alike k f.now.name) ∙ ap is_eq (tied_back names_total f.now.name k e)
+
+  not_named : (k : Name) (f : Bor (ExtensionFunction B F g)) → (names_compared f.now.name k ≡ Equal → ⊥) → name_eq (plain_name_of k) (function_name f.now) ≡ false
+  not_named k f n = sym (names_alike k f.now.name) ∙ go (names_compared k f.now.name) refl
     where
-      same : plain_name_of e.0 ≡ function_name e.1.now
-      same = (name_eq-Decides (plain_name_of e.0) (function_name e.1.now)).0 (both_left (name_eq (plain_name_of e.0) (function_name e.1.now)) (are_named es) h)
+      go : (r : Ordering) → names_compared k f.now.name ≡ r → is_eq r ≡ false
+      go Less e = refl
+      go Equal e = absurd (n (tied_back names_total k f.now.name e))
+      go Greater e = refl
 
-      go : (s t : Bool) → s ≡ t → option_map (λ f. function_signature f.now) (lookup (is_at ((name_order.ghosts).cmp k)) es) ≡ find (λ s. name_eq (plain_name_of k) s.name) (map (λ f. function_signature f.now) (values_of es))
-          → option_map (λ f. function_signature f.now) (cond s (Some e.1) (lookup (is_at ((name_order.ghosts).cmp k)) es)) ≡ cond t (Some (function_signature e.1.now)) (find (λ s. name_eq (plain_name_of k) s.name) (map (λ f. function_signature f.now) (values_of es)))
-      go true t e' h' = ap (λ b. cond b (Some (function_signature e.1.now)) (find (λ s. name_eq (plain_name_of k) s.name) (map (λ f. function_signature f.now) (values_of es)))) e'
-      go false t e' h' = h' ∙ ap (λ b. cond b (Some (function_signature e.1.now)) (find (λ s. name_eq (plain_name_of k) s.name) (map (λ f. function_signature f.now) (values_of es)))) e'
+  -- a search that ends at a function of this name has found it
+  found_at : (k : Name) (fs : List (Bor (ExtensionFunction B F g))) (i : ℕ) (d : Bor (ExtensionFunction B F g)) → NamesRise fs → i < length fs → names_compared ((get_or fs i d).now.name) k ≡ Equal → found_in (plain_name_of k) fs ≡ Some (get_or fs i d)
+  unfolding IsStrictlySortedBy
+  found_at k [] i d s h e = absurd (omega (arith, h))
+  found_at k (f ∷ fs) zero d s h e = let t = named k f e in rw t refl
+  found_at k (f ∷ fs) (suc i) d s h e =
+      let less = at_each names_total (λ (f : Bor (ExtensionFunction B F g)). f.now.name) (λ n. names_compared f.now.name n ≡ Less) fs i d s.0 (omega (arith, h)) in
+      let below : names_compared f.now.name k ≡ Less = sym (alike_right names_total (get_or fs i d).now.name k f.now.name e) ∙ less in
+      let t = not_named k f (λ e'. let z = sym e' ∙ below in absurd (cc)) in
+      rw t (found_at k fs i d s.1 (omega (arith, h)) e)
 
-  -- and has that name
-  found_name : (k : Name) (es : List (Name × Bor (ExtensionFunction B F g))) → are_named es ≡ true → IfSome (lookup (is_at ((name_order.ghosts).cmp k)) es) (λ f. function_name f.now ≡ plain_name_of k)
-  found_name k [] h = tt
-  found_name k (e ∷ es) h = go (is_at ((name_order.ghosts).cmp k) e.0) refl (found_name k es (both_right (name_eq (plain_name_of e.0) (function_name e.1.now)) (are_named es) h))
+  not_found : (k : Name) (fs : List (Bor (ExtensionFunction B F g))) → ((i : ℕ) (d : Bor (ExtensionFunction B F g)) → i < length fs → names_compared ((get_or fs i d).now.name) k ≡ Equal → ⊥) → found_in (plain_name_of k) fs ≡ None
+  not_found k [] n = refl
+  not_found k (f ∷ fs) n = let t = not_named k f (n 0 f (omega arith)) in rw t (not_found k fs (λ i d h. n (suc i) d (omega (arith, h))))
+
+  -- a search by halving finds what a look-up finds
+  pub searched : (k : Name) (fs xs : List (Bor (ExtensionFunction B F g))) (r : Result ℕ ℕ) → xs ≡ fs → IsSearchInRange r (length xs) → IsBinarySearchResult (λ f. names_compared f.now.name k) xs r → NamesRise fs
+      → MatchResult r (λ i. (f : Bor (ExtensionFunction B F g)) → f ≡ get_or fs i f → Some f ≡ found_in (plain_name_of k) fs) (λ i. None ≡ found_in (plain_name_of k) fs)
+  searched k fs xs r e h b s = go r h (halved names_total (λ (f : Bor (ExtensionFunction B F g)). f.now.name) k xs r h b rising)
     where
-      same : plain_name_of e.0 ≡ function_name e.1.now
-      same = (name_eq-Decides (plain_name_of e.0) (function_name e.1.now)).0 (both_left (name_eq (plain_name_of e.0) (function_name e.1.now)) (are_named es) h)
+      rising : NamesRise xs
+      rising = subst NamesRise (sym e) s
 
-      go : (t : Bool) → is_at ((name_order.ghosts).cmp k) e.0 ≡ t → IfSome (lookup (is_at ((name_order.ghosts).cmp k)) es) (λ f. function_name f.now ≡ plain_name_of k) → IfSome (cond t (Some e.1) (lookup (is_at ((name_order.ghosts).cmp k)) es)) (λ f. function_name f.now ≡ plain_name_of k)
-      go true e' h' = sym same ∙ sym ((name_eq-Decides (plain_name_of k) (plain_name_of e.0)).0 (sym (names_alike k e.0) ∙ e'))
-      go false e' h' = h'
+      go : (r : Result ℕ ℕ) → IsSearchInRange r (length xs) → MatchResult r (λ i. (d : Bor (ExtensionFunction B F g)) → names_compared ((get_or xs i d).now.name) k ≡ Equal) (λ j. (i : ℕ) (d : Bor (ExtensionFunction B F g)) → i < length xs → names_compared ((get_or xs i d).now.name) k ≡ Equal → ⊥)
+          → MatchResult r (λ i. (f : Bor (ExtensionFunction B F g)) → f ≡ get_or fs i f → Some f ≡ found_in (plain_name_of k) fs) (λ i. None ≡ found_in (plain_name_of k) fs)
+      go (Ok i) h m = λ f at. ap Some (at ∙ ap (λ ys. get_or ys i f) (sym e)) ∙ sym (found_at k xs i f rising h (m f)) ∙ ap (found_in (plain_name_of k)) e
+      go (Err i) h m = sym (not_found k xs m) ∙ ap (found_in (plain_name_of k)) e
+
+  -- what is found has the signature that is found
+  pub signature_found : (n : model.Name) (fs : List (Bor (ExtensionFunction B F g))) → option_map (λ f. function_signature f.now) (found_in n fs) ≡ find (λ s. name_eq n s.name) (map (λ f. function_signature f.now) fs)
+  signature_found n [] = refl
+  signature_found n (f ∷ fs) = go (name_eq n (function_name f.now)) (signature_found n fs)
+    where
+      go : (b : Bool) → option_map (λ f. function_signature f.now) (found_in n fs) ≡ find (λ s. name_eq n s.name) (map (λ f. function_signature f.now) fs)
+          → option_map (λ f. function_signature f.now) (cond b (Some f) (found_in n fs)) ≡ cond b (Some (function_signature f.now)) (find (λ s. name_eq n s.name) (map (λ f. function_signature f.now) fs))
+      go true h = refl
+      go false h = h
+
+  -- what is found has this name, and is one of those
+  found_name : (n : model.Name) (fs : List (Bor (ExtensionFunction B F g))) → IfSome (found_in n fs) (λ f. function_name f.now ≡ n)
+  found_name n [] = tt
+  found_name n (f ∷ fs) = go (name_eq n (function_name f.now)) refl (found_name n fs)
+    where
+      go : (b : Bool) → name_eq n (function_name f.now) ≡ b → IfSome (found_in n fs) (λ f. function_name f.now ≡ n) → IfSome (cond b (Some f) (found_in n fs)) (λ f. function_name f.now ≡ n)
+      go true e h = sym ((name_eq-Decides n (function_name f.now)).0 e)
+      go false e h = h
+
+  found_holds : (P : Bor (ExtensionFunction B F g) → Type 0) (q : Bor (ExtensionFunction B F g) → Bool) (fs : List (Bor (ExtensionFunction B F g))) → All P fs → IfSome (find q fs) P
+  found_holds P q [] h = tt
+  found_holds P q (f ∷ fs) h = go (q f) (found_holds P q fs (λ k d below. h (suc k) d (omega (arith, below))))
+    where
+      go : (b : Bool) → IfSome (find q fs) P → IfSome (cond b (Some f) (find q fs)) P
+      go true k = h 0 f (omega arith)
+      go false k = k
 
   -- what is found answers as the table does
-  pub found_answers : (t : Extensions B F g) (k : Name) (o : Option (Bor (ExtensionFunction B F g))) → o ≡ lookup (is_at ((name_order.ghosts).cmp k)) t.functions.entries → IfSome o (λ f. AnswersInTable t (plain_name_of k) f.now)
-  found_answers t k None e = tt
-  found_answers t k (Some f) e = record {
+  pub found_answers : (t : Extensions B F g) (n : model.Name) (o : Option (Bor (ExtensionFunction B F g))) → o ≡ found_in n t.functions.items → IfSome o (λ f. AnswersInTable t n f.now)
+  found_answers t n None e = tt
+  found_answers t n (Some f) e = record {
     answered = λ answers by.
         subst (λ n. IsAnsweredBy f.now (answers n))
-        (subst (λ o. IfSome o (λ f. function_name f.now ≡ plain_name_of k)) (sym e) (found_name k t.functions.entries t.named))
-        (subst (λ o. IfSome o (λ f. IsAnsweredBy f.now (answers (function_name f.now)))) (sym e) (IfSome-lookup_from_All (λ f. IsAnsweredBy f.now (answers (function_name f.now))) (is_at ((name_order.ghosts).cmp k)) t.functions.entries by.each));
+        (subst (λ o. IfSome o (λ f. function_name f.now ≡ n)) (sym e) (found_name n t.functions.items))
+        (subst (λ o. IfSome o (λ f. IsAnsweredBy f.now (answers (function_name f.now)))) (sym e) (found_holds (λ f. IsAnsweredBy f.now (answers (function_name f.now))) _ t.functions.items by.each));
   }
 
   -- what is found is one of the table's functions, under its name
-  pub found_named : (t : Extensions B F g) (k : Name) (o : Option (Bor (ExtensionFunction B F g))) → o ≡ lookup (is_at ((name_order.ghosts).cmp k)) t.functions.entries → IfSome o (λ f. IsNamedIn t (plain_name_of k) f.now)
-  found_named t k None e = tt
-  found_named t k (Some f) e = record {
-    named = subst (λ o. IfSome o (λ f. function_name f.now ≡ plain_name_of k)) (sym e) (found_name k t.functions.entries t.named);
+  pub found_named : (t : Extensions B F g) (n : model.Name) (o : Option (Bor (ExtensionFunction B F g))) → o ≡ found_in n t.functions.items → IfSome o (λ f. IsNamedIn t n f.now)
+  found_named t n None e = tt
+  found_named t n (Some f) e = record {
+    named = subst (λ o. IfSome o (λ f. function_name f.now ≡ n)) (sym e) (found_name n t.functions.items);
     among =
         subst (λ o. IfSome o (λ f. Contains (stored_in t) f.now)) (sym e)
-        (IfSome-lookup_from_All (λ f. Contains (stored_in t) f.now) (is_at ((name_order.ghosts).cmp k)) t.functions.entries (all_before (Contains (stored_in t)) (λ f. f.now) (values t.functions) (All-contains_itself (stored_in t))));
+        (found_holds (λ f. Contains (stored_in t) f.now) _ t.functions.items (all_before (Contains (stored_in t)) (λ f. f.now) t.functions.items (All-contains_itself (stored_in t))));
   }
 
   -- a table of these functions keeps them
@@ -103,11 +154,11 @@ module _ {B : _} {F : _} {g : _} where
       along (w ∷ ws) = ap (λ ss. function_signature w.now ∷ ss) (along ws)
 
   -- and answers as they do
-  pub moved_answers : (es : List (Extension B F g)) (fs : List (Bor (ExtensionFunction B F g))) (t : Extensions B F g) → map (λ f. f.now) fs ≡ all_functions es → IsPermutation fs (values t.functions) → AnswersAsExtensions es t
+  pub moved_answers : (es : List (Extension B F g)) (fs : List (Bor (ExtensionFunction B F g))) (t : Extensions B F g) → map (λ f. f.now) fs ≡ all_functions es → IsPermutation fs t.functions.items → AnswersAsExtensions es t
   moved_answers es fs t e m = record {
     answered = λ answers all. record {
       each =
-          all_before (λ f. IsAnsweredBy f (answers (function_name f))) (λ f. f.now) (values t.functions)
-          (All-map-IsPermutation (λ f. f.now) (λ f. IsAnsweredBy f (answers (function_name f))) fs (values t.functions) m (subst (All (λ f. IsAnsweredBy f (answers (function_name f)))) (sym e) all));
+          all_before (λ f. IsAnsweredBy f (answers (function_name f))) (λ f. f.now) t.functions.items
+          (All-map-IsPermutation (λ f. f.now) (λ f. IsAnsweredBy f (answers (function_name f))) fs t.functions.items m (subst (All (λ f. IsAnsweredBy f (answers (function_name f)))) (sym e) all));
     };
   }

@@ -204,7 +204,8 @@ impl ExtensionFunction {
 
     /// The name of the function.
     pub fn name(&self) -> &Name
-        ensures { plain_name_of result.now ≡ (function_signature self.now).name }
+        ensures name { plain_name_of result.now ≡ (function_signature self.now).name }
+        ensures itself { result.now ≡ self.now.name }
     {
         &self.name
     }

@@ -2,10 +2,10 @@
 
 ghost use Rattle.std.specs.Prelude.{◌≡◌, true, map, is_some, IfOk};
 ghost use Rattle.std.specs.List.{filter_map, list_all};
-ghost use Rattle.std.specs.BTreeMap.{values};
 ghost use Rattle.cedar_expr_functions.specs.Functions.{function_signature};
 ghost use Rattle.cedar_expr_names.specs.Views.{plain_name_of};
-ghost use Rattle.cedar_expr_functions.specs.Named.{are_named};
+ghost use Rattle.std.proofs.Props.{props};
+ghost use Rattle.cedar_expr_functions.specs.Named.{NamesRise, names_compared};
 ghost use Rattle.cedar_expr_functions.specs.Signatures.{given_type};
 
 use crate::err::{
@@ -15,16 +15,14 @@ use crate::extension::{Extension, ExtensionFunction};
 use crate::gathered::{all_functions, all_names, all_ordered, by_name, refuse_two_constructors};
 use cedar_expr_names::Name;
 use std::alloc::{AllocError, Global};
-use std::collections::BTreeMap;
-use std::collections::btree_map::Values;
 use std::slice::Iter;
 
-/// A table of extension functions, by their names. It borrows the extensions that it is made of.
+/// A table of extension functions, in the order of their names. It borrows the extensions that it is made of.
 pub struct Extensions<'a> {
     names: Vec<&'a Name>,
-    functions: BTreeMap<Name, &'a ExtensionFunction>,
+    functions: Vec<&'a ExtensionFunction>,
     ordered: Vec<&'a Name>,
-    ghost named: { are_named functions.entries ≡ true },
+    ghost rising: { NamesRise functions.items } by { Prim.hlevel props },
 }
 
 // prover: see ARCHITECTURE
@@ -62,13 +60,13 @@ impl<'a> Extensions<'a> {
     {
         Extensions {
             names: Vec::new(alloc),
-            functions: BTreeMap::new(alloc),
+            functions: Vec::new(alloc),
             ordered: Vec::new(alloc),
         }
     }
 
     /// The table of these extensions. Refuses a name of a function that stands twice, then an extension type with two
-    /// constructors, and answers want of memory.
+    /// constructors, and answers out of memory.
     pub fn specific_extensions(
         alloc: Global,
         extensions: &'a [Extension],
@@ -103,15 +101,15 @@ impl<'a> Extensions<'a> {
         ensures { table_types_left result ≡ filter_map given_type (functions_of self.now) }
     {
         TableTypes {
-            functions: self.functions.values(),
+            functions: self.functions.iter(),
         }
     }
 
-    /// The names that `ext_types` gives, in its order, as a list. Answers want of memory.
+    /// The names that `ext_types` gives, in its order, as a list. Answers out of memory.
     pub fn ext_type_list(&self, alloc: Global) -> Result<Vec<Name>, AllocError>
         ensures { IfOk result (λ ns. map plain_name_of ns.items ≡ filter_map given_type (functions_of self.now)) }
     {
-        given_types(alloc, &self.functions)
+        given_types(alloc, self.functions.as_slice())
     }
 
     /// The types whose values `<` and `<=` take.
@@ -121,7 +119,7 @@ impl<'a> Extensions<'a> {
         self.ordered.iter()
     }
 
-    /// The function of this name. Refuses a name that no function has, and answers want of memory for the refusal.
+    /// The function of this name. Refuses a name that no function has, and answers out of memory for the refusal.
     pub fn func(&self, name: &Name) -> Result<&'a ExtensionFunction, ExtensionFunctionLookupError>
         ensures found { (answers : ModelName → List V → Called) → IfOk result (λ f. signature_of (table_of self.now answers) (plain_name_of name.now) ≡ Some (function_signature f.now)) }
         ensures answers { IfOk result (λ f. AnswersInTable self.now (plain_name_of name.now) f.now) }
@@ -143,7 +141,13 @@ impl<'a> Extensions<'a> {
         ensures answers { IfSome result (λ f. AnswersInTable self.now (plain_name_of name.now) f.now) }
         ensures named { IfSome result (λ f. IsNamedIn self.now (plain_name_of name.now) f.now) }
     {
-        self.functions.get(name).copied()
+        let compare = |f: &&ExtensionFunction|
+            ensures { result ≡ names_compared f.now.now.name name.entry.now }
+        { f.name().cmp(name) };
+        match self.functions.binary_search_by(compare) {
+            Ok(at) => Some(self.functions[at]),
+            Err(_) => None,
+        }
     }
 
     /// Whether each function has a result type. It is so of the table without functions.
@@ -151,15 +155,15 @@ impl<'a> Extensions<'a> {
         ensures typed { result ≡ are_typed self.now }
         ensures modelled { (answers : ModelName → List V → Called) → result ≡ all_typed (table_of self.now answers) }
     {
-        all_with_result(&self.functions)
+        all_with_result(self.functions.as_slice())
     }
 }
 
 // Whether each of these functions has a result type.
-fn all_with_result(functions: &BTreeMap<Name, &ExtensionFunction>) -> bool
-    ensures { result ≡ list_all (λ f. is_some (function_signature f.now).result) (values functions.now) }
+fn all_with_result(functions: &[&ExtensionFunction]) -> bool
+    ensures { result ≡ list_all (λ f. is_some (function_signature f.now).result) functions.now }
 {
-    for f in functions.values() {
+    for f in functions {
         if !f.is_typed() {
             return false;
         }
@@ -168,14 +172,11 @@ fn all_with_result(functions: &BTreeMap<Name, &ExtensionFunction>) -> bool
 }
 
 // The extension types that these functions give, each as often as a function gives it.
-fn given_types(
-    alloc: Global,
-    functions: &BTreeMap<Name, &ExtensionFunction>,
-) -> Result<Vec<Name>, AllocError>
-    ensures { IfOk result (λ ns. map plain_name_of ns.items ≡ filter_map (λ f. given_type (function_signature f.now)) (values functions.now)) }
+fn given_types(alloc: Global, functions: &[&ExtensionFunction]) -> Result<Vec<Name>, AllocError>
+    ensures { IfOk result (λ ns. map plain_name_of ns.items ≡ filter_map (λ f. given_type (function_signature f.now)) functions.now) }
 {
     let mut names = Vec::new(alloc);
-    for f in functions.values() {
+    for f in functions {
         if let Some(name) = f.ext_type() {
             names.push(name.clone()?)?;
         }
@@ -186,7 +187,7 @@ fn given_types(
 /// Goes over the extension types that a table's functions give, each as often as a function gives it.
 #[derive(Drop)]
 pub struct TableTypes<'t, 'a> {
-    functions: Values<'t, Name, &'a ExtensionFunction>,
+    functions: Iter<'t, &'a ExtensionFunction>,
 }
 
 impl<'t, 'a> Iterator for TableTypes<'t, 'a> {

@@ -2,7 +2,7 @@
 
 ghost use Rattle.std.specs.Prelude.{◌≡◌, ◌++◌, true, None, map, IfOk, IfErr, OnOk, IsPermutation};
 ghost use Rattle.std.specs.List.{filter_map};
-ghost use Rattle.std.specs.BTreeMap.{values};
+ghost use Rattle.std.specs.BTreeMap.{values, IsOrdered};
 ghost use Rattle.cedar_expr_model.specs.Name.{name_eq};
 ghost use Rattle.cedar_expr_model.specs.Order.{core_eq};
 ghost use Rattle.cedar_expr_model.specs.Repeats.{repeated};
@@ -10,7 +10,7 @@ ghost use Rattle.cedar_expr_model.specs.Table.{constructed};
 ghost use Rattle.cedar_expr_names.specs.Views.{plain_name_of};
 ghost use Rattle.cedar_expr_values.specs.Types.{core_of};
 ghost use Rattle.cedar_expr_functions.specs.Functions.{function_name, function_signature};
-ghost use Rattle.cedar_expr_functions.specs.Named.{are_named, all_functions, all_ordered};
+ghost use Rattle.cedar_expr_functions.specs.Named.{NamesRise, all_functions, all_ordered};
 ghost use Rattle.cedar_expr_functions.specs.Extended.{extension_name, functions_in, ordered_in};
 ghost use Rattle.cedar_expr_functions.specs.Refusals.{RefusesNames, RefusesConstructors};
 
@@ -84,23 +84,25 @@ pub fn all_names(alloc: Global, extensions: &[Extension]) -> Result<Vec<&Name>, 
     Ok(names)
 }
 
-// The functions by their names. Refuses a name that stands twice, and answers want of memory.
+// The functions in the order of their names. Refuses a name that stands twice.
 pub fn by_name<'a>(
     alloc: Global,
     functions: &[&'a ExtensionFunction],
-) -> Result<BTreeMap<Name, &'a ExtensionFunction>, ExtensionInitializationError>
-    ensures named { IfOk result (λ m. are_named m.entries ≡ true) }
-    ensures functions { IfOk result (λ m. IsPermutation functions.now (values m)) }
+) -> Result<Vec<&'a ExtensionFunction>, ExtensionInitializationError>
+    ensures rising { IfOk result (λ fs. NamesRise fs.items) }
+    ensures functions { IfOk result (λ fs. IsPermutation functions.now fs.items) }
     ensures distinct { OnOk result (repeated name_eq (map (λ f. function_name f.now) functions.now) ≡ None) }
     ensures refused { IfErr result (RefusesNames (map (λ f. function_name f.now) functions.now)) }
 {
     let pairs = named_pairs(alloc, functions)?;
     match collect_no_duplicates(alloc, pairs) {
-        Ok(map) => Ok(map),
+        Ok(map) => Ok(in_order(alloc, &map)?),
         Err(CollectError::OutOfMemory) => Err(ExtensionInitializationError::OutOfMemory),
-        Err(CollectError::Repeated(name)) => Err(ExtensionInitializationError::FuncMultiplyDefined(
-            FuncMultiplyDefinedError { name },
-        )),
+        Err(CollectError::Repeated(name)) => Err(
+            ExtensionInitializationError::FuncMultiplyDefined(FuncMultiplyDefinedError {
+                name: name.clone()?,
+            }),
+        ),
     }
 }
 
@@ -108,18 +110,33 @@ pub fn by_name<'a>(
 fn named_pairs<'a>(
     alloc: Global,
     functions: &[&'a ExtensionFunction],
-) -> Result<Vec<(Name, &'a ExtensionFunction)>, AllocError>
-    ensures names { IfOk result (λ ps. map (λ p. plain_name_of p.0) ps.items ≡ map (λ f. function_name f.now) functions.now) }
+) -> Result<Vec<(&'a Name, &'a ExtensionFunction)>, AllocError>
+    ensures names { IfOk result (λ ps. map (λ p. p.0.now) ps.items ≡ map (λ f. f.now.name) functions.now) }
     ensures functions { IfOk result (λ ps. map (λ p. p.1) ps.items ≡ functions.now) }
 {
     let mut pairs = Vec::with_capacity(alloc, functions.len())?;
     for f in functions {
-        pairs.push((f.name().clone()?, *f))?;
+        pairs.push((f.name(), *f))?;
     }
     Ok(pairs)
 }
 
-// Refuses an extension type that two of these functions construct, and answers want of memory.
+// The functions of a map, in its order.
+fn in_order<'a>(
+    alloc: Global,
+    named: &BTreeMap<&'a Name, &'a ExtensionFunction>,
+) -> Result<Vec<&'a ExtensionFunction>, AllocError>
+    ensures values { IfOk result (λ fs. fs.items ≡ values named.now) }
+    ensures ordered { IfOk result (λ _. IsOrdered ⟦<&'a Name as Ord>⟧.cmp named.now) }
+{
+    let mut functions = Vec::with_capacity(alloc, named.len())?;
+    for f in named.values() {
+        functions.push(*f)?;
+    }
+    Ok(functions)
+}
+
+// Refuses an extension type that two of these functions construct, and answers out of memory.
 pub fn refuse_two_constructors(
     alloc: Global,
     functions: &[&ExtensionFunction],

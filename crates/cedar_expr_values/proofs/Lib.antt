@@ -5,7 +5,7 @@ mod Derived
 mod Agreed
 mod Places
 mod Deduplicated
-mod Searched
+pub mod Searched
 mod Walked
 mod Members
 mod Hashing

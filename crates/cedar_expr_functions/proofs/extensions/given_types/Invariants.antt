@@ -1,5 +1,4 @@
-use Rattle.std.proofs.Common.{◌≡◌, ◌++◌, map}
-use Rattle.std.specs.BTreeMap.{values}
+use Rattle.std.proofs.Common.{◌≡◌, ◌++◌, map, drop}
 use Rattle.std.specs.List.{filter_map}
 use Rattle.cedar_expr_names.specs.Views.{plain_name_of}
 use Rattle.cedar_expr_functions.specs.Functions.{function_signature}
@@ -7,4 +6,4 @@ use Rattle.cedar_expr_functions.specs.Signatures.{given_type}
 use Rattle.cedar_expr_functions.proofs.extensions.given_types.Given as goal
 
 abbrev pub invariant-loop-f : goal.invariant-loop-f
-invariant-loop-f g l = map plain_name_of l.names.items ++ filter_map (λ f. given_type (function_signature f.now)) l.f-iterator ≡ filter_map (λ f. given_type (function_signature f.now)) (values l.functions)
+invariant-loop-f g l = map plain_name_of l.names.items ++ filter_map (λ f. given_type (function_signature f.now)) (drop l.f-index l.functions) ≡ filter_map (λ f. given_type (function_signature f.now)) l.functions
