@@ -17,3 +17,4 @@ mod Gathered
 mod Calls
 pub mod Ascending
 mod ExtensionValues
+pub mod Ranged

@@ -1,11 +1,14 @@
-//! Laws of values. Each function's contract is the theorem; its body does nothing.
+//! Laws of values. Each function's contract is the theorem; its body does nothing, or it reads the value, of which a proof then knows that
+//! it keeps to the ranges of its types.
 
-ghost use Rattle.std.specs.Prelude.{◌≡◌};
+ghost use Rattle.std.specs.Prelude.{◌≡◌, true};
 ghost use Rattle.std.specs.Ordering.{is_eq};
 ghost use Rattle.cedar_expr_model.specs.Order.{core_cmp, core_eq};
+ghost use Rattle.cedar_expr_model.specs.Ranges.{is_in_range};
 ghost use Rattle.cedar_expr_values.specs.Extension.{extension_cmp};
 ghost use Rattle.cedar_expr_values.specs.Extensions.{extension_of};
 ghost use Rattle.cedar_expr_values.specs.Types.{core_of};
+ghost use Rattle.cedar_expr_values.specs.Values.{bare};
 ghost use Rattle.cedar_expr_values.specs.ValueLaws.{OrderedAsBare, EqualAsBare, HashedAsBare, HashedAsSeen, SetsAreTheirMembers, ValuesAreCanonical};
 ghost use Rattle.cedar_expr_values.specs.declared.extension.ExtValue.{ExtValue};
 ghost use Rattle.cedar_expr_values.specs.declared.types.Type.{«Type» as CoreKind};
@@ -50,3 +53,11 @@ pub fn sets_are_their_members<X: ExtensionValue>()
 pub fn values_are_canonical<X: ExtensionValue>()
     ensures { ValuesAreCanonical X.seen }
 {}
+
+/// Every value is in range, at every nesting: each whole number in it is one of 64 bits, each text and each name of a field is made of
+/// characters, each uid is one, and each extension value has a name for its type and bytes for its key.
+pub fn values_are_in_range<X: ExtensionValue>(value: &Value<X>)
+    ensures { is_in_range (bare X.seen value.now) ≡ true }
+{
+    value.value_kind().is_in_range();
+}

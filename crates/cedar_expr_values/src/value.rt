@@ -4,6 +4,7 @@ mod compared;
 mod fed;
 mod hashed;
 mod keyed;
+mod ranges;
 mod uids;
 
 ghost use Rattle.std.specs.Prelude.{◌≡◌, map, IfOk};
