@@ -14,7 +14,7 @@ use cedar_expr_functions::{
 };
 use cedar_expr_names::{EntityUID, Name};
 use cedar_expr_values::{ExtValue, Literal, Type, Value, ValueKind};
-use cedar_gate::{Gate, Host, HostFault, RunFault, SessionAt, Transcript, run};
+use cedar_gate::{Gate, Host, HostFault, RunFault, Transcript, run};
 use cedar_gate_bundles::{Bundle, Submission, read_input};
 use cedar_gate_runs::copied;
 use cedar_store_entities::{Entities, Entity};
@@ -121,7 +121,7 @@ fn loaded(
     shelf: &mut Shelf,
     said: &mut String,
 ) -> Result<(), AllocError> {
-    let mut session = made(SessionAt::open(alloc, gate, request))?;
+    let mut session = made(gate.open(alloc, request))?;
     for _ in 0..gate.level() {
         for uid in session.wanted() {
             show(alloc, said, uid)?;

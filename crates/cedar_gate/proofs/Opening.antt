@@ -8,8 +8,7 @@ use Rattle.cedar_evaluator_requests.specs.declared.request.Request.{Request}
 use Rattle.cedar_gate_model.specs.Acceptance.{IsAccepted}
 use Rattle.cedar_gate_model.specs.DoneBy.{CameTo}
 use Rattle.cedar_gate_model.specs.Headline.{KeepsPromises}
-use Rattle.cedar_gate_model.specs.RunsAnswer.{Course, session_of, IsProper, MakeFairly}
-use Rattle.cedar_gate_model.specs.RunsAsk.{IsMadeContext}
+use Rattle.cedar_gate_model.specs.RunsAnswer.{Course}
 use Rattle.cedar_gate_model.specs.Session.{at_start, OpenRefusal, OpenFault, open_number}
 use Rattle.cedar_gate_model.specs.Transcript.{Entry}
 use Rattle.cedar_gate_openings.specs.Faults.{opens}
@@ -24,10 +23,8 @@ use Rattle.cedar_gate_runs.specs.declared.stops.RunFault.{RunFault}
 use Rattle.cedar_gate_runs.specs.declared.stops.RunFault.TheVariants as fault
 use Rattle.cedar_gate_runs.specs.declared.transcript.Transcript.{Transcript}
 use Rattle.cedar_gate_sessions.specs.Courses.{Stands}
-use Rattle.cedar_gate_sessions.specs.Sessions.{IsSetup}
 use Rattle.cedar_gate_sessions.specs.declared.session.SessionAt.{SessionAt}
-use Rattle.cedar_gate.proofs.Courses.{course_setup, proper_at, policies_at}
-use Rattle.cedar_gate.specs.Courses.{IsRunAt, CourseOpens}
+use Rattle.cedar_gate.specs.Courses.{IsCourseOf, IsRunAt, CourseOpens}
 use Rattle.cedar_gate.specs.Gates.{IsSetupOf, accepted_in}
 use Rattle.cedar_gate.specs.declared.gate.Gate.{Gate}
 
@@ -76,15 +73,10 @@ asks_nothing c f asked none opens = record {
 }
 
 -- a session of the course that was opened runs it
-pub run_by : {B : _} {F : _} {γ : _} {H : Type 0} (g : Gate B F γ) (q : Request) (given : List Step) (IsHonest : H → Type 0) (answers : H → Answers) (h : H) (e : SessionAt (Gate B F γ)) → opens (request_of q) → IsMadeContext (request_of q).context
-    → ((d : Course) → IsSetup (λ (a : Gate B F γ). IsSetupOf a) (session_of d) g q → IsProper d → MakeFairly d.functions → accepted_in g ≡ d.submission.policies → Stands (λ (a : Gate B F γ). IsSetupOf a) (λ (a : Gate B F γ). accepted_in a) d at_start e)
+pub run_by : {B : _} {F : _} {γ : _} {H : Type 0} (g : Gate B F γ) (q : Request) (given : List Step) (IsHonest : H → Type 0) (answers : H → Answers) (h : H) (e : SessionAt (Gate B F γ)) → opens (request_of q)
+    → ((d : Course) (steps : List Step) → IsCourseOf g q steps d → Stands (λ (a : Gate B F γ). IsSetupOf a) (λ (a : Gate B F γ). accepted_in a) d at_start e)
     → (c : Course) → IsRunAt g q given IsHonest answers h c → IsRunBy (Stands (λ (a : Gate B F γ). IsSetupOf a) (λ (a : Gate B F γ). accepted_in a)) e given IsHonest answers h c
-run_by g q given IsHonest answers h e opened made stands c r = record {
-  session = record {
-    opens = subst opens r.course.start opened;
-    stands = stands c (course_setup g q given c r.course) (proper_at g q given c made r.course) r.course.fair.fair (policies_at g q given c r.course);
-    steps = r.course.steps;
-    bound = r.course.bound;
-  };
+run_by g q given IsHonest answers h e opened stands c r = record {
+  session = record { opens = subst opens r.course.start opened; stands = stands c given r.course; steps = r.course.steps; bound = r.course.bound };
   host = r.host;
 }

@@ -16,7 +16,6 @@ use crate::gate::Gate;
 use cedar_evaluator_requests::Request;
 use cedar_gate_openings::{OpenFault, context_is_made};
 use cedar_gate_runs::{Host, RunFault, Step, Transcript, run_session};
-use cedar_gate_sessions::SessionAt;
 use std::alloc::Global;
 
 // A run whose session isn't opened: nothing was done, and the host was asked for nothing.
@@ -72,7 +71,7 @@ pub fn run<H: Host>(
     ensures no_answer { IfErr result (λ f. (run_fault_transcript f).answer ≡ None) }
 {
     context_is_made(&request);
-    match SessionAt::open(alloc, gate, request) {
+    match gate.open(alloc, request) {
         Ok(session) => run_session(alloc, session, steps, host),
         Err(fault) => Err(not_opened(alloc, fault)),
     }

@@ -17,17 +17,16 @@ use cedar_gate_openings::{OpenFault, context_is_made};
 use cedar_gate_sessions::SessionAt;
 use std::alloc::Global;
 
-/// A session of one request at a gate that is borrowed for as long as the functions of its table are.
+/// A session of one request at a gate, which it borrows.
 pub type Session<'g> = SessionAt<'g, Gate<'g, 'g, 'g>>;
 
-impl<'g> Gate<'g, 'g, 'g> {
-    /// Opens a session of this request, of which parts may be unknown. The gate is borrowed for as long as the functions of its table are;
-    /// `SessionAt::open` asks for less.
+impl Gate<'_, '_, '_> {
+    /// Opens a session of this request, of which parts may be unknown.
     ///
     /// # Errors
     ///
     /// 1 the name of an unknown in the context holds a double quote, 2 it is that of a variable; or out of memory.
-    pub fn open(&'g self, alloc: Global, request: Request) -> Result<Session<'g>, OpenFault>
+    pub fn open(&self, alloc: Global, request: Request) -> Result<Session<'_>, OpenFault>
         ensures gate { IfOk result (λ e. gate_of e ≡ self.entry.now) }
         ensures at { IfOk result (λ e. (x : Setup) → IsSetup IsSetupOf x self.entry.now request → IsAt IsSetupOf x at_start e) }
         ensures stands { IfOk result (λ e. (c : Course) (steps : List Step) → IsCourseOf self.entry.now request steps c → Stands IsSetupOf accepted_in c at_start e) }

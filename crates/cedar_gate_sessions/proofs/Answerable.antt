@@ -5,15 +5,25 @@ use Rattle.std.proofs.lemmas.Bool.{eqb-true}
 use Rattle.cedar_expr_model.specs.Name.{Text}
 use Rattle.cedar_expr_model.specs.Uid.{Uid}
 use Rattle.cedar_expr_model.specs.Made.{Made}
-use Rattle.cedar_expr_model.proofs.Lists.{contains_head, contains_none}
+use Rattle.cedar_expr_model.proofs.Lists.{contains_head}
 use Rattle.cedar_schema_model.specs.Conforming.{RequestConforms, request_conforms}
 use Rattle.cedar_schema_model.proofs.Decls.Conforming.{request_conforms-Decides}
 use Rattle.cedar_evaluator_model.specs.Response.{PartialRequest}
 use Rattle.cedar_gate_openings.specs.Names.{HasOpenBy}
 use Rattle.cedar_gate_model.specs.Moment.{request_of}
-use Rattle.cedar_gate_model.specs.Session.{Setup, State, value_of, world_now, HasOpenName, is_open_name, is_open_entry, is_open_context, entry_named, IsWantedNow, IsWantedList, NothingIsWanted, AnswerRefusal, AnswerFault, not_bound, still_wanted, not_conforming}
+use Rattle.cedar_gate_model.specs.Session.{Setup, State, value_of, world_now, HasOpenName, is_open_name, is_open_entry, is_open_context, entry_named, NothingIsWanted, AnswerRefusal, AnswerFault, not_bound, still_wanted, not_conforming}
 use Rattle.cedar_gate_openings.specs.Requests.{request_at}
 use Rattle.cedar_gate_sessions.specs.Requests.{known_request}
+
+-- whether something is in a list
+module _ {A : Type 0} (f : A → Uid) where
+  pub some_there : (us : List A) (vs : List Uid) → map f us ≡ vs → (length us == 0) ≡ false → (u : Uid) × Contains vs u
+  some_there [] vs is e = absurd (cc)
+  some_there (v ∷ us) vs is e = (f v, subst (λ ws. Contains ws (f v)) is (contains_head (f v) (map f us)))
+
+  pub none_there : (us : List A) (vs : List Uid) → map f us ≡ vs → (length us == 0) ≡ true → vs ≡ []
+  none_there [] vs is e = sym is
+  none_there (v ∷ us) vs is e = absurd (omega (arith, eqb-true (length (v ∷ us)) 0 e))
 
 module _ (x : Setup) (s : State) where
   module _ (values : Text → Option Made) (r : PartialRequest) (bound : (n : Text) → values n ≡ value_of s n) (start : r ≡ x.start) where
@@ -34,22 +44,6 @@ module _ (x : Setup) (s : State) where
 
     pub refuses_now : request_conforms x.schema (known_request now) ≡ false → RequestConforms x.schema (request_of (world_now x s)) → ⊥
     refuses_now e h = let lie : true ≡ false = sym ((request_conforms-Decides x.schema (request_of (world_now x s))).1 h) ∙ ap (request_conforms x.schema) (sym known_same) ∙ e in cc
-
-  module _ {A : Type 0} (f : A → Uid) (us : List A) (wanted : IsWantedList x s (map f us)) where
-    -- something is wanted, or nothing
-    pub some_wanted : (length us == 0) ≡ false → (u : Uid) × IsWantedNow x s u
-    some_wanted e = go us (λ u. (wanted.exact u).0) e
-      where
-        go : (vs : List A) → ((u : Uid) → Contains (map f vs) u → IsWantedNow x s u) → (length vs == 0) ≡ false → (u : Uid) × IsWantedNow x s u
-        go [] h e = absurd (cc)
-        go (v ∷ vs) h e = (f v, h (f v) (contains_head (f v) (map f vs)))
-
-    pub none_wanted : (length us == 0) ≡ true → NothingIsWanted x s
-    none_wanted e = go us (λ u. (wanted.exact u).1) e
-      where
-        go : (vs : List A) → ((u : Uid) → IsWantedNow x s u → Contains (map f vs) u) → (length vs == 0) ≡ true → NothingIsWanted x s
-        go [] h e = λ u w. contains_none u (h u w)
-        go (v ∷ vs) h e = absurd (omega (arith, eqb-true (length (v ∷ vs)) 0 e))
 
   -- then no answer is refused
   pub none_refused : (HasOpenName x.start s → ⊥) → NothingIsWanted x s → RequestConforms x.schema (request_of (world_now x s)) → (f : AnswerRefusal) → AnswerFault x s f → ⊥

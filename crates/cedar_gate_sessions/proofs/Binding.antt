@@ -23,7 +23,7 @@ use Rattle.cedar_gate_openings.specs.Laws.{RootsAreKnown, BindingIsMore}
 use Rattle.cedar_gate_openings.specs.Requests.{request_at, AreValuesOf}
 use Rattle.cedar_gate_openings.specs.Roots.{known_roots}
 use Rattle.cedar_gate_wanted.specs.Wanting.{IsWanting, near_in, mentions_of, level_of}
-use Rattle.cedar_gate_sessions.specs.Faults.{IsBindFault, IsContextFault}
+use Rattle.cedar_gate_sessions.specs.Faults.{IsBindFault, IsBindFaultBy, IsContextFault}
 use Rattle.cedar_gate_sessions.specs.Sessions.{IsAt}
 use Rattle.cedar_gate_sessions.specs.declared.session.SessionAt.{SessionAt}
 use Rattle.cedar_gate_sessions.proofs.Standing.{after_bind}
@@ -68,7 +68,7 @@ taken_back r old mid new n k m free is put taken j = taken j ∙ ap (λ z. if by
     go false e = refl
 
 module _ (x : Setup) (s : State) (n : Text) (m : Made) where
-  values_with : (old new : Bindings) → AreValuesOf s old → ((k : Text) → new k ≡ (if bytes_eq n k then Some m else old k)) → AreValuesOf (with_bound s n m) new
+  pub values_with : (old new : Bindings) → AreValuesOf s old → ((k : Text) → new k ≡ (if bytes_eq n k then Some m else old k)) → AreValuesOf (with_bound s n m) new
   values_with old new at put k = put k ∙ ap (λ b. cond b (Some m) (old k)) (swapped k n) ∙ ap (λ o. cond (bytes_eq k n) (Some m) o) (at k)
 
   open_same : (r : PartialRequest) (values : Bindings) → r ≡ x.start → AreValuesOf s values → is_open_by r values n ≡ is_open_name x.start s n
@@ -80,13 +80,6 @@ module _ (x : Setup) (s : State) (n : Text) (m : Made) where
   value_fault binding.AgainstAnnotation h = h
   value_fault binding.NoEntityOrRecord h = h
   value_fault binding.ContextFails h = absurd h
-
-  context_fault : (f : BindFault) → IsContextFault x.functions (with_bound s n m) x.start.context f → IsBindFault x s n m f
-  context_fault binding.OutOfMemory h = tt
-  context_fault binding.NotOpen h = absurd h
-  context_fault binding.AgainstAnnotation h = absurd h
-  context_fault binding.NoEntityOrRecord h = absurd h
-  context_fault binding.ContextFails h = h
 
   none_refused : is_open_name x.start s n ≡ true → takes x.start n m → (ContextFails x.functions (with_bound s n m) x.start.context → ⊥) → (f : BindRefusal) → session.BindFault x s n m f → ⊥
   none_refused free fits fine not_open h = lie (sym free ∙ h)
@@ -111,9 +104,10 @@ module _ {G : Type 0} (suits : G → Setup → Type 0) (x : Setup) (s : State) (
   abbrev PutBy : Bindings → Type 0
   PutBy bound = (k : Text) → bound k ≡ (if bytes_eq n k then Some m else bound_in d.bound k)
 
-  pub context_fault_is : (bound : Bindings) → PutBy bound → (f : BindFault) → ((t : State) → AreValuesOf t bound → IsContextFault x.functions t start.context f) → IsBindFault x s n m f
-  context_fault_is bound put f h = context_fault x s n m f
-      (subst (λ r. IsContextFault x.functions (with_bound s n m) r.context f) start_is (h (with_bound s n m) (values_with x s n m (bound_in d.bound) bound at.bound put)))
+  -- what is taken, where the context evaluates
+  pub no_refusal_by : is_open_by start (bound_in d.bound) n ≡ true → takes start n m → (ContextFails x.functions (with_bound s n m) start.context → ⊥) → (f : BindRefusal) → session.BindFault x s n m f → ⊥
+  no_refusal_by free fits evaluates =
+      none_refused x s n m (sym (open_same x s n m start (bound_in d.bound) start_is at.bound) ∙ free) (subst (λ r. takes r n m) start_is fits) (subst (λ r. ContextFails x.functions (with_bound s n m) r.context → ⊥) start_is evaluates)
 
   -- what is taken
   module _ (bound : Bindings) (put : PutBy bound) (free : is_open_by start (bound_in d.bound) n ≡ true) (fits : takes start n m) (evaluates : (t : State) → AreValuesOf t bound → ContextFails x.functions t start.context → ⊥) where
@@ -143,3 +137,18 @@ module _ {G : Type 0} (suits : G → Setup → Type 0) (x : Setup) (s : State) (
       gate begun put now_is loaded level rows (subst (λ y. IsWanting y e.loading) schema_is (wanting (subst (λ y. IsWanting y d.loading) (sym schema_is) at.wanting)))
       (λ r k. subst (λ l. IsKept (r ++ known_roots (request_of e.now)) (mentions_of e.loading) l (near_in e.loading)) (level ∙ at.level) (keeps r (subst (λ l. IsKept r (mentions_of d.loading) l (near_in d.loading)) (sym at.level) k)))
       (roots x t (request_of e.now) now_is) (no_refusal (bound_in e.bound) put free fits evaluates) well
+
+-- a value that is refused, and a context that fails, are faults of the binding
+pub value_fault_by : (r : PartialRequest) (values : Bindings) (fails : Type 0) (n : Text) (m : Made) (f : BindFault) → IsValueFault r n m f → IsBindFaultBy r values fails n m f
+value_fault_by r values fails n m binding.OutOfMemory h = tt
+value_fault_by r values fails n m binding.NotOpen h = absurd h
+value_fault_by r values fails n m binding.AgainstAnnotation h = h
+value_fault_by r values fails n m binding.NoEntityOrRecord h = h
+value_fault_by r values fails n m binding.ContextFails h = absurd h
+
+pub context_fault_by : (r : PartialRequest) (values : Bindings) (why fails : Type 0) → (why → fails) → (n : Text) (m : Made) (f : BindFault) → IsContextFault why f → IsBindFaultBy r values fails n m f
+context_fault_by r values why fails so n m binding.OutOfMemory h = tt
+context_fault_by r values why fails so n m binding.NotOpen h = absurd h
+context_fault_by r values why fails so n m binding.AgainstAnnotation h = absurd h
+context_fault_by r values why fails so n m binding.NoEntityOrRecord h = absurd h
+context_fault_by r values why fails so n m binding.ContextFails h = so h

@@ -26,3 +26,4 @@ mod Once
 mod Sessions
 mod Stepping
 mod Told
+mod AtState

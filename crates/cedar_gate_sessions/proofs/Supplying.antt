@@ -149,11 +149,11 @@ module _ (s : Schema) where
 
 -- which supplies are taken, by the list of what is wanted
 module _ (x : Setup) (s : State) (ws : List Uid) (wanted : IsWantedList x s ws) (qs : Supplied) where
-  pub supply_taken : AreKeys ws (keys_of qs) → list_all (is_right x.schema) qs ≡ true → (f : SupplyRefusal) → SupplyFault x s qs f → ⊥
+  pub supply_taken : AreKeys ws (keys_of qs) → ((p : Uid × Option (Uid × Entity V)) → Contains qs p → IsWrong x.schema p → ⊥) → (f : SupplyRefusal) → SupplyFault x s qs f → ⊥
   supply_taken k right not_wanted h = h.2 ((wanted.exact h.0).0 (k.each h.0 h.1))
   supply_taken k right lacking h = h.2 (k.all h.0 ((wanted.exact h.0).1 h.1))
   supply_taken k right session.repeated h = let lie : false ≡ true = ap is_some (sym k.once) ∙ h in cc
-  supply_taken k right wrong_entity h = all_right x.schema qs right h.0 h.1 h.2
+  supply_taken k right wrong_entity h = right h.0 h.1 h.2
 
   pub supply_unwanted : ((u : Uid) × Contains (keys_of qs) u × (Contains ws u → ⊥)) → SupplyFault x s qs not_wanted
   supply_unwanted h = (h.0, h.1, λ k. h.2 ((wanted.exact h.0).1 k))

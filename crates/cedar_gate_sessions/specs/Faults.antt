@@ -1,17 +1,23 @@
 -- Why calls of a session are refused.
 -- Rule: refusals of a session (docs/RULES.md).
-use Rattle.std.specs.Prelude.{◌≡◌, ℕ, List, Option, Some, None, IfSome}
+use Rattle.std.specs.Prelude.{◌≡◌, ℕ, Bool, true, false, List, [], Contains, Option, Some, None, IfSome}
+use Rattle.std.specs.Map.{keys_of}
 use Rattle.std.specs.Option.{option_map_or}
 use Rattle.cedar_expr_model.specs.Name.{Text}
 use Rattle.cedar_expr_model.specs.Uid.{Uid}
 use Rattle.cedar_expr_model.specs.Made.{Made}
-use Rattle.cedar_evaluator_model.specs.Scope.{Context}
+use Rattle.cedar_expr_model.specs.Substitution.{Bindings}
+use Rattle.cedar_expr_model.specs.Value.{V}
+use Rattle.cedar_store_model.specs.World.{Entity}
+use Rattle.cedar_schema_model.specs.Schema.{Schema}
+use Rattle.cedar_evaluator_model.specs.Response.{PartialRequest}
+use Rattle.cedar_gate_openings.specs.Names.{is_open_by}
+use Rattle.cedar_gate_openings.specs.Values.{IsAgainst, IsOfWrongForm, takes}
 use Rattle.cedar_gate_openings.specs.declared.faults.BindFault.{BindFault}
 use Rattle.cedar_gate_openings.specs.declared.faults.BindFault.TheVariants as binding
-use Rattle.cedar_gate_model.specs.Bundle.{Functions}
 use Rattle.cedar_gate_model.specs.Session as session
 use Rattle.cedar_gate_model.specs.Session.{Setup, State, Supplied, SupplyRefusal, BindRefusal, AnswerRefusal, supply_number, answer_number}
-use Rattle.cedar_gate_wanted.specs.Supplying.{IsUnfit}
+use Rattle.cedar_gate_wanted.specs.Supplying.{IsUnfit, AreKeys}
 use Rattle.cedar_gate_wanted.specs.declared.supplied.Unfit.{Unfit}
 use Rattle.cedar_gate_wanted.specs.declared.supplied.Unfit.TheVariants as unfit
 use Rattle.cedar_gate_sessions.specs.declared.faults.SupplyFault.{SupplyFault}
@@ -47,7 +53,48 @@ supply_fault_number f = option_map_or supply_number (supply_refusal f) 0
 abbrev pub answer_fault_number : AnswerFault → ℕ
 answer_fault_number f = option_map_or answer_number (answer_refusal f) 0
 
--- The fault is there. Out of memory says nothing.
+-- Why a call of a session of the code is refused, whatever its table, its host and its entities are. Out of memory says nothing.
+-- A supply, by the schema and by what is wanted: a uid isn't wanted, a wanted one lacks, one stands twice, or an entity is wrong.
+abbrev pub IsSupplyFaultBy : Schema → List Uid → Supplied → SupplyFault → Type 0
+IsSupplyFaultBy z wanted ps supplying.OutOfMemory = Unit {0}
+IsSupplyFaultBy z wanted ps supplying.NotWanted = IsUnfit wanted (keys_of ps) unfit.NotWanted
+IsSupplyFaultBy z wanted ps supplying.Lacking = IsUnfit wanted (keys_of ps) unfit.Lacking
+IsSupplyFaultBy z wanted ps supplying.Repeated = IsUnfit wanted (keys_of ps) unfit.Repeated
+IsSupplyFaultBy z wanted ps supplying.WrongEntity = (p : Uid × Option (Uid × Entity V)) × Contains ps p × session.IsWrong z p
+
+-- no fault of a supply is there
+pub record IsFitSupply (z : Schema) (wanted : List Uid) (ps : Supplied) : Type 0 where
+  pub keys : AreKeys wanted (keys_of ps)
+  pub right : (p : Uid × Option (Uid × Entity V)) → Contains ps p → session.IsWrong z p → ⊥
+
+-- A binding, by the request that the session was opened with and what is bound: the name isn't open, the value is against its annotation or
+-- of a wrong form, or the context fails to evaluate with it, as this says.
+abbrev pub IsBindFaultBy : PartialRequest → Bindings → Type 0 → Text → Made → BindFault → Type 0
+IsBindFaultBy r values fails n m binding.OutOfMemory = Unit {0}
+IsBindFaultBy r values fails n m binding.NotOpen = is_open_by r values n ≡ false
+IsBindFaultBy r values fails n m binding.AgainstAnnotation = IsAgainst r n m
+IsBindFaultBy r values fails n m binding.NoEntityOrRecord = IsOfWrongForm r n m
+IsBindFaultBy r values fails n m binding.ContextFails = fails
+
+-- the name is open, and takes the value
+pub record IsFitBinding (r : PartialRequest) (values : Bindings) (n : Text) (m : Made) : Type 0 where
+  pub free : is_open_by r values n ≡ true
+  pub takes : takes r n m
+
+-- An answer, by what is open, what is wanted and whether the request that is known conforms.
+abbrev pub IsAnswerFaultBy : Type 0 → List Uid → Bool → AnswerFault → Type 0
+IsAnswerFaultBy has_open wanted conforms answering.OutOfMemory = Unit {0}
+IsAnswerFaultBy has_open wanted conforms answering.NotBound = has_open
+IsAnswerFaultBy has_open wanted conforms answering.StillWanted = (u : Uid) × Contains wanted u
+IsAnswerFaultBy has_open wanted conforms answering.NotConforming = (has_open → ⊥) × (conforms ≡ false)
+
+-- nothing is open or wanted, and the request conforms
+pub record IsAnswerable (has_open : Type 0) (wanted : List Uid) (conforms : Bool) : Type 0 where
+  pub bound : has_open → ⊥
+  pub loaded : wanted ≡ []
+  pub conforming : conforms ≡ true
+
+-- The fault is there at the state of a course. Out of memory says nothing.
 abbrev pub IsSupplyFault : Setup → State → Supplied → SupplyFault → Type 0
 IsSupplyFault x s ps f = IfSome (supply_refusal f) (session.SupplyFault x s ps)
 
@@ -68,8 +115,8 @@ unfit_fault unfit.Repeated = supplying.Repeated
 abbrev pub IsTakingFault : List Uid → List Uid → SupplyFault → Type 0
 IsTakingFault wanted keys f = (u : Unfit) × (f ≡ unfit_fault u) × IsUnfit wanted keys u
 
--- The context fails to evaluate. Out of memory says nothing.
-abbrev pub IsContextFault : Functions → State → Context → BindFault → Type 0
-IsContextFault x s c binding.OutOfMemory = Unit {0}
-IsContextFault x s c binding.ContextFails = session.ContextFails x s c
-IsContextFault x s c f = ⊥
+-- The context fails to evaluate, as this says. Out of memory says nothing.
+abbrev pub IsContextFault : Type 0 → BindFault → Type 0
+IsContextFault fails binding.OutOfMemory = Unit {0}
+IsContextFault fails binding.ContextFails = fails
+IsContextFault fails f = ⊥

@@ -5,6 +5,7 @@ pub mod Gates
 pub mod Loaded
 pub mod Requests
 pub mod Sessions
+pub mod Refused
 pub mod Answers
 pub mod Bounds
 pub mod Laws

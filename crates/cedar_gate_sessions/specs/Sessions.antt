@@ -14,7 +14,9 @@ use Rattle.cedar_store_model.specs.Policy.{Policy}
 use Rattle.cedar_store_model.specs.Store.{Extent, are_distinct, if_uid, whole, partial}
 use Rattle.cedar_store_model.specs.World as world
 use Rattle.cedar_store_model.specs.World.{Found, held}
-use Rattle.cedar_schema_model.specs.Conforming.{EntityConforms}
+use Rattle.cedar_schema_model.specs.Conforming.{EntityConforms, request_conforms}
+use Rattle.cedar_schema_model.specs.Schema.{Schema}
+use Rattle.cedar_evaluator_model.specs.Response.{PartialRequest}
 use Rattle.cedar_evaluator_model.specs.OfLaws.WellMade.{IsFoundMadeWell, IsContextMadeWell}
 use Rattle.cedar_evaluator_reads.specs.Scopes.{found_kept}
 use Rattle.cedar_evaluator_requests.specs.Views.{request_of}
@@ -23,10 +25,11 @@ use Rattle.cedar_gate_openings.specs.Names.{bound_in}
 use Rattle.cedar_gate_model.specs.Runs.{supplied_by}
 use Rattle.cedar_gate_model.specs.RunsAnswer.{IsOpened}
 use Rattle.cedar_gate_model.specs.RunsAsk.{IsMadeContext}
-use Rattle.cedar_gate_model.specs.Session.{Setup, State, value_of}
+use Rattle.cedar_gate_model.specs.Session.{Setup, State, value_of, with_bound, ContextFails}
 use Rattle.cedar_gate_wanted.specs.Laws.{IsLoadedAt}
-use Rattle.cedar_gate_wanted.specs.Wanting.{IsWanting, level_of, rows_in, wanted_in}
-use Rattle.cedar_gate_openings.specs.Requests.{request_at}
+use Rattle.cedar_gate_wanted.specs.Wanting.{IsWanting, IsSameLoading, level_of, rows_in, wanted_in}
+use Rattle.cedar_gate_openings.specs.Requests.{request_at, AreValuesOf}
+use Rattle.cedar_gate_sessions.specs.Requests.{known_request}
 use Rattle.cedar_gate_sessions.specs.Entities.{supplied_of, supplied_uids}
 use Rattle.cedar_gate_sessions.specs.Loaded.{AreActions, loaded_at}
 use Rattle.cedar_gate_sessions.specs.declared.session.SessionAt.{SessionAt}
@@ -88,3 +91,30 @@ pub record IsAt {G : Type 0} (suits : G → Setup → Type 0) (x : Setup) (s : S
   pub wanting : IsWanting x.schema e.loading
   pub near : IsLoadedAt x s e.loading
   pub loaded : AreLoaded x s e.loaded.items
+
+-- what is bound in a session, and the request that it was opened with
+abbrev pub bound_by : {G : Type 0} → SessionAt G → Text → Option Made
+bound_by e = bound_in e.bound
+
+abbrev pub start_of : {G : Type 0} → SessionAt G → PartialRequest
+start_of e = request_of e.start
+
+-- whether the request that is known by now conforms
+abbrev pub conforms_now : {G : Type 0} → (G → Schema) → SessionAt G → Bool
+conforms_now schema e = request_conforms (schema (gate_of e)) (known_request (request_of e.now))
+
+-- The context of a session fails to evaluate with one more binding: by the functions of each setup of its gate.
+abbrev pub FailsWith : {G : Type 0} → (G → Setup → Type 0) → SessionAt G → Text → Made → Type 0
+FailsWith suits e n m = (x : Setup) → suits (gate_of e) x → (s : State) → AreValuesOf s (bound_by e) → ContextFails x.functions (with_bound s n m) (start_of e).context
+
+abbrev pub EvaluatesWith : {G : Type 0} → (G → Setup → Type 0) → SessionAt G → Text → Made → Type 0
+EvaluatesWith suits e n m = (x : Setup) → suits (gate_of e) x → (s : State) → AreValuesOf s (bound_by e) → ContextFails x.functions (with_bound s n m) (start_of e).context → ⊥
+
+-- a session says the same as another
+pub record IsSameSession {G : Type 0} (d e : SessionAt G) : Type 0 where
+  pub gate : e.gate ≡ d.gate
+  pub start : e.start ≡ d.start
+  pub now : e.now ≡ d.now
+  pub bound : (n : Text) → bound_by e n ≡ bound_by d n
+  pub loading : IsSameLoading d.loading e.loading
+  pub loaded : e.loaded.items ≡ d.loaded.items

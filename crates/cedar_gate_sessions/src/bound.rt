@@ -79,7 +79,7 @@ pub(crate) fn request_bound<G: GateCalls>(
     ensures kept { IfOk result (λ q. (r : List Uid) → IsKept r (mentions_of loading.old) (level_of loading.old) (near_in loading.old) → IsKept (r ++ known_roots (request_of q)) (mentions_of loading.new) (level_of loading.new) (near_in loading.new)) }
     ensures rows { loading.new.rows ≡ loading.old.rows }
     ensures level { level_of loading.new ≡ level_of loading.old }
-    ensures refused { IfErr result (λ f. (x : Setup) → G.suits gate.now x → (s : State) → AreValuesOf s (bound_in bound.now) → IsContextFault x.functions s (request_of start.now).context f) }
+    ensures refused { IfErr result (IsContextFault ((x : Setup) → G.suits gate.now x → (s : State) → AreValuesOf s (bound_in bound.now) → ContextFails x.functions s (request_of start.now).context)) }
     ensures unchanged { OnErr result (IsSameLoading loading.old loading.new) }
 {
     let made = gate.request_now(alloc, start, bound)?;

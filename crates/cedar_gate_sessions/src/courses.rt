@@ -32,6 +32,7 @@ impl<'g, G: GateCalls> SessionCalls for SessionAt<'g, G> {
         alloc: Global,
         supplied: Vec<(EntityUID, Option<Entity>)>,
     ) -> Result<(), Refusal> {
+        self.gate.schema_is();
         match SessionAt::supply(self, alloc, supplied) {
             Ok(()) => Ok(()),
             Err(fault) => Err(refused_supply(fault)),
@@ -50,6 +51,7 @@ impl<'g, G: GateCalls> SessionCalls for SessionAt<'g, G> {
     }
 
     fn answer(&self, alloc: Global) -> Result<Response, Refusal> {
+        self.gate.schema_is();
         match SessionAt::answer(self, alloc) {
             Ok(response) => Ok(response),
             Err(fault) => Err(refused_answer(fault)),

@@ -20,11 +20,12 @@ ghost use Rattle.cedar_gate_wanted.specs.Rows.{uids};
 ghost use Rattle.cedar_gate_model.specs.Runs.{DecidesInPart, with_asked};
 ghost use Rattle.cedar_gate_model.specs.RunsAnswer.{Course, session_of, IsProper, MakeFairly};
 ghost use Rattle.cedar_gate_model.specs.Early.{KeepsDecision, KeepsBounds};
-ghost use Rattle.cedar_gate_model.specs.Session.{Setup, State, at_start, with_bound, scope_now, world_now, IsWantedList, NothingIsWanted, SupplyRefusal, BindRefusal, AnswerRefusal, SupplyFault as SupplyIsRefused, BindFault as BindIsRefused, AnswerFault as AnswerIsRefused};
+ghost use Rattle.cedar_gate_model.specs.Session.{Setup, State, at_start, with_bound, scope_now, world_now, IsWantedList, NothingIsWanted, AnswerRefusal, AnswerFault as AnswerIsRefused};
 ghost use Rattle.cedar_gate_sessions.specs.Courses.{Stands};
 ghost use Rattle.cedar_gate_sessions.specs.Entities.{supplied_of};
-ghost use Rattle.cedar_gate_sessions.specs.Faults.{IsSupplyFault, IsBindFault, IsAnswerFault};
-ghost use Rattle.cedar_gate_sessions.specs.Sessions.{IsSetup, IsAt, AreFromStore, gate_of, wanted_of, policies_in, store_in};
+ghost use Rattle.cedar_gate_sessions.specs.Faults.{IsFitSupply, IsSupplyFaultBy, IsFitBinding};
+ghost use Rattle.cedar_gate_sessions.specs.Refused.{IsRefusedBinding, HasAnswer, IsRefusedAnswer};
+ghost use Rattle.cedar_gate_sessions.specs.Sessions.{IsSetup, IsAt, IsSameSession, EvaluatesWith, AreFromStore, gate_of, wanted_of, start_of, bound_by, policies_in, store_in};
 
 use crate::bound::{add_known_roots, put_value, request_bound, take_value};
 use crate::entities::{known_store_of, store_of};
@@ -109,9 +110,9 @@ impl<'g, G: GateCalls> SessionAt<'g, G> {
         supplied: Vec<(EntityUID, Option<Entity>)>,
     ) -> Result<(), SupplyFault>
         ensures at { OnOk result ((x : Setup) (s : State) → IsAt G.suits x s self.old → AreFromStore x supplied.items → IsAt G.suits x (with_asked s (wanted_of self.old)) self.new) }
-        ensures taken { OnOk result ((x : Setup) (s : State) → IsAt G.suits x s self.old → (f : SupplyRefusal) → SupplyIsRefused x s (supplied_of supplied.items) f → ⊥) }
-        ensures refused { IfErr result (λ f. (x : Setup) (s : State) → IsAt G.suits x s self.old → IsSupplyFault x s (supplied_of supplied.items) f) }
-        ensures unchanged { OnErr result ((x : Setup) (s : State) → IsAt G.suits x s self.old → IsAt G.suits x s self.new) }
+        ensures taken { OnOk result (IsFitSupply (G.schema (gate_of self.old)) (wanted_of self.old) (supplied_of supplied.items)) }
+        ensures refused { IfErr result (IsSupplyFaultBy (G.schema (gate_of self.old)) (wanted_of self.old) (supplied_of supplied.items)) }
+        ensures unchanged { OnErr result (IsSameSession self.old self.new) }
         ensures gate { gate_of self.new ≡ gate_of self.old }
     {
         self.gate.schema_is();
@@ -141,9 +142,10 @@ impl<'g, G: GateCalls> SessionAt<'g, G> {
     /// fails to evaluate with it; or out of memory.
     pub fn bind(&mut self, alloc: Global, name: RcStr, value: V) -> Result<(), BindFault>
         ensures at { OnOk result ((x : Setup) (s : State) → IsAt G.suits x s self.old → IsWellMade x.functions.table (made extension_of value) → IsAt G.suits x (with_bound s (rc_str_bytes name) (made extension_of value)) self.new) }
-        ensures taken { OnOk result ((x : Setup) (s : State) → IsAt G.suits x s self.old → (f : BindRefusal) → BindIsRefused x s (rc_str_bytes name) (made extension_of value) f → ⊥) }
-        ensures refused { IfErr result (λ f. (x : Setup) (s : State) → IsAt G.suits x s self.old → IsBindFault x s (rc_str_bytes name) (made extension_of value) f) }
-        ensures unchanged { OnErr result ((x : Setup) (s : State) → IsAt G.suits x s self.old → IsAt G.suits x s self.new) }
+        ensures taken { OnOk result (IsFitBinding (start_of self.old) (bound_by self.old) (rc_str_bytes name) (made extension_of value)) }
+        ensures evaluates { OnOk result (EvaluatesWith G.suits self.old (rc_str_bytes name) (made extension_of value)) }
+        ensures refused { IfErr result (IsRefusedBinding G.suits self.old (rc_str_bytes name) (made extension_of value)) }
+        ensures unchanged { OnErr result (IsSameSession self.old self.new) }
         ensures gate { gate_of self.new ≡ gate_of self.old }
     {
         if !is_open(alloc, &self.start, &self.bound, name.as_str())? {
@@ -214,17 +216,18 @@ impl<'g, G: GateCalls> SessionAt<'g, G> {
     /// 1 something isn't bound, 2 something is wanted, 3 all is bound and the request doesn't conform; or out of memory.
     pub fn answer(&self, alloc: Global) -> Result<Response, AnswerFault>
         ensures answer { IfOk result (λ r. (c : Course) (s : State) → IsProper c → IsAt G.suits (session_of c) s self.entry.now → policies_in G.accepted self.entry.now ≡ c.submission.policies → answer_of r ≡ as_concrete (answer_meant (world_now (session_of c) s) c.submission.policies)) }
-        ensures given { OnOk result ((x : Setup) (s : State) → IsAt G.suits x s self.entry.now → (f : AnswerRefusal) → AnswerIsRefused x s f → ⊥) }
-        ensures refused { IfErr result (λ f. (x : Setup) (s : State) → IsAt G.suits x s self.entry.now → IsAnswerFault x s f) }
+        ensures given { OnOk result (HasAnswer G.schema self.entry.now) }
+        ensures refused { IfErr result (IsRefusedAnswer G.schema self.entry.now) }
     {
+        self.gate.schema_is();
         self.check_answer(alloc)?;
         Ok(self.respond(alloc)?)
     }
 
     // Whether there is an answer.
     fn check_answer(&self, alloc: Global) -> Result<(), AnswerFault>
-        ensures given { OnOk result ((x : Setup) (s : State) → IsAt G.suits x s self.entry.now → (f : AnswerRefusal) → AnswerIsRefused x s f → ⊥) }
-        ensures refused { IfErr result (λ f. (x : Setup) (s : State) → IsAt G.suits x s self.entry.now → IsAnswerFault x s f) }
+        ensures given { OnOk result (HasAnswer G.schema self.entry.now) }
+        ensures refused { IfErr result (IsRefusedAnswer G.schema self.entry.now) }
     {
         if has_open(alloc, &self.start, &self.bound)? {
             return Err(AnswerFault::NotBound);
@@ -232,7 +235,6 @@ impl<'g, G: GateCalls> SessionAt<'g, G> {
         if !self.loading.wanted().is_empty() {
             return Err(AnswerFault::StillWanted);
         }
-        self.gate.schema_is();
         if !self.gate.request_conforms(alloc, &self.now)? {
             return Err(AnswerFault::NotConforming);
         }

@@ -129,10 +129,10 @@ pub(crate) fn take_in<S: Schema>(
     ensures wanting { OnOk result (IsWanting (S.schema schema.now) loading.old → IsWanting (S.schema schema.now) loading.new) }
     ensures kept { OnOk result (IsWanting (S.schema schema.now) loading.old → (r : List Uid) → IsKept r (mentions_of loading.old) (level_of loading.old) (near_in loading.old) → IsKept r (mentions_of loading.new) (level_of loading.new) (near_in loading.new)) }
     ensures filled { OnOk result (IsFilled (rows_of rows.items) (rows_in loading.old) (rows_in loading.new)) }
-    ensures keys { OnOk result (IsWanting (S.schema schema.now) loading.old → AreKeys (wanted_in loading.old) (keys_in rows.items)) }
+    ensures keys { OnOk result (AreKeys (wanted_in loading.old) (keys_in rows.items)) }
     ensures level { level_of loading.new ≡ level_of loading.old }
-    ensures refused { IfErr result (λ f. IsWanting (S.schema schema.now) loading.old → IsTakingFault (wanted_in loading.old) (keys_in rows.items) f) }
-    ensures unchanged { OnErr result (IsWanting (S.schema schema.now) loading.old → IsSameLoading loading.old loading.new) }
+    ensures refused { IfErr result (IsTakingFault (wanted_in loading.old) (keys_in rows.items)) }
+    ensures unchanged { OnErr result (IsSameLoading loading.old loading.new) }
 {
     let count = loaded.len();
     loaded.append(&mut entities)?;

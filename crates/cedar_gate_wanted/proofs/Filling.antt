@@ -9,7 +9,7 @@ use Rattle.cedar_expr_model.proofs.Equality.{uid_eq-Decides}
 use Rattle.cedar_expr_model.proofs.Lists.{contains_none, map_has}
 use Rattle.cedar_expr_names.specs.Views.{uid_of}
 use Rattle.cedar_expr_names.specs.declared.entity.EntityUID.{EntityUID}
-use Rattle.cedar_gate_wanted.specs.Supplying.{keys_in, rows_of, IsFilled}
+use Rattle.cedar_gate_wanted.specs.Supplying.{keys_in, rows_of, IsFilled, IsOut}
 use Rattle.cedar_gate_wanted.proofs.Taking.{keys_are}
 
 abbrev Row : Type 0
@@ -63,12 +63,8 @@ filled_others all ps rest a b e i u misses = elim (i.filled u) [
     has : (rs : List (Uid × Row)) (u : Uid) (r : Row) → Contains rs (u, r) → Contains (map (λ (p : Uid × Row). p.0) rs) u
     has rs u r k = map_has (λ (p : Uid × Row). p.0) rs (u, r) k
 
--- taken out, or as it was
-abbrev pub IsOut : List Uid → (Uid → Option Row) → (Uid → Option Row) → Uid → Type 0
-IsOut us a b u = (Contains us u × (b u ≡ None)) ⊎ ((Contains us u → ⊥) × (b u ≡ a u))
-
 -- one more is taken out
-pub out_more : (us more : List Uid) (k : Uid) (a b c : Uid → Option Row) → more ≡ us ++ k ∷ [] → ((u : Uid) → IsOut us a b u) → c k ≡ None → ((x : Uid) → (x ≡ k) ⊎ (c x ≡ b x)) → (u : Uid) → IsOut more a c u
+pub out_more : {X : Type 0} (us more : List Uid) (k : Uid) (a b c : Uid → Option X) → more ≡ us ++ k ∷ [] → ((u : Uid) → IsOut us a b u) → c k ≡ None → ((x : Uid) → (x ≡ k) ⊎ (c x ≡ b x)) → (u : Uid) → IsOut more a c u
 out_more us more k a b c e i here apart u = elim (same_or_other u k) [
   | inl this ↦ inl (subst (λ zs. Contains zs u) (sym e) (subst (λ z. Contains (us ++ k ∷ []) z) (sym this) (Contains-push us k)), subst (λ z. c z ≡ None) (sym this) here)
   | inr other ↦ elim (apart u) [

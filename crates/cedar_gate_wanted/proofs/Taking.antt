@@ -8,8 +8,8 @@ use Rattle.cedar_expr_model.proofs.Lists.{contains_none, map_has}
 use Rattle.cedar_expr_names.specs.Views.{uid_of}
 use Rattle.cedar_expr_names.specs.declared.entity.EntityUID.{EntityUID}
 use Rattle.cedar_gate_wanted.specs.Kept.{IsUndo, IsLoaded}
-use Rattle.cedar_gate_wanted.specs.Rows.{writes, uids, row_of}
-use Rattle.cedar_gate_wanted.specs.Supplying.{keys_in, rows_of, IsFilled, AreKeys}
+use Rattle.cedar_gate_wanted.specs.Rows.{writes, uids, row_of, NothingStandsAt}
+use Rattle.cedar_gate_wanted.specs.Supplying.{keys_in, rows_of, IsFilled, AreKeys, IsOut}
 use Rattle.cedar_gate_wanted.specs.Wanting.{is_open, Exact}
 use Rattle.cedar_gate_wanted.proofs.Opening.{open_parts, open_made, stays, written_anew, had_or_not}
 use Rattle.cedar_schema_model.specs.Schema.{Schema, declares_action}
@@ -100,9 +100,21 @@ module _ (s : Schema) (ws : List Uid) (ps : List (EntityUID × Row)) (f : Uid �
       same_row : (c d : Uid → Option Row) (v : Uid) → c v ≡ d v → row_of c v ≡ row_of d v
       same_row c d v e = ap (λ p. row_of (λ (w : Uid). p) v) e
 
-  -- what is put back
-  pub put_back : (b c : Uid → Option Row) → ((u : Uid) → (Contains (keys_in ps) u → ⊥) → b u ≡ a u) → ((u : Uid) → (Contains ws u × (c u ≡ None)) ⊎ ((Contains ws u → ⊥) × (c u ≡ b u))) → (u : Uid) → c u ≡ a u
-  put_back b c others out u = elim (out u) [
-    | inl here ↦ here.1 ∙ sym (nothing_there u here.0)
-    | inr apart ↦ apart.1 ∙ others u (λ k. apart.0 (keys.each u k))
-  ]
+-- nothing stands at what is wanted now
+none_of : {X : Type 0} (o : Option X) → is_some o ≡ false → o ≡ None
+none_of None e = refl
+none_of (Some x) e = cc
+
+pub next_fresh : (s : Schema) (others next written : List Uid) (g : Uid → Option ℕ) (b : Uid → Option Row) → Next s next others written g b → NothingStandsAt others b → NothingStandsAt next b
+next_fresh s others next written g b is fresh u k = elim ((is u).0 k) [ inl old ↦ fresh u old | inr new ↦ (open_parts s u (g u) (b u) new.1).1 ]
+
+-- what is taken out again stands as before
+pub put_back : (ws ks : List Uid) (a b c : Uid → Option Row) → AreKeys ws ks → NothingStandsAt ws a → ((u : Uid) → (Contains ks u → ⊥) → b u ≡ a u) → ((u : Uid) → IsOut ws b c u) → (u : Uid) → c u ≡ a u
+put_back ws ks a b c keys fresh others out u = elim (out u) [
+  | inl here ↦ here.1 ∙ sym (none_of (a u) (fresh u here.0))
+  | inr apart ↦ apart.1 ∙ others u (λ k. apart.0 (keys.each u k))
+]
+
+-- where nothing is put at these uids, nothing stands there
+pub fresh_again : (ws : List Uid) (a b : Uid → Option Row) → NothingStandsAt ws a → ((u : Uid) → b u ≡ a u) → NothingStandsAt ws b
+fresh_again ws a b fresh same u k = ap is_some (same u) ∙ fresh u k

@@ -1,5 +1,5 @@
 -- Maps with uids as keys, as functions of the uids that they hold; rows of uids, and logs of writes.
-use Rattle.std.specs.Prelude.{◌≡◌, ℕ, List, [], map, Contains, Option, Some}
+use Rattle.std.specs.Prelude.{◌≡◌, ℕ, List, [], map, Contains, Option, Some, is_some, false}
 use Rattle.std.specs.Map.{lookup}
 use Rattle.std.specs.Option.{option_map_or}
 use Rattle.std.specs.BTreeMap.{BTreeMap}
@@ -12,6 +12,10 @@ use Rattle.cedar_expr_names.specs.declared.entity.EntityUID.{EntityUID}
 -- what stands at this uid
 abbrev pub found_at : {X : Type 0} → BTreeMap EntityUID X → Uid → Option X
 found_at m u = lookup (λ k. uid_eq u (uid_of k)) m.entries
+
+-- nothing stands at these uids
+abbrev pub NothingStandsAt : {X : Type 0} → List Uid → (Uid → Option X) → Type 0
+NothingStandsAt us f = (u : Uid) → Contains us u → is_some (f u) ≡ false
 
 -- the uids of a list
 abbrev pub uids : List EntityUID → List Uid

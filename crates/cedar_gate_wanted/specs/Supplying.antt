@@ -20,6 +20,10 @@ keys_in ps = map (λ p. uid_of p.0) ps
 pub record IsFilled {X : Type 0} (ps : List (Uid × X)) (f g : Uid → Option X) : Type 0 where
   pub filled : (u : Uid) → ((r : X) × Contains ps (u, r) × (g u ≡ Some r)) ⊎ ((Contains (map (λ p. p.0) ps) u → ⊥) × (g u ≡ f u))
 
+-- at the uid nothing stands any more if it is one of these, else what stood there
+abbrev pub IsOut : {X : Type 0} → List Uid → (Uid → Option X) → (Uid → Option X) → Uid → Type 0
+IsOut us f g u = (Contains us u × (g u ≡ None)) ⊎ ((Contains us u → ⊥) × (g u ≡ f u))
+
 -- the uids of a supply are those that are wanted, each once
 pub record AreKeys (wanted keys : List Uid) : Type 0 where
   pub each : (u : Uid) → Contains keys u → Contains wanted u

@@ -14,6 +14,7 @@ mod next;
 mod rows;
 mod settle;
 mod supplied;
+mod take;
 
 pub use changes::{add, supply};
 pub use distance_rows::{Loaded, mentions};

@@ -1,18 +1,19 @@
 //! What is loaded by now, and what is wanted next.
 
-ghost use Rattle.std.specs.Prelude.{◌≡◌, ◌++◌, ◌⊎◌, ℕ, List, [], None, Contains, IfOk, IfErr, OnOk, OnErr, is_some};
+ghost use Rattle.std.specs.Prelude.{◌≡◌, ◌++◌, List, [], None, IfErr, OnOk, OnErr, is_some};
 ghost use Rattle.std.specs.List.{list_any};
 ghost use Rattle.cedar_expr_model.specs.Uid.{Uid, uid_eq};
 ghost use Rattle.cedar_expr_names.specs.Views.{uid_of};
 ghost use Rattle.cedar_gate_wanted.specs.Kept.{IsKept};
-ghost use Rattle.cedar_gate_wanted.specs.Rows.{found_at, mentions_in, uids};
+ghost use Rattle.cedar_gate_wanted.specs.Rows.{found_at, uids, NothingStandsAt};
 ghost use Rattle.cedar_schema_model.specs.Schema.{Schema};
 ghost use Rattle.cedar_gate_wanted.specs.Supplying.{rows_of, keys_in, IsFilled, AreKeys, IsUnfit};
 
 use crate::next::{DeclaredActions, next_wanted};
-use crate::rows::{put_rows, take_out_all};
+use crate::rows::take_out_all;
 use crate::supplied::{Unfit, check};
-use crate::{Loaded, Near, add, supply, undo};
+use crate::take::take;
+use crate::{Loaded, Near, add, undo};
 use cedar_expr_names::EntityUID;
 use std::alloc::{AllocError, Global};
 use std::collections::BTreeMap;
@@ -26,6 +27,7 @@ pub struct Loading {
     rows: Loaded,
     wanted: Vec<EntityUID>,
     level: u64,
+    ghost fresh: { NothingStandsAt (uids wanted.items) (found_at rows) },
 }
 
 impl Loading {
@@ -60,7 +62,7 @@ impl Loading {
         self.rows.keys()
     }
 
-    /// Adds roots. Errors: for want of memory all is as before.
+    /// Adds roots. Fails only out of memory, and then all is as before.
     pub fn add_roots<S: DeclaredActions>(
         &mut self,
         alloc: Global,
@@ -91,7 +93,7 @@ impl Loading {
     ///
     /// # Errors
     ///
-    /// A uid that isn't wanted, a wanted one that lacks, one that stands twice; or want of memory. All is as before then.
+    /// A uid that isn't wanted, a wanted one that lacks, one that stands twice; or out of memory. All is as before then.
     pub fn supply<S: DeclaredActions>(
         &mut self,
         alloc: Global,
@@ -101,20 +103,13 @@ impl Loading {
         ensures wanting { OnOk result (IsWanting (S.schema schema.now) self.old → IsWanting (S.schema schema.now) self.new) }
         ensures kept { OnOk result (IsWanting (S.schema schema.now) self.old → (r : List Uid) → IsKept r (mentions_of self.old) (level_of self.old) (near_in self.old) → IsKept r (mentions_of self.new) (level_of self.new) (near_in self.new)) }
         ensures filled { OnOk result (IsFilled (rows_of rows.items) (rows_in self.old) (rows_in self.new)) }
-        ensures keys { OnOk result (IsWanting (S.schema schema.now) self.old → AreKeys (wanted_in self.old) (keys_in rows.items)) }
+        ensures keys { OnOk result (AreKeys (wanted_in self.old) (keys_in rows.items)) }
         ensures level { level_of self.new ≡ level_of self.old }
-        ensures refused { IfErr result (λ f. IsWanting (S.schema schema.now) self.old → IsUnfit (wanted_in self.old) (keys_in rows.items) f) }
-        ensures unchanged { OnErr result (IsWanting (S.schema schema.now) self.old → IsSameLoading self.old self.new) }
+        ensures refused { IfErr result (IsUnfit (wanted_in self.old) (keys_in rows.items)) }
+        ensures unchanged { OnErr result (IsSameLoading self.old self.new) }
     {
         let wanted = self.wanted.as_slice();
-        check(
-            alloc,
-            schema,
-            &self.near,
-            &self.rows,
-            wanted,
-            rows.as_slice(),
-        )?;
+        check(alloc, wanted, rows.as_slice())?;
         match take(
             alloc,
             schema,
@@ -132,40 +127,6 @@ impl Loading {
                 take_out_all(&mut self.rows, self.wanted.as_slice());
                 Err(Unfit::OutOfMemory)
             }
-        }
-    }
-}
-
-ghost use Rattle.std.specs.Prelude.{true, IsSome};
-ghost use Rattle.cedar_expr_model.specs.UidOrder.{are_rising};
-ghost use Rattle.cedar_gate_wanted.specs.Wanting.{Exact};
-
-// Takes in these rows of wanted uids, and gives what is wanted after it. Errors: the distances are as before, and the rows but at these
-// uids.
-fn take<S: DeclaredActions>(
-    alloc: Global,
-    schema: &S,
-    near: &mut Near,
-    rows: &mut Loaded,
-    wanted: &[EntityUID],
-    level: u64,
-    more: Vec<(EntityUID, Vec<EntityUID>)>,
-) -> Result<Vec<EntityUID>, AllocError>
-    ensures rising { IfOk result (λ us. are_rising (uids us.items) ≡ true) }
-    ensures filled { OnOk result (IsFilled (rows_of more.items) (found_at rows.old) (found_at rows.new)) }
-    ensures exact { IfOk result (λ us. Exact (S.schema schema.now) (uids wanted.now) (found_at near.old) (found_at rows.old) → AreKeys (uids wanted.now) (keys_in more.items) → Exact (S.schema schema.now) (uids us.items) (found_at near.new) (found_at rows.new)) }
-    ensures stays { OnOk result ((u : Uid) → IsSome (found_at near.old u) → IsSome (found_at near.new u)) }
-    ensures kept { OnOk result (Exact (S.schema schema.now) (uids wanted.now) (found_at near.old) (found_at rows.old) → AreKeys (uids wanted.now) (keys_in more.items) → (r : List Uid) → IsKept r (mentions_in rows.old) level (found_at near.old) → IsKept r (mentions_in rows.new) level (found_at near.new)) }
-    ensures near { OnErr result ((u : Uid) → found_at near.new u ≡ found_at near.old u) }
-    ensures rows { OnErr result ((u : Uid) → (Contains (keys_in more.items) u → ⊥) → found_at rows.new u ≡ found_at rows.old u) }
-{
-    put_rows(rows, more)?;
-    let log = supply(near, rows, wanted, level, alloc)?;
-    match next_wanted(alloc, schema, near, rows, &log, &[]) {
-        Ok(wanted) => Ok(wanted),
-        Err(error) => {
-            undo(near, log);
-            Err(error)
         }
     }
 }

@@ -4,11 +4,12 @@ ghost use Rattle.std.specs.Prelude.{◌≡◌, ◌⊎◌, None, Contains, OnOk, 
 ghost use Rattle.cedar_expr_model.specs.Uid.{Uid};
 ghost use Rattle.cedar_expr_names.specs.Views.{uid_of};
 ghost use Rattle.cedar_gate_wanted.specs.Rows.{found_at, uids};
-ghost use Rattle.cedar_gate_wanted.specs.Supplying.{rows_of, keys_in, IsFilled};
+ghost use Rattle.cedar_gate_wanted.specs.Supplying.{rows_of, keys_in, IsFilled, IsOut};
 
 use crate::Loaded;
 use cedar_expr_names::EntityUID;
 use std::alloc::AllocError;
+use std::collections::BTreeMap;
 
 // Puts a row in.
 fn put_row(rows: &mut Loaded, uid: EntityUID, row: Vec<EntityUID>) -> Result<(), AllocError>
@@ -20,7 +21,7 @@ fn put_row(rows: &mut Loaded, uid: EntityUID, row: Vec<EntityUID>) -> Result<(),
     Ok(())
 }
 
-/// Puts these rows in. Errors: for want of memory some may be in.
+/// Puts these rows in. Fails only out of memory; some may be in then.
 pub(crate) fn put_rows(
     rows: &mut Loaded,
     more: Vec<(EntityUID, Vec<EntityUID>)>,
@@ -34,17 +35,17 @@ pub(crate) fn put_rows(
     Ok(())
 }
 
-// Takes a row out. It takes no memory.
-fn take_out(rows: &mut Loaded, uid: &EntityUID)
+// Takes out what stands at the uid.
+fn take_out<X: Drop>(rows: &mut BTreeMap<EntityUID, X>, uid: &EntityUID)
     ensures here { found_at rows.new (uid_of uid.now) ≡ None }
     ensures apart { (x : Uid) → (x ≡ uid_of uid.now) ⊎ (found_at rows.new x ≡ found_at rows.old x) }
 {
     rows.remove(uid);
 }
 
-/// Takes out the rows of these uids. It takes no memory.
-pub(crate) fn take_out_all(rows: &mut Loaded, keys: &[EntityUID])
-    ensures { (u : Uid) → (Contains (uids keys.now) u × (found_at rows.new u ≡ None)) ⊎ ((Contains (uids keys.now) u → ⊥) × (found_at rows.new u ≡ found_at rows.old u)) }
+/// Takes out what stands at these uids.
+pub(crate) fn take_out_all<X: Drop>(rows: &mut BTreeMap<EntityUID, X>, keys: &[EntityUID])
+    ensures { (u : Uid) → IsOut (uids keys.now) (found_at rows.old) (found_at rows.new) u }
 {
     for key in keys {
         take_out(rows, key);

@@ -6,12 +6,9 @@ ghost use Rattle.cedar_expr_model.specs.Uid.{Uid, uid_eq};
 ghost use Rattle.cedar_expr_model.specs.Repeats.{repeated};
 ghost use Rattle.cedar_expr_names.specs.Views.{uid_of};
 ghost use Rattle.cedar_gate_wanted.specs.Rows.{found_at, uids};
-ghost use Rattle.cedar_schema_model.specs.Schema.{Schema};
-ghost use Rattle.cedar_gate_wanted.specs.Wanting.{is_open};
 ghost use Rattle.cedar_gate_wanted.specs.Supplying.{keys_in, AreKeys, IsUnfit};
 
-use crate::next::{DeclaredActions, is_open};
-use crate::{Loaded, Near};
+use crate::rows::take_out_all;
 use cedar_expr_names::EntityUID;
 use std::alloc::{AllocError, Global};
 use std::collections::BTreeMap;
@@ -19,7 +16,7 @@ use std::collections::BTreeMap;
 /// Why what is supplied isn't taken in.
 #[derive(Clone, Copy, Debug, PartialEq, Eq)]
 pub enum Unfit {
-    /// Want of memory.
+    /// Out of memory.
     OutOfMemory,
     /// A uid isn't wanted.
     NotWanted,
@@ -37,23 +34,6 @@ impl From<AllocError> for Unfit {
     fn from(_error: AllocError) -> Unfit {
         Unfit::OutOfMemory
     }
-}
-
-// Whether each uid is wanted.
-fn are_open<S: DeclaredActions>(
-    schema: &S,
-    near: &Near,
-    rows: &Loaded,
-    supplied: &[(EntityUID, Vec<EntityUID>)],
-) -> bool
-    ensures { result ≡ list_all (λ u. is_open (S.schema schema.now) (found_at near.now u) (found_at rows.now u) u) (keys_in supplied.now) }
-{
-    for (uid, _) in supplied {
-        if !is_open(schema, near, rows, uid) {
-            return false;
-        }
-    }
-    true
 }
 
 // Puts a uid among others, and says whether it stood there.
@@ -100,25 +80,24 @@ fn has_key(keys: &BTreeMap<EntityUID, ()>, uid: &EntityUID) -> bool
     keys.contains_key(uid)
 }
 
-/// Whether the uids of a supply are those that are wanted, each once. Errors: a fault that is there, or want of memory.
-pub(crate) fn check<S: DeclaredActions>(
+/// Whether the uids of a supply are those that are wanted, each once. Errors: a fault that is there, or out of memory.
+pub(crate) fn check(
     alloc: Global,
-    schema: &S,
-    near: &Near,
-    rows: &Loaded,
     wanted: &[EntityUID],
     supplied: &[(EntityUID, Vec<EntityUID>)],
 ) -> Result<(), Unfit>
-    ensures ok { OnOk result (((u : Uid) → Contains (uids wanted.now) u ↔ (is_open (S.schema schema.now) (found_at near.now u) (found_at rows.now u) u ≡ true)) → AreKeys (uids wanted.now) (keys_in supplied.now)) }
-    ensures refused { IfErr result (λ f. ((u : Uid) → Contains (uids wanted.now) u ↔ (is_open (S.schema schema.now) (found_at near.now u) (found_at rows.now u) u ≡ true)) → IsUnfit (uids wanted.now) (keys_in supplied.now) f) }
+    ensures ok { OnOk result (AreKeys (uids wanted.now) (keys_in supplied.now)) }
+    ensures refused { IfErr result (IsUnfit (uids wanted.now) (keys_in supplied.now)) }
 {
-    if !are_open(schema, near, rows, supplied) {
-        return Err(Unfit::NotWanted);
-    }
-    let Some(keys) = keys_once(alloc, supplied)? else {
+    let Some(mut keys) = keys_once(alloc, supplied)? else {
         return Err(Unfit::Repeated);
     };
-    if are_all_among(&keys, wanted) {
+    let all_there = are_all_among(&keys, wanted);
+    take_out_all(&mut keys, wanted);
+    if !keys.is_empty() {
+        return Err(Unfit::NotWanted);
+    }
+    if all_there {
         Ok(())
     } else {
         Err(Unfit::Lacking)
